@@ -8,7 +8,7 @@ pub mod Refusals
 pub mod Lent
 pub mod Collected
 pub mod Reached
-pub mod Told
+pub mod Faults
 pub mod Laws
 pub mod Written
 pub mod Ranges

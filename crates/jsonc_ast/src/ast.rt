@@ -15,7 +15,7 @@ pub use node::{Node, NodeKind};
 use std::alloc::{AllocError, Allocator};
 use std::borrow::CowStr;
 
-/// A text in quotes, as `"name"`.
+/// A string, as `"name"`.
 #[derive(Drop)]
 #[derive_where(PartialEq, Eq)]
 pub struct StringLit<'a, A: Allocator> {
@@ -133,7 +133,7 @@ pub fn property_of<'a, A: Allocator>(
     ObjectProp { range, name, value }
 }
 
-/// One element more.
+/// Appends an element.
 pub fn push_value<'a, A: Allocator>(
     elements: &mut Vec<Value<'a, A>, A>,
     value: Value<'a, A>,
@@ -145,7 +145,7 @@ pub fn push_value<'a, A: Allocator>(
     Ok(())
 }
 
-/// One property more.
+/// Appends a property.
 pub fn push_property<'a, A: Allocator>(
     properties: &mut Vec<ObjectProp<'a, A>, A>,
     property: ObjectProp<'a, A>,

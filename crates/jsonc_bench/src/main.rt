@@ -1,6 +1,6 @@
 //! Answers cases: what this repository's calls say of a text, one case a line in and one answer a line out.
 //!
-//! `docs/BENCH.md` has the forms of cases and answers.
+//! `docs/proofs/BENCH.md` has the forms of cases and answers.
 #![tactic(auto)]
 
 mod answer;

@@ -1,6 +1,6 @@
 //! What a document tells of itself and of each of its nodes.
 
-ghost use Rattle.jsonc_cst.specs.Document.{Holds};
+ghost use Rattle.jsonc_cst.specs.Document.{HasNode};
 ghost use Rattle.jsonc_cst.specs.Nodes.{object_prop_node, string_lit_node};
 
 use crate::input::push_input;
@@ -10,7 +10,7 @@ use jsonc_cases::push_children;
 use jsonc_layout::lines::indents_at;
 use jsonc_parser::cst::{
     CstComment, CstContainerNode, CstLeafNode, CstNewlineKind, CstNode, CstObjectProp, CstRootNode,
-    CstStringLit, HasChildren, IsNode,
+    CstStringLit, ParentNode, TypedNode,
 };
 use std::alloc::{AllocError, Global};
 
@@ -78,7 +78,7 @@ fn push_nodes(
 
 /// A node's kind, its depth, its places, and how it is laid out.
 fn push_node(out: &mut String, doc: &CstRootNode<Global>, node: CstNode) -> Result<(), AllocError>
-    requires { Holds doc.now node }
+    requires { HasNode doc.now node }
 {
     let kind = kind_of(node);
     let depth = depth_of(doc, node);
@@ -98,7 +98,7 @@ fn push_node(out: &mut String, doc: &CstRootNode<Global>, node: CstNode) -> Resu
 
 /// How many containers are above a node.
 fn depth_of(doc: &CstRootNode<Global>, node: CstNode) -> usize
-    requires { Holds doc.now node }
+    requires { HasNode doc.now node }
 {
     let mut depth = 0usize;
     for _ in node.ancestors(doc) {
@@ -108,7 +108,7 @@ fn depth_of(doc: &CstRootNode<Global>, node: CstNode) -> usize
 }
 
 fn push_layout(out: &mut String, doc: &CstRootNode<Global>, node: CstNode) -> Result<(), AllocError>
-    requires { Holds doc.now node }
+    requires { HasNode doc.now node }
 {
     let (Ok(indent), Ok(uses)) = (node.indent_text(doc), node.uses_trailing_commas(doc)) else {
         return Err(AllocError);
@@ -127,7 +127,7 @@ fn push_comments(
     doc: &CstRootNode<Global>,
     node: CstNode,
 ) -> Result<(), AllocError>
-    requires { Holds doc.now node }
+    requires { HasNode doc.now node }
 {
     let (Ok(leading), Ok(trailing)) = (
         node.leading_comments_same_line(doc),
@@ -148,7 +148,7 @@ fn push_indents(
     doc: &CstRootNode<Global>,
     node: CstNode,
 ) -> Result<(), AllocError>
-    requires { Holds doc.now node }
+    requires { HasNode doc.now node }
 {
     if node.as_root_node().is_some() {
         return out.push_str(" in=, ");
@@ -166,7 +166,7 @@ fn push_content(
     node: CstNode,
     child_count: usize,
 ) -> Result<(), AllocError>
-    requires { Holds doc.now node }
+    requires { HasNode doc.now node }
 {
     match node {
         CstNode::Container(CstContainerNode::ObjectProp(property)) => {
@@ -183,7 +183,7 @@ fn push_content(
 }
 
 fn push_shown(out: &mut String, doc: &CstRootNode<Global>, node: CstNode) -> Result<(), AllocError>
-    requires { Holds doc.now node }
+    requires { HasNode doc.now node }
 {
     let text = node.shown(doc).to_string(*out.allocator())?;
     write!(out, "t={}", Escaped::word(text.as_str()))
@@ -194,7 +194,7 @@ fn push_property(
     doc: &CstRootNode<Global>,
     property: CstObjectProp,
 ) -> Result<(), AllocError>
-    requires { Holds doc.now (object_prop_node property) }
+    requires { HasNode doc.now (object_prop_node property) }
 {
     let Ok(name) = property.decoded_name(doc) else {
         return Err(AllocError);
@@ -214,7 +214,7 @@ fn push_decoded(
     doc: &CstRootNode<Global>,
     string: CstStringLit,
 ) -> Result<(), AllocError>
-    requires { Holds doc.now (string_lit_node string) }
+    requires { HasNode doc.now (string_lit_node string) }
 {
     out.push_str(" dec=")?;
     match string.decoded_value(doc) {

@@ -13,7 +13,7 @@ use Rattle.jsonc_ast.specs.declared.ast.ObjectProp.{ObjectProp}
 use Rattle.jsonc_tree.specs.Changes.{Pushes}
 use Rattle.jsonc_build.specs.Growth.{Grows}
 use Rattle.jsonc_build.specs.Laid.{FillsBetween, bracketed, array_node, object_node, Laid, ItemsLaid, an_element, no_element, MembersLaid, a_property, no_property, PropertyLaid, NameLaid, name_and_value, CanLay, CanLayItems, CanLayMembers, RootLaid}
-use Rattle.jsonc_build.proofs.Growing.{grows_none, grows_append, grows_below, grows_leaf}
+use Rattle.jsonc_build.proofs.AddedChildren.{grows_none, grows_append, grows_below, grows_leaf}
 use Rattle.jsonc_build.proofs.Rows.{followed_assoc}
 
 -- one more node after a row of leaves

@@ -6,7 +6,7 @@ use Rattle.jsonc_text.specs.Text.{rest, next, no, starts, byte_length, Many, sto
 use Rattle.jsonc_text.specs.Gaps as gaps
 use Rattle.jsonc_text.specs.Gaps.{Gap, is_blank, is_in_line, LineComment, line, BlockComment, block, UpToBlockEnd, here, later, IsComment}
 use Rattle.jsonc_text.specs.Lexemes.{line_comment, block_comment}
-use Rattle.jsonc_text.proofs.Alone.{scanned_alone}
+use Rattle.jsonc_text.proofs.LexemesAlone.{scanned_alone}
 use Rattle.jsonc_text.proofs.Basics.{clash, and_both, or_cases, test_eq, front_same, tails}
 use Rattle.jsonc_text.proofs.BlockComments.{block_inside}
 use Rattle.jsonc_text.proofs.Cuts.{rest_past, slice_encodes, slice_chars, spans, many_split}
@@ -88,18 +88,18 @@ module _ (o : Options) where
     pub record Stands (t : List ℕ) : Type 0 where
       pub place : ℕ
       pub boundary : IsCharBoundary bytes place
-      pub there : rest bytes place ≡ t
+      pub in_tree : rest bytes place ≡ t
 
     stands_past : {t u : List ℕ} (s : List ℕ) → Stands t → t ≡ s ++ u → Stands u
     stands_past {u = u} s x e =
-        let past = rest_past bytes s u x.place utf8 x.boundary (x.there ∙ e) in
-        record { place = x.place + byte_length s; boundary = past.1; there = past.0 }
+        let past = rest_past bytes s u x.place utf8 x.boundary (x.in_tree ∙ e) in
+        record { place = x.place + byte_length s; boundary = past.1; in_tree = past.0 }
 
     -- so the front of it is a text
     is_text : (R : List ℕ → List ℕ → Type 0) {t b : List ℕ} (s u : List ℕ) → Stands t → t ≡ s ++ u → b ≡ encode_utf8_all s → R s [] → IsText R b
     is_text R s u x e same h =
         let y = stands_past s x e in
-        let split : rest bytes x.place ≡ s ++ rest bytes y.place = x.there ∙ e ∙ ap (λ v. s ++ v) (sym y.there) in
+        let split : rest bytes x.place ≡ s ++ rest bytes y.place = x.in_tree ∙ e ∙ ap (λ v. s ++ v) (sym y.in_tree) in
         let encodes = slice_encodes bytes s x.place y.place utf8 x.boundary y.boundary split in
         let known = slice_chars bytes s x.place y.place utf8 x.boundary y.boundary split in
         let order = (spans bytes s x.place y.place utf8 x.boundary y.boundary split).order in

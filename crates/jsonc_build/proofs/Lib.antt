@@ -1,13 +1,13 @@
-pub mod Passing
+pub mod PassedCharacters
 pub mod Comments
 pub mod Stretches
 pub mod Starts
-pub mod Growing
+pub mod AddedChildren
 pub mod GapLeaves
 pub mod Rows
-pub mod Views
+pub mod LocatedValues
 pub mod Names
-pub mod Filling
+pub mod FilledGaps
 pub mod Lines
 pub mod Meanings
 pub mod GapShapes

@@ -8,7 +8,7 @@ use Rattle.jsonc_text.specs.Plain.{Plain}
 use Rattle.jsonc_text.specs.Grammar as grammar
 use Rattle.jsonc_text.specs.Grammar.{Separates, Closes}
 use Rattle.jsonc_text.proofs.Cuts.{chars_between}
-use Rattle.jsonc_text.proofs.Steps.{no_at_end}
+use Rattle.jsonc_text.proofs.CharacterSteps.{no_at_end}
 use Rattle.jsonc_tree.specs.Content.{Content}
 use Rattle.jsonc_tree.specs.OrderedTree.{OrderedTree, none, more, followed_by}
 use Rattle.jsonc_ast.specs.Located.{Located, LocatedItems, LocatedMembers, LocatedName, Between, One, range_at, IsLocated, AreItems, AreFurtherItems, AreMembers, AreFurtherMembers, IsNamed, IsLocatedDocument}
@@ -36,12 +36,12 @@ bracket_no_blank c h b = rw b.stands h
 module _ (o : Options) (bytes : List ℕ) (utf8 : IsUtf8 bytes) where
   -- the leaves of a gap between two places
   trivia_between : {i j : ℕ} {row : OrderedTree} (after : OrderedTree) → FillsBetween bytes i j row → Gap o (rest bytes i) (rest bytes j) → NoBlankAt bytes j → Trivia o (followed_by row after) after
-  trivia_between {i} after f g n = gap_trivia o bytes utf8 after f.fills (record { place = i; boundary = f.spans.from; there = refl }) g n
+  trivia_between {i} after f g n = gap_trivia o bytes utf8 after f.fills (record { place = i; boundary = f.spans.from; in_tree = refl }) g n
 
   -- and those of a gap, a comma or colon, and a gap
   mark_between : {i j : ℕ} {w : List ℕ} {row : OrderedTree} (c : ℕ) (after : OrderedTree) → IsTrue (is_separator c) → FillsBetween bytes i j row → Gap o (rest bytes i) (c ∷ w) → Gap o w (rest bytes j) → NoBlankAt bytes j
       → (u : OrderedTree) × Trivia o (followed_by row after) (token_then c u) × Trivia o u after
-  mark_between {i} c after h f g k n = gap_mark o bytes utf8 c after h f.fills (record { place = i; boundary = f.spans.from; there = refl }) g k n
+  mark_between {i} c after h f g k n = gap_mark o bytes utf8 c after h f.fills (record { place = i; boundary = f.spans.from; in_tree = refl }) g k n
 
   separated : {i j : ℕ} {row : OrderedTree} (after : OrderedTree) → FillsBetween bytes i j row → Separates o (rest bytes i) (rest bytes j) → NoBlankAt bytes j → Separated o (followed_by row after) after
   separated after f (grammar.comma g h) n = let m = mark_between 0x2C after refl f g h n in shape.comma m.1 m.2

@@ -51,7 +51,7 @@ fn build_name<A: Allocator + Copy>(
     range: Range,
 ) -> Result<(), AllocError>
     requires whole { rc_str_bytes whole.now ≡ text.now }
-    requires there { container < length tree.old.nodes }
+    requires in_tree { container < length tree.old.nodes }
     requires container { IsTrue (is_container_at tree.old.nodes container) }
     requires spans { Spans text.now range.start range.end }
     ensures { OnOk result ((content : Content)
@@ -86,7 +86,7 @@ fn build_value<A: Allocator + Copy>(
     value: &Value<'_, A>,
 ) -> Result<(), AllocError>
     requires whole { rc_str_bytes whole.now ≡ text.now }
-    requires there { container < length tree.old.nodes }
+    requires in_tree { container < length tree.old.nodes }
     requires container { IsTrue (is_container_at tree.old.nodes container) }
     requires lies { CanLay text.now (located value.now) }
     ensures { OnOk result ((content : Content) × (below : OrderedTree)
@@ -142,7 +142,7 @@ fn build_elements<A: Allocator + Copy>(
     range: Range,
 ) -> Result<(), AllocError>
     requires whole { rc_str_bytes whole.now ≡ text.now }
-    requires there { container < length tree.old.nodes }
+    requires in_tree { container < length tree.old.nodes }
     requires container { IsTrue (is_container_at tree.old.nodes container) }
     requires lie { CanLayItems text.now range.start (items_located elements.now) range.end }
     ensures { OnOk result ((row : OrderedTree) × Grows tree.old.nodes tree.new.nodes container row
@@ -169,7 +169,7 @@ fn build_properties<A: Allocator + Copy>(
     range: Range,
 ) -> Result<(), AllocError>
     requires whole { rc_str_bytes whole.now ≡ text.now }
-    requires there { container < length tree.old.nodes }
+    requires in_tree { container < length tree.old.nodes }
     requires container { IsTrue (is_container_at tree.old.nodes container) }
     requires lie { CanLayMembers text.now range.start (members_located properties.now) range.end }
     ensures { OnOk result ((row : OrderedTree) × Grows tree.old.nodes tree.new.nodes container row
@@ -196,7 +196,7 @@ fn build_property<A: Allocator + Copy>(
     property: &ObjectProp<'_, A>,
 ) -> Result<(), AllocError>
     requires whole { rc_str_bytes whole.now ≡ text.now }
-    requires there { container < length tree.old.nodes }
+    requires in_tree { container < length tree.old.nodes }
     requires container { IsTrue (is_container_at tree.old.nodes container) }
     requires lies { CanLayProperty text.now (member_of property.now).name (member_of property.now).value }
     ensures { OnOk result ((row : OrderedTree) × Grows tree.old.nodes tree.new.nodes container row
@@ -217,7 +217,7 @@ fn build_root<A: Allocator + Copy>(
     value: Option<&Value<'_, A>>,
 ) -> Result<(), AllocError>
     requires whole { rc_str_bytes whole.now ≡ text.now }
-    requires there { 0 < length tree.old.nodes }
+    requires in_tree { 0 < length tree.old.nodes }
     requires container { IsTrue (is_container_at tree.old.nodes 0) }
     requires lies { CanLayDocument text.now (located_in value) }
     ensures { OnOk result ((row : OrderedTree) × Grows tree.old.nodes tree.new.nodes 0 row
@@ -240,7 +240,7 @@ fn build_root<A: Allocator + Copy>(
 /// `false` and `null` are leaves; arrays, objects and properties are containers. Between them each
 /// comment is a leaf, with its marks, each line end is one, the blanks that stand together within a line
 /// are one, and so is each comma and colon. An array and an object have their brackets first and last.
-/// The only error is want of memory.
+/// The only error is an allocation failure.
 pub fn build<A: Allocator + Copy>(
     alloc: A,
     text: &str,

@@ -210,7 +210,7 @@ fn fill_gap<A: Allocator + Copy>(
     to: usize,
 ) -> Result<(), AllocError>
     requires whole { rc_str_bytes whole.now ≡ text.now }
-    requires there { container < length tree.old.nodes }
+    requires in_tree { container < length tree.old.nodes }
     requires container { IsTrue (is_container_at tree.old.nodes container) }
     requires fillable { IsFillable text.now from to }
     ensures { OnOk result ((row : OrderedTree) × Grows tree.old.nodes tree.new.nodes container row
@@ -238,7 +238,7 @@ pub(crate) fn fill_between<A: Allocator + Copy>(
     to: usize,
 ) -> Result<(), AllocError>
     requires whole { rc_str_bytes whole.now ≡ text.now }
-    requires there { container < length tree.old.nodes }
+    requires in_tree { container < length tree.old.nodes }
     requires container { IsTrue (is_container_at tree.old.nodes container) }
     requires fillable { IsFillable text.now from to }
     ensures { OnOk result ((row : OrderedTree) × Grows tree.old.nodes tree.new.nodes container row

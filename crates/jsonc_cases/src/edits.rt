@@ -68,7 +68,7 @@ pub enum RawEdit {
     Remove(usize),
     /// The name is taken out.
     RemoveName(Vec<usize>),
-    /// The name gives way to a value.
+    /// The name is replaced by a value.
     ReplaceName(Vec<usize>, CstInputValue<Global>),
     /// The value is taken out.
     RemoveValue(Vec<usize>),

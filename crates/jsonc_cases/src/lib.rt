@@ -1,4 +1,4 @@
-//! Cases of the bench: questions about a text, each read from a line of words (`docs/BENCH.md`), and the
+//! Cases of the bench: questions about a text, each read from a line of words (`docs/proofs/BENCH.md`), and the
 //! edits of cases, made on documents: in lists, on nodes, and of single leaves.
 //!
 //! [`make_step`] makes one edit. Nothing is proved of what it does, but that it is safe and returns: the

@@ -1,10 +1,10 @@
 //! What a path leads to, and the children of a node.
 
-ghost use Rattle.jsonc_cst.specs.Document.{Holds};
+ghost use Rattle.jsonc_cst.specs.Document.{HasNode};
 
 use crate::refusal::Refusal;
 use jsonc_parser::cst::{
-    CstContainerNode, CstNode, CstObjectProp, CstRootNode, EditError, HasChildren,
+    CstContainerNode, CstNode, CstObjectProp, CstRootNode, EditError, ParentNode,
 };
 use std::alloc::{AllocError, Global};
 
@@ -41,7 +41,7 @@ fn value_below(
     node: CstNode,
     place: usize,
 ) -> Result<Option<CstNode>, Refusal>
-    requires { Holds doc.now node }
+    requires { HasNode doc.now node }
 {
     match node {
         CstNode::Container(CstContainerNode::Array(row)) => {
@@ -64,7 +64,7 @@ fn property_below(
     node: CstNode,
     place: usize,
 ) -> Result<CstObjectProp, Refusal>
-    requires { Holds doc.now node }
+    requires { HasNode doc.now node }
 {
     let CstNode::Container(CstContainerNode::Object(object)) = node else {
         return Err(Refusal::Error(EditError::NoSuchPlace));
@@ -81,7 +81,7 @@ pub fn push_children(
     doc: &CstRootNode<Global>,
     node: CstNode,
 ) -> Result<(), AllocError>
-    requires { Holds doc.now node }
+    requires { HasNode doc.now node }
 {
     let Ok(children) = node.children(doc) else {
         return Err(AllocError);

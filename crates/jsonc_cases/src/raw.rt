@@ -5,7 +5,7 @@ use crate::paths::{property_at, push_children};
 use crate::refusal::Refusal;
 use jsonc_parser::cst::{
     CstContainerNode, CstInputValue, CstLeafNode, CstNewlineKind, CstNode, CstRootNode, EditError,
-    IsNode, ObjectPropName,
+    ObjectPropName, TypedNode,
 };
 use std::alloc::Global;
 

@@ -1,6 +1,6 @@
 //! Sorts of arrays and objects.
 
-ghost use Rattle.jsonc_cst.specs.Document.{Holds};
+ghost use Rattle.jsonc_cst.specs.Document.{HasNode};
 ghost use Rattle.jsonc_cst.specs.Nodes.{array_node, object_node, object_prop_node};
 
 use crate::edits::{SortEdit, SortKey, SortRule};
@@ -8,7 +8,7 @@ use crate::paths::value_at;
 use crate::refusal::Refusal;
 use jsonc_parser::cst::{
     CstArray, CstComment, CstContainerNode, CstNode, CstObject, CstObjectProp, CstRootNode,
-    EditError, IsNode, ObjectPropName,
+    EditError, ObjectPropName, TypedNode,
 };
 use std::alloc::Global;
 use std::cmp::{Ordering, Reverse};
@@ -64,7 +64,7 @@ fn element_key(
     node: CstNode,
     key: SortKey,
 ) -> Result<Key, EditError>
-    requires { Holds doc.now node }
+    requires { HasNode doc.now node }
 {
     let Ok(text) = node.shown(doc).to_string(alloc) else {
         return Err(EditError::OutOfMemory);
@@ -74,7 +74,7 @@ fn element_key(
 
 /// A name as it is written, without quotes.
 fn name_of(doc: &CstRootNode<Global>, property: CstObjectProp) -> &str
-    requires { Holds doc.now (object_prop_node property) }
+    requires { HasNode doc.now (object_prop_node property) }
 {
     match property.name(doc) {
         Some(ObjectPropName::Word(word)) => word.raw_value(doc),
@@ -98,7 +98,7 @@ fn property_key(
     property: CstObjectProp,
     key: SortKey,
 ) -> Result<Key, EditError>
-    requires { Holds doc.now (object_prop_node property) }
+    requires { HasNode doc.now (object_prop_node property) }
 {
     let Ok(text) = String::from_str(alloc, name_of(doc, property)) else {
         return Err(EditError::OutOfMemory);
@@ -109,7 +109,7 @@ fn property_key(
 /// The text by which a list of edits sorts: of a property its name as it is written, without quotes, and of
 /// an element itself. It is empty where there is no memory for it.
 fn text_of(alloc: Global, doc: &CstRootNode<Global>, node: CstNode) -> String
-    requires { Holds doc.now node }
+    requires { HasNode doc.now node }
 {
     let text = match node {
         CstNode::Container(CstContainerNode::ObjectProp(property)) => {
@@ -130,8 +130,8 @@ pub(crate) fn compare_nodes(
     one: CstNode,
     other: CstNode,
 ) -> Ordering
-    requires one { Holds doc.now one }
-    requires other { Holds doc.now other }
+    requires one { HasNode doc.now one }
+    requires other { HasNode doc.now other }
 {
     let first = text_of(alloc, doc, one);
     let second = text_of(alloc, doc, other);
@@ -144,7 +144,7 @@ fn sort_array(
     array: CstArray,
     edit: &SortEdit,
 ) -> Result<(), EditError>
-    requires { Holds doc.old (array_node array) }
+    requires { HasNode doc.old (array_node array) }
 {
     let key = edit.key;
     let by = move |doc: &CstRootNode<Global>, node: CstNode| element_key(alloc, doc, node, key);
@@ -171,7 +171,7 @@ fn sort_object(
     object: CstObject,
     edit: &SortEdit,
 ) -> Result<(), EditError>
-    requires { Holds doc.old (object_node object) }
+    requires { HasNode doc.old (object_node object) }
 {
     let key = edit.key;
     let by_name = edit.by_name;

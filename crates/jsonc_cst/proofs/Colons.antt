@@ -10,8 +10,8 @@ use Rattle.jsonc_layout.specs.input.Views.{plain}
 use Rattle.jsonc_layout.specs.declared.input.value.CstInputValue.{CstInputValue}
 use Rattle.jsonc_layout.specs.to_input.Given.{Gives, HasColon, HaveColons, colon_first, name_first}
 use Rattle.jsonc_layout.specs.to_input.Taken.{IsTaken}
-use Rattle.jsonc_layout.proofs.lemmas.to_input.Given.{document_gives}
-use Rattle.jsonc_layout.proofs.lemmas.to_input.Once.{gives_once}
+use Rattle.jsonc_layout.proofs.lemmas.to_input.ReadValues.{document_gives}
+use Rattle.jsonc_layout.proofs.lemmas.to_input.OneValue.{gives_once}
 
 -- what is no property needs no colon
 no_property_colon : (content : Content) (below : OrderedTree) → (content ≡ Content.property → ⊥) → HasColon content below

@@ -45,13 +45,13 @@ module _ (ns : List Node) (tree : IsTree ns) where
 
   -- children are there
   pub children_there : (c : ℕ) → All (λ m. m < length ns) (children_at ns c)
-  children_there c k d h = subst (λ m. m < length ns) (get_or_default (children_at ns c) k 0 d h) (tree.there c k h)
+  children_there c k d h = subst (λ m. m < length ns) (get_or_default (children_at ns c) k 0 d h) (tree.in_tree c k h)
 
   -- and are nodes
   pub children_held : (c : ℕ) → All (IsNodeOf ns) (map (typed_at ns) (children_at ns c))
   children_held c k d h =
       let within : k < length (children_at ns c) = omega (arith, h, length-map (children_at ns c) (typed_at ns)) in
-      subst (IsNodeOf ns) (sym (get_or-map (typed_at ns) (children_at ns c) k 0 d within)) (typed_held ns (get_or (children_at ns c) k 0) (tree.there c k within))
+      subst (IsNodeOf ns) (sym (get_or-map (typed_at ns) (children_at ns c) k 0 d within)) (typed_held ns (get_or (children_at ns c) k 0) (tree.in_tree c k within))
 
   parent_if : (n : ℕ) (o : Option ℕ) → parent_at ns n ≡ o → IfSome o (λ c. is_container_at ns c ≡ true)
   parent_if n None said = tt

@@ -6,8 +6,8 @@ use Rattle.std.proofs.lemmas.List.{get_or-map, get_or_past, length-map}
 use Rattle.std.proofs.lemmas.List.Elements.{filter_passes}
 use Rattle.jsonc_tree.specs.Content as content
 use Rattle.jsonc_tree.specs.Tree.{Node, nowhere, content_at, IsTree}
-use Rattle.jsonc_layout.specs.nodes.Comments.{comments_beside}
-use Rattle.jsonc_layout.specs.nodes.Kinds.{is_beside_at, is_comment, is_comment_at, is_property, is_comma}
+use Rattle.jsonc_layout.specs.nodes.Comments.{inline_comments}
+use Rattle.jsonc_layout.specs.nodes.Kinds.{is_inline_trivia_at, is_comment, is_comment_at, is_property, is_comma}
 use Rattle.jsonc_layout.specs.nodes.Names.{FirstNamed, none, here, later}
 use Rattle.jsonc_layout.specs.nodes.Siblings.{AreThere}
 use Rattle.jsonc_layout.specs.lines.Siblings.{if_comma}
@@ -138,9 +138,9 @@ module _ (ns : List Node) where
   pub properties_held : (xs : List ℕ) → All (λ p. IsNodeOf ns (object_prop_node p)) (map property_under (filter (is_property_at ns) xs))
   properties_held = made_of_passing property_under (λ p. IsNodeOf ns (object_prop_node p)) (is_property_at ns) property_held
 
-  pub comments_held : (xs : List ℕ) → All (λ c. IsNodeOf ns (comment_node c)) (map comment_under (comments_beside ns xs))
-  comments_held xs = made_of_passing comment_under (λ c. IsNodeOf ns (comment_node c)) (is_comment_at ns) comment_held (take_while (is_beside_at ns) xs)
+  pub comments_held : (xs : List ℕ) → All (λ c. IsNodeOf ns (comment_node c)) (map comment_under (inline_comments ns xs))
+  comments_held xs = made_of_passing comment_under (λ c. IsNodeOf ns (comment_node c)) (is_comment_at ns) comment_held (take_while (is_inline_trivia_at ns) xs)
 
-  pub comments_held_if : (b : Bool) (xs : List ℕ) → All (λ c. IsNodeOf ns (comment_node c)) (map comment_under (if b then comments_beside ns xs else []))
+  pub comments_held_if : (b : Bool) (xs : List ℕ) → All (λ c. IsNodeOf ns (comment_node c)) (map comment_under (if b then inline_comments ns xs else []))
   comments_held_if true xs = comments_held xs
   comments_held_if false xs = λ k d h. absurd (omega (arith, h))

@@ -36,8 +36,8 @@ module _ {A : Type 0} where
   allocator_of d = d.alloc
 
   -- the document has this node
-  abbrev pub Holds : CstRootNode A → CstNode → Type 0
-  Holds d node = IsNodeOf (nodes_of d) node
+  abbrev pub HasNode : CstRootNode A → CstNode → Type 0
+  HasNode d node = IsNodeOf (nodes_of d) node
 
   -- what a node of it is
   abbrev pub content_of : CstRootNode A → CstNode → Content

@@ -7,7 +7,7 @@ use Rattle.jsonc_cst.specs.declared.cst.node.CstContainerNode.{CstContainerNode}
 use Rattle.jsonc_cst.specs.declared.cst.node.CstLeafNode.{CstLeafNode}
 use Rattle.jsonc_cst.specs.declared.cst.node.CstNode.{CstNode}
 use Rattle.jsonc_cst.specs.declared.cst.node.CstNode.TheVariants.{Container, Leaf}
-use Rattle.jsonc_cst.specs.Document.{nodes_of, Holds, parent_of, ancestors_of, children_of}
+use Rattle.jsonc_cst.specs.Document.{nodes_of, HasNode, parent_of, ancestors_of, children_of}
 use Rattle.jsonc_cst.specs.Nodes.{number_of, root_node}
 use Rattle.jsonc_cst.specs.Readings.{root_under}
 
@@ -25,10 +25,10 @@ module _ {A : Type 0} where
   -- Above a node stand its parent, if it has one, and those above the parent; and none of them is the node.
   pub record NodesAreTree (d : CstRootNode A) : Type 0 where
     pub root_alone : parent_of d (root_node (root_under 0)) ≡ None
-    pub leaf : (l : CstLeafNode) → Holds d (Leaf l) → children_of d (Leaf l) ≡ []
-    pub found : (node : CstNode) (c : CstContainerNode) → Holds d node → parent_of d node ≡ Some c → IsChildAt d c (place_of d node) node
-    pub named : (c : CstContainerNode) (k : ℕ) (node : CstNode) → Holds d (Container c) → IsChildAt d c k node → parent_of d node ≡ Some c
-    pub placed : (c : CstContainerNode) (k : ℕ) (node : CstNode) → Holds d (Container c) → IsChildAt d c k node → place_of d node ≡ k
+    pub leaf : (l : CstLeafNode) → HasNode d (Leaf l) → children_of d (Leaf l) ≡ []
+    pub found : (node : CstNode) (c : CstContainerNode) → HasNode d node → parent_of d node ≡ Some c → IsChildAt d c (place_of d node) node
+    pub named : (c : CstContainerNode) (k : ℕ) (node : CstNode) → HasNode d (Container c) → IsChildAt d c k node → parent_of d node ≡ Some c
+    pub placed : (c : CstContainerNode) (k : ℕ) (node : CstNode) → HasNode d (Container c) → IsChildAt d c k node → place_of d node ≡ k
     pub top : (node : CstNode) → parent_of d node ≡ None → ancestors_of d node ≡ []
     pub above : (node : CstNode) (c : CstContainerNode) → parent_of d node ≡ Some c → ancestors_of d node ≡ c ∷ ancestors_of d (Container c)
     pub not_itself : (node : CstNode) → All (λ c. Container c ≢ node) (ancestors_of d node)

@@ -13,7 +13,7 @@ ghost use Rattle.jsonc_text.specs.Plain.{Plain};
 ghost use Rattle.jsonc_tree.specs.OrderedTree.{leaves, pieces};
 ghost use Rattle.jsonc_tree.specs.Values.{DocumentValueOf};
 ghost use Rattle.jsonc_ast.specs.to_ast.Refusals.{RefusesText};
-ghost use Rattle.jsonc_ast.specs.to_ast.Told.{IsTold};
+ghost use Rattle.jsonc_ast.specs.to_ast.Faults.{ParseFault};
 ghost use Rattle.jsonc_sound.specs.Lines.{DocumentLinesEnd};
 ghost use Rattle.jsonc_sound.specs.Shape.{DocumentShaped};
 ghost use Rattle.jsonc_sound.specs.Documents.{ShowsText};
@@ -43,7 +43,7 @@ use jsonc_text::errors::ParseError;
 use jsonc_text::options::ParseOptions;
 use jsonc_tree::Tree;
 pub use jsonc_tree::{CstNewlineKind, Pieces, Shown};
-pub use navigation::{HasChildren, IsNode};
+pub use navigation::{ParentNode, TypedNode};
 pub use node::{
     CstArray, CstBooleanLit, CstComment, CstContainerNode, CstLeafNode, CstNewline, CstNode,
     CstNullKeyword, CstNumberLit, CstObject, CstObjectProp, CstRoot, CstStringLit, CstToken,
@@ -53,7 +53,7 @@ pub use siblings::{NextSiblingIterator, PreviousSiblingIterator};
 use std::alloc::Allocator;
 use std::fmt;
 
-/// A document: a text that keeps its every byte, comments, blanks and commas too.
+/// A document, which keeps every byte of its text, comments and blanks too.
 #[derive(Drop)]
 pub struct CstRootNode<A: Allocator> {
     pub(crate) tree: Tree<A>,
@@ -61,16 +61,17 @@ pub struct CstRootNode<A: Allocator> {
 }
 
 impl<A: Allocator + Copy> CstRootNode<A> {
-    /// Reads a document from its text.
+    /// Parses a text into a document that keeps every byte.
     ///
-    /// The document prints as the text was written. Its nodes follow one another as the grammar says:
-    /// strings, numbers, words, commas, colons, brackets, comments, line ends and runs of blanks are
-    /// leaves of their own, a CR LF one, a run of blanks whole. A value that more than 512 containers and
-    /// properties are around is refused. The error says what is wrong with the text, in which of its bytes, and in
-    /// which line and column; want of memory is an error too.
+    /// The document prints as the text was written. Its nodes follow one another as the grammar
+    /// says: strings, numbers, words, commas, colons, brackets and comments are leaves of their
+    /// own, and so are line ends, a CR LF as one, and runs of blanks. A value that more than 512
+    /// containers and properties are around is an error. The error says what is wrong with the
+    /// text, in which of its bytes, and in which line and column; an allocation failure is an error
+    /// too.
     ///
-    /// The document is sound, and shows the text with its value and its literals and comments. Each structured
-    /// edit says what it makes of a document that shows a text, so edits may begin here.
+    /// The document is sound, and shows the text with its value and its literals and comments. Each
+    /// structured edit says what it makes of a document that shows a text, so edits may begin here.
     pub fn parse(alloc: A, text: &str, options: &ParseOptions) -> Result<CstRootNode<A>, ParseError>
         ensures printed { IfOk result (λ d. printed_of d ≡ text.now) }
         ensures shaped { IfOk result (λ d. DocumentShaped (parse_options options.now) (tree_of d)) }
@@ -85,7 +86,7 @@ impl<A: Allocator + Copy> CstRootNode<A> {
         ensures tree { IfOk result NodesAreTree }
         ensures refused { IfErr result (RefusesText (parse_options options.now) text.now) }
         ensures fault { IfErr result (IsFault text.now) }
-        ensures told { IfErr result (IsTold (parse_options options.now) text.now true) }
+        ensures error { IfErr result (ParseFault (parse_options options.now) text.now true) }
     {
         let collect = CollectOptions::default();
         let parsed = parse_to_ast(alloc, text, &collect, options)?;
@@ -108,9 +109,9 @@ impl<A: Allocator + Copy> CstRootNode<A> {
 }
 
 impl<A: Allocator> CstRootNode<A> {
-    /// The bytes that each leaf of the document prints, in order; a leaf that prints nothing has an empty piece.
+    /// An iterator over the bytes that each leaf prints, in order.
     ///
-    /// They are lent, and no memory is wanted.
+    /// A leaf that prints nothing has an empty piece. The bytes are lent, and nothing is allocated.
     pub fn pieces(&self) -> Pieces<'_, A>
         ensures pieces { result ≡ pieces (tree_of self.now) }
         ensures joined { concat result ≡ printed_of self.now }

@@ -21,14 +21,14 @@ ghost use Rattle.jsonc_cst.specs.objects.Named.{HasEnsuredArray, HasEnsuredObjec
 ghost use Rattle.jsonc_cst.specs.sorting.Sorted.{IsPlaced};
 ghost use Rattle.jsonc_cst.specs.typed.AsCalls.{IsCallIf, IsRootCallIf, LoneRemovalIsCall, RemovalIsCall};
 ghost use Rattle.jsonc_cst.specs.typed.Commas.{HasSetCommas, HasSetCommasInPart};
-ghost use Rattle.jsonc_cst.specs.typed.Edits.{HasGivenWay, IsUntouched, StaysAsItWas};
+ghost use Rattle.jsonc_cst.specs.typed.Edits.{IsReplacedBy, IsUntouched, Unchanged};
 ghost use Rattle.jsonc_cst.specs.typed.Inserting.{HasComeIn};
 ghost use Rattle.jsonc_cst.specs.typed.Lines.{HasSpreadOut};
 ghost use Rattle.jsonc_cst.specs.typed.Raw.{HasBecome};
 ghost use Rattle.jsonc_cst.specs.typed.Removing.{IsCleared};
 ghost use Rattle.jsonc_cst.specs.typed.Setting.{FindsOrCreatesArray, FindsOrCreatesObject, FindsOrSetsArray};
 ghost use Rattle.jsonc_cst.specs.typed.Setting.{FindsOrSetsObject, HasBecomeProperty, RootBecomes};
-ghost use Rattle.jsonc_cst.specs.typed.Values.{HasSetBoolean, NowHolds, NowHoldsArray, NowHoldsObject};
+ghost use Rattle.jsonc_cst.specs.typed.Values.{HasSetBoolean, NodeValueIs, NowHoldsArray, NowHoldsObject};
 
 use std::alloc::Allocator;
 
@@ -40,17 +40,17 @@ pub fn documents_give_their_value<A: Allocator>()
 
 /// What typed calls say is what lists of calls are made of: from the clause that each has of the nodes, word
 /// for word, to a call of its node, of which `jsonc_run`'s law of lists speaks. `kept` is what each refusal says,
-/// and `untouched` what is said where nothing changes. A document's nodes are a tree, as
-/// `CstRootNode::nodes_are_tree` tells.
+/// and `untouched` what is said where nothing changes. That a document's nodes are a tree is a field of its
+/// value.
 pub fn typed_calls_are_calls<A: Allocator>()
-    ensures kept { (old new : CstRootNode A) (node : CstNode) → IsCallIf old new node (StaysAsItWas old new) }
+    ensures kept { (old new : CstRootNode A) (node : CstNode) → IsCallIf old new node (Unchanged old new) }
     ensures untouched { (old new : CstRootNode A) (node : CstNode) → IsCallIf old new node (IsUntouched old new) }
     ensures raw { (old new : CstRootNode A) (node : CstNode) (now : Content)
         → IsCallIf old new node (HasBecome old new node now) }
     ensures removed { (old new : CstRootNode A) (node : CstNode) → RemovalIsCall old new node }
     ensures alone { (old new : CstRootNode A) (node : CstNode) → LoneRemovalIsCall old new node }
     ensures replaced { (old new : CstRootNode A) (node : CstNode) (v : Plain) (now : CstNode)
-        → IsCallIf old new node (HasGivenWay old new node v now) }
+        → IsCallIf old new node (IsReplacedBy old new node v now) }
     ensures property { (old new : CstRootNode A) (node : CstNode) (name : List ℕ) (v : Plain) (now : CstNode)
         → IsCallIf old new node (HasBecomeProperty old new node name v now) }
     ensures cleared { (old new : CstRootNode A) → IsRootCallIf old new (IsCleared (nodes_of old) (nodes_of new)) }
@@ -65,7 +65,7 @@ pub fn typed_calls_are_calls<A: Allocator>()
     ensures array_set { (old new : CstRootNode A) (x : CstArray)
         → IsRootCallIf old new (FindsOrSetsArray (nodes_of old) (nodes_of new) x) }
     ensures value { (old new : CstRootNode A) (p : CstObjectProp) (v : Plain) (now : CstNode)
-        → IsCallIf old new (object_prop_node p) (NowHolds old new (object_prop_node p) v now) }
+        → IsCallIf old new (object_prop_node p) (NodeValueIs old new (object_prop_node p) v now) }
     ensures object_held { (old new : CstRootNode A) (p : CstObjectProp) (x : CstObject)
         → IsCallIf old new (object_prop_node p) (NowHoldsObject old new (object_prop_node p) x) }
     ensures array_held { (old new : CstRootNode A) (p : CstObjectProp) (x : CstArray)

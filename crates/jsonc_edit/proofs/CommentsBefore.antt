@@ -10,11 +10,11 @@ use Rattle.jsonc_tree.specs.OrderedTree.{leaves}
 use Rattle.jsonc_tree.specs.Tree.{Node, content_at, children_at, place_at, IsTree}
 use Rattle.jsonc_tree.proofs.Order.{in_order_is, parent_there}
 use Rattle.jsonc_layout.specs.nodes.Kinds.{is_comment_at}
-use Rattle.jsonc_layout.proofs.lemmas.nodes.There.{children_there}
+use Rattle.jsonc_layout.proofs.lemmas.nodes.InTree.{children_there}
 use Rattle.jsonc_sound.specs.Marks.{comments_of, marks_of}
 use Rattle.jsonc_edit.specs.Comments.{comment_at}
 use Rattle.jsonc_edit.specs.Seams.{StandsBetween, as_root, as_child}
-use Rattle.jsonc_edit.proofs.Ahead.{comments_counted, picked}
+use Rattle.jsonc_edit.proofs.CommentOrder.{comments_counted, picked}
 use Rattle.jsonc_edit.proofs.InOrder.{as_many_before, leaf_at, shown_leaves}
 use Rattle.jsonc_edit.proofs.SeamsAround.{holds_children}
 

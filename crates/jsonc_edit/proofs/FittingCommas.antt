@@ -12,7 +12,7 @@ use Rattle.jsonc_sound.specs.Shape.{IsTrivia, Trivia, nothing, trivia, Separated
 use Rattle.jsonc_layout.specs.nodes.Kinds.{is_element_at, is_trivia, is_comma}
 use Rattle.jsonc_layout.specs.nodes.Siblings.{siblings_after}
 use Rattle.jsonc_sound.specs.TreeChanges.{IsElement}
-use Rattle.jsonc_layout.specs.lines.Kinds.{holds_values}
+use Rattle.jsonc_layout.specs.lines.Kinds.{is_array_or_object}
 use Rattle.jsonc_layout.specs.lines.Siblings.{is_no_trivia_at, after_trivia_at, if_comma, trailing_comma_at}
 use Rattle.jsonc_layout.specs.lines.Breadth.{levels, breadth_first, last_element, is_spaced, ends_with_comma, uses_trailing_commas_at}
 use Rattle.jsonc_edit.specs.Changes.{row_below}
@@ -20,7 +20,7 @@ use Rattle.jsonc_edit.proofs.Elements.{Some_same}
 use Rattle.jsonc_edit.proofs.Entries.{Passed, not_both, trivia_passed, value_element}
 use Rattle.jsonc_edit.proofs.FittingFinds.{none_is_some, passes, fails, found_one, none_first, IsLast, found_last}
 use Rattle.jsonc_edit.proofs.FittingNodes.{FollowsFromShape, holds_of_each, over_there, children_over}
-use Rattle.jsonc_edit.proofs.Walk.{Shows-row_below}
+use Rattle.jsonc_edit.proofs.ChangesUpward.{Shows-row_below}
 
 -- the first of the row that is no trivia is a comma
 data CommaNext : OrderedTree → Type 0 where
@@ -121,7 +121,7 @@ module _ (o : Options) where
 
   -- an array or object has a comma after its last element only where that is allowed
   abbrev ClosesWell : Content → OrderedTree → Type 0
-  ClosesWell content below = holds_values content ≡ true → CommaAfterLast below → IsTrue o.trailing_commas
+  ClosesWell content below = is_array_or_object content ≡ true → CommaAfterLast below → IsTrue o.trailing_commas
 
   closes_well : FollowsFromShape o ClosesWell
   closes_well = record {
@@ -206,5 +206,5 @@ module _ (ns : List Node) (tree : IsTree ns) where
       let end = some_end ns (find (is_spaced ns) (breadth_first ns n)) e in
       let all : All (IsOver ns 0) (breadth_first ns n) = levels_over (length ns) (n ∷ []) (All-cons (IsOver ns 0) n [] over (All-nil (IsOver ns 0))) in
       let found = found_one (is_spaced ns) (IsOver ns 0) (breadth_first ns n) end.0 all end.1 in
-      let holds : holds_values (content_at ns end.0) ≡ true = (and_parts (holds_values (content_at ns end.0)) _ found.1).0 in
+      let holds : is_array_or_object (content_at ns end.0) ≡ true = (and_parts (is_array_or_object (content_at ns end.0)) _ found.1).0 in
       holds_of_each o (ClosesWell o) (closes_well o) ns tree shaped end.0 found.0 holds (ends_in_row end.0 (over_there ns tree end.0 found.0) end.2)

@@ -9,7 +9,7 @@ use Rattle.jsonc_tree.proofs.Order.{parent_there}
 use Rattle.jsonc_tree.proofs.OrderedTrees.{Shows-unique}
 use Rattle.jsonc_sound.specs.Shape.{IsTrivia, IsNameBefore, Trivia, nothing, trivia, Separated, comma, no_comma, Closed, plain, trailing_comma, token_then, printed_text, ValueShaped, ElementsShaped, PropertiesShaped, PropertyShaped, DocumentShaped, no_value, a_value}
 use Rattle.jsonc_edit.specs.Changes.{row_below}
-use Rattle.jsonc_edit.proofs.Walk.{Shows-row_below, document_is}
+use Rattle.jsonc_edit.proofs.ChangesUpward.{Shows-row_below, document_is}
 
 -- P holds of each node of a row and below it, with the row below that one
 pub data Everywhere (P : Content → OrderedTree → Type 0) : OrderedTree → Type 0 where
@@ -82,7 +82,7 @@ module _ (P : Content → OrderedTree → Type 0) (ns : List Node) (tree : IsTre
   holds_of_child : (n p : ℕ) → parent_at ns n ≡ Some p → Everywhere P (row_below ns p) → HoldsFrom n
   holds_of_child n p said all =
       subst HoldsFrom (tree.found n p said)
-      (holds_among (children_at ns p) (row_below ns p) (place_at ns n) (Shows-row_below ns tree p (parent_there ns tree n p said).1) all (λ e h. tree.there p e h) (tree.within n p said))
+      (holds_among (children_at ns p) (row_below ns p) (place_at ns n) (Shows-row_below ns tree p (parent_there ns tree n p said).1) all (λ e h. tree.in_tree p e h) (tree.within n p said))
 
   holds_from_root : P (content_at ns 0) (row_below ns 0) → Everywhere P (row_below ns 0) → (n : ℕ) → IsOver ns 0 n → HoldsFrom n
   holds_from_root first all _ IsOver.itself = (first, all)

@@ -15,7 +15,7 @@ use Rattle.jsonc_tree.proofs.Order.{flat_map_same, following_end, following_next
 use Rattle.jsonc_tree.proofs.OrderedTrees.{Shows-ordered_tree}
 use Rattle.jsonc_tree.proofs.Over.{over_up, sibling_not_over}
 use Rattle.jsonc_layout.specs.nodes.Siblings.{AreThere}
-use Rattle.jsonc_layout.proofs.lemmas.nodes.There.{children_there}
+use Rattle.jsonc_layout.proofs.lemmas.nodes.InTree.{children_there}
 
 -- the leaf that a node is, and none of a container
 abbrev pub leaf_at : List Node → ℕ → List Content
@@ -53,7 +53,7 @@ module _ (ns : List Node) (tree : IsTree ns) where
         | inl more ↦ (
           Some (get_or (children_at ns p) (place_at ns n + 1) 0),
           following_next ns tree 0 n p (no_root n p said) (above said over) said more,
-          (tree.there p (place_at ns n + 1) more, above (tree.named p (place_at ns n + 1) more) over),
+          (tree.in_tree p (place_at ns n + 1) more, above (tree.named p (place_at ns n + 1) more) over),
         )
         | inr last ↦ (let up = follow p (parent_there ns tree n p said).1 over in (up.0, following_up ns tree 0 n p (no_root n p said) said last ∙ up.1, up.2))
       ]
@@ -61,7 +61,7 @@ module _ (ns : List Node) (tree : IsTree ns) where
   next_step : (n : ℕ) → IsHere n → (o : Option ℕ) × (rest_at ns 0 (Some n) ≡ n ∷ rest_at ns 0 o) × IfSome o IsHere
   next_step n (there, over) =
       elim (cases_lt 0 (length (children_at ns n))) [
-        | inl more ↦ (Some (get_or (children_at ns n) 0 0), rest_down ns tree 0 n there over more, (tree.there n 0 more, above (tree.named n 0 more) over))
+        | inl more ↦ (Some (get_or (children_at ns n) 0 0), rest_down ns tree 0 n there over more, (tree.in_tree n 0 more, above (tree.named n 0 more) over))
         | inr bare ↦ (let f = follow n there over in (f.0, rest_over ns tree 0 n f.0 there (omega (arith, bare)) f.1, f.2))
       ]
 
@@ -152,7 +152,7 @@ module _ (old new : List Node) (tree : IsTree old) (after : IsTree new) (c i j :
         is = up.is ∙ ap (λ l. up.front ++ (l ++ up.behind)) below_new ∙ regroup up.front (flat_map (in_order old) ahead) (in_order new p) (flat_map (in_order old) rest) up.behind q;
       }
 
-  -- what stands before the stretch that gives way, and behind it
+  -- what stands before the stretch that is replaced, and behind it
   pub record SplicedOrder : Type 0 where
     pub front : List ℕ
     pub behind : List ℕ

@@ -1,4 +1,4 @@
--- A new node stands at the path of the node that gave way to it.
+-- A new node stands at the path of the node that was replaced by it.
 use Rattle.std.proofs.Common.{◌≡◌, ◌≢◌, ℕ, ◌+◌, ◌<◌, All, Bool, true, List, [], ◌∷◌, ◌++◌, length, take, drop, slice_get, slice_index, filter, Some, ◌⊎◌, inl, inr, refl, sym, ap, subst, ◌∙◌, arith, length-take, length-drop, get_or-take, get_or-drop}
 use Rattle.std.proofs.lemmas.Bool.{cases_Bool}
 use Rattle.std.proofs.lemmas.List.{drop_more, take-append-drop}
@@ -11,14 +11,14 @@ use Rattle.jsonc_tree.proofs.Over.{over_up}
 use Rattle.jsonc_layout.specs.nodes.Kinds.{is_element, is_element_at}
 use Rattle.jsonc_layout.specs.nodes.Properties.{value_at}
 use Rattle.jsonc_layout.specs.nodes.Siblings.{elements_at}
-use Rattle.jsonc_layout.proofs.lemmas.nodes.Held.{IsAlike, held_alike, held_in, held_replaced, value_is_held}
-use Rattle.jsonc_layout.proofs.lemmas.nodes.Held as kinds
+use Rattle.jsonc_layout.proofs.lemmas.nodes.PropertyValues.{IsAlike, held_alike, held_in, held_replaced, value_is_held}
+use Rattle.jsonc_layout.proofs.lemmas.nodes.PropertyValues as kinds
 use Rattle.jsonc_tree.specs.OrderedTree.{Top}
 use Rattle.jsonc_sound.specs.TreeChanges.{IsElement}
 use Rattle.jsonc_edit.specs.Paths.{IsElementOf, IsHeldBy, StepsTo, LeadsTo, itself, step, IsAt}
 use Rattle.jsonc_edit.proofs.Elements.{taken, left, StandsAt, stands_at}
-use Rattle.jsonc_edit.proofs.GivingWay.{InPlace}
-use Rattle.jsonc_edit.proofs.Kept.{filter_same}
+use Rattle.jsonc_edit.proofs.ReplacedChildren.{InPlace}
+use Rattle.jsonc_edit.proofs.NodesKept.{filter_same}
 use Rattle.jsonc_edit.proofs.Uniqueness.{element_parent, leads_over, no_way_back, one_over}
 
 -- what passes is found behind as many as pass before it

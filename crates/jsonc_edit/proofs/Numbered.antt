@@ -11,11 +11,11 @@ use Rattle.jsonc_tree.specs.Tree.{Node, content_at, parent_at, children_at, plac
 use Rattle.jsonc_tree.proofs.Order.{over_step, parent_there}
 use Rattle.jsonc_layout.specs.nodes.Kinds.{is_comment_at}
 use Rattle.jsonc_layout.specs.nodes.Siblings.{AreThere}
-use Rattle.jsonc_layout.proofs.lemmas.nodes.There.{children_there}
+use Rattle.jsonc_layout.proofs.lemmas.nodes.InTree.{children_there}
 use Rattle.jsonc_sound.specs.ChangeLaws.{DiffersIn}
 use Rattle.jsonc_sound.specs.Marks.{comments_of, marks_of}
 use Rattle.jsonc_edit.specs.Comments.{comment_at, removed_from, CommentRemoved, leaves_gone}
-use Rattle.jsonc_edit.proofs.Ahead.{blanks_uncounted, comments_counted, picked, trivia_in_order, trivia_leaves}
+use Rattle.jsonc_edit.proofs.CommentOrder.{blanks_uncounted, comments_counted, picked, trivia_in_order, trivia_leaves}
 use Rattle.jsonc_edit.proofs.InOrder.{as_many_before, leaf_at, leaves_in_order, spliced_order, SplicedOrder}
 use Rattle.jsonc_edit.proofs.Removal.{all_trivia, blanks_gone, from_before, gone_is}
 

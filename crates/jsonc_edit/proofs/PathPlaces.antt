@@ -15,13 +15,13 @@ use Rattle.jsonc_edit.specs.Changes.{row_below, top_at, Replaces}
 use Rattle.jsonc_edit.specs.Paths.{IsElementOf, StepsTo, LeadsTo, IsAt}
 use Rattle.jsonc_edit.specs.Paths as paths
 use Rattle.jsonc_edit.proofs.Elements.{StandsAt, stands_at, left, taken}
-use Rattle.jsonc_edit.proofs.GivingWay.{put_parent}
+use Rattle.jsonc_edit.proofs.ReplacedChildren.{put_parent}
 use Rattle.jsonc_edit.proofs.Splices.{spliced_in}
 use Rattle.jsonc_edit.proofs.Uniqueness.{element_parent, element_there}
-use Rattle.jsonc_edit.proofs.Walk.{ChangedIn, Shows-row_below, apart_kept, document_is}
+use Rattle.jsonc_edit.proofs.ChangesUpward.{ChangedIn, Shows-row_below, apart_kept, document_is}
 use Rattle.jsonc_edit.specs.Seams.{StandsBetween, as_root, as_child}
 use Rattle.jsonc_edit.specs.SeamPlaces.{RowHolds, this_element, past_other, past_element, ValueHolds, itself, in_array, in_object, DocumentHolds, in_root}
-use Rattle.jsonc_edit.proofs.Between.{within, stands_so, between_above}
+use Rattle.jsonc_edit.proofs.LeavesAroundNodes.{within, stands_so, between_above}
 
 Some_same : (m n : ℕ) → Some m ≡ Some n → m ≡ n
 Some_same m n e = cc

@@ -7,7 +7,7 @@ use Rattle.jsonc_tree.specs.Content.{Content, root, comment, is_container}
 use Rattle.jsonc_tree.specs.Changes.{CanJoin}
 use Rattle.jsonc_tree.specs.OrderedTree.{OrderedTree, none, more, leaves, followed_by, Shows, shows_none, shows_more, ordered_tree, Replaced, here, deeper, later}
 use Rattle.jsonc_tree.specs.Tree.{Node, content_at, parent_at, children_at, place_at, IsTree, IsOver}
-use Rattle.jsonc_tree.proofs.Around.{Shows-spliced, Replaced-splice}
+use Rattle.jsonc_tree.proofs.SplicedTrees.{Shows-spliced, Replaced-splice}
 use Rattle.jsonc_tree.proofs.Order.{over_step, parent_there}
 use Rattle.jsonc_tree.proofs.Rows.{Shows-part}
 use Rattle.jsonc_layout.specs.nodes.Kinds.{is_whitespace, is_newline, is_comment, is_trivia, is_whitespace_at, is_newline_at, is_comment_at, is_trivia_at}
@@ -17,21 +17,21 @@ use Rattle.jsonc_text.specs.Options.{Options}
 use Rattle.jsonc_tree.specs.Order.{with_parent}
 use Rattle.jsonc_tree.specs.Siblings.{row_of, siblings_after}
 use Rattle.jsonc_sound.specs.Adjacent.{first_char, or_else}
-use Rattle.jsonc_sound.proofs.Flat.{AllLeaves, begins_slash, behind_all, document_leaves_all}
+use Rattle.jsonc_sound.proofs.LeafByLeaf.{AllLeaves, begins_slash, behind_all, document_leaves_all}
 use Rattle.jsonc_sound.proofs.TriviaLeaves.{document_differs}
 use Rattle.jsonc_text.specs.Text.{starts}
 use Rattle.jsonc_sound.specs.SoundTrees.{SoundTree}
 use Rattle.jsonc_sound.specs.Spaces.{meet}
-use Rattle.jsonc_sound.proofs.Apart.{document_alone}
+use Rattle.jsonc_sound.proofs.NodesAlone.{document_alone}
 use Rattle.jsonc_sound.proofs.RowsTell.{kept_without_comment_in_row}
 use Rattle.jsonc_sound.proofs.RowsWithin.{both_within}
 use Rattle.jsonc_sound.specs.MarkChanges.{AreBlanks}
 use Rattle.jsonc_edit.specs.Due.{prints, prints_at, nearest, begins_bare, ends_bare, seen_before, seen_behind, behind_holder}
-use Rattle.jsonc_edit.proofs.Whole.{Whole, whole_before, whole_behind, whole_within}
-use Rattle.jsonc_edit.proofs.Meeting.{meet_bare}
+use Rattle.jsonc_edit.proofs.WholeRows.{Whole, whole_before, whole_behind, whole_within}
+use Rattle.jsonc_edit.proofs.NearestLeaves.{meet_bare}
 use Rattle.jsonc_edit.specs.Changes.{row_below}
 use Rattle.jsonc_edit.specs.Comments.{blanks_from, newline_from, removed_from, CommentRemoved, leaves_gone, TakesTrivia}
-use Rattle.jsonc_edit.proofs.Walk.{Shows-row_below, document_is}
+use Rattle.jsonc_edit.proofs.ChangesUpward.{Shows-row_below, document_is}
 
 whitespace_trivia : (c : Content) → is_whitespace c ≡ true → IsTrue (is_trivia c)
 whitespace_trivia (Content.whitespace s) h = refl
@@ -286,7 +286,7 @@ no_end (y ∷ front) x e = cc
 
 nothing_joins : (ns : List Node) (c i j : ℕ) → CanJoin ns c i j []
 nothing_joins ns c i j = record {
-  there = λ k h. absurd (omega (arith, h));
+  in_tree = λ k h. absurd (omega (arith, h));
   not_root = λ k h. absurd (omega (arith, h));
   once = λ a b h. absurd (omega (arith, h));
   free = λ k h. absurd (omega (arith, h));

@@ -20,37 +20,37 @@ use Rattle.jsonc_sound.specs.ChangeLaws.{DiffersIn}
 use Rattle.jsonc_sound.proofs.FirstNodes.{here, over, beyond, meets_first, none_changed, no_element}
 use Rattle.jsonc_sound.specs.MarkChanges.{MarksDifferIn, marks_under}
 use Rattle.jsonc_sound.specs.Marks.{marks}
-use Rattle.jsonc_sound.proofs.GivingWay.{values_marks}
+use Rattle.jsonc_sound.proofs.ReplacedStretches.{values_marks}
 use Rattle.jsonc_sound.proofs.Laid.{laid_as_written}
 use Rattle.jsonc_sound.proofs.LeavesAround.{document_differs}
 use Rattle.jsonc_sound.proofs.Values.{document_change}
 use Rattle.jsonc_sound.specs.SoundTrees.{SoundTree}
 use Rattle.jsonc_sound.specs.Spaces.{is_bare}
 use Rattle.jsonc_sound.proofs.ShapeValues.{document_printed}
-use Rattle.jsonc_edit.specs.Due.{due_around}
-use Rattle.jsonc_edit.proofs.Quiet.{none_due}
+use Rattle.jsonc_edit.specs.Due.{spaces_needed_around}
+use Rattle.jsonc_edit.proofs.UnneededSpaces.{none_due}
 use Rattle.jsonc_edit.specs.Changes.{top_at}
 use Rattle.jsonc_edit.specs.Paths.{IsAt}
 use Rattle.jsonc_edit.specs.Reading.{layout_for}
 use Rattle.jsonc_layout.specs.from_input.Laid.{laid}
-use Rattle.jsonc_edit.specs.Replacing.{GivesWay}
+use Rattle.jsonc_edit.specs.Replacing.{ReplacedBy}
 use Rattle.jsonc_edit.specs.Spaced.{SpacesPut}
 use Rattle.jsonc_edit.specs.Writing.{FitsLayout, IsWritable}
 use Rattle.jsonc_edit.specs.Written.{IsWrittenAt, Writes}
 use Rattle.jsonc_edit.specs.Laws.{ChangesValueLaidOut, ChangesValueReplaced, WritesLaidOut, WritesReplaced}
-use Rattle.jsonc_edit.proofs.Apart.{stays_sound_apart}
+use Rattle.jsonc_edit.proofs.ReplacedAlone.{stays_sound_apart}
 use Rattle.jsonc_edit.proofs.Elements.{stands_at}
 use Rattle.jsonc_edit.proofs.Fitting.{layout_fits}
-use Rattle.jsonc_edit.proofs.GivingWay.{in_place}
-use Rattle.jsonc_edit.proofs.Held.{HeldAt, by_root, by_array, by_property, held_at}
-use Rattle.jsonc_edit.proofs.Kept.{at_kept, top_stays, tree_stays}
-use Rattle.jsonc_edit.proofs.Placed.{IsChild, around_placed}
+use Rattle.jsonc_edit.proofs.ReplacedChildren.{in_place}
+use Rattle.jsonc_edit.proofs.ValuePlaces.{HeldAt, by_root, by_array, by_property, held_at}
+use Rattle.jsonc_edit.proofs.NodesKept.{at_kept, top_stays, tree_stays}
+use Rattle.jsonc_edit.proofs.SpacedNodes.{IsChild, around_placed}
 use Rattle.jsonc_edit.proofs.Spacing.{Spaced, all_spaced, spaces_marks, spaces_sound, spaces_value}
 use Rattle.jsonc_edit.proofs.OneValue.{document_once}
 use Rattle.jsonc_edit.proofs.Uniqueness.{leads_over, element_parent}
 use Rattle.jsonc_edit.proofs.Writable.{value_may_stand}
 
--- a document in which an element gives way has a value
+-- a document in which an element is replaced has a value
 no_value_there : {was now : Top} {i : ℕ} {row new : OrderedTree} → HasNoValue row → ElementChanged was now i row new → ⊥
 no_value_there values.end e = none_changed e
 no_value_there (values.pass {content = content} h g) e =
@@ -96,8 +96,8 @@ at_child ns tree n (by_root e) = ((0, element_parent ns tree 0 0 n e), (stands_a
 at_child ns tree n (by_array p i path at a e) = ((p, element_parent ns tree p i n e), (stands_at (is_element_at ns) (children_at ns p) i n e).3)
 at_child ns tree n (by_property p r i path at o e held) = ((r, element_parent ns tree r 1 n held.1), (stands_at (is_element_at ns) (children_at ns r) 1 n held.1).3)
 
--- n, which stands at the path, has given way to m
-module _ (old new : List Node) (n m : ℕ) (now : Top) (tree : IsTree old) (g : GivesWay old new n m now) (path : List ℕ) (at : IsAt old path n) where
+-- n, which stands at the path, has been replaced by m
+module _ (old new : List Node) (n m : ℕ) (now : Top) (tree : IsTree old) (g : ReplacedBy old new n m now) (path : List ℕ) (at : IsAt old path n) where
   ready_at : IsAt g.ready path n
   ready_at = at_kept old g.ready tree g.prepared.keeps path n at
 
@@ -109,7 +109,7 @@ module _ (old new : List Node) (n m : ℕ) (now : Top) (tree : IsTree old) (g : 
 
   pub spaced : Spaced g.ready g.spaced n
   spaced =
-      all_spaced n (due_around g.ready n now.content) g.ready g.spaced g.prepared.tree
+      all_spaced n (spaces_needed_around g.ready n now.content) g.ready g.spaced g.prepared.tree
       (around_placed g.ready g.prepared.tree n ready_child.0.0 ready_child.0.1 ready_over now.content ready_child.1) g.spaces
 
   pub spaced_at : IsAt g.spaced path n
@@ -148,7 +148,7 @@ module _ (o : Options) (old new : List Node) (n m : ℕ) where
   replaced_changes v tree texts r = laid_out_changes (layout_for old r.0 n) v tree texts r.2
 
   -- it is written
-  written_at : (layout : Layout) (v : Plain) (path : List ℕ) → IsTree old → SoundTree o (ordered_tree old 0) → IsAt old path n → FitsLayout o layout → IsWritable o v → GivesWay old new n m (laid layout v)
+  written_at : (layout : Layout) (v : Plain) (path : List ℕ) → IsTree old → SoundTree o (ordered_tree old 0) → IsAt old path n → FitsLayout o layout → IsWritable o v → ReplacedBy old new n m (laid layout v)
       → IsWrittenAt o v path (top_at old n) (top_at new m) (ordered_tree old 0) (ordered_tree new 0)
   written_at layout v path tree s at f w g =
       let puts = put old new n m (laid layout v) tree g path at in
@@ -188,8 +188,8 @@ module _ (o : Options) (old new : List Node) (n m : ℕ) where
 
 -- what a call that replaces n answers is written
 pub answer_writes : {E : Type 0} (o : Options) (old new : List Node) (n c : ℕ) (layout : Layout) (v : Plain) → IsTree old → parent_at old n ≡ Some c → layout ≡ layout_for old c n → (r : Result (Option ℕ) E)
-    → IfOk r (λ a. IfSome a (λ m. GivesWay old new n m (laid layout v))) → IfOk r (λ a. IfSome a (λ m. Writes o old new n m v))
+    → IfOk r (λ a. IfSome a (λ m. ReplacedBy old new n m (laid layout v))) → IfOk r (λ a. IfSome a (λ m. Writes o old new n m v))
 answer_writes o old new n c layout v tree said told (Ok (Some m)) g =
-    replaced_written o old new n m v tree (c, said, subst (λ (l : Layout). GivesWay old new n m (laid l v)) told g)
+    replaced_written o old new n m v tree (c, said, subst (λ (l : Layout). ReplacedBy old new n m (laid l v)) told g)
 answer_writes o old new n c layout v tree said told (Ok None) g = tt
 answer_writes o old new n c layout v tree said told (Err e) g = tt

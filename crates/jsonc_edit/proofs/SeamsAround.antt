@@ -12,7 +12,7 @@ use Rattle.jsonc_layout.specs.nodes.Kinds.{is_whitespace, is_newline}
 use Rattle.jsonc_sound.specs.MarkChanges.{AreBlanks}
 use Rattle.jsonc_sound.specs.TreeChanges.{leaves_of}
 use Rattle.jsonc_edit.specs.Changes.{row_below, top_at}
-use Rattle.jsonc_edit.proofs.Walk.{Shows-row_below}
+use Rattle.jsonc_edit.proofs.ChangesUpward.{Shows-row_below}
 use Rattle.jsonc_edit.specs.Seams.{StandsBetween, as_root, as_child}
 
 module _ (ns : List Node) (tree : IsTree ns) where

@@ -1,4 +1,4 @@
--- Where a node at a path has given way, spaces have come at the seams alone.
+-- Where a node at a path has been replaced, spaces have come at the seams alone.
 use Rattle.std.proofs.Common.{◌≡◌, ℕ, ◌<◌, ◌++◌, ◌&&◌, Bool, true, false, List, length, refl, sym, ap, subst, ◌∙◌}
 use Rattle.jsonc_text.specs.Options.{Options}
 use Rattle.jsonc_tree.specs.Content.{Content}
@@ -12,16 +12,16 @@ use Rattle.jsonc_sound.specs.Spaces.{first_printed, is_bare, is_bare_leaf}
 use Rattle.jsonc_edit.specs.Changes.{top_at}
 use Rattle.jsonc_edit.specs.Due.{begins_bare, ends_bare, seen_before, seen_behind}
 use Rattle.jsonc_edit.specs.Paths.{IsAt}
-use Rattle.jsonc_edit.specs.Replacing.{GivesWay}
-use Rattle.jsonc_edit.proofs.GivingWay.{InPlace, in_place}
-use Rattle.jsonc_edit.proofs.Held.{held_at}
-use Rattle.jsonc_edit.proofs.Kept.{at_kept, top_stays, tree_stays}
+use Rattle.jsonc_edit.specs.Replacing.{ReplacedBy}
+use Rattle.jsonc_edit.proofs.ReplacedChildren.{InPlace, in_place}
+use Rattle.jsonc_edit.proofs.ValuePlaces.{held_at}
+use Rattle.jsonc_edit.proofs.NodesKept.{at_kept, top_stays, tree_stays}
 use Rattle.jsonc_edit.proofs.NewPaths.{at_now}
 use Rattle.jsonc_edit.proofs.ReplacedValues.{at_child, spaced, spaced_at}
-use Rattle.jsonc_edit.specs.SeamPlaces.{DocumentHolds, GivesWayWithSeams}
+use Rattle.jsonc_edit.specs.SeamPlaces.{DocumentHolds, ReplacedWithSeams}
 use Rattle.jsonc_edit.specs.Seams.{space_if, SeamsAround}
 use Rattle.jsonc_edit.specs.SeamLaws.{HasSeams}
-use Rattle.jsonc_edit.proofs.Between.{spaces_stand_around}
+use Rattle.jsonc_edit.proofs.LeavesAroundNodes.{spaces_stand_around}
 use Rattle.jsonc_edit.proofs.SeamsParting.{tells_what_is_printed}
 use Rattle.jsonc_edit.proofs.PathPlaces.{AtBetween, at_between, holds_between, takes_between}
 
@@ -29,7 +29,7 @@ both : (a b : Bool) → a && b ≡ true → (a ≡ true) × (b ≡ true)
 both true b e = (refl, e)
 both false b e = let wrong : false ≡ true = e in cc
 
-module _ (old new : List Node) (n m : ℕ) (now : Top) (tree : IsTree old) (g : GivesWay old new n m now) (path : List ℕ) (at : IsAt old path n) where
+module _ (old new : List Node) (n m : ℕ) (now : Top) (tree : IsTree old) (g : ReplacedBy old new n m now) (path : List ℕ) (at : IsAt old path n) where
   at_ready : IsAt g.ready path n
   at_ready = at_kept old g.ready tree g.prepared.keeps path n at
 
@@ -69,7 +69,7 @@ module _ (old new : List Node) (n m : ℕ) (now : Top) (tree : IsTree old) (g : 
       let sound_ready : SoundTree o (ordered_tree g.ready 0) = subst (SoundTree o) (sym (tree_stays old g.ready tree g.prepared.keeps g.prepared.tree)) sound in
       tells_what_is_printed o g.ready n g.prepared.tree sound_ready place.first place.last place.stands
 
-  pub gives_way_with_seams : GivesWayWithSeams path (top_at old n) now (ordered_tree old 0) (ordered_tree new 0)
+  pub gives_way_with_seams : ReplacedWithSeams path (top_at old n) now (ordered_tree old 0) (ordered_tree new 0)
   gives_way_with_seams =
       let keeps = g.prepared.keeps in
       let after = g.prepared.tree in

@@ -15,11 +15,11 @@ use Rattle.jsonc_sound.specs.Adjacent.{last_printed}
 use Rattle.jsonc_sound.specs.Marks.{comments_of, marks_of}
 use Rattle.jsonc_sound.specs.SoundTrees.{SoundTree}
 use Rattle.jsonc_sound.specs.Spaces.{first_printed, is_bare_leaf}
-use Rattle.jsonc_sound.proofs.GivingWay.{blanks_unmarked, marks_join}
+use Rattle.jsonc_sound.proofs.ReplacedStretches.{blanks_unmarked, marks_join}
 use Rattle.jsonc_sound.specs.TreeChanges.{leaves_of}
 use Rattle.jsonc_edit.specs.Changes.{row_below, top_at}
-use Rattle.jsonc_edit.specs.Comments.{comment_at, removed_from, due_without, CommentRemoved, CommentTaken}
-use Rattle.jsonc_edit.proofs.Kept.{tree_stays}
+use Rattle.jsonc_edit.specs.Comments.{comment_at, removed_from, space_needed_without, CommentRemoved, CommentTaken}
+use Rattle.jsonc_edit.proofs.NodesKept.{tree_stays}
 use Rattle.jsonc_edit.proofs.Removal.{from_before, blanks_gone}
 use Rattle.jsonc_edit.proofs.Splices.{spliced_in}
 use Rattle.jsonc_edit.proofs.Elements.{Some_same}
@@ -27,15 +27,15 @@ use Rattle.jsonc_edit.proofs.TakingOut.{over_keeps, parents_spaced, removed}
 use Rattle.jsonc_edit.specs.Due.{begins_bare, ends_bare, listed, prints_within, seen_before, seen_behind}
 use Rattle.jsonc_edit.specs.Put.{AreSpaced}
 use Rattle.jsonc_layout.specs.nodes.Kinds.{is_comment}
-use Rattle.jsonc_edit.proofs.Walk.{ChangedIn, Shows-row_below, apart_kept}
+use Rattle.jsonc_edit.proofs.ChangesUpward.{ChangedIn, Shows-row_below, apart_kept}
 use Rattle.jsonc_edit.specs.SeamLaws.{comments_before, LosesWithSeam}
-use Rattle.jsonc_edit.specs.Seams.{space_if, is_due_between, StandsBetween, as_child}
+use Rattle.jsonc_edit.specs.Seams.{space_if, is_space_needed_between, StandsBetween, as_child}
 use Rattle.jsonc_edit.proofs.RowAhead.{row_stays}
 use Rattle.jsonc_edit.proofs.SeamsParting.{tells_what_is_printed}
 use Rattle.jsonc_edit.proofs.SeamsAround.{blank_row, leaf_alone, leaves_around, holds_children, stands_somewhere}
-use Rattle.jsonc_edit.proofs.Ahead.{making_keeps_comments}
+use Rattle.jsonc_edit.proofs.CommentOrder.{making_keeps_comments}
 use Rattle.jsonc_edit.proofs.CommentsBefore.{comments_stand_before}
-use Rattle.jsonc_edit.proofs.Between.{between_above, space_stands_between, within}
+use Rattle.jsonc_edit.proofs.LeavesAroundNodes.{between_above, space_stands_between, within}
 
 comment_leaf : (content : Content) (s : List ℕ) → content ≡ comment s → is_container content ≡ false
 comment_leaf content s e = ap is_container e
@@ -196,12 +196,12 @@ module _ (ready spaced : List Node) (tree : IsTree ready) (n c : ℕ) (said : pa
 
   -- in a sound document that space parts two literals without quotes
   space_parts : (o : Options) → SoundTree o (ordered_tree ready 0) → (f b front : List Content) → StandsBetween ready n f b → f ≡ front ++ gone_blanks spaced
-      → AreSpaced ready (listed (due_without ready c n)) spaced → is_due_between ready (slice_index (children_at ready c) (removed_from ready c n)) n ≡ true
+      → AreSpaced ready (listed (space_needed_without ready c n)) spaced → is_space_needed_between ready (slice_index (children_at ready c) (removed_from ready c n)) n ≡ true
       → (is_bare_leaf (last_printed front) ≡ true) × (is_bare_leaf (first_printed b) ≡ true)
   space_parts o sound f b front s before put due =
       let from : ℕ = slice_index (children_at ready c) (removed_from ready c n) in
       let bare = both_true (ends_bare ready (seen_before ready from)) (begins_bare ready (seen_behind ready n)) (both_true (prints_within ready from n) (ends_bare ready (seen_before ready from) && begins_bare ready (seen_behind ready n)) due).1 in
-      let is : due_without ready c n ≡ seen_behind ready n = ap (λ d. cond d (seen_behind ready n) None) due in
+      let is : space_needed_without ready c n ≡ seen_behind ready n = ap (λ d. cond d (seen_behind ready n) None) due in
       let blanks : gone_blanks spaced ≡ gone_blanks ready = blanks_same (seen_behind ready n) refl bare.1 (subst (λ o. AreSpaced ready (listed o) spaced) is put) in
       let g = first_gone ready tree n c said f b s in
       let fronts : front ≡ g.front = append_cancel_right front g.front (gone_blanks ready) (sym (before ∙ ap (λ l. front ++ l) blanks) ∙ g.before) in
@@ -222,16 +222,16 @@ module _ (old new : List Node) (n : ℕ) (r : CommentTaken old new n) where
       let b : List Content = place.1 in
       let seam = space_stands_between taken.ready taken.spaced from n taken.prepared.tree taken.spaces f b place.2 in
       let gone = removed old new n r in
-      let behind : List Content = seam.0 ++ (space_if (is_due_between taken.ready from n) ++ seam.1) in
+      let behind : List Content = seam.0 ++ (space_if (is_space_needed_between taken.ready from n) ++ seam.1) in
       let left = comment_gone taken.spaced new n gone f behind seam.4 in
       let told = comment_text (content_at taken.spaced n) gone.comment in
       let s : List ℕ = told.0 in
-      let was : content_at taken.ready n ≡ comment s = sym (contents_spaced (listed (due_without taken.ready c n)) taken.ready taken.spaced taken.spaces n) ∙ told.1 in
+      let was : content_at taken.ready n ≡ comment s = sym (contents_spaced (listed (space_needed_without taken.ready c n)) taken.ready taken.spaced taken.spaces n) ∙ told.1 in
       let own = own_is taken.ready taken.prepared.tree n s (omega (arith, there, keeps.len)) was in
       let ahead : (number : ℕ) → comment_at old number ≡ Some n → length (comments_of (marks_of left.front)) ≡ number = λ number at.
       sym (ap (λ l. length (comments_of l)) (ap marks_of left.before ∙ marks_join left.front left.blanks ∙ ap (λ l. marks_of left.front ++ l) (blanks_unmarked left.blanks left.are_blanks) ∙ append-nil (marks_of left.front)))
       ∙ comments_stand_before taken.ready taken.prepared.tree n f b place.2 (omega (arith, there, keeps.len)) (comment_leaf (content_at taken.ready n) s was) number (ap (λ l. slice_get l number) (making_keeps_comments old taken.ready r.tree keeps) ∙ at) in
-      let same : gone.container ≡ c = Some_same gone.container c (sym gone.parent ∙ parents_spaced (listed (due_without taken.ready c n)) taken.ready taken.spaced taken.prepared.tree taken.spaces n c (keeps.parent n there ∙ r.parent)) in
+      let same : gone.container ≡ c = Some_same gone.container c (sym gone.parent ∙ parents_spaced (listed (space_needed_without taken.ready c n)) taken.ready taken.spaced taken.prepared.tree taken.spaces n c (keeps.parent n there ∙ r.parent)) in
       let are : left.blanks ≡ gone_blanks taken.ready taken.spaced taken.prepared.tree n c (keeps.parent n there ∙ r.parent) taken.spaced =
       subst (λ k. left.blanks ≡ map (content_at taken.spaced) (slice_range (children_at taken.spaced k) (removed_from taken.spaced k n) (place_at taken.spaced n))) same left.are in
       let loses : LosesWithSeam (ordered_tree old 0) (ordered_tree new 0) = record {
@@ -240,7 +240,7 @@ module _ (old new : List Node) (n : ℕ) (r : CommentTaken old new n) where
         text = s;
         quiet = seam.0;
         rest = seam.1;
-        behind = is_due_between taken.ready from n;
+        behind = is_space_needed_between taken.ready from n;
         are_blanks = left.are_blanks;
         silent = seam.3;
         parts = λ o sound due.

@@ -10,18 +10,18 @@ use Rattle.jsonc_tree.specs.Tree.{Node, content_at, parent_at, children_at, plac
 use Rattle.jsonc_sound.specs.Adjacent.{last_printed, or_else}
 use Rattle.jsonc_sound.specs.SoundTrees.{SoundTree}
 use Rattle.jsonc_sound.specs.Spaces.{first_printed, is_bare_leaf}
-use Rattle.jsonc_sound.proofs.Apart.{document_alone}
+use Rattle.jsonc_sound.proofs.NodesAlone.{document_alone}
 use Rattle.jsonc_sound.proofs.RowsWithin.{Within, here, deeper, later}
 use Rattle.jsonc_sound.proofs.Spaces.{first_append, last_append}
 use Rattle.jsonc_edit.specs.Changes.{row_below}
 use Rattle.jsonc_edit.specs.Due.{nearest, begins_bare, ends_bare, seen_before, seen_behind, behind_holder, behind_property}
-use Rattle.jsonc_edit.proofs.Meeting.{back_bare, front_bare, nothing_printed_back}
-use Rattle.jsonc_edit.proofs.Walk.{Shows-row_below, document_is}
-use Rattle.jsonc_edit.proofs.Whole.{Whole, whole_before, whole_behind, whole_within}
+use Rattle.jsonc_edit.proofs.NearestLeaves.{back_bare, front_bare, nothing_printed_back}
+use Rattle.jsonc_edit.proofs.ChangesUpward.{Shows-row_below, document_is}
+use Rattle.jsonc_edit.proofs.WholeRows.{Whole, whole_before, whole_behind, whole_within}
 use Rattle.jsonc_edit.specs.SeamLaws.{TellsWhatIsPrinted}
 use Rattle.jsonc_edit.specs.Seams.{StandsBetween, as_root, as_child}
 use Rattle.jsonc_edit.proofs.SeamsAround.{row_around}
-use Rattle.jsonc_edit.proofs.Between as between
+use Rattle.jsonc_edit.proofs.LeavesAroundNodes as between
 
 -- a row somewhere in a row
 record Somewhere (x t : OrderedTree) : Type 0 where

@@ -8,7 +8,7 @@ use Rattle.jsonc_tree.specs.OrderedTree.{OrderedTree, none, more, Shows, shows_n
 use Rattle.jsonc_sound.specs.Shape.{IsTrivia, IsNameBefore, Trivia, PropertyShaped, token_then, printed_text}
 use Rattle.jsonc_layout.specs.nodes.Kinds.{is_element, is_colon, is_element_at, is_colon_at}
 use Rattle.jsonc_layout.specs.nodes.Properties.{is_name, is_name_at, behind_first, value_at}
-use Rattle.jsonc_layout.proofs.lemmas.nodes.Held.{first_kept, held_in, value_is_held}
+use Rattle.jsonc_layout.proofs.lemmas.nodes.PropertyValues.{first_kept, held_in, value_is_held}
 use Rattle.jsonc_edit.specs.Paths.{IsElementOf}
 use Rattle.jsonc_edit.proofs.Elements.{taken, left}
 

@@ -14,23 +14,23 @@ use Rattle.jsonc_tree.proofs.OrderedTrees.{Shows-unique}
 use Rattle.jsonc_tree.proofs.Over.{either_over}
 use Rattle.jsonc_layout.specs.nodes.Kinds.{is_trivia}
 use Rattle.jsonc_layout.specs.nodes.Properties.{value_at}
-use Rattle.jsonc_layout.proofs.lemmas.nodes.Held.{IsAlike, held_alike, held_beside, held_in, same_kind, value_is_held}
+use Rattle.jsonc_layout.proofs.lemmas.nodes.PropertyValues.{IsAlike, held_alike, held_beside, held_in, same_kind, value_is_held}
 use Rattle.jsonc_sound.specs.TreeChanges.{IsElement}
 use Rattle.jsonc_sound.proofs.TriviaValues.{document_kept}
 use Rattle.jsonc_sound.specs.InRows.{SpacePut}
 use Rattle.jsonc_sound.specs.Marks.{marks}
 use Rattle.jsonc_sound.specs.SoundTrees.{SoundTree}
-use Rattle.jsonc_sound.proofs.GivingWay.{space_keeps_marks}
+use Rattle.jsonc_sound.proofs.ReplacedStretches.{space_keeps_marks}
 use Rattle.jsonc_sound.proofs.SpacePut.{document_put, kept_with_space}
 use Rattle.jsonc_edit.specs.Put.{a_space, StandsBefore, AreSpaced}
-use Rattle.jsonc_edit.proofs.Putting.{contents_kept, parent_kept, children_kept, container_row, row_kept, elements_kept, over_kept, over_before, no_parent_space, placed_ahead, placed_behind, placed_elsewhere, puts_space}
+use Rattle.jsonc_edit.proofs.InsertedSpaces.{contents_kept, parent_kept, children_kept, container_row, row_kept, elements_kept, over_kept, over_before, no_parent_space, placed_ahead, placed_behind, placed_elsewhere, puts_space}
 use Rattle.jsonc_edit.specs.Changes.{row_below, top_at}
 use Rattle.jsonc_edit.specs.Paths.{IsElementOf, StepsTo, LeadsTo, itself, step, IsAt}
 use Rattle.jsonc_edit.specs.Spaced.{SpacesPut, none_put, one_put}
-use Rattle.jsonc_edit.proofs.Ahead.{comment_nodes, space_keeps_comments}
+use Rattle.jsonc_edit.proofs.CommentOrder.{comment_nodes, space_keeps_comments}
 use Rattle.jsonc_edit.proofs.Elements.{Some_same}
-use Rattle.jsonc_edit.proofs.Placed.{Placed}
-use Rattle.jsonc_edit.proofs.Walk.{Shows-row_below}
+use Rattle.jsonc_edit.proofs.SpacedNodes.{Placed}
+use Rattle.jsonc_edit.proofs.ChangesUpward.{Shows-row_below}
 
 no_space : (content : Content) → IsElement content → content ≡ a_space → ⊥
 no_space (Content.whitespace s) e f = cc
@@ -128,9 +128,9 @@ pub parent_over : (ns : List Node) → IsTree ns → (k p : ℕ) → parent_at n
 parent_over ns tree _ p told IsOver.itself = absurd (let wrong : None ≡ Some p = sym tree.root_alone ∙ told in cc)
 parent_over ns tree k p told (IsOver.above {c = q} other rest) = let same : q ≡ p = Some_same q p (sym other ∙ told) in subst (IsOver ns 0) same rest
 
--- a node that is nobody's child and no space
+-- a node that is detached and no space
 pub record Free (ns : List Node) (m : ℕ) : Type 0 where
-  pub there : m < length ns
+  pub in_tree : m < length ns
   pub alone : parent_at ns m ≡ None
   pub later : 0 < m
   pub element : IsElement (content_at ns m)
@@ -157,12 +157,12 @@ module _ (old new : List Node) (x leaf : ℕ) (tree : IsTree old) (r : StandsBef
   pub free_stays : (m : ℕ) → Free old m → Free new m × (top_at new m ≡ top_at old m)
   free_stays m f = (
     record {
-      there = omega (arith, f.there, r.put.len);
+      in_tree = omega (arith, f.in_tree, r.put.len);
       alone = parent_kept old new x leaf tree r m (element_apart old new x leaf tree r m f.element) ∙ f.alone;
       later = f.later;
       element = subst IsElement (sym (contents_kept old new x leaf tree r m)) f.element;
     },
-    top_stays old new x leaf tree r m f.there (λ over. free_not_over old tree m r.container f (parent_over old tree x r.container r.parent p.over) over),
+    top_stays old new x leaf tree r m f.in_tree (λ over. free_not_over old tree m r.container f (parent_over old tree x r.container r.parent p.over) over),
   )
 
 -- all spaces, one after another
@@ -235,7 +235,7 @@ module _ (old new : List Node) (x leaf : ℕ) (tree : IsTree old) (r : StandsBef
   aside_top : (k : ℕ) → k < length old → Aside old k x → top_at new k ≡ top_at old k
   aside_top k there (c, said, apart) = top_stays old new x leaf tree r k there (λ over. apart (subst (IsOver old k) (Some_same r.container c (sym r.parent ∙ said)) over))
 
--- what is so in any tree: of a child, and of an element that is nobody's
+-- what is so in any tree: of a child, and of an element that is detached
 pub record AnySpaced (old new : List Node) (m : ℕ) : Type 0 where
   pub tree : IsTree new
   pub len : length new ≡ length old

@@ -8,7 +8,7 @@ use Rattle.jsonc_tree.specs.OrderedTree.{OrderedTree, Shows, Top}
 use Rattle.jsonc_tree.proofs.Order.{not_over_parent, over_step, parent_there}
 use Rattle.jsonc_tree.proofs.Over.{over_up}
 use Rattle.jsonc_tree.proofs.OrderedTrees.{Shows-unique}
-use Rattle.jsonc_tree.proofs.Around.{Shows-spliced}
+use Rattle.jsonc_tree.proofs.SplicedTrees.{Shows-spliced}
 use Rattle.jsonc_layout.specs.nodes.Kinds.{is_element_at}
 use Rattle.jsonc_sound.specs.TreeChanges.{IsElement}
 use Rattle.jsonc_edit.specs.Paths.{IsElementOf}
@@ -16,7 +16,7 @@ use Rattle.jsonc_edit.specs.Changes.{row_below, top_at, ChangesAt, Replaces, Res
 use Rattle.jsonc_edit.specs.Laws.{ChangesElementsOver, ChangesOver, KeepsOthers, HasNewContent, HasNewRow}
 use Rattle.jsonc_edit.proofs.Elements.{Some_same, StandsAt, stands_at}
 use Rattle.jsonc_edit.proofs.Uniqueness.{element_parent}
-use Rattle.jsonc_edit.proofs.Walk.{Shows-row_below, ChangedIn, RowChanged, apart_kept, top_kept, row_changed, document_changed, changed_over}
+use Rattle.jsonc_edit.proofs.ChangesUpward.{Shows-row_below, ChangedIn, RowChanged, apart_kept, top_kept, row_changed, document_changed, changed_over}
 
 pub spliced_in : (old new : List Node) (c i j : ℕ) (xs : List ℕ) → IsTree old → Splices old new c i j xs → ChangedIn old new c
 spliced_in old new c i j xs tree spliced = record {
@@ -36,7 +36,7 @@ module _ (old new : List Node) (n m : ℕ) (r : Replaces old new n m) where
   changed = spliced_in old new c k (k + 1) (m ∷ []) r.tree r.spliced
 
   m_there : m < length old
-  m_there = r.join.there 0 (omega arith)
+  m_there = r.join.in_tree 0 (omega arith)
 
   -- what is put in is what it was
   pub joined_top : top_at new m ≡ top_at old m
@@ -45,7 +45,7 @@ module _ (old new : List Node) (n m : ℕ) (r : Replaces old new n m) where
   joined_kept : Shows new (children_at new m) (row_below old m)
   joined_kept = subst (λ (t : Top). Shows new (children_at new m) t.below) joined_top (Shows-row_below new r.after m (omega (arith, m_there, r.spliced.len)))
 
-  -- the container's row differs in the node that gave way
+  -- the container's row differs in the node that was replaced
   replaced_row : (p i : ℕ) → IsElementOf old p i n → RowChanged old new p i (top_at old n) (top_at old m)
   replaced_row p i element =
       let said : parent_at old n ≡ Some p = element_parent old r.tree p i n element in
@@ -82,7 +82,7 @@ module _ (old new : List Node) (c : ℕ) (s : Respliced old new c) where
   -- the row that the container's children stand for now
   pub respliced_row : HasNewRow s
   respliced_row front inner back before put later =
-      Shows-unique new (children_at new c) (row_below new c) _ (Shows-row_below new s.after c (omega (arith, s.there, s.spliced.len)))
+      Shows-unique new (children_at new c) (row_below new c) _ (Shows-row_below new s.after c (omega (arith, s.in_tree, s.spliced.len)))
       (Shows-spliced old new s.tree s.after c s.from s.to s.put s.spliced s.join front inner back before put later)
 
 module _ (old new : List Node) (leaf : ℕ) (r : LeafChanged old new leaf) where
@@ -103,8 +103,8 @@ module _ (old new : List Node) (leaf : ℕ) (r : LeafChanged old new leaf) where
   pub leaf_content : HasNewContent r
   leaf_content =
       let cs : List ℕ = children_at old leaf in
-      let row : Shows new cs (row_below old leaf) = apart_kept old new leaf changed_leaf cs (row_below old leaf) (λ k h. not_over_parent old r.tree (slice_index cs k) leaf (r.tree.named leaf k h)) (Shows-row_below old r.tree leaf r.there) in
+      let row : Shows new cs (row_below old leaf) = apart_kept old new leaf changed_leaf cs (row_below old leaf) (λ k h. not_over_parent old r.tree (slice_index cs k) leaf (r.tree.named leaf k h)) (Shows-row_below old r.tree leaf r.in_tree) in
       let shown : Shows new (children_at new leaf) (row_below old leaf) = subst (λ (l : List ℕ). Shows new l (row_below old leaf)) (sym (r.becomes.children leaf)) row in
-      let same : row_below new leaf ≡ row_below old leaf = Shows-unique new (children_at new leaf) (row_below new leaf) (row_below old leaf) (Shows-row_below new r.after leaf (omega (arith, r.there, r.becomes.len))) shown in
+      let same : row_below new leaf ≡ row_below old leaf = Shows-unique new (children_at new leaf) (row_below new leaf) (row_below old leaf) (Shows-row_below new r.after leaf (omega (arith, r.in_tree, r.becomes.len))) shown in
       let first : top_at new leaf ≡ record { content = r.content; below = row_below new leaf } = ap (λ (w : Content). record { content = w; below = row_below new leaf }) r.becomes.content in
       first ∙ ap (λ (t : OrderedTree). record { content = r.content; below = t }) same

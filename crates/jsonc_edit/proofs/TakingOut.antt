@@ -17,18 +17,18 @@ use Rattle.jsonc_sound.specs.ChangeLaws.{DiffersIn}
 use Rattle.jsonc_sound.proofs.TriviaValues.{document_kept}
 use Rattle.jsonc_sound.specs.SoundTrees.{SoundTree}
 use Rattle.jsonc_edit.specs.Due as due
-use Rattle.jsonc_edit.specs.Due.{prints_at, prints_within, is_other, begins_bare, ends_bare, seen_before, seen_behind, due_between, listed}
-use Rattle.jsonc_edit.specs.Put.{AreChildren, AreSpaced, Prepared, nodes_of}
+use Rattle.jsonc_edit.specs.Due.{prints_at, prints_within, is_other, begins_bare, ends_bare, seen_before, seen_behind, space_needed_between, listed}
+use Rattle.jsonc_edit.specs.Put.{AreChildren, AreSpaced, Extends, nodes_of}
 use Rattle.jsonc_edit.specs.declared.put.Spaces.{Spaces}
-use Rattle.jsonc_edit.proofs.Quiet.{quiet_behind}
-use Rattle.jsonc_edit.specs.Comments.{blanks_from, newline_from, removed_from, due_without, IsRemoved, IsTakenOut, TakesOut, CommentRemoved, CommentTaken, comment_at, comments_ahead, leaves_gone, LosesComment}
+use Rattle.jsonc_edit.proofs.UnneededSpaces.{quiet_behind}
+use Rattle.jsonc_edit.specs.Comments.{blanks_from, newline_from, removed_from, space_needed_without, IsRemoved, IsTakenOut, TakesOut, CommentRemoved, CommentTaken, comment_at, comments_ahead, leaves_gone, LosesComment}
 use Rattle.jsonc_edit.specs.Spaced.{SpacesPut}
-use Rattle.jsonc_edit.proofs.Ahead.{making_keeps_comments}
+use Rattle.jsonc_edit.proofs.CommentOrder.{making_keeps_comments}
 use Rattle.jsonc_edit.proofs.Numbered.{leaves_apart, number_ahead}
 use Rattle.jsonc_edit.proofs.Elements.{Some_same}
-use Rattle.jsonc_edit.proofs.DueKept.{due_between_same}
-use Rattle.jsonc_edit.proofs.Kept.{tree_stays, place_kept}
-use Rattle.jsonc_edit.proofs.Placed.{IsChild, between_children, between_placed}
+use Rattle.jsonc_edit.proofs.SpacesNeededKept.{due_between_same}
+use Rattle.jsonc_edit.proofs.NodesKept.{tree_stays, place_kept}
+use Rattle.jsonc_edit.proofs.SpacedNodes.{IsChild, between_children, between_placed}
 use Rattle.jsonc_edit.proofs.Removal.{from_before, takes_trivia, gone_blanks, gone_text, are_gone_blanks, blanks_and_comment, sound_without}
 use Rattle.jsonc_edit.proofs.Spacing.{Spaced, all_spaced, parent_stays, spaces_sound, spaces_value}
 
@@ -38,7 +38,7 @@ module _ (old new : List Node) (tree : IsTree old) (keeps : Keeps (length old) o
   row = children_at old c
 
   same_content : (k : ℕ) → k < length row → content_at new (slice_index row k) ≡ content_at old (slice_index row k)
-  same_content k h = keeps.content (slice_index row k) (tree.there c k h)
+  same_content k h = keeps.content (slice_index row k) (tree.in_tree c k h)
 
   blanks_same : (place : ℕ) → place ≤ length row → blanks_from new row place ≡ blanks_from old row place
   blanks_same zero h = refl
@@ -74,11 +74,11 @@ module _ (old new : List Node) (tree : IsTree old) (keeps : Keeps (length old) o
         ∙ ap (λ k. if is_line_comment (content_at old n) then k else place_at old n) (newline_same (blanks_from old row (place_at old n)) (omega (arith, blanks_within (place_at old n), place_in)))
 
     first_there : slice_index row (removed_from old c n) < length old
-    first_there = tree.there c (removed_from old c n) (omega (arith, from_before old tree c n said, tree.within n c said))
+    first_there = tree.in_tree c (removed_from old c n) (omega (arith, from_before old tree c n said, tree.within n c said))
 
-    pub due_kept : due_without new c n ≡ due_without old c n
+    pub due_kept : space_needed_without new c n ≡ space_needed_without old c n
     due_kept =
-        ap (λ l. due_between new (slice_index l (removed_from new c n)) n) (keeps.children c low.1) ∙ ap (λ k. due_between new (slice_index row k) n) removed_same
+        ap (λ l. space_needed_between new (slice_index l (removed_from new c n)) n) (keeps.children c low.1) ∙ ap (λ k. space_needed_between new (slice_index row k) n) removed_same
         ∙ due_between_same old new tree keeps (slice_index row (removed_from old c n)) n first_there low.0
 
 -- parents stay where spaces come
@@ -86,22 +86,22 @@ pub parents_spaced : (xs : List ℕ) (old new : List Node) → IsTree old → Ar
 parents_spaced [] old new tree e k p said = ap (λ ns. parent_at ns k) e ∙ said
 parents_spaced (x ∷ xs) old new tree (now, leaf, r, rest) k p said = parents_spaced xs now new r.tree rest k p (parent_stays old now x leaf tree r k p said)
 
-module _ (old ready : List Node) (tree : IsTree old) (prepared : Prepared old ready) (n c : ℕ) (said : parent_at old n ≡ Some c) where
+module _ (old ready : List Node) (tree : IsTree old) (prepared : Extends old ready) (n c : ℕ) (said : parent_at old n ≡ Some c) where
   pub said_ready : parent_at ready n ≡ Some c
   said_ready = prepared.keeps.parent n (parent_there old tree n c said).0 ∙ said
 
-  pub children_due : All (IsChild ready) (listed (due_without old c n))
+  pub children_due : All (IsChild ready) (listed (space_needed_without old c n))
   children_due =
-      All-weaker (IsChild old) (IsChild ready) (λ x (p, told). (p, prepared.keeps.parent x (parent_there old tree x p told).0 ∙ told)) (listed (due_without old c n))
+      All-weaker (IsChild old) (IsChild ready) (λ x (p, told). (p, prepared.keeps.parent x (parent_there old tree x p told).0 ∙ told)) (listed (space_needed_without old c n))
       (between_children old tree n c said (slice_index (children_at old c) (removed_from old c n)))
 
-  pub due_ready : due_without ready c n ≡ due_without old c n
+  pub due_ready : space_needed_without ready c n ≡ space_needed_without old c n
   due_ready = due_kept old ready tree prepared.keeps c n said
 
   -- the space for it, if one is due
-  module _ (first : ℕ) (e : first ≡ slice_index (children_at old c) (removed_from old c n)) (due : Option ℕ) (f : due ≡ due_between old first n) (spaces : Spaces) (hand : nodes_of spaces ≡ listed due) where
-    due_is : nodes_of spaces ≡ listed (due_without old c n)
-    due_is = hand ∙ ap listed (f ∙ ap (λ k. due_between old k n) e)
+  module _ (first : ℕ) (e : first ≡ slice_index (children_at old c) (removed_from old c n)) (due : Option ℕ) (f : due ≡ space_needed_between old first n) (spaces : Spaces) (hand : nodes_of spaces ≡ listed due) where
+    due_is : nodes_of spaces ≡ listed (space_needed_without old c n)
+    due_is = hand ∙ ap listed (f ∙ ap (λ k. space_needed_between old k n) e)
 
     pub space_children : AreChildren ready (nodes_of spaces)
     space_children = subst (AreChildren ready) (sym due_is) children_due
@@ -145,7 +145,7 @@ module _ (ready spaced : List Node) (tree : IsTree ready) (n from other : ℕ) w
   some_seen true o x e = e
   some_seen false o x e = absurd (let wrong : None ≡ Some x = e in cc)
 
-  pub quiet_between : prints_at ready n ≡ true → (spaced ≡ ready → other ≡ from) → (o : Option ℕ) → due_between ready from n ≡ o → AreSpaced ready (listed o) spaced
+  pub quiet_between : prints_at ready n ≡ true → (spaced ≡ ready → other ≡ from) → (o : Option ℕ) → space_needed_between ready from n ≡ o → AreSpaced ready (listed o) spaced
       → ends_bare spaced (seen_before spaced other) && begins_bare spaced (seen_behind spaced n) ≡ false
   quiet_between prints same None due e =
       let none : cond (ends_bare ready (seen_before ready from) && begins_bare ready (seen_behind ready n)) (seen_behind ready n) None ≡ None =
@@ -183,7 +183,7 @@ module _ (old new : List Node) (n : ℕ) (r : CommentTaken old new n) where
   from = slice_index (children_at ready c) (removed_from ready c n)
 
   spaced : Spaced ready spaced_nodes n
-  spaced = all_spaced n (listed (due_without ready c n)) ready spaced_nodes taken.prepared.tree (between_placed ready taken.prepared.tree n c child below_ready from) taken.spaces
+  spaced = all_spaced n (listed (space_needed_without ready c n)) ready spaced_nodes taken.prepared.tree (between_placed ready taken.prepared.tree n c child below_ready from) taken.spaces
 
   -- then the comment is one of the document with spaces
   pub removed : CommentRemoved spaced_nodes new n
@@ -204,7 +204,7 @@ module _ (old new : List Node) (n : ℕ) (r : CommentTaken old new n) where
   other = slice_index (children_at spaced_nodes c) (removed_from spaced_nodes c n)
 
   calm : prints_at spaced_nodes n ≡ true → ends_bare spaced_nodes (seen_before spaced_nodes other) && begins_bare spaced_nodes (seen_behind spaced_nodes n) ≡ false
-  calm prints = quiet_between ready spaced_nodes taken.prepared.tree n from other (ap due.prints (sym (spaced.content n)) ∙ prints) (λ e. ap (λ ns. slice_index (children_at ns c) (removed_from ns c n)) e) (due_without ready c n) refl taken.spaces
+  calm prints = quiet_between ready spaced_nodes taken.prepared.tree n from other (ap due.prints (sym (spaced.content n)) ∙ prints) (λ e. ap (λ ns. slice_index (children_at ns c) (removed_from ns c n)) e) (space_needed_without ready c n) refl taken.spaces
 
   pub loses_comment : LosesComment (ordered_tree old 0) (ordered_tree new 0)
   loses_comment =

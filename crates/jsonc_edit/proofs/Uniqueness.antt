@@ -45,7 +45,7 @@ module _ (ns : List Node) (tree : IsTree ns) where
   pub element_there : (p i q : ℕ) → IsElementOf ns p i q → q < length ns
   element_there p i q e =
       let at : StandsAt (is_element_at ns) (children_at ns p) i q = stands_at (is_element_at ns) (children_at ns p) i q e in
-      subst (λ m. m < length ns) at.2 (tree.there p at.0 at.1)
+      subst (λ m. m < length ns) at.2 (tree.in_tree p at.0 at.1)
 
   -- an element has one place
   place_once : (p i j q : ℕ) → IsElementOf ns p i q → IsElementOf ns p j q → i ≡ j

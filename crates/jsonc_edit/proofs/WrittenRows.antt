@@ -4,7 +4,7 @@ use Rattle.std.proofs.lemmas.Str.{IsUtf8-append, IsUtf8-from_ascii, chars-append
 use Rattle.std.specs.Str.{IsAscii}
 use Rattle.jsonc_text.specs.Options.{Options}
 use Rattle.jsonc_text.specs.Text.{end_or, Many, stop, step}
-use Rattle.jsonc_text.proofs.Steps.{many_append}
+use Rattle.jsonc_text.proofs.CharacterSteps.{many_append}
 use Rattle.jsonc_text.proofs.UniqueWords.{many_more}
 use Rattle.jsonc_tree.specs.Content.{Content, whitespace}
 use Rattle.jsonc_tree.specs.OrderedTree.{OrderedTree, none, Top}
@@ -74,11 +74,11 @@ last_closed o bracket true row f g = shape.trailing_comma (f refl) shape.nothing
 last_closed o bracket false row f g = shape.plain g
 
 -- Rows of one kind, before their bracket.
-module _ (o : Options) (bracket : ℕ) (mark : Mark bracket) (ends : IsTrue (ends_literals bracket)) (IsNode : Top → Type 0) (IsRow : OrderedTree → Type 0)
-    (last : (node : Top) (after : OrderedTree) → IsNode node → EndsLiterals (printed_text after) → Closed o bracket after → IsRow (node_then node after))
-    (next : (node : Top) (after u : OrderedTree) → IsNode node → EndsLiterals (printed_text after) → Separated o after u → IsRow u → IsRow (node_then node after)) where
+module _ (o : Options) (bracket : ℕ) (mark : Mark bracket) (ends : IsTrue (ends_literals bracket)) (TypedNode : Top → Type 0) (IsRow : OrderedTree → Type 0)
+    (last : (node : Top) (after : OrderedTree) → TypedNode node → EndsLiterals (printed_text after) → Closed o bracket after → IsRow (node_then node after))
+    (next : (node : Top) (after u : OrderedTree) → TypedNode node → EndsLiterals (printed_text after) → Separated o after u → IsRow u → IsRow (node_then node after)) where
   -- on lines of their own
-  rows_of_lines : (layout : Layout) → FitsLayout o layout → (closing : OrderedTree) → Trivia o closing (token_then bracket none) → (node : Top) (nodes : List Top) → IsNode node → EachNode IsNode nodes
+  rows_of_lines : (layout : Layout) → FitsLayout o layout → (closing : OrderedTree) → Trivia o closing (token_then bracket none) → (node : Top) (nodes : List Top) → TypedNode node → EachNode TypedNode nodes
       → IsRow (node_then node (comma_if (layout.trailing_commas || is_some_node nodes) (on_lines layout nodes closing)))
   rows_of_lines layout f closing g node [] h k =
       let c = last_closed o bracket layout.trailing_commas closing f.commas g in

@@ -15,11 +15,11 @@ row_below ns n = grown (length ns) ns n
 abbrev pub top_at : List Node → ℕ → Top
 top_at ns n = record { content = content_at ns n; below = row_below ns n }
 
--- where the node stands in the document, it and the row below it have given way to another
+-- where the node stands in the document, it and the row below it have been replaced by another
 abbrev pub ChangesAt : List Node → List Node → ℕ → Top → Type 0
 ChangesAt old new n now = (path : List ℕ) → IsAt old path n → DocumentChanged (top_at old n) now path (ordered_tree old 0) (ordered_tree new 0)
 
--- a child, n, gives way to an element, m
+-- a child, n, is replaced by an element, m
 pub record Replaces (old new : List Node) (n m : ℕ) : Type 0 where
   pub container : ℕ
   pub tree : IsTree old
@@ -29,13 +29,13 @@ pub record Replaces (old new : List Node) (n m : ℕ) : Type 0 where
   pub join : CanJoin old container (place_at old n) (place_at old n + 1) (m ∷ [])
   pub spliced : Splices old new container (place_at old n) (place_at old n + 1) (m ∷ [])
 
--- of the children of c, which is there, those between two places give way to others
+-- of the children of c, which is there, those between two places are replaced by others
 pub record Respliced (old new : List Node) (c : ℕ) : Type 0 where
   pub from : ℕ
   pub to : ℕ
   pub put : List ℕ
   pub tree : IsTree old
-  pub there : c < length old
+  pub in_tree : c < length old
   pub after : IsTree new
   pub join : CanJoin old c from to put
   pub spliced : Splices old new c from to put
@@ -44,6 +44,6 @@ pub record Respliced (old new : List Node) (c : ℕ) : Type 0 where
 pub record LeafChanged (old new : List Node) (leaf : ℕ) : Type 0 where
   pub content : Content
   pub tree : IsTree old
-  pub there : leaf < length old
+  pub in_tree : leaf < length old
   pub after : IsTree new
   pub becomes : LeafBecomes old new leaf content

@@ -19,8 +19,8 @@ use Rattle.jsonc_sound.specs.TriviaChanges.{AreTrivia, StretchChanged, EndsInCom
 use Rattle.jsonc_sound.specs.SoundTrees.{SoundTree}
 use Rattle.jsonc_sound.specs.MarkChanges.{AreBlanks, MarksDifferIn}
 use Rattle.jsonc_sound.specs.Marks.{comment_mark, comments_of, marks, marks_of}
-use Rattle.jsonc_edit.specs.Due.{due_between, listed}
-use Rattle.jsonc_edit.specs.Put.{AreSpaced, IfDue, Prepared}
+use Rattle.jsonc_edit.specs.Due.{space_needed_between, listed}
+use Rattle.jsonc_edit.specs.Put.{AreSpaced, IfDue, Extends}
 use Rattle.jsonc_edit.specs.Spaced.{SpacesPut}
 use Rattle.jsonc_edit.specs.Worked.{node}
 
@@ -49,15 +49,15 @@ abbrev pub IsRemoved : List Node → List Node → ℕ → Type 0
 IsRemoved old new n = (c : ℕ) → parent_at old n ≡ Some c → Splices old new c (removed_from old c n) (place_at old n + 1) []
 
 -- before which node a space is due where the comment n of c leaves
-abbrev pub due_without : List Node → ℕ → ℕ → Option ℕ
-due_without ns c n = due_between ns (slice_index (children_at ns c) (removed_from ns c n)) n
+abbrev pub space_needed_without : List Node → ℕ → ℕ → Option ℕ
+space_needed_without ns c n = space_needed_between ns (slice_index (children_at ns c) (removed_from ns c n)) n
 
 -- The comment has been taken out: what is needed was made ready, a space has come where one is due, and the comment has left, with what leaves with it.
 pub record IsTakenOut (old new : List Node) (n c : ℕ) : Type 0 where
   pub ready : List Node
   pub spaced : List Node
-  pub prepared : Prepared old ready
-  pub spaces : AreSpaced ready (listed (due_without ready c n)) spaced
+  pub prepared : Extends old ready
+  pub spaces : AreSpaced ready (listed (space_needed_without ready c n)) spaced
   pub removed : IsRemoved spaced new n
 
 -- it is wherever it has a parent
@@ -66,7 +66,7 @@ TakesOut old new n = (c : ℕ) → parent_at old n ≡ Some c → IsTakenOut old
 
 -- it is where a space is due
 abbrev pub WantsSpace : List Node → ℕ → Type 0
-WantsSpace ns n = (c : ℕ) × (parent_at ns n ≡ Some c) × IfDue (due_without ns c n)
+WantsSpace ns n = (c : ℕ) × (parent_at ns n ≡ Some c) × IfDue (space_needed_without ns c n)
 
 -- a comment of the document has left it
 pub record CommentRemoved (old new : List Node) (n : ℕ) : Type 0 where
@@ -117,7 +117,7 @@ HasLeavesWithout old new n =
     CommentTaken old new n → (loses : LosesComment (ordered_tree old 0) (ordered_tree new 0)) × ((number : ℕ) → comment_at old number ≡ Some n → comments_ahead loses ≡ number)
 
 -- The document is one again, with the value that it had, or none as before; of its marks that of the comment of this text alone has left; and it is sound.
-pub record IsCommentGone (o : Options) (s : List ℕ) (t u : OrderedTree) : Type 0 where
+pub record IsCommentRemoved (o : Options) (s : List ℕ) (t u : OrderedTree) : Type 0 where
   pub value : Option Plain
   pub old_text : IsDocument o (printed_text t) value
   pub new_text : IsDocument o (printed_text u) value
@@ -125,14 +125,14 @@ pub record IsCommentGone (o : Options) (s : List ℕ) (t u : OrderedTree) : Type
   pub sound : SoundTree o u
 
 -- so it is if the old document is sound, and n the comment of this text in it
-abbrev pub CommentLeaves : Options → List Node → List Node → ℕ → Type 0
-CommentLeaves o old new n =
+abbrev pub RemovesComment : Options → List Node → List Node → ℕ → Type 0
+RemovesComment o old new n =
     SoundTree o (ordered_tree old 0) → IsOver old 0 n → (s : List ℕ) → content_at old n ≡ comment s
-    → IsCommentGone o s (ordered_tree old 0) (ordered_tree new 0)
+    → IsCommentRemoved o s (ordered_tree old 0) (ordered_tree new 0)
 
 -- and all leaves around it stay, but for the blanks before it that leave with it, in a document that is not sound too
-abbrev pub CommentLeavesAlone : List Node → List Node → ℕ → Type 0
-CommentLeavesAlone old new n = IsOver old 0 n → (s : List ℕ) → content_at old n ≡ comment s → LosesComment (ordered_tree old 0) (ordered_tree new 0)
+abbrev pub RemovesCommentAlone : List Node → List Node → ℕ → Type 0
+RemovesCommentAlone old new n = IsOver old 0 n → (s : List ℕ) → content_at old n ≡ comment s → LosesComment (ordered_tree old 0) (ordered_tree new 0)
 
 -- without a comment a sound document is sound
 abbrev pub IsSoundWithout : Options → List Node → List Node → ℕ → Type 0

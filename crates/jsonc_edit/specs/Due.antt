@@ -71,35 +71,35 @@ prints_within ns from to = prints_at ns to || is_other (seen_before ns to) (seen
 
 -- Before which node a space is due where the siblings from one to another leave: before what is seen behind them. Where these print nothing, what stands
 -- before and behind them has stood together already.
-abbrev pub due_between : List Node → ℕ → ℕ → Option ℕ
-due_between ns from to =
+abbrev pub space_needed_between : List Node → ℕ → ℕ → Option ℕ
+space_needed_between ns from to =
     if prints_within ns from to && (ends_bare ns (seen_before ns from) && begins_bare ns (seen_behind ns to)) then seen_behind ns to else None
 
 -- where a literal without quotes takes the place of a node: before that
-abbrev pub due_before : List Node → ℕ → Option ℕ
-due_before ns n = if ends_bare ns (seen_before ns n) then Some n else None
+abbrev pub space_needed_before : List Node → ℕ → Option ℕ
+space_needed_before ns n = if ends_bare ns (seen_before ns n) then Some n else None
 
 -- and before what is seen behind it
-abbrev pub due_behind : List Node → ℕ → Option ℕ
-due_behind ns n = if begins_bare ns (seen_behind ns n) then seen_behind ns n else None
+abbrev pub space_needed_after : List Node → ℕ → Option ℕ
+space_needed_after ns n = if begins_bare ns (seen_behind ns n) then seen_behind ns n else None
 
 -- the last child of a node that prints something
 abbrev pub seen_last : List Node → ℕ → Option ℕ
 seen_last ns n = nearest ns (reverse (children_at ns n))
 
 -- where a literal without quotes, n, comes as the last child of c: before n
-abbrev pub due_last : List Node → ℕ → ℕ → Option ℕ
-due_last ns c n = if ends_bare ns (seen_last ns c) then Some n else None
+abbrev pub space_needed_last : List Node → ℕ → ℕ → Option ℕ
+space_needed_last ns c n = if ends_bare ns (seen_last ns c) then Some n else None
 
 -- and where c is a property, before what is seen behind that
-abbrev pub due_past : List Node → ℕ → Option ℕ
-due_past ns c = if begins_bare ns (nearest ns (siblings_after ns c)) then nearest ns (siblings_after ns c) else None
+abbrev pub space_needed_past : List Node → ℕ → Option ℕ
+space_needed_past ns c = if begins_bare ns (nearest ns (siblings_after ns c)) then nearest ns (siblings_after ns c) else None
 
 -- the one that there is, or none
 abbrev pub listed : Option ℕ → List ℕ
 listed None = []
 listed (Some n) = n ∷ []
 
--- where a node gives way to one of this content
-abbrev pub due_around : List Node → ℕ → Content → List ℕ
-due_around ns n content = if is_bare content then listed (due_before ns n) ++ listed (due_behind ns n) else []
+-- where a node is replaced by one of this content
+abbrev pub spaces_needed_around : List Node → ℕ → Content → List ℕ
+spaces_needed_around ns n content = if is_bare content then listed (space_needed_before ns n) ++ listed (space_needed_after ns n) else []

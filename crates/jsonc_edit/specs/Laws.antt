@@ -19,7 +19,7 @@ use Rattle.jsonc_sound.specs.Properties.{IsNewProperty}
 use Rattle.jsonc_edit.specs.Paths.{IsAt, Stands}
 use Rattle.jsonc_edit.specs.Changes.{row_below, top_at, ChangesAt, Replaces, Respliced, LeafChanged}
 use Rattle.jsonc_edit.specs.Reading.{layout_for, IsReplaced}
-use Rattle.jsonc_edit.specs.Replacing.{GivesWay}
+use Rattle.jsonc_edit.specs.Replacing.{ReplacedBy}
 use Rattle.jsonc_edit.specs.Writing.{FitsLayout, IsWritable}
 use Rattle.jsonc_edit.specs.Written.{Writes}
 
@@ -82,7 +82,7 @@ StaysSoundAt o old new path n m =
     → top_at old m ≡ now → IsNewValue o now v → (IsTrue (is_bare now.content) → IsApart old n)
     → SoundTree o (ordered_tree new 0)
 
--- where n stands at the path in a document of value x, and gives way to a node of value v, so does its value there
+-- where n stands at the path in a document of value x, and is replaced by a node of value v, so is its value there
 abbrev pub ChangesValueAt : Options → List Node → List Node → List ℕ → ℕ → Plain → Type 0
 ChangesValueAt o old new path n x =
     DocumentValueOf o (ordered_tree old 0) (Some x) → IsAt old path n → (now : Top) (v : Plain)
@@ -111,24 +111,24 @@ abbrev pub ChangesValueTo : Options → List Node → List Node → List ℕ →
 ChangesValueTo o old new path n x v =
     DocumentValueOf o (ordered_tree old 0) (Some x) → IsAt old path n → HasChangedValue o (top_at old n) path (ordered_tree new 0) x v
 
--- so it is wherever n gives way to a value of texts, laid out in this layout
+-- so it is wherever n is replaced by a value of texts, laid out in this layout
 abbrev pub ChangesValueLaidOut : Options → List Node → List Node → ℕ → ℕ → Layout → Plain → Type 0
 ChangesValueLaidOut o old new n m layout v =
-    IsTree old → IsOfTexts v → GivesWay old new n m (laid layout v) → (path : List ℕ) (x : Plain) → ChangesValueTo o old new path n x v
+    IsTree old → IsOfTexts v → ReplacedBy old new n m (laid layout v) → (path : List ℕ) (x : Plain) → ChangesValueTo o old new path n x v
 
 -- or as the document tells
 abbrev pub ChangesValueReplaced : Options → List Node → List Node → ℕ → ℕ → Plain → Type 0
 ChangesValueReplaced o old new n m v =
     IsTree old → IsOfTexts v → IsReplaced old new n v m → (path : List ℕ) (x : Plain) → ChangesValueTo o old new path n x v
 
--- a value is written where a node gives way to it, laid out in a layout that fits
+-- a value is written where a node is replaced by it, laid out in a layout that fits
 abbrev pub WritesLaidOut : Options → List Node → List Node → ℕ → ℕ → Layout → Plain → Type 0
-WritesLaidOut o old new n m layout v = IsTree old → FitsLayout o layout → GivesWay old new n m (laid layout v) → Writes o old new n m v
+WritesLaidOut o old new n m layout v = IsTree old → FitsLayout o layout → ReplacedBy old new n m (laid layout v) → Writes o old new n m v
 
 -- or as the document tells
 abbrev pub WritesReplaced : Options → List Node → List Node → ℕ → ℕ → Plain → Type 0
 WritesReplaced o old new n m v = IsTree old → IsReplaced old new n v m → Writes o old new n m v
 
--- where n gives way to a value, this stands at the path of n
+-- where n is replaced by a value, this stands at the path of n
 abbrev pub TakesPath : List Node → List Node → ℕ → ℕ → Layout → Plain → Type 0
-TakesPath old new n m layout v = IsTree old → GivesWay old new n m (laid layout v) → (path : List ℕ) → IsAt old path n → IsAt new path m
+TakesPath old new n m layout v = IsTree old → ReplacedBy old new n m (laid layout v) → (path : List ℕ) → IsAt old path n → IsAt new path m

@@ -7,7 +7,7 @@ use Rattle.jsonc_tree.specs.Tree.{Node, place_at}
 use Rattle.jsonc_sound.specs.Rows.{RowKind, Last}
 use Rattle.jsonc_sound.specs.Alone.{RowAlone, StretchAlone}
 use Rattle.jsonc_sound.specs.Spaces.{meet}
-use Rattle.jsonc_edit.specs.Due.{nearest, ends_bare, begins_bare, due_between}
+use Rattle.jsonc_edit.specs.Due.{nearest, ends_bare, begins_bare, space_needed_between}
 
 -- they meet between a stretch of a row and the rest of it where the nearest children that print something are such literals
 abbrev pub NearestTell : Options → List Node → Type 0
@@ -20,4 +20,4 @@ abbrev pub NoneDueWithCommas : Options → List Node → Type 0
 NoneDueWithCommas o ns = (kind : RowKind) (last mid : Last) (from to : ℕ) (front back : OrderedTree)
     → Shows ns (take (place_at ns from) (row_of ns from)) front → StretchAlone o kind last front mid
     → Shows ns (siblings_after ns to) back → RowAlone o kind mid back
-    → due_between ns from to ≡ None
+    → space_needed_between ns from to ≡ None

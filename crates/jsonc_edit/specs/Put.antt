@@ -12,9 +12,9 @@ use Rattle.jsonc_edit.specs.declared.put.Spaces.{Spaces}
 abbrev pub a_space : Content
 a_space = whitespace (0x20 ∷ [])
 
--- a leaf of one space that is nobody's child
+-- a leaf of one space that is detached
 pub record IsFreeSpace (ns : List Node) (leaf : ℕ) : Type 0 where
-  pub there : leaf < length ns
+  pub in_tree : leaf < length ns
   pub is : content_at ns leaf ≡ a_space
   pub alone : parent_at ns leaf ≡ None
 
@@ -32,7 +32,7 @@ AreSpaced old [] new = new ≡ old
 AreSpaced old (n ∷ rest) new = (now : List Node) × (leaf : ℕ) × StandsBefore old now n leaf × AreSpaced now rest new
 
 -- nothing that was there has changed; there may be new nodes
-pub record Prepared (old new : List Node) : Type 0 where
+pub record Extends (old new : List Node) : Type 0 where
   pub keeps : Keeps (length old) old new
   pub tree : IsTree new
 
@@ -44,7 +44,7 @@ node_of (Some s) = s.node ∷ []
 abbrev pub nodes_of : Spaces → List ℕ
 nodes_of spaces = node_of spaces.before ++ node_of spaces.behind
 
--- the space, if there is one, is nobody's child
+-- the space, if there is one, is detached
 abbrev pub IsFree : List Node → Option Space → Type 0
 IsFree ns None = Unit {0}
 IsFree ns (Some s) = IsFreeSpace ns s.leaf
@@ -60,7 +60,7 @@ AreTwo None t = Unit {0}
 AreTwo (Some s) None = Unit {0}
 AreTwo (Some s) (Some t) = s.leaf < t.leaf
 
--- spaces are at hand for these nodes, nobody's children
+-- spaces are at hand for these nodes, detached
 pub record AreAtHand (ns : List Node) (due : List ℕ) (spaces : Spaces) : Type 0 where
   pub are : nodes_of spaces ≡ due
   pub before : IsFree ns spaces.before

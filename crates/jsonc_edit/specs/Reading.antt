@@ -7,7 +7,7 @@ use Rattle.jsonc_layout.specs.lines.Indents.{indents_at}
 use Rattle.jsonc_layout.specs.lines.Breadth.{newline_kind_at, uses_trailing_commas_at}
 use Rattle.jsonc_layout.specs.from_input.Layout.{Layout}
 use Rattle.jsonc_layout.specs.from_input.Laid.{laid}
-use Rattle.jsonc_edit.specs.Replacing.{GivesWay, GivesWayRaw}
+use Rattle.jsonc_edit.specs.Replacing.{ReplacedBy, ReplacedByRaw}
 
 -- the node whose containers tell whether trailing commas are used, for a child n of c: the value itself in a property, else the container
 abbrev pub commas_told_by : List Node → ℕ → ℕ → ℕ
@@ -23,10 +23,10 @@ layout_for ns c n =
       newline = newline_kind_at ns c;
     }
 
--- the child n has given way to m, which is the value, laid out as the old nodes tell
+-- the child n has been replaced by m, which is the value, laid out as the old nodes tell
 abbrev pub IsReplaced : List Node → List Node → ℕ → Plain → ℕ → Type 0
-IsReplaced old new n v m = (c : ℕ) × (parent_at old n ≡ Some c) × GivesWay old new n m (laid (layout_for old c n) v)
+IsReplaced old new n v m = (c : ℕ) × (parent_at old n ≡ Some c) × ReplacedBy old new n m (laid (layout_for old c n) v)
 
 -- the same where no space has come, and c itself tells whether trailing commas are used
 abbrev pub IsReplacedRaw : List Node → List Node → ℕ → Plain → ℕ → Type 0
-IsReplacedRaw old new n v m = (c : ℕ) × (parent_at old n ≡ Some c) × GivesWayRaw old new n m (laid (layout_for old c c) v)
+IsReplacedRaw old new n v m = (c : ℕ) × (parent_at old n ≡ Some c) × ReplacedByRaw old new n m (laid (layout_for old c c) v)

@@ -21,9 +21,9 @@ pub record PropertyHolds (held : OrderedTree) (path : List ℕ) (i : ℕ) (t : O
   pub first : front ≡ before ++ ahead
   pub last : back ≡ beyond ++ behind
 
--- That property has given way to another, and nothing else has changed but that a space has come directly before what is printed behind it, or none. Before it
+-- That property has been replaced by another, and nothing else has changed but that a space has come directly before what is printed behind it, or none. Before it
 -- none ever comes: it begins with its name. In a sound document one that has come stands before a literal without quotes.
-pub record PropertyGivesWayWithSeam (path : List ℕ) (i : ℕ) (was now t u : OrderedTree) : Type 0 where
+pub record PropertyReplacedWithSeam (path : List ℕ) (i : ℕ) (was now t u : OrderedTree) : Type 0 where
   pub front : List Content
   pub quiet : List Content
   pub rest : List Content

@@ -1,4 +1,4 @@
--- Where a node has given way, and where a comment has left: what has become of the leaves, and where spaces have come.
+-- Where a node has been replaced, and where a comment has left: what has become of the leaves, and where spaces have come.
 use Rattle.std.specs.Prelude.{◌≡◌, ℕ, ◌++◌, Bool, true, List, [], ◌∷◌, Some, length}
 use Rattle.jsonc_text.specs.Options.{Options}
 use Rattle.jsonc_tree.specs.Content.{Content, comment}
@@ -13,14 +13,14 @@ use Rattle.jsonc_edit.specs.Changes.{top_at}
 use Rattle.jsonc_edit.specs.Comments.{comment_at, CommentTaken}
 use Rattle.jsonc_edit.specs.Due.{begins_bare, ends_bare, seen_before, seen_behind}
 use Rattle.jsonc_edit.specs.Paths.{IsAt}
-use Rattle.jsonc_edit.specs.Replacing.{GivesWay}
+use Rattle.jsonc_edit.specs.Replacing.{ReplacedBy}
 use Rattle.jsonc_edit.specs.Seams.{PrintNothing, space_if, StandsBetween}
-use Rattle.jsonc_edit.specs.SeamPlaces.{GivesWayWithSeams}
+use Rattle.jsonc_edit.specs.SeamPlaces.{ReplacedWithSeams}
 
--- where a node at a path has given way, the value at that path has, and spaces have come at the seams alone
+-- where a node at a path has been replaced, the value at that path has, and spaces have come at the seams alone
 abbrev pub HasSeams : List Node → List Node → ℕ → ℕ → Top → Type 0
-HasSeams old new n m now = IsTree old → GivesWay old new n m now → (path : List ℕ) → IsAt old path n
-    → GivesWayWithSeams path (top_at old n) now (ordered_tree old 0) (ordered_tree new 0)
+HasSeams old new n m now = IsTree old → ReplacedBy old new n m now → (path : List ℕ) → IsAt old path n
+    → ReplacedWithSeams path (top_at old n) now (ordered_tree old 0) (ordered_tree new 0)
 
 -- A comment has left, with blanks directly before it, and nothing else has changed but that where it stood a space has come, or none, directly before what is
 -- printed next. In a sound document a space that has come parts two literals without quotes.

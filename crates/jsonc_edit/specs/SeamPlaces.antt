@@ -31,9 +31,9 @@ pub data DocumentHolds (top : Top) (path : List ℕ) : OrderedTree → List Cont
   in_root : {x : Top} {row : OrderedTree} {f g b c : List Content} → RowHolds x 0 row f b → ValueHolds top path x g c
       → DocumentHolds top path (more root row none) (f ++ g) (c ++ b)
 
--- The value at the path has given way to another, and nothing else has changed but that spaces have come at the seams: before it one or none, and behind it one
+-- The value at the path has been replaced by another, and nothing else has changed but that spaces have come at the seams: before it one or none, and behind it one
 -- or none, directly before what is printed next. In a sound document each of them parts two literals without quotes: the new value, and what is printed next to it.
-pub record GivesWayWithSeams (path : List ℕ) (was now : Top) (t u : OrderedTree) : Type 0 where
+pub record ReplacedWithSeams (path : List ℕ) (was now : Top) (t u : OrderedTree) : Type 0 where
   pub front : List Content
   pub quiet : List Content
   pub rest : List Content

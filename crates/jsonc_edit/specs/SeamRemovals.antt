@@ -3,7 +3,7 @@ use Rattle.std.specs.Prelude.{◌≡◌, ℕ, ◌+◌, true, List, ◌++◌}
 use Rattle.jsonc_tree.specs.Content.{Content}
 use Rattle.jsonc_tree.specs.OrderedTree.{OrderedTree, leaves, followed_by, Top}
 use Rattle.jsonc_sound.specs.Shape.{token_then}
-use Rattle.jsonc_sound.specs.Leaving.{AreBeside, ClosesUp, IsRestOfLine, LeavesBehind, among, element_count}
+use Rattle.jsonc_sound.specs.Leaving.{AreInlineTrivia, ClosesUp, IsRestOfLine, LeavesBehind, among, element_count}
 use Rattle.jsonc_sound.specs.Rows.{RowKind, container_of}
 use Rattle.jsonc_sound.specs.Adjacent.{last_printed}
 use Rattle.jsonc_sound.specs.Spaces.{first_printed, is_bare_leaf, space_then}
@@ -21,19 +21,19 @@ pub data SpaceFirst (ahead : List Content) : OrderedTree → OrderedTree → Typ
 
 -- The second row is the first without its element of this number, `top`, and what goes with it (`ElementLeaves`), but that where the comma before it stood a
 -- space has come, or none, and so where the element stood.
-pub data LeavesWithSeams (top : Top) : ℕ → OrderedTree → OrderedTree → Type 0 where
-  comma_behind : (front back given : OrderedTree) (before between line : List Content) → AreBeside before → LeavesBehind between line → SpaceFirst (leaves front) back given
-      → LeavesWithSeams top (element_count front) (followed_by front (among before top between (token_then 0x2C (leaves_then line back)))) (followed_by front given)
-  comma_before : (front mid back given_mid given : OrderedTree) (before line : List Content) → AreBeside before → IsRestOfLine line → SpaceFirst (leaves front) mid given_mid
+pub data RemovedWithSeams (top : Top) : ℕ → OrderedTree → OrderedTree → Type 0 where
+  comma_behind : (front back given : OrderedTree) (before between line : List Content) → AreInlineTrivia before → LeavesBehind between line → SpaceFirst (leaves front) back given
+      → RemovedWithSeams top (element_count front) (followed_by front (among before top between (token_then 0x2C (leaves_then line back)))) (followed_by front given)
+  comma_before : (front mid back given_mid given : OrderedTree) (before line : List Content) → AreInlineTrivia before → IsRestOfLine line → SpaceFirst (leaves front) mid given_mid
       → SpaceFirst (leaves front ++ leaves given_mid) back given
-      → LeavesWithSeams top (element_count front + element_count mid) (followed_by front (token_then 0x2C (followed_by mid (among before top line back))))
+      → RemovedWithSeams top (element_count front + element_count mid) (followed_by front (token_then 0x2C (followed_by mid (among before top line back))))
       (followed_by front (followed_by given_mid given))
-  no_comma : (front back given : OrderedTree) (before line : List Content) → AreBeside before → IsRestOfLine line → SpaceFirst (leaves front) back given
-      → LeavesWithSeams top (element_count front) (followed_by front (among before top line back)) (followed_by front given)
+  no_comma : (front back given : OrderedTree) (before line : List Content) → AreInlineTrivia before → IsRestOfLine line → SpaceFirst (leaves front) back given
+      → RemovedWithSeams top (element_count front) (followed_by front (among before top line back)) (followed_by front given)
 
 -- The entry of this number has left the container at the path, which has closed up if it may, with what goes with it; and nothing else has changed but that
 -- spaces have come where the comma and where the entry stood.
-pub record EntryLeavesWithSeams (path : List ℕ) (i : ℕ) (top : Top) (t u : OrderedTree) : Type 0 where
+pub record EntryRemovedWithSeams (path : List ℕ) (i : ℕ) (top : Top) (t u : OrderedTree) : Type 0 where
   pub kind : RowKind
   pub row : OrderedTree
   pub left : OrderedTree
@@ -43,5 +43,5 @@ pub record EntryLeavesWithSeams (path : List ℕ) (i : ℕ) (top : Top) (t u : O
   pub element : IsElement top.content
   pub held : DocumentHolds (container_of kind row) path t front back
   pub holds : DocumentHolds (container_of kind new) path u front back
-  pub leaving : LeavesWithSeams top i row left
+  pub leaving : RemovedWithSeams top i row left
   pub closes : ClosesUp left new

@@ -7,7 +7,7 @@ use Rattle.jsonc_layout.specs.nodes.Siblings.{elements_at}
 use Rattle.jsonc_sound.specs.TreeChanges.{IsElement}
 use Rattle.jsonc_sound.specs.InRows.{SpacePut}
 use Rattle.jsonc_sound.specs.Spaces.{is_bare}
-use Rattle.jsonc_edit.specs.Due.{due_around, begins_bare, ends_bare, seen_before, seen_behind}
+use Rattle.jsonc_edit.specs.Due.{spaces_needed_around, begins_bare, ends_bare, seen_before, seen_behind}
 use Rattle.jsonc_edit.specs.Put.{StandsBefore, AreSpaced}
 
 -- before an element of the document, behind another child, the space has come into the document, and nothing else has
@@ -23,5 +23,5 @@ KeepsElements old new n space = IsTree old → StandsBefore old new n space → 
 -- where the spaces have come that are due around n, none is due any more
 abbrev pub NoneDueAround : List Node → List Node → ℕ → Content → Type 0
 NoneDueAround old new n content =
-    IsTree old → AreSpaced old (due_around old n content) new → IsTrue (is_bare content)
+    IsTree old → AreSpaced old (spaces_needed_around old n content) new → IsTrue (is_bare content)
     → (ends_bare new (seen_before new n) ≡ false) × (begins_bare new (seen_behind new n) ≡ false)

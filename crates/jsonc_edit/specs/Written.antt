@@ -19,8 +19,8 @@ use Rattle.jsonc_edit.specs.Spaced.{SpacesPut}
 use Rattle.jsonc_edit.specs.Writing.{IsWritable}
 
 -- The value v is written at the path: the old text is a document, the new text is one, and its value is the old one's, but
--- that at the path v stands; spaces have come in, and then of the leaves those of one node have given way to those of another:
--- all before and after stay. Of the literals and comments those of that node have given way to the literals that are written
+-- that at the path v stands; spaces have come in, and then of the leaves those of one node have been replaced by those of another:
+-- all before and after stay. Of the literals and comments those of that node have been replaced by the literals that are written
 -- for v, and all others stay, in order. The new document is sound, so it may be edited again.
 pub record IsWrittenAt (o : Options) (v : Plain) (path : List ℕ) (was now : Top) (old new : OrderedTree) : Type 0 where
   pub given_up : Plain

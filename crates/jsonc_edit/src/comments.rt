@@ -7,11 +7,11 @@ ghost use Rattle.jsonc_tree.specs.Content.{Content};
 ghost use Rattle.jsonc_tree.specs.OrderedTree.{ordered_tree};
 ghost use Rattle.jsonc_tree.specs.Tree.{children_at, content_at, parent_at, place_at};
 ghost use Rattle.jsonc_sound.specs.Lines.{is_line_comment};
-ghost use Rattle.jsonc_edit.specs.Comments.{blanks_from, removed_from, newline_from, CommentLeaves, CommentLeavesAlone};
+ghost use Rattle.jsonc_edit.specs.Comments.{blanks_from, removed_from, newline_from, RemovesComment, RemovesCommentAlone};
 ghost use Rattle.jsonc_edit.specs.Comments.{IsRemoved, TakesOut, WantsSpace};
 
 use crate::EditError;
-use crate::due::due_between;
+use crate::due::space_needed_between;
 use crate::put::{make_spaces, put_spaces};
 use jsonc_layout::nodes::{is_newline, is_whitespace};
 use jsonc_tree::{Kind, Tree};
@@ -39,7 +39,7 @@ pub fn is_line_comment<A: Allocator>(tree: &Tree<A>, node: usize) -> bool
 
 // Where the whitespace leaves directly before a place begin.
 fn blanks_from<A: Allocator>(tree: &Tree<A>, container: usize, place: usize) -> usize
-    requires there { container < length tree.now.nodes }
+    requires in_tree { container < length tree.now.nodes }
     requires within { place ≤ length (children_at tree.now.nodes container) }
     ensures from { result ≡ blanks_from tree.now.nodes (children_at tree.now.nodes container) place }
     ensures before { result ≤ place }
@@ -56,7 +56,7 @@ fn blanks_from<A: Allocator>(tree: &Tree<A>, container: usize, place: usize) -> 
 
 /// The place of the newline leaf directly before a place of a container's row, or that place.
 pub fn newline_from<A: Allocator>(tree: &Tree<A>, container: usize, place: usize) -> usize
-    requires there { container < length tree.now.nodes }
+    requires in_tree { container < length tree.now.nodes }
     requires within { place ≤ length (children_at tree.now.nodes container) }
     ensures from { result ≡ newline_from tree.now.nodes (children_at tree.now.nodes container) place }
     ensures before { result ≤ place }
@@ -89,7 +89,7 @@ fn first_removed<A: Allocator>(tree: &Tree<A>, container: usize, comment: usize)
     requires { parent_at tree.now.nodes comment ≡ Some container }
     ensures first { result
         ≡ slice_index (children_at tree.now.nodes container) (removed_from tree.now.nodes container comment) }
-    ensures there { result < length tree.now.nodes }
+    ensures in_tree { result < length tree.now.nodes }
 {
     let from = removed_from(tree, container, comment);
     tree.child_at(container, from)
@@ -114,8 +114,8 @@ fn take_out<A: Allocator>(tree: &mut Tree<A>, container: usize, comment: usize)
 ///
 /// With a line comment go the whitespace leaves directly before it, and the newline leaf directly
 /// before those. Where two literals without quotes would come to stand directly beside each other, a
-/// space comes between them; its memory alone may be wanted, and a refusal leaves the document, and
-/// every node that was there, as it was. Where the comment is nobody's child no node changes.
+/// space comes between them; its memory alone may be wanted, and an error leaves the document, and
+/// every node that was there, as it was. Where the comment is detached no node changes.
 pub fn remove_comment<A: Allocator + Copy>(
     alloc: A,
     tree: &mut Tree<A>,
@@ -123,11 +123,11 @@ pub fn remove_comment<A: Allocator + Copy>(
 ) -> Result<(), EditError>
     requires { comment < length tree.old.nodes }
     ensures removed { OnOk result (TakesOut tree.old.nodes tree.new.nodes comment) }
-    ensures written { (o : Options) → OnOk result (CommentLeaves o tree.old.nodes tree.new.nodes comment) }
-    ensures around { OnOk result (CommentLeavesAlone tree.old.nodes tree.new.nodes comment) }
+    ensures written { (o : Options) → OnOk result (RemovesComment o tree.old.nodes tree.new.nodes comment) }
+    ensures around { OnOk result (RemovesCommentAlone tree.old.nodes tree.new.nodes comment) }
     ensures untouched { parent_at tree.old.nodes comment ≡ None → tree.new.nodes ≡ tree.old.nodes }
     ensures memory { IfErr result (λ e. e ≡ EditError.OutOfMemory) }
-    ensures wanted { OnErr result (WantsSpace tree.old.nodes comment) }
+    ensures oom_only_if { OnErr result (WantsSpace tree.old.nodes comment) }
     ensures kept { OnErr result (Keeps (length tree.old.nodes) tree.old.nodes tree.new.nodes) }
     ensures document { OnErr result (ordered_tree tree.new.nodes 0 ≡ ordered_tree tree.old.nodes 0) }
 {
@@ -135,7 +135,7 @@ pub fn remove_comment<A: Allocator + Copy>(
         return Ok(());
     };
     let first = first_removed(tree, container, comment);
-    let due = due_between(tree, first, comment);
+    let due = space_needed_between(tree, first, comment);
     let spaces = make_spaces(alloc, tree, None, due)?;
     put_spaces(tree, spaces);
     take_out(tree, container, comment);

@@ -9,7 +9,7 @@ ghost use Rattle.jsonc_layout.specs.nodes.Siblings.{AreThere, IsThere};
 ghost use Rattle.jsonc_sound.specs.Spaces.{is_bare};
 ghost use Rattle.jsonc_edit.specs.Due.{prints, prints_at, nearest, beginning_of, end_of, is_bare_at};
 ghost use Rattle.jsonc_edit.specs.Due.{begins_bare, ends_bare, seen_before, behind_holder, seen_behind};
-ghost use Rattle.jsonc_edit.specs.Due.{due_between, due_before, due_behind, due_last, due_past, is_other};
+ghost use Rattle.jsonc_edit.specs.Due.{space_needed_between, space_needed_before, space_needed_after, space_needed_last, space_needed_past, is_other};
 ghost use Rattle.jsonc_edit.specs.Due.{prints_within, seen_last};
 
 use jsonc_layout::nodes::{PreviousSiblings, next_siblings, previous_siblings};
@@ -59,7 +59,7 @@ pub fn is_bare<A: Allocator>(kind: &Kind<A>) -> bool
 fn beginning_of<A: Allocator>(tree: &Tree<A>, node: usize) -> Option<usize>
     requires { node < length tree.now.nodes }
     ensures beginning { result ≡ beginning_of tree.now.nodes node }
-    ensures there { IsThere tree.now.nodes result }
+    ensures in_tree { IsThere tree.now.nodes result }
 {
     match tree.kind(node) {
         Kind::Property(_) => tree.first_child(node),
@@ -71,7 +71,7 @@ fn beginning_of<A: Allocator>(tree: &Tree<A>, node: usize) -> Option<usize>
 fn end_of<A: Allocator>(tree: &Tree<A>, node: usize) -> Option<usize>
     requires { node < length tree.now.nodes }
     ensures end { result ≡ end_of tree.now.nodes node }
-    ensures there { IsThere tree.now.nodes result }
+    ensures in_tree { IsThere tree.now.nodes result }
 {
     match tree.kind(node) {
         Kind::Property(_) => tree.last_child(node),
@@ -116,7 +116,7 @@ fn ends_bare<A: Allocator>(tree: &Tree<A>, found: Option<usize>) -> bool
 pub fn seen_before<A: Allocator>(tree: &Tree<A>, node: usize) -> Option<usize>
     requires { node < length tree.now.nodes }
     ensures seen { result ≡ seen_before tree.now.nodes node }
-    ensures there { IsThere tree.now.nodes result }
+    ensures in_tree { IsThere tree.now.nodes result }
 {
     previous_siblings(tree, node).find(|sibling| prints(tree, *sibling))
 }
@@ -125,7 +125,7 @@ pub fn seen_before<A: Allocator>(tree: &Tree<A>, node: usize) -> Option<usize>
 fn nearest_behind<A: Allocator>(tree: &Tree<A>, node: usize) -> Option<usize>
     requires { node < length tree.now.nodes }
     ensures seen { result ≡ nearest tree.now.nodes (siblings_after tree.now.nodes node) }
-    ensures there { IsThere tree.now.nodes result }
+    ensures in_tree { IsThere tree.now.nodes result }
 {
     next_siblings(tree, node).find(|sibling| prints(tree, *sibling))
 }
@@ -134,7 +134,7 @@ fn nearest_behind<A: Allocator>(tree: &Tree<A>, node: usize) -> Option<usize>
 fn behind_property<A: Allocator>(tree: &Tree<A>, node: usize) -> Option<usize>
     requires { node < length tree.now.nodes }
     ensures seen { result ≡ behind_holder tree.now.nodes node }
-    ensures there { IsThere tree.now.nodes result }
+    ensures in_tree { IsThere tree.now.nodes result }
 {
     let container = tree.parent(node)?;
     match tree.kind(container) {
@@ -147,7 +147,7 @@ fn behind_property<A: Allocator>(tree: &Tree<A>, node: usize) -> Option<usize>
 fn children_backwards<A: Allocator>(tree: &Tree<A>, container: usize) -> PreviousSiblings<'_, A>
     requires { container < length tree.now.nodes }
     ensures children { result ≡ reverse (children_at tree.now.nodes container) }
-    ensures there { AreThere tree.now.nodes result }
+    ensures in_tree { AreThere tree.now.nodes result }
     ensures countable { length result < 2 ^ 64 }
 {
     tree.children_reversed(container)
@@ -157,7 +157,7 @@ fn children_backwards<A: Allocator>(tree: &Tree<A>, container: usize) -> Previou
 fn seen_last<A: Allocator>(tree: &Tree<A>, container: usize) -> Option<usize>
     requires { container < length tree.now.nodes }
     ensures seen { result ≡ seen_last tree.now.nodes container }
-    ensures there { IsThere tree.now.nodes result }
+    ensures in_tree { IsThere tree.now.nodes result }
 {
     children_backwards(tree, container).find(|child| prints(tree, *child))
 }
@@ -166,7 +166,7 @@ fn seen_last<A: Allocator>(tree: &Tree<A>, container: usize) -> Option<usize>
 fn seen_behind<A: Allocator>(tree: &Tree<A>, node: usize) -> Option<usize>
     requires { node < length tree.now.nodes }
     ensures seen { result ≡ seen_behind tree.now.nodes node }
-    ensures there { IsThere tree.now.nodes result }
+    ensures in_tree { IsThere tree.now.nodes result }
 {
     match nearest_behind(tree, node) {
         Some(sibling) => Some(sibling),
@@ -197,11 +197,11 @@ fn prints_within<A: Allocator>(tree: &Tree<A>, from: usize, to: usize) -> bool
 /// The node before which a space is due where the siblings from one to another leave, if one is.
 ///
 /// None is where these print nothing: what stands around them has stood together before.
-pub fn due_between<A: Allocator>(tree: &Tree<A>, from: usize, to: usize) -> Option<usize>
+pub fn space_needed_between<A: Allocator>(tree: &Tree<A>, from: usize, to: usize) -> Option<usize>
     requires from { from < length tree.now.nodes }
     requires to { to < length tree.now.nodes }
-    ensures due { result ≡ due_between tree.now.nodes from to }
-    ensures there { IsThere tree.now.nodes result }
+    ensures due { result ≡ space_needed_between tree.now.nodes from to }
+    ensures in_tree { IsThere tree.now.nodes result }
 {
     if !prints_within(tree, from, to) {
         return None;
@@ -214,10 +214,10 @@ pub fn due_between<A: Allocator>(tree: &Tree<A>, from: usize, to: usize) -> Opti
 }
 
 /// The node itself, if a space is due before a literal without quotes that takes its place.
-pub fn due_before<A: Allocator>(tree: &Tree<A>, node: usize) -> Option<usize>
+pub fn space_needed_before<A: Allocator>(tree: &Tree<A>, node: usize) -> Option<usize>
     requires { node < length tree.now.nodes }
-    ensures due { result ≡ due_before tree.now.nodes node }
-    ensures there { IsThere tree.now.nodes result }
+    ensures due { result ≡ space_needed_before tree.now.nodes node }
+    ensures in_tree { IsThere tree.now.nodes result }
 {
     if ends_bare(tree, seen_before(tree, node)) {
         return Some(node);
@@ -226,10 +226,10 @@ pub fn due_before<A: Allocator>(tree: &Tree<A>, node: usize) -> Option<usize>
 }
 
 /// The node before which a space is due behind a literal without quotes that takes this node's place.
-pub fn due_behind<A: Allocator>(tree: &Tree<A>, node: usize) -> Option<usize>
+pub fn space_needed_after<A: Allocator>(tree: &Tree<A>, node: usize) -> Option<usize>
     requires { node < length tree.now.nodes }
-    ensures due { result ≡ due_behind tree.now.nodes node }
-    ensures there { IsThere tree.now.nodes result }
+    ensures due { result ≡ space_needed_after tree.now.nodes node }
+    ensures in_tree { IsThere tree.now.nodes result }
 {
     let behind = seen_behind(tree, node);
     if begins_bare(tree, behind) {
@@ -240,9 +240,13 @@ pub fn due_behind<A: Allocator>(tree: &Tree<A>, node: usize) -> Option<usize>
 
 /// The node that comes as the last child of a container, if a space is due before it where it is a
 /// literal without quotes.
-pub fn due_last<A: Allocator>(tree: &Tree<A>, container: usize, node: usize) -> Option<usize>
+pub fn space_needed_last<A: Allocator>(
+    tree: &Tree<A>,
+    container: usize,
+    node: usize,
+) -> Option<usize>
     requires { container < length tree.now.nodes }
-    ensures due { result ≡ due_last tree.now.nodes container node }
+    ensures due { result ≡ space_needed_last tree.now.nodes container node }
 {
     if ends_bare(tree, seen_last(tree, container)) {
         return Some(node);
@@ -252,9 +256,9 @@ pub fn due_last<A: Allocator>(tree: &Tree<A>, container: usize, node: usize) -> 
 
 /// The node before which a space is due behind a literal without quotes that comes as the last child of
 /// a property.
-pub fn due_past<A: Allocator>(tree: &Tree<A>, property: usize) -> Option<usize>
+pub fn space_needed_past<A: Allocator>(tree: &Tree<A>, property: usize) -> Option<usize>
     requires { property < length tree.now.nodes }
-    ensures due { result ≡ due_past tree.now.nodes property }
+    ensures due { result ≡ space_needed_past tree.now.nodes property }
 {
     let behind = nearest_behind(tree, property);
     if begins_bare(tree, behind) {

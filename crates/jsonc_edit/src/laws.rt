@@ -49,7 +49,7 @@ pub fn children_stand_for_the_row_below()
     ensures { (ns : List Node) (n : ℕ) → ShowsBelow ns n }
 {}
 
-/// An element that gives way to another node changes the document at its path, to that node with
+/// An element that is replaced by another node changes the document at its path, to that node with
 /// the row below it; and this node and its row are what they were.
 pub fn replaced_nodes_change_their_place()
     ensures changed { (old new : List Node) (n m : ℕ) → ReplacesAtPath old new n m }
@@ -80,7 +80,7 @@ pub fn documents_stay_sound()
     ensures { (o : Options) (old new : List Node) (path : List ℕ) (n m : ℕ) → StaysSoundAt o old new path n m }
 {}
 
-/// Where a value of a document gives way to another, so does its plain value at the same path, and
+/// Where a value of a document is replaced by another, so is its plain value at the same path, and
 /// nothing else does.
 pub fn documents_have_changed_values()
     ensures { (o : Options) (old new : List Node) (path : List ℕ) (n : ℕ) (x : Plain)
@@ -133,7 +133,7 @@ pub fn replaced_values_change_the_document()
 {}
 
 /// The node that a value is laid out as, by `replace` or `replace_with`, stands at the path of the node
-/// that gave way to it.
+/// that was replaced by it.
 pub fn replaced_values_take_the_path()
     ensures { (old new : List Node) (n m : ℕ) (l : Layout) (v : Plain) → TakesPath old new n m l v }
 {}

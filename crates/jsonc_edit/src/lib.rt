@@ -6,7 +6,7 @@
 //! answers the value at a path. A change of the list of nodes that touches one node alone is in the
 //! ordered tree a change at that path (`specs/Changes.antt`, `specs/Laws.antt`).
 //!
-//! [`replace`] lets a node give way to a new value, laid out as the document tells
+//! [`replace`] replaces a node by a new value, laid out as the document tells
 //! (`specs/Replacing.antt`, `specs/Reading.antt`). All memory is asked for before the document changes.
 //! A value whose numbers are numbers is laid out as a whole value, which may stand where another stood
 //! (`specs/Writing.antt`). So the text is a document again, whose value is the old one with the new
@@ -20,8 +20,8 @@
 //! names without quotes, `true`, `false` or `null` stand directly beside each other that did not before.
 //! Then a space comes between them: in the innermost container that holds both, directly before the
 //! child that holds the second (`specs/Due.antt`). Leaves that print nothing are passed over.
-//! [`due_between`], [`due_before`] and [`due_behind`] tell where one is due, and [`due_last`] and
-//! [`due_past`] where something comes last; [`make_spaces`] makes it, nobody's child yet, and
+//! [`space_needed_between`], [`space_needed_before`] and [`space_needed_after`] tell where one is due, and [`space_needed_last`] and
+//! [`space_needed_past`] where something comes last; [`make_spaces`] makes it, detached yet, and
 //! [`put_spaces`] puts it in, which takes no memory (`specs/Put.antt`).
 //!
 //! [`set`] has the edits that set values, [`remove`] those that take entries out; [`multiline`] puts arrays and objects on
@@ -43,7 +43,10 @@ pub mod set;
 pub mod space_laws;
 
 pub use comments::{is_line_comment, newline_from, remove_comment};
-pub use due::{due_before, due_behind, due_between, due_last, due_past, is_bare, seen_before};
+pub use due::{
+    is_bare, seen_before, space_needed_after, space_needed_before, space_needed_between,
+    space_needed_last, space_needed_past,
+};
 pub use jsonc_text::edit::{EditError, Over, Shape, TrailingCommaMode};
 pub use paths::find;
 pub use put::{Space, Spaces, make_spaces, put_spaces};

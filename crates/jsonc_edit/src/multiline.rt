@@ -3,7 +3,7 @@
 //! What stands between the brackets is read in parts, each through its comma; each comes on a line of
 //! its own, without the whitespace around it, and the last bracket on one too (`specs/multiline/Lines.antt`). A
 //! row is planned before anything changes: its places, and the nodes that fill them, children that stay
-//! and leaves that were made (`specs/multiline/Plans.antt`). Then all take their places at once, so a refusal
+//! and leaves that were made (`specs/multiline/Plans.antt`). Then all take their places at once, so an error
 //! leaves the document as it was (`specs/multiline/Multiline.antt`).
 //!
 //! Where this is done in a sound document, the row is what it was, but that ends of lines have come and

@@ -23,7 +23,7 @@ fn if_same(left: Option<usize>, right: Option<usize>) -> Option<usize>
 fn held_by<A: Allocator>(tree: &Tree<A>, property: usize) -> Option<usize>
     requires { property < length tree.now.nodes }
     ensures held { FindsExactly result (IsHeldBy tree.now.nodes property) }
-    ensures there { IsThere tree.now.nodes result }
+    ensures in_tree { IsThere tree.now.nodes result }
 {
     match tree.kind(property) {
         Kind::Property(_) => if_same(element_at(tree, property, 1), value_of(tree, property)),
@@ -35,7 +35,7 @@ fn held_by<A: Allocator>(tree: &Tree<A>, property: usize) -> Option<usize>
 fn step<A: Allocator>(tree: &Tree<A>, value: usize, place: usize) -> Option<usize>
     requires { value < length tree.now.nodes }
     ensures stepped { FindsExactly result (StepsTo tree.now.nodes value place) }
-    ensures there { IsThere tree.now.nodes result }
+    ensures in_tree { IsThere tree.now.nodes result }
 {
     match tree.kind(value) {
         Kind::Array(_) => element_at(tree, value, place),
@@ -48,7 +48,7 @@ fn step<A: Allocator>(tree: &Tree<A>, value: usize, place: usize) -> Option<usiz
 /// an array or among the properties of an object. None where the path leads to nothing.
 pub fn find<A: Allocator>(tree: &Tree<A>, path: &[usize]) -> Option<usize>
     ensures found { FindsExactly result (IsAt tree.now.nodes path.now) }
-    ensures there { IsThere tree.now.nodes result }
+    ensures in_tree { IsThere tree.now.nodes result }
 {
     let mut value = element_at(tree, 0, 0)?;
     for place in path {

@@ -5,12 +5,12 @@ ghost use Rattle.jsonc_tree.specs.Changes.{Adds};
 ghost use Rattle.jsonc_tree.specs.Tree.{parent_at};
 ghost use Rattle.jsonc_edit.specs.Due.{listed};
 ghost use Rattle.jsonc_edit.specs.Put.{a_space, AreAtHand, AreChildren, AreDue, AreSpaced, IfDue};
-ghost use Rattle.jsonc_edit.specs.Put.{IsFree, IsFreeSpace, IsPut, Prepared, StandsBefore, node_of, nodes_of};
+ghost use Rattle.jsonc_edit.specs.Put.{IsFree, IsFreeSpace, IsPut, Extends, StandsBefore, node_of, nodes_of};
 
 use jsonc_tree::{Kind, Tree};
 use std::alloc::{AllocError, Allocator};
 
-/// A leaf of one space, which is nobody's child yet, and the node before which it is to stand.
+/// A leaf of one space, which has no parent yet, and the node before which it is to stand.
 #[derive(Drop)]
 pub struct Space {
     /// The node.
@@ -28,7 +28,7 @@ pub struct Spaces {
     pub behind: Option<Space>,
 }
 
-// Makes a leaf of one space, which is nobody's child.
+// Makes a leaf of one space, which is detached.
 fn add_space<A: Allocator + Copy>(alloc: A, tree: &mut Tree<A>) -> Result<usize, AllocError>
     ensures number { IfOk result (λ n. n ≡ length tree.old.nodes) }
     ensures added { OnOk result (Adds tree.old.nodes tree.new.nodes a_space) }
@@ -47,8 +47,8 @@ fn make_space<A: Allocator + Copy>(
     ensures due { IfOk result (λ s. node_of s ≡ listed due) }
     ensures free { IfOk result (λ s. IsFree tree.new.nodes s) }
     ensures later { IfOk result (λ s. IfSome s (λ space. length tree.old.nodes ≤ space.leaf)) }
-    ensures prepared { Prepared tree.old.nodes tree.new.nodes }
-    ensures wanted { OnErr result (IfDue due) }
+    ensures prepared { Extends tree.old.nodes tree.new.nodes }
+    ensures oom_only_if { OnErr result (IfDue due) }
 {
     let Some(node) = due else {
         return Ok(None);
@@ -66,15 +66,15 @@ pub fn make_spaces<A: Allocator + Copy>(
     behind: Option<usize>,
 ) -> Result<Spaces, AllocError>
     ensures hand { IfOk result (λ s. AreAtHand tree.new.nodes (listed before ++ listed behind) s) }
-    ensures prepared { Prepared tree.old.nodes tree.new.nodes }
-    ensures wanted { OnErr result (AreDue before behind) }
+    ensures prepared { Extends tree.old.nodes tree.new.nodes }
+    ensures oom_only_if { OnErr result (AreDue before behind) }
 {
     let before = make_space(alloc, tree, before)?;
     let behind = make_space(alloc, tree, behind)?;
     Ok(Spaces { before, behind })
 }
 
-// Puts a leaf of one space, which is nobody's child, directly before a node that is somebody's.
+// Puts a leaf of one space, which is detached, directly before a node that is somebody's.
 fn put_before<A: Allocator>(tree: &mut Tree<A>, space: Space, container: usize)
     requires child { parent_at tree.old.nodes space.node ≡ Some container }
     requires space { IsFreeSpace tree.old.nodes space.leaf }

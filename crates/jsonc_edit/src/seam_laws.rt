@@ -19,7 +19,7 @@ pub fn space_stands_between()
     ensures { (ready spaced : List Node) (from to : ℕ) → SpaceStandsBetween ready spaced from to }
 {}
 
-/// Where a node at a path gives way, the value at that path does, and spaces come at the seams alone; in
+/// Where a node at a path is replaced, so is the value at that path, and spaces come at the seams alone; in
 /// a sound document each of them parts two literals without quotes.
 pub fn values_give_way_with_seams()
     ensures { (old new : List Node) (n m : ℕ) (now : Top) → HasSeams old new n m now }

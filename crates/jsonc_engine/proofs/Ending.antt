@@ -11,7 +11,7 @@ use Rattle.jsonc_engine.specs.Fault.{IsFaultOn, IsForMemory, TellsOfInput}
 use Rattle.jsonc_engine.specs.Input.{IsInput, IsInputOf}
 use Rattle.jsonc_engine.specs.Output.{IsLeft, Puts}
 use Rattle.jsonc_engine.proofs.Changes.{of_input}
-use Rattle.jsonc_engine.proofs.Telling.{tells_of_input}
+use Rattle.jsonc_engine.proofs.FaultTexts.{tells_of_input}
 
 -- words name one command: by their number and the first letter of the first
 abbrev first_letter : List ℕ → ℕ
@@ -69,7 +69,7 @@ module _ (known : Option (List ℕ)) (read input : List ℕ) (o : Options) (all 
       let there : IsForMemory all_on r read = subst (λ (i : List ℕ). IsForMemory all_on r i) value (subst (λ (p : Options). IsForMemory p r input) all wanted) in
       of_input known read (IsForMemory all_on q) bytes (subst (λ (p : Request). IsForMemory all_on p read) (same_request r q e) there)
 
--- what is told of a write is no want of memory
+-- what is told of a write is no allocation failure
 pub no_memory : {T P : Type 0} (r : Result T Fault) → OnErr r (IsErrOf r Write) → IsErrOf r (Edit OutOfMemory) → P
 no_memory (Ok x) h e = cc
 no_memory (Err fault) h e = cc

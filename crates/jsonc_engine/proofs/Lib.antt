@@ -3,9 +3,9 @@ mod RootKinds
 mod Removing
 mod Sorting
 mod Arguments
-mod Making
+mod PuttingInContainers
 mod Changes
 mod Ending
 mod Names
-mod Standing
-mod Telling
+mod SettingsShown
+mod FaultTexts

@@ -15,7 +15,7 @@ use Rattle.jsonc_tree.specs.Values as values
 use Rattle.jsonc_tree.specs.Values.{HoldsValue, DocumentValueOf}
 use Rattle.jsonc_sound.specs.Shape.{printed_text}
 use Rattle.jsonc_sound.proofs.ShapeValues.{document_printed}
-use Rattle.jsonc_layout.specs.lines.Kinds.{holds_values}
+use Rattle.jsonc_layout.specs.lines.Kinds.{is_array_or_object}
 use Rattle.jsonc_layout.specs.nodes.Kinds.{is_element, is_element_at}
 use Rattle.jsonc_layout.specs.nodes.Names.{FirstNamed, FirstInObject}
 use Rattle.jsonc_layout.specs.nodes.Names as names
@@ -31,10 +31,10 @@ use Rattle.jsonc_text.specs.declared.edit.EditError.TheVariants.{OutOfMemory}
 use Rattle.jsonc_edit.proofs.Elements.{taken, left}
 use Rattle.jsonc_edit.proofs.FittingFinds.{passes, fails, none_is_some}
 use Rattle.jsonc_edit.proofs.Uniqueness.{element_parent}
-use Rattle.jsonc_edit.proofs.Walk.{Shows-row_below}
+use Rattle.jsonc_edit.proofs.ChangesUpward.{Shows-row_below}
 use Rattle.jsonc_edit.specs.set.Shapes.{is_of}
 use Rattle.jsonc_text.specs.declared.edit.Shape.TheVariants.{Object}
-use Rattle.jsonc_run.proofs.Ensured.{held}
+use Rattle.jsonc_run.proofs.EnsuredValues.{held}
 use Rattle.jsonc_run.proofs.Roots.{root_is, value_stands}
 use Rattle.jsonc_edit.specs.set.Kinds as kinds
 use Rattle.jsonc_cst.specs.declared.cst.node.CstObject.{CstObject}
@@ -43,7 +43,7 @@ use Rattle.jsonc_cst.specs.declared.cst.node.CstObjectProp.{CstObjectProp}
 use Rattle.jsonc_cst.specs.declared.cst.CstRootNode.{CstRootNode}
 use Rattle.jsonc_cst.specs.Document.{nodes_of}
 use Rattle.jsonc_cst.specs.Readings.{object_if, typed_if, IsFirstNamed}
-use Rattle.jsonc_cst.specs.typed.Removing.{IsElementGone, WantsMemoryAlone}
+use Rattle.jsonc_cst.specs.typed.Removing.{IsElementRemoved, OnlyOutOfMemory}
 use Rattle.jsonc_engine.specs.Removal.{IsNoObject, LosesFirst}
 
 -- a node that reads as an object is one
@@ -127,7 +127,7 @@ module _ (o : Options) (ns : List Node) (tree : IsTree ns) (sound : SoundTree o 
       let h = held o ns tree sound n at in
       let same : Some h.value ≡ Some (plain.object ms) = document_unique o (printed_text (ordered_tree ns 0)) (Some h.value) (Some (plain.object ms)) h.text is in
       let value : h.value ≡ plain.object ms = cc in
-      no_object_read ns n read (object_is (content_at ns n) (h.told Object ∙ ap (Rattle.jsonc_edit.specs.set.Shapes.is_object) value))
+      no_object_read ns n read (object_is (content_at ns n) (h.error Object ∙ ap (Rattle.jsonc_edit.specs.set.Shapes.is_object) value))
 
   pub no_object : object_if (typed_if ns (value_at ns 0)) ≡ None → IsNoObject o (printed (ordered_tree ns 0))
   no_object read = from_value (value_at ns 0) refl read
@@ -155,21 +155,21 @@ module _ (o : Options) (old new : List Node) (tree : IsTree old) (name : List �
     element = found_element old name c n first
 
     -- else the first of them does
-    pub one_loses : TakesElement old new n → IsElementGone o old new n → LosesFirst o name old new
+    pub one_loses : TakesElement old new n → IsElementRemoved o old new n → LosesFirst o name old new
     one_loses taken gone = record {
       c = c;
       value = is.0;
       is_object = is.1;
       found = Some n;
       first = first;
-      left = record { i = element.0; element = element.1; taken = taken; entry = gone.entry [] c element.0 stands (ap holds_values is.1) element.1 };
+      left = record { i = element.0; element = element.1; taken = taken; entry = gone.entry [] c element.0 stands (ap is_array_or_object is.1) element.1 };
     }
 
     over : IsOver old 0 n
     over = IsOver.above (element_parent old tree c element.0 n element.1) (over_root old tree c stands.0 stands.1 stands.2)
 
     -- and only memory is ever wanted
-    pub wants_memory : (e : EditError) → SoundTree o (ordered_tree old 0) → WantsMemoryAlone o old n e → e ≡ OutOfMemory
+    pub wants_memory : (e : EditError) → SoundTree o (ordered_tree old 0) → OnlyOutOfMemory o old n e → e ≡ OutOfMemory
     wants_memory e sound told = told sound over
 
 -- the property that was found

@@ -23,7 +23,7 @@ use Rattle.jsonc_cst.specs.Readings.{array_if, object_if, typed_if}
 use Rattle.jsonc_edit.specs.set.Shapes.{empty_of, has_shape, is_object, is_of}
 use Rattle.jsonc_text.specs.declared.edit.Shape.{Shape}
 use Rattle.jsonc_text.specs.declared.edit.Shape.TheVariants.{Object}
-use Rattle.jsonc_run.proofs.Ensured.{held}
+use Rattle.jsonc_run.proofs.EnsuredValues.{held}
 use Rattle.jsonc_engine.specs.Input.{HasKind, MayHave}
 use Rattle.jsonc_engine.proofs.Removing.{no_value, object_read, text}
 
@@ -93,7 +93,7 @@ module _ (o : Options) (ns : List Node) (tree : IsTree ns) (sound : SoundTree o 
   pub of_shape : (shape : Shape) (n : ℕ) (b : Bool) → value_at ns 0 ≡ Some n → is_of shape (content_at ns n) ≡ b → (x : Plain) × IsDocument o (chars bytes) (Some x) × (has_shape shape x ≡ b)
   of_shape shape n b e is =
       let h = held o ns tree sound n e in
-      (h.value, h.text, sym (h.told shape) ∙ is)
+      (h.value, h.text, sym (h.error shape) ∙ is)
 
   pub has_object : (x : CstObject) → object_if (typed_if ns (value_at ns 0)) ≡ Some x → HasKind is_object o bytes
   has_object x read =

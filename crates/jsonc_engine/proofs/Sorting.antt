@@ -20,7 +20,7 @@ use Rattle.jsonc_tree.specs.Tree.{Node, content_at, children_at, IsTree}
 use Rattle.jsonc_layout.specs.nodes.Kinds.{is_element_at}
 use Rattle.jsonc_layout.specs.nodes.Properties.{value_at}
 use Rattle.jsonc_layout.specs.nodes.Siblings.{elements_at}
-use Rattle.jsonc_layout.specs.lines.Kinds.{holds_values}
+use Rattle.jsonc_layout.specs.lines.Kinds.{is_array_or_object}
 use Rattle.jsonc_sound.specs.Alone as alone
 use Rattle.jsonc_sound.specs.Alone.{RowAlone}
 use Rattle.jsonc_sound.specs.Rows.{RowKind, Last, holder, nothing_yet, of_properties, of_values}
@@ -31,8 +31,8 @@ use Rattle.jsonc_edit.specs.Changes.{row_below}
 use Rattle.jsonc_edit.specs.Paths.{IsAt}
 use Rattle.jsonc_edit.proofs.Elements.{taken, left}
 use Rattle.jsonc_edit.proofs.FittingNodes.{over_there}
-use Rattle.jsonc_edit.proofs.Kept.{filter_same}
-use Rattle.jsonc_edit.proofs.Walk.{Shows-row_below}
+use Rattle.jsonc_edit.proofs.NodesKept.{filter_same}
+use Rattle.jsonc_edit.proofs.ChangesUpward.{Shows-row_below}
 use Rattle.jsonc_edit.proofs.lemmas.remove.Containers.{Held, held_at}
 use Rattle.jsonc_edit.proofs.lemmas.set.PropertyRows.{over_at}
 use Rattle.jsonc_run.proofs.Roots.{value_stands}
@@ -43,7 +43,7 @@ use Rattle.jsonc_cst.specs.declared.cst.CstRootNode.{CstRootNode}
 use Rattle.jsonc_cst.specs.declared.cst.node.CstNode.{CstNode}
 use Rattle.jsonc_cst.specs.declared.cst.node.CstObject.{CstObject}
 use Rattle.jsonc_cst.specs.declared.cst.node.CstObjectProp.{CstObjectProp}
-use Rattle.jsonc_cst.specs.Document.{nodes_of, Holds}
+use Rattle.jsonc_cst.specs.Document.{nodes_of, HasNode}
 use Rattle.jsonc_cst.specs.Nodes.{object_prop_node, typed, typed_at}
 use Rattle.jsonc_cst.specs.Readings.{object_if, property_under, typed_if}
 use Rattle.jsonc_cst.specs.sorting.Asking.{IsInItsOrder}
@@ -100,7 +100,7 @@ module _ (o : Options) (ns : List Node) (tree : IsTree ns) (sound : SoundTree o 
 
   properties_below : AreProperties (row_below ns c)
   properties_below =
-      let h : Held o (content_at ns c) (row_below ns c) = held_at o ns tree sound [] c at (ap holds_values is) in
+      let h : Held o (content_at ns c) (row_below ns c) = held_at o ns tree sound [] c at (ap is_array_or_object is) in
       subst AreProperties (sym h.under) (λ e. absurd (false≢true e), row_of_object o h.kind (content_at ns c) h.is is h.alone)
 
   object_asked : asked ns (elements_at ns c) ≡ named ns (elements_at ns c)
@@ -146,7 +146,7 @@ module _ (ns : List Node) (c : ℕ) where
 
 module _ {A F : Type 0} (g : Shared F (Bor (CstRootNode A) × (CstObjectProp × (CstObjectProp × Unit {0}))) Ordering) (compare : F) (old new : CstRootNode A) (x : CstObject) where
   abbrev HeldIn : CstObjectProp → Type 0
-  HeldIn p = Holds old (object_prop_node p)
+  HeldIn p = HasNode old (object_prop_node p)
 
   -- the closure compares names
   abbrev pub ComparesNames : Type 0

@@ -11,7 +11,7 @@ use Rattle.jsonc_sound.specs.SoundTrees.{SoundTree}
 use Rattle.jsonc_edit.specs.Writing.{IsWritable}
 use Rattle.jsonc_cst.specs.declared.cst.node.CstArray.{CstArray}
 use Rattle.jsonc_cst.specs.declared.cst.node.CstNode.{CstNode}
-use Rattle.jsonc_cst.specs.typed.Inserting.{ComesInAt, IsPutIn}
+use Rattle.jsonc_cst.specs.typed.Inserting.{InsertedAt, IsPutIn}
 use Rattle.jsonc_cst.specs.typed.Setting.{FindsOrCreatesArray, FirstArrayAround, FirstArrayWritten}
 
 -- The document's value is an array, an empty one that has come first where it had none, and v has come behind its last element, in these two steps and no more.
@@ -25,7 +25,7 @@ pub record AppendsLast (o : Options) (v : Plain) (old new : List Node) : Type 0 
   pub value : value_at made 0 ≡ Some x.number
   pub is_array : content_at made x.number ≡ array
   pub now : CstNode
-  pub comes : ComesInAt made new x.number (length (elements_at made x.number)) v now
+  pub comes : InsertedAt made new x.number (length (elements_at made x.number)) v now
   pub put : IsWritable o v → IsPutIn o [] (length (elements_at made x.number)) v (ordered_tree made 0) (ordered_tree new 0)
 
 -- so it is if the document was sound

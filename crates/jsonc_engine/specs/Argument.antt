@@ -56,20 +56,20 @@ AreNoNames w = (names : List (List ℕ)) → w ≢ Some (strings names)
 abbrev pub AreNames : Option Plain → Type 0
 AreNames w = (names : List (List ℕ)) × (w ≡ Some (strings names))
 
--- reading this value as names can end with the fault; for want of memory where it is one
+-- reading this value as names can end with the fault; for allocation failure where it is one
 abbrev pub IsFaultOfNames : Option Plain → Fault → Type 0
 IsFaultOfNames w NotNames = AreNoNames w
 IsFaultOfNames w (Edit OutOfMemory) = AreNames w
 IsFaultOfNames w other = ⊥
 
--- the fault is true of the bytes of a path, and reading its names can end with it; for want of memory, told by no parse, where it is a list of names
+-- the fault is true of the bytes of a path, and reading its names can end with it; for allocation failure, told by no parse, where it is a list of names
 abbrev pub IsFaultOfPath : List ℕ → Fault → Type 0
 IsFaultOfPath path (Path error) = IsRefusal path error
 IsFaultOfPath path NotNames = (w : Option Plain) × IsDocument all_on (chars path) w × AreNoNames w
 IsFaultOfPath path (Edit OutOfMemory) = (names : List (List ℕ)) × IsPath path names
 IsFaultOfPath path other = ⊥
 
--- the fault is true of the bytes of a JSON text, and reading its value can end with it; for want of memory, told by no parse, where their text is a document with a value
+-- the fault is true of the bytes of a JSON text, and reading its value can end with it; for allocation failure, told by no parse, where their text is a document with a value
 abbrev pub IsFaultOfJson : List ℕ → Fault → Type 0
 IsFaultOfJson json (Argument error) = IsRefusal json error
 IsFaultOfJson json NoValue = IsDocument all_on (chars json) None

@@ -86,7 +86,7 @@ IsCause o request input fault = IsFaultOfArgument request fault ⊎ (IsReady req
 abbrev pub IsNoText : Request → Fault → Type 0
 IsNoText request fault = IsFaultOfArgument request fault ⊎ (IsReady request × (fault ≡ NotUtf8))
 
--- what the fault of a run tells of the input's bytes is true; want of memory may be told before they are read
+-- what the fault of a run tells of the input's bytes is true; allocation failure may be told before they are read
 abbrev pub TellsOfInput : Request → List ℕ → Fault → Type 0
 TellsOfInput request input Read = Unit {0}
 TellsOfInput request input Write = Unit {0}
@@ -97,7 +97,7 @@ TellsOfInput request input NoValue = Unit {0}
 TellsOfInput request input (Edit OutOfMemory) = Unit {0}
 TellsOfInput request input other = IsFaultOn all_on request input other
 
--- and what it tells of the command's path or JSON text; whatever is told of the input, or of reading and writing, these are as they have to be, and want of memory
+-- and what it tells of the command's path or JSON text; whatever is told of the input, or of reading and writing, these are as they have to be, and allocation failure
 -- is told of one of them or behind them
 abbrev pub TellsOfArgument : Request → Fault → Type 0
 TellsOfArgument request (Path error) = IsFaultOfArgument request (Path error)

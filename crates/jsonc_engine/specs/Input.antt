@@ -1,6 +1,6 @@
 -- Which bytes the program takes.
 use Rattle.std.specs.Prelude.{◌≡◌, ℕ, Bool, true, false, List, Option, Some, IfSome, IsUtf8, chars}
-use Rattle.jsonc_engine.specs.Parser.{IsDocument, IsFault, IsTold, Options, ParseError, Plain, RefusesText, all_on}
+use Rattle.jsonc_engine.specs.Parser.{IsDocument, IsFault, ParseFault, Options, ParseError, Plain, RefusesText, all_on}
 
 -- the bytes are UTF-8, and their text is a document of the options, with some value or with none
 pub record IsInputOf (o : Options) (bytes : List ℕ) : Type 0 where
@@ -12,12 +12,12 @@ pub record IsInputOf (o : Options) (bytes : List ℕ) : Type 0 where
 abbrev pub IsInput : List ℕ → Type 0
 IsInput = IsInputOf all_on
 
--- the fault is told of a place in the bytes, but for want of memory their text is no document of the options within the
+-- the fault is told of a place in the bytes, but for allocation failure their text is no document of the options within the
 -- nesting, and what the fault tells of the text is what a parse tells of it
 pub record IsRefusalOf (o : Options) (bytes : List ℕ) (e : ParseError) : Type 0 where
   pub fault : IsFault bytes e
   pub refused : RefusesText o bytes e
-  pub told : IsTold o bytes true e
+  pub error : ParseFault o bytes true e
 
 abbrev pub IsRefusal : List ℕ → ParseError → Type 0
 IsRefusal = IsRefusalOf all_on

@@ -16,16 +16,16 @@ use Rattle.jsonc_edit.specs.remove.Laws.{IsEntryRemoved}
 use Rattle.jsonc_edit.specs.remove.Removed.{TakesElement}
 
 -- the property n has left the object c, with what leaves with it and nothing else, and what is left is a document without that entry
-pub record PropertyLeft (o : Options) (old new : List Node) (c n : ℕ) : Type 0 where
+pub record PropertyRemoved (o : Options) (old new : List Node) (c n : ℕ) : Type 0 where
   pub i : ℕ
   pub element : IsElementOf old c i n
   pub taken : TakesElement old new n
   pub entry : IsEntryRemoved o [] i (top_at old n) (ordered_tree old 0) (ordered_tree new 0)
 
 -- nothing has changed where no property was found; else what was found has left
-abbrev pub HasLeft : Options → List Node → List Node → ℕ → Option ℕ → Type 0
-HasLeft o old new c None = new ≡ old
-HasLeft o old new c (Some n) = PropertyLeft o old new c n
+abbrev pub SettingRemoved : Options → List Node → List Node → ℕ → Option ℕ → Type 0
+SettingRemoved o old new c None = new ≡ old
+SettingRemoved o old new c (Some n) = PropertyRemoved o old new c n
 
 -- the document's value is an object, whose first property of this name has left, if it has one
 pub record LosesFirst (o : Options) (name : List ℕ) (old new : List Node) : Type 0 where
@@ -34,7 +34,7 @@ pub record LosesFirst (o : Options) (name : List ℕ) (old new : List Node) : Ty
   pub is_object : content_at old c ≡ object
   pub found : Option ℕ
   pub first : FirstInObject old c name found
-  pub left : HasLeft o old new c found
+  pub left : SettingRemoved o old new c found
 
 -- so it is if the document was sound
 abbrev pub LosesIfSound : Options → List ℕ → List Node → List Node → Type 0

@@ -19,13 +19,13 @@ use Rattle.jsonc_cst.specs.declared.cst.node.CstNode.{CstNode}
 use Rattle.jsonc_cst.specs.declared.cst.node.CstObject.{CstObject}
 use Rattle.jsonc_cst.specs.declared.cst.node.CstObjectProp.{CstObjectProp}
 use Rattle.jsonc_cst.specs.Nodes.{number_of}
-use Rattle.jsonc_cst.specs.typed.Marked.{MarksGiveWay}
-use Rattle.jsonc_cst.specs.objects.Members.{IsNamedPutIn, NamedComesInAt}
+use Rattle.jsonc_cst.specs.typed.Marked.{MarksReplaced}
+use Rattle.jsonc_cst.specs.objects.Members.{IsNamedPutIn, NamedInsertedAt}
 use Rattle.jsonc_cst.specs.typed.Setting.{FindsOrCreatesObject, FirstObjectAround, FirstObjectWritten}
-use Rattle.jsonc_cst.specs.typed.Values.{PropertyHolds}
+use Rattle.jsonc_cst.specs.typed.Values.{ValueIs}
 
--- The value of the property p, an element of the object c that is the document's value, has given way to v, and nothing else has changed. Where v may be written
--- the text is a document again, sound, whose value has changed there alone; the literals and comments of the old value have given way to the literals of v, and all
+-- The value of the property p, an element of the object c that is the document's value, has been replaced by v, and nothing else has changed. Where v may be written
+-- the text is a document again, sound, whose value has changed there alone; the literals and comments of the old value have been replaced by the literals of v, and all
 -- others stay.
 pub record HasSet (o : Options) (v : Plain) (old new : List Node) (c p : ℕ) : Type 0 where
   pub i : ℕ
@@ -33,15 +33,15 @@ pub record HasSet (o : Options) (v : Plain) (old new : List Node) (c p : ℕ) : 
   pub now : CstNode
   pub element : IsElementOf old c i p
   pub holds : value_at old p ≡ Some n
-  pub becomes : PropertyHolds old new p v now
+  pub becomes : ValueIs old new p v now
   pub written : IsWritable o v → IsWrittenAt o v (i ∷ []) (top_at old n) (top_at new (number_of now)) (ordered_tree old 0) (ordered_tree new 0)
-  pub marked : IsWritable o v → MarksGiveWay old new (marks_under (top_at old n)) (marks.written v)
+  pub marked : IsWritable o v → MarksReplaced old new (marks_under (top_at old n)) (marks.written v)
 
 -- A property of this name and value has come behind the last of the object c, and nothing else has changed. Where v may be written the text is a document again,
 -- sound, that has it there.
 pub record HasCome (o : Options) (name : List ℕ) (v : Plain) (old new : List Node) (c : ℕ) : Type 0 where
   pub now : CstObjectProp
-  pub comes : NamedComesInAt old new c (length (elements_at old c)) name v now
+  pub comes : NamedInsertedAt old new c (length (elements_at old c)) name v now
   pub put : IsWritable o v → IsNamedPutIn o [] (length (elements_at old c)) name v (ordered_tree old 0) (ordered_tree new 0)
 
 -- so it is of the property that was found; where none was, one has come

@@ -22,14 +22,14 @@ use std::alloc::Allocator;
 /// object has none of that name the document stays as it is.
 ///
 /// It is `Fault::NotObject` where the document's value is no object, or there is none. Memory may be wanted
-/// for the decoded names and for a space, which is `Fault::Edit`. A refusal leaves the document as it was.
+/// for the decoded names and for a space, which is `Fault::Edit`. On an error the document stays as it was.
 fn remove_property<A: Allocator + Copy>(
     document: &mut CstRootNode<A>,
     name: &str,
 ) -> Result<(), Fault>
     ensures removed { (o : Options)
         → OnOk result (LosesIfSound o (chars name.now) (nodes_of document.old) (nodes_of document.new)) }
-    ensures told { (o : Options)
+    ensures error { (o : Options)
         → SoundTree o (tree_of document.old) → IfErr result (EndsOnObject o (printed_of document.old)) }
     ensures document { OnErr result (tree_of document.new ≡ tree_of document.old) }
 {
@@ -56,7 +56,7 @@ fn append_element<A: Allocator + Copy>(
 ) -> Result<(), Fault>
     ensures appended { (o : Options)
         → OnOk result (AppendsIfSound o (plain value) (nodes_of document.old) (nodes_of document.new)) }
-    ensures told { (o : Options)
+    ensures error { (o : Options)
         → SoundTree o (tree_of document.old) → IfErr result (EndsAppending o (printed_of document.old)) }
 {
     let array = match document.array_value_or_create() {
@@ -82,7 +82,7 @@ fn set_property<A: Allocator + Copy>(
 ) -> Result<(), Fault>
     ensures set { (o : Options)
         → OnOk result (SetsIfSound o (chars name.now) (plain value) (nodes_of document.old) (nodes_of document.new)) }
-    ensures told { (o : Options)
+    ensures error { (o : Options)
         → SoundTree o (tree_of document.old) → IfErr result (EndsSetting o (printed_of document.old)) }
 {
     let object = match document.object_value_or_create() {
@@ -114,7 +114,7 @@ pub(crate) fn make<A: Allocator + Copy>(
     ensures made { (o : Options) (request : Request)
         → IsChangeFor request change.entry
         → OnOk result (MakesIfSound o request (nodes_of document.old) (nodes_of document.new)) }
-    ensures told { (o : Options) (request : Request)
+    ensures error { (o : Options) (request : Request)
         → IsChangeFor request change.entry
         → SoundTree o (tree_of document.old)
         → IfErr result (IsFaultOn o request (printed_of document.old)) }

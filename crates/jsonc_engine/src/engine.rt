@@ -36,7 +36,7 @@ fn make_buffer<A: Allocator>(alloc: A) -> Result<Vec<u8, A>, AllocError>
 
 /// Reads the source to its end, behind what was read before.
 ///
-/// A read of no bytes is the last one, and only that ends it, or a failed read, or the want of memory where the room
+/// A read of no bytes is the last one, and only that ends it, or a failed read, or the allocation failure where the room
 /// that there was does not hold what was read and one read more. Reads of no bytes and failed ones are counted, and
 /// any read may be one of them, so none is made behind one.
 fn read_on<A: Allocator, S: Source>(
@@ -330,7 +330,7 @@ pub fn engine<A: Allocator + Copy, S: Source, K: Sink>(
         → OnOk result (Name words.now request → writes request ≡ false → sink.new ≡ sink.old) }
     ensures accepted { OnOk result (IfSome (S.remaining source.old) IsInput) }
 
-    // The cause that a refusal names holds, and it names no other.
+    // The cause that an error names holds, and it names no other.
     ensures refused { (request : Request)
         → Name words.now request
         → IfErr result (λ fault. IfSome (S.remaining source.old) (λ input. TellsOfInput request input fault)) }

@@ -11,7 +11,7 @@ ghost use Rattle.jsonc_engine.specs.Settings.{DropsIfSound, PutsIfSound, ShownIf
 
 use crate::fault::Fault;
 use crate::output::Output;
-use jsonc_parser::cst::{CstInputValue, CstRootNode, EditError, IsNode, Over};
+use jsonc_parser::cst::{CstInputValue, CstRootNode, EditError, Over, TypedNode};
 use jsonc_parser::settings::{find_at, remove_at, set_at};
 use std::alloc::Allocator;
 
@@ -25,7 +25,7 @@ pub(crate) fn get_setting<A: Allocator + Copy>(
 ) -> Result<Output<A>, Fault>
     ensures text { (o : Options) → IfOk result
         (λ output. ShownIfSound o (names_of names.now) (nodes_of document.now) (output_bytes output)) }
-    ensures told { (o : Options) → SoundTree o (tree_of document.now)
+    ensures error { (o : Options) → SoundTree o (tree_of document.now)
         → IfErr result (EndsGetting o (printed_of document.now) (names_of names.now)) }
 {
     let node = match find_at(document, names) {
@@ -42,7 +42,7 @@ pub(crate) fn get_setting<A: Allocator + Copy>(
 /// Puts a value at names.
 ///
 /// It is `Fault::OnTheWay` where a value of another kind than an object stands on the way. Memory may be wanted,
-/// which is `Fault::Edit`: to look up a name as `get_setting` does, or where nothing is in the way. A refusal
+/// which is `Fault::Edit`: to look up a name as `get_setting` does, or where nothing is in the way. An error
 /// leaves the document as it was.
 pub(crate) fn put_setting<A: Allocator + Copy>(
     document: &mut CstRootNode<A>,
@@ -51,7 +51,7 @@ pub(crate) fn put_setting<A: Allocator + Copy>(
 ) -> Result<(), Fault>
     ensures put { (o : Options) → OnOk result
         (PutsIfSound o (plain value) (names_of names.now) (nodes_of document.old) (nodes_of document.new)) }
-    ensures told { (o : Options) → SoundTree o (tree_of document.old)
+    ensures error { (o : Options) → SoundTree o (tree_of document.old)
         → IfErr result (EndsPutting o (printed_of document.old) (names_of names.now)) }
     ensures document { (o : Options) → SoundTree o (tree_of document.old)
         → OnErr result (tree_of document.new ≡ tree_of document.old) }
@@ -66,14 +66,14 @@ pub(crate) fn put_setting<A: Allocator + Copy>(
 /// Drops what stands at names. Where nothing stands there the document stays as it is.
 ///
 /// Memory may be wanted, which is `Fault::Edit`: to look up a name as `get_setting` does, or where something
-/// stands there. A refusal leaves the document as it was.
+/// stands there. On an error the document stays as it was.
 pub(crate) fn drop_setting<A: Allocator + Copy>(
     document: &mut CstRootNode<A>,
     names: &[String<A>],
 ) -> Result<(), Fault>
     ensures dropped { (o : Options) → OnOk result
         (DropsIfSound o (names_of names.now) (nodes_of document.old) (nodes_of document.new)) }
-    ensures told { (o : Options) → SoundTree o (tree_of document.old)
+    ensures error { (o : Options) → SoundTree o (tree_of document.old)
         → IfErr result (EndsDropping o (printed_of document.old) (names_of names.now)) }
     ensures document { OnErr result (tree_of document.new ≡ tree_of document.old) }
 {

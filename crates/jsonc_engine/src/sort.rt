@@ -4,7 +4,7 @@ ghost use Rattle.std.specs.Cmp.Lexicographic.{slice_cmp};
 ghost use Rattle.std.specs.Ordering.{nat_cmp};
 ghost use Rattle.jsonc_text.specs.Options.{Options};
 ghost use Rattle.jsonc_sound.specs.SoundTrees.{SoundTree};
-ghost use Rattle.jsonc_cst.specs.Document.{nodes_of, printed_of, tree_of, Holds};
+ghost use Rattle.jsonc_cst.specs.Document.{nodes_of, printed_of, tree_of, HasNode};
 ghost use Rattle.jsonc_cst.specs.Nodes.{object_prop_node};
 ghost use Rattle.jsonc_engine.specs.Fault.{EndsOnObject};
 ghost use Rattle.jsonc_engine.specs.Sorting.{SortsIfSound, between_quotes, written_name};
@@ -27,7 +27,7 @@ fn between_quotes(text: &str) -> &[u8]
 
 /// The name of a property as it is written, without quotes, or nothing where it has none.
 fn written_name<A: Allocator>(document: &CstRootNode<A>, property: CstObjectProp) -> &[u8]
-    requires { Holds document.now (object_prop_node property) }
+    requires { HasNode document.now (object_prop_node property) }
     ensures { result.now ≡ written_name (nodes_of document.now) property.number }
 {
     match property.name(document) {
@@ -43,8 +43,8 @@ fn compare_names<A: Allocator>(
     one: CstObjectProp,
     other: CstObjectProp,
 ) -> Ordering
-    requires one { Holds document.now (object_prop_node one) }
-    requires other { Holds document.now (object_prop_node other) }
+    requires one { HasNode document.now (object_prop_node one) }
+    requires other { HasNode document.now (object_prop_node other) }
     ensures { result ≡ slice_cmp nat_cmp (written_name (nodes_of document.now) one.number)
         (written_name (nodes_of document.now) other.number) }
 {
@@ -56,13 +56,13 @@ fn compare_names<A: Allocator>(
 /// What belongs to a property goes with it, and properties of one name stay in their order.
 ///
 /// It is `Fault::NotObject` where the document's value is no object, or there is none. Memory may be wanted,
-/// which is `Fault::Edit`. A refusal leaves the document as it was.
+/// which is `Fault::Edit`. On an error the document stays as it was.
 pub(crate) fn sort_properties<A: Allocator + Copy>(
     document: &mut CstRootNode<A>,
 ) -> Result<(), Fault>
     ensures sorted { (o : Options)
         → OnOk result (SortsIfSound o (nodes_of document.old) (nodes_of document.new)) }
-    ensures told { (o : Options)
+    ensures error { (o : Options)
         → SoundTree o (tree_of document.old) → IfErr result (EndsOnObject o (printed_of document.old)) }
     ensures document { OnErr result (tree_of document.new ≡ tree_of document.old) }
 {

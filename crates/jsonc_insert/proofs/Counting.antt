@@ -13,14 +13,14 @@ use Rattle.jsonc_tree.specs.Content as content
 use Rattle.jsonc_tree.specs.Content.{Content}
 use Rattle.jsonc_tree.specs.Changes.{EachOnce}
 use Rattle.jsonc_tree.specs.Tree.{Node, content_at}
-use Rattle.jsonc_layout.specs.nodes.Kinds.{is_beside, is_beside_at, is_element, is_element_at, is_trivia, is_trivia_at, is_comma_at, is_token, is_comma}
+use Rattle.jsonc_layout.specs.nodes.Kinds.{is_inline_trivia, is_inline_trivia_at, is_element, is_element_at, is_trivia, is_trivia_at, is_comma_at, is_token, is_comma}
 use Rattle.jsonc_layout.specs.lines.Breadth.{last_element}
 use Rattle.jsonc_layout.specs.nodes.Siblings.{is_no_newline_at}
 use Rattle.jsonc_insert.specs.Planned.{behind_comma, begins_with_comma, comma_wanted, elements, has_brackets, has_comma, is_other, line, past_comments, place_in, plan_alone, plan_behind, plan_between, plan_by, plan_first, planned, trivia}
 use Rattle.jsonc_insert.specs.Trimmed.{last_spaces}
-use Rattle.jsonc_insert.proofs.Once.{once_right}
-use Rattle.jsonc_insert.proofs.Standing.{token_no_element}
-use Rattle.jsonc_insert.proofs.Trimming.{front_token}
+use Rattle.jsonc_insert.proofs.NoDuplicates.{once_right}
+use Rattle.jsonc_insert.proofs.BeforeTheBracket.{token_no_element}
+use Rattle.jsonc_insert.proofs.TrimmedRows.{front_token}
 
 -- what is no element
 trivia_none : (c : Content) → is_trivia c ≡ true → is_element c ≡ false
@@ -29,7 +29,7 @@ trivia_none (content.newline k) e = refl
 trivia_none (content.comment s) e = refl
 trivia_none _ e = cc
 
-beside_none : (c : Content) → is_beside c ≡ true → is_element c ≡ false
+beside_none : (c : Content) → is_inline_trivia c ≡ true → is_element c ≡ false
 beside_none (content.whitespace s) e = refl
 beside_none (content.comment s) e = refl
 beside_none _ e = cc
@@ -207,17 +207,17 @@ module _ (ns : List Node) where
         get_or-take (prefix_len (is_no_newline_at ns) (slice_range row p (length row))) (slice_range row p (length row)) k 0 (omega (arith, h, length-prefix_len (is_no_newline_at ns) (slice_range row p (length row))))
         ∙ get_or-between row p (length row) k 0 (omega (arith, h, line_short))
 
-    beside_at : list_all (is_beside_at ns) (line ns (slice_range row p (length row))) ≡ true → (k : ℕ) → k < length (line ns (slice_range row p (length row))) → is_element_at ns (slice_index row (p + k)) ≡ false
-    beside_at all k h = by (cases_Bool (is_beside_at ns (slice_index (line ns (slice_range row p (length row))) k)))
+    beside_at : list_all (is_inline_trivia_at ns) (line ns (slice_range row p (length row))) ≡ true → (k : ℕ) → k < length (line ns (slice_range row p (length row))) → is_element_at ns (slice_index row (p + k)) ≡ false
+    beside_at all k h = by (cases_Bool (is_inline_trivia_at ns (slice_index (line ns (slice_range row p (length row))) k)))
       where
-        by : (is_beside_at ns (slice_index (line ns (slice_range row p (length row))) k) ≡ true) ⊎ (is_beside_at ns (slice_index (line ns (slice_range row p (length row))) k) ≡ false) → is_element_at ns (slice_index row (p + k)) ≡ false
-        by (inl so) = beside_none (content_at ns (slice_index row (p + k))) (sym (ap (is_beside_at ns) (line_at k h)) ∙ so)
-        by (inr off) = absurd (false≢true (sym (list_all_at (is_beside_at ns) (line ns (slice_range row p (length row))) k 0 h off) ∙ all))
+        by : (is_inline_trivia_at ns (slice_index (line ns (slice_range row p (length row))) k) ≡ true) ⊎ (is_inline_trivia_at ns (slice_index (line ns (slice_range row p (length row))) k) ≡ false) → is_element_at ns (slice_index row (p + k)) ≡ false
+        by (inl so) = beside_none (content_at ns (slice_index row (p + k))) (sym (ap (is_inline_trivia_at ns) (line_at k h)) ∙ so)
+        by (inr off) = absurd (false≢true (sym (list_all_at (is_inline_trivia_at ns) (line ns (slice_range row p (length row))) k 0 h off) ∙ all))
 
     passes_comments : count (take (past_comments ns row p) row) ≡ count (take p row)
-    passes_comments = by (cases_Bool (list_all (is_beside_at ns) (line ns (slice_range row p (length row)))))
+    passes_comments = by (cases_Bool (list_all (is_inline_trivia_at ns) (line ns (slice_range row p (length row)))))
       where
-        by : (list_all (is_beside_at ns) (line ns (slice_range row p (length row))) ≡ true) ⊎ (list_all (is_beside_at ns) (line ns (slice_range row p (length row))) ≡ false) → count (take (past_comments ns row p) row) ≡ count (take p row)
+        by : (list_all (is_inline_trivia_at ns) (line ns (slice_range row p (length row))) ≡ true) ⊎ (list_all (is_inline_trivia_at ns) (line ns (slice_range row p (length row))) ≡ false) → count (take (past_comments ns row p) row) ≡ count (take p row)
         by (inr off) = ap (λ b. count (take (p + cond b (length (line ns (slice_range row p (length row))) - last_spaces ns (line ns (slice_range row p (length row)))) 0) row)) off ∙ ap (λ n. count (take n row)) (omega arith)
         by (inl so) =
             let many : ℕ = length (line ns (slice_range row p (length row))) - last_spaces ns (line ns (slice_range row p (length row))) in

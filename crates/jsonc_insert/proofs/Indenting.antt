@@ -9,7 +9,7 @@ use Rattle.jsonc_layout.specs.nodes.Kinds.{is_newline_at}
 use Rattle.jsonc_layout.specs.lines.IndentViews.{text_in}
 use Rattle.jsonc_layout.specs.lines.Kinds.{blank_at}
 use Rattle.jsonc_layout.specs.lines.Lines.{blanks}
-use Rattle.jsonc_layout.proofs.lemmas.lines.Walking.{blanks_more, blanks_over}
+use Rattle.jsonc_layout.proofs.lemmas.lines.SiblingSteps.{blanks_more, blanks_over}
 use Rattle.jsonc_insert.specs.Settings.{first_indent_past, indent_of_line, line_past}
 
 module _ (ns : List Node) (row : List ℕ) (i : ℕ) (h : i < length row) where

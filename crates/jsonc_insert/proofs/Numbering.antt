@@ -10,7 +10,7 @@ use Rattle.jsonc_tree.proofs.Order.{parent_there}
 use Rattle.jsonc_tree.proofs.Splicing.{out_from}
 use Rattle.jsonc_tree.specs.declared.node.CstNewlineKind.{CstNewlineKind}
 use Rattle.jsonc_layout.specs.nodes.Kinds.{is_element, is_element_at}
-use Rattle.jsonc_edit.proofs.Kept.{filter_same}
+use Rattle.jsonc_edit.proofs.NodesKept.{filter_same}
 use Rattle.jsonc_layout.specs.from_input.Laid.{laid}
 use Rattle.jsonc_layout.specs.from_input.Layout.{Layout}
 use Rattle.jsonc_insert.specs.Inserted.{leaves_before, outer_indent, plan_of, put_by, with_comma, ElementPut}
@@ -22,8 +22,8 @@ use Rattle.jsonc_insert.specs.Laws.{ChangesOneRow, KeepsNodesBut, TakesItsNumber
 use Rattle.jsonc_insert.specs.declared.plan.Gap.{Gap}
 use Rattle.jsonc_insert.specs.declared.plan.Gap.TheVariants.{Nothing, Space, Line}
 use Rattle.jsonc_insert.proofs.Counting.{planned_count}
-use Rattle.jsonc_insert.proofs.Joining.{all_kept, made_stands, once_kept}
-use Rattle.jsonc_insert.proofs.Trimming.{has_two, trimmed_brackets, trimmed_elements}
+use Rattle.jsonc_insert.proofs.RowReplaced.{all_kept, made_stands, once_kept}
+use Rattle.jsonc_insert.proofs.TrimmedRows.{has_two, trimmed_brackets, trimmed_elements}
 
 -- leaves that are written are no elements, and a value is one
 gap_none : (kind : CstNewlineKind) (indent : List ℕ) (gap : Gap) → length (filter is_element (gap_leaves kind indent gap)) ≡ 0

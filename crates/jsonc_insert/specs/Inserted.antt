@@ -5,7 +5,7 @@ use Rattle.jsonc_tree.specs.Changes.{CanJoin, Splices}
 use Rattle.jsonc_tree.specs.Content.{Content}
 use Rattle.jsonc_tree.specs.Tree.{Node, content_at, children_at, IsTree}
 use Rattle.jsonc_edit.specs.Changes.{top_at}
-use Rattle.jsonc_edit.specs.Put.{Prepared}
+use Rattle.jsonc_edit.specs.Put.{Extends}
 use Rattle.jsonc_text.specs.declared.edit.EditError.{EditError}
 use Rattle.jsonc_text.specs.declared.edit.EditError.TheVariants.{MissingBrackets, OutOfMemory}
 use Rattle.jsonc_layout.specs.from_input.Laid.{laid}
@@ -64,11 +64,11 @@ pub record RowMade (old ready : List Node) (c i : ℕ) (v : Plain) (m : ℕ) (ro
   pub made : NodesMadeFor old ready c i v m comma before behind
   pub is : row ≡ put_by (plan_of old c i v) comma (before ++ m ∷ behind) (trimmed old (children_at old c))
 
--- The value has come in so: all that comes was made ready, and then the row of c gave way to the new one.
+-- The value has come in so: all that comes was made ready, and then the row of c was replaced by the new one.
 pub record ElementPut (old new : List Node) (c i : ℕ) (v : Plain) (m : ℕ) : Type 0 where
   pub ready : List Node
   pub row : List ℕ
-  pub prepared : Prepared old ready
+  pub prepared : Extends old ready
   pub made : RowMade old ready c i v m row
   pub join : CanJoin ready c 0 (length (children_at old c)) row
   pub put : Splices ready new c 0 (length (children_at old c)) row

@@ -32,7 +32,7 @@ abbrev pub PastTheEnd : List Node → List Node → ℕ → ℕ → ℕ → Plai
 PastTheEnd old new c i j v m = has_brackets old (children_at old c) ≡ true → length (elements_at old c) ≤ i → length (elements_at old c) ≤ j
     → ElementPut old new c i v m → ElementPut old new c j v m
 
--- a child of the container is one still, or it is whitespace or the end of a line, and is nobody's child now
+-- a child of the container is one still, or it is whitespace or the end of a line, and is detached now
 abbrev pub LosesBlanksAlone : List Node → List Node → ℕ → ℕ → Plain → ℕ → Type 0
 LosesBlanksAlone old new c i v m =
     IsTree old → c < length old → has_brackets old (children_at old c) ≡ true → ElementPut old new c i v m

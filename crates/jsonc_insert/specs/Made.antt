@@ -1,4 +1,4 @@
--- New leaves, made to come into a row: nobody's children yet.
+-- New leaves, made to come into a row: detached yet.
 use Rattle.std.specs.Prelude.{◌≡◌, ◌≤◌, ◌<◌, ℕ, Bool, true, false, List, [], ◌∷◌, ◌++◌, length, map, slice_index, Option, None, is_some}
 use Rattle.jsonc_tree.specs.Building.{Keeps}
 use Rattle.jsonc_tree.specs.Changes.{EachOnce}
@@ -23,10 +23,10 @@ comma_leaf false = []
 abbrev pub comma_at : Option ℕ → List Content
 comma_at place = comma_leaf (is_some place)
 
--- the node was made since, and is nobody's child
+-- the node was made since, and is detached
 pub record IsFresh (old now : List Node) (n : ℕ) : Type 0 where
   pub later : length old ≤ n
-  pub there : n < length now
+  pub in_tree : n < length now
   pub alone : parent_at now n ≡ None
 
 -- so are these, and none stands there twice

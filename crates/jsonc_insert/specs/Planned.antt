@@ -3,7 +3,7 @@ use Rattle.std.specs.Prelude.{ℕ, zero, suc, ◌+◌, ◌-◌, ◌==◌, Bool, 
 use Rattle.std.specs.Option.{option_or}
 use Rattle.std.specs.List.{list_any, list_all, take_while}
 use Rattle.jsonc_tree.specs.Tree.{Node, content_at}
-use Rattle.jsonc_layout.specs.nodes.Kinds.{is_beside_at, is_comma_at, is_element_at, is_newline_at, is_token, is_trivia_at}
+use Rattle.jsonc_layout.specs.nodes.Kinds.{is_inline_trivia_at, is_comma_at, is_element_at, is_newline_at, is_token, is_trivia_at}
 use Rattle.jsonc_layout.specs.nodes.Siblings.{is_no_newline_at}
 use Rattle.jsonc_layout.specs.lines.Breadth.{last_element}
 use Rattle.jsonc_insert.specs.Trimmed.{last_blanks, last_spaces}
@@ -45,7 +45,7 @@ abbrev pub line : List Node → List ℕ → List ℕ
 line ns after = take_while (is_no_newline_at ns) after
 
 abbrev pub through_comments : List Node → List ℕ → ℕ
-through_comments ns line = if list_all (is_beside_at ns) line then length line - last_spaces ns line else 0
+through_comments ns line = if list_all (is_inline_trivia_at ns) line then length line - last_spaces ns line else 0
 
 abbrev pub comments_on_line : List Node → List ℕ → ℕ
 comments_on_line ns after = through_comments ns (line ns after)

@@ -1,5 +1,5 @@
 pub mod Opened
-pub mod Told
+pub mod Layout
 pub mod Inserted
 pub mod Laws
 pub mod Worked

@@ -7,7 +7,7 @@ ghost use Rattle.jsonc_tree.specs.OrderedTree.{ordered_tree};
 ghost use Rattle.jsonc_tree.specs.Tree.{children_at, content_at};
 ghost use Rattle.jsonc_layout.specs.input.Views.{plain};
 ghost use Rattle.jsonc_layout.specs.from_input.Layout.{layout_of};
-ghost use Rattle.jsonc_edit.specs.Put.{Prepared};
+ghost use Rattle.jsonc_edit.specs.Put.{Extends};
 ghost use Rattle.jsonc_insert.specs.Inserted.{outer_indent, plan_of, put_by, refusal, with_comma, ElementPut, RowMade};
 ghost use Rattle.jsonc_insert.specs.Planned.{has_brackets};
 ghost use Rattle.jsonc_insert.specs.Settings.{layout_inside};
@@ -53,7 +53,7 @@ fn read<A: Allocator + Copy>(
     index: usize,
     value: &CstInputValue<A>,
 ) -> Result<Reading<A>, AllocError>
-    requires there { container < length tree.now.nodes }
+    requires in_tree { container < length tree.now.nodes }
     requires brackets { has_brackets tree.now.nodes (children_at tree.now.nodes container) ≡ true }
     ensures kept { IfOk result (λ r. r.kept.items ≡ trimmed tree.now.nodes (children_at tree.now.nodes container)) }
     ensures layout { IfOk result (λ r. layout_of r.layout ≡ layout_inside tree.now.nodes container) }
@@ -142,11 +142,11 @@ fn make_row<A: Allocator + Copy>(
     index: usize,
     value: &CstInputValue<A>,
 ) -> Result<NewRow<A>, AllocError>
-    requires there { container < length tree.old.nodes }
+    requires in_tree { container < length tree.old.nodes }
     requires brackets { has_brackets tree.old.nodes (children_at tree.old.nodes container) ≡ true }
     ensures made { IfOk result
         (λ r. RowMade tree.old.nodes tree.new.nodes container index (plain value.now) r.element r.row.items) }
-    ensures prepared { Prepared tree.old.nodes tree.new.nodes }
+    ensures prepared { Extends tree.old.nodes tree.new.nodes }
 {
     let told = read(alloc, tree, container, index, value)?;
     let made = make(
@@ -173,7 +173,7 @@ fn make_row<A: Allocator + Copy>(
 /// its brackets, or the value is laid out on several lines, the element gets a line of its own. The
 /// document tells its indent, how lines end and whether the last element has a comma.
 ///
-/// An array that lacks a bracket answers `MissingBrackets`. A refusal leaves the document, and every node
+/// An array that lacks a bracket answers `MissingBrackets`. An error leaves the document, and every node
 /// that was there, as it was.
 pub fn insert_element<A: Allocator + Copy>(
     alloc: A,
@@ -182,11 +182,11 @@ pub fn insert_element<A: Allocator + Copy>(
     index: usize,
     value: &CstInputValue<A>,
 ) -> Result<usize, EditError>
-    requires there { array < length tree.old.nodes }
+    requires in_tree { array < length tree.old.nodes }
     requires array { content_at tree.old.nodes array ≡ Content.array }
     ensures put { IfOk result (ElementPut tree.old.nodes tree.new.nodes array index (plain value.now)) }
     ensures brackets { OnOk result (has_brackets tree.old.nodes (children_at tree.old.nodes array) ≡ true) }
-    ensures told { IfErr result (λ e. e ≡ refusal tree.old.nodes array) }
+    ensures error { IfErr result (λ e. e ≡ refusal tree.old.nodes array) }
     ensures kept { OnErr result (Keeps (length tree.old.nodes) tree.old.nodes tree.new.nodes) }
     ensures document { OnErr result (ordered_tree tree.new.nodes 0 ≡ ordered_tree tree.old.nodes 0) }
 {

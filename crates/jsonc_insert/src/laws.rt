@@ -23,7 +23,7 @@ pub fn numbers_past_the_end_append()
     ensures { (old new : List Node) (c i j : ℕ) (v : Plain) (m : ℕ) → PastTheEnd old new c i j v m }
 {}
 
-/// Of the container's children only whitespace and ends of lines leave; what leaves is nobody's child then.
+/// Of the container's children only whitespace and ends of lines leave; what leaves is detached then.
 pub fn blanks_alone_leave()
     ensures { (old new : List Node) (c i : ℕ) (v : Plain) (m : ℕ) → LosesBlanksAlone old new c i v m }
 {}

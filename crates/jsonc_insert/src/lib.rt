@@ -5,8 +5,8 @@
 //! line's end, before the last all but the last). Of the row that is left, which is never built, the
 //! document tells how lines end, the indents and the trailing commas (`specs/Settings.antt`); a plan says
 //! where the element comes and what is written beside it (`specs/Planned.antt`). The element and the leaves
-//! beside it are made, nobody's children yet (`specs/Made.antt`), and then all take their places at once
-//! (`specs/Inserted.antt`), so a refusal leaves the document as it was.
+//! beside it are made, detached yet (`specs/Made.antt`), and then all take their places at once
+//! (`specs/Inserted.antt`), so an error leaves the document as it was.
 //!
 //! [`insert_element`] does so with a value and a number; a number past the end means the end
 //! (`specs/Laws.antt`, which also says what stays and that blanks alone leave). `specs/Worked.antt` has

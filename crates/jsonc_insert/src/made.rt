@@ -5,7 +5,7 @@ ghost use Rattle.jsonc_tree.specs.Content.{newline, whitespace};
 ghost use Rattle.jsonc_tree.specs.Stored.{content_of};
 ghost use Rattle.jsonc_layout.specs.input.Views.{plain};
 ghost use Rattle.jsonc_layout.specs.from_input.Layout.{layout_of};
-ghost use Rattle.jsonc_edit.specs.Put.{Prepared};
+ghost use Rattle.jsonc_edit.specs.Put.{Extends};
 ghost use Rattle.jsonc_insert.specs.Inserted.{leaves_before, leaves_behind, NodesMade};
 ghost use Rattle.jsonc_insert.specs.Made.{comma_leaf, gap_leaves, Gains, LeavesMade};
 
@@ -36,7 +36,7 @@ fn push_leaf<A: Allocator + Copy>(
 ) -> Result<(), AllocError>
     ensures gains { OnOk result
         (Gains tree.old.nodes leaves.old.items tree.new.nodes leaves.new.items (content_of kind ∷ [])) }
-    ensures prepared { Prepared tree.old.nodes tree.new.nodes }
+    ensures prepared { Extends tree.old.nodes tree.new.nodes }
 {
     let leaf = tree.add(kind)?;
     leaves.push(leaf)?;
@@ -52,7 +52,7 @@ fn push_blanks<A: Allocator + Copy>(
 ) -> Result<(), AllocError>
     ensures gains { OnOk result
         (Gains tree.old.nodes leaves.old.items tree.new.nodes leaves.new.items (whitespace text.now ∷ [])) }
-    ensures prepared { Prepared tree.old.nodes tree.new.nodes }
+    ensures prepared { Extends tree.old.nodes tree.new.nodes }
 {
     let blanks = String::from_str(alloc, text)?;
     push_leaf(tree, leaves, Kind::Whitespace(blanks))
@@ -68,7 +68,7 @@ fn push_line<A: Allocator + Copy>(
 ) -> Result<(), AllocError>
     ensures gains { OnOk result (Gains tree.old.nodes leaves.old.items tree.new.nodes leaves.new.items
         (newline kind ∷ whitespace indent.now ∷ [])) }
-    ensures prepared { Prepared tree.old.nodes tree.new.nodes }
+    ensures prepared { Extends tree.old.nodes tree.new.nodes }
 {
     push_leaf(tree, leaves, Kind::Newline(kind))?;
     push_blanks(alloc, tree, leaves, indent)
@@ -85,7 +85,7 @@ fn push_gap<A: Allocator + Copy>(
 ) -> Result<(), AllocError>
     ensures gains { OnOk result
         (Gains tree.old.nodes leaves.old.items tree.new.nodes leaves.new.items (gap_leaves kind indent.now gap)) }
-    ensures prepared { Prepared tree.old.nodes tree.new.nodes }
+    ensures prepared { Extends tree.old.nodes tree.new.nodes }
 {
     match gap {
         Gap::Nothing => Ok(()),
@@ -102,7 +102,7 @@ fn push_comma_if<A: Allocator + Copy>(
 ) -> Result<(), AllocError>
     ensures gains { OnOk result
         (Gains tree.old.nodes leaves.old.items tree.new.nodes leaves.new.items (comma_leaf wanted)) }
-    ensures prepared { Prepared tree.old.nodes tree.new.nodes }
+    ensures prepared { Extends tree.old.nodes tree.new.nodes }
 {
     if !wanted {
         return Ok(());
@@ -117,7 +117,7 @@ pub fn make_comma<A: Allocator + Copy>(
     wanted: bool,
 ) -> Result<Vec<usize, A>, AllocError>
     ensures made { IfOk result (λ v. LeavesMade tree.old.nodes tree.new.nodes (comma_leaf wanted) v.items) }
-    ensures prepared { Prepared tree.old.nodes tree.new.nodes }
+    ensures prepared { Extends tree.old.nodes tree.new.nodes }
 {
     let mut leaves = Vec::new(alloc);
     push_comma_if(tree, &mut leaves, wanted)?;
@@ -133,7 +133,7 @@ pub fn make_before<A: Allocator + Copy>(
 ) -> Result<Vec<usize, A>, AllocError>
     ensures made { IfOk result
         (λ v. LeavesMade tree.old.nodes tree.new.nodes (leaves_before (layout_of layout.now) plan) v.items) }
-    ensures prepared { Prepared tree.old.nodes tree.new.nodes }
+    ensures prepared { Extends tree.old.nodes tree.new.nodes }
 {
     let mut leaves = Vec::new(alloc);
     let indent = layout.current.as_str();
@@ -159,7 +159,7 @@ pub fn make_behind<A: Allocator + Copy>(
     ensures made { IfOk result
         (λ v. LeavesMade tree.old.nodes tree.new.nodes
         (leaves_behind (layout_of layout.now) outer.now plan) v.items) }
-    ensures prepared { Prepared tree.old.nodes tree.new.nodes }
+    ensures prepared { Extends tree.old.nodes tree.new.nodes }
 {
     let mut leaves = Vec::new(alloc);
     push_comma_if(tree, &mut leaves, plan.comma_behind)?;
@@ -179,7 +179,7 @@ pub(crate) fn make<A: Allocator + Copy>(
     ensures made { IfOk result
         (λ m. NodesMade tree.old.nodes tree.new.nodes (layout_of layout.now) outer.now plan
         (plain value.now) m.element m.comma.items m.before.items m.behind.items) }
-    ensures prepared { Prepared tree.old.nodes tree.new.nodes }
+    ensures prepared { Extends tree.old.nodes tree.new.nodes }
 {
     let comma = make_comma(alloc, tree, plan.comma.is_some())?;
     let before = make_before(alloc, tree, layout, plan)?;

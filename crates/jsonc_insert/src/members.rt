@@ -2,14 +2,14 @@
 //!
 //! An object is put on several lines before a property comes in, unless a line ends in it already
 //! (`specs/members/Opened.antt`), and blank lines directly inside its brackets leave. The row that is left is never
-//! built: its nodes are the object's children and leaves that are nobody's children yet. Of that row the
-//! document tells how lines end, the indents and the trailing commas (`specs/members/Told.antt`); a plan says where
+//! built: its nodes are the object's children and leaves that are detached yet. Of that row the
+//! document tells how lines end, the indents and the trailing commas (`specs/members/Layout.antt`); a plan says where
 //! the property comes and what is written beside it. The property and the leaves beside it are made, and
-//! then all take their places at once (`specs/members/Inserted.antt`), so a refusal leaves the document as it was.
+//! then all take their places at once (`specs/members/Inserted.antt`), so an error leaves the document as it was.
 //!
 //! [`insert_property`] does so with a name, a value and a number; a number past the end means the end. The
 //! answer is the new property, and nothing outside of the object changes; of the object's children blanks
-//! alone leave; in a sound document only want of memory refuses, and the layout that is told fits ([`laws`],
+//! alone leave; in a sound document only allocation failure refuses, and the layout that is told fits ([`laws`],
 //! `specs/members/Laws.antt`). `specs/members/Worked.antt` has worked insertions. That the text is a document again, with
 //! the property in its place, is proved in `jsonc_insert::properties`.
 

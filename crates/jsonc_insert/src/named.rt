@@ -1,7 +1,7 @@
 //! Values of properties by the properties' names, by the numbers of nodes.
 //!
 //! [`ensure_property`] sees that the first property of a name in an object has an array or an object as its
-//! value ([`Shape`]): a value of another kind stays or gives way to an empty one ([`Over`]), and where none
+//! value ([`Shape`]): a value of another kind stays or is replaced by an empty one ([`Over`]), and where none
 //! has the name one with an empty value comes behind the last property (`specs/named/Named.antt`). The answer is
 //! that array or object.
 //!

@@ -8,7 +8,7 @@ ghost use Rattle.jsonc_insert.specs.Planned.{line_if, line_unless, parting, past
 ghost use Rattle.jsonc_insert.specs.Planned.{plan_first, planned, through_comments, trivia};
 
 use jsonc_layout::nodes::{is_comma, is_element, is_newline, is_token, is_trivia};
-use jsonc_layout::rows::{all_beside, last_blanks, last_element, last_spaces, line_length};
+use jsonc_layout::rows::{all_inline_trivia, last_blanks, last_element, last_spaces, line_length};
 use jsonc_tree::Tree;
 use std::alloc::Allocator;
 
@@ -167,7 +167,7 @@ fn through_comments<A: Allocator>(tree: &Tree<A>, line: &[usize]) -> usize
     ensures count { result ≡ through_comments tree.now.nodes line.now }
     ensures within { result ≤ length line.now }
 {
-    if all_beside(tree, line) {
+    if all_inline_trivia(tree, line) {
         return line.len() - last_spaces(tree, line);
     }
     0

@@ -53,7 +53,7 @@ pub fn newline_kind_with<A: Allocator + Copy>(
     container: usize,
     row: &[usize],
 ) -> Result<CstNewlineKind, AllocError>
-    requires there { container < length tree.now.nodes }
+    requires in_tree { container < length tree.now.nodes }
     ensures kind { IfOk result (λ kind. kind ≡ newline_kind_with tree.now.nodes container row.now) }
 {
     if !is_in_document(tree, container) {
@@ -77,7 +77,7 @@ fn is_spaced_row<A: Allocator>(tree: &Tree<A>, row: &[usize]) -> bool
 
 // Whether a comma stands behind the last element of a row, if there is one.
 fn ends_with_comma<A: Allocator>(tree: &Tree<A>, last: Option<usize>) -> bool
-    requires there { IsThere tree.now.nodes last }
+    requires in_tree { IsThere tree.now.nodes last }
     ensures { result ≡ has_last_comma tree.now.nodes last }
 {
     match last {
@@ -93,7 +93,7 @@ pub fn uses_commas_in<A: Allocator + Copy>(
     container: usize,
     row: &[usize],
 ) -> Result<bool, AllocError>
-    requires there { All (λ m. m < length tree.now.nodes) row.now }
+    requires in_tree { All (λ m. m < length tree.now.nodes) row.now }
     ensures uses { IfOk result (λ uses. uses ≡ uses_commas_in tree.now.nodes container row.now) }
 {
     if is_spaced_row(tree, row) {
@@ -130,7 +130,7 @@ pub fn indents_of<A: Allocator + Copy>(
     container: usize,
     row: &[usize],
 ) -> Result<Indents<A>, AllocError>
-    requires there { container < length tree.now.nodes }
+    requires in_tree { container < length tree.now.nodes }
     ensures indents { IfOk result (λ i. texts_of i ≡ indents_of tree.now.nodes container row.now) }
 {
     if !is_document_value(tree, container) {
@@ -162,7 +162,7 @@ fn indents_deeper<A: Allocator + Copy>(
     container: usize,
     row: &[usize],
 ) -> Result<Indents<A>, AllocError>
-    requires there { container < length tree.now.nodes }
+    requires in_tree { container < length tree.now.nodes }
     ensures indents { IfOk result (λ i. texts_of i ≡ one_deeper (indents_of tree.now.nodes container row.now)) }
 {
     let outer = indents_of(alloc, tree, container, row)?;
@@ -215,7 +215,7 @@ pub(crate) fn layout_in<A: Allocator + Copy>(
     row: &[usize],
 ) -> Result<Layout<A>, AllocError>
     requires container { container < length tree.now.nodes }
-    requires there { All (λ m. m < length tree.now.nodes) row.now }
+    requires in_tree { All (λ m. m < length tree.now.nodes) row.now }
     ensures layout { IfOk result (λ l. layout_of l ≡ layout_in tree.now.nodes container row.now) }
 {
     let indents = indents_at_first(alloc, tree, container, row, nth_element(tree, row, 0))?;

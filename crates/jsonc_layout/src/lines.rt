@@ -16,5 +16,5 @@ pub use breadth::{
 };
 pub use indent::{indent_text, single_indent_text};
 pub use indents::{Indents, indents_at, levels_from, levels_in, told_by};
-pub use kinds::{blank_at, holds_values};
+pub use kinds::{blank_at, is_array_or_object};
 pub use siblings::{has_blank_line_before, trailing_comma};

@@ -12,11 +12,11 @@ mod property;
 mod siblings;
 mod within;
 
-pub use comments::{after_beside, leading_comments_same_line, trailing_comments_same_line};
+pub use comments::{after_inline_trivia, leading_comments_same_line, trailing_comments_same_line};
 pub use jsonc_tree::{Children, PreviousSiblings};
 pub use kinds::{
-    is_beside, is_blank, is_comma, is_comment, is_element, is_newline, is_property_kind, is_token,
-    is_trivia, is_whitespace,
+    is_blank, is_comma, is_comment, is_element, is_inline_trivia, is_newline, is_property_kind,
+    is_token, is_trivia, is_whitespace,
 };
 pub use names::{decoded_name, decoded_value, get};
 pub use property::{first_element_from, lacks_name, name_of, value_of};

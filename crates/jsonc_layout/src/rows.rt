@@ -3,10 +3,10 @@
 ghost use Rattle.std.specs.Prelude.{◌≡◌, ◌≤◌, length, reverse};
 ghost use Rattle.std.specs.List.{list_all, list_any, position_or_len, prefix_len, suffix_len, take_while};
 ghost use Rattle.jsonc_layout.specs.lines.Breadth.{last_element};
-ghost use Rattle.jsonc_layout.specs.nodes.Kinds.{is_beside_at, is_blank_at, is_newline_at, is_whitespace_at};
+ghost use Rattle.jsonc_layout.specs.nodes.Kinds.{is_inline_trivia_at, is_blank_at, is_newline_at, is_whitespace_at};
 ghost use Rattle.jsonc_layout.specs.nodes.Siblings.{is_no_newline_at};
 
-use crate::nodes::{is_beside, is_blank, is_element, is_newline, is_whitespace};
+use crate::nodes::{is_blank, is_element, is_inline_trivia, is_newline, is_whitespace};
 use jsonc_tree::Tree;
 use std::alloc::Allocator;
 
@@ -25,10 +25,10 @@ pub fn has_whitespace<A: Allocator>(tree: &Tree<A>, row: &[usize]) -> bool
 }
 
 /// Whether nothing but whitespace and comments stands in a row.
-pub fn all_beside<A: Allocator>(tree: &Tree<A>, row: &[usize]) -> bool
-    ensures { result ≡ list_all (is_beside_at tree.now.nodes) row.now }
+pub fn all_inline_trivia<A: Allocator>(tree: &Tree<A>, row: &[usize]) -> bool
+    ensures { result ≡ list_all (is_inline_trivia_at tree.now.nodes) row.now }
 {
-    row.iter().all(|node| is_beside(tree, *node))
+    row.iter().all(|node| is_inline_trivia(tree, *node))
 }
 
 /// The last element of a row.

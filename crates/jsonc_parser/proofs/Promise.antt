@@ -42,6 +42,6 @@ module _ {A : Type 0} (o : Options) (text : List ℕ) (t : OrderedTree) (edits :
     ),
   )
 
-  -- all were made, and memory was wanted for the text
+  -- all were made, and allocation failed for the text
   pub text_wants_memory : (k : ℕ) (why : EditError) → ShowsText o text t → k ≡ length edits → why ≡ OutOfMemory → StopsText o text edits k why
   text_wants_memory k why (d, options, is, shown) all memory = (d, options, is, shown_are_documents t d shown, inl (all, memory))

@@ -6,16 +6,16 @@ use denote.Param.Members.{Shared}
 use Rattle.jsonc_tree.specs.Building.{Keeps}
 use Rattle.jsonc_tree.specs.OrderedTree.{ordered_tree}
 use Rattle.jsonc_tree.specs.Tree.{Node, content_at}
-use Rattle.jsonc_layout.specs.lines.Kinds.{holds_values}
+use Rattle.jsonc_layout.specs.lines.Kinds.{is_array_or_object}
 use Rattle.jsonc_text.specs.declared.edit.EditError.{EditError}
 use Rattle.jsonc_text.specs.declared.edit.EditError.TheVariants.{OutOfMemory}
 use Rattle.jsonc_sort.specs.Rearranged.{headers_of, IsOrderIn, Rearranged}
-use Rattle.jsonc_run.specs.Edits.{Sorting, rearrange, IsMade}
+use Rattle.jsonc_run.specs.Edits.{Sorting, rearrange, EditStep}
 use Rattle.jsonc_run.specs.Places.{IsContainerAt}
-use Rattle.jsonc_run.specs.Refusals.{IsLeft, IsToldBy, as_it_was}
+use Rattle.jsonc_run.specs.Refusals.{IsLeft, FailsWith, as_it_was}
 use Rattle.jsonc_cst.specs.declared.cst.CstRootNode.{CstRootNode}
 use Rattle.jsonc_cst.specs.declared.cst.node.CstNode.{CstNode}
-use Rattle.jsonc_cst.specs.Document.{content_of, nodes_of, Holds}
+use Rattle.jsonc_cst.specs.Document.{content_of, nodes_of, HasNode}
 use Rattle.jsonc_cst.specs.Nodes.{number_of, typed_at}
 use Rattle.jsonc_cst.proofs.Family.{number_of-typed}
 use Rattle.jsonc_cst.specs.sorting.Asking.{IsInItsOrder}
@@ -28,19 +28,19 @@ module _ {A : Type 0} (old : CstRootNode A) (path : List ℕ) (n : ℕ) (at : Is
   numbered : number_of container ≡ n
   numbered = subst (λ (x : CstNode). number_of x ≡ n) (sym is) (number_of-typed (content_at (nodes_of old) n) n)
 
-  pub holds_them : IsTrue (holds_values (content_of old container))
-  holds_them = subst (λ k. IsTrue (holds_values (content_at (nodes_of old) k))) (sym numbered) at.1
+  pub holds_them : IsTrue (is_array_or_object (content_of old container))
+  holds_them = subst (λ k. IsTrue (is_array_or_object (content_at (nodes_of old) k))) (sym numbered) at.1
 
-  pub sort_told : {T : Type 0} (s : Sorting) (r : Result T EditError) → IfErr r (λ e. e ≡ OutOfMemory) → IfErr r (IsToldBy (nodes_of old) (rearrange path s.headers s.order))
+  pub sort_told : {T : Type 0} (s : Sorting) (r : Result T EditError) → IfErr r (λ e. e ≡ OutOfMemory) → IfErr r (FailsWith (nodes_of old) (rearrange path s.headers s.order))
   sort_told s (Ok x) memory = tt
-  sort_told s (Err e) memory = subst (IsToldBy (nodes_of old) (rearrange path s.headers s.order)) (sym memory) (n, at)
+  sort_told s (Err e) memory = subst (FailsWith (nodes_of old) (rearrange path s.headers s.order)) (sym memory) (n, at)
 
   module _ {C D : Type 0} (call : Shared C (Bor D × (CstNode × (CstNode × Unit {0}))) Ordering) (compare : C) (same : CstRootNode A → D) (new : CstRootNode A) (pin groups : Bool) where
-    pub sort_made : {T E : Type 0} (r : Result T E) → OnOk r (ContainerSorted old new container pin groups (IsInItsOrder call compare (same old) (Holds old)))
-        → OnOk r ((s : Sorting) × IsSorting call compare same old path pin groups s × IsMade (nodes_of old) (rearrange path s.headers s.order) (nodes_of new))
+    pub sort_made : {T E : Type 0} (r : Result T E) → OnOk r (ContainerSorted old new container pin groups (IsInItsOrder call compare (same old) (HasNode old)))
+        → OnOk r ((s : Sorting) × IsSorting call compare same old path pin groups s × EditStep (nodes_of old) (rearrange path s.headers s.order) (nodes_of new))
     sort_made (Err e) sorted = tt
     sort_made (Ok x) sorted =
-        let h = subst (λ (node : CstNode). ContainerSorted old new node pin groups (IsInItsOrder call compare (same old) (Holds old))) is sorted in
+        let h = subst (λ (node : CstNode). ContainerSorted old new node pin groups (IsInItsOrder call compare (same old) (HasNode old))) is sorted in
         let number = number_of-typed (content_at (nodes_of old) n) n in
         let headers = headers_of (pins_where old (typed_at (nodes_of old) n) pin) groups in (
           record { headers = headers; order = h.order },

@@ -9,13 +9,13 @@ use Rattle.jsonc_text.specs.declared.edit.EditError.{EditError}
 use Rattle.jsonc_sort.specs.Rearranged.{headers_of}
 use Rattle.jsonc_run.specs.declared.edit.Edit.{Edit}
 use Rattle.jsonc_run.specs.declared.edit.Edit.TheVariants.{Sort}
-use Rattle.jsonc_run.specs.Edits.{Operation, Sorting, operation_of, IsMade}
+use Rattle.jsonc_run.specs.Edits.{Operation, Sorting, operation_of, EditStep}
 use Rattle.jsonc_run.specs.Places.{IsContainerAt}
-use Rattle.jsonc_run.specs.Refusals.{IsLeft, IsToldBy}
+use Rattle.jsonc_run.specs.Refusals.{IsLeft, FailsWith}
 use Rattle.jsonc_run.specs.promise.Asked.{EditsTheText, StopsInText}
 use Rattle.jsonc_cst.specs.declared.cst.CstRootNode.{CstRootNode}
 use Rattle.jsonc_cst.specs.declared.cst.node.CstNode.{CstNode}
-use Rattle.jsonc_cst.specs.Document.{nodes_of, tree_of, Holds}
+use Rattle.jsonc_cst.specs.Document.{nodes_of, tree_of, HasNode}
 use Rattle.jsonc_cst.specs.Nodes.{typed_at}
 use Rattle.jsonc_cst.specs.sorting.Asking.{IsInItsOrder}
 use Rattle.jsonc_cst.specs.sorting.Pins.{pins_where}
@@ -25,7 +25,7 @@ use Rattle.jsonc_cst.specs.sorting.Rows.{elements_asked, starts_of}
 module _ {C D A : Type 0} (call : Shared C (Bor D × (CstNode × (CstNode × Unit {0}))) Ordering) (compare : C) (same : CstRootNode A → D) where
   -- it may be asked with any document and two nodes of it
   abbrev pub MayBeAsked : Type 0
-  MayBeAsked = (doc : CstRootNode A) (d : Bor D) (x y : CstNode) → d.now ≡ same doc → Holds doc x → Holds doc y → call.pre compare (d, (x, (y, tt)))
+  MayBeAsked = (doc : CstRootNode A) (d : Bor D) (x y : CstNode) → d.now ≡ same doc → HasNode doc x → HasNode doc y → call.pre compare (d, (x, (y, tt)))
 
   -- What a sort asks for: an array or object stands at the path; where comments are to be pinned, those that blank lines pin are; and its elements or properties
   -- come in the order of the comparison, within groups that blank lines part, or all as one.
@@ -33,7 +33,7 @@ module _ {C D A : Type 0} (call : Shared C (Bor D × (CstNode × (CstNode × Uni
     pub n : ℕ
     pub at : IsContainerAt (nodes_of d) path n
     pub headers : s.headers ≡ headers_of (pins_where d (typed_at (nodes_of d) n) pin) groups
-    pub order : IsInItsOrder call compare (same d) (Holds d) (elements_asked d (typed_at (nodes_of d) n)) (starts_of d (typed_at (nodes_of d) n) groups) s.order
+    pub order : IsInItsOrder call compare (same d) (HasNode d) (elements_asked d (typed_at (nodes_of d) n)) (starts_of d (typed_at (nodes_of d) n) groups) s.order
 
   -- a sort is done as it is asked for
   abbrev pub IsAsked : CstRootNode A → Edit A → Sorting → Type 0
@@ -41,35 +41,35 @@ module _ {C D A : Type 0} (call : Shared C (Bor D × (CstNode × (CstNode × Uni
   IsAsked d e s = Unit {0}
 
   -- the edit was made: the operation that it asks for in the old document
-  pub record IsMadeAs (old : CstRootNode A) (e : Edit A) (operation : Operation) (new : CstRootNode A) : Type 0 where
+  pub record RunStep (old : CstRootNode A) (e : Edit A) (operation : Operation) (new : CstRootNode A) : Type 0 where
     pub sorting : Sorting
     pub asked : IsAsked old e sorting
     pub is : operation ≡ operation_of sorting e
-    pub made : IsMade (nodes_of old) operation (nodes_of new)
+    pub made : EditStep (nodes_of old) operation (nodes_of new)
 
-  abbrev pub IsMadeSo : CstRootNode A → Edit A → CstRootNode A → Type 0
-  IsMadeSo old e new = (operation : Operation) × IsMadeAs old e operation new
+  abbrev pub IsRunStep : CstRootNode A → Edit A → CstRootNode A → Type 0
+  IsRunStep old e new = (operation : Operation) × RunStep old e operation new
 
   -- the edits were made in order, each in the document that the one before it made
-  pub data AreMadeAs : CstRootNode A → List (Edit A) → List Operation → CstRootNode A → Type 0 where
-    none_made : {d : CstRootNode A} → AreMadeAs d [] [] d
+  pub data RunSteps : CstRootNode A → List (Edit A) → List Operation → CstRootNode A → Type 0 where
+    none_made : {d : CstRootNode A} → RunSteps d [] [] d
     first_made : {old now new : CstRootNode A} {e : Edit A} {operation : Operation} {es : List (Edit A)} {operations : List Operation}
-        → IsMadeAs old e operation now → IsTree (nodes_of now) → AreMadeAs now es operations new → AreMadeAs old (e ∷ es) (operation ∷ operations) new
+        → RunStep old e operation now → IsTree (nodes_of now) → RunSteps now es operations new → RunSteps old (e ∷ es) (operation ∷ operations) new
 
   -- They were all made. Whatever document the old one shows, if the numbers that they write are numbers, they lead from it to one that the new one shows.
-  pub record HaveBeenMade (old : CstRootNode A) (edits : List (Edit A)) (new : CstRootNode A) : Type 0 where
+  pub record RunOk (old : CstRootNode A) (edits : List (Edit A)) (new : CstRootNode A) : Type 0 where
     pub operations : List Operation
-    pub made : AreMadeAs old edits operations new
+    pub made : RunSteps old edits operations new
     pub edited : EditsTheText (tree_of old) edits (tree_of new)
 
   -- The first k edits were made, each whole; there is one more, which was not made for this reason, and has left the document so. Whatever document the old one
   -- shows, they lead from it to where they stop.
-  pub record HaveStopped (old : CstRootNode A) (edits : List (Edit A)) (k : ℕ) (why : EditError) (new : CstRootNode A) : Type 0 where
+  pub record RunErr (old : CstRootNode A) (edits : List (Edit A)) (k : ℕ) (why : EditError) (new : CstRootNode A) : Type 0 where
     pub operations : List Operation
     pub now : CstRootNode A
-    pub made : AreMadeAs old (take k edits) operations now
+    pub made : RunSteps old (take k edits) operations now
     pub next : Edit A
     pub is_next : slice_get edits k ≡ Some next
-    pub told : (s : Sorting) → IsToldBy (nodes_of now) (operation_of s next) why
+    pub error : (s : Sorting) → FailsWith (nodes_of now) (operation_of s next) why
     pub left : (s : Sorting) → IsLeft (nodes_of now) (operation_of s next) (nodes_of new)
     pub edited : StopsInText (tree_of old) edits k why (tree_of new)

@@ -5,7 +5,7 @@ use Rattle.jsonc_text.specs.Edits.{Document, IsOne}
 use Rattle.jsonc_text.specs.Faults.{IsFault}
 use Rattle.jsonc_text.specs.Options.{Options}
 use Rattle.jsonc_ast.specs.to_ast.Refusals.{RefusesText}
-use Rattle.jsonc_ast.specs.to_ast.Told.{IsTold}
+use Rattle.jsonc_ast.specs.to_ast.Faults.{ParseFault}
 use Rattle.jsonc_text.specs.declared.edit.EditError.{EditError}
 use Rattle.jsonc_text.specs.declared.edit.EditError.TheVariants.{OutOfMemory}
 use Rattle.jsonc_run.specs.declared.edit.Edit.{Edit}
@@ -26,5 +26,5 @@ StopsText o text edits k why = (d : Document) × (d.options ≡ o) × (d.text �
 
 -- Why a text was not edited: what parsing says of it, or where its edits stop.
 abbrev pub IsNotEdited : {A : Type 0} → Options → List ℕ → List (Edit A) → EditTextError → Type 0
-IsNotEdited o bytes edits (error.Parse fault) = RefusesText o bytes fault × IsFault bytes fault × IsTold o bytes true fault
+IsNotEdited o bytes edits (error.Parse fault) = RefusesText o bytes fault × IsFault bytes fault × ParseFault o bytes true fault
 IsNotEdited o bytes edits (error.Edit k why) = StopsText o (chars bytes) edits k why

@@ -2,7 +2,7 @@
 //! property of that name.
 //!
 //! [`find_at`] finds the node of what stands there and [`read_at`] takes its value; [`set_at`] puts a value
-//! there and [`remove_at`] drops what stands there, by one edit of [`cst::Edit`](crate::cst::Edit) each, or
+//! there and [`remove_at`] removes what stands there, by one edit of [`cst::Edit`](crate::cst::Edit) each, or
 //! none.
 
 pub use crate::paths::{find_at, read_at, remove_at, set_at};

@@ -19,25 +19,25 @@ use Rattle.jsonc_text.specs.declared.edit.EditError.TheVariants.{OutOfMemory}
 use Rattle.jsonc_edit.specs.set.Booleans.{BooleanSet, WantsSpaceFor}
 use Rattle.jsonc_edit.proofs.lemmas.set.BooleanSetting.{boolean_of}
 use Rattle.jsonc_edit.proofs.lemmas.set.WrittenBoolean.{boolean_gives_way}
-use Rattle.jsonc_run.specs.Edits.{set_boolean, IsMade}
+use Rattle.jsonc_run.specs.Edits.{set_boolean, EditStep}
 use Rattle.jsonc_run.specs.Places.{IsBooleanAt}
-use Rattle.jsonc_run.specs.Refusals.{IsToldBy}
-use Rattle.jsonc_insert.specs.named.Values.{ValueGivesWay}
+use Rattle.jsonc_run.specs.Refusals.{FailsWith}
+use Rattle.jsonc_insert.specs.named.Values.{ReplacesValue}
 use Rattle.jsonc_insert.proofs.lemmas.named.PathValues.{value_of_text, value_at_path, value_once}
 
 -- what is answered where one is set
 module _ (ns : List Node) (path : List ℕ) (n : ℕ) (b : Bool) (at : IsBooleanAt ns path n) where
-  pub boolean_made : {T E : Type 0} (r : Result T E) (new : List Node) → OnOk r (BooleanSet ns new n b) → OnOk r (IsMade ns (set_boolean path b) new)
+  pub boolean_made : {T E : Type 0} (r : Result T E) (new : List Node) → OnOk r (BooleanSet ns new n b) → OnOk r (EditStep ns (set_boolean path b) new)
   boolean_made (Ok x) new set = (n, at, set)
   boolean_made (Err e) new set = tt
 
-  pub boolean_told : {T : Type 0} (r : Result T EditError) → IfErr r (λ e. e ≡ OutOfMemory) → OnErr r (WantsSpaceFor ns n b) → IfErr r (IsToldBy ns (set_boolean path b))
+  pub boolean_told : {T : Type 0} (r : Result T EditError) → IfErr r (λ e. e ≡ OutOfMemory) → OnErr r (WantsSpaceFor ns n b) → IfErr r (FailsWith ns (set_boolean path b))
   boolean_told (Ok x) memory wants = tt
-  boolean_told (Err e) memory wants = subst (IsToldBy ns (set_boolean path b)) (sym memory) (n, at, wants)
+  boolean_told (Err e) memory wants = subst (FailsWith ns (set_boolean path b)) (sym memory) (n, at, wants)
 
--- the old one has given way at the path
+-- the old one has been replaced at the path
 pub boolean_given : (old new : List Node) (path : List ℕ) (n : ℕ) (b : Bool) → IsTree old → IsBooleanAt old path n → BooleanSet old new n b
-    → (was : Bool) × (given : ValueGivesWay path (Plain.boolean b) (ordered_tree old 0) (ordered_tree new 0)) × (given.was ≡ boolean_leaf was)
+    → (was : Bool) × (given : ReplacesValue path (Plain.boolean b) (ordered_tree old 0) (ordered_tree new 0)) × (given.was ≡ boolean_leaf was)
 boolean_given old new path n b tree at set =
     let g = boolean_gives_way old new path n b tree at.0 at.1 set in
     (g.0, record { was = boolean_leaf g.0; layout = layout_for old 0 n; spaced = g.1; spaces = g.2; changed = g.3; around = document_differs g.3; seams = g.4 }, refl)
@@ -51,7 +51,7 @@ boolean_value a e values.null = cc
 boolean_value a e (values.array h) = cc
 boolean_value a e (values.object h) = cc
 
--- so what has given way in the document's value is one
+-- so what has been replaced in the document's value is one
 pub boolean_changed : (o : Options) (ns : List Node) (path : List ℕ) (n : ℕ) → IsTree ns → SoundTree o (ordered_tree ns 0) → IsBooleanAt ns path n → {given_up v x y : Plain} → IsDocument o (printed_text (ordered_tree ns 0)) (Some x)
     → Changed given_up v path x y → (was : Bool) × Changed (Plain.boolean was) v path x y
 boolean_changed o ns path n tree s at {v = v} {x = x} {y = y} text changed =

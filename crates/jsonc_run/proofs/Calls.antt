@@ -20,9 +20,9 @@ use Rattle.jsonc_edit.specs.set.Kinds.{FoundOrCreated, FoundOrSet, KeptOrReplace
 use Rattle.jsonc_edit.specs.set.PropertyValues.{HeldOrSet, LastValue}
 use Rattle.jsonc_edit.specs.set.RootSet.{FirstValue}
 use Rattle.jsonc_edit.proofs.Uniqueness.{element_parent}
-use Rattle.jsonc_edit.proofs.Walk.{over_through}
+use Rattle.jsonc_edit.proofs.ChangesUpward.{over_through}
 use Rattle.jsonc_edit.proofs.lemmas.multiline.Documents.{over_at}
-use Rattle.jsonc_edit.proofs.lemmas.set.Making.{root_child}
+use Rattle.jsonc_edit.proofs.lemmas.set.FirstValueMade.{root_child}
 use Rattle.jsonc_edit.proofs.lemmas.set.PropertyValue.{held_child}
 use Rattle.jsonc_text.specs.declared.edit.Over.{Over}
 use Rattle.jsonc_text.specs.declared.edit.Over.TheVariants as over
@@ -34,16 +34,16 @@ use Rattle.jsonc_insert.proofs.lemmas.named.Writing.{first_named}
 use Rattle.jsonc_run.specs.Edits.{Operation, replace, remove, remove_comment, set_root, clear_root, replace_property, ensure_root, set_value, ensure_value, set_boolean, ensure_multiline, insert_element, append_element, insert_property, append_property, ensure_property, set_commas, set_some_commas, rearrange, PropertyValueSet, RootEnsured, RootSet}
 use Rattle.jsonc_run.specs.Places.{IsEntryAt, an_entry, in_array, in_object, the_value}
 use Rattle.jsonc_run.specs.Refusals.{as_it_was, set_in_part}
-use Rattle.jsonc_run.proofs.Elsewhere.{there_below}
+use Rattle.jsonc_run.proofs.DetachedNodes.{there_below}
 use Rattle.jsonc_run.specs.Parents.{IsCall, all_stay, children_leave, gives_way, property_gives_way, comment_leaves, element_leaves, first_comes, last_comes, boolean_set, comes_on_lines, element_comes, property_comes, commas_set, some_commas_set, sorted, IsCallOf, EditIsCall, RefusalIsCall}
 
 module _ (old new : List Node) (tree : IsTree old) where
   pub call_of : (n : ℕ) → n < length old → IsCall old new n → IsCallOf old new n
-  call_of n low call = record { there = low; at = n; over = IsOver.itself; is = call }
+  call_of n low call = record { in_tree = low; at = n; over = IsOver.itself; is = call }
 
   -- a call of a child is one of its container
   pub call_above : (n c : ℕ) → parent_at old n ≡ Some c → IsCallOf old new n → IsCallOf old new c
-  call_above n c said call = record { there = (parent_there old tree n c said).1; at = call.at; over = over_up old n c call.at said call.over; is = call.is }
+  call_above n c said call = record { in_tree = (parent_there old tree n c said).1; at = call.at; over = over_up old n c call.at said call.over; is = call.is }
 
   pub call_of_child : (n c : ℕ) → parent_at old n ≡ Some c → IsCall old new n → IsCallOf old new c
   call_of_child n c said call = call_above n c said (call_of n (parent_there old tree n c said).0 call)
@@ -140,10 +140,10 @@ module _ (old : List Node) (tree : IsTree old) where
 
   -- a call of a node of the document is one of the document
   in_document : (new : List Node) (n : ℕ) → IsOver old 0 n → IsCallOf old new n → IsCallOf old new 0
-  in_document new n up call = record { there = tree.first; at = call.at; over = over_through old 0 n call.at up call.over; is = call.is }
+  in_document new n up call = record { in_tree = tree.first; at = call.at; over = over_through old 0 n call.at up call.over; is = call.is }
 
   call_in : (new : List Node) (n : ℕ) → IsOver old 0 n → IsCall old new n → IsCallOf old new 0
-  call_in new n up call = record { there = tree.first; at = n; over = up; is = call }
+  call_in new n up call = record { in_tree = tree.first; at = n; over = up; is = call }
 
   at_path : (new : List Node) (path : List ℕ) (n : ℕ) → IsAt old path n → IsCall old new n → IsCallOf old new 0
   at_path new path n at call = call_in new n (over_at old tree path n at) call

@@ -5,7 +5,7 @@ use Rattle.jsonc_tree.specs.OrderedTree.{ordered_tree}
 use Rattle.jsonc_tree.specs.Tree.{Node, IsTree}
 use Rattle.jsonc_layout.specs.nodes.Kinds.{is_comment_at}
 use Rattle.jsonc_sound.specs.Marks.{marks_of, comments_of}
-use Rattle.jsonc_edit.proofs.Ahead as ahead
+use Rattle.jsonc_edit.proofs.CommentOrder as ahead
 use Rattle.jsonc_edit.proofs.InOrder.{leaves_in_order}
 use Rattle.jsonc_run.specs.Named.{comment_count}
 

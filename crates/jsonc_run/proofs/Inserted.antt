@@ -18,16 +18,16 @@ use Rattle.jsonc_text.specs.declared.edit.EditError.{EditError}
 use Rattle.jsonc_text.specs.declared.edit.EditError.TheVariants.{OutOfMemory, MissingBrackets, MissingName, NoSuchPlace}
 use Rattle.jsonc_insert.specs.Inserted.{refusal, ElementPut}
 use Rattle.jsonc_insert.specs.Planned.{has_brackets}
-use Rattle.jsonc_insert.proofs.Past.{past_the_end}
-use Rattle.jsonc_insert.specs.elements.Laws.{item_count, ElementComesAt, GainsMarks, IsInserted}
-use Rattle.jsonc_insert.proofs.lemmas.elements.Comes.{elements_come_at}
+use Rattle.jsonc_insert.proofs.PastTheEnd.{past_the_end}
+use Rattle.jsonc_insert.specs.elements.Laws.{item_count, ElementInsertedAt, GainsMarks, IsInserted}
+use Rattle.jsonc_insert.proofs.lemmas.elements.InsertedValues.{elements_come_at}
 use Rattle.jsonc_insert.proofs.lemmas.elements.Containers.{has_its_brackets}
 use Rattle.jsonc_insert.proofs.lemmas.elements.Written.{inserts_element}
 use Rattle.jsonc_run.specs.Edits.{append_element, insert_element}
 use Rattle.jsonc_run.specs.Places.{IsArrayAt}
-use Rattle.jsonc_run.specs.Refusals.{IsToldBy}
+use Rattle.jsonc_run.specs.Refusals.{FailsWith}
 use Rattle.jsonc_insert.proofs.lemmas.named.PathValues.{value_once}
-use Rattle.jsonc_insert.proofs.lemmas.named.Unensured.{no_other}
+use Rattle.jsonc_insert.proofs.lemmas.named.EnsureErrors.{no_other}
 
 -- a container has no more elements than children
 pub fewer : (ns : List Node) (c : ℕ) → length (elements_at ns c) ≤ length (children_at ns c)
@@ -39,13 +39,13 @@ comes_last old new c v m brackets put = past_the_end old new c (length (children
 
 -- why nothing came in
 module _ (ns : List Node) (path : List ℕ) (n : ℕ) (v : Plain) (at : IsArrayAt ns path n) where
-  pub told_in : (i : ℕ) (e : EditError) → e ≡ refusal ns n → IsToldBy ns (insert_element path i v) e
+  pub told_in : (i : ℕ) (e : EditError) → e ≡ refusal ns n → FailsWith ns (insert_element path i v) e
   told_in i OutOfMemory is = (n, at, sym is)
   told_in i MissingBrackets is = (n, at, sym is)
   told_in i MissingName is = absurd ((no_other (has_brackets ns (children_at ns n)) MissingName is).0 refl)
   told_in i NoSuchPlace is = absurd ((no_other (has_brackets ns (children_at ns n)) NoSuchPlace is).1 refl)
 
-  pub told_behind : (e : EditError) → e ≡ refusal ns n → IsToldBy ns (append_element path v) e
+  pub told_behind : (e : EditError) → e ≡ refusal ns n → FailsWith ns (append_element path v) e
   told_behind OutOfMemory is = (n, at, sym is)
   told_behind MissingBrackets is = (n, at, sym is)
   told_behind MissingName is = absurd ((no_other (has_brackets ns (children_at ns n)) MissingName is).0 refl)
@@ -63,7 +63,7 @@ gained_marks ms i row t u g =
 
 -- what a value that came into the array at a path of a sound document makes of it
 pub record CameIn (o : Options) (path : List ℕ) (i : ℕ) (v : Plain) (t u : OrderedTree) : Type 0 where
-  pub come : ElementComesAt o path i v t u
+  pub come : ElementInsertedAt o path i v t u
   pub is : IsInserted o path i v t u come
 
 -- and one that came behind all

@@ -12,9 +12,9 @@ use Rattle.jsonc_sound.specs.SoundTrees.{SoundTree}
 use Rattle.jsonc_sound.specs.MarkChanges.{MarksDifferIn, marks_under}
 use Rattle.jsonc_sound.specs.Marks.{Mark, comments_of, marks, trimmed}
 use Rattle.jsonc_sound.specs.Written.{property_written, written}
-use Rattle.jsonc_sound.proofs.GivingWay.{one_mark_leaves}
+use Rattle.jsonc_sound.proofs.ReplacedStretches.{one_mark_leaves}
 use Rattle.jsonc_sound.proofs.Laid.{laid_as_written, laid_as_written_named}
-use Rattle.jsonc_sound.specs.Coming.{ValueComes}
+use Rattle.jsonc_sound.specs.Coming.{ValueInserted}
 use Rattle.jsonc_sound.specs.EntryLaws.{root_with}
 use Rattle.jsonc_sound.proofs.FirstValue.{marks_with_first}
 use Rattle.jsonc_sound.proofs.RootRows.{root_marks}
@@ -22,17 +22,17 @@ use Rattle.jsonc_edit.specs.Comments.{LosesComment}
 use Rattle.jsonc_edit.specs.Writing.{IsWritable}
 use Rattle.jsonc_edit.proofs.Spacing.{spaces_marks}
 use Rattle.jsonc_edit.proofs.lemmas.multiline.SameDocument.{keeps_document}
-use Rattle.jsonc_edit.proofs.lemmas.remove.Lost.{removes_entry}
-use Rattle.jsonc_edit.proofs.lemmas.remove.LostValue.{removes_value}
+use Rattle.jsonc_edit.proofs.lemmas.remove.RemovedElement.{removes_entry}
+use Rattle.jsonc_edit.proofs.lemmas.remove.RemovedValue.{removes_value}
 use Rattle.jsonc_text.specs.declared.edit.Over.{Over}
 use Rattle.jsonc_text.specs.declared.edit.Over.TheVariants as over
 use Rattle.jsonc_text.specs.declared.edit.Shape.{Shape}
 use Rattle.jsonc_text.specs.declared.edit.Shape.TheVariants.{Object, Array}
 use Rattle.jsonc_edit.specs.set.Shapes.{empty_of}
-use Rattle.jsonc_run.specs.Edits.{Operation, replace, remove, remove_comment, set_root, clear_root, replace_property, ensure_root, set_value, ensure_value, set_boolean, ensure_multiline, insert_element, append_element, insert_property, append_property, ensure_property, set_commas, set_some_commas, rearrange, IsMade}
-use Rattle.jsonc_run.specs.Written.{MayBeMade, EntryLeft, entry_left, value_left, RootValueSet, given_way, has_come, RootValueEnsured, all_kept, empty_come, empty_given, PropertyGivenWay, property_given}
+use Rattle.jsonc_run.specs.Edits.{Operation, replace, remove, remove_comment, set_root, clear_root, replace_property, ensure_root, set_value, ensure_value, set_boolean, ensure_multiline, insert_element, append_element, insert_property, append_property, ensure_property, set_commas, set_some_commas, rearrange, EditStep}
+use Rattle.jsonc_run.specs.Written.{MayBeMade, EntryRemoved, entry_left, value_left, RootValueSet, given_way, has_come, RootValueEnsured, all_kept, empty_come, empty_given, ReplacesProperty, property_given}
 use Rattle.jsonc_run.specs.Marked.{IsMarked}
-use Rattle.jsonc_insert.proofs.lemmas.elements.Named.{inserts_member}
+use Rattle.jsonc_insert.proofs.lemmas.elements.NamedProperties.{inserts_member}
 use Rattle.jsonc_insert.proofs.lemmas.elements.Written.{inserts_element}
 use Rattle.jsonc_run.proofs.Inserted.{gained_marks}
 use Rattle.jsonc_insert.proofs.lemmas.named.Values.{empty_writable, ensured_marks, marks_given, value_marked}
@@ -56,7 +56,7 @@ nothing_comes : {x y : List Mark} → MarksDifferIn [] [] x y → y ≡ x
 nothing_comes d = d.after ∙ sym d.before
 
 come_marked : (o : Options) (t u : OrderedTree) (shape : Shape) (layout : Layout) (row next : OrderedTree) → t ≡ root_with row → u ≡ root_with next
-    → ValueComes (laid layout (empty_of shape)) row next → MarksDifferIn [] [] (marks t) (marks u)
+    → ValueInserted (laid layout (empty_of shape)) row next → MarksDifferIn [] [] (marks t) (marks u)
 unfolding root_marked
 come_marked o t u Object layout row next was is comes = (root_marked o t u (empty_of Object) (empty_writable o Object) (has_come layout row next was is comes)).1
 come_marked o t u Array layout row next was is comes = (root_marked o t u (empty_of Array) (empty_writable o Array) (has_come layout row next was is comes)).1
@@ -70,13 +70,13 @@ ensured_marked o t u shape over.Replace (empty_come layout row next was is comes
 ensured_marked o t u Object _ (empty_given g other) = value_marked o t u [] (empty_of Object) (empty_writable o Object) g
 ensured_marked o t u Array _ (empty_given g other) = value_marked o t u [] (empty_of Array) (empty_writable o Array) g
 
--- a property that gives way leaves its marks to those of the new one
-property_marked : (o : Options) (t u : OrderedTree) (path name : List ℕ) (v : Plain) → IsCharacters name → IsWritable o v → PropertyGivenWay name v t u path → IsMarked (marks t) (replace_property path name v) (marks u)
+-- a property that is replaced leaves its marks to those of the new one
+property_marked : (o : Options) (t u : OrderedTree) (path name : List ℕ) (v : Plain) → IsCharacters name → IsWritable o v → ReplacesProperty name v t u path → IsMarked (marks t) (replace_property path name v) (marks u)
 property_marked o t u _ name v texts may (property_given path i layout spaced front was back puts changed around seam bare) =
     (marks_under (property_of was), subst (λ l. MarksDifferIn (marks_under (property_of was)) l (marks t) (marks u)) (laid_as_written_named layout name v texts may.texts) (marks_given (property_of was) (property_of (laid_property layout name v).below) t spaced u puts around))
 
 -- an entry that leaves takes its marks along, and comments beside it
-entry_marked : (o : Options) (t u : OrderedTree) (path : List ℕ) → SoundTree o t → EntryLeft t u path → IsMarked (marks t) (remove path) (marks u)
+entry_marked : (o : Options) (t u : OrderedTree) (path : List ℕ) → SoundTree o t → EntryRemoved t u path → IsMarked (marks t) (remove path) (marks u)
 entry_marked o t u _ s (entry_left path i top taken) = (top, (removes_entry o t u path i top s taken).marks)
 entry_marked o t u _ s (value_left top taken) = (top, (removes_value o t u top s taken).marks)
 
@@ -87,10 +87,10 @@ module _ (o : Options) (old new : List Node) (tree : IsTree old) (after : IsTree
   abbrev u : OrderedTree
   u = ordered_tree new 0
 
-  around : (e : Operation) → MayBeMade o e → SoundTree o t → IsMade old e new → MadeIn o t e u
+  around : (e : Operation) → MayBeMade o e → SoundTree o t → EditStep old e new → MadeIn o t e u
   around e may s made = made_in o old new e tree after s may made
 
-  pub one_marked : (e : Operation) → MayBeMade o e → SoundTree o t → IsMade old e new → IsMarked (marks t) e (marks u)
+  pub one_marked : (e : Operation) → MayBeMade o e → SoundTree o t → EditStep old e new → IsMarked (marks t) e (marks u)
   one_marked (replace path v) may s made =
       let g = around (replace path v) may s made in
       value_marked o t u path v may g

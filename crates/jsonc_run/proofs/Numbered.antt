@@ -10,8 +10,8 @@ use Rattle.jsonc_layout.specs.nodes.Kinds.{is_comment, is_comment_at}
 use Rattle.jsonc_edit.specs.Comments.{comment_at, CommentTaken, TakesOut, WantsSpace}
 use Rattle.jsonc_text.specs.declared.edit.EditError.{EditError}
 use Rattle.jsonc_text.specs.declared.edit.EditError.TheVariants.{OutOfMemory}
-use Rattle.jsonc_run.specs.Edits.{remove_comment, IsMade}
-use Rattle.jsonc_run.specs.Refusals.{IsToldBy}
+use Rattle.jsonc_run.specs.Edits.{remove_comment, EditStep}
+use Rattle.jsonc_run.specs.Refusals.{FailsWith}
 
 module _ (ns : List Node) (tree : IsTree ns) where
   -- a walk over the document has all before it
@@ -49,10 +49,10 @@ module _ (ns : List Node) (tree : IsTree ns) where
       record { tree = tree; after = after; below = over; comment = is; container = up.0; parent = up.1; taken = taken up.0 up.1 }
 
   -- what a removal answers
-  pub removal_made : {T E : Type 0} (r : Result T E) (new : List Node) → IsTree new → (n number : ℕ) → comment_at ns number ≡ Some n → IsOver ns 0 n → IsTrue (is_comment_at ns n) → OnOk r (TakesOut ns new n) → OnOk r (IsMade ns (remove_comment number) new)
+  pub removal_made : {T E : Type 0} (r : Result T E) (new : List Node) → IsTree new → (n number : ℕ) → comment_at ns number ≡ Some n → IsOver ns 0 n → IsTrue (is_comment_at ns n) → OnOk r (TakesOut ns new n) → OnOk r (EditStep ns (remove_comment number) new)
   removal_made (Ok x) new after n number at over is taken = (n, at, comment_taken new after n over is taken)
   removal_made (Err e) new after n number at over is taken = tt
 
-  pub removal_told : {T : Type 0} (r : Result T EditError) (n number : ℕ) → comment_at ns number ≡ Some n → IfErr r (λ e. e ≡ OutOfMemory) → OnErr r (WantsSpace ns n) → IfErr r (IsToldBy ns (remove_comment number))
+  pub removal_told : {T : Type 0} (r : Result T EditError) (n number : ℕ) → comment_at ns number ≡ Some n → IfErr r (λ e. e ≡ OutOfMemory) → OnErr r (WantsSpace ns n) → IfErr r (FailsWith ns (remove_comment number))
   removal_told (Ok x) n number at memory wants = tt
-  removal_told (Err e) n number at memory wants = subst (IsToldBy ns (remove_comment number)) (sym memory) (n, at, wants)
+  removal_told (Err e) n number at memory wants = subst (FailsWith ns (remove_comment number)) (sym memory) (n, at, wants)

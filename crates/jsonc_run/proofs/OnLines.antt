@@ -4,22 +4,22 @@ use Rattle.jsonc_tree.specs.Tree.{Node}
 use Rattle.jsonc_text.specs.declared.edit.EditError.{EditError}
 use Rattle.jsonc_text.specs.declared.edit.EditError.TheVariants.{OutOfMemory, MissingBrackets, MissingName, NoSuchPlace}
 use Rattle.jsonc_edit.specs.multiline.Multiline.{IsUnspread, MadeMultiline}
-use Rattle.jsonc_run.specs.Edits.{ensure_multiline, IsMade}
+use Rattle.jsonc_run.specs.Edits.{ensure_multiline, EditStep}
 use Rattle.jsonc_run.specs.Places.{IsContainerAt}
-use Rattle.jsonc_run.specs.Refusals.{IsToldBy}
+use Rattle.jsonc_run.specs.Refusals.{FailsWith}
 
 -- what is answered where one is put on several lines
 module _ (ns : List Node) (path : List ℕ) (n : ℕ) (at : IsContainerAt ns path n) where
-  pub lines_made : {T E : Type 0} (r : Result T E) (new : List Node) → OnOk r (MadeMultiline ns new n) → OnOk r (IsMade ns (ensure_multiline path) new)
+  pub lines_made : {T E : Type 0} (r : Result T E) (new : List Node) → OnOk r (MadeMultiline ns new n) → OnOk r (EditStep ns (ensure_multiline path) new)
   lines_made (Ok x) new made = (n, at, made)
   lines_made (Err e) new made = tt
 
-  why_told : (e : EditError) → IsUnspread ns n e → IsToldBy ns (ensure_multiline path) e
+  why_told : (e : EditError) → IsUnspread ns n e → FailsWith ns (ensure_multiline path) e
   why_told OutOfMemory why = (n, at, why)
   why_told MissingBrackets why = (n, at, why)
   why_told MissingName why = why
   why_told NoSuchPlace why = absurd why
 
-  pub lines_told : {T : Type 0} (r : Result T EditError) → IfErr r (IsUnspread ns n) → IfErr r (IsToldBy ns (ensure_multiline path))
+  pub lines_told : {T : Type 0} (r : Result T EditError) → IfErr r (IsUnspread ns n) → IfErr r (FailsWith ns (ensure_multiline path))
   lines_told (Ok x) why = tt
   lines_told (Err e) why = why_told e why

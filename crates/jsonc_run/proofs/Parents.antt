@@ -10,10 +10,10 @@ use Rattle.jsonc_tree.specs.Tree.{Node, children_at, parent_at, place_at, is_in,
 use Rattle.jsonc_tree.proofs.Order.{parent_there}
 use Rattle.jsonc_tree.proofs.Splicing.{in_where}
 use Rattle.jsonc_tree.proofs.Stretches.{take_in}
-use Rattle.jsonc_edit.specs.Put.{AreSpaced, Prepared}
+use Rattle.jsonc_edit.specs.Put.{AreSpaced, Extends}
 use Rattle.jsonc_edit.specs.Comments.{IsTakenOut}
-use Rattle.jsonc_edit.specs.Replacing.{GivesWay, GivesWayRaw, TakesPlace}
-use Rattle.jsonc_edit.proofs.Kept.{tree_stays}
+use Rattle.jsonc_edit.specs.Replacing.{ReplacedBy, ReplacedByRaw, TakesPlace}
+use Rattle.jsonc_edit.proofs.NodesKept.{tree_stays}
 use Rattle.jsonc_edit.proofs.TakingOut.{parents_spaced}
 use Rattle.jsonc_text.specs.declared.edit.TrailingCommaMode.{TrailingCommaMode}
 use Rattle.jsonc_text.specs.declared.edit.TrailingCommaMode.TheVariants.{Never, IfMultiline}
@@ -137,23 +137,23 @@ held_spaced xs old new tree spaced = record { len = longer xs old new spaced; pa
     longer [] old new e = omega (arith, ap length e)
     longer (x ∷ xs) old new (now, leaf, r, rest) = omega (arith, r.put.len, longer xs now new rest)
 
-held_ready : (old ready : List Node) → IsTree old → Prepared old ready → Holds old ready
+held_ready : (old ready : List Node) → IsTree old → Extends old ready → Holds old ready
 held_ready old ready tree p = held_kept old ready tree p.keeps
 
 -- one row changes at once, behind what was made ready
-loses_row : (old ready new : List Node) → IsTree old → Prepared old ready → (c i j : ℕ) (xs : List ℕ) → CanJoin ready c i j xs → Splices ready new c i j xs → Loses old new
+loses_row : (old ready new : List Node) → IsTree old → Extends old ready → (c i j : ℕ) (xs : List ℕ) → CanJoin ready c i j xs → Splices ready new c i j xs → Loses old new
 loses_row old ready new tree p c i j xs join s = held_loses old ready new (held_ready old ready tree p) (loses_spliced ready new p.tree c i j xs join s)
 
--- a node gives way behind spaces that came
-loses_place : (old ready spaced new : List Node) → IsTree old → Prepared old ready → (xs : List ℕ) → AreSpaced ready xs spaced → (n m : ℕ) (now : Top) → TakesPlace spaced new n m now → Loses old new
+-- a node is replaced behind spaces that came
+loses_place : (old ready spaced new : List Node) → IsTree old → Extends old ready → (xs : List ℕ) → AreSpaced ready xs spaced → (n m : ℕ) (now : Top) → TakesPlace spaced new n m now → Loses old new
 loses_place old ready spaced new tree p xs spaces n m now t =
     held_loses old spaced new (held_both old ready spaced (held_ready old ready tree p) (held_spaced xs ready spaced p.tree spaces))
     (loses_spliced spaced new t.replaces.tree _ _ _ _ t.replaces.join t.replaces.spliced)
 
-loses_given : (old new : List Node) → IsTree old → (n m : ℕ) (now : Top) → GivesWay old new n m now → Loses old new
+loses_given : (old new : List Node) → IsTree old → (n m : ℕ) (now : Top) → ReplacedBy old new n m now → Loses old new
 loses_given old new tree n m now g = loses_place old g.ready g.spaced new tree g.prepared _ g.spaces n m now g.place
 
-loses_raw : (old new : List Node) → IsTree old → (n m : ℕ) (now : Top) → GivesWayRaw old new n m now → Loses old new
+loses_raw : (old new : List Node) → IsTree old → (n m : ℕ) (now : Top) → ReplacedByRaw old new n m now → Loses old new
 loses_raw old new tree n m now g = loses_row old g.ready new tree g.prepared _ _ _ _ g.place.replaces.join g.place.replaces.spliced
 
 -- one comes as the last child
@@ -172,7 +172,7 @@ loses_last old new tree p m v l =
     (held_both l.ready l.held new (held_appended l.ready l.held p m l.can.alone l.put) (held_spaced _ l.held new l.tree l.spaces)))
 
 -- what is made ready, and the spaces
-held_spaces : (old ready spaced : List Node) → IsTree old → Prepared old ready → (xs : List ℕ) → AreSpaced ready xs spaced → Holds old spaced
+held_spaces : (old ready spaced : List Node) → IsTree old → Extends old ready → (xs : List ℕ) → AreSpaced ready xs spaced → Holds old spaced
 held_spaces old ready spaced tree p xs spaces = held_both old ready spaced (held_ready old ready tree p) (held_spaced xs ready spaced p.tree spaces)
 
 lets_lost : (old new : List Node) (c : ℕ) (o : Option ℕ) → LosesChild old new c o → Lets old new

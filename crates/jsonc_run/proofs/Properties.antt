@@ -18,18 +18,18 @@ use Rattle.jsonc_insert.specs.Inserted.{refusal}
 use Rattle.jsonc_insert.specs.Planned.{has_brackets}
 use Rattle.jsonc_edit.proofs.lemmas.multiline.Documents.{over_at}
 use Rattle.jsonc_insert.specs.members.Inserted.{PropertyPut}
-use Rattle.jsonc_insert.proofs.lemmas.members.Past.{past_the_end}
-use Rattle.jsonc_insert.proofs.lemmas.members.Spreading.{wants_memory_alone}
-use Rattle.jsonc_insert.specs.elements.Members.{member_count, IsMemberInserted, PropertyComesAt}
-use Rattle.jsonc_insert.proofs.lemmas.elements.Named.{inserts_member}
-use Rattle.jsonc_insert.proofs.lemmas.properties.Coming.{properties_come_at}
+use Rattle.jsonc_insert.proofs.lemmas.members.PastTheEnd.{past_the_end}
+use Rattle.jsonc_insert.proofs.lemmas.members.SpreadObjects.{wants_memory_alone}
+use Rattle.jsonc_insert.specs.elements.Members.{member_count, IsMemberInserted, PropertyInsertedAt}
+use Rattle.jsonc_insert.proofs.lemmas.elements.NamedProperties.{inserts_member}
+use Rattle.jsonc_insert.proofs.lemmas.properties.InsertedRows.{properties_come_at}
 use Rattle.jsonc_text.specs.declared.edit.Over.{Over}
 use Rattle.jsonc_text.specs.declared.edit.Shape.{Shape}
-use Rattle.jsonc_insert.specs.named.Named.{IsUnensured}
+use Rattle.jsonc_insert.specs.named.Named.{EnsureError}
 use Rattle.jsonc_run.specs.Edits.{append_property, ensure_property, insert_property}
 use Rattle.jsonc_run.specs.Places.{IsObjectAt}
-use Rattle.jsonc_run.specs.Refusals.{IsToldBy}
-use Rattle.jsonc_insert.proofs.lemmas.named.Unensured.{no_other}
+use Rattle.jsonc_run.specs.Refusals.{FailsWith}
+use Rattle.jsonc_insert.proofs.lemmas.named.EnsureErrors.{no_other}
 use Rattle.jsonc_run.proofs.Inserted.{fewer}
 use Rattle.jsonc_insert.proofs.lemmas.named.PathValues.{value_once}
 
@@ -43,13 +43,13 @@ comes_last old new c name v m tree there brackets put = past_the_end old new c (
 
 -- why nothing came in
 module _ (ns : List Node) (path : List ℕ) (n : ℕ) (name : List ℕ) (v : Plain) (at : IsObjectAt ns path n) where
-  pub told_in : (i : ℕ) (e : EditError) → e ≡ refusal ns n → IsToldBy ns (insert_property path i name v) e
+  pub told_in : (i : ℕ) (e : EditError) → e ≡ refusal ns n → FailsWith ns (insert_property path i name v) e
   told_in i OutOfMemory is = (n, at, sym is)
   told_in i MissingBrackets is = (n, at, sym is)
   told_in i MissingName is = absurd ((no_other (has_brackets ns (children_at ns n)) MissingName is).0 refl)
   told_in i NoSuchPlace is = absurd ((no_other (has_brackets ns (children_at ns n)) NoSuchPlace is).1 refl)
 
-  pub told_behind : (e : EditError) → e ≡ refusal ns n → IsToldBy ns (append_property path name v) e
+  pub told_behind : (e : EditError) → e ≡ refusal ns n → FailsWith ns (append_property path name v) e
   told_behind OutOfMemory is = (n, at, sym is)
   told_behind MissingBrackets is = (n, at, sym is)
   told_behind MissingName is = absurd ((no_other (has_brackets ns (children_at ns n)) MissingName is).0 refl)
@@ -57,7 +57,7 @@ module _ (ns : List Node) (path : List ℕ) (n : ℕ) (name : List ℕ) (v : Pla
 
 -- or why the first property of a name was not as it was to be
 module _ (ns : List Node) (path : List ℕ) (n : ℕ) (name : List ℕ) (shape : Shape) (how : Over) (at : IsObjectAt ns path n) where
-  pub told_for : (e : EditError) → IsUnensured shape how ns n name e → IsToldBy ns (ensure_property path name shape how) e
+  pub told_for : (e : EditError) → EnsureError shape how ns n name e → FailsWith ns (ensure_property path name shape how) e
   told_for OutOfMemory why = (n, at, why)
   told_for MissingBrackets why = (n, at, why)
   told_for MissingName why = (n, at, why)
@@ -65,7 +65,7 @@ module _ (ns : List Node) (path : List ℕ) (n : ℕ) (name : List ℕ) (shape :
 
 -- what a property that came into the object at the path of a sound document makes of it
 pub record CameIn (o : Options) (path : List ℕ) (i : ℕ) (name : List ℕ) (v : Plain) (t u : OrderedTree) : Type 0 where
-  pub come : PropertyComesAt o path i name v t u
+  pub come : PropertyInsertedAt o path i name v t u
   pub is : IsMemberInserted o path i name v t u come
 
 -- and one that came behind all

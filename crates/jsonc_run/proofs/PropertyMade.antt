@@ -1,4 +1,4 @@
--- What becomes of a document where the property at a path gives way to another.
+-- What becomes of a document where the property at a path is replaced by another.
 use Rattle.std.proofs.Common.{◌≡◌, ℕ, ◌<◌, Bool, true, false, cond, List, [], ◌∷◌, ◌++◌, length, filter, slice_get, slice_index, Option, Some, None, refl, sym, ap, subst, ◌∙◌}
 use Rattle.jsonc_text.specs.Options.{Options}
 use Rattle.jsonc_text.specs.Plain.{Plain}
@@ -20,20 +20,20 @@ use Rattle.jsonc_edit.specs.Paths.{IsAt, IsElementOf}
 use Rattle.jsonc_edit.specs.Put.{a_space, AreSpaced}
 use Rattle.jsonc_edit.specs.Reading.{layout_for}
 use Rattle.jsonc_edit.specs.Writing.{IsWritable}
-use Rattle.jsonc_edit.proofs.GivingWay.{in_place}
-use Rattle.jsonc_edit.proofs.Kept.{at_kept, filter_same, top_stays, tree_stays}
+use Rattle.jsonc_edit.proofs.ReplacedChildren.{in_place}
+use Rattle.jsonc_edit.proofs.NodesKept.{at_kept, filter_same, top_stays, tree_stays}
 use Rattle.jsonc_edit.proofs.Uniqueness.{element_parent}
-use Rattle.jsonc_edit.specs.SeamEntries.{PropertyHolds, PropertyGivesWayWithSeam}
+use Rattle.jsonc_edit.specs.SeamEntries.{PropertyHolds, PropertyReplacedWithSeam}
 use Rattle.jsonc_edit.specs.Seams.{PrintNothing, space_if, StandsBetween}
-use Rattle.jsonc_edit.proofs.Between.{space_behind}
+use Rattle.jsonc_edit.proofs.LeavesAroundNodes.{space_behind}
 use Rattle.jsonc_edit.proofs.SeamsParting.{tells_what_is_printed}
 use Rattle.jsonc_edit.proofs.SeamsOfEntries.{property_front, property_back, property_stands, property_holds}
 use Rattle.jsonc_edit.proofs.PathPlaces.{takes_between}
-use Rattle.jsonc_edit.specs.set.Giving.{due_after, is_bare_value, property_top, IsPropertyReplaced, PropertyGivesWay}
+use Rattle.jsonc_edit.specs.set.Giving.{due_after, is_bare_value, property_top, IsPropertyReplaced, PropertyReplacedBy}
 use Rattle.jsonc_edit.proofs.lemmas.set.PropertyPlace.{takes_propertys_place}
 use Rattle.jsonc_edit.proofs.lemmas.set.WrittenProperty.{writes_property}
 use Rattle.jsonc_insert.specs.named.Places.{IsPropertyAt, a_property}
-use Rattle.jsonc_run.specs.Written.{PropertyGivenWay, property_given}
+use Rattle.jsonc_run.specs.Written.{ReplacesProperty, property_given}
 
 -- the new property is laid out as the document tells
 given_top : (old new : List Node) (n m : ℕ) (name : List ℕ) (v : Plain) (r : IsPropertyReplaced old new n name v m) → top_at new m ≡ property_top (layout_for old r.0 n) name v
@@ -69,7 +69,7 @@ content_spaced [] old new e k = ap (λ ns. content_at ns k) e
 content_spaced (x ∷ xs) old new (now, leaf, s, rest) k = content_spaced xs now new rest k ∙ s.put.content k
 
 module _ (old new : List Node) (path : List ℕ) (c i n m : ℕ) (name : List ℕ) (v : Plain) (tree : IsTree old) (at : IsAt old path c) (is : content_at old c ≡ object) (element : IsElementOf old c i n) (named : content_at old n ≡ property) (r : IsPropertyReplaced old new n name v m) where
-  g : PropertyGivesWay old new n m (layout_for old r.0 n) name v
+  g : PropertyReplacedBy old new n m (layout_for old r.0 n) name v
   g = r.2
 
   there : (n < length old) × (c < length old)
@@ -82,7 +82,7 @@ module _ (old new : List Node) (path : List ℕ) (c i n m : ℕ) (name : List �
   element_ready =
       ap (λ l. slice_get l i)
       (ap (filter (is_element_at g.ready)) (g.prepared.keeps.children c there.1)
-      ∙ filter_same (is_element_at g.ready) (is_element_at old) (children_at old c) (λ k h. ap is_element (g.prepared.keeps.content (slice_index (children_at old c) k) (tree.there c k h))))
+      ∙ filter_same (is_element_at g.ready) (is_element_at old) (children_at old c) (λ k h. ap is_element (g.prepared.keeps.content (slice_index (children_at old c) k) (tree.in_tree c k h))))
       ∙ element
 
   abbrev front : List Content
@@ -115,7 +115,7 @@ module _ (old new : List Node) (path : List ℕ) (c i n m : ℕ) (name : List �
       let held = property_holds new g.place.replaces.after path c i m place.0 place.1 is_new (ap (λ (t : Top). t.content) top) front (space.quiet ++ (space_if space.behind ++ space.rest)) later in
       subst (λ (t : OrderedTree). PropertyHolds t path i (ordered_tree new 0) front (space.quiet ++ (space_if space.behind ++ space.rest))) (ap (λ (t : Top). t.below) top) held
 
-  pub property_seam : PropertyGivesWayWithSeam path i (row_below old n) (property_top (layout_for old r.0 n) name v).below (ordered_tree old 0) (ordered_tree new 0)
+  pub property_seam : PropertyReplacedWithSeam path i (row_below old n) (property_top (layout_for old r.0 n) name v).below (ordered_tree old 0) (ordered_tree new 0)
   property_seam = record {
     front = front;
     quiet = space.quiet;
@@ -134,7 +134,7 @@ module _ (old new : List Node) (path : List ℕ) (c i n m : ℕ) (name : List �
   bare_there e = space.bare e
 
 pub property_gives_way : (o : Options) (old new : List Node) (path : List ℕ) (n m : ℕ) (name : List ℕ) (v : Plain) → IsTree old → SoundTree o (ordered_tree old 0) → IsPropertyAt old path n → IsCharacters name → IsWritable o v
-    → IsPropertyReplaced old new n name v m → PropertyGivenWay name v (ordered_tree old 0) (ordered_tree new 0) path
+    → IsPropertyReplaced old new n name v m → ReplacesProperty name v (ordered_tree old 0) (ordered_tree new 0) path
 property_gives_way o old new _ n m name v tree s (a_property front c i at inside) texts may r =
     let w = writes_property o old new front c i n m name v tree s at inside.of_object inside.element texts may r in
     let layout : Layout = layout_for old r.0 n in

@@ -5,7 +5,7 @@ use Rattle.jsonc_text.specs.Options.{Options}
 use Rattle.jsonc_tree.specs.OrderedTree.{ordered_tree}
 use Rattle.jsonc_tree.specs.Tree.{Node, content_at, IsTree}
 use Rattle.jsonc_layout.specs.nodes.Properties.{lacks_name_at, value_by}
-use Rattle.jsonc_layout.specs.lines.Kinds.{holds_values}
+use Rattle.jsonc_layout.specs.lines.Kinds.{is_array_or_object}
 use Rattle.jsonc_sound.specs.SoundTrees.{SoundTree}
 use Rattle.jsonc_text.specs.declared.edit.EditError.{EditError}
 use Rattle.jsonc_text.specs.declared.edit.EditError.TheVariants.{OutOfMemory, MissingBrackets, MissingName, NoSuchPlace}
@@ -16,13 +16,13 @@ use Rattle.jsonc_edit.specs.remove.Removed.{has_brackets, IsKeptFor}
 use Rattle.jsonc_edit.specs.multiline.Multiline.{IsUnspread}
 use Rattle.jsonc_edit.proofs.lemmas.multiline.LineEnds.{has_its_brackets}
 use Rattle.jsonc_insert.proofs.lemmas.named.Writing as named_laws
-use Rattle.jsonc_run.specs.Edits.{Operation, remove, ensure_value, ensure_multiline, insert_element, append_element, insert_property, append_property, ensure_property, AreMade, none_made, first_made}
+use Rattle.jsonc_run.specs.Edits.{Operation, remove, ensure_value, ensure_multiline, insert_element, append_element, insert_property, append_property, ensure_property, EditSteps, none_made, first_made}
 use Rattle.jsonc_insert.specs.Inserted.{refusal}
 use Rattle.jsonc_insert.proofs.lemmas.elements.Containers.{wants_memory_alone}
-use Rattle.jsonc_insert.proofs.lemmas.members.Spreading as objects
+use Rattle.jsonc_insert.proofs.lemmas.members.SpreadObjects as objects
 use Rattle.jsonc_insert.specs.named.Places.{IsPropertyAt, a_property}
 use Rattle.jsonc_run.specs.Places.{IsArrayAt, IsContainerAt, IsEntryAt, IsObjectAt, an_entry, in_array, in_object, the_value}
-use Rattle.jsonc_run.specs.Refusals.{IsToldBy, LacksBrackets, LacksName, WantsMemoryOrPlace}
+use Rattle.jsonc_run.specs.Refusals.{FailsWith, LacksBrackets, LacksName, WantsMemoryOrPlace}
 use Rattle.jsonc_insert.proofs.lemmas.named.PropertyValues.{held_by_name, value_held}
 
 not_brackets : MissingBrackets ≡ OutOfMemory → ⊥
@@ -33,7 +33,7 @@ not_name e = cc
 
 module _ (o : Options) (ns : List Node) (tree : IsTree ns) (sound : SoundTree o (ordered_tree ns 0)) where
   -- an entry of an array or object at a path stands between brackets
-  between_brackets : (front : List ℕ) (c i n : ℕ) → IsAt ns front c → IsTrue (holds_values (content_at ns c)) → IsElementOf ns c i n → IsKeptFor ns n MissingBrackets → ⊥
+  between_brackets : (front : List ℕ) (c i n : ℕ) → IsAt ns front c → IsTrue (is_array_or_object (content_at ns c)) → IsElementOf ns c i n → IsKeptFor ns n MissingBrackets → ⊥
   between_brackets front c i n at holds e (k, said, held, lacks) =
       let same : c ≡ k = let both : Some c ≡ Some k = sym (element_parent ns tree c i n e) ∙ said in cc in
       let has : IsTrue (has_brackets ns k) = subst (λ j. IsTrue (has_brackets ns j)) same (has_its_brackets o ns front c tree sound at holds) in
@@ -43,12 +43,12 @@ module _ (o : Options) (ns : List Node) (tree : IsTree ns) (sound : SoundTree o 
   in_root : (n v : ℕ) → IsElementOf ns 0 0 v → LeadsTo ns n v [] → IsKeptFor ns n MissingBrackets → ⊥
   in_root n _ e paths.itself (k, said, held, lacks) =
       let same : 0 ≡ k = let both : Some 0 ≡ Some k = sym (element_parent ns tree 0 0 n e) ∙ said in cc in
-      false≢true (sym (ap holds_values (ap (content_at ns) (sym same) ∙ tree.root_first)) ∙ held)
+      false≢true (sym (ap is_array_or_object (ap (content_at ns) (sym same) ∙ tree.root_first)) ∙ held)
 
   entry_kept : (path : List ℕ) (n : ℕ) → IsEntryAt ns path n → IsKeptFor ns n MissingBrackets → ⊥
   entry_kept _ n (the_value at) k = in_root n at.0 at.1 at.2 k
-  entry_kept _ n (an_entry front c i at (in_array is e)) k = between_brackets front c i n at (ap holds_values is) e k
-  entry_kept _ n (an_entry front c i at (in_object p)) k = between_brackets front c i n at (ap holds_values p.of_object) p.element k
+  entry_kept _ n (an_entry front c i at (in_array is e)) k = between_brackets front c i n at (ap is_array_or_object is) e k
+  entry_kept _ n (an_entry front c i at (in_object p)) k = between_brackets front c i n at (ap is_array_or_object p.of_object) p.element k
 
   lines_kept : (path : List ℕ) (n : ℕ) → IsContainerAt ns path n → IsUnspread ns n MissingBrackets → ⊥
   lines_kept path n at lacks = false≢true (sym (ap not (has_its_brackets o ns path n tree sound at.0 at.1)) ∙ lacks)
@@ -80,17 +80,17 @@ module _ (o : Options) (ns : List Node) (tree : IsTree ns) (sound : SoundTree o 
   named _ k = k
 
   -- so memory or the edit's place was wanted
-  pub refused_so : (e : Operation) (stop : EditError) → IsToldBy ns e stop → WantsMemoryOrPlace stop
+  pub refused_so : (e : Operation) (stop : EditError) → FailsWith ns e stop → WantsMemoryOrPlace stop
   refused_so e OutOfMemory k = tt
   refused_so e NoSuchPlace k = tt
   refused_so e MissingBrackets k = brackets_there e k
   refused_so e MissingName k = named e k
 
-  pub answer_refused : {T : Type 0} (e : Operation) (r : Result T EditError) → IfErr r (IsToldBy ns e) → IfErr r WantsMemoryOrPlace
+  pub answer_refused : {T : Type 0} (e : Operation) (r : Result T EditError) → IfErr r (FailsWith ns e) → IfErr r WantsMemoryOrPlace
   answer_refused e (Ok x) k = tt
   answer_refused e (Err stop) k = refused_so e stop k
 
 -- what edits that were made leave is a tree
-pub made_tree : {old new : List Node} {es : List Operation} → IsTree old → AreMade old es new → IsTree new
+pub made_tree : {old new : List Node} {es : List Operation} → IsTree old → EditSteps old es new → IsTree new
 made_tree tree none_made = tree
 made_tree tree (first_made is after rest) = made_tree after rest

@@ -19,8 +19,8 @@ use Rattle.jsonc_edit.specs.Paths.{IsAt, itself}
 use Rattle.jsonc_edit.specs.Reading.{layout_for}
 use Rattle.jsonc_edit.proofs.Elements.{taken, left}
 use Rattle.jsonc_edit.proofs.FittingFinds.{passes, fails, none_is_some}
-use Rattle.jsonc_edit.proofs.Walk.{Shows-row_below, document_is}
-use Rattle.jsonc_edit.proofs.lemmas.set.Coming.{comes_among_rows}
+use Rattle.jsonc_edit.proofs.ChangesUpward.{Shows-row_below, document_is}
+use Rattle.jsonc_edit.proofs.lemmas.set.FirstValueRows.{comes_among_rows}
 use Rattle.jsonc_insert.proofs.lemmas.named.Values.{value_gives_way}
 use Rattle.jsonc_run.specs.Edits.{RootSet}
 use Rattle.jsonc_run.specs.Written.{RootValueSet, given_way, has_come}

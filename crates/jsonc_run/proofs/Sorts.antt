@@ -7,7 +7,7 @@ use Rattle.jsonc_sound.specs.SoundTrees.{SoundTree}
 use Rattle.jsonc_edit.specs.commas.InTurn.{holders, AreSetInPart, AreSetInTurn}
 use Rattle.jsonc_edit.specs.commas.Laws.{IsInSound, SaysTheSame}
 use Rattle.jsonc_edit.proofs.lemmas.commas.Documents.{keeps_document, keeps_in_part}
-use Rattle.jsonc_edit.proofs.lemmas.commas.Within.{stays_outside, stays_outside_in_part}
+use Rattle.jsonc_edit.proofs.lemmas.commas.InsideAlone.{stays_outside, stays_outside_in_part}
 use Rattle.jsonc_edit.specs.Changes.{top_at}
 use Rattle.jsonc_text.specs.declared.edit.TrailingCommaMode.{TrailingCommaMode}
 use Rattle.jsonc_edit.proofs.lemmas.multiline.Documents.{over_at}

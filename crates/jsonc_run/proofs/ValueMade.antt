@@ -11,14 +11,14 @@ use Rattle.jsonc_edit.specs.Paths.{IsAt}
 use Rattle.jsonc_edit.specs.Reading.{IsReplaced}
 use Rattle.jsonc_text.specs.declared.edit.EditError.{EditError}
 use Rattle.jsonc_text.specs.declared.edit.EditError.TheVariants.{OutOfMemory, MissingBrackets, MissingName, NoSuchPlace}
-use Rattle.jsonc_edit.specs.set.PropertyValues.{IsUnset, LastValue}
+use Rattle.jsonc_edit.specs.set.PropertyValues.{EnsureValueError, LastValue}
 use Rattle.jsonc_text.specs.declared.edit.Shape.{Shape}
 use Rattle.jsonc_run.specs.Edits.{ensure_value, PropertyValueSet}
 use Rattle.jsonc_insert.specs.named.Places.{IsPropertyAt, a_property}
-use Rattle.jsonc_run.specs.Refusals.{IsToldBy}
+use Rattle.jsonc_run.specs.Refusals.{FailsWith}
 use Rattle.jsonc_edit.specs.set.Shapes.{is_of}
 use Rattle.jsonc_insert.proofs.lemmas.named.PropertyValues.{value_held}
-use Rattle.jsonc_insert.proofs.lemmas.named.Unensured.{named}
+use Rattle.jsonc_insert.proofs.lemmas.named.EnsureErrors.{named}
 
 -- a property at a path is one
 pub property_kind : (ns : List Node) (path : List ℕ) (r : ℕ) → IsPropertyAt ns path r → content_at ns r ≡ property
@@ -31,13 +31,13 @@ property_value_set old new r v m (Some n) replaced last = (m, replaced)
 
 -- why it is not what it has to be
 module _ (ns : List Node) (path : List ℕ) (r : ℕ) (shape : Shape) (at : IsPropertyAt ns path r) where
-  unset_told : (e : EditError) → IsUnset (is_of shape) ns r e → (lacks_name_at ns r ≡ true → e ≡ MissingName) → IsToldBy ns (ensure_value path shape) e
+  unset_told : (e : EditError) → EnsureValueError (is_of shape) ns r e → (lacks_name_at ns r ≡ true → e ≡ MissingName) → FailsWith ns (ensure_value path shape) e
   unset_told OutOfMemory why missing = (r, at, named (lacks_name_at ns r) missing, why)
   unset_told MissingName why missing = (r, at, why)
   unset_told MissingBrackets why missing = why
   unset_told NoSuchPlace why missing = absurd why
 
-  pub unset_answer : {T : Type 0} (a : Result T EditError) → IfErr a (IsUnset (is_of shape) ns r) → IfErr a (λ e. lacks_name_at ns r ≡ true → e ≡ MissingName) → IfErr a (IsToldBy ns (ensure_value path shape))
+  pub unset_answer : {T : Type 0} (a : Result T EditError) → IfErr a (EnsureValueError (is_of shape) ns r) → IfErr a (λ e. lacks_name_at ns r ≡ true → e ≡ MissingName) → IfErr a (FailsWith ns (ensure_value path shape))
   unset_answer (Ok x) why missing = tt
   unset_answer (Err e) why missing = unset_told e why missing
 

@@ -9,7 +9,7 @@ use Rattle.jsonc_tree.specs.Tree.{Node, children_at, content_at, IsTree}
 use Rattle.jsonc_tree.specs.Values as values
 use Rattle.jsonc_tree.specs.Values.{is_passed_over, ValueOf, ItemsOf, MembersOf, PropertyOf, HoldsValue, HoldsAtMostOne, DocumentValueOf}
 use Rattle.jsonc_layout.specs.nodes.Kinds.{is_element_at}
-use Rattle.jsonc_layout.proofs.lemmas.nodes.Held.{held_in, value_is_held}
+use Rattle.jsonc_layout.proofs.lemmas.nodes.PropertyValues.{held_in, value_is_held}
 use Rattle.jsonc_sound.specs.Alone as alone
 use Rattle.jsonc_sound.specs.Alone.{PropertyAlone}
 use Rattle.jsonc_sound.specs.Changes as changes
@@ -22,9 +22,9 @@ use Rattle.jsonc_edit.specs.Paths as paths
 use Rattle.jsonc_edit.specs.Paths.{IsAt, IsElementOf, StepsTo}
 use Rattle.jsonc_edit.proofs.Elements.{taken, left}
 use Rattle.jsonc_edit.proofs.ShapedProperties.{second_is_held}
-use Rattle.jsonc_edit.proofs.Standing.{at_further}
+use Rattle.jsonc_edit.proofs.ShapedPlaces.{at_further}
 use Rattle.jsonc_edit.proofs.Uniqueness.{element_there}
-use Rattle.jsonc_edit.proofs.Walk.{Shows-row_below, document_is}
+use Rattle.jsonc_edit.proofs.ChangesUpward.{Shows-row_below, document_is}
 use Rattle.jsonc_insert.specs.named.Places.{IsPropertyOf}
 use Rattle.jsonc_insert.proofs.lemmas.named.PropertyValues.{property_row}
 use Rattle.jsonc_run.specs.Named.{StandsAt}

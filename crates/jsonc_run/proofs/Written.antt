@@ -17,38 +17,38 @@ use Rattle.jsonc_edit.proofs.ReplacedValues.{replaced_written}
 use Rattle.jsonc_edit.proofs.TakingOut.{loses_comment, numbered, taken_sound, taken_value}
 use Rattle.jsonc_edit.specs.Paths.{IsAt, IsElementOf, LeadsTo, itself}
 use Rattle.jsonc_edit.specs.Reading.{IsReplaced}
-use Rattle.jsonc_layout.specs.lines.Kinds.{holds_values}
+use Rattle.jsonc_layout.specs.lines.Kinds.{is_array_or_object}
 use Rattle.jsonc_edit.specs.remove.Removed.{TakesElement}
 use Rattle.jsonc_edit.proofs.lemmas.multiline.Documents.{spread_at}
 use Rattle.jsonc_edit.proofs.lemmas.multiline.SameDocument.{keeps_document}
 use Rattle.jsonc_edit.proofs.lemmas.remove.Entries.{entry_taken}
-use Rattle.jsonc_edit.proofs.lemmas.remove.Lost.{removes_entry}
-use Rattle.jsonc_edit.proofs.lemmas.remove.LostValue.{removes_value}
+use Rattle.jsonc_edit.proofs.lemmas.remove.RemovedElement.{removes_entry}
+use Rattle.jsonc_edit.proofs.lemmas.remove.RemovedValue.{removes_value}
 use Rattle.jsonc_edit.proofs.lemmas.remove.Roots.{value_taken}
 use Rattle.jsonc_edit.specs.set.Booleans.{BooleanSet}
 use Rattle.jsonc_edit.specs.set.Giving.{IsPropertyReplaced}
-use Rattle.jsonc_edit.proofs.lemmas.set.Gaining.{gives_first_value, leaves_bare}
+use Rattle.jsonc_edit.proofs.lemmas.set.FirstValueSet.{gives_first_value, leaves_bare}
 use Rattle.jsonc_edit.proofs.lemmas.set.WrittenBoolean.{writes_boolean}
 use Rattle.jsonc_edit.proofs.lemmas.set.WrittenProperty.{writes_property}
 use Rattle.jsonc_insert.specs.named.Places.{IsPropertyAt, a_property}
 use Rattle.jsonc_run.specs.Places.{IsEntryAt, the_value, an_entry, IsEntryOf, in_array, in_object, IsBooleanAt}
-use Rattle.jsonc_run.specs.Edits.{Operation, replace, remove, remove_comment, set_root, clear_root, replace_property, ensure_root, set_value, ensure_value, set_boolean, ensure_multiline, insert_element, append_element, insert_property, append_property, ensure_property, set_commas, set_some_commas, rearrange, RootSet, IsMade}
+use Rattle.jsonc_run.specs.Edits.{Operation, replace, remove, remove_comment, set_root, clear_root, replace_property, ensure_root, set_value, ensure_value, set_boolean, ensure_multiline, insert_element, append_element, insert_property, append_property, ensure_property, set_commas, set_some_commas, rearrange, RootSet, EditStep}
 use Rattle.jsonc_run.specs.Written.{MayBeMade, IsChanged, by_value, by_entry, by_all, by_comment, by_root, by_clearing, by_property, by_ensuring, by_setting, by_ensuring_held, by_boolean, by_lines, by_inserting, by_appending, by_inserting_member, by_appending_member, by_ensuring_named, by_commas, by_some_commas, by_sorting}
 use Rattle.jsonc_text.specs.declared.edit.Over.{Over}
 use Rattle.jsonc_text.specs.declared.edit.Over.TheVariants as over
 use Rattle.jsonc_text.specs.declared.edit.Shape.{Shape}
 use Rattle.jsonc_edit.specs.set.Shapes.{empty_of}
 use Rattle.jsonc_edit.specs.set.Shapes.{comes_first, has_it, may_stay, must_give_way}
-use Rattle.jsonc_run.specs.Written.{EntryLeft, entry_left, value_left, options_behind}
+use Rattle.jsonc_run.specs.Written.{EntryRemoved, entry_left, value_left, options_behind}
 use Rattle.jsonc_insert.proofs.lemmas.named.Values.{empty_writable, same_shape}
-use Rattle.jsonc_run.proofs.Ensured.{held, Ensured, created, stayed, other_stayed, replaced, ensured, value_ensured}
-use Rattle.jsonc_insert.proofs.Past.{past_the_end}
-use Rattle.jsonc_insert.proofs.lemmas.elements.Comes.{elements_come_at}
+use Rattle.jsonc_run.proofs.EnsuredValues.{held, Ensured, created, stayed, other_stayed, replaced, ensured, value_ensured}
+use Rattle.jsonc_insert.proofs.PastTheEnd.{past_the_end}
+use Rattle.jsonc_insert.proofs.lemmas.elements.InsertedValues.{elements_come_at}
 use Rattle.jsonc_insert.proofs.lemmas.elements.Containers.{has_its_brackets}
 use Rattle.jsonc_layout.specs.nodes.Siblings.{elements_at}
 use Rattle.jsonc_run.proofs.Inserted.{came_in, came_last}
 use Rattle.jsonc_run.proofs.Properties as properties
-use Rattle.jsonc_insert.proofs.lemmas.properties.Coming.{properties_come_at}
+use Rattle.jsonc_insert.proofs.lemmas.properties.InsertedRows.{properties_come_at}
 use Rattle.jsonc_run.proofs.Booleans.{boolean_given, boolean_changed}
 use Rattle.jsonc_insert.proofs.lemmas.named.PathValues.{value_of_text}
 use Rattle.jsonc_run.proofs.PropertyMade.{property_gives_way}
@@ -64,15 +64,15 @@ use Rattle.jsonc_insert.proofs.lemmas.named.Values.{value_gives_way}
 use Rattle.jsonc_run.proofs.Roots.{value_stands, root_value_set, whole_changed, emptied, no_leaves}
 
 -- an entry is an element of an array or object
-entry_held : (ns : List Node) (c i n : ℕ) → IsEntryOf ns c i n → IsTrue (holds_values (content_at ns c)) × IsElementOf ns c i n
-entry_held ns c i n (in_array is element) = (ap holds_values is, element)
-entry_held ns c i n (in_object inside) = (ap holds_values inside.of_object, inside.element)
+entry_held : (ns : List Node) (c i n : ℕ) → IsEntryOf ns c i n → IsTrue (is_array_or_object (content_at ns c)) × IsElementOf ns c i n
+entry_held ns c i n (in_array is element) = (ap is_array_or_object is, element)
+entry_held ns c i n (in_object inside) = (ap is_array_or_object inside.of_object, inside.element)
 
 leads_to_itself : (ns : List Node) (n v : ℕ) → LeadsTo ns n v [] → v ≡ n
 leads_to_itself ns n _ itself = refl
 
 -- an entry that is taken out of a sound document leaves it
-entry_leaves : (o : Options) (old new : List Node) (path : List ℕ) (n : ℕ) → IsTree old → IsTree new → SoundTree o (ordered_tree old 0) → IsEntryAt old path n → TakesElement old new n → EntryLeft (ordered_tree old 0) (ordered_tree new 0) path
+entry_leaves : (o : Options) (old new : List Node) (path : List ℕ) (n : ℕ) → IsTree old → IsTree new → SoundTree o (ordered_tree old 0) → IsEntryAt old path n → TakesElement old new n → EntryRemoved (ordered_tree old 0) (ordered_tree new 0) path
 entry_leaves o old new _ n tree after sound (the_value (v, element, leads)) takes =
     let is : IsElementOf old 0 0 n = subst (IsElementOf old 0 0) (leads_to_itself old n v leads) element in
     value_left (top_at old n) (value_taken o old new n tree after sound is takes)
@@ -81,7 +81,7 @@ entry_leaves o old new _ n tree after sound (an_entry front c i at entry) takes 
     entry_left front i (top_at old n) (entry_taken o old new front c i n tree after sound at held.0 held.1 takes)
 
 -- where the edit was made, all around its place stays
-pub made_in : (o : Options) (old new : List Node) (e : Operation) → IsTree old → IsTree new → SoundTree o (ordered_tree old 0) → MayBeMade o e → IsMade old e new → MadeIn o (ordered_tree old 0) e (ordered_tree new 0)
+pub made_in : (o : Options) (old new : List Node) (e : Operation) → IsTree old → IsTree new → SoundTree o (ordered_tree old 0) → MayBeMade o e → EditStep old e new → MadeIn o (ordered_tree old 0) e (ordered_tree new 0)
 made_in o old new (replace path v) tree after sound may (n, m, at, r) = value_gives_way old new path n m v tree at r
 made_in o old new (remove path) tree after sound may (n, at, takes) = entry_leaves o old new path n tree after sound at takes
 made_in o old new (remove_comment number) tree after sound may (n, at, r) =
@@ -122,7 +122,7 @@ pub record IsWritten (o : Options) (e : Operation) (old new : OrderedTree) : Typ
 
 module _ (o : Options) where
   -- so is an entry that has left
-  left_written : (t u : OrderedTree) (path : List ℕ) → SoundTree o t → EntryLeft t u path → IsWritten o (remove path) t u
+  left_written : (t u : OrderedTree) (path : List ℕ) → SoundTree o t → EntryRemoved t u path → IsWritten o (remove path) t u
   left_written t u _ s (entry_left path i top taken) =
       let w = removes_entry o t u path i top s taken in
       record { before = Some w.before; after = Some w.after; old_text = w.old_text; new_text = w.new_text; changed = by_entry path i w.loses; sound = w.sound }
@@ -147,7 +147,7 @@ module _ (o : Options) where
       let now = (leaves_bare o new after empty).means in
       record { before = was.0; after = None; old_text = was.1; new_text = now.text; changed = by_clearing; sound = now.sound }
 
-  -- and a property that gave way is written
+  -- and a property that was replaced is written
   property_written : (old new : List Node) (path : List ℕ) (n m : ℕ) (name : List ℕ) (v : Plain) → IsTree old → SoundTree o (ordered_tree old 0) → IsPropertyAt old path n → IsCharacters name → IsWritable o v → IsPropertyReplaced old new n name v m
       → IsWritten o (replace_property path name v) (ordered_tree old 0) (ordered_tree new 0)
   property_written old new _ n m name v tree s (a_property front c i at inside) texts may r =
@@ -162,11 +162,11 @@ module _ (o : Options) where
   root_ensured old new shape how tree s (stayed n e is same) =
       let h = held o old tree s n e in
       subst (λ (ns : List Node). IsWritten o (ensure_root shape how) (ordered_tree old 0) (ordered_tree ns 0)) (sym same)
-      (record { before = Some h.value; after = Some h.value; old_text = h.text; new_text = h.text; changed = by_ensuring (has_it (sym (h.told shape) ∙ is)); sound = s })
+      (record { before = Some h.value; after = Some h.value; old_text = h.text; new_text = h.text; changed = by_ensuring (has_it (sym (h.error shape) ∙ is)); sound = s })
   root_ensured old new shape _ tree s (other_stayed n e is same) =
       let h = held o old tree s n e in
       subst (λ (ns : List Node). IsWritten o (ensure_root shape over.Keep) (ordered_tree old 0) (ordered_tree ns 0)) (sym same)
-      (record { before = Some h.value; after = Some h.value; old_text = h.text; new_text = h.text; changed = by_ensuring (may_stay (sym (h.told shape) ∙ is)); sound = s })
+      (record { before = Some h.value; after = Some h.value; old_text = h.text; new_text = h.text; changed = by_ensuring (may_stay (sym (h.error shape) ∙ is)); sound = s })
   root_ensured old new shape _ tree s (replaced n m e is r) =
       let h = held o old tree s n e in
       let w = replaced_written o old new n m (empty_of shape) tree r [] s (value_stands old tree n e) (empty_writable o shape) in
@@ -175,7 +175,7 @@ module _ (o : Options) where
         after = Some (empty_of shape);
         old_text = h.text;
         new_text = subst (λ x. IsDocument o (printed_text (ordered_tree new 0)) (Some x)) (whole_changed w.changed) w.new_text;
-        changed = by_ensuring (must_give_way (sym (h.told shape) ∙ is));
+        changed = by_ensuring (must_give_way (sym (h.error shape) ∙ is));
         sound = w.sound;
       }
 
@@ -205,7 +205,7 @@ module _ (o : Options) where
       let w = writes_boolean o old new path n b tree s at.0 at.1 set in
       record { before = Some w.before; after = Some w.after; old_text = w.old_text; new_text = w.new_text; changed = by_boolean (boolean_changed o old path n tree s at w.old_text w.changed).1; sound = w.sound }
 
-  pub is_written : (old new : List Node) (e : Operation) → IsTree old → IsTree new → IsMade old e new → SoundTree o (ordered_tree old 0) → MayBeMade o e → IsWritten o e (ordered_tree old 0) (ordered_tree new 0)
+  pub is_written : (old new : List Node) (e : Operation) → IsTree old → IsTree new → EditStep old e new → SoundTree o (ordered_tree old 0) → MayBeMade o e → IsWritten o e (ordered_tree old 0) (ordered_tree new 0)
   is_written old new (replace path v) tree after (n, m, at, r) s may =
       let w = replaced_written o old new n m v tree r path s at may in
       record { before = Some w.before; after = Some w.after; old_text = w.old_text; new_text = w.new_text; changed = by_value w.changed; sound = w.sound }

@@ -32,8 +32,8 @@ use Rattle.jsonc_insert.specs.named.Places.{IsPropertyAt}
 use Rattle.jsonc_run.specs.Places.{IsArrayAt, IsBooleanAt, IsContainerAt, IsEntryAt, IsObjectAt}
 use Rattle.jsonc_edit.specs.set.Shapes.{is_of, empty_of}
 
--- What an edit asks for: that the value at the path gives way to this one, that the entry at the path leaves, or the comment of this number; that the
--- document's value is this one, or that all leaves the document; that the property at the path gives way to one of this name and value; that the document has
+-- What an edit asks for: that the value at the path is replaced by this one, that the entry at the path leaves, or the comment of this number; that the
+-- document's value is this one, or that all leaves the document; that the property at the path is replaced by one of this name and value; that the document has
 -- a value of a shape; that the value of the property at the path is this one, or is of a shape; that the truth value at the path becomes this one;
 -- that the array or object at the path is on several lines; that the value comes into the array at the path, as its element of this number or behind the last;
 -- that a property of this name and value so comes into the object at the path; that the first property of this name in the object at the path has a value of
@@ -101,7 +101,7 @@ operation_of s (EnsureProperty path name shape how) = ensure_property path.items
 operation_of s (SetTrailingCommas path mode) = set_commas path.items mode
 operation_of s (Sort path pin groups) = rearrange path.items s.headers s.order
 
--- the document's value, if there is one, has given way to this value; where there was none this is its first
+-- the document's value, if there is one, has been replaced by this value; where there was none this is its first
 abbrev pub RootSet : List Node → List Node → Plain → Option ℕ → Type 0
 RootSet old new v None = (m : ℕ) × FirstValue old new v m
 RootSet old new v (Some n) = (m : ℕ) × IsReplaced old new n v m
@@ -112,43 +112,43 @@ abbrev pub RootEnsured : Shape → Over → List Node → List Node → Type 0
 RootEnsured shape over.Keep old new = (answer : Option ℕ) × FoundOrCreated (is_of shape) (empty_of shape) old new (value_at old 0) answer
 RootEnsured shape over.Replace old new = (m : ℕ) × FoundOrSet (is_of shape) (empty_of shape) old new (value_at old 0) m
 
--- the value of the property r, if it holds one, has given way to this value; where it held none this has come at its end
+-- the value of the property r, if it holds one, has been replaced by this value; where it held none this has come at its end
 abbrev pub PropertyValueSet : List Node → List Node → ℕ → Plain → Option ℕ → Type 0
 PropertyValueSet old new r v None = (m : ℕ) × LastValue old new r v m
 PropertyValueSet old new r v (Some n) = (m : ℕ) × IsReplaced old new n v m
 
--- The edit was made: the node n, which stood at the path, has given way to m, which is the value, laid out as the old
+-- The edit was made: the node n, which stood at the path, has been replaced by m, which is the value, laid out as the old
 -- nodes tell; or n, the entry at the path, has been taken out with what leaves with it; or n, the comment of this
 -- number, has been taken out of the document; or the document's value has been set; or all the root's children have
--- been taken out; or n, the property at the path, has given way to m; or the document has a value of the shape, if it
+-- been taken out; or n, the property at the path, has been replaced by m; or the document has a value of the shape, if it
 -- had none of another that was to stay; or the value of r, the property at the path, has been set, or is of the shape;
 -- or n, the truth value at the path, has become this one; or the array or object at the path has been put on several
 -- lines, or was on several; or into n, the array at the path, the value has come as m, at this number or behind all elements;
 -- or into n, the object at the path, the property has come so; or the first property of the name in n, the object at the
 -- path, has a value of the shape, or another that was to stay, or has come; or the trailing commas of the array or object at the
 -- path and of those below it have been set, or those of the first of these; or its entries have come in the order.
-abbrev pub IsMade : List Node → Operation → List Node → Type 0
-IsMade old (replace path v) new = (n m : ℕ) × IsAt old path n × IsReplaced old new n v m
-IsMade old (remove path) new = (n : ℕ) × IsEntryAt old path n × TakesElement old new n
-IsMade old (remove_comment number) new = (n : ℕ) × (comment_at old number ≡ Some n) × CommentTaken old new n
-IsMade old (set_root v) new = RootSet old new v (value_at old 0)
-IsMade old clear_root new = Splices old new 0 0 (length (children_at old 0)) []
-IsMade old (replace_property path name v) new = (n m : ℕ) × IsPropertyAt old path n × IsPropertyReplaced old new n name v m
-IsMade old (ensure_root shape how) new = RootEnsured shape how old new
-IsMade old (set_value path v) new = (r : ℕ) × IsPropertyAt old path r × PropertyValueSet old new r v (value_at old r)
-IsMade old (ensure_value path shape) new = (r : ℕ) × IsPropertyAt old path r × PropertyValueEnsured shape old new r
-IsMade old (set_boolean path b) new = (n : ℕ) × IsBooleanAt old path n × BooleanSet old new n b
-IsMade old (ensure_multiline path) new = (n : ℕ) × IsContainerAt old path n × MadeMultiline old new n
-IsMade old (insert_element path i v) new = (n m : ℕ) × IsArrayAt old path n × ElementPut old new n i v m
-IsMade old (append_element path v) new = (n m : ℕ) × IsArrayAt old path n × ElementPut old new n (length (elements_at old n)) v m
-IsMade old (insert_property path i name v) new = (n m : ℕ) × IsObjectAt old path n × PropertyPut old new n i name v m
-IsMade old (append_property path name v) new = (n m : ℕ) × IsObjectAt old path n × PropertyPut old new n (length (elements_at old n)) name v m
-IsMade old (ensure_property path name shape how) new = (n : ℕ) × (m : Option ℕ) × IsObjectAt old path n × NamedEnsured shape how old new n name m
-IsMade old (set_commas path mode) new = (n : ℕ) × IsContainerAt old path n × AreSetInTurn mode old (holders old n) new
-IsMade old (set_some_commas path mode) new = (n : ℕ) × IsContainerAt old path n × AreSetInPart mode old (holders old n) new
-IsMade old (rearrange path headers order) new = (n : ℕ) × IsContainerAt old path n × IsOrderIn old n order × Rearranged old new n headers order
+abbrev pub EditStep : List Node → Operation → List Node → Type 0
+EditStep old (replace path v) new = (n m : ℕ) × IsAt old path n × IsReplaced old new n v m
+EditStep old (remove path) new = (n : ℕ) × IsEntryAt old path n × TakesElement old new n
+EditStep old (remove_comment number) new = (n : ℕ) × (comment_at old number ≡ Some n) × CommentTaken old new n
+EditStep old (set_root v) new = RootSet old new v (value_at old 0)
+EditStep old clear_root new = Splices old new 0 0 (length (children_at old 0)) []
+EditStep old (replace_property path name v) new = (n m : ℕ) × IsPropertyAt old path n × IsPropertyReplaced old new n name v m
+EditStep old (ensure_root shape how) new = RootEnsured shape how old new
+EditStep old (set_value path v) new = (r : ℕ) × IsPropertyAt old path r × PropertyValueSet old new r v (value_at old r)
+EditStep old (ensure_value path shape) new = (r : ℕ) × IsPropertyAt old path r × PropertyValueEnsured shape old new r
+EditStep old (set_boolean path b) new = (n : ℕ) × IsBooleanAt old path n × BooleanSet old new n b
+EditStep old (ensure_multiline path) new = (n : ℕ) × IsContainerAt old path n × MadeMultiline old new n
+EditStep old (insert_element path i v) new = (n m : ℕ) × IsArrayAt old path n × ElementPut old new n i v m
+EditStep old (append_element path v) new = (n m : ℕ) × IsArrayAt old path n × ElementPut old new n (length (elements_at old n)) v m
+EditStep old (insert_property path i name v) new = (n m : ℕ) × IsObjectAt old path n × PropertyPut old new n i name v m
+EditStep old (append_property path name v) new = (n m : ℕ) × IsObjectAt old path n × PropertyPut old new n (length (elements_at old n)) name v m
+EditStep old (ensure_property path name shape how) new = (n : ℕ) × (m : Option ℕ) × IsObjectAt old path n × NamedEnsured shape how old new n name m
+EditStep old (set_commas path mode) new = (n : ℕ) × IsContainerAt old path n × AreSetInTurn mode old (holders old n) new
+EditStep old (set_some_commas path mode) new = (n : ℕ) × IsContainerAt old path n × AreSetInPart mode old (holders old n) new
+EditStep old (rearrange path headers order) new = (n : ℕ) × IsContainerAt old path n × IsOrderIn old n order × Rearranged old new n headers order
 
 -- the edits were made in order, each in the tree that the one before it made
-pub data AreMade : List Node → List Operation → List Node → Type 0 where
-  none_made : {ns : List Node} → AreMade ns [] ns
-  first_made : {old now new : List Node} {e : Operation} {es : List Operation} → IsMade old e now → IsTree now → AreMade now es new → AreMade old (e ∷ es) new
+pub data EditSteps : List Node → List Operation → List Node → Type 0 where
+  none_made : {ns : List Node} → EditSteps ns [] ns
+  first_made : {old now new : List Node} {e : Operation} {es : List Operation} → EditStep old e now → IsTree now → EditSteps now es new → EditSteps old (e ∷ es) new

@@ -11,7 +11,7 @@ use Rattle.jsonc_text.specs.declared.edit.Over.TheVariants.{Keep, Replace}
 use Rattle.jsonc_insert.specs.named.Laws.{ChangesMarks}
 use Rattle.jsonc_run.specs.Edits.{Operation, replace, remove, remove_comment, set_root, clear_root, replace_property, ensure_root, set_value, ensure_value, set_boolean, ensure_multiline, insert_element, append_element, insert_property, append_property, ensure_property, set_commas, set_some_commas, rearrange}
 
--- One stretch of the marks has given way to the literals that are written for the new value, or for the new name and value of a property; in a document
+-- One stretch of the marks has been replaced by the literals that are written for the new value, or for the new name and value of a property; in a document
 -- that had no value these have come. Or those of an entry have left, with comments beside it; or one comment has left, the one of that number. All others
 -- stay, in order. An empty array or object has none, and none leave where another value is to stay. Of a cleared root none stay. One truth value has given
 -- way to another. Lines change none. Of a value that comes into an array the literals have come, and of a property that comes into an object its name and

@@ -14,7 +14,7 @@ use Rattle.jsonc_insert.specs.elements.Members.{member_count}
 use Rattle.jsonc_run.specs.Edits.{Operation, replace, remove, remove_comment, set_root, clear_root, replace_property, ensure_root, set_value, ensure_value, set_boolean, ensure_multiline, insert_element, append_element, insert_property, append_property, ensure_property, set_commas, set_some_commas, rearrange}
 use Rattle.jsonc_run.specs.Refusals.{HasItsPlace}
 
--- the document has a value, and at the path in it stands v: there v may give way to itself
+-- the document has a value, and at the path in it stands v: there v may be replaced by itself
 abbrev pub StandsAt : Plain → List ℕ → Option Plain → Type 0
 StandsAt v path w = (x : Plain) × (w ≡ Some x) × Changed v v path x x
 
@@ -76,6 +76,6 @@ PlacesAreNamed o ns e =
     → HasItsPlace ns e ↔ IsNamed w (comment_count (ordered_tree ns 0)) e
 
 -- why an edit was not made: that it has no place is told exactly where none is named
-abbrev pub TellsUnnamed : Options → List Node → Operation → EditError → Type 0
-TellsUnnamed o ns e why =
+abbrev pub NoSuchPlaceIff : Options → List Node → Operation → EditError → Type 0
+NoSuchPlaceIff o ns e why =
     (w : Option Plain) → DocumentValueOf o (ordered_tree ns 0) w → (why ≡ NoSuchPlace) ↔ ¬ (IsNamed w (comment_count (ordered_tree ns 0)) e)

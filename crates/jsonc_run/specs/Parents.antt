@@ -21,11 +21,11 @@ use Rattle.jsonc_edit.specs.set.PropertyValues.{LastValue}
 use Rattle.jsonc_edit.specs.set.RootSet.{FirstValue}
 use Rattle.jsonc_sort.specs.Rearranged.{Rearranged}
 use Rattle.jsonc_sort.specs.Sorting.{Headers}
-use Rattle.jsonc_run.specs.Edits.{Operation, IsMade}
+use Rattle.jsonc_run.specs.Edits.{Operation, EditStep}
 use Rattle.jsonc_run.specs.Refusals.{IsLeft}
 
--- What one call of a node makes of the nodes. It changes none of those that were there, as a reading and a refusal; a leaf is written anew as it stands; a node
--- leaves alone, or children of it do; a node gives way to a value, with spaces or without, or a property to a property; a comment leaves, or an element or
+-- What one call of a node makes of the nodes. It changes none of those that were there, as a reading and an error; a leaf is written anew as it stands; a node
+-- leaves alone, or children of it do; a node is replaced by a value, with spaces or without, or a property to a property; a comment leaves, or an element or
 -- property; a first value comes into the root, or a last one into a property; a truth value becomes another; an array or object is put on several lines; an
 -- element or a property comes in; trailing commas are set, of all that stand below a node or of the first of these; or elements come in another order.
 pub data IsCall (old new : List Node) : ℕ → Type 0 where
@@ -50,7 +50,7 @@ pub data IsCall (old new : List Node) : ℕ → Type 0 where
 
 -- a call of a node that is there: of this node itself, or of one that stands in it
 pub record IsCallOf (old new : List Node) (n : ℕ) : Type 0 where
-  pub there : n < length old
+  pub in_tree : n < length old
   pub at : ℕ
   pub over : IsOver old n at
   pub is : IsCall old new at
@@ -71,20 +71,20 @@ IsApart old now n = Keeps (length old) old now ⊎ (IsOver old 0 n → ⊥)
 abbrev pub AreCallsApart : List Node → List Node → Type 0
 AreCallsApart old new = AreCallsThat IsApart old new
 
--- nobody's child, at place 0
+-- detached, at place 0
 abbrev pub IsLoose : List Node → ℕ → Type 0
 IsLoose ns n = (parent_at ns n ≡ None) × (place_at ns n ≡ 0)
 
--- every node is there still; and what had a parent has it still, or is nobody's child
+-- every node is there still; and what had a parent has it still, or is detached
 pub record KeepsParents (old new : List Node) : Type 0 where
   pub len : length old ≤ length new
   pub parent : (n c : ℕ) → parent_at old n ≡ Some c → (parent_at new n ≡ Some c) ⊎ IsLoose new n
 
--- it was nobody's child between two of the calls
+-- it was detached between two of the calls
 abbrev pub WasLoose : List Node → List Node → ℕ → Type 0
 WasLoose old new n = (now : List Node) × AreCalls old now × IsLoose now n × AreCalls now new
 
--- the nodes are a tree, and every one is there still; and what had a parent has it still, or was nobody's child on the way
+-- the nodes are a tree, and every one is there still; and what had a parent has it still, or was detached on the way
 pub record KeepsParentsInTurn (old new : List Node) : Type 0 where
   pub tree : IsTree new
   pub len : length old ≤ length new
@@ -109,7 +109,7 @@ CallsStayApart old new = IsTree old → AreCallsApart old new → ordered_tree n
 
 -- an edit is a call of the document, where it is made and where it is refused
 abbrev pub EditIsCall : List Node → Operation → List Node → Type 0
-EditIsCall old e new = IsTree old → IsMade old e new → IsCallOf old new 0
+EditIsCall old e new = IsTree old → EditStep old e new → IsCallOf old new 0
 
 abbrev pub RefusalIsCall : List Node → Operation → List Node → Type 0
 RefusalIsCall old e new = IsTree old → IsLeft old e new → IsCallOf old new 0

@@ -4,7 +4,7 @@ use Rattle.jsonc_tree.specs.Content.{Content, array, object, property}
 use Rattle.jsonc_tree.specs.Tree.{Node, content_at}
 use Rattle.jsonc_edit.specs.Paths.{IsAt, IsElementOf}
 use Rattle.jsonc_insert.specs.named.Places.{IsPropertyOf}
-use Rattle.jsonc_layout.specs.lines.Kinds.{holds_values}
+use Rattle.jsonc_layout.specs.lines.Kinds.{is_array_or_object}
 use Rattle.jsonc_edit.specs.set.Booleans.{is_boolean}
 use Rattle.jsonc_run.specs.declared.places.Needed.{Needed}
 
@@ -12,7 +12,7 @@ use Rattle.jsonc_run.specs.declared.places.Needed.{Needed}
 abbrev pub IsNeeded : Needed → Content → Type 0
 IsNeeded Needed.Array content = content ≡ array
 IsNeeded Needed.Object content = content ≡ object
-IsNeeded Needed.Container content = IsTrue (holds_values content)
+IsNeeded Needed.Container content = IsTrue (is_array_or_object content)
 IsNeeded Needed.Property content = content ≡ property
 IsNeeded Needed.Boolean content = is_boolean content ≡ true
 
@@ -22,7 +22,7 @@ IsBooleanAt ns path n = IsAt ns path n × (is_boolean (content_at ns n) ≡ true
 
 -- the array or object that a path leads to
 abbrev pub IsContainerAt : List Node → List ℕ → ℕ → Type 0
-IsContainerAt ns path n = IsAt ns path n × IsTrue (holds_values (content_at ns n))
+IsContainerAt ns path n = IsAt ns path n × IsTrue (is_array_or_object (content_at ns n))
 
 -- the array that a path leads to
 abbrev pub IsArrayAt : List Node → List ℕ → ℕ → Type 0

@@ -21,11 +21,11 @@ use Rattle.jsonc_edit.specs.set.Kinds.{LacksKind}
 use Rattle.jsonc_text.specs.declared.edit.Over.{Over}
 use Rattle.jsonc_text.specs.declared.edit.Over.TheVariants as over
 use Rattle.jsonc_text.specs.declared.edit.Shape.{Shape}
-use Rattle.jsonc_insert.specs.named.Named.{IsUnensured}
+use Rattle.jsonc_insert.specs.named.Named.{EnsureError}
 use Rattle.jsonc_edit.specs.set.Shapes.{is_of}
 use Rattle.jsonc_insert.specs.named.Places.{IsPropertyAt}
 use Rattle.jsonc_run.specs.Places.{IsArrayAt, IsBooleanAt, IsContainerAt, IsEntryAt, IsObjectAt}
-use Rattle.jsonc_run.specs.Edits.{Operation, replace, remove, remove_comment, set_root, clear_root, replace_property, ensure_root, set_value, ensure_value, set_boolean, ensure_multiline, insert_element, append_element, insert_property, append_property, ensure_property, set_commas, set_some_commas, rearrange, IsMade}
+use Rattle.jsonc_run.specs.Edits.{Operation, replace, remove, remove_comment, set_root, clear_root, replace_property, ensure_root, set_value, ensure_value, set_boolean, ensure_multiline, insert_element, append_element, insert_property, append_property, ensure_property, set_commas, set_some_commas, rearrange, EditStep}
 
 -- a node stands where the edit is to be made, an entry, a property, a truth value, an array or object, an array, an object, or there is
 -- the comment; edits of the root always have their place
@@ -50,7 +50,7 @@ HasItsPlace ns (set_commas path mode) = (n : ℕ) × IsContainerAt ns path n
 HasItsPlace ns (set_some_commas path mode) = (n : ℕ) × IsContainerAt ns path n
 HasItsPlace ns (rearrange path headers order) = (n : ℕ) × IsContainerAt ns path n
 
--- an empty value has to be set: the document has none, or one of another shape that is to give way
+-- an empty value has to be set: the document has none, or one of another shape that is to be replaced
 abbrev pub WantsEmpty : Shape → Over → List Node → Type 0
 WantsEmpty shape over.Keep ns = value_at ns 0 ≡ None
 WantsEmpty shape over.Replace ns = LacksKind (is_of shape) ns (value_at ns 0)
@@ -77,7 +77,7 @@ MayWantMemory ns (insert_element path i v) = (n : ℕ) × IsArrayAt ns path n ×
 MayWantMemory ns (append_element path v) = (n : ℕ) × IsArrayAt ns path n × (refusal ns n ≡ OutOfMemory)
 MayWantMemory ns (insert_property path i name v) = (n : ℕ) × IsObjectAt ns path n × (refusal ns n ≡ OutOfMemory)
 MayWantMemory ns (append_property path name v) = (n : ℕ) × IsObjectAt ns path n × (refusal ns n ≡ OutOfMemory)
-MayWantMemory ns (ensure_property path name shape how) = (n : ℕ) × IsObjectAt ns path n × IsUnensured shape how ns n name OutOfMemory
+MayWantMemory ns (ensure_property path name shape how) = (n : ℕ) × IsObjectAt ns path n × EnsureError shape how ns n name OutOfMemory
 MayWantMemory ns (set_commas path mode) = (n : ℕ) × IsContainerAt ns path n × (mode ≡ IfMultiline) × WantsSomeComma ns n
 MayWantMemory ns (set_some_commas path mode) = ⊥
 MayWantMemory ns (rearrange path headers order) = (n : ℕ) × IsContainerAt ns path n
@@ -90,23 +90,23 @@ LacksBrackets ns (insert_element path i v) = (n : ℕ) × IsArrayAt ns path n ×
 LacksBrackets ns (append_element path v) = (n : ℕ) × IsArrayAt ns path n × (refusal ns n ≡ MissingBrackets)
 LacksBrackets ns (insert_property path i name v) = (n : ℕ) × IsObjectAt ns path n × (refusal ns n ≡ MissingBrackets)
 LacksBrackets ns (append_property path name v) = (n : ℕ) × IsObjectAt ns path n × (refusal ns n ≡ MissingBrackets)
-LacksBrackets ns (ensure_property path name shape how) = (n : ℕ) × IsObjectAt ns path n × IsUnensured shape how ns n name MissingBrackets
+LacksBrackets ns (ensure_property path name shape how) = (n : ℕ) × IsObjectAt ns path n × EnsureError shape how ns n name MissingBrackets
 LacksBrackets ns e = ⊥
 
 -- the property whose value is to be of a shape lacks its name, or its colon, at a path or as the first of its name
 abbrev pub LacksName : List Node → Operation → Type 0
 LacksName ns (ensure_value path shape) = (n : ℕ) × IsPropertyAt ns path n × (lacks_name_at ns n ≡ true)
-LacksName ns (ensure_property path name shape how) = (n : ℕ) × IsObjectAt ns path n × IsUnensured shape how ns n name MissingName
+LacksName ns (ensure_property path name shape how) = (n : ℕ) × IsObjectAt ns path n × EnsureError shape how ns n name MissingName
 LacksName ns e = ⊥
 
--- why the edit was not made: memory was wanted, it has no place, or a bracket or a name is missing; nothing else is told
-abbrev pub IsToldBy : List Node → Operation → EditError → Type 0
-IsToldBy ns e OutOfMemory = MayWantMemory ns e
-IsToldBy ns e NoSuchPlace = ¬ (HasItsPlace ns e)
-IsToldBy ns e MissingBrackets = LacksBrackets ns e
-IsToldBy ns e MissingName = LacksName ns e
+-- why the edit was not made: allocation failed, it has no place, or a bracket or a name is missing; nothing else is told
+abbrev pub FailsWith : List Node → Operation → EditError → Type 0
+FailsWith ns e OutOfMemory = MayWantMemory ns e
+FailsWith ns e NoSuchPlace = ¬ (HasItsPlace ns e)
+FailsWith ns e MissingBrackets = LacksBrackets ns e
+FailsWith ns e MissingName = LacksName ns e
 
--- memory was wanted, or the edit has no place: neither a bracket nor a name is missing
+-- allocation failed, or the edit has no place: neither a bracket nor a name is missing
 abbrev pub WantsMemoryOrPlace : EditError → Type 0
 WantsMemoryOrPlace OutOfMemory = Unit {0}
 WantsMemoryOrPlace NoSuchPlace = Unit {0}
@@ -121,6 +121,6 @@ pub data IsLeft (old : List Node) : Operation → List Node → Type 0 where
 
 -- What is answered: the edit was made, or the error tells why it was not, and what it leaves.
 pub record IsAnswer (old new : List Node) (e : Operation) (r : Result (Unit {0}) EditError) : Type 0 where
-  pub made : OnOk r (IsMade old e new)
-  pub told : IfErr r (IsToldBy old e)
+  pub made : OnOk r (EditStep old e new)
+  pub error : IfErr r (FailsWith old e)
   pub left : OnErr r (IsLeft old e new)

@@ -19,16 +19,16 @@ use Rattle.jsonc_edit.specs.SeamLaws.{comments_before, LosesWithSeam}
 use Rattle.jsonc_edit.specs.Writing.{IsOfNumbers}
 use Rattle.jsonc_layout.specs.from_input.Texts.{IsCharacters, IsOfTexts}
 use Rattle.jsonc_edit.specs.multiline.Laws.{SpreadAt}
-use Rattle.jsonc_insert.specs.elements.Laws.{ElementComesAt}
-use Rattle.jsonc_insert.specs.elements.Members.{PropertyComesAt}
+use Rattle.jsonc_insert.specs.elements.Laws.{ElementInsertedAt}
+use Rattle.jsonc_insert.specs.elements.Members.{PropertyInsertedAt}
 use Rattle.jsonc_insert.specs.named.Laws as named
-use Rattle.jsonc_insert.specs.named.Values.{ValueEnsured, ValueGivesWay}
+use Rattle.jsonc_insert.specs.named.Values.{ValueEnsured, ReplacesValue}
 use Rattle.jsonc_sort.specs.Paths.{KeepsOutside, SortedAt}
 use Rattle.jsonc_run.specs.declared.edit.Edit.{Edit}
 use Rattle.jsonc_run.specs.Edits.{operation_of, unsorted, Operation, replace, remove, remove_comment, set_root, clear_root, replace_property, ensure_root, set_value, ensure_value, set_boolean, ensure_multiline, insert_element, append_element, insert_property, append_property, ensure_property, set_commas, set_some_commas, rearrange}
 use Rattle.jsonc_run.specs.Marked.{IsMarked}
 use Rattle.jsonc_run.specs.Named.{comment_count, IsNamed}
-use Rattle.jsonc_run.specs.Written.{options_behind, EntryLeft, IsChanged, PropertyGivenWay, RootValueEnsured, RootValueSet}
+use Rattle.jsonc_run.specs.Written.{options_behind, EntryRemoved, IsChanged, ReplacesProperty, RootValueEnsured, RootValueSet}
 
 -- each number that the edit writes is, whole, one of these options
 abbrev pub NumbersFit : Options → Operation → Type 0
@@ -65,21 +65,21 @@ IsChangedAt path t u = (was now : Top) × DocumentChanged was now path t u
 
 -- Where in a sound document the edit is made, and that all else stays: one line for each edit, with no premise.
 abbrev pub MadeIn : Options → OrderedTree → Operation → OrderedTree → Type 0
-MadeIn o t (replace path v) u = ValueGivesWay path v t u
-MadeIn o t (remove path) u = EntryLeft t u path
+MadeIn o t (replace path v) u = ReplacesValue path v t u
+MadeIn o t (remove path) u = EntryRemoved t u path
 MadeIn o t (remove_comment number) u = (loses : LosesComment t u) × (comments_ahead loses ≡ number) × (seam : LosesWithSeam t u) × (comments_before seam ≡ number)
 MadeIn o t (set_root v) u = RootValueSet v t u
 MadeIn o t clear_root u = u ≡ root_with none
-MadeIn o t (replace_property path name v) u = PropertyGivenWay name v t u path
+MadeIn o t (replace_property path name v) u = ReplacesProperty name v t u path
 MadeIn o t (ensure_root shape how) u = RootValueEnsured shape t u how
-MadeIn o t (set_value path v) u = ValueGivesWay path v t u
+MadeIn o t (set_value path v) u = ReplacesValue path v t u
 MadeIn o t (ensure_value path shape) u = ValueEnsured path shape t u
-MadeIn o t (set_boolean path b) u = (was : Bool) × (given : ValueGivesWay path (boolean b) t u) × (given.was ≡ boolean_leaf was)
+MadeIn o t (set_boolean path b) u = (was : Bool) × (given : ReplacesValue path (boolean b) t u) × (given.was ≡ boolean_leaf was)
 MadeIn o t (ensure_multiline path) u = SpreadAt path t u
-MadeIn o t (insert_element path i v) u = ElementComesAt o path i v t u
-MadeIn o t (append_element path v) u = (n : ℕ) × ((i : ℕ) → n ≤ i → ElementComesAt o path i v t u)
-MadeIn o t (insert_property path i name v) u = PropertyComesAt o path i name v t u
-MadeIn o t (append_property path name v) u = (n : ℕ) × ((i : ℕ) → n ≤ i → PropertyComesAt o path i name v t u)
+MadeIn o t (insert_element path i v) u = ElementInsertedAt o path i v t u
+MadeIn o t (append_element path v) u = (n : ℕ) × ((i : ℕ) → n ≤ i → ElementInsertedAt o path i v t u)
+MadeIn o t (insert_property path i name v) u = PropertyInsertedAt o path i name v t u
+MadeIn o t (append_property path name v) u = (n : ℕ) × ((i : ℕ) → n ≤ i → PropertyInsertedAt o path i name v t u)
 MadeIn o t (ensure_property path name shape how) u = named.StaysAround o path name shape t u how
 MadeIn o t (set_commas path mode) u = OnlyCommas mode t u × IsChangedAt path t u
 MadeIn o t (set_some_commas path mode) u = OnlyCommas mode t u × IsChangedAt path t u

@@ -8,19 +8,19 @@ use Rattle.jsonc_sound.specs.ChangeLaws.{DiffersIn}
 use Rattle.jsonc_sound.specs.TreeChanges.{leaves_of, property_of}
 use Rattle.jsonc_layout.specs.from_input.Layout.{Layout}
 use Rattle.jsonc_edit.specs.commas.Laws.{allowing}
-use Rattle.jsonc_edit.specs.SeamEntries.{PropertyGivesWayWithSeam}
+use Rattle.jsonc_edit.specs.SeamEntries.{PropertyReplacedWithSeam}
 use Rattle.jsonc_layout.specs.from_input.Laid.{laid, laid_property}
 use Rattle.jsonc_layout.specs.from_input.Texts.{IsCharacters}
 use Rattle.jsonc_edit.specs.Spaced.{SpacesPut}
 use Rattle.jsonc_edit.specs.Writing.{IsWritable}
-use Rattle.jsonc_sound.specs.Coming.{ValueComes}
+use Rattle.jsonc_sound.specs.Coming.{ValueInserted}
 use Rattle.jsonc_sound.specs.EntryLaws.{LosesEntry, root_with}
 use Rattle.jsonc_sound.specs.Properties.{PropertyChanged, ReplacesMember}
-use Rattle.jsonc_insert.specs.elements.Laws.{item_count, GainsItem}
-use Rattle.jsonc_insert.specs.elements.Members.{member_count, GainsMember}
+use Rattle.jsonc_insert.specs.elements.Laws.{item_count, InsertsItem}
+use Rattle.jsonc_insert.specs.elements.Members.{member_count, InsertsMemberAt}
 use Rattle.jsonc_insert.specs.named.Members.{EnsuresMember}
 use Rattle.jsonc_edit.specs.set.Shapes.{EnsuredValue}
-use Rattle.jsonc_insert.specs.named.Values.{ReplacesHeld, ValueGivesWay}
+use Rattle.jsonc_insert.specs.named.Values.{ReplacesHeld, ReplacesValue}
 use Rattle.jsonc_edit.specs.remove.Laws.{EntryTaken, ValueTaken}
 use Rattle.jsonc_edit.specs.set.Giving.{is_bare_value}
 use Rattle.jsonc_text.specs.declared.edit.Over.{Over}
@@ -75,7 +75,7 @@ options_after o (e ∷ es) = options_after (options_behind o e) es
 
 -- The edit makes the second value of the first: where another value is written, this is the first, but that at the path the new value stands; where an entry
 -- leaves, it is the first without the entry, or none without the document's value; where a comment leaves, it is the first, if there is one; where the
--- document's value is set, it is that, and where the root is cleared there is none; where a property gives way, it is the first, but for that entry; where
+-- document's value is set, it is that, and where the root is cleared there is none; where a property is replaced, it is the first, but for that entry; where
 -- a value of a shape is to be there, it is the first or an empty one; where the value of a property is set, or is to be of a shape, it is the first, but that
 -- the property has this value, or, if it had none of the shape, an empty one; where a truth value is set, it is the first, but that at the path, where one
 -- stood, this one stands; lines change nothing; where a value comes into an array, it is the first, but that the array at the path has it, at its number or as
@@ -97,12 +97,12 @@ pub data IsChanged : Option Plain → Operation → Option Plain → Type 0 wher
       → IsChanged (Some x) (ensure_value (path ++ i ∷ []) shape) (Some y)
   by_boolean : {was b : Bool} {x y : Plain} {path : List ℕ} → Changed (boolean was) (boolean b) path x y → IsChanged (Some x) (set_boolean path b) (Some y)
   by_lines : {w : Option Plain} {path : List ℕ} → IsChanged w (ensure_multiline path) w
-  by_inserting : {i : ℕ} {v x y : Plain} {path : List ℕ} → GainsItem path i v x y → IsChanged (Some x) (insert_element path i v) (Some y)
-  by_appending : {i : ℕ} {v x y : Plain} {path : List ℕ} (gains : GainsItem path i v x y) → item_count gains.old ≤ i
+  by_inserting : {i : ℕ} {v x y : Plain} {path : List ℕ} → InsertsItem path i v x y → IsChanged (Some x) (insert_element path i v) (Some y)
+  by_appending : {i : ℕ} {v x y : Plain} {path : List ℕ} (gains : InsertsItem path i v x y) → item_count gains.old ≤ i
       → IsChanged (Some x) (append_element path v) (Some y)
-  by_inserting_member : {i : ℕ} {name : List ℕ} {v x y : Plain} {path : List ℕ} → GainsMember path i name v x y
+  by_inserting_member : {i : ℕ} {name : List ℕ} {v x y : Plain} {path : List ℕ} → InsertsMemberAt path i name v x y
       → IsChanged (Some x) (insert_property path i name v) (Some y)
-  by_appending_member : {i : ℕ} {name : List ℕ} {v x y : Plain} {path : List ℕ} (gains : GainsMember path i name v x y) → member_count gains.old ≤ i
+  by_appending_member : {i : ℕ} {name : List ℕ} {v x y : Plain} {path : List ℕ} (gains : InsertsMemberAt path i name v x y) → member_count gains.old ≤ i
       → IsChanged (Some x) (append_property path name v) (Some y)
   by_ensuring_named : {path name : List ℕ} {shape : Shape} {how : Over} {x y : Plain} → EnsuresMember path name shape how x y
       → IsChanged (Some x) (ensure_property path name shape how) (Some y)
@@ -112,29 +112,29 @@ pub data IsChanged : Option Plain → Operation → Option Plain → Type 0 wher
       → IsChanged (Some x) (rearrange path headers order) (Some y)
 
 -- an entry has left a sound document, with what leaves with it and no more; or the document's value has
-pub data EntryLeft (t u : OrderedTree) : List ℕ → Type 0 where
-  entry_left : (path : List ℕ) (i : ℕ) (top : Top) → EntryTaken path i top t u → EntryLeft t u (path ++ i ∷ [])
-  value_left : (top : Top) → ValueTaken top t u → EntryLeft t u []
+pub data EntryRemoved (t u : OrderedTree) : List ℕ → Type 0 where
+  entry_left : (path : List ℕ) (i : ℕ) (top : Top) → EntryTaken path i top t u → EntryRemoved t u (path ++ i ∷ [])
+  value_left : (top : Top) → ValueTaken top t u → EntryRemoved t u []
 
--- the document's value has given way to this one; or this one has come into the row of a root that had none, with ends of lines beside it
+-- the document's value has been replaced by this one; or this one has come into the row of a root that had none, with ends of lines beside it
 pub data RootValueSet (v : Plain) (t u : OrderedTree) : Type 0 where
-  given_way : ValueGivesWay [] v t u → RootValueSet v t u
-  has_come : (layout : Layout) (row next : OrderedTree) → t ≡ root_with row → u ≡ root_with next → ValueComes (laid layout v) row next → RootValueSet v t u
+  given_way : ReplacesValue [] v t u → RootValueSet v t u
+  has_come : (layout : Layout) (row next : OrderedTree) → t ≡ root_with row → u ≡ root_with next → ValueInserted (laid layout v) row next → RootValueSet v t u
 
 -- all has stayed; or the empty value of a shape has come into the row of a root that had none, with ends of lines beside it; or the document's value, of
--- another shape, has given way to it, where another is to
+-- another shape, has been replaced by it, where another is to
 pub data RootValueEnsured (shape : Shape) (t u : OrderedTree) : Over → Type 0 where
   all_kept : {how : Over} → u ≡ t → RootValueEnsured shape t u how
-  empty_come : {how : Over} (layout : Layout) (row next : OrderedTree) → t ≡ root_with row → u ≡ root_with next → ValueComes (laid layout (empty_of shape)) row next
+  empty_come : {how : Over} (layout : Layout) (row next : OrderedTree) → t ≡ root_with row → u ≡ root_with next → ValueInserted (laid layout (empty_of shape)) row next
       → RootValueEnsured shape t u how
-  empty_given : (given : ValueGivesWay [] (empty_of shape) t u) → is_of shape given.was.content ≡ false → RootValueEnsured shape t u over.Replace
+  empty_given : (given : ReplacesValue [] (empty_of shape) t u) → is_of shape given.was.content ≡ false → RootValueEnsured shape t u over.Replace
 
--- Spaces have come into the document, and then in the row of the object at the path, between its front and its rest, a property has given way to one of this
+-- Spaces have come into the document, and then in the row of the object at the path, between its front and its rest, a property has been replaced by one of this
 -- name and value, in some layout; all leaves before and after stay. One space has come or none: directly before what is printed behind it, where its value is a
 -- literal without quotes.
-pub data PropertyGivenWay (name : List ℕ) (v : Plain) (t u : OrderedTree) : List ℕ → Type 0 where
+pub data ReplacesProperty (name : List ℕ) (v : Plain) (t u : OrderedTree) : List ℕ → Type 0 where
   property_given : (path : List ℕ) (i : ℕ) (layout : Layout) (spaced front was back : OrderedTree) → SpacesPut t spaced
       → PropertyChanged front was (laid_property layout name v).below back path spaced u
       → DiffersIn (leaves_of (property_of was)) (leaves_of (property_of (laid_property layout name v).below)) (leaves spaced) (leaves u)
-      → (seam : PropertyGivesWayWithSeam path i was (laid_property layout name v).below t u) → (seam.behind ≡ true → is_bare_value v ≡ true)
-      → PropertyGivenWay name v t u (path ++ i ∷ [])
+      → (seam : PropertyReplacedWithSeam path i was (laid_property layout name v).below t u) → (seam.behind ≡ true → is_bare_value v ≡ true)
+      → ReplacesProperty name v t u (path ++ i ∷ [])

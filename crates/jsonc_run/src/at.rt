@@ -21,7 +21,7 @@ use jsonc_layout::input::CstInputValue;
 use jsonc_tree::Tree;
 use std::alloc::Allocator;
 
-// Lets the value at a path give way to another.
+// Lets the value at a path are replaced by another.
 pub(crate) fn replace_at<A: Allocator + Copy>(
     alloc: A,
     tree: &mut Tree<A>,
@@ -81,7 +81,7 @@ pub(crate) fn set_value<A: Allocator + Copy>(
     Ok(())
 }
 
-// Lets the property at a path give way to one of this name and value.
+// Lets the property at a path are replaced by one of this name and value.
 pub(crate) fn replace_property_at<A: Allocator + Copy>(
     alloc: A,
     tree: &mut Tree<A>,

@@ -6,66 +6,87 @@ use std::alloc::Allocator;
 
 /// An edit of a document.
 ///
-/// Each step of a path is a place among the elements of an array or the properties of an object. What is
-/// written is laid out as the document tells.
+/// Each step of a path is a place among the elements of an array or the properties of an object.
+/// What is written is laid out as the document tells; `docs/EDITS.md` shows the bytes.
 #[derive(Drop)]
 pub enum Edit<A: Allocator> {
-    /// The value at a path gives way to another.
+    /// Replaces the value at a path by another. `{a:[1]b:2}` with 7 at `a` is `{a:7 b:2}`.
     Replace(Vec<usize, A>, CstInputValue<A>),
-    /// The element or property at a path leaves its array or object, with whitespace and comments beside
-    /// it and one comma; or at the empty path the document's value leaves. Memory is wanted only where a
-    /// space has to come between two literals without quotes.
+    /// Removes the element or property at a path, with one comma.
+    ///
+    /// The whitespace and comments directly before it are removed too, and the rest of its line
+    /// where nothing else stands on that. At the empty path it removes the document's value. Memory
+    /// is allocated only where a space has to be inserted between two literals without quotes.
+    /// `{ "a": 1, "b": 2 }` without `b` is `{ "a": 1 }`.
     Remove(Vec<usize, A>),
-    /// The comment of this number, counted from 0 in the order of the document, leaves it. A line comment
-    /// takes along the whitespace and the line end before it. Memory is wanted only where a space has to
-    /// come between two literals without quotes.
+    /// Removes the comment of this number, counted from 0 in the order of the document.
+    ///
+    /// A line comment is removed with the whitespace and the line end before it. Memory is
+    /// allocated only where a space has to be inserted between two literals without quotes:
+    /// `[1/*c*/2]` without its comment is `[1 2]`.
     RemoveComment(usize),
-    /// The document's value gives way to another; where it has none, this one is its first.
+    /// Sets the document's value, or replaces it by this one where it has one.
     SetRoot(CstInputValue<A>),
-    /// All leaves the document, comments too. No memory is wanted.
+    /// Takes everything out of the document, comments too. Nothing is allocated.
     ClearRoot,
-    /// The property of an object that the last step of a path leads to gives way to one of this name and
-    /// value.
+    /// Replaces the property at a path by one of this name and value.
+    ///
+    /// The last step of the path leads to the property of an object.
     ReplaceProperty(Vec<usize, A>, String<A>, CstInputValue<A>),
-    /// The document has an array or an object: where it has no value, an empty one is set; where it has a
-    /// value of another kind, that stays or gives way to an empty one.
+    /// Sets an empty array or object where the document has no value.
+    ///
+    /// A value of another kind stays, or is replaced by an empty one.
     EnsureRoot(Shape, Over),
-    /// The value of the property that the last step of a path leads to gives way to another. In a document
-    /// whose properties are whole that is what `Replace` does; a property that lost its value by edits of
-    /// single leaves gets this one behind all that it holds.
+    /// Sets the value of the property at a path.
+    ///
+    /// The last step of the path leads to the property of an object. In a document whose properties
+    /// are whole that is what `Replace` does; a property that lost its value by edits of single
+    /// leaves gets this one behind all that it holds.
     SetValue(Vec<usize, A>, CstInputValue<A>),
-    /// The property that the last step of a path leads to has an array or an object as its value: a value
-    /// of another kind gives way to an empty one, and one that is missing is set so. A property that lacks
-    /// its name or its colon is refused.
+    /// Sets an empty array or object as the value of the property at a path, unless it has one.
+    ///
+    /// A value of another kind is replaced by the empty one, and one that is missing is set so. A
+    /// property that lacks its name or its colon is an error.
     EnsureValue(Vec<usize, A>, Shape),
-    /// The truth value at a path becomes this one. Memory is wanted only where `false` would come to stand
-    /// directly behind a hexadecimal number, and a space has to come between them.
+    /// Sets the truth value at a path.
+    ///
+    /// Memory is allocated only where `false` would come to stand directly behind a hexadecimal
+    /// number, and a space has to be inserted between them: `[0x1true]` is `[0x1 false]` then.
     SetBoolean(Vec<usize, A>, bool),
-    /// The array or object at a path is put on several lines, where no line ends among its children yet:
-    /// each of its elements or properties, and its last bracket, comes on a line of its own.
+    /// Puts the array or object at a path on several lines, where no line ends among its children
+    /// yet.
+    ///
+    /// Each of its elements or properties, and its last bracket, is put on a line of its own.
     EnsureMultiline(Vec<usize, A>),
-    /// A value comes into the array at a path, before its element of this number, counted from 0, or behind
-    /// the last where it has fewer.
+    /// Inserts a value into the array at a path, before its element of this number.
+    ///
+    /// The number counts from 0; where the array has fewer elements, the value is inserted behind
+    /// the last. `[1, 2]` with 9 at 1 is `[1, 9,  2]`.
     InsertElement(Vec<usize, A>, usize, CstInputValue<A>),
-    /// A value comes into the array at a path, behind its last element.
+    /// Appends a value to the array at a path.
     AppendElement(Vec<usize, A>, CstInputValue<A>),
-    /// A property of this name and value comes into the object at a path, before its property of this
-    /// number, counted from 0, or behind the last where it has fewer. The object is put on several lines.
+    /// Inserts a property into the object at a path, before its property of this number.
+    ///
+    /// The number counts from 0; where the object has fewer properties, the new one is inserted
+    /// behind the last. The object is put on several lines.
     InsertProperty(Vec<usize, A>, usize, String<A>, CstInputValue<A>),
-    /// A property of this name and value comes into the object at a path, behind its last property.
+    /// Appends a property of this name and value to the object at a path.
     AppendProperty(Vec<usize, A>, String<A>, CstInputValue<A>),
-    /// The first property of this name in the object at a path has an array or an object as its value: a
-    /// value of another kind stays or gives way to an empty one, and where none has the name, one with an
-    /// empty value comes behind the last property.
+    /// Sets an empty array or object at a name in the object at a path, unless one stands there.
+    ///
+    /// The first property of the name counts. A value of another kind stays, or is replaced by the
+    /// empty one; where no property has the name, one with an empty value is appended.
     EnsureProperty(Vec<usize, A>, String<A>, Shape, Over),
-    /// The trailing commas of the array or object at a path, and of all arrays and objects below it, are
-    /// set: with `IfMultiline` one comes behind the last element or property wherever a line ends in the
-    /// row and none stands there, and with `Never` it leaves. Memory is wanted only for a comma that comes;
-    /// where it is refused, commas before may have been set.
+    /// Sets or removes the trailing commas of the array or object at a path, and of all below it.
+    ///
+    /// With `IfMultiline` one is inserted behind the last element or property wherever a line ends
+    /// in the row and none stands there, and with `Never` it is removed. Memory is allocated only
+    /// for a comma that is inserted; where that fails, commas before may have been set.
     SetTrailingCommas(Vec<usize, A>, TrailingCommaMode),
-    /// The elements or properties of the array or object at a path come in the order of the comparison that
-    /// the list is made with. Where the first flag is set, the comments above each of them before which a
-    /// blank line stands are pinned: they stay where they are. Where the second is, each stretch between
-    /// blank lines is sorted by itself.
+    /// Sorts the elements or properties of the array or object at a path.
+    ///
+    /// The order is that of the comparison that the list is made with. Where the first flag is set,
+    /// the comments above each of them before which a blank line stands are pinned: they stay where
+    /// they are. Where the second is, each stretch between blank lines is sorted by itself.
     Sort(Vec<usize, A>, bool, bool),
 }

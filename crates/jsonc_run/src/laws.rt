@@ -2,7 +2,7 @@
 ghost use Rattle.std.specs.Prelude.{◌≡◌, ℕ, List};
 ghost use Rattle.jsonc_text.specs.Options.{Options};
 ghost use Rattle.jsonc_tree.specs.Tree.{IsTree, Node};
-ghost use Rattle.jsonc_run.specs.Edits.{AreMade, Operation};
+ghost use Rattle.jsonc_run.specs.Edits.{EditSteps, Operation};
 ghost use Rattle.jsonc_run.specs.Named.{PlacesAreNamed};
 ghost use Rattle.jsonc_run.specs.Parents.{CallKeepsParents, CallsKeepParents, EditIsCall, RefusalIsCall};
 ghost use Rattle.jsonc_run.specs.Parents.{CallStaysApart, CallsStayApart, StaysWithItsNodes};
@@ -23,13 +23,13 @@ pub fn places_are_named()
 /// Each is named in the document before it, and makes of its value, its marks and its leaves the next one's.
 pub fn edits_make_steps()
     ensures { (o : Options) (old new : List Node) (es : List Operation) → IsTree old
-        → AreMade old es new → MakesSteps o old es new }
+        → EditSteps old es new → MakesSteps o old es new }
 {}
 
 /// No call, raw or structured, by a path or by the number of a node, made or refused, moves a node from one
-/// parent to another: what had a parent has it still, or is nobody's child, at place 0. So behind any list of
-/// calls the nodes are a tree, and what has another parent than it had was nobody's child between two of them.
-/// A call that changes no node that was there leaves the document, as a refusal, and so does a call of a node
+/// parent to another: what had a parent has it still, or is detached, at place 0. So behind any list of
+/// calls the nodes are a tree, and what has another parent than it had was detached between two of them.
+/// A call that changes no node that was there leaves the document, as an error, and so does a call of a node
 /// that does not stand in the document, and any list of such calls, so it prints what it did. An edit, made or
 /// refused, is a call of the document; where trailing commas were refused those of the first may be set.
 pub fn calls_keep_parents()

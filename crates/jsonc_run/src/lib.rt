@@ -1,10 +1,10 @@
 //! Edits of documents, one at a time.
 //!
 //! [`make`] makes one edit (`specs/Edits.antt`), all but sorts, which ask a comparison of typed nodes. An
-//! edit lets the value at a path give way to another, takes the element or
+//! edit replaces the value at a path by another, takes the element or
 //! property at a path out, or the document's value ([`find_entry`]), or the comment of a number
 //! ([`find_comment`]); it sets the document's value, takes all out of the document, lets the property at a
-//! path give way to another ([`find_property`]), sets the value of that property or the truth value at a
+//! path are replaced by another ([`find_property`]), sets the value of that property or the truth value at a
 //! path, sees that the document or a property has an array or an object, puts the array or object at a
 //! path on several lines ([`find_container`]), or a value into the array at one, or a property into the
 //! object, whose first property of a name may also have to be an array or an object, or sets the trailing

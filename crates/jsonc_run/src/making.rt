@@ -3,10 +3,10 @@
 ghost use Rattle.std.specs.Prelude.{◌≡◌, ◌∷◌, [], false, true, IfErr, None, OnErr, OnOk, chars, length};
 ghost use Rattle.jsonc_text.specs.Options.{Options};
 ghost use Rattle.jsonc_tree.specs.OrderedTree.{ordered_tree};
-ghost use Rattle.jsonc_run.specs.Edits.{is_sort, operation_of, unsorted, IsMade};
+ghost use Rattle.jsonc_run.specs.Edits.{is_sort, operation_of, unsorted, EditStep};
 ghost use Rattle.jsonc_sound.specs.SoundTrees.{SoundTree};
-ghost use Rattle.jsonc_run.specs.Named.{TellsUnnamed};
-ghost use Rattle.jsonc_run.specs.Refusals.{IsAnswer, IsLeft, IsToldBy, WantsMemoryOrPlace};
+ghost use Rattle.jsonc_run.specs.Named.{NoSuchPlaceIff};
+ghost use Rattle.jsonc_run.specs.Refusals.{IsAnswer, IsLeft, FailsWith, WantsMemoryOrPlace};
 ghost use Rattle.jsonc_run.specs.Steps.{MakesSteps};
 
 use crate::at::{
@@ -30,10 +30,10 @@ pub fn make<A: Allocator + Copy>(
     edit: &Edit<A>,
 ) -> Result<(), EditError>
     requires unsorted { is_sort edit.now ≡ false }
-    ensures made { OnOk result (IsMade tree.old.nodes (operation_of unsorted edit.now) tree.new.nodes) }
-    ensures told { IfErr result (IsToldBy tree.old.nodes (operation_of unsorted edit.now)) }
+    ensures made { OnOk result (EditStep tree.old.nodes (operation_of unsorted edit.now) tree.new.nodes) }
+    ensures error { IfErr result (FailsWith tree.old.nodes (operation_of unsorted edit.now)) }
     ensures named { (o : Options) → SoundTree o (ordered_tree tree.old.nodes 0)
-        → IfErr result (TellsUnnamed o tree.old.nodes (operation_of unsorted edit.now)) }
+        → IfErr result (NoSuchPlaceIff o tree.old.nodes (operation_of unsorted edit.now)) }
     ensures memory_or_place { (o : Options) → SoundTree o (ordered_tree tree.old.nodes 0)
         → IfErr result WantsMemoryOrPlace }
     ensures steps { (o : Options)

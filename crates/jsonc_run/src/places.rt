@@ -11,7 +11,7 @@ ghost use Rattle.jsonc_insert.specs.named.Places.{IsPropertyAt, IsPropertyOf};
 ghost use Rattle.jsonc_run.specs.Places.{IsContainerAt, IsEntryAt, IsEntryOf, IsNeeded};
 
 use jsonc_edit::find;
-use jsonc_layout::lines::holds_values;
+use jsonc_layout::lines::is_array_or_object;
 use jsonc_layout::nodes::{element_at, is_comment};
 use jsonc_tree::{Kind, Tree};
 use std::alloc::Allocator;
@@ -33,7 +33,7 @@ fn is_needed<A: Allocator>(kind: &Kind<A>, needed: Needed) -> bool
     match needed {
         Needed::Array => matches!(kind, Kind::Array(_)),
         Needed::Object => matches!(kind, Kind::Object(_)),
-        Needed::Container => holds_values(kind),
+        Needed::Container => is_array_or_object(kind),
         Needed::Property => matches!(kind, Kind::Property(_)),
         Needed::Boolean => matches!(kind, Kind::Boolean(_)),
     }
@@ -43,7 +43,7 @@ fn is_needed<A: Allocator>(kind: &Kind<A>, needed: Needed) -> bool
 fn if_needed<A: Allocator>(tree: &Tree<A>, found: Option<usize>, needed: Needed) -> Option<usize>
     requires { IsThere tree.now.nodes found }
     ensures found { FindsExactly result (λ n. (found ≡ Some n) × IsNeeded needed (content_at tree.now.nodes n)) }
-    ensures there { IsThere tree.now.nodes result }
+    ensures in_tree { IsThere tree.now.nodes result }
 {
     let node = found?;
     if is_needed(tree.kind(node), needed) {
@@ -60,7 +60,7 @@ pub(crate) fn find_needed<A: Allocator>(
 ) -> Option<usize>
     ensures found { FindsExactly result
         (λ n. IsAt tree.now.nodes path.now n × IsNeeded needed (content_at tree.now.nodes n)) }
-    ensures there { IsThere tree.now.nodes result }
+    ensures in_tree { IsThere tree.now.nodes result }
 {
     if_needed(tree, find(tree, path), needed)
 }
@@ -68,7 +68,7 @@ pub(crate) fn find_needed<A: Allocator>(
 /// The array or object that a path leads to.
 pub fn find_container<A: Allocator>(tree: &Tree<A>, path: &[usize]) -> Option<usize>
     ensures found { FindsExactly result (IsContainerAt tree.now.nodes path.now) }
-    ensures there { IsThere tree.now.nodes result }
+    ensures in_tree { IsThere tree.now.nodes result }
 {
     find_needed(tree, path, Needed::Container)
 }
@@ -77,7 +77,7 @@ pub fn find_container<A: Allocator>(tree: &Tree<A>, path: &[usize]) -> Option<us
 fn property_of<A: Allocator>(tree: &Tree<A>, container: usize, place: usize) -> Option<usize>
     requires { container < length tree.now.nodes }
     ensures found { FindsExactly result (IsPropertyOf tree.now.nodes container place) }
-    ensures there { IsThere tree.now.nodes result }
+    ensures in_tree { IsThere tree.now.nodes result }
 {
     match tree.kind(container) {
         Kind::Object(_) => {
@@ -91,7 +91,7 @@ fn property_of<A: Allocator>(tree: &Tree<A>, container: usize, place: usize) -> 
 fn entry_of<A: Allocator>(tree: &Tree<A>, container: usize, place: usize) -> Option<usize>
     requires { container < length tree.now.nodes }
     ensures found { FindsExactly result (IsEntryOf tree.now.nodes container place) }
-    ensures there { IsThere tree.now.nodes result }
+    ensures in_tree { IsThere tree.now.nodes result }
 {
     match tree.kind(container) {
         Kind::Array(_) => element_at(tree, container, place),
@@ -103,7 +103,7 @@ fn entry_of<A: Allocator>(tree: &Tree<A>, container: usize, place: usize) -> Opt
 /// the property of an object that its last step leads to.
 pub fn find_entry<A: Allocator>(tree: &Tree<A>, path: &[usize]) -> Option<usize>
     ensures found { FindsExactly result (IsEntryAt tree.now.nodes path.now) }
-    ensures there { IsThere tree.now.nodes result }
+    ensures in_tree { IsThere tree.now.nodes result }
 {
     let Some((last, front)) = path.split_last() else {
         return find(tree, path);
@@ -115,7 +115,7 @@ pub fn find_entry<A: Allocator>(tree: &Tree<A>, path: &[usize]) -> Option<usize>
 /// The property of an object that the last step of a path leads to.
 pub fn find_property<A: Allocator>(tree: &Tree<A>, path: &[usize]) -> Option<usize>
     ensures found { FindsExactly result (IsPropertyAt tree.now.nodes path.now) }
-    ensures there { IsThere tree.now.nodes result }
+    ensures in_tree { IsThere tree.now.nodes result }
 {
     let Some((last, front)) = path.split_last() else {
         return None;
@@ -128,7 +128,7 @@ pub fn find_property<A: Allocator>(tree: &Tree<A>, path: &[usize]) -> Option<usi
 pub fn find_comment<A: Allocator>(tree: &Tree<A>, number: usize) -> Option<usize>
     ensures found { result ≡ comment_at tree.now.nodes number }
     ensures comment { IfSome result (λ n. IsTrue (is_comment_at tree.now.nodes n)) }
-    ensures there { IfSome result (λ n. n < length tree.now.nodes) }
+    ensures in_tree { IfSome result (λ n. n < length tree.now.nodes) }
     ensures below { IfSome result (λ n. IsOver tree.now.nodes 0 n) }
 {
     let mut left = number;

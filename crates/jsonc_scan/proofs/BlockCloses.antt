@@ -10,7 +10,7 @@ use Rattle.jsonc_text.specs.Chars.{Steps}
 use Rattle.jsonc_text.specs.string.Between.{NoneFrom}
 use Rattle.jsonc_scan.specs.Between.{HoldsBlock}
 use Rattle.jsonc_text.specs.Gaps.{HasNoEndInside}
-use Rattle.jsonc_text.proofs.Steps.{steps_ascii}
+use Rattle.jsonc_text.proofs.CharacterSteps.{steps_ascii}
 use Rattle.std.proofs.lemmas.List.{get_or-drop}
 use Rattle.jsonc_text.specs.Gaps.{UpToBlockEnd, block}
 use Rattle.jsonc_text.proofs.Basics.{and_both, test_eq, tails}

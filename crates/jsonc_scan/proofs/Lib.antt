@@ -1,4 +1,4 @@
-pub mod Between
+pub mod NumberParts
 pub mod BlockCloses
 pub mod NoLexemes
 pub mod NoNumbers
@@ -6,6 +6,6 @@ pub mod OneFault
 pub mod OneNumberFault
 pub mod Reading
 pub mod RefusedLexemes
-pub mod Told
-pub mod ToldWords
+pub mod NumberFaults
+pub mod WordFaults
 pub mod Words

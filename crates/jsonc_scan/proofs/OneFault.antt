@@ -5,16 +5,16 @@ use Rattle.jsonc_text.specs.declared.errors.ParseErrorKind.TheVariants as kind
 use Rattle.jsonc_text.specs.declared.errors.ParseStringErrorKind.{ParseStringErrorKind}
 use Rattle.jsonc_text.specs.Gaps.{UpToBlockEnd}
 use Rattle.jsonc_text.specs.Lexemes.{is_punctuation}
-use Rattle.jsonc_text.specs.string.Told as told
-use Rattle.jsonc_text.specs.string.Told.{Tells as TellsOfString}
+use Rattle.jsonc_text.specs.string.Faults as told
+use Rattle.jsonc_text.specs.string.Faults.{StringFaultAt as TellsOfString}
 use Rattle.jsonc_text.specs.Numbers.{Sign}
 use Rattle.jsonc_text.specs.Options.{Options}
 use Rattle.jsonc_text.specs.Strings.{IsQuote}
 use Rattle.jsonc_text.specs.Text.{next, starts, is_digit}
 use Rattle.jsonc_text.specs.Words.{begins_word}
 use Rattle.jsonc_scan.specs.Laws.{HasOneFault}
-use Rattle.jsonc_scan.specs.Told as t
-use Rattle.jsonc_scan.specs.Told.{IsNext, IsName, Tells, BarePoint, Mantissa, BreaksExponent, BreaksWord, GoesOnNoNumber, begins_digits, begins_other}
+use Rattle.jsonc_scan.specs.Faults as t
+use Rattle.jsonc_scan.specs.Faults.{IsNext, IsName, LexemeFault, BarePoint, Mantissa, BreaksExponent, BreaksWord, GoesOnNoNumber, begins_digits, begins_other}
 use Rattle.jsonc_text.proofs.Basics.{clash, heads, tails, no_both, starts_also, or_left, or_right, test_eq}
 use Rattle.jsonc_text.proofs.UniqueGaps.{many_unique}
 use Rattle.jsonc_text.proofs.Begins.{is_quote, begins_plain_number, quote_word, plain_number_word}
@@ -48,7 +48,7 @@ group_of o [] = nothing
 group_of o (c ∷ s) =
     group (c == 0x2F) (starts (λ d. d == 0x2A) (next s)) (c == 0x22 || (c == 0x27 && o.single_quoted_strings)) (c == 0x27) (c == 0x2B) o.unary_plus_numbers (begins_digits (c ∷ s) || c == 0x2D) (begins_word c)
 
--- a refusal, by what it begins as
+-- an error, by what it begins as
 pub data Grouped (o : Options) (s : List ℕ) : Group → ParseErrorKind → List ℕ → List ℕ → Type 0 where
   of_comment : {r : List ℕ} → s ≡ 0x2F ∷ 0x2A ∷ r → ((u : List ℕ) → UpToBlockEnd r u → ⊥) → Grouped o s comment kind.UnterminatedCommentBlock s []
   of_string : {q : ℕ} {k : ParseStringErrorKind} {t r : List ℕ} → TellsOfString o.extended_escapes q k s t r → Grouped o s string (kind.String k) t r
@@ -171,7 +171,7 @@ by_string {o = o} {q = q} {s = s} (u, e) a x =
     let string_here : group_of o s ≡ string = ap (group_of o) e ∙ string_group o q u a in
     rw string_here (of_string x)
 
-pub grouped : {o : Options} {k : ParseErrorKind} {s t r : List ℕ} → Tells o k s t r → Grouped o s (group_of o s) k t r
+pub grouped : {o : Options} {k : ParseErrorKind} {s t r : List ℕ} → LexemeFault o k s t r → Grouped o s (group_of o s) k t r
 grouped (t.bare_point f b) = by_number (point_tells f b)
 grouped (t.lone_sign s g n) = by_number (sign_tells s g n)
 grouped (t.hex_digits a s h n c) = by_number (hex_digits_tells a s h n c)

@@ -7,12 +7,12 @@ use Rattle.std.specs.Int.{is_in_range}
 use Rattle.jsonc_text.specs.Numbers.{Sign, Whole, Fraction, Exponent, Unsigned, Number, is_x, is_sign}
 use Rattle.jsonc_text.specs.Options.{Options}
 use Rattle.jsonc_text.specs.Text.{next, no, starts, AllOf, is_digit, is_hex_digit}
-use Rattle.jsonc_scan.specs.Told as t
-use Rattle.jsonc_scan.specs.Told.{IsNext, IsName, Tells, BarePoint, Mantissa, BreaksExponent, BreaksWord, GoesOnNoNumber, begins_digits, begins_other}
+use Rattle.jsonc_scan.specs.Faults as t
+use Rattle.jsonc_scan.specs.Faults.{IsNext, IsName, LexemeFault, BarePoint, Mantissa, BreaksExponent, BreaksWord, GoesOnNoNumber, begins_digits, begins_other}
 use Rattle.jsonc_text.proofs.Basics.{clash, tails, apart, no_starts, or_left}
 use Rattle.jsonc_text.proofs.UniqueGaps.{all_unique, all_starts}
 use Rattle.jsonc_text.proofs.UniqueNumbers.{whole_unique, whole_begins, fraction_unique, all_no, unsigned_begins}
-use Rattle.jsonc_scan.proofs.Told.{no_left, broken}
+use Rattle.jsonc_scan.proofs.NumberFaults.{no_left, broken}
 
 -- one kind, of one range
 abbrev pub Same : ParseErrorKind → ParseErrorKind → List ℕ → List ℕ → List ℕ → List ℕ → Type 0

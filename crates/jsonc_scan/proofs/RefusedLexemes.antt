@@ -12,7 +12,7 @@ use Rattle.jsonc_text.specs.Words.{Keyword, boolean, null, IsKeyword, WordLit, b
 use Rattle.jsonc_text.proofs.lemmas.string.OneFault.{no_string_told}
 use Rattle.jsonc_text.proofs.lemmas.string.QuotedStrings.{quoted_of_string}
 use Rattle.jsonc_scan.specs.Reads.{begins_number}
-use Rattle.jsonc_scan.specs.Told.{Tells, begins_digits}
+use Rattle.jsonc_scan.specs.Faults.{LexemeFault, begins_digits}
 use Rattle.jsonc_text.proofs.Basics.{heads, tails, or_cases}
 use Rattle.jsonc_text.proofs.Begins.{word_begins}
 use Rattle.jsonc_text.proofs.UniqueGaps.{many_unique, all_starts}
@@ -23,7 +23,7 @@ use Rattle.jsonc_scan.proofs.OneNumberFault.{never, false_of, digits_begin, no_n
 use Rattle.jsonc_scan.proofs.OneFault.{comment, string, number, word, nothing, group, group_of, Grouped, of_comment, of_string, of_number, of_word, of_nothing, grouped, string_begins, string_group, word_group, signed_group}
 
 -- strings
-no_string : {o : Options} {k : ParseErrorKind} {s v t r u : List ℕ} → Tells o k s t r → IsString o s v u → ⊥
+no_string : {o : Options} {k : ParseErrorKind} {s v t r u : List ℕ} → LexemeFault o k s t r → IsString o s v u → ⊥
 no_string {o} {s = s} {v = v} {u = u} x (q, i, a, e, d) = go (rw (ap (group_of o) e ∙ string_group o q (i ++ q ∷ u) a) at (grouped x))
   where
     allowed : (q : ℕ) (b : Bool) → IsTrue (q == 0x22 || (q == 0x27 && b)) → IsTrue (q == 0x22 || (q == 0x27 && true))
@@ -62,7 +62,7 @@ number_or_word {o} {s} (d, n, c, g) = go c g
     go (Sign.minus {r = m}) g = inl (signed_group {o = o} {s = 0x2D ∷ m} Sign.minus (signed_never m))
     go (Sign.plus {r = m} p) g = inl (signed_group {o = o} {s = 0x2B ∷ m} (Sign.plus p) (signed_never m))
 
-no_number : {o : Options} {k : ParseErrorKind} {s t r u : List ℕ} → Tells o k s t r → Number o s u → ⊥
+no_number : {o : Options} {k : ParseErrorKind} {s t r u : List ℕ} → LexemeFault o k s t r → Number o s u → ⊥
 no_number {o} {s = s} {u = u} x n = elim (number_or_word n) [
   | inl e ↦ as_number (rw e at (grouped x))
   | inr e ↦ as_word (rw e at (grouped x))
@@ -75,7 +75,7 @@ no_number {o} {s = s} {u = u} x n = elim (number_or_word n) [
     as_word (of_word b) = b.no_number u n
 
 -- words and keywords
-no_word : {o : Options} {k : ParseErrorKind} {s w t r : List ℕ} (u : List ℕ) → Tells o k s t r → s ≡ w ++ u → WordLit o w (next u) → ⊥
+no_word : {o : Options} {k : ParseErrorKind} {s w t r : List ℕ} (u : List ℕ) → LexemeFault o k s t r → s ≡ w ++ u → WordLit o w (next u) → ⊥
 no_word {o} {s = s} u x e w = go (rw (first_word o s (word_begins u e w)) at (grouped x))
   where
     go : {k : ParseErrorKind} {t r : List ℕ} → Grouped o s word k t r → ⊥
@@ -86,7 +86,7 @@ keyword_first (boolean true) u x = rw x.0 refl
 keyword_first (boolean false) u x = rw x.0 refl
 keyword_first null u x = rw x.0 refl
 
-no_keyword : {o : Options} {k : ParseErrorKind} {s t r : List ℕ} (u : List ℕ) (w : Keyword) → Tells o k s t r → IsKeyword w s u → ⊥
+no_keyword : {o : Options} {k : ParseErrorKind} {s t r : List ℕ} (u : List ℕ) (w : Keyword) → LexemeFault o k s t r → IsKeyword w s u → ⊥
 no_keyword {o} {s = s} u w x h = go (rw (first_word o s (keyword_first w u h)) at (grouped x))
   where
     go : {k : ParseErrorKind} {t r : List ℕ} → Grouped o s word k t r → ⊥
@@ -133,7 +133,7 @@ punctuation_group o c s h = go (c == 0x2F) (starts (λ d. d == 0x2A) (next s)) (
             no_dollar : (c : ℕ) → IsTrue (is_punctuation c) → IsTrue (c == 0x24) → ⊥
             no_dollar c h a = grind arith
 
-no_punctuation : {o : Options} {k : ParseErrorKind} {s t r u : List ℕ} (c : ℕ) → Tells o k s t r → IsTrue (is_punctuation c) → s ≡ c ∷ u → ⊥
+no_punctuation : {o : Options} {k : ParseErrorKind} {s t r u : List ℕ} (c : ℕ) → LexemeFault o k s t r → IsTrue (is_punctuation c) → s ≡ c ∷ u → ⊥
 no_punctuation {o} {s = s} {u = u} c x h e = go (rw (ap (group_of o) e ∙ punctuation_group o c u h) at (grouped x))
   where
     first : (p x y n z : Bool) → IsTrue (not (p || x || y || n || z)) → IsTrue p → ⊥
@@ -146,19 +146,19 @@ no_punctuation {o} {s = s} {u = u} c x h e = go (rw (ap (group_of o) e ∙ punct
         first (is_punctuation d) (d == 0x22) (d == 0x27) (begins_number (d ∷ r)) (d == 0x2F && starts (λ x. x == 0x2F || x == 0x2A) (next r)) g (rw same h)
 
 -- comments
-no_line : {o : Options} {k : ParseErrorKind} {s t r u : List ℕ} → Tells o k s t r → LineComment s u → ⊥
+no_line : {o : Options} {k : ParseErrorKind} {s t r u : List ℕ} → LexemeFault o k s t r → LineComment s u → ⊥
 no_line x (line g n) = go refl (grouped x)
   where
     go : {o : Options} {s v : List ℕ} {k : ParseErrorKind} {t r : List ℕ} → s ≡ 0x2F ∷ 0x2F ∷ v → Grouped o s nothing k t r → ⊥
     go e (of_nothing {r = r} f g) = never (rw (heads (sym f ∙ e), tails (sym f ∙ e)) at g)
 
-no_block : {o : Options} {k : ParseErrorKind} {s t r u : List ℕ} → Tells o k s t r → BlockComment s u → ⊥
+no_block : {o : Options} {k : ParseErrorKind} {s t r u : List ℕ} → LexemeFault o k s t r → BlockComment s u → ⊥
 no_block {u = u} x (block g) = go refl g (grouped x)
   where
     go : {o : Options} {s v : List ℕ} {k : ParseErrorKind} {t r : List ℕ} → s ≡ 0x2F ∷ 0x2A ∷ v → UpToBlockEnd v u → Grouped o s comment k t r → ⊥
     go e g (of_comment f n) = n u (rw (tails (tails (sym e ∙ f))) at g)
 
-pub no_lexeme_told : (o : Options) (s : List ℕ) (k : ParseErrorKind) (t r u : List ℕ) (what : Scanned) → Tells o k s t r → IsScanned o what s u → ⊥
+pub no_lexeme_told : (o : Options) (s : List ℕ) (k : ParseErrorKind) (t r u : List ℕ) (what : Scanned) → LexemeFault o k s t r → IsScanned o what s u → ⊥
 no_lexeme_told o s k t r u (lexeme (LexemeKind.string v)) x y = no_string x y
 no_lexeme_told o s k t r u (lexeme (LexemeKind.number v)) x y = no_number x y.1
 no_lexeme_told o s k t r u (lexeme (LexemeKind.word v)) x y = no_word u x y.0 y.1

@@ -4,4 +4,4 @@ pub mod Laws
 pub mod Reads
 pub mod Refusals
 pub mod Scanner
-pub mod Told
+pub mod Faults

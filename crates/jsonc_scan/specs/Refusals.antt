@@ -13,25 +13,25 @@ use Rattle.jsonc_text.specs.Text.{rest, is_digit}
 use Rattle.jsonc_text.specs.Words.{Keyword, IsKeyword}
 use Rattle.jsonc_text.specs.string.Between.{LacksAt, NoneFrom}
 use Rattle.jsonc_scan.specs.Reads.{NoName, NoNames, begins_number}
-use Rattle.jsonc_scan.specs.Told.{IsNext, BreaksExponent, IsTrueOf, begins_digits, begins_other}
+use Rattle.jsonc_scan.specs.Faults.{IsNext, BreaksExponent, IsTrueOf, begins_digits, begins_other}
 
--- a fault of the text itself, and no want of memory
+-- a fault of the text itself, and no allocation failure
 pub record IsTextFault (bytes : List ℕ) (e : ParseError) : Type 0 where
   pub fault : IsFault bytes e
   pub kind : kind_of e ≢ OutOfMemory
 
 -- the fault's kind, and the places that it is told of
-pub record IsTold (i j : ℕ) (what : ParseErrorKind) (e : ParseError) : Type 0 where
+pub record IsFaultError (i j : ℕ) (what : ParseErrorKind) (e : ParseError) : Type 0 where
   pub start : (range_of e).start ≡ i
   pub end : (range_of e).end ≡ j
   pub kind : kind_of e ≡ what
 
 -- the fault of a point without a digit after it
 abbrev pub IsBarePoint : ℕ → ℕ → ParseError → Type 0
-IsBarePoint i j e = IsTold i j BareDecimalPointNumbersNotAllowed e
+IsBarePoint i j e = IsFaultError i j BareDecimalPointNumbersNotAllowed e
 
 -- the fault is told of the character at a place, or of no bytes at the end of the text
-pub record IsToldOfNext (bytes : List ℕ) (place : ℕ) (e : ParseError) : Type 0 where
+pub record IsFaultOfNext (bytes : List ℕ) (place : ℕ) (e : ParseError) : Type 0 where
   pub start : (range_of e).start ≡ place
   pub character : IsNext (rest bytes place) (rest bytes (range_of e).end)
 
@@ -86,10 +86,10 @@ IsFaultOfComment bytes start e = (o : Options) → IsTrueOf o bytes start e
 abbrev pub IsFaultOfLexeme : Options → List ℕ → ℕ → ParseError → Type 0
 IsFaultOfLexeme o bytes start e = start < length bytes → LacksAt is_blank bytes start → IsTrueOf o bytes start e
 
--- a fault of the string at a place, or want of memory
+-- a fault of the string at a place, or allocation failure
 abbrev pub IsFaultOfString : Options → List ℕ → ℕ → ParseError → Type 0
 IsFaultOfString o bytes start e = kind_of e ≢ OutOfMemory → IsTrueOf o bytes start e
 
 -- the fault is that of a string
-abbrev pub IsToldOfString : StringFault → ParseError → Type 0
-IsToldOfString fault e = IsTold fault.range.start fault.range.end (String fault.kind) e
+abbrev pub IsFaultOfStringToken : StringFault → ParseError → Type 0
+IsFaultOfStringToken fault e = IsFaultError fault.range.start fault.range.end (String fault.kind) e

@@ -11,7 +11,7 @@ use Rattle.jsonc_text.specs.Chars.{Steps}
 use Rattle.jsonc_text.specs.Lexemes.{Scanned, IsScanned, lexeme, punctuation}
 use Rattle.jsonc_text.specs.Tokens.{scanned_of}
 use Rattle.jsonc_scan.specs.Reads.{NothingAt}
-use Rattle.jsonc_scan.specs.Told.{IsTrueOf}
+use Rattle.jsonc_scan.specs.Faults.{IsTrueOf}
 use Rattle.jsonc_text.specs.string.Escapes.{IsLentUnescaped, StringHoldsBackslash}
 use Rattle.jsonc_text.specs.declared.tokens.Token.TheVariants.{String}
 

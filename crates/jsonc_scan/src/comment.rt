@@ -20,7 +20,7 @@ pub(crate) fn read_comment<'a>(text: &'a str, start: usize) -> Result<Read<'a>, 
     ensures found { IfOk result (IsReadAnyhow text.now start) }
     ensures none { IfErr result (λ _. NoneFrom IsComment text.now start) }
     ensures fault { IfErr result (IsTextFault text.now) }
-    ensures told { IfErr result (IsFaultOfComment text.now start) }
+    ensures error { IfErr result (IsFaultOfComment text.now start) }
 {
     if has_byte(text, start + 1, b'/') {
         let end = stop_place(text, start + 2, b'\n', b'\r');

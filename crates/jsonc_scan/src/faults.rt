@@ -2,7 +2,7 @@
 ghost use Rattle.std.specs.Prelude.{◌≡◌, ◌≢◌};
 ghost use Rattle.jsonc_text.specs.Text.{Spans};
 ghost use Rattle.jsonc_text.specs.Faults.{IsFault, kind_of};
-ghost use Rattle.jsonc_scan.specs.Refusals.{IsTextFault, IsTold, IsToldOfNext};
+ghost use Rattle.jsonc_scan.specs.Refusals.{IsTextFault, IsFaultError, IsFaultOfNext};
 
 use jsonc_text::chars::char_end;
 use jsonc_text::common::Range;
@@ -14,7 +14,7 @@ pub(crate) fn fault(text: &str, start: usize, end: usize, kind: ParseErrorKind) 
     requires spans { Spans text.now start end }
     requires kind { kind ≢ ParseErrorKind.OutOfMemory }
     ensures fault { IsTextFault text.now result }
-    ensures told { IsTold start end kind result }
+    ensures error { IsFaultError start end kind result }
 {
     ParseError::new(Range { start, end }, kind, text)
 }
@@ -26,13 +26,13 @@ pub(crate) fn fault_at(text: &str, place: usize, kind: ParseErrorKind) -> ParseE
     requires kind { kind ≢ ParseErrorKind.OutOfMemory }
     ensures fault { IsTextFault text.now result }
     ensures kind { kind_of result ≡ kind }
-    ensures next { IsToldOfNext text.now place result }
+    ensures next { IsFaultOfNext text.now place result }
 {
     let end = char_end(text, place);
     fault(text, place, end, kind)
 }
 
-/// Want of memory, as a fault of a text.
+/// The error of an allocation failure.
 #[cold]
 pub(crate) fn out_of_memory(text: &str) -> ParseError
     ensures fault { IsFault text.now result }

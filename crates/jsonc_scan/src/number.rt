@@ -9,7 +9,7 @@ ghost use Rattle.jsonc_text.specs.Chars.{Steps};
 ghost use Rattle.jsonc_text.specs.OptionsOf.{parse_options};
 ghost use Rattle.jsonc_scan.specs.Reads.{HasHexadecimalMark, HasName, LacksHexadecimalMark, IsRead, IsReadName, IsAfterSign, IsSignedName, IsUnsigned, NoFinite, NoFraction, NoNames, NoneAfterSign, NoNumber, NoUnsigned, begins_number};
 ghost use Rattle.jsonc_scan.specs.Refusals.{IsTextFault, IsBarePoint, IsExponentFault, IsFaultOfNumber, IsNumberFault, IsSignedFault, LacksFraction};
-ghost use Rattle.jsonc_scan.specs.Told.{IsName};
+ghost use Rattle.jsonc_scan.specs.Faults.{IsName};
 ghost use Rattle.jsonc_text.specs.Text.{Spans, AllOf, rest, is_digit, is_hex_digit};
 ghost use Rattle.std.specs.Str.{IsAscii};
 
@@ -97,7 +97,7 @@ fn exponent_end(text: &str, start: usize) -> Result<usize, ParseError>
     ensures found { IfOk result (Reaches Exponent text.now start) }
     ensures none { IfErr result (λ _. NoneFrom Exponent text.now start) }
     ensures fault { IfErr result (IsTextFault text.now) }
-    ensures told { IfErr result (IsExponentFault text.now start) }
+    ensures error { IfErr result (IsExponentFault text.now start) }
 {
     if !has_either(text, start, b'e', b'E') {
         return Ok(start);
@@ -128,7 +128,7 @@ fn fraction_end(
     ensures found { IfOk result (Reaches (Fraction (parse_options options.now)) text.now start) }
     ensures none { IfErr result (λ _. NoFraction (parse_options options.now) text.now start) }
     ensures fault { IfErr result (IsTextFault text.now) }
-    ensures told { IfErr result (IsBarePoint number (start + 1)) }
+    ensures error { IfErr result (IsBarePoint number (start + 1)) }
     ensures lacks { IfErr result (λ _. LacksFraction (parse_options options.now) text.now start) }
 {
     if !has_byte(text, start, b'.') {
@@ -160,7 +160,7 @@ fn decimal_end(
     ensures found { IfOk result (IsUnsigned (parse_options options.now) text.now start) }
     ensures none { IfErr result (λ _. NoUnsigned (parse_options options.now) text.now start) }
     ensures fault { IfErr result (IsTextFault text.now) }
-    ensures told { IfErr result (IsNumberFault (parse_options options.now) text.now number start) }
+    ensures error { IfErr result (IsNumberFault (parse_options options.now) text.now number start) }
 {
     let fraction = fraction_end(text, number, whole, options)?;
     if !has_either(text, fraction, b'e', b'E') {
@@ -184,7 +184,7 @@ fn hexadecimal_end(
     ensures found { IfOk result (IsUnsigned (parse_options options.now) text.now start) }
     ensures none { IfErr result (λ _. NoUnsigned (parse_options options.now) text.now start) }
     ensures fault { IfErr result (IsTextFault text.now) }
-    ensures told { IfErr result (IsNumberFault (parse_options options.now) text.now number start) }
+    ensures error { IfErr result (IsNumberFault (parse_options options.now) text.now number start) }
 {
     if !options.allow_hexadecimal_numbers {
         let kind = ParseErrorKind::HexadecimalNumbersNotAllowed;
@@ -209,7 +209,7 @@ fn bare_end(
     ensures found { IfOk result (IsUnsigned (parse_options options.now) text.now start) }
     ensures none { IfErr result (λ _. NoFinite (parse_options options.now) text.now start) }
     ensures fault { IfErr result (IsTextFault text.now) }
-    ensures told { IfErr result (IsNumberFault (parse_options options.now) text.now number start) }
+    ensures error { IfErr result (IsNumberFault (parse_options options.now) text.now number start) }
 {
     let missing = ParseErrorKind::ExpectedDigitFollowingNegativeSign;
     if !has_byte(text, start, b'.') {
@@ -270,7 +270,7 @@ fn finite_end(
     ensures found { IfOk result (IsUnsigned (parse_options options.now) text.now start) }
     ensures none { IfErr result (λ _. NoFinite (parse_options options.now) text.now start) }
     ensures fault { IfErr result (IsTextFault text.now) }
-    ensures told { IfErr result (IsNumberFault (parse_options options.now) text.now number start) }
+    ensures error { IfErr result (IsNumberFault (parse_options options.now) text.now number start) }
 {
     if has_hexadecimal_mark(text, start) {
         return hexadecimal_end(text, number, start, options);
@@ -308,7 +308,7 @@ fn signed_end(text: &str, sign: usize, options: &ParseOptions) -> Result<usize, 
     ensures found { IfOk result (IsAfterSign (parse_options options.now) text.now (sign + 1)) }
     ensures none { IfErr result (λ _. NoneAfterSign (parse_options options.now) text.now (sign + 1)) }
     ensures fault { IfErr result (IsTextFault text.now) }
-    ensures told { IfErr result (IsSignedFault (parse_options options.now) text.now sign) }
+    ensures error { IfErr result (IsSignedFault (parse_options options.now) text.now sign) }
 {
     let Some(end) = name_end(text, sign + 1) else {
         return finite_end(text, sign, sign + 1, options);
@@ -330,7 +330,7 @@ pub(crate) fn number_end(
     ensures found { IfOk result (Between (Number (parse_options options.now)) text.now start) }
     ensures none { IfErr result (λ _. NoNumber (parse_options options.now) text.now start) }
     ensures fault { IfErr result (IsTextFault text.now) }
-    ensures told { IfErr result (IsFaultOfNumber (parse_options options.now) text.now start) }
+    ensures error { IfErr result (IsFaultOfNumber (parse_options options.now) text.now start) }
 {
     if has_byte(text, start, b'-') {
         return signed_end(text, start, options);
@@ -374,7 +374,7 @@ fn read_other_number<'a>(
     ensures found { IfOk result (IsRead (parse_options options.now) text.now start) }
     ensures none { IfErr result (λ _. NoNumber (parse_options options.now) text.now start) }
     ensures fault { IfErr result (IsTextFault text.now) }
-    ensures told { IfErr result (IsFaultOfNumber (parse_options options.now) text.now start) }
+    ensures error { IfErr result (IsFaultOfNumber (parse_options options.now) text.now start) }
 {
     let end = number_end(text, start, options)?;
     let lexeme = Lexeme::Number(&text[start..end]);
@@ -392,7 +392,7 @@ pub(crate) fn read_number<'a>(
     ensures found { IfOk result (IsRead (parse_options options.now) text.now start) }
     ensures none { IfErr result (λ _. NoNumber (parse_options options.now) text.now start) }
     ensures fault { IfErr result (IsTextFault text.now) }
-    ensures told { IfErr result (IsFaultOfNumber (parse_options options.now) text.now start) }
+    ensures error { IfErr result (IsFaultOfNumber (parse_options options.now) text.now start) }
 {
     let Some(number) = plain_number(text, start) else {
         return read_other_number(text, start, options);

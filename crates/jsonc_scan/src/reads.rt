@@ -48,7 +48,7 @@ pub(crate) fn read_lexeme<'a>(
     ensures found { IfOk result (IsRead (parse_options options.now) text.now start) }
     ensures none { IfErr result (λ _. NothingAt (parse_options options.now) text.now start) }
     ensures fault { IfErr result (IsTextFault text.now) }
-    ensures told { IfErr result (IsFaultOfLexeme (parse_options options.now) text.now start) }
+    ensures error { IfErr result (IsFaultOfLexeme (parse_options options.now) text.now start) }
 {
     if has_byte(text, start, b'/') {
         return read_comment(text, start);
@@ -93,7 +93,7 @@ fn read_name_or_word<'a>(
     ensures found { IfOk result (IsRead (parse_options options.now) text.now start) }
     ensures none { IfErr result (λ _. NoNameOrWord (parse_options options.now) text.now start) }
     ensures fault { IfErr result (IsTextFault text.now) }
-    ensures told { IfErr result (IsFaultOfNameOrWord (parse_options options.now) text.now start) }
+    ensures error { IfErr result (IsFaultOfNameOrWord (parse_options options.now) text.now start) }
 {
     if !options.allow_non_finite_numbers {
         return read_word(text, start, options);

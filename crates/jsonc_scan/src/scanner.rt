@@ -42,7 +42,7 @@ impl<'a, A: Allocator> Scanner<'a, A> {
         Scanner::with_options(alloc, file_text, ParseOptions::of_scanner(options))
     }
 
-    /// The same for a parser, which hands on its own options.
+    /// A scanner at the start of a text, with the options of a parser.
     pub fn with_options(alloc: A, file_text: &'a str, options: ParseOptions) -> Scanner<'a, A>
         ensures text { text_of result ≡ file_text.now }
         ensures options { options_of result ≡ parse_options options }
@@ -66,21 +66,21 @@ impl<'a, A: Allocator> Scanner<'a, A> {
         self.file_text
     }
 
-    /// The place where the last token began.
+    /// The place where the last token begins, in bytes.
     pub fn token_start(&self) -> usize
         ensures { result ≡ start_of self.now }
     {
         self.token_start
     }
 
-    /// The place after the last token.
+    /// The place after the last token, in bytes.
     pub fn token_end(&self) -> usize
         ensures { result ≡ end_of self.now }
     {
         self.byte_index
     }
 
-    /// The last token, lent.
+    /// The token that was read last.
     pub fn token(&self) -> Option<&Token<'a, A>>
         ensures token { option_map (λ t. scanned_of t.now) result ≡ token_of self.now }
         ensures kept { option_copied result ≡ last_token self.now }
@@ -98,6 +98,7 @@ impl<'a, A: Allocator + Copy> Scanner<'a, A> {
     ghost use Rattle.jsonc_text.specs.Tokens.{IsOwned, scanned_of};
 
     /// Whether an ASCII character comes next, with no blank before it.
+    #[doc(hidden)]
     #[inline(always)]
     pub fn has_next(&self, character: u8) -> bool
         requires { character < 128 }
@@ -108,6 +109,7 @@ impl<'a, A: Allocator + Copy> Scanner<'a, A> {
 
     /// Passes a punctuation character that comes next. The last token that the scanner keeps stays
     /// what it was.
+    #[doc(hidden)]
     #[inline(always)]
     pub fn pass_mark(&mut self, mark: u8)
         requires next { ComesNext self.old mark }
@@ -120,10 +122,12 @@ impl<'a, A: Allocator + Copy> Scanner<'a, A> {
         self.byte_index += 1;
     }
 
-    /// Moves to the next token, and answers its kind; or none at the end of the text. What the token
-    /// holds is put into `content`. The last token that the scanner keeps stays what it was.
+    /// Moves to the next token, and answers its kind, if there is one.
     ///
-    /// After an error the scanner stands where the refused token begins.
+    /// None at the end of the text. What the token holds is put into `content`. The last token that
+    /// the scanner keeps stays what it was. After an error the scanner stands where the faulty
+    /// token begins.
+    #[doc(hidden)]
     #[inline(always)]
     pub fn step(
         &mut self,
@@ -137,7 +141,7 @@ impl<'a, A: Allocator + Copy> Scanner<'a, A> {
         ensures nothing { IfErr result (λ e. kind_of e ≢ ParseErrorKind.OutOfMemory → NothingStands self.new) }
         ensures begins { IfErr result (λ _. GoesOn self.new) }
         ensures fault { IfErr result (IsFault (text_of self.new)) }
-        ensures told { IfErr result (λ e. kind_of e ≢ ParseErrorKind.OutOfMemory → IsTrueThere self.new e) }
+        ensures error { IfErr result (λ e. kind_of e ≢ ParseErrorKind.OutOfMemory → IsTrueThere self.new e) }
         ensures memory { IfErr result (λ e. kind_of e ≡ ParseErrorKind.OutOfMemory → HoldsEscape self.new) }
         ensures keeps { last_token self.new ≡ last_token self.old }
         ensures stays { OnErr result (end_of self.new ≡ start_of self.new) }
@@ -178,7 +182,7 @@ impl<'a, A: Allocator + Copy> Scanner<'a, A> {
         ensures others { IfOk result (LeavesOthers content.old content.new) }
         ensures nothing { IfErr result (λ e. kind_of e ≢ ParseErrorKind.OutOfMemory → NothingStands self.new) }
         ensures fault { IfErr result (IsFault (text_of self.new)) }
-        ensures told { IfErr result (λ e. kind_of e ≢ ParseErrorKind.OutOfMemory → IsTrueThere self.new e) }
+        ensures error { IfErr result (λ e. kind_of e ≢ ParseErrorKind.OutOfMemory → IsTrueThere self.new e) }
         ensures memory { IfErr result (λ e. kind_of e ≡ ParseErrorKind.OutOfMemory → HoldsEscape self.new) }
         ensures keeps { last_token self.new ≡ last_token self.old }
         ensures stays { OnErr result (end_of self.new ≡ start_of self.new) }
@@ -195,9 +199,10 @@ impl<'a, A: Allocator + Copy> Scanner<'a, A> {
         Ok(Some(content.hold(read.lexeme)))
     }
 
-    /// Moves to the next token, and answers it; or none at the end of the text.
+    /// Moves to the next token, and answers it, if there is one.
     ///
-    /// After an error the last token is what it was, and the scanner stands where the refused one begins.
+    /// None at the end of the text. After an error the last token is what it was, and the scanner
+    /// stands where the faulty one begins.
     #[inline(always)]
     pub fn scan(&mut self) -> Result<Option<Token<'a, A>>, ParseError>
         ensures blanks { PassesBlanks self.old self.new }
@@ -208,7 +213,7 @@ impl<'a, A: Allocator + Copy> Scanner<'a, A> {
         ensures nothing { IfErr result (λ e. kind_of e ≢ ParseErrorKind.OutOfMemory → NothingStands self.new) }
         ensures begins { IfErr result (λ _. GoesOn self.new) }
         ensures fault { IfErr result (IsFault (text_of self.new)) }
-        ensures told { IfErr result (λ e. kind_of e ≢ ParseErrorKind.OutOfMemory → IsTrueThere self.new e) }
+        ensures error { IfErr result (λ e. kind_of e ≢ ParseErrorKind.OutOfMemory → IsTrueThere self.new e) }
         ensures memory { IfErr result (λ e. kind_of e ≡ ParseErrorKind.OutOfMemory → HoldsEscape self.new) }
         ensures refused { OnErr result (last_token self.new ≡ last_token self.old) }
         ensures stays { OnErr result (end_of self.new ≡ start_of self.new) }

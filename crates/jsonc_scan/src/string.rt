@@ -5,7 +5,7 @@ ghost use Rattle.jsonc_text.specs.OptionsOf.{parse_options};
 ghost use Rattle.jsonc_text.specs.Text.{Spans};
 ghost use Rattle.jsonc_text.specs.string.Escapes.{StringHoldsBackslash};
 ghost use Rattle.jsonc_scan.specs.Reads.{IsStringRead, NothingAt};
-ghost use Rattle.jsonc_scan.specs.Refusals.{IsFaultOfString, IsToldOfString};
+ghost use Rattle.jsonc_scan.specs.Refusals.{IsFaultOfString, IsFaultOfStringToken};
 ghost use Rattle.jsonc_text.specs.string.Quotes.{OpensString};
 
 use crate::faults::out_of_memory;
@@ -29,7 +29,7 @@ pub(crate) fn read_string<'a, A: Allocator + Copy>(
     ensures none { IfErr result (λ e. kind_of e ≢ ParseErrorKind.OutOfMemory
         → NothingAt (parse_options options.now) text.now start) }
     ensures fault { IfErr result (IsFault text.now) }
-    ensures told { IfErr result (IsFaultOfString (parse_options options.now) text.now start) }
+    ensures error { IfErr result (IsFaultOfString (parse_options options.now) text.now start) }
     ensures memory { IfErr result (λ e. kind_of e ≡ ParseErrorKind.OutOfMemory → StringHoldsBackslash text.now start) }
 {
     let literal = Literal {
@@ -48,7 +48,7 @@ fn string_error(text: &str, fault: StringFault) -> ParseError
     requires { Spans text.now fault.range.start fault.range.end }
     ensures fault { IsFault text.now result }
     ensures memory { kind_of result ≡ ParseErrorKind.OutOfMemory ↔ fault.kind ≡ ParseStringErrorKind.OutOfMemory }
-    ensures told { fault.kind ≢ ParseStringErrorKind.OutOfMemory → IsToldOfString fault result }
+    ensures error { fault.kind ≢ ParseStringErrorKind.OutOfMemory → IsFaultOfStringToken fault result }
 {
     match fault.kind {
         ParseStringErrorKind::OutOfMemory => out_of_memory(text),

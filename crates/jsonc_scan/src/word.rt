@@ -163,7 +163,7 @@ pub(crate) fn word_end(text: &str, start: usize) -> Result<usize, ParseError>
     ensures none { IfErr result (λ _. NoneFrom PassesWord text.now start) }
     ensures fault { IfErr result (IsTextFault text.now) }
     ensures kind { IfErr result (λ e. kind_of e ≡ ParseErrorKind.UnexpectedToken) }
-    ensures told { IfErr result (IsFaultOfWord text.now start) }
+    ensures error { IfErr result (IsFaultOfWord text.now start) }
 {
     let Some(first) = first_end(text, start) else {
         return Err(fault_at(text, start, ParseErrorKind::UnexpectedToken));
@@ -210,7 +210,7 @@ pub(crate) fn read_word<'a>(
     ensures found { IfOk result (IsRead (parse_options options.now) text.now start) }
     ensures none { IfErr result (λ _. NoWord (parse_options options.now) text.now start) }
     ensures fault { IfErr result (IsTextFault text.now) }
-    ensures told { IfErr result (IsFaultOfNameOrWord (parse_options options.now) text.now start) }
+    ensures error { IfErr result (IsFaultOfNameOrWord (parse_options options.now) text.now start) }
 {
     let end = word_end(text, start)?;
     let lexeme = Lexeme::Word(&text[start..end]);

@@ -12,7 +12,7 @@ use Rattle.jsonc_tree.specs.Tree.{Node, content_at, children_at, IsTree, IsOver}
 use Rattle.jsonc_tree.specs.declared.node.CstNewlineKind.{CstNewlineKind}
 use Rattle.jsonc_tree.proofs.OrderedTrees.{Shows-unique}
 use Rattle.jsonc_layout.specs.lines.Breadth.{newline_kind_at}
-use Rattle.jsonc_layout.specs.lines.Kinds.{holds_values}
+use Rattle.jsonc_layout.specs.lines.Kinds.{is_array_or_object}
 use Rattle.jsonc_sound.specs.Lines.{is_line_comment}
 use Rattle.jsonc_sound.specs.Shape.{token_then}
 use Rattle.jsonc_sound.specs.Rows.{holder, opening, closing}
@@ -21,9 +21,9 @@ use Rattle.jsonc_sound.specs.TreeChanges.{DocumentChanged}
 use Rattle.jsonc_edit.specs.Changes.{row_below, top_at, Respliced}
 use Rattle.jsonc_edit.specs.Paths.{IsAt}
 use Rattle.jsonc_edit.proofs.FittingNodes.{over_there}
-use Rattle.jsonc_edit.proofs.Kept.{at_kept, top_stays, tree_stays}
+use Rattle.jsonc_edit.proofs.NodesKept.{at_kept, top_stays, tree_stays}
 use Rattle.jsonc_edit.proofs.Splices.{respliced_over, respliced_row}
-use Rattle.jsonc_edit.proofs.Walk.{ChangedIn, Shows-row_below, changed_over}
+use Rattle.jsonc_edit.proofs.ChangesUpward.{ChangedIn, Shows-row_below, changed_over}
 use Rattle.jsonc_edit.specs.remove.Removed.{has_brackets}
 use Rattle.jsonc_edit.proofs.lemmas.remove.Containers.{Held, held_at, Brackets, brackets}
 use Rattle.jsonc_edit.specs.multiline.Lines.{between}
@@ -38,11 +38,11 @@ use Rattle.jsonc_sort.specs.Sorting.{Entry, Headers, ends_with_comma, entries, e
 use Rattle.jsonc_sort.specs.Laws.{IsOrderOf, Sort, closed, container_after, container_before, slots_of}
 use Rattle.jsonc_sort.specs.Paths.{SortedAt, SortsAt}
 use Rattle.jsonc_sort.specs.Rearranged.{IsOrderIn, Rearranged, row_sorted}
-use Rattle.jsonc_sort.proofs.Choosing.{Each, choose, each_joined}
+use Rattle.jsonc_sort.proofs.Choices.{Each, choose, each_joined}
 use Rattle.jsonc_sort.proofs.Documents.{row_joined}
 use Rattle.jsonc_sort.proofs.Lines as lines
 use Rattle.jsonc_sort.proofs.Lines.{rearranged_held}
-use Rattle.jsonc_sort.proofs.Taking.{elements_between, lines_held}
+use Rattle.jsonc_sort.proofs.SortedRow.{elements_between, lines_held}
 use Rattle.jsonc_sort.proofs.Weights.{entry_count}
 
 -- what comes is a leaf
@@ -141,7 +141,7 @@ top_of content below = record { content = content; below = below }
 same_top : (a b : Content) (x y : OrderedTree) → a ≡ b → x ≡ y → top_of a x ≡ top_of b y
 same_top a b x y e f = ap (λ w. top_of w x) e ∙ ap (top_of b) f
 
-module _ (o : Options) (old new : List Node) (path : List ℕ) (c : ℕ) (h : Headers) (order : List ℕ) (tree : IsTree old) (after : IsTree new) (sound : SoundTree o (ordered_tree old 0)) (at : IsAt old path c) (holds : IsTrue (holds_values (content_at old c))) (perm : IsOrderIn old c order) where
+module _ (o : Options) (old new : List Node) (path : List ℕ) (c : ℕ) (h : Headers) (order : List ℕ) (tree : IsTree old) (after : IsTree new) (sound : SoundTree o (ordered_tree old 0)) (at : IsAt old path c) (holds : IsTrue (is_array_or_object (content_at old c))) (perm : IsOrderIn old c order) where
   over : IsOver old 0 c
   over = over_at old tree path c at
 
@@ -170,7 +170,7 @@ module _ (o : Options) (old new : List Node) (path : List ℕ) (c : ℕ) (h : He
   close = token_then (closing held.kind) none
 
   kids_there : All (λ n. n < length old) (b.open_with ∷ (b.inner ++ b.last ∷ []))
-  kids_there = subst (All (λ n. n < length old)) b.children (All-from_get_or (λ n. n < length old) kids 0 (λ k l. tree.there c k l))
+  kids_there = subst (All (λ n. n < length old)) b.children (All-from_get_or (λ n. n < length old) kids 0 (λ k l. tree.in_tree c k l))
 
   rest_there : All (λ n. n < length old) (b.inner ++ b.last ∷ [])
   rest_there = All-tail (λ n. n < length old) b.open_with (b.inner ++ b.last ∷ []) kids_there
@@ -230,7 +230,7 @@ module _ (o : Options) (old new : List Node) (path : List ℕ) (c : ℕ) (h : He
     ready_kids = r.prepared.keeps.children c there ∙ b.children
 
     abbrev spliced : Respliced r.ready new c
-    spliced = record { from = 1; to = length kids - 1; put = r.row; tree = r.prepared.tree; there = omega (arith, there, r.prepared.keeps.len); after = r.tree; join = r.join; spliced = r.put }
+    spliced = record { from = 1; to = length kids - 1; put = r.row; tree = r.prepared.tree; in_tree = omega (arith, there, r.prepared.keeps.len); after = r.tree; join = r.join; spliced = r.put }
 
     row_is : row_below new c ≡ token_then (opening held.kind) (closed held.kind top slots)
     row_is =

@@ -21,7 +21,7 @@ use Rattle.jsonc_sound.specs.Sound.{HasValue}
 use Rattle.jsonc_sound.specs.SoundTrees.{SoundTree}
 use Rattle.jsonc_sound.specs.Spaces.{first_printed, is_bare_leaf}
 use Rattle.jsonc_sound.specs.TreeChanges.{DocumentChanged}
-use Rattle.jsonc_sound.proofs.Apart.{value_alone, value_leaves}
+use Rattle.jsonc_sound.proofs.NodesAlone.{value_alone, value_leaves}
 use Rattle.jsonc_sound.proofs.AtPath.{held_at_path}
 use Rattle.jsonc_sound.proofs.HeldValues.{document_held}
 use Rattle.jsonc_sound.proofs.LinesLeft.{row_lines}
@@ -31,7 +31,7 @@ use Rattle.jsonc_sort.specs.Slots.{Slot, all_stay, row_in, row_then, top_in}
 use Rattle.jsonc_sort.specs.Sorting.{entries, is_unchanged, lines_ended, rearranged, row_end}
 use Rattle.jsonc_sort.specs.Laws as laws
 use Rattle.jsonc_sort.specs.Laws.{IsOrderOf, Sort, StaysSound, SortsValue, SortsEntries, closed, container_after, container_before, content_of, is_filling, items_in, members_in, slots_of}
-use Rattle.jsonc_sort.proofs.Choosing.{choose_by}
+use Rattle.jsonc_sort.proofs.Choices.{choose_by}
 use Rattle.jsonc_sort.proofs.Entries.{Rearranges, row_rearranges}
 use Rattle.jsonc_sort.proofs.Lines.{lines_are_ended, rearranged_held, rows_end, slots_end, Ends}
 use Rattle.jsonc_sort.proofs.OldRows.{row_is}

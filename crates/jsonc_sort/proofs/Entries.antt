@@ -14,7 +14,7 @@ use Rattle.jsonc_sort.specs.Parts.{Part, Parts, has_comma, is_comma_at, is_newli
 use Rattle.jsonc_sort.specs.Leads.{LeadParts, begins_group, blank_lines, first_line, header_length, lead_parts, parts_of_line, parts_of_lines, spaces}
 use Rattle.jsonc_sort.specs.Sorting.{Entry, Headers, end_of, ends_with_comma, entries, entries_from, entry_at, first_pin, goes_on, lines_ended, no_entry, placed, placed_one, rearranged, row_end, slot_content, tail_with, travelling, without_comma}
 use Rattle.jsonc_sort.specs.Laws.{content_of}
-use Rattle.jsonc_sort.proofs.Choosing.{Each, all_moved, choose, choose_by, each_drop, each_joined, each_moved, each_take}
+use Rattle.jsonc_sort.proofs.Choices.{Each, all_moved, choose, choose_by, each_drop, each_joined, each_moved, each_take}
 use Rattle.jsonc_sort.proofs.Runs as runs
 use Rattle.jsonc_sort.proofs.Runs.{IsQuiet, IsComma, IsWhole, Parted, Runs, Quiets, Gap, comma_gap, comma_is, cut_gap, no_comma_gap, other_no_comma, quiet_gap, runs_gap, runs_joined, runs_quiets}
 

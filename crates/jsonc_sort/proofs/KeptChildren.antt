@@ -13,14 +13,14 @@ use Rattle.jsonc_layout.specs.lines.Breadth.{newline_kind_at}
 use Rattle.jsonc_edit.specs.remove.Removed.{has_brackets}
 use Rattle.jsonc_edit.specs.multiline.Lines.{between}
 use Rattle.jsonc_edit.specs.multiline.Multiline.{TakesRow}
-use Rattle.jsonc_edit.proofs.lemmas.multiline.Whole.{two_there}
+use Rattle.jsonc_edit.proofs.lemmas.multiline.WholeRow.{two_there}
 use Rattle.jsonc_sort.specs.Laws.{is_filling, IsOrderOf}
 use Rattle.jsonc_sort.specs.Plans.{times}
 use Rattle.jsonc_sort.specs.Rearranged.{moves, row_sorted, IsOrderIn, KeepsChildren, Rearranged, SortsChildren}
 use Rattle.jsonc_sort.specs.Slots.{Slot, comes, stays, top_in}
 use Rattle.jsonc_sort.specs.Sorting.{Headers, is_unchanged}
-use Rattle.jsonc_sort.proofs.StayingOnce as once
-use Rattle.jsonc_sort.proofs.Taking.{elements_between, filled_times, is_it, it_here, it_other, own_times}
+use Rattle.jsonc_sort.proofs.ChildrenOnce as once
+use Rattle.jsonc_sort.proofs.SortedRow.{elements_between, filled_times, is_it, it_here, it_other, own_times}
 use Rattle.jsonc_sort.proofs.Times.{each_once, found, times_here, times_other}
 use Rattle.jsonc_sort.proofs.Weights.{added, sorted_whole}
 

@@ -13,14 +13,14 @@ use Rattle.jsonc_sound.specs.Marks.{Mark, marks, marks_of}
 use Rattle.jsonc_sound.specs.MarkChanges.{marks_under}
 use Rattle.jsonc_sound.specs.Rows as rows
 use Rattle.jsonc_sound.specs.Rows.{RowKind, closing, container_of}
-use Rattle.jsonc_sound.proofs.Apart.{value_alone}
-use Rattle.jsonc_sound.proofs.GivingWay.{marks_join, values_marks}
+use Rattle.jsonc_sound.proofs.NodesAlone.{value_alone}
+use Rattle.jsonc_sound.proofs.ReplacedStretches.{marks_join, values_marks}
 use Rattle.jsonc_sound.proofs.HeldValues.{document_held}
 use Rattle.jsonc_sound.proofs.SeamRows.{container_leaves, row_of}
 use Rattle.jsonc_sort.specs.Slots.{Slot, stays, comes, all_stay, row_in, top_in}
 use Rattle.jsonc_sort.specs.Sorting.{entries, goes_on, is_unchanged, lines_ended, rearranged, row_end, slot_content}
 use Rattle.jsonc_sort.specs.Laws.{IsOrderOf, KeepsAllMarks, KeepsMarks, KeepsNodes, Sort, closed, container_after, container_before, content_of, is_filling, row_after, row_before, slots_of}
-use Rattle.jsonc_sort.proofs.Choosing.{Each, choose, choose_by}
+use Rattle.jsonc_sort.proofs.Choices.{Each, choose, choose_by}
 use Rattle.jsonc_sort.proofs.Documents.{order_is, row_joined}
 use Rattle.jsonc_sort.proofs.Lines.{Held, rearranged_held}
 use Rattle.jsonc_sort.proofs.OldRows.{bare_row}

@@ -16,8 +16,8 @@ use Rattle.jsonc_sort.specs.Parts.{has_comma, is_comma_at, is_whitespace_at}
 use Rattle.jsonc_sort.specs.Leads.{blank_lines}
 use Rattle.jsonc_sort.specs.Sorting.{Entry, Headers, ends_with_comma, entries, entry_at, goes_on, lines_ended, no_entry, placed, placed_one, rearranged, row_end, slot_content, tail_with, travelling, without_comma}
 use Rattle.jsonc_sort.specs.Laws.{closed, content_of}
-use Rattle.jsonc_sort.proofs.Held.{ByKind, HeldEntry, row_held}
-use Rattle.jsonc_sort.proofs.Choosing.{Each, all_moved, choose, choose_by, each_drop, each_joined, each_moved}
+use Rattle.jsonc_sort.proofs.NodesOfEntries.{ByKind, HeldEntry, row_held}
+use Rattle.jsonc_sort.proofs.Choices.{Each, all_moved, choose, choose_by, each_drop, each_joined, each_moved}
 
 -- what holds of each child of a row holds of each that stays in the sorted row
 module _ (at : ℕ → Content) (P : ℕ → Type 0) where

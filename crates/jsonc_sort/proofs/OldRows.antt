@@ -19,7 +19,7 @@ use Rattle.jsonc_sound.proofs.Spaces.{last_of, serves_unless, stretch_no_word}
 use Rattle.jsonc_sort.specs.Slots.{all_stay}
 use Rattle.jsonc_sort.specs.Parts.{Parts, is_none, part_with, parts, tail_length, through_comma, with_node}
 use Rattle.jsonc_sort.specs.Laws.{closed, content_of, is_filling}
-use Rattle.jsonc_sort.proofs.Choosing.{Each}
+use Rattle.jsonc_sort.proofs.Choices.{Each}
 use Rattle.jsonc_sort.proofs.Runs as runs
 use Rattle.jsonc_sort.proofs.Runs.{IsQuiet, IsComma, IsWhole, Gap, cut_gap}
 use Rattle.jsonc_sort.proofs.Entries.{IsPart, IsRow}

@@ -10,7 +10,7 @@ use Rattle.jsonc_layout.specs.nodes.Siblings.{elements_at}
 use Rattle.jsonc_edit.specs.remove.Removed.{has_brackets}
 use Rattle.jsonc_sort.specs.Paths.{FewStay}
 use Rattle.jsonc_sort.specs.Sorting.{Headers, is_unchanged}
-use Rattle.jsonc_sort.proofs.Placing.{order_below, order_long}
+use Rattle.jsonc_sort.proofs.PlannedRow.{order_below, order_long}
 
 zero_more : (k : ℕ) → 0 + k ≡ k
 zero_more k = omega arith

@@ -11,7 +11,7 @@ use Rattle.jsonc_tree.specs.declared.node.CstNewlineKind.{CstNewlineKind}
 use Rattle.jsonc_tree.proofs.Builder.{Keeps-same, Keeps-then, Keeps-fewer, Keeps-adds}
 use Rattle.jsonc_layout.specs.nodes.Kinds.{is_newline, is_whitespace}
 use Rattle.jsonc_sound.specs.Lines.{is_line_comment}
-use Rattle.jsonc_edit.specs.Put.{Prepared}
+use Rattle.jsonc_edit.specs.Put.{Extends}
 use Rattle.jsonc_edit.specs.multiline.Slots.{no_more, stayed, came}
 use Rattle.jsonc_edit.proofs.lemmas.multiline.Planning.{filled_later}
 use Rattle.jsonc_sort.specs.Slots.{Slot, stays, comes}
@@ -137,8 +137,8 @@ module _ {A : Type 0} where
       subst (Planned old d kind r) (sym (append_assoc second first slots))
       (g old kind (first ++ slots) (f old kind slots planned (stood_second old second first stood)) (stood_first old second first stood))
 
-pub prepared_then : (a b d : List Node) → Prepared a b → Prepared b d → Prepared a d
+pub prepared_then : (a b d : List Node) → Extends a b → Extends b d → Extends a d
 prepared_then a b d p q = record { keeps = Keeps-then (length a) a b d p.keeps (Keeps-fewer (length a) (length b) b d p.keeps.len q.keeps); tree = q.tree }
 
-pub prepared_same : (a : List Node) → IsTree a → Prepared a a
+pub prepared_same : (a : List Node) → IsTree a → Extends a a
 prepared_same a tree = record { keeps = Keeps-same (length a) a; tree = tree }

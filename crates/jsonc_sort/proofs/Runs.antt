@@ -18,7 +18,7 @@ use Rattle.jsonc_sound.proofs.Texts.{comma_first}
 use Rattle.jsonc_sort.specs.Slots.{Slot, all_stay, row_in, row_then, top_in}
 use Rattle.jsonc_sort.specs.Parts.{has_comma, is_comma_at, through_comma}
 use Rattle.jsonc_sort.specs.Laws.{content_of}
-use Rattle.jsonc_sort.proofs.Choosing.{Each, choose, each_drop, each_take}
+use Rattle.jsonc_sort.proofs.Choices.{Each, choose, each_drop, each_take}
 
 -- by what a leaf is
 quiet_ends : (o : Options) (c : Content) → IsTrivia o c → LeavesEnd o (leaves (more c none none)) None

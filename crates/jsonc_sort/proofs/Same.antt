@@ -1,4 +1,4 @@
--- A document in which a node gives way to the same is the same.
+-- A document in which a node is replaced by the same is the same.
 use Rattle.std.proofs.Common.{◌≡◌, ℕ, List, ap}
 use Rattle.jsonc_tree.specs.Content.{root, array, object}
 use Rattle.jsonc_tree.specs.OrderedTree.{OrderedTree, Top, none, more}

@@ -15,7 +15,7 @@ use Rattle.jsonc_sort.specs.Parts.{Part, Parts, has_comma, is_comma_at, is_newli
 use Rattle.jsonc_sort.specs.Leads.{LeadParts, begins_group, blank_lines, first_line, header_length, is_blank_at, lead_parts, parts_of_line, parts_of_lines, spaces}
 use Rattle.jsonc_sort.specs.Sorting.{Entry, Headers, end_of, ends_with_comma, entries, entries_from, entry_at, first_pin, goes_on, is_unchanged, lines_ended, no_entry, placed, placed_one, rearranged, row_end, slot_content, sorted, tail_with, travelling, without_comma}
 use Rattle.jsonc_sort.specs.Laws.{IsOrderOf, content_of, is_filling}
-use Rattle.jsonc_sort.proofs.Choosing.{all_moved, choose, choose_by}
+use Rattle.jsonc_sort.proofs.Choices.{all_moved, choose, choose_by}
 
 -- sums one by one
 abbrev pub added : {A : Type 0} → (A → ℕ) → List A → ℕ

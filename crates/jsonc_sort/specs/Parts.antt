@@ -3,7 +3,7 @@
 use Rattle.std.specs.Prelude.{ℕ, suc, ◌+◌, ◌-◌, Bool, true, false, not, ◌&&◌, ◌||◌, List, [], ◌∷◌, length, take, drop, if◌then◌else◌}
 use Rattle.std.specs.List.{list_all, list_any, suffix_len, take_while}
 use Rattle.jsonc_tree.specs.Content.{Content}
-use Rattle.jsonc_layout.specs.nodes.Kinds.{is_comma, is_beside, is_element, is_newline, is_whitespace}
+use Rattle.jsonc_layout.specs.nodes.Kinds.{is_comma, is_inline_trivia, is_element, is_newline, is_whitespace}
 
 -- an element; what belongs to it behind it: through its comma, and the comments on its line;
 -- and what stands behind that, up to the next element or the last bracket
@@ -35,8 +35,8 @@ module _ (at : ℕ → Content) where
   abbrev pub is_whitespace_at : ℕ → Bool
   is_whitespace_at n = is_whitespace (at n)
 
-  abbrev pub is_beside_at : ℕ → Bool
-  is_beside_at n = is_beside (at n)
+  abbrev pub is_inline_trivia_at : ℕ → Bool
+  is_inline_trivia_at n = is_inline_trivia (at n)
 
   -- of nodes between an element and the next one or the last bracket: how many it is through the comma, if there is one
   abbrev pub has_comma : List ℕ → Bool
@@ -55,7 +55,7 @@ module _ (at : ℕ → Content) where
   line row = take_while is_no_newline_at row
 
   abbrev pub is_own_line : Bool → List ℕ → Bool
-  is_own_line last row = (last || list_any is_newline_at row) && list_all is_beside_at (line row)
+  is_own_line last row = (last || list_any is_newline_at row) && list_all is_inline_trivia_at (line row)
 
   -- how many it is through the last comment of such a line
   abbrev pub comments_on_line : Bool → List ℕ → ℕ

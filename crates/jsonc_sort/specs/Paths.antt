@@ -6,7 +6,7 @@ use Rattle.jsonc_text.specs.Grammar.{IsDocument}
 use Rattle.jsonc_tree.specs.OrderedTree.{OrderedTree, Top, leaves, ordered_tree}
 use Rattle.jsonc_tree.specs.Tree.{Node, content_at, IsTree}
 use Rattle.jsonc_layout.specs.nodes.Siblings.{elements_at}
-use Rattle.jsonc_layout.specs.lines.Kinds.{holds_values}
+use Rattle.jsonc_layout.specs.lines.Kinds.{is_array_or_object}
 use Rattle.jsonc_sound.specs.Shape.{printed_text}
 use Rattle.jsonc_sound.specs.ChangeLaws.{DiffersIn}
 use Rattle.jsonc_sound.specs.Marks.{Mark, marks}
@@ -34,7 +34,7 @@ pub record SortedAt (path order : List ℕ) (t u : OrderedTree) : Type 0 where
 -- so it is where the elements of c, at a path of a sound document, come in another order
 abbrev pub SortsAt : Options → List Node → List Node → List ℕ → ℕ → Headers → List ℕ → Type 0
 SortsAt o old new path c h order =
-    IsTree old → IsTree new → SoundTree o (ordered_tree old 0) → IsAt old path c → IsTrue (holds_values (content_at old c)) → IsOrderIn old c order
+    IsTree old → IsTree new → SoundTree o (ordered_tree old 0) → IsAt old path c → IsTrue (is_array_or_object (content_at old c)) → IsOrderIn old c order
     → Rearranged old new c h order → SortedAt path order (ordered_tree old 0) (ordered_tree new 0)
 
 -- The text was a document, and is one whose value has the entries at the path in that order; each literal and comment is

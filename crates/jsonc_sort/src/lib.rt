@@ -9,7 +9,7 @@
 //!
 //! [`rearrange`] reads the entries of a row by their places (`specs/Places.antt`), plans the row in another
 //! order from its end on (`specs/Plans.antt`), and lets it take its place at once
-//! (`specs/Rearranged.antt`), so a refusal leaves the document as it was.
+//! (`specs/Rearranged.antt`), so an error leaves the document as it was.
 //!
 //! [`read_leads`] and [`comments_above`] tell what stands before each element, for rules of headers and groups
 //! (`specs/Above.antt`).

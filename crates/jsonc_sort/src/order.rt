@@ -4,8 +4,8 @@ ghost use Rattle.std.specs.Prelude.{◌≡◌, ◌<◌, IfOk, IsTrue, OnErr, OnO
 ghost use Rattle.jsonc_tree.specs.Building.{Keeps};
 ghost use Rattle.jsonc_tree.specs.OrderedTree.{ordered_tree};
 ghost use Rattle.jsonc_tree.specs.Tree.{content_at};
-ghost use Rattle.jsonc_edit.specs.Put.{Prepared};
-ghost use Rattle.jsonc_layout.specs.lines.Kinds.{holds_values};
+ghost use Rattle.jsonc_edit.specs.Put.{Extends};
+ghost use Rattle.jsonc_layout.specs.lines.Kinds.{is_array_or_object};
 ghost use Rattle.jsonc_sort.specs.Rearranged.{headers_of, IsOrderIn, moves, PlansSort, Rearranged};
 ghost use Rattle.jsonc_sort.specs.Sorting.{is_unchanged};
 
@@ -46,12 +46,12 @@ fn sorted_row<A: Allocator + Copy>(
     groups: bool,
     order: &[usize],
 ) -> Result<Vec<usize, A>, AllocError>
-    requires there { container < length tree.old.nodes }
+    requires in_tree { container < length tree.old.nodes }
     requires moves { IsTrue (moves tree.old.nodes container order.now) }
     requires order { IsOrderIn tree.old.nodes container order.now }
     ensures planned { IfOk result
         (λ v. PlansSort tree.old.nodes tree.new.nodes container (headers_of pinned.now groups) order.now v.items) }
-    ensures prepared { Prepared tree.old.nodes tree.new.nodes }
+    ensures prepared { Extends tree.old.nodes tree.new.nodes }
 {
     let newline = newline_kind_at(alloc, tree, container)?;
     let children = children(alloc, tree, container)?;
@@ -68,7 +68,7 @@ fn sorted_row<A: Allocator + Copy>(
 /// above it, but for so many as are pinned before it; where groups are kept, all above an element with a
 /// blank line before it stay. Each element but the last gets a comma, and the last keeps or loses one as
 /// the last had one. Where nothing moves, nothing changes. All memory is asked for before the row
-/// changes, and a refusal leaves the document, and every node that was there, as it was.
+/// changes, and an error leaves the document, and every node that was there, as it was.
 pub fn rearrange<A: Allocator + Copy>(
     alloc: A,
     tree: &mut Tree<A>,
@@ -77,12 +77,12 @@ pub fn rearrange<A: Allocator + Copy>(
     groups: bool,
     order: &[usize],
 ) -> Result<(), AllocError>
-    requires there { container < length tree.old.nodes }
-    requires holds { IsTrue (holds_values (content_at tree.old.nodes container)) }
+    requires in_tree { container < length tree.old.nodes }
+    requires holds { IsTrue (is_array_or_object (content_at tree.old.nodes container)) }
     requires order { IsOrderIn tree.old.nodes container order.now }
     ensures made { OnOk result
         (Rearranged tree.old.nodes tree.new.nodes container (headers_of pinned.now groups) order.now) }
-    ensures told { OnErr result (IsTrue (moves tree.old.nodes container order.now)) }
+    ensures error { OnErr result (IsTrue (moves tree.old.nodes container order.now)) }
     ensures kept { OnErr result (Keeps (length tree.old.nodes) tree.old.nodes tree.new.nodes) }
     ensures document { OnErr result (ordered_tree tree.new.nodes 0 ≡ ordered_tree tree.old.nodes 0) }
 {

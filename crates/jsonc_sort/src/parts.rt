@@ -6,7 +6,7 @@ ghost use Rattle.jsonc_sort.specs.Parts.{comments_on_line, is_own_line, tail_len
 ghost use Rattle.jsonc_sort.specs.Places.{before_blank, before_comma, IsComma};
 
 use jsonc_layout::nodes::{is_comma, is_whitespace};
-use jsonc_layout::rows::{all_beside, has_newline, last_spaces, line_length};
+use jsonc_layout::rows::{all_inline_trivia, has_newline, last_spaces, line_length};
 use jsonc_tree::Tree;
 use std::alloc::Allocator;
 
@@ -78,7 +78,7 @@ pub(crate) fn up_to_spaces<A: Allocator>(tree: &Tree<A>, row: &[usize]) -> usize
 fn is_own_line<A: Allocator>(tree: &Tree<A>, last: bool, row: &[usize]) -> bool
     ensures { result ≡ is_own_line (content_at tree.now.nodes) last row.now }
 {
-    (last || has_newline(tree, row)) && all_beside(tree, &row[..line_length(tree, row)])
+    (last || has_newline(tree, row)) && all_inline_trivia(tree, &row[..line_length(tree, row)])
 }
 
 // How many nodes it is through the last comment of such a line.

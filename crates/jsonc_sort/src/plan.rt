@@ -9,7 +9,7 @@ ghost use Rattle.jsonc_tree.specs.Content.{is_container, token};
 ghost use Rattle.jsonc_tree.specs.Stored.{content_of};
 ghost use Rattle.jsonc_tree.specs.Tree.{content_at};
 ghost use Rattle.jsonc_sound.specs.Lines.{is_line_comment};
-ghost use Rattle.jsonc_edit.specs.Put.{Prepared};
+ghost use Rattle.jsonc_edit.specs.Put.{Extends};
 ghost use Rattle.jsonc_layout.specs.nodes.Siblings.{AreThere};
 ghost use Rattle.jsonc_sort.specs.Places.{IsRead, IsWithin, end_after, has_comma_of};
 ghost use Rattle.jsonc_sort.specs.Plans.{Gains, GainsLeaf, GainsNode, RowPlanned, entry_by, goes_before};
@@ -41,7 +41,7 @@ fn put_leaf<A: Allocator>(
 ) -> Result<(), AllocError>
     requires { is_container (content_of kind) ≡ false }
     ensures gains { OnOk result (GainsLeaf tree.old.nodes plan.old tree.new.nodes plan.new (content_of kind)) }
-    ensures prepared { Prepared tree.old.nodes tree.new.nodes }
+    ensures prepared { Extends tree.old.nodes tree.new.nodes }
 {
     let leaf = tree.add(kind)?;
     plan.nodes.push(leaf)?;
@@ -51,7 +51,7 @@ fn put_leaf<A: Allocator>(
 // Puts a comma before what is planned.
 fn put_comma<A: Allocator>(tree: &mut Tree<A>, plan: &mut Plan<A>) -> Result<(), AllocError>
     ensures gains { OnOk result (Gains tree.old.nodes plan.old tree.new.nodes plan.new (comes (token 0x2C) ∷ [])) }
-    ensures prepared { Prepared tree.old.nodes tree.new.nodes }
+    ensures prepared { Extends tree.old.nodes tree.new.nodes }
 {
     put_leaf(tree, plan, Kind::token(','))?;
     plan.goes_on = true;
@@ -95,7 +95,7 @@ fn put_node<A: Allocator>(
     node: usize,
 ) -> Result<(), AllocError>
     ensures gains { OnOk result (Gains tree.old.nodes plan.old tree.new.nodes plan.new (stays node ∷ [])) }
-    ensures prepared { Prepared tree.old.nodes tree.new.nodes }
+    ensures prepared { Extends tree.old.nodes tree.new.nodes }
 {
     if lacks_end(tree, plan, node) {
         put_leaf(tree, plan, Kind::Newline(plan.newline))?;
@@ -113,7 +113,7 @@ fn put_stretch<A: Allocator>(
     nodes: &[usize],
 ) -> Result<(), AllocError>
     ensures gains { OnOk result (Gains tree.old.nodes plan.old tree.new.nodes plan.new (all_stay nodes.now)) }
-    ensures prepared { Prepared tree.old.nodes tree.new.nodes }
+    ensures prepared { Extends tree.old.nodes tree.new.nodes }
 {
     let mut place = nodes.len();
     while place > 0 {
@@ -141,7 +141,7 @@ fn put_tail<A: Allocator>(
     requires { IsWithin row.now entry.now }
     ensures gains { OnOk result
         (Gains tree.old.nodes plan.old tree.new.nodes plan.new (tail_by row.now comma entry.now)) }
-    ensures prepared { Prepared tree.old.nodes tree.new.nodes }
+    ensures prepared { Extends tree.old.nodes tree.new.nodes }
 {
     if has_comma(entry) && !comma {
         put_stretch(tree, plan, &row[entry.behind..entry.end])?;
@@ -177,7 +177,7 @@ fn put_entry<A: Allocator>(
     requires entry { IsWithin row.now entry.now }
     ensures gains { OnOk result
         (Gains tree.old.nodes plan.old tree.new.nodes plan.new (entry_by row.now first comma place.now entry.now)) }
-    ensures prepared { Prepared tree.old.nodes tree.new.nodes }
+    ensures prepared { Extends tree.old.nodes tree.new.nodes }
 {
     put_tail(tree, plan, row, comma, entry)?;
     put_node(tree, plan, row[entry.element])?;
@@ -227,7 +227,7 @@ fn number_at(order: &[usize], count: usize, place: usize) -> usize
 }
 
 /// The row with its elements in an order, which names the old number of each, by the numbers of the
-/// nodes. The leaves that come are made, and are nobody's children yet.
+/// nodes. The leaves that come are made, and have no parent yet.
 pub(crate) fn plan_row<A: Allocator>(
     alloc: A,
     tree: &mut Tree<A>,
@@ -236,12 +236,12 @@ pub(crate) fn plan_row<A: Allocator>(
     entries: &[Places],
     order: &[usize],
 ) -> Result<Vec<usize, A>, AllocError>
-    requires there { AreThere tree.old.nodes row.now }
+    requires in_tree { AreThere tree.old.nodes row.now }
     requires read { All (IsRead (content_at tree.old.nodes) row.now) entries.now }
     requires order { IsPermutation (range_with_len 0 (length entries.now)) order.now }
     ensures planned { IfOk result
         (λ v. RowPlanned tree.old.nodes tree.new.nodes newline row.now entries.now order.now v.items) }
-    ensures prepared { Prepared tree.old.nodes tree.new.nodes }
+    ensures prepared { Extends tree.old.nodes tree.new.nodes }
 {
     let mut plan = Plan {
         newline,

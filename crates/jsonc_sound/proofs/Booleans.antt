@@ -18,7 +18,7 @@ use Rattle.jsonc_sound.proofs.Lines.{document_lines}
 use Rattle.jsonc_sound.specs.Adjacent.{first_char, or_else, follower, LeavesEnd, last_printed, MayEndBefore}
 use Rattle.jsonc_sound.specs.Alone as alone
 use Rattle.jsonc_sound.specs.Booleans.{begins_hex, is_hexadecimal, is_hex_leaf, boolean_leaf}
-use Rattle.jsonc_sound.proofs.Apart.{document_leaves}
+use Rattle.jsonc_sound.proofs.NodesAlone.{document_leaves}
 use Rattle.jsonc_sound.proofs.Changed.{shaped_at_seams}
 use Rattle.jsonc_sound.proofs.Leaves.{parted_leaves}
 use Rattle.jsonc_sound.proofs.Spaces.{last_of}

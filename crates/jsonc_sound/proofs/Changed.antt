@@ -1,4 +1,4 @@
--- A document node by node, in which a value gives way to another.
+-- A document node by node, in which a value is replaced by another.
 use Rattle.std.proofs.Common.{ℕ, ◌≡◌, sym, subst, refl, Bool, false, List, [], ◌++◌, arith, None}
 use Rattle.jsonc_text.specs.Options.{Options}
 use Rattle.jsonc_tree.specs.Content.{Content}
@@ -17,7 +17,7 @@ use Rattle.jsonc_sound.proofs.ReadRows.{trivia_changed, token_changed, only_chan
 use Rattle.jsonc_sound.specs.Adjacent.{follower, LeavesEnd, LastEnds}
 use Rattle.jsonc_sound.specs.Alone as alone
 use Rattle.jsonc_sound.specs.Alone.{ValueAlone, PartAlone, RowAlone, PropertyAlone, RootAlone, DocumentAlone}
-use Rattle.jsonc_sound.proofs.Apart.{document_alone, document_leaves, document_shaped}
+use Rattle.jsonc_sound.proofs.NodesAlone.{document_alone, document_leaves, document_shaped}
 use Rattle.jsonc_sound.proofs.Leaves.{seams_serve}
 
 module _ (o : Options) where

@@ -13,7 +13,7 @@ use Rattle.jsonc_sound.specs.Adjacent.{first_char, or_else, follower, LeavesEnd,
 use Rattle.jsonc_sound.specs.Alone as alone
 use Rattle.jsonc_sound.specs.Alone.{may_stand, RowAlone, StretchAlone}
 use Rattle.jsonc_sound.specs.Spaces.{is_bare, is_bare_leaf, first_printed, meet}
-use Rattle.jsonc_sound.proofs.Flat.{AllLeaves, joined_all, node_all, mark_all, trivia_one, part_leaves_all, all_begin}
+use Rattle.jsonc_sound.proofs.LeafByLeaf.{AllLeaves, joined_all, node_all, mark_all, trivia_one, part_leaves_all, all_begin}
 use Rattle.jsonc_sound.proofs.Leaves.{joined_leaves, last_serves}
 use Rattle.jsonc_sound.proofs.Spaces.{own_last, last_append, last_of, serves_unless, not_both, stretch_no_word}
 use Rattle.jsonc_sound.proofs.Texts.{trivia_leaf, comma_first, closing_first}

@@ -30,9 +30,9 @@ use Rattle.jsonc_sound.specs.Adjacent.{one_or_none, first_char, or_else, followe
 use Rattle.jsonc_sound.specs.Alone as alone
 use Rattle.jsonc_sound.specs.Alone.{ValueAlone, PartAlone, RowAlone, PropertyAlone, RootAlone, DocumentAlone}
 use Rattle.jsonc_sound.specs.Spaces.{is_bare_leaf, first_printed, meet}
-use Rattle.jsonc_sound.proofs.Apart.{document_alone, document_leaves}
+use Rattle.jsonc_sound.proofs.NodesAlone.{document_alone, document_leaves}
 use Rattle.jsonc_sound.proofs.Changed.{alone_element}
-use Rattle.jsonc_sound.proofs.Flat.{AllLeaves, is_word, begins_slash, LeafBegins, leads_to_colon, leads_past, behind_all, all_begin, document_leaves_all}
+use Rattle.jsonc_sound.proofs.LeafByLeaf.{AllLeaves, is_word, begins_slash, LeafBegins, leads_to_colon, leads_past, behind_all, all_begin, document_leaves_all}
 use Rattle.jsonc_sound.proofs.Leaves.{parted_leaves}
 use Rattle.jsonc_sound.proofs.Spaced.{space_first, space_trivia}
 use Rattle.jsonc_sound.proofs.Spaces.{Ends, own_last, one_next, either_ends, last_of, space_serves, serves_unless, not_both}

@@ -7,7 +7,7 @@ use Rattle.jsonc_text.specs.Numbers.{MayFollow}
 use Rattle.jsonc_text.specs.Words.{EndsWord, EndsThere}
 use Rattle.jsonc_text.specs.Lexemes as lexemes
 use Rattle.jsonc_text.specs.Lexemes.{LexemeKind, Lexeme, lexeme, CanEndBefore}
-use Rattle.jsonc_text.proofs.Alone.{scanned_alone, scanned_before, some_text}
+use Rattle.jsonc_text.proofs.LexemesAlone.{scanned_alone, scanned_before, some_text}
 use Rattle.jsonc_tree.specs.Content.{Content}
 use Rattle.jsonc_sound.specs.Shape.{IsLiteralBefore, IsNameBefore}
 use Rattle.jsonc_sound.proofs.NumberEnds.{alike_next, may_follow_swapped}

@@ -8,7 +8,7 @@ use Rattle.jsonc_tree.specs.OrderedTree.{Top}
 use Rattle.jsonc_sound.specs.TreeChanges.{IsElement}
 use Rattle.jsonc_sound.specs.TriviaChanges.{AreTrivia, leaves_then}
 use Rattle.jsonc_sound.specs.MarkChanges.{AreBlanks}
-use Rattle.jsonc_sound.specs.Leaving.{AreBeside, element_count, among, ElementLeaves, with_comma_behind, with_comma_before, with_no_comma, ClosesUp, stays, closes_up}
+use Rattle.jsonc_sound.specs.Leaving.{AreInlineTrivia, element_count, among, ElementRemoved, with_comma_behind, with_comma_before, with_no_comma, ClosesUp, stays, closes_up}
 use Rattle.jsonc_sound.proofs.RowParts.{beside_trivia, rest_trivia, between_trivia, line_trivia}
 
 -- what is passed over
@@ -45,7 +45,7 @@ module _ {V : Type 0} (R : OrderedTree → V → Type 0) (Gone : ℕ → V → V
   leaves_taken reads (c ∷ cs) back vs h r = leaves_taken reads cs back vs h.1 (reads.taken (trivia_over c h.0) r)
 
   -- the element, and trivia on both sides of it
-  among_gone : Reads → (top : Top) (before line : List Content) (rest back : OrderedTree) → IsElement top.content → AreBeside before → AreTrivia line → ((vs : V) → R rest vs → R back vs)
+  among_gone : Reads → (top : Top) (before line : List Content) (rest back : OrderedTree) → IsElement top.content → AreInlineTrivia before → AreTrivia line → ((vs : V) → R rest vs → R back vs)
       → Loses 0 (among before top line rest) back
   among_gone reads top before line rest back h b l f = λ vs r.
       let m = reads.first h (leaves_taken reads before (more top.content top.below (leaves_then line rest)) vs (beside_trivia before b) r) in
@@ -75,7 +75,7 @@ module _ {V : Type 0} (R : OrderedTree → V → Type 0) (Gone : ℕ → V → V
       let same : element_count front + 0 ≡ element_count front = omega arith in
       subst (λ k. Loses k (followed_by front x) (followed_by front y)) same (over_front reads front x y 0 l)
 
-  leaves_row : Reads → (top : Top) (i : ℕ) (row left : OrderedTree) → IsElement top.content → ElementLeaves top i row left → Loses i row left
+  leaves_row : Reads → (top : Top) (i : ℕ) (row left : OrderedTree) → IsElement top.content → ElementRemoved top i row left → Loses i row left
   leaves_row reads top i row left h (with_comma_behind front back before between line e b l m) =
       first_behind reads front (among before top between (more (token 0x2C) none (leaves_then line back))) back
       (among_gone reads top before between (more (token 0x2C) none (leaves_then line back)) back h b (between_trivia l) (λ vs r. leaves_taken reads line back vs (line_trivia l) (reads.taken refl r)))
@@ -90,5 +90,5 @@ module _ {V : Type 0} (R : OrderedTree → V → Type 0) (Gone : ℕ → V → V
   closed_row reads left new vs stays r = r
   closed_row reads left new vs (closes_up blanks {c = c} h) r = leaves_taken reads blanks (more (token c) none none) vs (blanks_trivia blanks h) r
 
-  pub entry_gone : Reads → (top : Top) (i : ℕ) (row left new : OrderedTree) → IsElement top.content → ElementLeaves top i row left → ClosesUp left new → Loses i row new
+  pub entry_gone : Reads → (top : Top) (i : ℕ) (row left new : OrderedTree) → IsElement top.content → ElementRemoved top i row left → ClosesUp left new → Loses i row new
   entry_gone reads top i row left new h e c = λ vs r. let m = leaves_row reads top i row left h e vs r in (m.0, m.1, closed_row reads left new m.0 c m.2)

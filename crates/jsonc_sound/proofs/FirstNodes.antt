@@ -13,7 +13,7 @@ use Rattle.jsonc_sound.specs.Shape.{IsTrivia, IsLiteralBefore, IsNameBefore, Val
 use Rattle.jsonc_sound.proofs.ShapeTexts.{trivia_none}
 use Rattle.jsonc_sound.specs.TreeChanges.{IsElement, ElementChanged, this_element, passed, later_element}
 
--- the first node is the one that gives way, or it stays: it is passed over, or an element before that one
+-- the first node is the one that is replaced, or it stays: it is passed over, or an element before that one
 pub data Meets (was now : Top) (i : ℕ) (content : Content) (below after new : OrderedTree) : Type 0 where
   here : i ≡ 0 → content ≡ was.content → below ≡ was.below → IsElement content → new ≡ more now.content now.below after → Meets was now i content below after new
   over : {rest : OrderedTree} → IsTrue (is_passed_over content) → ElementChanged was now i after rest → new ≡ more content below rest → Meets was now i content below after new

@@ -24,14 +24,14 @@ use Rattle.jsonc_sound.specs.Alone as alone
 use Rattle.jsonc_sound.specs.Alone.{ValueAlone, RootAlone}
 use Rattle.jsonc_sound.specs.Lines.{ends_loosely, LinesEndLoosely}
 use Rattle.jsonc_sound.specs.SoundTrees.{SoundTree}
-use Rattle.jsonc_sound.proofs.Apart.{value_alone, value_leaves}
+use Rattle.jsonc_sound.proofs.NodesAlone.{value_alone, value_leaves}
 use Rattle.jsonc_sound.proofs.Leaves.{joined_leaves, last_serves}
 use Rattle.jsonc_sound.proofs.Spaces.{Ends, last_of, serves_unless, value_no_word}
 use Rattle.jsonc_sound.specs.MarkChanges.{AreBlanks, marks_under}
 use Rattle.jsonc_sound.specs.Marks.{marks, marks_of}
-use Rattle.jsonc_sound.proofs.GivingWay.{marks_join, blanks_unmarked}
+use Rattle.jsonc_sound.proofs.ReplacedStretches.{marks_join, blanks_unmarked}
 use Rattle.jsonc_sound.specs.Coming as coming
-use Rattle.jsonc_sound.specs.Coming.{AreLineEnds, ends_in_comment, begins_in_line_end, ValueComes}
+use Rattle.jsonc_sound.specs.Coming.{AreLineEnds, ends_in_comment, begins_in_line_end, ValueInserted}
 use Rattle.jsonc_sound.specs.EntryLaws.{root_with, SoundWithFirstValue, HasFirstValue, MarksWithFirstValue}
 use Rattle.jsonc_sound.proofs.RootRows.{trivia_passed, line_ends_trivia, joined_trivia, leaves_then_joined, lines_behind, root_lines, root_marks, loosened, root_alone, root_sound, behind_trivia, trivia_of, trivia_before, line_ends_of, leaves_led}
 

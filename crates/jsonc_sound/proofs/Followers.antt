@@ -7,7 +7,7 @@ use Rattle.jsonc_text.specs.Gaps.{is_blank}
 use Rattle.jsonc_text.specs.Words.{goes_on}
 use Rattle.jsonc_text.specs.Lexemes as lexemes
 use Rattle.jsonc_text.specs.Lexemes.{LexemeKind, Lexeme, lexeme, CanEndBefore}
-use Rattle.jsonc_text.proofs.Alone.{scanned_alone, scanned_before}
+use Rattle.jsonc_text.proofs.LexemesAlone.{scanned_alone, scanned_before}
 use Rattle.jsonc_text.proofs.Basics.{and_both, or_left, test_eq}
 use Rattle.jsonc_text.proofs.UniqueGaps.{comment_begins}
 use Rattle.jsonc_tree.specs.Content.{Content, text_of}

@@ -1,4 +1,4 @@
--- A property of an object gives way to another.
+-- A property of an object is replaced by another.
 use Rattle.std.proofs.Common.{ℕ, suc, ◌≡◌, ◌∙◌, sym, ap, subst, refl, Bool, true, false, not, List, [], ◌∷◌, ◌++◌, None, IsTrue, append-nil, if◌then◌else◌}
 use Rattle.jsonc_text.specs.Options.{Options}
 use Rattle.jsonc_text.specs.Plain.{Plain, Members, member}
@@ -25,21 +25,21 @@ use Rattle.jsonc_sound.specs.Alone as alone
 use Rattle.jsonc_sound.specs.Alone.{may_stand, may_come, RowAlone, StretchAlone}
 use Rattle.jsonc_sound.specs.Lines.{is_loose, LinesEndLoosely, DocumentLinesEndLoosely}
 use Rattle.jsonc_sound.specs.Spaces.{meet}
-use Rattle.jsonc_sound.proofs.Apart.{value_alone, property_alone, property_leaves}
+use Rattle.jsonc_sound.proofs.NodesAlone.{value_alone, property_alone, property_leaves}
 use Rattle.jsonc_sound.proofs.Changed.{part_element}
 use Rattle.jsonc_sound.proofs.LooseChanges.{joined_loosely, parted_loosely}
 use Rattle.jsonc_sound.proofs.SeamRows.{row_of}
 use Rattle.jsonc_sound.proofs.SoundTrees.{kept_where_none_meet}
 use Rattle.jsonc_sound.proofs.SeamStretches.{parted_row, last_is}
-use Rattle.jsonc_sound.proofs.GivingWay.{marks_differ}
+use Rattle.jsonc_sound.proofs.ReplacedStretches.{marks_differ}
 use Rattle.jsonc_sound.specs.Leaving.{element_count}
 use Rattle.jsonc_sound.specs.Properties.{among_properties, object_of, ReplacesMember, SoundWithProperty, MembersWithProperty, ValueWithProperty, MarksWithProperty}
 use Rattle.jsonc_sound.specs.Values as changes
 use Rattle.jsonc_sound.specs.Values.{MemberReplaced}
-use Rattle.jsonc_sound.proofs.Between.{value_given}
+use Rattle.jsonc_sound.proofs.ThroughNull.{value_given}
 use Rattle.jsonc_sound.proofs.RootRows.{loosened}
 
--- line comments of what gives way
+-- line comments of what is replaced
 row_lines_held : {x y : Top} {i : ℕ} {row new : OrderedTree} (loose at_end : Bool) → ElementChanged x y i row new → LinesEndLoosely loose at_end row → LinesEndLoosely (is_loose x.content) false x.below
 row_lines_held loose at_end (this_element p q) l = l.1
 row_lines_held loose at_end (passed p k) l = row_lines_held loose at_end k l.2

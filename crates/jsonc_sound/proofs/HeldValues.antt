@@ -12,7 +12,7 @@ use Rattle.jsonc_sound.specs.TreeChanges.{property_of, ElementChanged, this_elem
 use Rattle.jsonc_sound.proofs.FirstNodes.{here, over, beyond, meets_first, none_changed, no_element, value_element, name_element}
 use Rattle.jsonc_sound.proofs.ReadRows.{trivia_changed, token_changed, only_changed, separated_changed, closed_changed}
 
--- line comments of what gives way
+-- line comments of what is replaced
 row_lines_held : {x y : Top} {i : ℕ} {row new : OrderedTree} (at_end : Bool) → ElementChanged x y i row new → LinesEnd at_end row → LinesEnd false x.below
 row_lines_held at_end (this_element p q) l = l.1
 row_lines_held at_end (passed p k) l = row_lines_held at_end k l.2

@@ -13,7 +13,7 @@ use Rattle.jsonc_layout.specs.from_input.Texts.{IsCharacters, IsOfTexts, AreOfTe
 use Rattle.jsonc_layout.proofs.lemmas.from_input.SpelledTexts.{spelled_characters}
 use Rattle.jsonc_sound.specs.Marks.{Mark, marks_of, marks, is_comment, comments_of}
 use Rattle.jsonc_sound.specs.Written.{written, items_written, members_written, property_written, marks_laid}
-use Rattle.jsonc_sound.proofs.GivingWay.{marks_join}
+use Rattle.jsonc_sound.proofs.ReplacedStretches.{marks_join}
 
 -- a node, and then a row
 node_marks : (node : Top) (row : OrderedTree) → marks (node_then node row) ≡ marks_laid node ++ marks row

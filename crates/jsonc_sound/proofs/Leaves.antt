@@ -48,7 +48,7 @@ last_serves o (content ∷ rest) n m h k = by (last_serves o rest n m h.1) (last
     by ih None p (Some c) q f = (subst (EndsBefore o content) (sym (nothing_printed rest p m)) f, ih (subst (λ x. MayEndBefore o x m) (sym p) tt))
     by ih None p None q f = (unprinted_ends o content (follower rest n) (follower rest m) q h.0, ih (subst (λ x. MayEndBefore o x m) (sym p) tt))
 
--- a stretch of leaves gives way to another
+-- a stretch of leaves is replaced by another
 pub seams_serve : (o : Options) (was now x y : List Content) → LeavesEnd o x None → (d : DiffersIn was now x y) → LastEnds o d.front (follower (now ++ d.back) None) → LeavesEnd o now (follower d.back None) → LeavesEnd o y None
 seams_serve o was now x y h d l k =
     let whole = parted_leaves o d.front (was ++ d.back) None (subst (λ s. LeavesEnd o s None) d.before h) in

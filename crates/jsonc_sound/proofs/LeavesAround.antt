@@ -1,4 +1,4 @@
--- The leaves before and after what gives way stay.
+-- The leaves before and after what is replaced stay.
 use Rattle.std.proofs.Common.{ℕ, ◌≡◌, ◌∙◌, sym, ap, List, [], ◌++◌}
 use Rattle.std.proofs.lemmas.List.{append_assoc, append-nil}
 use Rattle.jsonc_tree.specs.Content.{Content}

@@ -6,7 +6,7 @@ use Rattle.jsonc_text.specs.Text.{next, no, end_or, Many, stop, step, AllOf, all
 use Rattle.jsonc_text.specs.Numbers.{Sign, Whole, Fraction, Exponent, Unsigned, Number, EndsName, MayFollow}
 use Rattle.jsonc_text.specs.Lexemes as lexemes
 use Rattle.jsonc_text.specs.Lexemes.{LexemeKind, Lexeme, lexeme, CanEndBefore}
-use Rattle.jsonc_text.proofs.Alone.{scanned_alone, scanned_before}
+use Rattle.jsonc_text.proofs.LexemesAlone.{scanned_alone, scanned_before}
 use Rattle.jsonc_text.proofs.UniqueWords.{many_more}
 
 -- where something follows, more after it changes nothing

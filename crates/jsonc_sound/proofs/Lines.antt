@@ -1,4 +1,4 @@
--- Line comments still end with their lines where a value gives way to another.
+-- Line comments still end with their lines where a value is replaced by another.
 use Rattle.std.proofs.Common.{ℕ, ◌≡◌, subst, refl, Bool, true, false, List, IsTrue}
 use Rattle.jsonc_tree.specs.OrderedTree.{OrderedTree, Top}
 use Rattle.jsonc_sound.specs.Lines.{ends_line, LinesEnd, DocumentLinesEnd}

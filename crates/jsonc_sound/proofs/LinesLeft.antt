@@ -2,7 +2,7 @@
 use Rattle.std.proofs.Common.{ℕ, ◌≡◌, subst, refl, Bool, true, false, not, ◌&&◌, List, [], ◌∷◌, IsTrue}
 use Rattle.jsonc_tree.specs.Content.{Content}
 use Rattle.jsonc_tree.specs.OrderedTree.{OrderedTree, none, more}
-use Rattle.jsonc_layout.specs.nodes.Kinds.{is_beside}
+use Rattle.jsonc_layout.specs.nodes.Kinds.{is_inline_trivia}
 use Rattle.jsonc_sound.specs.Lines.{is_line_comment}
 use Rattle.jsonc_sound.specs.Shape.{token_then}
 use Rattle.jsonc_sound.specs.Rows as rows
@@ -37,7 +37,7 @@ lines_more loose at_end none l = tt
 lines_more loose at_end (more content below after) l = (λ h. first_more loose at_end after (l.0 h), l.1, lines_more loose at_end after l.2)
 
 -- so it is where what is last is neither whitespace nor a comment
-line_beside : (content : Content) → IsTrue (is_line_comment content) → IsTrue (not (is_beside content)) → ⊥
+line_beside : (content : Content) → IsTrue (is_line_comment content) → IsTrue (not (is_inline_trivia content)) → ⊥
 line_beside (Content.comment s) h k = cc
 line_beside content h k = cc
 
@@ -58,7 +58,7 @@ pub apart_behind : (c : ℕ) (row : OrderedTree) → IsTrue (ends_apart (token_t
 apart_behind c none e = refl
 apart_behind c (more content below after) e = e
 
--- those of what gives way
+-- those of what is replaced
 row_held : {x y : Top} {i : ℕ} {row new : OrderedTree} (loose at_end : Bool) → ElementChanged x y i row new → LinesEndLoosely loose at_end row → LinesEndLoosely (is_loose x.content) false x.below
 row_held loose at_end (this_element p q) l = l.1
 row_held loose at_end (passed p k) l = row_held loose at_end k l.2

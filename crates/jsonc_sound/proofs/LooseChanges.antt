@@ -24,7 +24,7 @@ pub parted_loosely : (loose at_end : Bool) (s t : OrderedTree) → LinesEndLoose
 parted_loosely loose at_end none t l = (tt, l)
 parted_loosely loose at_end (more content below s) t l = let d = parted_loosely loose at_end s t l.2 in ((λ h. subst (λ b. IsTrue b) (ends_joined loose at_end s t) (l.0 h), l.1, d.0), d.1)
 
--- a value gives way
+-- a value is replaced
 pub element_no_end : (loose at_end : Bool) (content : Content) (below after : OrderedTree) → IsElement content → IsTrue (ends_loosely loose at_end (more content below after)) → ⊥
 element_no_end loose at_end (Content.newline k) below after e h = cc
 element_no_end loose at_end (Content.whitespace s) below after e h = cc

@@ -19,10 +19,10 @@ use Rattle.jsonc_sound.specs.Alone as alone
 use Rattle.jsonc_sound.specs.Alone.{ValueAlone, PartAlone, RowAlone, PropertyAlone, RootAlone, DocumentAlone}
 use Rattle.jsonc_sound.specs.SoundTrees.{SoundTree}
 use Rattle.jsonc_sound.specs.Spaces.{is_bare_leaf, first_printed, meet}
-use Rattle.jsonc_sound.proofs.Apart.{document_alone, document_leaves}
+use Rattle.jsonc_sound.proofs.NodesAlone.{document_alone, document_leaves}
 use Rattle.jsonc_sound.proofs.Changed.{alone_element}
 use Rattle.jsonc_sound.proofs.Comments.{StartsLine, regroup, regrouped, line_ends_words, word_leads, leads_ends, trivia_lead, kind_moved, slash_ends_no_word}
-use Rattle.jsonc_sound.proofs.Flat.{AllLeaves, leads_to_colon, behind_all, all_begin, document_leaves_all, literal_leads}
+use Rattle.jsonc_sound.proofs.LeafByLeaf.{AllLeaves, leads_to_colon, behind_all, all_begin, document_leaves_all, literal_leads}
 use Rattle.jsonc_sound.proofs.Leaves.{parted_leaves}
 use Rattle.jsonc_sound.proofs.Spaces.{Ends, last_of, serves_unless, not_both}
 use Rattle.jsonc_sound.proofs.Texts.{trivia_leaf, literal_leaf}

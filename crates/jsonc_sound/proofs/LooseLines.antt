@@ -7,10 +7,10 @@ use Rattle.jsonc_text.specs.Text.{next, no, Many, stop, step}
 use Rattle.jsonc_text.specs.Gaps as gaps
 use Rattle.jsonc_text.specs.Gaps.{Gap, is_blank, is_in_line, LineComment, line, IsComment}
 use Rattle.jsonc_text.specs.Lexemes.{block_comment}
-use Rattle.jsonc_text.proofs.Alone.{scanned_before}
+use Rattle.jsonc_text.proofs.LexemesAlone.{scanned_before}
 use Rattle.jsonc_text.proofs.Basics.{and_both}
 use Rattle.jsonc_text.proofs.BlockComments.{block_inside}
-use Rattle.jsonc_text.proofs.Steps.{many_append}
+use Rattle.jsonc_text.proofs.CharacterSteps.{many_append}
 use Rattle.jsonc_text.proofs.UniqueWords.{many_more}
 use Rattle.jsonc_tree.specs.Content.{Content, text_of}
 use Rattle.jsonc_tree.specs.OrderedTree.{OrderedTree, none, more}

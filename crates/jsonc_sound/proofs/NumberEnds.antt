@@ -1,4 +1,4 @@
--- What follows a number may give way to another text before which a number ends alike.
+-- What follows a number may be replaced by another text before which a number ends alike.
 use Rattle.std.proofs.Common.{ℕ, ◌≡◌, sym, ap, subst, refl, Bool, true, false, List, [], ◌∷◌, ◌++◌, IsTrue, codes}
 use Rattle.jsonc_text.specs.Options.{Options, all_on}
 use Rattle.jsonc_text.specs.Text.{next, no, end_or, Many, stop, step, AllOf, all_of, is_digit}

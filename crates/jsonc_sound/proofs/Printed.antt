@@ -11,10 +11,10 @@ use Rattle.jsonc_text.specs.Gaps.{is_blank, is_in_line, LineComment, line, Block
 use Rattle.jsonc_text.specs.Grammar.{may_name}
 use Rattle.jsonc_text.specs.Words.{Keyword, keyword_text}
 use Rattle.jsonc_text.specs.Lexemes.{LexemeKind, lexeme, line_comment, block_comment, IsScanned, is_punctuation}
-use Rattle.jsonc_text.proofs.Alone.{scanned_before}
+use Rattle.jsonc_text.proofs.LexemesAlone.{scanned_before}
 use Rattle.jsonc_text.proofs.Basics.{and_both}
 use Rattle.jsonc_text.proofs.BlockComments.{block_inside}
-use Rattle.jsonc_text.proofs.Steps.{many_append}
+use Rattle.jsonc_text.proofs.CharacterSteps.{many_append}
 use Rattle.jsonc_text.proofs.UniqueWords.{many_more}
 use Rattle.jsonc_tree.specs.Content.{Content, text_of, newline_text}
 use Rattle.jsonc_tree.specs.declared.node.CstNewlineKind.{CstNewlineKind}
@@ -27,15 +27,15 @@ use Rattle.jsonc_sound.proofs.ShapeTexts.{trivia_utf8}
 use Rattle.jsonc_sound.specs.ChangeLaws.{DiffersIn}
 use Rattle.jsonc_sound.specs.Adjacent.{EndsBefore, follower, LeavesEnd}
 use Rattle.jsonc_sound.specs.SoundTrees.{SoundTree}
-use Rattle.jsonc_sound.proofs.Apart.{document_alone, document_leaves}
+use Rattle.jsonc_sound.proofs.NodesAlone.{document_alone, document_leaves}
 use Rattle.jsonc_sound.proofs.Ends.{literal_there, name_there}
 use Rattle.jsonc_sound.proofs.Texts.{AllUtf8, text_follower}
 use Rattle.jsonc_sound.specs.Marks.{Mark, comment_mark, mark_of, AreMarks, MarksTo, no_more, blank, one, mark_of_leaf, marks_of, marks}
 use Rattle.jsonc_sound.specs.MarkChanges.{MarksDifferIn}
-use Rattle.jsonc_sound.proofs.GivingWay.{marks_differ}
+use Rattle.jsonc_sound.proofs.ReplacedStretches.{marks_differ}
 use Rattle.jsonc_sound.proofs.OneList.{marks_unique}
 use Rattle.jsonc_sound.proofs.Pieces.{Piece, a_literal, a_name, a_token, a_trivia, Pieces, ends_line, LinesFlat, document_pieces, document_flat}
-use Rattle.jsonc_sound.proofs.Trimmed.{blanks_left_out}
+use Rattle.jsonc_sound.proofs.TrimmedTexts.{blanks_left_out}
 
 -- the characters that leaves print
 abbrev pub text_of_leaves : List Content → List ℕ

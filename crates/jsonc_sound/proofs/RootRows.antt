@@ -15,7 +15,7 @@ use Rattle.jsonc_sound.specs.Alone as alone
 use Rattle.jsonc_sound.specs.Alone.{ValueAlone, RootAlone, DocumentAlone}
 use Rattle.jsonc_sound.specs.Lines.{is_loose, LinesEndLoosely, DocumentLinesEndLoosely}
 use Rattle.jsonc_sound.specs.SoundTrees.{SoundTree}
-use Rattle.jsonc_sound.proofs.Apart.{trivia_any, document_alone, document_shaped}
+use Rattle.jsonc_sound.proofs.NodesAlone.{trivia_any, document_alone, document_shaped}
 use Rattle.jsonc_sound.proofs.Changed.{alone_element}
 use Rattle.jsonc_sound.proofs.LooseLines.{document_loosens}
 use Rattle.jsonc_sound.proofs.Texts.{trivia_leaf}

@@ -3,7 +3,7 @@ use Rattle.std.proofs.Common.{ℕ, ◌≡◌, sym, ap, subst, refl, Bool, true, 
 use Rattle.jsonc_text.specs.Options.{Options}
 use Rattle.jsonc_tree.specs.Content.{Content, token}
 use Rattle.jsonc_tree.specs.OrderedTree.{OrderedTree, none, more, followed_by}
-use Rattle.jsonc_layout.specs.nodes.Kinds.{is_beside, is_newline, is_trivia}
+use Rattle.jsonc_layout.specs.nodes.Kinds.{is_inline_trivia, is_newline, is_trivia}
 use Rattle.jsonc_layout.specs.nodes.Kinds.{is_comma}
 use Rattle.jsonc_sound.specs.Shape.{IsTrivia, token_then}
 use Rattle.jsonc_sound.specs.Rows as rows
@@ -16,14 +16,14 @@ use Rattle.jsonc_sound.specs.Alone as alone
 use Rattle.jsonc_sound.specs.Alone.{may_stand, may_come, PartAlone, RowAlone, StretchAlone}
 use Rattle.jsonc_sound.proofs.Changed.{part_element}
 use Rattle.jsonc_sound.proofs.SeamStretches.{parted_row}
-use Rattle.jsonc_sound.specs.Leaving.{AreBeside, IsRestOfLine, without_end, with_end, LeavesBehind, comma_alone, comma_and_line, has_no_comma, comma_comes, among}
+use Rattle.jsonc_sound.specs.Leaving.{AreInlineTrivia, IsRestOfLine, without_end, with_end, LeavesBehind, comma_alone, comma_and_line, has_no_comma, comma_comes, among}
 
 -- leaves before a row, and rows behind it
-pub beside_trivia : (ls : List Content) → AreBeside ls → AreTrivia ls
+pub beside_trivia : (ls : List Content) → AreInlineTrivia ls → AreTrivia ls
 beside_trivia [] h = tt
 beside_trivia (content ∷ rest) h = (by content h.0, beside_trivia rest h.1)
   where
-    by : (c : Content) → IsTrue (is_beside c) → IsTrue (is_trivia c)
+    by : (c : Content) → IsTrue (is_inline_trivia c) → IsTrue (is_trivia c)
     by (Content.whitespace s) k = refl
     by (Content.comment s) k = refl
     by c k = cc
@@ -32,7 +32,7 @@ pub newline_trivia : (content : Content) → IsTrue (is_newline content) → IsT
 newline_trivia (Content.newline k) h = refl
 newline_trivia content h = cc
 
-ended_trivia : (ls : List Content) (end : Content) → AreBeside ls → IsTrue (is_newline end) → AreTrivia (ls ++ end ∷ [])
+ended_trivia : (ls : List Content) (end : Content) → AreInlineTrivia ls → IsTrue (is_newline end) → AreTrivia (ls ++ end ∷ [])
 ended_trivia [] end h n = (newline_trivia end n, tt)
 ended_trivia (content ∷ rest) end h n = ((beside_trivia (content ∷ []) (h.0, tt)).0, ended_trivia rest end h.1 n)
 

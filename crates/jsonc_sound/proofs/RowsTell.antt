@@ -1,4 +1,4 @@
--- A comment leaves a row, or a value of it gives way: what meets is seen in that row.
+-- A comment leaves a row, or a value of it is replaced: what meets is seen in that row.
 use Rattle.std.proofs.Common.{◌≡◌, ◌≢◌, ◌∙◌, sym, ap, subst, refl, false, ◌&&◌, List, [], ◌∷◌, ◌++◌, is_some, IsTrue, append-nil}
 use Rattle.std.proofs.lemmas.List.{append_assoc}
 use Rattle.jsonc_text.specs.Options.{Options}
@@ -16,7 +16,7 @@ use Rattle.jsonc_sound.specs.Alone.{RootAlone, DocumentAlone}
 use Rattle.jsonc_sound.specs.InRows.{KeptWithoutCommentInRow, KeptByValueInRow, KeptByValueInRoot, KeptByValueInProperty, row_around, holding}
 use Rattle.jsonc_sound.specs.SoundTrees.{SoundTree}
 use Rattle.jsonc_sound.specs.Spaces.{is_bare_leaf, first_printed, meet}
-use Rattle.jsonc_sound.proofs.Apart.{document_alone}
+use Rattle.jsonc_sound.proofs.NodesAlone.{document_alone}
 use Rattle.jsonc_sound.proofs.LooseComments.{kept_without_comment}
 use Rattle.jsonc_sound.proofs.RowsWithin.{Within, here, deeper, later, InDocument, no_row, root_in, leaves_within, both_within, LeafPrints, last_some, same_if_some, Starts, starts_with, Ends, ends_with, goes_on, Bounded, nothing, bounded, ends_print, no_more, at_root, further_in, document_in, none_meet_around}
 use Rattle.jsonc_sound.proofs.SoundTrees.{kept_by_values}
@@ -157,23 +157,23 @@ module _ (o : Options) where
   record Somewhere (x t : OrderedTree) : Type 0 where
     front : List Content
     back : List Content
-    there : Within x front back t
+    in_tree : Within x front back t
 
   further_below : {x y t : OrderedTree} {f b g c : List Content} → Within x f b t → Within y g c x → Somewhere y t
-  further_below here k = record { front = _; back = _; there = deeper k }
-  further_below (deeper w) k = let r = further_below w k in record { front = _; back = _; there = deeper r.there }
-  further_below (later w) k = let r = further_below w k in record { front = _; back = _; there = later r.there }
+  further_below here k = record { front = _; back = _; in_tree = deeper k }
+  further_below (deeper w) k = let r = further_below w k in record { front = _; back = _; in_tree = deeper r.in_tree }
+  further_below (later w) k = let r = further_below w k in record { front = _; back = _; in_tree = later r.in_tree }
 
   held_there : (before behind : OrderedTree) (top : Top) → Somewhere top.below (row_around before top behind)
-  held_there none behind top = record { front = _; back = _; there = here }
-  held_there (more content below before) behind top = let r = held_there before behind top in record { front = _; back = _; there = later r.there }
+  held_there none behind top = record { front = _; back = _; in_tree = here }
+  held_there (more content below before) behind top = let r = held_there before behind top in record { front = _; back = _; in_tree = later r.in_tree }
 
   held_bounded : {t : OrderedTree} {f b : List Content} → DocumentAlone o t → (before behind : OrderedTree) (top : Top) → Within (row_around before top behind) f b t → Bounded top.below
   held_bounded {t} {f} {b} (row, e, g) before behind top w = by row g (subst (Within (row_around before top behind) f b) e w)
     where
       by : (row : OrderedTree) → RootAlone o false row → {h c : List Content} → Within (row_around before top behind) h c (more root row none) → Bounded top.below
-      by row g here = root_in o g (held_there before behind top).there
-      by row g (deeper k) = root_in o g (further_below k (held_there before behind top).there).there
+      by row g here = root_in o g (held_there before behind top).in_tree
+      by row g (deeper k) = root_in o g (further_below k (held_there before behind top).in_tree).in_tree
       by row g (later k) = absurd (no_row k)
 
   seen_in_property : {x : OrderedTree} (f : List Content) → Bounded x → (top : Top) (front : OrderedTree) → front ≢ none → x ≡ row_around front top none → last_printed (f ++ leaves front) ≡ last_printed (leaves front)

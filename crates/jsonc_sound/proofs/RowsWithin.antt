@@ -40,7 +40,7 @@ leaves_within {x} (later {content = content} {below = below} {f = f} {b = b} w) 
     ap (λ l. own_leaf content ++ (leaves below ++ l)) (leaves_within w)
     ∙ sym (append_assoc (own_leaf content ++ leaves below) f (leaves x ++ b) ∙ append_assoc (own_leaf content) (leaves below) (f ++ (leaves x ++ b)))
 
--- the same leaves stand around what it gives way to
+-- the same leaves stand around what it is replaced by
 pub record BothWithin (was now t u : OrderedTree) : Type 0 where
   pub front : List Content
   pub back : List Content

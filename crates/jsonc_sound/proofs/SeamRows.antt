@@ -1,4 +1,4 @@
--- A document in which a stretch of a container's row gives way to another.
+-- A document in which a stretch of a container's row is replaced by another.
 use Rattle.std.proofs.Common.{ℕ, ◌≡◌, ◌∙◌, sym, ap, subst, refl, false, List, ◌∷◌, ◌++◌, Option, None, IsTrue}
 use Rattle.jsonc_text.specs.Options.{Options}
 use Rattle.jsonc_tree.specs.Content.{Content, token}
@@ -16,7 +16,7 @@ use Rattle.jsonc_sound.proofs.Lines.{document_lines}
 use Rattle.jsonc_sound.specs.Adjacent.{or_else, follower, LeavesEnd, LastEnds}
 use Rattle.jsonc_sound.specs.Alone as alone
 use Rattle.jsonc_sound.specs.Alone.{may_come, ValueAlone, RowAlone, StretchAlone}
-use Rattle.jsonc_sound.proofs.Apart.{value_alone, document_alone, document_leaves, document_shaped}
+use Rattle.jsonc_sound.proofs.NodesAlone.{value_alone, document_alone, document_leaves, document_shaped}
 use Rattle.jsonc_sound.proofs.Changed.{document_changed}
 use Rattle.jsonc_sound.proofs.Leaves.{follower_append, joined_leaves, parted_leaves, last_serves}
 use Rattle.jsonc_sound.proofs.SeamStretches.{gives_way}

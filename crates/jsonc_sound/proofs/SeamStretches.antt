@@ -1,4 +1,4 @@
--- A row in which a stretch gives way to another.
+-- A row in which a stretch is replaced by another.
 use Rattle.std.proofs.Common.{◌≡◌, ◌∙◌, sym, ap, subst, refl, IsTrue}
 use Rattle.jsonc_text.specs.Options.{Options}
 use Rattle.jsonc_tree.specs.Content.{Content, token}

@@ -9,7 +9,7 @@ use Rattle.jsonc_text.specs.Gaps as gaps
 use Rattle.jsonc_text.specs.Gaps.{Gap, is_blank, is_in_line, LineComment, line, BlockComment, IsComment}
 use Rattle.jsonc_text.specs.Plain.{Plain, Items, Members}
 use Rattle.jsonc_text.specs.Lexemes.{line_comment, block_comment}
-use Rattle.jsonc_text.proofs.Alone.{scanned_before}
+use Rattle.jsonc_text.proofs.LexemesAlone.{scanned_before}
 use Rattle.jsonc_text.proofs.Basics.{and_both}
 use Rattle.jsonc_text.proofs.BlockComments.{block_inside}
 use Rattle.jsonc_text.proofs.Cuts.{many_split}

@@ -12,7 +12,7 @@ use Rattle.jsonc_text.specs.Lexemes.{LexemeKind, Lexeme, lexeme}
 use Rattle.jsonc_text.specs.Plain.{Plain, Items, no_items, item, Members, no_members, member}
 use Rattle.jsonc_text.specs.Grammar as grammar
 use Rattle.jsonc_text.specs.Grammar.{Separates, Closes, IsName, IsValue, AreElements, AreProperties, IsProperty}
-use Rattle.jsonc_text.proofs.Alone.{scanned_alone}
+use Rattle.jsonc_text.proofs.LexemesAlone.{scanned_alone}
 use Rattle.jsonc_tree.specs.Content.{Content, text_of}
 use Rattle.jsonc_tree.specs.OrderedTree.{OrderedTree, none, more, printed}
 use Rattle.jsonc_tree.specs.Values as values

@@ -20,7 +20,7 @@ use Rattle.jsonc_sound.specs.Alone.{may_stand, may_come, RowAlone, StretchAlone}
 use Rattle.jsonc_sound.specs.Lines.{ends_loosely, LinesEndLoosely}
 use Rattle.jsonc_sound.specs.SoundTrees.{SoundTree}
 use Rattle.jsonc_sound.specs.Spaces.{meet}
-use Rattle.jsonc_sound.proofs.Apart.{value_alone, value_leaves}
+use Rattle.jsonc_sound.proofs.NodesAlone.{value_alone, value_leaves}
 use Rattle.jsonc_sound.proofs.Leaves.{parted_leaves, last_serves}
 use Rattle.jsonc_sound.proofs.LooseChanges.{parted_loosely, joined_loosely}
 use Rattle.jsonc_sound.proofs.SeamRows.{container_leaves, row_of}
@@ -29,7 +29,7 @@ use Rattle.jsonc_sound.proofs.Spaces.{last_of, serves_unless, stretch_no_word}
 use Rattle.jsonc_sound.proofs.SeamStretches.{gives_way, last_is, parted_row}
 use Rattle.jsonc_sound.specs.MarkChanges.{AreBlanks}
 use Rattle.jsonc_sound.specs.EntryLaws.{SoundWithoutElement}
-use Rattle.jsonc_sound.specs.Leaving.{AreBeside, ends_apart, has_no_comma, comma_comes, among, ElementLeaves, with_comma_behind, with_comma_before, with_no_comma, ClosesUp, closes_up}
+use Rattle.jsonc_sound.specs.Leaving.{AreInlineTrivia, ends_apart, has_no_comma, comma_comes, among, ElementRemoved, with_comma_behind, with_comma_before, with_no_comma, ClosesUp, closes_up}
 use Rattle.jsonc_sound.proofs.LinesLeft.{lines_past, lines_among, lines_more, lines_apart, apart_behind, row_lines}
 use Rattle.jsonc_sound.proofs.RowParts.{beside_trivia, rest_trivia, between_trivia, line_trivia, leaves_followed, among_followed, past_leaves, at_comma, parted_at, row_comes, comma_gone, element_gone, no_comma_behind, leads_on, before_bracket, one_token, NoComma}
 
@@ -58,7 +58,7 @@ module _ (o : Options) (kind : RowKind) where
   stretch_last : {last to : Last} {s : OrderedTree} (n : Option ℕ) → StretchAlone o kind last s to → LeavesEnd o (leaves s) n → LeavesEnd o (leaves s) None
   stretch_last {s = s} n g h = last_serves o (leaves s) n None h (serves_unless o (last_printed (leaves s)) n None (stretch_no_word o g) (λ b. refl) (last_of o (leaves s) n h))
 
-  -- what a stretch of the row has to show that gives way to another
+  -- what a stretch of the row has to show that is replaced by another
   record Left (row left : OrderedTree) : Type 0 where
     front : OrderedTree
     was : OrderedTree
@@ -93,7 +93,7 @@ module _ (o : Options) (kind : RowKind) where
     behind = refl;
   }
 
-  comma_behind : (top : Top) (front back : OrderedTree) (before between line : List Content) → IsElement top.content → IsTrue (ends_apart front) → AreBeside before → AreTrivia between → AreTrivia line → meet (leaves front) (leaves back) ≡ false
+  comma_behind : (top : Top) (front back : OrderedTree) (before between line : List Content) → IsElement top.content → IsTrue (ends_apart front) → AreInlineTrivia before → AreTrivia between → AreTrivia line → meet (leaves front) (leaves back) ≡ false
       → RowAlone o kind rows.nothing_yet (followed_by front (with_comma before top between line back)) → LinesEndLoosely true false (followed_by front (with_comma before top between line back))
       → Left (followed_by front (with_comma before top between line back)) (followed_by front back)
   comma_behind top front back before between line e a b t u m g l =
@@ -108,7 +108,7 @@ module _ (o : Options) (kind : RowKind) where
       let whole = among_followed before top between (token_then 0x2C (leaves_then line none)) back ∙ ap (λ x. among before top between (token_then 0x2C x)) (leaves_followed line none back) in
       gone front was back (ap (followed_by front) (sym whole)) (comma_gone o kind (last_behind rows.nothing_yet front) may rest) (joined_loosely true false front back first behind) m
 
-  no_comma : (top : Top) (front back : OrderedTree) (before line : List Content) → IsElement top.content → IsTrue (ends_apart front) → IsTrue (has_no_comma front) → AreBeside before → AreTrivia line → IsTrue (not (comma_comes back)) → meet (leaves front) (leaves back) ≡ false
+  no_comma : (top : Top) (front back : OrderedTree) (before line : List Content) → IsElement top.content → IsTrue (ends_apart front) → IsTrue (has_no_comma front) → AreInlineTrivia before → AreTrivia line → IsTrue (not (comma_comes back)) → meet (leaves front) (leaves back) ≡ false
       → RowAlone o kind rows.nothing_yet (followed_by front (among before top line back)) → LinesEndLoosely true false (followed_by front (among before top line back))
       → Left (followed_by front (among before top line back)) (followed_by front back)
   no_comma top front back before line e a f b u k m g l =
@@ -122,7 +122,7 @@ module _ (o : Options) (kind : RowKind) where
       gone front (among before top line none) back (ap (followed_by front) (sym whole)) (element_gone o kind (last_behind rows.nothing_yet front) free may k parts.behind)
       (joined_loosely true false front back first (lines_among true false before top line back ls.1)) m
 
-  comma_before : (top : Top) (front mid back : OrderedTree) (before line : List Content) (n : Option ℕ) → IsElement top.content → IsTrue (ends_apart (token_then 0x2C mid)) → IsTrue (has_no_comma mid) → AreBeside before → AreTrivia line
+  comma_before : (top : Top) (front mid back : OrderedTree) (before line : List Content) (n : Option ℕ) → IsElement top.content → IsTrue (ends_apart (token_then 0x2C mid)) → IsTrue (has_no_comma mid) → AreInlineTrivia before → AreTrivia line
       → meet (leaves front) (leaves (followed_by mid back)) ≡ false → meet (leaves mid) (leaves back) ≡ false
       → RowAlone o kind rows.nothing_yet (followed_by front (token_then 0x2C (followed_by mid (among before top line back)))) → LinesEndLoosely true false (followed_by front (token_then 0x2C (followed_by mid (among before top line back))))
       → LeavesEnd o (leaves (followed_by front (token_then 0x2C (followed_by mid (among before top line back))))) n
@@ -157,7 +157,7 @@ module _ (o : Options) (kind : RowKind) where
       followed_whole none back before top line = sym (among_followed before top line none back)
       followed_whole (more content below mid) back before top line = ap (more content below) (followed_whole mid back before top line)
 
-  left_by : {top : Top} {i : ℕ} {row left : OrderedTree} (n : Option ℕ) → IsElement top.content → ElementLeaves top i row left → RowAlone o kind rows.nothing_yet row → LinesEndLoosely true false row → LeavesEnd o (leaves row) n → Left row left
+  left_by : {top : Top} {i : ℕ} {row left : OrderedTree} (n : Option ℕ) → IsElement top.content → ElementRemoved top i row left → RowAlone o kind rows.nothing_yet row → LinesEndLoosely true false row → LeavesEnd o (leaves row) n → Left row left
   left_by {top} n e (with_comma_behind front back before between line a b u m) g l h = comma_behind top front back before between line e a b (between_trivia u) (line_trivia u) m g l
   left_by {top} n e (with_comma_before front mid back before line a f b u k m q) g l h = comma_before top front mid back before line n e a f b (rest_trivia line u) m q g l h
   left_by {top} n e (with_no_comma front back before line a f b u k m) g l h = no_comma top front back before line e a f b (rest_trivia line u) k m g l

@@ -13,7 +13,7 @@ use Rattle.jsonc_sound.specs.Adjacent.{LeavesEnd}
 use Rattle.jsonc_sound.specs.Alone.{StretchAlone, may_come}
 use Rattle.jsonc_sound.specs.SoundTrees.{SoundTree}
 use Rattle.jsonc_sound.specs.Spaces.{meet, space_then, spaced_before, spaced}
-use Rattle.jsonc_sound.proofs.Flat.{shaped_value_where_none_meet}
+use Rattle.jsonc_sound.proofs.LeafByLeaf.{shaped_value_where_none_meet}
 use Rattle.jsonc_sound.proofs.LooseChanges.{ends_joined, joined_loosely, parted_loosely, document_loose}
 use Rattle.jsonc_sound.proofs.Spaced.{shaped_with_space}
 use Rattle.jsonc_sound.proofs.Spaces.{shaped_where_none_meet}

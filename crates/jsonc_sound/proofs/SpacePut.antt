@@ -12,7 +12,7 @@ use Rattle.jsonc_sound.specs.Adjacent.{or_else, follower, LeavesEnd, LastEnds}
 use Rattle.jsonc_sound.specs.InRows.{SpaceCome, before_element, later, deeper, SpacePut, in_root}
 use Rattle.jsonc_sound.specs.SoundTrees.{SoundTree}
 use Rattle.jsonc_sound.specs.Spaces.{space_then}
-use Rattle.jsonc_sound.proofs.Apart.{document_leaves}
+use Rattle.jsonc_sound.proofs.NodesAlone.{document_leaves}
 use Rattle.jsonc_sound.proofs.Leaves.{parted_leaves}
 use Rattle.jsonc_sound.proofs.LooseChanges.{element_no_end}
 use Rattle.jsonc_sound.proofs.Spaced.{space_first, space_trivia}

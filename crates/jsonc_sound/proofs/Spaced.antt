@@ -22,7 +22,7 @@ use Rattle.jsonc_sound.specs.Adjacent.{first_char, or_else, LeavesEnd, last_prin
 use Rattle.jsonc_sound.specs.Alone as alone
 use Rattle.jsonc_sound.specs.Alone.{may_come, StretchAlone}
 use Rattle.jsonc_sound.specs.Spaces.{is_bare_leaf, first_printed, meet, space_then, spaced_before, spaced_behind, spaced}
-use Rattle.jsonc_sound.proofs.Apart.{value_alone}
+use Rattle.jsonc_sound.proofs.NodesAlone.{value_alone}
 use Rattle.jsonc_sound.proofs.Changed.{part_element}
 use Rattle.jsonc_sound.proofs.Leaves.{joined_leaves}
 use Rattle.jsonc_sound.proofs.SeamRows.{row_of}

@@ -7,7 +7,7 @@ use Rattle.jsonc_text.specs.Strings.{IsQuote, IsString}
 use Rattle.jsonc_text.specs.Words.{EndsThere, goes_on}
 use Rattle.jsonc_text.specs.Lexemes as lexemes
 use Rattle.jsonc_text.specs.Lexemes.{LexemeKind, lexeme, CanEndBefore}
-use Rattle.jsonc_text.proofs.Alone.{scanned_alone}
+use Rattle.jsonc_text.proofs.LexemesAlone.{scanned_alone}
 use Rattle.jsonc_text.proofs.Basics.{or_cases, and_both, test_eq}
 use Rattle.jsonc_tree.specs.Content.{Content, token}
 use Rattle.jsonc_tree.specs.OrderedTree.{OrderedTree, own_leaf, leaves, followed_by}
@@ -27,7 +27,7 @@ use Rattle.jsonc_sound.specs.Alone.{ValueAlone, PartAlone, RowAlone, PropertyAlo
 use Rattle.jsonc_sound.specs.Spaces.{is_bare, is_bare_leaf, first_printed, meet}
 use Rattle.jsonc_sound.proofs.Leaves.{follower_append, nothing_printed, parted_leaves, last_serves}
 use Rattle.jsonc_sound.proofs.Texts.{trivia_leaf, literal_leaf, name_leaf, comma_first, colon_first, opening_first, closing_first, row_hides}
-use Rattle.jsonc_sound.proofs.Apart.{value_alone, value_leaves}
+use Rattle.jsonc_sound.proofs.NodesAlone.{value_alone, value_leaves}
 use Rattle.jsonc_sound.proofs.SeamRows.{container_leaves, parted_lists, row_of, shaped_with_stretch}
 use Rattle.jsonc_sound.proofs.SeamStretches.{gives_way}
 use Rattle.jsonc_sound.proofs.Lines.{document_lines}

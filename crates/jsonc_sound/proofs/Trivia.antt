@@ -1,4 +1,4 @@
--- Trivia gives way to trivia in a document node by node.
+-- Trivia is replaced by trivia in a document node by node.
 use Rattle.std.proofs.Common.{ℕ, ◌≡◌, sym, subst, refl, Bool, true, false, not, List, [], ◌∷◌, ◌++◌, Option, None, IsTrue, inl, inr}
 use Rattle.jsonc_text.specs.Options.{Options}
 use Rattle.jsonc_text.proofs.Basics.{clash}
@@ -17,7 +17,7 @@ use Rattle.jsonc_sound.proofs.Stretches.{Open, AtFront, Behind, later_on, below_
 use Rattle.jsonc_sound.specs.Adjacent.{follower, LeavesEnd, LastEnds}
 use Rattle.jsonc_sound.specs.Alone as alone
 use Rattle.jsonc_sound.specs.Alone.{ValueAlone, PartAlone, RowAlone, PropertyAlone, RootAlone, DocumentAlone}
-use Rattle.jsonc_sound.proofs.Apart.{document_alone, document_leaves, document_shaped, trivia_any}
+use Rattle.jsonc_sound.proofs.NodesAlone.{document_alone, document_leaves, document_shaped, trivia_any}
 use Rattle.jsonc_sound.proofs.Changed.{alone_element, part_element}
 use Rattle.jsonc_sound.proofs.Leaves.{seams_serve}
 

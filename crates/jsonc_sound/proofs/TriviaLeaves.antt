@@ -1,4 +1,4 @@
--- The leaves before and after a stretch that gives way stay.
+-- The leaves before and after a stretch that is replaced stay.
 use Rattle.std.proofs.Common.{◌≡◌, ◌∙◌, ap, subst, refl, List, [], ◌∷◌, ◌++◌, IsTrue}
 use Rattle.std.proofs.lemmas.List.{append-nil}
 use Rattle.jsonc_tree.specs.Content.{Content}

@@ -1,4 +1,4 @@
--- A document has the same value where trivia gives way to trivia.
+-- A document has the same value where trivia is replaced by trivia.
 use Rattle.std.proofs.Common.{ℕ, ◌≡◌, sym, subst, refl, Bool, true, false, List, [], ◌∷◌, Option, Some, None, IsTrue, inl, inr}
 use Rattle.jsonc_text.specs.Options.{Options}
 use Rattle.jsonc_text.specs.Plain.{Plain, Items, Members}

@@ -1,4 +1,4 @@
--- The value of a document changes where the node of a value gives way to another.
+-- The value of a document changes where the node of a value is replaced by another.
 use Rattle.std.proofs.Common.{ℕ, ◌≡◌, sym, subst, refl, List, Some, arith}
 use Rattle.jsonc_text.specs.Options.{Options}
 use Rattle.jsonc_text.specs.Plain.{Plain, Items, item, Members, member}
@@ -17,7 +17,7 @@ module _ (o : Options) where
   value_as : {content : Content} {below : OrderedTree} {v : Plain} (x : Top) → content ≡ x.content → below ≡ x.below → ValueOf o content below v → HasValue o x v
   value_as {below = below} {v = v} x p b h = subst (λ t. ValueOf o x.content t v) b (subst (λ c. ValueOf o c below v) p h)
 
-  -- the items of a row, by the value of the one that gives way
+  -- the items of a row, by the value of the one that is replaced
   record ItemsChange (x y : Top) (i : ℕ) (vs : Items) (new : OrderedTree) : Type 0 where
     old : Plain
     had : HasValue o x old
@@ -83,7 +83,7 @@ module _ (o : Options) where
             record { had = m.had; has = λ v w. subst (λ t. PropertyOf o t name v) (sym f) (values.name_of h (m.has v w)) }
       ]
 
-  -- the members of a row, by the value of the property that gives way
+  -- the members of a row, by the value of the property that is replaced
   record MembersChange (x y : Top) (i : ℕ) (ms : Members) (new : OrderedTree) : Type 0 where
     old : Plain
     had : HasValue o x old

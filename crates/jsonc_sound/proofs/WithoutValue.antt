@@ -8,7 +8,7 @@ use Rattle.jsonc_tree.specs.OrderedTree.{OrderedTree, none, more, own_leaf, leav
 use Rattle.jsonc_tree.specs.Values as values
 use Rattle.jsonc_tree.specs.Values.{is_passed_over, HasNoValue, HoldsValue, DocumentValueOf}
 use Rattle.jsonc_tree.proofs.OrderedTrees.{leaves-followed_by}
-use Rattle.jsonc_layout.specs.nodes.Kinds.{is_beside}
+use Rattle.jsonc_layout.specs.nodes.Kinds.{is_inline_trivia}
 use Rattle.jsonc_sound.specs.Lines.{is_line_comment}
 use Rattle.jsonc_tree.specs.OrderedTree.{Top}
 use Rattle.jsonc_sound.specs.TreeChanges.{IsElement, leaves_of}
@@ -22,9 +22,9 @@ use Rattle.jsonc_sound.specs.SoundTrees.{SoundTree}
 use Rattle.jsonc_sound.proofs.LooseChanges.{joined_loosely, parted_loosely}
 use Rattle.jsonc_sound.specs.MarkChanges.{AreBlanks, marks_under}
 use Rattle.jsonc_sound.specs.Marks.{marks, marks_of}
-use Rattle.jsonc_sound.proofs.GivingWay.{marks_join, trivia_has_comments, blanks_unmarked}
+use Rattle.jsonc_sound.proofs.ReplacedStretches.{marks_join, trivia_has_comments, blanks_unmarked}
 use Rattle.jsonc_sound.specs.Leaving as leaving
-use Rattle.jsonc_sound.specs.Leaving.{ends_apart, among, ValueLeaves, Empties}
+use Rattle.jsonc_sound.specs.Leaving.{ends_apart, among, ValueRemoved, Empties}
 use Rattle.jsonc_sound.specs.EntryLaws.{root_with, SoundWithoutValue, NoValueWithoutValue, MarksWithoutValue}
 use Rattle.jsonc_sound.proofs.RowParts.{beside_trivia, rest_trivia}
 use Rattle.jsonc_sound.proofs.RootRows.{trivia_passed, lines_behind, root_lines, root_marks, root_alone, root_sound, value_first, behind_trivia, row_ends, any_stood}
@@ -35,7 +35,7 @@ ends_alike a b (Content.newline k) below after = refl
 ends_alike a b (Content.whitespace s) below after = refl
 ends_alike a b content below after = refl
 
-no_comment_apart : (content : Content) → IsTrue (not (is_beside content)) → IsTrue (is_line_comment content) → ⊥
+no_comment_apart : (content : Content) → IsTrue (not (is_inline_trivia content)) → IsTrue (is_line_comment content) → ⊥
 no_comment_apart (Content.comment s) h l = cc
 no_comment_apart content h l = cc
 

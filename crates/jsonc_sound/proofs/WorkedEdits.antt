@@ -13,7 +13,7 @@ use Rattle.jsonc_sound.specs.Alone.{may_come, StretchAlone}
 use Rattle.jsonc_sound.specs.SoundTrees.{SoundTree}
 use Rattle.jsonc_sound.specs.Spaces.{spaced}
 use Rattle.jsonc_sound.specs.WorkedEdits.{appended}
-use Rattle.jsonc_sound.proofs.Apart.{value_alone, value_leaves}
+use Rattle.jsonc_sound.proofs.NodesAlone.{value_alone, value_leaves}
 use Rattle.jsonc_sound.proofs.Spaced.{space_trivia}
 use Rattle.jsonc_sound.proofs.SoundTrees.{kept_by_stretches}
 

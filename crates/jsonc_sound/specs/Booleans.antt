@@ -1,4 +1,4 @@
--- Where `true` gives way to `false` in its place: all that ended before the one ends before the other, but for a hexadecimal number before `false`.
+-- Where `true` is replaced by `false` in its place: all that ended before the one ends before the other, but for a hexadecimal number before `false`.
 use Rattle.std.specs.Prelude.{◌≡◌, ℕ, Bool, false, ◌&&◌, ◌||◌, ◌==◌, List, [], ◌∷◌, Option, Some, None, chars}
 use Rattle.jsonc_text.specs.Options.{Options}
 use Rattle.jsonc_text.specs.Numbers.{is_x, is_sign}

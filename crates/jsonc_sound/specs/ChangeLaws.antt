@@ -20,23 +20,23 @@ pub record IsSoundValue (o : Options) (top : Top) : Type 0 where
 abbrev pub HoldsSoundValues : Options → OrderedTree → Type 0
 HoldsSoundValues o t = Sound o t → (was now : Top) (path : List ℕ) (u : OrderedTree) → DocumentChanged was now path t u → IsSoundValue o was
 
--- what gave way had a value, and the document u has the value x, but that at the path this one has given way to v
+-- what was replaced had a value, and the document u has the value x, but that at the path this one has been replaced by v
 abbrev pub HasChangedValue : Options → Top → List ℕ → OrderedTree → Plain → Plain → Type 0
 HasChangedValue o was path u x v = (old y : Plain) × HasValue o was old × Changed old v path x y × DocumentValueOf o u (Some y)
 
--- where a node of the document, if this has the value x, gives way to one of value v, so does its value
+-- where a node of the document, if this has the value x, is replaced by one of value v, so is its value
 abbrev pub ChangesValue : Options → OrderedTree → Plain → Type 0
 ChangesValue o t x = DocumentValueOf o t (Some x) → (was now : Top) (path : List ℕ) (u : OrderedTree) (v : Plain)
     → DocumentChanged was now path t u → HasValue o now v → HasChangedValue o was path u x v
 
--- the leaves y are the leaves x, but that a stretch of them has given way to another
+-- the leaves y are the leaves x, but that a stretch of them has been replaced by another
 pub record DiffersIn (was now x y : List Content) : Type 0 where
   pub front : List Content
   pub back : List Content
   pub before : x ≡ front ++ (was ++ back)
   pub after : y ≡ front ++ (now ++ back)
 
--- where a node of the document gives way to another, its leaves give way to those of the other
+-- where a node of the document is replaced by another, its leaves are replaced by those of the other
 abbrev pub KeepsLeavesAround : OrderedTree → Type 0
 KeepsLeavesAround t = (was now : Top) (path : List ℕ) (u : OrderedTree) → DocumentChanged was now path t u
     → DiffersIn (leaves_of was) (leaves_of now) (leaves t) (leaves u)

@@ -25,7 +25,7 @@ begins_in_line_end (content ∷ rest) = is_newline content
 
 -- the second row is the first, of trivia alone, but that somewhere in it the value has come, with ends of lines before
 -- and behind it: it stands behind no comment, and a line ends behind it
-pub data ValueComes (top : Top) : OrderedTree → OrderedTree → Type 0 where
+pub data ValueInserted (top : Top) : OrderedTree → OrderedTree → Type 0 where
   value_comes : (front back before behind : List Content) → AreTrivia front → AreTrivia back → AreLineEnds before → AreLineEnds behind
       → IsTrue (not (ends_in_comment (front ++ before))) → IsTrue (begins_in_line_end (behind ++ back))
-      → ValueComes top (leaves_then (front ++ back) none) (leaves_then (front ++ before) (among [] top [] (leaves_then (behind ++ back) none)))
+      → ValueInserted top (leaves_then (front ++ back) none) (leaves_then (front ++ before) (among [] top [] (leaves_then (behind ++ back) none)))

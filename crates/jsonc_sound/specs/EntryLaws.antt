@@ -13,23 +13,23 @@ use Rattle.jsonc_sound.specs.TreeChanges.{IsElement, DocumentChanged}
 use Rattle.jsonc_sound.specs.SoundTrees.{SoundTree}
 use Rattle.jsonc_sound.specs.Marks.{Mark, marks, comments_of}
 use Rattle.jsonc_sound.specs.MarkChanges.{MarksDifferIn, marks_under}
-use Rattle.jsonc_sound.specs.Leaving.{ElementLeaves, ClosesUp, ValueLeaves, Empties}
-use Rattle.jsonc_sound.specs.Coming.{ValueComes}
+use Rattle.jsonc_sound.specs.Leaving.{ElementRemoved, ClosesUp, ValueRemoved, Empties}
+use Rattle.jsonc_sound.specs.Coming.{ValueInserted}
 use Rattle.jsonc_sound.specs.Values.{ItemRemoved, MemberRemoved}
 
 -- where an element leaves a container of a sound document, which then closes up if it may, the document stays sound
 abbrev pub SoundWithoutElement : Options → OrderedTree → Type 0
 SoundWithoutElement o t = SoundTree o t → (kind : RowKind) (top : Top) (i : ℕ) (row left new : OrderedTree) (path : List ℕ) (u : OrderedTree)
     → DocumentChanged (container_of kind row) (container_of kind new) path t u → IsElement top.content
-    → ElementLeaves top i row left → ClosesUp left new → SoundTree o u
+    → ElementRemoved top i row left → ClosesUp left new → SoundTree o u
 
 -- the items of an array lose the one of this number, and the properties of an object theirs
 abbrev pub ItemsWithoutElement : Options → Top → OrderedTree → OrderedTree → OrderedTree → Type 0
-ItemsWithoutElement o top row left new = IsElement top.content → (i : ℕ) → ElementLeaves top i row left
+ItemsWithoutElement o top row left new = IsElement top.content → (i : ℕ) → ElementRemoved top i row left
     → ClosesUp left new → (vs : Items) → ItemsOf o row vs → (ws : Items) × ItemRemoved i vs ws × ItemsOf o new ws
 
 abbrev pub MembersWithoutElement : Options → Top → OrderedTree → OrderedTree → OrderedTree → Type 0
-MembersWithoutElement o top row left new = IsElement top.content → (i : ℕ) → ElementLeaves top i row left
+MembersWithoutElement o top row left new = IsElement top.content → (i : ℕ) → ElementRemoved top i row left
     → ClosesUp left new → (ms : Members) → MembersOf o row ms
     → (ns : Members) × MemberRemoved i ms ns × MembersOf o new ns
 
@@ -40,7 +40,7 @@ pub data LosesEntry (path : List ℕ) (i : ℕ) (x y : Plain) : Type 0 where
 
 abbrev pub ValueWithoutElement : Options → OrderedTree → Plain → Type 0
 ValueWithoutElement o t x = DocumentValueOf o t (Some x) → (kind : RowKind) (top : Top) (i : ℕ) (row left new : OrderedTree) (path : List ℕ) (u : OrderedTree)
-    → DocumentChanged (container_of kind row) (container_of kind new) path t u → IsElement top.content → ElementLeaves top i row left → ClosesUp left new
+    → DocumentChanged (container_of kind row) (container_of kind new) path t u → IsElement top.content → ElementRemoved top i row left → ClosesUp left new
     → (y : Plain) × DocumentValueOf o u (Some y) × LosesEntry path i x y
 
 -- marks that are all comments
@@ -57,7 +57,7 @@ pub record LosesMarks (top : Top) (x y : List Mark) : Type 0 where
 
 abbrev pub MarksWithoutElement : OrderedTree → Type 0
 MarksWithoutElement t = (kind : RowKind) (top : Top) (i : ℕ) (row left new : OrderedTree) (path : List ℕ) (u : OrderedTree)
-    → DocumentChanged (container_of kind row) (container_of kind new) path t u → ElementLeaves top i row left
+    → DocumentChanged (container_of kind row) (container_of kind new) path t u → ElementRemoved top i row left
     → ClosesUp left new → LosesMarks top (marks t) (marks u)
 
 -- a document with this row below its root
@@ -66,24 +66,24 @@ root_with row = more root row none
 
 -- where its value leaves a sound document, this stays sound, has no value, and has lost the value's marks
 abbrev pub SoundWithoutValue : Options → Top → OrderedTree → OrderedTree → OrderedTree → Type 0
-SoundWithoutValue o top row left new = SoundTree o (root_with row) → IsElement top.content → ValueLeaves top row left
+SoundWithoutValue o top row left new = SoundTree o (root_with row) → IsElement top.content → ValueRemoved top row left
     → Empties left new → SoundTree o (root_with new)
 
 abbrev pub NoValueWithoutValue : Options → Top → OrderedTree → OrderedTree → OrderedTree → Type 0
 NoValueWithoutValue o top row left new = (x : Plain) → DocumentValueOf o (root_with row) (Some x)
-    → IsElement top.content → ValueLeaves top row left → Empties left new → DocumentValueOf o (root_with new) None
+    → IsElement top.content → ValueRemoved top row left → Empties left new → DocumentValueOf o (root_with new) None
 
 abbrev pub MarksWithoutValue : Top → OrderedTree → OrderedTree → OrderedTree → Type 0
-MarksWithoutValue top row left new = ValueLeaves top row left → Empties left new → LosesMarks top (marks (root_with row)) (marks (root_with new))
+MarksWithoutValue top row left new = ValueRemoved top row left → Empties left new → LosesMarks top (marks (root_with row)) (marks (root_with new))
 
 -- where a whole value comes into a sound document that had none, this is sound, has that value, and its marks have come
 abbrev pub SoundWithFirstValue : Options → Top → Plain → OrderedTree → OrderedTree → Type 0
 SoundWithFirstValue o top v row new = SoundTree o (root_with row) → IsNewValue o top v → IsElement top.content
-    → ValueComes top row new → SoundTree o (root_with new)
+    → ValueInserted top row new → SoundTree o (root_with new)
 
 abbrev pub HasFirstValue : Options → Top → Plain → OrderedTree → OrderedTree → Type 0
-HasFirstValue o top v row new = HasValue o top v → IsElement top.content → ValueComes top row new
+HasFirstValue o top v row new = HasValue o top v → IsElement top.content → ValueInserted top row new
     → DocumentValueOf o (root_with row) None × DocumentValueOf o (root_with new) (Some v)
 
 abbrev pub MarksWithFirstValue : Top → OrderedTree → OrderedTree → Type 0
-MarksWithFirstValue top row new = ValueComes top row new → MarksDifferIn [] (marks_under top) (marks (root_with row)) (marks (root_with new))
+MarksWithFirstValue top row new = ValueInserted top row new → MarksDifferIn [] (marks_under top) (marks (root_with row)) (marks (root_with new))

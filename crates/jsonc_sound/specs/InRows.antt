@@ -37,7 +37,7 @@ KeptWithoutCommentInRow o t = SoundTree o t → (front back : OrderedTree) (gone
 abbrev pub row_around : OrderedTree → Top → OrderedTree → OrderedTree
 row_around front top back = followed_by front (more top.content top.below back)
 
--- where a value of a row, with nodes on both sides, gives way to a whole value, and in that row no two literals without
+-- where a value of a row, with nodes on both sides, is replaced by a whole value, and in that row no two literals without
 -- quotes meet beside it, the document stays sound
 abbrev pub KeptByValueInRow : Options → OrderedTree → Type 0
 KeptByValueInRow o t = SoundTree o t → (was now : Top) (path : List ℕ) (u : OrderedTree)
@@ -58,7 +58,7 @@ KeptByValueInRoot o was now front back = SoundTree o (more root (row_around fron
 abbrev pub holding : OrderedTree → Top → Top
 holding front top = property_of (row_around front top none)
 
--- where the value that ends the row of a property gives way to a whole value, and no two literals without quotes meet
+-- where the value that ends the row of a property is replaced by a whole value, and no two literals without quotes meet
 -- before it in the property, nor behind it in the object, the document stays sound
 abbrev pub KeptByValueInProperty : Options → OrderedTree → Type 0
 KeptByValueInProperty o t = SoundTree o t → (was now : Top) (path : List ℕ) (u : OrderedTree)

@@ -2,7 +2,7 @@
 use Rattle.std.specs.Prelude.{◌≡◌, ℕ, suc, ◌+◌, Bool, true, false, not, ◌&&◌, List, [], ◌∷◌, ◌++◌, IsTrue, if◌then◌else◌}
 use Rattle.jsonc_tree.specs.Content.{Content}
 use Rattle.jsonc_tree.specs.OrderedTree.{OrderedTree, none, more, leaves, followed_by}
-use Rattle.jsonc_layout.specs.nodes.Kinds.{is_beside, is_element, is_newline, is_trivia}
+use Rattle.jsonc_layout.specs.nodes.Kinds.{is_inline_trivia, is_element, is_newline, is_trivia}
 use Rattle.jsonc_layout.specs.nodes.Kinds.{is_comma}
 use Rattle.jsonc_sound.specs.Shape.{token_then}
 use Rattle.jsonc_tree.specs.OrderedTree.{Top}
@@ -11,26 +11,26 @@ use Rattle.jsonc_sound.specs.MarkChanges.{AreBlanks}
 use Rattle.jsonc_sound.specs.Spaces.{meet}
 
 -- each of these leaves may stand beside a node on its line: whitespace or a comment
-abbrev pub AreBeside : List Content → Type 0
-AreBeside [] = Unit {0}
-AreBeside (content ∷ rest) = IsTrue (is_beside content) × AreBeside rest
+abbrev pub AreInlineTrivia : List Content → Type 0
+AreInlineTrivia [] = Unit {0}
+AreInlineTrivia (content ∷ rest) = IsTrue (is_inline_trivia content) × AreInlineTrivia rest
 
 -- no more than the rest of one line: whitespace and comments, and behind them at most the newline that ends it
 pub data IsRestOfLine : List Content → Type 0 where
-  without_end : (line : List Content) → AreBeside line → IsRestOfLine line
-  with_end : (line : List Content) (end : Content) → AreBeside line → IsTrue (is_newline end) → IsRestOfLine (line ++ end ∷ [])
+  without_end : (line : List Content) → AreInlineTrivia line → IsRestOfLine line
+  with_end : (line : List Content) (end : Content) → AreInlineTrivia line → IsTrue (is_newline end) → IsRestOfLine (line ++ end ∷ [])
 
 -- What leaves behind an element with its comma: what stands between the two; and behind the comma nothing, or, where no line
 -- ends between, all of the line's rest, which is whitespace and comments, with the newline that ends it.
 pub data LeavesBehind : List Content → List Content → Type 0 where
   comma_alone : (between : List Content) → AreTrivia between → LeavesBehind between []
-  comma_and_line : (between line : List Content) (end : Content) → AreBeside between → AreBeside line → IsTrue (is_newline end)
+  comma_and_line : (between line : List Content) (end : Content) → AreInlineTrivia between → AreInlineTrivia line → IsTrue (is_newline end)
       → LeavesBehind between (line ++ end ∷ [])
 
 -- the row is empty, or what is last in it is neither whitespace nor a comment
 abbrev pub ends_apart : OrderedTree → Bool
 ends_apart none = true
-ends_apart (more content below none) = not (is_beside content)
+ends_apart (more content below none) = not (is_inline_trivia content)
 ends_apart (more content below (more next under after)) = ends_apart (more next under after)
 
 -- no comma is among these
@@ -57,24 +57,24 @@ among before top behind row = leaves_then before (more top.content top.below (le
 -- it, if there is one. Behind the comma that comes there goes nothing more, or the whole rest of its line (`LeavesBehind`);
 -- behind the element where none comes, no more than the rest of the line. And no two literals without quotes meet where
 -- these have left.
-pub data ElementLeaves (top : Top) : ℕ → OrderedTree → OrderedTree → Type 0 where
+pub data ElementRemoved (top : Top) : ℕ → OrderedTree → OrderedTree → Type 0 where
   with_comma_behind : (front back : OrderedTree) (before between line : List Content) → IsTrue (ends_apart front)
-      → AreBeside before → LeavesBehind between line
+      → AreInlineTrivia before → LeavesBehind between line
       → meet (leaves front) (leaves back) ≡ false
-      → ElementLeaves top (element_count front)
+      → ElementRemoved top (element_count front)
       (followed_by front (among before top between (token_then 0x2C (leaves_then line back))))
       (followed_by front back)
   with_comma_before : (front mid back : OrderedTree) (before line : List Content)
-      → IsTrue (ends_apart (token_then 0x2C mid)) → IsTrue (has_no_comma mid) → AreBeside before → IsRestOfLine line
+      → IsTrue (ends_apart (token_then 0x2C mid)) → IsTrue (has_no_comma mid) → AreInlineTrivia before → IsRestOfLine line
       → IsTrue (not (comma_comes back))
       → meet (leaves front) (leaves (followed_by mid back)) ≡ false → meet (leaves mid) (leaves back) ≡ false
-      → ElementLeaves top (element_count front + element_count mid)
+      → ElementRemoved top (element_count front + element_count mid)
       (followed_by front (token_then 0x2C (followed_by mid (among before top line back))))
       (followed_by front (followed_by mid back))
   with_no_comma : (front back : OrderedTree) (before line : List Content) → IsTrue (ends_apart front)
-      → IsTrue (has_no_comma front) → AreBeside before → IsRestOfLine line → IsTrue (not (comma_comes back))
+      → IsTrue (has_no_comma front) → AreInlineTrivia before → IsRestOfLine line → IsTrue (not (comma_comes back))
       → meet (leaves front) (leaves back) ≡ false
-      → ElementLeaves top (element_count front) (followed_by front (among before top line back)) (followed_by front back)
+      → ElementRemoved top (element_count front) (followed_by front (among before top line back)) (followed_by front back)
 
 -- a row that is left with nothing but blanks before its last bracket loses them; any other stays
 pub data ClosesUp : OrderedTree → OrderedTree → Type 0 where
@@ -83,9 +83,9 @@ pub data ClosesUp : OrderedTree → OrderedTree → Type 0 where
 
 -- the second row of a root is the first without its value; with it go whitespace and comments directly before it, and no
 -- more than the rest of the line behind it
-pub data ValueLeaves (top : Top) : OrderedTree → OrderedTree → Type 0 where
-  value_leaves : (front back : OrderedTree) (before line : List Content) → IsTrue (ends_apart front) → AreBeside before → IsRestOfLine line
-      → ValueLeaves top (followed_by front (among before top line back)) (followed_by front back)
+pub data ValueRemoved (top : Top) : OrderedTree → OrderedTree → Type 0 where
+  value_leaves : (front back : OrderedTree) (before line : List Content) → IsTrue (ends_apart front) → AreInlineTrivia before → IsRestOfLine line
+      → ValueRemoved top (followed_by front (among before top line back)) (followed_by front back)
 
 -- a root's row of nothing but blanks becomes empty; any other stays
 pub data Empties : OrderedTree → OrderedTree → Type 0 where

@@ -18,7 +18,7 @@ abbrev pub LooseTriviaIsGap : Options → Bool → OrderedTree → OrderedTree �
 LooseTriviaIsGap o loose t r = Trivia o t r → StartsNoTrivia r → LinesEndLoosely loose false t → (z : List ℕ)
     → Gap o (printed_text t ++ z) (printed_text r ++ z)
 
--- where a value gives way to one whose line comments end so, those of the document still do
+-- where a value is replaced by one whose line comments end so, those of the document still do
 abbrev pub StaysLoose : OrderedTree → Type 0
 StaysLoose t = DocumentLinesEndLoosely t → (was now : Top) (path : List ℕ) (u : OrderedTree)
     → DocumentChanged was now path t u → LinesEndLoosely (is_loose now.content) false now.below

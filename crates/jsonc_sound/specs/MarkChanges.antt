@@ -1,4 +1,4 @@
--- How marks change: in one stretch, which gives way to another.
+-- How marks change: in one stretch, which is replaced by another.
 use Rattle.std.specs.Prelude.{◌≡◌, ◌||◌, List, [], ◌∷◌, ◌++◌, IsTrue}
 use Rattle.jsonc_tree.specs.Content.{Content}
 use Rattle.jsonc_layout.specs.nodes.Kinds.{is_whitespace, is_newline}
@@ -6,7 +6,7 @@ use Rattle.jsonc_tree.specs.OrderedTree.{Top}
 use Rattle.jsonc_sound.specs.TreeChanges.{leaves_of}
 use Rattle.jsonc_sound.specs.Marks.{Mark, marks_of}
 
--- the marks y are the marks x, but that a stretch of them has given way to another
+-- the marks y are the marks x, but that a stretch of them has been replaced by another
 pub record MarksDifferIn (was now x y : List Mark) : Type 0 where
   pub front : List Mark
   pub back : List Mark

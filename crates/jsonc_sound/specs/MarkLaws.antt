@@ -44,25 +44,25 @@ PrintsItsMarks o t = SoundTree o t → AreMarks o (printed_text t) (marks t)
 abbrev pub MarksJoin : List Content → List Content → Type 0
 MarksJoin first second = marks_of (first ++ second) ≡ marks_of first ++ marks_of second
 
--- where a stretch of leaves gives way to another, its marks give way to those of the other, and before and behind them stand the marks of the leaves there
-abbrev pub MarksGiveWay : List Content → List Content → List Content → List Content → Type 0
-MarksGiveWay was now x y = (d : DiffersIn was now x y)
+-- where a stretch of leaves is replaced by another, its marks are replaced by those of the other, and before and behind them stand the marks of the leaves there
+abbrev pub MarksReplaced : List Content → List Content → List Content → List Content → Type 0
+MarksReplaced was now x y = (d : DiffersIn was now x y)
     → (m : MarksDifferIn (marks_of was) (marks_of now) (marks_of x) (marks_of y)) × (m.front ≡ marks_of d.front)
     × (m.back ≡ marks_of d.back)
 
 -- so it is with what two sound trees print
-abbrev pub PrintedMarksGiveWay : Options → OrderedTree → OrderedTree → Type 0
-PrintedMarksGiveWay o t u = SoundTree o t → SoundTree o u → (was now : List Content) → DiffersIn was now (leaves t) (leaves u)
+abbrev pub PrintedMarksReplaced : Options → OrderedTree → OrderedTree → Type 0
+PrintedMarksReplaced o t u = SoundTree o t → SoundTree o u → (was now : List Content) → DiffersIn was now (leaves t) (leaves u)
     → (ms ns : List Mark) → AreMarks o (printed_text t) ms → AreMarks o (printed_text u) ns → MarksDifferIn (marks_of was) (marks_of now) ms ns
 
--- where a value of a document gives way to another, its marks do
-abbrev pub ValuesMarksGiveWay : OrderedTree → Type 0
-ValuesMarksGiveWay t = (was now : Top) (path : List ℕ) (u : OrderedTree) → DocumentChanged was now path t u
+-- where a value of a document is replaced by another, its marks do
+abbrev pub ValuesMarksReplaced : OrderedTree → Type 0
+ValuesMarksReplaced t = (was now : Top) (path : List ℕ) (u : OrderedTree) → DocumentChanged was now path t u
     → MarksDifferIn (marks_under was) (marks_under now) (marks t) (marks u)
 
--- and where trivia gives way to trivia, its marks do
-abbrev pub TriviasMarksGiveWay : OrderedTree → Type 0
-TriviasMarksGiveWay t = (was now : List Content) (u : OrderedTree) → StretchChanged was now t u → AreTrivia was
+-- and where trivia is replaced by trivia, its marks do
+abbrev pub TriviasMarksReplaced : OrderedTree → Type 0
+TriviasMarksReplaced t = (was now : List Content) (u : OrderedTree) → StretchChanged was now t u → AreTrivia was
     → AreTrivia now → MarksDifferIn (marks_of was) (marks_of now) (marks t) (marks u)
 
 -- all marks of trivia are comments, and of trivia that ends in a comment the last mark is one
@@ -77,7 +77,7 @@ abbrev pub OneMarkLeaves : List Content → List ℕ → List Content → List C
 OneMarkLeaves blanks s x y = AreBlanks blanks → (d : DiffersIn (blanks ++ Content.comment s ∷ []) [] x y)
     → (m : MarksDifferIn (comment_mark (chars s) ∷ []) [] (marks_of x) (marks_of y)) × (m.front ≡ marks_of d.front) × (m.back ≡ marks_of d.back)
 
--- where blanks give way to blanks, the marks stay
+-- where blanks are replaced by blanks, the marks stay
 abbrev pub BlanksKeepMarks : List Content → List Content → List Content → List Content → Type 0
 BlanksKeepMarks was now x y = AreBlanks was → AreBlanks now → DiffersIn was now x y → marks_of y ≡ marks_of x
 
@@ -97,7 +97,7 @@ LaidAsWrittenNamed layout name v = IsCharacters name → IsOfTexts v → marks_l
 abbrev pub WritesNoComments : Plain → Type 0
 WritesNoComments v = comments_of (written v) ≡ []
 
--- where a stretch of marks gives way to another, the comments outside of it stay, in order
+-- where a stretch of marks is replaced by another, the comments outside of it stay, in order
 abbrev pub KeepsOtherComments : List Mark → List Mark → List Mark → List Mark → Type 0
 KeepsOtherComments was now x y = (d : MarksDifferIn was now x y)
     → (comments_of x ≡ comments_of d.front ++ (comments_of was ++ comments_of d.back))

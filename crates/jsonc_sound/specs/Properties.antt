@@ -1,4 +1,4 @@
--- A property of an object gives way to a whole property of a name and value, and what becomes of the document.
+-- A property of an object is replaced by a whole property of a name and value, and what becomes of the document.
 use Rattle.std.specs.Prelude.{◌≡◌, ℕ, false, List, ◌++◌, Some}
 use Rattle.jsonc_text.specs.Options.{Options}
 use Rattle.jsonc_text.specs.Plain.{Plain, Members, object}
@@ -33,11 +33,11 @@ among_properties front held back = row_around front (property_of held) back
 abbrev pub object_of : OrderedTree → OrderedTree → OrderedTree → Top
 object_of front held back = container_of of_properties (among_properties front held back)
 
--- the second document is the first, but that in the row of an object, between its front and its rest, a property with one row has given way to one with another
+-- the second document is the first, but that in the row of an object, between its front and its rest, a property with one row has been replaced by one with another
 abbrev pub PropertyChanged : OrderedTree → OrderedTree → OrderedTree → OrderedTree → List ℕ → OrderedTree → OrderedTree → Type 0
 PropertyChanged front was now back path t u = DocumentChanged (object_of front was back) (object_of front now back) path t u
 
--- where a property of a sound document gives way to a whole property, and no two literals without quotes meet beside it, the document stays sound
+-- where a property of a sound document is replaced by a whole property, and no two literals without quotes meet beside it, the document stays sound
 abbrev pub SoundWithProperty : Options → OrderedTree → Type 0
 SoundWithProperty o t = SoundTree o t → (front was now back : OrderedTree) (name : List ℕ) (v : Plain) (path : List ℕ) (u : OrderedTree)
     → PropertyChanged front was now back path t u → IsNewProperty o now name v
@@ -62,7 +62,7 @@ ValueWithProperty o t x = DocumentValueOf o t (Some x)
     → PropertyChanged front was now back path t u → PropertyOf o now name v
     → (y : Plain) × DocumentValueOf o u (Some y) × ReplacesMember path (element_count front) name v x y
 
--- the marks of the property give way to those of the new one
+-- the marks of the property are replaced by those of the new one
 abbrev pub MarksWithProperty : OrderedTree → Type 0
 MarksWithProperty t = (front was now back : OrderedTree) (path : List ℕ) (u : OrderedTree) → PropertyChanged front was now back path t u
     → MarksDifferIn (marks_under (property_of was)) (marks_under (property_of now)) (marks t) (marks u)

@@ -28,12 +28,12 @@ LeavesComeApart o first second n = LeavesEnd o (first ++ second) n ↔ LeavesEnd
 abbrev pub GoesByTheLast : Options → List Content → Type 0
 GoesByTheLast o leaves = (n m : Option ℕ) → LeavesEnd o leaves n → LastEnds o leaves m → LeavesEnd o leaves m
 
--- where a stretch of leaves gives way to another, all end, if those that come do and the last before them does
+-- where a stretch of leaves is replaced by another, all end, if those that come do and the last before them does
 abbrev pub SeamsServe : Options → List Content → List Content → Type 0
 SeamsServe o was now = (x y : List Content) → LeavesEnd o x None → (d : DiffersIn was now x y)
     → LastEnds o d.front (follower (now ++ d.back) None) → LeavesEnd o now (follower d.back None) → LeavesEnd o y None
 
--- where a value of a sound document gives way to a node that is one alone, the document stays sound if the leaves end at the two seams
+-- where a value of a sound document is replaced by a node that is one alone, the document stays sound if the leaves end at the two seams
 abbrev pub StaysSoundAtSeams : Options → OrderedTree → Type 0
 StaysSoundAtSeams o t = Sound o t → (was now : Top) (path : List ℕ) (u : OrderedTree) → DocumentChanged was now path t u
     → ValueAlone o now.content now.below → LinesEnd false now.below
@@ -42,7 +42,7 @@ StaysSoundAtSeams o t = Sound o t → (was now : Top) (path : List ℕ) (u : Ord
     → LeavesEnd o (leaves_of now) (follower d.back None)
     → Sound o u
 
--- where a stretch of a container's row gives way to one that leads to where the rest may come, the document stays sound
+-- where a stretch of a container's row is replaced by one that leads to where the rest may come, the document stays sound
 -- if the leaves end at the two seams; nothing outside of the row is looked at
 abbrev pub StaysSoundWithStretch : Options → OrderedTree → Type 0
 StaysSoundWithStretch o t = Sound o t → (kind : RowKind) (front was now back : OrderedTree) (path : List ℕ) (u : OrderedTree)

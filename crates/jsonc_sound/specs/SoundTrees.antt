@@ -31,7 +31,7 @@ ParsedAreSound o tree = DocumentShaped o tree → DocumentLinesEnd tree → Soun
 abbrev pub SoundTreesPrint : Options → OrderedTree → Type 0
 SoundTreesPrint o tree = SoundTree o tree → PrintsDocument o tree
 
--- where in the row of a container a stretch gives way to one that leads to where the rest may come, whose leaves and
+-- where in the row of a container a stretch is replaced by one that leads to where the rest may come, whose leaves and
 -- lines end, with a space wherever two literals without quotes would meet, the document keeps it
 abbrev pub KeptByStretches : Options → OrderedTree → Type 0
 KeptByStretches o t = SoundTree o t → (kind : RowKind) (front was now back : OrderedTree) (path : List ℕ) (u : OrderedTree)
@@ -50,7 +50,7 @@ KeptWhereNoneMeet o t = SoundTree o t → (kind : RowKind) (front was now back :
     → LeavesEnd o (leaves now) None → meet (leaves front) (leaves (followed_by now back)) ≡ false → meet (leaves now) (leaves back) ≡ false
     → SoundTree o u
 
--- and where a value gives way to a whole value
+-- and where a value is replaced by a whole value
 abbrev pub KeptByValues : Options → OrderedTree → Type 0
 KeptByValues o t = SoundTree o t → (was now : Top) (path : List ℕ) (u : OrderedTree) → DocumentChanged was now path t u
     → IsValueBefore o now [] → LinesEndLoosely (is_loose now.content) false now.below
@@ -63,7 +63,7 @@ abbrev pub KeptWithoutComment : Options → OrderedTree → Type 0
 KeptWithoutComment o t = SoundTree o t → (was : List Content) (u : OrderedTree) → StretchChanged was [] t u → AreTrivia was → EndsInComment was
     → (d : DiffersIn was [] (leaves t) (leaves u)) → meet d.front d.back ≡ false → SoundTree o u
 
--- and where a truth value gives way to the other in its place, but for `false` directly behind a hexadecimal number
+-- and where a truth value is replaced by the other in its place, but for `false` directly behind a hexadecimal number
 abbrev pub KeptByBooleans : Options → OrderedTree → Type 0
 KeptByBooleans o t = SoundTree o t → (was now : Bool) (path : List ℕ) (u : OrderedTree) → DocumentChanged (boolean_leaf was) (boolean_leaf now) path t u
     → (d : DiffersIn (leaves_of (boolean_leaf was)) (leaves_of (boolean_leaf now)) (leaves t) (leaves u))

@@ -22,7 +22,7 @@ StretchEnds o kind stretch rest = (last mid other : Last) (n m : Option ℕ) →
     → RowAlone o kind other rest → LeavesEnd o (leaves stretch) n → meet (leaves stretch) (leaves rest) ≡ false
     → LastEnds o (leaves stretch) (follower (leaves rest) m)
 
--- where a stretch of a container's row gives way to one that leads to where the rest may come, and no two literals
+-- where a stretch of a container's row is replaced by one that leads to where the rest may come, and no two literals
 -- without quotes meet at the seams, the document stays sound
 abbrev pub StaysSoundWhereNoneMeet : Options → OrderedTree → Type 0
 StaysSoundWhereNoneMeet o t = Sound o t → (kind : RowKind) (front was now back : OrderedTree) (path : List ℕ) (u : OrderedTree)
@@ -32,7 +32,7 @@ StaysSoundWhereNoneMeet o t = Sound o t → (kind : RowKind) (front was now back
     → LeavesEnd o (leaves now) None → meet (leaves front) (leaves (followed_by now back)) ≡ false → meet (leaves now) (leaves back) ≡ false
     → Sound o u
 
--- where a value of a sound document gives way to a whole value, and no two literals without quotes meet at the seams, the document stays sound
+-- where a value of a sound document is replaced by a whole value, and no two literals without quotes meet at the seams, the document stays sound
 abbrev pub StaysSoundWithValue : Options → OrderedTree → Type 0
 StaysSoundWithValue o t = Sound o t → (was now : Top) (path : List ℕ) (u : OrderedTree)
     → DocumentChanged was now path t u → IsValueBefore o now [] → LinesEnd false now.below
@@ -40,7 +40,7 @@ StaysSoundWithValue o t = Sound o t → (was now : Top) (path : List ℕ) (u : O
     → meet d.front (leaves_of now ++ d.back) ≡ false → meet (leaves_of now) d.back ≡ false
     → Sound o u
 
--- where a stretch of a container's row gives way to one that leads to where the rest may come, with a space wherever
+-- where a stretch of a container's row is replaced by one that leads to where the rest may come, with a space wherever
 -- two literals without quotes would meet at the seams, the document stays sound
 abbrev pub StaysSoundWithSpaces : Options → OrderedTree → Type 0
 StaysSoundWithSpaces o t = Sound o t → (kind : RowKind) (front was now back : OrderedTree) (path : List ℕ) (u : OrderedTree)

@@ -1,4 +1,4 @@
--- The change of trivia in an ordered tree: in one row a stretch of leaves gives way to another, and either may be empty.
+-- The change of trivia in an ordered tree: in one row a stretch of leaves is replaced by another, and either may be empty.
 use Rattle.std.specs.Prelude.{◌≡◌, ◌≢◌, ℕ, List, [], ◌∷◌, ◌++◌, IsTrue}
 use Rattle.jsonc_text.specs.Options.{Options}
 use Rattle.jsonc_tree.specs.Content.{Content, root, comment}
@@ -22,7 +22,7 @@ abbrev pub leaves_then : List Content → OrderedTree → OrderedTree
 leaves_then [] row = row
 leaves_then (content ∷ rest) row = more content none (leaves_then rest row)
 
--- the second row is the first, but that in it, or in a row further below, these leaves have given way to those; where
+-- the second row is the first, but that in it, or in a row further below, these leaves have been replaced by those; where
 -- there were none, those have come between two nodes
 pub data LeavesChanged (was now : List Content) : OrderedTree → OrderedTree → Type 0 where
   given_way : (back : OrderedTree) → was ≢ [] → LeavesChanged was now (leaves_then was back) (leaves_then now back)
@@ -31,7 +31,7 @@ pub data LeavesChanged (was now : List Content) : OrderedTree → OrderedTree �
   later : {content : Content} {below x y : OrderedTree} → LeavesChanged was now x y → LeavesChanged was now (more content below x) (more content below y)
   deeper : {content : Content} {x y after : OrderedTree} → LeavesChanged was now x y → LeavesChanged was now (more content x after) (more content y after)
 
--- the second document is the first, but that in the root's row, wherever, or in a row further below these leaves have given way to those
+-- the second document is the first, but that in the root's row, wherever, or in a row further below these leaves have been replaced by those
 pub data StretchChanged (was now : List Content) : OrderedTree → OrderedTree → Type 0 where
   in_root : (front back : OrderedTree)
       → StretchChanged was now (more root (followed_by front (leaves_then was back)) none) (more root (followed_by front (leaves_then now back)) none)

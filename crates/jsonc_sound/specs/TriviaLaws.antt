@@ -11,7 +11,7 @@ use Rattle.jsonc_sound.specs.Adjacent.{follower, LastEnds}
 use Rattle.jsonc_sound.specs.Alone.{DocumentAlone}
 use Rattle.jsonc_sound.specs.Spaces.{meet}
 
--- where trivia gives way to trivia, wherever, each node stays what it is alone
+-- where trivia is replaced by trivia, wherever, each node stays what it is alone
 abbrev pub KeepsNodes : Options → OrderedTree → Type 0
 KeepsNodes o t = DocumentAlone o t → (was now : List Content) (u : OrderedTree) → StretchChanged was now t u
     → AreTrivia was → AreTriviaOf o now → DocumentAlone o u

@@ -1,4 +1,4 @@
--- What becomes of the plain values of a row where an element leaves, or a property gives way to another.
+-- What becomes of the plain values of a row where an element leaves, or a property is replaced by another.
 use Rattle.std.specs.Prelude.{ℕ, suc, List}
 use Rattle.jsonc_text.specs.Plain.{Plain, Items, item, Members, member}
 

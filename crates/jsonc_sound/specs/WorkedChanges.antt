@@ -21,6 +21,6 @@ document_with top = more root (more object (named_one_and top) none) none
 abbrev pub AreElements : Top → Top → Type 0
 AreElements was now = IsElement was.content × IsElement now.content
 
--- in it one node gives way to another at the path 0, 1
+-- in it one node is replaced by another at the path 0, 1
 abbrev pub IsWorkedChange : Top → Top → Type 0
 IsWorkedChange was now = DocumentChanged was now (0 ∷ 1 ∷ []) (document_with was) (document_with now)

@@ -1,4 +1,4 @@
--- Worked stretches: what comes where one leaves `[1[2]3]`, gives way in it, or leaves `["a"[1]true]`.
+-- Worked stretches: what comes where one leaves `[1[2]3]`, is replaced in it, or leaves `["a"[1]true]`.
 use Rattle.std.specs.Prelude.{◌≡◌, codes, true}
 use Rattle.jsonc_tree.specs.Content.{Content}
 use Rattle.jsonc_tree.specs.OrderedTree.{OrderedTree, none, more, leaves}

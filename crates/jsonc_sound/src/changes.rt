@@ -1,4 +1,4 @@
-//! Laws of changes: what a value, or trivia, that gives way to another makes of a document. Each is the
+//! Laws of changes: what a value, or trivia, that is replaced by another makes of a document. Each is the
 //! contract of a function that does nothing.
 ghost use Rattle.std.specs.Prelude.{Bool, List, Option, ℕ};
 ghost use Rattle.jsonc_text.specs.Options.{Options};
@@ -17,13 +17,13 @@ pub fn values_end_before_separators()
     ensures { (o : Options) (x : Top) (r : List ℕ) → IsValueBefore o x r → StandsInRows o x }
 {}
 
-/// Where a value of a document gives way to another, so does its plain value at the same path, and
+/// Where a value of a document is replaced by another, so is its plain value at the same path, and
 /// nothing else does.
 pub fn changed_documents_have_changed_values()
     ensures { (o : Options) (t : OrderedTree) (x : Plain) → ChangesValue o t x }
 {}
 
-/// The leaves before and after a value that gives way stay, and with them what they print.
+/// The leaves before and after a value that is replaced stay, and with them what they print.
 pub fn changes_keep_the_leaves_around()
     ensures { (t : OrderedTree) → KeepsLeavesAround t }
 {}
@@ -33,12 +33,12 @@ pub fn worked_changes()
     ensures { (was now : Top) → AreElements was now → IsWorkedChange was now }
 {}
 
-/// Where trivia gives way to trivia, a document has the value that it had.
+/// Where trivia is replaced by trivia, a document has the value that it had.
 pub fn changes_of_trivia_keep_the_value()
     ensures { (o : Options) (t : OrderedTree) (w : Option Plain) → KeepsValue o t w }
 {}
 
-/// Where trivia gives way to trivia, all other leaves stay.
+/// Where trivia is replaced by trivia, all other leaves stay.
 pub fn changes_of_trivia_keep_the_leaves_around()
     ensures { (t : OrderedTree) → KeepsOtherLeaves t }
 {}

@@ -1,8 +1,8 @@
 //! What edits stand on: when a document is sound, what a change makes of its text, value, leaves and
 //! marks, and the laws of these definitions. There is no code here.
 //!
-//! - [`changes`]: where one value of a document gives way to another (`specs/TreeChanges.antt`), one
-//!   plain value does (`specs/Changes.antt`); a stretch of trivia that gives way to another changes no
+//! - [`changes`]: where one value of a document is replaced by another (`specs/TreeChanges.antt`), one
+//!   plain value does (`specs/Changes.antt`); a stretch of trivia that is replaced by another changes no
 //!   value (`specs/TriviaChanges.antt`). A row is read by what stands last in each stretch of it
 //!   (`specs/Rows.antt`).
 //! - [`sound`]: soundness is three conditions, none of which asks for commas. Each node is what it is
@@ -15,11 +15,11 @@
 //! - [`marks`]: the marks are the literals (strings, numbers, words, `true`, `false` and `null`) and the
 //!   comments, as they are written, in their order; of a line comment without the blanks that it ends
 //!   with (`specs/Marks.antt`). A text has one list of them, and a sound document's tree those of the
-//!   text that it prints. Where one stretch of leaves gives way to another (`specs/MarkChanges.antt`),
+//!   text that it prints. Where one stretch of leaves is replaced by another (`specs/MarkChanges.antt`),
 //!   all marks outside of it stay.
 //! - [`rows`]: what becomes of a row where an element leaves it, with whitespace and comments directly
 //!   before it, trivia directly behind it, and one comma (`specs/Leaving.antt`); where a first value
-//!   comes with the ends of lines that it needs (`specs/Coming.antt`); and where a property gives way to
+//!   comes with the ends of lines that it needs (`specs/Coming.antt`); and where a property is replaced by
 //!   another (`specs/Properties.antt`).
 #![tactic(auto)]
 

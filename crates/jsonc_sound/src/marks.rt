@@ -8,7 +8,7 @@ ghost use Rattle.jsonc_tree.specs.OrderedTree.{OrderedTree};
 ghost use Rattle.jsonc_layout.specs.from_input.Layout.{Layout};
 ghost use Rattle.jsonc_sound.specs.Marks.{Mark};
 ghost use Rattle.jsonc_sound.specs.MarkLaws.{HasOneListOfMarks, HasMarksOfTokens, EndsWithNoBlank, LeavesOutBlanks, PrintsItsMarks};
-ghost use Rattle.jsonc_sound.specs.MarkLaws.{MarksJoin, MarksGiveWay, PrintedMarksGiveWay, ValuesMarksGiveWay, TriviasMarksGiveWay};
+ghost use Rattle.jsonc_sound.specs.MarkLaws.{MarksJoin, MarksReplaced, PrintedMarksReplaced, ValuesMarksReplaced, TriviasMarksReplaced};
 ghost use Rattle.jsonc_sound.specs.MarkLaws.{TriviaHasComments, LastMarkIsComment, OneMarkLeaves, BlanksKeepMarks, SpaceKeepsMarks};
 ghost use Rattle.jsonc_sound.specs.MarkLaws.{LaidAsWritten, LaidAsWrittenNamed, WritesNoComments, KeepsOtherComments, HasOtherCommentsAlone};
 ghost use Rattle.jsonc_sound.specs.WorkedMarks.{WorkedMarks};
@@ -32,19 +32,19 @@ pub fn sound_trees_print_their_marks()
     ensures { (o : Options) (t : OrderedTree) → PrintsItsMarks o t }
 {}
 
-/// Where in leaves one stretch gives way to another, its marks give way to those of the other, and no
+/// Where in leaves one stretch is replaced by another, its marks are replaced by those of the other, and no
 /// other mark changes: in the leaves, and in the texts that sound documents print.
 pub fn marks_give_way()
     ensures join { (first second : List Content) → MarksJoin first second }
-    ensures leaves { (was now x y : List Content) → MarksGiveWay was now x y }
-    ensures printed { (o : Options) (t u : OrderedTree) → PrintedMarksGiveWay o t u }
+    ensures leaves { (was now x y : List Content) → MarksReplaced was now x y }
+    ensures printed { (o : Options) (t u : OrderedTree) → PrintedMarksReplaced o t u }
 {}
 
-/// So where a value of a document gives way to another, and where trivia does: all marks of trivia are
+/// So where a value of a document is replaced by another, and where trivia does: all marks of trivia are
 /// comments, and of trivia that ends in a comment the last mark is one.
 pub fn values_and_trivia_give_way()
-    ensures value { (t : OrderedTree) → ValuesMarksGiveWay t }
-    ensures trivia { (t : OrderedTree) → TriviasMarksGiveWay t }
+    ensures value { (t : OrderedTree) → ValuesMarksReplaced t }
+    ensures trivia { (t : OrderedTree) → TriviasMarksReplaced t }
     ensures comments { (contents : List Content) → TriviaHasComments contents }
     ensures last { (contents : List Content) → LastMarkIsComment contents }
 {}
@@ -65,7 +65,7 @@ pub fn laid_values_are_written()
     ensures comments { (v : Plain) → WritesNoComments v }
 {}
 
-/// Where one stretch of marks gives way to another, every comment outside of it is still there, in
+/// Where one stretch of marks is replaced by another, every comment outside of it is still there, in
 /// order.
 pub fn other_comments_stay()
     ensures kept { (was now x y : List Mark) → KeepsOtherComments was now x y }

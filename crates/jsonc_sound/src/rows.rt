@@ -1,4 +1,4 @@
-//! Laws of rows from which an element leaves, or in which a value comes or a property gives way. Each is
+//! Laws of rows from which an element leaves, or in which a value comes or a property is replaced. Each is
 //! the contract of a function that does nothing.
 ghost use Rattle.std.specs.Prelude.{List, ℕ};
 ghost use Rattle.jsonc_text.specs.Options.{Options};
@@ -45,9 +45,9 @@ pub fn documents_with_a_first_value()
     ensures marks { (top : Top) (row new : OrderedTree) → MarksWithFirstValue top row new }
 {}
 
-/// Where a property of a sound document gives way to a whole property of a name and a value, and no two
+/// Where a property of a sound document is replaced by a whole property of a name and a value, and no two
 /// literals without quotes meet beside it, the document stays sound, its plain value changes in that one
-/// entry, and the marks of the property give way to those of the new one.
+/// entry, and the marks of the property are replaced by those of the new one.
 pub fn properties_give_way()
     ensures sound { (o : Options) (t : OrderedTree) → SoundWithProperty o t }
     ensures members { (o : Options) (name : List ℕ) (v : Plain) → MembersWithProperty o name v }

@@ -28,13 +28,13 @@ pub fn shapes_come_apart()
     ensures prints { (o : Options) (t : OrderedTree) → NodesPrint o t }
 {}
 
-/// Under all options a document stays sound where a value gives way to another, and the leaves end at
+/// Under all options a document stays sound where a value is replaced by another, and the leaves end at
 /// the two seams.
 pub fn documents_stay_sound_at_seams()
     ensures { (o : Options) (t : OrderedTree) → StaysSoundAtSeams o t }
 {}
 
-/// Under all options a document stays sound where in a row a stretch gives way to another, by what stands
+/// Under all options a document stays sound where in a row a stretch is replaced by another, by what stands
 /// beside it in the row.
 pub fn documents_stay_sound_with_stretches()
     ensures { (o : Options) (t : OrderedTree) → StaysSoundWithStretch o t }
@@ -60,7 +60,7 @@ pub fn rows_with_commas()
     ensures properties { (o : Options) (row : OrderedTree) → PropertiesStandAlone o row }
 {}
 
-/// Where trivia gives way to trivia, under all options, a document stays sound if the last leaf before it
+/// Where trivia is replaced by trivia, under all options, a document stays sound if the last leaf before it
 /// ends.
 pub fn documents_stay_sound_with_trivia()
     ensures nodes { (o : Options) (t : OrderedTree) → KeepsNodes o t }
@@ -75,14 +75,14 @@ pub fn worked_spaces()
 {}
 
 /// Where a line comment's newline stands behind whitespace, trivia is a gap all the same; and line
-/// comments still end so where a value gives way, or one stretch follows another.
+/// comments still end so where a value is replaced, or one stretch follows another.
 pub fn loose_lines_are_gaps()
     ensures gaps { (o : Options) (loose : Bool) (t r : OrderedTree) → LooseTriviaIsGap o loose t r }
     ensures changed { (t : OrderedTree) → StaysLoose t }
     ensures apart { (loose at_end : Bool) (first second : OrderedTree) → LooseLinesComeApart loose at_end first second }
 {}
 
-/// `true` gives way to `false`, and `false` to `true`, save where `false` would stand directly behind a
+/// `true` is replaced by `false`, and `false` to `true`, save where `false` would stand directly behind a
 /// hexadecimal number.
 pub fn booleans_give_way()
     ensures { (o : Options) (t : OrderedTree) → StaysSoundWithBoolean o t }

@@ -1,6 +1,6 @@
 //! The calls that are timed. Each answers a number of its result, so that no result goes unused.
 ghost use Rattle.std.specs.Prelude.{All, IfOk};
-ghost use Rattle.jsonc_cst.specs.Document.{Holds};
+ghost use Rattle.jsonc_cst.specs.Document.{HasNode};
 ghost use Rattle.jsonc_cst.specs.Nodes.{number_lit_node};
 
 use jsonc_engine::command::Command;
@@ -8,7 +8,7 @@ use jsonc_engine::engine::run_on;
 use jsonc_engine::fault::Fault;
 use jsonc_parser::cst::{
     CstContainerNode, CstInputValue, CstLeafNode, CstNode, CstNumberLit, CstRootNode, EditError,
-    IsNode,
+    TypedNode,
 };
 use jsonc_parser::{
     CollectOptions, CommentCollectionStrategy, ParseOptions, Scanner, ScannerOptions, parse_to_ast,
@@ -190,7 +190,7 @@ fn program(alloc: Global, text: &str) -> Result<usize, Fault> {
 
 /// The elements of a document that is an array.
 fn elements(document: &CstRootNode<Global>) -> Result<Vec<CstNode>, Fault>
-    ensures { IfOk result (λ v. All (Holds document.now) v.items) }
+    ensures { IfOk result (λ v. All (HasNode document.now) v.items) }
 {
     match document.value() {
         Some(CstNode::Container(CstContainerNode::Array(array))) => match array.elements(document) {
@@ -203,7 +203,7 @@ fn elements(document: &CstRootNode<Global>) -> Result<Vec<CstNode>, Fault>
 
 /// How many of the elements have a next sibling.
 fn followed(document: &CstRootNode<Global>, elements: &[CstNode]) -> usize
-    requires { All (Holds document.now) elements.now }
+    requires { All (HasNode document.now) elements.now }
 {
     let mut count = 0usize;
     for element in elements {
@@ -227,7 +227,7 @@ fn siblings(alloc: Global, text: &str, count: u64) -> Result<usize, Fault> {
 
 /// The last element of an array, where it is a number.
 fn last_number(document: &CstRootNode<Global>) -> Result<CstNumberLit, Fault>
-    ensures { IfOk result (λ n. Holds document.now (number_lit_node n)) }
+    ensures { IfOk result (λ n. HasNode document.now (number_lit_node n)) }
 {
     let elements = elements(document)?;
     match elements.last() {
@@ -236,14 +236,14 @@ fn last_number(document: &CstRootNode<Global>) -> Result<CstNumberLit, Fault>
     }
 }
 
-/// Lets a number give way to another.
+/// Replaces a number by another.
 fn replace(
     alloc: Global,
     document: &mut CstRootNode<Global>,
     number: CstNumberLit,
 ) -> Result<CstNumberLit, Fault>
-    requires { Holds document.old (number_lit_node number) }
-    ensures { IfOk result (λ n. Holds document.new (number_lit_node n)) }
+    requires { HasNode document.old (number_lit_node number) }
+    ensures { IfOk result (λ n. HasNode document.new (number_lit_node n)) }
 {
     let digits = String::from_str(alloc, "7")?;
     match number.replace_with(document, CstInputValue::Number(digits)) {
@@ -253,7 +253,7 @@ fn replace(
     }
 }
 
-/// How often the last number of an array gave way.
+/// How often the last number of an array was replaced.
 fn replaced(alloc: Global, text: &str, count: u64) -> Result<usize, Fault> {
     let mut document = parsed(alloc, text)?;
     let mut last = last_number(&document)?;

@@ -1,4 +1,4 @@
-//! Makes one call on a text again and again, for whoever times the process: `docs/SPEED.md`.
+//! Makes one call on a text again and again, for whoever times the process: `docs/proofs/SPEED.md`.
 //!
 //! The words are the name of the call and how often to make it, the text is standard input, and the
 //! sum of what the calls answered is written.

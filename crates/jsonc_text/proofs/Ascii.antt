@@ -6,7 +6,7 @@ use Rattle.std.proofs.lemmas.List.{get_or-drop}
 use Rattle.jsonc_text.specs.Text.{rest, next, starts, no, is_digit, is_hex_digit}
 use Rattle.jsonc_text.specs.Gaps.{is_blank}
 use Rattle.jsonc_text.specs.Chars.{Steps}
-use Rattle.jsonc_text.proofs.Steps.{steps_ascii}
+use Rattle.jsonc_text.proofs.CharacterSteps.{steps_ascii}
 
 -- only ASCII passes the test
 abbrev pub OnlyAscii : (ℕ → Bool) → Type 0

@@ -2,7 +2,7 @@
 use Rattle.std.proofs.Common.{ℕ, zero, suc, add-zero, subst, ◌≡◌, ◌-◌, ◌+◌, ◌<◌, ◌≤◌, List, length, get_or, arith, IsUtf8, IsTrue, Bool, IsCharBoundary}
 use Rattle.jsonc_text.specs.Text.{rest, Many, stop}
 use Rattle.jsonc_text.specs.Chars.{Steps}
-use Rattle.jsonc_text.proofs.Steps.{steps_ascii, many_push}
+use Rattle.jsonc_text.proofs.CharacterSteps.{steps_ascii, many_push}
 use Rattle.jsonc_text.proofs.Ascii.{OnlyAscii}
 
 -- from start to place stand characters that pass the test

@@ -7,7 +7,7 @@ use Rattle.std.proofs.lemmas.List.Folds.{drop_split}
 use Rattle.std.specs.Char.{len_utf8}
 use Rattle.jsonc_text.specs.Text.{rest, Many, stop, step, byte_length, Spans}
 use Rattle.jsonc_text.specs.Chars.{Steps}
-use Rattle.jsonc_text.proofs.Steps.{rest_end, steps_char}
+use Rattle.jsonc_text.proofs.CharacterSteps.{rest_end, steps_char}
 
 pub byte_length-append : (s t : List ℕ) → byte_length (s ++ t) ≡ byte_length s + byte_length t
 byte_length-append s t = ap length (encodes-append s t) ∙ length-append (encode_utf8_all s) (encode_utf8_all t)

@@ -1,4 +1,4 @@
-pub mod Alone
+pub mod LexemesAlone
 pub mod Ascii
 pub mod Basics
 pub mod Begins
@@ -15,7 +15,7 @@ pub mod RowsPlaces
 pub mod RowsRefused
 pub mod CharRuns
 pub mod SameOptions
-pub mod Steps
+pub mod CharacterSteps
 pub mod StringFrames
 pub mod TokenTexts
 pub mod UniqueGaps

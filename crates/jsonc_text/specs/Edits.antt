@@ -24,7 +24,7 @@ pub record IsOne (d : Document) : Type 0 where
   pub says : IsDocument d.options d.text d.value
   pub marked : MarksTo d.options [] d.text d.marks
 
--- What an edit asks for, at a path of numbers of entries. `ensure_..` with `true`: a value of another kind gives way. `set_commas` with `true`: on several lines
+-- What an edit asks for, at a path of numbers of entries. `ensure_..` with `true`: a value of another kind is replaced. `set_commas` with `true`: on several lines
 -- one stands behind each last entry; with `false`: none does. `rearrange`: the entries come in this order of their old numbers.
 pub data Operation : Type 0 where
   replace : List ℕ → Plain → Operation
@@ -104,19 +104,19 @@ written an_object e = Mark.literal (spelled e.name) ∷ literals_of e.value
 abbrev pub Come : List Mark → (from to : List ℕ) → Document → Document → Type 0
 Come come from to d e = (ahead behind : List Mark) × Parted e from to ahead come behind × (d.marks ≡ ahead ++ behind)
 
--- Between front and back `was` gives way to `now`, perhaps with something beside it. All before and all behind stays, to the character.
+-- Between front and back `was` is replaced by `now`, perhaps with something beside it. All before and all behind stays, to the character.
 pub record Text (Side : List ℕ → List ℕ → List ℕ → Type 0) (front was left now right back : List ℕ) (d e : Document) : Type 0 where
   pub before : d.text ≡ front ++ (was ++ back)
   pub after : e.text ≡ front ++ (left ++ (now ++ (right ++ back)))
   pub sides : Side front (now ++ (right ++ back)) left × Side (front ++ (left ++ now)) back right
 
--- What stands at a place gives way to what stands there then, and its marks to these; around it the same marks stand.
+-- What stands at a place is replaced by what stands there then, and its marks to these; around it the same marks stand.
 abbrev pub Puts : (At : Options → List ℕ → List ℕ → List ℕ → Type 0) → List Mark → Document → Document → Type 0
 Puts At come d e = (front was left now right back : List ℕ) × Text IsSeam front was left now right back d e
     × At d.options d.text (was ++ back) back × At e.options e.text (now ++ (right ++ back)) (right ++ back)
     × (ahead gone behind : List Mark) × Parted d (was ++ back) back ahead gone behind × Parted e (now ++ (right ++ back)) (right ++ back) ahead come behind
 
--- the value at the path gives way to another
+-- the value at the path is replaced by another
 abbrev pub PutsValue : Plain → Plain → List ℕ → Document → Document → Type 0
 PutsValue was now path d e = Puts (Value path) (literals_of now) d e × Becomes was now path d.value e.value
 
@@ -173,7 +173,7 @@ LosesComment n d e = (front blanks comment left right back : List ℕ) × Text I
 abbrev pub may_stay : Kind → Bool → Plain → Bool
 may_stay kind yields v = is_of kind v || not yields
 
--- the value at the path may stay, and all does; or it gives way to an empty one of the kind
+-- the value at the path may stay, and all does; or it is replaced by an empty one of the kind
 abbrev pub Ensures : Kind → Bool → List ℕ → Document → Document → Type 0
 Ensures kind yields path d e = (v : Plain) × ((Becomes v v path d.value d.value × IsTrue (may_stay kind yields v) × (e.text ≡ d.text) × Same d e)
     ⊎ (IsTrue (not (may_stay kind yields v)) × PutsValue v (of kind []) path d e))
@@ -185,7 +185,7 @@ EnsuresNamed path name kind yields d e = (front back : List Named) × All (λ x.
     × Ensures kind yields (path ++ length front ∷ []) d e)
     ⊎ ((back ≡ []) × Gains an_object path front [] (record { name = name; value = of kind [] }) d e))
 
--- the property at the path gives way to another
+-- the property at the path is replaced by another
 abbrev pub PutsProperty : Named → List ℕ → Document → Document → Type 0
 PutsProperty new path d e = Puts (Entry path) (written an_object new) d e × (holder : List ℕ) × (front back : List Named) × (old : Named) × (path ≡ holder ++ length front ∷ [])
     × Becomes (of an_object (front ++ old ∷ back)) (of an_object (front ++ new ∷ back)) holder d.value e.value

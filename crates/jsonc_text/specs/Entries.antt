@@ -21,7 +21,7 @@ abbrev pub of : Kind → List Named → Plain
 of an_array es = array (items es)
 of an_object es = object (members es)
 
--- the second value is the first, but that the value at the path has given way to another
+-- the second value is the first, but that the value at the path has been replaced by another
 pub data Changed (was now : Plain) : List ℕ → Plain → Plain → Type 0 where
   itself : Changed was now [] was now
   inside : (kind : Kind) (front back : List Named) (name : List ℕ) {path : List ℕ} {x y : Plain} → Changed was now path x y

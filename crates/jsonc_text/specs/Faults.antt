@@ -23,7 +23,7 @@ kind_of e = e.kind
 abbrev pub nowhere : Range
 nowhere = record { start = 0; end = 0 }
 
--- want of memory is told of no bytes
+-- allocation failure is told of no bytes
 pub record IsOutOfMemory (e : ParseError) : Type 0 where
   pub kind : kind_of e ≡ OutOfMemory
   pub range : range_of e ≡ nowhere

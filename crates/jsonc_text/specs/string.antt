@@ -2,4 +2,4 @@ pub mod Between
 pub mod Escapes
 pub mod Parsed
 pub mod Quotes
-pub mod Told
+pub mod Faults

@@ -3,7 +3,7 @@ ghost use Rattle.std.specs.Prelude.{◌≡◌, ◌+◌, ◌-◌, ◌≤◌, slic
 ghost use Rattle.jsonc_text.specs.declared.common.Range.{Range};
 ghost use Rattle.jsonc_text.specs.Text.{Spans};
 
-/// A range of bytes of a text, from `start` up to, without, `end`.
+/// A range of bytes of a text, from `start` to before `end`.
 #[derive(Clone, Copy, Debug, PartialEq, Eq)]
 pub struct Range {
     /// The place where it begins.
@@ -13,7 +13,7 @@ pub struct Range {
 }
 
 impl Range {
-    /// The range from one place up to, without, another.
+    /// The range from one place to before another.
     pub fn new(start: usize, end: usize) -> Range
         ensures start { result.start ≡ start }
         ensures end { result.end ≡ end }
@@ -30,7 +30,7 @@ impl Range {
     }
 }
 
-/// What covers a range of a text.
+/// A part of a text, which has a range.
 pub trait Ranged {
     ghost range_of: { Self → Range };
 

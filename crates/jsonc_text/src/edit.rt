@@ -8,16 +8,16 @@ use std::alloc::AllocError;
 use std::error::Error;
 use std::fmt;
 
-/// Why a document was not changed, or did not answer.
+/// Why an edit or another call of a document failed.
 #[derive(Clone, Copy, Debug, PartialEq, Eq, Drop)]
 pub enum EditError {
     /// There was not enough memory.
     OutOfMemory,
     /// A container has lost a bracket.
     MissingBrackets,
-    /// A property has lost its name.
+    /// A property has lost its name or its colon.
     MissingName,
-    /// There is no such place.
+    /// The path leads to nothing that the edit needs, or no comment has the number.
     NoSuchPlace,
 }
 
@@ -46,12 +46,12 @@ impl From<AllocError> for EditError {
     }
 }
 
-/// Whether commas stand after last elements and properties. By default never.
+/// Where trailing commas are to stand. By default nowhere.
 #[derive(Clone, Copy, Debug, PartialEq, Eq)]
 pub enum TrailingCommaMode {
-    /// They never do.
+    /// Behind no last element or property.
     Never,
-    /// They do in arrays and objects on several lines.
+    /// Behind the last one of each array and object on several lines.
     IfMultiline,
 }
 
@@ -63,18 +63,18 @@ impl Default for TrailingCommaMode {
     }
 }
 
-/// The kind of an array or object that is to be there.
+/// Whether an array or an object is to be there.
 #[derive(Clone, Copy, Debug, PartialEq, Eq)]
 pub enum Shape {
     Object,
     Array,
 }
 
-/// What becomes of a value of another kind than the one that is to be there.
+/// What happens to a value of another kind than the one that is to be there.
 #[derive(Clone, Copy, Debug, PartialEq, Eq)]
 pub enum Over {
     /// It stays.
     Keep,
-    /// It gives way.
+    /// It is replaced.
     Replace,
 }

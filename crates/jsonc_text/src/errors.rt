@@ -158,7 +158,8 @@ pub enum ParseErrorKind {
     UnterminatedObject,
     /// Values nested deeper than is taken.
     NestingDepthExceeded,
-    /// Memory was refused. It is told of no bytes: range 0 to 0, line 1, column 1.
+    /// An allocation failed. It has no bytes of the text: its range is 0 to 0, its line 1, its
+    /// column 1.
     OutOfMemory,
 }
 
@@ -253,9 +254,10 @@ impl ParseError {
     ghost use Rattle.jsonc_text.specs.Faults.{range_of, line_of, column_of, kind_of, IsFault, IsOutOfMemory};
     ghost use Rattle.jsonc_text.specs.Text.{Spans};
 
-    /// A fault of the text, told of these bytes of it: line and column are those of the range's start.
+    /// The error of a fault at these bytes of a text.
     ///
-    /// It takes no memory, and time in proportion to the range's start.
+    /// Line and column are those of the range's start. Nothing is allocated, and it takes time in
+    /// proportion to the range's start.
     pub fn new(range: Range, kind: ParseErrorKind, text: &str) -> ParseError
         requires range { Spans text.now range.start range.end }
         requires kind { kind ≢ ParseErrorKind.OutOfMemory }
@@ -272,7 +274,7 @@ impl ParseError {
         }
     }
 
-    /// The bytes of the text that the fault is told of.
+    /// The bytes of the text where the fault is.
     pub fn range(&self) -> Range
         ensures { result ≡ range_of self.now }
     {
@@ -300,7 +302,7 @@ impl ParseError {
         &self.kind
     }
 
-    /// Want of memory, which is told of no bytes.
+    /// The error of an allocation failure, at no bytes.
     pub fn out_of_memory() -> ParseError
         ensures { IsOutOfMemory result }
     {

@@ -10,7 +10,7 @@ use crate::common::{Range, Ranged};
 use std::alloc::{AllocError, Allocator};
 use std::borrow::CowStr;
 
-/// What stands at a place of a text: a lexeme or a comment.
+/// A lexeme or a comment of a text.
 #[derive(Drop)]
 #[derive_where(Debug)]
 pub enum Token<'a, A: Allocator> {
@@ -38,13 +38,15 @@ pub enum Token<'a, A: Allocator> {
     Null,
     /// A comment to the end of its line, by what stands after its `//`.
     CommentLine(&'a str),
-    /// A comment in marks, by what stands between its `/*` and `*/`.
+    /// A comment between marks, by what stands between its `/*` and `*/`.
     CommentBlock(&'a str),
 }
 
 impl<'a, A: Allocator> Token<'a, A> {
-    /// Its text: of a string the characters that it stands for, of a comment those inside its
-    /// marks, and of any other token as it is written.
+    /// Its text.
+    ///
+    /// For a string that is the characters that it stands for, for a comment those inside its
+    /// marks, and any other token is as it is written.
     #[tactic(auto, using(crate::proofs::TokenTexts::fixed_texts))]
     pub fn as_str(&self) -> &str
         ensures { chars result.now ≡ scanned_text (scanned_of self.now) }
@@ -102,7 +104,7 @@ impl<'a, A: Allocator> Eq for Token<'a, A> {
 }
 
 impl<'a, A: Allocator + Copy> Token<'a, A> {
-    /// The same token again. Only the copy of a string that owns its text takes memory, and can be refused.
+    /// A copy of the token. Only the copy of a string that owns its text takes memory.
     pub fn try_clone(&self) -> Result<Token<'a, A>, AllocError>
         ensures same { IfOk result (λ copy. scanned_of copy ≡ scanned_of self.now) }
         ensures owned { IfOk result (λ copy. IsOwned copy → IsOwned self.now) }
@@ -131,7 +133,7 @@ impl<'a, A: Allocator + Copy> Token<'a, A> {
     }
 }
 
-/// A token, and where it stands.
+/// A token with its range.
 #[derive(Drop)]
 pub struct TokenAndRange<'a, A: Allocator> {
     /// The bytes of the text that it covers.

@@ -25,7 +25,7 @@ not_over_bare ns tree n c bare ne (above {c = p} said r) =
 -- one node may join where it has no parent, is not the root and not over the container
 pub CanJoin-one : (ns : List Node) (n c i j : ℕ) → n < length ns → n ≢ 0 → parent_at ns n ≡ None → (IsOver ns n c → ⊥) → CanJoin ns c i j (n ∷ [])
 CanJoin-one ns n c i j there ne alone apart = record {
-  there = λ k h. let first : k ≡ 0 = omega arith in rw first there;
+  in_tree = λ k h. let first : k ≡ 0 = omega arith in rw first there;
   not_root = λ k h. let first : k ≡ 0 = omega arith in rw first ne;
   once = λ a b ha hb e. omega arith;
   free = λ k h. let first : k ≡ 0 = omega arith in inl (rw first alone);

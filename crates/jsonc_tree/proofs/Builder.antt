@@ -81,7 +81,7 @@ Appends-room a b d c n room appends = record {
 
 -- nodes that are there stand for the same trees after a change that keeps every old node
 pub Shows-keeps : (a b : List Node) → IsTree a → Keeps (length a) a b → (xs : List ℕ) (t : OrderedTree) → ((k : ℕ) → k < length xs → get_or xs k 0 < length a) → Shows a xs t → Shows b xs t
-Shows-keeps a b tree keeps xs t there shows = Shows-kept a b (λ n. n < length a) (λ n k at h. tree.there n k h) keeps.content keeps.children xs t there shows
+Shows-keeps a b tree keeps xs t there shows = Shows-kept a b (λ n. n < length a) (λ n k at h. tree.in_tree n k h) keeps.content keeps.children xs t there shows
 
 -- and so do nodes that aren't over the container of an append
 pub Shows-appends : (a b : List Node) (c n : ℕ) → IsTree a → Appends a b c n → (xs : List ℕ) (t : OrderedTree) → ((k : ℕ) → k < length xs → IsOver a (get_or xs k 0) c → ⊥) → Shows a xs t → Shows b xs t
@@ -113,7 +113,7 @@ Builds-root ns tree bare = record {
     children = λ n h. absurd (omega arith);
   };
   later = omega arith;
-  there = tree.first;
+  in_tree = tree.first;
   alone = tree.root_alone;
   is = tree.root_first;
   shows = Shows-bare ns 0 bare;
@@ -125,7 +125,7 @@ Builds-adds a b content tree adds = record {
   tree = tree;
   keeps = Keeps-adds a b content adds;
   later = omega arith;
-  there = omega (arith, adds.len);
+  in_tree = omega (arith, adds.len);
   alone = adds.bare.0;
   is = adds.last;
   shows = Shows-bare b (length a) adds.bare.1;
@@ -134,19 +134,19 @@ Builds-adds a b content tree adds = record {
 -- it appends what it has built apart
 pub Builds-appends : (a b c d : List Node) (n m : ℕ) (content other : Content) (below inner : OrderedTree) → Builds a b n content below → Builds b c m other inner → Appends c d n m → IsTree d → Builds a d n content (followed_by below (more other inner none))
 Builds-appends a b c d n m content other below inner built part appends tree =
-    let ne : n ≢ m = λ e. omega (arith, built.there, part.later) in
+    let ne : n ≢ m = λ e. omega (arith, built.in_tree, part.later) in
     let back : m ≢ n = λ e. ne (sym e) in
-    let alone : parent_at c n ≡ None = part.keeps.parent n built.there ∙ built.alone in
-    let old : Shows c (children_at c n) below = subst (λ (l : List ℕ). Shows c l below) (sym (part.keeps.children n built.there)) (Shows-keeps b c built.tree part.keeps (children_at b n) below (λ k h. built.tree.there n k h) built.shows) in
+    let alone : parent_at c n ≡ None = part.keeps.parent n built.in_tree ∙ built.alone in
+    let old : Shows c (children_at c n) below = subst (λ (l : List ℕ). Shows c l below) (sym (part.keeps.children n built.in_tree)) (Shows-keeps b c built.tree part.keeps (children_at b n) below (λ k h. built.tree.in_tree n k h) built.shows) in
     record {
       tree = tree;
       keeps = Keeps-then (length a) a b d built.keeps
           (Keeps-then (length a) b c d (Keeps-fewer (length a) (length b) b c built.keeps.len part.keeps)
           (Keeps-appends (length a) c d n m built.later (omega (arith, built.keeps.len, part.later)) appends));
       later = built.later;
-      there = omega (arith, built.there, part.keeps.len, appends.len);
+      in_tree = omega (arith, built.in_tree, part.keeps.len, appends.len);
       alone = appends.parents n ne ∙ alone;
-      is = appends.content n ∙ part.keeps.content n built.there ∙ built.is;
+      is = appends.content n ∙ part.keeps.content n built.in_tree ∙ built.is;
       shows = Shows-appended c d n m below (more other inner none) part.tree appends (not_over_alone c m n alone back) old (Shows-one c m other inner part.is part.shows);
     }
 
@@ -155,15 +155,15 @@ pub Builds-pushes : (a b c : List Node) (n : ℕ) (content other : Content) (bel
 Builds-pushes a b c n content other below built pushes tree =
     let not_child : (m k : ℕ) → k < length (children_at b m) → get_or (children_at b m) k 0 ≢ n = λ m k h e.
     let wrong : None ≡ Some m = sym built.alone ∙ ap (parent_at b) (sym e) ∙ built.tree.named m k h in cc in
-    let old : Shows c (children_at b n) below = Shows-kept b c (λ m. (m < length b) × (m ≢ n)) (λ m k at h. (built.tree.there m k h, not_child m k h)) (λ m at. pushes.contents m at.0) (λ m at. pushes.others m at.0 at.1) (children_at b n) below (λ k h. (built.tree.there n k h, not_child n k h)) built.shows in
+    let old : Shows c (children_at b n) below = Shows-kept b c (λ m. (m < length b) × (m ≢ n)) (λ m k at h. (built.tree.in_tree m k h, not_child m k h)) (λ m at. pushes.contents m at.0) (λ m at. pushes.others m at.0 at.1) (children_at b n) below (λ k h. (built.tree.in_tree n k h, not_child n k h)) built.shows in
     let new : Shows c (length b ∷ []) (more other none none) = Shows-one c (length b) other none pushes.last (Shows-bare c (length b) pushes.bare) in
     record {
       tree = tree;
       keeps = Keeps-then (length a) a b c built.keeps (Keeps-pushes (length a) b c n other built.later built.keeps.len pushes);
       later = built.later;
-      there = omega (arith, built.there, pushes.len);
-      alone = pushes.parents n built.there ∙ built.alone;
-      is = pushes.contents n built.there ∙ built.is;
+      in_tree = omega (arith, built.in_tree, pushes.len);
+      alone = pushes.parents n built.in_tree ∙ built.alone;
+      is = pushes.contents n built.in_tree ∙ built.is;
       shows = subst (λ (l : List ℕ). Shows c l (followed_by below (more other none none))) (sym pushes.children) (Shows-append c (children_at b n) (length b ∷ []) below (more other none none) old new);
     }
 
@@ -173,24 +173,24 @@ Builds-room a b c n content below built room tree = record {
   tree = tree;
   keeps = Keeps-then (length a) a b c built.keeps (Keeps-room (length a) b c room);
   later = built.later;
-  there = omega (arith, built.there, room.len);
+  in_tree = omega (arith, built.in_tree, room.len);
   alone = room.parent n ∙ built.alone;
   is = room.content n ∙ built.is;
-  shows = subst (λ (l : List ℕ). Shows c l below) (sym (room.children n)) (Shows-keeps b c built.tree (Keeps-room (length b) b c room) (children_at b n) below (λ k h. built.tree.there n k h) built.shows);
+  shows = subst (λ (l : List ℕ). Shows c l below) (sym (room.children n)) (Shows-keeps b c built.tree (Keeps-room (length b) b c room) (children_at b n) below (λ k h. built.tree.in_tree n k h) built.shows);
 }
 
 -- in the end the node stands for the tree that was built
 pub Builds-ordered_tree : (a b : List Node) (n : ℕ) (content : Content) (below : OrderedTree) → Builds a b n content below → ordered_tree b n ≡ more content below none
 Builds-ordered_tree a b n content below built =
-    Shows-unique b (n ∷ []) (ordered_tree b n) (more content below none) (Shows-ordered_tree b built.tree n built.there) (Shows-one b n content below built.is built.shows)
+    Shows-unique b (n ∷ []) (ordered_tree b n) (more content below none) (Shows-ordered_tree b built.tree n built.in_tree) (Shows-one b n content below built.is built.shows)
 
 -- what was built apart can be appended
 pub CanAppend-built : (a b c : List Node) (n m : ℕ) (content other : Content) (below inner : OrderedTree) → is_container content ≡ true → Builds a b n content below → Builds b c m other inner → CanAppend c n m
 CanAppend-built a b c n m content other below inner holds built part = record {
-  container = omega (arith, built.there, part.keeps.len);
-  holds = ap is_container (part.keeps.content n built.there ∙ built.is) ∙ holds;
-  node = part.there;
+  container = omega (arith, built.in_tree, part.keeps.len);
+  holds = ap is_container (part.keeps.content n built.in_tree ∙ built.is) ∙ holds;
+  node = part.in_tree;
   not_root = λ e. omega (arith, e, part.later, built.tree.first);
   alone = part.alone;
-  not_over = not_over_alone c m n (part.keeps.parent n built.there ∙ built.alone) (λ e. omega (arith, e, built.there, part.later));
+  not_over = not_over_alone c m n (part.keeps.parent n built.in_tree ∙ built.alone) (λ e. omega (arith, e, built.in_tree, part.later));
 }

@@ -61,7 +61,7 @@ module _ (ns : List Node) (tree : IsTree ns) where
       ap (parent_at ns) (sym (get_or_from_slice_get (children_at ns c) k m 0 e)) ∙ tree.named c k (slice_get_within (children_at ns c) k m e)
 
   pub at_there : (c k m : ℕ) → slice_get (children_at ns c) k ≡ Some m → m < length ns
-  at_there c k m e = omega (arith, tree.there c k (slice_get_within (children_at ns c) k m e), get_or_from_slice_get (children_at ns c) k m 0 e)
+  at_there c k m e = omega (arith, tree.in_tree c k (slice_get_within (children_at ns c) k m e), get_or_from_slice_get (children_at ns c) k m 0 e)
 
   pub at_placed : (c k m : ℕ) → slice_get (children_at ns c) k ≡ Some m → place_at ns m ≡ k
   at_placed c k m e =

@@ -16,7 +16,7 @@ use Rattle.jsonc_tree.specs.Stored.{link_at, nodes_of, room_over, ahead_at, back
 use Rattle.jsonc_tree.specs.Siblings.{before, IsGap}
 use Rattle.jsonc_tree.proofs.Gaps.{length_came, length_went}
 use Rattle.jsonc_tree.proofs.Written.{relinked}
-use Rattle.jsonc_tree.proofs.Agreeing.{Agrees, agrees, shown_is, stored_by, length_shown, row_short}
+use Rattle.jsonc_tree.proofs.AgreeingLinks.{Agrees, agrees, shown_is, stored_by, length_shown, row_short}
 use Rattle.jsonc_tree.proofs.Relinking.{came_agrees, went_agrees, before_there, place_there}
 
 -- the places of the nodes as a list
@@ -50,7 +50,7 @@ spliced ns c i j more xs t at holds order inside join room =
 -- an empty splice asks nothing
 pub CanJoin-none : (ns : List Node) (c i j : ℕ) → CanJoin ns c i j []
 CanJoin-none ns c i j = record {
-  there = λ k h. absurd (omega arith);
+  in_tree = λ k h. absurd (omega arith);
   not_root = λ k h. absurd (omega arith);
   once = λ a b ha hb e. omega arith;
   free = λ k h. absurd (omega arith);
@@ -158,7 +158,7 @@ module _ (ls : List LinkedNode) (ok : IsStored ls) where
       let row : List ℕ = children_at ns c in
       let same = agrees ls ok in
       let inside = slice_get_within row g x stood in
-      let there : x < length ns = omega (arith, ok.tree.there c g inside, let both : Some (get_or row g 0) ≡ Some x = sym (slice_get-get_or row g 0 inside) ∙ stood in let is : get_or row g 0 ≡ x = cc in is) in
+      let there : x < length ns = omega (arith, ok.tree.in_tree c g inside, let both : Some (get_or row g 0) ≡ Some x = sym (slice_get-get_or row g 0 inside) ∙ stood in let is : get_or row g 0 ≡ x = cc in is) in
       let room = same.room c at in
       let made = spliced ns c g (suc g) (room_over (splice row g (suc g) [])) [] ok.tree at holds (omega arith) (omega arith) (CanJoin-none ns c g (suc g)) (omega (arith, room, length_went row g inside, row_short ns ok.tree c, length_shown ls)) in
       let new : List Node = made.0 in

@@ -80,7 +80,7 @@ module _ (ns : List Node) (tree : IsTree ns) where
   Shows-grown zero n us h line wide = absurd (omega (arith, line_short ns tree n us h line))
   Shows-grown (suc k) n us h line wide =
       Shows-plant ns (grown k ns) (children_at ns n) (λ i l.
-      Shows-grown k (get_or (children_at ns n) i 0) (get_or (children_at ns n) i 0 ∷ us) (tree.there n i l) (longer (tree.named n i l) line) (omega arith))
+      Shows-grown k (get_or (children_at ns n) i 0) (get_or (children_at ns n) i 0 ∷ us) (tree.in_tree n i l) (longer (tree.named n i l) line) (omega arith))
 
   -- each node that is there stands for its ordered tree
   pub Shows-ordered_tree : (n : ℕ) → n < length ns → Shows ns (n ∷ []) (ordered_tree ns n)

@@ -8,7 +8,7 @@ use Rattle.jsonc_tree.specs.Stored.{LinkedNode, link_at, room_over, ahead_at, ba
 use Rattle.jsonc_tree.specs.Siblings.{before}
 use Rattle.jsonc_tree.proofs.Gaps.{came_low, came_here, came_high, length_came, went_low, went_high, length_went, before_same, at_named, at_there, at_once, before_named, before_once}
 use Rattle.jsonc_tree.proofs.Written.{Apart, relinked, length-relinked, content_kept, parent_here, parent_kept, next_here, previous_here, ahead_hit, back_hit, ahead_miss, back_miss}
-use Rattle.jsonc_tree.proofs.Agreeing.{Agrees}
+use Rattle.jsonc_tree.proofs.AgreeingLinks.{Agrees}
 
 if_some : {P : ℕ → Type 0} (o : Option ℕ) → ((n : ℕ) → o ≡ Some n → P n) → IfSome o P
 if_some None h = tt

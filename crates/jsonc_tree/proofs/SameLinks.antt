@@ -18,7 +18,7 @@ module _ (ns ms : List tree.Node) (place other : ℕ → ℕ) (more : length ns 
     root_first = first;
     root_alone = parents 0 ∙ t.root_alone;
     leaf = λ n h. kids n ∙ bare n h;
-    there = λ c k h. rw (kids c) (omega (arith, t.there c k (omega (arith, ap length (kids c)))));
+    in_tree = λ c k h. rw (kids c) (omega (arith, t.in_tree c k (omega (arith, ap length (kids c)))));
     named = λ c k h. rw (kids c) (parents _ ∙ t.named c k (omega (arith, ap length (kids c))));
     placed = λ c k h. rw (kids c) (places _ ∙ t.placed c k (omega (arith, ap length (kids c))));
     within = λ n c said. rw (kids c, places n) (t.within n c (sym (parents n) ∙ said));

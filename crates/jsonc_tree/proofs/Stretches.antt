@@ -26,7 +26,7 @@ cond_same false x = refl
 nothing_between : (xs : List ℕ) (k : ℕ) → k ≤ length xs → slice_range xs k k ≡ []
 nothing_between xs k h = nil_from_length (slice_range xs k k) (omega (arith, length-between xs k k h))
 
--- a row in which a stretch gave way, and then one more
+-- a row in which a stretch was replaced, and then one more
 drop_more_one : (xs : List ℕ) (m : ℕ) → drop 1 (drop m xs) ≡ drop (suc m) xs
 drop_more_one [] zero = refl
 drop_more_one [] (suc m) = refl
@@ -52,7 +52,7 @@ length_gone xs i m le h = simp (length-append, length-take, length-drop) (omega 
 one_between : (xs : List ℕ) (i : ℕ) → i < length xs → slice_range xs i (suc i) ≡ get_or xs i 0 ∷ []
 one_between xs i h = ap (slice_range xs i) (omega arith) ∙ between_more xs i i 0 (omega arith) h ∙ ap (λ l. l ++ get_or xs i 0 ∷ []) (nothing_between xs i (omega arith))
 
--- one more gives way
+-- one more is replaced
 pub Splices-gone : (old cur new : List Node) (c i m : ℕ) → i ≤ m → m < length (children_at old c) → Splices old cur c i m [] → Splices cur new c i (suc i) [] → Splices old new c i (suc m) []
 Splices-gone old cur new c i m le lt a b =
     let row : List ℕ = children_at old c in
@@ -164,16 +164,16 @@ module _ (old cur : List Node) (c i j : ℕ) (xs all : List ℕ) (splices : Spli
   CanAppend-next k at holds h out = record {
     container = omega (arith, splices.len);
     holds = ap is_container (splices.content c) ∙ holds;
-    node = omega (arith, splices.len, join.there k h);
+    node = omega (arith, splices.len, join.in_tree k h);
     not_root = join.not_root k h;
     alone = alone_still k h out;
     not_over = λ over. join.not_over k h (over_before (get_or all k 0) c itself over);
   }
 
--- once a stretch gave way, what may take its place stands alone
+-- once a stretch was replaced, what may take its place stands alone
 pub CanJoin-gone : (old cur : List Node) (c i j : ℕ) (all : List ℕ) → Splices old cur c i j [] → CanJoin old c i j all → CanJoin cur c i i all
 CanJoin-gone old cur c i j all splices join = record {
-  there = λ k h. omega (arith, splices.len, join.there k h);
+  in_tree = λ k h. omega (arith, splices.len, join.in_tree k h);
   not_root = join.not_root;
   once = join.once;
   free = λ k h. inl (alone_still old cur c i j [] all splices join (λ n e. let wrong : false ≡ true = e in cc) k h refl);

@@ -16,7 +16,7 @@ pub record Builds (old new : List Node) (n : ℕ) (content : Content) (below : O
   pub tree : IsTree new
   pub keeps : Keeps (length old) old new
   pub later : length old ≤ n
-  pub there : n < length new
+  pub in_tree : n < length new
   pub alone : parent_at new n ≡ None
   pub is : content_at new n ≡ content
   pub shows : Shows new (children_at new n) below

@@ -8,12 +8,12 @@ use Rattle.jsonc_tree.specs.Tree.{Node, node_at, content_at, parent_at, children
 abbrev pub EachOnce : List ℕ → Type 0
 EachOnce xs = (a b : ℕ) → a < length xs → b < length xs → slice_index xs a ≡ slice_index xs b → a ≡ b
 
--- a node that is put in gets the container as its parent, one that gave way has none, and any other keeps its own
+-- a node that is put in gets the container as its parent, one that was replaced has none, and any other keeps its own
 abbrev pub parent_after : List Node → ℕ → ℕ → ℕ → List ℕ → ℕ → Option ℕ
 parent_after ns c i j xs n =
     if is_in n xs then Some c else (if is_in n (slice_range (children_at ns c) i j) then None else parent_at ns n)
 
--- the new nodes are the old ones, but that the container's children from i up to j have given way to these
+-- the new nodes are the old ones, but that the container's children from i up to j have been replaced by these
 pub record Splices (old new : List Node) (c i j : ℕ) (xs : List ℕ) : Type 0 where
   pub len : length new ≡ length old
   pub content : (n : ℕ) → content_at new n ≡ content_at old n
@@ -29,7 +29,7 @@ IsFree ns c i j n = (parent_at ns n ≡ None) ⊎ (is_in n (slice_range (childre
 -- What a splice asks of the nodes that are put in: none is the root, none stands there twice, each has no parent or is among the children that give way, and
 -- none is over the container.
 pub record CanJoin (ns : List Node) (c i j : ℕ) (xs : List ℕ) : Type 0 where
-  pub there : (k : ℕ) → k < length xs → slice_index xs k < length ns
+  pub in_tree : (k : ℕ) → k < length xs → slice_index xs k < length ns
   pub not_root : (k : ℕ) → k < length xs → slice_index xs k ≢ 0
   pub once : EachOnce xs
   pub free : (k : ℕ) → k < length xs → IsFree ns c i j (slice_index xs k)

@@ -42,7 +42,7 @@ pub data Shows (ns : List Node) : List ℕ → OrderedTree → Type 0 where
   shows_more : {n : ℕ} {rest : List ℕ} {below after : OrderedTree} → Shows ns (children_at ns n) below
       → Shows ns rest after → Shows ns (n ∷ rest) (more (content_at ns n) below after)
 
--- the second row is the first, but that in one place below a node one row has given way to another
+-- the second row is the first, but that in one place below a node one row has been replaced by another
 pub data Replaced (was now : OrderedTree) : OrderedTree → OrderedTree → Type 0 where
   here : {content : Content} {after : OrderedTree} → Replaced was now (more content was after) (more content now after)
   deeper : {content : Content} {x y after : OrderedTree} → Replaced was now x y → Replaced was now (more content x after) (more content y after)

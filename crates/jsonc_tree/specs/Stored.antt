@@ -64,7 +64,7 @@ pub record LinkedNode : Type 0 where
   pub first : Option ℕ
   pub last : Option ℕ
 
--- a node that is nobody's child
+-- a node that is detached
 abbrev pub bare : Content → LinkedNode
 bare content = record { content = content; parent = None; previous = None; next = None; first = None; last = None }
 

@@ -14,7 +14,7 @@ pub(crate) fn set_ahead<A: Allocator>(
     before: Option<usize>,
     to: Option<usize>,
 )
-    requires there { c < vec_len nodes.old }
+    requires in_tree { c < vec_len nodes.old }
     requires container { is_container (link_at nodes.old.items c).content ≡ true }
     requires before { IfSome before (λ n. n < vec_len nodes.old) }
     requires to { IfSome to (λ n. n < 2 ^ 64 - 1) }
@@ -41,7 +41,7 @@ pub(crate) fn set_back<A: Allocator>(
     behind: Option<usize>,
     to: Option<usize>,
 )
-    requires there { c < vec_len nodes.old }
+    requires in_tree { c < vec_len nodes.old }
     requires container { is_container (link_at nodes.old.items c).content ≡ true }
     requires behind { IfSome behind (λ n. n < vec_len nodes.old) }
     requires to { IfSome to (λ n. n < 2 ^ 64 - 1) }
@@ -69,7 +69,7 @@ pub(crate) fn set_place<A: Allocator>(
     previous: Option<usize>,
     next: Option<usize>,
 )
-    requires there { n < vec_len nodes.old }
+    requires in_tree { n < vec_len nodes.old }
     requires parent { IfSome parent (λ n. n < 2 ^ 64 - 1) }
     requires previous { IfSome previous (λ n. n < 2 ^ 64 - 1) }
     requires next { IfSome next (λ n. n < 2 ^ 64 - 1) }
@@ -126,7 +126,7 @@ pub(crate) fn before_of<A: Allocator>(
     c: usize,
     behind: Option<usize>,
 ) -> Option<usize>
-    requires there { c < vec_len nodes.now }
+    requires in_tree { c < vec_len nodes.now }
     requires behind { IfSome behind (λ n. n < vec_len nodes.now) }
     ensures { result ≡ back_at nodes.now.items c behind }
 {

@@ -220,7 +220,7 @@ impl<A: Allocator> Model for Node<A> {
     } };
 }
 
-// A node that is nobody's child, and has none.
+// A node that is detached, and has none.
 pub(crate) fn bare_node<A: Allocator>(kind: Kind<A>) -> Node<A>
     ensures { result ≡ bare (content_of kind) }
 {

@@ -44,11 +44,11 @@ fn own_bytes<A: Allocator>(kind: &Kind<A>) -> &[u8]
 // The first leaf from a node of the document on.
 fn leaf_from<A: Allocator>(nodes: &Vec<Node<A>, A>, from: Option<usize>) -> Option<usize>
     requires stored { IsStored nodes.now.items }
-    requires there { IfSome from (λ n. n < vec_len nodes.now) }
+    requires in_tree { IfSome from (λ n. n < vec_len nodes.now) }
     requires over { IfSome from (λ n. IsOver (nodes_in nodes.now) 0 n) }
     ensures same { pieces_from (nodes_in nodes.now) from ≡ pieces_from (nodes_in nodes.now) result }
     ensures leaf { IfSome result (λ n. is_container_at (nodes_in nodes.now) n ≡ false) }
-    ensures there { IfSome result (λ n. n < vec_len nodes.now) }
+    ensures in_tree { IfSome result (λ n. n < vec_len nodes.now) }
     ensures over { IfSome result (λ n. IsOver (nodes_in nodes.now) 0 n) }
 {
     let mut next = from;
@@ -75,7 +75,9 @@ impl<A: Allocator> Tree<A> {
     }
 }
 
-/// What the leaves of a document print, seen as the list of the pieces that are left.
+/// An iterator over the pieces that the leaves of a document print, in order.
+///
+/// It is seen as the list of those that are left.
 #[derive(Drop)]
 pub struct Pieces<'a, A: Allocator> {
     nodes: &'a Vec<Node<A>, A>,

@@ -45,7 +45,7 @@ fn write_below<A: Allocator, W: fmt::Write>(
     f: &mut fmt::Formatter<W>,
 ) -> fmt::Result
     requires stored { IsStored nodes.now.items }
-    requires there { end < vec_len nodes.now }
+    requires in_tree { end < vec_len nodes.now }
     ensures writes { WritesOnOk W.write_str_gives f.old result (printed (ordered_tree (nodes_in nodes.now) end)) f.new }
     ensures styled { WritesStyledOnOk W.write_str_gives f.old result
         (printed (ordered_tree (nodes_in nodes.now) end)) f.new }
@@ -58,7 +58,7 @@ fn write_below<A: Allocator, W: fmt::Write>(
     Ok(())
 }
 
-/// One node to be printed with what is below it.
+/// A node that prints itself and all below it.
 #[derive(Drop)]
 pub struct Shown<'a, A: Allocator> {
     nodes: &'a Vec<Node<A>, A>,

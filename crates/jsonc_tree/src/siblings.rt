@@ -14,7 +14,7 @@ use std::marker::Model;
 
 pub(crate) fn first_in<A: Allocator>(nodes: &Vec<Node<A>, A>, c: usize) -> Option<usize>
     requires stored { IsStored nodes.now.items }
-    requires there { c < vec_len nodes.now }
+    requires in_tree { c < vec_len nodes.now }
     ensures { result ≡ first (children_at (nodes_in nodes.now) c) }
 {
     first_of(nodes, c)
@@ -22,7 +22,7 @@ pub(crate) fn first_in<A: Allocator>(nodes: &Vec<Node<A>, A>, c: usize) -> Optio
 
 fn last_in<A: Allocator>(nodes: &Vec<Node<A>, A>, c: usize) -> Option<usize>
     requires stored { IsStored nodes.now.items }
-    requires there { c < vec_len nodes.now }
+    requires in_tree { c < vec_len nodes.now }
     ensures { result ≡ first (reverse (children_at (nodes_in nodes.now) c)) }
 {
     last_of(nodes, c)
@@ -30,7 +30,7 @@ fn last_in<A: Allocator>(nodes: &Vec<Node<A>, A>, c: usize) -> Option<usize>
 
 fn next_in<A: Allocator>(nodes: &Vec<Node<A>, A>, n: usize) -> Option<usize>
     requires stored { IsStored nodes.now.items }
-    requires there { n < vec_len nodes.now }
+    requires in_tree { n < vec_len nodes.now }
     ensures { result ≡ first (siblings_after (nodes_in nodes.now) n) }
 {
     next_of(nodes, n)
@@ -38,7 +38,7 @@ fn next_in<A: Allocator>(nodes: &Vec<Node<A>, A>, n: usize) -> Option<usize>
 
 fn previous_in<A: Allocator>(nodes: &Vec<Node<A>, A>, n: usize) -> Option<usize>
     requires stored { IsStored nodes.now.items }
-    requires there { n < vec_len nodes.now }
+    requires in_tree { n < vec_len nodes.now }
     ensures { result ≡ first (siblings_before (nodes_in nodes.now) n) }
 {
     previous_of(nodes, n)

@@ -36,7 +36,7 @@ pub(crate) fn put_between<A: Allocator>(
 // Takes a child out of its row.
 fn take_out<A: Allocator>(nodes: &mut Vec<Node<A>, A>, c: usize, x: usize)
     requires stored { IsStored nodes.old.items }
-    requires there { x < vec_len nodes.old }
+    requires in_tree { x < vec_len nodes.old }
     requires child { parent_at (nodes_in nodes.old) x ≡ Some c }
     ensures gone { TakesOut (nodes_in nodes.old) (nodes_in nodes.new) c x }
     ensures stored { IsStored nodes.new.items }
@@ -58,7 +58,7 @@ fn take_stretch<A: Allocator>(
     to: usize,
 ) -> Option<usize>
     requires stored { IsStored nodes.old.items }
-    requires there { c < vec_len nodes.old }
+    requires in_tree { c < vec_len nodes.old }
     requires order { from ≤ to }
     requires within { to ≤ length (children_at (nodes_in nodes.old) c) }
     ensures splices { Splices (nodes_in nodes.old) (nodes_in nodes.new) c from to [] }
@@ -85,7 +85,7 @@ fn put_row<A: Allocator>(
     new: &[usize],
 )
     requires stored { IsStored nodes.old.items }
-    requires there { c < vec_len nodes.old }
+    requires in_tree { c < vec_len nodes.old }
     requires container { IsTrue (is_container_at (nodes_in nodes.old) c) }
     requires can { CanFill (nodes_in nodes.old) c before behind new.now }
     ensures fills { Fills (nodes_in nodes.old) (nodes_in nodes.new) c before behind new.now }
@@ -110,7 +110,7 @@ pub(crate) fn splice_nodes<A: Allocator>(
     new: &[usize],
 )
     requires stored { IsStored nodes.old.items }
-    requires there { c < vec_len nodes.old }
+    requires in_tree { c < vec_len nodes.old }
     requires container { IsTrue (is_container_at (nodes_in nodes.old) c) }
     requires order { from ≤ to }
     requires within { to ≤ length (children_at (nodes_in nodes.old) c) }

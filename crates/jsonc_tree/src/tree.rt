@@ -46,7 +46,7 @@ impl<A: Allocator> Model for Tree<A> {
 // Lets a leaf become another.
 fn set_leaf_at<A: Allocator>(nodes: &mut Vec<Node<A>, A>, leaf: usize, kind: Kind<A>)
     requires stored { IsStored nodes.old.items }
-    requires there { leaf < vec_len nodes.old }
+    requires in_tree { leaf < vec_len nodes.old }
     requires leaf { is_container_at (nodes_in nodes.old) leaf ≡ false }
     requires stays { is_container (content_of kind) ≡ false }
     ensures becomes { LeafBecomes (nodes_in nodes.old) (nodes_in nodes.new) leaf (content_of kind) }
@@ -61,7 +61,7 @@ fn set_leaf_at<A: Allocator>(nodes: &mut Vec<Node<A>, A>, leaf: usize, kind: Kin
 // There is room for any number of children.
 fn has_room<A: Allocator>(nodes: &Vec<Node<A>, A>, c: usize)
     requires stored { IsStored nodes.now.items }
-    requires there { c < vec_len nodes.now }
+    requires in_tree { c < vec_len nodes.now }
     ensures { 2 ^ 64 ≤ room_at (nodes_in nodes.now) c }
 {
     let _ = first_of(nodes, c);
@@ -91,7 +91,7 @@ impl<A: Allocator> Tree<A> {
 
     /// Makes room for so many more nodes, and for no more than that where it takes memory.
     ///
-    /// A refusal leaves the tree as it was.
+    /// On an error the tree stays as it was.
     pub fn reserve_nodes(&mut self, additional: usize) -> Result<(), AllocError>
         ensures nodes { self.new.nodes ≡ self.old.nodes }
         ensures room { OnOk result (additional ≤ self.new.room) }
@@ -103,7 +103,7 @@ impl<A: Allocator> Tree<A> {
 
     /// Makes room for so many more children, so that a splice that adds as many needs no memory.
     ///
-    /// A refusal leaves the tree as it was.
+    /// On an error the tree stays as it was.
     pub fn reserve(&mut self, container: usize, additional: usize) -> Result<(), AllocError>
         requires { container < length self.old.nodes }
         ensures room { OnOk result (additional ≤ room_at self.new.nodes container) }
@@ -116,10 +116,10 @@ impl<A: Allocator> Tree<A> {
 
     /// Puts nodes in the place of the container's children from `from` up to `to`.
     ///
-    /// What gives way is left without a parent. The nodes that are put in have none before, or are
+    /// What is replaced is left without a parent. The nodes that are put in have none before, or are
     /// among those that give way.
     pub fn splice(&mut self, container: usize, from: usize, to: usize, new: &[usize])
-        requires there { container < length self.old.nodes }
+        requires in_tree { container < length self.old.nodes }
         requires container { IsTrue (is_container_at self.old.nodes container) }
         requires order { from ≤ to }
         requires within { to ≤ length (children_at self.old.nodes container) }
@@ -160,7 +160,7 @@ impl<A: Allocator> Tree<A> {
 
     /// Makes a node without a parent the last child of a container.
     ///
-    /// A refusal leaves every node as it was, though the container may have more room.
+    /// On an error every node stays as it was, though the container may have more room.
     pub fn attach(&mut self, container: usize, node: usize) -> Result<(), AllocError>
         requires { CanAppend self.old.nodes container node }
         ensures appends { OnOk result (Appends self.old.nodes self.new.nodes container node) }
@@ -173,7 +173,7 @@ impl<A: Allocator> Tree<A> {
 
     /// Lets a leaf become another one, which may be of another kind, in its place.
     pub fn set_leaf(&mut self, leaf: usize, kind: Kind<A>)
-        requires there { leaf < length self.old.nodes }
+        requires in_tree { leaf < length self.old.nodes }
         requires leaf { is_container_at self.old.nodes leaf ≡ false }
         requires stays { is_container (content_of kind) ≡ false }
         ensures becomes { LeafBecomes self.old.nodes self.new.nodes leaf (content_of kind) }
@@ -194,9 +194,9 @@ impl<A: Allocator> Tree<A> {
         Ok(Tree { nodes })
     }
 
-    /// Adds a node that is nobody's child yet, and answers its number.
+    /// Adds a node without a parent, and answers its number.
     ///
-    /// A refusal leaves the tree as it was.
+    /// On an error the tree stays as it was.
     pub fn add(&mut self, kind: Kind<A>) -> Result<usize, AllocError>
         ensures number { IfOk result (λ n. n ≡ length self.old.nodes) }
         ensures added { OnOk result (Adds self.old.nodes self.new.nodes (content_of kind)) }
@@ -209,9 +209,9 @@ impl<A: Allocator> Tree<A> {
 
     /// Adds a node as a container's last child, and answers its number.
     ///
-    /// A refusal leaves every node as it was, though the container may have more room.
+    /// On an error every node stays as it was, though the container may have more room.
     pub fn push_child(&mut self, container: usize, kind: Kind<A>) -> Result<usize, AllocError>
-        requires there { container < length self.old.nodes }
+        requires in_tree { container < length self.old.nodes }
         requires container { IsTrue (is_container_at self.old.nodes container) }
         ensures number { IfOk result (λ n. n ≡ length self.old.nodes) }
         ensures pushes { OnOk result (Pushes self.old.nodes self.new.nodes container (content_of kind)) }

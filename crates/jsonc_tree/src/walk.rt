@@ -32,7 +32,7 @@ pub(crate) fn parent_in<A: Allocator>(nodes: &Vec<Node<A>, A>, n: usize) -> Opti
 // How many children a node has, counted along the links.
 fn count_of<A: Allocator>(nodes: &Vec<Node<A>, A>, c: usize) -> usize
     requires stored { IsStored nodes.now.items }
-    requires there { c < vec_len nodes.now }
+    requires in_tree { c < vec_len nodes.now }
     ensures { result ≡ length (children_at (nodes_in nodes.now) c) }
 {
     let mut count = 0;
@@ -47,7 +47,7 @@ fn count_of<A: Allocator>(nodes: &Vec<Node<A>, A>, c: usize) -> usize
 // A node's place among its parent's children, or 0, counted along the links.
 fn place_of<A: Allocator>(nodes: &Vec<Node<A>, A>, n: usize) -> usize
     requires stored { IsStored nodes.now.items }
-    requires there { n < vec_len nodes.now }
+    requires in_tree { n < vec_len nodes.now }
     ensures { result ≡ place_at (nodes_in nodes.now) n }
 {
     let mut count = 0;
@@ -66,7 +66,7 @@ pub(crate) fn child_from<A: Allocator>(
     place: usize,
 ) -> Option<usize>
     requires stored { IsStored nodes.now.items }
-    requires there { c < vec_len nodes.now }
+    requires in_tree { c < vec_len nodes.now }
     requires within { place ≤ length (children_at (nodes_in nodes.now) c) }
     ensures { result ≡ slice_get (children_at (nodes_in nodes.now) c) place }
 {
@@ -81,10 +81,10 @@ pub(crate) fn child_from<A: Allocator>(
 // The child at a place, counted along the links.
 fn child_of<A: Allocator>(nodes: &Vec<Node<A>, A>, c: usize, place: usize) -> usize
     requires stored { IsStored nodes.now.items }
-    requires there { c < vec_len nodes.now }
+    requires in_tree { c < vec_len nodes.now }
     requires within { place < length (children_at (nodes_in nodes.now) c) }
     ensures child { result ≡ slice_index (children_at (nodes_in nodes.now) c) place }
-    ensures there { result < vec_len nodes.now }
+    ensures in_tree { result < vec_len nodes.now }
 {
     let Some(n) = child_from(nodes, c, place) else {
         unreachable!()
@@ -95,10 +95,10 @@ fn child_of<A: Allocator>(nodes: &Vec<Node<A>, A>, c: usize, place: usize) -> us
 // The node that comes after those below `n`, before what is below `end` is over.
 fn next_after<A: Allocator>(nodes: &Vec<Node<A>, A>, end: usize, n: usize) -> Option<usize>
     requires stored { IsStored nodes.now.items }
-    requires there { n < vec_len nodes.now }
+    requires in_tree { n < vec_len nodes.now }
     requires over { IsOver (nodes_in nodes.now) end n }
     ensures next { following (nodes_in nodes.now) end n ≡ rest_at (nodes_in nodes.now) end result }
-    ensures there { IfSome result (λ m. m < vec_len nodes.now) }
+    ensures in_tree { IfSome result (λ m. m < vec_len nodes.now) }
     ensures over { IfSome result (λ m. IsOver (nodes_in nodes.now) end m) }
 {
     let mut at = n;
@@ -121,10 +121,10 @@ pub(crate) fn node_after<A: Allocator>(
     n: usize,
 ) -> Option<usize>
     requires stored { IsStored nodes.now.items }
-    requires there { n < vec_len nodes.now }
+    requires in_tree { n < vec_len nodes.now }
     requires over { IsOver (nodes_in nodes.now) end n }
     ensures rest { rest_at (nodes_in nodes.now) end (Some n) ≡ n ∷ rest_at (nodes_in nodes.now) end result }
-    ensures there { IfSome result (λ m. m < vec_len nodes.now) }
+    ensures in_tree { IfSome result (λ m. m < vec_len nodes.now) }
     ensures over { IfSome result (λ m. IsOver (nodes_in nodes.now) end m) }
 {
     if let Some(first) = first_in(nodes, n) {
@@ -168,10 +168,10 @@ impl<A: Allocator> Tree<A> {
 
     /// The child at a place, counted from 0.
     pub fn child_at(&self, node: usize, place: usize) -> usize
-        requires there { node < length self.now.nodes }
+        requires in_tree { node < length self.now.nodes }
         requires within { place < length (children_at self.now.nodes node) }
         ensures child { result ≡ slice_index (children_at self.now.nodes node) place }
-        ensures there { result < length self.now.nodes }
+        ensures in_tree { result < length self.now.nodes }
     {
         child_of(&self.nodes, node, place)
     }
@@ -180,10 +180,10 @@ impl<A: Allocator> Tree<A> {
     ///
     /// The walk begins at `end` and ends with what is below it.
     pub fn next_in_order(&self, end: usize, node: usize) -> Option<usize>
-        requires there { node < length self.now.nodes }
+        requires in_tree { node < length self.now.nodes }
         requires over { IsOver self.now.nodes end node }
         ensures rest { rest_at self.now.nodes end (Some node) ≡ node ∷ rest_at self.now.nodes end result }
-        ensures there { IfSome result (λ m. m < length self.now.nodes) }
+        ensures in_tree { IfSome result (λ m. m < length self.now.nodes) }
         ensures over { IfSome result (λ m. IsOver self.now.nodes end m) }
     {
         node_after(&self.nodes, end, node)

@@ -1,8 +1,8 @@
 pub mod Zipped
-pub mod Held
+pub mod DistinctKeys
 pub mod Lists
 pub mod Places
-pub mod Retained
+pub mod RetainedEntries
 pub mod Contents
 pub mod Equality
 pub mod Copies

@@ -101,14 +101,14 @@ impl<K: Eq + Hash, V, A: Allocator> Map<K, V, A> {
         self.len() == 0
     }
 
-    /// How many pairs the map can hold without more memory. It may hold more.
+    /// How many pairs it can hold without more memory. It may hold more.
     pub fn capacity(&self) -> usize
         ensures { length self.now ≤ result }
     {
         pairs_held(self.keys.capacity(), self.values.capacity())
     }
 
-    /// Makes room for this many more pairs. A refusal leaves the pairs as they are.
+    /// Makes room for this many more pairs. On an error the pairs stay as they are.
     pub fn reserve(&mut self, additional: usize) -> Result<(), AllocError>
     where
         K: Drop,
@@ -148,7 +148,7 @@ impl<K: Eq + Hash, V, A: Allocator> Map<K, V, A> {
         }
     }
 
-    /// This key as the map has it, with its value.
+    /// The map's own key that equals this one, with its value.
     pub fn get_key_value(&self, key: &K) -> Option<(&K, &V)>
         ensures { option_map deref_pair result ≡ lookup_entry (K.eq key.now) self.now }
     {
@@ -165,7 +165,7 @@ impl<K: Eq + Hash, V, A: Allocator> Map<K, V, A> {
         self.get(key).is_some()
     }
 
-    /// Removes this key, and gives it back with its value. The pairs after it close up.
+    /// Removes this key, and answers it with its value. The pairs after it close up.
     pub fn remove_entry(&mut self, key: &K) -> Option<(K, V)>
         ensures entry { result ≡ lookup_entry (K.eq key.now) self.old }
         ensures entries { self.new ≡ remove_entry (K.eq key.now) self.old }
@@ -176,7 +176,7 @@ impl<K: Eq + Hash, V, A: Allocator> Map<K, V, A> {
         }
     }
 
-    /// Removes this key, and gives back its value. The pairs after it close up.
+    /// Removes this key, and answers its value. The pairs after it close up.
     pub fn remove(&mut self, key: &K) -> Option<V>
     where
         K: Drop,
@@ -258,8 +258,10 @@ impl<'a, V, A: Allocator> Map<CowStr<'a, A>, V, A> {
 }
 
 impl<K: Eq + Hash + Drop, V, A: Allocator + Copy> Map<K, V, A> {
-    /// Gives this key the value. A new key goes last; a present one keeps its place, and its old
-    /// value is given back. A refusal gives the pair back and changes nothing.
+    /// Sets the value of this key, and answers the old one.
+    ///
+    /// A new key is appended; a present one keeps its place. On an error the pair is given back,
+    /// and nothing changes.
     pub fn insert(&mut self, key: K, value: V) -> Result<Option<V>, AllocFailed<(K, V)>>
         ensures old { IfOk result (λ old. old ≡ lookup (K.eq key) self.old) }
         ensures entries { OnOk result (self.new ≡ insert_entry K.eq self.old key value) }

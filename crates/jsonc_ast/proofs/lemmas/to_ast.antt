@@ -1,9 +1,9 @@
 pub mod Grammar
 pub mod Gaps
-pub mod Given
-pub mod Noting
+pub mod MovedTokens
+pub mod NotedComments
 pub mod GapEnds
-pub mod Lent
+pub mod LentStrings
 pub mod Collecting
 pub mod Scans
 pub mod Names
@@ -17,7 +17,7 @@ pub mod Tokens
 pub mod Leaves
 pub mod Stopping
 pub mod ReadsValues
-pub mod Standing
+pub mod OpenContainers
 pub mod EndsOfGaps
 pub mod ReadLexemes
 pub mod Unique

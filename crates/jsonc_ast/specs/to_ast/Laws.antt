@@ -6,7 +6,7 @@ use Rattle.jsonc_text.specs.Plain.{Plain}
 use Rattle.jsonc_text.specs.Lexemes.{LexemeKind, Lexeme}
 use Rattle.jsonc_text.specs.Options.{Options}
 use Rattle.jsonc_ast.specs.to_ast.Reached.{Opened, Due, at, Reached, size}
-use Rattle.jsonc_ast.specs.to_ast.Told.{Fault, wrong_end, Told}
+use Rattle.jsonc_ast.specs.to_ast.Faults.{Fault, wrong_end, HasFault}
 
 -- s is lexemes, with a gap before each, and then t
 pub data Lexemes (o : Options) (s : List ℕ) : List ℕ → Type 0 where
@@ -23,7 +23,7 @@ HasOneWay o whole s = (q p : List Opened) (d e : Due) (t : List ℕ) → Reached
 
 -- at most one fault is told of a text
 abbrev pub HasOneFault : Options → Bool → List ℕ → Type 0
-HasOneFault o whole s = (f g : Fault) → Told o whole s f → Told o whole s g → f ≡ g
+HasOneFault o whole s = (f g : Fault) → HasFault o whole s f → HasFault o whole s g → f ≡ g
 
 -- what counts is at most 512
 abbrev pub IsWithin : Bool → Option Plain → Type 0
@@ -31,8 +31,8 @@ IsWithin whole None = Unit {0}
 IsWithin whole (Some v) = size whole v ≤ 512
 
 -- where a fault is told, the text has no value that is within
-abbrev pub TellsOfNoDocument : Options → Bool → List ℕ → Type 0
-TellsOfNoDocument o whole s = (f : Fault) (v : Option Plain) → Told o whole s f → IsDocument o s v → IsWithin whole v → ⊥
+abbrev pub FaultMeansNoDocument : Options → Bool → List ℕ → Type 0
+FaultMeansNoDocument o whole s = (f : Fault) (v : Option Plain) → HasFault o whole s f → IsDocument o s v → IsWithin whole v → ⊥
 
 -- the text has a value that is within, or none
 abbrev pub HasValue : Options → Bool → List ℕ → Type 0
@@ -45,4 +45,4 @@ ReadsToDocument o whole s = (q : List Opened) (d : Due) (t : List ℕ) → Reach
 
 -- the only fault that is told
 abbrev pub IsOnlyFault : Options → Bool → List ℕ → Fault → Type 0
-IsOnlyFault o whole s f = Told o whole s f × ((g : Fault) → Told o whole s g → g ≡ f)
+IsOnlyFault o whole s f = HasFault o whole s f × ((g : Fault) → HasFault o whole s g → g ≡ f)

@@ -1,4 +1,4 @@
--- What a refusal of a parser says of the text.
+-- What an error of a parser says of the text.
 use Rattle.std.specs.Prelude.{ℕ, ◌+◌, ◌≤◌, ◌≡◌, Bool, false, not, ◌||◌, ◌==◌, List, [], length, Option, Some, None, IfSome, IsTrue, ◌⊎◌, chars}
 use Rattle.jsonc_text.specs.declared.common.Range.{Range}
 use Rattle.jsonc_text.specs.declared.errors.ParseError.{ParseError}
@@ -18,9 +18,9 @@ use Rattle.jsonc_ast.specs.declared.to_ast.context.Context.{Context}
 use Rattle.jsonc_ast.specs.to_ast.Containers.{closing, unterminated_kind}
 use Rattle.jsonc_ast.specs.to_ast.Context.{text_in, options_in, token_start, token_end, token_range}
 
--- memory was wanting
-abbrev pub WantsMemory : ParseError → Type 0
-WantsMemory e = kind_of e ≡ OutOfMemory
+-- allocation failed
+abbrev pub IsAllocationFailure : ParseError → Type 0
+IsAllocationFailure e = kind_of e ≡ OutOfMemory
 
 -- the fault is of this kind, and told of these bytes
 pub record IsFaultOf (what : ParseErrorKind) (bytes : Range) (e : ParseError) : Type 0 where
@@ -82,13 +82,13 @@ IsWithin (Some v) = around v ≤ 512
 abbrev pub NoDocument : Options → List ℕ → Type 0
 NoDocument o t = (v : Option Plain) → IsDocument o t v → IsWithin v → ⊥
 
--- memory was wanting, or the text has no such value
+-- allocation failed, or the text has no such value
 abbrev pub RefusesText : Options → List ℕ → ParseError → Type 0
-RefusesText o bytes e = WantsMemory e ⊎ NoDocument o (chars bytes)
+RefusesText o bytes e = IsAllocationFailure e ⊎ NoDocument o (chars bytes)
 
--- memory was wanting, or this holds
-abbrev pub Tells : Type 0 → ParseError → Type 0
-Tells fact e = WantsMemory e ⊎ fact
+-- allocation failed, or this holds
+abbrev pub OutOfMemoryOr : Type 0 → ParseError → Type 0
+OutOfMemoryOr fact e = IsAllocationFailure e ⊎ fact
 
 module _ {A : Type 0} where
   -- the text from the last token on
@@ -103,9 +103,9 @@ module _ {A : Type 0} where
   abbrev pub WhereSome : Type 0 → Option (Token A) → Type 0
   WhereSome fact found = IfSome found (λ t. fact)
 
-  -- memory was wanting, or comments are not allowed, and that is told of the last token
+  -- allocation failed, or comments are not allowed, and that is told of the last token
   abbrev pub RefusesComment : Context A → ParseError → Type 0
-  RefusesComment c e = WantsMemory e ⊎ (((options_in c).comments ≡ false) × (kind_of e ≡ CommentsNotAllowed) × (range_of e ≡ token_range c))
+  RefusesComment c e = IsAllocationFailure e ⊎ (((options_in c).comments ≡ false) × (kind_of e ≡ CommentsNotAllowed) × (range_of e ≡ token_range c))
 
   -- no gap leads to a token
   abbrev pub NoTokenAfter : Context A → Type 0

@@ -133,7 +133,9 @@ impl<'a, A: Allocator> ObjectPropName<'a, A> {
         }
     }
 
-    /// The name, as a string of its own. One that owns its text already is given as it is, without memory.
+    /// The name, as a string of its own.
+    ///
+    /// One that owns its text already is answered as it is, and nothing is allocated.
     pub fn into_string(self, alloc: A) -> Result<String<A>, AllocError>
         ensures text { IfOk result (λ s. string_bytes s ≡ name_text self.entry) }
         ensures owned { IfSome (owned_text self.entry) (λ s. result ≡ Ok s) }
@@ -217,7 +219,7 @@ impl<'a, A: Allocator> Object<'a, A> {
         }
     }
 
-    /// Takes the first property of this name out. The properties after it close up.
+    /// Removes the first property of this name, and answers it. The properties after it close up.
     pub fn take(&mut self, name: &str) -> Option<ObjectProp<'a, A>>
         ensures property { result ≡ first_named name.now self.old }
         ensures left { properties self.new ≡ left true name.now self.old }
@@ -229,7 +231,9 @@ impl<'a, A: Allocator> Object<'a, A> {
         }
     }
 
-    /// Takes the first property of this name out, if its value is a string, and gives that. Else nothing changes.
+    /// Removes the first property of this name if its value is a string, and answers that value.
+    ///
+    /// Else nothing changes.
     pub fn take_string(&mut self, name: &str) -> Option<StringLit<'a, A>>
         ensures value { result ≡ option_and_then as_string_lit (value_named name.now self.old) }
         ensures left { properties self.new ≡ left (is_some result) name.now self.old }
@@ -244,7 +248,9 @@ impl<'a, A: Allocator> Object<'a, A> {
         }
     }
 
-    /// Takes the first property of this name out, if its value is a number, and gives that. Else nothing changes.
+    /// Removes the first property of this name if its value is a number, and answers that value.
+    ///
+    /// Else nothing changes.
     pub fn take_number(&mut self, name: &str) -> Option<NumberLit<'a>>
         ensures value { result ≡ option_and_then as_number_lit (value_named name.now self.old) }
         ensures left { properties self.new ≡ left (is_some result) name.now self.old }
@@ -259,7 +265,10 @@ impl<'a, A: Allocator> Object<'a, A> {
         }
     }
 
-    /// Takes the first property of this name out, if its value is a truth value, and gives that. Else nothing changes.
+    /// Removes the first property of this name if its value is a truth value, and answers that
+    /// value.
+    ///
+    /// Else nothing changes.
     pub fn take_boolean(&mut self, name: &str) -> Option<BooleanLit>
         ensures value { result ≡ option_and_then as_boolean_lit (value_named name.now self.old) }
         ensures left { properties self.new ≡ left (is_some result) name.now self.old }
@@ -274,7 +283,9 @@ impl<'a, A: Allocator> Object<'a, A> {
         }
     }
 
-    /// Takes the first property of this name out, if its value is an object, and gives that. Else nothing changes.
+    /// Removes the first property of this name if its value is an object, and answers that value.
+    ///
+    /// Else nothing changes.
     pub fn take_object(&mut self, name: &str) -> Option<Object<'a, A>>
         ensures value { result ≡ option_and_then as_object (value_named name.now self.old) }
         ensures left { properties self.new ≡ left (is_some result) name.now self.old }
@@ -289,7 +300,9 @@ impl<'a, A: Allocator> Object<'a, A> {
         }
     }
 
-    /// Takes the first property of this name out, if its value is an array, and gives that. Else nothing changes.
+    /// Removes the first property of this name if its value is an array, and answers that value.
+    ///
+    /// Else nothing changes.
     pub fn take_array(&mut self, name: &str) -> Option<Array<'a, A>>
         ensures value { result ≡ option_and_then as_array (value_named name.now self.old) }
         ensures left { properties self.new ≡ left (is_some result) name.now self.old }

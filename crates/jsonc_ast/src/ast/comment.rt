@@ -5,7 +5,7 @@ ghost use Rattle.jsonc_ast.specs.Comment.{comment_text, comment_kind, comment_ra
 use jsonc_text::common::{Range, Ranged};
 use std::alloc::AllocError;
 
-/// What marks a comment.
+/// The kind of a comment.
 #[derive(Clone, Copy, Debug, PartialEq, Eq)]
 pub enum CommentKind {
     /// `//`, up to the end of the line.
@@ -22,7 +22,7 @@ pub struct CommentLine<'a> {
     pub text: &'a str,
 }
 
-/// A comment in marks, as `/* why */`.
+/// A comment between marks, as `/* why */`.
 #[derive(Clone, PartialEq, Eq, Drop)]
 pub struct CommentBlock<'a> {
     pub range: Range,
@@ -38,7 +38,7 @@ pub enum Comment<'a> {
 }
 
 impl<'a> CommentLine<'a> {
-    /// The same comment at the same place, without memory.
+    /// A copy of the comment, with the same range. Nothing is allocated.
     pub fn try_clone(&self) -> Result<Self, AllocError>
         ensures { result ≡ Ok self.now }
     {
@@ -50,7 +50,7 @@ impl<'a> CommentLine<'a> {
 }
 
 impl<'a> CommentBlock<'a> {
-    /// The same comment at the same place, without memory.
+    /// A copy of the comment, with the same range. Nothing is allocated.
     pub fn try_clone(&self) -> Result<Self, AllocError>
         ensures { result ≡ Ok self.now }
     {
@@ -62,7 +62,7 @@ impl<'a> CommentBlock<'a> {
 }
 
 impl<'a> Comment<'a> {
-    /// The same comment at the same place, without memory.
+    /// A copy of the comment, with the same range. Nothing is allocated.
     pub fn try_clone(&self) -> Result<Self, AllocError>
         ensures { result ≡ Ok self.now }
     {
@@ -72,7 +72,7 @@ impl<'a> Comment<'a> {
         }
     }
 
-    /// What stands inside its marks.
+    /// The text between its marks.
     pub fn text(&self) -> &'a str
         ensures { result ≡ comment_text self.now }
     {
@@ -82,7 +82,7 @@ impl<'a> Comment<'a> {
         }
     }
 
-    /// What marks it.
+    /// Its kind.
     pub fn kind(&self) -> CommentKind
         ensures { result ≡ comment_kind self.now }
     {

@@ -11,7 +11,7 @@ use super::{
 use std::alloc::{AllocError, Allocator};
 
 impl<'a, A: Allocator + Copy> StringLit<'a, A> {
-    /// The same text at the same place.
+    /// A copy of the string, with the same range.
     pub fn try_clone(&self) -> Result<Self, AllocError>
         ensures range { IfOk result (λ s. s.range ≡ self.now.range) }
         ensures text { IfOk result (λ s. cow_str_bytes s.value ≡ cow_str_bytes self.now.value) }
@@ -24,7 +24,7 @@ impl<'a, A: Allocator + Copy> StringLit<'a, A> {
 }
 
 impl<'a> WordLit<'a> {
-    /// The same name at the same place, without memory.
+    /// A copy of the name, with the same range. Nothing is allocated.
     pub fn try_clone(&self) -> Result<Self, AllocError>
         ensures { result ≡ Ok self.now }
     {
@@ -36,7 +36,7 @@ impl<'a> WordLit<'a> {
 }
 
 impl<'a> NumberLit<'a> {
-    /// The same number at the same place, without memory.
+    /// A copy of the number, with the same range. Nothing is allocated.
     pub fn try_clone(&self) -> Result<Self, AllocError>
         ensures { result ≡ Ok self.now }
     {
@@ -48,7 +48,7 @@ impl<'a> NumberLit<'a> {
 }
 
 impl BooleanLit {
-    /// The same truth value at the same place, without memory.
+    /// A copy of the boolean, with the same range. Nothing is allocated.
     pub fn try_clone(&self) -> Result<Self, AllocError>
         ensures { result ≡ Ok self.now }
     {
@@ -60,7 +60,7 @@ impl BooleanLit {
 }
 
 impl NullKeyword {
-    /// The same `null` at the same place, without memory.
+    /// A copy of the `null`, with the same range. Nothing is allocated.
     pub fn try_clone(&self) -> Result<Self, AllocError>
         ensures { result ≡ Ok self.now }
     {
@@ -69,7 +69,7 @@ impl NullKeyword {
 }
 
 impl<'a, A: Allocator + Copy> ObjectPropName<'a, A> {
-    /// The same name at the same place, in quotes where it is so.
+    /// A copy of the name, with the same range. It is in quotes where the name is.
     pub fn try_clone(&self) -> Result<Self, AllocError>
         ensures name { IfOk result (λ n. name_at n ≡ name_at self.now) }
         ensures quotes { IfOk result (λ n. in_quotes n ≡ in_quotes self.now) }
@@ -85,7 +85,7 @@ impl<'a, A: Allocator + Copy> ObjectPropName<'a, A> {
 }
 
 impl<'a, A: Allocator + Copy> Value<'a, A> {
-    /// The same value, with the same places of its nodes.
+    /// A copy of the value, with the same ranges.
     #[cycle(copy)]
     pub fn try_clone(&self) -> Result<Self, AllocError>
         ensures value { IfOk result (λ v. located v ≡ located self.now) }
@@ -109,7 +109,7 @@ impl<'a, A: Allocator + Copy> Value<'a, A> {
 }
 
 impl<'a, A: Allocator + Copy> Object<'a, A> {
-    /// The same properties in the same order, with the same places of their nodes.
+    /// A copy of the object, with the same ranges. Its properties are in the same order.
     #[cycle(copy)]
     pub fn try_clone(&self) -> Result<Self, AllocError>
         ensures value { IfOk result (λ o. object_located o ≡ object_located self.now) }
@@ -124,7 +124,7 @@ impl<'a, A: Allocator + Copy> Object<'a, A> {
 }
 
 impl<'a, A: Allocator + Copy> ObjectProp<'a, A> {
-    /// The same name and value, with the same places of their nodes.
+    /// A copy of the property, with the same ranges.
     #[cycle(copy)]
     pub fn try_clone(&self) -> Result<Self, AllocError>
         ensures value { IfOk result (λ p. member_of p ≡ member_of self.now) }
@@ -141,7 +141,7 @@ impl<'a, A: Allocator + Copy> ObjectProp<'a, A> {
 }
 
 impl<'a, A: Allocator + Copy> Array<'a, A> {
-    /// The same elements in the same order, with the same places of their nodes.
+    /// A copy of the array, with the same ranges. Its elements are in the same order.
     #[cycle(copy)]
     pub fn try_clone(&self) -> Result<Self, AllocError>
         ensures value { IfOk result (λ a. array_located a ≡ array_located self.now) }

@@ -32,7 +32,7 @@ impl<'b, 'a, A: Allocator> Clone for Node<'b, 'a, A> {
     }
 }
 
-/// What a node is.
+/// The kind of a node.
 #[derive(Clone, Copy, Debug, PartialEq, Eq)]
 pub enum NodeKind {
     StringLit,
@@ -46,7 +46,7 @@ pub enum NodeKind {
 }
 
 impl<'b, 'a, A: Allocator> Node<'b, 'a, A> {
-    /// What it is.
+    /// Its kind.
     pub fn kind(&self) -> NodeKind
         ensures { result ≡ kind_held (held self.now) }
     {

@@ -10,8 +10,9 @@ use std::default::Default;
 use std::hash::{BuildHasherDefault, FoldHasher};
 use std::rc::Rc;
 
-/// The comments of a text: those of each gap under both of its ends, which are the end of the token
-/// before it, or 0, and the start of the token after it, or the text's length.
+/// The comments of a text, under the end of the token before them and the start of the token after.
+///
+/// The end before the first token is 0, the start after the last one the text's length.
 pub type CommentMap<'a, A> = HashMap<
     usize,
     Rc<Vec<Comment<'a>, A>, A>,
@@ -19,7 +20,7 @@ pub type CommentMap<'a, A> = HashMap<
     A,
 >;
 
-/// What happens to comments. By default they are not collected.
+/// Where comments are collected. By default nowhere.
 #[derive(Clone, Copy, Debug, PartialEq, Eq, Drop)]
 pub enum CommentCollectionStrategy {
     /// They are passed over.
@@ -41,7 +42,7 @@ impl Default for CommentCollectionStrategy {
 /// What is collected besides the value. By default nothing is.
 #[derive(Clone, Copy, Drop)]
 pub struct CollectOptions {
-    /// What happens to comments.
+    /// Where comments are collected.
     pub comments: CommentCollectionStrategy,
     /// Whether the tokens are collected.
     pub tokens: bool,
@@ -58,7 +59,7 @@ impl Default for CollectOptions {
     }
 }
 
-/// What a text holds.
+/// The value of a text, with its comments and tokens where they are collected.
 #[derive(Drop)]
 pub struct ParseResult<'a, A: Allocator> {
     /// Its comments, where they are to stand in a map of their own.

@@ -36,7 +36,7 @@ pub struct Context<'a, A: Allocator> {
 
 impl<'a, A: Allocator + Copy> Context<'a, A> {
     ghost use Rattle.std.specs.Prelude.{◌≡◌, ◌≢◌, ◌≤◌, ◌<◌, ◌⊎◌, ◌||◌, [], true, false, is_some, IfOk, IfErr, IfSome, OnOk, IsTrue};
-    ghost use Rattle.jsonc_ast.specs.to_ast.Refusals.{IsFaultOf, IsOpen, Tells, WantsMemory, WhereSome, RefusesComment, NoTokenAfter, NothingFirst, NothingAfterComma, NothingNext, OnlyFirst, OnlyAfterComma, OnlyNext, NoColon, NoName};
+    ghost use Rattle.jsonc_ast.specs.to_ast.Refusals.{IsFaultOf, IsOpen, OutOfMemoryOr, IsAllocationFailure, WhereSome, RefusesComment, NoTokenAfter, NothingFirst, NothingAfterComma, NothingNext, OnlyFirst, OnlyAfterComma, OnlyNext, NoColon, NoName};
     ghost use Rattle.jsonc_text.specs.Faults.{IsFault, IsOutOfMemory, range_of, kind_of};
     ghost use Rattle.jsonc_text.specs.Gaps.{Gap};
     ghost use Rattle.jsonc_text.specs.Places.{is_comment as is_a_comment};
@@ -46,7 +46,7 @@ impl<'a, A: Allocator + Copy> Context<'a, A> {
     ghost use Rattle.jsonc_scan.specs.Scanner.{ComesNext};
     ghost use Rattle.jsonc_ast.specs.Views.{name_at};
     ghost use Rattle.jsonc_ast.specs.to_ast.Containers.{misplaced_kind, begins};
-    ghost use Rattle.jsonc_ast.specs.to_ast.Told.{IsWrongName, StopsAnyhow, StopsAtColon, StopsInside};
+    ghost use Rattle.jsonc_ast.specs.to_ast.Faults.{IsWrongName, StopsAnyhow, StopsAtColon, StopsInside};
     ghost use Rattle.jsonc_ast.specs.to_ast.Reached.{Due};
     ghost use Rattle.jsonc_ast.specs.to_ast.Context.{IsBracket};
     ghost use Rattle.jsonc_ast.specs.to_ast.Refusals.{here, after};
@@ -136,7 +136,7 @@ impl<'a, A: Allocator + Copy> Context<'a, A> {
     fn unterminated(&self, container: Container, start: Option<usize>) -> ParseError
         requires { IfSome start (λ i. Spans (text_in self.now) i (token_end self.now)) }
         ensures fault { IsFault (text_in self.now) result }
-        ensures told { AtEnd self.now → IsOpen container (text_in self.now) start result }
+        ensures error { AtEnd self.now → IsOpen container (text_in self.now) start result }
     {
         match start {
             Some(start) => self.fault_from(start, container.unterminated()),
@@ -144,7 +144,7 @@ impl<'a, A: Allocator + Copy> Context<'a, A> {
         }
     }
 
-    /// Want of memory.
+    /// The error of an allocation failure.
     pub fn out_of_memory(&self) -> ParseError
         ensures fault { IsFault (text_in self.now) result }
         ensures memory { IsOutOfMemory result }
@@ -329,9 +329,9 @@ impl<'a, A: Allocator + Copy> Context<'a, A> {
         ensures lexeme { IfOk (found_by self.new result) IsNoComment }
         ensures lent { IfOk (found_by self.new result) (IsLentHere self.new) }
         ensures collects { OnOk result (Collects self.old self.new) }
-        ensures refused { IfErr result (Tells (NoTokenAfter self.old)) }
+        ensures refused { IfErr result (OutOfMemoryOr (NoTokenAfter self.old)) }
         ensures fault { IfErr result (IsFault (text_in self.old)) }
-        ensures told { IfErr result (StopsAnyhow self.old) }
+        ensures error { IfErr result (StopsAnyhow self.old) }
     {
         loop {
             let Some(token) = self.scanner.step(&mut self.content)? else {
@@ -406,9 +406,9 @@ impl<'a, A: Allocator + Copy> Context<'a, A> {
         ensures only { IfOk (found_by self.new result) (WhereSome (OnlyFirst container self.old self.new)) }
         ensures lent { IfOk (found_by self.new result) (IsLentHere self.new) }
         ensures collects { OnOk result (Collects self.old self.new) }
-        ensures refused { IfErr result (Tells (NothingFirst container self.old)) }
+        ensures refused { IfErr result (OutOfMemoryOr (NothingFirst container self.old)) }
         ensures fault { IfErr result (IsFault (text_in self.old)) }
-        ensures told { IfErr result (StopsInside container start (Due.first container) self.old) }
+        ensures error { IfErr result (StopsInside container start (Due.first container) self.old) }
         ensures stands { IfOk (found_by self.new result) (λ f. IfSome f (ClosesNone container)) }
     {
         let Some(first) = self.scan()? else {
@@ -433,9 +433,9 @@ impl<'a, A: Allocator + Copy> Context<'a, A> {
         ensures only { IfOk (found_by self.new result) (WhereSome (OnlyAfterComma container self.old self.new)) }
         ensures lent { IfOk (found_by self.new result) (IsLentHere self.new) }
         ensures collects { OnOk result (Collects self.old self.new) }
-        ensures refused { IfErr result (Tells (NothingAfterComma container self.old)) }
+        ensures refused { IfErr result (OutOfMemoryOr (NothingAfterComma container self.old)) }
         ensures fault { IfErr result (IsFault (text_in self.old)) }
-        ensures told { IfErr result (λ e. IsBracket 0x2C self.old
+        ensures error { IfErr result (λ e. IsBracket 0x2C self.old
             → StopsInside container start (Due.further container (here self.old)) self.old e) }
         ensures stands { IfOk (found_by self.new result) (λ f. IfSome f (ClosesNone container)) }
     {
@@ -482,9 +482,9 @@ impl<'a, A: Allocator + Copy> Context<'a, A> {
         ensures only { IfOk (found_by self.new result) (WhereSome (OnlyNext container self.old self.new)) }
         ensures lent { IfOk (found_by self.new result) (IsLentHere self.new) }
         ensures collects { OnOk result (Collects self.old self.new) }
-        ensures refused { IfErr result (Tells (NothingNext container self.old)) }
+        ensures refused { IfErr result (OutOfMemoryOr (NothingNext container self.old)) }
         ensures fault { IfErr result (IsFault (text_in self.old)) }
-        ensures told { IfErr result (StopsInside container start (Due.comma container (after self.old)) self.old) }
+        ensures error { IfErr result (StopsInside container start (Due.comma container (after self.old)) self.old) }
         ensures stands { IfOk (found_by self.new result) (λ f. IfSome f (ClosesNone container)) }
         ensures comes { IfOk (found_by self.new result) (λ f. IfSome f (Comes self.old self.new)) }
     {
@@ -519,7 +519,7 @@ impl<'a, A: Allocator + Copy> Context<'a, A> {
             → IsWritten (options_in self.old) (text_in self.old) n) }
         ensures refused { IfErr result (λ _. NoName self.old) }
         ensures fault { IfErr result (IsFault (text_in self.old)) }
-        ensures told { IfErr result (IsWrongName self.old (last self.old token)) }
+        ensures error { IfErr result (IsWrongName self.old (last self.old token)) }
     {
         let range = self.range();
         match token {
@@ -545,9 +545,9 @@ impl<'a, A: Allocator + Copy> Context<'a, A> {
         ensures kept { Keeps self.old self.new }
         ensures found { OnOk result (PassesColon self.old self.new) }
         ensures collects { OnOk result (Collects self.old self.new) }
-        ensures refused { IfErr result (Tells (NoColon self.old)) }
+        ensures refused { IfErr result (OutOfMemoryOr (NoColon self.old)) }
         ensures fault { IfErr result (IsFault (text_in self.old)) }
-        ensures told { IfErr result (StopsAtColon self.old) }
+        ensures error { IfErr result (StopsAtColon self.old) }
     {
         if self.has_next(b':') {
             self.pass_next_colon();

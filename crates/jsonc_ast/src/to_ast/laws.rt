@@ -1,9 +1,9 @@
 //! Laws of reading: each is the contract of a function that does nothing.
 ghost use Rattle.std.specs.Prelude.{List, [], ◌∷◌, ℕ, Bool, true, codes};
 ghost use Rattle.jsonc_text.specs.Options.{Options, plain_json};
-ghost use Rattle.jsonc_ast.specs.to_ast.Told.{fault};
+ghost use Rattle.jsonc_ast.specs.to_ast.Faults.{fault};
 ghost use Rattle.jsonc_text.specs.declared.errors.ParseErrorKind.TheVariants.{ExpectedComma, UnterminatedArray};
-ghost use Rattle.jsonc_ast.specs.to_ast.Laws.{ReachesEndsOfLexemes, HasOneWay, HasOneFault, TellsOfNoDocument, IsOnlyFault, ReadsToDocument};
+ghost use Rattle.jsonc_ast.specs.to_ast.Laws.{ReachesEndsOfLexemes, HasOneWay, HasOneFault, FaultMeansNoDocument, IsOnlyFault, ReadsToDocument};
 
 /// Reading comes to the ends of lexemes alone, so never into a string, a number or a comment.
 pub fn reading_ends_lexemes()
@@ -19,7 +19,7 @@ pub fn one_reading()
 
 /// Where a fault is told, the text has no value, or one that nests too deep.
 pub fn faults_are_of_no_document()
-    ensures { (o : Options) (whole : Bool) (s : List ℕ) → TellsOfNoDocument o whole s }
+    ensures { (o : Options) (whole : Bool) (s : List ℕ) → FaultMeansNoDocument o whole s }
 {}
 
 /// Where reading comes to the end and nothing is wrong there, the text is the document of a value

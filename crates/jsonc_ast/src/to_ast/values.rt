@@ -10,9 +10,9 @@ ghost use Rattle.jsonc_ast.specs.to_ast.Context.{text_in, options_in, token_star
 ghost use Rattle.jsonc_scan.specs.Found.{token_held};
 ghost use Rattle.jsonc_ast.specs.Located.{leaf_at, range_at, value_at, IsLocatedDocument};
 ghost use Rattle.jsonc_ast.specs.to_ast.Reads.{Reads, ReadsMember};
-ghost use Rattle.jsonc_ast.specs.to_ast.Refusals.{NoLiteral, NoPropertyHere, NoValueHere, RefusesText, Tells};
+ghost use Rattle.jsonc_ast.specs.to_ast.Refusals.{NoLiteral, NoPropertyHere, NoValueHere, RefusesText, OutOfMemoryOr};
 ghost use Rattle.jsonc_ast.specs.to_ast.Scanned.{leaf_value};
-ghost use Rattle.jsonc_ast.specs.to_ast.Told.{IsTold, IsUnexpected, StopsAtContainer, StopsAtItem, StopsAtValue};
+ghost use Rattle.jsonc_ast.specs.to_ast.Faults.{ParseFault, IsUnexpected, StopsAtContainer, StopsAtItem, StopsAtValue};
 ghost use Rattle.jsonc_ast.specs.declared.to_ast.container.Container.TheVariants.{Object};
 ghost use Rattle.jsonc_ast.specs.Spelled.{spelled, spelled_in_property};
 ghost use Rattle.jsonc_ast.specs.Views.{located, member_of, plain};
@@ -79,7 +79,7 @@ fn parse_leaf<'a, A: Allocator + Copy>(
     ensures within { IfOk result (λ v. around (plain v) ≡ 0) }
     ensures refused { IfErr result (λ _. NoLiteral context.old) }
     ensures fault { IfErr result (IsFault (text_in context.old)) }
-    ensures told { IfErr result (λ e. OpensNone (last context.old token)
+    ensures error { IfErr result (λ e. OpensNone (last context.old token)
         → IsUnexpected context.old (last context.old token) e) }
 {
     let range = context.range();
@@ -106,9 +106,9 @@ fn parse_value<'a, A: Allocator + Copy>(
     ensures written { IfOk result (λ v. IsLentHere context.old (Some (last context.old token))
         → AreWrittenIn context.old (spelled v)) }
     ensures within { IfOk result (λ v. around (plain v) + count ≤ 512) }
-    ensures refused { IfErr result (Tells (NoValueHere context.old count)) }
+    ensures refused { IfErr result (OutOfMemoryOr (NoValueHere context.old count)) }
     ensures fault { IfErr result (IsFault (text_in context.old)) }
-    ensures told { IfErr result (StopsAtValue context.old (last context.old token) true count) }
+    ensures error { IfErr result (StopsAtValue context.old (last context.old token) true count) }
 {
     // The results of the two calls are taken apart, so that those of literals can stay in registers.
     match token {
@@ -138,9 +138,9 @@ fn parse_array<'a, A: Allocator + Copy>(
     ensures found { IfOk result (λ v. Reads context.old context.new (located v)) }
     ensures written { IfOk result (λ v. AreWrittenIn context.old (spelled v)) }
     ensures within { IfOk result (λ v. around (plain v) + count ≤ 512) }
-    ensures refused { IfErr result (Tells (NoValueHere context.old count)) }
+    ensures refused { IfErr result (OutOfMemoryOr (NoValueHere context.old count)) }
     ensures fault { IfErr result (IsFault (text_in context.old)) }
-    ensures told { IfErr result (StopsAtContainer context.old true count) }
+    ensures error { IfErr result (StopsAtContainer context.old true count) }
 {
     let start = context.scanner.token_start();
     let mut elements = Vec::new(context.alloc);
@@ -172,9 +172,9 @@ fn parse_object<'a, A: Allocator + Copy>(
     ensures found { IfOk result (λ v. Reads context.old context.new (located v)) }
     ensures written { IfOk result (λ v. AreWrittenIn context.old (spelled v)) }
     ensures within { IfOk result (λ v. around (plain v) + count ≤ 512) }
-    ensures refused { IfErr result (Tells (NoValueHere context.old count)) }
+    ensures refused { IfErr result (OutOfMemoryOr (NoValueHere context.old count)) }
     ensures fault { IfErr result (IsFault (text_in context.old)) }
-    ensures told { IfErr result (StopsAtContainer context.old true count) }
+    ensures error { IfErr result (StopsAtContainer context.old true count) }
 {
     let start = context.scanner.token_start();
     let mut properties = Vec::new(context.alloc);
@@ -205,9 +205,9 @@ fn parse_property<'a, A: Allocator + Copy>(
     ensures written { IfOk result (λ p. IsLentHere context.old (Some (last context.old token))
         → AreWrittenIn context.old (spelled_in_property p)) }
     ensures within { IfOk result (λ p. around (value_at (member_of p).value) + (count + 1) ≤ 512) }
-    ensures refused { IfErr result (Tells (NoPropertyHere context.old count)) }
+    ensures refused { IfErr result (OutOfMemoryOr (NoPropertyHere context.old count)) }
     ensures fault { IfErr result (IsFault (text_in context.old)) }
-    ensures told { IfErr result (StopsAtItem Object context.old (last context.old token) true count) }
+    ensures error { IfErr result (StopsAtItem Object context.old (last context.old token) true count) }
 {
     let start = context.scanner.token_start();
     let name = context.name(token)?;
@@ -238,7 +238,7 @@ fn parse_whole<'a, A: Allocator + Copy>(
     ensures within { IfOk result (λ f. IfSome f (λ v. around (plain v) ≤ 512)) }
     ensures refused { IfErr result (RefusesText (options_in context.old) (text_in context.old)) }
     ensures fault { IfErr result (IsFault (text_in context.old)) }
-    ensures told { IfErr result (IsTold (options_in context.old) (text_in context.old) true) }
+    ensures error { IfErr result (ParseFault (options_in context.old) (text_in context.old) true) }
 {
     let Some(token) = context.scan()? else {
         return Ok(None);
@@ -273,9 +273,9 @@ fn finish<'a, A: Allocator + Copy>(
 
 /// Parses a text to its value, with the range of each node.
 ///
-/// Places are bytes of the text. The value is none where the text holds blanks and comments alone.
-/// A value that more than 512 containers and properties are around is refused. The error says what
-/// is wrong, in which bytes, and in which line and column; want of memory is an error too.
+/// Places are bytes of the text. The value is None where the text holds blanks and comments alone.
+/// A value that more than 512 containers and properties are around is an error. The error says what
+/// is wrong, in which bytes, and in which line and column; an allocation failure is an error too.
 pub fn parse_to_ast<'a, A: Allocator + Copy>(
     alloc: A,
     text: &'a str,
@@ -296,7 +296,7 @@ pub fn parse_to_ast<'a, A: Allocator + Copy>(
     ensures comments { IfOk result (HoldsComments (parse_options options.now) text.now) }
     ensures comment_ranges { IfOk result (λ r. CommentsLieIn text.now r.comments) }
     ensures fault { IfErr result (IsFault text.now) }
-    ensures told { IfErr result (IsTold (parse_options options.now) text.now true) }
+    ensures error { IfErr result (ParseFault (parse_options options.now) text.now true) }
 {
     let mut context = Context::new(alloc, text, collect, options);
     let value = parse_whole(&mut context)?;

@@ -1,3 +1,3 @@
-pub mod NamedIn
+pub mod InsertedProperties
 pub mod ByName
 pub mod Steps

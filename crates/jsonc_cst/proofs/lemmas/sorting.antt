@@ -2,7 +2,7 @@ pub mod Placed
 pub mod Keyed
 pub mod Pinned
 pub mod Commented
-pub mod Wired
+pub mod SortedRead
 pub mod Again
 pub mod AgainByKey
 pub mod Ordered

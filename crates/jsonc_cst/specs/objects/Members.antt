@@ -9,7 +9,7 @@ use Rattle.jsonc_layout.specs.from_input.Texts.{IsCharacters}
 use Rattle.jsonc_sound.specs.SoundTrees.{SoundTree}
 use Rattle.jsonc_edit.specs.Paths.{IsAt, IsElementOf}
 use Rattle.jsonc_edit.specs.Writing.{IsWritable}
-use Rattle.jsonc_insert.specs.elements.Members.{IsMemberInserted, PropertyComesAt}
+use Rattle.jsonc_insert.specs.elements.Members.{IsMemberInserted, PropertyInsertedAt}
 use Rattle.jsonc_insert.specs.members.Inserted.{PropertyPut}
 use Rattle.jsonc_cst.specs.declared.cst.CstRootNode.{CstRootNode}
 use Rattle.jsonc_cst.specs.declared.cst.node.CstNode.{CstNode}
@@ -21,8 +21,8 @@ use Rattle.jsonc_run.specs.Edits.{insert_property, append_property}
 
 module _ (old new : List Node) where
   -- the property of this name and value has come into the object c at this number, or behind its last property where it has fewer: it is this node
-  abbrev pub NamedComesInAt : ℕ → ℕ → List ℕ → Plain → CstObjectProp → Type 0
-  NamedComesInAt c i name v now = PropertyPut old new c i name v now.number
+  abbrev pub NamedInsertedAt : ℕ → ℕ → List ℕ → Plain → CstObjectProp → Type 0
+  NamedInsertedAt c i name v now = PropertyPut old new c i name v now.number
 
   -- the node is the property of c at this number, or at the last
   abbrev pub PropertyStandsAt : ℕ → ℕ → CstObjectProp → Type 0
@@ -38,7 +38,7 @@ module _ (old new : List Node) where
 
 -- the property has come into the object at the path, at this number or behind its last, and the text is a document again that has it there
 pub record IsNamedPutIn (o : Options) (path : List ℕ) (i : ℕ) (name : List ℕ) (v : Plain) (t u : OrderedTree) : Type 0 where
-  pub come : PropertyComesAt o path i name v t u
+  pub come : PropertyInsertedAt o path i name v t u
   pub is : IsMemberInserted o path i name v t u come
 
 -- so it is where c stands at a path of a sound document, and name and v may be written
@@ -50,7 +50,7 @@ PutsNamedAtItsPath o old new c i name v =
 -- the same of a document
 module _ {A : Type 0} (old new : CstRootNode A) where
   abbrev pub HasNamedComeIn : CstNode → ℕ → List ℕ → Plain → CstObjectProp → Type 0
-  HasNamedComeIn node i name v now = NamedComesInAt (nodes_of old) (nodes_of new) (number_of node) i name v now
+  HasNamedComeIn node i name v now = NamedInsertedAt (nodes_of old) (nodes_of new) (number_of node) i name v now
 
   abbrev pub IsItsProperty : CstNode → ℕ → CstObjectProp → Type 0
   IsItsProperty node i now = PropertyStandsAt (nodes_of old) (nodes_of new) (number_of node) i now

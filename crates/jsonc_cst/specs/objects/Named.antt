@@ -12,7 +12,7 @@ use Rattle.jsonc_text.specs.declared.edit.Over.TheVariants.{Replace}
 use Rattle.jsonc_text.specs.declared.edit.Shape.{Shape}
 use Rattle.jsonc_text.specs.declared.edit.Shape.TheVariants.{Object, Array}
 use Rattle.jsonc_insert.specs.named.Laws.{IsNamedWritten}
-use Rattle.jsonc_insert.specs.named.Named.{IsUnensured, NamedEnsured}
+use Rattle.jsonc_insert.specs.named.Named.{EnsureError, NamedEnsured}
 use Rattle.jsonc_cst.specs.declared.cst.CstRootNode.{CstRootNode}
 use Rattle.jsonc_cst.specs.declared.cst.node.CstArray.{CstArray}
 use Rattle.jsonc_cst.specs.declared.cst.node.CstNode.{CstNode}
@@ -58,7 +58,7 @@ module _ {A : Type 0} (old new : CstRootNode A) where
   abbrev pub HasEnsuredArray : Over → CstNode → List ℕ → Option CstArray → Type 0
   HasEnsuredArray how node name answer = ArrayEnsured (nodes_of old) (nodes_of new) how (number_of node) name answer
 
-  -- where another gives way there is always one
+  -- where another is replaced there is always one
   abbrev pub HasSetObject : CstNode → List ℕ → CstObject → Type 0
   HasSetObject node name x = HasEnsuredObject Replace node name (Some x)
 
@@ -69,5 +69,5 @@ module _ {A : Type 0} (old new : CstRootNode A) where
   HasWrittenNamed o node name shape how = NamedIsWritten (nodes_of old) (nodes_of new) o (number_of node) name shape how
 
 -- why not
-abbrev pub IsUnensuredIn : {A : Type 0} → CstRootNode A → Shape → Over → CstNode → List ℕ → EditError → Type 0
-IsUnensuredIn d shape how node name e = IsUnensured shape how (nodes_of d) (number_of node) name e
+abbrev pub EnsureErrorIn : {A : Type 0} → CstRootNode A → Shape → Over → CstNode → List ℕ → EditError → Type 0
+EnsureErrorIn d shape how node name e = EnsureError shape how (nodes_of d) (number_of node) name e

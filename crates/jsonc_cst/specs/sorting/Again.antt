@@ -19,7 +19,7 @@ use Rattle.jsonc_cst.specs.declared.cst.node.CstArray.{CstArray}
 use Rattle.jsonc_cst.specs.declared.cst.node.CstNode.{CstNode}
 use Rattle.jsonc_cst.specs.declared.cst.node.CstObject.{CstObject}
 use Rattle.jsonc_cst.specs.declared.cst.node.CstObjectProp.{CstObjectProp}
-use Rattle.jsonc_cst.specs.Document.{nodes_of, printed_of, Holds}
+use Rattle.jsonc_cst.specs.Document.{nodes_of, printed_of, HasNode}
 use Rattle.jsonc_cst.specs.Nodes.{array_node, number_of, object_node, object_prop_node}
 use Rattle.jsonc_cst.specs.sorting.Asking.{IsInItsOrder, IsInKeyOrder}
 use Rattle.jsonc_cst.specs.sorting.Rows.{elements_asked, properties_asked, starts_of}
@@ -33,18 +33,18 @@ module _ {A : Type 0} where
   module _ {F D N : Type 0} (g : Shared F (Bor D × (N × (N × Unit {0}))) Ordering) (compare : F) (same : CstRootNode A → D) (node_of : N → CstNode) where
     -- of this document and its nodes a comparison answers by an order of what these are
     abbrev pub ComparesTops : (Top → Top → Bool) → CstRootNode A → Type 0
-    ComparesTops lt d = ComparesBy g compare (same d) (λ x. Holds d (node_of x)) (λ x y. lt (top_of d (node_of x)) (top_of d (node_of y)))
+    ComparesTops lt d = ComparesBy g compare (same d) (λ x. HasNode d (node_of x)) (λ x y. lt (top_of d (node_of x)) (top_of d (node_of y)))
 
     -- a container of the document has been sorted by it, without groups
     abbrev pub IsSortedBy : CstRootNode A → CstRootNode A → CstNode → List (Option N) → Headers → Type 0
     IsSortedBy old new container nodes h =
-        HasSorted old new container h (IsInItsOrder g compare (same old) (λ x. Holds old (node_of x)) nodes (starts_of old container false))
+        HasSorted old new container h (IsInItsOrder g compare (same old) (λ x. HasNode old (node_of x)) nodes (starts_of old container false))
 
   module _ {F D N K : Type 0} (g : Shared F (Bor D × (N × Unit {0})) (Result K EditError)) (key : F) (same : CstRootNode A → D) (node_of : N → CstNode)
       (cmp : K → K → Ordering) where
     -- the keys that are given of nodes of this document come in an order of what the nodes are
     pub record KeysCompareTops (lt : Top → Top → Bool) (d : CstRootNode A) : Type 0 where
-      pub tells : (x y : N) (k l : K) → Holds d (node_of x) → Holds d (node_of y) → Answers g key (same d) x (Ok k) → Answers g key (same d) y (Ok l)
+      pub tells : (x y : N) (k l : K) → HasNode d (node_of x) → HasNode d (node_of y) → Answers g key (same d) x (Ok k) → Answers g key (same d) y (Ok l)
           → is_lt (cmp k l) ≡ lt (top_of d (node_of x)) (top_of d (node_of y))
 
     -- a container of the document has been sorted by them, without groups
@@ -58,7 +58,7 @@ module _ {A : Type 0} where
   abbrev pub ElementsSortOnce : {F D : Type 0} → Shared F (Bor D × (CstNode × (CstNode × Unit {0}))) Ordering → F → (CstRootNode A → D) → (Top → Top → Bool)
       → CstRootNode A → CstRootNode A → CstRootNode A → CstArray → Headers → Headers → Type 0
   ElementsSortOnce g compare same lt old now new array h k =
-      IsStrictWeakOrder lt → IsTree (nodes_of old) → Holds old (array_node array)
+      IsStrictWeakOrder lt → IsTree (nodes_of old) → HasNode old (array_node array)
       → ComparesTops g compare same (λ x. x) lt old → IsSortedBy g compare same (λ x. x) old now (array_node array) (elements_asked old (array_node array)) h
       → ComparesTops g compare same (λ x. x) lt now → IsSortedBy g compare same (λ x. x) now new (array_node array) (elements_asked now (array_node array)) k
       → IsUntouched now new
@@ -66,7 +66,7 @@ module _ {A : Type 0} where
   abbrev pub PropertiesSortOnce : {F D : Type 0} → Shared F (Bor D × (CstObjectProp × (CstObjectProp × Unit {0}))) Ordering → F → (CstRootNode A → D)
       → (Top → Top → Bool) → CstRootNode A → CstRootNode A → CstRootNode A → CstObject → Headers → Headers → Type 0
   PropertiesSortOnce g compare same lt old now new object h k =
-      IsStrictWeakOrder lt → IsTree (nodes_of old) → Holds old (object_node object)
+      IsStrictWeakOrder lt → IsTree (nodes_of old) → HasNode old (object_node object)
       → ComparesTops g compare same object_prop_node lt old
       → IsSortedBy g compare same object_prop_node old now (object_node object) (properties_asked old (object_node object)) h
       → ComparesTops g compare same object_prop_node lt now
@@ -77,7 +77,7 @@ module _ {A : Type 0} where
   abbrev pub ElementsSortOnceByKey : {F D K : Type 0} → Shared F (Bor D × (CstNode × Unit {0})) (Result K EditError) → F → (CstRootNode A → D)
       → (K → K → Ordering) → (Top → Top → Bool) → CstRootNode A → CstRootNode A → CstRootNode A → CstArray → Headers → Headers → Type 0
   ElementsSortOnceByKey g key same cmp lt old now new array h k =
-      IsStrictWeakOrder lt → IsTree (nodes_of old) → IsTree (nodes_of now) → Holds old (array_node array)
+      IsStrictWeakOrder lt → IsTree (nodes_of old) → IsTree (nodes_of now) → HasNode old (array_node array)
       → KeysCompareTops g key same (λ x. x) cmp lt old
       → IsSortedByKey g key same (λ x. x) cmp old now (array_node array) (elements_asked old (array_node array)) h
       → KeysCompareTops g key same (λ x. x) cmp lt now
@@ -87,7 +87,7 @@ module _ {A : Type 0} where
   abbrev pub PropertiesSortOnceByKey : {F D K : Type 0} → Shared F (Bor D × (CstObjectProp × Unit {0})) (Result K EditError) → F → (CstRootNode A → D)
       → (K → K → Ordering) → (Top → Top → Bool) → CstRootNode A → CstRootNode A → CstRootNode A → CstObject → Headers → Headers → Type 0
   PropertiesSortOnceByKey g key same cmp lt old now new object h k =
-      IsStrictWeakOrder lt → IsTree (nodes_of old) → IsTree (nodes_of now) → Holds old (object_node object)
+      IsStrictWeakOrder lt → IsTree (nodes_of old) → IsTree (nodes_of now) → HasNode old (object_node object)
       → KeysCompareTops g key same object_prop_node cmp lt old
       → IsSortedByKey g key same object_prop_node cmp old now (object_node object) (properties_asked old (object_node object)) h
       → KeysCompareTops g key same object_prop_node cmp lt now

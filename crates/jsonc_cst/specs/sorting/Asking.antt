@@ -33,15 +33,15 @@ module _ {F D N K : Type 0} (g : Shared F (Bor D × (N × Unit {0})) (Result K E
       (keys : List (Option K)) × AreKeys g key doc nodes keys × IsOrderedBy (comes_before (λ x y. is_lt (cmp x y)) keys starts) (length nodes) order
 
   -- the keys of the first nodes were told, of one at least, if there is any
-  pub record HaveTold (nodes : List (Option N)) : Type 0 where
+  pub record HaveAnswered (nodes : List (Option N)) : Type 0 where
     pub count : ℕ
     pub some : count ≡ 0 → length nodes ≡ 0
-    pub told : (i : ℕ) → i < count → (k : Option K) × IsKeyOf g key doc (node_in nodes i) k
+    pub error : (i : ℕ) → i < count → (k : Option K) × IsKeyOf g key doc (node_in nodes i) k
 
-  -- why they come in no order: memory was wanted where each key that was asked so far had been told; or the first was refused
+  -- why they come in no order: allocation failed where each key that was asked so far had been told; or the first was refused
   abbrev pub LacksKeys : List (Option N) → EditError → Type 0
-  LacksKeys nodes e = ((e ≡ OutOfMemory) × HaveTold nodes) ⊎ IsFirstRefused g key doc nodes e
+  LacksKeys nodes e = ((e ≡ OutOfMemory) × HaveAnswered nodes) ⊎ IsFirstRefused g key doc nodes e
 
-  -- why nothing was sorted: want of memory, or the first key that was refused
+  -- why nothing was sorted: allocation failure, or the first key that was refused
   abbrev pub IsUnkeyed : List (Option N) → EditError → Type 0
   IsUnkeyed nodes e = (e ≡ OutOfMemory) ⊎ IsFirstRefused g key doc nodes e

@@ -9,7 +9,7 @@ use Rattle.jsonc_sort.specs.declared.above.LeadRead.{LeadRead}
 use Rattle.jsonc_cst.specs.declared.cst.CstRootNode.{CstRootNode}
 use Rattle.jsonc_cst.specs.declared.cst.node.CstComment.{CstComment}
 use Rattle.jsonc_cst.specs.declared.cst.node.CstNode.{CstNode}
-use Rattle.jsonc_cst.specs.Document.{nodes_of, Holds}
+use Rattle.jsonc_cst.specs.Document.{nodes_of, HasNode}
 use Rattle.jsonc_cst.specs.declared.cst.node.CstLeafNode.TheVariants.{Comment}
 use Rattle.jsonc_cst.specs.declared.cst.node.CstNode.TheVariants.{Leaf}
 use Rattle.jsonc_cst.specs.Nodes.{comment_node, number_of, typed_at}
@@ -37,7 +37,7 @@ module _ {A : Type 0} where
   pins_where d node pin = if pin then map blank_line_pin (leads_of d node) else []
 
   abbrev pub HoldsComment : CstRootNode A → CstComment → Type 0
-  HoldsComment d c = Holds d (comment_node c)
+  HoldsComment d c = HasNode d (comment_node c)
 
 -- by a rule, which is asked of a node and the comments above it
 module _ {F D N : Type 0} (g : Shared F (Bor D × (N × (Bor (List CstComment) × Unit {0}))) ℕ) (rule : F) (doc : D) where

@@ -18,8 +18,8 @@ property_if (Container (ObjectProp x)) = Some x
 property_if _ = None
 
 -- a blank line stands before the element
-abbrev pub is_parted : LeadRead → Bool
-is_parted lead = lead.blank_line
+abbrev pub is_separated : LeadRead → Bool
+is_separated lead = lead.blank_line
 
 module _ {A : Type 0} where
   -- the elements of an array
@@ -32,4 +32,4 @@ module _ {A : Type 0} where
 
   -- for each element the place at which its group begins, where blank lines begin groups; else all are one group
   abbrev pub starts_of : CstRootNode A → CstNode → Bool → List ℕ
-  starts_of d node groups = if groups then group_starts (map is_parted (leads_read (nodes_of d) (number_of node))) else []
+  starts_of d node groups = if groups then group_starts (map is_separated (leads_read (nodes_of d) (number_of node))) else []

@@ -8,7 +8,7 @@ use Rattle.jsonc_sound.specs.SoundTrees.{SoundTree}
 use Rattle.jsonc_edit.specs.Paths.{IsAt}
 use Rattle.jsonc_run.specs.promise.Steps.{IsStep}
 use Rattle.jsonc_run.specs.Edits.{rearrange}
-use Rattle.jsonc_cst.specs.typed.Edits.{StaysElsewhere}
+use Rattle.jsonc_cst.specs.typed.Edits.{KeepsDocumentOf}
 use Rattle.jsonc_sort.specs.Paths.{KeepsOutside, SaysSorted, SortedAt}
 use Rattle.jsonc_sort.specs.Rearranged.{IsOrderIn, Rearranged, headers_of}
 use Rattle.jsonc_sort.specs.Sorting.{Headers}
@@ -39,7 +39,7 @@ pub record IsPlaced (old new : List Node) (c : ℕ) (h : Headers) (order : List 
   pub all : IsOrderIn old c order
   pub made : Rearranged old new c h order
   pub few : length (elements_at old c) < 2 → new ≡ old
-  pub elsewhere : StaysElsewhere old new c
+  pub detached : KeepsDocumentOf old new c
   pub written : (o : Options) → SortsAtItsPath o old new c order
   pub step : IsStep IsAt (λ path. rearrange path h order) old new c
 

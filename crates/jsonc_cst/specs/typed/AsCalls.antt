@@ -6,10 +6,10 @@ use Rattle.jsonc_cst.specs.declared.cst.CstRootNode.{CstRootNode}
 use Rattle.jsonc_cst.specs.declared.cst.node.CstNode.{CstNode}
 use Rattle.jsonc_cst.specs.declared.typed.removing.Removal.{Removal}
 use Rattle.jsonc_cst.specs.declared.typed.removing.Removal.TheVariants.{Clearing, OfComment, OfElement, OfLeaf}
-use Rattle.jsonc_cst.specs.Document.{nodes_of, parent_of, Holds}
+use Rattle.jsonc_cst.specs.Document.{nodes_of, parent_of, HasNode}
 use Rattle.jsonc_cst.specs.Nodes.{number_of}
 use Rattle.jsonc_cst.specs.typed.Edits.{IsUntouched}
-use Rattle.jsonc_cst.specs.typed.Removing.{removal_of, HasLeft, HasLeftAlone, IsLoose}
+use Rattle.jsonc_cst.specs.typed.Removing.{removal_of, NodeRemoved, NodeRemovedAlone, IsLoose}
 
 -- the number of the node that a removal is of: where all leave the root, the document's
 abbrev pub number_taken : Removal → ℕ → ℕ
@@ -21,19 +21,19 @@ number_taken OfLeaf n = n
 module _ {A : Type 0} (old new : CstRootNode A) where
   -- what is said, of a document that holds the node, is so by a call of the node
   abbrev pub IsCallIf : CstNode → Type 0 → Type 0
-  IsCallIf node Said = IsTree (nodes_of old) → Holds old node → Said → IsCallOf (nodes_of old) (nodes_of new) (number_of node)
+  IsCallIf node Said = IsTree (nodes_of old) → HasNode old node → Said → IsCallOf (nodes_of old) (nodes_of new) (number_of node)
 
   -- or by a call of the document
   abbrev pub IsRootCallIf : Type 0 → Type 0
   IsRootCallIf Said = IsTree (nodes_of old) → Said → IsCallOf (nodes_of old) (nodes_of new) 0
 
-  -- so is what has left with what leaves with it, or alone; where the node was nobody's child nothing has
+  -- so is what has left with what leaves with it, or alone; where the node was detached nothing has
   abbrev pub RemovalIsCall : CstNode → Type 0
   RemovalIsCall node =
-      IsTree (nodes_of old) → Holds old node → HasLeft old new node → (IsLoose old node → IsUntouched old new)
+      IsTree (nodes_of old) → HasNode old node → NodeRemoved old new node → (IsLoose old node → IsUntouched old new)
       → IsCallOf (nodes_of old) (nodes_of new) (number_taken (removal_of node) (number_of node))
 
   abbrev pub LoneRemovalIsCall : CstNode → Type 0
   LoneRemovalIsCall node =
-      IsTree (nodes_of old) → Holds old node → HasLeftAlone old new node → (parent_of old node ≡ None → IsUntouched old new)
+      IsTree (nodes_of old) → HasNode old node → NodeRemovedAlone old new node → (parent_of old node ≡ None → IsUntouched old new)
       → IsCallOf (nodes_of old) (nodes_of new) (number_of node)

@@ -1,4 +1,4 @@
--- What an edit makes of a document: in which node a child gives way to a value, and which nodes the document still has.
+-- What an edit makes of a document: in which node a child is replaced by a value, and which nodes the document still has.
 use Rattle.std.specs.Prelude.{◌≡◌, ◌==◌, ℕ, Bool, true, false, List, length, Option, Some, None, if◌then◌else◌}
 use Rattle.jsonc_text.specs.Options.{Options}
 use Rattle.jsonc_text.specs.Plain.{Plain}
@@ -17,20 +17,20 @@ use Rattle.jsonc_cst.specs.typed.Around.{StaysAroundValue}
 use Rattle.jsonc_cst.specs.typed.Marked.{IsMarkedFor}
 
 -- every node that is there is there still
-abbrev pub StillNodes : List Node → List Node → Type 0
-StillNodes old new = (node : CstNode) → IsNodeOf old node → IsNodeOf new node
+abbrev pub NodesStillThere : List Node → List Node → Type 0
+NodesStillThere old new = (node : CstNode) → IsNodeOf old node → IsNodeOf new node
 
 -- every node that was there is as it was: what it is, its parent and its children; so what stands apart from the document is printed as it was too
-abbrev pub NodesStay : List Node → List Node → Type 0
-NodesStay old new = Keeps (length old) old new
+abbrev pub NodesUnchanged : List Node → List Node → Type 0
+NodesUnchanged old new = Keeps (length old) old new
 
--- the node is nobody's child, and so its place is 0
-abbrev pub IsNobodys : List Node → ℕ → Type 0
-IsNobodys ns n = (parent_at ns n ≡ None) × (place_at ns n ≡ 0)
+-- the node is detached, and so its place is 0
+abbrev pub IsDetached : List Node → ℕ → Type 0
+IsDetached ns n = (parent_at ns n ≡ None) × (place_at ns n ≡ 0)
 
--- where the node does not stand in the document, as it is part of what was taken out or has given way, the document is what it was
-abbrev pub StaysElsewhere : List Node → List Node → ℕ → Type 0
-StaysElsewhere old new n = (IsOver old 0 n → ⊥) → ordered_tree new 0 ≡ ordered_tree old 0
+-- where the node does not stand in the document, as it is part of what was taken out or has been replaced, the document is what it was
+abbrev pub KeepsDocumentOf : List Node → List Node → ℕ → Type 0
+KeepsDocumentOf old new n = (IsOver old 0 n → ⊥) → ordered_tree new 0 ≡ ordered_tree old 0
 
 -- whether the first number is there and is the second
 abbrev pub is_found : Option ℕ → ℕ → Bool
@@ -46,34 +46,34 @@ is_name_under ns (Some p) n = if is_property (content_at ns p) then is_found (na
 abbrev pub is_name_in : List Node → ℕ → Bool
 is_name_in ns n = is_name_under ns (parent_at ns n) n
 
--- the child n has given way to m, which is the value, laid out as the old nodes tell: a space comes where one is due, but none for a name
+-- the child n has been replaced by m, which is the value, laid out as the old nodes tell: a space comes where one is due, but none for a name
 abbrev pub IsReplacedAs : Bool → List Node → List Node → ℕ → Plain → ℕ → Type 0
 IsReplacedAs true old new n v m = IsReplacedRaw old new n v m
 IsReplacedAs false old new n v m = IsReplaced old new n v m
 
 module _ {A : Type 0} (old new : CstRootNode A) where
   -- every node of the old document is one of the new document too
-  abbrev pub StillHolds : Type 0
-  StillHolds = StillNodes (nodes_of old) (nodes_of new)
+  abbrev pub HandlesStay : Type 0
+  HandlesStay = NodesStillThere (nodes_of old) (nodes_of new)
 
   -- every node of the old document is as it was, in the document and apart from it
-  abbrev pub StaysAsItWas : Type 0
-  StaysAsItWas = NodesStay (nodes_of old) (nodes_of new)
+  abbrev pub Unchanged : Type 0
+  Unchanged = NodesUnchanged (nodes_of old) (nodes_of new)
 
   -- no node is another than it was
   abbrev pub IsUntouched : Type 0
   IsUntouched = nodes_of new ≡ nodes_of old
 
-  -- the node has given way to a new one, which is the value, laid out as the old document tells
-  abbrev pub HasGivenWay : CstNode → Plain → CstNode → Type 0
-  HasGivenWay node v now = IsReplacedAs (is_name_in (nodes_of old) (number_of node)) (nodes_of old) (nodes_of new) (number_of node) v (number_of now)
+  -- the node has been replaced by a new one, which is the value, laid out as the old document tells
+  abbrev pub IsReplacedBy : CstNode → Plain → CstNode → Type 0
+  IsReplacedBy node v now = IsReplacedAs (is_name_in (nodes_of old) (number_of node)) (nodes_of old) (nodes_of new) (number_of node) v (number_of now)
 
   -- if the old document is sound, and the node a value at a path, then with the new value there the text is a
   -- document again, whose value has changed there alone
   abbrev pub HasWritten : Options → CstNode → Plain → CstNode → Type 0
   HasWritten o node v now = is_name_in (nodes_of old) (number_of node) ≡ false → Writes o (nodes_of old) (nodes_of new) (number_of node) (number_of now) v
 
-  -- where the node stood at a path, its literals and comments have given way to the literals that are written for the value, and all others stay, in order
+  -- where the node stood at a path, its literals and comments have been replaced by the literals that are written for the value, and all others stay, in order
   abbrev pub HasMarked : CstNode → Plain → Type 0
   HasMarked node v = is_name_in (nodes_of old) (number_of node) ≡ false → IsMarkedFor (nodes_of old) (nodes_of new) (number_of node) v
 
@@ -82,9 +82,9 @@ module _ {A : Type 0} (old new : CstRootNode A) where
   HasStayedAround node v = is_name_in (nodes_of old) (number_of node) ≡ false → StaysAroundValue (nodes_of old) (nodes_of new) (number_of node) v
 
   -- where the node does not stand in the document, this is what it was
-  abbrev pub KeepsElsewhere : CstNode → Type 0
-  KeepsElsewhere node = StaysElsewhere (nodes_of old) (nodes_of new) (number_of node)
+  abbrev pub KeepsDocument : CstNode → Type 0
+  KeepsDocument node = KeepsDocumentOf (nodes_of old) (nodes_of new) (number_of node)
 
-  -- the node is nobody's child
-  abbrev pub HasGone : CstNode → Type 0
-  HasGone node = IsNobodys (nodes_of new) (number_of node)
+  -- the node is detached
+  abbrev pub NodeIsDetached : CstNode → Type 0
+  NodeIsDetached node = IsDetached (nodes_of new) (number_of node)

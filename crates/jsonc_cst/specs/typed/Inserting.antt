@@ -11,7 +11,7 @@ use Rattle.jsonc_edit.specs.Writing.{IsWritable}
 use Rattle.jsonc_text.specs.declared.edit.EditError.{EditError}
 use Rattle.jsonc_insert.specs.Inserted.{refusal, ElementPut}
 use Rattle.jsonc_insert.specs.Laws.{KeepsNodesBut}
-use Rattle.jsonc_insert.specs.elements.Laws.{ElementComesAt, IsInserted}
+use Rattle.jsonc_insert.specs.elements.Laws.{ElementInsertedAt, IsInserted}
 use Rattle.jsonc_cst.specs.declared.cst.CstRootNode.{CstRootNode}
 use Rattle.jsonc_cst.specs.declared.cst.node.CstNode.{CstNode}
 use Rattle.jsonc_cst.specs.Document.{nodes_of}
@@ -19,8 +19,8 @@ use Rattle.jsonc_cst.specs.Nodes.{number_of}
 
 module _ (old new : List Node) where
   -- v has come into the array c at this number, or behind its last element where it has fewer: it is this node
-  abbrev pub ComesInAt : ℕ → ℕ → Plain → CstNode → Type 0
-  ComesInAt c i v now = ElementPut old new c i v (number_of now)
+  abbrev pub InsertedAt : ℕ → ℕ → Plain → CstNode → Type 0
+  InsertedAt c i v now = ElementPut old new c i v (number_of now)
 
   -- the node is the element of c at this number, or at the last
   abbrev pub StandsAt : ℕ → ℕ → CstNode → Type 0
@@ -28,7 +28,7 @@ module _ (old new : List Node) where
 
 -- v has come into the array at the path, at this number or behind its last, and the text is a document again that has it there
 pub record IsPutIn (o : Options) (path : List ℕ) (i : ℕ) (v : Plain) (t u : OrderedTree) : Type 0 where
-  pub come : ElementComesAt o path i v t u
+  pub come : ElementInsertedAt o path i v t u
   pub is : IsInserted o path i v t u come
 
 -- so it is where c stands at a path of a sound document, and v may be written
@@ -39,7 +39,7 @@ PutsAtItsPath o old new c i v =
 -- the same of a document
 module _ {A : Type 0} (old new : CstRootNode A) where
   abbrev pub HasComeIn : CstNode → ℕ → Plain → CstNode → Type 0
-  HasComeIn node i v now = ComesInAt (nodes_of old) (nodes_of new) (number_of node) i v now
+  HasComeIn node i v now = InsertedAt (nodes_of old) (nodes_of new) (number_of node) i v now
 
   abbrev pub IsItsElement : CstNode → ℕ → CstNode → Type 0
   IsItsElement node i now = StandsAt (nodes_of old) (nodes_of new) (number_of node) i now
@@ -56,5 +56,5 @@ abbrev pub element_count : {A : Type 0} → CstRootNode A → CstNode → ℕ
 element_count d node = length (elements_at (nodes_of d) (number_of node))
 
 -- why nothing has come in
-abbrev pub IsShutFor : {A : Type 0} → CstRootNode A → CstNode → EditError → Type 0
-IsShutFor d node e = e ≡ refusal (nodes_of d) (number_of node)
+abbrev pub InsertError : {A : Type 0} → CstRootNode A → CstNode → EditError → Type 0
+InsertError d node e = e ≡ refusal (nodes_of d) (number_of node)

@@ -15,28 +15,28 @@ use Rattle.jsonc_edit.specs.Paths.{IsAt}
 use Rattle.jsonc_edit.specs.Writing.{IsWritable}
 
 module _ (old new : List Node) where
-  -- one stretch of the marks has given way to another, and all others stay, in order
-  abbrev pub MarksGiveWay : List Mark → List Mark → Type 0
-  MarksGiveWay was now = MarksDifferIn was now (marks (ordered_tree old 0)) (marks (ordered_tree new 0))
+  -- one stretch of the marks has been replaced by another, and all others stay, in order
+  abbrev pub MarksReplaced : List Mark → List Mark → Type 0
+  MarksReplaced was now = MarksDifferIn was now (marks (ordered_tree old 0)) (marks (ordered_tree new 0))
 
-  -- where n stood at a path, its marks have given way to the literals that are written for v
+  -- where n stood at a path, its marks have been replaced by the literals that are written for v
   abbrev pub IsMarkedFor : ℕ → Plain → Type 0
-  IsMarkedFor n v = (path : List ℕ) → IsAt old path n → IsOfTexts v → MarksGiveWay (marks_under (top_at old n)) (written v)
+  IsMarkedFor n v = (path : List ℕ) → IsAt old path n → IsOfTexts v → MarksReplaced (marks_under (top_at old n)) (written v)
 
   -- all marks stay, in order, if the old document was sound
   abbrev pub MarksStay : Options → Type 0
   MarksStay o = SoundTree o (ordered_tree old 0) → marks (ordered_tree new 0) ≡ marks (ordered_tree old 0)
 
-  -- where the document was set to v: the marks of its old value have given way to the literals that are written for
+  -- where the document was set to v: the marks of its old value have been replaced by the literals that are written for
   -- v, and where it was sound and had none these have come
   abbrev pub RootMarkedFor : Options → Plain → Option ℕ → Type 0
-  RootMarkedFor o v None = SoundTree o (ordered_tree old 0) → IsWritable o v → MarksGiveWay [] (written v)
+  RootMarkedFor o v None = SoundTree o (ordered_tree old 0) → IsWritable o v → MarksReplaced [] (written v)
   RootMarkedFor o v (Some n) = IsMarkedFor n v
 
   -- where the document's value, n, has stayed, or an empty one is in its place
   abbrev pub KeptOrMarked : Bool → Options → ℕ → Type 0
   KeptOrMarked true o n = MarksStay o
-  KeptOrMarked false o n = MarksGiveWay (marks_under (top_at old n)) []
+  KeptOrMarked false o n = MarksReplaced (marks_under (top_at old n)) []
 
   -- where the document's value was to be of a kind: a value of another kind has taken its marks along, and all other marks stay
   abbrev pub EmptyMarked : (Content → Bool) → Options → Option ℕ → Type 0

@@ -4,12 +4,12 @@ use Rattle.jsonc_text.specs.Options.{Options}
 use Rattle.jsonc_tree.specs.Changes.{Splices}
 use Rattle.jsonc_tree.specs.OrderedTree.{ordered_tree}
 use Rattle.jsonc_tree.specs.Tree.{Node, content_at, parent_at, children_at, place_at, IsOver}
-use Rattle.jsonc_layout.specs.lines.Kinds.{holds_values}
+use Rattle.jsonc_layout.specs.lines.Kinds.{is_array_or_object}
 use Rattle.jsonc_sound.specs.SoundTrees.{SoundTree}
 use Rattle.jsonc_text.specs.declared.edit.EditError.{EditError}
 use Rattle.jsonc_text.specs.declared.edit.EditError.TheVariants.{OutOfMemory}
 use Rattle.jsonc_edit.specs.Changes.{top_at}
-use Rattle.jsonc_edit.specs.Comments.{CommentLeaves, CommentLeavesAlone, TakesOut, WantsSpace}
+use Rattle.jsonc_edit.specs.Comments.{RemovesComment, RemovesCommentAlone, TakesOut, WantsSpace}
 use Rattle.jsonc_edit.specs.Paths.{IsAt, IsElementOf}
 use Rattle.jsonc_edit.specs.remove.Laws.{EntryTaken, IsEntryRemoved, IsValueRemoved, ValueTaken}
 use Rattle.jsonc_edit.specs.remove.Removed.{IsKeptFor, TakesElement}
@@ -21,7 +21,7 @@ use Rattle.jsonc_cst.specs.declared.cst.node.CstLeafNode.TheVariants.{BooleanLit
 use Rattle.jsonc_cst.specs.declared.cst.node.CstNode.TheVariants.{Container, Leaf}
 use Rattle.jsonc_cst.specs.Document.{nodes_of}
 use Rattle.jsonc_cst.specs.Nodes.{number_of}
-use Rattle.jsonc_cst.specs.typed.Edits.{IsNobodys, StaysElsewhere}
+use Rattle.jsonc_cst.specs.typed.Edits.{IsDetached, KeepsDocumentOf}
 use Rattle.jsonc_cst.specs.declared.typed.removing.Removal.{Removal}
 use Rattle.jsonc_cst.specs.declared.typed.removing.Removal.TheVariants.{Clearing, OfComment, OfElement, OfLeaf}
 
@@ -42,8 +42,8 @@ removal_of (Leaf (Newline x)) = OfLeaf
 removal_of (Leaf (Comment x)) = OfComment
 
 -- wherever the node has a parent it alone has left that
-abbrev pub LeavesAlone : List Node → List Node → ℕ → Type 0
-LeavesAlone old new n = (c : ℕ) → parent_at old n ≡ Some c → Splices old new c (place_at old n) (place_at old n + 1) []
+abbrev pub RemovedAlone : List Node → List Node → ℕ → Type 0
+RemovedAlone old new n = (c : ℕ) → parent_at old n ≡ Some c → Splices old new c (place_at old n) (place_at old n + 1) []
 
 -- the root's children have all left it
 abbrev pub IsCleared : List Node → List Node → Type 0
@@ -54,9 +54,9 @@ abbrev pub IsTakenBy : Removal → List Node → List Node → ℕ → Type 0
 IsTakenBy Clearing old new n = IsCleared old new
 IsTakenBy OfComment old new n = TakesOut old new n
 IsTakenBy OfElement old new n = TakesElement old new n
-IsTakenBy OfLeaf old new n = LeavesAlone old new n
+IsTakenBy OfLeaf old new n = RemovedAlone old new n
 
--- so it stays as it is: it is nobody's child
+-- so it stays as it is: it is detached
 abbrev pub IsLooseFor : Removal → List Node → ℕ → Type 0
 IsLooseFor Clearing ns n = ⊥
 IsLooseFor OfComment ns n = parent_at ns n ≡ None
@@ -72,76 +72,76 @@ IsKeptBy OfLeaf ns n e = ⊥
 
 -- Where the node stood in an array or object at a path of a document, this is one without that entry, sound, and of its marks those of the entry have left, and
 -- comments beside it; where it was the document's value, the document has none.
-pub record IsElementGone (o : Options) (old new : List Node) (n : ℕ) : Type 0 where
-  pub entry : (path : List ℕ) (c i : ℕ) → IsAt old path c → IsTrue (holds_values (content_at old c)) → IsElementOf old c i n
+pub record IsElementRemoved (o : Options) (old new : List Node) (n : ℕ) : Type 0 where
+  pub entry : (path : List ℕ) (c i : ℕ) → IsAt old path c → IsTrue (is_array_or_object (content_at old c)) → IsElementOf old c i n
       → IsEntryRemoved o path i (top_at old n) (ordered_tree old 0) (ordered_tree new 0)
   pub value : IsElementOf old 0 0 n → IsValueRemoved o (top_at old n) (ordered_tree old 0) (ordered_tree new 0)
 
 -- so it is if the old document is sound and the node leaves with what leaves with it; a cleared document has no value and no marks, and is sound
 abbrev pub IsWrittenBy : Removal → Options → List Node → List Node → ℕ → Type 0
 IsWrittenBy Clearing o old new n = IsBareDocument o (ordered_tree new 0)
-IsWrittenBy OfComment o old new n = CommentLeaves o old new n
-IsWrittenBy OfElement o old new n = SoundTree o (ordered_tree old 0) → IsElementGone o old new n
+IsWrittenBy OfComment o old new n = RemovesComment o old new n
+IsWrittenBy OfElement o old new n = SoundTree o (ordered_tree old 0) → IsElementRemoved o old new n
 IsWrittenBy OfLeaf o old new n = Unit {0}
 
 -- Where the node stood in an array or object at a path of a sound document, nothing outside that has changed but for the spaces that have come, and in its row
 -- the entry has left with what leaves with it; where it was the document's value, so in the root's row.
 pub record IsTakenAlone (old new : List Node) (n : ℕ) : Type 0 where
-  pub entry : (path : List ℕ) (c i : ℕ) → IsAt old path c → IsTrue (holds_values (content_at old c)) → IsElementOf old c i n
+  pub entry : (path : List ℕ) (c i : ℕ) → IsAt old path c → IsTrue (is_array_or_object (content_at old c)) → IsElementOf old c i n
       → EntryTaken path i (top_at old n) (ordered_tree old 0) (ordered_tree new 0)
   pub value : IsElementOf old 0 0 n → ValueTaken (top_at old n) (ordered_tree old 0) (ordered_tree new 0)
 
 -- what stays around the node that was taken out: around a comment of the document all leaves but for the blanks before it that leave with it
 abbrev pub StaysAround : Removal → Options → List Node → List Node → ℕ → Type 0
 StaysAround Clearing o old new n = Unit {0}
-StaysAround OfComment o old new n = CommentLeavesAlone old new n
+StaysAround OfComment o old new n = RemovesCommentAlone old new n
 StaysAround OfElement o old new n = SoundTree o (ordered_tree old 0) → IsTakenAlone old new n
 StaysAround OfLeaf o old new n = Unit {0}
 
 -- where the node does not stand in the document, this is what it was; the root always does
-abbrev pub StaysElsewhereBy : Removal → List Node → List Node → ℕ → Type 0
-StaysElsewhereBy Clearing old new n = Unit {0}
-StaysElsewhereBy OfComment old new n = StaysElsewhere old new n
-StaysElsewhereBy OfElement old new n = StaysElsewhere old new n
-StaysElsewhereBy OfLeaf old new n = StaysElsewhere old new n
+abbrev pub KeepsDocumentBy : Removal → List Node → List Node → ℕ → Type 0
+KeepsDocumentBy Clearing old new n = Unit {0}
+KeepsDocumentBy OfComment old new n = KeepsDocumentOf old new n
+KeepsDocumentBy OfElement old new n = KeepsDocumentOf old new n
+KeepsDocumentBy OfLeaf old new n = KeepsDocumentOf old new n
 
--- the node is nobody's child; the root never was one's
-abbrev pub IsNobodysBy : Removal → List Node → ℕ → Type 0
-IsNobodysBy Clearing ns n = Unit {0}
-IsNobodysBy OfComment ns n = IsNobodys ns n
-IsNobodysBy OfElement ns n = IsNobodys ns n
-IsNobodysBy OfLeaf ns n = IsNobodys ns n
+-- the node is detached; the root never was one's
+abbrev pub IsDetachedBy : Removal → List Node → ℕ → Type 0
+IsDetachedBy Clearing ns n = Unit {0}
+IsDetachedBy OfComment ns n = IsDetached ns n
+IsDetachedBy OfElement ns n = IsDetached ns n
+IsDetachedBy OfLeaf ns n = IsDetached ns n
 
--- where the node is one of a sound document, only memory has been wanted: nothing that an edit needs is missing there
-abbrev pub WantsMemoryAlone : Options → List Node → ℕ → EditError → Type 0
-WantsMemoryAlone o ns n e = SoundTree o (ordered_tree ns 0) → IsOver ns 0 n → e ≡ OutOfMemory
+-- where the node is one of a sound document, only allocation has failed: nothing that an edit needs is missing there
+abbrev pub OnlyOutOfMemory : Options → List Node → ℕ → EditError → Type 0
+OnlyOutOfMemory o ns n e = SoundTree o (ordered_tree ns 0) → IsOver ns 0 n → e ≡ OutOfMemory
 
 module _ {A : Type 0} where
   -- so it is of the document
-  abbrev pub LeavesWritten : CstRootNode A → CstRootNode A → Options → CstNode → Type 0
-  LeavesWritten old new o node = IsWrittenBy (removal_of node) o (nodes_of old) (nodes_of new) (number_of node)
+  abbrev pub RemovalWritten : CstRootNode A → CstRootNode A → Options → CstNode → Type 0
+  RemovalWritten old new o node = IsWrittenBy (removal_of node) o (nodes_of old) (nodes_of new) (number_of node)
 
   -- and so is what stays around it
-  abbrev pub LeavesAround : CstRootNode A → CstRootNode A → Options → CstNode → Type 0
-  LeavesAround old new o node = StaysAround (removal_of node) o (nodes_of old) (nodes_of new) (number_of node)
+  abbrev pub RemovalAround : CstRootNode A → CstRootNode A → Options → CstNode → Type 0
+  RemovalAround old new o node = StaysAround (removal_of node) o (nodes_of old) (nodes_of new) (number_of node)
 
   -- and elsewhere nothing changes
-  abbrev pub LeavesElsewhere : CstRootNode A → CstRootNode A → CstNode → Type 0
-  LeavesElsewhere old new node = StaysElsewhereBy (removal_of node) (nodes_of old) (nodes_of new) (number_of node)
+  abbrev pub RemovalKeepsDocument : CstRootNode A → CstRootNode A → CstNode → Type 0
+  RemovalKeepsDocument old new node = KeepsDocumentBy (removal_of node) (nodes_of old) (nodes_of new) (number_of node)
 
-  -- the node is nobody's child
-  abbrev pub LeavesToNobody : CstRootNode A → CstNode → Type 0
-  LeavesToNobody d node = IsNobodysBy (removal_of node) (nodes_of d) (number_of node)
+  -- the node is detached
+  abbrev pub RemovedIsDetached : CstRootNode A → CstNode → Type 0
+  RemovedIsDetached d node = IsDetachedBy (removal_of node) (nodes_of d) (number_of node)
 
   -- the node has been taken out of the document, with what leaves with it
-  abbrev pub HasLeft : CstRootNode A → CstRootNode A → CstNode → Type 0
-  HasLeft old new node = IsTakenBy (removal_of node) (nodes_of old) (nodes_of new) (number_of node)
+  abbrev pub NodeRemoved : CstRootNode A → CstRootNode A → CstNode → Type 0
+  NodeRemoved old new node = IsTakenBy (removal_of node) (nodes_of old) (nodes_of new) (number_of node)
 
   -- the node alone has left its parent
-  abbrev pub HasLeftAlone : CstRootNode A → CstRootNode A → CstNode → Type 0
-  HasLeftAlone old new node = LeavesAlone (nodes_of old) (nodes_of new) (number_of node)
+  abbrev pub NodeRemovedAlone : CstRootNode A → CstRootNode A → CstNode → Type 0
+  NodeRemovedAlone old new node = RemovedAlone (nodes_of old) (nodes_of new) (number_of node)
 
-  -- it is no root, and nobody's child
+  -- it is no root, and detached
   abbrev pub IsLoose : CstRootNode A → CstNode → Type 0
   IsLoose d node = IsLooseFor (removal_of node) (nodes_of d) (number_of node)
 
@@ -149,6 +149,6 @@ module _ {A : Type 0} where
   abbrev pub IsKeptIn : CstRootNode A → CstNode → EditError → Type 0
   IsKeptIn d node e = IsKeptBy (removal_of node) (nodes_of d) (number_of node) e
 
-  -- if the node is one of the document, and this sound, only memory was wanted
+  -- if the node is one of the document, and this sound, only allocation failed
   abbrev pub IsKeptForMemory : CstRootNode A → Options → CstNode → EditError → Type 0
-  IsKeptForMemory d o node e = WantsMemoryAlone o (nodes_of d) (number_of node) e
+  IsKeptForMemory d o node e = OnlyOutOfMemory o (nodes_of d) (number_of node) e

@@ -1,4 +1,4 @@
--- What sets a document's value, and lets a property give way to another.
+-- What sets a document's value, and replaces a property by another.
 use Rattle.std.specs.Prelude.{◌≡◌, ℕ, Bool, true, false, List, [], Option, Some, None, option_map}
 use Rattle.jsonc_text.specs.Options.{Options}
 use Rattle.jsonc_text.specs.Plain.{Plain, array, object, no_items, no_members}
@@ -16,7 +16,7 @@ use Rattle.jsonc_edit.specs.Writing.{IsWritable}
 use Rattle.jsonc_edit.specs.Written.{IsWrittenAt, Writes}
 use Rattle.jsonc_edit.specs.set.Giving.{IsPropertyReplaced}
 use Rattle.jsonc_edit.specs.set.Kinds.{is_array, is_object, FoundOrCreated, FoundOrSet}
-use Rattle.jsonc_edit.specs.set.Laws.{GainsValue}
+use Rattle.jsonc_edit.specs.set.Laws.{InsertsValue}
 use Rattle.jsonc_edit.specs.set.Properties.{IsPropertyWritten}
 use Rattle.jsonc_edit.specs.set.RootSet.{FirstValue}
 use Rattle.jsonc_cst.specs.declared.cst.CstRootNode.{CstRootNode}
@@ -29,7 +29,7 @@ use Rattle.jsonc_cst.specs.Readings.{typed_if}
 use Rattle.jsonc_cst.specs.typed.Around.{EmptyStaysAround, FirstStaysAround, IsLaidProperty, StaysAroundRoot}
 use Rattle.jsonc_cst.specs.typed.Marked.{EmptyMarked, RootMarkedFor}
 
--- the root's value, if there was one, has given way to v, and else v has come as the first: it is the node m now
+-- the root's value, if there was one, has been replaced by v, and else v has come as the first: it is the node m now
 abbrev pub ValueBecomes : List Node → List Node → Plain → Option ℕ → ℕ → Type 0
 ValueBecomes old new v None m = FirstValue old new v m
 ValueBecomes old new v (Some n) m = IsReplaced old new n v m
@@ -37,7 +37,7 @@ ValueBecomes old new v (Some n) m = IsReplaced old new n v m
 -- if the old document had no value and was sound, and v may be written, the text is a document of the value v now, and sound
 abbrev pub WritesFirst : Options → List Node → List Node → Plain → Type 0
 WritesFirst o old new v =
-    SoundTree o (ordered_tree old 0) → IsWritable o v → GainsValue o v (laid (layout_for old 0 0) v) (ordered_tree old 0) (ordered_tree new 0)
+    SoundTree o (ordered_tree old 0) → IsWritable o v → InsertsValue o v (laid (layout_for old 0 0) v) (ordered_tree old 0) (ordered_tree new 0)
 
 -- if the old document was sound, and v may be written, the text is a document of the value v now, and sound
 abbrev pub ValueIsWritten : Options → List Node → List Node → Plain → Option ℕ → ℕ → Type 0
@@ -48,7 +48,7 @@ module _ (old new : List Node) where
   -- Where the document's value was to be of a kind, and v is the empty value of that: if the old document had no value and was sound, the text is a document of
   -- the value v now, and sound; and where it had one nothing has changed.
   abbrev pub FirstOrSame : Options → Plain → Option ℕ → Type 0
-  FirstOrSame o v None = SoundTree o (ordered_tree old 0) → GainsValue o v (laid (layout_for old 0 0) v) (ordered_tree old 0) (ordered_tree new 0)
+  FirstOrSame o v None = SoundTree o (ordered_tree old 0) → InsertsValue o v (laid (layout_for old 0 0) v) (ordered_tree old 0) (ordered_tree new 0)
   FirstOrSame o v (Some n) = new ≡ old
 
   -- nothing has changed, or if the old document was sound, the text is a document of the value v now, and sound
@@ -56,7 +56,7 @@ module _ (old new : List Node) where
   KeptOrWritten true o v n m = new ≡ old
   KeptOrWritten false o v n m = SoundTree o (ordered_tree old 0) → IsWrittenAt o v [] (top_at old n) (top_at new m) (ordered_tree old 0) (ordered_tree new 0)
 
-  -- the same as where a first value came, but that a value of another kind has given way to v
+  -- the same as where a first value came, but that a value of another kind has been replaced by v
   abbrev pub EmptyWritten : (Content → Bool) → Options → Plain → Option ℕ → ℕ → Type 0
   EmptyWritten kind o v None m = FirstOrSame o v None
   EmptyWritten kind o v (Some n) m = KeptOrWritten (kind (content_at old n)) o v n m
@@ -74,7 +74,7 @@ module _ (old new : List Node) where
   abbrev pub RootIsWritten : Options → Plain → CstNode → Type 0
   RootIsWritten o v now = ValueIsWritten o old new v (value_at old 0) (number_of now)
 
-  -- its literals have given way to those that are written for v
+  -- its literals have been replaced by those that are written for v
   abbrev pub RootIsMarked : Options → Plain → Type 0
   RootIsMarked o v = RootMarkedFor old new o v (value_at old 0)
 
@@ -131,7 +131,7 @@ module _ (old new : List Node) where
   abbrev pub EmptyArrayMarked : Options → Type 0
   EmptyArrayMarked o = EmptyMarked old new is_array o (value_at old 0)
 
-  -- the property n has given way to one of this name and value, which is this node
+  -- the property n has been replaced by one of this name and value, which is this node
   abbrev pub PropertyBecomes : ℕ → List ℕ → Plain → CstNode → Type 0
   PropertyBecomes n name v now = IsPropertyReplaced old new n name v (number_of now)
 

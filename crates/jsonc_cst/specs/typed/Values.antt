@@ -23,7 +23,7 @@ use Rattle.jsonc_cst.specs.Nodes.{number_of}
 use Rattle.jsonc_cst.specs.typed.Around.{StaysAroundValue}
 use Rattle.jsonc_cst.specs.typed.Marked.{IsMarkedFor}
 
--- the value that the property p held, if it held one, has given way to v, and else v has come behind all that it holds: it is the node m now
+-- the value that the property p held, if it held one, has been replaced by v, and else v has come behind all that it holds: it is the node m now
 abbrev pub HeldBecomes : List Node → List Node → ℕ → Plain → Option ℕ → ℕ → Type 0
 HeldBecomes old new p v None m = LastValue old new p v m
 HeldBecomes old new p v (Some n) m = IsReplaced old new n v m
@@ -34,14 +34,14 @@ IsUnder ns p node = parent_at ns (number_of node) ≡ Some p
 
 module _ (old new : List Node) where
   -- v has become the value of the property p, which is this node
-  abbrev pub PropertyHolds : ℕ → Plain → CstNode → Type 0
-  PropertyHolds p v now = HeldBecomes old new p v (value_at old p) (number_of now)
+  abbrev pub ValueIs : ℕ → Plain → CstNode → Type 0
+  ValueIs p v now = HeldBecomes old new p v (value_at old p) (number_of now)
 
   -- if the old document was sound, and the property's old value stood in it at a path, the text is a document again, with v at that path
   abbrev pub HeldIsWritten : Options → ℕ → Plain → CstNode → Type 0
   HeldIsWritten o p v now = (n : ℕ) → value_at old p ≡ Some n → Writes o old new n (number_of now) v
 
-  -- and the old value's literals and comments have given way to the literals that are written for v; all others stay, in order
+  -- and the old value's literals and comments have been replaced by the literals that are written for v; all others stay, in order
   abbrev pub HeldIsMarked : ℕ → Plain → Type 0
   HeldIsMarked p v = (n : ℕ) → value_at old p ≡ Some n → IsMarkedFor old new n v
 
@@ -82,8 +82,8 @@ abbrev pub IsChildOf : {A : Type 0} → CstRootNode A → CstNode → CstNode �
 IsChildOf d container node = IsUnder (nodes_of d) (number_of container) node
 
 module _ {A : Type 0} (old new : CstRootNode A) where
-  abbrev pub NowHolds : CstNode → Plain → CstNode → Type 0
-  NowHolds node v now = PropertyHolds (nodes_of old) (nodes_of new) (number_of node) v now
+  abbrev pub NodeValueIs : CstNode → Plain → CstNode → Type 0
+  NodeValueIs node v now = ValueIs (nodes_of old) (nodes_of new) (number_of node) v now
 
   abbrev pub HasWrittenValue : Options → CstNode → Plain → CstNode → Type 0
   HasWrittenValue o node v now = HeldIsWritten (nodes_of old) (nodes_of new) o (number_of node) v now

@@ -6,7 +6,7 @@ ghost use Rattle.std.specs.Iterator.{YieldsFirst, item_count};
 ghost use Rattle.std.specs.List.{All};
 ghost use Rattle.jsonc_tree.specs.Content.{Content};
 ghost use Rattle.jsonc_tree.specs.Tree.{is_container_at};
-ghost use Rattle.jsonc_cst.specs.Document.{allocator_of, content_of, nodes_of, Holds};
+ghost use Rattle.jsonc_cst.specs.Document.{allocator_of, content_of, nodes_of, HasNode};
 ghost use Rattle.jsonc_cst.specs.Nodes.{container_of, root_node, typed_at};
 ghost use Rattle.jsonc_cst.specs.Nodes.{parent_node, child_nodes, IsAs, IsNodeOf};
 ghost use Rattle.jsonc_cst.specs.Tree.{NodesAreTree};
@@ -25,7 +25,7 @@ use std::marker::Model;
 pub fn node_at<A: Allocator>(tree: &Tree<A>, number: usize) -> CstNode
     requires { number < length tree.now.nodes }
     ensures node { result ≡ typed_at tree.now.nodes number }
-    ensures held { IsNodeOf tree.now.nodes result }
+    ensures in_document { IsNodeOf tree.now.nodes result }
 {
     match tree.kind(number) {
         Kind::Root(_) => CstRoot { number }.into(),
@@ -46,10 +46,10 @@ pub fn node_at<A: Allocator>(tree: &Tree<A>, number: usize) -> CstNode
 
 // The container that stands under a number.
 fn container_at<A: Allocator>(tree: &Tree<A>, number: usize) -> CstContainerNode
-    requires there { number < length tree.now.nodes }
+    requires in_tree { number < length tree.now.nodes }
     requires container { IsTrue (is_container_at tree.now.nodes number) }
     ensures node { result ≡ container_of tree.now.nodes number }
-    ensures held { IsNodeOf tree.now.nodes (CstNode.Container result) }
+    ensures in_document { IsNodeOf tree.now.nodes (CstNode.Container result) }
 {
     match tree.kind(number) {
         Kind::Root(_) => CstRoot { number }.into(),
@@ -64,7 +64,7 @@ fn container_at<A: Allocator>(tree: &Tree<A>, number: usize) -> CstContainerNode
 pub(super) fn parent_of<A: Allocator>(tree: &Tree<A>, number: usize) -> Option<CstContainerNode>
     requires { number < length tree.now.nodes }
     ensures parent { result ≡ parent_node tree.now.nodes number }
-    ensures held { IfSome result (λ c. IsNodeOf tree.now.nodes (CstNode.Container c)) }
+    ensures in_document { IfSome result (λ c. IsNodeOf tree.now.nodes (CstNode.Container c)) }
 {
     let Some(parent) = tree.parent(number) else {
         return None;
@@ -76,7 +76,7 @@ pub(super) fn parent_of<A: Allocator>(tree: &Tree<A>, number: usize) -> Option<C
 pub(super) fn child_of<A: Allocator>(tree: &Tree<A>, number: usize, place: usize) -> Option<CstNode>
     requires { number < length tree.now.nodes }
     ensures child { result ≡ slice_get (child_nodes tree.now.nodes number) place }
-    ensures held { IfSome result (IsNodeOf tree.now.nodes) }
+    ensures in_document { IfSome result (IsNodeOf tree.now.nodes) }
 {
     if place >= tree.child_count(number) {
         return None;
@@ -92,7 +92,7 @@ pub(super) fn children_of<A: Allocator>(
 ) -> Result<Vec<CstNode, A>, AllocError>
     requires { number < length tree.now.nodes }
     ensures children { IfOk result (λ v. v.items ≡ child_nodes tree.now.nodes number) }
-    ensures held { IfOk result (λ v. All (IsNodeOf tree.now.nodes) v.items) }
+    ensures in_document { IfOk result (λ v. All (IsNodeOf tree.now.nodes) v.items) }
 {
     let mut children = Vec::new(alloc);
     for child in tree.children(number) {
@@ -110,27 +110,30 @@ impl<A: Allocator> CstRootNode<A> {
         &self.tree
     }
 
-    /// What gives the memory for all that is read of it and written into it.
+    /// The allocator of the document.
+    ///
+    /// It gives the memory for all that is read of the document and written into it.
     pub fn allocator(&self) -> &A
         ensures { result.now ≡ allocator_of self.now }
     {
         &self.alloc
     }
 
-    /// The root as a node.
+    /// The root, as a node.
     pub fn root(&self) -> CstRoot
         ensures first { result.number ≡ 0 }
-        ensures held { Holds self.now (root_node result) }
+        ensures in_document { HasNode self.now (root_node result) }
         ensures tree { NodesAreTree self.now }
     {
         CstRoot { number: 0 }
     }
 
-    /// Whether the document has this node: under its number stands one of its kind.
+    /// Whether the document has this node.
     ///
-    /// That may be so of a node of another document too, since nodes are known by their numbers.
+    /// It has where a node of this kind stands under the node's number. That may be so of a node of
+    /// another document too, since nodes are known by their numbers.
     pub fn holds(&self, node: CstNode) -> bool
-        ensures { IsTrue result ↔ Holds self.now node }
+        ensures { IsTrue result ↔ HasNode self.now node }
     {
         let number = node.number();
         if number >= self.tree.len() {
@@ -141,9 +144,9 @@ impl<A: Allocator> CstRootNode<A> {
 }
 
 impl CstNode {
-    /// The character of a bracket, comma or colon, or None of another node.
+    /// Its character, if it is a bracket, comma or colon.
     pub fn token_char<A: Allocator>(self, doc: &CstRootNode<A>) -> Option<char>
-        requires { Holds doc.now self }
+        requires { HasNode doc.now self }
         ensures { IsAs Content.token (content_of doc.now self) result }
     {
         match doc.tree.kind(self.number()) {
@@ -154,7 +157,7 @@ impl CstNode {
 
     /// Whether it is a comma.
     pub fn is_comma<A: Allocator>(self, doc: &CstRootNode<A>) -> bool
-        requires { Holds doc.now self }
+        requires { HasNode doc.now self }
         ensures { IsTrue result ↔ (content_of doc.now self ≡ Content.token 44) }
     {
         match doc.tree.kind(self.number()) {
@@ -164,7 +167,9 @@ impl CstNode {
     }
 }
 
-/// The containers above a node, nearest first, seen as the list of those that are left.
+/// An iterator over the containers above a node, nearest first.
+///
+/// It is seen as the list of those that are left.
 #[derive(Drop)]
 pub struct AncestorIterator<'a, A: Allocator> {
     pub(super) tree: &'a Tree<A>,

@@ -3,14 +3,14 @@
 ghost use Rattle.std.specs.Prelude.{◌≡◌, ◌<◌, length, IfErr, IfOk, IfSome};
 ghost use Rattle.std.specs.List.{All, find};
 ghost use Rattle.jsonc_layout.specs.nodes.Siblings.{siblings_after, siblings_before};
-ghost use Rattle.jsonc_cst.specs.Document.{Holds};
+ghost use Rattle.jsonc_cst.specs.Document.{HasNode};
 ghost use Rattle.jsonc_cst.specs.Nodes.{array_node, object_node, object_prop_node, typed_at};
 ghost use Rattle.jsonc_cst.specs.Readings.{elements_of, element_index_of, properties_of};
 ghost use Rattle.jsonc_cst.specs.Readings.{previous_property_of, next_property_of, property_index_of};
 ghost use Rattle.jsonc_cst.specs.Readings.{is_property_at, typed_all};
 
 use super::access::node_at;
-use super::navigation::{HasChildren, IsNode};
+use super::navigation::{ParentNode, TypedNode};
 use super::node::{CstArray, CstContainerNode, CstNode, CstNullKeyword, CstObject, CstObjectProp};
 use super::{CstRootNode, EditError};
 use jsonc_layout::nodes::{children_from, next_siblings, previous_siblings};
@@ -71,10 +71,11 @@ pub(super) fn nodes_at<A: Allocator + Copy>(
 }
 
 impl CstNode {
-    /// Its place among the elements of its array, counted from 0: None of what is no element of an
-    /// array.
+    /// Its place among the elements of its array, counted from 0.
+    ///
+    /// None for what is no element of an array.
     pub fn element_index<A: Allocator>(self, doc: &CstRootNode<A>) -> Option<usize>
-        requires { Holds doc.now self }
+        requires { HasNode doc.now self }
         ensures { result ≡ element_index_of doc.now self }
     {
         if !self.is_element() {
@@ -95,9 +96,9 @@ impl CstArray {
         self,
         doc: &CstRootNode<A>,
     ) -> Result<Vec<CstNode, A>, EditError>
-        requires { Holds doc.now (array_node self) }
+        requires { HasNode doc.now (array_node self) }
         ensures elements { IfOk result (λ v. v.items ≡ elements_of doc.now (array_node self)) }
-        ensures held { IfOk result (λ v. All (Holds doc.now) v.items) }
+        ensures in_document { IfOk result (λ v. All (HasNode doc.now) v.items) }
         ensures memory { IfErr result (λ e. e ≡ EditError.OutOfMemory) }
     {
         self.children_exclude_trivia_and_tokens(doc)
@@ -110,9 +111,9 @@ impl CstObject {
         self,
         doc: &CstRootNode<A>,
     ) -> Result<Vec<CstObjectProp, A>, EditError>
-        requires { Holds doc.now (object_node self) }
+        requires { HasNode doc.now (object_node self) }
         ensures properties { IfOk result (λ v. v.items ≡ properties_of doc.now self) }
-        ensures held { IfOk result (λ v. All (λ p. Holds doc.now (object_prop_node p)) v.items) }
+        ensures in_document { IfOk result (λ v. All (λ p. HasNode doc.now (object_prop_node p)) v.items) }
         ensures memory { IfErr result (λ e. e ≡ EditError.OutOfMemory) }
     {
         let Ok(properties) = children_from(&doc.tree, self.number, 0)
@@ -127,9 +128,11 @@ impl CstObject {
 }
 
 impl CstObjectProp {
-    /// Its place among the properties of its object, counted from 0, or 0 where it is in none.
+    /// Its place among the properties of its object, counted from 0.
+    ///
+    /// It is 0 where the property is in no object.
     pub fn property_index<A: Allocator>(self, doc: &CstRootNode<A>) -> usize
-        requires { Holds doc.now (object_prop_node self) }
+        requires { HasNode doc.now (object_prop_node self) }
         ensures { result ≡ property_index_of doc.now self }
     {
         match self.parent(doc) {
@@ -140,11 +143,11 @@ impl CstObjectProp {
         }
     }
 
-    /// The nearest property before it, among its siblings.
+    /// The nearest property before it among its siblings.
     pub fn previous_property<A: Allocator>(self, doc: &CstRootNode<A>) -> Option<CstObjectProp>
-        requires { Holds doc.now (object_prop_node self) }
+        requires { HasNode doc.now (object_prop_node self) }
         ensures property { result ≡ previous_property_of doc.now self }
-        ensures held { IfSome result (λ p. Holds doc.now (object_prop_node p)) }
+        ensures in_document { IfSome result (λ p. HasNode doc.now (object_prop_node p)) }
     {
         let Some(number) = property_before(&doc.tree, self.number) else {
             return None;
@@ -152,11 +155,11 @@ impl CstObjectProp {
         Some(CstObjectProp { number })
     }
 
-    /// The nearest property after it, among its siblings.
+    /// The nearest property after it among its siblings.
     pub fn next_property<A: Allocator>(self, doc: &CstRootNode<A>) -> Option<CstObjectProp>
-        requires { Holds doc.now (object_prop_node self) }
+        requires { HasNode doc.now (object_prop_node self) }
         ensures property { result ≡ next_property_of doc.now self }
-        ensures held { IfSome result (λ p. Holds doc.now (object_prop_node p)) }
+        ensures in_document { IfSome result (λ p. HasNode doc.now (object_prop_node p)) }
     {
         let Some(number) = property_after(&doc.tree, self.number) else {
             return None;

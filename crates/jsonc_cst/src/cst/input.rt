@@ -8,8 +8,10 @@ pub use jsonc_layout::input::CstInputValue;
 use std::alloc::Allocator;
 
 impl<A: Allocator + Copy> CstRootNode<A> {
-    /// What the document's value stands for, as a value for edits. Of a document that was read it is
-    /// the text's value, of equal names the last at the first place.
+    /// The document's value, as a value for edits.
+    ///
+    /// For a parsed document that is the text's value; of equal names the last value stands at the
+    /// first place.
     pub fn to_value(&self) -> Result<Option<CstInputValue<A>>, EditError>
         ensures value { IfOk result (IsDocumentTaken self.now) }
         ensures memory { IfErr result (λ e. e ≡ EditError.OutOfMemory) }

@@ -10,7 +10,7 @@ ghost use Rattle.jsonc_cst.specs.Nodes.{string_lit_node, number_lit_node, boolea
 ghost use Rattle.jsonc_cst.specs.Nodes.{null_keyword_node, word_lit_node, name_node};
 ghost use Rattle.jsonc_cst.specs.Nodes.{token_node, whitespace_node, newline_node, comment_node};
 
-use super::navigation::{HasChildren, IsNode};
+use super::navigation::{ParentNode, TypedNode};
 use super::node::{
     CstArray, CstBooleanLit, CstComment, CstContainerNode, CstLeafNode, CstNewline, CstNode,
     CstNullKeyword, CstNumberLit, CstObject, CstObjectProp, CstRoot, CstStringLit, CstToken,
@@ -268,7 +268,7 @@ impl From<ObjectPropName> for CstNode {
     }
 }
 
-impl IsNode for CstNode {
+impl TypedNode for CstNode {
     ghost node_of = { λ x. x };
 
     fn node(self) -> CstNode {
@@ -276,7 +276,7 @@ impl IsNode for CstNode {
     }
 }
 
-impl IsNode for CstRoot {
+impl TypedNode for CstRoot {
     ghost node_of = { root_node };
 
     fn node(self) -> CstNode {
@@ -284,7 +284,7 @@ impl IsNode for CstRoot {
     }
 }
 
-impl IsNode for CstArray {
+impl TypedNode for CstArray {
     ghost node_of = { array_node };
 
     fn node(self) -> CstNode {
@@ -292,7 +292,7 @@ impl IsNode for CstArray {
     }
 }
 
-impl IsNode for CstObject {
+impl TypedNode for CstObject {
     ghost node_of = { object_node };
 
     fn node(self) -> CstNode {
@@ -300,7 +300,7 @@ impl IsNode for CstObject {
     }
 }
 
-impl IsNode for CstObjectProp {
+impl TypedNode for CstObjectProp {
     ghost node_of = { object_prop_node };
 
     fn node(self) -> CstNode {
@@ -308,7 +308,7 @@ impl IsNode for CstObjectProp {
     }
 }
 
-impl IsNode for CstBooleanLit {
+impl TypedNode for CstBooleanLit {
     ghost node_of = { boolean_lit_node };
 
     fn node(self) -> CstNode {
@@ -316,7 +316,7 @@ impl IsNode for CstBooleanLit {
     }
 }
 
-impl IsNode for CstNullKeyword {
+impl TypedNode for CstNullKeyword {
     ghost node_of = { null_keyword_node };
 
     fn node(self) -> CstNode {
@@ -324,7 +324,7 @@ impl IsNode for CstNullKeyword {
     }
 }
 
-impl IsNode for CstNumberLit {
+impl TypedNode for CstNumberLit {
     ghost node_of = { number_lit_node };
 
     fn node(self) -> CstNode {
@@ -332,7 +332,7 @@ impl IsNode for CstNumberLit {
     }
 }
 
-impl IsNode for CstStringLit {
+impl TypedNode for CstStringLit {
     ghost node_of = { string_lit_node };
 
     fn node(self) -> CstNode {
@@ -340,7 +340,7 @@ impl IsNode for CstStringLit {
     }
 }
 
-impl IsNode for CstWordLit {
+impl TypedNode for CstWordLit {
     ghost node_of = { word_lit_node };
 
     fn node(self) -> CstNode {
@@ -348,7 +348,7 @@ impl IsNode for CstWordLit {
     }
 }
 
-impl IsNode for CstToken {
+impl TypedNode for CstToken {
     ghost node_of = { token_node };
 
     fn node(self) -> CstNode {
@@ -356,7 +356,7 @@ impl IsNode for CstToken {
     }
 }
 
-impl IsNode for CstWhitespace {
+impl TypedNode for CstWhitespace {
     ghost node_of = { whitespace_node };
 
     fn node(self) -> CstNode {
@@ -364,7 +364,7 @@ impl IsNode for CstWhitespace {
     }
 }
 
-impl IsNode for CstNewline {
+impl TypedNode for CstNewline {
     ghost node_of = { newline_node };
 
     fn node(self) -> CstNode {
@@ -372,7 +372,7 @@ impl IsNode for CstNewline {
     }
 }
 
-impl IsNode for CstComment {
+impl TypedNode for CstComment {
     ghost node_of = { comment_node };
 
     fn node(self) -> CstNode {
@@ -380,7 +380,7 @@ impl IsNode for CstComment {
     }
 }
 
-impl IsNode for CstContainerNode {
+impl TypedNode for CstContainerNode {
     ghost node_of = { CstNode.Container };
 
     fn node(self) -> CstNode {
@@ -388,7 +388,7 @@ impl IsNode for CstContainerNode {
     }
 }
 
-impl IsNode for CstLeafNode {
+impl TypedNode for CstLeafNode {
     ghost node_of = { CstNode.Leaf };
 
     fn node(self) -> CstNode {
@@ -396,7 +396,7 @@ impl IsNode for CstLeafNode {
     }
 }
 
-impl IsNode for ObjectPropName {
+impl TypedNode for ObjectPropName {
     ghost node_of = { name_node };
 
     fn node(self) -> CstNode {
@@ -404,14 +404,14 @@ impl IsNode for ObjectPropName {
     }
 }
 
-impl HasChildren for CstNode {}
+impl ParentNode for CstNode {}
 
-impl HasChildren for CstContainerNode {}
+impl ParentNode for CstContainerNode {}
 
-impl HasChildren for CstRoot {}
+impl ParentNode for CstRoot {}
 
-impl HasChildren for CstArray {}
+impl ParentNode for CstArray {}
 
-impl HasChildren for CstObject {}
+impl ParentNode for CstObject {}
 
-impl HasChildren for CstObjectProp {}
+impl ParentNode for CstObjectProp {}

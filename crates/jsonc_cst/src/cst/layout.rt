@@ -25,8 +25,10 @@ pub(super) fn comments_under<A: Allocator>(
 }
 
 impl<A: Allocator + Copy> CstRootNode<A> {
-    /// The indent of one level: the whitespace directly after the nearest line end before the first
-    /// element of the document's value. None where no line ends there, or something else follows.
+    /// The whitespace that indents one level, if the document tells.
+    ///
+    /// It is what stands directly after the nearest line end before the first element of the
+    /// document's value. None where no line ends there, or something else follows.
     pub fn single_indent_text(&self) -> Result<Option<String<A>>, EditError>
         ensures indent { IfOk result (λ o. option_map string_bytes o ≡ level_indent self.now) }
         ensures memory { IfErr result (λ e. e ≡ EditError.OutOfMemory) }
@@ -37,7 +39,9 @@ impl<A: Allocator + Copy> CstRootNode<A> {
         Ok(indent)
     }
 
-    /// How its lines end: as the first of them, level after level from the root down, or by LF.
+    /// How the document's lines end.
+    ///
+    /// They end as the first of them, level after level from the root down, or by LF.
     pub fn newline_kind(&self) -> Result<CstNewlineKind, EditError>
         ensures kind { IfOk result (λ kind. kind ≡ newline_kind_of (nodes_of self.now)) }
         ensures memory { IfErr result (λ e. e ≡ EditError.OutOfMemory) }

@@ -3,7 +3,7 @@
 ghost use Rattle.std.specs.Prelude.{◌≡◌};
 ghost use Rattle.jsonc_tree.specs.Content.{Content};
 ghost use Rattle.jsonc_sound.specs.Lines.{is_line_comment};
-ghost use Rattle.jsonc_cst.specs.Document.{content_of, Holds};
+ghost use Rattle.jsonc_cst.specs.Document.{content_of, HasNode};
 ghost use Rattle.jsonc_cst.specs.Nodes.{boolean_lit_node, string_lit_node, number_lit_node};
 ghost use Rattle.jsonc_cst.specs.Nodes.{word_lit_node, token_node, whitespace_node};
 ghost use Rattle.jsonc_cst.specs.Nodes.{newline_node, comment_node};
@@ -17,9 +17,9 @@ use jsonc_tree::{CstNewlineKind, Kind};
 use std::alloc::Allocator;
 
 impl CstStringLit {
-    /// The string as it is written, with its quotes.
+    /// The string as it is written. Its quotes are part of it.
     pub fn raw_value<A: Allocator>(self, doc: &CstRootNode<A>) -> &str
-        requires { Holds doc.now (string_lit_node self) }
+        requires { HasNode doc.now (string_lit_node self) }
         ensures { content_of doc.now (string_lit_node self) ≡ Content.string result.now }
     {
         match doc.tree.kind(self.number) {
@@ -33,7 +33,7 @@ impl CstStringLit {
 impl CstNumberLit {
     /// The number as it is written.
     pub fn raw_value<A: Allocator>(self, doc: &CstRootNode<A>) -> &str
-        requires { Holds doc.now (number_lit_node self) }
+        requires { HasNode doc.now (number_lit_node self) }
         ensures { content_of doc.now (number_lit_node self) ≡ Content.number result.now }
     {
         match doc.tree.kind(self.number) {
@@ -47,7 +47,7 @@ impl CstNumberLit {
 impl CstWordLit {
     /// The word as it is written.
     pub fn raw_value<A: Allocator>(self, doc: &CstRootNode<A>) -> &str
-        requires { Holds doc.now (word_lit_node self) }
+        requires { HasNode doc.now (word_lit_node self) }
         ensures { content_of doc.now (word_lit_node self) ≡ Content.word result.now }
     {
         match doc.tree.kind(self.number) {
@@ -61,7 +61,7 @@ impl CstWordLit {
 impl CstBooleanLit {
     /// Whether it is `true`.
     pub fn value<A: Allocator>(self, doc: &CstRootNode<A>) -> bool
-        requires { Holds doc.now (boolean_lit_node self) }
+        requires { HasNode doc.now (boolean_lit_node self) }
         ensures { content_of doc.now (boolean_lit_node self) ≡ Content.boolean result }
     {
         match doc.tree.kind(self.number) {
@@ -74,7 +74,7 @@ impl CstBooleanLit {
 impl CstToken {
     /// Its character.
     pub fn value<A: Allocator>(self, doc: &CstRootNode<A>) -> char
-        requires { Holds doc.now (token_node self) }
+        requires { HasNode doc.now (token_node self) }
         ensures { content_of doc.now (token_node self) ≡ Content.token result }
     {
         match doc.tree.kind(self.number) {
@@ -87,7 +87,7 @@ impl CstToken {
 impl CstWhitespace {
     /// The blanks.
     pub fn value<A: Allocator>(self, doc: &CstRootNode<A>) -> &str
-        requires { Holds doc.now (whitespace_node self) }
+        requires { HasNode doc.now (whitespace_node self) }
         ensures { content_of doc.now (whitespace_node self) ≡ Content.whitespace result.now }
     {
         match doc.tree.kind(self.number) {
@@ -101,7 +101,7 @@ impl CstWhitespace {
 impl CstNewline {
     /// How the line ends.
     pub fn kind<A: Allocator>(self, doc: &CstRootNode<A>) -> CstNewlineKind
-        requires { Holds doc.now (newline_node self) }
+        requires { HasNode doc.now (newline_node self) }
         ensures { content_of doc.now (newline_node self) ≡ Content.newline result }
     {
         match doc.tree.kind(self.number) {
@@ -112,9 +112,9 @@ impl CstNewline {
 }
 
 impl CstComment {
-    /// The comment as it is written, with its marks.
+    /// The comment as it is written. Its marks are part of it.
     pub fn raw_value<A: Allocator>(self, doc: &CstRootNode<A>) -> &str
-        requires { Holds doc.now (comment_node self) }
+        requires { HasNode doc.now (comment_node self) }
         ensures { content_of doc.now (comment_node self) ≡ Content.comment result.now }
     {
         match doc.tree.kind(self.number) {
@@ -124,9 +124,9 @@ impl CstComment {
         }
     }
 
-    /// Whether it goes to the end of its line, and so begins with `//`.
+    /// Whether it begins with `//`, and so goes to the end of its line.
     pub fn is_line_comment<A: Allocator>(self, doc: &CstRootNode<A>) -> bool
-        requires { Holds doc.now (comment_node self) }
+        requires { HasNode doc.now (comment_node self) }
         ensures { result ≡ is_line_comment (content_of doc.now (comment_node self)) }
     {
         matches!(self.raw_value(doc).as_bytes(), [b'/', b'/', ..])

@@ -3,7 +3,7 @@
 ghost use Rattle.std.specs.Prelude.{◌≡◌, ◌≢◌, chars, string_bytes, IfErr, IfOk, IfSome, OnErr};
 ghost use Rattle.jsonc_text.specs.declared.errors.ParseStringErrorKind.TheVariants.{OutOfMemory};
 ghost use Rattle.jsonc_layout.specs.nodes.Names.{HasName, HoldsEscapedName, NameReads};
-ghost use Rattle.jsonc_cst.specs.Document.{nodes_of, Holds};
+ghost use Rattle.jsonc_cst.specs.Document.{nodes_of, HasNode};
 ghost use Rattle.jsonc_cst.specs.Nodes.{name_node, object_node, object_prop_node, string_lit_node};
 ghost use Rattle.jsonc_cst.specs.Readings.{IsFirstNamed, LeafIsNoString, LeafStandsFor, NameIsNoString, NameStandsFor};
 
@@ -13,14 +13,15 @@ use jsonc_text::errors::ParseStringErrorKind;
 use std::alloc::Allocator;
 
 impl CstStringLit {
-    /// What the string stands for. What follows its closing quote is ignored.
+    /// What the string stands for, its escapes decoded.
     ///
-    /// A leaf with no quote in front is `UnterminatedStringLiteral`, want of memory `OutOfMemory`.
+    /// What follows its closing quote is ignored. A leaf with no quote in front is the error
+    /// `UnterminatedStringLiteral`, an allocation failure `OutOfMemory`.
     pub fn decoded_value<A: Allocator + Copy>(
         self,
         doc: &CstRootNode<A>,
     ) -> Result<String<A>, ParseStringErrorKind>
-        requires { Holds doc.now (string_lit_node self) }
+        requires { HasNode doc.now (string_lit_node self) }
         ensures found { IfOk result (λ s. LeafStandsFor doc.now self (chars (string_bytes s))) }
         ensures fault { IfErr result (λ k. k ≢ OutOfMemory → LeafIsNoString doc.now self k) }
     {
@@ -29,12 +30,14 @@ impl CstStringLit {
 }
 
 impl ObjectPropName {
-    /// What the name stands for: a string decoded, as by its own call, and a word as it is written.
+    /// What the name stands for, its escapes decoded.
+    ///
+    /// A string is decoded as by its own call; a word is as it is written.
     pub fn decoded_value<A: Allocator + Copy>(
         self,
         doc: &CstRootNode<A>,
     ) -> Result<String<A>, ParseStringErrorKind>
-        requires { Holds doc.now (name_node self) }
+        requires { HasNode doc.now (name_node self) }
         ensures found { IfOk result (λ s. NameStandsFor doc.now self (chars (string_bytes s))) }
         ensures fault { IfErr result (λ k. k ≢ OutOfMemory → NameIsNoString doc.now self k) }
     {
@@ -49,14 +52,14 @@ impl ObjectPropName {
 }
 
 impl CstObjectProp {
-    /// Its name with its escapes resolved, or None where it has no name that decodes.
+    /// Its name with its escapes decoded, if it has one that decodes.
     ///
-    /// A name without quotes is its text. Want of memory is `OutOfMemory`, and the one error.
+    /// A name without quotes is its text. The one error is `OutOfMemory`.
     pub fn decoded_name<A: Allocator + Copy>(
         self,
         doc: &CstRootNode<A>,
     ) -> Result<Option<String<A>>, ParseStringErrorKind>
-        requires { Holds doc.now (object_prop_node self) }
+        requires { HasNode doc.now (object_prop_node self) }
         ensures name { IfOk result (NameReads (HasName (nodes_of doc.now) self.number)) }
         ensures memory { IfErr result (λ k. k ≡ OutOfMemory) }
     {
@@ -68,17 +71,18 @@ impl CstObjectProp {
 }
 
 impl CstObject {
-    /// Its first property of a name. A name in quotes is decoded, and one that does not decode is
-    /// passed over; any other name is its text. Memory is wanted only where one of its names has a
-    /// backslash.
+    /// Its first property of a name.
+    ///
+    /// A name in quotes is decoded, and one that does not decode is passed over; any other name is
+    /// its text. Memory is allocated only where one of its names has a backslash.
     pub fn get<A: Allocator + Copy>(
         self,
         doc: &CstRootNode<A>,
         name: &str,
     ) -> Result<Option<CstObjectProp>, EditError>
-        requires { Holds doc.now (object_node self) }
+        requires { HasNode doc.now (object_node self) }
         ensures found { IfOk result (IsFirstNamed doc.now self (chars name.now)) }
-        ensures held { IfOk result (λ o. IfSome o (λ p. Holds doc.now (object_prop_node p))) }
+        ensures in_document { IfOk result (λ o. IfSome o (λ p. HasNode doc.now (object_prop_node p))) }
         ensures memory { IfErr result (λ e. e ≡ EditError.OutOfMemory) }
         ensures escaped { OnErr result (HoldsEscapedName (nodes_of doc.now) self.number) }
     {

@@ -5,7 +5,7 @@ ghost use Rattle.std.specs.Prelude.{◌≡◌, option_map, string_bytes, IfErr, 
 ghost use Rattle.std.specs.List.{All, slice_get};
 ghost use Rattle.jsonc_layout.specs.lines.Lines.{blank_line_before};
 ghost use Rattle.jsonc_tree.specs.Tree.{place_at};
-ghost use Rattle.jsonc_cst.specs.Document.{nodes_of, Holds};
+ghost use Rattle.jsonc_cst.specs.Document.{nodes_of, HasNode};
 ghost use Rattle.jsonc_cst.specs.Document.{parent_of, ancestors_of, children_of};
 ghost use Rattle.jsonc_cst.specs.Layout.{indent_of, leading_comments_of, trailing_comma_of};
 ghost use Rattle.jsonc_cst.specs.Layout.{trailing_comments_of, uses_trailing_commas_of};
@@ -25,30 +25,34 @@ use jsonc_layout::input::CstInputValue;
 use jsonc_tree::Shown;
 use std::alloc::Allocator;
 
-/// What is a node of a document: a node of one kind, of some kinds, or of any.
-pub trait IsNode: Copy {
+/// A node of a document; these calls are those of all kinds.
+///
+/// A type that has it is of one kind of node, of some kinds, or of any.
+pub trait TypedNode: Copy {
     ghost use Rattle.jsonc_cst.specs.declared.cst.node.CstNode.{CstNode};
 
     ghost node_of: { Self → CstNode };
 
-    /// The node that it is.
+    /// The same node, as a `CstNode`.
     fn node(self) -> CstNode
         ensures { result ≡ node_of self };
 
-    /// The container that it is a child of, or None for the root and for a node that was taken out.
+    /// The container that it is a child of.
+    ///
+    /// None for the root and for a detached node, one that was removed or replaced.
     final fn parent<A: Allocator>(self, doc: &CstRootNode<A>) -> Option<CstContainerNode>
-        requires { Holds doc.now (node_of self) }
+        requires { HasNode doc.now (node_of self) }
         ensures parent { result ≡ parent_of doc.now (node_of self) }
-        ensures held { IfSome result (λ c. Holds doc.now (CstNode.Container c)) }
+        ensures in_document { IfSome result (λ c. HasNode doc.now (CstNode.Container c)) }
     {
         parent_of(&doc.tree, self.node().number())
     }
 
     /// The containers above it, nearest first.
     final fn ancestors<A: Allocator>(self, doc: &CstRootNode<A>) -> AncestorIterator<'_, A>
-        requires { Holds doc.now (node_of self) }
+        requires { HasNode doc.now (node_of self) }
         ensures above { result ≡ ancestors_of doc.now (node_of self) }
-        ensures held { All (λ c. Holds doc.now (CstNode.Container c)) result }
+        ensures in_document { All (λ c. HasNode doc.now (CstNode.Container c)) result }
     {
         AncestorIterator {
             tree: &doc.tree,
@@ -56,19 +60,23 @@ pub trait IsNode: Copy {
         }
     }
 
-    /// Its place among its parent's children, counted from 0, or 0 where it has no parent.
+    /// Its place among its parent's children, counted from 0.
+    ///
+    /// It is 0 where the node has no parent.
     final fn child_index<A: Allocator>(self, doc: &CstRootNode<A>) -> usize
-        requires { Holds doc.now (node_of self) }
+        requires { HasNode doc.now (node_of self) }
         ensures place { result ≡ place_at (nodes_of doc.now) (number_of (node_of self)) }
     {
         doc.tree.child_index(self.node().number())
     }
 
-    /// The root, if it stands below it: None of the root itself, and of what was taken out.
+    /// The root, if it stands below it.
+    ///
+    /// None for the root itself, and for a detached node and all below it.
     final fn root_node<A: Allocator>(self, doc: &CstRootNode<A>) -> Option<CstRoot>
-        requires { Holds doc.now (node_of self) }
+        requires { HasNode doc.now (node_of self) }
         ensures root { result ≡ root_above_of doc.now (node_of self) }
-        ensures held { IfSome result (λ r. Holds doc.now (root_node r)) }
+        ensures in_document { IfSome result (λ r. HasNode doc.now (root_node r)) }
     {
         let Some(number) = jsonc_layout::nodes::root_node(&doc.tree, self.node().number()) else {
             return None;
@@ -78,9 +86,9 @@ pub trait IsNode: Copy {
 
     /// The sibling directly before it.
     final fn previous_sibling<A: Allocator>(self, doc: &CstRootNode<A>) -> Option<CstNode>
-        requires { Holds doc.now (node_of self) }
+        requires { HasNode doc.now (node_of self) }
         ensures sibling { result ≡ slice_get (previous_siblings_of doc.now (node_of self)) 0 }
-        ensures held { IfSome result (Holds doc.now) }
+        ensures in_document { IfSome result (HasNode doc.now) }
     {
         let Some(number) = jsonc_layout::nodes::previous_sibling(&doc.tree, self.node().number())
         else {
@@ -91,9 +99,9 @@ pub trait IsNode: Copy {
 
     /// The sibling directly after it.
     final fn next_sibling<A: Allocator>(self, doc: &CstRootNode<A>) -> Option<CstNode>
-        requires { Holds doc.now (node_of self) }
+        requires { HasNode doc.now (node_of self) }
         ensures sibling { result ≡ slice_get (next_siblings_of doc.now (node_of self)) 0 }
-        ensures held { IfSome result (Holds doc.now) }
+        ensures in_document { IfSome result (HasNode doc.now) }
     {
         let Some(number) = jsonc_layout::nodes::next_sibling(&doc.tree, self.node().number()) else {
             return None;
@@ -106,9 +114,9 @@ pub trait IsNode: Copy {
         self,
         doc: &CstRootNode<A>,
     ) -> PreviousSiblingIterator<'_, A>
-        requires { Holds doc.now (node_of self) }
+        requires { HasNode doc.now (node_of self) }
         ensures before { result ≡ previous_siblings_of doc.now (node_of self) }
-        ensures held { All (Holds doc.now) result }
+        ensures in_document { All (HasNode doc.now) result }
     {
         PreviousSiblingIterator {
             tree: &doc.tree,
@@ -118,9 +126,9 @@ pub trait IsNode: Copy {
 
     /// The siblings after it, nearest first.
     final fn next_siblings<A: Allocator>(self, doc: &CstRootNode<A>) -> NextSiblingIterator<'_, A>
-        requires { Holds doc.now (node_of self) }
+        requires { HasNode doc.now (node_of self) }
         ensures after { result ≡ next_siblings_of doc.now (node_of self) }
-        ensures held { All (Holds doc.now) result }
+        ensures in_document { All (HasNode doc.now) result }
     {
         NextSiblingIterator {
             tree: &doc.tree,
@@ -128,22 +136,25 @@ pub trait IsNode: Copy {
         }
     }
 
-    /// It, to be printed with what is below it: as it stands in the text.
+    /// Prints the node, and all below it, as it stands in the text.
+    ///
+    /// The answer has `Display`.
     final fn shown<A: Allocator>(self, doc: &CstRootNode<A>) -> Shown<'_, A>
-        requires { Holds doc.now (node_of self) }
+        requires { HasNode doc.now (node_of self) }
         ensures nodes { result.nodes ≡ nodes_of doc.now }
         ensures node { result.node ≡ number_of (node_of self) }
     {
         doc.tree.shown(self.node().number())
     }
 
-    /// The whitespace that its line begins with, if nothing but blanks and comments stands before it
-    /// there. None also where the line does not begin with whitespace.
+    /// The whitespace that its line begins with, if only blanks and comments stand before it.
+    ///
+    /// None also where the line does not begin with whitespace.
     final fn indent_text<A: Allocator + Copy>(
         self,
         doc: &CstRootNode<A>,
     ) -> Result<Option<String<A>>, EditError>
-        requires { Holds doc.now (node_of self) }
+        requires { HasNode doc.now (node_of self) }
         ensures indent { IfOk result (λ o. option_map string_bytes o ≡ indent_of doc.now (node_of self)) }
         ensures memory { IfErr result (λ e. e ≡ EditError.OutOfMemory) }
     {
@@ -157,20 +168,21 @@ pub trait IsNode: Copy {
         Ok(indent)
     }
 
-    /// Whether a blank line stands in the trivia directly before it: two line ends with nothing but
-    /// whitespace between them.
+    /// Whether a blank line stands among the blanks, line ends and comments directly before it.
+    ///
+    /// A blank line is two line ends with nothing but whitespace between them.
     final fn has_blank_line_before<A: Allocator>(self, doc: &CstRootNode<A>) -> bool
-        requires { Holds doc.now (node_of self) }
+        requires { HasNode doc.now (node_of self) }
         ensures { result ≡ blank_line_before (nodes_of doc.now) (number_of (node_of self)) }
     {
         jsonc_layout::lines::has_blank_line_before(&doc.tree, self.node().number())
     }
 
-    /// The comma after it, with nothing but blanks, line ends and comments between them.
+    /// The comma after it, if only blanks, line ends and comments stand between.
     final fn trailing_comma<A: Allocator>(self, doc: &CstRootNode<A>) -> Option<CstToken>
-        requires { Holds doc.now (node_of self) }
+        requires { HasNode doc.now (node_of self) }
         ensures comma { result ≡ trailing_comma_of doc.now (node_of self) }
-        ensures held { IfSome result (λ t. Holds doc.now (token_node t)) }
+        ensures in_document { IfSome result (λ t. HasNode doc.now (token_node t)) }
     {
         let Some(number) = jsonc_layout::lines::trailing_comma(&doc.tree, self.node().number())
         else {
@@ -179,14 +191,16 @@ pub trait IsNode: Copy {
         Some(CstToken { number })
     }
 
-    /// Whether commas stand after last elements: in the first array or object, level after level from
-    /// the node down, that has whitespace between its brackets and an element. False where there is
-    /// none.
+    /// Whether the nearest laid-out array or object, from the node down, has a comma behind its
+    /// last element.
+    ///
+    /// Laid out is one that has whitespace between its brackets and an element, and the nearest is
+    /// the first of them, level after level. False where there is none.
     final fn uses_trailing_commas<A: Allocator + Copy>(
         self,
         doc: &CstRootNode<A>,
     ) -> Result<bool, EditError>
-        requires { Holds doc.now (node_of self) }
+        requires { HasNode doc.now (node_of self) }
         ensures uses { IfOk result (λ uses. uses ≡ uses_trailing_commas_of doc.now (node_of self)) }
         ensures memory { IfErr result (λ e. e ≡ EditError.OutOfMemory) }
     {
@@ -203,9 +217,9 @@ pub trait IsNode: Copy {
         self,
         doc: &CstRootNode<A>,
     ) -> Result<Vec<CstComment, A>, EditError>
-        requires { Holds doc.now (node_of self) }
+        requires { HasNode doc.now (node_of self) }
         ensures comments { IfOk result (λ v. v.items ≡ leading_comments_of doc.now (node_of self)) }
-        ensures held { IfOk result (λ v. All (λ c. Holds doc.now (comment_node c)) v.items) }
+        ensures in_document { IfOk result (λ v. All (λ c. HasNode doc.now (comment_node c)) v.items) }
         ensures memory { IfErr result (λ e. e ≡ EditError.OutOfMemory) }
     {
         let number = self.node().number();
@@ -220,15 +234,16 @@ pub trait IsNode: Copy {
         Ok(comments)
     }
 
-    /// The comments after it on its line, if nothing but whitespace and comments stands there; else
-    /// none.
+    /// The comments after it on its line, where only whitespace and comments stand there.
+    ///
+    /// None of them where anything else stands there.
     final fn trailing_comments_same_line<A: Allocator + Copy>(
         self,
         doc: &CstRootNode<A>,
     ) -> Result<Vec<CstComment, A>, EditError>
-        requires { Holds doc.now (node_of self) }
+        requires { HasNode doc.now (node_of self) }
         ensures comments { IfOk result (λ v. v.items ≡ trailing_comments_of doc.now (node_of self)) }
-        ensures held { IfOk result (λ v. All (λ c. Holds doc.now (comment_node c)) v.items) }
+        ensures in_document { IfOk result (λ v. All (λ c. HasNode doc.now (comment_node c)) v.items) }
         ensures memory { IfErr result (λ e. e ≡ EditError.OutOfMemory) }
     {
         let number = self.node().number();
@@ -243,16 +258,17 @@ pub trait IsNode: Copy {
         Ok(comments)
     }
 
-    /// What it stands for, as a value for edits: a property gives its value's, the root its value's.
+    /// What it stands for, as a value for edits.
     ///
-    /// Numbers are as written, strings decoded; of equal names the last value stands at the first
-    /// place. A word, a token, trivia and a string that does not decode give None. What gives None
-    /// inside a container, or has no name that decodes, is passed over.
+    /// A property gives its value's, the root its value's. Numbers are as written, strings decoded;
+    /// of equal names the last value stands at the first place. A word, a token, trivia and a
+    /// string that does not decode give None. What gives None inside a container, or has no name
+    /// that decodes, is passed over.
     final fn to_value<A: Allocator + Copy>(
         self,
         doc: &CstRootNode<A>,
     ) -> Result<Option<CstInputValue<A>>, EditError>
-        requires { Holds doc.now (node_of self) }
+        requires { HasNode doc.now (node_of self) }
         ensures value { IfOk result (IsValueTaken doc.now (node_of self)) }
         ensures memory { IfErr result (λ e. e ≡ EditError.OutOfMemory) }
     {
@@ -264,17 +280,19 @@ pub trait IsNode: Copy {
     }
 }
 
-/// What may have children: a container, and so a node of any kind.
-pub trait HasChildren: IsNode {
+/// A node that may have children.
+///
+/// That is a container, and so a node of any kind.
+pub trait ParentNode: TypedNode {
     /// Its child at a place, counted from 0, if there is one. A leaf has none.
     final fn child_at_index<A: Allocator>(
         self,
         doc: &CstRootNode<A>,
         index: usize,
     ) -> Option<CstNode>
-        requires { Holds doc.now (Self.node_of self) }
+        requires { HasNode doc.now (Self.node_of self) }
         ensures child { result ≡ slice_get (children_of doc.now (Self.node_of self)) index }
-        ensures held { IfSome result (Holds doc.now) }
+        ensures in_document { IfSome result (HasNode doc.now) }
     {
         child_of(&doc.tree, self.node().number(), index)
     }
@@ -284,9 +302,9 @@ pub trait HasChildren: IsNode {
         self,
         doc: &CstRootNode<A>,
     ) -> Result<Vec<CstNode, A>, EditError>
-        requires { Holds doc.now (Self.node_of self) }
+        requires { HasNode doc.now (Self.node_of self) }
         ensures children { IfOk result (λ v. v.items ≡ children_of doc.now (Self.node_of self)) }
-        ensures held { IfOk result (λ v. All (Holds doc.now) v.items) }
+        ensures in_document { IfOk result (λ v. All (HasNode doc.now) v.items) }
         ensures memory { IfErr result (λ e. e ≡ EditError.OutOfMemory) }
     {
         let Ok(children) = children_of(doc.alloc, &doc.tree, self.node().number()) else {
@@ -295,14 +313,16 @@ pub trait HasChildren: IsNode {
         Ok(children)
     }
 
-    /// Its children but blanks, line ends, comments, brackets, commas and colons, in order.
+    /// Its children but trivia, brackets, commas and colons, in order.
+    ///
+    /// Trivia are blanks, line ends and comments.
     final fn children_exclude_trivia_and_tokens<A: Allocator + Copy>(
         self,
         doc: &CstRootNode<A>,
     ) -> Result<Vec<CstNode, A>, EditError>
-        requires { Holds doc.now (Self.node_of self) }
+        requires { HasNode doc.now (Self.node_of self) }
         ensures children { IfOk result (λ v. v.items ≡ elements_of doc.now (Self.node_of self)) }
-        ensures held { IfOk result (λ v. All (Holds doc.now) v.items) }
+        ensures in_document { IfOk result (λ v. All (HasNode doc.now) v.items) }
         ensures memory { IfErr result (λ e. e ≡ EditError.OutOfMemory) }
     {
         let number = self.node().number();

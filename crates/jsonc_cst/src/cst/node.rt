@@ -393,7 +393,7 @@ impl CstNode {
         matches!(self, CstNode::Leaf(CstLeafNode::Comment(_)))
     }
 
-    /// Whether it is blanks within a line, the end of a line or a comment.
+    /// Whether it is whitespace, a line end or a comment.
     pub fn is_trivia(self) -> bool
         ensures { result ≡ is_trivia_node self }
     {

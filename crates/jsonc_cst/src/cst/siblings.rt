@@ -9,7 +9,9 @@ use jsonc_tree::Tree;
 use std::alloc::Allocator;
 use std::marker::Model;
 
-/// The siblings before a node, nearest first, seen as the list of those that are left.
+/// An iterator over the siblings before a node, nearest first.
+///
+/// It is seen as the list of those that are left.
 #[derive(Drop)]
 pub struct PreviousSiblingIterator<'a, A: Allocator> {
     pub(super) tree: &'a Tree<A>,
@@ -44,7 +46,9 @@ impl<'a, A: Allocator> Iterator for PreviousSiblingIterator<'a, A> {
     }
 }
 
-/// The siblings after a node, nearest first, seen as the list of those that are left.
+/// An iterator over the siblings after a node, nearest first.
+///
+/// It is seen as the list of those that are left.
 #[derive(Drop)]
 pub struct NextSiblingIterator<'a, A: Allocator> {
     pub(super) tree: &'a Tree<A>,

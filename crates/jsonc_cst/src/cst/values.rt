@@ -1,7 +1,7 @@
 //! The names and values of properties, as they are written.
 
 ghost use Rattle.std.specs.Prelude.{◌≡◌, chars, IfErr, IfOk, IfSome};
-ghost use Rattle.jsonc_cst.specs.Document.{Holds};
+ghost use Rattle.jsonc_cst.specs.Document.{HasNode};
 ghost use Rattle.jsonc_cst.specs.Nodes.{array_node, name_node, object_node, object_prop_node};
 ghost use Rattle.jsonc_cst.specs.Readings.{name_of, value_under, array_if, object_if};
 ghost use Rattle.jsonc_cst.specs.Values.{IsValueNamed};
@@ -14,11 +14,13 @@ use super::{CstRootNode, EditError};
 use std::alloc::Allocator;
 
 impl CstObjectProp {
-    /// Its name as it is written: the first string or word among its children, if there is one.
+    /// Its name as it is written, if it has one.
+    ///
+    /// That is the first string or word among its children.
     pub fn name<A: Allocator>(self, doc: &CstRootNode<A>) -> Option<ObjectPropName>
-        requires { Holds doc.now (object_prop_node self) }
+        requires { HasNode doc.now (object_prop_node self) }
         ensures name { result ≡ name_of doc.now self }
-        ensures held { IfSome result (λ n. Holds doc.now (name_node n)) }
+        ensures in_document { IfSome result (λ n. HasNode doc.now (name_node n)) }
     {
         let Some(number) = jsonc_layout::nodes::name_of(&doc.tree, self.number) else {
             return None;
@@ -30,11 +32,13 @@ impl CstObjectProp {
         }
     }
 
-    /// Its value: the first element behind a colon behind its name, if there is one.
+    /// Its value, if it has one.
+    ///
+    /// That is the first element behind a colon behind its name.
     pub fn value<A: Allocator>(self, doc: &CstRootNode<A>) -> Option<CstNode>
-        requires { Holds doc.now (object_prop_node self) }
+        requires { HasNode doc.now (object_prop_node self) }
         ensures value { result ≡ value_under doc.now self.number }
-        ensures held { IfSome result (Holds doc.now) }
+        ensures in_document { IfSome result (HasNode doc.now) }
     {
         let Some(number) = jsonc_layout::nodes::value_of(&doc.tree, self.number) else {
             return None;
@@ -44,9 +48,9 @@ impl CstObjectProp {
 
     /// Its value, if it is an object.
     pub fn object_value<A: Allocator>(self, doc: &CstRootNode<A>) -> Option<CstObject>
-        requires { Holds doc.now (object_prop_node self) }
+        requires { HasNode doc.now (object_prop_node self) }
         ensures value { result ≡ object_if (value_under doc.now self.number) }
-        ensures held { IfSome result (λ o. Holds doc.now (object_node o)) }
+        ensures in_document { IfSome result (λ o. HasNode doc.now (object_node o)) }
     {
         match self.value(doc) {
             Some(CstNode::Container(CstContainerNode::Object(object))) => Some(object),
@@ -56,9 +60,9 @@ impl CstObjectProp {
 
     /// Its value, if it is an array.
     pub fn array_value<A: Allocator>(self, doc: &CstRootNode<A>) -> Option<CstArray>
-        requires { Holds doc.now (object_prop_node self) }
+        requires { HasNode doc.now (object_prop_node self) }
         ensures value { result ≡ array_if (value_under doc.now self.number) }
-        ensures held { IfSome result (λ a. Holds doc.now (array_node a)) }
+        ensures in_document { IfSome result (λ a. HasNode doc.now (array_node a)) }
     {
         match self.value(doc) {
             Some(CstNode::Container(CstContainerNode::Array(array))) => Some(array),
@@ -68,15 +72,15 @@ impl CstObjectProp {
 }
 
 impl CstObject {
-    /// The value of its first property of a name, if there is one and it is an object.
+    /// The value of its first property of a name, if it is an object.
     pub fn object_value<A: Allocator + Copy>(
         self,
         doc: &CstRootNode<A>,
         name: &str,
     ) -> Result<Option<CstObject>, EditError>
-        requires { Holds doc.now (object_node self) }
+        requires { HasNode doc.now (object_node self) }
         ensures value { IfOk result (IsValueNamed object_if doc.now self (chars name.now)) }
-        ensures held { IfOk result (λ o. IfSome o (λ x. Holds doc.now (object_node x))) }
+        ensures in_document { IfOk result (λ o. IfSome o (λ x. HasNode doc.now (object_node x))) }
         ensures memory { IfErr result (λ e. e ≡ EditError.OutOfMemory) }
     {
         match self.get(doc, name) {
@@ -86,15 +90,15 @@ impl CstObject {
         }
     }
 
-    /// The value of its first property of a name, if there is one and it is an array.
+    /// The value of its first property of a name, if it is an array.
     pub fn array_value<A: Allocator + Copy>(
         self,
         doc: &CstRootNode<A>,
         name: &str,
     ) -> Result<Option<CstArray>, EditError>
-        requires { Holds doc.now (object_node self) }
+        requires { HasNode doc.now (object_node self) }
         ensures value { IfOk result (IsValueNamed array_if doc.now self (chars name.now)) }
-        ensures held { IfOk result (λ o. IfSome o (λ x. Holds doc.now (array_node x))) }
+        ensures in_document { IfOk result (λ o. IfSome o (λ x. HasNode doc.now (array_node x))) }
         ensures memory { IfErr result (λ e. e ≡ EditError.OutOfMemory) }
     {
         match self.get(doc, name) {

@@ -5,16 +5,16 @@ ghost use Rattle.jsonc_text.specs.Options.{Options};
 ghost use Rattle.jsonc_layout.specs.input.Views.{plain};
 ghost use Rattle.jsonc_tree.specs.Content.{Content};
 ghost use Rattle.jsonc_tree.specs.Tree.{content_at};
-ghost use Rattle.jsonc_cst.specs.Document.{nodes_of, tree_of, Holds};
+ghost use Rattle.jsonc_cst.specs.Document.{nodes_of, tree_of, HasNode};
 ghost use Rattle.jsonc_cst.specs.Nodes.{number_of, object_node, object_prop_node, IsNodeOf};
-ghost use Rattle.jsonc_cst.specs.typed.Edits.{KeepsElsewhere, StaysAsItWas, StillHolds};
-ghost use Rattle.jsonc_cst.specs.typed.Inserting.{element_count, IsShutFor, KeepsOthers};
+ghost use Rattle.jsonc_cst.specs.typed.Edits.{KeepsDocument, Unchanged, HandlesStay};
+ghost use Rattle.jsonc_cst.specs.typed.Inserting.{element_count, InsertError, KeepsOthers};
 ghost use Rattle.jsonc_cst.specs.typed.Removing.{IsKeptForMemory};
 ghost use Rattle.jsonc_cst.specs.objects.Members.{HasNamedComeIn, IsAppendingNamed, IsInsertingNamed};
 ghost use Rattle.jsonc_cst.specs.objects.Members.{IsItsProperty, IsNamedAtItsPath};
 
 use crate::cst::{
-    CstContainerNode, CstNode, CstObject, CstObjectProp, CstRootNode, EditError, IsNode, node_at,
+    CstContainerNode, CstNode, CstObject, CstObjectProp, CstRootNode, EditError, TypedNode, node_at,
 };
 use jsonc_insert::members::insert_property;
 use jsonc_layout::input::CstInputValue;
@@ -23,10 +23,10 @@ use std::alloc::Allocator;
 
 // The property of a number.
 fn property_at<A: Allocator>(tree: &Tree<A>, number: usize) -> CstObjectProp
-    requires there { number < length tree.now.nodes }
+    requires in_tree { number < length tree.now.nodes }
     requires property { content_at tree.now.nodes number ≡ Content.property }
     ensures number { result.number ≡ number }
-    ensures held { IsNodeOf tree.now.nodes (object_prop_node result) }
+    ensures in_document { IsNodeOf tree.now.nodes (object_prop_node result) }
 {
     match node_at(tree, number) {
         CstNode::Container(CstContainerNode::ObjectProp(property)) => property,
@@ -35,17 +35,17 @@ fn property_at<A: Allocator>(tree: &Tree<A>, number: usize) -> CstObjectProp
 }
 
 impl CstObject {
-    /// Puts a property of this name and value behind its last one, and answers it.
+    /// Appends a property of this name and value, and answers it.
     ///
-    /// It is what [`CstObject::insert`] does with the number of its properties, or a greater one.
-    /// Another property of the name, if there is one, stays: `jsonc_cst`'s `get` then answers that.
+    /// It does what [`CstObject::insert`] does with the number of its properties, or a greater one.
+    /// Another property of the name, if there is one, stays: [`CstObject::get`] then answers that.
     pub fn append<A: Allocator + Copy>(
         self,
         doc: &mut CstRootNode<A>,
         name: &str,
         value: CstInputValue<A>,
     ) -> Result<CstObjectProp, EditError>
-        requires { Holds doc.old (object_node self) }
+        requires { HasNode doc.old (object_node self) }
         ensures put { IfOk result
             (HasNamedComeIn doc.old doc.new (object_node self) (element_count doc.old (object_node self))
             (chars name.now) (plain value)) }
@@ -58,12 +58,12 @@ impl CstObject {
         ensures step { OnOk result (IsAppendingNamed (nodes_of doc.old) (nodes_of doc.new) (number_of (object_node self))
             (chars name.now) (plain value)) }
         ensures others { OnOk result (KeepsOthers doc.old doc.new (object_node self)) }
-        ensures elsewhere { OnOk result (KeepsElsewhere doc.old doc.new (object_node self)) }
-        ensures told { IfErr result (IsShutFor doc.old (object_node self)) }
+        ensures detached { OnOk result (KeepsDocument doc.old doc.new (object_node self)) }
+        ensures error { IfErr result (InsertError doc.old (object_node self)) }
         ensures memory { (o : Options) → IfErr result (IsKeptForMemory doc.old o (object_node self)) }
-        ensures held { IfOk result (λ p. Holds doc.new (object_prop_node p)) }
-        ensures stays { StillHolds doc.old doc.new }
-        ensures kept { OnErr result (StaysAsItWas doc.old doc.new) }
+        ensures in_document { IfOk result (λ p. HasNode doc.new (object_prop_node p)) }
+        ensures handles { HandlesStay doc.old doc.new }
+        ensures kept { OnErr result (Unchanged doc.old doc.new) }
         ensures document { OnErr result (tree_of doc.new ≡ tree_of doc.old) }
     {
         // There are no more properties than children.
@@ -71,17 +71,29 @@ impl CstObject {
         self.insert(doc, count, name, value)
     }
 
-    /// Puts a property of this name and value before its property of this number, counted from 0, or behind
-    /// the last where it has fewer, and answers it.
+    /// Inserts a property before its property of this number, and answers the new one.
     ///
-    /// An object in which no line ends is put on several lines first. The property comes on a line of its
-    /// own, one level deeper than the object's; a comma comes between it and its neighbours, and behind it
-    /// where the object's last property has one, or where the document's other containers on several lines
-    /// do; blank lines directly inside the brackets leave. Comments stay where they are. An object that
-    /// lacks a bracket, which is so only after edits of single leaves, is `MissingBrackets`, and none that
-    /// stands in a sound document. If the document is sound, it is sound again, and its value is the old one
-    /// with this property in the object: if the object stands in it, the call is one step, the edit that
-    /// inserts the property at the object's path. A refusal leaves the document as it was.
+    /// The number counts from 0; where the object has fewer properties, the new one is inserted
+    /// behind the last.
+    ///
+    /// An object in which no line ends is put on several lines first. The property is inserted on a
+    /// line of its own, one level deeper than the object's. A comma is inserted between it and its
+    /// neighbours, and behind it where the object's last property has one, or where the document's
+    /// other containers on several lines do. Blank lines directly inside the brackets are removed.
+    /// Comments stay where they are. `{"a":1}` with `"b": true` at 1:
+    ///
+    /// ```text
+    /// {
+    ///   "a":1,
+    ///   "b": true
+    /// }
+    /// ```
+    ///
+    /// If the document is sound, it is sound again, and its value is the old one with this property
+    /// in the object: if the object stands in it, the call is one step, the edit that inserts the
+    /// property at the object's path. An object that lacks a bracket, which is so only after edits
+    /// of single leaves, is the error `MissingBrackets`, and none that stands in a sound document.
+    /// On an error the document stays as it was.
     pub fn insert<A: Allocator + Copy>(
         self,
         doc: &mut CstRootNode<A>,
@@ -89,7 +101,7 @@ impl CstObject {
         name: &str,
         value: CstInputValue<A>,
     ) -> Result<CstObjectProp, EditError>
-        requires { Holds doc.old (object_node self) }
+        requires { HasNode doc.old (object_node self) }
         ensures put { IfOk result
             (HasNamedComeIn doc.old doc.new (object_node self) (min index (element_count doc.old (object_node self)))
             (chars name.now) (plain value)) }
@@ -101,12 +113,12 @@ impl CstObject {
         ensures step { OnOk result (IsInsertingNamed (nodes_of doc.old) (nodes_of doc.new) (number_of (object_node self))
             index (chars name.now) (plain value)) }
         ensures others { OnOk result (KeepsOthers doc.old doc.new (object_node self)) }
-        ensures elsewhere { OnOk result (KeepsElsewhere doc.old doc.new (object_node self)) }
-        ensures told { IfErr result (IsShutFor doc.old (object_node self)) }
+        ensures detached { OnOk result (KeepsDocument doc.old doc.new (object_node self)) }
+        ensures error { IfErr result (InsertError doc.old (object_node self)) }
         ensures memory { (o : Options) → IfErr result (IsKeptForMemory doc.old o (object_node self)) }
-        ensures held { IfOk result (λ p. Holds doc.new (object_prop_node p)) }
-        ensures stays { StillHolds doc.old doc.new }
-        ensures kept { OnErr result (StaysAsItWas doc.old doc.new) }
+        ensures in_document { IfOk result (λ p. HasNode doc.new (object_prop_node p)) }
+        ensures handles { HandlesStay doc.old doc.new }
+        ensures kept { OnErr result (Unchanged doc.old doc.new) }
         ensures document { OnErr result (tree_of doc.new ≡ tree_of doc.old) }
     {
         let number = self.node().number();

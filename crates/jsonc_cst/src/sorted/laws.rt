@@ -8,7 +8,7 @@ ghost use Rattle.jsonc_cst.specs.declared.cst.node.CstObject.{CstObject};
 ghost use Rattle.jsonc_cst.specs.sorting.Again.{ElementsSortOnce, ElementsSortOnceByKey, PropertiesSortOnce, PropertiesSortOnceByKey};
 
 use crate::cst::{CstNode, CstObjectProp, EditError};
-use crate::typed::IsDocument;
+use crate::typed::DocumentArg;
 pub use jsonc_sort::again::laws::blank_lines_part_groups;
 pub use jsonc_sort::groups::laws::groups_keep_their_places;
 use std::alloc::Allocator;
@@ -18,7 +18,7 @@ use std::cmp::Ordering;
 /// both times by an order of what the elements are, each with what is below it.
 pub fn second_sorts_change_no_byte<
     A: Allocator + Copy,
-    D: IsDocument<A>,
+    D: DocumentArg<A>,
     C: Fn(&D, CstNode, CstNode) -> Ordering,
     P: Fn(&D, CstObjectProp, CstObjectProp) -> Ordering,
 >()
@@ -32,7 +32,7 @@ pub fn second_sorts_change_no_byte<
 /// order of what the elements are, each with what is below it.
 pub fn second_sorts_by_key_change_no_byte<
     A: Allocator + Copy,
-    D: IsDocument<A>,
+    D: DocumentArg<A>,
     K: Ord + Drop,
     F: Fn(&D, CstNode) -> Result<K, EditError>,
     P: Fn(&D, CstObjectProp) -> Result<K, EditError>,

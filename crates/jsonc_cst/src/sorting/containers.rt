@@ -2,9 +2,9 @@
 
 ghost use Rattle.std.specs.Prelude.{◌≡◌, IfErr, IsTrue, OnErr, OnOk, length};
 ghost use Rattle.jsonc_tree.specs.Building.{Keeps};
-ghost use Rattle.jsonc_layout.specs.lines.Kinds.{holds_values};
-ghost use Rattle.jsonc_cst.specs.Document.{content_of, nodes_of, tree_of, Holds};
-ghost use Rattle.jsonc_cst.specs.typed.Edits.{StillHolds};
+ghost use Rattle.jsonc_layout.specs.lines.Kinds.{is_array_or_object};
+ghost use Rattle.jsonc_cst.specs.Document.{content_of, nodes_of, tree_of, HasNode};
+ghost use Rattle.jsonc_cst.specs.typed.Edits.{HandlesStay};
 ghost use Rattle.jsonc_cst.specs.sorting.Asking.{IsInItsOrder, MayBeCompared};
 ghost use Rattle.jsonc_cst.specs.sorting.Sorted.{ContainerSorted};
 
@@ -12,7 +12,7 @@ use crate::cst::{CstNode, CstRootNode, EditError};
 use crate::sorting::headers::pins_where;
 use crate::sorting::rows::elements_asked;
 use crate::sorting::sorting::sort_by;
-use crate::typed::IsDocument;
+use crate::typed::DocumentArg;
 use std::alloc::Allocator;
 use std::cmp::Ordering;
 
@@ -24,7 +24,7 @@ use std::cmp::Ordering;
 /// the document is what it was.
 pub fn sort_container<
     A: Allocator + Copy,
-    D: IsDocument<A>,
+    D: DocumentArg<A>,
     C: Fn(&D, CstNode, CstNode) -> Ordering,
 >(
     doc: &mut CstRootNode<A>,
@@ -33,13 +33,13 @@ pub fn sort_container<
     groups: bool,
     compare: &C,
 ) -> Result<(), EditError>
-    requires there { Holds doc.old container }
-    requires holds { IsTrue (holds_values (content_of doc.old container)) }
-    requires asked { MayBeCompared C.Fn compare.now (D.same doc.old) (Holds doc.old) }
+    requires in_tree { HasNode doc.old container }
+    requires holds { IsTrue (is_array_or_object (content_of doc.old container)) }
+    requires asked { MayBeCompared C.Fn compare.now (D.same doc.old) (HasNode doc.old) }
     ensures sorted { OnOk result (ContainerSorted doc.old doc.new container pin groups
-        (IsInItsOrder C.Fn compare.now (D.same doc.old) (Holds doc.old))) }
+        (IsInItsOrder C.Fn compare.now (D.same doc.old) (HasNode doc.old))) }
     ensures memory { IfErr result (λ e. e ≡ EditError.OutOfMemory) }
-    ensures stays { StillHolds doc.old doc.new }
+    ensures handles { HandlesStay doc.old doc.new }
     ensures kept { OnErr result (Keeps (length (nodes_of doc.old)) (nodes_of doc.old) (nodes_of doc.new)) }
     ensures document { OnErr result (tree_of doc.new ≡ tree_of doc.old) }
 {

@@ -5,13 +5,13 @@ ghost use Rattle.std.specs.List.{All, filter_map};
 ghost use Rattle.jsonc_sort.specs.ordering.Order.{node_in};
 ghost use Rattle.jsonc_cst.specs.declared.cst.CstRootNode.{CstRootNode};
 ghost use Rattle.jsonc_cst.specs.declared.cst.node.CstNode.{CstNode};
-ghost use Rattle.jsonc_cst.specs.Document.{nodes_of, Holds};
+ghost use Rattle.jsonc_cst.specs.Document.{nodes_of, HasNode};
 ghost use Rattle.jsonc_cst.specs.Nodes.{typed_at};
 ghost use Rattle.jsonc_cst.specs.sorting.Pins.{blank_line_pin, comment_if, comments_of, leads_of, pins_where};
 ghost use Rattle.jsonc_cst.specs.sorting.Pins.{ArePins, HoldsComment, IsPin, MayPin};
 
-use crate::cst::{CstComment, CstLeafNode, CstNode, CstRootNode, EditError, IsNode, node_at};
-use crate::typed::IsDocument;
+use crate::cst::{CstComment, CstLeafNode, CstNode, CstRootNode, EditError, TypedNode, node_at};
+use crate::typed::DocumentArg;
 use jsonc_sort::{LeadRead, comments_above, read_leads};
 use std::alloc::{AllocError, Allocator};
 
@@ -40,7 +40,7 @@ pub(crate) fn leads_of<A: Allocator + Copy>(
     doc: &CstRootNode<A>,
     container: CstNode,
 ) -> Result<Vec<LeadRead, A>, EditError>
-    requires { Holds doc.now container }
+    requires { HasNode doc.now container }
     ensures leads { IfOk result (λ v. v.items ≡ leads_of doc.now container) }
     ensures memory { IfErr result (λ e. e ≡ EditError.OutOfMemory) }
 {
@@ -69,9 +69,9 @@ fn comments_of<A: Allocator + Copy>(
     doc: &CstRootNode<A>,
     container: CstNode,
 ) -> Result<Vec<CstComment, A>, EditError>
-    requires { Holds doc.now container }
+    requires { HasNode doc.now container }
     ensures comments { IfOk result (λ v. v.items ≡ comments_of doc.now container) }
-    ensures held { IfOk result (λ v. All (HoldsComment doc.now) v.items) }
+    ensures in_document { IfOk result (λ v. All (HoldsComment doc.now) v.items) }
     ensures memory { IfErr result (λ e. e ≡ EditError.OutOfMemory) }
 {
     let Ok(numbers) = comments_above(doc.alloc, &doc.tree, container.number()) else {
@@ -84,15 +84,15 @@ fn comments_of<A: Allocator + Copy>(
 }
 
 // How many comments above a node a rule pins.
-fn pin_of<A: Allocator, D: IsDocument<A>, N: IsNode, F: Fn(&D, N, &[CstComment]) -> usize>(
+fn pin_of<A: Allocator, D: DocumentArg<A>, N: TypedNode, F: Fn(&D, N, &[CstComment]) -> usize>(
     doc: &CstRootNode<A>,
     node: Option<N>,
     comments: &[CstComment],
     rule: &F,
 ) -> Option<usize>
-    requires node { IfSome node (λ x. Holds doc.now (N.node_of x)) }
+    requires node { IfSome node (λ x. HasNode doc.now (N.node_of x)) }
     requires comments { All (HoldsComment doc.now) comments.now }
-    requires asked { MayPin F.Fn rule.now (D.same doc.now) (λ x. Holds doc.now (N.node_of x)) (HoldsComment doc.now) }
+    requires asked { MayPin F.Fn rule.now (D.same doc.now) (λ x. HasNode doc.now (N.node_of x)) (HoldsComment doc.now) }
     ensures { IsPin F.Fn rule.now (D.same doc.now) node comments.now result }
 {
     let Some(node) = node else {
@@ -115,16 +115,21 @@ fn node_at_place<N: Copy>(nodes: &[Option<N>], place: usize) -> Option<N>
 }
 
 // The same for each node of a row.
-fn pins_by<A: Allocator + Copy, D: IsDocument<A>, N: IsNode, F: Fn(&D, N, &[CstComment]) -> usize>(
+fn pins_by<
+    A: Allocator + Copy,
+    D: DocumentArg<A>,
+    N: TypedNode,
+    F: Fn(&D, N, &[CstComment]) -> usize,
+>(
     doc: &CstRootNode<A>,
     nodes: &[Option<N>],
     leads: &[LeadRead],
     comments: &[CstComment],
     rule: &F,
 ) -> Result<Vec<Option<usize>, A>, AllocError>
-    requires held { All (λ o. IfSome o (λ x. Holds doc.now (N.node_of x))) nodes.now }
+    requires in_document { All (λ o. IfSome o (λ x. HasNode doc.now (N.node_of x))) nodes.now }
     requires comments { All (HoldsComment doc.now) comments.now }
-    requires asked { MayPin F.Fn rule.now (D.same doc.now) (λ x. Holds doc.now (N.node_of x)) (HoldsComment doc.now) }
+    requires asked { MayPin F.Fn rule.now (D.same doc.now) (λ x. HasNode doc.now (N.node_of x)) (HoldsComment doc.now) }
     ensures { IfOk result (λ v. ArePins F.Fn rule.now (D.same doc.now) nodes.now 0 leads.now comments.now v.items) }
 {
     let mut pins = Vec::new(doc.alloc);
@@ -171,7 +176,7 @@ pub(crate) fn pins_where<A: Allocator + Copy>(
     container: CstNode,
     pin: bool,
 ) -> Result<Vec<Option<usize>, A>, EditError>
-    requires { Holds doc.now container }
+    requires { HasNode doc.now container }
     ensures pins { IfOk result (λ v. v.items ≡ pins_where doc.now container pin) }
     ensures memory { IfErr result (λ e. e ≡ EditError.OutOfMemory) }
 {
@@ -185,35 +190,36 @@ pub(crate) fn pins_where<A: Allocator + Copy>(
     Ok(pins)
 }
 
-/// A rule that says of the comments above each element how many are a header: these stay where they are,
-/// and the others go with the element.
+/// A rule for how many of the comments above each element are a header.
 ///
-/// The three rules here are all that are meant.
-pub trait HeaderRule<A: Allocator + Copy, D: IsDocument<A>, N: IsNode>: Drop {
+/// These stay where they are, and the others move with the element. The three rules here are all
+/// that are meant.
+pub trait HeaderRule<A: Allocator + Copy, D: DocumentArg<A>, N: TypedNode>: Drop {
     ghost may_ask: { Self → CstRootNode A → Type 0 };
 
     ghost pins: { Self → CstRootNode A → CstNode → List (Option N) → List (Option ℕ) → Type 0 };
 
-    /// How many comments are pinned above each of the nodes of a container, or none where the rule says
-    /// nothing.
+    /// How many comments above each node stay where they are.
+    ///
+    /// None for a node of which the rule says nothing.
     fn pins(
         &self,
         doc: &CstRootNode<A>,
         container: CstNode,
         nodes: &[Option<N>],
     ) -> Result<Vec<Option<usize>, A>, EditError>
-        requires container { Holds doc.now container }
-        requires held { All (λ o. IfSome o (λ x. Holds doc.now (N.node_of x))) nodes.now }
+        requires container { HasNode doc.now container }
+        requires in_document { All (λ o. IfSome o (λ x. HasNode doc.now (N.node_of x))) nodes.now }
         requires asked { may_ask self.now doc.now }
         ensures pins { IfOk result (λ v. pins self.now doc.now container nodes.now v.items) }
         ensures memory { IfErr result (λ e. e ≡ EditError.OutOfMemory) };
 }
 
-/// No rule: all comments above an element go with it.
+/// No rule: all comments above an element move with it.
 #[derive(Clone, Copy)]
 pub struct NoHeaders;
 
-impl<A: Allocator + Copy, D: IsDocument<A>, N: IsNode> HeaderRule<A, D, N> for NoHeaders {
+impl<A: Allocator + Copy, D: DocumentArg<A>, N: TypedNode> HeaderRule<A, D, N> for NoHeaders {
     ghost may_ask = { λ rule d. ⊤ };
 
     ghost pins = { λ rule d container nodes pins. pins ≡ [] };
@@ -228,12 +234,14 @@ impl<A: Allocator + Copy, D: IsDocument<A>, N: IsNode> HeaderRule<A, D, N> for N
     }
 }
 
-/// A blank line makes a header of the comments behind it: where one stands before an element, all
-/// comments above it are pinned.
+/// All comments above an element stay where a blank line stands before it.
+///
+/// They are a header of what follows.
 #[derive(Clone, Copy)]
 pub struct BlankLineHeaders;
 
-impl<A: Allocator + Copy, D: IsDocument<A>, N: IsNode> HeaderRule<A, D, N> for BlankLineHeaders {
+impl<A: Allocator + Copy, D: DocumentArg<A>, N: TypedNode> HeaderRule<A, D, N>
+    for BlankLineHeaders {
     ghost may_ask = { λ rule d. ⊤ };
 
     ghost pins = { λ rule d container nodes pins. pins ≡ map blank_line_pin (leads_of d container) };
@@ -248,8 +256,10 @@ impl<A: Allocator + Copy, D: IsDocument<A>, N: IsNode> HeaderRule<A, D, N> for B
     }
 }
 
-/// A rule of the caller's, which is asked of an element and the comments above it, where there are any,
-/// and answers how many of them are a header, from the first on.
+/// A rule of the caller's.
+///
+/// It is asked of an element and the comments above it, where there are any, and answers how many
+/// of them are a header, from the first on.
 #[derive(Drop)]
 pub struct HeadersBy<F> {
     /// The rule.
@@ -258,11 +268,11 @@ pub struct HeadersBy<F> {
 
 impl<
     A: Allocator + Copy,
-    D: IsDocument<A>,
-    N: IsNode,
+    D: DocumentArg<A>,
+    N: TypedNode,
     F: Fn(&D, N, &[CstComment]) -> usize + Drop,
 > HeaderRule<A, D, N> for HeadersBy<F> {
-    ghost may_ask = { λ rule d. MayPin F.Fn rule.rule (D.same d) (λ x. Holds d (N.node_of x)) (HoldsComment d) };
+    ghost may_ask = { λ rule d. MayPin F.Fn rule.rule (D.same d) (λ x. HasNode d (N.node_of x)) (HoldsComment d) };
 
     ghost pins = { λ rule d container nodes pins.
         ArePins F.Fn rule.rule (D.same d) nodes 0 (leads_of d container) (comments_of d container) pins };

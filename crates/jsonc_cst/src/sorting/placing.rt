@@ -4,9 +4,9 @@ ghost use Rattle.std.specs.Prelude.{◌≡◌, ◌<◌, IfErr, IsTrue, OnErr, On
 ghost use Rattle.jsonc_tree.specs.Building.{Keeps};
 ghost use Rattle.jsonc_tree.specs.OrderedTree.{ordered_tree};
 ghost use Rattle.jsonc_tree.specs.Tree.{content_at};
-ghost use Rattle.jsonc_layout.specs.lines.Kinds.{holds_values};
+ghost use Rattle.jsonc_layout.specs.lines.Kinds.{is_array_or_object};
 ghost use Rattle.jsonc_sort.specs.Rearranged.{headers_of, IsOrderIn};
-ghost use Rattle.jsonc_cst.specs.typed.Edits.{StillNodes};
+ghost use Rattle.jsonc_cst.specs.typed.Edits.{NodesStillThere};
 ghost use Rattle.jsonc_cst.specs.sorting.Sorted.{IsPlaced};
 
 use crate::cst::EditError;
@@ -23,13 +23,13 @@ pub(crate) fn put_in_order<A: Allocator + Copy>(
     groups: bool,
     order: &[usize],
 ) -> Result<(), EditError>
-    requires there { container < length tree.old.nodes }
-    requires holds { IsTrue (holds_values (content_at tree.old.nodes container)) }
+    requires in_tree { container < length tree.old.nodes }
+    requires holds { IsTrue (is_array_or_object (content_at tree.old.nodes container)) }
     requires order { IsOrderIn tree.old.nodes container order.now }
     ensures placed { OnOk result
         (IsPlaced tree.old.nodes tree.new.nodes container (headers_of pinned.now groups) order.now) }
     ensures memory { IfErr result (λ e. e ≡ EditError.OutOfMemory) }
-    ensures stays { StillNodes tree.old.nodes tree.new.nodes }
+    ensures handles { NodesStillThere tree.old.nodes tree.new.nodes }
     ensures kept { OnErr result (Keeps (length tree.old.nodes) tree.old.nodes tree.new.nodes) }
     ensures document { OnErr result (ordered_tree tree.new.nodes 0 ≡ ordered_tree tree.old.nodes 0) }
 {

@@ -1,25 +1,27 @@
 //! Sorts of the properties of an object.
 
 ghost use Rattle.std.specs.Prelude.{◌≡◌, IfErr, OnErr, OnOk, false};
-ghost use Rattle.jsonc_cst.specs.Document.{tree_of, Holds};
+ghost use Rattle.jsonc_cst.specs.Document.{tree_of, HasNode};
 ghost use Rattle.jsonc_cst.specs.Nodes.{object_node, object_prop_node};
-ghost use Rattle.jsonc_cst.specs.typed.Edits.{StaysAsItWas, StillHolds};
+ghost use Rattle.jsonc_cst.specs.typed.Edits.{Unchanged, HandlesStay};
 ghost use Rattle.jsonc_cst.specs.sorting.Again.{PropertiesStayInKeyOrder, PropertiesStayInOrder};
 ghost use Rattle.jsonc_cst.specs.sorting.Asking.{IsInItsOrder, IsInKeyOrder, IsUnkeyed, MayBeCompared, MayBeKeyed};
 ghost use Rattle.jsonc_cst.specs.sorting.Rows.{properties_asked};
 ghost use Rattle.jsonc_cst.specs.sorting.Sorted.{PropertiesSorted};
 
-use crate::cst::{CstObject, CstObjectProp, CstRootNode, EditError, IsNode};
+use crate::cst::{CstObject, CstObjectProp, CstRootNode, EditError, TypedNode};
 use crate::sorting::headers::{HeaderRule, NoHeaders};
 use crate::sorting::rows::properties_asked;
 use crate::sorting::sort::{PropertySort, Sort};
 use crate::sorting::sorting::{sort_by, sort_by_key};
-use crate::typed::IsDocument;
+use crate::typed::DocumentArg;
 use std::alloc::Allocator;
 use std::cmp::Ordering;
 
 impl CstObject {
-    /// A sort of its properties: all comments above a property go with it, and blank lines part nothing.
+    /// A sort of its properties.
+    ///
+    /// All comments above a property move with it, and blank lines separate nothing.
     pub fn sort_properties(self) -> PropertySort<NoHeaders>
         ensures container { result.container ≡ self }
         ensures groups { result.groups ≡ false }
@@ -33,33 +35,44 @@ impl CstObject {
 }
 
 impl<H: Drop> Sort<CstObject, H> {
-    /// Sorts by a comparison, which is asked of two properties and the document as it stands before.
+    /// Sorts by a comparison of two properties.
     ///
-    /// Properties that compare equal stay in their order. What belongs to a property goes with it: its comma,
-    /// the comments behind it on its line, and those above it that are not pinned. Where the order is the
-    /// old one, or a bracket is missing, nothing changes. If the document is sound, it is sound again, its
-    /// value has the properties in their order, and every comment is there as often: if the object stands
-    /// in it, the call is one step, the edit that rearranges what stands at its path. Without groups a second
-    /// sort by the same comparison changes no byte, if this answers by what the properties are. Only memory is ever
-    /// wanted, and then the document is what it was.
+    /// The comparison is asked with the document as it stands before. Properties that compare equal
+    /// stay in their order. What belongs to a property moves with it: its comma, the comments
+    /// behind it on its line, and those above it that are not pinned. Where the order is the old
+    /// one, or a bracket is missing, nothing changes. Before, and sorted by names:
+    ///
+    /// ```text
+    /// {                      {
+    ///   "b": 1, // one         // above a
+    ///   // above a             "a": 2,
+    ///   "a": 2                 "b": 1 // one
+    /// }                      }
+    /// ```
+    ///
+    /// If the document is sound, it is sound again, its value has the properties in their order,
+    /// and every comment is there as often: if the object stands in it, the call is one step, the
+    /// edit that rearranges what stands at its path. Without groups a second sort by the same
+    /// comparison changes no byte, if this answers by what the properties are. The one error is an
+    /// allocation failure, and then the document stays as it was.
     pub fn by<
         A: Allocator + Copy,
-        D: IsDocument<A>,
+        D: DocumentArg<A>,
         C: Fn(&D, CstObjectProp, CstObjectProp) -> Ordering,
     >(self, doc: &mut CstRootNode<A>, compare: C) -> Result<(), EditError>
     where
         H: HeaderRule<A, D, CstObjectProp>,
-        requires held { Holds doc.old (object_node self.container) }
+        requires in_document { HasNode doc.old (object_node self.container) }
         requires pinned { H.may_ask self.rule doc.old }
-        requires asked { MayBeCompared C.Fn compare (D.same doc.old) (λ p. Holds doc.old (object_prop_node p)) }
+        requires asked { MayBeCompared C.Fn compare (D.same doc.old) (λ p. HasNode doc.old (object_prop_node p)) }
         ensures sorted { OnOk result
             (PropertiesSorted doc.old doc.new self.container (H.pins self.rule doc.old) self.groups
-            (IsInItsOrder C.Fn compare (D.same doc.old) (λ p. Holds doc.old (object_prop_node p)))) }
+            (IsInItsOrder C.Fn compare (D.same doc.old) (λ p. HasNode doc.old (object_prop_node p)))) }
         ensures again { self.groups ≡ false
             → OnOk result (PropertiesStayInOrder compare D.same doc.old doc.new C.Fn self.container) }
         ensures memory { IfErr result (λ e. e ≡ EditError.OutOfMemory) }
-        ensures stays { StillHolds doc.old doc.new }
-        ensures kept { OnErr result (StaysAsItWas doc.old doc.new) }
+        ensures handles { HandlesStay doc.old doc.new }
+        ensures kept { OnErr result (Unchanged doc.old doc.new) }
         ensures document { OnErr result (tree_of doc.new ≡ tree_of doc.old) }
     {
         let nodes = properties_asked(doc, self.container)?;
@@ -74,22 +87,22 @@ impl<H: Drop> Sort<CstObject, H> {
         )
     }
 
-    /// Sorts by keys, one of each property, which is asked of the property and the document as it stands
-    /// before.
+    /// Sorts by keys, one of each property.
     ///
-    /// Properties of equal keys stay in their order. The first key that is refused is the answer, and then the
-    /// document is what it was. Else it is as [`PropertySort::by`] says.
+    /// A key is asked of the property and the document as it stands before. Properties of equal
+    /// keys stay in their order. The first error of a key is the answer, and then the document
+    /// stays as it was. Else it is as [`PropertySort::by`] says.
     pub fn by_key<
         A: Allocator + Copy,
-        D: IsDocument<A>,
+        D: DocumentArg<A>,
         K: Ord + Drop,
         F: Fn(&D, CstObjectProp) -> Result<K, EditError>,
     >(self, doc: &mut CstRootNode<A>, key: F) -> Result<(), EditError>
     where
         H: HeaderRule<A, D, CstObjectProp>,
-        requires held { Holds doc.old (object_node self.container) }
+        requires in_document { HasNode doc.old (object_node self.container) }
         requires pinned { H.may_ask self.rule doc.old }
-        requires asked { MayBeKeyed F.Fn key (D.same doc.old) (λ p. Holds doc.old (object_prop_node p)) }
+        requires asked { MayBeKeyed F.Fn key (D.same doc.old) (λ p. HasNode doc.old (object_prop_node p)) }
         ensures sorted { OnOk result
             (PropertiesSorted doc.old doc.new self.container (H.pins self.rule doc.old) self.groups
             (IsInKeyOrder F.Fn key (D.same doc.old) K.cmp)) }
@@ -97,8 +110,8 @@ impl<H: Drop> Sort<CstObject, H> {
             → OnOk result (PropertiesStayInKeyOrder key D.same K.cmp doc.old doc.new F.Fn self.container) }
         ensures refused { IfErr result
             (IsUnkeyed F.Fn key (D.same doc.old) (properties_asked doc.old (object_node self.container))) }
-        ensures stays { StillHolds doc.old doc.new }
-        ensures kept { OnErr result (StaysAsItWas doc.old doc.new) }
+        ensures handles { HandlesStay doc.old doc.new }
+        ensures kept { OnErr result (Unchanged doc.old doc.new) }
         ensures document { OnErr result (tree_of doc.new ≡ tree_of doc.old) }
     {
         let nodes = properties_asked(doc, self.container)?;

@@ -4,13 +4,13 @@ ghost use Rattle.std.specs.Prelude.{◌≡◌, ◌<◌, IfErr, IfOk, IfSome, len
 ghost use Rattle.std.specs.List.{All};
 ghost use Rattle.jsonc_layout.specs.nodes.Siblings.{elements_at};
 ghost use Rattle.jsonc_sort.specs.ordering.Groups.{group_starts};
-ghost use Rattle.jsonc_cst.specs.Document.{nodes_of, Holds};
+ghost use Rattle.jsonc_cst.specs.Document.{nodes_of, HasNode};
 ghost use Rattle.jsonc_cst.specs.Nodes.{number_of, object_node, object_prop_node};
-ghost use Rattle.jsonc_cst.specs.sorting.Rows.{elements_asked, is_parted, properties_asked, property_if, starts_of};
+ghost use Rattle.jsonc_cst.specs.sorting.Rows.{elements_asked, is_separated, properties_asked, property_if, starts_of};
 
 use crate::cst::{
-    CstContainerNode, CstNode, CstObject, CstObjectProp, CstRootNode, EditError, HasChildren,
-    IsNode,
+    CstContainerNode, CstNode, CstObject, CstObjectProp, CstRootNode, EditError, ParentNode,
+    TypedNode,
 };
 use crate::sorting::headers::leads_of;
 use jsonc_sort::LeadRead;
@@ -19,7 +19,7 @@ use std::alloc::{AllocError, Allocator};
 
 // Before which elements a blank line stands.
 fn parted<A: Allocator + Copy>(alloc: A, leads: &[LeadRead]) -> Result<Vec<bool, A>, AllocError>
-    ensures { IfOk result (λ v. v.items ≡ map is_parted leads.now) }
+    ensures { IfOk result (λ v. v.items ≡ map is_separated leads.now) }
 {
     leads.iter().map(|lead| lead.blank_line).collect(alloc)
 }
@@ -29,7 +29,7 @@ fn parted_starts<A: Allocator + Copy>(
     alloc: A,
     leads: &[LeadRead],
 ) -> Result<Vec<usize, A>, AllocError>
-    ensures { IfOk result (λ v. v.items ≡ group_starts (map is_parted leads.now)) }
+    ensures { IfOk result (λ v. v.items ≡ group_starts (map is_separated leads.now)) }
 {
     let parted = parted(alloc, leads)?;
     group_starts(alloc, &parted)
@@ -41,7 +41,7 @@ pub(crate) fn starts_of<A: Allocator + Copy>(
     container: CstNode,
     groups: bool,
 ) -> Result<Vec<usize, A>, EditError>
-    requires { Holds doc.now container }
+    requires { HasNode doc.now container }
     ensures starts { IfOk result (λ v. v.items ≡ starts_of doc.now container groups) }
     ensures memory { IfErr result (λ e. e ≡ EditError.OutOfMemory) }
 {
@@ -56,13 +56,13 @@ pub(crate) fn starts_of<A: Allocator + Copy>(
 }
 
 // The elements or properties of a container, as a sort of nodes asks of them.
-pub(crate) fn elements_asked<A: Allocator + Copy, C: IsNode>(
+pub(crate) fn elements_asked<A: Allocator + Copy, C: TypedNode>(
     doc: &CstRootNode<A>,
     container: C,
 ) -> Result<Vec<Option<CstNode>, A>, EditError>
-    requires { Holds doc.now (C.node_of container) }
+    requires { HasNode doc.now (C.node_of container) }
     ensures nodes { IfOk result (λ v. v.items ≡ elements_asked doc.now (C.node_of container)) }
-    ensures held { IfOk result (λ v. All (λ o. IfSome o (Holds doc.now)) v.items) }
+    ensures in_document { IfOk result (λ v. All (λ o. IfSome o (HasNode doc.now)) v.items) }
     ensures count { IfOk result
         (λ v. length v.items ≡ length (elements_at (nodes_of doc.now) (number_of (C.node_of container)))) }
     ensures memory { IfErr result (λ e. e ≡ EditError.OutOfMemory) }
@@ -89,9 +89,9 @@ pub(crate) fn properties_asked<A: Allocator + Copy>(
     doc: &CstRootNode<A>,
     object: CstObject,
 ) -> Result<Vec<Option<CstObjectProp>, A>, EditError>
-    requires { Holds doc.now (object_node object) }
+    requires { HasNode doc.now (object_node object) }
     ensures nodes { IfOk result (λ v. v.items ≡ properties_asked doc.now (object_node object)) }
-    ensures held { IfOk result (λ v. All (λ o. IfSome o (λ p. Holds doc.now (object_prop_node p))) v.items) }
+    ensures in_document { IfOk result (λ v. All (λ o. IfSome o (λ p. HasNode doc.now (object_prop_node p))) v.items) }
     ensures count { IfOk result
         (λ v. length v.items ≡ length (elements_at (nodes_of doc.now) (number_of (object_node object)))) }
     ensures memory { IfErr result (λ e. e ≡ EditError.OutOfMemory) }

@@ -5,28 +5,44 @@ ghost use Rattle.std.specs.Prelude.{◌≡◌, true};
 use crate::cst::{CstArray, CstObject};
 use crate::sorting::headers::{BlankLineHeaders, HeadersBy};
 
-/// A sort of what stands in an array or an object, which sorts nothing until `by` or `by_key` is called.
+/// A sort of what stands in an array or an object.
+///
+/// It sorts nothing until `by` or `by_key` is called.
 #[derive(Drop)]
 pub struct Sort<C, H> {
     /// The array or object.
     pub container: C,
     /// Which comments above elements or properties are pinned.
     pub rule: H,
-    /// Whether blank lines part the elements or properties.
+    /// Whether blank lines separate the elements or properties.
     pub groups: bool,
 }
 
-/// A sort of an array's elements, which sorts nothing until [`ElementSort::by`] or
-/// [`ElementSort::by_key`] is called.
+/// A sort of an array's elements.
+///
+/// It sorts nothing until [`ElementSort::by`] or [`ElementSort::by_key`] is called.
 pub type ElementSort<H> = Sort<CstArray, H>;
 
-/// A sort of an object's properties, which sorts nothing until [`PropertySort::by`] or
-/// [`PropertySort::by_key`] is called.
+/// A sort of an object's properties.
+///
+/// It sorts nothing until [`PropertySort::by`] or [`PropertySort::by_key`] is called.
 pub type PropertySort<H> = Sort<CstObject, H>;
 
 impl<C: Copy, H: Drop> Sort<C, H> {
-    /// Pins all comments above each element or property before which a blank line stands: they are a header
-    /// of what follows, and stay where they are.
+    /// Leaves all comments above an entry in their place where a blank line stands before it.
+    ///
+    /// An entry is an element or a property; the comments are a header of what follows. Before, and
+    /// sorted by names:
+    ///
+    /// ```text
+    /// {                      {
+    ///   // head                // head
+    ///
+    ///   // about b             // about b
+    ///   "b": 1,                "a": 2,
+    ///   "a": 2                 "b": 1
+    /// }                      }
+    /// ```
     pub fn pin_comment_headers(self) -> Sort<C, BlankLineHeaders>
         ensures container { result.container ≡ self.container }
         ensures groups { result.groups ≡ self.groups }
@@ -38,8 +54,11 @@ impl<C: Copy, H: Drop> Sort<C, H> {
         }
     }
 
-    /// Pins so many of the comments above each element or property, from the first on, as a rule answers. It
-    /// is asked with the document as it stands before, where comments stand above one.
+    /// Leaves so many comments above each entry in their place as a rule answers.
+    ///
+    /// An entry is an element or a property. The comments count from the first on. The rule is
+    /// asked with the document as it stands before, where comments stand above an entry.
+    /// [`ElementSort::pin_comment_headers`] shows what stays.
     pub fn pin_comment_headers_with<F>(self, rule: F) -> Sort<C, HeadersBy<F>>
         ensures container { result.container ≡ self.container }
         ensures rule { result.rule.rule ≡ rule }
@@ -52,7 +71,15 @@ impl<C: Copy, H: Drop> Sort<C, H> {
         }
     }
 
-    /// Sorts each stretch between blank lines by itself, so that no element or property crosses a blank line.
+    /// Sorts each stretch between blank lines by itself.
+    ///
+    /// So no element or property crosses a blank line. Before, and sorted by numbers:
+    ///
+    /// ```text
+    /// [3, 1,                 [1, 3,
+    ///
+    /// 2, 0]                  0, 2]
+    /// ```
     pub fn within_groups(self) -> Sort<C, H>
         ensures container { result.container ≡ self.container }
         ensures rule { result.rule ≡ self.rule }

@@ -6,12 +6,11 @@ ghost use Rattle.jsonc_cst.specs.declared.cst.CstRootNode.{CstRootNode};
 use crate::cst::CstRootNode;
 use std::alloc::Allocator;
 
-/// A document, under a name that the bound of a closure can say: a bound can name a type parameter, and
-/// not `CstRootNode<A>`.
+/// `CstRootNode<A>`, for the bounds of closures.
 ///
-/// `CstRootNode<A>` is the one type that is meant. A caller writes the closure's first argument as
-/// `doc: &CstRootNode<_>`.
-pub trait IsDocument<A: Allocator> {
+/// A bound can name a type parameter, and not `CstRootNode<A>`, which is the one type that is
+/// meant. A caller writes the closure's first argument as `doc: &CstRootNode<_>`.
+pub trait DocumentArg<A: Allocator> {
     ghost same: { CstRootNode A → Self };
 
     /// The document itself.
@@ -19,7 +18,7 @@ pub trait IsDocument<A: Allocator> {
         ensures { result.now ≡ same doc.now };
 }
 
-impl<A: Allocator> IsDocument<A> for CstRootNode<A> {
+impl<A: Allocator> DocumentArg<A> for CstRootNode<A> {
     ghost same = { λ d. d };
 
     fn of(doc: &CstRootNode<A>) -> &Self {

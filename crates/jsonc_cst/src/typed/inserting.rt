@@ -3,29 +3,29 @@
 ghost use Rattle.std.specs.Prelude.{◌≡◌, IfErr, IfOk, OnErr, OnOk, min};
 ghost use Rattle.jsonc_text.specs.Options.{Options};
 ghost use Rattle.jsonc_layout.specs.input.Views.{plain};
-ghost use Rattle.jsonc_cst.specs.Document.{nodes_of, tree_of, Holds};
+ghost use Rattle.jsonc_cst.specs.Document.{nodes_of, tree_of, HasNode};
 ghost use Rattle.jsonc_cst.specs.Nodes.{array_node, number_of};
-ghost use Rattle.jsonc_cst.specs.typed.Edits.{KeepsElsewhere, StaysAsItWas, StillHolds};
+ghost use Rattle.jsonc_cst.specs.typed.Edits.{KeepsDocument, Unchanged, HandlesStay};
 ghost use Rattle.jsonc_cst.specs.typed.Inserting.{element_count, HasComeIn, IsItsElement};
-ghost use Rattle.jsonc_cst.specs.typed.Inserting.{IsPutAtItsPath, IsShutFor, KeepsOthers};
+ghost use Rattle.jsonc_cst.specs.typed.Inserting.{IsPutAtItsPath, InsertError, KeepsOthers};
 ghost use Rattle.jsonc_cst.specs.typed.Removing.{IsKeptForMemory};
 ghost use Rattle.jsonc_cst.specs.typed.Steps.{IsAppending, IsInserting};
 
-use crate::cst::{CstArray, CstNode, CstRootNode, EditError, IsNode, node_at};
+use crate::cst::{CstArray, CstNode, CstRootNode, EditError, TypedNode, node_at};
 use jsonc_insert::insert_element;
 use jsonc_layout::input::CstInputValue;
 use std::alloc::Allocator;
 
 impl CstArray {
-    /// Puts a value behind its last element, and answers the value's node.
+    /// Appends a value, and answers its node.
     ///
-    /// It is what [`CstArray::insert`] does with the number of its elements, or a greater one.
+    /// It does what [`CstArray::insert`] does with the number of its elements, or a greater one.
     pub fn append<A: Allocator + Copy>(
         self,
         doc: &mut CstRootNode<A>,
         value: CstInputValue<A>,
     ) -> Result<CstNode, EditError>
-        requires { Holds doc.old (array_node self) }
+        requires { HasNode doc.old (array_node self) }
         ensures put { IfOk result
             (HasComeIn doc.old doc.new (array_node self) (element_count doc.old (array_node self)) (plain value)) }
         ensures element { IfOk result
@@ -37,12 +37,12 @@ impl CstArray {
         ensures step { OnOk result (IsAppending (nodes_of doc.old) (nodes_of doc.new) (number_of (array_node self))
             (plain value)) }
         ensures others { OnOk result (KeepsOthers doc.old doc.new (array_node self)) }
-        ensures elsewhere { OnOk result (KeepsElsewhere doc.old doc.new (array_node self)) }
-        ensures told { IfErr result (IsShutFor doc.old (array_node self)) }
+        ensures detached { OnOk result (KeepsDocument doc.old doc.new (array_node self)) }
+        ensures error { IfErr result (InsertError doc.old (array_node self)) }
         ensures memory { (o : Options) → IfErr result (IsKeptForMemory doc.old o (array_node self)) }
-        ensures held { IfOk result (Holds doc.new) }
-        ensures stays { StillHolds doc.old doc.new }
-        ensures kept { OnErr result (StaysAsItWas doc.old doc.new) }
+        ensures in_document { IfOk result (HasNode doc.new) }
+        ensures handles { HandlesStay doc.old doc.new }
+        ensures kept { OnErr result (Unchanged doc.old doc.new) }
         ensures document { OnErr result (tree_of doc.new ≡ tree_of doc.old) }
     {
         // There are no more elements than children.
@@ -50,23 +50,28 @@ impl CstArray {
         self.insert(doc, count, value)
     }
 
-    /// Puts a value before its element of this number, counted from 0, or behind the last where it has
-    /// fewer, and answers the value's node.
+    /// Inserts a value before its element of this number, and answers the value's node.
     ///
-    /// The array tells how: on several lines the value comes on one of its own, one level deeper; a comma
-    /// comes between it and its neighbours, and behind it where the array's last elements have one; blank
-    /// lines directly inside the brackets leave. Comments stay where they are. An array that lacks a
-    /// bracket, which is so only after edits of single leaves, is `MissingBrackets`, and none that stands in
-    /// a sound document. If the document is sound, it is sound again, and its value is the old one with this
-    /// value in the array: if the array stands in it, the call is one step, the edit that inserts the value
-    /// at the array's path. A refusal leaves the document as it was.
+    /// The number counts from 0; where the array has fewer elements, the value is inserted behind
+    /// the last.
+    ///
+    /// The array tells how: on several lines the value has a line of its own, one level deeper. A
+    /// comma is inserted between it and its neighbours, and behind it where the array's last
+    /// elements have one. Blank lines directly inside the brackets are removed. Comments stay where
+    /// they are. `[1, 2]` with 9 at 1 is `[1, 9,  2]`.
+    ///
+    /// If the document is sound, it is sound again, and its value is the old one with this value in
+    /// the array: if the array stands in it, the call is one step, the edit that inserts the value
+    /// at the array's path. An array that lacks a bracket, which is so only after edits of single
+    /// leaves, is the error `MissingBrackets`, and none that stands in a sound document. On an
+    /// error the document stays as it was.
     pub fn insert<A: Allocator + Copy>(
         self,
         doc: &mut CstRootNode<A>,
         index: usize,
         value: CstInputValue<A>,
     ) -> Result<CstNode, EditError>
-        requires { Holds doc.old (array_node self) }
+        requires { HasNode doc.old (array_node self) }
         ensures put { IfOk result
             (HasComeIn doc.old doc.new (array_node self) (min index (element_count doc.old (array_node self)))
             (plain value)) }
@@ -78,12 +83,12 @@ impl CstArray {
         ensures step { OnOk result (IsInserting (nodes_of doc.old) (nodes_of doc.new) (number_of (array_node self)) index
             (plain value)) }
         ensures others { OnOk result (KeepsOthers doc.old doc.new (array_node self)) }
-        ensures elsewhere { OnOk result (KeepsElsewhere doc.old doc.new (array_node self)) }
-        ensures told { IfErr result (IsShutFor doc.old (array_node self)) }
+        ensures detached { OnOk result (KeepsDocument doc.old doc.new (array_node self)) }
+        ensures error { IfErr result (InsertError doc.old (array_node self)) }
         ensures memory { (o : Options) → IfErr result (IsKeptForMemory doc.old o (array_node self)) }
-        ensures held { IfOk result (Holds doc.new) }
-        ensures stays { StillHolds doc.old doc.new }
-        ensures kept { OnErr result (StaysAsItWas doc.old doc.new) }
+        ensures in_document { IfOk result (HasNode doc.new) }
+        ensures handles { HandlesStay doc.old doc.new }
+        ensures kept { OnErr result (Unchanged doc.old doc.new) }
         ensures document { OnErr result (tree_of doc.new ≡ tree_of doc.old) }
     {
         let number = self.node().number();

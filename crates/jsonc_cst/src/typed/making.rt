@@ -2,8 +2,8 @@
 
 ghost use Rattle.std.specs.Prelude.{◌≡◌, false, IfErr, OnErr, OnOk};
 ghost use Rattle.jsonc_tree.specs.Tree.{IsTree};
-ghost use Rattle.jsonc_run.specs.Edits.{is_sort, operation_of, unsorted, IsMade};
-ghost use Rattle.jsonc_run.specs.Refusals.{IsLeft, IsToldBy};
+ghost use Rattle.jsonc_run.specs.Edits.{is_sort, operation_of, unsorted, EditStep};
+ghost use Rattle.jsonc_run.specs.Refusals.{IsLeft, FailsWith};
 ghost use Rattle.jsonc_cst.specs.Document.{nodes_of};
 
 use crate::cst::{CstRootNode, EditError};
@@ -11,15 +11,16 @@ use jsonc_run::Edit;
 use std::alloc::Allocator;
 
 impl<A: Allocator + Copy> CstRootNode<A> {
-    /// Makes an edit at its path that is no sort. Where it is refused, the document and every node that was
-    /// there are as they were; of trailing commas that were to be set those of the first arrays and objects may
-    /// have been.
+    /// Makes an edit at its path that is no sort.
+    ///
+    /// On an error the document and every node that was there stay as they were; of trailing commas
+    /// that were to be set those of the first arrays and objects may have been.
     #[doc(hidden)]
     pub fn make(&mut self, edit: &Edit<A>) -> Result<(), EditError>
         requires unsorted { is_sort edit.now ≡ false }
         ensures made { OnOk result
-            (IsMade (nodes_of self.old) (operation_of unsorted edit.now) (nodes_of self.new)) }
-        ensures told { IfErr result (IsToldBy (nodes_of self.old) (operation_of unsorted edit.now)) }
+            (EditStep (nodes_of self.old) (operation_of unsorted edit.now) (nodes_of self.new)) }
+        ensures error { IfErr result (FailsWith (nodes_of self.old) (operation_of unsorted edit.now)) }
         ensures left { OnErr result
             (IsLeft (nodes_of self.old) (operation_of unsorted edit.now) (nodes_of self.new)) }
     {

@@ -1,9 +1,9 @@
-//! A value gives way to another.
+//! A value is replaced by another.
 
 ghost use Rattle.std.specs.Prelude.{◌≡◌, ◌<◌, length};
 ghost use Rattle.jsonc_layout.specs.input.Views.{plain};
 ghost use Rattle.jsonc_layout.specs.nodes.Properties.{name_at};
-ghost use Rattle.jsonc_cst.specs.Document.{Holds};
+ghost use Rattle.jsonc_cst.specs.Document.{HasNode};
 ghost use Rattle.jsonc_cst.specs.typed.Calls.{IsReplacement};
 ghost use Rattle.jsonc_cst.specs.typed.Edits.{is_found, is_name_in};
 ghost use Rattle.jsonc_cst.specs.Nodes.{array_node, boolean_lit_node, name_node, null_keyword_node, number_lit_node};
@@ -12,7 +12,7 @@ ghost use Rattle.jsonc_cst.specs.Tree.{NodesAreTree};
 
 use crate::cst::{
     CstArray, CstBooleanLit, CstNode, CstNullKeyword, CstNumberLit, CstObject, CstRootNode,
-    CstStringLit, CstWordLit, EditError, IsNode, ObjectPropName, node_at,
+    CstStringLit, CstWordLit, EditError, ObjectPropName, TypedNode, node_at,
 };
 use jsonc_layout::input::CstInputValue;
 use jsonc_tree::{Kind, Tree};
@@ -42,13 +42,13 @@ fn is_name_of<A: Allocator>(tree: &Tree<A>, property: usize, number: usize) -> b
     }
 }
 
-// Lets a node give way to a value, and answers the node that the value is now.
-fn replace_with<A: Allocator + Copy, N: IsNode>(
+// Lets a node are replaced by a value, and answers the node that the value is now.
+fn replace_with<A: Allocator + Copy, N: TypedNode>(
     doc: &mut CstRootNode<A>,
     node: N,
     value: CstInputValue<A>,
 ) -> Result<Option<CstNode>, EditError>
-    requires { Holds doc.old (N.node_of node) }
+    requires { HasNode doc.old (N.node_of node) }
     ensures { IsReplacement doc.old doc.new (N.node_of node) (plain value) result }
 {
     let Some(_) = node.parent(doc) else {
@@ -68,25 +68,28 @@ fn replace_with<A: Allocator + Copy, N: IsNode>(
 }
 
 impl CstArray {
-    /// Lets it give way to a value, and answers the node that the value is now.
+    /// Replaces it by a value, and answers the value's node.
     ///
-    /// The document tells how the value is laid out: the indents are those at the container that the
-    /// node stands in, lines end as the document's do, and the last of several lines has a comma where
-    /// that is so in the container, or, for the value of a property, in the old value. Where two
-    /// literals without quotes would come to stand directly beside each other, a space comes between
-    /// them, but none beside the name of a property: `{a:1"b":2}` with 7 for its second name is
-    /// `{a:17:2}`. If the document is sound, and the node a value in it, the document is sound again, and
-    /// its value is the old one with the new value at the node's path. The call is one step then, the edit
-    /// that replaces the value at that path: it leads from the document before to the document behind it.
+    /// The document tells how the value is laid out: the indents are those at the container that
+    /// the node stands in, lines end as the document's do, and the last of several lines has a
+    /// comma where that is so in the container, or, for the value of a property, in the old value.
+    /// Where two literals without quotes would come to stand directly beside each other, a space is
+    /// inserted between them, but none beside the name of a property. `{a:[1]b:2}` with 7 for its
+    /// array is `{a:7 b:2}`; `{a:1"b":2}` with 7 for its second name is `{a:17:2}`.
     ///
-    /// The node is nobody's child then. Where it had no parent before, the answer is None, and the
-    /// document is as it was. A refusal leaves the document as it was too.
+    /// If the document is sound, and the node a value in it, the document is sound again, and its
+    /// value is the old one with the new value at the node's path. The call is one step then, the
+    /// edit that replaces the value at that path: it leads from the document before to the document
+    /// behind it.
+    ///
+    /// The node is detached then. Where it had no parent before, the answer is None, and the
+    /// document stays as it was, as it does on an error.
     pub fn replace_with<A: Allocator + Copy>(
         self,
         doc: &mut CstRootNode<A>,
         value: CstInputValue<A>,
     ) -> Result<Option<CstNode>, EditError>
-        requires { Holds doc.old (array_node self) }
+        requires { HasNode doc.old (array_node self) }
         ensures { IsReplacement doc.old doc.new (array_node self) (plain value) result }
     {
         replace_with(doc, self, value)
@@ -94,13 +97,13 @@ impl CstArray {
 }
 
 impl CstObject {
-    /// Lets it give way to a value, and answers the node that the value is now, as [`CstArray::replace_with`] says.
+    /// Replaces it by a value, and answers the value's node. [`CstArray::replace_with`] says how.
     pub fn replace_with<A: Allocator + Copy>(
         self,
         doc: &mut CstRootNode<A>,
         value: CstInputValue<A>,
     ) -> Result<Option<CstNode>, EditError>
-        requires { Holds doc.old (object_node self) }
+        requires { HasNode doc.old (object_node self) }
         ensures { IsReplacement doc.old doc.new (object_node self) (plain value) result }
     {
         replace_with(doc, self, value)
@@ -108,13 +111,13 @@ impl CstObject {
 }
 
 impl CstBooleanLit {
-    /// Lets it give way to a value, and answers the node that the value is now, as [`CstArray::replace_with`] says.
+    /// Replaces it by a value, and answers the value's node. [`CstArray::replace_with`] says how.
     pub fn replace_with<A: Allocator + Copy>(
         self,
         doc: &mut CstRootNode<A>,
         value: CstInputValue<A>,
     ) -> Result<Option<CstNode>, EditError>
-        requires { Holds doc.old (boolean_lit_node self) }
+        requires { HasNode doc.old (boolean_lit_node self) }
         ensures { IsReplacement doc.old doc.new (boolean_lit_node self) (plain value) result }
     {
         replace_with(doc, self, value)
@@ -122,13 +125,13 @@ impl CstBooleanLit {
 }
 
 impl CstNullKeyword {
-    /// Lets it give way to a value, and answers the node that the value is now, as [`CstArray::replace_with`] says.
+    /// Replaces it by a value, and answers the value's node. [`CstArray::replace_with`] says how.
     pub fn replace_with<A: Allocator + Copy>(
         self,
         doc: &mut CstRootNode<A>,
         value: CstInputValue<A>,
     ) -> Result<Option<CstNode>, EditError>
-        requires { Holds doc.old (null_keyword_node self) }
+        requires { HasNode doc.old (null_keyword_node self) }
         ensures { IsReplacement doc.old doc.new (null_keyword_node self) (plain value) result }
     {
         replace_with(doc, self, value)
@@ -136,13 +139,13 @@ impl CstNullKeyword {
 }
 
 impl CstNumberLit {
-    /// Lets it give way to a value, and answers the node that the value is now, as [`CstArray::replace_with`] says.
+    /// Replaces it by a value, and answers the value's node. [`CstArray::replace_with`] says how.
     pub fn replace_with<A: Allocator + Copy>(
         self,
         doc: &mut CstRootNode<A>,
         value: CstInputValue<A>,
     ) -> Result<Option<CstNode>, EditError>
-        requires { Holds doc.old (number_lit_node self) }
+        requires { HasNode doc.old (number_lit_node self) }
         ensures { IsReplacement doc.old doc.new (number_lit_node self) (plain value) result }
     {
         replace_with(doc, self, value)
@@ -150,13 +153,13 @@ impl CstNumberLit {
 }
 
 impl CstStringLit {
-    /// Lets it give way to a value, and answers the node that the value is now, as [`CstArray::replace_with`] says.
+    /// Replaces it by a value, and answers the value's node. [`CstArray::replace_with`] says how.
     pub fn replace_with<A: Allocator + Copy>(
         self,
         doc: &mut CstRootNode<A>,
         value: CstInputValue<A>,
     ) -> Result<Option<CstNode>, EditError>
-        requires { Holds doc.old (string_lit_node self) }
+        requires { HasNode doc.old (string_lit_node self) }
         ensures { IsReplacement doc.old doc.new (string_lit_node self) (plain value) result }
     {
         replace_with(doc, self, value)
@@ -164,13 +167,13 @@ impl CstStringLit {
 }
 
 impl CstWordLit {
-    /// Lets it give way to a value, and answers the node that the value is now, as [`CstArray::replace_with`] says.
+    /// Replaces it by a value, and answers the value's node. [`CstArray::replace_with`] says how.
     pub fn replace_with<A: Allocator + Copy>(
         self,
         doc: &mut CstRootNode<A>,
         value: CstInputValue<A>,
     ) -> Result<Option<CstNode>, EditError>
-        requires { Holds doc.old (word_lit_node self) }
+        requires { HasNode doc.old (word_lit_node self) }
         ensures { IsReplacement doc.old doc.new (word_lit_node self) (plain value) result }
     {
         replace_with(doc, self, value)
@@ -178,13 +181,13 @@ impl CstWordLit {
 }
 
 impl ObjectPropName {
-    /// Lets it give way to a value, and answers the node that the value is now, as [`CstArray::replace_with`] says.
+    /// Replaces it by a value, and answers the value's node. [`CstArray::replace_with`] says how.
     pub fn replace_with<A: Allocator + Copy>(
         self,
         doc: &mut CstRootNode<A>,
         value: CstInputValue<A>,
     ) -> Result<Option<CstNode>, EditError>
-        requires { Holds doc.old (name_node self) }
+        requires { HasNode doc.old (name_node self) }
         ensures { IsReplacement doc.old doc.new (name_node self) (plain value) result }
     {
         replace_with(doc, self, value)

@@ -1,4 +1,4 @@
-//! A document's value is set, and a property gives way to another.
+//! A document's value is set, and a property is replaced by another.
 
 ghost use Rattle.std.specs.Prelude.{◌≡◌, IfErr, IfNone, IfOk, IfSome, None, OnErr, OnOk, Some, chars};
 ghost use Rattle.jsonc_text.specs.Options.{Options};
@@ -10,10 +10,10 @@ ghost use Rattle.jsonc_edit.specs.set.Kinds.{is_array, is_object, LacksKind};
 ghost use Rattle.jsonc_edit.specs.set.Laws.{IsBareDocument};
 ghost use Rattle.jsonc_text.specs.declared.edit.Over.{Over};
 ghost use Rattle.jsonc_text.specs.declared.edit.Shape.{Shape};
-ghost use Rattle.jsonc_cst.specs.Document.{nodes_of, parent_of, tree_of, Holds};
+ghost use Rattle.jsonc_cst.specs.Document.{nodes_of, parent_of, tree_of, HasNode};
 ghost use Rattle.jsonc_cst.specs.Nodes.{array_node, number_of, object_node, object_prop_node, IsNodeOf};
 ghost use Rattle.jsonc_cst.specs.Readings.{value_under};
-ghost use Rattle.jsonc_cst.specs.typed.Edits.{HasGone, IsUntouched, KeepsElsewhere, StaysAsItWas, StillHolds};
+ghost use Rattle.jsonc_cst.specs.typed.Edits.{NodeIsDetached, IsUntouched, KeepsDocument, Unchanged, HandlesStay};
 ghost use Rattle.jsonc_cst.specs.typed.Marked.{MarksStay};
 ghost use Rattle.jsonc_cst.specs.typed.Removing.{IsCleared};
 ghost use Rattle.jsonc_cst.specs.typed.Setting.{EmptyArrayAround, EmptyArrayMarked, EmptyArrayWritten};
@@ -26,7 +26,7 @@ ghost use Rattle.jsonc_cst.specs.typed.Setting.{RootBecomes, RootIsMarked, RootI
 ghost use Rattle.jsonc_cst.specs.typed.Steps.{IsClearing, IsEnsuringRoot, IsReplacingProperty, IsSettingRoot};
 
 use crate::cst::{
-    CstArray, CstNode, CstObject, CstObjectProp, CstRootNode, EditError, IsNode, node_at,
+    CstArray, CstNode, CstObject, CstObjectProp, CstRootNode, EditError, TypedNode, node_at,
 };
 use jsonc_edit::Shape;
 use jsonc_edit::set::{root_value_or_create, root_value_or_set};
@@ -38,7 +38,7 @@ use std::alloc::Allocator;
 pub fn object_at<A: Allocator>(tree: &Tree<A>, number: usize) -> CstObject
     requires { content_at tree.now.nodes number ≡ Content.object }
     ensures number { result.number ≡ number }
-    ensures held { IsNodeOf tree.now.nodes (object_node result) }
+    ensures in_document { IsNodeOf tree.now.nodes (object_node result) }
 {
     let Some(object) = node_at(tree, number).as_object() else {
         unreachable!()
@@ -50,7 +50,7 @@ pub fn object_at<A: Allocator>(tree: &Tree<A>, number: usize) -> CstObject
 pub fn array_at<A: Allocator>(tree: &Tree<A>, number: usize) -> CstArray
     requires { content_at tree.now.nodes number ≡ Content.array }
     ensures number { result.number ≡ number }
-    ensures held { IsNodeOf tree.now.nodes (array_node result) }
+    ensures in_document { IsNodeOf tree.now.nodes (array_node result) }
 {
     let Some(array) = node_at(tree, number).as_array() else {
         unreachable!()
@@ -59,14 +59,22 @@ pub fn array_at<A: Allocator>(tree: &Tree<A>, number: usize) -> CstArray
 }
 
 impl<A: Allocator + Copy> CstRootNode<A> {
-    /// Sets the document's value, and answers the node that it is now.
+    /// Sets the document's value, and answers its node.
     ///
-    /// Where a value stands, it gives way to the new one, as by `replace_with` of a value. Where none does,
-    /// the new value is laid out as the document tells and comes before the newline that the document
-    /// ends with, if it does, and else behind all. Where a comment stands directly before that place, a
-    /// newline comes between them, and where nothing stands behind it, a newline comes behind the value.
-    /// If the document is sound, it is sound again, and its value is the new one: one step, the edit that
-    /// sets the document's value. A refusal leaves the document as it was.
+    /// Where a value stands, it is replaced by the new one, as by `replace_with` of a value. Where
+    /// none does, the new value is laid out as the document tells and is inserted before the
+    /// newline that the document ends with, if it does, and else behind all. Where a comment stands
+    /// directly before that place, a newline is inserted between them, and where nothing stands
+    /// behind it, a newline is inserted behind the value. The document of a comment alone, and with
+    /// 1:
+    ///
+    /// ```text
+    /// // c                   // c
+    ///                        1
+    /// ```
+    ///
+    /// If the document is sound, it is sound again, and its value is the new one: one step, the
+    /// edit that sets the document's value. On an error the document stays as it was.
     pub fn set_value(&mut self, value: CstInputValue<A>) -> Result<CstNode, EditError>
         ensures set { IfOk result (RootBecomes (nodes_of self.old) (nodes_of self.new) (plain value)) }
         ensures written { (p : Options)
@@ -77,30 +85,33 @@ impl<A: Allocator + Copy> CstRootNode<A> {
             → OnOk result (RootStaysAround (nodes_of self.old) (nodes_of self.new) p (plain value)) }
         ensures step { OnOk result (IsSettingRoot (nodes_of self.old) (nodes_of self.new) (plain value)) }
         ensures stands { IfOk result (λ m. value_under self.new 0 ≡ Some m) }
-        ensures held { IfOk result (Holds self.new) }
-        ensures stays { StillHolds self.old self.new }
+        ensures in_document { IfOk result (HasNode self.new) }
+        ensures handles { HandlesStay self.old self.new }
         ensures memory { IfErr result (λ e. e ≡ EditError.OutOfMemory) }
-        ensures kept { OnErr result (StaysAsItWas self.old self.new) }
+        ensures kept { OnErr result (Unchanged self.old self.new) }
         ensures document { OnErr result (tree_of self.new ≡ tree_of self.old) }
     {
         let number = jsonc_edit::set::set_root(self.alloc, &mut self.tree, &value)?;
         Ok(node_at(&self.tree, number))
     }
 
-    /// Takes all out of the document, which has no value then, and no comments, and is sound: one step, if
-    /// the document was sound. No memory is wanted.
+    /// Takes everything out of the document: its value, its comments and all else.
+    ///
+    /// The document is sound then: one step, if it was sound before. Nothing is allocated.
     pub fn clear_children(&mut self)
         ensures cleared { IsCleared (nodes_of self.old) (nodes_of self.new) }
         ensures written { (o : Options) → IsBareDocument o (tree_of self.new) }
         ensures step { IsClearing (nodes_of self.old) (nodes_of self.new) }
-        ensures stays { StillHolds self.old self.new }
+        ensures handles { HandlesStay self.old self.new }
     {
         jsonc_edit::set::clear_root(&mut self.tree);
     }
 
-    /// The document's value, if it is an object. Where there is none an empty object is set; where the
-    /// value is another the answer is None, and nothing changes. Of a sound document it is one step. A
-    /// refusal leaves the document as it was.
+    /// Answers the value if it is an object; sets an empty one where there is none; answers None,
+    /// and changes nothing, where it is another.
+    ///
+    /// It is set as by [`CstRootNode::set_value`]. For a sound document the call is one step. On an
+    /// error the document stays as it was.
     pub fn object_value_or_create(&mut self) -> Result<Option<CstObject>, EditError>
         ensures value { IfOk result (FindsOrCreatesObject (nodes_of self.old) (nodes_of self.new)) }
         ensures written { (p : Options) → OnOk result (FirstObjectWritten (nodes_of self.old) (nodes_of self.new) p) }
@@ -108,11 +119,11 @@ impl<A: Allocator + Copy> CstRootNode<A> {
         ensures around { (p : Options) → OnOk result (FirstObjectAround (nodes_of self.old) (nodes_of self.new) p) }
         ensures step { OnOk result (IsEnsuringRoot (nodes_of self.old) (nodes_of self.new) Shape.Object Over.Keep) }
         ensures stands { IfOk result (λ o. IfSome o (λ x. value_under self.new 0 ≡ Some (object_node x))) }
-        ensures held { IfOk result (λ o. IfSome o (λ x. Holds self.new (object_node x))) }
-        ensures stays { StillHolds self.old self.new }
+        ensures in_document { IfOk result (λ o. IfSome o (λ x. HasNode self.new (object_node x))) }
+        ensures handles { HandlesStay self.old self.new }
         ensures memory { IfErr result (λ e. e ≡ EditError.OutOfMemory) }
-        ensures wanted { OnErr result (value_at (nodes_of self.old) 0 ≡ None) }
-        ensures kept { OnErr result (StaysAsItWas self.old self.new) }
+        ensures oom_only_if { OnErr result (value_at (nodes_of self.old) 0 ≡ None) }
+        ensures kept { OnErr result (Unchanged self.old self.new) }
         ensures document { OnErr result (tree_of self.new ≡ tree_of self.old) }
     {
         let Some(number) = root_value_or_create(self.alloc, &mut self.tree, Shape::Object)? else {
@@ -121,8 +132,11 @@ impl<A: Allocator + Copy> CstRootNode<A> {
         Ok(Some(object_at(&self.tree, number)))
     }
 
-    /// The document's value, if it is an object. Where it is another, or there is none, an empty object
-    /// is set. Of a sound document it is one step. A refusal leaves the document as it was.
+    /// Answers the value if it is an object; sets an empty one where there is none, or in the place
+    /// of any other.
+    ///
+    /// It is set as by [`CstRootNode::set_value`]. For a sound document the call is one step. On an
+    /// error the document stays as it was.
     pub fn object_value_or_set(&mut self) -> Result<CstObject, EditError>
         ensures value { IfOk result (FindsOrSetsObject (nodes_of self.old) (nodes_of self.new)) }
         ensures written { (p : Options) → IfOk result (EmptyObjectWritten (nodes_of self.old) (nodes_of self.new) p) }
@@ -130,20 +144,22 @@ impl<A: Allocator + Copy> CstRootNode<A> {
         ensures around { (p : Options) → OnOk result (EmptyObjectAround (nodes_of self.old) (nodes_of self.new) p) }
         ensures step { OnOk result (IsEnsuringRoot (nodes_of self.old) (nodes_of self.new) Shape.Object Over.Replace) }
         ensures stands { IfOk result (λ x. value_under self.new 0 ≡ Some (object_node x)) }
-        ensures held { IfOk result (λ x. Holds self.new (object_node x)) }
-        ensures stays { StillHolds self.old self.new }
+        ensures in_document { IfOk result (λ x. HasNode self.new (object_node x)) }
+        ensures handles { HandlesStay self.old self.new }
         ensures memory { IfErr result (λ e. e ≡ EditError.OutOfMemory) }
-        ensures wanted { OnErr result (LacksKind is_object (nodes_of self.old) (value_at (nodes_of self.old) 0)) }
-        ensures kept { OnErr result (StaysAsItWas self.old self.new) }
+        ensures oom_only_if { OnErr result (LacksKind is_object (nodes_of self.old) (value_at (nodes_of self.old) 0)) }
+        ensures kept { OnErr result (Unchanged self.old self.new) }
         ensures document { OnErr result (tree_of self.new ≡ tree_of self.old) }
     {
         let number = root_value_or_set(self.alloc, &mut self.tree, Shape::Object)?;
         Ok(object_at(&self.tree, number))
     }
 
-    /// The document's value, if it is an array. Where there is none an empty array is set; where the
-    /// value is another the answer is None, and nothing changes. Of a sound document it is one step. A
-    /// refusal leaves the document as it was.
+    /// Answers the value if it is an array; sets an empty one where there is none; answers None,
+    /// and changes nothing, where it is another.
+    ///
+    /// It is set as by [`CstRootNode::set_value`]. For a sound document the call is one step. On an
+    /// error the document stays as it was.
     pub fn array_value_or_create(&mut self) -> Result<Option<CstArray>, EditError>
         ensures value { IfOk result (FindsOrCreatesArray (nodes_of self.old) (nodes_of self.new)) }
         ensures written { (p : Options) → OnOk result (FirstArrayWritten (nodes_of self.old) (nodes_of self.new) p) }
@@ -151,11 +167,11 @@ impl<A: Allocator + Copy> CstRootNode<A> {
         ensures around { (p : Options) → OnOk result (FirstArrayAround (nodes_of self.old) (nodes_of self.new) p) }
         ensures step { OnOk result (IsEnsuringRoot (nodes_of self.old) (nodes_of self.new) Shape.Array Over.Keep) }
         ensures stands { IfOk result (λ o. IfSome o (λ x. value_under self.new 0 ≡ Some (array_node x))) }
-        ensures held { IfOk result (λ o. IfSome o (λ x. Holds self.new (array_node x))) }
-        ensures stays { StillHolds self.old self.new }
+        ensures in_document { IfOk result (λ o. IfSome o (λ x. HasNode self.new (array_node x))) }
+        ensures handles { HandlesStay self.old self.new }
         ensures memory { IfErr result (λ e. e ≡ EditError.OutOfMemory) }
-        ensures wanted { OnErr result (value_at (nodes_of self.old) 0 ≡ None) }
-        ensures kept { OnErr result (StaysAsItWas self.old self.new) }
+        ensures oom_only_if { OnErr result (value_at (nodes_of self.old) 0 ≡ None) }
+        ensures kept { OnErr result (Unchanged self.old self.new) }
         ensures document { OnErr result (tree_of self.new ≡ tree_of self.old) }
     {
         let Some(number) = root_value_or_create(self.alloc, &mut self.tree, Shape::Array)? else {
@@ -164,8 +180,11 @@ impl<A: Allocator + Copy> CstRootNode<A> {
         Ok(Some(array_at(&self.tree, number)))
     }
 
-    /// The document's value, if it is an array. Where it is another, or there is none, an empty array is
-    /// set. Of a sound document it is one step. A refusal leaves the document as it was.
+    /// Answers the value if it is an array; sets an empty one where there is none, or in the place
+    /// of any other.
+    ///
+    /// It is set as by [`CstRootNode::set_value`]. For a sound document the call is one step. On an
+    /// error the document stays as it was.
     pub fn array_value_or_set(&mut self) -> Result<CstArray, EditError>
         ensures value { IfOk result (FindsOrSetsArray (nodes_of self.old) (nodes_of self.new)) }
         ensures written { (p : Options) → IfOk result (EmptyArrayWritten (nodes_of self.old) (nodes_of self.new) p) }
@@ -173,11 +192,11 @@ impl<A: Allocator + Copy> CstRootNode<A> {
         ensures around { (p : Options) → OnOk result (EmptyArrayAround (nodes_of self.old) (nodes_of self.new) p) }
         ensures step { OnOk result (IsEnsuringRoot (nodes_of self.old) (nodes_of self.new) Shape.Array Over.Replace) }
         ensures stands { IfOk result (λ x. value_under self.new 0 ≡ Some (array_node x)) }
-        ensures held { IfOk result (λ x. Holds self.new (array_node x)) }
-        ensures stays { StillHolds self.old self.new }
+        ensures in_document { IfOk result (λ x. HasNode self.new (array_node x)) }
+        ensures handles { HandlesStay self.old self.new }
         ensures memory { IfErr result (λ e. e ≡ EditError.OutOfMemory) }
-        ensures wanted { OnErr result (LacksKind is_array (nodes_of self.old) (value_at (nodes_of self.old) 0)) }
-        ensures kept { OnErr result (StaysAsItWas self.old self.new) }
+        ensures oom_only_if { OnErr result (LacksKind is_array (nodes_of self.old) (value_at (nodes_of self.old) 0)) }
+        ensures kept { OnErr result (Unchanged self.old self.new) }
         ensures document { OnErr result (tree_of self.new ≡ tree_of self.old) }
     {
         let number = root_value_or_set(self.alloc, &mut self.tree, Shape::Array)?;
@@ -186,21 +205,30 @@ impl<A: Allocator + Copy> CstRootNode<A> {
 }
 
 impl CstObjectProp {
-    /// Lets it give way to a new property of a name and a value, and answers that.
+    /// Replaces it by a property of this name and value, and answers that.
     ///
-    /// The document tells how it is laid out, as for `replace_with` of a value. Where the value is a literal
-    /// without quotes that would come to stand directly before another, a space comes between them. If the
-    /// document is sound, it is sound again, and its value is the old one but for that entry: if the property
-    /// stands in it, the call is one step, the edit that replaces the property at its path. The old
-    /// property is nobody's child then. Where it had no parent before, the answer is None, and the
-    /// document is as it was. A refusal leaves the document as it was too.
+    /// The document tells how it is laid out, as for `replace_with` of a value. Where the value is
+    /// a literal without quotes that would come to stand directly before another, a space is
+    /// inserted between them. The first property replaced by `c` with an array of 1 and 2:
+    ///
+    /// ```text
+    /// {                      {
+    ///   "a": 1,                "c": [1, 2],
+    ///   "b": 2                 "b": 2
+    /// }                      }
+    /// ```
+    ///
+    /// If the document is sound, it is sound again, and its value is the old one but for that
+    /// entry: if the property stands in it, the call is one step, the edit that replaces the
+    /// property at its path. The old property is detached then. Where it had no parent before, the
+    /// answer is None, and the document stays as it was, as it does on an error.
     pub fn replace_with<A: Allocator + Copy>(
         self,
         doc: &mut CstRootNode<A>,
         name: &str,
         value: CstInputValue<A>,
     ) -> Result<Option<CstNode>, EditError>
-        requires { Holds doc.old (object_prop_node self) }
+        requires { HasNode doc.old (object_prop_node self) }
         ensures replaced { IfOk result
             (λ o. IfSome o (HasBecomeProperty doc.old doc.new (object_prop_node self) (chars name.now) (plain value))) }
         ensures written { (p : Options)
@@ -210,15 +238,15 @@ impl CstObjectProp {
             (λ o. IfSome o (IsLaidAsProperty doc.old doc.new (object_prop_node self) (chars name.now) (plain value))) }
         ensures step { IfOk result (λ o. IfSome o (λ m. IsReplacingProperty (nodes_of doc.old) (nodes_of doc.new)
             (number_of (object_prop_node self)) (chars name.now) (plain value))) }
-        ensures elsewhere { IfOk result (λ o. IfSome o (λ m. KeepsElsewhere doc.old doc.new (object_prop_node self))) }
-        ensures gone { IfOk result (λ o. IfSome o (λ m. HasGone doc.old doc.new (object_prop_node self))) }
+        ensures detached { IfOk result (λ o. IfSome o (λ m. KeepsDocument doc.old doc.new (object_prop_node self))) }
+        ensures gone { IfOk result (λ o. IfSome o (λ m. NodeIsDetached doc.old doc.new (object_prop_node self))) }
         ensures none { IfOk result (λ o. IfNone o (parent_of doc.old (object_prop_node self) ≡ None)) }
         ensures untouched { IfOk result (λ o. IfNone o (IsUntouched doc.old doc.new)) }
-        ensures held { IfOk result (λ o. IfSome o (Holds doc.new)) }
-        ensures stays { StillHolds doc.old doc.new }
+        ensures in_document { IfOk result (λ o. IfSome o (HasNode doc.new)) }
+        ensures handles { HandlesStay doc.old doc.new }
         ensures memory { IfErr result (λ e. e ≡ EditError.OutOfMemory) }
         ensures child { OnErr result (¬ (parent_of doc.old (object_prop_node self) ≡ None)) }
-        ensures kept { OnErr result (StaysAsItWas doc.old doc.new) }
+        ensures kept { OnErr result (Unchanged doc.old doc.new) }
         ensures document { OnErr result (tree_of doc.new ≡ tree_of doc.old) }
     {
         let Some(_) = self.parent(doc) else {

@@ -1,13 +1,13 @@
 //! Values taken from documents, laid out and put into others.
 
 use crate::tests::reading::read;
+use failing_alloc::awaited::prints;
+use failing_alloc::outcome::Outcome;
 use jsonc_edit::find;
 use jsonc_layout::from_input::{Layout, lay_out_property};
 use jsonc_layout::to_input::to_value;
 use jsonc_parser::cst::{CstInputValue, CstNode, CstRootNode, Edit, run};
 use jsonc_tree::{CstNewlineKind, Tree};
-use refusing::awaited::prints;
-use refusing::outcome::Outcome;
 use std::alloc::{AllocError, Allocator};
 use std::cmp::Ordering;
 

@@ -1,12 +1,12 @@
 //! Values handed to edits, and the spelling of strings.
 
+use failing_alloc::Refusing;
+use failing_alloc::awaited::prints;
+use failing_alloc::outcome::Outcome;
 use jsonc_layout::from_input::{Layout, lay_out};
 use jsonc_layout::input::CstInputValue;
 use jsonc_layout::input::spelling::spell;
 use jsonc_tree::{CstNewlineKind, Tree};
-use refusing::Refusing;
-use refusing::awaited::prints;
-use refusing::outcome::Outcome;
 use std::alloc::{AllocError, Allocator, Global};
 
 /// Texts with the literals that stand for them: each short escape, in the order of their characters; characters of

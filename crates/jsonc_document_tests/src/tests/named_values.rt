@@ -1,8 +1,8 @@
 //! The objects and arrays under names.
 
 use crate::tests::reading::{child_at, read};
-use jsonc_parser::cst::{CstArray, CstNode, CstObject, CstRootNode, HasChildren};
-use refusing::outcome::Outcome;
+use failing_alloc::outcome::Outcome;
+use jsonc_parser::cst::{CstArray, CstNode, CstObject, CstRootNode, ParentNode};
 use std::alloc::Allocator;
 
 /// An object under a name with an escape, an array and a number.

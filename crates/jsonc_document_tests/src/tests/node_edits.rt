@@ -1,22 +1,22 @@
 //! Edits of one node.
-ghost use Rattle.jsonc_cst.specs.Document.{Holds};
+ghost use Rattle.jsonc_cst.specs.Document.{HasNode};
 ghost use Rattle.jsonc_cst.specs.Nodes.{object_prop_node};
 
+use failing_alloc::outcome::Outcome;
 use jsonc_parser::cst::{
     CstContainerNode, CstInputValue, CstLeafNode, CstNewlineKind, CstNode, CstObjectProp,
     CstRootNode, EditError, ObjectPropName,
 };
-use refusing::outcome::Outcome;
 use std::alloc::Allocator;
 
 /// An edit of a node.
 #[derive(Clone, Copy)]
 pub enum NodeEdit {
-    /// A value gives way to a number.
+    /// A value is replaced by a number.
     Replace,
-    /// The name of a property gives way to a number.
+    /// The name of a property is replaced by a number.
     ReplaceName,
-    /// A property gives way to one of the name `c`, whose value is a number.
+    /// A property is replaced by one of the name `c`, whose value is a number.
     ReplaceProperty,
     /// The value of a property is set to a number.
     SetValue,
@@ -48,7 +48,7 @@ fn of_answered<T: Drop>(made: Result<T, EditError>) -> Outcome {
     }
 }
 
-/// Whether something has given way to a new node, or the memory for that was wanted.
+/// Whether something has been replaced by a new node, or the memory for that was wanted.
 fn of_new(replaced: Result<Option<CstNode>, EditError>) -> Outcome {
     match replaced {
         Ok(Some(_)) => Outcome::Answered,
@@ -58,7 +58,7 @@ fn of_new(replaced: Result<Option<CstNode>, EditError>) -> Outcome {
 }
 
 fn replace<A: Allocator + Copy>(doc: &mut CstRootNode<A>, node: CstNode, word: String<A>) -> Outcome
-    requires { Holds doc.old node }
+    requires { HasNode doc.old node }
 {
     let value = CstInputValue::Number(word);
     match node {
@@ -69,7 +69,7 @@ fn replace<A: Allocator + Copy>(doc: &mut CstRootNode<A>, node: CstNode, word: S
 }
 
 fn remove_value<A: Allocator + Copy>(doc: &mut CstRootNode<A>, property: CstObjectProp) -> Outcome
-    requires { Holds doc.old (object_prop_node property) }
+    requires { HasNode doc.old (object_prop_node property) }
 {
     match property.value(doc) {
         Some(value) => Outcome::of_answer(value.remove(doc), &()),
@@ -83,7 +83,7 @@ fn edit_property<A: Allocator + Copy>(
     property: CstObjectProp,
     word: String<A>,
 ) -> Outcome
-    requires { Holds doc.old (object_prop_node property) }
+    requires { HasNode doc.old (object_prop_node property) }
 {
     match (edit, property.name(doc)) {
         (NodeEdit::ReplaceName, Some(ObjectPropName::String(name))) => {
@@ -108,7 +108,7 @@ fn edit_property<A: Allocator + Copy>(
 }
 
 fn set_false<A: Allocator + Copy>(doc: &mut CstRootNode<A>, node: CstNode) -> Outcome
-    requires { Holds doc.old node }
+    requires { HasNode doc.old node }
 {
     match node {
         CstNode::Leaf(CstLeafNode::BooleanLit(value)) => of_answered(value.set_value(doc, false)),
@@ -117,7 +117,7 @@ fn set_false<A: Allocator + Copy>(doc: &mut CstRootNode<A>, node: CstNode) -> Ou
 }
 
 fn remove_leaf<A: Allocator>(doc: &mut CstRootNode<A>, node: CstNode) -> Outcome
-    requires { Holds doc.old node }
+    requires { HasNode doc.old node }
 {
     match node {
         CstNode::Leaf(CstLeafNode::Token(token)) => token.remove(doc),
@@ -129,7 +129,7 @@ fn remove_leaf<A: Allocator>(doc: &mut CstRootNode<A>, node: CstNode) -> Outcome
 }
 
 fn set_raw<A: Allocator>(doc: &mut CstRootNode<A>, node: CstNode, word: String<A>) -> Outcome
-    requires { Holds doc.old node }
+    requires { HasNode doc.old node }
 {
     match node {
         CstNode::Leaf(CstLeafNode::StringLit(string)) => string.set_raw_value(doc, word),
@@ -141,7 +141,7 @@ fn set_raw<A: Allocator>(doc: &mut CstRootNode<A>, node: CstNode, word: String<A
 }
 
 fn set_leaf<A: Allocator>(doc: &mut CstRootNode<A>, node: CstNode, word: String<A>) -> Outcome
-    requires { Holds doc.old node }
+    requires { HasNode doc.old node }
 {
     match node {
         CstNode::Leaf(CstLeafNode::Token(token)) => token.set_value(doc, ';'),
@@ -161,7 +161,7 @@ pub fn edit_node<A: Allocator + Copy>(
     node: CstNode,
     word: String<A>,
 ) -> Outcome
-    requires { Holds doc.old node }
+    requires { HasNode doc.old node }
 {
     match (edit, node) {
         (NodeEdit::Replace, _) => replace(doc, node, word),

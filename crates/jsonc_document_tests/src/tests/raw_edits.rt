@@ -1,12 +1,12 @@
 //! Documents after leaves of theirs were written anew or taken out as they stand, and parts that have left.
 
 use crate::tests::reading::{child_at, prepared};
+use failing_alloc::awaited::prints;
+use failing_alloc::outcome::Outcome;
 use jsonc_parser::ParseStringErrorKind;
 use jsonc_parser::cst::{
-    CstContainerNode, CstInputValue, CstLeafNode, CstNode, CstRootNode, EditError, IsNode,
+    CstContainerNode, CstInputValue, CstLeafNode, CstNode, CstRootNode, EditError, TypedNode,
 };
-use refusing::awaited::prints;
-use refusing::outcome::Outcome;
 use std::alloc::{Allocator, Global};
 use std::test::Fail;
 
@@ -79,7 +79,7 @@ fn is_loose<A: Allocator>(doc: &CstRootNode<A>, node: CstNode) -> bool {
     doc.holds(node) && node.parent(doc) == None && node.child_index(doc) == 0
 }
 
-/// An element that has left is still there, does not leave once more, gives way to nothing, and may be written
+/// An element that has left is still there, does not leave once more, is replaced by nothing, and may be written
 /// anew; the document stays as it is.
 fn element<A: Allocator + Copy>(doc: &mut CstRootNode<A>, word: String<A>) -> Outcome {
     let Some(CstNode::Leaf(CstLeafNode::NumberLit(number))) = child_at(doc, 1) else {

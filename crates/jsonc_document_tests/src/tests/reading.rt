@@ -1,11 +1,11 @@
 //! Documents, read from their texts, and their nodes.
 ghost use Rattle.std.specs.Prelude.{IfSome};
-ghost use Rattle.jsonc_cst.specs.Document.{Holds};
+ghost use Rattle.jsonc_cst.specs.Document.{HasNode};
 
+use failing_alloc::Refusing;
+use failing_alloc::outcome::Outcome;
 use jsonc_parser::ParseOptions;
-use jsonc_parser::cst::{CstNode, CstRootNode, HasChildren};
-use refusing::Refusing;
-use refusing::outcome::Outcome;
+use jsonc_parser::cst::{CstNode, CstRootNode, ParentNode};
 use std::alloc::{Allocator, Global};
 use std::default::Default;
 
@@ -37,7 +37,7 @@ pub fn prepared<A: Allocator + Copy>(
 
 /// The child of the document's value at a place.
 pub fn child_at<A: Allocator>(doc: &CstRootNode<A>, place: usize) -> Option<CstNode>
-    ensures { IfSome result (Holds doc.now) }
+    ensures { IfSome result (HasNode doc.now) }
 {
     let value = doc.value()?;
     value.child_at_index(doc, place)

@@ -5,7 +5,7 @@ use crate::tests::inputs::inputs;
 use crate::tests::named_values::named_values;
 use crate::tests::trees::changed_tree;
 use crate::tests::typed::{children, names};
-use refusing::in_turn::is_refused_in_turn;
+use failing_alloc::in_turn::is_refused_in_turn;
 use std::test::Fail;
 
 #[test]

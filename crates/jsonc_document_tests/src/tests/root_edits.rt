@@ -1,7 +1,7 @@
 //! Edits of a document's value.
 
+use failing_alloc::outcome::Outcome;
 use jsonc_parser::cst::{CstInputValue, CstNode, CstRootNode, EditError};
-use refusing::outcome::Outcome;
 use std::alloc::Allocator;
 
 /// An edit of a document's value.

@@ -2,13 +2,13 @@
 ghost use Rattle.std.specs.Prelude.{◌<◌, IsTrue, length};
 ghost use Rattle.jsonc_tree.specs.Tree.{is_container_at};
 
+use failing_alloc::outcome::Outcome;
 use jsonc_tree::{Ends, Kind, Tree};
-use refusing::outcome::Outcome;
 use std::alloc::Allocator;
 
 /// Whether a node is there and may have children.
 fn can_hold<A: Allocator>(tree: &Tree<A>, node: usize) -> bool
-    ensures there { IsTrue result → node < length tree.now.nodes }
+    ensures in_tree { IsTrue result → node < length tree.now.nodes }
     ensures container { IsTrue result → IsTrue (is_container_at tree.now.nodes node) }
 {
     if node >= tree.len() {

@@ -1,16 +1,16 @@
 //! The nodes of a document, reached from its root and by names.
 ghost use Rattle.std.specs.Prelude.{IfOk};
-ghost use Rattle.jsonc_cst.specs.Document.{Holds};
+ghost use Rattle.jsonc_cst.specs.Document.{HasNode};
 ghost use Rattle.jsonc_cst.specs.Nodes.{array_node, object_prop_node};
 
 use crate::tests::reading::{asked_by, read};
+use failing_alloc::Refusing;
+use failing_alloc::awaited::prints;
+use failing_alloc::in_turn::answers_in_turn;
+use failing_alloc::outcome::Outcome;
 use jsonc_parser::cst::{
-    CstArray, CstLeafNode, CstNode, CstObjectProp, CstRootNode, EditError, HasChildren, IsNode,
+    CstArray, CstLeafNode, CstNode, CstObjectProp, CstRootNode, EditError, ParentNode, TypedNode,
 };
-use refusing::Refusing;
-use refusing::awaited::prints;
-use refusing::in_turn::answers_in_turn;
-use refusing::outcome::Outcome;
 use std::alloc::{Allocator, Global};
 
 /// A comment, an array of nine parts and another comment, with blanks between.
@@ -60,7 +60,7 @@ fn property_of<A: Allocator + Copy>(
     doc: &CstRootNode<A>,
     name: &str,
 ) -> Result<CstObjectProp, Outcome>
-    ensures { IfOk result (λ p. Holds doc.now (object_prop_node p)) }
+    ensures { IfOk result (λ p. HasNode doc.now (object_prop_node p)) }
 {
     let Some(object) = doc.object_value() else {
         return Err(Outcome::Other);
@@ -86,7 +86,7 @@ fn is_named<A: Allocator + Copy>(
     property: CstObjectProp,
     name: &str,
 ) -> Outcome
-    requires { Holds doc.now (object_prop_node property) }
+    requires { HasNode doc.now (object_prop_node property) }
 {
     match property.name(doc) {
         Some(found) => Outcome::of_text(found.decoded_value(doc), name),
@@ -162,8 +162,8 @@ fn siblings_stand<A: Allocator + Copy>(doc: &CstRootNode<A>) -> Outcome {
 
 /// Whether this is the only element of an array.
 fn is_only<A: Allocator + Copy>(doc: &CstRootNode<A>, array: CstArray, element: CstNode) -> Outcome
-    requires array { Holds doc.now (array_node array) }
-    requires element { Holds doc.now element }
+    requires array { HasNode doc.now (array_node array) }
+    requires element { HasNode doc.now element }
 {
     let is_number = element.element_index(doc) == Some(0) && element.as_number_lit().is_some();
     match array.elements(doc) {
@@ -174,7 +174,7 @@ fn is_only<A: Allocator + Copy>(doc: &CstRootNode<A>, array: CstArray, element: 
 
 /// The array under the object's last name has one element.
 fn elements_stand<A: Allocator + Copy>(doc: &CstRootNode<A>, property: CstObjectProp) -> Outcome
-    requires { Holds doc.now (object_prop_node property) }
+    requires { HasNode doc.now (object_prop_node property) }
 {
     let Some(array) = property.array_value(doc) else {
         return Outcome::Other;

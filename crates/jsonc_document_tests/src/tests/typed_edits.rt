@@ -8,11 +8,11 @@ use crate::tests::node_edits::{NodeEdit, edit_node};
 use crate::tests::reading::{child_at, prepared};
 use crate::tests::root_edits::{RootEdit, edit_root};
 use TypedEdit::{At, Root};
+use failing_alloc::Refusing;
+use failing_alloc::awaited::prints;
+use failing_alloc::in_turn::refused_in_turn;
+use failing_alloc::outcome::Outcome;
 use jsonc_parser::cst::CstRootNode;
-use refusing::Refusing;
-use refusing::awaited::prints;
-use refusing::in_turn::refused_in_turn;
-use refusing::outcome::Outcome;
 use std::alloc::{Allocator, Global};
 use std::test::Fail;
 
@@ -98,7 +98,7 @@ fn edit<A: Allocator + Copy>(
     }
 }
 
-/// Makes the edit of a row: the text is the one after it, or after a refusal the one before.
+/// Makes the edit of a row: the text is the one after it, or after an error the one before.
 fn edit_row<A: Allocator + Copy>(doc: CstRootNode<A>, word: String<A>, row: &Row) -> Outcome {
     let mut doc = doc;
     let (before, change, _, after) = *row;

@@ -1,13 +1,13 @@
 //! How typed nodes are laid out and what values they give, and the memory that this wants.
-ghost use Rattle.jsonc_cst.specs.Document.{Holds};
+ghost use Rattle.jsonc_cst.specs.Document.{HasNode};
 
 use crate::tests::reading::{child_at, read};
 use crate::tests::typed::SPREAD;
+use failing_alloc::in_turn::answers_in_turn;
+use failing_alloc::outcome::Outcome;
 use jsonc_parser::cst::{
-    CstComment, CstInputValue, CstNewlineKind, CstNode, CstRootNode, EditError, IsNode,
+    CstComment, CstInputValue, CstNewlineKind, CstNode, CstRootNode, EditError, TypedNode,
 };
-use refusing::in_turn::answers_in_turn;
-use refusing::outcome::Outcome;
 use std::alloc::{Allocator, Global};
 use std::test::Fail;
 
@@ -50,9 +50,9 @@ fn comments_told<A: Allocator + Copy>(
     comma: CstNode,
     comment: CstNode,
 ) -> Outcome
-    requires first { Holds doc.now first }
-    requires comma { Holds doc.now comma }
-    requires comment { Holds doc.now comment }
+    requires first { HasNode doc.now first }
+    requires comma { HasNode doc.now comma }
+    requires comment { HasNode doc.now comment }
 {
     let Some(comment) = comment.as_comment() else {
         return Outcome::Other;

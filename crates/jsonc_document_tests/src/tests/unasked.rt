@@ -1,17 +1,17 @@
 //! What typed nodes tell without memory.
-ghost use Rattle.jsonc_cst.specs.Document.{Holds};
+ghost use Rattle.jsonc_cst.specs.Document.{HasNode};
 ghost use Rattle.jsonc_cst.specs.Nodes.{object_prop_node};
 ghost use Rattle.jsonc_cst.specs.declared.cst.node.CstNode.{CstNode};
 
 use crate::tests::reading::{asked_by, child_at, read};
 use crate::tests::typed::SPREAD;
+use failing_alloc::awaited::prints;
+use failing_alloc::flags::is_alone;
+use failing_alloc::{Refusing, given};
 use jsonc_parser::cst::{
     CstContainerNode, CstLeafNode, CstNewlineKind, CstNode, CstObject, CstObjectProp, CstRootNode,
-    HasChildren, IsNode,
+    ParentNode, TypedNode,
 };
-use refusing::awaited::prints;
-use refusing::flags::is_alone;
-use refusing::{Refusing, given};
 use std::alloc::{Allocator, Global};
 
 /// Leaves of each kind, in a property and in the array of the next one.
@@ -68,7 +68,7 @@ fn is_container_of_kind(container: CstContainerNode, place: usize) -> bool {
 
 /// Whether the name of a property is a string, or else a word.
 fn is_name<A: Allocator>(doc: &CstRootNode<A>, property: CstObjectProp, in_quotes: bool) -> bool
-    requires { Holds doc.now (object_prop_node property) }
+    requires { HasNode doc.now (object_prop_node property) }
 {
     match property.name(doc) {
         Some(name) => {
@@ -92,7 +92,7 @@ fn is_in_pieces<A: Allocator>(doc: &CstRootNode<A>, text: &str) -> bool {
 
 /// Whether a leaf holds this text, or what it stands for.
 fn is_leaf<A: Allocator>(doc: &CstRootNode<A>, leaf: CstLeafNode, text: &str) -> bool
-    requires { Holds doc.now (CstNode.Leaf leaf) }
+    requires { HasNode doc.now (CstNode.Leaf leaf) }
 {
     match leaf {
         CstLeafNode::BooleanLit(boolean) => boolean.value(doc) == (text == "true"),
@@ -114,7 +114,7 @@ fn is_leaf<A: Allocator>(doc: &CstRootNode<A>, leaf: CstLeafNode, text: &str) ->
 
 /// Whether the children of a node are leaves of these kinds that hold these texts and print them.
 fn are_leaves<A: Allocator>(doc: &CstRootNode<A>, node: CstNode, leaves: &[(&str, usize)]) -> bool
-    requires { Holds doc.now node }
+    requires { HasNode doc.now node }
 {
     for (place, (text, kind)) in leaves.iter().enumerate() {
         let Some(CstNode::Leaf(leaf)) = node.child_at_index(doc, place) else {
@@ -148,7 +148,7 @@ fn leaves_told<A: Allocator>(doc: &CstRootNode<A>) -> bool {
 
 /// Above the element under a name stand its array, the property, the object and the root.
 fn is_below<A: Allocator>(doc: &CstRootNode<A>, object: CstObject, property: CstObjectProp) -> bool
-    requires { Holds doc.now (object_prop_node property) }
+    requires { HasNode doc.now (object_prop_node property) }
 {
     let Some(array) = property.array_value(doc) else {
         return false;
@@ -185,7 +185,7 @@ fn is_property<A: Allocator>(
     number: usize,
     child: usize,
 ) -> bool
-    requires { Holds doc.now (object_prop_node property) }
+    requires { HasNode doc.now (object_prop_node property) }
 {
     let numbers = (
         property.property_index(doc),
@@ -200,8 +200,8 @@ fn is_property<A: Allocator>(
 
 /// Before and after the object's first property stand 3 and 8 siblings.
 fn are_counted<A: Allocator>(doc: &CstRootNode<A>, object: CstNode, first: CstNode) -> bool
-    requires object { Holds doc.now object }
-    requires first { Holds doc.now first }
+    requires object { HasNode doc.now object }
+    requires first { HasNode doc.now first }
 {
     let mut before = first.previous_siblings(doc);
     let mut after = first.next_siblings(doc);
@@ -213,13 +213,13 @@ fn are_counted<A: Allocator>(doc: &CstRootNode<A>, object: CstNode, first: CstNo
 
 /// Behind the object's first property is a comma.
 fn are_siblings<A: Allocator>(doc: &CstRootNode<A>, first: CstNode, comma: CstNode) -> bool
-    requires first { Holds doc.now first }
-    requires comma { Holds doc.now comma }
+    requires first { HasNode doc.now first }
+    requires comma { HasNode doc.now comma }
 {
-    let is_beside = first.next_sibling(doc) == Some(comma)
+    let stands_beside = first.next_sibling(doc) == Some(comma)
         && comma.previous_sibling(doc) == Some(first);
     let is_comma = comma.is_comma(doc) && comma.is_token() && !comma.is_trivia();
-    is_beside && first.root_node(doc) == Some(doc.root()) && is_comma
+    stands_beside && first.root_node(doc) == Some(doc.root()) && is_comma
 }
 
 /// The properties of an object over lines, and what is around them.

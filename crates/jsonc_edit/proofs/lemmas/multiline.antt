@@ -1,6 +1,6 @@
 pub mod Planning
-pub mod Weaving
-pub mod Whole
+pub mod RowByNode
+pub mod WholeRow
 pub mod Reflow
 pub mod OnLines
 pub mod Documents

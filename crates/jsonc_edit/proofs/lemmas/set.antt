@@ -1,8 +1,8 @@
-pub mod Rising
-pub mod Making
+pub mod RootRow
+pub mod FirstValueMade
 pub mod FirstRow
-pub mod Coming
-pub mod Gaining
+pub mod FirstValueRows
+pub mod FirstValueSet
 pub mod PropertyGiving
 pub mod PropertyRows
 pub mod WrittenProperty
@@ -11,6 +11,6 @@ pub mod HexRows
 pub mod BooleanSetting
 pub mod WrittenBoolean
 pub mod PropertyValue
-pub mod ComingLast
+pub mod LastChild
 pub mod PropertyKinds
 pub mod Shaped

@@ -39,7 +39,7 @@ abbrev pub a_comma : Content
 a_comma = token 0x2C
 
 -- a new leaf, a comma, stands directly behind the child n of c now
-pub record CommaComesBehind (old new : List Node) (c n : ℕ) : Type 0 where
+pub record CommaInsertedAfter (old new : List Node) (c n : ℕ) : Type 0 where
   pub ready : List Node
   pub added : Adds old ready a_comma
   pub tree : IsTree ready
@@ -56,7 +56,7 @@ LosesComma old new c = LosesIt old new c (comma_gone old c)
 -- c has got one, if it wants one
 abbrev pub GainsIt : List Node → List Node → ℕ → Option ℕ → Type 0
 GainsIt old new c None = new ≡ old
-GainsIt old new c (Some n) = CommaComesBehind old new c n
+GainsIt old new c (Some n) = CommaInsertedAfter old new c n
 
 abbrev pub GainsComma : List Node → List Node → ℕ → Type 0
 GainsComma old new c = GainsIt old new c (comma_wanted_behind old c)

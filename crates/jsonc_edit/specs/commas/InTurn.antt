@@ -5,13 +5,13 @@ use Rattle.jsonc_tree.specs.Tree.{Node, content_at, parent_at, IsTree}
 use Rattle.jsonc_tree.specs.Order.{in_order, rest_at, upward}
 use Rattle.jsonc_layout.specs.nodes.Kinds.{is_property}
 use Rattle.jsonc_layout.specs.nodes.Properties.{value_at}
-use Rattle.jsonc_layout.specs.lines.Kinds.{holds_values}
+use Rattle.jsonc_layout.specs.lines.Kinds.{is_array_or_object}
 use Rattle.jsonc_text.specs.declared.edit.TrailingCommaMode.{TrailingCommaMode}
 use Rattle.jsonc_edit.specs.commas.Commas.{comma_wanted_behind, CommaIsSet, WantsComma}
 
 -- the node is an array or an object
 abbrev pub holds_at : List Node → ℕ → Bool
-holds_at ns n = holds_values (content_at ns n)
+holds_at ns n = is_array_or_object (content_at ns n)
 
 -- this number was found
 abbrev pub is_it : Option ℕ → ℕ → Bool

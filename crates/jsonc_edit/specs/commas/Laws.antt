@@ -71,7 +71,7 @@ KeepsDocumentInPart mode o old c new =
 abbrev pub SetsAll : TrailingCommaMode → Options → List Node → ℕ → List Node → Type 0
 SetsAll mode o old c new = IsInSound o old c → AreSetInTurn mode old (holders old c) new → All (IsSet mode new) (holders new c)
 
--- and those that were set before a refusal are
+-- and those that were set before an error are
 abbrev pub SetsThoseDone : TrailingCommaMode → Options → List Node → ℕ → List Node → Type 0
 SetsThoseDone mode o old c new = IsInSound o old c → (p : AreSetInPart mode old (holders old c) new) → All (IsSet mode new) p.done
 

@@ -6,7 +6,7 @@ use Rattle.jsonc_text.specs.Grammar.{IsDocument}
 use Rattle.jsonc_tree.specs.OrderedTree.{OrderedTree, Top, none, more, followed_by, leaves, ordered_tree}
 use Rattle.jsonc_tree.specs.Tree.{Node, content_at, IsTree}
 use Rattle.jsonc_layout.specs.nodes.Kinds.{is_newline, is_whitespace}
-use Rattle.jsonc_layout.specs.lines.Kinds.{holds_values}
+use Rattle.jsonc_layout.specs.lines.Kinds.{is_array_or_object}
 use Rattle.jsonc_sound.specs.Shape.{printed_text, token_then}
 use Rattle.jsonc_sound.specs.ChangeLaws.{DiffersIn}
 use Rattle.jsonc_sound.specs.Marks.{marks}
@@ -33,7 +33,7 @@ pub record SpreadAt (path : List ℕ) (t u : OrderedTree) : Type 0 where
 -- so it is where c, at a path of a sound document, is put on several lines
 abbrev pub SpreadsAt : Options → List Node → List Node → List ℕ → ℕ → Type 0
 SpreadsAt o old new path c =
-    IsTree old → IsTree new → SoundTree o (ordered_tree old 0) → IsAt old path c → IsTrue (holds_values (content_at old c)) → MadeMultiline old new c
+    IsTree old → IsTree new → SoundTree o (ordered_tree old 0) → IsAt old path c → IsTrue (is_array_or_object (content_at old c)) → MadeMultiline old new c
     → SpreadAt path (ordered_tree old 0) (ordered_tree new 0)
 
 -- The text was a document, and is one of the same value; its literals and comments are those that it had, in order; and the document is sound.
@@ -70,4 +70,4 @@ StaysSpread old now new c = IsTree old → MadeMultiline old now c → MadeMulti
 
 -- an array or object at a path of a sound document has its brackets
 abbrev pub HasItsBrackets : Options → List Node → List ℕ → ℕ → Type 0
-HasItsBrackets o ns path c = IsTree ns → SoundTree o (ordered_tree ns 0) → IsAt ns path c → IsTrue (holds_values (content_at ns c)) → IsTrue (has_brackets ns c)
+HasItsBrackets o ns path c = IsTree ns → SoundTree o (ordered_tree ns 0) → IsAt ns path c → IsTrue (is_array_or_object (content_at ns c)) → IsTrue (has_brackets ns c)

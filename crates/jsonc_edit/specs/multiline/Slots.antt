@@ -20,7 +20,7 @@ abbrev pub row_in : List Node → List Slot → OrderedTree
 row_in ns [] = none
 row_in ns (slot ∷ rest) = more (top_in ns slot).content (top_in ns slot).below (row_in ns rest)
 
--- These nodes fill the places of a row: a child that stays its own, and each leaf that comes is a new node of this content, nobody's child yet.
+-- These nodes fill the places of a row: a child that stays its own, and each leaf that comes is a new node of this content, detached yet.
 pub data AreFilled (old ready : List Node) : List Slot → List ℕ → Type 0 where
   no_more : AreFilled old ready [] []
   stayed : {n : ℕ} {slots : List Slot} {row : List ℕ} → AreFilled old ready slots row → AreFilled old ready (stays n ∷ slots) (n ∷ row)

@@ -6,20 +6,20 @@ use Rattle.jsonc_text.specs.Grammar.{IsDocument}
 use Rattle.jsonc_tree.specs.OrderedTree.{OrderedTree, ordered_tree}
 use Rattle.jsonc_tree.specs.Tree.{Node, content_at, IsOver, IsTree}
 use Rattle.jsonc_layout.specs.nodes.Kinds.{is_comment_at, is_element_at}
-use Rattle.jsonc_layout.specs.lines.Kinds.{holds_values}
+use Rattle.jsonc_layout.specs.lines.Kinds.{is_array_or_object}
 use Rattle.jsonc_sound.specs.Shape.{printed_text}
 use Rattle.jsonc_sound.specs.Rows.{RowKind, container_of}
 use Rattle.jsonc_tree.specs.OrderedTree.{Top}
 use Rattle.jsonc_sound.specs.TreeChanges.{IsElement, DocumentChanged}
 use Rattle.jsonc_sound.specs.SoundTrees.{SoundTree}
 use Rattle.jsonc_sound.specs.Marks.{marks}
-use Rattle.jsonc_sound.specs.Leaving.{ElementLeaves, ClosesUp, ValueLeaves, Empties}
+use Rattle.jsonc_sound.specs.Leaving.{ElementRemoved, ClosesUp, ValueRemoved, Empties}
 use Rattle.jsonc_sound.specs.EntryLaws.{LosesEntry, LosesMarks, root_with}
 use Rattle.jsonc_edit.specs.Changes.{top_at}
 use Rattle.jsonc_edit.specs.Comments.{WantsSpace}
 use Rattle.jsonc_edit.specs.Paths.{IsAt, IsElementOf}
 use Rattle.jsonc_edit.specs.Spaced.{SpacesPut}
-use Rattle.jsonc_edit.specs.SeamRemovals.{EntryLeavesWithSeams}
+use Rattle.jsonc_edit.specs.SeamRemovals.{EntryRemovedWithSeams}
 use Rattle.jsonc_text.specs.declared.edit.EditError.TheVariants.{OutOfMemory}
 use Rattle.jsonc_edit.specs.remove.Removed.{IsKeptFor, TakesElement}
 
@@ -34,15 +34,15 @@ pub record EntryTaken (path : List ℕ) (i : ℕ) (top : Top) (t u : OrderedTree
   pub element : IsElement top.content
   pub spaces : SpacesPut t spaced
   pub changed : DocumentChanged (container_of kind row) (container_of kind new) path spaced u
-  pub leaves : ElementLeaves top i row left
+  pub leaves : ElementRemoved top i row left
   pub closes : ClosesUp left new
-  pub seams : EntryLeavesWithSeams path i top t u
+  pub seams : EntryRemovedWithSeams path i top t u
 
 -- so it is where element number i of an array or object at a path of a sound document is taken out
 abbrev pub TakesEntry : Options → List Node → List Node → List ℕ → ℕ → ℕ → ℕ → Type 0
 TakesEntry o old new path c i n =
     IsTree old → IsTree new → SoundTree o (ordered_tree old 0) → IsAt old path c
-    → IsTrue (holds_values (content_at old c)) → IsElementOf old c i n → TakesElement old new n
+    → IsTrue (is_array_or_object (content_at old c)) → IsElementOf old c i n → TakesElement old new n
     → EntryTaken path i (top_at old n) (ordered_tree old 0) (ordered_tree new 0)
 
 -- the root's value has left, and blanks that were left alone
@@ -53,7 +53,7 @@ pub record ValueTaken (top : Top) (t u : OrderedTree) : Type 0 where
   pub element : IsElement top.content
   pub was : t ≡ root_with row
   pub now : u ≡ root_with new
-  pub leaves : ValueLeaves top row left
+  pub leaves : ValueRemoved top row left
   pub empties : Empties left new
 
 abbrev pub TakesValue : Options → List Node → List Node → ℕ → Type 0

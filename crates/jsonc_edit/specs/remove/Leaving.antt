@@ -3,14 +3,14 @@ use Rattle.std.specs.Prelude.{ℕ, Bool, true, false, not, ◌&&◌, ◌||◌, �
 use Rattle.std.specs.List.{find}
 use Rattle.jsonc_tree.specs.Tree.{Node, content_at}
 use Rattle.jsonc_tree.specs.Siblings.{siblings_after, siblings_before}
-use Rattle.jsonc_layout.specs.nodes.Kinds.{is_beside_at, is_blank_at, is_comma_at, is_newline_at, is_trivia_at, is_whitespace_at}
-use Rattle.jsonc_layout.specs.nodes.Comments.{after_beside_at}
+use Rattle.jsonc_layout.specs.nodes.Kinds.{is_inline_trivia_at, is_blank_at, is_comma_at, is_newline_at, is_trivia_at, is_whitespace_at}
+use Rattle.jsonc_layout.specs.nodes.Comments.{after_inline_trivia_at}
 use Rattle.jsonc_layout.specs.lines.Siblings.{trailing_comma_at}
 
 -- past these whitespace leaves and comments, nearest first: the farthest of them, or n
 abbrev pub outermost : List Node → ℕ → List ℕ → ℕ
 outermost ns n [] = n
-outermost ns n (m ∷ rest) = if is_beside_at ns m then outermost ns m rest else n
+outermost ns n (m ∷ rest) = if is_inline_trivia_at ns m then outermost ns m rest else n
 
 -- the first that leaves: the farthest of the whitespace and comments directly before n, or n
 abbrev pub first_gone : List Node → ℕ → ℕ
@@ -23,7 +23,7 @@ begins_other ns (m ∷ rest) = not (is_trivia_at ns m)
 
 -- m trails its line, with this behind it: it is whitespace or a comment, but no whitespace that something else follows
 abbrev pub trails : List Node → ℕ → List ℕ → Bool
-trails ns m rest = is_beside_at ns m && not (is_whitespace_at ns m && begins_other ns rest)
+trails ns m rest = is_inline_trivia_at ns m && not (is_whitespace_at ns m && begins_other ns rest)
 
 -- where the line of n ends in the row behind it: at its newline; without one at the last of its whitespace and
 -- comments, but for whitespace that something else follows
@@ -40,7 +40,7 @@ newline_there ns None = false
 newline_there ns (Some m) = is_newline_at ns m
 
 abbrev pub ends_line_at : List Node → ℕ → Bool
-ends_line_at ns n = newline_there ns (after_beside_at ns n)
+ends_line_at ns n = newline_there ns (after_inline_trivia_at ns n)
 
 -- the nearest comma before n
 abbrev pub comma_before : List Node → ℕ → Option ℕ

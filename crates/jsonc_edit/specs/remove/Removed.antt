@@ -5,9 +5,9 @@ use Rattle.jsonc_tree.specs.Changes.{Splices}
 use Rattle.jsonc_tree.specs.Siblings.{first}
 use Rattle.jsonc_tree.specs.Tree.{Node, content_at, children_at, parent_at, place_at}
 use Rattle.jsonc_layout.specs.nodes.Kinds.{is_property, is_token}
-use Rattle.jsonc_layout.specs.lines.Kinds.{holds_values}
-use Rattle.jsonc_edit.specs.Due.{due_between, listed, seen_before}
-use Rattle.jsonc_edit.specs.Put.{AreDue, AreSpaced, Prepared}
+use Rattle.jsonc_layout.specs.lines.Kinds.{is_array_or_object}
+use Rattle.jsonc_edit.specs.Due.{space_needed_between, listed, seen_before}
+use Rattle.jsonc_edit.specs.Put.{AreDue, AreSpaced, Extends}
 use Rattle.jsonc_text.specs.declared.edit.EditError.{EditError}
 use Rattle.jsonc_text.specs.declared.edit.EditError.TheVariants.{OutOfMemory, MissingBrackets, MissingName, NoSuchPlace}
 use Rattle.jsonc_edit.specs.remove.Leaving.{comes_to, comma_gone, first_gone, last_gone}
@@ -26,7 +26,7 @@ has_brackets ns c = has_two (children_at ns c) && (is_token_at ns (first (childr
 
 -- the comma that leaves from before n, in an array or object
 abbrev pub comma_in : List Node → ℕ → ℕ → Option ℕ
-comma_in ns c n = if holds_values (content_at ns c) then comma_gone ns n else None
+comma_in ns c n = if is_array_or_object (content_at ns c) then comma_gone ns n else None
 
 -- Before which nodes spaces are due where the siblings from one to another leave, and this comma before them: where the
 -- comma stood, and where they stood. Where nothing that prints stands between, these are one place. What leaves a
@@ -35,19 +35,19 @@ abbrev pub is_next : Option ℕ → Option ℕ → Bool
 is_next (Some m) (Some n) = bytes_eq (m ∷ []) (n ∷ [])
 is_next m n = false
 
-abbrev pub due_at_comma : List Node → ℕ → Option ℕ → Option ℕ
-due_at_comma ns from None = None
-due_at_comma ns from (Some k) = if is_next (seen_before ns from) (Some k) then None else due_between ns k k
+abbrev pub space_needed_at_comma : List Node → ℕ → Option ℕ → Option ℕ
+space_needed_at_comma ns from None = None
+space_needed_at_comma ns from (Some k) = if is_next (seen_before ns from) (Some k) then None else space_needed_between ns k k
 
-abbrev pub due_at_stretch : List Node → ℕ → ℕ → Option ℕ → Option ℕ
-due_at_stretch ns from to None = due_between ns from to
-due_at_stretch ns from to (Some k) = if is_next (seen_before ns from) (Some k) then due_between ns k to else due_between ns from to
+abbrev pub space_needed_at_stretch : List Node → ℕ → ℕ → Option ℕ → Option ℕ
+space_needed_at_stretch ns from to None = space_needed_between ns from to
+space_needed_at_stretch ns from to (Some k) = if is_next (seen_before ns from) (Some k) then space_needed_between ns k to else space_needed_between ns from to
 
-abbrev pub due_before_gap : List Node → ℕ → ℕ → Option ℕ
-due_before_gap ns c n = due_at_comma ns (first_gone ns n) (comma_in ns c n)
+abbrev pub space_needed_before_gap : List Node → ℕ → ℕ → Option ℕ
+space_needed_before_gap ns c n = space_needed_at_comma ns (first_gone ns n) (comma_in ns c n)
 
-abbrev pub due_behind_gap : List Node → ℕ → ℕ → Option ℕ
-due_behind_gap ns c n = if is_property (content_at ns c) then None else due_at_stretch ns (first_gone ns n) (last_gone ns n) (comma_in ns c n)
+abbrev pub space_needed_after_gap : List Node → ℕ → ℕ → Option ℕ
+space_needed_after_gap ns c n = if is_property (content_at ns c) then None else space_needed_at_stretch ns (first_gone ns n) (last_gone ns n) (comma_in ns c n)
 
 -- this child leaves, if there is one
 abbrev pub LosesChild : List Node → List Node → ℕ → Option ℕ → Type 0
@@ -80,7 +80,7 @@ is_hollow ns c = is_hollow_as (content_at ns c) ns (children_at ns c)
 
 -- they leave then
 abbrev pub hollow_from : List Node → ℕ → ℕ
-hollow_from ns c = if holds_values (content_at ns c) then 1 else 0
+hollow_from ns c = if is_array_or_object (content_at ns c) then 1 else 0
 
 abbrev pub hollow_to : List Node → ℕ → ℕ
 hollow_to ns c = length (children_at ns c) - hollow_from ns c
@@ -95,23 +95,23 @@ pub record IsTakenFrom (old new : List Node) (n c : ℕ) : Type 0 where
   pub spaced : List Node
   pub parted : List Node
   pub joined : List Node
-  pub prepared : Prepared old ready
-  pub spaces : AreSpaced ready (listed (due_before_gap old c n) ++ listed (due_behind_gap old c n)) spaced
+  pub prepared : Extends old ready
+  pub spaces : AreSpaced ready (listed (space_needed_before_gap old c n) ++ listed (space_needed_after_gap old c n)) spaced
   pub stretch : Splices spaced parted c (place_at spaced (first_gone old n)) (place_at spaced (last_gone old n) + 1) []
   pub comma : LosesChild parted joined c (comma_in old c n)
   pub closed : IsClosedUp joined new c
 
 -- an array or object from which an element is taken has its brackets
 abbrev pub HasBracketsIfHolds : List Node → ℕ → Type 0
-HasBracketsIfHolds ns c = IsTrue (holds_values (content_at ns c)) → IsTrue (has_brackets ns c)
+HasBracketsIfHolds ns c = IsTrue (is_array_or_object (content_at ns c)) → IsTrue (has_brackets ns c)
 
 -- so wherever the element has a parent
 abbrev pub TakesElement : List Node → List Node → ℕ → Type 0
 TakesElement old new n = (c : ℕ) → parent_at old n ≡ Some c → HasBracketsIfHolds old c × IsTakenFrom old new n c
 
--- why it has not been taken out: a space is due, and its memory was wanted; or its container lacks brackets
+-- why it has not been taken out: a space is due, and its allocation failed; or its container lacks brackets
 abbrev pub IsKeptFor : List Node → ℕ → EditError → Type 0
-IsKeptFor ns n OutOfMemory = (c : ℕ) × (parent_at ns n ≡ Some c) × AreDue (due_before_gap ns c n) (due_behind_gap ns c n)
-IsKeptFor ns n MissingBrackets = (c : ℕ) × (parent_at ns n ≡ Some c) × IsTrue (holds_values (content_at ns c)) × IsTrue (not (has_brackets ns c))
+IsKeptFor ns n OutOfMemory = (c : ℕ) × (parent_at ns n ≡ Some c) × AreDue (space_needed_before_gap ns c n) (space_needed_after_gap ns c n)
+IsKeptFor ns n MissingBrackets = (c : ℕ) × (parent_at ns n ≡ Some c) × IsTrue (is_array_or_object (content_at ns c)) × IsTrue (not (has_brackets ns c))
 IsKeptFor ns n MissingName = ⊥
 IsKeptFor ns n NoSuchPlace = ⊥

@@ -9,7 +9,7 @@ use Rattle.jsonc_tree.specs.Tree.{Node, content_at, IsTree}
 use Rattle.jsonc_sound.specs.Booleans.{boolean_leaf, is_hex_leaf}
 use Rattle.jsonc_sound.specs.SoundTrees.{SoundTree}
 use Rattle.jsonc_edit.specs.Due.{listed, seen_before}
-use Rattle.jsonc_edit.specs.Put.{AreSpaced, IfDue, Prepared}
+use Rattle.jsonc_edit.specs.Put.{AreSpaced, IfDue, Extends}
 use Rattle.jsonc_edit.specs.Changes.{top_at}
 use Rattle.jsonc_edit.specs.Paths.{IsAt}
 use Rattle.jsonc_edit.specs.Written.{IsWrittenAt}
@@ -25,21 +25,21 @@ is_hex_at ns o = is_hex_leaf (option_map (content_at ns) o)
 -- Before which node a space is due where the leaf n becomes this truth value: before n, where `false` would stand
 -- directly behind a hexadecimal number, whose digits would read on into it. All else that ended before the one truth
 -- value ends before the other.
-abbrev pub due_for : List Node → ℕ → Bool → Option ℕ
-due_for ns n b = if not b && is_hex_at ns (seen_before ns n) then Some n else None
+abbrev pub space_needed_for : List Node → ℕ → Bool → Option ℕ
+space_needed_for ns n b = if not b && is_hex_at ns (seen_before ns n) then Some n else None
 
 -- The leaf n has become this truth value: what is needed was made ready, the space has come that was due before it, and it has become another in its place.
 pub record BooleanSet (old new : List Node) (n : ℕ) (b : Bool) : Type 0 where
   pub ready : List Node
   pub spaced : List Node
-  pub prepared : Prepared old ready
-  pub spaces : AreSpaced ready (listed (due_for old n b)) spaced
+  pub prepared : Extends old ready
+  pub spaces : AreSpaced ready (listed (space_needed_for old n b)) spaced
   pub becomes : LeafBecomes spaced new n (boolean b)
   pub tree : IsTree new
 
 -- a space is due
 abbrev pub WantsSpaceFor : List Node → ℕ → Bool → Type 0
-WantsSpaceFor ns n b = IfDue (due_for ns n b)
+WantsSpaceFor ns n b = IfDue (space_needed_for ns n b)
 
 -- a truth value at a path of a sound document that was set is written there, as any other value would be
 abbrev pub WritesBoolean : Options → List Node → List Node → List ℕ → ℕ → Bool → Type 0

@@ -12,7 +12,7 @@ use Rattle.jsonc_tree.specs.OrderedTree.{Top}
 use Rattle.jsonc_sound.specs.SoundTrees.{SoundTree}
 use Rattle.jsonc_sound.specs.Marks.{marks}
 use Rattle.jsonc_sound.specs.MarkChanges.{MarksDifferIn, marks_under}
-use Rattle.jsonc_sound.specs.Coming.{ValueComes}
+use Rattle.jsonc_sound.specs.Coming.{ValueInserted}
 use Rattle.jsonc_edit.specs.Changes.{row_below}
 use Rattle.jsonc_edit.specs.Reading.{layout_for}
 use Rattle.jsonc_layout.specs.from_input.Laid.{laid}
@@ -23,7 +23,7 @@ use Rattle.jsonc_edit.specs.set.RootSet.{FirstValue}
 abbrev pub ComesAmongRows : Options → List Node → List Node → Plain → ℕ → Type 0
 ComesAmongRows o old new v m =
     IsTree old → SoundTree o (ordered_tree old 0) → value_at old 0 ≡ None → FirstValue old new v m
-    → ValueComes (laid (layout_for old 0 0) v) (row_below old 0) (row_below new 0)
+    → ValueInserted (laid (layout_for old 0 0) v) (row_below old 0) (row_below new 0)
 
 -- a document has this value now, or none; its text is one of the grammar, and it is sound
 pub record Means (o : Options) (t : OrderedTree) (w : Option Plain) : Type 0 where
@@ -32,7 +32,7 @@ pub record Means (o : Options) (t : OrderedTree) (w : Option Plain) : Type 0 whe
   pub sound : SoundTree o t
 
 -- the document had no value and has this one; of its marks those of the value's node have come
-pub record GainsValue (o : Options) (v : Plain) (top : Top) (old new : OrderedTree) : Type 0 where
+pub record InsertsValue (o : Options) (v : Plain) (top : Top) (old new : OrderedTree) : Type 0 where
   pub before : Means o old None
   pub after : Means o new (Some v)
   pub marked : MarksDifferIn [] (marks_under top) (marks old) (marks new)
@@ -41,7 +41,7 @@ pub record GainsValue (o : Options) (v : Plain) (top : Top) (old new : OrderedTr
 abbrev pub GivesFirstValue : Options → List Node → List Node → Plain → ℕ → Type 0
 GivesFirstValue o old new v m =
     IsTree old → SoundTree o (ordered_tree old 0) → value_at old 0 ≡ None → IsWritable o v → FirstValue old new v m
-    → GainsValue o v (laid (layout_for old 0 0) v) (ordered_tree old 0) (ordered_tree new 0)
+    → InsertsValue o v (laid (layout_for old 0 0) v) (ordered_tree old 0) (ordered_tree new 0)
 
 -- a root without children is a sound document, without a value and without marks
 pub record IsBareDocument (o : Options) (t : OrderedTree) : Type 0 where

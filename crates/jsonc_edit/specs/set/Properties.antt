@@ -1,4 +1,4 @@
--- Laws of a property of a sound document that gives way to one of another name and value.
+-- Laws of a property of a sound document that is replaced by one of another name and value.
 use Rattle.std.specs.Prelude.{◌≡◌, ℕ, List, Some}
 use Rattle.jsonc_text.specs.Options.{Options}
 use Rattle.jsonc_text.specs.Plain.{Plain}
@@ -21,10 +21,10 @@ use Rattle.jsonc_edit.specs.Spaced.{SpacesPut}
 use Rattle.jsonc_edit.specs.Writing.{IsWritable}
 use Rattle.jsonc_edit.specs.set.Giving.{IsPropertyReplaced}
 
--- The property number i of the object at the path has given way to one of this name and value: the old text is a
+-- The property number i of the object at the path has been replaced by one of this name and value: the old text is a
 -- document, the new text is one, and its value is the old one's, but for that entry; spaces have come in, and then in
--- the object's row one property has given way to another: all leaves before and after stay. Of the literals and
--- comments those of the old property have given way to the literals of the new one. The new document is sound, so it
+-- the object's row one property has been replaced by another: all leaves before and after stay. Of the literals and
+-- comments those of the old property have been replaced by the literals of the new one. The new document is sound, so it
 -- may be edited again.
 pub record IsPropertyWritten (o : Options) (path : List ℕ) (i : ℕ) (name : List ℕ) (v : Plain) (was now : Top) (old new : OrderedTree) : Type 0 where
   pub before : Plain
@@ -41,7 +41,7 @@ pub record IsPropertyWritten (o : Options) (path : List ℕ) (i : ℕ) (name : L
   pub marked : MarksDifferIn (marks_under was) (property_written name v) (marks old) (marks new)
   pub sound : SoundTree o new
 
--- so it is where a property, element number i of an object at a path of a sound document, has given way to one of a name and a value that may be written
+-- so it is where a property, element number i of an object at a path of a sound document, has been replaced by one of a name and a value that may be written
 abbrev pub WritesProperty : Options → List Node → List Node → List ℕ → ℕ → ℕ → ℕ → ℕ → List ℕ → Plain → Type 0
 WritesProperty o old new path c i n m name v =
     IsTree old → SoundTree o (ordered_tree old 0) → IsAt old path c → content_at old c ≡ object → IsElementOf old c i n → IsCharacters name → IsWritable o v

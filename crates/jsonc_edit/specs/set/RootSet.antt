@@ -1,4 +1,4 @@
--- The value of the root, where it is set: another gives way to it, or it is the first.
+-- The value of the root, where it is set: another is replaced by it, or it is the first.
 use Rattle.std.specs.Prelude.{◌≡◌, ◌≢◌, ◌≤◌, ◌<◌, ◌==◌, ℕ, zero, suc, Bool, false, List, [], ◌∷◌, ◌++◌, length, map, slice_index, Option, None, IfSome, if◌then◌else◌}
 use Rattle.jsonc_text.specs.Plain.{Plain}
 use Rattle.jsonc_tree.specs.Changes.{CanJoin, Splices}
@@ -8,7 +8,7 @@ use Rattle.jsonc_tree.specs.declared.node.CstNewlineKind.{CstNewlineKind}
 use Rattle.jsonc_layout.specs.nodes.Kinds.{is_comment_at}
 use Rattle.jsonc_layout.specs.lines.Breadth.{newline_kind_of}
 use Rattle.jsonc_edit.specs.Due.{listed}
-use Rattle.jsonc_edit.specs.Put.{Prepared}
+use Rattle.jsonc_edit.specs.Put.{Extends}
 use Rattle.jsonc_edit.specs.Changes.{top_at}
 use Rattle.jsonc_edit.specs.Comments.{newline_from}
 use Rattle.jsonc_edit.specs.Reading.{layout_for}
@@ -43,7 +43,7 @@ leads_out ns = ends_row (children_at ns 0) (first_place ns)
 abbrev pub line_end_if : Bool → CstNewlineKind → List Content
 line_end_if wanted kind = if wanted then newline kind ∷ [] else []
 
--- a new leaf, if it is one, which is nobody's child
+-- a new leaf, if it is one, which is detached
 abbrev pub IsFresh : List Node → List Node → Option ℕ → Type 0
 IsFresh old new o = IfSome o (λ leaf. (length old ≤ leaf) × (leaf < length new) × (parent_at new leaf ≡ None))
 
@@ -59,7 +59,7 @@ pub record FirstValue (old new : List Node) (v : Plain) (m : ℕ) : Type 0 where
   pub before : List ℕ
   pub behind : List ℕ
   pub fresh : length old ≤ m
-  pub prepared : Prepared old ready
+  pub prepared : Extends old ready
   pub is : top_at ready m ≡ laid (layout_for old 0 0) v
   pub leads : map (content_at ready) before ≡ line_end_if (leads_in old) (newline_kind_of old)
   pub ends : map (content_at ready) behind ≡ line_end_if (leads_out old) (newline_kind_of old)

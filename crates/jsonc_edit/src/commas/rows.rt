@@ -3,7 +3,7 @@
 ghost use Rattle.std.specs.Prelude.{◌≡◌, ◌<◌, OnErr, OnOk, Some, length};
 ghost use Rattle.jsonc_tree.specs.Tree.{parent_at};
 ghost use Rattle.jsonc_edit.specs.commas.Commas.{comma_gone, comma_wanted_behind, has_newline};
-ghost use Rattle.jsonc_edit.specs.commas.Commas.{CommaComesBehind, CommaIsSet, GainsComma, LosesComma, WantsComma};
+ghost use Rattle.jsonc_edit.specs.commas.Commas.{CommaInsertedAfter, CommaIsSet, GainsComma, LosesComma, WantsComma};
 ghost use Rattle.jsonc_tree.specs.Siblings.{TakesOut};
 
 use crate::TrailingCommaMode;
@@ -72,7 +72,7 @@ fn put_comma<A: Allocator>(
     node: usize,
 ) -> Result<(), AllocError>
     requires { parent_at tree.old.nodes node ≡ Some container }
-    ensures put { OnOk result (CommaComesBehind tree.old.nodes tree.new.nodes container node) }
+    ensures put { OnOk result (CommaInsertedAfter tree.old.nodes tree.new.nodes container node) }
     ensures kept { OnErr result (tree.new.nodes ≡ tree.old.nodes) }
 {
     let comma = tree.add(Kind::token(','))?;
@@ -86,7 +86,7 @@ fn give_comma<A: Allocator>(tree: &mut Tree<A>, container: usize) -> Result<(), 
     requires { container < length tree.old.nodes }
     ensures given { OnOk result (GainsComma tree.old.nodes tree.new.nodes container) }
     ensures kept { OnErr result (tree.new.nodes ≡ tree.old.nodes) }
-    ensures wanted { OnErr result (WantsComma tree.old.nodes container) }
+    ensures oom_only_if { OnErr result (WantsComma tree.old.nodes container) }
 {
     if let Some(node) = comma_wanted_behind(tree, container) {
         put_comma(tree, container, node)?;
@@ -103,7 +103,7 @@ pub(crate) fn set_comma<A: Allocator>(
     requires { container < length tree.old.nodes }
     ensures set { OnOk result (CommaIsSet mode tree.old.nodes tree.new.nodes container) }
     ensures kept { OnErr result (tree.new.nodes ≡ tree.old.nodes) }
-    ensures wanted { OnErr result (mode ≡ TrailingCommaMode.IfMultiline) }
+    ensures oom_only_if { OnErr result (mode ≡ TrailingCommaMode.IfMultiline) }
     ensures missing { OnErr result (WantsComma tree.old.nodes container) }
 {
     match mode {

@@ -10,7 +10,7 @@ ghost use Rattle.jsonc_tree.specs.Order.{following, rest_at};
 
 use crate::commas::rows::set_comma;
 use crate::{EditError, TrailingCommaMode};
-use jsonc_layout::lines::holds_values;
+use jsonc_layout::lines::is_array_or_object;
 use jsonc_layout::nodes::{is_property_kind, value_of};
 use jsonc_tree::Tree;
 use std::alloc::Allocator;
@@ -34,7 +34,7 @@ fn is_entered<A: Allocator>(tree: &Tree<A>, node: usize) -> bool
 
 // Whether a node is reached, where what it stands in is.
 fn is_reached<A: Allocator>(tree: &Tree<A>, end: usize, node: usize) -> bool
-    requires there { node < length tree.now.nodes }
+    requires in_tree { node < length tree.now.nodes }
     requires over { IsOver tree.now.nodes end node }
     requires inside { IsOpen tree.now.nodes end node }
     ensures { result ≡ is_reached tree.now.nodes end node }
@@ -47,12 +47,12 @@ fn is_reached<A: Allocator>(tree: &Tree<A>, end: usize, node: usize) -> bool
 
 // Whether a node is an array or object that is reached.
 fn is_met<A: Allocator>(tree: &Tree<A>, end: usize, node: usize) -> bool
-    requires there { node < length tree.now.nodes }
+    requires in_tree { node < length tree.now.nodes }
     requires over { IsOver tree.now.nodes end node }
     requires inside { IsOpen tree.now.nodes end node }
     ensures { result ≡ is_met tree.now.nodes end node }
 {
-    if !holds_values(tree.kind(node)) {
+    if !is_array_or_object(tree.kind(node)) {
         return false;
     }
     is_reached(tree, end, node)
@@ -60,11 +60,11 @@ fn is_met<A: Allocator>(tree: &Tree<A>, end: usize, node: usize) -> bool
 
 // The node that comes behind those below a node, before what is below `end` is over.
 fn next_past<A: Allocator>(tree: &Tree<A>, end: usize, node: usize) -> Option<usize>
-    requires there { node < length tree.now.nodes }
+    requires in_tree { node < length tree.now.nodes }
     requires over { IsOver tree.now.nodes end node }
     requires inside { IsOpen tree.now.nodes end node }
     ensures next { following tree.now.nodes end node ≡ rest_at tree.now.nodes end result }
-    ensures there { IsThere tree.now.nodes result }
+    ensures in_tree { IsThere tree.now.nodes result }
     ensures over { IfSome result (IsOver tree.now.nodes end) }
     ensures inside { IfSome result (IsOpen tree.now.nodes end) }
 {
@@ -83,11 +83,11 @@ fn next_past<A: Allocator>(tree: &Tree<A>, end: usize, node: usize) -> Option<us
 
 // The node that comes next after one that is reached.
 fn next_inside<A: Allocator>(tree: &Tree<A>, end: usize, node: usize) -> Option<usize>
-    requires there { node < length tree.now.nodes }
+    requires in_tree { node < length tree.now.nodes }
     requires over { IsOver tree.now.nodes end node }
     requires reached { IsTrue (is_reached tree.now.nodes end node) }
     ensures rest { rest_at tree.now.nodes end (Some node) ≡ node ∷ rest_at tree.now.nodes end result }
-    ensures there { IsThere tree.now.nodes result }
+    ensures in_tree { IsThere tree.now.nodes result }
     ensures over { IfSome result (IsOver tree.now.nodes end) }
     ensures inside { IfSome result (IsOpen tree.now.nodes end) }
 {
@@ -100,13 +100,13 @@ fn next_inside<A: Allocator>(tree: &Tree<A>, end: usize, node: usize) -> Option<
 // The node at which a walk goes on behind one at which it does not stop: what is below a node that is not
 // reached is passed over.
 fn next_from<A: Allocator>(tree: &Tree<A>, end: usize, node: usize) -> Option<usize>
-    requires there { node < length tree.now.nodes }
+    requires in_tree { node < length tree.now.nodes }
     requires over { IsOver tree.now.nodes end node }
     requires inside { IsOpen tree.now.nodes end node }
     requires passed { is_met tree.now.nodes end node ≡ false }
     ensures come { to_come tree.now.nodes end (Some node) ≡ to_come tree.now.nodes end result }
     ensures less { length (rest_at tree.now.nodes end result) < length (rest_at tree.now.nodes end (Some node)) }
-    ensures there { IsThere tree.now.nodes result }
+    ensures in_tree { IsThere tree.now.nodes result }
     ensures over { IfSome result (IsOver tree.now.nodes end) }
     ensures inside { IfSome result (IsOpen tree.now.nodes end) }
 {
@@ -118,12 +118,12 @@ fn next_from<A: Allocator>(tree: &Tree<A>, end: usize, node: usize) -> Option<us
 
 // From a node on, the first array or object that is reached, in the order of the document.
 fn holder_from<A: Allocator>(tree: &Tree<A>, end: usize, from: Option<usize>) -> Option<usize>
-    requires there { IsThere tree.now.nodes from }
+    requires in_tree { IsThere tree.now.nodes from }
     requires over { IfSome from (IsOver tree.now.nodes end) }
     requires inside { IfSome from (IsOpen tree.now.nodes end) }
     ensures come { to_come tree.now.nodes end from ≡ to_come tree.now.nodes end result }
     ensures met { IfSome result (λ n. IsTrue (is_met tree.now.nodes end n)) }
-    ensures there { IsThere tree.now.nodes result }
+    ensures in_tree { IsThere tree.now.nodes result }
     ensures over { IfSome result (λ n. IsOver tree.now.nodes end n) }
 {
     let mut next = from;
@@ -138,12 +138,12 @@ fn holder_from<A: Allocator>(tree: &Tree<A>, end: usize, from: Option<usize>) ->
 
 // The array or object that comes next after one.
 fn next_holder<A: Allocator>(tree: &Tree<A>, end: usize, node: usize) -> Option<usize>
-    requires there { node < length tree.now.nodes }
+    requires in_tree { node < length tree.now.nodes }
     requires over { IsOver tree.now.nodes end node }
     requires met { IsTrue (is_met tree.now.nodes end node) }
     ensures come { to_come tree.now.nodes end (Some node) ≡ node ∷ to_come tree.now.nodes end result }
     ensures met { IfSome result (λ n. IsTrue (is_met tree.now.nodes end n)) }
-    ensures there { IsThere tree.now.nodes result }
+    ensures in_tree { IsThere tree.now.nodes result }
     ensures over { IfSome result (λ n. IsOver tree.now.nodes end n) }
 {
     let after = next_inside(tree, end, node);
@@ -168,7 +168,7 @@ pub fn set_trailing_commas<A: Allocator>(
     ensures set { OnOk result (AreSetInTurn mode tree.old.nodes (holders tree.old.nodes container) tree.new.nodes) }
     ensures said { OnOk result (AreAsSaid mode tree.old.nodes tree.new.nodes container) }
     ensures apart { StaysApart tree.old.nodes container tree.new.nodes }
-    ensures wanted { OnErr result (mode ≡ TrailingCommaMode.IfMultiline) }
+    ensures oom_only_if { OnErr result (mode ≡ TrailingCommaMode.IfMultiline) }
     ensures due { OnErr result (CommaIsDue tree.old.nodes container) }
     ensures memory { IfErr result (λ e. e ≡ EditError.OutOfMemory) }
     ensures part { OnErr result (AreSetInPart mode tree.old.nodes (holders tree.old.nodes container) tree.new.nodes) }

@@ -4,7 +4,7 @@ ghost use Rattle.std.specs.Prelude.{◌≡◌, ◌<◌, IfErr, IsTrue, OnErr, On
 ghost use Rattle.jsonc_tree.specs.Building.{Keeps};
 ghost use Rattle.jsonc_tree.specs.OrderedTree.{ordered_tree};
 ghost use Rattle.jsonc_tree.specs.Tree.{content_at};
-ghost use Rattle.jsonc_layout.specs.lines.Kinds.{holds_values};
+ghost use Rattle.jsonc_layout.specs.lines.Kinds.{is_array_or_object};
 ghost use Rattle.jsonc_edit.specs.multiline.Multiline.{has_line_end, IsUnspread, MadeMultiline};
 
 use crate::EditError;
@@ -27,17 +27,17 @@ fn has_line_end<A: Allocator>(tree: &Tree<A>, container: usize) -> bool
 ///
 /// Each part of what stands between the brackets, through its comma, comes on a line of its own, one
 /// level deeper, without the whitespace around it, and the last bracket on one too. All memory is asked
-/// for before the row changes, and a refusal leaves the document, and every node that was there, as it
+/// for before the row changes, and an error leaves the document, and every node that was there, as it
 /// was.
 pub fn ensure_multiline<A: Allocator + Copy>(
     alloc: A,
     tree: &mut Tree<A>,
     container: usize,
 ) -> Result<(), EditError>
-    requires there { container < length tree.old.nodes }
-    requires holds { IsTrue (holds_values (content_at tree.old.nodes container)) }
+    requires in_tree { container < length tree.old.nodes }
+    requires holds { IsTrue (is_array_or_object (content_at tree.old.nodes container)) }
     ensures made { OnOk result (MadeMultiline tree.old.nodes tree.new.nodes container) }
-    ensures told { IfErr result (IsUnspread tree.old.nodes container) }
+    ensures error { IfErr result (IsUnspread tree.old.nodes container) }
     ensures kept { OnErr result (Keeps (length tree.old.nodes) tree.old.nodes tree.new.nodes) }
     ensures document { OnErr result (ordered_tree tree.new.nodes 0 ≡ ordered_tree tree.old.nodes 0) }
 {

@@ -3,7 +3,7 @@
 ghost use Rattle.std.specs.Prelude.{◌≡◌, ◌==◌, ◌<◌, ◌≤◌, ◌∷◌, [], IfOk, IsTrue, OnOk, false, length};
 ghost use Rattle.jsonc_tree.specs.Content.{is_container};
 ghost use Rattle.jsonc_tree.specs.Stored.{content_of};
-ghost use Rattle.jsonc_edit.specs.Put.{Prepared};
+ghost use Rattle.jsonc_edit.specs.Put.{Extends};
 ghost use Rattle.jsonc_edit.specs.remove.Removed.{has_brackets};
 ghost use Rattle.jsonc_edit.specs.multiline.Lines.{last_line, new_line, without_back};
 ghost use Rattle.jsonc_edit.specs.multiline.LineViews.{lines_of};
@@ -31,7 +31,7 @@ fn push_leaf<A: Allocator + Copy>(
     requires { is_container (content_of kind) ≡ false }
     ensures gains { OnOk result
         (Gains tree.old.nodes row.old.items tree.new.nodes row.new.items (comes (content_of kind) ∷ [])) }
-    ensures prepared { Prepared tree.old.nodes tree.new.nodes }
+    ensures prepared { Extends tree.old.nodes tree.new.nodes }
 {
     let leaf = tree.add(kind)?;
     row.push(leaf)?;
@@ -47,7 +47,7 @@ fn push_line<A: Allocator + Copy>(
 ) -> Result<(), AllocError>
     ensures gains { OnOk result
         (Gains tree.old.nodes row.old.items tree.new.nodes row.new.items (new_line (lines_of lines.now))) }
-    ensures prepared { Prepared tree.old.nodes tree.new.nodes }
+    ensures prepared { Extends tree.old.nodes tree.new.nodes }
 {
     push_leaf(tree, row, Kind::Newline(lines.newline))?;
     let indent = String::from_str(alloc, lines.inner.as_str())?;
@@ -63,7 +63,7 @@ fn push_last_line<A: Allocator + Copy>(
 ) -> Result<(), AllocError>
     ensures gains { OnOk result
         (Gains tree.old.nodes row.old.items tree.new.nodes row.new.items (last_line (lines_of lines.now))) }
-    ensures prepared { Prepared tree.old.nodes tree.new.nodes }
+    ensures prepared { Extends tree.old.nodes tree.new.nodes }
 {
     push_leaf(tree, row, Kind::Newline(lines.newline))?;
     if is_empty(lines.outer.as_str()) {
@@ -87,7 +87,7 @@ fn push_child<A: Allocator + Copy>(
     ensures gains { OnOk result
         (PutsChild tree.old.nodes row.old.items tree.new.nodes row.new.items (lines_of lines.now) begins child) }
     ensures begins { IfOk result (λ b. b ≡ begins_after tree.old.nodes begins child) }
-    ensures prepared { Prepared tree.old.nodes tree.new.nodes }
+    ensures prepared { Extends tree.old.nodes tree.new.nodes }
 {
     let blank = is_whitespace(tree, child);
     let comma = is_comma(tree, child);
@@ -117,18 +117,18 @@ fn blanks_from<A: Allocator>(tree: &Tree<A>, row: &[usize]) -> usize
 }
 
 /// The row of an array or object on several lines: what stands between its brackets, by the numbers of
-/// the nodes. The leaves that come are made, and are nobody's children yet.
+/// the nodes. The leaves that come are made, and have no parent yet.
 pub fn plan_lines<A: Allocator + Copy>(
     alloc: A,
     tree: &mut Tree<A>,
     container: usize,
     lines: &Lines<A>,
 ) -> Result<Vec<usize, A>, AllocError>
-    requires there { container < length tree.old.nodes }
+    requires in_tree { container < length tree.old.nodes }
     requires brackets { IsTrue (has_brackets tree.old.nodes container) }
     ensures planned { IfOk result
         (λ row. PlansLines tree.old.nodes tree.new.nodes container (lines_of lines.now) row.items) }
-    ensures prepared { Prepared tree.old.nodes tree.new.nodes }
+    ensures prepared { Extends tree.old.nodes tree.new.nodes }
 {
     let children = children(alloc, tree, container)?;
     let inside = &children[1..children.len() - 1];

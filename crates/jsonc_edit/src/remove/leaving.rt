@@ -9,7 +9,8 @@ ghost use Rattle.jsonc_edit.specs.remove.Leaving.{first_gone, last_gone, last_pa
 
 use jsonc_layout::lines::trailing_comma;
 use jsonc_layout::nodes::{
-    after_beside, is_beside, is_comma, is_newline, is_trivia, is_whitespace, previous_siblings,
+    after_inline_trivia, is_comma, is_inline_trivia, is_newline, is_trivia, is_whitespace,
+    previous_siblings,
 };
 use jsonc_tree::Tree;
 use std::alloc::Allocator;
@@ -18,11 +19,11 @@ use std::alloc::Allocator;
 pub(crate) fn first_gone<A: Allocator>(tree: &Tree<A>, node: usize) -> usize
     requires { node < length tree.now.nodes }
     ensures first { result ≡ first_gone tree.now.nodes node }
-    ensures there { result < length tree.now.nodes }
+    ensures in_tree { result < length tree.now.nodes }
 {
     let mut first = node;
     for sibling in previous_siblings(tree, node) {
-        if !is_beside(tree, sibling) {
+        if !is_inline_trivia(tree, sibling) {
             return first;
         }
         first = sibling;
@@ -47,7 +48,7 @@ fn trails_line<A: Allocator>(tree: &Tree<A>, node: usize) -> bool
     requires { node < length tree.now.nodes }
     ensures { result ≡ trails tree.now.nodes node (siblings_after tree.now.nodes node) }
 {
-    is_beside(tree, node) && !(is_whitespace(tree, node) && indents_other(tree, node))
+    is_inline_trivia(tree, node) && !(is_whitespace(tree, node) && indents_other(tree, node))
 }
 
 // Where the line of a node ends: at its newline; without one at the last of its whitespace and
@@ -55,7 +56,7 @@ fn trails_line<A: Allocator>(tree: &Tree<A>, node: usize) -> bool
 fn line_end<A: Allocator>(tree: &Tree<A>, node: usize) -> usize
     requires { node < length tree.now.nodes }
     ensures end { result ≡ line_end_at tree.now.nodes node }
-    ensures there { result < length tree.now.nodes }
+    ensures in_tree { result < length tree.now.nodes }
 {
     let mut last = node;
     while let Some(next) = tree.next_sibling(last) {
@@ -75,7 +76,7 @@ fn ends_line<A: Allocator>(tree: &Tree<A>, node: usize) -> bool
     requires { node < length tree.now.nodes }
     ensures { result ≡ ends_line_at tree.now.nodes node }
 {
-    match after_beside(tree, node) {
+    match after_inline_trivia(tree, node) {
         Some(next) => is_newline(tree, next),
         None => false,
     }
@@ -85,7 +86,7 @@ fn ends_line<A: Allocator>(tree: &Tree<A>, node: usize) -> bool
 fn comma_behind<A: Allocator>(tree: &Tree<A>, node: usize) -> Option<usize>
     requires { node < length tree.now.nodes }
     ensures comma { result ≡ trailing_comma_at tree.now.nodes node }
-    ensures there { IsThere tree.now.nodes result }
+    ensures in_tree { IsThere tree.now.nodes result }
 {
     trailing_comma(tree, node)
 }
@@ -94,7 +95,7 @@ fn comma_behind<A: Allocator>(tree: &Tree<A>, node: usize) -> Option<usize>
 fn comma_before<A: Allocator>(tree: &Tree<A>, node: usize) -> Option<usize>
     requires { node < length tree.now.nodes }
     ensures comma { result ≡ comma_before tree.now.nodes node }
-    ensures there { IsThere tree.now.nodes result }
+    ensures in_tree { IsThere tree.now.nodes result }
 {
     previous_siblings(tree, node).find(|sibling| is_comma(tree, *sibling))
 }
@@ -104,7 +105,7 @@ fn last_past<A: Allocator>(tree: &Tree<A>, node: usize, comma: Option<usize>) ->
     requires node { node < length tree.now.nodes }
     requires comma { IsThere tree.now.nodes comma }
     ensures last { result ≡ last_past tree.now.nodes node comma }
-    ensures there { result < length tree.now.nodes }
+    ensures in_tree { result < length tree.now.nodes }
 {
     let Some(comma) = comma else {
         return line_end(tree, node);
@@ -119,7 +120,7 @@ fn last_past<A: Allocator>(tree: &Tree<A>, node: usize, comma: Option<usize>) ->
 pub(crate) fn last_gone<A: Allocator>(tree: &Tree<A>, node: usize) -> usize
     requires { node < length tree.now.nodes }
     ensures last { result ≡ last_gone tree.now.nodes node }
-    ensures there { result < length tree.now.nodes }
+    ensures in_tree { result < length tree.now.nodes }
 {
     last_past(tree, node, comma_behind(tree, node))
 }
@@ -128,7 +129,7 @@ pub(crate) fn last_gone<A: Allocator>(tree: &Tree<A>, node: usize) -> usize
 pub(crate) fn comma_gone<A: Allocator>(tree: &Tree<A>, node: usize) -> Option<usize>
     requires { node < length tree.now.nodes }
     ensures comma { result ≡ comma_gone tree.now.nodes node }
-    ensures there { IsThere tree.now.nodes result }
+    ensures in_tree { IsThere tree.now.nodes result }
 {
     match comma_behind(tree, node) {
         Some(_) => None,

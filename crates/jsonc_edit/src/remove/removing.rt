@@ -7,17 +7,17 @@ ghost use Rattle.jsonc_tree.specs.OrderedTree.{ordered_tree};
 ghost use Rattle.jsonc_tree.specs.Tree.{children_at, content_at, is_container_at, parent_at, place_at};
 ghost use Rattle.jsonc_layout.specs.nodes.Kinds.{is_property};
 ghost use Rattle.jsonc_layout.specs.nodes.Siblings.{IsThere};
-ghost use Rattle.jsonc_layout.specs.lines.Kinds.{holds_values};
+ghost use Rattle.jsonc_layout.specs.lines.Kinds.{is_array_or_object};
 ghost use Rattle.jsonc_edit.specs.Due.{seen_before};
 ghost use Rattle.jsonc_edit.specs.remove.Leaving.{comes_to};
-ghost use Rattle.jsonc_edit.specs.remove.Removed.{blank_between, comma_in, due_at_comma, due_at_stretch};
+ghost use Rattle.jsonc_edit.specs.remove.Removed.{blank_between, comma_in, space_needed_at_comma, space_needed_at_stretch};
 ghost use Rattle.jsonc_edit.specs.remove.Removed.{hollow_from, hollow_to, is_hollow, is_next, is_node};
 ghost use Rattle.jsonc_edit.specs.remove.Removed.{IsClosedUp, IsKeptFor, LosesChild, TakesElement};
 
 use crate::remove::brackets::has_brackets;
 use crate::remove::leaving::{comma_gone, first_gone, last_gone};
-use crate::{EditError, due_between, make_spaces, put_spaces, seen_before};
-use jsonc_layout::lines::holds_values;
+use crate::{EditError, make_spaces, put_spaces, seen_before, space_needed_between};
+use jsonc_layout::lines::is_array_or_object;
 use jsonc_layout::nodes::{children_from, is_blank};
 use jsonc_tree::{Kind, Tree};
 use std::alloc::Allocator;
@@ -27,9 +27,9 @@ fn comma_in<A: Allocator>(tree: &Tree<A>, container: usize, node: usize) -> Opti
     requires container { container < length tree.now.nodes }
     requires node { node < length tree.now.nodes }
     ensures comma { result ≡ comma_in tree.now.nodes container node }
-    ensures there { IsThere tree.now.nodes result }
+    ensures in_tree { IsThere tree.now.nodes result }
 {
-    if holds_values(tree.kind(container)) {
+    if is_array_or_object(tree.kind(container)) {
         return comma_gone(tree, node);
     }
     None
@@ -44,20 +44,24 @@ fn is_next<A: Allocator>(tree: &Tree<A>, comma: usize, from: usize) -> bool
 }
 
 // Before which node a space is due where a comma leaves, and behind it the siblings from a node on.
-fn due_at_comma<A: Allocator>(tree: &Tree<A>, from: usize, comma: Option<usize>) -> Option<usize>
+fn space_needed_at_comma<A: Allocator>(
+    tree: &Tree<A>,
+    from: usize,
+    comma: Option<usize>,
+) -> Option<usize>
     requires from { from < length tree.now.nodes }
     requires comma { IsThere tree.now.nodes comma }
-    ensures due { result ≡ due_at_comma tree.now.nodes from comma }
+    ensures due { result ≡ space_needed_at_comma tree.now.nodes from comma }
 {
     let comma = comma?;
     if is_next(tree, comma, from) {
         return None;
     }
-    due_between(tree, comma, comma)
+    space_needed_between(tree, comma, comma)
 }
 
 // Before which node a space is due where these siblings leave, and a comma before them.
-fn due_at_stretch<A: Allocator>(
+fn space_needed_at_stretch<A: Allocator>(
     tree: &Tree<A>,
     from: usize,
     to: usize,
@@ -66,16 +70,16 @@ fn due_at_stretch<A: Allocator>(
     requires from { from < length tree.now.nodes }
     requires to { to < length tree.now.nodes }
     requires comma { IsThere tree.now.nodes comma }
-    ensures due { result ≡ due_at_stretch tree.now.nodes from to comma }
+    ensures due { result ≡ space_needed_at_stretch tree.now.nodes from to comma }
 {
     match comma {
-        Some(comma) if is_next(tree, comma, from) => due_between(tree, comma, to),
-        _ => due_between(tree, from, to),
+        Some(comma) if is_next(tree, comma, from) => space_needed_between(tree, comma, to),
+        _ => space_needed_between(tree, from, to),
     }
 }
 
 // Before which node a space is due behind what leaves a container: what leaves a property leaves none.
-fn due_behind_gap<A: Allocator>(
+fn space_needed_after_gap<A: Allocator>(
     tree: &Tree<A>,
     container: usize,
     from: usize,
@@ -88,11 +92,11 @@ fn due_behind_gap<A: Allocator>(
     requires comma { IsThere tree.now.nodes comma }
     ensures due { result
         ≡ (if is_property
-        (content_at tree.now.nodes container) then None else due_at_stretch tree.now.nodes from to comma) }
+        (content_at tree.now.nodes container) then None else space_needed_at_stretch tree.now.nodes from to comma) }
 {
     match tree.kind(container) {
         Kind::Property(_) => None,
-        _ => due_at_stretch(tree, from, to, comma),
+        _ => space_needed_at_stretch(tree, from, to, comma),
     }
 }
 
@@ -177,15 +181,15 @@ fn is_hollow<A: Allocator>(tree: &Tree<A>, container: usize) -> bool
 
 // Takes the blanks between a container's brackets out, or those of the root.
 fn empty<A: Allocator>(tree: &mut Tree<A>, container: usize)
-    requires there { container < length tree.old.nodes }
+    requires in_tree { container < length tree.old.nodes }
     requires container { IsTrue (is_container_at tree.old.nodes container) }
-    requires two { IsTrue (holds_values (content_at tree.old.nodes container))
+    requires two { IsTrue (is_array_or_object (content_at tree.old.nodes container))
         → 2 ≤ length (children_at tree.old.nodes container) }
     ensures emptied { Splices tree.old.nodes tree.new.nodes container
         (hollow_from tree.old.nodes container) (hollow_to tree.old.nodes container) [] }
 {
     let count = tree.child_count(container);
-    if holds_values(tree.kind(container)) {
+    if is_array_or_object(tree.kind(container)) {
         tree.splice(container, 1, count - 1, &[]);
     } else {
         tree.splice(container, 0, count, &[]);
@@ -194,7 +198,7 @@ fn empty<A: Allocator>(tree: &mut Tree<A>, container: usize)
 
 // Takes blanks out that are left alone between a container's brackets, or in the root.
 fn close_up<A: Allocator>(tree: &mut Tree<A>, container: usize)
-    requires there { container < length tree.old.nodes }
+    requires in_tree { container < length tree.old.nodes }
     requires container { IsTrue (is_container_at tree.old.nodes container) }
     ensures closed { IsClosedUp tree.old.nodes tree.new.nodes container }
 {
@@ -211,7 +215,7 @@ fn close_up<A: Allocator>(tree: &mut Tree<A>, container: usize)
 /// stands on it; where no comma stands behind it, the nearest one before it leaves. Blanks that are left
 /// alone leave too. Where two literals without quotes would come to stand directly beside each other, a
 /// space comes between them, but not in the place of a name or value; its memory alone may be wanted, and
-/// a refusal leaves the document, and every node that was there, as it was. A node without a parent
+/// an error leaves the document, and every node that was there, as it was. A node without a parent
 /// stays as it is.
 pub fn remove<A: Allocator + Copy>(
     alloc: A,
@@ -222,21 +226,21 @@ pub fn remove<A: Allocator + Copy>(
     ensures taken { OnOk result (TakesElement tree.old.nodes tree.new.nodes node) }
     ensures alone { OnOk result (parent_at tree.new.nodes node ≡ None) }
     ensures untouched { parent_at tree.old.nodes node ≡ None → tree.new.nodes ≡ tree.old.nodes }
-    ensures told { IfErr result (IsKeptFor tree.old.nodes node) }
+    ensures error { IfErr result (IsKeptFor tree.old.nodes node) }
     ensures kept { OnErr result (Keeps (length tree.old.nodes) tree.old.nodes tree.new.nodes) }
     ensures document { OnErr result (ordered_tree tree.new.nodes 0 ≡ ordered_tree tree.old.nodes 0) }
 {
     let Some(container) = tree.parent(node) else {
         return Ok(());
     };
-    if holds_values(tree.kind(container)) && !has_brackets(tree, container) {
+    if is_array_or_object(tree.kind(container)) && !has_brackets(tree, container) {
         return Err(EditError::MissingBrackets);
     }
     let first = first_gone(tree, node);
     let last = last_gone(tree, node);
     let comma = comma_in(tree, container, node);
-    let before = due_at_comma(tree, first, comma);
-    let behind = due_behind_gap(tree, container, first, last, comma);
+    let before = space_needed_at_comma(tree, first, comma);
+    let behind = space_needed_after_gap(tree, container, first, last, comma);
     let spaces = make_spaces(alloc, tree, before, behind)?;
     put_spaces(tree, spaces);
     take_stretch(tree, container, first, last);

@@ -9,7 +9,7 @@ ghost use Rattle.jsonc_tree.specs.Stored.{content_of};
 ghost use Rattle.jsonc_tree.specs.Tree.{content_at};
 ghost use Rattle.jsonc_layout.specs.nodes.Siblings.{IsThere};
 ghost use Rattle.jsonc_sound.specs.Booleans.{begins_hex, is_hexadecimal, is_hex_leaf};
-ghost use Rattle.jsonc_edit.specs.set.Booleans.{due_for, is_boolean, is_hex_at, BooleanSet, WantsSpaceFor};
+ghost use Rattle.jsonc_edit.specs.set.Booleans.{space_needed_for, is_boolean, is_hex_at, BooleanSet, WantsSpaceFor};
 
 use crate::{EditError, make_spaces, put_spaces, seen_before};
 use jsonc_text::chars::has_byte;
@@ -83,9 +83,9 @@ fn is_hex_at<A: Allocator>(tree: &Tree<A>, found: Option<usize>) -> bool
 }
 
 // The leaf itself, if a space is due before it where it becomes this truth value.
-fn due_for<A: Allocator>(tree: &Tree<A>, leaf: usize, value: bool) -> Option<usize>
+fn space_needed_for<A: Allocator>(tree: &Tree<A>, leaf: usize, value: bool) -> Option<usize>
     requires { leaf < length tree.now.nodes }
-    ensures { result ≡ due_for tree.now.nodes leaf value }
+    ensures { result ≡ space_needed_for tree.now.nodes leaf value }
 {
     if value {
         return None;
@@ -100,22 +100,22 @@ fn due_for<A: Allocator>(tree: &Tree<A>, leaf: usize, value: bool) -> Option<usi
 ///
 /// Where `false` would come to stand directly behind a hexadecimal number, whose digits would read on
 /// into it, a space comes between them: `[0x1true]` is `[0x1 false]` then. Its memory alone may be
-/// wanted, and a refusal leaves the document, and every node that was there, as it was.
+/// wanted, and an error leaves the document, and every node that was there, as it was.
 pub fn set_boolean<A: Allocator + Copy>(
     alloc: A,
     tree: &mut Tree<A>,
     leaf: usize,
     value: bool,
 ) -> Result<(), EditError>
-    requires there { leaf < length tree.old.nodes }
+    requires in_tree { leaf < length tree.old.nodes }
     requires boolean { is_boolean (content_at tree.old.nodes leaf) ≡ true }
     ensures set { OnOk result (BooleanSet tree.old.nodes tree.new.nodes leaf value) }
     ensures memory { IfErr result (λ e. e ≡ EditError.OutOfMemory) }
-    ensures wanted { OnErr result (WantsSpaceFor tree.old.nodes leaf value) }
+    ensures oom_only_if { OnErr result (WantsSpaceFor tree.old.nodes leaf value) }
     ensures kept { OnErr result (Keeps (length tree.old.nodes) tree.old.nodes tree.new.nodes) }
     ensures document { OnErr result (ordered_tree tree.new.nodes 0 ≡ ordered_tree tree.old.nodes 0) }
 {
-    let due = due_for(tree, leaf, value);
+    let due = space_needed_for(tree, leaf, value);
     let spaces = make_spaces(alloc, tree, None, due)?;
     put_spaces(tree, spaces);
     tree.set_leaf(leaf, Kind::Boolean(value));

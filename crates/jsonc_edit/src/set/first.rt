@@ -7,7 +7,7 @@ ghost use Rattle.jsonc_tree.specs.OrderedTree.{ordered_tree};
 ghost use Rattle.jsonc_tree.specs.Tree.{children_at, room_at};
 ghost use Rattle.jsonc_layout.specs.input.Views.{plain};
 ghost use Rattle.jsonc_edit.specs.Due.{listed};
-ghost use Rattle.jsonc_edit.specs.Put.{Prepared};
+ghost use Rattle.jsonc_edit.specs.Put.{Extends};
 ghost use Rattle.jsonc_edit.specs.set.RootSet.{follows_comment, FirstValue, KeepsNodes, LineEndMade};
 
 use crate::{EditError, layout_for, newline_from};
@@ -28,14 +28,14 @@ fn follows_comment<A: Allocator>(tree: &Tree<A>, place: usize) -> bool
     is_comment(tree, tree.child_at(0, place - 1))
 }
 
-// Makes a newline leaf, nobody's child yet, where one is wanted.
+// Makes a newline leaf, detached yet, where one is wanted.
 fn make_line_end<A: Allocator>(
     tree: &mut Tree<A>,
     wanted: bool,
     kind: CstNewlineKind,
 ) -> Result<Option<usize>, AllocError>
     ensures made { IfOk result (LineEndMade tree.old.nodes tree.new.nodes wanted kind) }
-    ensures prepared { Prepared tree.old.nodes tree.new.nodes }
+    ensures prepared { Extends tree.old.nodes tree.new.nodes }
 {
     if !wanted {
         return Ok(None);

@@ -22,10 +22,10 @@ pub fn cleared_documents_are_bare()
     ensures { (o : Options) (new : List Node) → LeavesBareDocument o new }
 {}
 
-/// Where a property of an object at a path of a sound document has given way to one of a name and a
+/// Where a property of an object at a path of a sound document has been replaced by one of a name and a
 /// value, and each number in the value is a number, the text is a document again, and its value is the
 /// old one but for that entry. A space has come where two literals without quotes would have met, and all
-/// other leaves stay, in order; of the literals and comments those of the old property have given way to
+/// other leaves stay, in order; of the literals and comments those of the old property have been replaced by
 /// the literals of the new one; and the document is sound. It is so under all options. The object stands
 /// where it stood, and the new property is the element that the old one was.
 pub fn replaced_properties_are_written()
@@ -38,7 +38,7 @@ pub fn replaced_properties_are_written()
 /// Where a truth value at a path of a sound document was set, the text is a document again, and at the
 /// path of its value this truth value stands. A space has come where `false` would have run on into a
 /// hexadecimal number, and all other leaves stay, in order; of the literals and comments that of the old
-/// truth value has given way; and the document is sound. It is so under all options. The leaf stands
+/// truth value has been replaced; and the document is sound. It is so under all options. The leaf stands
 /// where it stood.
 pub fn set_booleans_are_written()
     ensures written { (o : Options) (old new : List Node) (path : List ℕ) (n : ℕ) (b : Bool)

@@ -1,4 +1,4 @@
-//! Properties that give way to others.
+//! Properties that are replaced by others.
 
 ghost use Rattle.std.specs.Prelude.{◌≡◌, ◌<◌, IfErr, IfNone, IfOk, IfSome, None, OnErr, chars, length};
 ghost use Rattle.jsonc_tree.specs.Building.{Keeps};
@@ -7,7 +7,7 @@ ghost use Rattle.jsonc_tree.specs.Tree.{parent_at};
 ghost use Rattle.jsonc_layout.specs.input.Views.{plain};
 ghost use Rattle.jsonc_edit.specs.set.Giving.{due_after, is_bare_value, IsPropertyReplaced};
 
-use crate::{EditError, due_behind, layout_for, make_spaces, put_in_place, put_spaces};
+use crate::{EditError, layout_for, make_spaces, put_in_place, put_spaces, space_needed_after};
 use jsonc_layout::from_input::lay_out_property;
 use jsonc_layout::input::CstInputValue;
 use jsonc_tree::Tree;
@@ -27,7 +27,7 @@ fn is_bare_value<A: Allocator>(value: &CstInputValue<A>) -> bool
     }
 }
 
-// Before which node a space is due where a property gives way to one of this value.
+// Before which node a space is due where a property is replaced by one of this value.
 fn due_after<A: Allocator>(
     tree: &Tree<A>,
     property: usize,
@@ -39,15 +39,15 @@ fn due_after<A: Allocator>(
     if !is_bare_value(value) {
         return None;
     }
-    due_behind(tree, property)
+    space_needed_after(tree, property)
 }
 
-/// Lays a name and a value out as a new property, which a property gives way to, and answers the number
+/// Lays a name and a value out as a new property, which replaces a property, and answers the number
 /// of the new one.
 ///
 /// The document tells how, as for [`crate::replace`]. Where the value is a literal without quotes
 /// that would come to stand directly before another, a space comes between them. The old property is
-/// nobody's child then. Where it has no parent the answer is None, and no node changes. A refusal leaves
+/// detached then. Where it has no parent the answer is None, and no node changes. An error leaves
 /// the document, and every node that was there, as it was.
 pub fn replace_property<A: Allocator + Copy>(
     alloc: A,

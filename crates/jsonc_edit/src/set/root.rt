@@ -19,7 +19,7 @@ use jsonc_layout::nodes::value_of;
 use jsonc_tree::Tree;
 use std::alloc::Allocator;
 
-// Lets a child of a container give way to a value.
+// Lets a child of a container are replaced by a value.
 pub(crate) fn replace_child<A: Allocator + Copy>(
     alloc: A,
     tree: &mut Tree<A>,
@@ -42,12 +42,12 @@ pub(crate) fn replace_child<A: Allocator + Copy>(
 
 /// Sets the document's value, and answers the number of its node.
 ///
-/// Where a value stands, it gives way to the new one, as by [`replace`]. Where none does, the new value
+/// Where a value stands, it is replaced by the new one, as by [`replace`]. Where none does, the new value
 /// is laid out as the document tells and comes before the last of the root's children, if that is a
 /// newline, and else behind them all. Where a comment stands directly before that place, a newline comes
 /// between them, and where nothing stands behind it, a newline comes behind the value.
 ///
-/// A refusal leaves the document, and every node that was there, as it was.
+/// An error leaves the document, and every node that was there, as it was.
 pub fn set_root<A: Allocator + Copy>(
     alloc: A,
     tree: &mut Tree<A>,

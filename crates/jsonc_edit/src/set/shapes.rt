@@ -54,7 +54,7 @@ pub fn root_value_or_create<A: Allocator + Copy>(
         (FoundOrCreated (is_of shape) (empty_of shape) tree.old.nodes tree.new.nodes
         (value_at tree.old.nodes 0)) }
     ensures memory { IfErr result (λ e. e ≡ EditError.OutOfMemory) }
-    ensures wanted { OnErr result (value_at tree.old.nodes 0 ≡ None) }
+    ensures oom_only_if { OnErr result (value_at tree.old.nodes 0 ≡ None) }
     ensures kept { OnErr result (Keeps (length tree.old.nodes) tree.old.nodes tree.new.nodes) }
     ensures document { OnErr result (ordered_tree tree.new.nodes 0 ≡ ordered_tree tree.old.nodes 0) }
 {
@@ -78,7 +78,7 @@ pub fn root_value_or_set<A: Allocator + Copy>(
         (FoundOrSet (is_of shape) (empty_of shape) tree.old.nodes tree.new.nodes
         (value_at tree.old.nodes 0)) }
     ensures memory { IfErr result (λ e. e ≡ EditError.OutOfMemory) }
-    ensures wanted { OnErr result (LacksKind (is_of shape) tree.old.nodes (value_at tree.old.nodes 0)) }
+    ensures oom_only_if { OnErr result (LacksKind (is_of shape) tree.old.nodes (value_at tree.old.nodes 0)) }
     ensures kept { OnErr result (Keeps (length tree.old.nodes) tree.old.nodes tree.new.nodes) }
     ensures document { OnErr result (ordered_tree tree.new.nodes 0 ≡ ordered_tree tree.old.nodes 0) }
 {

@@ -10,12 +10,14 @@ ghost use Rattle.jsonc_layout.specs.input.Views.{plain};
 ghost use Rattle.jsonc_layout.specs.nodes.Properties.{lacks_name_at, value_at};
 ghost use Rattle.jsonc_edit.specs.Reading.{IsReplaced};
 ghost use Rattle.jsonc_edit.specs.Written.{Writes};
-ghost use Rattle.jsonc_edit.specs.set.PropertyValues.{HeldOrSet, IsUnset, LastValue};
+ghost use Rattle.jsonc_edit.specs.set.PropertyValues.{HeldOrSet, EnsureValueError, LastValue};
 ghost use Rattle.jsonc_edit.specs.set.Shapes.{empty_of, is_of};
 
 use crate::set::root::replace_child;
 use crate::set::shapes::{empty_value, has_shape};
-use crate::{EditError, Shape, due_last, due_past, layout_for, put_spaces, spaces_for};
+use crate::{
+    EditError, Shape, layout_for, put_spaces, space_needed_last, space_needed_past, spaces_for,
+};
 use jsonc_layout::from_input::lay_out;
 use jsonc_layout::input::CstInputValue;
 use jsonc_layout::nodes::{lacks_name, value_of};
@@ -29,7 +31,7 @@ fn put_last<A: Allocator + Copy>(
     property: usize,
     value: &CstInputValue<A>,
 ) -> Result<usize, EditError>
-    requires there { property < length tree.old.nodes }
+    requires in_tree { property < length tree.old.nodes }
     requires property { content_at tree.old.nodes property ≡ Content.property }
     ensures last { IfOk result (LastValue tree.old.nodes tree.new.nodes property (plain value.now)) }
     ensures memory { IfErr result (λ e. e ≡ EditError.OutOfMemory) }
@@ -38,8 +40,8 @@ fn put_last<A: Allocator + Copy>(
 {
     let layout = layout_for(alloc, tree, property, property)?;
     let new = lay_out(alloc, tree, value, &layout)?;
-    let before = due_last(tree, property, new);
-    let behind = due_past(tree, property);
+    let before = space_needed_last(tree, property, new);
+    let behind = space_needed_past(tree, property);
     let spaces = spaces_for(alloc, tree, new, before, behind)?;
     tree.reserve(property, 1)?;
     tree.append(property, new);
@@ -49,19 +51,19 @@ fn put_last<A: Allocator + Copy>(
 
 /// Sets the value of a property, and answers the number of its node.
 ///
-/// Where a value stands, it gives way to the new one, as by [`crate::replace`]. Where none does,
+/// Where a value stands, it is replaced by the new one, as by [`crate::replace`]. Where none does,
 /// which is so only after edits of single leaves, the new value is laid out as the document tells and
 /// comes behind all that the property holds, with a space where two literals without quotes would meet.
 /// All memory is asked for before the document changes.
 ///
-/// A refusal leaves the document, and every node that was there, as it was.
+/// An error leaves the document, and every node that was there, as it was.
 pub fn set_property_value<A: Allocator + Copy>(
     alloc: A,
     tree: &mut Tree<A>,
     property: usize,
     value: &CstInputValue<A>,
 ) -> Result<usize, EditError>
-    requires there { property < length tree.old.nodes }
+    requires in_tree { property < length tree.old.nodes }
     requires property { content_at tree.old.nodes property ≡ Content.property }
     ensures replaced { IfOk result
         (λ m. IfSome (value_at tree.old.nodes property)
@@ -91,14 +93,14 @@ pub fn property_value_or_set<A: Allocator + Copy>(
     property: usize,
     shape: Shape,
 ) -> Result<usize, EditError>
-    requires there { property < length tree.old.nodes }
+    requires in_tree { property < length tree.old.nodes }
     requires property { content_at tree.old.nodes property ≡ Content.property }
     ensures value { IfOk result
         (HeldOrSet (is_of shape) (empty_of shape) tree.old.nodes tree.new.nodes property
         (value_at tree.old.nodes property)) }
     ensures shape { IfOk result (λ m. is_of shape (content_at tree.new.nodes m) ≡ true) }
     ensures named { OnOk result (lacks_name_at tree.old.nodes property ≡ false) }
-    ensures told { IfErr result (IsUnset (is_of shape) tree.old.nodes property) }
+    ensures error { IfErr result (EnsureValueError (is_of shape) tree.old.nodes property) }
     ensures missing { IfErr result (λ e. lacks_name_at tree.old.nodes property ≡ true → e ≡ EditError.MissingName) }
     ensures kept { OnErr result (Keeps (length tree.old.nodes) tree.old.nodes tree.new.nodes) }
     ensures document { OnErr result (ordered_tree tree.new.nodes 0 ≡ ordered_tree tree.old.nodes 0) }

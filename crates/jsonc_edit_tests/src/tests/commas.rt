@@ -3,11 +3,11 @@
 use crate::tests::changes::Change;
 use crate::tests::reading::read;
 use crate::tests::rows::{Edits, make};
+use failing_alloc::Refusing;
+use failing_alloc::awaited::prints;
+use failing_alloc::in_turn::refused_in_turn;
+use failing_alloc::outcome::Outcome;
 use jsonc_parser::cst::{CstRootNode, EditError, TrailingCommaMode};
-use refusing::Refusing;
-use refusing::awaited::prints;
-use refusing::in_turn::refused_in_turn;
-use refusing::outcome::Outcome;
 use std::alloc::{AllocError, Allocator, Global};
 use std::test::Fail;
 

@@ -3,9 +3,9 @@
 use crate::tests::changes::{Change, Step, Way};
 use crate::tests::reading::read;
 use crate::tests::rows::{Edits, Memory, Row, run_steps, wants};
+use failing_alloc::Refusing;
+use failing_alloc::awaited::prints;
 use jsonc_parser::cst::{EditError, Over, Shape, TrailingCommaMode};
-use refusing::Refusing;
-use refusing::awaited::prints;
 use std::alloc::Global;
 use std::slice::from_ref;
 use std::test::Fail;

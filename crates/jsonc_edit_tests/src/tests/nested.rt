@@ -1,10 +1,10 @@
 //! Values that are nested deeper than a text may be.
 
 use crate::tests::reading::read;
+use failing_alloc::outcome::Outcome;
 use jsonc_parser::ParseOptions;
 use jsonc_parser::cst::{CstInputValue, CstRootNode};
 use jsonc_parser::errors::ParseErrorKind;
-use refusing::outcome::Outcome;
 use std::alloc::{AllocError, Global};
 use std::default::Default;
 use std::test::Fail;

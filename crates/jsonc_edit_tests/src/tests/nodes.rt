@@ -1,13 +1,13 @@
 //! Edits on typed nodes, and the memory that they want.
 
-ghost use Rattle.jsonc_cst.specs.Document.{Holds};
+ghost use Rattle.jsonc_cst.specs.Document.{HasNode};
 ghost use Rattle.jsonc_cst.specs.Nodes.{object_node};
 
 use crate::tests::changes::{Change, Way};
 use crate::tests::reading::{read, value_of};
 use crate::tests::rows::{Edits, Memory, wants};
+use failing_alloc::awaited::prints;
 use jsonc_parser::cst::{CstObject, CstRootNode, EditError, Over, Shape, TrailingCommaMode};
-use refusing::awaited::prints;
 use std::alloc::{Allocator, Global};
 use std::slice::from_ref;
 use std::test::Fail;
@@ -26,7 +26,7 @@ fn ensure_property<A: Allocator + Copy>(
     name: &str,
     wanted: (Shape, Over),
 ) -> Result<(), EditError>
-    requires { Holds doc.old (object_node object) }
+    requires { HasNode doc.old (object_node object) }
 {
     match wanted {
         (Shape::Object, Over::Keep) => done(object.object_value_or_create(doc, name)),

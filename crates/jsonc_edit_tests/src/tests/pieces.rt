@@ -3,7 +3,7 @@
 use crate::tests::changes::{Change, Way};
 use crate::tests::reading::read;
 use crate::tests::rows::{Edits, make};
-use jsonc_parser::cst::{CstLeafNode, CstNode, CstRootNode, HasChildren};
+use jsonc_parser::cst::{CstLeafNode, CstNode, CstRootNode, ParentNode};
 use std::alloc::Global;
 use std::test::Fail;
 

@@ -1,8 +1,8 @@
 //! Documents and values, read from their texts.
 
+use failing_alloc::outcome::Outcome;
 use jsonc_parser::ParseOptions;
 use jsonc_parser::cst::{CstInputValue, CstRootNode};
-use refusing::outcome::Outcome;
 use std::alloc::{AllocError, Allocator};
 use std::default::Default;
 

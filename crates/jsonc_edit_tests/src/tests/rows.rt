@@ -4,11 +4,11 @@ use crate::tests::changes::{Change, Step, Way, push_edits};
 use crate::tests::nodes::change_node;
 use crate::tests::reading::{read, value_of};
 use crate::tests::sorts::{By, compare, sort_value};
+use failing_alloc::Refusing;
+use failing_alloc::awaited::prints;
+use failing_alloc::in_turn::{answers_in_turn, is_refused_in_turn};
+use failing_alloc::outcome::Outcome;
 use jsonc_parser::cst::{CstNode, CstRootNode, EditError, run};
-use refusing::Refusing;
-use refusing::awaited::prints;
-use refusing::in_turn::{answers_in_turn, is_refused_in_turn};
-use refusing::outcome::Outcome;
 use std::alloc::{Allocator, Global};
 
 /// What is made of a document.
@@ -68,7 +68,7 @@ fn prints_at<A: Allocator>(doc: &CstRootNode<A>, row: &Row<'_>, made: usize) -> 
     }
 }
 
-/// Makes the edits of a row of its text: all that have a place are made, or some for want of memory; and the
+/// Makes the edits of a row of its text: all that have a place are made, or some for allocation failure; and the
 /// document is as those left it.
 fn outcome<A: Allocator + Copy>(alloc: A, row: &Row<'_>) -> Outcome {
     let mut doc = match read(alloc, row.1) {

@@ -1,10 +1,10 @@
 //! Values that are put at names, dropped, and found there.
 
 use crate::tests::reading::{read, value_of};
-use jsonc_parser::cst::{CstRootNode, EditError, IsNode, Over};
+use failing_alloc::in_turn::refused_in_turn;
+use failing_alloc::outcome::Outcome;
+use jsonc_parser::cst::{CstRootNode, EditError, Over, TypedNode};
 use jsonc_parser::settings::{find_at, read_at, remove_at, set_at};
-use refusing::in_turn::refused_in_turn;
-use refusing::outcome::Outcome;
 use std::alloc::Allocator;
 use std::test::Fail;
 

@@ -1,17 +1,17 @@
 //! Sorts: what they print, what is pinned, and the memory that they want.
 
-ghost use Rattle.jsonc_cst.specs.Document.{Holds};
+ghost use Rattle.jsonc_cst.specs.Document.{HasNode};
 ghost use Rattle.jsonc_cst.specs.Nodes.{array_node, object_node, object_prop_node};
 
 use crate::tests::changes::{Change, Step};
 use crate::tests::reading::read;
 use crate::tests::rows::{Edits, is_made_in_turn};
+use failing_alloc::awaited::prints;
+use failing_alloc::outcome::Outcome;
 use jsonc_parser::cst::{
     CstArray, CstComment, CstContainerNode, CstLeafNode, CstNode, CstObject, CstObjectProp,
-    CstRootNode, EditError, HasChildren, IsNode, ObjectPropName, TrailingCommaMode,
+    CstRootNode, EditError, ObjectPropName, ParentNode, TrailingCommaMode, TypedNode,
 };
-use refusing::awaited::prints;
-use refusing::outcome::Outcome;
 use std::alloc::{Allocator, Global};
 use std::cmp::Ordering;
 use std::slice::from_ref;
@@ -36,7 +36,7 @@ pub enum By {
 
 /// The text of a number, or of a property's name, or nothing of another node.
 fn text_of<'a, A: Allocator>(doc: &'a CstRootNode<A>, node: CstNode) -> &'a str
-    requires { Holds doc.now node }
+    requires { HasNode doc.now node }
 {
     match node {
         CstNode::Leaf(CstLeafNode::NumberLit(number)) => number.raw_value(doc),
@@ -50,8 +50,8 @@ fn text_of<'a, A: Allocator>(doc: &'a CstRootNode<A>, node: CstNode) -> &'a str
 
 /// Compares two nodes by their texts.
 pub fn compare<A: Allocator>(doc: &CstRootNode<A>, one: CstNode, other: CstNode) -> Ordering
-    requires one { Holds doc.now one }
-    requires other { Holds doc.now other }
+    requires one { HasNode doc.now one }
+    requires other { HasNode doc.now other }
 {
     text_of(doc, one).cmp(text_of(doc, other))
 }
@@ -62,15 +62,15 @@ fn compare_properties<A: Allocator>(
     one: CstObjectProp,
     other: CstObjectProp,
 ) -> Ordering
-    requires one { Holds doc.now (object_prop_node one) }
-    requires other { Holds doc.now (object_prop_node other) }
+    requires one { HasNode doc.now (object_prop_node one) }
+    requires other { HasNode doc.now (object_prop_node other) }
 {
     compare(doc, one.node(), other.node())
 }
 
 /// The first character of a node's text, if it has one.
 fn first_of<A: Allocator>(doc: &CstRootNode<A>, node: CstNode) -> Option<char>
-    requires { Holds doc.now node }
+    requires { HasNode doc.now node }
 {
     text_of(doc, node).chars().next()
 }
@@ -80,7 +80,7 @@ fn sort_array<A: Allocator + Copy>(
     array: CstArray,
     by: By,
 ) -> Result<(), EditError>
-    requires { Holds doc.old (array_node array) }
+    requires { HasNode doc.old (array_node array) }
 {
     let sort = array.sort_elements();
     let compare = |doc: &CstRootNode<_>, one, other| compare(doc, one, other);
@@ -106,7 +106,7 @@ fn sort_object<A: Allocator + Copy>(
     object: CstObject,
     by: By,
 ) -> Result<(), EditError>
-    requires { Holds doc.old (object_node object) }
+    requires { HasNode doc.old (object_node object) }
 {
     let sort = object.sort_properties();
     let name = |doc: &CstRootNode<_>, property: CstObjectProp| match property.decoded_name(doc) {

@@ -4,4 +4,4 @@ pub mod Values
 pub mod Names
 pub mod Creating
 pub mod Writing
-pub mod Unensured
+pub mod EnsureErrors

@@ -6,7 +6,7 @@ use Rattle.jsonc_tree.specs.OrderedTree.{OrderedTree, Top, none, more, followed_
 use Rattle.jsonc_tree.specs.declared.node.CstNewlineKind.{CstNewlineKind}
 use Rattle.jsonc_sound.specs.Shape.{token_then}
 use Rattle.jsonc_sound.specs.InRows.{row_around}
-use Rattle.jsonc_sound.specs.Leaving.{AreBeside, comma_comes, element_count}
+use Rattle.jsonc_sound.specs.Leaving.{AreInlineTrivia, comma_comes, element_count}
 use Rattle.jsonc_sound.specs.MarkChanges.{AreBlanks}
 use Rattle.jsonc_sound.specs.Rows.{Last, nothing_yet, an_element, a_comma, last_behind}
 use Rattle.jsonc_sound.specs.TreeChanges.{IsElement}
@@ -40,10 +40,10 @@ pub data Gap : Bool → List Content → Type 0 where
   a_line : {must : Bool} {k : CstNewlineKind} {s : List ℕ} → IsIndent s → Gap must (newline k ∷ whitespace s ∷ [])
 
 -- the row that stands before the new element, with no comma more, or with one directly behind its last element, which whitespace and comments alone follow
-pub data CommaComes : OrderedTree → OrderedTree → Type 0 where
-  none_comes : {row : OrderedTree} → CommaComes row row
-  one_comes : (front : OrderedTree) (last : Top) (beside : List Content) → IsElement last.content → AreBeside beside
-      → CommaComes (row_around front last (leaves_then beside none)) (row_around front last (token_then 0x2C (leaves_then beside none)))
+pub data CommaInserted : OrderedTree → OrderedTree → Type 0 where
+  none_comes : {row : OrderedTree} → CommaInserted row row
+  one_comes : (front : OrderedTree) (last : Top) (beside : List Content) → IsElement last.content → AreInlineTrivia beside
+      → CommaInserted (row_around front last (leaves_then beside none)) (row_around front last (token_then 0x2C (leaves_then beside none)))
 
 -- an element may stand behind this with no further comma
 abbrev pub takes_element : Last → Bool
@@ -59,7 +59,7 @@ pub data GoesOn (o : Options) (rest : OrderedTree) : OrderedTree → Type 0 wher
   comma_last : IsTrue o.trailing_commas → element_count rest ≡ 0 → GoesOn o rest (token_then 0x2C rest)
 
 -- The second row is the first with the new element, `top`, as its element of this number. Where a line ends in the row, the element has a line of its own.
-pub data ElementComes (o : Options) (top : Top) : ℕ → OrderedTree → OrderedTree → Type 0 where
-  comes : (front back led behind : OrderedTree) (gap : List Content) → CommaComes front led → IsTrue (takes_element (last_behind nothing_yet led))
+pub data ElementInserted (o : Options) (top : Top) : ℕ → OrderedTree → OrderedTree → Type 0 where
+  comes : (front back led behind : OrderedTree) (gap : List Content) → CommaInserted front led → IsTrue (takes_element (last_behind nothing_yet led))
       → IsTrue (not (comma_comes back)) → Gap (has_newline (followed_by front back)) gap → GoesOn o back behind
-      → ElementComes o top (element_count front) (followed_by front back) (followed_by led (leaves_then gap (more top.content top.below behind)))
+      → ElementInserted o top (element_count front) (followed_by front back) (followed_by led (leaves_then gap (more top.content top.below behind)))

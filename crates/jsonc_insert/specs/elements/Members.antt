@@ -18,12 +18,12 @@ use Rattle.jsonc_sound.specs.Written.{property_written}
 use Rattle.jsonc_edit.specs.Writing.{FitsLayout, IsWritable}
 use Rattle.jsonc_edit.specs.multiline.Laws.{bracketed, solid_nodes}
 use Rattle.jsonc_edit.specs.multiline.Reflows.{SpreadsOut}
-use Rattle.jsonc_insert.specs.elements.Coming.{BlankLinesLeave, ElementComes}
+use Rattle.jsonc_insert.specs.elements.Coming.{BlankLinesLeave, ElementInserted}
 use Rattle.jsonc_insert.specs.elements.Laws.{GainsMarks, HasAll}
 
 -- The object at the path has been put on several lines, blank lines have left its row, and then a property of this name and value has come in as its
 -- property of this number, or as its last where there were fewer, laid out as documents of these options may be; and nothing outside of the row has changed.
-pub record PropertyComesAt (o : Options) (path : List ℕ) (i : ℕ) (name : List ℕ) (v : Plain) (t u : OrderedTree) : Type 0 where
+pub record PropertyInsertedAt (o : Options) (path : List ℕ) (i : ℕ) (name : List ℕ) (v : Plain) (t u : OrderedTree) : Type 0 where
   pub layout : Layout
   pub row : OrderedTree
   pub spread : OrderedTree
@@ -32,14 +32,14 @@ pub record PropertyComesAt (o : Options) (path : List ℕ) (i : ℕ) (name : Lis
   pub fits : FitsLayout o layout
   pub spreads : SpreadsOut row spread
   pub leave : BlankLinesLeave spread kept
-  pub comes : ElementComes o (laid_property layout name v) (min i (element_count row)) kept new
+  pub comes : ElementInserted o (laid_property layout name v) (min i (element_count row)) kept new
   pub changed : DocumentChanged (bracketed of_properties row) (bracketed of_properties new) path t u
 
 -- the second list is the first with this property as its property of this number
-pub data MemberComes (name : List ℕ) (v : Plain) : ℕ → Members → Members → Type 0 where
-  this_member : {ms : Members} → MemberComes name v 0 ms (member name v ms)
-  later_member : {i : ℕ} {n : List ℕ} {w : Plain} {ms ns : Members} → MemberComes name v i ms ns
-      → MemberComes name v (suc i) (member n w ms) (member n w ns)
+pub data MemberInserted (name : List ℕ) (v : Plain) : ℕ → Members → Members → Type 0 where
+  this_member : {ms : Members} → MemberInserted name v 0 ms (member name v ms)
+  later_member : {i : ℕ} {n : List ℕ} {w : Plain} {ms ns : Members} → MemberInserted name v i ms ns
+      → MemberInserted name v (suc i) (member n w ms) (member n w ns)
 
 -- how many properties there are
 abbrev pub member_count : Members → ℕ
@@ -47,35 +47,35 @@ member_count no_members = 0
 member_count (member name v ms) = suc (member_count ms)
 
 -- of the object at the path this has become the property of this number, or the last where there were fewer, and nothing else has changed
-pub record GainsMember (path : List ℕ) (i : ℕ) (name : List ℕ) (v : Plain) (x y : Plain) : Type 0 where
+pub record InsertsMemberAt (path : List ℕ) (i : ℕ) (name : List ℕ) (v : Plain) (x y : Plain) : Type 0 where
   pub old : Members
   pub new : Members
-  pub comes : MemberComes name v (min i (member_count old)) old new
+  pub comes : MemberInserted name v (min i (member_count old)) old new
   pub changed : Changed (object old) (object new) path x y
 
 -- The text was a document, and is one again, in which the object at the path has this property more; of its literals and comments those of the property have
 -- come; and the document is sound.
-pub record IsMemberInserted (o : Options) (path : List ℕ) (i : ℕ) (name : List ℕ) (v : Plain) (t u : OrderedTree) (s : PropertyComesAt o path i name v t u)
+pub record IsMemberInserted (o : Options) (path : List ℕ) (i : ℕ) (name : List ℕ) (v : Plain) (t u : OrderedTree) (s : PropertyInsertedAt o path i name v t u)
     : Type 0 where
   pub before : Plain
   pub after : Plain
   pub old_text : IsDocument o (printed_text t) (Some before)
   pub new_text : IsDocument o (printed_text u) (Some after)
-  pub gains : GainsMember path i name v before after
+  pub gains : InsertsMemberAt path i name v before after
   pub marks : GainsMarks (property_written name v) (min i (element_count s.row)) s.kept t u
   pub sound : SoundTree o u
 
 -- so it is where the document was sound, and may hold the name and the value
 abbrev pub InsertsMember : {o : Options} {path : List ℕ} {i : ℕ} {name : List ℕ} {v : Plain} {t u : OrderedTree}
-    → PropertyComesAt o path i name v t u → Type 0
+    → PropertyInsertedAt o path i name v t u → Type 0
 InsertsMember {o} {path} {i} {name} {v} {t} {u} s = SoundTree o t → IsCharacters name → IsWritable o v → IsMemberInserted o path i name v t u s
 
 -- all leaves outside of the object stay
 abbrev pub KeepsLeavesAround : {o : Options} {path : List ℕ} {i : ℕ} {name : List ℕ} {v : Plain} {t u : OrderedTree}
-    → PropertyComesAt o path i name v t u → Type 0
+    → PropertyInsertedAt o path i name v t u → Type 0
 KeepsLeavesAround {t = t} {u = u} s = DiffersIn (leaves_of (bracketed of_properties s.row)) (leaves_of (bracketed of_properties s.new)) (leaves t) (leaves u)
 
 -- in its row all nodes stay but whitespace and ends of lines, where it is put on several lines; then all but the blanks that leave, where the property comes
 abbrev pub KeepsNodesWithin : {o : Options} {path : List ℕ} {i : ℕ} {name : List ℕ} {v : Plain} {t u : OrderedTree}
-    → PropertyComesAt o path i name v t u → Type 0
+    → PropertyInsertedAt o path i name v t u → Type 0
 KeepsNodesWithin s = (solid_nodes s.spread ≡ solid_nodes s.row) × HasAll s.kept s.new

@@ -4,7 +4,7 @@ use Rattle.jsonc_text.specs.Plain.{Plain}
 use Rattle.jsonc_tree.specs.Changes.{CanJoin, Splices}
 use Rattle.jsonc_tree.specs.Tree.{Node, content_at, children_at, IsTree}
 use Rattle.jsonc_edit.specs.Changes.{top_at}
-use Rattle.jsonc_edit.specs.Put.{Prepared}
+use Rattle.jsonc_edit.specs.Put.{Extends}
 use Rattle.jsonc_layout.specs.from_input.Laid.{laid_property}
 use Rattle.jsonc_layout.specs.from_input.Layout.{Layout}
 use Rattle.jsonc_insert.specs.Inserted.{leaves_before, leaves_behind, put_by}
@@ -13,7 +13,7 @@ use Rattle.jsonc_insert.specs.Planned.{planned}
 use Rattle.jsonc_insert.specs.Settings.{indents_of}
 use Rattle.jsonc_insert.specs.declared.plan.Plan.{Plan}
 use Rattle.jsonc_insert.specs.members.Opened.{IsBefore}
-use Rattle.jsonc_insert.specs.members.Told.{layout_inside}
+use Rattle.jsonc_insert.specs.members.Layout.{layout_inside}
 
 -- The property of this name and value was made ready to come in as the node m, and so were the leaves beside it: what comes at these places.
 pub record PropertyMade (old ready : List Node) (layout : Layout) (outer : List ℕ) (plan : Plan) (name : List ℕ) (v : Plain) (m : ℕ)
@@ -42,14 +42,14 @@ pub record RowMade (old ready : List Node) (c : ℕ) (was : List ℕ) (i : ℕ) 
   pub is : row ≡ put_by (plan_inside old c was i) comma (before ++ m ∷ behind) was
 
 -- The property has come in so, as number i of c or behind the last one, as the node m: the leaves were made ready that put c on several lines; then the
--- property was, with what comes beside it, for that row without blank lines inside its brackets; and then the row of c gave way to the new one, at once.
+-- property was, with what comes beside it, for that row without blank lines inside its brackets; and then the row of c was replaced by the new one, at once.
 pub record PropertyPut (old new : List Node) (c i : ℕ) (name : List ℕ) (v : Plain) (m : ℕ) : Type 0 where
   pub lined : List Node
   pub was : List ℕ
   pub before : IsBefore old lined c was
   pub ready : List Node
   pub row : List ℕ
-  pub prepared : Prepared lined ready
+  pub prepared : Extends lined ready
   pub made : RowMade lined ready c was i name v m row
   pub join : CanJoin ready c 0 (length (children_at old c)) row
   pub put : Splices ready new c 0 (length (children_at old c)) row

@@ -21,7 +21,7 @@ use Rattle.jsonc_layout.specs.nodes.Kinds.{is_blank_at}
 use Rattle.jsonc_edit.specs.multiline.Laws.{bracketed}
 use Rattle.jsonc_edit.specs.multiline.Reflows.{SpreadsOut}
 use Rattle.jsonc_insert.specs.members.Inserted.{PropertyPut}
-use Rattle.jsonc_insert.specs.members.Told.{layout_inside}
+use Rattle.jsonc_insert.specs.members.Layout.{layout_inside}
 
 -- the new node is the property of this number, or the last where there were fewer
 abbrev pub TakesItsNumber : List Node → List Node → ℕ → ℕ → List ℕ → Plain → ℕ → Type 0
@@ -40,7 +40,7 @@ PastTheEnd old new c i j name v m =
     IsTree old → c < length old → has_brackets old (children_at old c) ≡ true → length (elements_at old c) ≤ i → length (elements_at old c) ≤ j
     → PropertyPut old new c i name v m → PropertyPut old new c j name v m
 
--- a child of the object is one still, or it is whitespace or the end of a line, and is nobody's child now
+-- a child of the object is one still, or it is whitespace or the end of a line, and is detached now
 abbrev pub LosesBlanksAlone : List Node → List Node → ℕ → ℕ → List ℕ → Plain → ℕ → Type 0
 LosesBlanksAlone old new c i name v m =
     IsTree old → c < length old → has_brackets old (children_at old c) ≡ true → PropertyPut old new c i name v m
@@ -67,9 +67,9 @@ SpreadsFirst o old new path c i name v m =
     IsTree old → SoundTree o (ordered_tree old 0) → IsAt old path c → content_at old c ≡ object → (e : PropertyPut old new c i name v m)
     → IsSpreadFirst old e.lined c e.before.lines
 
--- such an object has its brackets, so nothing is refused but for want of memory
-abbrev pub WantsMemoryAlone : Options → List Node → List ℕ → ℕ → Type 0
-WantsMemoryAlone o ns path c =
+-- such an object has its brackets, so nothing is refused but for allocation failure
+abbrev pub OnlyOutOfMemory : Options → List Node → List ℕ → ℕ → Type 0
+OnlyOutOfMemory o ns path c =
     IsTree ns → SoundTree o (ordered_tree ns 0) → IsAt ns path c → content_at ns c ≡ object
     → (has_brackets ns (children_at ns c) ≡ true) × (refusal ns c ≡ OutOfMemory)
 

@@ -3,7 +3,7 @@ use Rattle.std.specs.Prelude.{◌-◌, ◌≡◌, ◌⊎◌, ℕ, true, List, []
 use Rattle.std.specs.List.{All}
 use Rattle.jsonc_tree.specs.Changes.{EachOnce}
 use Rattle.jsonc_tree.specs.Tree.{Node, children_at, parent_at}
-use Rattle.jsonc_edit.specs.Put.{Prepared}
+use Rattle.jsonc_edit.specs.Put.{Extends}
 use Rattle.jsonc_insert.specs.Made.{IsFresh}
 use Rattle.jsonc_insert.specs.Planned.{has_brackets}
 use Rattle.jsonc_insert.specs.Trimmed.{trimmed}
@@ -25,7 +25,7 @@ IsOfRow old now c n = (parent_at old n ≡ Some c) ⊎ IsFresh old now n
 
 -- These nodes are that row: children of c, and leaves that were made for it. Nothing that was there has changed.
 pub record IsOpened (old now : List Node) (c : ℕ) (row : List ℕ) : Type 0 where
-  pub prepared : Prepared old now
+  pub prepared : Extends old now
   pub filled : AreFilled old now (opened old c) row
   pub from : All (IsOfRow old now c) row
   pub once : EachOnce row

@@ -18,7 +18,7 @@ use Rattle.jsonc_insert.specs.Trimmed.{trimmed}
 use Rattle.jsonc_insert.specs.declared.plan.Plan.{Plan}
 use Rattle.jsonc_edit.specs.multiline.Slots.{Slot, stays, comes}
 use Rattle.jsonc_insert.specs.members.Opened.{opened}
-use Rattle.jsonc_insert.specs.members.Told.{layout_inside}
+use Rattle.jsonc_insert.specs.members.Layout.{layout_inside}
 use Rattle.jsonc_insert.specs.members.Inserted.{plan_inside}
 
 -- the leaves that come into a row, and the numbers that fill its places, where these leaves have the numbers from n on

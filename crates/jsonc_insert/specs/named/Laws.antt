@@ -18,14 +18,14 @@ use Rattle.jsonc_sound.specs.Written.{property_written}
 use Rattle.jsonc_edit.specs.Paths.{IsAt, IsElementOf}
 use Rattle.jsonc_text.specs.declared.edit.EditError.{EditError}
 use Rattle.jsonc_text.specs.declared.edit.EditError.TheVariants.{OutOfMemory}
-use Rattle.jsonc_insert.specs.elements.Members.{PropertyComesAt}
+use Rattle.jsonc_insert.specs.elements.Members.{PropertyInsertedAt}
 use Rattle.jsonc_text.specs.declared.edit.Over.{Over}
 use Rattle.jsonc_text.specs.declared.edit.Over.TheVariants.{Replace}
 use Rattle.jsonc_text.specs.declared.edit.Shape.{Shape}
 use Rattle.jsonc_insert.specs.named.Members.{EnsuresMember, IsFirstMember, LacksMember}
-use Rattle.jsonc_insert.specs.named.Named.{IsUnensured, NamedEnsured}
+use Rattle.jsonc_insert.specs.named.Named.{EnsureError, NamedEnsured}
 use Rattle.jsonc_edit.specs.set.Shapes.{is_of, empty_of}
-use Rattle.jsonc_insert.specs.named.Values.{ValueGivesWay}
+use Rattle.jsonc_insert.specs.named.Values.{ReplacesValue}
 
 -- what was found of this name in c, and of these properties none or one has it: the one of its number
 abbrev pub FoundAmong : List Node → ℕ → List ℕ → Option ℕ → Members → Type 0
@@ -45,14 +45,14 @@ abbrev pub FindsMember : Options → List Node → List ℕ → ℕ → List ℕ
 FindsMember o ns path c name found =
     IsTree ns → SoundTree o (ordered_tree ns 0) → IsAt ns path c → content_at ns c ≡ object → FirstInObject ns c name found → IsFoundAt o ns path c name found
 
--- What has stayed around: all; or all around the value of the property of this number in the object at the path, which was of another shape and has given way to
+-- What has stayed around: all; or all around the value of the property of this number in the object at the path, which was of another shape and has been replaced by
 -- an empty one, where another is to; or all around a property that has come behind the last one.
 pub data StaysAround (o : Options) (path name : List ℕ) (shape : Shape) (t u : OrderedTree) : Over → Type 0 where
   all_stays : {how : Over} → u ≡ t → StaysAround o path name shape t u how
-  value_given : (i : ℕ) (given : ValueGivesWay (path ++ i ∷ []) (empty_of shape) t u) → is_of shape given.was.content ≡ false → StaysAround o path name shape t u Replace
-  property_come : {how : Over} (n : ℕ) → ((i : ℕ) → n ≤ i → PropertyComesAt o path i name (empty_of shape) t u) → StaysAround o path name shape t u how
+  value_given : (i : ℕ) (given : ReplacesValue (path ++ i ∷ []) (empty_of shape) t u) → is_of shape given.was.content ≡ false → StaysAround o path name shape t u Replace
+  property_come : {how : Over} (n : ℕ) → ((i : ℕ) → n ≤ i → PropertyInsertedAt o path i name (empty_of shape) t u) → StaysAround o path name shape t u how
 
--- all literals and comments stay; or one stretch of them has left, where another value is to give way; or the name has come in
+-- all literals and comments stay; or one stretch of them has left, where another value is to be replaced; or the name has come in
 pub data ChangesMarks (name : List ℕ) (shape : Shape) (x y : List Mark) : Over → Type 0 where
   none_leave : {how : Over} → y ≡ x → ChangesMarks name shape x y how
   some_leave : (was : List Mark) → MarksDifferIn was [] x y → ChangesMarks name shape x y Replace
@@ -77,6 +77,6 @@ WritesNamed o old new path c name shape how answer =
     → NamedEnsured shape how old new c name answer → IsNamedWritten o path name shape how (ordered_tree old 0) (ordered_tree new 0)
 
 -- and there only memory is ever wanted
-abbrev pub WantsMemoryAlone : Options → List Node → List ℕ → ℕ → List ℕ → Shape → Over → EditError → Type 0
-WantsMemoryAlone o ns path c name shape how e =
-    IsTree ns → SoundTree o (ordered_tree ns 0) → IsAt ns path c → content_at ns c ≡ object → IsUnensured shape how ns c name e → e ≡ OutOfMemory
+abbrev pub OnlyOutOfMemory : Options → List Node → List ℕ → ℕ → List ℕ → Shape → Over → EditError → Type 0
+OnlyOutOfMemory o ns path c name shape how e =
+    IsTree ns → SoundTree o (ordered_tree ns 0) → IsAt ns path c → content_at ns c ≡ object → EnsureError shape how ns c name e → e ≡ OutOfMemory

@@ -54,9 +54,9 @@ pub data WantsMemoryFor (shape : Shape) (ns : List Node) (c : ℕ) (name : List 
   to_set : (r : ℕ) → FirstInObject ns c name (Some r) → lacks_name_at ns r ≡ false → LacksKind (is_of shape) ns (value_at ns r)
       → WantsMemoryFor shape ns c name over.Replace
 
--- Why it is not: memory was wanted; none has the name, and c lacks a bracket; or the one that has it lacks a colon.
-abbrev pub IsUnensured : Shape → Over → List Node → ℕ → List ℕ → EditError → Type 0
-IsUnensured shape how ns c name OutOfMemory = WantsMemoryFor shape ns c name how
-IsUnensured shape how ns c name MissingBrackets = FirstInObject ns c name None × (refusal ns c ≡ MissingBrackets)
-IsUnensured shape over.Replace ns c name MissingName = (r : ℕ) × FirstInObject ns c name (Some r) × (lacks_name_at ns r ≡ true)
-IsUnensured shape how ns c name e = ⊥
+-- Why it is not: allocation failed; none has the name, and c lacks a bracket; or the one that has it lacks a colon.
+abbrev pub EnsureError : Shape → Over → List Node → ℕ → List ℕ → EditError → Type 0
+EnsureError shape how ns c name OutOfMemory = WantsMemoryFor shape ns c name how
+EnsureError shape how ns c name MissingBrackets = FirstInObject ns c name None × (refusal ns c ≡ MissingBrackets)
+EnsureError shape over.Replace ns c name MissingName = (r : ℕ) × FirstInObject ns c name (Some r) × (lacks_name_at ns r ≡ true)
+EnsureError shape how ns c name e = ⊥

@@ -5,11 +5,11 @@ ghost use Rattle.jsonc_text.specs.Plain.{Plain};
 ghost use Rattle.jsonc_tree.specs.OrderedTree.{OrderedTree};
 ghost use Rattle.jsonc_tree.specs.Tree.{Node};
 ghost use Rattle.jsonc_sound.specs.Marks.{Mark};
-ghost use Rattle.jsonc_insert.specs.elements.Laws.{ElementComesAt, ElementsComeAt, HasItsBrackets, InsertsElement};
+ghost use Rattle.jsonc_insert.specs.elements.Laws.{ElementInsertedAt, ElementsInsertedAt, HasItsBrackets, InsertsElement};
 ghost use Rattle.jsonc_insert.specs.elements.Laws.{KeepsLeavesOutside, KeepsNodesInside, MarksComeIn, StandsInPlace};
-ghost use Rattle.jsonc_insert.specs.elements.Laws.{WantsMemoryAlone};
+ghost use Rattle.jsonc_insert.specs.elements.Laws.{OnlyOutOfMemory};
 ghost use Rattle.jsonc_insert.specs.elements.Members.{InsertsMember, KeepsLeavesAround, KeepsNodesWithin};
-ghost use Rattle.jsonc_insert.specs.elements.Members.{PropertyComesAt};
+ghost use Rattle.jsonc_insert.specs.elements.Members.{PropertyInsertedAt};
 ghost use Rattle.jsonc_insert.specs.elements.Worked.{ComesBehind, ComesFirst, ComesOnALine};
 
 /// Where a value has come into an array at a path of a sound document, as its element of a number or its
@@ -17,7 +17,7 @@ ghost use Rattle.jsonc_insert.specs.elements.Worked.{ComesBehind, ComesFirst, Co
 /// these options may be; and nothing outside of the row has changed.
 pub fn elements_come_into_rows()
     ensures { (o : Options) (old new : List Node) (path : List ℕ) (c i : ℕ) (v : Plain) (m : ℕ)
-        → ElementsComeAt o old new path c i v m }
+        → ElementsInsertedAt o old new path c i v m }
 {}
 
 /// Where each number in the value is a number, the text is a document again, and its value is the old one,
@@ -27,11 +27,11 @@ pub fn elements_come_into_rows()
 /// and in its row all nodes but the blanks that have left.
 pub fn inserted_elements_are_written()
     ensures document { (o : Options) (path : List ℕ) (i : ℕ) (v : Plain) (t u : OrderedTree)
-        (s : ElementComesAt o path i v t u) → InsertsElement s }
+        (s : ElementInsertedAt o path i v t u) → InsertsElement s }
     ensures outside { (o : Options) (path : List ℕ) (i : ℕ) (v : Plain) (t u : OrderedTree)
-        (s : ElementComesAt o path i v t u) → KeepsLeavesOutside s }
+        (s : ElementInsertedAt o path i v t u) → KeepsLeavesOutside s }
     ensures inside { (o : Options) (path : List ℕ) (i : ℕ) (v : Plain) (t u : OrderedTree)
-        (s : ElementComesAt o path i v t u) → KeepsNodesInside s }
+        (s : ElementInsertedAt o path i v t u) → KeepsNodesInside s }
 {}
 
 /// The array stands where it stood, and the new element at its place in it.
@@ -45,11 +45,11 @@ pub fn marks_come_in()
     ensures { (ms : List Mark) (i : ℕ) (row t u : OrderedTree) → MarksComeIn ms i row t u }
 {}
 
-/// An array at a path of a sound document has its brackets, so nothing but want of memory keeps a value
+/// An array at a path of a sound document has its brackets, so nothing but allocation failure keeps a value
 /// from coming in.
 pub fn arrays_have_their_brackets()
     ensures brackets { (o : Options) (ns : List Node) (path : List ℕ) (c : ℕ) → HasItsBrackets o ns path c }
-    ensures memory { (o : Options) (ns : List Node) (path : List ℕ) (c : ℕ) → WantsMemoryAlone o ns path c }
+    ensures memory { (o : Options) (ns : List Node) (path : List ℕ) (c : ℕ) → OnlyOutOfMemory o ns path c }
 {}
 
 /// Where a property has come into an object at a path of a sound document, which was put on several lines
@@ -60,11 +60,11 @@ pub fn arrays_have_their_brackets()
 /// stay, and in its row all nodes but blanks.
 pub fn inserted_properties_are_written()
     ensures document { (o : Options) (path : List ℕ) (i : ℕ) (name : List ℕ) (v : Plain) (t u : OrderedTree)
-        (s : PropertyComesAt o path i name v t u) → InsertsMember s }
+        (s : PropertyInsertedAt o path i name v t u) → InsertsMember s }
     ensures outside { (o : Options) (path : List ℕ) (i : ℕ) (name : List ℕ) (v : Plain) (t u : OrderedTree)
-        (s : PropertyComesAt o path i name v t u) → KeepsLeavesAround s }
+        (s : PropertyInsertedAt o path i name v t u) → KeepsLeavesAround s }
     ensures inside { (o : Options) (path : List ℕ) (i : ℕ) (name : List ℕ) (v : Plain) (t u : OrderedTree)
-        (s : PropertyComesAt o path i name v t u) → KeepsNodesWithin s }
+        (s : PropertyInsertedAt o path i name v t u) → KeepsNodesWithin s }
 {}
 
 /// Worked rows: `[1]` with 2 behind its element, and before it; and an array whose element has a trailing

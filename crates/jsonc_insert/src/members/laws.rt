@@ -5,7 +5,7 @@ ghost use Rattle.jsonc_text.specs.Plain.{Plain};
 ghost use Rattle.jsonc_tree.specs.Tree.{Node};
 ghost use Rattle.jsonc_insert.specs.members.Laws.{ChangesObjectAlone, ChangesOneRow, FitsAsTold, IsTheProperty};
 ghost use Rattle.jsonc_insert.specs.members.Laws.{LosesBlanksAlone, PastTheEnd, SpreadsFirst, TakesItsNumber};
-ghost use Rattle.jsonc_insert.specs.members.Laws.{WantsMemoryAlone};
+ghost use Rattle.jsonc_insert.specs.members.Laws.{OnlyOutOfMemory};
 ghost use Rattle.jsonc_insert.specs.members.Worked.{b, c_is_two, commented, empty_inside, on_one_line};
 ghost use Rattle.jsonc_insert.specs.members.Worked.{text_with, two, with_comma};
 
@@ -39,7 +39,7 @@ pub fn numbers_past_the_end_append()
         → PastTheEnd old new c i j name v m }
 {}
 
-/// Of the object's children only whitespace and ends of lines leave; what leaves is nobody's child then.
+/// Of the object's children only whitespace and ends of lines leave; what leaves is detached then.
 pub fn blanks_alone_leave()
     ensures { (old new : List Node) (c i : ℕ) (name : List ℕ) (v : Plain) (m : ℕ)
         → LosesBlanksAlone old new c i name v m }
@@ -56,12 +56,12 @@ pub fn objects_change_alone()
 
 /// Where a property has come into an object at a path of a sound document, the object was put on several
 /// lines before, unless a line ended in it already, and the layout that its row tells is one that documents
-/// of these options may have. Such an object has its brackets, so nothing but want of memory keeps a
+/// of these options may have. Such an object has its brackets, so nothing but allocation failure keeps a
 /// property from coming in.
 pub fn objects_are_spread_first()
     ensures spread { (o : Options) (old new : List Node) (path : List ℕ) (c i : ℕ) (name : List ℕ) (v : Plain) (m : ℕ)
         → SpreadsFirst o old new path c i name v m }
     ensures layout { (o : Options) (old new : List Node) (path : List ℕ) (c i : ℕ) (name : List ℕ) (v : Plain) (m : ℕ)
         → FitsAsTold o old new path c i name v m }
-    ensures memory { (o : Options) (ns : List Node) (path : List ℕ) (c : ℕ) → WantsMemoryAlone o ns path c }
+    ensures memory { (o : Options) (ns : List Node) (path : List ℕ) (c : ℕ) → OnlyOutOfMemory o ns path c }
 {}

@@ -2,8 +2,8 @@
 
 ghost use Rattle.std.specs.Prelude.{◌≡◌, ◌≤◌, ◌<◌, IfOk, length, string_bytes};
 ghost use Rattle.jsonc_layout.specs.lines.IndentViews.{text_in, texts_of};
-ghost use Rattle.jsonc_insert.specs.members.Told.{document_indent, indent_in, indents_beside, last_line, levels_inside};
-ghost use Rattle.jsonc_insert.specs.members.Told.{single_inside};
+ghost use Rattle.jsonc_insert.specs.members.Layout.{document_indent, indent_in, indents_beside, last_line, levels_inside};
+ghost use Rattle.jsonc_insert.specs.members.Layout.{single_inside};
 
 use crate::{first_indent, indent_of_line, place_in};
 use jsonc_layout::lines::{Indents, is_in_document, levels_from, levels_in, told_by};
@@ -69,7 +69,7 @@ fn single_inside<A: Allocator + Copy>(
     node: usize,
     count: usize,
 ) -> Result<String<A>, AllocError>
-    requires there { object < length tree.now.nodes }
+    requires in_tree { object < length tree.now.nodes }
     requires count { count ≡ length (levels_inside tree.now.nodes object) }
     ensures { IfOk result (λ s. string_bytes s ≡ single_inside tree.now.nodes object row.now node) }
 {
@@ -93,7 +93,7 @@ pub(crate) fn indents_beside<A: Allocator + Copy>(
     row: &[usize],
     node: usize,
 ) -> Result<Indents<A>, AllocError>
-    requires there { object < length tree.now.nodes }
+    requires in_tree { object < length tree.now.nodes }
     ensures indents { IfOk result (λ i. texts_of i ≡ indents_beside tree.now.nodes object row.now node) }
 {
     let levels = levels_from(alloc, tree, Some(object))?;

@@ -3,7 +3,7 @@
 ghost use Rattle.std.specs.Prelude.{◌≡◌, IfOk, chars};
 ghost use Rattle.jsonc_layout.specs.input.Views.{plain};
 ghost use Rattle.jsonc_layout.specs.from_input.Layout.{layout_of};
-ghost use Rattle.jsonc_edit.specs.Put.{Prepared};
+ghost use Rattle.jsonc_edit.specs.Put.{Extends};
 ghost use Rattle.jsonc_insert.specs.members.Inserted.{PropertyMade};
 
 use crate::{Made, Plan, make_before, make_behind, make_comma};
@@ -24,7 +24,7 @@ pub(crate) fn make<A: Allocator + Copy>(
 ) -> Result<Made<A>, AllocError>
     ensures made { IfOk result (λ m. PropertyMade tree.old.nodes tree.new.nodes (layout_of layout.now) outer.now
         plan (chars name.now) (plain value.now) m.element m.comma.items m.before.items m.behind.items) }
-    ensures prepared { Prepared tree.old.nodes tree.new.nodes }
+    ensures prepared { Extends tree.old.nodes tree.new.nodes }
 {
     let comma = make_comma(alloc, tree, plan.comma.is_some())?;
     let before = make_before(alloc, tree, layout, plan)?;

@@ -7,13 +7,13 @@ ghost use Rattle.jsonc_tree.specs.OrderedTree.{ordered_tree};
 ghost use Rattle.jsonc_tree.specs.Tree.{children_at, content_at};
 ghost use Rattle.jsonc_layout.specs.input.Views.{plain};
 ghost use Rattle.jsonc_layout.specs.from_input.Layout.{layout_of};
-ghost use Rattle.jsonc_edit.specs.Put.{Prepared};
+ghost use Rattle.jsonc_edit.specs.Put.{Extends};
 ghost use Rattle.jsonc_insert.specs.Inserted.{refusal};
 ghost use Rattle.jsonc_insert.specs.Planned.{has_brackets};
 ghost use Rattle.jsonc_insert.specs.Settings.{indents_of};
 ghost use Rattle.jsonc_insert.specs.members.Inserted.{plan_inside, PropertyPut, RowMade};
 ghost use Rattle.jsonc_insert.specs.members.Opened.{IsBefore};
-ghost use Rattle.jsonc_insert.specs.members.Told.{layout_inside};
+ghost use Rattle.jsonc_insert.specs.members.Layout.{layout_inside};
 
 use crate::members::made::make;
 use crate::members::opened::opened;
@@ -54,7 +54,7 @@ fn read<A: Allocator + Copy>(
     index: usize,
 ) -> Result<Reading<A>, AllocError>
     requires object { object < length tree.now.nodes }
-    requires there { All (λ m. m < length tree.now.nodes) row.now }
+    requires in_tree { All (λ m. m < length tree.now.nodes) row.now }
     requires brackets { has_brackets tree.now.nodes row.now ≡ true }
     ensures layout { IfOk result (λ r. layout_of r.layout ≡ layout_inside tree.now.nodes object row.now) }
     ensures outer { IfOk result (λ r. string_bytes r.outer ≡ (indents_of tree.now.nodes object row.now).current) }
@@ -82,11 +82,11 @@ fn make_row<A: Allocator + Copy>(
     value: &CstInputValue<A>,
 ) -> Result<NewRow<A>, AllocError>
     requires object { object < length tree.old.nodes }
-    requires there { All (λ m. m < length tree.old.nodes) row.now }
+    requires in_tree { All (λ m. m < length tree.old.nodes) row.now }
     requires brackets { has_brackets tree.old.nodes row.now ≡ true }
     ensures made { IfOk result (λ r. RowMade tree.old.nodes tree.new.nodes object row.now index
         (chars name.now) (plain value.now) r.property r.row.items) }
-    ensures prepared { Prepared tree.old.nodes tree.new.nodes }
+    ensures prepared { Extends tree.old.nodes tree.new.nodes }
 {
     let told = read(alloc, tree, object, row, index)?;
     let outer = told.outer.as_str();
@@ -105,10 +105,10 @@ fn row_before<A: Allocator + Copy>(
     tree: &mut Tree<A>,
     object: usize,
 ) -> Result<Vec<usize, A>, AllocError>
-    requires there { object < length tree.old.nodes }
+    requires in_tree { object < length tree.old.nodes }
     requires brackets { has_brackets tree.old.nodes (children_at tree.old.nodes object) ≡ true }
     ensures is { IfOk result (λ v. IsBefore tree.old.nodes tree.new.nodes object v.items) }
-    ensures prepared { Prepared tree.old.nodes tree.new.nodes }
+    ensures prepared { Extends tree.old.nodes tree.new.nodes }
 {
     let opened = opened(alloc, tree, object)?;
     trimmed(alloc, tree, &opened)
@@ -123,7 +123,7 @@ fn row_before<A: Allocator + Copy>(
 /// comments on that line; a comma comes where one is wanted. The document tells its indent, how lines end
 /// and whether the last property has a comma.
 ///
-/// An object that lacks a bracket answers `MissingBrackets`. A refusal leaves the document, and every node
+/// An object that lacks a bracket answers `MissingBrackets`. An error leaves the document, and every node
 /// that was there, as it was.
 pub fn insert_property<A: Allocator + Copy>(
     alloc: A,
@@ -133,12 +133,12 @@ pub fn insert_property<A: Allocator + Copy>(
     name: &str,
     value: &CstInputValue<A>,
 ) -> Result<usize, EditError>
-    requires there { object < length tree.old.nodes }
+    requires in_tree { object < length tree.old.nodes }
     requires object { content_at tree.old.nodes object ≡ Content.object }
     ensures put { IfOk result (PropertyPut tree.old.nodes tree.new.nodes object index (chars name.now)
         (plain value.now)) }
     ensures brackets { OnOk result (has_brackets tree.old.nodes (children_at tree.old.nodes object) ≡ true) }
-    ensures told { IfErr result (λ e. e ≡ refusal tree.old.nodes object) }
+    ensures error { IfErr result (λ e. e ≡ refusal tree.old.nodes object) }
     ensures kept { OnErr result (Keeps (length tree.old.nodes) tree.old.nodes tree.new.nodes) }
     ensures document { OnErr result (ordered_tree tree.new.nodes 0 ≡ ordered_tree tree.old.nodes 0) }
 {

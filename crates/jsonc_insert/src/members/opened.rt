@@ -2,7 +2,7 @@
 
 ghost use Rattle.std.specs.Prelude.{◌≡◌, ◌≤◌, ◌<◌, ◌-◌, ◌∷◌, ◌++◌, [], IfOk, length, slice_index, true};
 ghost use Rattle.jsonc_tree.specs.Tree.{children_at};
-ghost use Rattle.jsonc_edit.specs.Put.{Prepared};
+ghost use Rattle.jsonc_edit.specs.Put.{Extends};
 ghost use Rattle.jsonc_insert.specs.Planned.{has_brackets};
 ghost use Rattle.jsonc_insert.specs.members.Opened.{IsOpened};
 
@@ -30,16 +30,16 @@ fn enclosed<A: Allocator>(
 }
 
 /// The row of an object on several lines, brackets among it, by the numbers of nodes: as it is where a
-/// line ends in it already. The leaves that come are made, and are nobody's children yet.
+/// line ends in it already. The leaves that come are made, and have no parent yet.
 pub(crate) fn opened<A: Allocator + Copy>(
     alloc: A,
     tree: &mut Tree<A>,
     object: usize,
 ) -> Result<Vec<usize, A>, AllocError>
-    requires there { object < length tree.old.nodes }
+    requires in_tree { object < length tree.old.nodes }
     requires brackets { has_brackets tree.old.nodes (children_at tree.old.nodes object) ≡ true }
     ensures opened { IfOk result (λ v. IsOpened tree.old.nodes tree.new.nodes object v.items) }
-    ensures prepared { Prepared tree.old.nodes tree.new.nodes }
+    ensures prepared { Extends tree.old.nodes tree.new.nodes }
 {
     let row = children(alloc, tree, object)?;
     if has_newline(tree, &row) {

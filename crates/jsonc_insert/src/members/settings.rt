@@ -4,7 +4,7 @@
 ghost use Rattle.std.specs.Prelude.{◌≡◌, ◌<◌, All, IfOk, length};
 ghost use Rattle.jsonc_layout.specs.lines.IndentViews.{texts_of};
 ghost use Rattle.jsonc_layout.specs.from_input.Layout.{layout_of};
-ghost use Rattle.jsonc_insert.specs.members.Told.{indents_inside, layout_inside};
+ghost use Rattle.jsonc_insert.specs.members.Layout.{indents_inside, layout_inside};
 
 use crate::members::levels::indents_beside;
 use crate::{indents_of, newline_kind_with, nth_element, one_deeper, uses_commas_in};
@@ -38,7 +38,7 @@ pub(crate) fn layout_inside<A: Allocator + Copy>(
     row: &[usize],
 ) -> Result<Layout<A>, AllocError>
     requires object { object < length tree.now.nodes }
-    requires there { All (λ m. m < length tree.now.nodes) row.now }
+    requires in_tree { All (λ m. m < length tree.now.nodes) row.now }
     ensures layout { IfOk result (λ l. layout_of l ≡ layout_inside tree.now.nodes object row.now) }
 {
     let indents = indents_inside(alloc, tree, object, row)?;

@@ -8,7 +8,7 @@ ghost use Rattle.jsonc_tree.specs.Tree.{content_at};
 ghost use Rattle.jsonc_layout.specs.nodes.Properties.{lacks_name_at, value_at};
 ghost use Rattle.jsonc_layout.specs.nodes.Siblings.{IsThere};
 ghost use Rattle.jsonc_insert.specs.Inserted.{refusal};
-ghost use Rattle.jsonc_insert.specs.named.Named.{if_shaped, ComesNamed, IsUnensured, NamedEnsured};
+ghost use Rattle.jsonc_insert.specs.named.Named.{if_shaped, ComesNamed, EnsureError, NamedEnsured};
 ghost use Rattle.jsonc_edit.specs.set.Shapes.{empty_of, is_of};
 
 use crate::members::insert_property;
@@ -23,7 +23,7 @@ fn shaped_value<A: Allocator>(tree: &Tree<A>, property: usize, shape: Shape) -> 
     requires { property < length tree.now.nodes }
     ensures value { result ≡ if_shaped shape tree.now.nodes (value_at tree.now.nodes property) }
     ensures shape { IfSome result (λ m. is_of shape (content_at tree.now.nodes m) ≡ true) }
-    ensures there { IsThere tree.now.nodes result }
+    ensures in_tree { IsThere tree.now.nodes result }
 {
     let value = value_of(tree, property)?;
     if has_shape(tree.kind(value), shape) {
@@ -41,13 +41,13 @@ fn append_empty<A: Allocator + Copy>(
     name: &str,
     shape: Shape,
 ) -> Result<usize, EditError>
-    requires there { object < length tree.old.nodes }
+    requires in_tree { object < length tree.old.nodes }
     requires object { content_at tree.old.nodes object ≡ Content.object }
     ensures comes { IfOk result
         (ComesNamed tree.old.nodes tree.new.nodes object (chars name.now) (empty_of shape)) }
     ensures shape { IfOk result (λ m. is_of shape (content_at tree.new.nodes m) ≡ true) }
-    ensures there { IfOk result (λ m. m < length tree.new.nodes) }
-    ensures told { IfErr result (λ e. e ≡ refusal tree.old.nodes object) }
+    ensures in_tree { IfOk result (λ m. m < length tree.new.nodes) }
+    ensures error { IfErr result (λ e. e ≡ refusal tree.old.nodes object) }
     ensures kept { OnErr result (Keeps (length tree.old.nodes) tree.old.nodes tree.new.nodes) }
     ensures document { OnErr result (ordered_tree tree.new.nodes 0 ≡ ordered_tree tree.old.nodes 0) }
 {
@@ -69,11 +69,11 @@ fn append_empty<A: Allocator + Copy>(
 /// it.
 ///
 /// Where no property has the name, one with an empty value comes behind the last one, as by
-/// `insert_property` of `jsonc_insert::members`. A value of another kind gives way to an empty one, and one that is
+/// `insert_property` of `jsonc_insert::members`. A value of another kind is replaced by an empty one, and one that is
 /// missing is set so, as by `property_value_or_set` of `jsonc_edit::set`; or it stays as it is, and the answer is
 /// None. A property whose value is to be set, and that lacks its colon, answers `MissingName`; an object
 /// into which a property is to come, and that lacks a bracket, `MissingBrackets`. Want of memory is told
-/// where neither is so, or of a name with a backslash, which takes memory to read. A refusal leaves the
+/// where neither is so, or of a name with a backslash, which takes memory to read. An error leaves the
 /// document, and every node that was there, as it was.
 pub fn ensure_property<A: Allocator + Copy>(
     alloc: A,
@@ -83,12 +83,12 @@ pub fn ensure_property<A: Allocator + Copy>(
     shape: Shape,
     over: Over,
 ) -> Result<Option<usize>, EditError>
-    requires there { object < length tree.old.nodes }
+    requires in_tree { object < length tree.old.nodes }
     requires object { content_at tree.old.nodes object ≡ Content.object }
     ensures ensured { IfOk result
         (NamedEnsured shape over tree.old.nodes tree.new.nodes object (chars name.now)) }
     ensures shape { IfOk result (λ a. IfSome a (λ m. is_of shape (content_at tree.new.nodes m) ≡ true)) }
-    ensures told { IfErr result (IsUnensured shape over tree.old.nodes object (chars name.now)) }
+    ensures error { IfErr result (EnsureError shape over tree.old.nodes object (chars name.now)) }
     ensures kept { OnErr result (Keeps (length tree.old.nodes) tree.old.nodes tree.new.nodes) }
     ensures document { OnErr result (ordered_tree tree.new.nodes 0 ≡ ordered_tree tree.old.nodes 0) }
 {

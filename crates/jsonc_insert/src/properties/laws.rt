@@ -3,7 +3,7 @@ ghost use Rattle.std.specs.Prelude.{List, ℕ};
 ghost use Rattle.jsonc_text.specs.Options.{Options};
 ghost use Rattle.jsonc_text.specs.Plain.{Plain};
 ghost use Rattle.jsonc_tree.specs.Tree.{Node};
-ghost use Rattle.jsonc_insert.specs.properties.Laws.{PropertiesAreWritten, PropertiesComeAt, StandsInPlace};
+ghost use Rattle.jsonc_insert.specs.properties.Laws.{PropertiesAreWritten, PropertiesInsertedAt, StandsInPlace};
 
 /// Where a property has come into an object at a path of a sound document, as its property of a number or
 /// its last, the object has been put on several lines, blank lines have left its row, and then the property
@@ -12,7 +12,7 @@ ghost use Rattle.jsonc_insert.specs.properties.Laws.{PropertiesAreWritten, Prope
 /// stands where it stood, and the answer is its property of the number, or its last.
 pub fn properties_come_into_documents()
     ensures row { (o : Options) (old new : List Node) (path : List ℕ) (c i : ℕ) (name : List ℕ) (v : Plain) (m : ℕ)
-        → PropertiesComeAt o old new path c i name v m }
+        → PropertiesInsertedAt o old new path c i name v m }
     ensures written { (o : Options) (old new : List Node) (path : List ℕ) (c i : ℕ) (name : List ℕ) (v : Plain) (m : ℕ)
         → PropertiesAreWritten o old new path c i name v m }
     ensures place { (old new : List Node) (path : List ℕ) (c i : ℕ) (name : List ℕ) (v : Plain) (m : ℕ)

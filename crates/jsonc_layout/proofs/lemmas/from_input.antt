@@ -1,6 +1,6 @@
 pub mod Extending
 pub mod Rows
-pub mod Views
+pub mod ValueLevels
 pub mod Leaves
 pub mod SpelledTexts
 pub mod Meanings

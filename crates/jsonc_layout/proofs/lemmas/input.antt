@@ -1,4 +1,4 @@
-pub mod Views
+pub mod ValueLevels
 pub mod Decimals
 pub mod Spelled
 pub mod Written

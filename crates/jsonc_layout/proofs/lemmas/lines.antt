@@ -1,3 +1,3 @@
-pub mod Walking
+pub mod SiblingSteps
 pub mod Levels
-pub mod Climbing
+pub mod NodesAbove

@@ -1,8 +1,8 @@
-pub mod Below
+pub mod Descendants
 pub mod Shown
 pub mod Items
 pub mod Members
 pub mod Leaves
 pub mod Nodes
-pub mod Once
-pub mod Given
+pub mod OneValue
+pub mod ReadValues

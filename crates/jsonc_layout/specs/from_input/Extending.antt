@@ -5,10 +5,10 @@ use Rattle.jsonc_tree.specs.Tree.{Node, Tree, parent_at, is_container_at, IsTree
 use Rattle.jsonc_tree.specs.OrderedTree.{OrderedTree, none, followed_by, Top}
 use Rattle.jsonc_tree.specs.Building.{Keeps, Builds}
 
--- the nodes are a tree, and this one is a container that is nobody's child
+-- the nodes are a tree, and this one is a container that is detached
 pub record IsUnfinished (ns : List Node) (container : ℕ) : Type 0 where
   pub tree : IsTree ns
-  pub there : container < length ns
+  pub in_tree : container < length ns
   pub holds : IsTrue (is_container_at ns container)
   pub alone : parent_at ns container ≡ None
 

@@ -7,7 +7,7 @@ use Rattle.jsonc_tree.specs.declared.node.CstNewlineKind.{CstNewlineKind}
 use Rattle.jsonc_tree.specs.declared.node.CstNewlineKind.TheVariants.{LineFeed}
 use Rattle.jsonc_layout.specs.nodes.Kinds.{is_element_at, is_newline_at, is_whitespace_at}
 use Rattle.jsonc_layout.specs.nodes.Siblings.{root_above}
-use Rattle.jsonc_layout.specs.lines.Kinds.{holds_values}
+use Rattle.jsonc_layout.specs.lines.Kinds.{is_array_or_object}
 use Rattle.jsonc_layout.specs.lines.Siblings.{trailing_comma_at}
 use Rattle.jsonc_layout.specs.declared.lines.breadth.Sought.{Sought}
 use Rattle.jsonc_layout.specs.declared.lines.breadth.Sought.TheVariants.{LineEnd, SpacedElements}
@@ -35,7 +35,7 @@ last_element ns row = find (is_element_at ns) (reverse row)
 
 -- an array or object with whitespace and an element
 abbrev pub is_spaced : List Node → ℕ → Bool
-is_spaced ns n = holds_values (content_at ns n) && (has_whitespace ns n && is_some (last_element ns (children_at ns n)))
+is_spaced ns n = is_array_or_object (content_at ns n) && (has_whitespace ns n && is_some (last_element ns (children_at ns n)))
 
 -- The node is no child of a container that is to have a row, or stands in that row. Where no container is, every node stays.
 abbrev pub is_child : Option ℕ → ℕ → Bool

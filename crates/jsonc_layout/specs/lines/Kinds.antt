@@ -13,7 +13,7 @@ abbrev pub blank_at : List Node → ℕ → Option (List ℕ)
 blank_at ns n = blank_of (content_at ns n)
 
 -- an array or an object
-abbrev pub holds_values : Content → Bool
-holds_values array = true
-holds_values object = true
-holds_values _ = false
+abbrev pub is_array_or_object : Content → Bool
+is_array_or_object array = true
+is_array_or_object object = true
+is_array_or_object _ = false

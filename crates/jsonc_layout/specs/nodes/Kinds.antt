@@ -38,10 +38,10 @@ is_comment (comment s) = true
 is_comment _ = false
 
 -- what may stand beside a node on its line: whitespace or a comment
-abbrev pub is_beside : Content → Bool
-is_beside (whitespace s) = true
-is_beside (comment s) = true
-is_beside _ = false
+abbrev pub is_inline_trivia : Content → Bool
+is_inline_trivia (whitespace s) = true
+is_inline_trivia (comment s) = true
+is_inline_trivia _ = false
 
 abbrev pub is_trivia : Content → Bool
 is_trivia (whitespace s) = true
@@ -72,8 +72,8 @@ is_blank_at ns n = is_whitespace_at ns n || is_newline_at ns n
 abbrev pub is_comment_at : List Node → ℕ → Bool
 is_comment_at ns n = is_comment (content_at ns n)
 
-abbrev pub is_beside_at : List Node → ℕ → Bool
-is_beside_at ns n = is_beside (content_at ns n)
+abbrev pub is_inline_trivia_at : List Node → ℕ → Bool
+is_inline_trivia_at ns n = is_inline_trivia (content_at ns n)
 
 abbrev pub is_trivia_at : List Node → ℕ → Bool
 is_trivia_at ns n = is_trivia (content_at ns n)

@@ -9,7 +9,7 @@ use Rattle.jsonc_text.specs.Text.{rest}
 use Rattle.jsonc_text.specs.declared.errors.ParseStringErrorKind.{ParseStringErrorKind}
 use Rattle.jsonc_text.specs.declared.errors.ParseStringErrorKind.TheVariants.{OutOfMemory}
 use Rattle.jsonc_text.specs.string.Escapes.{StringHoldsBackslash}
-use Rattle.jsonc_text.specs.string.Told.{TellsError}
+use Rattle.jsonc_text.specs.string.Faults.{StringErrorAt}
 use Rattle.jsonc_tree.specs.Content.{Content, property, string, word}
 use Rattle.jsonc_tree.specs.Order.{text_at}
 use Rattle.jsonc_tree.specs.Tree.{Node, children_at, content_at}
@@ -22,7 +22,7 @@ StandsFor bytes v = (r : List ℕ) × IsString all_on (chars bytes) v r
 -- no string stands at the front of the text, and the kind of fault is true of it
 pub record IsNoString (bytes : List ℕ) (kind : ParseStringErrorKind) : Type 0 where
   pub none : (v : List ℕ) → StandsFor bytes v → ⊥
-  pub told : (i : ℕ) × TellsError true kind (rest bytes 0) (rest bytes i)
+  pub error : (i : ℕ) × StringErrorAt true kind (rest bytes 0) (rest bytes i)
 
 -- the leaf's text begins with a string that stands for these bytes
 abbrev pub LeafStandsFor : List Node → ℕ → List ℕ → Type 0

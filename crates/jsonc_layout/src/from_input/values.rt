@@ -89,12 +89,12 @@ fn needs_comma<A: Allocator>(layout: &Layout<A>, others: usize) -> bool
     layout.trailing_commas || others > 0
 }
 
-/// Makes the nodes of a value, and answers the number of its own node, which is nobody's child yet.
+/// Makes the nodes of a value, and answers the number of its own node, which has no parent yet.
 ///
 /// A string is written as `spell` does, a number as its text. An array none of whose elements is a
 /// container with something in it stands on one line; any other array, and an object with something
 /// in it, on several: each element or property has a line, one level deeper, and the closing bracket
-/// the last one. A refusal leaves every node that was there as it was.
+/// the last one. On an error every node that was there stays as it was.
 #[cycle(lay_out)]
 pub fn lay_out<A: Allocator + Copy>(
     alloc: A,
@@ -117,10 +117,10 @@ pub fn lay_out<A: Allocator + Copy>(
     }
 }
 
-/// Makes the nodes of a property, and answers the number of its own node, which is nobody's child yet.
+/// Makes the nodes of a property, and answers the number of its own node, which has no parent yet.
 ///
 /// Its children are its name, as `spell` writes it, a colon, a space and its value, as [`lay_out`] lays
-/// it out. A refusal leaves every node that was there as it was.
+/// it out. On an error every node that was there stays as it was.
 #[cycle(lay_out)]
 pub fn lay_out_property<A: Allocator + Copy>(
     alloc: A,

@@ -10,6 +10,8 @@ mod copies;
 use std::alloc::{AllocError, Allocator};
 
 /// A value that an edit writes.
+///
+/// `docs/EDITS.md` says how each is written.
 #[derive(Drop)]
 pub enum CstInputValue<A: Allocator> {
     Null,
@@ -88,7 +90,7 @@ impl<A: Allocator> CstInputValue<A> {
         CstInputValue::from_u64(alloc, u64::from(value))
     }
 
-    /// The number, in decimal digits, after a `-` where it is below 0.
+    /// The number, in decimal digits. A `-` stands before them where it is below 0.
     pub fn from_isize(alloc: A, value: isize) -> Result<Self, AllocError>
         ensures value { IfOk result (λ v. plain v ≡ number (signed_decimal value)) }
         ensures literal { IfOk result (λ v. IsAlwaysNumber (plain v)) }
@@ -96,7 +98,7 @@ impl<A: Allocator> CstInputValue<A> {
         CstInputValue::from_i64(alloc, value as i64)
     }
 
-    /// The number, in decimal digits, after a `-` where it is below 0.
+    /// The number, in decimal digits. A `-` stands before them where it is below 0.
     pub fn from_i64(alloc: A, value: i64) -> Result<Self, AllocError>
         ensures value { IfOk result (λ v. plain v ≡ number (signed_decimal value)) }
         ensures literal { IfOk result (λ v. IsAlwaysNumber (plain v)) }
@@ -105,7 +107,7 @@ impl<A: Allocator> CstInputValue<A> {
         Ok(CstInputValue::Number(text))
     }
 
-    /// The number, in decimal digits, after a `-` where it is below 0.
+    /// The number, in decimal digits. A `-` stands before them where it is below 0.
     pub fn from_i32(alloc: A, value: i32) -> Result<Self, AllocError>
         ensures value { IfOk result (λ v. plain v ≡ number (signed_decimal value)) }
         ensures literal { IfOk result (λ v. IsAlwaysNumber (plain v)) }

@@ -6,7 +6,7 @@ ghost use Rattle.jsonc_layout.specs.lines.Breadth.{first_sought, has_whitespace,
 ghost use Rattle.jsonc_layout.specs.lines.Breadth.{is_in_document, last_element, level_below, newline_kind_at, newline_kind_of};
 ghost use Rattle.jsonc_layout.specs.lines.Breadth.{stays_in, uses_trailing_commas_at};
 
-use crate::lines::kinds::holds_values;
+use crate::lines::kinds::is_array_or_object;
 use crate::lines::siblings::trailing_comma;
 use crate::nodes::{
     children_from, is_element, is_newline, is_whitespace, push_children, root_node,
@@ -33,7 +33,7 @@ fn has_whitespace<A: Allocator>(tree: &Tree<A>, node: usize) -> bool
 pub fn last_child_element<A: Allocator>(tree: &Tree<A>, node: usize) -> Option<usize>
     requires { node < length tree.now.nodes }
     ensures last { result ≡ last_element tree.now.nodes (children_at tree.now.nodes node) }
-    ensures there { IfSome result (λ m. m < length tree.now.nodes) }
+    ensures in_tree { IfSome result (λ m. m < length tree.now.nodes) }
 {
     tree.children_reversed(node)
         .find(|child| is_element(tree, *child))
@@ -44,7 +44,7 @@ fn is_spaced<A: Allocator>(tree: &Tree<A>, node: usize) -> bool
     requires { node < length tree.now.nodes }
     ensures { result ≡ is_spaced tree.now.nodes node }
 {
-    if !holds_values(tree.kind(node)) {
+    if !is_array_or_object(tree.kind(node)) {
         return false;
     }
     if !has_whitespace(tree, node) {
@@ -111,9 +111,9 @@ fn first_in<A: Allocator>(
     sought: Sought,
     level: &[usize],
 ) -> Option<usize>
-    requires there { All (λ m. m < length tree.now.nodes) level.now }
+    requires in_tree { All (λ m. m < length tree.now.nodes) level.now }
     ensures first { result ≡ find (is_sought tree.now.nodes changed row.now sought) level.now }
-    ensures there { IfSome result (λ m. m < length tree.now.nodes) }
+    ensures in_tree { IfSome result (λ m. m < length tree.now.nodes) }
 {
     for node in level {
         if is_sought(tree, changed, row, sought, *node) {
@@ -129,7 +129,7 @@ fn level_below<A: Allocator>(
     tree: &Tree<A>,
     level: &[usize],
 ) -> Result<Vec<usize, A>, AllocError>
-    requires there { All (λ m. m < length tree.now.nodes) level.now }
+    requires in_tree { All (λ m. m < length tree.now.nodes) level.now }
     ensures below { IfOk result (λ v. v.items ≡ level_below tree.now.nodes level.now) }
 {
     let mut below = Vec::new(alloc);
@@ -151,7 +151,7 @@ pub fn first_sought<A: Allocator + Copy>(
 ) -> Result<Option<usize>, AllocError>
     requires { All (λ m. m < length tree.now.nodes) start.now }
     ensures first { IfOk result (λ o. o ≡ first_sought tree.now.nodes changed row.now sought start.now) }
-    ensures there { IfOk result (λ o. IfSome o (λ m. m < length tree.now.nodes)) }
+    ensures in_tree { IfOk result (λ o. IfSome o (λ m. m < length tree.now.nodes)) }
 {
     let mut level = Vec::from_slice(alloc, start)?;
     for _depth in 0..tree.len() {
@@ -200,7 +200,7 @@ pub fn newline_kind_at<A: Allocator + Copy>(
     tree: &Tree<A>,
     node: usize,
 ) -> Result<CstNewlineKind, AllocError>
-    requires there { node < length tree.now.nodes }
+    requires in_tree { node < length tree.now.nodes }
     ensures kind { IfOk result (λ kind. kind ≡ newline_kind_at tree.now.nodes node) }
 {
     if !is_in_document(tree, node) {
@@ -218,7 +218,7 @@ pub fn uses_trailing_commas<A: Allocator + Copy>(
     tree: &Tree<A>,
     node: usize,
 ) -> Result<bool, AllocError>
-    requires there { node < length tree.now.nodes }
+    requires in_tree { node < length tree.now.nodes }
     ensures uses { IfOk result (λ uses. uses ≡ uses_trailing_commas_at tree.now.nodes node) }
 {
     let Some(container) = first_sought(alloc, tree, None, &[], Sought::SpacedElements, &[node])?

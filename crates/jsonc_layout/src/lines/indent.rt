@@ -64,7 +64,7 @@ pub fn indent_text<A: Allocator>(
     tree: &Tree<A>,
     node: usize,
 ) -> Result<Option<String<A>>, AllocError>
-    requires there { node < length tree.now.nodes }
+    requires in_tree { node < length tree.now.nodes }
     ensures indent { IfOk result (λ o. text_in o ≡ indent_at tree.now.nodes node) }
 {
     if !begins_line(tree, node) {

@@ -38,7 +38,7 @@ fn stands_in_property<A: Allocator>(tree: &Tree<A>, node: usize) -> bool
 fn beyond_properties<A: Allocator>(tree: &Tree<A>, node: usize) -> Option<usize>
     requires { node < length tree.now.nodes }
     ensures above { above_properties tree.now.nodes node ≡ upward tree.now.nodes result }
-    ensures there { IfSome result (λ m. m < length tree.now.nodes) }
+    ensures in_tree { IfSome result (λ m. m < length tree.now.nodes) }
 {
     let mut next = tree.parent(node);
     while let Some(at) = next {
@@ -58,7 +58,7 @@ pub fn levels_from<A: Allocator>(
 ) -> Result<Vec<usize, A>, AllocError>
     requires { IsThere tree.now.nodes start }
     ensures levels { IfOk result (λ v. v.items ≡ levels_among tree.now.nodes (upward tree.now.nodes start)) }
-    ensures there { IfOk result (λ v. All (λ m. m < length tree.now.nodes) v.items) }
+    ensures in_tree { IfOk result (λ v. All (λ m. m < length tree.now.nodes) v.items) }
 {
     let mut levels = Vec::new(alloc);
     let mut next = start;
@@ -83,7 +83,7 @@ fn levels_above<A: Allocator>(
 ) -> Result<Vec<usize, A>, AllocError>
     requires { node < length tree.now.nodes }
     ensures levels { IfOk result (λ v. v.items ≡ levels_above tree.now.nodes node) }
-    ensures there { IfOk result (λ v. All (λ m. m < length tree.now.nodes) v.items) }
+    ensures in_tree { IfOk result (λ v. All (λ m. m < length tree.now.nodes) v.items) }
 {
     levels_from(alloc, tree, beyond_properties(tree, node))
 }
@@ -225,7 +225,7 @@ fn single_at<A: Allocator + Copy>(
     node: usize,
     count: usize,
 ) -> Result<String<A>, AllocError>
-    requires there { node < length tree.now.nodes }
+    requires in_tree { node < length tree.now.nodes }
     requires count { count ≡ length (levels_above tree.now.nodes node) }
     ensures { IfOk result (λ s. string_bytes s ≡ single_at tree.now.nodes node) }
 {
@@ -251,7 +251,7 @@ pub fn indents_at<A: Allocator + Copy>(
     tree: &Tree<A>,
     node: usize,
 ) -> Result<Indents<A>, AllocError>
-    requires there { node < length tree.now.nodes }
+    requires in_tree { node < length tree.now.nodes }
     ensures indents { IfOk result (λ i. texts_of i ≡ indents_at tree.now.nodes node) }
 {
     let levels = levels_above(alloc, tree, node)?;

@@ -1,7 +1,7 @@
 //! Kinds of nodes, as a layout is told from them.
 ghost use Rattle.std.specs.Prelude.{◌≡◌, option_map};
 ghost use Rattle.jsonc_tree.specs.Stored.{content_of};
-ghost use Rattle.jsonc_layout.specs.lines.Kinds.{blank_at, blank_of, holds_values};
+ghost use Rattle.jsonc_layout.specs.lines.Kinds.{blank_at, blank_of, is_array_or_object};
 ghost use Rattle.jsonc_layout.specs.nodes.Kinds.{is_comma};
 
 use jsonc_tree::{Kind, Tree};
@@ -28,8 +28,8 @@ pub fn blank_at<A: Allocator>(tree: &Tree<A>, node: usize) -> Option<&str>
 }
 
 /// Whether a node is an array or an object.
-pub fn holds_values<A: Allocator>(kind: &Kind<A>) -> bool
-    ensures { result ≡ holds_values (content_of kind.now) }
+pub fn is_array_or_object<A: Allocator>(kind: &Kind<A>) -> bool
+    ensures { result ≡ is_array_or_object (content_of kind.now) }
 {
     match kind {
         Kind::Array(_) | Kind::Object(_) => true,

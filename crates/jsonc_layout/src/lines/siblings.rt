@@ -14,14 +14,14 @@ use std::alloc::Allocator;
 fn after_trivia<A: Allocator>(tree: &Tree<A>, node: usize) -> Option<usize>
     requires { node < length tree.now.nodes }
     ensures sibling { result ≡ after_trivia_at tree.now.nodes node }
-    ensures there { IsThere tree.now.nodes result }
+    ensures in_tree { IsThere tree.now.nodes result }
 {
     next_siblings(tree, node).find(|sibling| !is_trivia(tree, *sibling))
 }
 
 /// The comma after a node, with nothing but trivia between them, if there is one.
 pub fn trailing_comma<A: Allocator>(tree: &Tree<A>, node: usize) -> Option<usize>
-    requires there { node < length tree.now.nodes }
+    requires in_tree { node < length tree.now.nodes }
     ensures comma { result ≡ trailing_comma_at tree.now.nodes node }
 {
     let Some(next) = after_trivia(tree, node) else {
@@ -36,7 +36,7 @@ pub fn trailing_comma<A: Allocator>(tree: &Tree<A>, node: usize) -> Option<usize
 /// Whether a blank line stands in the trivia directly before a node: two lines' ends with nothing
 /// but whitespace between them.
 pub fn has_blank_line_before<A: Allocator>(tree: &Tree<A>, node: usize) -> bool
-    requires there { node < length tree.now.nodes }
+    requires in_tree { node < length tree.now.nodes }
     ensures blank { result ≡ blank_line_before tree.now.nodes node }
 {
     let mut ended_line = false;

@@ -6,7 +6,7 @@ ghost use Rattle.std.specs.Prelude.{◌≡◌};
 ghost use Rattle.jsonc_tree.specs.Stored.{content_of};
 ghost use Rattle.jsonc_tree.specs.Tree.{content_at};
 ghost use Rattle.jsonc_layout.specs.nodes.Kinds.{is_property, is_token};
-ghost use Rattle.jsonc_layout.specs.nodes.Kinds.{is_beside_at, is_blank_at, is_colon_at, is_comma_at, is_comment_at, is_element_at};
+ghost use Rattle.jsonc_layout.specs.nodes.Kinds.{is_inline_trivia_at, is_blank_at, is_colon_at, is_comma_at, is_comment_at, is_element_at};
 ghost use Rattle.jsonc_layout.specs.nodes.Kinds.{is_newline_at, is_trivia_at, is_whitespace_at};
 ghost use Rattle.jsonc_layout.specs.nodes.Properties.{is_name_at};
 
@@ -82,8 +82,8 @@ pub fn is_comment<A: Allocator>(tree: &Tree<A>, node: usize) -> bool
 }
 
 /// Whether a node is whitespace or a comment.
-pub fn is_beside<A: Allocator>(tree: &Tree<A>, node: usize) -> bool
-    ensures { result ≡ is_beside_at tree.now.nodes node }
+pub fn is_inline_trivia<A: Allocator>(tree: &Tree<A>, node: usize) -> bool
+    ensures { result ≡ is_inline_trivia_at tree.now.nodes node }
 {
     if node >= tree.len() {
         return false;

@@ -61,14 +61,14 @@ fn front_string<'a, B: Allocator>(
 
 /// What a string leaf stands for. What follows its closing quote is ignored.
 ///
-/// A leaf's text with no quote in front is `UnterminatedStringLiteral`, want of memory
+/// A leaf's text with no quote in front is `UnterminatedStringLiteral`, allocation failure
 /// `OutOfMemory`.
 pub fn decoded_value<A: Allocator, B: Allocator + Copy>(
     alloc: B,
     tree: &Tree<A>,
     leaf: usize,
 ) -> Result<String<B>, ParseStringErrorKind>
-    requires there { leaf < length tree.now.nodes }
+    requires in_tree { leaf < length tree.now.nodes }
     requires string { IsTrue (is_string (content_at tree.now.nodes leaf)) }
     ensures found { IfOk result (λ s. LeafStandsFor tree.now.nodes leaf (string_bytes s)) }
     ensures fault { IfErr result (LeafIsNoString tree.now.nodes leaf) }
@@ -178,7 +178,7 @@ pub fn get<A: Allocator, B: Allocator + Copy>(
 ) -> Result<Option<usize>, AllocError>
     requires { object < length tree.now.nodes }
     ensures found { IfOk result (FirstInObject tree.now.nodes object (chars name.now)) }
-    ensures there { IfOk result (IsThere tree.now.nodes) }
+    ensures in_tree { IfOk result (IsThere tree.now.nodes) }
     ensures memory { OnErr result (HoldsEscapedName tree.now.nodes object) }
 {
     for child in children_from(tree, object, 0) {

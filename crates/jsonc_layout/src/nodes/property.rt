@@ -15,7 +15,7 @@ use std::alloc::Allocator;
 pub fn first_element_from<A: Allocator>(tree: &Tree<A>, node: usize, place: usize) -> Option<usize>
     requires { node < length tree.now.nodes }
     ensures element { result ≡ element_from tree.now.nodes node place }
-    ensures there { IsThere tree.now.nodes result }
+    ensures in_tree { IsThere tree.now.nodes result }
 {
     children_from(tree, node, place).find(|child| is_element(tree, *child))
 }
@@ -24,7 +24,7 @@ pub fn first_element_from<A: Allocator>(tree: &Tree<A>, node: usize, place: usiz
 pub fn name_of<A: Allocator>(tree: &Tree<A>, property: usize) -> Option<usize>
     requires { property < length tree.now.nodes }
     ensures name { result ≡ name_at tree.now.nodes property }
-    ensures there { IsThere tree.now.nodes result }
+    ensures in_tree { IsThere tree.now.nodes result }
 {
     children_from(tree, property, 0).find(|child| is_name(tree, *child))
 }
@@ -33,7 +33,7 @@ pub fn name_of<A: Allocator>(tree: &Tree<A>, property: usize) -> Option<usize>
 fn behind_name<A: Allocator>(tree: &Tree<A>, property: usize) -> Children<'_, A>
     requires { property < length tree.now.nodes }
     ensures children { result ≡ behind_name tree.now.nodes property }
-    ensures there { AreThere tree.now.nodes result }
+    ensures in_tree { AreThere tree.now.nodes result }
 {
     let mut children = children_from(tree, property, 0);
     let _name = children.find(|child| is_name(tree, *child));
@@ -52,7 +52,7 @@ pub fn lacks_name<A: Allocator>(tree: &Tree<A>, property: usize) -> bool
 fn behind_colon<A: Allocator>(tree: &Tree<A>, property: usize) -> Children<'_, A>
     requires { property < length tree.now.nodes }
     ensures children { result ≡ behind_colon tree.now.nodes property }
-    ensures there { AreThere tree.now.nodes result }
+    ensures in_tree { AreThere tree.now.nodes result }
 {
     let mut children = behind_name(tree, property);
     let _colon = children.find(|child| is_colon(tree, *child));
@@ -63,7 +63,7 @@ fn behind_colon<A: Allocator>(tree: &Tree<A>, property: usize) -> Children<'_, A
 fn after_colon<A: Allocator>(tree: &Tree<A>, node: usize) -> Option<usize>
     requires { node < length tree.now.nodes }
     ensures element { result ≡ value_by property tree.now.nodes node }
-    ensures there { IsThere tree.now.nodes result }
+    ensures in_tree { IsThere tree.now.nodes result }
 {
     behind_colon(tree, node).find(|child| is_element(tree, *child))
 }
@@ -73,7 +73,7 @@ fn after_colon<A: Allocator>(tree: &Tree<A>, node: usize) -> Option<usize>
 pub fn value_of<A: Allocator>(tree: &Tree<A>, node: usize) -> Option<usize>
     requires { node < length tree.now.nodes }
     ensures value { result ≡ value_at tree.now.nodes node }
-    ensures there { IsThere tree.now.nodes result }
+    ensures in_tree { IsThere tree.now.nodes result }
 {
     match tree.kind(node) {
         Kind::Root(_) => first_element_from(tree, node, 0),

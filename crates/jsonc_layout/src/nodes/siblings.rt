@@ -52,7 +52,7 @@ pub fn children_from<A: Allocator>(
 ) -> Children<'_, A>
     requires { container < length tree.now.nodes }
     ensures children { result ≡ drop place (children_at tree.now.nodes container) }
-    ensures there { AreThere tree.now.nodes result }
+    ensures in_tree { AreThere tree.now.nodes result }
     ensures countable { length result < 2 ^ 64 }
 {
     let mut children = tree.children(container);
@@ -68,7 +68,7 @@ pub fn children_from<A: Allocator>(
 pub fn next_siblings<A: Allocator>(tree: &Tree<A>, node: usize) -> Children<'_, A>
     requires { node < length tree.now.nodes }
     ensures siblings { result ≡ siblings_after tree.now.nodes node }
-    ensures there { AreThere tree.now.nodes result }
+    ensures in_tree { AreThere tree.now.nodes result }
     ensures countable { length result < 2 ^ 64 }
 {
     tree.next_siblings(node)
@@ -78,7 +78,7 @@ pub fn next_siblings<A: Allocator>(tree: &Tree<A>, node: usize) -> Children<'_, 
 pub fn previous_siblings<A: Allocator>(tree: &Tree<A>, node: usize) -> PreviousSiblings<'_, A>
     requires { node < length tree.now.nodes }
     ensures siblings { result ≡ siblings_before tree.now.nodes node }
-    ensures there { AreThere tree.now.nodes result }
+    ensures in_tree { AreThere tree.now.nodes result }
     ensures countable { length result < 2 ^ 64 }
 {
     tree.previous_siblings(node)
@@ -98,7 +98,7 @@ fn count_on_line<A: Allocator>(tree: &Tree<A>, node: usize) -> usize
 fn newline_before<A: Allocator>(tree: &Tree<A>, node: usize) -> Option<usize>
     requires { node < length tree.now.nodes }
     ensures newline { result ≡ find (is_newline_at tree.now.nodes) (siblings_before tree.now.nodes node) }
-    ensures there { IsThere tree.now.nodes result }
+    ensures in_tree { IsThere tree.now.nodes result }
 {
     previous_siblings(tree, node).find(|sibling| is_newline(tree, *sibling))
 }
@@ -121,7 +121,7 @@ fn from_line_start<A: Allocator>(tree: &Tree<A>, node: usize) -> Children<'_, A>
 pub fn line_before<A: Allocator>(tree: &Tree<A>, node: usize) -> LineBefore<'_, A>
     requires { node < length tree.now.nodes }
     ensures siblings { result ≡ line_before tree.now.nodes node }
-    ensures there { AreThere tree.now.nodes result }
+    ensures in_tree { AreThere tree.now.nodes result }
 {
     let left = count_on_line(tree, node);
     LineBefore {
@@ -134,7 +134,7 @@ pub fn line_before<A: Allocator>(tree: &Tree<A>, node: usize) -> LineBefore<'_, 
 pub fn next_sibling<A: Allocator>(tree: &Tree<A>, node: usize) -> Option<usize>
     requires { node < length tree.now.nodes }
     ensures sibling { result ≡ first (siblings_after tree.now.nodes node) }
-    ensures there { IsThere tree.now.nodes result }
+    ensures in_tree { IsThere tree.now.nodes result }
 {
     next_siblings(tree, node).next()
 }
@@ -143,7 +143,7 @@ pub fn next_sibling<A: Allocator>(tree: &Tree<A>, node: usize) -> Option<usize>
 pub fn previous_sibling<A: Allocator>(tree: &Tree<A>, node: usize) -> Option<usize>
     requires { node < length tree.now.nodes }
     ensures sibling { result ≡ first (siblings_before tree.now.nodes node) }
-    ensures there { IsThere tree.now.nodes result }
+    ensures in_tree { IsThere tree.now.nodes result }
 {
     previous_siblings(tree, node).next()
 }
@@ -152,7 +152,7 @@ pub fn previous_sibling<A: Allocator>(tree: &Tree<A>, node: usize) -> Option<usi
 pub fn child_at_index<A: Allocator>(tree: &Tree<A>, node: usize, index: usize) -> Option<usize>
     requires { node < length tree.now.nodes }
     ensures child { result ≡ slice_get (children_at tree.now.nodes node) index }
-    ensures there { IsThere tree.now.nodes result }
+    ensures in_tree { IsThere tree.now.nodes result }
 {
     children_from(tree, node, index).next()
 }
@@ -161,7 +161,7 @@ pub fn child_at_index<A: Allocator>(tree: &Tree<A>, node: usize, index: usize) -
 pub fn root_node<A: Allocator>(tree: &Tree<A>, node: usize) -> Option<usize>
     requires { node < length tree.now.nodes }
     ensures root { result ≡ root_above tree.now.nodes node }
-    ensures there { IsThere tree.now.nodes result }
+    ensures in_tree { IsThere tree.now.nodes result }
 {
     tree.ancestors(node).find(|ancestor| *ancestor == 0)
 }

@@ -34,7 +34,7 @@ pub fn children<A: Allocator, B: Allocator>(
 ) -> Result<Vec<usize, B>, AllocError>
     requires { node < length tree.now.nodes }
     ensures children { IfOk result (λ v. v.items ≡ children_at tree.now.nodes node) }
-    ensures there { IfOk result (λ v. AreThere tree.now.nodes v.items) }
+    ensures in_tree { IfOk result (λ v. AreThere tree.now.nodes v.items) }
 {
     let mut list = Vec::new(alloc);
     push_children(&mut list, tree, node)?;
@@ -49,7 +49,7 @@ pub fn elements<A: Allocator, B: Allocator>(
 ) -> Result<Vec<usize, B>, AllocError>
     requires { node < length tree.now.nodes }
     ensures elements { IfOk result (λ v. v.items ≡ elements_at tree.now.nodes node) }
-    ensures there { IfOk result (λ v. AreThere tree.now.nodes v.items) }
+    ensures in_tree { IfOk result (λ v. AreThere tree.now.nodes v.items) }
 {
     let mut list = Vec::new(alloc);
     for child in tree.children(node) {
@@ -64,7 +64,7 @@ pub fn elements<A: Allocator, B: Allocator>(
 pub fn element_at<A: Allocator>(tree: &Tree<A>, node: usize, place: usize) -> Option<usize>
     requires { node < length tree.now.nodes }
     ensures element { result ≡ slice_get (elements_at tree.now.nodes node) place }
-    ensures there { IsThere tree.now.nodes result }
+    ensures in_tree { IsThere tree.now.nodes result }
 {
     children_from(tree, node, 0)
         .filter(|candidate| is_element(tree, *candidate))
@@ -90,7 +90,7 @@ pub fn element_index<A: Allocator>(tree: &Tree<A>, node: usize) -> Option<usize>
 pub fn next_element<A: Allocator>(tree: &Tree<A>, node: usize) -> Option<usize>
     requires { node < length tree.now.nodes }
     ensures element { result ≡ next_element_at tree.now.nodes node }
-    ensures there { IsThere tree.now.nodes result }
+    ensures in_tree { IsThere tree.now.nodes result }
 {
     next_siblings(tree, node).find(|sibling| is_element(tree, *sibling))
 }
@@ -99,7 +99,7 @@ pub fn next_element<A: Allocator>(tree: &Tree<A>, node: usize) -> Option<usize>
 pub fn previous_element<A: Allocator>(tree: &Tree<A>, node: usize) -> Option<usize>
     requires { node < length tree.now.nodes }
     ensures element { result ≡ previous_element_at tree.now.nodes node }
-    ensures there { IsThere tree.now.nodes result }
+    ensures in_tree { IsThere tree.now.nodes result }
 {
     previous_siblings(tree, node).find(|sibling| is_element(tree, *sibling))
 }

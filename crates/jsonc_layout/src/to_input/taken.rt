@@ -27,7 +27,7 @@ fn string_value<A: Allocator, B: Allocator + Copy>(
     tree: &Tree<A>,
     leaf: usize,
 ) -> Result<Option<CstInputValue<B>>, AllocError>
-    requires there { leaf < length tree.now.nodes }
+    requires in_tree { leaf < length tree.now.nodes }
     requires string { IsTrue (is_string (content_at tree.now.nodes leaf)) }
     ensures { IfOk result (IsTakenAt tree.now.nodes leaf) }
 {
@@ -53,7 +53,7 @@ fn leaf_value<A: Allocator, B: Allocator + Copy>(
     tree: &Tree<A>,
     leaf: usize,
 ) -> Result<Option<CstInputValue<B>>, AllocError>
-    requires there { leaf < length tree.now.nodes }
+    requires in_tree { leaf < length tree.now.nodes }
     requires leaf { is_container_at tree.now.nodes leaf ≡ false }
     ensures { IfOk result (IsTakenAt tree.now.nodes leaf) }
 {
@@ -74,7 +74,7 @@ fn take<A: Allocator, B: Allocator + Copy>(
     tree: &Tree<A>,
     node: usize,
 ) -> Result<Option<CstInputValue<B>>, AllocError>
-    requires there { node < length tree.now.nodes }
+    requires in_tree { node < length tree.now.nodes }
     ensures { IfOk result (IsTakenAt tree.now.nodes node) }
 {
     match tree.kind(node) {
@@ -92,7 +92,7 @@ fn take_held<A: Allocator, B: Allocator + Copy>(
     tree: &Tree<A>,
     node: usize,
 ) -> Result<Option<CstInputValue<B>>, AllocError>
-    requires there { node < length tree.now.nodes }
+    requires in_tree { node < length tree.now.nodes }
     requires holds { IsTrue (holds_value (content_at tree.now.nodes node)) }
     ensures { IfOk result (IsTakenAt tree.now.nodes node) }
 {
@@ -109,7 +109,7 @@ fn take_elements<A: Allocator, B: Allocator + Copy>(
     tree: &Tree<A>,
     array: usize,
 ) -> Result<Vec<CstInputValue<B>, B>, AllocError>
-    requires there { array < length tree.now.nodes }
+    requires in_tree { array < length tree.now.nodes }
     ensures { IfOk result (λ v. ElementsTaken tree.now.nodes array v.items) }
 {
     let mut elements = Vec::new(alloc);
@@ -128,7 +128,7 @@ fn take_properties<A: Allocator, B: Allocator + Copy>(
     tree: &Tree<A>,
     object: usize,
 ) -> Result<Vec<(String<B>, CstInputValue<B>), B>, AllocError>
-    requires there { object < length tree.now.nodes }
+    requires in_tree { object < length tree.now.nodes }
     ensures { IfOk result (λ v. MembersTaken tree.now.nodes object v.items) }
 {
     let mut properties = IndexMap::new(alloc);
@@ -175,7 +175,7 @@ fn take_property<A: Allocator, B: Allocator + Copy>(
     tree: &Tree<A>,
     child: usize,
 ) -> Result<Option<(String<B>, CstInputValue<B>)>, AllocError>
-    requires there { child < length tree.now.nodes }
+    requires in_tree { child < length tree.now.nodes }
     ensures { IfOk result (IsMemberTaken tree.now.nodes child) }
 {
     let Kind::Property(_) = tree.kind(child) else {

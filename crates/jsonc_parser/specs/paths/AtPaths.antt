@@ -19,7 +19,7 @@ use Rattle.jsonc_edit.specs.Paths.{IsAt, Stands}
 use Rattle.jsonc_insert.specs.named.Members.{IsFirstMember, LacksMember}
 use Rattle.jsonc_insert.specs.named.Places.{IsPropertyAt}
 
--- The node at the path has the value v, which stands there in the document's: there v may give way to itself. What is taken of the node stands for v, of equal names
+-- The node at the path has the value v, which stands there in the document's: there v may be replaced by itself. What is taken of the node stands for v, of equal names
 -- the last at the first place.
 pub record HasItsValue (A : Type 0) (d : Document) (ns : List Node) (path : List ℕ) (n : ℕ) : Type 0 where
   pub x : Plain

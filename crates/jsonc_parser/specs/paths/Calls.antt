@@ -9,8 +9,8 @@ use Rattle.jsonc_edit.specs.Writing.{IsOfNumbers}
 use Rattle.jsonc_text.specs.declared.edit.EditError.{EditError}
 use Rattle.jsonc_text.specs.declared.edit.EditError.TheVariants.{OutOfMemory}
 use Rattle.jsonc_text.specs.declared.edit.Over.{Over}
-use Rattle.jsonc_run.specs.Edits.{IsMade, Operation}
-use Rattle.jsonc_run.specs.Refusals.{IsToldBy}
+use Rattle.jsonc_run.specs.Edits.{EditStep, Operation}
+use Rattle.jsonc_run.specs.Refusals.{FailsWith}
 use Rattle.jsonc_run.specs.Steps.{IsOfCharacters}
 use Rattle.jsonc_run.specs.promise.Words.{in_texts}
 use Rattle.jsonc_parser.specs.paths.Laws.{IsSameElsewhere, MustStay}
@@ -35,14 +35,14 @@ pub record IsDroppedIn (d : Document) (names : List (List ℕ)) (operation : Ope
 -- put so in a document that the new nodes show. Or nothing was made, since a value of another kind stands in the way, and is to stay.
 abbrev pub PutsAt : Document → Plain → Over → List (List ℕ) → List Node → List Node → Bool → Type 0
 PutsAt d v over names old new true =
-    ¬ (MustStay over d.value names) × (operation : Operation) × IsPutBy v over d.value names operation × IsMade old operation new
+    ¬ (MustStay over d.value names) × (operation : Operation) × IsPutBy v over d.value names operation × EditStep old operation new
     × (IsOfNumbers d.options v → (e : Document) × Shows e (ordered_tree new 0) × IsPutIn d v over names operation e)
 PutsAt d v over names old new false = (new ≡ old) × MustStay over d.value names
 
 -- Of a document that the old nodes show: the one edit was made that drops what stands at the names, and it is dropped so from a document that the new nodes show; or
 -- nothing was made, since nothing stands there.
 abbrev pub DropsAt : Document → List (List ℕ) → List Node → List Node → Bool → Type 0
-DropsAt d names old new true = (operation : Operation) × IsDroppedBy d.value names operation × IsMade old operation new × (e : Document) × Shows e (ordered_tree new 0) × IsDroppedIn d names operation e
+DropsAt d names old new true = (operation : Operation) × IsDroppedBy d.value names operation × EditStep old operation new × (e : Document) × Shows e (ordered_tree new 0) × IsDroppedIn d names operation e
 DropsAt d names old new false = (new ≡ old) × NamesNothing d names
 
 -- so it is of whatever document the old nodes show
@@ -59,18 +59,18 @@ WantsMemory old why = (d : Document) → Shows d (ordered_tree old 0) → why �
 -- where the one edit that puts the value was made, or that drops what stands there
 abbrev pub PutsByOneEdit : Document → Plain → Over → List (List ℕ) → Operation → List Node → List Node → Type 0
 PutsByOneEdit d v over names operation old new =
-    IsTree old → IsTree new → Shows d (ordered_tree old 0) → IsPutBy v over d.value names operation → IsOfCharacters operation → IsMade old operation new
+    IsTree old → IsTree new → Shows d (ordered_tree old 0) → IsPutBy v over d.value names operation → IsOfCharacters operation → EditStep old operation new
     → PutsAt d v over names old new true
 
 abbrev pub DropsByOneEdit : Document → List (List ℕ) → Operation → List Node → List Node → Type 0
 DropsByOneEdit d names operation old new =
-    IsTree old → IsTree new → Shows d (ordered_tree old 0) → IsDroppedBy d.value names operation → IsMade old operation new → DropsAt d names old new true
+    IsTree old → IsTree new → Shows d (ordered_tree old 0) → IsDroppedBy d.value names operation → EditStep old operation new → DropsAt d names old new true
 
--- where it was refused, memory was wanted
-abbrev pub PutsButForMemory : Document → Plain → Over → List (List ℕ) → Operation → List Node → EditError → Type 0
-PutsButForMemory d v over names operation old why =
-    IsTree old → Shows d (ordered_tree old 0) → IsPutBy v over d.value names operation → IsToldBy old operation why → why ≡ OutOfMemory
+-- where it was refused, allocation failed
+abbrev pub PutsUnlessOutOfMemory : Document → Plain → Over → List (List ℕ) → Operation → List Node → EditError → Type 0
+PutsUnlessOutOfMemory d v over names operation old why =
+    IsTree old → Shows d (ordered_tree old 0) → IsPutBy v over d.value names operation → FailsWith old operation why → why ≡ OutOfMemory
 
 abbrev pub DropsButForMemory : Document → List (List ℕ) → Operation → List Node → EditError → Type 0
 DropsButForMemory d names operation old why =
-    IsTree old → Shows d (ordered_tree old 0) → IsDroppedBy d.value names operation → IsToldBy old operation why → why ≡ OutOfMemory
+    IsTree old → Shows d (ordered_tree old 0) → IsDroppedBy d.value names operation → FailsWith old operation why → why ≡ OutOfMemory

@@ -26,7 +26,7 @@ pub record PassesEscaped (d : Document) (ns : List Node) (names : List (List ℕ
 abbrev pub SomethingAt : Option Plain → List (List ℕ) → Type 0
 SomethingAt w names = (v : Plain) × At w names v
 
--- memory was wanted to look up a name, in whatever document the nodes show
+-- allocation failed to look up a name, in whatever document the nodes show
 abbrev pub WantsToLookUp : List Node → List (List ℕ) → Type 0
 WantsToLookUp ns names = (d : Document) → Shows d (ordered_tree ns 0) → PassesEscaped d ns names
 

@@ -2,7 +2,7 @@
 pub use Rattle.jsonc_sound.specs.Changes.{ItemChanged, MemberChanged, this_member, later_member, Changed, itself, in_array, in_object}
 pub use Rattle.jsonc_sound.specs.Values.{ItemRemoved, MemberRemoved}
 pub use Rattle.jsonc_sound.specs.EntryLaws.{LosesEntry, loses_item, loses_member}
-pub use Rattle.jsonc_insert.specs.elements.Members.{MemberComes, member_count, GainsMember}
+pub use Rattle.jsonc_insert.specs.elements.Members.{MemberInserted, member_count, InsertsMemberAt}
 pub use Rattle.jsonc_insert.specs.named.Values.{ReplacesHeld}
 pub use Rattle.jsonc_insert.specs.named.Members.{LacksMember, no_more, other_name, IsFirstMember, first_is, first_later}
 pub use Rattle.jsonc_run.specs.Edits.{Operation, append_property, remove, replace, set_root, set_value}

@@ -7,7 +7,7 @@ use Rattle.jsonc_sound.specs.Documents.{Shows}
 use Rattle.jsonc_insert.specs.named.Members.{LacksMember}
 use Rattle.jsonc_cst.specs.declared.cst.CstRootNode.{CstRootNode}
 use Rattle.jsonc_cst.specs.declared.cst.node.CstNode.{CstNode}
-use Rattle.jsonc_cst.specs.Document.{nodes_of, tree_of, Holds}
+use Rattle.jsonc_cst.specs.Document.{nodes_of, tree_of, HasNode}
 use Rattle.jsonc_cst.specs.Nodes.{number_of}
 use Rattle.jsonc_parser.specs.paths.Settings.{IsNoObject}
 use Rattle.jsonc_parser.specs.paths.Positions.{Leads}
@@ -54,5 +54,5 @@ module _ {A : Type 0} where
 
   -- the document has the node of a step
   abbrev pub StepHolds : CstRootNode A → Step → Type 0
-  StepHolds doc (steps.On index node) = Holds doc node
+  StepHolds doc (steps.On index node) = HasNode doc node
   StepHolds doc step = Unit {0}

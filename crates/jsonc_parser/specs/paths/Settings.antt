@@ -46,7 +46,7 @@ pub data StandsInTheWay : Option Plain → List (List ℕ) → Type 0 where
 
 -- The value v has been put at the names: with no name left it is the value there; the value of the first property of a name that is there changes inside;
 -- where none has the name, one comes behind all, with the rest nested; a document that had no value has all nested; and a value of another kind on the way
--- has given way to the rest nested, where it may.
+-- has been replaced by the rest nested, where it may.
 pub data Put (v : Plain) (over : Over) : Option Plain → List (List ℕ) → Option Plain → Type 0 where
   is_there : {w : Option Plain} → Put v over w [] (Some v)
   changes_inside : {name : List ℕ} {names : List (List ℕ)} {ms ns : Members} {x y : Plain} → FirstBecomes name x y ms ns → Put v over (Some x) names (Some y)

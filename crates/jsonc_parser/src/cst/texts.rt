@@ -5,13 +5,13 @@ ghost use Rattle.jsonc_text.specs.OptionsOf.{parse_options};
 ghost use Rattle.jsonc_sound.specs.Documents.{ShowsText};
 ghost use Rattle.jsonc_cst.specs.declared.cst.CstRootNode.{CstRootNode};
 ghost use Rattle.jsonc_cst.specs.Document.{printed_of, tree_of};
-ghost use Rattle.jsonc_parser.specs.Lists.{HaveBeenMade, MayBeAsked};
+ghost use Rattle.jsonc_parser.specs.Lists.{RunOk, MayBeAsked};
 ghost use Rattle.jsonc_parser.specs.Promise.{IsEditedText, IsNotEdited};
 ghost use Rattle.jsonc_parser.specs.Errors.{edit_text_error_text};
 
 use crate::cst::lists::run;
 use jsonc_cst::cst::{CstNode, CstRootNode, EditError};
-use jsonc_cst::typed::IsDocument;
+use jsonc_cst::typed::DocumentArg;
 use jsonc_run::Edit;
 use jsonc_text::errors::ParseError;
 use jsonc_text::options::ParseOptions;
@@ -25,8 +25,8 @@ use std::fmt;
 pub enum EditTextError {
     /// The text is no document.
     Parse(ParseError),
-    /// So many edits were made, and this is why the next was not. Where it is as many as there are, memory
-    /// was refused for the text after them.
+    /// So many edits were made, and this is why the next was not. Where it is as many as there are,
+    /// there was no memory for the text after them.
     Edit(usize, EditError),
 }
 
@@ -52,13 +52,14 @@ impl Error for EditTextError {}
 
 /// Makes edits of a text, in order, and answers the text after them.
 ///
-/// It reads the text as [`CstRootNode::parse`] does, makes the edits as [`run`] does, and answers what the
-/// document then prints. All that stands outside of what an edit works on stays, byte for byte, and so do
-/// the comments. `compare` says how the elements or properties are ordered that an edit sorts.
+/// It parses the text as [`CstRootNode::parse`] does, makes the edits as [`run`] does, and answers
+/// what the document then prints. All that stands outside of what an edit works on stays, byte for
+/// byte, and so do the comments. `compare` says how the elements or properties are ordered that an
+/// edit sorts.
 ///
-/// A text that is no document is told as parsing tells it. Of an edit that was refused the number is told
-/// that it has in the list, counted from 0, and why it was refused.
-pub fn edit_text<A: Allocator + Copy, D: IsDocument<A>, C: Fn(&D, CstNode, CstNode) -> Ordering>(
+/// A text that is no document is the error of parsing. Of an edit that failed, the error has its
+/// number in the list, counted from 0, and why it failed.
+pub fn edit_text<A: Allocator + Copy, D: DocumentArg<A>, C: Fn(&D, CstNode, CstNode) -> Ordering>(
     alloc: A,
     text: &str,
     options: &ParseOptions,
@@ -70,7 +71,7 @@ pub fn edit_text<A: Allocator + Copy, D: IsDocument<A>, C: Fn(&D, CstNode, CstNo
         (λ s. IsEditedText (parse_options options.now) (chars text.now) edits.items (chars (string_bytes s))) }
     ensures made { IfOk result (λ s. (old new : CstRootNode A)
         × ShowsText (parse_options options.now) (chars text.now) (tree_of old)
-        × HaveBeenMade C.Fn compare.now D.same old edits.items new × (printed_of new ≡ string_bytes s)) }
+        × RunOk C.Fn compare.now D.same old edits.items new × (printed_of new ≡ string_bytes s)) }
     ensures refused { IfErr result (IsNotEdited (parse_options options.now) text.now edits.items) }
 {
     let mut doc = match CstRootNode::parse(alloc, text, options) {

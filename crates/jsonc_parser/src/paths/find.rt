@@ -2,12 +2,12 @@
 
 ghost use Rattle.std.specs.Prelude.{◌≡◌, chars, IfErr, IfOk, IfSome, OnErr};
 ghost use Rattle.jsonc_layout.specs.nodes.Names.{HoldsEscapedName};
-ghost use Rattle.jsonc_cst.specs.Document.{nodes_of, Holds};
+ghost use Rattle.jsonc_cst.specs.Document.{nodes_of, HasNode};
 ghost use Rattle.jsonc_cst.specs.Nodes.{number_of};
 ghost use Rattle.jsonc_parser.specs.paths.Found.{names_of, FindsInsideWhatShown, FindsWhatShown, ReadsWhatShown};
 ghost use Rattle.jsonc_parser.specs.paths.Memory.{WantsForSomething, WantsToLookUp};
 
-use jsonc_cst::cst::{CstInputValue, CstNode, CstRootNode, EditError, IsNode};
+use jsonc_cst::cst::{CstInputValue, CstNode, CstRootNode, EditError, TypedNode};
 use std::alloc::Allocator;
 
 // The value of the first property of a name, in an object.
@@ -16,9 +16,9 @@ fn find_inside<A: Allocator + Copy>(
     node: CstNode,
     name: &str,
 ) -> Result<Option<CstNode>, EditError>
-    requires { Holds doc.now node }
+    requires { HasNode doc.now node }
     ensures found { IfOk result (FindsInsideWhatShown doc.now node (chars name.now)) }
-    ensures held { IfOk result (λ o. IfSome o (Holds doc.now)) }
+    ensures in_document { IfOk result (λ o. IfSome o (HasNode doc.now)) }
     ensures memory { IfErr result (λ e. e ≡ EditError.OutOfMemory) }
     ensures escaped { OnErr result (HoldsEscapedName (nodes_of doc.now) (number_of node)) }
 {
@@ -32,18 +32,20 @@ fn find_inside<A: Allocator + Copy>(
     }
 }
 
-/// The value at a path of names: from the document's value each name leads on, in an object to the value
-/// of its first property of that name. None where a step finds no object, or none of its name.
+/// The value at a path of names, if one stands there.
 ///
-/// Memory is wanted only to look up a name in an object that has a name with a backslash.
+/// From the document's value each name leads on, in an object to the value of its first property of
+/// that name. None where a step finds no object, or none of its name.
+///
+/// Memory is allocated only to look up a name in an object that has a name with a backslash.
 pub fn find_at<A: Allocator + Copy>(
     doc: &CstRootNode<A>,
     names: &[String<A>],
 ) -> Result<Option<CstNode>, EditError>
     ensures found { IfOk result (FindsWhatShown doc.now (names_of names.now)) }
-    ensures held { IfOk result (λ o. IfSome o (Holds doc.now)) }
+    ensures in_document { IfOk result (λ o. IfSome o (HasNode doc.now)) }
     ensures memory { IfErr result (λ e. e ≡ EditError.OutOfMemory) }
-    ensures wanted { OnErr result (WantsToLookUp (nodes_of doc.now) (names_of names.now)) }
+    ensures oom_only_if { OnErr result (WantsToLookUp (nodes_of doc.now) (names_of names.now)) }
 {
     let Some(value) = doc.value() else {
         return Ok(None);
@@ -59,17 +61,19 @@ pub fn find_at<A: Allocator + Copy>(
     Ok(Some(node))
 }
 
-/// What the value at a path of names stands for, as a value for edits, of equal names the last at the
-/// first place. None where [`find_at`] answers none.
+/// The value at a path of names, as a value for edits.
 ///
-/// Memory is wanted only as by [`find_at`], or for a value that stands there.
+/// Of equal names in it the last value stands at the first place. None where [`find_at`] answers
+/// none.
+///
+/// Memory is allocated only as by [`find_at`], or for a value that stands there.
 pub fn read_at<A: Allocator + Copy>(
     doc: &CstRootNode<A>,
     names: &[String<A>],
 ) -> Result<Option<CstInputValue<A>>, EditError>
     ensures read { IfOk result (ReadsWhatShown doc.now (names_of names.now)) }
     ensures memory { IfErr result (λ e. e ≡ EditError.OutOfMemory) }
-    ensures wanted { OnErr result (WantsForSomething (nodes_of doc.now) (names_of names.now)) }
+    ensures oom_only_if { OnErr result (WantsForSomething (nodes_of doc.now) (names_of names.now)) }
 {
     match find_at(doc, names) {
         Ok(Some(node)) => node.to_value(doc),

@@ -10,7 +10,7 @@ ghost use Rattle.jsonc_parser.specs.paths.Operations.{Operation};
 ghost use Rattle.jsonc_parser.specs.paths.Positions.{DropsByIt, IsPutByOne, LeadToWhatStands, PutsByIt, Reaches};
 ghost use Rattle.jsonc_parser.specs.paths.Worked.{a, both, one};
 ghost use Rattle.jsonc_parser.specs.paths.AtPaths.{FindsFirst, NodesHaveValues, PropertyHolds, RootHolds, StandsThere};
-ghost use Rattle.jsonc_parser.specs.paths.Calls.{DropsButForMemory, DropsByOneEdit, PutsButForMemory, PutsByOneEdit};
+ghost use Rattle.jsonc_parser.specs.paths.Calls.{DropsButForMemory, DropsByOneEdit, PutsUnlessOutOfMemory, PutsByOneEdit};
 ghost use Rattle.jsonc_parser.specs.paths.Settings.{At, Put, Dropped};
 ghost use Rattle.jsonc_parser.specs.paths.Standing.{BeginsThere, CountsItsNumber, LeadsOn, StopsThere};
 ghost use Rattle.jsonc_parser.specs.paths.Laws.{DropsInOneWay, DropsWhatStands, HasOneAt, IsSameElsewhere};
@@ -105,12 +105,12 @@ pub fn each_node_stands_at_its_place()
 
 /// The one edit that puts a value at names, or drops what stands there, was made. Then the nodes show a document to which
 /// it leads, in whose value the value is put there, or dropped; and at any path that differs stands what stood there
-/// before. Where it was refused, memory was wanted.
+/// before. Where it was refused, allocation failed.
 pub fn one_edit_puts_or_drops()
     ensures puts { (d : Document) (v : Plain) (how : Over) (names : List (List ℕ)) (operation : Operation)
         (old new : List Node) → PutsByOneEdit d v how names operation old new }
     ensures put_memory { (d : Document) (v : Plain) (how : Over) (names : List (List ℕ)) (operation : Operation)
-        (old : List Node) (why : EditError) → PutsButForMemory d v how names operation old why }
+        (old : List Node) (why : EditError) → PutsUnlessOutOfMemory d v how names operation old why }
     ensures drops { (d : Document) (names : List (List ℕ)) (operation : Operation) (old new : List Node)
         → DropsByOneEdit d names operation old new }
     ensures drop_memory { (d : Document) (names : List (List ℕ)) (operation : Operation) (old : List Node)

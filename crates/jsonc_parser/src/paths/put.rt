@@ -2,8 +2,8 @@
 
 ghost use Rattle.std.specs.Prelude.{◌≡◌, ◌<◌, ◌∷◌, [], length, true, IfErr, IfOk, OnErr, OnOk};
 ghost use Rattle.jsonc_layout.specs.input.Views.{chars_of, plain};
-ghost use Rattle.jsonc_run.specs.Edits.{is_whole, operation_of, unsorted, IsMade};
-ghost use Rattle.jsonc_run.specs.Refusals.{IsToldBy};
+ghost use Rattle.jsonc_run.specs.Edits.{is_whole, operation_of, unsorted, EditStep};
+ghost use Rattle.jsonc_run.specs.Refusals.{FailsWith};
 ghost use Rattle.jsonc_cst.specs.Document.{nodes_of, tree_of};
 ghost use Rattle.jsonc_parser.specs.paths.Calls.{DropsWhatShown, PutsWhatShown, WantsMemory};
 ghost use Rattle.jsonc_parser.specs.paths.Choices.{Chooses, IsAppending};
@@ -134,7 +134,7 @@ fn must_stay<A: Allocator + Copy>(
 ) -> Result<bool, EditError>
     ensures stays { IfOk result (TellsWhatStays over (nodes_of doc.now) (names_of names.now)) }
     ensures memory { IfErr result (λ e. e ≡ EditError.OutOfMemory) }
-    ensures wanted { OnErr result (WantsToLookUp (nodes_of doc.now) (names_of names.now)) }
+    ensures oom_only_if { OnErr result (WantsToLookUp (nodes_of doc.now) (names_of names.now)) }
 {
     match over {
         Over::Keep => is_in_the_way(doc, names),
@@ -145,22 +145,26 @@ fn must_stay<A: Allocator + Copy>(
 // Makes one edit, whole or not at all.
 fn make_one<A: Allocator + Copy>(doc: &mut CstRootNode<A>, edit: Edit<A>) -> Result<(), EditError>
     requires { is_whole edit ≡ true }
-    ensures made { OnOk result (IsMade (nodes_of doc.old) (operation_of unsorted edit) (nodes_of doc.new)) }
-    ensures told { IfErr result (IsToldBy (nodes_of doc.old) (operation_of unsorted edit)) }
+    ensures made { OnOk result (EditStep (nodes_of doc.old) (operation_of unsorted edit) (nodes_of doc.new)) }
+    ensures error { IfErr result (FailsWith (nodes_of doc.old) (operation_of unsorted edit)) }
     ensures document { OnErr result (tree_of doc.new ≡ tree_of doc.old) }
 {
     doc.make(&edit)
 }
 
-/// Puts a value at a path of names, by one edit or none. With no names it becomes the document's value.
-/// Where all names lead on, the value of the last one's property gives way to it; where a name is missing, a
-/// property of it comes last in the object that those before it lead to, with the rest nested in new
-/// objects; in a document without a value all nested is its first. A value of another kind than an object
-/// on the way stays, where it is to be kept, and the answer is false; or the rest nested takes its place.
+/// Sets the value at a path of names by one edit, and answers whether it did.
 ///
-/// Memory is the one refusal of a document that was read, and changed by no edit of single leaves. It is wanted
-/// only to look up a name in an object that has a name with a backslash, or where nothing is in the way that is
-/// to be kept. A refusal leaves the document as it was.
+/// With no names it is the document's value. Where all names lead on, the value of the last one's
+/// property is replaced. Where a name is missing, a property of it is appended to the object that
+/// those before it lead to, with the rest nested in new objects; in a document without a value all
+/// nested is its first. A value of another kind than an object on the way stays with `Over::Keep`,
+/// and the answer is false; with `Over::Replace` it is replaced by the rest nested.
+/// `{"a": {"b": 1}}` with 2 at `a`, `b` is `{"a": {"b": 2}}`.
+///
+/// In a document that was parsed, and changed by no edit of single leaves, the one error is an
+/// allocation failure. Memory is allocated only to look up a name in an object that has a name with
+/// a backslash, or where nothing is in the way that is to be kept. On an error the document stays
+/// as it was.
 pub fn set_at<A: Allocator + Copy>(
     doc: &mut CstRootNode<A>,
     names: &[String<A>],
@@ -169,8 +173,8 @@ pub fn set_at<A: Allocator + Copy>(
 ) -> Result<bool, EditError>
     ensures put { IfOk result
         (PutsWhatShown (plain value) over (names_of names.now) (nodes_of doc.old) (nodes_of doc.new)) }
-    ensures told { IfErr result (WantsMemory (nodes_of doc.old)) }
-    ensures wanted { OnErr result (WantsToPut over (nodes_of doc.old) (names_of names.now)) }
+    ensures error { IfErr result (WantsMemory (nodes_of doc.old)) }
+    ensures oom_only_if { OnErr result (WantsToPut over (nodes_of doc.old) (names_of names.now)) }
     ensures document { OnErr result (tree_of doc.new ≡ tree_of doc.old) }
 {
     // What is to stay is seen before memory is wanted for the edit.
@@ -192,20 +196,22 @@ pub fn set_at<A: Allocator + Copy>(
     }
 }
 
-/// Drops what stands at a path of names: the first property of the last name, in the object that those
-/// before it lead to, or with no names the document's value. The answer is false where nothing stands there.
+/// Removes what stands at a path of names, and answers whether something stood there.
 ///
-/// Memory is the one refusal of a document that was read, and changed by no edit of single leaves. It is wanted
-/// only to look up a name in an object that has a name with a backslash, or where something stands there. A
-/// refusal leaves the document as it was.
+/// That is the first property of the last name, in the object that those before it lead to, or with
+/// no names the document's value. `{ "a": 1, "b": 2 }` without what stands at `b` is `{ "a": 1 }`.
+///
+/// In a document that was parsed, and changed by no edit of single leaves, the one error is an
+/// allocation failure. Memory is allocated only to look up a name in an object that has a name with
+/// a backslash, or where something stands there. On an error the document stays as it was.
 pub fn remove_at<A: Allocator + Copy>(
     doc: &mut CstRootNode<A>,
     names: &[String<A>],
 ) -> Result<bool, EditError>
     ensures dropped { IfOk result
         (DropsWhatShown (names_of names.now) (nodes_of doc.old) (nodes_of doc.new)) }
-    ensures told { IfErr result (WantsMemory (nodes_of doc.old)) }
-    ensures wanted { OnErr result (WantsForSomething (nodes_of doc.old) (names_of names.now)) }
+    ensures error { IfErr result (WantsMemory (nodes_of doc.old)) }
+    ensures oom_only_if { OnErr result (WantsForSomething (nodes_of doc.old) (names_of names.now)) }
     ensures document { OnErr result (tree_of doc.new ≡ tree_of doc.old) }
 {
     // Whether something stands there is seen before memory is wanted for the edit.

@@ -2,7 +2,7 @@
 
 ghost use Rattle.std.specs.Prelude.{◌≡◌, chars, length, IfErr, IfOk, IfSome, OnErr, true};
 ghost use Rattle.jsonc_layout.specs.nodes.Names.{HoldsEscapedName};
-ghost use Rattle.jsonc_cst.specs.Document.{nodes_of, Holds};
+ghost use Rattle.jsonc_cst.specs.Document.{nodes_of, HasNode};
 ghost use Rattle.jsonc_cst.specs.Nodes.{number_of};
 ghost use Rattle.jsonc_parser.specs.paths.Found.{names_of};
 ghost use Rattle.jsonc_parser.specs.paths.Memory.{TellsTheWay, WantsToLookUp};
@@ -41,9 +41,9 @@ fn step_from<A: Allocator + Copy>(
     node: CstNode,
     name: &str,
 ) -> Result<Step, EditError>
-    requires { Holds doc.now node }
+    requires { HasNode doc.now node }
     ensures step { IfOk result (StepsWhatShown doc.now node (chars name.now)) }
-    ensures held { IfOk result (StepHolds doc.now) }
+    ensures in_document { IfOk result (StepHolds doc.now) }
     ensures memory { IfErr result (λ e. e ≡ EditError.OutOfMemory) }
     ensures escaped { OnErr result (HoldsEscapedName (nodes_of doc.now) (number_of node)) }
 {
@@ -101,7 +101,7 @@ pub fn is_in_the_way<A: Allocator + Copy>(
 ) -> Result<bool, EditError>
     ensures stands { IfOk result (TellsTheWay (nodes_of doc.now) (names_of names.now)) }
     ensures memory { IfErr result (λ e. e ≡ EditError.OutOfMemory) }
-    ensures wanted { OnErr result (WantsToLookUp (nodes_of doc.now) (names_of names.now)) }
+    ensures oom_only_if { OnErr result (WantsToLookUp (nodes_of doc.now) (names_of names.now)) }
 {
     let Some(value) = doc.value() else {
         return Ok(false);

@@ -8,7 +8,7 @@ use Rattle.jsonc_text.specs.Plain.{Plain}
 use Rattle.jsonc_tree.specs.OrderedTree.{OrderedTree, ordered_tree}
 use Rattle.jsonc_tree.specs.Tree.{Node, IsTree}
 use Rattle.jsonc_sound.specs.Documents.{document_of, Shows}
-use Rattle.jsonc_run.specs.Edits.{Operation, AreMade}
+use Rattle.jsonc_run.specs.Edits.{Operation, EditSteps}
 use Rattle.jsonc_run.specs.Steps.{IsOfCharacters, NumbersFit, Steps}
 use Rattle.jsonc_run.specs.Written.{options_after}
 use Rattle.jsonc_run.specs.promise.Words.{all_in_texts}
@@ -25,7 +25,7 @@ Leads old es new = (d : Document) → Shows d (ordered_tree old 0) → All (Numb
 
 -- edits that were made in order lead from each document to the next
 abbrev pub EditsLead : List Node → List Node → Type 0
-EditsLead old new = (es : List Operation) → IsTree old → AreMade old es new → All IsOfCharacters es → Leads old es new
+EditsLead old new = (es : List Operation) → IsTree old → EditSteps old es new → All IsOfCharacters es → Leads old es new
 
 -- what a tree shows is a document of the grammar, with its value and its marks
 abbrev pub ShownAreDocuments : OrderedTree → Type 0

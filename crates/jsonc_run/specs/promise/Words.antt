@@ -14,7 +14,7 @@ abbrev pub kind_of : Shape → Kind
 kind_of Object = an_object
 kind_of Array = an_array
 
--- a value of another kind gives way
+-- a value of another kind is replaced
 abbrev pub yields : Over → Bool
 yields over.Keep = false
 yields over.Replace = true

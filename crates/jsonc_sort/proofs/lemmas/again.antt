@@ -1,4 +1,4 @@
 pub mod Parted
 pub mod Elements
-pub mod Coming
-pub mod Once
+pub mod ElementsRead
+pub mod SecondSort

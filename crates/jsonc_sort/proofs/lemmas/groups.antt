@@ -1,5 +1,5 @@
 pub mod Added
-pub mod Ascending
+pub mod AscendingLists
 pub mod Counted
 pub mod Stretches
-pub mod Unmoved
+pub mod SettledOrder

@@ -10,14 +10,14 @@ use Rattle.jsonc_sort.specs.groups.Groups.{KeepsStretches}
 use Rattle.jsonc_sort.specs.declared.above.LeadRead.{LeadRead}
 
 -- a blank line stands before the element
-abbrev pub is_parted : LeadRead → Bool
-is_parted lead = lead.blank_line
+abbrev pub is_separated : LeadRead → Bool
+is_separated lead = lead.blank_line
 
 -- before which elements of c a blank line stands, and so of an order of these that goes by such groups first
-abbrev pub parted_at : List Node → ℕ → List Bool
-parted_at ns c = map is_parted (leads_read ns c)
+abbrev pub separated_at : List Node → ℕ → List Bool
+separated_at ns c = map is_separated (leads_read ns c)
 
-abbrev pub PartedStay : {N : Type 0} → List Node → ℕ → (N → N → Bool) → List (Option N) → List ℕ → Type 0
-PartedStay ns c lt nodes order =
-    IsTrue (has_brackets ns c) → IsOrderedBy (comes_before lt nodes (group_starts (parted_at ns c))) (length (elements_at ns c)) order
-    → KeepsStretches (parted_at ns c) order
+abbrev pub SeparatedStay : {N : Type 0} → List Node → ℕ → (N → N → Bool) → List (Option N) → List ℕ → Type 0
+SeparatedStay ns c lt nodes order =
+    IsTrue (has_brackets ns c) → IsOrderedBy (comes_before lt nodes (group_starts (separated_at ns c))) (length (elements_at ns c)) order
+    → KeepsStretches (separated_at ns c) order

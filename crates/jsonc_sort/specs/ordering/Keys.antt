@@ -30,17 +30,17 @@ module _ {F D N K E : Type 0} (g : Shared F (Bor D × (N × Unit {0})) (Result K
   pub record IsFirstRefused (nodes : List (Option N)) (e : E) : Type 0 where
     pub place : ℕ
     pub node : N
-    pub there : node_in nodes place ≡ Some node
-    pub told : Answers node (Err e)
+    pub in_tree : node_in nodes place ≡ Some node
+    pub error : Answers node (Err e)
     pub before : (i : ℕ) → i < place → (k : Option K) × IsKeyOf (node_in nodes i) k
 
-  -- memory was wanted for the key of a place, which was told, as were all before it
+  -- allocation failed for the key of a place, which was told, as were all before it
   pub record WantsMemory (nodes : List (Option N)) : Type 0 where
     pub place : ℕ
-    pub there : place < length nodes
-    pub told : (i : ℕ) → i ≤ place → (k : Option K) × IsKeyOf (node_in nodes i) k
+    pub in_tree : place < length nodes
+    pub error : (i : ℕ) → i ≤ place → (k : Option K) × IsKeyOf (node_in nodes i) k
 
-  -- why there are no keys: memory was wanted, or the first that was refused
+  -- why there are no keys: allocation failed, or the first that was refused
   abbrev pub WhyNone : List (Option N) → KeysError E → Type 0
   WhyNone nodes OutOfMemory = WantsMemory nodes
   WhyNone nodes (Refused e) = IsFirstRefused nodes e

@@ -5,13 +5,13 @@ ghost use Rattle.jsonc_tree.specs.OrderedTree.{Top};
 ghost use Rattle.jsonc_tree.specs.Tree.{Node};
 ghost use Rattle.jsonc_sort.specs.Sorting.{Headers};
 ghost use Rattle.jsonc_sort.specs.again.Again.{ComesInOrder, SortsOnce, SortsTextsOnce};
-ghost use Rattle.jsonc_sort.specs.again.Parted.{PartedStay};
+ghost use Rattle.jsonc_sort.specs.again.Parted.{SeparatedStay};
 
 /// Where blank lines part the elements of an array or object with its brackets, an order of these that goes
 /// by such groups first names at the places of each group these places, each once.
 pub fn blank_lines_part_groups<N>()
     ensures { (ns : List Node) (c : ℕ) (lt : N → N → Bool) (nodes : List (Option N)) (order : List ℕ)
-        → PartedStay ns c lt nodes order }
+        → SeparatedStay ns c lt nodes order }
 {}
 
 /// Where the elements of an array, or the properties of an object, with its brackets have come in an order,

@@ -6,6 +6,8 @@ use crate::tests::maps::changed_map;
 use crate::tests::nodes::node_names;
 use crate::tests::tokens::decode_provided;
 use crate::tests::tree_copies::tree_copies;
+use failing_alloc::awaited::Awaited;
+use failing_alloc::outcome::Outcome;
 use jsonc_engine::calls::{FromReader, ToWriter};
 use jsonc_engine::command::Command;
 use jsonc_engine::engine::{engine, run_on};
@@ -17,8 +19,6 @@ use jsonc_parser::{
     ParseResult, Scanner, ScannerOptions, parse_to_ast, parse_to_value,
 };
 use jsonc_text::string::provider::parse_string;
-use refusing::awaited::Awaited;
-use refusing::outcome::Outcome;
 use std::alloc::Allocator;
 use std::borrow::CowStr;
 use std::default::Default;
@@ -345,7 +345,7 @@ fn changed<A: Allocator + Copy>(alloc: A, command: Command, input: &str, wanted:
     }
 }
 
-/// What comes of a run of the program: nothing is written where memory was wanted.
+/// What comes of a run of the program: nothing is written where allocation failed.
 fn whole_run<A: Allocator + Copy>(
     alloc: A,
     words: &[&str],

@@ -1,7 +1,7 @@
 //! Copies of values, of objects and of arrays.
 
+use failing_alloc::outcome::Outcome;
 use jsonc_parser::{JsonArray, JsonObject, JsonValue, ParseOptions, parse_to_value};
-use refusing::outcome::Outcome;
 use std::alloc::Allocator;
 use std::borrow::CowStr;
 use std::default::Default;

@@ -1,14 +1,14 @@
 //! What values and syntax trees tell of their kinds, and what is taken out of objects, without memory.
 
 use crate::tests::tree_copies::tree_of;
+use failing_alloc::flags::is_alone;
+use failing_alloc::{Refusing, given};
 use jsonc_parser::ast::{
     Comment, CommentBlock, CommentKind, CommentLine, Node, NodeKind, Object, ObjectProp,
     ObjectPropName, Value,
 };
 use jsonc_parser::common::{Range, Ranged};
 use jsonc_parser::{JsonArray, JsonObject, JsonValue, ParseOptions, parse_to_value};
-use refusing::flags::is_alone;
-use refusing::{Refusing, given};
 use std::alloc::{Allocator, Global};
 use std::default::Default;
 use std::test::Fail;

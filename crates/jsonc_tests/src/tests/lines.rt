@@ -1,6 +1,7 @@
 //! How documents are laid out.
 ghost use Rattle.std.specs.Prelude.{◌<◌, IfSome, length};
 
+use failing_alloc::outcome::Outcome;
 use jsonc_build::build;
 use jsonc_layout::lines::{
     Indents, has_blank_line_before, indent_text, indents_at, newline_kind, single_indent_text,
@@ -8,7 +9,6 @@ use jsonc_layout::lines::{
 };
 use jsonc_parser::{CollectOptions, ParseOptions, parse_to_ast};
 use jsonc_tree::{CstNewlineKind, Kind, Tree};
-use refusing::outcome::Outcome;
 use std::alloc::{AllocError, Allocator};
 use std::default::Default;
 

@@ -1,10 +1,10 @@
 //! Maps and objects.
 
+use failing_alloc::Refusing;
+use failing_alloc::awaited::Awaited;
+use failing_alloc::in_turn::refused_in_turn;
+use failing_alloc::outcome::Outcome;
 use jsonc_parser::{JsonObject, JsonValue, Map};
-use refusing::Refusing;
-use refusing::awaited::Awaited;
-use refusing::in_turn::refused_in_turn;
-use refusing::outcome::Outcome;
 use std::alloc::{AllocError, AllocFailed, Allocator, Global};
 use std::borrow::CowStr;
 use std::fmt::Write;

@@ -3,13 +3,13 @@ ghost use Rattle.std.specs.Prelude.{◌<◌, length, IfSome};
 ghost use Rattle.jsonc_layout.specs.nodes.Siblings.{IsThere};
 
 use crate::tests::lines::tree_of;
+use failing_alloc::outcome::Outcome;
 use jsonc_layout::nodes::{
     child_at_index, children, decoded_name, decoded_value, element_index, elements, get,
     leading_comments_same_line, name_of, next_element, next_sibling, previous_element,
     previous_sibling, root_node, trailing_comments_same_line, value_of,
 };
 use jsonc_tree::{Kind, Tree};
-use refusing::outcome::Outcome;
 use std::alloc::{AllocError, Allocator, Global};
 
 /// A document whose object has twelve children: its properties are children 3 and 9.
@@ -56,13 +56,13 @@ fn are_beside<A: Allocator>(tree: &Tree<A>) -> bool {
     ) else {
         return false;
     };
-    let is_beside = next_sibling(tree, first) == Some(comma)
+    let stands_beside = next_sibling(tree, first) == Some(comma)
         && previous_sibling(tree, comma) == Some(first)
         && next_element(tree, first) == Some(second)
         && previous_element(tree, second) == Some(first);
     let is_counted = element_index(tree, first) == Some(0)
         && element_index(tree, second) == Some(1);
-    is_beside && is_counted && root_node(tree, second) == Some(0)
+    stands_beside && is_counted && root_node(tree, second) == Some(0)
 }
 
 fn siblings_stand<A: Allocator + Copy>(alloc: A, tree: &Tree<A>) -> Outcome {

@@ -1,9 +1,9 @@
-//! What is printed, in each format and of each reason for a refusal.
+//! What is printed, in each format and of each reason for an error.
 
+use failing_alloc::awaited::{Awaited, prints};
 use jsonc_engine::fault::Fault;
 use jsonc_parser::cst::{CstRootNode, EditError};
 use jsonc_parser::{ParseOptions, parse_to_value};
-use refusing::awaited::{Awaited, prints};
 use std::alloc::Global;
 use std::default::Default;
 use std::fmt;

@@ -1,13 +1,13 @@
 //! Each request for memory of a call, refused in turn.
 
 use crate::tests::calls::{CALLS, Call, outcome_of};
+use failing_alloc::Refusing;
+use failing_alloc::awaited::{Awaited, prints};
+use failing_alloc::in_turn::{answers_in_turn, is_refused_in_turn};
 use jsonc_engine::calls::{FromReader, ToWriter};
 use jsonc_engine::engine::engine;
 use jsonc_engine::fault::Fault;
 use jsonc_parser::errors::ParseErrorKind;
-use refusing::Refusing;
-use refusing::awaited::{Awaited, prints};
-use refusing::in_turn::{answers_in_turn, is_refused_in_turn};
 use std::alloc::Global;
 use std::test::Fail;
 
@@ -106,7 +106,7 @@ fn is_of_a_parse(fault: &Fault) -> bool {
 }
 
 /// Whether a run without the request of this number tells the cause, or that a parse wanted memory, or, where the
-/// words are right, that memory was wanted before the end of the input; and whether a request was refused.
+/// words are right, that allocation failed before the end of the input; and whether a request was refused.
 fn tells_cause(
     alloc: Global,
     number: u64,

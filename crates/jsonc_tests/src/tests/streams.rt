@@ -1,9 +1,9 @@
 //! A reader and a writer of a few bytes a call, one of whose calls fails.
 
+use failing_alloc::awaited::prints;
 use jsonc_engine::calls::{FromReader, ToWriter};
 use jsonc_engine::engine::engine;
 use jsonc_engine::fault::Fault;
-use refusing::awaited::prints;
 use std::alloc::Global;
 use std::io;
 use std::io::{ErrorKind, Read, Write};

@@ -1,9 +1,9 @@
 //! A provider of characters, and the string that is decoded from it.
 ghost use Rattle.std.specs.Prelude.{IsCharBoundary};
 
+use failing_alloc::outcome::Outcome;
 use jsonc_text::chars::{char_at, char_end};
 use jsonc_text::string::provider::{CharProvider, parse_string_with_char_provider};
-use refusing::outcome::Outcome;
 use std::alloc::Allocator;
 
 /// The characters of a text from a place on.

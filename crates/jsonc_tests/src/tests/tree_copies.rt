@@ -1,9 +1,9 @@
 //! Copies of syntax trees and of their parts.
 
+use failing_alloc::outcome::Outcome;
 use jsonc_parser::ast::{Array, Node, NodeKind, Object, Value};
 use jsonc_parser::common::Ranged;
 use jsonc_parser::{CollectOptions, ParseOptions, ParseResult, parse_to_ast};
-use refusing::outcome::Outcome;
 use std::alloc::Allocator;
 use std::default::Default;
 

@@ -1,12 +1,12 @@
 //! Calls that take no memory.
 
+use failing_alloc::Refusing;
+use failing_alloc::awaited::prints;
 use jsonc_parser::common::{Range, Ranged};
 use jsonc_parser::cst::CstRootNode;
 use jsonc_parser::errors::{ParseError, ParseErrorKind};
 use jsonc_parser::tokens::Token;
 use jsonc_parser::{ParseOptions, Scanner, ScannerOptions};
-use refusing::Refusing;
-use refusing::awaited::prints;
 use std::alloc::{Allocator, Global};
 use std::default::Default;
 

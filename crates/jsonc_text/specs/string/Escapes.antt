@@ -62,7 +62,7 @@ IsEscapeAnyhow bytes place e = (taken : Bool) (q : ℕ) → IsEscape taken q byt
 abbrev pub NoPieceAnyhow : List ℕ → ℕ → Type 0
 NoPieceAnyhow bytes place = (taken : Bool) (q : ℕ) → NoPiece taken q bytes place
 
--- a fault of the text of a string that begins at a place, and no want of memory
+-- a fault of the text of a string that begins at a place, and no allocation failure
 pub record IsStringFault (bytes : List ℕ) (start : ℕ) (fault : StringFault) : Type 0 where
   pub spans : Spans bytes fault.range.start fault.range.end
   pub order : start ≤ fault.range.start
@@ -97,7 +97,7 @@ pub record StringHoldsBackslash (bytes : List ℕ) (start : ℕ) : Type 0 where
   pub inside : Reaches (Many (is_neither quote 0x5C)) bytes (start + 1) place
   pub backslash : Steps bytes place 0x5C (place + 1)
 
--- a fault of a string that begins at a place, or want of memory for it
+-- a fault of a string that begins at a place, or allocation failure for it
 pub record IsStringRefusal (bytes : List ℕ) (start : ℕ) (fault : StringFault) : Type 0 where
   pub spans : Spans bytes fault.range.start fault.range.end
   pub order : start ≤ fault.range.start

@@ -12,7 +12,7 @@ use Rattle.jsonc_text.specs.Lexemes.{IsScanned, lexeme, string}
 use Rattle.jsonc_text.specs.string.Between.{Between, NoneFrom}
 use Rattle.jsonc_text.specs.string.Escapes.{escapes, IsLentUnescaped}
 use Rattle.jsonc_text.specs.string.Quotes.{OpensString}
-use Rattle.jsonc_text.specs.string.Told.{TellsError}
+use Rattle.jsonc_text.specs.string.Faults.{StringErrorAt}
 
 -- the character at a place, or none at the end
 abbrev pub StandsHere : List ℕ → ℕ → Option ℕ → Type 0
@@ -37,7 +37,7 @@ pub record IsStringError (taken : Bool) (bytes : List ℕ) (start : ℕ) (e : Pa
   pub boundary : IsCharBoundary bytes e.byte_index
   pub order : start ≤ e.byte_index
   pub none : e.kind ≢ OutOfMemory → NoString taken bytes start
-  pub told : e.kind ≢ OutOfMemory → TellsError taken e.kind (rest bytes start) (rest bytes e.byte_index)
+  pub error : e.kind ≢ OutOfMemory → StringErrorAt taken e.kind (rest bytes start) (rest bytes e.byte_index)
 
 module _ {A : Type 0} where
   -- a string stands from one place to another, and stands for s, which the text lends where no backslash is in it

@@ -8,7 +8,7 @@ ghost use Rattle.jsonc_text.specs.Strings.{IsQuote};
 ghost use Rattle.jsonc_text.specs.Text.{Many};
 ghost use Rattle.jsonc_text.specs.string.Between.{Between, Reaches, is_neither};
 ghost use Rattle.jsonc_text.specs.string.Escapes.{IsQuoted, NoQuoted, IsLentUnescaped, StringHoldsBackslash, IsStringRefusal, given};
-ghost use Rattle.jsonc_text.specs.string.Told.{IsTold};
+ghost use Rattle.jsonc_text.specs.string.Faults.{IsStringFault};
 
 use crate::chars::has_byte;
 use crate::common::Range;
@@ -25,8 +25,8 @@ pub struct Decoded<'a, A: Allocator> {
     pub end: usize,
 }
 
-/// The string at a place, where its quote stands. It is lent by the text where no backslash is in it.
-/// Want of memory is told of no bytes, at the opening quote.
+/// The string at a place, where its quote stands. It is lent by the text where no backslash is in
+/// it. An allocation failure has no bytes, at the opening quote.
 pub fn decode_string<'a, A: Allocator>(
     alloc: A,
     text: &'a str,
@@ -42,7 +42,7 @@ pub fn decode_string<'a, A: Allocator>(
     ensures none { IfErr result (λ f. f.kind ≢ ParseStringErrorKind.OutOfMemory
         → NoQuoted literal.extended literal.quote text.now literal.start) }
     ensures places { IfErr result (IsStringRefusal text.now literal.start) }
-    ensures told { IfErr result (IsTold literal.extended literal.quote text.now literal.start) }
+    ensures error { IfErr result (IsStringFault literal.extended literal.quote text.now literal.start) }
     ensures place { IfErr result (λ f. f.kind ≡ ParseStringErrorKind.OutOfMemory
         → f.range ≡ record { start = literal.start; end = literal.start }) }
     ensures memory { IfErr result (λ f. f.kind ≡ ParseStringErrorKind.OutOfMemory
@@ -99,7 +99,7 @@ fn decode_escaped<'a, A: Allocator>(
     ensures none { IfErr result (λ f. f.kind ≢ ParseStringErrorKind.OutOfMemory
         → NoQuoted literal.extended literal.quote text.now literal.start) }
     ensures places { IfErr result (IsStringRefusal text.now literal.start) }
-    ensures told { IfErr result (IsTold literal.extended literal.quote text.now literal.start) }
+    ensures error { IfErr result (IsStringFault literal.extended literal.quote text.now literal.start) }
     ensures place { IfErr result (λ f. f.kind ≡ ParseStringErrorKind.OutOfMemory
         → f.range ≡ record { start = literal.start; end = literal.start }) }
 {

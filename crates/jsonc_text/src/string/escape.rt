@@ -6,7 +6,7 @@ ghost use Rattle.jsonc_text.specs.Text.{is_hex_digit, rest, Spans};
 ghost use Rattle.jsonc_text.specs.Strings.{hex4, meaning, is_high_surrogate, is_low_surrogate, pair_char};
 ghost use Rattle.jsonc_text.specs.string.Between.{Between, LacksAt, NoneFrom};
 ghost use Rattle.jsonc_text.specs.string.Escapes.{IsUnit, IsEscape, IsEscapeAnyhow, NoPiece, NoPieceAnyhow, IsStringFault, meaning_of, is_plain};
-ghost use Rattle.jsonc_text.specs.string.Told.{IsWritten, LacksDigits, IsToldOnceRead, IsToldAnyhow, IsToldEscape, past};
+ghost use Rattle.jsonc_text.specs.string.Faults.{IsWritten, LacksDigits, IsStringFaultOnceRead, IsStringFaultAnyhow, IsEscapeFault, past};
 
 use crate::chars::{char_at, char_end, has_byte};
 use crate::common::Range;
@@ -229,7 +229,7 @@ fn read_code_unit(text: &str, place: usize) -> Result<Escape, StringFault>
     ensures found { IfOk result (IsEscapeAnyhow text.now place) }
     ensures none { IfErr result (λ _. NoPieceAnyhow text.now place) }
     ensures fault { IfErr result (IsStringFault text.now place) }
-    ensures told { IfErr result (IsToldAnyhow text.now place) }
+    ensures error { IfErr result (IsStringFaultAnyhow text.now place) }
 {
     let unit = match read_unit(text, place) {
         Ok(unit) => unit,
@@ -264,7 +264,7 @@ fn read_pair(text: &str, place: usize, high: CodeUnit) -> Result<Escape, StringF
     ensures found { IfOk result (IsEscapeAnyhow text.now place) }
     ensures none { IfErr result (λ _. NoPieceAnyhow text.now place) }
     ensures fault { IfErr result (IsStringFault text.now place) }
-    ensures told { IfErr result (IsToldAnyhow text.now place) }
+    ensures error { IfErr result (IsStringFaultAnyhow text.now place) }
 {
     let unpaired = SurrogateFault::UnpairedHighSurrogate;
     if !has_byte(text, place + 6, b'\\') {
@@ -301,7 +301,7 @@ fn read_code_byte(text: &str, place: usize) -> Result<Escape, StringFault>
     ensures found { IfOk result (λ e. (q : ℕ) → IsEscape true q text.now place e) }
     ensures none { IfErr result (λ _. (q : ℕ) → NoPiece true q text.now place) }
     ensures fault { IfErr result (IsStringFault text.now place) }
-    ensures told { IfErr result (λ f. (q : ℕ) → IsToldEscape true q text.now place f) }
+    ensures error { IfErr result (λ f. (q : ℕ) → IsEscapeFault true q text.now place f) }
 {
     let kind = ParseStringErrorKind::ExpectedTwoHexDigits;
     let Some(a) = hex_digit_at(text, place + 2) else {
@@ -328,7 +328,7 @@ fn read_nul(text: &str, start: usize, place: usize) -> Result<Escape, StringFaul
     ensures found { IfOk result (λ e. (q : ℕ) → IsEscape true q text.now place e) }
     ensures none { IfErr result (λ _. (q : ℕ) → NoPiece true q text.now place) }
     ensures fault { IfErr result (IsStringFault text.now start) }
-    ensures told { IfErr result (λ f. (q : ℕ) → IsToldOnceRead true q text.now start place f) }
+    ensures error { IfErr result (λ f. (q : ℕ) → IsStringFaultOnceRead true q text.now start place f) }
 {
     let Some(c) = char_at(text, place + 2) else {
         return Err(unterminated(text, start));
@@ -351,7 +351,7 @@ fn read_line_end(text: &str, start: usize, place: usize) -> Result<Escape, Strin
     ensures found { IfOk result (λ e. (q : ℕ) → IsEscape true q text.now place e) }
     ensures none { IfErr result (λ _. (q : ℕ) → NoPiece true q text.now place) }
     ensures fault { IfErr result (IsStringFault text.now start) }
-    ensures told { IfErr result (λ f. (q : ℕ) → IsToldOnceRead true q text.now start place f) }
+    ensures error { IfErr result (λ f. (q : ℕ) → IsStringFaultOnceRead true q text.now start place f) }
 {
     let Some(c) = char_at(text, place + 2) else {
         return Err(unterminated(text, start));
@@ -384,7 +384,7 @@ pub(crate) fn read_escape(text: &str, place: usize, literal: Literal) -> Result<
     ensures found { IfOk result (IsEscape literal.extended literal.quote text.now place) }
     ensures none { IfErr result (λ _. NoPiece literal.extended literal.quote text.now place) }
     ensures fault { IfErr result (IsStringFault text.now literal.start) }
-    ensures told { IfErr result (IsToldOnceRead literal.extended literal.quote text.now literal.start place) }
+    ensures error { IfErr result (IsStringFaultOnceRead literal.extended literal.quote text.now literal.start place) }
 {
     let Some(c) = char_at(text, place + 1) else {
         return Err(unterminated(text, literal.start));

@@ -2,7 +2,7 @@
 ghost use Rattle.std.specs.Prelude.{List, ℕ, Bool};
 ghost use Rattle.jsonc_text.specs.Options.{all_on};
 ghost use Rattle.jsonc_text.specs.Strings.{IsQuote};
-ghost use Rattle.jsonc_text.specs.string.Told.{HasOneFault, HasNoStringToo};
+ghost use Rattle.jsonc_text.specs.string.Faults.{HasOneFault, HasNoStringToo};
 
 /// Of a string at most one fault is told, of one range; and where one is, no string stands.
 pub fn one_fault()

@@ -15,17 +15,17 @@ use std::borrow::CowStr;
 /// What is wrong with a string, and where.
 #[derive(Clone, Copy, Debug, PartialEq, Eq, Drop)]
 pub struct ParseStringError {
-    /// The place that the fault is told of: that of the escape's backslash, or of the opening quote,
-    /// which want of memory is told of too.
+    /// The place of the fault: that of the escape's backslash, or of the opening quote, which is
+    /// that of an allocation failure too.
     pub byte_index: usize,
     /// What is wrong there.
     pub kind: ParseStringErrorKind,
 }
 
-/// Decodes the string at the front of a text, with the extended escapes. What follows its closing
-/// quote is ignored. Only a string with a backslash takes memory.
+/// Decodes the string at the front of a text, with the extended escapes.
 ///
-/// A text that does not begin with a quote is `UnterminatedStringLiteral` at place 0.
+/// What follows its closing quote is ignored. Only a string with a backslash takes memory. A text
+/// that does not begin with a quote is the error `UnterminatedStringLiteral` at place 0.
 pub fn parse_string<'a, A: Allocator>(
     alloc: A,
     text: &'a str,
@@ -51,7 +51,7 @@ pub trait CharProvider<'a> {
 
     ghost place: { Self → ℕ };
 
-    /// The character where the provider stands, or none at the end of the text.
+    /// The character where the provider stands, or None at the end of the text.
     fn current_char(&mut self) -> Option<char>
         ensures text { bytes self.new ≡ bytes self.old }
         ensures place { place self.new ≡ place self.old }
@@ -73,7 +73,8 @@ pub trait CharProvider<'a> {
         ensures { result.now ≡ bytes self.now };
 }
 
-/// Decodes the string whose opening quote is the provider's current character, and passes it.
+/// Decodes the string whose opening quote is the provider's character, and passes it.
+///
 /// After an error the provider stands where it stood. Only a string with a backslash takes memory.
 pub fn parse_string_with_char_provider<'a, A: Allocator, T: CharProvider<'a>>(
     alloc: A,

@@ -5,5 +5,5 @@ pub mod Objects
 pub mod Elements
 pub mod Properties
 pub mod Leaves
-pub mod Named
+pub mod NamedValues
 pub mod Documents

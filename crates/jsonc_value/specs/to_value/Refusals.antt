@@ -1,4 +1,4 @@
--- What a refusal says of the text.
+-- What an error says of the text.
 use Rattle.std.specs.Prelude.{ℕ, ◌+◌, ◌≤◌, List, Option, Some, None, ◌⊎◌, chars}
 use Rattle.jsonc_text.specs.declared.errors.ParseError.{ParseError}
 use Rattle.jsonc_text.specs.Options.{Options}
@@ -6,7 +6,7 @@ use Rattle.jsonc_text.specs.Plain.{Plain, depth}
 use Rattle.jsonc_text.specs.Grammar.{IsValue, IsProperty, IsDocument}
 use Rattle.jsonc_ast.specs.declared.to_ast.context.Context.{Context}
 use Rattle.jsonc_ast.specs.to_ast.Context.{options_in}
-use Rattle.jsonc_ast.specs.to_ast.Refusals.{WantsMemory, here}
+use Rattle.jsonc_ast.specs.to_ast.Refusals.{IsAllocationFailure, here}
 
 -- no value stands at the front of t that can stand inside of so many containers
 abbrev pub NoValue : Options → List ℕ → ℕ → Type 0
@@ -25,9 +25,9 @@ IsWithin (Some v) = depth v ≤ 512
 abbrev pub NoDocument : Options → List ℕ → Type 0
 NoDocument o t = (v : Option Plain) → IsDocument o t v → IsWithin v → ⊥
 
--- memory was wanting, or the text has no such value
+-- allocation failed, or the text has no such value
 abbrev pub RefusesText : Options → List ℕ → ParseError → Type 0
-RefusesText o bytes e = WantsMemory e ⊎ NoDocument o (chars bytes)
+RefusesText o bytes e = IsAllocationFailure e ⊎ NoDocument o (chars bytes)
 
 module _ {A : Type 0} where
   -- no value begins with the last token that can stand inside of so many containers

@@ -81,7 +81,7 @@ fn fill_set<K: Eq + Hash + Drop, A: Allocator>(
     }
 }
 
-// A set of these keys with room for so many more, which leaves the vector empty. A refusal leaves
+// A set of these keys with room for so many more, which leaves the vector empty. An error leaves
 // the keys where they are.
 fn set_of<K: Eq + Hash + Drop, A: Allocator + Copy>(
     keys: &mut Vec<K, A>,
@@ -311,7 +311,7 @@ impl<K: Eq + Hash, A: Allocator> KeyList<K, A> {
         }
     }
 
-    // Makes room for so many more keys. A refusal leaves the keys as they are.
+    // Makes room for so many more keys. An error leaves the keys as they are.
     pub(crate) fn reserve(&mut self, additional: usize) -> Result<(), AllocError>
     where
         K: Drop,

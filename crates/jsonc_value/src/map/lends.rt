@@ -31,7 +31,7 @@ impl<K: Eq + Hash, V, A: Allocator> Map<K, V, A> {
         }
     }
 
-    /// The place of this key. A refusal leaves the pairs as they are, and gives the key back.
+    /// The place of this key. On an error the pairs stay as they are, and the key is given back.
     pub fn entry(&mut self, key: K) -> Result<Entry<'_, K, V, A>, AllocFailed<K>>
     where
         K: Drop,
@@ -76,8 +76,9 @@ impl<K: Eq + Hash + Drop, V: Drop, A: Allocator + Copy> Map<K, V, A> {
 impl<'a, K: Eq + Hash + Drop, V: Drop, A: Allocator + Copy> Entry<'a, K, V, A> {
     ghost use Rattle.jsonc_value.specs.Lends.{entry_lends};
 
-    /// The value of the key, to write: the map's own, or this one, which goes last with the key.
-    /// A refusal leaves the pairs as they are, and gives the value back.
+    /// The value of the key, to write; where it has none, this one is appended.
+    ///
+    /// On an error the pairs stay as they are, and the value is given back.
     pub fn or_insert(self, value: V) -> Result<&'a mut V, AllocFailed<V>>
         ensures* writes_back { sem 𝓛 (entry_lends K.row V.row A.row K.Hash A.Allocator self.entry result) }
         ensures value { IfOk result (λ v. v.now ≡ unwrap_or (lookup (K.eq self.entry.key) self.entry.map.now) value) }

@@ -24,8 +24,10 @@ impl<K: Eq + Hash + Drop, V: Drop, A: Allocator + Copy> Map<K, V, A> {
 }
 
 impl<K: Eq + Hash + Drop, V: Drop, A: Allocator + Copy> Map<K, V, A> {
-    /// Inserts these pairs one after another. A refusal leaves those before the refused one
-    /// inserted, and gives back that one and those after it.
+    /// Inserts these pairs one after another.
+    ///
+    /// On an error those before the one that failed are inserted, and that one and those after it
+    /// are given back.
     pub fn extend_list<B: Allocator>(
         &mut self,
         pairs: Vec<(K, V), B>,
@@ -49,10 +51,10 @@ impl<K: Eq + Hash + Drop, V: Drop, A: Allocator + Copy> Map<K, V, A> {
 }
 
 impl<K: Eq + Hash + Clone + Drop, V: Clone, A: Allocator + Clone> Map<K, V, A> {
-    /// A copy of the map: clones of its keys and values, pair by pair, in their order.
+    /// A copy of the map. It has clones of the keys and values, pair by pair, in their order.
     ///
-    /// A clone of a key has to equal the key, as those of texts, numbers and characters do. The answer
-    /// is then `AllocError` for want of memory alone.
+    /// A clone of a key has to equal the key, as those of texts, numbers and characters do. The one
+    /// error is then an allocation failure.
     pub fn try_clone(&self) -> Result<Self, AllocError>
         requires { EqualsItsClones K.eq K.is_clone }
         ensures { IfOk result (AllZip (IsPairClone K.is_clone V.is_clone) self.now) }

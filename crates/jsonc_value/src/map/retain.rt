@@ -30,7 +30,7 @@ impl<K: Eq + Hash, V, A: Allocator> Map<K, V, A> {
 }
 
 impl<K: Eq + Hash + Drop, V: Drop, A: Allocator> Map<K, V, A> {
-    /// Keeps the pairs of which `keep` answers true, in their order.
+    /// Keeps the pairs for which `keep` answers true. They stay in their order.
     pub fn retain<F: Fn(&K, &V) -> bool>(&mut self, keep: F)
         requires { F.IsAlwaysCallable keep }
         ensures { Retains (AnswersAt (F.Fn.post keep)) self.old self.new }

@@ -8,9 +8,9 @@ ghost use Rattle.jsonc_text.specs.Plain.{array, object};
 ghost use Rattle.jsonc_text.specs.Tokens.{scanned_of};
 ghost use Rattle.jsonc_scan.specs.Found.{token_held};
 ghost use Rattle.jsonc_ast.specs.to_ast.Context.{text_in, token_range, Keeps, IsToken, IsBracket, OpensNone, GivesAway, last};
-ghost use Rattle.jsonc_ast.specs.to_ast.Refusals.{NoLiteral, Tells, WantsMemory};
+ghost use Rattle.jsonc_ast.specs.to_ast.Refusals.{NoLiteral, OutOfMemoryOr, IsAllocationFailure};
 ghost use Rattle.jsonc_ast.specs.to_ast.Scanned.{leaf_value};
-ghost use Rattle.jsonc_ast.specs.to_ast.Told.{IsTold, IsUnexpected, StopsAtContainer, StopsAtItem, StopsAtValue};
+ghost use Rattle.jsonc_ast.specs.to_ast.Faults.{ParseFault, IsUnexpected, StopsAtContainer, StopsAtItem, StopsAtValue};
 ghost use Rattle.jsonc_ast.specs.declared.to_ast.container.Container.TheVariants.{Object};
 ghost use Rattle.jsonc_ast.specs.Views.{name_at, Grown};
 ghost use Rattle.jsonc_value.specs.to_value.Reads.{Reads, ReadsElement, PutsProperty, IsValueOf};
@@ -58,7 +58,7 @@ fn parse_leaf<'a, A: Allocator + Copy>(
     ensures found { IfOk result (Reads context.old context.old 512) }
     ensures refused { IfErr result (λ _. NoLiteral context.old) }
     ensures fault { IfErr result (IsFault (text_in context.old)) }
-    ensures told { IfErr result (λ e. OpensNone (last context.old token)
+    ensures error { IfErr result (λ e. OpensNone (last context.old token)
         → IsUnexpected context.old (last context.old token) e) }
 {
     let Some(value) = leaf(token, &mut context.content) else {
@@ -122,7 +122,7 @@ fn push_value<'a, A: Allocator + Copy>(
     value: JsonValue<'a, A>,
 ) -> Result<(), ParseError>
     ensures grown { OnOk result (Grown plain elements.old.items elements.new.items value.entry) }
-    ensures memory { IfErr result WantsMemory }
+    ensures memory { IfErr result IsAllocationFailure }
     ensures fault { IfErr result (IsFault (text_in context.now)) }
 {
     let Ok(()) = elements.push(value) else {
@@ -139,7 +139,7 @@ fn put_property<'a, A: Allocator + Copy>(
     value: JsonValue<'a, A>,
 ) -> Result<(), ParseError>
     ensures put { OnOk result (properties.new ≡ inserted properties.old name.entry value.entry) }
-    ensures memory { IfErr result WantsMemory }
+    ensures memory { IfErr result IsAllocationFailure }
     ensures fault { IfErr result (IsFault (text_in context.now)) }
 {
     match properties.insert(name, value) {
@@ -175,9 +175,9 @@ fn parse_value<'a, A: Allocator + Copy>(
     requires around { count ≤ 512 }
     ensures kept { OnOk result (Keeps context.old context.new) }
     ensures found { IfOk result (Reads context.old context.new count) }
-    ensures refused { IfErr result (Tells (NoValueHere context.old count)) }
+    ensures refused { IfErr result (OutOfMemoryOr (NoValueHere context.old count)) }
     ensures fault { IfErr result (IsFault (text_in context.old)) }
-    ensures told { IfErr result (StopsAtValue context.old (last context.old token) false count) }
+    ensures error { IfErr result (StopsAtValue context.old (last context.old token) false count) }
 {
     // The results of the two calls are taken apart, so that those of literals can stay in registers.
     match token {
@@ -207,9 +207,9 @@ fn parse_element<'a, A: Allocator + Copy>(
     requires around { count ≤ 512 }
     ensures kept { OnOk result (Keeps context.old context.new) }
     ensures found { OnOk result (ReadsElement context.old context.new count elements.old.items elements.new.items) }
-    ensures refused { IfErr result (Tells (NoValueHere context.old count)) }
+    ensures refused { IfErr result (OutOfMemoryOr (NoValueHere context.old count)) }
     ensures fault { IfErr result (IsFault (text_in context.old)) }
-    ensures told { IfErr result (StopsAtValue context.old (last context.old token) false count) }
+    ensures error { IfErr result (StopsAtValue context.old (last context.old token) false count) }
 {
     match token {
         TokenKind::String => {
@@ -241,9 +241,9 @@ fn parse_array<'a, A: Allocator + Copy>(
     requires around { count ≤ 512 }
     ensures kept { OnOk result (Keeps context.old context.new) }
     ensures found { IfOk result (Reads context.old context.new count) }
-    ensures refused { IfErr result (Tells (NoValueHere context.old count)) }
+    ensures refused { IfErr result (OutOfMemoryOr (NoValueHere context.old count)) }
     ensures fault { IfErr result (IsFault (text_in context.old)) }
-    ensures told { IfErr result (StopsAtContainer context.old false count) }
+    ensures error { IfErr result (StopsAtContainer context.old false count) }
 {
     check_depth(context, count)?;
     let mut elements = Vec::new(context.alloc);
@@ -266,9 +266,9 @@ fn parse_object<'a, A: Allocator + Copy>(
     requires around { count ≤ 512 }
     ensures kept { OnOk result (Keeps context.old context.new) }
     ensures found { IfOk result (Reads context.old context.new count) }
-    ensures refused { IfErr result (Tells (NoValueHere context.old count)) }
+    ensures refused { IfErr result (OutOfMemoryOr (NoValueHere context.old count)) }
     ensures fault { IfErr result (IsFault (text_in context.old)) }
-    ensures told { IfErr result (StopsAtContainer context.old false count) }
+    ensures error { IfErr result (StopsAtContainer context.old false count) }
 {
     check_depth(context, count)?;
     let mut properties = Map::new(context.alloc);
@@ -292,9 +292,9 @@ fn parse_property<'a, A: Allocator + Copy>(
     requires around { count ≤ 512 }
     ensures kept { OnOk result (Keeps context.old context.new) }
     ensures found { OnOk result (PutsProperty context.old context.new count properties.old properties.new) }
-    ensures refused { IfErr result (Tells (NoPropertyHere context.old count)) }
+    ensures refused { IfErr result (OutOfMemoryOr (NoPropertyHere context.old count)) }
     ensures fault { IfErr result (IsFault (text_in context.old)) }
-    ensures told { IfErr result (StopsAtItem Object context.old (last context.old token) false count) }
+    ensures error { IfErr result (StopsAtItem Object context.old (last context.old token) false count) }
 {
     let name = name_text(context.name(token)?);
     context.pass_colon()?;
@@ -305,12 +305,12 @@ fn parse_property<'a, A: Allocator + Copy>(
     put_property(context, properties, name, value)
 }
 
-/// Parses a text to its value.
+/// Parses a text to its value, without ranges and comments.
 ///
 /// A text of blanks and comments alone has none. Of properties with one name the first gives the
-/// place and the last the value. A value with more than 512 containers inside one another is
-/// refused. The error says what is wrong, in which bytes, and in which line and column; want of
-/// memory is an error too.
+/// place and the last the value. A value with more than 512 containers inside one another is an
+/// error. The error says what is wrong, in which bytes, and in which line and column; an allocation
+/// failure is an error too.
 pub fn parse_to_value<'a, A: Allocator + Copy>(
     alloc: A,
     text: &'a str,
@@ -319,7 +319,7 @@ pub fn parse_to_value<'a, A: Allocator + Copy>(
     ensures accepted { IfOk result (IsValueOf (parse_options options.now) (chars text.now)) }
     ensures refused { IfErr result (RefusesText (parse_options options.now) text.now) }
     ensures fault { IfErr result (IsFault text.now) }
-    ensures told { IfErr result (IsTold (parse_options options.now) text.now false) }
+    ensures error { IfErr result (ParseFault (parse_options options.now) text.now false) }
 {
     let mut context = Context::new(alloc, text, &CollectOptions::default(), options);
     let Some(token) = context.scan()? else {

@@ -6,7 +6,7 @@ use super::{JsonArray, JsonObject, JsonValue};
 use std::alloc::{AllocError, Allocator};
 
 impl<'a, A: Allocator + Copy> JsonValue<'a, A> {
-    /// The same value again, its properties in the same order.
+    /// A copy of the value. Its properties are in the same order.
     #[cycle(copy)]
     pub fn try_clone(&self) -> Result<Self, AllocError>
         ensures { IfOk result (λ v. content v ≡ content self.now) }
@@ -23,7 +23,7 @@ impl<'a, A: Allocator + Copy> JsonValue<'a, A> {
 }
 
 impl<'a, A: Allocator + Copy> JsonObject<'a, A> {
-    /// The same properties again, in the same order.
+    /// A copy of the object. Its properties are in the same order.
     #[cycle(copy)]
     pub fn try_clone(&self) -> Result<Self, AllocError>
         ensures { IfOk result (λ o. object_content o ≡ object_content self.now) }
@@ -34,7 +34,7 @@ impl<'a, A: Allocator + Copy> JsonObject<'a, A> {
 }
 
 impl<'a, A: Allocator + Copy> JsonArray<'a, A> {
-    /// The same elements again, in the same order.
+    /// A copy of the array. Its elements are in the same order.
     #[cycle(copy)]
     pub fn try_clone(&self) -> Result<Self, AllocError>
         ensures { IfOk result (λ a. array_content a ≡ array_content self.now) }

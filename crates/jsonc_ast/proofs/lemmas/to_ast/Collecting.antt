@@ -12,7 +12,7 @@ use Rattle.jsonc_text.specs.Places.{Placed, AreTokens, no_more, blank, one, is_c
 use Rattle.jsonc_text.specs.Text.{rest, byte_length, Many, stop, step, Spans}
 use Rattle.jsonc_text.specs.Tokens.{scanned_of}
 use Rattle.jsonc_text.proofs.Cuts.{byte_length-append, many_split, place_after, chars_between}
-use Rattle.jsonc_text.proofs.Steps.{rest_end}
+use Rattle.jsonc_text.proofs.CharacterSteps.{rest_end}
 use Rattle.jsonc_scan.specs.declared.scanner.Scanner.{Scanner}
 use Rattle.jsonc_scan.specs.Scanner.{text_of, start_of, end_of, PassesBlanks, StandsAt, left}
 use Rattle.jsonc_ast.specs.declared.to_ast.comments.GapComments.{GapComments}
@@ -23,7 +23,7 @@ use Rattle.jsonc_ast.specs.to_ast.Comments.{MapOf, HasPassed, AreUnderEnds}
 use Rattle.jsonc_ast.specs.to_ast.Context.{text_in, options_in, token_end, tokens_asked, comments_asked, Keeps}
 use Rattle.jsonc_ast.specs.to_ast.Lent.{AreLentIn}
 use Rattle.jsonc_ast.proofs.lemmas.to_ast.Gaps.{stands}
-use Rattle.jsonc_ast.proofs.lemmas.to_ast.Lent.{none_lent}
+use Rattle.jsonc_ast.proofs.lemmas.to_ast.LentStrings.{none_lent}
 use Rattle.jsonc_ast.proofs.lemmas.to_ast.GapEnds.{gaps_ascend, under_ends, no_gaps}
 
 -- blanks before tokens

@@ -4,8 +4,8 @@ use Rattle.jsonc_text.specs.Gaps.{Gap}
 use Rattle.jsonc_text.specs.Options.{Options}
 use Rattle.jsonc_text.specs.Plain.{Plain}
 use Rattle.jsonc_ast.specs.to_ast.Reached.{Opened, Due, document, end, Place, at, of_text, Step, ComesTo, here, on, Reached, count, size}
-use Rattle.jsonc_ast.specs.to_ast.Told.{Fault, Stops, no_lexeme, wrong_lexeme, wrong_ending, wrong_end, Told}
-use Rattle.jsonc_ast.specs.to_ast.Laws.{TellsOfNoDocument}
+use Rattle.jsonc_ast.specs.to_ast.Faults.{Fault, Stops, no_lexeme, wrong_lexeme, wrong_ending, wrong_end, HasFault}
+use Rattle.jsonc_ast.specs.to_ast.Laws.{FaultMeansNoDocument}
 use Rattle.jsonc_ast.proofs.lemmas.to_ast.EndsOfGaps.{gap_end, lexeme_ends, end_ends, comment_ends, tells_ends}
 use Rattle.jsonc_ast.proofs.lemmas.to_ast.Order.{order}
 use Rattle.jsonc_ast.proofs.lemmas.to_ast.ReadsValues.{value_reads}
@@ -32,7 +32,7 @@ last_step e x = go e (canonical x)
     go : {o : Options} {whole : Bool} {q : List Opened} {d : Due} {t : List ℕ} {p : Place} → Gap o t [] → Canon o whole (at q d t) p → ⊥
     go {o} e (canon l r g x w f) = lexeme_no_end o l r (gap_end e g end_ends (lexeme_ends l r x)) x
 
-no_fault : {o : Options} {whole : Bool} {s t : List ℕ} {d : Due} {f : Fault} → IsLast d → Gap o t [] → Reached o whole s (at [] d t) → Told o whole s f → ⊥
+no_fault : {o : Options} {whole : Bool} {s t : List ℕ} {d : Due} {f : Fault} → IsLast d → Gap o t [] → Reached o whole s (at [] d t) → HasFault o whole s f → ⊥
 no_fault {o} {whole} {t = t} {d = d} {f = f} i e h (p, k, x) = elim (order h k) [ inl a ↦ before a x | inr a ↦ past a x ]
   where
     before : {p : Place} → ComesTo o whole (at [] d t) p → Stops o whole p f → ⊥
@@ -43,7 +43,7 @@ no_fault {o} {whole} {t = t} {d = d} {f = f} i e h (p, k, x) = elim (order h k) 
     past here x = last_stops i e x
     past (on y a) x = stops_no_step x y
 
-pub no_document : {o : Options} {whole : Bool} {s : List ℕ} → TellsOfNoDocument o whole s
+pub no_document : {o : Options} {whole : Bool} {s : List ℕ} → FaultMeansNoDocument o whole s
 no_document f None told g n = no_fault of_document g here told
 no_document {o} {whole} f (Some v) told (u, r, g, x, e) n =
     no_fault of_end e (value_reads o whole of_text g x (no_more whole v n)) told

@@ -15,7 +15,7 @@ use Rattle.jsonc_text.proofs.Cuts.{many_split}
 use Rattle.jsonc_text.proofs.UniqueGaps.{begins_gap, comment_unique, comment_begins, comment_no_blank}
 use Rattle.jsonc_text.proofs.UniqueLexemes.{scanned_unique}
 use Rattle.jsonc_text.proofs.WideBlanks.{blank_not_wide}
-use Rattle.jsonc_scan.specs.Told.{Tells, BarePoint, Mantissa, mantissa, bare_mantissa, leading, signed_leading, trailing}
+use Rattle.jsonc_scan.specs.Faults.{LexemeFault, BarePoint, Mantissa, mantissa, bare_mantissa, leading, signed_leading, trailing}
 use Rattle.jsonc_scan.proofs.OneFault.{string_begins}
 use Rattle.jsonc_scan.proofs.RefusedLexemes.{no_lexeme_told}
 use Rattle.jsonc_ast.proofs.lemmas.to_ast.Refusals.{token_no_gap}
@@ -129,35 +129,35 @@ word_first c h = go (is_blank c) refl
 quote_first : (q : ℕ) (b : Bool) → IsTrue (q == 0x22 || (q == 0x27 && b)) → IsTrue (not (is_blank q))
 quote_first q b h = elim (or_cases (q == 0x22) (q == 0x27 && b) h) [ inl e ↦ rw (test_eq q 0x22 e) refl | inr e ↦ rw (test_eq q 0x27 (and_both (q == 0x27) b e).0) refl ]
 
-pub tells_first : {o : Options} {k : ParseErrorKind} {s a b : List ℕ} → Tells o k s a b → IsTrue (starts (λ c. not (is_blank c)) (next s))
-tells_first (Tells.bare_point f b) = point_first b
-tells_first (Tells.lone_sign s g n) = sign_first s
-tells_first (Tells.hex_digits a s h n c) = signed_first s refl
-tells_first (Tells.exponent s m b n) = signed_first s (mantissa_first m)
-tells_first (Tells.hexadecimal f s h) = signed_first s refl
-tells_first (Tells.non_finite f s n) = sign_first s
-tells_first (Tells.unary_plus f) = refl
-tells_first (Tells.single_quote f) = refl
-tells_first {s = s} (Tells.broken_word b) = starts_also begins_word (λ c. not (is_blank c)) word_first (next s) b.begins
-tells_first (Tells.lone_character b w h) = b
-tells_first (Tells.open_block f) = refl
-tells_first {o} (Tells.string_fault {q = q} a x) = let s = string_begins x in rw s.1 (quote_first q o.single_quoted_strings a)
+pub tells_first : {o : Options} {k : ParseErrorKind} {s a b : List ℕ} → LexemeFault o k s a b → IsTrue (starts (λ c. not (is_blank c)) (next s))
+tells_first (LexemeFault.bare_point f b) = point_first b
+tells_first (LexemeFault.lone_sign s g n) = sign_first s
+tells_first (LexemeFault.hex_digits a s h n c) = signed_first s refl
+tells_first (LexemeFault.exponent s m b n) = signed_first s (mantissa_first m)
+tells_first (LexemeFault.hexadecimal f s h) = signed_first s refl
+tells_first (LexemeFault.non_finite f s n) = sign_first s
+tells_first (LexemeFault.unary_plus f) = refl
+tells_first (LexemeFault.single_quote f) = refl
+tells_first {s = s} (LexemeFault.broken_word b) = starts_also begins_word (λ c. not (is_blank c)) word_first (next s) b.begins
+tells_first (LexemeFault.lone_character b w h) = b
+tells_first (LexemeFault.open_block f) = refl
+tells_first {o} (LexemeFault.string_fault {q = q} a x) = let s = string_begins x in rw s.1 (quote_first q o.single_quoted_strings a)
 
 -- each comment is one that a scanner answers
 pub comment_scanned : (o : Options) {t r : List ℕ} → IsComment t r → ((w : Scanned) → ((k : LexemeKind) → w ≡ lexeme k → ⊥) → IsScanned o w t r → ⊥) → ⊥
 comment_scanned o {t} {r} (inl (line g e)) n = let s = many_split _ g in n (line_comment s.0) (λ k e. cc) (line g e, ap (λ x. 0x2F ∷ 0x2F ∷ x) s.1)
 comment_scanned o {t} {r} (inr (block g)) n = let s = block_inside (block g) in n (block_comment s.0) (λ k e. cc) (block g, s.1)
 
-pub tells_no_lexeme : {o : Options} {k : ParseErrorKind} {u a b : List ℕ} (l : LexemeKind) (r : List ℕ) → Tells o k u a b → Lexeme o l u r → ⊥
+pub tells_no_lexeme : {o : Options} {k : ParseErrorKind} {u a b : List ℕ} (l : LexemeKind) (r : List ℕ) → LexemeFault o k u a b → Lexeme o l u r → ⊥
 tells_no_lexeme {o} {k} {u} {a} {b} l r x y = no_lexeme_told o u k a b r (lexeme l) x y
 
-pub tells_no_comment : {o : Options} {k : ParseErrorKind} {u a b : List ℕ} (r : List ℕ) → Tells o k u a b → IsComment u r → ⊥
+pub tells_no_comment : {o : Options} {k : ParseErrorKind} {u a b : List ℕ} (r : List ℕ) → LexemeFault o k u a b → IsComment u r → ⊥
 tells_no_comment {o} {k} {u} {a} {b} r x c = comment_scanned o c (λ w n y. no_lexeme_told o u k a b r w x y)
 
 pub comment_no_lexeme : (o : Options) {u r : List ℕ} (l : LexemeKind) (s : List ℕ) → IsComment u r → Lexeme o l u s → ⊥
 comment_no_lexeme o {u} {r} l s c x = comment_scanned o c (λ w n y. n l (scanned_unique o w (lexeme l) u r s y x).0)
 
-pub tells_ends : {o : Options} {k : ParseErrorKind} {u a b : List ℕ} → Tells o k u a b → EndsGap o u
+pub tells_ends : {o : Options} {k : ParseErrorKind} {u a b : List ℕ} → LexemeFault o k u a b → EndsGap o u
 tells_ends {o} {u = u} x = record { blank = no_of u (tells_first x); comment = λ r f c. tells_no_comment r x c }
   where
     no_of : (u : List ℕ) → IsTrue (starts (λ c. not (is_blank c)) (next u)) → IsTrue (no is_blank (next u))

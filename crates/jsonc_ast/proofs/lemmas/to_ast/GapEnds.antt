@@ -8,7 +8,7 @@ use Rattle.jsonc_text.specs.Lexemes.{Scanned, IsScanned}
 use Rattle.jsonc_text.specs.Options.{Options}
 use Rattle.jsonc_text.specs.Places.{Placed, placed_at, AreTokens, no_more, blank, one, CommentGap, gaps_of, noted, is_comment}
 use Rattle.jsonc_text.specs.Text.{byte_length}
-use Rattle.jsonc_text.proofs.Alone.{some_text}
+use Rattle.jsonc_text.proofs.LexemesAlone.{some_text}
 use Rattle.jsonc_text.proofs.Basics.{text_same}
 use Rattle.jsonc_text.proofs.Cuts.{byte_length-append, byte_length-one}
 use Rattle.jsonc_ast.specs.to_ast.Comments.{MapOf, comments_at, IsNoEnd, AreUnderEnds, put_one, put, ShowsGaps}

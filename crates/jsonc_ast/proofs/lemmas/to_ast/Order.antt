@@ -3,11 +3,11 @@ use Rattle.std.proofs.Common.{ℕ, ◌<◌, ◌≤◌, ◌≡◌, sym, ap, subst
 use Rattle.jsonc_text.specs.Gaps.{Gap, none, blank, comment, line, block}
 use Rattle.jsonc_text.specs.Lexemes.{LexemeKind, Lexeme, lexeme}
 use Rattle.jsonc_text.specs.Options.{Options}
-use Rattle.jsonc_text.proofs.Alone.{some_text}
+use Rattle.jsonc_text.proofs.LexemesAlone.{some_text}
 use Rattle.jsonc_text.proofs.BlockComments.{block_inside}
 use Rattle.jsonc_text.proofs.Cuts.{many_split}
 use Rattle.jsonc_ast.specs.to_ast.Reached.{Opened, Due, Place, at, Step, ComesTo, here, on}
-use Rattle.jsonc_ast.specs.to_ast.Told.{Fault, Stops}
+use Rattle.jsonc_ast.specs.to_ast.Faults.{Fault, Stops}
 use Rattle.jsonc_ast.specs.to_ast.Laws.{HasOneWay, HasOneFault}
 use Rattle.jsonc_ast.proofs.lemmas.to_ast.ReadLexemes.{left, one_lexeme}
 use Rattle.jsonc_ast.proofs.lemmas.to_ast.Unique.{step_unique, stops_no_step, stops_unique}

@@ -10,7 +10,7 @@ use Rattle.jsonc_ast.specs.declared.to_ast.container.Container.{Container}
 use Rattle.jsonc_ast.specs.declared.to_ast.container.Container.TheVariants.{Array, Object}
 use Rattle.jsonc_ast.specs.to_ast.Containers.{opening, closing}
 use Rattle.jsonc_ast.specs.to_ast.Reached.{Opened, container, Due, document, end, first, further, comma, colon, value, Place, at, ItemMayCome, first_item, further_item, without_comma, ValueMayCome, of_text, of_array, of_property, CloseMayCome, empty, after_item, after_comma, Step, takes_literal, opens, closes, takes_comma, takes_name, takes_colon, ComesTo, here, on, after_value, count, size, is_deep, containers}
-use Rattle.jsonc_ast.specs.to_ast.Told.{wrong_end}
+use Rattle.jsonc_ast.specs.to_ast.Faults.{wrong_end}
 use Rattle.jsonc_ast.specs.to_ast.Laws.{HasValue, ReadsToDocument}
 use Rattle.jsonc_ast.proofs.lemmas.to_ast.ReadsValues.{parts_size}
 

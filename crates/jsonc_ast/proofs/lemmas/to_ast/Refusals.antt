@@ -19,7 +19,7 @@ use Rattle.jsonc_text.proofs.Basics.{clash, or_cases, or_left, test_eq, eq_test,
 use Rattle.jsonc_text.proofs.Begins.{begins_literal, lexeme_begins}
 use Rattle.jsonc_text.proofs.BlockComments.{block_inside}
 use Rattle.jsonc_text.proofs.Cuts.{many_split, end_place}
-use Rattle.jsonc_text.proofs.Steps.{rest_end}
+use Rattle.jsonc_text.proofs.CharacterSteps.{rest_end}
 use Rattle.jsonc_text.proofs.UniqueGaps.{begins_gap, gap_unique, comment_unique, comment_begins, comment_no_blank}
 use Rattle.jsonc_text.proofs.UniqueLexemes.{scanned_unique}
 use Rattle.jsonc_scan.specs.Reads.{NothingAt}
@@ -31,7 +31,7 @@ use Rattle.jsonc_ast.specs.declared.to_ast.context.Context.{Context}
 use Rattle.jsonc_ast.specs.to_ast.Containers.{closing}
 use Rattle.jsonc_ast.specs.to_ast.Context.{text_in, options_in, token_start, token_end, Keeps, Finds, IsToken, IsNoComment}
 use Rattle.jsonc_ast.specs.Located.{Between, Ends, TrailingComma}
-use Rattle.jsonc_ast.specs.to_ast.Refusals.{WantsMemory, AtLexeme, AtToken, AtItem, may_begin_item, LeadsNowhere, LeadsOnlyTo, here, after, NoTokenAfter, NothingAfterComma, NothingNext, OnlyFirst, OnlyAfterComma, OnlyNext, NoColon, NoName}
+use Rattle.jsonc_ast.specs.to_ast.Refusals.{IsAllocationFailure, AtLexeme, AtToken, AtItem, may_begin_item, LeadsNowhere, LeadsOnlyTo, here, after, NoTokenAfter, NothingAfterComma, NothingNext, OnlyFirst, OnlyAfterComma, OnlyNext, NoColon, NoName}
 use Rattle.jsonc_ast.specs.to_ast.Scanned.{loose_text}
 use Rattle.jsonc_ast.proofs.lemmas.to_ast.Gaps.{gap_append, passed, stands}
 use Rattle.jsonc_ast.proofs.lemmas.to_ast.Scans.{Passing, moved}
@@ -41,7 +41,7 @@ pub still : {S X Y : Type 0} → (X → Y) → S ⊎ X → S ⊎ Y
 still f (inl s) = inl s
 still f (inr x) = inr (f x)
 
--- a fault is want of memory, or it is not
+-- a fault is allocation failure, or it is not
 pub memory_or_not : (k : ParseErrorKind) → (k ≡ OutOfMemory) ⊎ (k ≢ OutOfMemory)
 memory_or_not kind.OutOfMemory = inl refl
 memory_or_not kind.BareDecimalPointNumbersNotAllowed = inr (λ e. cc)
@@ -180,7 +180,7 @@ module _ {A : Type 0} where
       nothing_after o n end (subst (λ b. IsTrue (no is_blank (next (rest b (start_of s))))) t goes.no_blank) left at
 
   -- the scanner refuses
-  pub scan_refused : (start now : Context A) (s : Scanner A) (e : ParseError) → Passing start now → PassesBlanks now.scanner s → (kind_of e ≢ OutOfMemory → NothingStands s) → GoesOn s → WantsMemory e ⊎ NoTokenAfter start
+  pub scan_refused : (start now : Context A) (s : Scanner A) (e : ParseError) → Passing start now → PassesBlanks now.scanner s → (kind_of e ≢ OutOfMemory → NothingStands s) → GoesOn s → IsAllocationFailure e ⊎ NoTokenAfter start
   scan_refused start now s e h blanks n goes =
       elim (memory_or_not (kind_of e)) [
         | inl m ↦ inl m
@@ -193,7 +193,7 @@ module _ {A : Type 0} where
 
   -- a comment that is not allowed
   pub comment_refused : (start now : Context A) (s : Scanner A) (f : Option (Token A)) (t : Token A) (e : ParseError) → f ≡ Some t → Passing start now → PassesBlanks now.scanner s → StandsAt s f
-      → is_comment (scanned_of t) ≡ true → (kind_of e ≡ OutOfMemory) ⊎ (((options_of s).comments ≡ false) × (kind_of e ≡ CommentsNotAllowed) × (range_of e ≡ record { start = start_of s; end = end_of s })) → WantsMemory e ⊎ NoTokenAfter start
+      → is_comment (scanned_of t) ≡ true → (kind_of e ≡ OutOfMemory) ⊎ (((options_of s).comments ≡ false) × (kind_of e ≡ CommentsNotAllowed) × (range_of e ≡ record { start = start_of s; end = end_of s })) → IsAllocationFailure e ⊎ NoTokenAfter start
   comment_refused start now s f t e is h blanks at found (inl m) = inl m
   comment_refused start now s f t e is h blanks at found (inr n) =
       let o = options_in start in

@@ -12,11 +12,11 @@ use Rattle.jsonc_text.specs.Options.{Options}
 use Rattle.jsonc_text.specs.Places.{is_comment}
 use Rattle.jsonc_text.specs.Text.{rest}
 use Rattle.jsonc_text.specs.Tokens.{scanned_of}
-use Rattle.jsonc_text.proofs.Steps.{rest_end}
+use Rattle.jsonc_text.proofs.CharacterSteps.{rest_end}
 use Rattle.jsonc_text.proofs.Basics.{test_eq}
 use Rattle.jsonc_scan.specs.declared.scanner.Scanner.{Scanner}
 use Rattle.jsonc_scan.specs.Scanner.{start_of, end_of, options_of, PassesBlanks, StandsAt, IsTrueThere}
-use Rattle.jsonc_scan.specs.Told.{Tells}
+use Rattle.jsonc_scan.specs.Faults.{LexemeFault}
 use Rattle.jsonc_ast.specs.Located.{Between}
 use Rattle.jsonc_ast.specs.declared.to_ast.container.Container.{Container}
 use Rattle.jsonc_ast.specs.declared.to_ast.container.Container.TheVariants.{Array, Object}
@@ -25,7 +25,7 @@ use Rattle.jsonc_ast.specs.to_ast.Containers.{closing, unterminated_kind, begins
 use Rattle.jsonc_ast.specs.to_ast.Context.{text_in, options_in, token_start, token_end, token_range, Keeps, Finds, IsNoComment, IsBracket, OpensNone}
 use Rattle.jsonc_ast.specs.to_ast.Refusals.{IsOpen, IsFaultOf, or_end, after, here}
 use Rattle.jsonc_ast.specs.to_ast.Reached.{Opened, container, Due, further, comma, colon, at, takes_comma, ComesTo, on}
-use Rattle.jsonc_ast.specs.to_ast.Told.{fault, Stops, no_lexeme, wrong_lexeme, wrong_ending, wrong, wrong_end, wrong_comma, wrong_name, open_at_end, past_one, is_mark, ToldFrom, fault_in, IsFrom, StopsAnyhow, StopsAfter, IsUnexpected}
+use Rattle.jsonc_ast.specs.to_ast.Faults.{fault, Stops, no_lexeme, wrong_lexeme, wrong_ending, wrong, wrong_end, wrong_comma, wrong_name, open_at_end, past_one, is_mark, HasFaultFrom, fault_in, IsFrom, StopsAnyhow, StopsAfter, IsUnexpected}
 use Rattle.jsonc_ast.specs.to_ast.Scanned.{loose_text, leaf_value, unexpected_kind}
 use Rattle.jsonc_ast.proofs.lemmas.to_ast.Gaps.{join, change, stands, passed, gap_append}
 use Rattle.jsonc_ast.proofs.lemmas.to_ast.Refusals.{memory_or_not, comment_at}
@@ -78,7 +78,7 @@ module _ {A : Type 0} where
         | inl m ↦ inl m
         | inr other ↦ inr (λ whole q d.
             no_lexeme (gap_to start now s h blanks)
-            (moved (λ p b. Tells p (kind_of e) (rest b (start_of s)) (rest b (range_of e).start) (rest b (range_of e).end)) (blanks.options ∙ h.kept.options) (blanks.text ∙ h.kept.text) (told other)))
+            (moved (λ p b. LexemeFault p (kind_of e) (rest b (start_of s)) (rest b (range_of e).start) (rest b (range_of e).end)) (blanks.options ∙ h.kept.options) (blanks.text ∙ h.kept.text) (told other)))
       ]
 
   pub comment_stops : (start now : Context A) (s : Scanner A) (f : Option (Token A)) (t : Token A) (e : ParseError) → f ≡ Some t → Passing start now → PassesBlanks now.scanner s → StandsAt s f → is_comment (scanned_of t) ≡ true
@@ -175,12 +175,12 @@ module _ {A : Type 0} where
     -- what stops after a comma
     pub comma_stops : (t : Token A) → f ≡ Some t → scanned_of t ≡ lexeme (punctuation 0x2C) → (k : Container) (e : ParseError) (whole : Bool) (q : List Opened) → IsBracket 0x2C new → StopsAfter new whole q (further k (here new)) e → StopsAfter old whole q (comma k (after old)) e
     comma_stops t is mark k e whole q one (inl m) = inl m
-    comma_stops t is mark k e whole q one (inr h) = inr (moved (λ p b. ToldFrom p whole (at q (comma k (after old)) (after old)) (fault_in b e)) kept.options kept.text (go h))
+    comma_stops t is mark k e whole q one (inr h) = inr (moved (λ p b. HasFaultFrom p whole (at q (comma k (after old)) (after old)) (fault_in b e)) kept.options kept.text (go h))
       where
         gap : Gap (options_in new) (after old) (0x2C ∷ after new)
         gap = subst (λ p. Gap p (after old) (0x2C ∷ after new)) (sym kept.options) (subst (Gap (options_in old) (after old)) (ap (λ b. rest b (token_start new)) (sym kept.text) ∙ one.stands) found.0.stands)
 
-        go : ToldFrom (options_in new) whole (at q (further k (here new)) (after new)) (fault_in (text_in new) e) → ToldFrom (options_in new) whole (at q (comma k (after old)) (after old)) (fault_in (text_in new) e)
+        go : HasFaultFrom (options_in new) whole (at q (further k (here new)) (after new)) (fault_in (text_in new) e) → HasFaultFrom (options_in new) whole (at q (comma k (after old)) (after old)) (fault_in (text_in new) e)
         go (n, x, s) = (n, on (takes_comma k gap) (subst (λ c. ComesTo (options_in new) whole (at q (further k c) (after new)) n) one.stands x), s)
 
   -- a token with which no value begins

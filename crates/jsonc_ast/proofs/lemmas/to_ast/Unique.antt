@@ -7,17 +7,17 @@ use Rattle.jsonc_text.specs.Grammar.{literal_value, may_name}
 use Rattle.jsonc_text.specs.Lexemes.{LexemeKind, Lexeme, lexeme, punctuation, string}
 use Rattle.jsonc_text.specs.Options.{Options}
 use Rattle.jsonc_text.specs.Plain.{Plain}
-use Rattle.jsonc_text.proofs.Alone.{some_text}
+use Rattle.jsonc_text.proofs.LexemesAlone.{some_text}
 use Rattle.jsonc_text.proofs.UniqueGaps.{comment_unique, comment_begins}
 use Rattle.jsonc_text.proofs.UniqueLexemes.{lexeme_unique}
-use Rattle.jsonc_scan.specs.Told.{Tells}
+use Rattle.jsonc_scan.specs.Faults.{LexemeFault}
 use Rattle.jsonc_scan.proofs.OneFault.{one_fault as one_lexeme_fault}
 use Rattle.jsonc_ast.specs.declared.to_ast.container.Container.{Container}
 use Rattle.jsonc_ast.specs.declared.to_ast.container.Container.TheVariants.{Array, Object}
 use Rattle.jsonc_ast.specs.to_ast.Containers.{closing}
 use Rattle.jsonc_ast.specs.to_ast.Scanned.{begins_value}
 use Rattle.jsonc_ast.specs.to_ast.Reached.{Opened, container, property, Due, document, end, first, further, comma, colon, value, Place, at, ItemMayCome, first_item, further_item, without_comma, ValueMayCome, of_text, of_array, of_property, CloseMayCome, empty, after_item, after_comma, Step, takes_literal, opens, closes, takes_comma, takes_name, takes_colon, after_value, is_deep}
-use Rattle.jsonc_ast.specs.to_ast.Told.{Fault, fault, is_mark, wrong, wrong_value, wrong_name, wrong_item, Stops, no_lexeme, wrong_lexeme, wrong_ending}
+use Rattle.jsonc_ast.specs.to_ast.Faults.{Fault, fault, is_mark, wrong, wrong_value, wrong_name, wrong_item, Stops, no_lexeme, wrong_lexeme, wrong_ending}
 use Rattle.jsonc_ast.proofs.lemmas.to_ast.EndsOfGaps.{gap_end, lexeme_ends, end_ends, comment_ends, tells_ends, tells_first, tells_no_lexeme, tells_no_comment, comment_no_lexeme}
 use Rattle.jsonc_ast.proofs.lemmas.to_ast.ReadLexemes.{closing_mark}
 
@@ -170,7 +170,7 @@ lexeme_no_end o l r e x = let s = some_text o (lexeme l) _ r x in let f = e ∙ 
 pub comment_no_end : {u r : List ℕ} → [] ≡ u → IsComment u r → ⊥
 comment_no_end e c = no_end (λ c. c == 0x2F) e (comment_begins c)
 
-pub tells_no_end : {o : Options} {k : ParseErrorKind} {u a b : List ℕ} → [] ≡ u → Tells o k u a b → ⊥
+pub tells_no_end : {o : Options} {k : ParseErrorKind} {u a b : List ℕ} → [] ≡ u → LexemeFault o k u a b → ⊥
 tells_no_end e x = no_end (λ c. not (is_blank c)) e (tells_first x)
 
 fault_same : {k l : ParseErrorKind} {t u r v : List ℕ} → (k ≡ l) × (t ≡ u) × (r ≡ v) → fault k t r ≡ fault l u v

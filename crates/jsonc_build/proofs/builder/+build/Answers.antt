@@ -13,9 +13,9 @@ use denote.Param.Weighed.{most}
 use Rattle.jsonc_build.specs.Growth.{Grows}
 use Rattle.jsonc_build.specs.Laid.{CanLay, CanLayItems, CanLayMembers, CanLayProperty, string_leaf, number_leaf, boolean_leaf, null_leaf}
 use Rattle.jsonc_sound.specs.Filling.{IsFillable}
-use Rattle.jsonc_build.proofs.Growing.{grows_append, grows_leaf, container_kept, pushes_same}
+use Rattle.jsonc_build.proofs.AddedChildren.{grows_append, grows_leaf, container_kept, pushes_same}
 use Rattle.jsonc_build.proofs.Building.{elements_start, elements_at, elements_more, elements_end, items_none_left, properties_start, properties_at, properties_more, properties_end, members_none_left, property_built, on_ok, pushed_there, pushed_container, still_there, bracketed_into, items_within, members_within, items_inside, members_inside, laid_as, can_lay_as}
-use Rattle.jsonc_build.proofs.Views.{view-Array, view-Object, view-StringLit, view-NumberLit, view-BooleanLit, view-NullKeyword, view-property, size-Array, size-Object, size-element, size-member, size-property}
+use Rattle.jsonc_build.proofs.LocatedValues.{view-Array, view-Object, view-StringLit, view-NumberLit, view-BooleanLit, view-NullKeyword, view-property, size-Array, size-Object, size-element, size-member, size-property}
 use Rattle.jsonc_build.proofs.Parts.{part_of_same}
 use Rattle.jsonc_build.proofs.builder.+build.Goals as goal
 
@@ -24,8 +24,8 @@ build_elements-loop-element-init g t c =
     let lies : CanLayItems c.args.text.now c.args.range.start (items_located c.args.elements.now) c.args.range.end = assumption c.requires in
     elements_start c.args.tree.now.nodes c.args.container c.args.text.now c.args.range.start c.args.range.end (items_located c.args.elements.now) lies
 
-pub build_elements-fill_between-requires-clause-there : goal.build_elements-fill_between-requires-clause-there
-build_elements-fill_between-requires-clause-there g t c =
+pub build_elements-fill_between-requires-clause-in_tree : goal.build_elements-fill_between-requires-clause-in_tree
+build_elements-fill_between-requires-clause-in_tree g t c =
     let there : c.args.container < length c.args.tree.now.nodes = assumption c.requires in
     omega (arith, there, c.loop-element.invariant.grows.len)
 
@@ -61,8 +61,8 @@ build_elements-loop-element-preserved g t c =
     let there : c.args.container < length c.args.tree.now.nodes = assumption c.requires in
     elements_more there c.range-range.ensures so_far filled.1 filled.2 built.2 built.3
 
-pub build_elements-fill_between-requires-2-clause-there : goal.build_elements-fill_between-requires-2-clause-there
-build_elements-fill_between-requires-2-clause-there g t c =
+pub build_elements-fill_between-requires-2-clause-in_tree : goal.build_elements-fill_between-requires-2-clause-in_tree
+build_elements-fill_between-requires-2-clause-in_tree g t c =
     let there : c.args.container < length c.args.tree.now.nodes = assumption c.requires in
     omega (arith, there, c.loop-element.invariant.grows.len)
 
@@ -88,8 +88,8 @@ build_properties-loop-property-init g t c =
     let lies : CanLayMembers c.args.text.now c.args.range.start (members_located c.args.properties.now) c.args.range.end = assumption c.requires in
     properties_start c.args.tree.now.nodes c.args.container c.args.text.now c.args.range.start c.args.range.end (members_located c.args.properties.now) lies
 
-pub build_properties-fill_between-requires-clause-there : goal.build_properties-fill_between-requires-clause-there
-build_properties-fill_between-requires-clause-there g t c =
+pub build_properties-fill_between-requires-clause-in_tree : goal.build_properties-fill_between-requires-clause-in_tree
+build_properties-fill_between-requires-clause-in_tree g t c =
     let there : c.args.container < length c.args.tree.now.nodes = assumption c.requires in
     omega (arith, there, c.loop-property.invariant.grows.len)
 
@@ -104,8 +104,8 @@ build_properties-fill_between-requires-clause-fillable g t c =
     let so_far = properties_at c.args.properties.now c.loop-property.property-index c.property-item.result c.loop-property-test.true c.property-item.is c.loop-property.invariant in
     subst (λ r. IsFillable c.args.text.now c.loop-property.from r.start) (sym c.range-range.ensures) so_far.lies.0
 
-pub build_properties-push_child-requires-clause-there : goal.build_properties-push_child-requires-clause-there
-build_properties-push_child-requires-clause-there g t c =
+pub build_properties-push_child-requires-clause-in_tree : goal.build_properties-push_child-requires-clause-in_tree
+build_properties-push_child-requires-clause-in_tree g t c =
     let there : c.args.container < length c.args.tree.now.nodes = assumption c.requires in
     omega (arith, there, c.loop-property.invariant.grows.len, c.in_ok-fill_between.ensures.1.len)
 
@@ -136,8 +136,8 @@ build_properties-loop-property-preserved g t c =
     properties_more there c.range-range.ensures so_far filled.1 filled.2 node.pushes
     (subst (λ n. Grows c.push_child.new.self.nodes c.build_property.new.tree.nodes n built.0) node.number built.1) built.2
 
-pub build_properties-fill_between-requires-2-clause-there : goal.build_properties-fill_between-requires-2-clause-there
-build_properties-fill_between-requires-2-clause-there g t c =
+pub build_properties-fill_between-requires-2-clause-in_tree : goal.build_properties-fill_between-requires-2-clause-in_tree
+build_properties-fill_between-requires-2-clause-in_tree g t c =
     let there : c.args.container < length c.args.tree.now.nodes = assumption c.requires in
     omega (arith, there, c.loop-property.invariant.grows.len)
 
@@ -163,8 +163,8 @@ build_property-build_name-requires-clause-spans g t c =
     let lies : CanLayProperty c.args.text.now (member_of c.args.property.now).name (member_of c.args.property.now).value = assumption c.requires in
     subst (λ r. Spans c.args.text.now r.start r.end) (sym (c.range-name.ensures ∙ ap (λ m. m.name.range) (sym (view-property c.args.property.now)))) lies.0
 
-pub build_property-fill_between-requires-clause-there : goal.build_property-fill_between-requires-clause-there
-build_property-fill_between-requires-clause-there g t c =
+pub build_property-fill_between-requires-clause-in_tree : goal.build_property-fill_between-requires-clause-in_tree
+build_property-fill_between-requires-clause-in_tree g t c =
     let there : c.args.container < length c.args.tree.now.nodes = assumption c.requires in
     omega (arith, there, c.in_ok-build_name.ensures.1.len)
 
@@ -206,8 +206,8 @@ build_property-returns g t c =
     (ap (λ m. m.value) (sym (view-property p))) lies.0 name.1 name.2 filled.1 filled.2 built.2 built.3)
     c.build_value.ensures
 
-pub build_value-push_child-requires-in-Array-2-clause-there : goal.build_value-push_child-requires-in-Array-2-clause-there
-build_value-push_child-requires-in-Array-2-clause-there g t c =
+pub build_value-push_child-requires-in-Array-2-clause-in_tree : goal.build_value-push_child-requires-in-Array-2-clause-in_tree
+build_value-push_child-requires-in-Array-2-clause-in_tree g t c =
     let node = c.in_ok-node-in-Array.ensures in
     pushed_there c.in_ok-node-in-Array.node node.number node.pushes
 
@@ -240,8 +240,8 @@ build_value-build_elements-requires g t c κs within =
     let inside = ap (λ xs. most (λ x. size-Value g.row.A.Denot x) xs) c.deref.ensures.value in
     (omega (arith, c.requires.0, deep, same, inside), (within, (whole, (there, (still, inner)))))
 
-pub build_value-push_child-requires-in-Array-3-clause-there : goal.build_value-push_child-requires-in-Array-3-clause-there
-build_value-push_child-requires-in-Array-3-clause-there g t c =
+pub build_value-push_child-requires-in-Array-3-clause-in_tree : goal.build_value-push_child-requires-in-Array-3-clause-in_tree
+build_value-push_child-requires-in-Array-3-clause-in_tree g t c =
     let node = c.in_ok-node-in-Array.ensures in
     let bracket = c.in_ok-push_child-in-Array.ensures in
     let first : c.in_ok-node-in-Array.node < length c.push_child-in-Array.new.self.nodes = pushed_there c.in_ok-node-in-Array.node node.number node.pushes in
@@ -267,8 +267,8 @@ build_value-returns-in_ok-push_child-in-Array-2 g t c =
     let is : located c.args.value.now ≡ array_at o.range (items_located c.deref.result.now) = ap located c.in-Array.is ∙ view-Array c.in-Array.array ∙ ap (λ xs. array_at o.range (items_located xs)) (sym c.deref.ensures.value) in
     (content.array, _, bracketed_into c.in_ok-node-in-Array.node there node.number node.pushes (pushes_same (ap content_of c.token.ensures) bracket.pushes) built.1 (pushes_same (ap content_of c.token-in-Array.ensures) last.pushes), laid_as is (items_inside o.range c.inside-range.result c.inside-range.ensures.start c.inside-range.ensures.end built.2))
 
-pub build_value-push_child-requires-in-Object-2-clause-there : goal.build_value-push_child-requires-in-Object-2-clause-there
-build_value-push_child-requires-in-Object-2-clause-there g t c =
+pub build_value-push_child-requires-in-Object-2-clause-in_tree : goal.build_value-push_child-requires-in-Object-2-clause-in_tree
+build_value-push_child-requires-in-Object-2-clause-in_tree g t c =
     let node = c.in_ok-node-in-Object.ensures in
     pushed_there c.in_ok-node-in-Object.node node.number node.pushes
 
@@ -301,8 +301,8 @@ build_value-build_properties-requires g t c κs within =
     let inside = ap (λ xs. most (λ x. size-ObjectProp g.row.A.Denot x) xs) c.deref-in-Object.ensures.value in
     (omega (arith, c.requires.0, deep, same, inside), (within, (whole, (there, (still, inner)))))
 
-pub build_value-push_child-requires-in-Object-3-clause-there : goal.build_value-push_child-requires-in-Object-3-clause-there
-build_value-push_child-requires-in-Object-3-clause-there g t c =
+pub build_value-push_child-requires-in-Object-3-clause-in_tree : goal.build_value-push_child-requires-in-Object-3-clause-in_tree
+build_value-push_child-requires-in-Object-3-clause-in_tree g t c =
     let node = c.in_ok-node-in-Object.ensures in
     let bracket = c.in_ok-push_child-in-Object.ensures in
     let first : c.in_ok-node-in-Object.node < length c.push_child-in-Object.new.self.nodes = pushed_there c.in_ok-node-in-Object.node node.number node.pushes in

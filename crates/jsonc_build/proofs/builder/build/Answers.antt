@@ -1,8 +1,8 @@
 use Rattle.jsonc_tree.specs.OrderedTree.{ordered_tree}
 use Rattle.jsonc_build.specs.Given.{located_in}
 use Rattle.jsonc_build.specs.Laid.{DocumentLaid}
-use Rattle.jsonc_build.proofs.Filling.{can_lay_document}
-use Rattle.jsonc_build.proofs.Growing.{grown_root}
+use Rattle.jsonc_build.proofs.FilledGaps.{can_lay_document}
+use Rattle.jsonc_build.proofs.AddedChildren.{grown_root}
 use Rattle.jsonc_build.proofs.Lines.{document_lines}
 use Rattle.jsonc_build.proofs.Meanings.{document_prints, document_value}
 use Rattle.jsonc_build.proofs.Shapes.{document_shaped}

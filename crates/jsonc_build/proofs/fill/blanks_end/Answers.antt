@@ -1,5 +1,5 @@
 use Rattle.jsonc_sound.specs.Leaves.{is_inner_blank}
-use Rattle.jsonc_build.proofs.Passing.{passes_start, passes_more}
+use Rattle.jsonc_build.proofs.PassedCharacters.{passes_start, passes_more}
 use Rattle.jsonc_build.proofs.fill.blanks_end.Goals as goal
 
 pub loop-len-init : goal.loop-len-init

@@ -1,6 +1,6 @@
 use Rattle.std.proofs.Common.{◌-◌, length}
 use Rattle.jsonc_sound.specs.Leaves.{is_inner_blank}
-use Rattle.jsonc_build.proofs.Passing.{Passes}
+use Rattle.jsonc_build.proofs.PassedCharacters.{Passes}
 use Rattle.jsonc_build.proofs.fill.blanks_end.Given as goal
 
 abbrev pub invariant-loop-len : goal.invariant-loop-len

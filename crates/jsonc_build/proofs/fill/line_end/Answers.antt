@@ -1,5 +1,5 @@
 use Rattle.jsonc_text.specs.Gaps.{is_in_line}
-use Rattle.jsonc_build.proofs.Passing.{passes_start, passes_more}
+use Rattle.jsonc_build.proofs.PassedCharacters.{passes_start, passes_more}
 use Rattle.jsonc_build.proofs.fill.line_end.Goals as goal
 
 pub loop-len-init : goal.loop-len-init

@@ -1,6 +1,6 @@
 use Rattle.std.proofs.Common.{◌-◌, length}
 use Rattle.jsonc_text.specs.Gaps.{is_in_line}
-use Rattle.jsonc_build.proofs.Passing.{Passes}
+use Rattle.jsonc_build.proofs.PassedCharacters.{Passes}
 use Rattle.jsonc_build.proofs.fill.line_end.Given as goal
 
 abbrev pub invariant-loop-len : goal.invariant-loop-len

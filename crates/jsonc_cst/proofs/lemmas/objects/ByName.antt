@@ -12,20 +12,20 @@ use Rattle.jsonc_text.specs.declared.edit.EditError.{EditError}
 use Rattle.jsonc_text.specs.declared.edit.Over.{Over}
 use Rattle.jsonc_text.specs.declared.edit.Over.TheVariants as over
 use Rattle.jsonc_text.specs.declared.edit.Shape.{Shape}
-use Rattle.jsonc_insert.specs.named.Named.{EnsuredFor, IsUnensured, NamedEnsured}
+use Rattle.jsonc_insert.specs.named.Named.{EnsuredFor, EnsureError, NamedEnsured}
 use Rattle.jsonc_edit.specs.set.Shapes.{is_of, empty_of}
 use Rattle.jsonc_insert.proofs.lemmas.named.Writing.{wants_memory, writes_named}
-use Rattle.jsonc_cst.specs.typed.Edits.{StaysElsewhere}
-use Rattle.jsonc_cst.specs.typed.Removing.{WantsMemoryAlone}
+use Rattle.jsonc_cst.specs.typed.Edits.{KeepsDocumentOf}
+use Rattle.jsonc_cst.specs.typed.Removing.{OnlyOutOfMemory}
 use Rattle.jsonc_cst.specs.objects.Named.{NamedIsWritten}
-use Rattle.jsonc_layout.specs.lines.Kinds.{holds_values}
+use Rattle.jsonc_layout.specs.lines.Kinds.{is_array_or_object}
 use Rattle.jsonc_edit.proofs.lemmas.commas.Holders.{holder_path}
 use Rattle.jsonc_run.proofs.Calls.{found_there}
-use Rattle.jsonc_run.proofs.Elsewhere.{out_down, put_elsewhere}
-use Rattle.jsonc_cst.proofs.lemmas.typed.Elsewhere.{found_elsewhere}
-use Rattle.jsonc_cst.proofs.lemmas.typed.Held.{stay_found}
-use Rattle.jsonc_cst.proofs.lemmas.typed.Kept.{Stays, stay_same}
-use Rattle.jsonc_cst.proofs.lemmas.objects.NamedIn.{put_stays}
+use Rattle.jsonc_run.proofs.DetachedNodes.{out_down, put_elsewhere}
+use Rattle.jsonc_cst.proofs.lemmas.typed.DetachedNodes.{found_elsewhere}
+use Rattle.jsonc_cst.proofs.lemmas.typed.PropertyValues.{stay_found}
+use Rattle.jsonc_cst.proofs.lemmas.typed.HandlesKept.{Stays, stay_same}
+use Rattle.jsonc_cst.proofs.lemmas.objects.InsertedProperties.{put_stays}
 
 module _ (old new : List Node) (c : ℕ) (name : List ℕ) (shape : Shape) (how : Over) (tree : IsTree old) (there : c < length old) where
   stays_for : (h : Over) (found answer : Option ℕ) → EnsuredFor shape h old new c name found answer → Stays old new
@@ -38,21 +38,21 @@ module _ (old new : List Node) (c : ℕ) (name : List ℕ) (shape : Shape) (how 
 
 -- an object that does not stand in the document leaves the document as it was
 module _ (old new : List Node) (c : ℕ) (name : List ℕ) (shape : Shape) (tree : IsTree old) (after : IsTree new) (there : c < length old) where
-  elsewhere_for : (h : Over) (found answer : Option ℕ) → FirstInObject old c name found → EnsuredFor shape h old new c name found answer → StaysElsewhere old new c
+  elsewhere_for : (h : Over) (found answer : Option ℕ) → FirstInObject old c name found → EnsuredFor shape h old new c name found answer → KeepsDocumentOf old new c
   elsewhere_for h None answer first (m, told, comes) = put_elsewhere old tree new c _ name (empty_of shape) comes.property there comes.put
   elsewhere_for over.Keep (Some r) answer first (told, same) = λ out. ap (λ (ns : List Node). ordered_tree ns 0) same
   elsewhere_for over.Replace (Some r) answer first (m, told, set) = λ out.
       let at = found_there old tree c name r first in
       found_elsewhere old new tree after r (parent_there old tree r c at.0).0 at.1 (empty_of shape) (is_of shape) (value_at old r) m refl set.1 (out_down old tree r c at.0 out)
 
-  pub named_elsewhere : (how : Over) (answer : Option ℕ) → NamedEnsured shape how old new c name answer → StaysElsewhere old new c
+  pub named_elsewhere : (how : Over) (answer : Option ℕ) → NamedEnsured shape how old new c name answer → KeepsDocumentOf old new c
   named_elsewhere how answer (found, first, by) = elsewhere_for how found answer first by
 
 module _ (old new : List Node) (c : ℕ) (name : List ℕ) (shape : Shape) (how : Over) (tree : IsTree old) (is : content_at old c ≡ content.object) where
   pub named_written : (o : Options) (answer : Option ℕ) → NamedEnsured shape how old new c name answer → NamedIsWritten old new o c name shape how
   named_written o answer e = λ sound texts path at. writes_named o old new path c name shape how answer tree sound at is texts e
 
-  pub named_for_memory : (o : Options) (e : EditError) → IsUnensured shape how old c name e → WantsMemoryAlone o old c e
+  pub named_for_memory : (o : Options) (e : EditError) → EnsureError shape how old c name e → OnlyOutOfMemory o old c e
   named_for_memory o e told = λ sound over.
-      let place = holder_path o old tree sound c over (ap holds_values is) in
+      let place = holder_path o old tree sound c over (ap is_array_or_object is) in
       wants_memory o old place.0 c name shape how e tree sound place.1 is told

@@ -19,13 +19,13 @@ use Rattle.jsonc_cst.specs.declared.cst.node.CstArray.{CstArray}
 use Rattle.jsonc_cst.specs.declared.cst.node.CstNode.{CstNode}
 use Rattle.jsonc_cst.specs.declared.cst.node.CstObject.{CstObject}
 use Rattle.jsonc_cst.specs.declared.cst.node.CstObjectProp.{CstObjectProp}
-use Rattle.jsonc_cst.specs.Document.{nodes_of, Holds}
+use Rattle.jsonc_cst.specs.Document.{nodes_of, HasNode}
 use Rattle.jsonc_cst.specs.Nodes.{array_node, number_of, object_node, object_prop_node, typed, typed_at}
 use Rattle.jsonc_cst.proofs.Family.{number_of-typed}
 use Rattle.jsonc_cst.specs.sorting.Rows.{property_if}
 use Rattle.jsonc_sort.specs.again.Again.{top_if, tops_asked, IsInOrderOf}
 use Rattle.jsonc_cst.specs.sorting.Again.{ComparesTops, ElementsSortOnce, IsSortedBy, IsUntouched, PropertiesSortOnce}
-use Rattle.jsonc_sort.proofs.lemmas.again.Once.{sorts_once}
+use Rattle.jsonc_sort.proofs.lemmas.again.SecondSort.{sorts_once}
 
 -- an order of what nodes are told to be
 module _ {N T : Type 0} (lt : T → T → Bool) (told : N → T) where
@@ -76,7 +76,7 @@ module _ {N : Type 0} (node_of : N → CstNode) (pick : CstNode → Option N) (a
           (subst (λ (l : List (Option Top)). IsOrderedBy (comes_before lt l []) (length nodes) s.order) (tops_of ns es)
           (told_ordered lt (node_top ns) nodes [] (length nodes) s.order (s.wanted (λ x y. lt (node_top ns x) (node_top ns y)) by)))
 
-      once : (old now new : CstRootNode A) (node : CstNode) (h k : Headers) → IsStrictWeakOrder lt → IsTree (nodes_of old) → Holds old node
+      once : (old now new : CstRootNode A) (node : CstNode) (h k : Headers) → IsStrictWeakOrder lt → IsTree (nodes_of old) → HasNode old node
           → ComparesTops g compare same node_of lt old → IsSortedBy g compare same node_of old now node (map pick (map (typed_at (nodes_of old)) (elements_at (nodes_of old) (number_of node)))) h
           → ComparesTops g compare same node_of lt now → IsSortedBy g compare same node_of now new node (map pick (map (typed_at (nodes_of now)) (elements_at (nodes_of now) (number_of node)))) k
           → IsUntouched now new

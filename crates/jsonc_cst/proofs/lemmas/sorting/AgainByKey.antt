@@ -15,7 +15,7 @@ use Rattle.jsonc_tree.specs.OrderedTree.{Top, ordered_tree, printed}
 use Rattle.jsonc_tree.specs.Tree.{Node, children_at, content_at, IsTree}
 use Rattle.jsonc_layout.specs.nodes.Kinds.{is_element_at, is_property}
 use Rattle.jsonc_layout.specs.nodes.Siblings.{elements_at, AreThere}
-use Rattle.jsonc_layout.proofs.lemmas.nodes.There.{children_there}
+use Rattle.jsonc_layout.proofs.lemmas.nodes.InTree.{children_there}
 use Rattle.jsonc_edit.specs.Changes.{top_at}
 use Rattle.jsonc_text.specs.declared.edit.EditError.{EditError}
 use Rattle.jsonc_sort.specs.ordering.Keys.{AreKeys, IsKeyOf}
@@ -26,13 +26,13 @@ use Rattle.jsonc_cst.specs.declared.cst.node.CstArray.{CstArray}
 use Rattle.jsonc_cst.specs.declared.cst.node.CstNode.{CstNode}
 use Rattle.jsonc_cst.specs.declared.cst.node.CstObject.{CstObject}
 use Rattle.jsonc_cst.specs.declared.cst.node.CstObjectProp.{CstObjectProp}
-use Rattle.jsonc_cst.specs.Document.{nodes_of, Holds}
+use Rattle.jsonc_cst.specs.Document.{nodes_of, HasNode}
 use Rattle.jsonc_cst.specs.Nodes.{array_node, number_of, object_node, object_prop_node, typed, typed_at, IsNodeOf}
 use Rattle.jsonc_cst.specs.Readings.{property_under}
 use Rattle.jsonc_cst.proofs.Family.{typed_held}
 use Rattle.jsonc_cst.specs.sorting.Rows.{property_if}
 use Rattle.jsonc_sort.specs.again.Again.{tops_asked, IsInOrderOf}
-use Rattle.jsonc_sort.proofs.lemmas.again.Once.{sorts_once}
+use Rattle.jsonc_sort.proofs.lemmas.again.SecondSort.{sorts_once}
 use Rattle.jsonc_cst.specs.sorting.Again.{ElementsSortOnceByKey, IsSortedByKey, IsUntouched, KeysCompareTops, PropertiesSortOnceByKey}
 use Rattle.jsonc_cst.proofs.lemmas.sorting.Again.{count, elements_picked, every, properties_picked, told_in, tops_of, Picks}
 
@@ -65,7 +65,7 @@ module _ {A F D N K : Type 0} (g : Shared F (Bor D × (N × Unit {0})) (Result K
     told x = top_at (nodes_of d) (number_of (node_of x))
 
     abbrev IsHeld : Option N → Type 0
-    IsHeld o = (x : N) → o ≡ Some x → Holds d (node_of x)
+    IsHeld o = (x : N) → o ≡ Some x → HasNode d (node_of x)
 
     both : (x y : Option N) (k l : Option K) → IsHeld x → IsHeld y → IsKeyOf g key (same d) x k → IsKeyOf g key (same d) y l → option_before before k l ≡ option_before lt (option_map told x) (option_map told y)
     both (Some x) (Some y) k l hx hy kx ky =
@@ -101,12 +101,12 @@ module _ {A F D N K : Type 0} (g : Shared F (Bor D × (N × Unit {0})) (Result K
         let ns : List Node = nodes_of old in
         let es : List ℕ = elements_at ns (number_of node) in
         let nodes : List (Option N) = map pick (map (typed_at ns) es) in
-        let held : (i : ℕ) (x : N) → node_in nodes i ≡ Some x → Holds old (node_of x) = held_in node_of pick finds ns es (elements_there ns (number_of node) tree) in
+        let held : (i : ℕ) (x : N) → node_in nodes i ≡ Some x → HasNode old (node_of x) = held_in node_of pick finds ns es (elements_there ns (number_of node) tree) in
         subst (λ (n : ℕ). IsOrderedBy (comes_before lt (tops_asked asked ns (number_of node)) []) n s.order) (count node_of pick asked picks ns es)
         (subst (λ (l : List (Option Top)). IsOrderedBy (comes_before lt l []) (length nodes) s.order) (tops_of node_of pick asked picks ns es)
         (subst (λ (f : ℕ → ℕ → Bool). IsOrderedBy f (length nodes) s.order) (λ k i j. comes old tell nodes s.wanted.0 s.wanted.1 held i j k) s.wanted.2))
 
-    once : (old now new : CstRootNode A) (node : CstNode) (h k : Headers) → IsStrictWeakOrder lt → IsTree (nodes_of old) → IsTree (nodes_of now) → Holds old node
+    once : (old now new : CstRootNode A) (node : CstNode) (h k : Headers) → IsStrictWeakOrder lt → IsTree (nodes_of old) → IsTree (nodes_of now) → HasNode old node
         → KeysCompareTops g key same node_of cmp lt old
         → IsSortedByKey g key same node_of cmp old now node (map pick (map (typed_at (nodes_of old)) (elements_at (nodes_of old) (number_of node)))) h
         → KeysCompareTops g key same node_of cmp lt now

@@ -1,4 +1,4 @@
--- What stays around a value, or a property, that gives way.
+-- What stays around a value, or a property, that is replaced.
 use Rattle.std.proofs.Common.{◌≡◌, ℕ, Bool, true, false, List, Option, Some, None, IfNone, IfSome, sym, subst, ◌∙◌}
 use Rattle.jsonc_text.specs.Options.{Options}
 use Rattle.jsonc_text.specs.Plain.{Plain}
@@ -12,19 +12,19 @@ use Rattle.jsonc_sound.proofs.LeavesAround.{document_differs}
 use Rattle.jsonc_edit.specs.Changes.{top_at}
 use Rattle.jsonc_edit.specs.Reading.{layout_for, IsReplaced}
 use Rattle.jsonc_edit.proofs.Elements.{Some_same}
-use Rattle.jsonc_edit.proofs.GivingWay.{in_place}
+use Rattle.jsonc_edit.proofs.ReplacedChildren.{in_place}
 use Rattle.jsonc_edit.proofs.ReplacedValues.{changed, put}
 use Rattle.jsonc_edit.specs.set.Giving.{property_top, IsPropertyReplaced}
 use Rattle.jsonc_edit.specs.set.Kinds.{FoundOrCreated, FoundOrSet, KeptOrReplaced}
 use Rattle.jsonc_edit.specs.set.RootSet.{FirstValue}
-use Rattle.jsonc_edit.proofs.lemmas.set.Coming.{comes_among_rows}
-use Rattle.jsonc_cst.specs.typed.Around.{EmptyStaysAround, FirstStaysAround, IsLaidProperty, KeptOrStaysAround, LeavesGiveWay, StaysAroundRoot, StaysAroundValue}
+use Rattle.jsonc_edit.proofs.lemmas.set.FirstValueRows.{comes_among_rows}
+use Rattle.jsonc_cst.specs.typed.Around.{EmptyStaysAround, FirstStaysAround, IsLaidProperty, KeptOrStaysAround, LeavesReplaced, StaysAroundRoot, StaysAroundValue}
 
 module _ (old new : List Node) (v : Plain) (tree : IsTree old) where
   pub replaced_around : (n m : ℕ) → IsReplaced old new n v m → StaysAroundValue old new n v
   replaced_around n m (k, said, g) = λ path c at told.
       let top : Top = laid (layout_for old k n) v in
-      subst (λ j. LeavesGiveWay (leaves_of (top_at old n)) (leaves_of (laid (layout_for old j n) v)) (ordered_tree old 0) (ordered_tree new 0)) (Some_same k c (sym said ∙ told))
+      subst (λ j. LeavesReplaced (leaves_of (top_at old n)) (leaves_of (laid (layout_for old j n) v)) (ordered_tree old 0) (ordered_tree new 0)) (Some_same k c (sym said ∙ told))
       (record {
         spaced = ordered_tree g.spaced 0;
         spaces = put old new n m top tree g path at;

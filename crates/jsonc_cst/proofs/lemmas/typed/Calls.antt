@@ -22,21 +22,21 @@ use Rattle.jsonc_cst.specs.declared.cst.node.CstObject.{CstObject}
 use Rattle.jsonc_cst.specs.declared.cst.node.CstObjectProp.{CstObjectProp}
 use Rattle.jsonc_cst.specs.declared.typed.removing.Removal.{Removal}
 use Rattle.jsonc_cst.specs.declared.typed.removing.Removal.TheVariants.{Clearing, OfComment, OfElement, OfLeaf}
-use Rattle.jsonc_cst.specs.Document.{nodes_of, Holds}
+use Rattle.jsonc_cst.specs.Document.{nodes_of, HasNode}
 use Rattle.jsonc_cst.specs.Nodes.{container_of, number_of, object_prop_node}
 use Rattle.jsonc_cst.specs.objects.Members.{HasNamedComeIn}
 use Rattle.jsonc_cst.specs.objects.Named.{HasEnsuredArray, HasEnsuredObject}
 use Rattle.jsonc_cst.specs.sorting.Sorted.{IsPlaced}
 use Rattle.jsonc_cst.specs.typed.AsCalls.{number_taken, IsCallIf, IsRootCallIf, LoneRemovalIsCall, RemovalIsCall}
 use Rattle.jsonc_cst.specs.typed.Commas.{HasSetCommas, HasSetCommasInPart}
-use Rattle.jsonc_cst.specs.typed.Edits.{is_name_in, HasGivenWay, IsReplacedAs, IsUntouched, StaysAsItWas}
+use Rattle.jsonc_cst.specs.typed.Edits.{is_name_in, IsReplacedBy, IsReplacedAs, IsUntouched, Unchanged}
 use Rattle.jsonc_cst.specs.typed.Inserting.{HasComeIn}
 use Rattle.jsonc_cst.specs.typed.Lines.{HasSpreadOut}
 use Rattle.jsonc_cst.specs.typed.Raw.{HasBecome}
-use Rattle.jsonc_cst.specs.typed.Removing.{removal_of, IsCleared, IsLooseFor, IsTakenBy, LeavesAlone}
+use Rattle.jsonc_cst.specs.typed.Removing.{removal_of, IsCleared, IsLooseFor, IsTakenBy, RemovedAlone}
 use Rattle.jsonc_cst.specs.typed.Setting.{FindsOrCreatesArray, FindsOrCreatesObject, FindsOrSetsArray, FindsOrSetsObject, HasBecomeProperty, RootBecomes, ValueBecomes}
-use Rattle.jsonc_cst.specs.typed.Values.{HasSetBoolean, HeldBecomes, NowHolds, NowHoldsArray, NowHoldsObject}
-use Rattle.jsonc_cst.proofs.lemmas.typed.Held.{held_property}
+use Rattle.jsonc_cst.specs.typed.Values.{HasSetBoolean, HeldBecomes, NodeValueIs, NowHoldsArray, NowHoldsObject}
+use Rattle.jsonc_cst.proofs.lemmas.typed.PropertyValues.{held_property}
 
 -- what the nodes are, by numbers
 module _ (old new : List Node) (tree : IsTree old) where
@@ -56,7 +56,7 @@ module _ (old new : List Node) (tree : IsTree old) where
   element_taken n None low e takes untouched = call_of_same old new tree n low (untouched e)
   element_taken n (Some c) low e takes untouched = call_of old new tree n low (element_leaves n c e (takes c e).1)
 
-  leaf_taken : (n : ℕ) (o : Option ℕ) → n < length old → parent_at old n ≡ o → LeavesAlone old new n → (parent_at old n ≡ None → new ≡ old) → IsCallOf old new n
+  leaf_taken : (n : ℕ) (o : Option ℕ) → n < length old → parent_at old n ≡ o → RemovedAlone old new n → (parent_at old n ≡ None → new ≡ old) → IsCallOf old new n
   leaf_taken n None low e leaves untouched = call_of_same old new tree n low (untouched e)
   leaf_taken n (Some c) low e leaves untouched = call_of old new tree n low (leaf_leaves n c e (leaves c e))
 
@@ -74,7 +74,7 @@ module _ (old new : List Node) (tree : IsTree old) where
 
 -- the same of a document
 module _ {A : Type 0} (old new : CstRootNode A) where
-  pub kept_is_call : (node : CstNode) → IsCallIf old new node (StaysAsItWas old new)
+  pub kept_is_call : (node : CstNode) → IsCallIf old new node (Unchanged old new)
   kept_is_call node = λ tree held keeps. call_of (nodes_of old) (nodes_of new) tree (number_of node) held.0 (all_stay (number_of node) keeps)
 
   pub untouched_is_call : (node : CstNode) → IsCallIf old new node (IsUntouched old new)
@@ -90,7 +90,7 @@ module _ {A : Type 0} (old new : CstRootNode A) where
   lone_removal_is_call node = λ tree held left untouched.
       leaf_taken (nodes_of old) (nodes_of new) tree (number_of node) (parent_at (nodes_of old) (number_of node)) held.0 refl left (λ none. untouched (ap (option_map (container_of (nodes_of old))) none))
 
-  pub given_is_call : (node : CstNode) (v : Plain) (now : CstNode) → IsCallIf old new node (HasGivenWay old new node v now)
+  pub given_is_call : (node : CstNode) (v : Plain) (now : CstNode) → IsCallIf old new node (IsReplacedBy old new node v now)
   given_is_call node v now = λ tree held given.
       given_as (nodes_of old) (nodes_of new) tree (is_name_in (nodes_of old) (number_of node)) (number_of node) (number_of now) v held.0 given
 
@@ -116,12 +116,12 @@ module _ {A : Type 0} (old new : CstRootNode A) where
   array_set x = λ tree found. found_or_set (nodes_of old) (nodes_of new) tree is_array (array no_items) (value_at (nodes_of old) 0) x.number refl found
 
   module _ (p : CstObjectProp) where
-    becomes : (v : Plain) (o : Option ℕ) (m : ℕ) → IsTree (nodes_of old) → Holds old (object_prop_node p) → value_at (nodes_of old) p.number ≡ o
+    becomes : (v : Plain) (o : Option ℕ) (m : ℕ) → IsTree (nodes_of old) → HasNode old (object_prop_node p) → value_at (nodes_of old) p.number ≡ o
         → HeldBecomes (nodes_of old) (nodes_of new) p.number v o m → IsCallOf (nodes_of old) (nodes_of new) p.number
     becomes v None m tree held e last = held_last (nodes_of old) (nodes_of new) tree p.number held.0 (held_property (nodes_of old) p held) v m last
     becomes v (Some n) m tree held e given = held_given (nodes_of old) (nodes_of new) tree p.number held.0 (held_property (nodes_of old) p held) v n m e given
 
-    pub value_is_call : (v : Plain) (now : CstNode) → IsCallIf old new (object_prop_node p) (NowHolds old new (object_prop_node p) v now)
+    pub value_is_call : (v : Plain) (now : CstNode) → IsCallIf old new (object_prop_node p) (NodeValueIs old new (object_prop_node p) v now)
     value_is_call v now = λ tree held set. becomes v (value_at (nodes_of old) p.number) (number_of now) tree held refl set
 
     pub object_held : (x : CstObject) → IsCallIf old new (object_prop_node p) (NowHoldsObject old new (object_prop_node p) x)

@@ -19,7 +19,7 @@ use Rattle.jsonc_edit.specs.Paths.{IsElementOf, LeadsTo, itself, IsAt}
 use Rattle.jsonc_edit.specs.Reading.{layout_for, IsReplaced}
 use Rattle.jsonc_edit.proofs.Elements.{taken, left}
 use Rattle.jsonc_edit.proofs.FittingFinds.{fails, none_first, passes}
-use Rattle.jsonc_edit.proofs.GivingWay.{laid_element, in_place}
+use Rattle.jsonc_edit.proofs.ReplacedChildren.{laid_element, in_place}
 use Rattle.jsonc_edit.proofs.NewPaths.{at_now}
 use Rattle.jsonc_edit.proofs.ReplacedValues.{spaced, spaced_at}
 use Rattle.jsonc_edit.specs.set.Kinds.{FoundOrCreated, FoundOrSet, KeptOrReplaced}
@@ -91,7 +91,7 @@ module _ (old new : List Node) (v : Plain) (m : ℕ) (tree : IsTree old) (f : Fi
   same_kinds : All (λ k. is_element_at new k ≡ is_element_at old k) (children_at old 0)
   same_kinds k d l =
       subst (λ n. is_element_at new n ≡ is_element_at old n) (get_or_default (children_at old 0) k 0 d l)
-      (ap is_element (f.put.content _ ∙ f.prepared.keeps.content _ (tree.there 0 k l)))
+      (ap is_element (f.put.content _ ∙ f.prepared.keeps.content _ (tree.in_tree 0 k l)))
 
   none_front : value_at old 0 ≡ None → find (is_element_at new) (take (first_place old) (children_at old 0)) ≡ None
   none_front e =

@@ -12,7 +12,7 @@ use Rattle.jsonc_sound.specs.MarkChanges.{MarksDifferIn, marks_under}
 use Rattle.jsonc_sound.specs.Marks.{Mark, marks}
 use Rattle.jsonc_sound.specs.SoundTrees.{SoundTree}
 use Rattle.jsonc_sound.specs.Written.{written}
-use Rattle.jsonc_sound.proofs.GivingWay.{values_marks}
+use Rattle.jsonc_sound.proofs.ReplacedStretches.{values_marks}
 use Rattle.jsonc_sound.proofs.Laid.{laid_as_written}
 use Rattle.jsonc_edit.specs.Changes.{top_at}
 use Rattle.jsonc_edit.specs.Paths.{IsAt, itself}
@@ -23,8 +23,8 @@ use Rattle.jsonc_edit.proofs.Spacing.{spaces_marks}
 use Rattle.jsonc_edit.specs.set.Kinds.{FoundOrCreated, FoundOrSet, KeptOrReplaced}
 use Rattle.jsonc_edit.specs.set.PropertyValues.{HeldOrSet}
 use Rattle.jsonc_edit.specs.set.RootSet.{FirstValue}
-use Rattle.jsonc_edit.proofs.lemmas.set.Gaining.{gives_first_value}
-use Rattle.jsonc_cst.specs.typed.Marked.{EmptyMarked, IsMarkedFor, KeptOrMarked, MarksGiveWay, MarksStay, RootMarkedFor}
+use Rattle.jsonc_edit.proofs.lemmas.set.FirstValueSet.{gives_first_value}
+use Rattle.jsonc_cst.specs.typed.Marked.{EmptyMarked, IsMarkedFor, KeptOrMarked, MarksReplaced, MarksStay, RootMarkedFor}
 use Rattle.jsonc_cst.specs.typed.Setting.{EmptyWritten, KeptOrWritten, FirstOrSame}
 use Rattle.jsonc_cst.proofs.lemmas.typed.Found.{first_is, value_root}
 
@@ -37,13 +37,13 @@ module _ (old new : List Node) (v : Plain) (tree : IsTree old) where
   replaced_marked n m (c, said, g) = λ path at texts.
       let top : Top = laid (layout_for old c n) v in
       let was : List Mark = marks_under (top_at old n) in
-      subst (λ l. MarksGiveWay old new was l) (laid_as_written (layout_for old c n) v texts)
+      subst (λ l. MarksReplaced old new was l) (laid_as_written (layout_for old c n) v texts)
       (subst (λ l. MarksDifferIn was (marks_under top) l (marks (ordered_tree new 0))) (spaces_marks (put old new n m top tree g path at))
       (values_marks (ordered_tree g.spaced 0) (top_at old n) top path (ordered_tree new 0) (changed old new n m top tree g path at)))
 
-  first_marked : (o : Options) (m : ℕ) → value_at old 0 ≡ None → FirstValue old new v m → SoundTree o (ordered_tree old 0) → IsWritable o v → MarksGiveWay old new [] (written v)
+  first_marked : (o : Options) (m : ℕ) → value_at old 0 ≡ None → FirstValue old new v m → SoundTree o (ordered_tree old 0) → IsWritable o v → MarksReplaced old new [] (written v)
   first_marked o m e f sound writable =
-      subst (λ l. MarksGiveWay old new [] l) (laid_as_written (layout_for old 0 0) v writable.texts) (gives_first_value o old new v m tree sound e writable f).marked
+      subst (λ l. MarksReplaced old new [] l) (laid_as_written (layout_for old 0 0) v writable.texts) (gives_first_value o old new v m tree sound e writable f).marked
 
   pub root_marked : (o : Options) (found : Option ℕ) (m : ℕ) → value_at old 0 ≡ found → IfSome found (λ n. IsReplaced old new n v m) → IfNone found (FirstValue old new v m) → RootMarkedFor old new o v found
   root_marked o None m e r f = λ sound writable. first_marked o m e f sound writable
@@ -53,19 +53,19 @@ module _ (old new : List Node) (v : Plain) (tree : IsTree old) where
   held_marked None m r n e = absurd (let wrong : None ≡ Some n = e in cc)
   held_marked (Some k) m r n e = subst (λ j. IsMarkedFor old new j v) (let same : k ≡ n = cc in same) (replaced_marked k m r)
 
-  -- another kind has given way to an empty value in a property
+  -- another kind has been replaced by an empty value in a property
   pub held_empty_marked : (kind : Content → Bool) (p : ℕ) (found : Option ℕ) (m : ℕ) → HeldOrSet kind v old new p found m → (n : ℕ) → found ≡ Some n → kind (content_at old n) ≡ false → IsMarkedFor old new n v
   held_empty_marked kind p found m r n e other =
       replaced_marked n m (subst (λ b. KeptOrReplaced b v old new n m) other (subst (λ w. HeldOrSet kind v old new p w m) e r))
 
 -- marks that have come between others, and are none, are none
-none_come : (old new : List Node) → MarksGiveWay old new [] [] → marks (ordered_tree new 0) ≡ marks (ordered_tree old 0)
+none_come : (old new : List Node) → MarksReplaced old new [] [] → marks (ordered_tree new 0) ≡ marks (ordered_tree old 0)
 none_come old new d = d.after ∙ sym d.before
 
 -- an empty value has been set, or was there
 module _ (o : Options) (kind : Content → Bool) (v : Plain) (writable : IsWritable o v) (bare : written v ≡ []) (old new : List Node) (tree : IsTree old) where
   stay_with_first : (m : ℕ) → value_at old 0 ≡ None → FirstValue old new v m → MarksStay old new o
-  stay_with_first m e f = λ sound. none_come old new (subst (λ l. MarksGiveWay old new [] l) bare (first_marked old new v tree o m e f sound writable))
+  stay_with_first m e f = λ sound. none_come old new (subst (λ l. MarksReplaced old new [] l) bare (first_marked old new v tree o m e f sound writable))
 
   stay_unchanged : new ≡ old → MarksStay old new o
   stay_unchanged same = λ sound. ap (λ ns. marks (ordered_tree ns 0)) same
@@ -88,7 +88,7 @@ module _ (o : Options) (kind : Content → Bool) (v : Plain) (writable : IsWrita
 
   kept_marked : (n m : ℕ) (b : Bool) → value_at old 0 ≡ Some n → KeptOrReplaced b v old new n m → KeptOrMarked old new b o n
   kept_marked n m true e (here, same) = stay_unchanged same
-  kept_marked n m false e r = subst (λ l. MarksGiveWay old new (marks_under (top_at old n)) l) bare (replaced_marked old new v tree n m r [] (root_at old tree n e) writable.texts)
+  kept_marked n m false e r = subst (λ l. MarksReplaced old new (marks_under (top_at old n)) l) bare (replaced_marked old new v tree n m r [] (root_at old tree n e) writable.texts)
 
   pub set_marked : (found : Option ℕ) (m : ℕ) → value_at old 0 ≡ found → FoundOrSet kind v old new found m → EmptyMarked old new kind o found
   set_marked None m e f = stay_with_first m e f

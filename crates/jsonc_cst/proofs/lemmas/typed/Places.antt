@@ -11,25 +11,25 @@ use Rattle.jsonc_tree.specs.Values.{is_passed_over}
 use Rattle.jsonc_tree.proofs.Order.{parent_there}
 use Rattle.jsonc_sound.specs.Shape.{IsLiteralBefore}
 use Rattle.jsonc_layout.specs.nodes.Kinds.{is_comment, is_element_at, is_property}
-use Rattle.jsonc_layout.specs.lines.Kinds.{holds_values}
+use Rattle.jsonc_layout.specs.lines.Kinds.{is_array_or_object}
 use Rattle.jsonc_layout.specs.nodes.Properties.{is_name, is_name_at, name_at}
 use Rattle.jsonc_sound.specs.Alone as alone
 use Rattle.jsonc_sound.specs.Alone.{ValueAlone}
 use Rattle.jsonc_sound.specs.SoundTrees.{SoundTree}
 use Rattle.jsonc_edit.specs.Paths.{IsAt, IsElementOf, as_root, as_value, as_property, as_name, between}
-use Rattle.jsonc_edit.proofs.Standing.{all_stand}
+use Rattle.jsonc_edit.proofs.ShapedPlaces.{all_stand}
 use Rattle.jsonc_edit.proofs.Uniqueness.{element_parent}
 use Rattle.jsonc_edit.proofs.lemmas.commas.Holders.{value_at_path}
 use Rattle.jsonc_insert.specs.named.Places.{IsPropertyAt}
 use Rattle.jsonc_run.specs.Places.{IsEntryAt}
 use Rattle.jsonc_run.specs.promise.Steps.{IsCommentAt, IsNoPart}
-use Rattle.jsonc_run.proofs.lemmas.promise.Stepping.{comment_place, entry_place, over_parent, property_place, value_place, IsKind}
+use Rattle.jsonc_run.proofs.lemmas.promise.NodePlaces.{comment_place, entry_place, over_parent, property_place, value_place, IsKind}
 use Rattle.jsonc_cst.specs.Nodes.{typed}
 use Rattle.jsonc_cst.specs.typed.Edits.{is_found, is_name_in, is_name_under}
 use Rattle.jsonc_cst.specs.typed.Removing.{removal_of}
 use Rattle.jsonc_cst.specs.typed.Steps.{IsHolder, IsValueIn, IsWholeOrAt}
 use Rattle.jsonc_cst.specs.declared.typed.removing.Removal.TheVariants.{Clearing, OfComment, OfElement, OfLeaf}
-use Rattle.jsonc_cst.proofs.lemmas.typed.Whole.{name_kind}
+use Rattle.jsonc_cst.proofs.lemmas.typed.CompleteNodes.{name_kind}
 
 -- what a value is, and what leaves as an element: no root and nothing that is passed over
 value_kind : (ns : List Node) (c : Content) (n : ℕ) → IsValueIn ns (typed c n) → IsKind c × (c ≡ content.property → ⊥)
@@ -91,7 +91,7 @@ no_root_value (alone.an_array g) e = let wrong : content.array ≡ content.root 
 no_root_value (alone.an_object g) e = let wrong : content.object ≡ content.root = e in cc
 
 -- what holds commas and is not the root is an array or an object
-holder_holds : (c : Content) (n : ℕ) → IsHolder (typed c n) → (c ≡ content.root → ⊥) → IsTrue (holds_values c)
+holder_holds : (c : Content) (n : ℕ) → IsHolder (typed c n) → (c ≡ content.root → ⊥) → IsTrue (is_array_or_object c)
 holder_holds content.root n h out = absurd (out refl)
 holder_holds content.array n h out = refl
 holder_holds content.object n h out = refl
@@ -200,7 +200,7 @@ module _ (o : Options) (ns : List Node) (tree : IsTree ns) (sound : SoundTree o 
   pub comment_number : (n : ℕ) → removal_of (typed (content_at ns n) n) ≡ OfComment → IsOver ns 0 n → (number : ℕ) × IsCommentAt ns number n
   comment_number n e over = comment_place ns tree n over (comment_kind (content_at ns n) n e)
 
-  pub holder_at : (n : ℕ) → IsHolder (typed (content_at ns n) n) → (path : List ℕ) → IsAt ns path n → IsTrue (holds_values (content_at ns n))
+  pub holder_at : (n : ℕ) → IsHolder (typed (content_at ns n) n) → (path : List ℕ) → IsAt ns path n → IsTrue (is_array_or_object (content_at ns n))
   holder_at n h path at = holder_holds (content_at ns n) n h (no_root_value (value_at_path o ns tree sound path n at))
 
   pub holder_place : (n : ℕ) → IsHolder (typed (content_at ns n) n) → IsOver ns 0 n → (path : List ℕ) × IsWholeOrAt ns path n

@@ -17,12 +17,12 @@ use Rattle.jsonc_edit.specs.Written.{Writes}
 use Rattle.jsonc_edit.specs.set.Giving.{IsPropertyReplaced}
 use Rattle.jsonc_edit.specs.set.Kinds.{is_array, is_object, FoundOrCreated, FoundOrSet, KeptOrReplaced}
 use Rattle.jsonc_edit.specs.set.RootSet.{FirstValue}
-use Rattle.jsonc_edit.proofs.lemmas.set.Gaining.{gives_first_value}
+use Rattle.jsonc_edit.proofs.lemmas.set.FirstValueSet.{gives_first_value}
 use Rattle.jsonc_edit.proofs.lemmas.set.WrittenProperty.{writes_property}
 use Rattle.jsonc_cst.specs.declared.cst.node.CstNode.{CstNode}
 use Rattle.jsonc_cst.specs.Nodes.{array_node, number_of, object_node, typed, typed_at}
 use Rattle.jsonc_cst.specs.typed.Setting.{PropertyBecomes, PropertyIsWritten, ValueBecomes, ValueIsWritten}
-use Rattle.jsonc_cst.proofs.lemmas.typed.Kept.{Stays, stay_both, stay_kept, stay_replaced, stay_same, stay_spaced, stay_spliced, replaced_there}
+use Rattle.jsonc_cst.proofs.lemmas.typed.HandlesKept.{Stays, stay_both, stay_kept, stay_replaced, stay_same, stay_spaced, stay_spliced, replaced_there}
 
 -- where a first value has come
 module _ (old new : List Node) (v : Plain) (m : ℕ) (f : FirstValue old new v m) where
@@ -32,13 +32,13 @@ module _ (old new : List Node) (v : Plain) (m : ℕ) (f : FirstValue old new v m
   pub first_there : m < length new
   first_there =
       let within : length f.before < length (f.before ++ m ∷ f.behind) = omega (arith, length-append f.before (m ∷ f.behind)) in
-      let there : get_or (f.before ++ m ∷ f.behind) (length f.before) 0 < length f.ready = f.join.there (length f.before) within in
+      let there : get_or (f.before ++ m ∷ f.behind) (length f.before) 0 < length f.ready = f.join.in_tree (length f.before) within in
       omega (arith, there, get_or-append_seam f.before m f.behind 0, f.put.len)
 
   pub first_content : content_at new m ≡ (laid (layout_for old 0 0) v).content
   first_content = f.put.content m ∙ ap (λ (t : Top). t.content) f.is
 
--- where a value has given way
+-- where a value has been replaced
 replaced_content : (old new : List Node) (n : ℕ) (v : Plain) (m : ℕ) (content : Content) → ((l : Layout) → (laid l v).content ≡ content)
     → IsReplaced old new n v m → content_at new m ≡ content
 replaced_content old new n v m content made (c, said, g) =
@@ -78,7 +78,7 @@ module _ (kind : Content → Bool) (v : Plain) (old new : List Node) where
   stay_found None m f = stay_first old new v m f
   stay_found (Some n) m r = kept_stays n m (kind (content_at old n)) r
 
-  -- or want of memory was told
+  -- or allocation failure was told
   pub created_or_kept : {E : Type 0} (o : Option ℕ) (r : Result (Option ℕ) E) → IfOk r (FoundOrCreated kind v old new o)
       → OnErr r (Keeps (length old) old new) → Stays old new
   created_or_kept o (Ok answer) found kept = stay_created o answer found
@@ -136,11 +136,11 @@ there_if ns n other =
       | inr g ↦ absurd (other (ap (λ (x : Node). x.content) (get_or_past ns n nowhere g)))
     ]
 
--- where a property has given way to another
+-- where a property has been replaced by another
 module _ (old new : List Node) (n : ℕ) (name : List ℕ) (v : Plain) (m : ℕ) where
   pub property_there : IsPropertyReplaced old new n name v m → m < length new
   property_there (c, said, g) =
-      let there : m < length g.spaced = g.place.replaces.join.there 0 (omega arith) in
+      let there : m < length g.spaced = g.place.replaces.join.in_tree 0 (omega arith) in
       omega (arith, there, g.place.replaces.spliced.len)
 
   pub stay_property : IsPropertyReplaced old new n name v m → Stays old new

@@ -9,11 +9,11 @@ use Rattle.jsonc_tree.specs.Tree.{Node, content_at, IsTree, IsOver}
 use Rattle.jsonc_layout.specs.nodes.Kinds.{is_comment_at}
 use Rattle.jsonc_layout.specs.nodes.Properties.{lacks_name_at, value_at}
 use Rattle.jsonc_layout.specs.nodes.Siblings.{elements_at}
-use Rattle.jsonc_layout.specs.lines.Kinds.{holds_values}
+use Rattle.jsonc_layout.specs.lines.Kinds.{is_array_or_object}
 use Rattle.jsonc_sound.specs.SoundTrees.{SoundTree}
 use Rattle.jsonc_sound.specs.TreeChanges.{DocumentChanged}
 use Rattle.jsonc_layout.specs.from_input.Texts.{IsCharacters, IsOfTexts}
-use Rattle.jsonc_edit.proofs.lemmas.commas.Within.{stays_outside, stays_outside_in_part}
+use Rattle.jsonc_edit.proofs.lemmas.commas.InsideAlone.{stays_outside, stays_outside_in_part}
 use Rattle.jsonc_edit.proofs.lemmas.commas.Documents.{keeps_document, keeps_in_part}
 use Rattle.jsonc_edit.proofs.lemmas.commas.Holders.{holder_path}
 use Rattle.jsonc_edit.specs.Changes.{top_at}
@@ -37,7 +37,7 @@ use Rattle.jsonc_run.specs.Places.{IsEntryAt}
 use Rattle.jsonc_run.specs.Steps.{IsChangedAt}
 use Rattle.jsonc_run.specs.promise.Steps.{IsCommentAt}
 use Rattle.jsonc_run.proofs.lemmas.promise.CommaSteps.{commas_lead, some_commas_lead}
-use Rattle.jsonc_run.proofs.lemmas.promise.Stepping.{made_leads, made_step}
+use Rattle.jsonc_run.proofs.lemmas.promise.NodePlaces.{made_leads, made_step}
 use Rattle.jsonc_cst.specs.Nodes.{typed, typed_at}
 use Rattle.jsonc_cst.specs.typed.Commas.{CommasSet, CommasSetInPart}
 use Rattle.jsonc_cst.specs.typed.Removing.{removal_of, IsCleared}
@@ -111,22 +111,22 @@ module _ (old new : List Node) (tree : IsTree old) (after : IsTree new) where
       made_step old new tree after IsAt (λ path. set_boolean path b) n (λ path. tt) (λ o sound. value_path o old tree sound n (boolean_value old n (content_at old n) refl is)) (λ path over at. (n, (at, is), set))
 
   -- an array or object
-  pub spread_step : (n : ℕ) → MadeMultiline old new n → IsTrue (holds_values (content_at old n)) → IsSpreading old new n
+  pub spread_step : (n : ℕ) → MadeMultiline old new n → IsTrue (is_array_or_object (content_at old n)) → IsSpreading old new n
   spread_step n made holds =
       made_step old new tree after IsAt ensure_multiline n (λ path. tt) (λ o sound over. holder_path o old tree sound n over holds) (λ path over at. (n, (at, holds), made))
 
   pub inserted_step : (n i m : ℕ) (v : Plain) → IsOfTexts v → ElementPut old new n i v m → content_at old n ≡ content.array → IsInserting old new n i v
   inserted_step n i m v texts put is =
-      made_step old new tree after IsAt (λ path. insert_element path i v) n (λ path. texts) (λ o sound over. holder_path o old tree sound n over (ap holds_values is)) (λ path over at. (n, m, (at, is), put))
+      made_step old new tree after IsAt (λ path. insert_element path i v) n (λ path. texts) (λ o sound over. holder_path o old tree sound n over (ap is_array_or_object is)) (λ path over at. (n, m, (at, is), put))
 
   pub appended_step : (n m : ℕ) (v : Plain) → IsOfTexts v → ElementPut old new n (length (elements_at old n)) v m → content_at old n ≡ content.array → IsAppending old new n v
   appended_step n m v texts put is =
-      made_step old new tree after IsAt (λ path. append_element path v) n (λ path. texts) (λ o sound over. holder_path o old tree sound n over (ap holds_values is)) (λ path over at. (n, m, (at, is), put))
+      made_step old new tree after IsAt (λ path. append_element path v) n (λ path. texts) (λ o sound over. holder_path o old tree sound n over (ap is_array_or_object is)) (λ path over at. (n, m, (at, is), put))
 
 -- trailing commas
 module _ (old new : List Node) (tree : IsTree old) where
   commas_place : (o : Options) → SoundTree o (ordered_tree old 0) → (n : ℕ) → IsHolder (typed_at old n) → IsOver old 0 n → (path : List ℕ) → IsWholeOrAt old path n
-      → ((at : IsAt old path n) → IsTrue (holds_values (content_at old n)) → DocumentChanged (top_at old n) (top_at new n) path (ordered_tree old 0) (ordered_tree new 0))
+      → ((at : IsAt old path n) → IsTrue (is_array_or_object (content_at old n)) → DocumentChanged (top_at old n) (top_at new n) path (ordered_tree old 0) (ordered_tree new 0))
       → (path ≡ []) ⊎ IsChangedAt path (ordered_tree old 0) (ordered_tree new 0)
   commas_place o sound n holder over path place changed =
       elim place [ inl whole ↦ inl whole.1 | inr at ↦ inr (top_at old n, top_at new n, changed at (holder_at o old tree sound n holder path at)) ]

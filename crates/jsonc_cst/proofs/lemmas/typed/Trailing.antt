@@ -6,9 +6,9 @@ use Rattle.jsonc_text.specs.declared.edit.TrailingCommaMode.{TrailingCommaMode}
 use Rattle.jsonc_edit.specs.commas.InTurn.{AreSetInTurn}
 use Rattle.jsonc_edit.proofs.lemmas.commas.Documents.{keeps_document, keeps_in_part, sets_all, sets_once}
 use Rattle.jsonc_edit.proofs.lemmas.commas.InOrder.{KeepsContainers}
-use Rattle.jsonc_edit.proofs.lemmas.commas.Kept.{set_keeps}
+use Rattle.jsonc_edit.proofs.lemmas.commas.ContainersKept.{set_keeps}
 use Rattle.jsonc_cst.specs.typed.Commas.{CommasSet, CommasSetInPart, CommasStand, CommasStay, CommasWritten}
-use Rattle.jsonc_cst.proofs.lemmas.typed.Kept.{Stays, stay_both, stay_same}
+use Rattle.jsonc_cst.proofs.lemmas.typed.HandlesKept.{Stays, stay_both, stay_same}
 
 longer : (m n : ℕ) → (n ≡ m) ⊎ (n ≡ suc m) → m ≤ n
 longer m n (inl e) = omega (arith, e)

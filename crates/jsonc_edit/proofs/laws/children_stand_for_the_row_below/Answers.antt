@@ -1,4 +1,4 @@
-use Rattle.jsonc_edit.proofs.Walk.{Shows-row_below}
+use Rattle.jsonc_edit.proofs.ChangesUpward.{Shows-row_below}
 use Rattle.jsonc_edit.proofs.laws.children_stand_for_the_row_below.Goals as goal
 
 pub returns : goal.returns

@@ -3,7 +3,7 @@ use Rattle.jsonc_sound.specs.Lines.{LinesEnd}
 use Rattle.jsonc_sound.specs.Sound.{IsValueBefore}
 use Rattle.jsonc_tree.specs.OrderedTree.{Top}
 use Rattle.jsonc_sound.specs.Spaces.{is_bare}
-use Rattle.jsonc_edit.proofs.Apart.{stays_sound_apart}
+use Rattle.jsonc_edit.proofs.ReplacedAlone.{stays_sound_apart}
 use Rattle.jsonc_edit.proofs.laws.documents_stay_sound.Goals as goal
 
 pub returns : goal.returns

@@ -1,5 +1,5 @@
 use Rattle.jsonc_layout.specs.from_input.Laid.{laid}
-use Rattle.jsonc_edit.proofs.GivingWay.{laid_element, in_place}
+use Rattle.jsonc_edit.proofs.ReplacedChildren.{laid_element, in_place}
 use Rattle.jsonc_edit.proofs.NewPaths.{at_now}
 use Rattle.jsonc_edit.proofs.ReplacedValues.{spaced, spaced_at}
 use Rattle.jsonc_edit.proofs.laws.replaced_values_take_the_path.Goals as goal

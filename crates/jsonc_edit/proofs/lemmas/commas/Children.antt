@@ -13,9 +13,9 @@ use Rattle.jsonc_tree.specs.Siblings.{first, siblings_after, IsGap}
 use Rattle.jsonc_tree.specs.Tree.{Node, children_at, parent_at, place_at, is_container_at, IsTree}
 use Rattle.jsonc_tree.proofs.Appending.{CanAppend-adds}
 use Rattle.jsonc_tree.proofs.Order.{parent_there}
-use Rattle.jsonc_tree.proofs.Sideways.{first_drop}
+use Rattle.jsonc_tree.proofs.LinkedRows.{first_drop}
 use Rattle.jsonc_layout.specs.nodes.Kinds.{is_element_at, is_comma}
-use Rattle.jsonc_layout.proofs.lemmas.nodes.There.{All-reverse}
+use Rattle.jsonc_layout.proofs.lemmas.nodes.InTree.{All-reverse}
 use Rattle.jsonc_layout.specs.lines.Siblings.{if_comma, is_no_trivia_at, trailing_comma_at}
 use Rattle.jsonc_tree.specs.Tree.{content_at}
 use Rattle.jsonc_edit.specs.commas.Commas.{comma_gone, comma_wanted_behind, has_newline, if_without_comma, last_element}

@@ -18,7 +18,7 @@ use Rattle.jsonc_sound.specs.Rows.{RowKind, closing, container_of, Last, last_af
 use Rattle.jsonc_sound.specs.SoundTrees.{SoundTree}
 use Rattle.jsonc_sound.specs.Spaces.{first_printed, is_bare, is_bare_leaf}
 use Rattle.jsonc_sound.specs.TreeChanges.{IsElement, DocumentChanged}
-use Rattle.jsonc_sound.proofs.Apart.{value_alone}
+use Rattle.jsonc_sound.proofs.NodesAlone.{value_alone}
 use Rattle.jsonc_sound.proofs.Changed.{part_element}
 use Rattle.jsonc_sound.proofs.FirstNodes.{line_comment_over, no_element}
 use Rattle.jsonc_sound.proofs.HeldValues.{document_held}

@@ -23,15 +23,15 @@ use Rattle.jsonc_edit.specs.commas.Commas.{comma_gone, comma_wanted_behind, Comm
 use Rattle.jsonc_edit.specs.commas.InTurn.{holders, holds_at, is_met, AreSetInPart, AreSetInTurn}
 use Rattle.jsonc_edit.specs.commas.Laws.{allowing, IsInSound, IsSet, OnlyCommas, SaysTheSame, SetsOnce}
 use Rattle.jsonc_edit.proofs.lemmas.commas.Children.{children_are, IsChild}
-use Rattle.jsonc_edit.proofs.lemmas.commas.Given.{comma_given}
+use Rattle.jsonc_edit.proofs.lemmas.commas.InsertedComma.{comma_given}
 use Rattle.jsonc_edit.proofs.lemmas.commas.InOrder.{holds_same, over_same, KeepsContainers}
 use Rattle.jsonc_edit.proofs.lemmas.commas.InTurn.{holder_contains}
-use Rattle.jsonc_edit.proofs.lemmas.commas.Kept.{set_keeps}
+use Rattle.jsonc_edit.proofs.lemmas.commas.ContainersKept.{set_keeps}
 use Rattle.jsonc_edit.proofs.lemmas.commas.Reach.{holders_same, met_holds, set_reaches}
 use Rattle.jsonc_edit.proofs.lemmas.commas.Splits.{gone_parted, wanted_parted}
 use Rattle.jsonc_edit.proofs.lemmas.commas.Steps.{Step}
-use Rattle.jsonc_edit.proofs.lemmas.commas.Taken.{comma_taken}
-use Rattle.jsonc_edit.proofs.lemmas.commas.Unmoved.{other_row, set_same}
+use Rattle.jsonc_edit.proofs.lemmas.commas.RemovedComma.{comma_taken}
+use Rattle.jsonc_edit.proofs.lemmas.commas.OtherRows.{other_row, set_same}
 use Rattle.jsonc_edit.proofs.lemmas.commas.WiderShapes.{as_allowed, sound_wider, with_trailing}
 use Rattle.jsonc_edit.proofs.lemmas.commas.WithoutCommas.{document_without, only_same, only_then, only_without, without_commas}
 

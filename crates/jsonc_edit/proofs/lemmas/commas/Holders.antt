@@ -10,8 +10,8 @@ use Rattle.jsonc_tree.specs.Values.{is_passed_over}
 use Rattle.jsonc_tree.proofs.Order.{over_step, parent_there}
 use Rattle.jsonc_tree.proofs.OrderedTrees.{Shows-unique}
 use Rattle.jsonc_layout.specs.nodes.Kinds.{is_element, is_element_at}
-use Rattle.jsonc_layout.proofs.lemmas.nodes.There.{children_there}
-use Rattle.jsonc_layout.specs.lines.Kinds.{holds_values}
+use Rattle.jsonc_layout.proofs.lemmas.nodes.InTree.{children_there}
+use Rattle.jsonc_layout.specs.lines.Kinds.{is_array_or_object}
 use Rattle.jsonc_sound.specs.Shape.{IsLiteralBefore, IsNameBefore, IsTrivia, token_then}
 use Rattle.jsonc_sound.specs.Alone as alone
 use Rattle.jsonc_sound.specs.Alone.{PartAlone, PropertyAlone, RowAlone, ValueAlone}
@@ -19,14 +19,14 @@ use Rattle.jsonc_sound.specs.Rows as rows
 use Rattle.jsonc_sound.specs.Rows.{RowKind, of_values, of_properties, closing, container_of, holder, Last, opening}
 use Rattle.jsonc_sound.specs.SoundTrees.{SoundTree}
 use Rattle.jsonc_sound.specs.TreeChanges.{IsElement, DocumentChanged}
-use Rattle.jsonc_sound.proofs.Apart.{value_alone}
+use Rattle.jsonc_sound.proofs.NodesAlone.{value_alone}
 use Rattle.jsonc_sound.proofs.HeldValues.{document_held}
 use Rattle.jsonc_sound.proofs.SeamStretches.{parted_row}
 use Rattle.jsonc_edit.specs.Changes.{row_below, top_at}
 use Rattle.jsonc_edit.specs.Paths.{IsAt, IsElementOf, as_root, as_value, as_property, as_name, between}
-use Rattle.jsonc_edit.proofs.Standing.{all_stand}
+use Rattle.jsonc_edit.proofs.ShapedPlaces.{all_stand}
 use Rattle.jsonc_edit.proofs.Uniqueness.{element_parent}
-use Rattle.jsonc_edit.proofs.Walk.{changed_over, ChangedIn, Shows-row_below}
+use Rattle.jsonc_edit.proofs.ChangesUpward.{changed_over, ChangedIn, Shows-row_below}
 use Rattle.jsonc_edit.specs.commas.InTurn.{holds_at}
 use Rattle.jsonc_edit.proofs.lemmas.commas.Splits.{standing, standing_then}
 
@@ -66,12 +66,12 @@ pub record Held (o : Options) (content : Content) (below : OrderedTree) : Type 0
   pub under : below ≡ token_then (opening kind) row
   pub alone : RowAlone o kind rows.nothing_yet row
 
-no_literal : (o : Options) (content : Content) → IsTrue (holds_values content) → IsLiteralBefore o content [] → ⊥
+no_literal : (o : Options) (content : Content) → IsTrue (is_array_or_object content) → IsLiteralBefore o content [] → ⊥
 no_literal o array h l = l
 no_literal o object h l = l
 no_literal o content h l = cc
 
-pub held : (o : Options) {content : Content} {below : OrderedTree} → IsTrue (holds_values content) → ValueAlone o content below → Held o content below
+pub held : (o : Options) {content : Content} {below : OrderedTree} → IsTrue (is_array_or_object content) → ValueAlone o content below → Held o content below
 held o h (alone.literal {content = content} l) = absurd (no_literal o content h l)
 held o h (alone.an_array {row = row} g) = record { kind = of_values; row = row; is = refl; under = refl; alone = g }
 held o h (alone.an_object {row = row} g) = record { kind = of_properties; row = row; is = refl; under = refl; alone = g }
@@ -99,7 +99,7 @@ the_property o (alone.a_value v) e = absurd (no_property o v e)
 the_property o (alone.a_property p) e = p
 
 -- the first of a property's row is its name, which is no container
-no_name_holds : (o : Options) (content : Content) → IsNameBefore o content [] → holds_values content ≡ false
+no_name_holds : (o : Options) (content : Content) → IsNameBefore o content [] → is_array_or_object content ≡ false
 no_name_holds o (Content.string s) h = refl
 no_name_holds o (Content.word s) h = refl
 no_name_holds o content h = absurd h
@@ -136,8 +136,8 @@ child_split (x ∷ xs) (suc k) n h e = let r = child_split xs k n (omega arith) 
 pub more_inside : (c d : Content) (x y a b : OrderedTree) → more c x a ≡ more d y b → (c ≡ d) × (a ≡ b)
 more_inside c d x y a b e = ((let one : c ≡ d = cc in one), (let two : a ≡ b = cc in two))
 
-no_holder_root : (content : Content) → content ≡ Content.root → IsTrue (holds_values content) → ⊥
-no_holder_root content e h = false≢true (sym (ap holds_values e) ∙ h)
+no_holder_root : (content : Content) → content ≡ Content.root → IsTrue (is_array_or_object content) → ⊥
+no_holder_root content e h = false≢true (sym (ap is_array_or_object e) ∙ h)
 
 module _ (o : Options) (ns : List Node) (tree : IsTree ns) (sound : SoundTree o (ordered_tree ns 0)) where
   -- a child of an array or object at a path that is a property is one alone
@@ -169,7 +169,7 @@ module _ (o : Options) (ns : List Node) (tree : IsTree ns) (sound : SoundTree o 
         | as_value {path = path} at ↦ absurd (no_property o (value_at_path o ns tree sound path r at) is)
         | as_property {path = path} {p = p} i at outer element2 is2 ↦
             let said = element_parent ns tree p i r element2 in
-            let alone = property_alone path p r at (ap holds_values outer) said is in
+            let alone = property_alone path p r at (ap is_array_or_object outer) said is in
             let row : row_below ns r ≡ standing ns (children_at ns r) = row_stands ns tree r (parent_there ns tree r p said).0 in
             first_element o ns (children_at ns r) n (name_first o (subst (PropertyAlone o) row alone)) element
         | as_name r2 is2 element2 ↦
@@ -189,7 +189,7 @@ module _ (o : Options) (ns : List Node) (tree : IsTree ns) (sound : SoundTree o 
       elim (all_stand o ns tree sound.shaped n over) [
         | as_root e ↦ absurd (no_holder_root (content_at ns n) (ap (content_at ns) e ∙ tree.root_first) holds)
         | as_value {path = path} at ↦ (path, at)
-        | as_property i at outer element is ↦ absurd (false≢true (sym (ap holds_values is) ∙ holds))
+        | as_property i at outer element is ↦ absurd (false≢true (sym (ap is_array_or_object is) ∙ holds))
         | as_name r is element ↦
             let said = element_parent ns tree r 0 n element in
             let apart : n ≢ 0 = λ e. no_holder_root (content_at ns n) (ap (content_at ns) e ∙ tree.root_first) holds in
@@ -197,7 +197,7 @@ module _ (o : Options) (ns : List Node) (tree : IsTree ns) (sound : SoundTree o 
         | between h ↦ absurd (no_passed (content_at ns n) holds h)
       ]
     where
-      no_passed : (c : Content) → IsTrue (holds_values c) → IsTrue (is_passed_over c) → ⊥
+      no_passed : (c : Content) → IsTrue (is_array_or_object c) → IsTrue (is_passed_over c) → ⊥
       no_passed array h k = cc
       no_passed object h k = cc
       no_passed c h k = cc

@@ -8,7 +8,7 @@ use Rattle.jsonc_tree.specs.Content.{Content, is_container}
 use Rattle.jsonc_tree.specs.Order.{below, in_order, following, rest_at, with_parent}
 use Rattle.jsonc_tree.specs.Tree.{Node, nowhere, content_at, parent_at, children_at, place_among, place_under, is_container_at, IsTree, IsOver, Rooted, top, under}
 use Rattle.jsonc_tree.proofs.Order.{following_is, following_none, line_of, line_long, parent_there, steady}
-use Rattle.jsonc_layout.specs.lines.Kinds.{holds_values}
+use Rattle.jsonc_layout.specs.lines.Kinds.{is_array_or_object}
 use Rattle.jsonc_edit.specs.commas.InTurn.{holds_at}
 
 -- what a change keeps that such a walk rests on: there may be one more node, a leaf, and leaves may come and go
@@ -19,7 +19,7 @@ pub record KeepsContainers (old new : List Node) : Type 0 where
   pub parent : (n : ℕ) → n < length old → is_container_at old n ≡ true → parent_at new n ≡ parent_at old n
   pub rows : (n : ℕ) → filter (is_container_at old) (children_at new n) ≡ filter (is_container_at old) (children_at old n)
 
-pub no_holder : (c : Content) → is_container c ≡ false → holds_values c ≡ false
+pub no_holder : (c : Content) → is_container c ≡ false → is_array_or_object c ≡ false
 no_holder Content.root e = refl
 no_holder Content.object e = cc
 no_holder Content.array e = cc
@@ -110,7 +110,7 @@ module _ (old new : List Node) (tree : IsTree old) (after : IsTree new) (k : Kee
   pub holds_same : (n : ℕ) → holds_at new n ≡ holds_at old n
   holds_same n =
       elim (cases_lt n (length old)) [
-        | inl h ↦ ap holds_values (k.content n h)
+        | inl h ↦ ap is_array_or_object (k.content n h)
         | inr h ↦ no_holder (content_at new n) (k.made n h) ∙ sym (no_holder (content_at old n) (none_past n h))
       ]
 

@@ -6,7 +6,7 @@ use Rattle.jsonc_tree.specs.Content.{Content, is_container}
 use Rattle.jsonc_tree.specs.Order.{following, in_order}
 use Rattle.jsonc_tree.specs.Tree.{Node, children_at, content_at, is_container_at, IsOver, IsTree}
 use Rattle.jsonc_tree.proofs.Order.{following_end, in_order_is}
-use Rattle.jsonc_layout.specs.lines.Kinds.{holds_values}
+use Rattle.jsonc_layout.specs.lines.Kinds.{is_array_or_object}
 use Rattle.jsonc_text.specs.declared.edit.TrailingCommaMode.{TrailingCommaMode}
 use Rattle.jsonc_edit.specs.commas.Commas.{CommaIsSet, WantsComma}
 use Rattle.jsonc_edit.specs.commas.InTurn.{holders, holds_at, is_met, to_come, AreSetInPart, AreSetInTurn}
@@ -55,7 +55,7 @@ part_set mode old now c n rest s e wants = record {
 pub all_to_come : (ns : List Node) → IsTree ns → (c : ℕ) → c < length ns → holders ns c ≡ to_come ns c (Some c)
 all_to_come ns tree c there = sym (ap (λ l. filter (is_met ns c) (in_order ns c ++ l)) (following_end ns tree c there) ∙ ap (filter (is_met ns c)) (append-nil (in_order ns c)))
 
--- what is said of a refusal holds of one
+-- what is said of an error holds of one
 pub where_refused : {T E P : Type 0} (r : Result T E) → P → OnErr r P
 where_refused (Ok x) p = tt
 where_refused (Err e) p = p
@@ -63,7 +63,7 @@ where_refused (Err e) p = p
 some_of : (P : ℕ → Type 0) (o : Option ℕ) (n : ℕ) → o ≡ Some n → IfSome o P → P n
 some_of P o n e h = subst (λ r. IfSome r P) e h
 
-pub holder_contains : (c : Content) → IsTrue (holds_values c) → is_container c ≡ true
+pub holder_contains : (c : Content) → IsTrue (is_array_or_object c) → is_container c ≡ true
 holder_contains Content.object h = refl
 holder_contains Content.array h = refl
 holder_contains c h = cc
@@ -71,14 +71,14 @@ holder_contains c h = cc
 -- the walk stands at an array or object
 pub record StandsAt (mode : TrailingCommaMode) (old now : List Node) (c : ℕ) (next : Option ℕ) : Type 0 where
   pub tree : IsTree now
-  pub there : IfSome next (λ n. n < length now)
+  pub in_tree : IfSome next (λ n. n < length now)
   pub over : IfSome next (λ n. IsOver now c n)
   pub met : IfSome next (λ n. IsTrue (is_met now c n))
   pub set : SetSoFar mode old now c next
 
 module _ (mode : TrailingCommaMode) (old now : List Node) (c : ℕ) (next : Option ℕ) (s : StandsAt mode old now c next) (n : ℕ) (is : next ≡ Some n) where
   here : n < length now
-  here = some_of (λ m. m < length now) next n is s.there
+  here = some_of (λ m. m < length now) next n is s.in_tree
 
   over_it : IsOver now c n
   over_it = some_of (IsOver now c) next n is s.over

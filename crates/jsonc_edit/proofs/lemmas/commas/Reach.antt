@@ -8,14 +8,14 @@ use Rattle.jsonc_tree.specs.Tree.{Node, content_at, children_at, parent_at, is_c
 use Rattle.jsonc_tree.proofs.Order.{parent_there, upward_is, upward_none}
 use Rattle.jsonc_layout.specs.nodes.Kinds.{is_property}
 use Rattle.jsonc_layout.specs.nodes.Properties.{value_at}
-use Rattle.jsonc_layout.proofs.lemmas.nodes.Held.{IsAlike, held_alike, held_in, same_kind, value_is_held}
-use Rattle.jsonc_layout.specs.lines.Kinds.{holds_values}
+use Rattle.jsonc_layout.proofs.lemmas.nodes.PropertyValues.{IsAlike, held_alike, held_in, same_kind, value_is_held}
+use Rattle.jsonc_layout.specs.lines.Kinds.{is_array_or_object}
 use Rattle.jsonc_text.specs.declared.edit.TrailingCommaMode.{TrailingCommaMode}
 use Rattle.jsonc_edit.specs.commas.Commas.{CommaIsSet}
 use Rattle.jsonc_edit.specs.commas.InTurn.{are_entered, holders, holds_at, is_entered, is_entered_under, is_it, is_met, is_reached, to_come}
 use Rattle.jsonc_edit.proofs.lemmas.commas.InOrder.{container_there, found_in_order, has_child, holds_same, no_holder, rest_same, KeepsContainers}
-use Rattle.jsonc_edit.proofs.lemmas.commas.Kept.{set_keeps}
-use Rattle.jsonc_edit.proofs.lemmas.commas.Unmoved.{other_row, SameRow}
+use Rattle.jsonc_edit.proofs.lemmas.commas.ContainersKept.{set_keeps}
+use Rattle.jsonc_edit.proofs.lemmas.commas.OtherRows.{other_row, SameRow}
 
 -- containers stay where they are, and those that are entered are
 pub record KeepsReach (old new : List Node) : Type 0 where
@@ -100,15 +100,15 @@ value_same : (old new : List Node) → IsTree old → (p : ℕ) → p < length o
 value_same old new tree p there is s =
     let row : List ℕ = children_at old p in
     value_is_held new p (s.content p there ∙ is) ∙ ap (held_in new) s.children
-    ∙ held_alike old new row (All-from_get_or (IsAlike old new) row 0 (λ i h. same_kind (content_at new (get_or row i 0)) (content_at old (get_or row i 0)) (s.content (get_or row i 0) (tree.there p i h))))
+    ∙ held_alike old new row (All-from_get_or (IsAlike old new) row 0 (λ i h. same_kind (content_at new (get_or row i 0)) (content_at old (get_or row i 0)) (s.content (get_or row i 0) (tree.in_tree p i h))))
     ∙ sym (value_is_held old p is)
 
 the_property : (w : Content) → is_property w ≡ true → w ≡ property
 the_property Content.property e = refl
 the_property w e = cc
 
-holds_no_property : (w : Content) → IsTrue (holds_values w) → w ≡ property → ⊥
-holds_no_property w h e = false≢true (sym (ap holds_values e) ∙ h)
+holds_no_property : (w : Content) → IsTrue (is_array_or_object w) → w ≡ property → ⊥
+holds_no_property w h e = false≢true (sym (ap is_array_or_object e) ∙ h)
 
 module _ (mode : TrailingCommaMode) (old new : List Node) (tree : IsTree old) (c : ℕ) (holds : IsTrue (holds_at old c)) (s : CommaIsSet mode old new c) where
   abbrev kept : KeepsContainers old new

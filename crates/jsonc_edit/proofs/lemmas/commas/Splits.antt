@@ -124,7 +124,7 @@ module _ (ns : List Node) (tree : IsTree ns) (c n : ℕ) (front back : List ℕ)
   split_place = ap (place_at ns) (sym it) ∙ tree.placed c (length front) within
 
   pub split_there : n < length ns
-  split_there = subst (λ m. m < length ns) it (tree.there c (length front) within)
+  split_there = subst (λ m. m < length ns) it (tree.in_tree c (length front) within)
 
   pub split_after : siblings_after ns n ≡ back
   split_after =

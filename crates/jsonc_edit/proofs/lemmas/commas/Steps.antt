@@ -15,7 +15,7 @@ use Rattle.jsonc_sound.specs.Rows as rows
 use Rattle.jsonc_sound.specs.Rows.{RowKind, container_of, holder, opening}
 use Rattle.jsonc_sound.specs.SoundTrees.{SoundTree}
 use Rattle.jsonc_sound.specs.TreeChanges.{DocumentChanged}
-use Rattle.jsonc_sound.proofs.GivingWay.{marks_join, values_marks}
+use Rattle.jsonc_sound.proofs.ReplacedStretches.{marks_join, values_marks}
 use Rattle.jsonc_edit.specs.Changes.{row_below}
 use Rattle.jsonc_edit.specs.Paths.{IsAt}
 use Rattle.jsonc_edit.proofs.FittingNodes.{over_there}

@@ -130,7 +130,7 @@ only_stayed : (mode : TrailingCommaMode) (c d : Content) (below under after rest
 only_stayed Never c d below under after rest e h k = subst (λ w. LosesCommas (more c below after) (more w under rest)) (sym e) (stayed h k)
 only_stayed IfMultiline c d below under after rest e h k = subst (λ w. LosesCommas (more w under rest) (more c below after)) (sym e) (stayed h k)
 
--- where a node gives way to one that differs from it in commas alone, so does the document
+-- where a node is replaced by one that differs from it in commas alone, so is the document
 row_only : (mode : TrailingCommaMode) {x y : Top} {i : ℕ} {row new : OrderedTree} → y.content ≡ x.content → OnlyCommas mode x.below y.below → ElementChanged x y i row new → OnlyCommas mode row new
 row_only mode {x} {y} e f (this_element {after = after} p q) = only_stayed mode x.content y.content x.below y.below after after e f (only_same mode after)
 row_only mode e f (passed {content = content} {below = below} {x = s} {y = t} p k) = only_stayed mode content content below below s t refl (only_same mode below) (row_only mode e f k)

@@ -9,7 +9,7 @@ use Rattle.std.proofs.lemmas.Str.{IsUtf8-append, chars-append}
 use Rattle.std.specs.Prelude.{chars}
 use Rattle.jsonc_text.specs.Options.{Options}
 use Rattle.jsonc_text.specs.Text.{Many}
-use Rattle.jsonc_text.proofs.Steps.{many_append}
+use Rattle.jsonc_text.proofs.CharacterSteps.{many_append}
 use Rattle.jsonc_text.proofs.UniqueWords.{many_more}
 use Rattle.jsonc_tree.specs.Content.{Content, is_container, token}
 use Rattle.jsonc_tree.specs.OrderedTree.{OrderedTree, Top, none, more, followed_by, ordered_tree, Shows, shows_none, shows_more}
@@ -18,7 +18,7 @@ use Rattle.jsonc_tree.proofs.OrderedTrees.{Shows-unique}
 use Rattle.jsonc_tree.proofs.Over.{over_up}
 use Rattle.jsonc_layout.specs.nodes.Kinds.{is_newline, is_newline_at}
 use Rattle.jsonc_layout.specs.lines.Indents.{indents_at}
-use Rattle.jsonc_layout.specs.lines.Kinds.{holds_values}
+use Rattle.jsonc_layout.specs.lines.Kinds.{is_array_or_object}
 use Rattle.jsonc_sound.specs.Leaves.{is_inner_blank}
 use Rattle.jsonc_sound.specs.Shape.{token_then}
 use Rattle.jsonc_sound.specs.Rows.{holder, opening, closing}
@@ -26,14 +26,14 @@ use Rattle.jsonc_sound.specs.SoundTrees.{SoundTree}
 use Rattle.jsonc_sound.specs.TreeChanges.{DocumentChanged}
 use Rattle.jsonc_edit.specs.Changes.{row_below, top_at, Respliced}
 use Rattle.jsonc_edit.specs.Paths.{IsAt}
-use Rattle.jsonc_edit.specs.Put.{Prepared}
+use Rattle.jsonc_edit.specs.Put.{Extends}
 use Rattle.jsonc_edit.specs.Writing.{IsIndent}
 use Rattle.jsonc_edit.proofs.FittingIndents.{indents_fit}
 use Rattle.jsonc_edit.proofs.FittingNodes.{over_there}
-use Rattle.jsonc_edit.proofs.Kept.{at_kept, row_kept, top_stays, tree_stays}
+use Rattle.jsonc_edit.proofs.NodesKept.{at_kept, row_kept, top_stays, tree_stays}
 use Rattle.jsonc_edit.proofs.Splices.{respliced_over, respliced_row}
 use Rattle.jsonc_edit.proofs.Uniqueness.{element_parent, leads_over}
-use Rattle.jsonc_edit.proofs.Walk.{ChangedIn, Shows-row_below, changed_over}
+use Rattle.jsonc_edit.proofs.ChangesUpward.{ChangedIn, Shows-row_below, changed_over}
 use Rattle.jsonc_edit.proofs.lemmas.remove.Containers.{Held, held_at, Brackets, brackets}
 use Rattle.jsonc_edit.specs.multiline.Laws.{bracketed, SpreadAt}
 use Rattle.jsonc_edit.specs.multiline.Lines.{Lines, between, indent_if_any, lines_for, on_line, on_lines, parts, without_back, without_front}
@@ -77,7 +77,7 @@ token_shown : (ns : List Node) → IsTree ns → (x k : ℕ) → content_at ns x
 token_shown ns tree x k e = subst (λ (w : Content). Shows ns (x ∷ []) (more w none none)) e (shows_more (subst (λ (l : List ℕ). Shows ns l none) (sym (tree.leaf x (ap is_container e))) shows_none) shows_none)
 
 -- the nodes that fill places stand for the row of these
-pub filled_shown : (old ready : List Node) → IsTree old → Prepared old ready → {slots : List Slot} {row : List ℕ} → AreFilled old ready slots row → AllFit old slots → Shows ready row (row_in old slots)
+pub filled_shown : (old ready : List Node) → IsTree old → Extends old ready → {slots : List Slot} {row : List ℕ} → AreFilled old ready slots row → AllFit old slots → Shows ready row (row_in old slots)
 filled_shown old ready tree p no_more h = shows_none
 filled_shown old ready tree p (stayed {n = n} {slots = slots} {row = row} rest) h =
     let shown : Shows ready (children_at ready n) (row_below old n) = subst (Shows ready (children_at ready n)) (row_kept old ready tree p.keeps p.tree n h.0) (Shows-row_below ready p.tree n (omega (arith, h.0, p.keeps.len))) in
@@ -109,7 +109,7 @@ top_of content below = record { content = content; below = below }
 same_top : (a b : Content) (x y : OrderedTree) → a ≡ b → x ≡ y → top_of a x ≡ top_of b y
 same_top a b x y e f = ap (λ w. top_of w x) e ∙ ap (top_of b) f
 
-module _ (o : Options) (old new : List Node) (path : List ℕ) (c : ℕ) (tree : IsTree old) (after : IsTree new) (sound : SoundTree o (ordered_tree old 0)) (at : IsAt old path c) (holds : IsTrue (holds_values (content_at old c))) where
+module _ (o : Options) (old new : List Node) (path : List ℕ) (c : ℕ) (tree : IsTree old) (after : IsTree new) (sound : SoundTree o (ordered_tree old 0)) (at : IsAt old path c) (holds : IsTrue (is_array_or_object (content_at old c))) where
   over : IsOver old 0 c
   over = over_at old tree path c at
 
@@ -129,7 +129,7 @@ module _ (o : Options) (old new : List Node) (path : List ℕ) (c : ℕ) (tree :
   closed row = followed_by row (token_then (closing held.kind) none)
 
   kids_there : All (λ n. n < length old) (b.open_with ∷ (b.inner ++ b.last ∷ []))
-  kids_there = subst (All (λ n. n < length old)) b.children (All-from_get_or (λ n. n < length old) kids 0 (λ k h. tree.there c k h))
+  kids_there = subst (All (λ n. n < length old)) b.children (All-from_get_or (λ n. n < length old) kids 0 (λ k h. tree.in_tree c k h))
 
   open_there : b.open_with < length old
   open_there = All-head (λ n. n < length old) b.open_with (b.inner ++ b.last ∷ []) kids_there
@@ -191,7 +191,7 @@ module _ (o : Options) (old new : List Node) (path : List ℕ) (c : ℕ) (tree :
     row_is : row_below new c ≡ token_then (opening held.kind) (closed (row_in old slots))
     row_is =
         let ready : IsTree r.ready = r.prepared.tree in
-        let s : Respliced r.ready new c = record { from = 1; to = length kids - 1; put = r.row; tree = ready; there = omega (arith, there, r.prepared.keeps.len); after = r.tree; join = r.join; spliced = r.put } in
+        let s : Respliced r.ready new c = record { from = 1; to = length kids - 1; put = r.row; tree = ready; in_tree = omega (arith, there, r.prepared.keeps.len); after = r.tree; join = r.join; spliced = r.put } in
         let front : Shows r.ready (take 1 (children_at r.ready c)) (token_then (opening held.kind) none) =
         subst (λ (l : List ℕ). Shows r.ready (take 1 l) (token_then (opening held.kind) none)) (sym ready_kids) (token_shown r.ready ready b.open_with (opening held.kind) (r.prepared.keeps.content b.open_with open_there ∙ b.opens)) in
         let behind : drop (length kids - 1) (children_at r.ready c) ≡ b.last ∷ [] =
@@ -208,7 +208,7 @@ module _ (o : Options) (old new : List Node) (path : List ℕ) (c : ℕ) (tree :
     changed_ready : DocumentChanged (top_at r.ready c) (top_at new c) path (ordered_tree r.ready 0) (ordered_tree new 0)
     changed_ready =
         let ready : IsTree r.ready = r.prepared.tree in
-        let s : Respliced r.ready new c = record { from = 1; to = length kids - 1; put = r.row; tree = ready; there = omega (arith, there, r.prepared.keeps.len); after = r.tree; join = r.join; spliced = r.put } in
+        let s : Respliced r.ready new c = record { from = 1; to = length kids - 1; put = r.row; tree = ready; in_tree = omega (arith, there, r.prepared.keeps.len); after = r.tree; join = r.join; spliced = r.put } in
         respliced_over r.ready new c s c IsOver.itself path (at_kept old r.ready tree r.prepared.keeps path c at)
 
     changed : DocumentChanged (bracketed held.kind (standing old b.inner)) (bracketed held.kind (row_in old slots)) path (ordered_tree old 0) (ordered_tree new 0)

@@ -15,7 +15,7 @@ use Rattle.jsonc_edit.specs.multiline.Slots.{Slot, stays, comes, top_in, row_in}
 use Rattle.jsonc_edit.specs.multiline.Lines.{Lines, last_line, indent_if_any, on_line, on_lines, parts, without_back, without_front}
 use Rattle.jsonc_edit.specs.multiline.Plans.{child_slots, begins_behind}
 use Rattle.jsonc_edit.specs.multiline.Reflows.{starts_line, has_newline, Reflows, ended, kept, gone, line, line_end}
-use Rattle.jsonc_edit.proofs.lemmas.multiline.Weaving.{woven, both_woven}
+use Rattle.jsonc_edit.proofs.lemmas.multiline.RowByNode.{woven, both_woven}
 
 -- the row of trees that these nodes stand for
 abbrev pub standing : List Node → List ℕ → OrderedTree

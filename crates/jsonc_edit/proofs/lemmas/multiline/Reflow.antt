@@ -19,7 +19,7 @@ use Rattle.jsonc_sound.specs.Rows.{RowKind, Last}
 use Rattle.jsonc_sound.proofs.Leaves.{follower_append, joined_leaves, parted_leaves, last_serves}
 use Rattle.jsonc_sound.proofs.SeamStretches.{parted_stretch, joined_stretch, last_is}
 use Rattle.jsonc_sound.proofs.Spaces.{Ends, NoWord, last_of, serves_unless, stretch_no_word}
-use Rattle.jsonc_sound.proofs.GivingWay.{marks_join}
+use Rattle.jsonc_sound.proofs.ReplacedStretches.{marks_join}
 use Rattle.jsonc_edit.specs.multiline.Reflows.{starts_line, Reflows, ended, kept, gone, line, line_end}
 
 newline_ends : (k : CstNewlineKind) (n : Option ℕ) → Ends (or_else (first_char (Content.newline k)) n)

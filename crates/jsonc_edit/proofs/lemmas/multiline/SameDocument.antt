@@ -25,10 +25,10 @@ use Rattle.jsonc_sound.specs.Sound.{HasValue}
 use Rattle.jsonc_sound.specs.SoundTrees.{SoundTree}
 use Rattle.jsonc_sound.specs.Spaces.{is_bare_leaf, first_printed, meet}
 use Rattle.jsonc_sound.specs.TreeChanges.{leaves_of, ElementChanged, DocumentChanged, in_root}
-use Rattle.jsonc_sound.proofs.Apart.{value_alone, value_leaves}
+use Rattle.jsonc_sound.proofs.NodesAlone.{value_alone, value_leaves}
 use Rattle.jsonc_sound.proofs.AtPath.{held_at_path}
 use Rattle.jsonc_sound.proofs.FirstNodes.{here, over, beyond, meets_first, none_changed, no_element}
-use Rattle.jsonc_sound.proofs.GivingWay.{values_marks}
+use Rattle.jsonc_sound.proofs.ReplacedStretches.{values_marks}
 use Rattle.jsonc_sound.proofs.HeldValues.{document_held}
 use Rattle.jsonc_sound.proofs.Leaves.{parted_leaves, last_serves}
 use Rattle.jsonc_sound.proofs.LeavesAround.{document_differs}
@@ -66,7 +66,7 @@ all_reflows : {x y : OrderedTree} → SpreadsOut x y → Reflows x y
 all_reflows (stays {row = row} h) = reflows_same row
 all_reflows (reflows h k r) = r
 
--- where a value gives way to itself, nothing changes
+-- where a value is replaced by itself, nothing changes
 item_same : {a : Plain} {i : ℕ} {vs ws : Items} → ItemChanged a a i vs ws → vs ≡ ws
 item_same changes.this_item = refl
 item_same (changes.later_item {v = v} k) = ap (item v) (item_same k)

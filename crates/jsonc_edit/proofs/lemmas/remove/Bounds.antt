@@ -8,7 +8,7 @@ use Rattle.jsonc_tree.specs.Content.{Content}
 use Rattle.jsonc_tree.specs.Order.{with_parent}
 use Rattle.jsonc_tree.specs.Siblings.{siblings_after, siblings_before}
 use Rattle.jsonc_tree.specs.Tree.{Node, content_at, parent_at, children_at, place_at, IsTree}
-use Rattle.jsonc_layout.specs.nodes.Kinds.{is_beside, is_beside_at, is_newline_at, is_comma_at, is_comma}
+use Rattle.jsonc_layout.specs.nodes.Kinds.{is_inline_trivia, is_inline_trivia_at, is_newline_at, is_comma_at, is_comma}
 use Rattle.jsonc_layout.specs.lines.Siblings.{is_no_trivia_at, if_comma, after_trivia_at, trailing_comma_at}
 use Rattle.jsonc_edit.specs.remove.Leaving.{comma_before, comma_gone, comma_unless, ends_line_at, first_gone, last_gone, last_past, line_end, line_end_at, outermost, trails}
 
@@ -31,7 +31,7 @@ module _ (P : ℕ → Type 0) where
 
   outermost_in : (ns : List Node) (xs : List ℕ) (n : ℕ) → P n → All P xs → P (outermost ns n xs)
   outermost_in ns [] n p h = p
-  outermost_in ns (m ∷ rest) n p h = cond_in (is_beside_at ns m) (outermost ns m rest) n (outermost_in ns rest m (All-head P m rest h) (All-tail P m rest h)) p
+  outermost_in ns (m ∷ rest) n p h = cond_in (is_inline_trivia_at ns m) (outermost ns m rest) n (outermost_in ns rest m (All-head P m rest h) (All-tail P m rest h)) p
 
   line_end_in : (ns : List Node) (xs : List ℕ) (n : ℕ) → P n → All P xs → P (line_end ns n xs)
   line_end_in ns [] n p h = p
@@ -41,7 +41,7 @@ module _ (P : ℕ → Type 0) where
       cond_in (is_newline_at ns m) m (cond goes_on (line_end ns m rest) n) first (cond_in goes_on (line_end ns m rest) n (line_end_in ns rest m first (All-tail P m rest h)) p)
 
 -- a comma is no whitespace, and no comment
-no_comma : (content : Content) → is_beside content ≡ true → is_comma content ≡ false
+no_comma : (content : Content) → is_inline_trivia content ≡ true → is_comma content ≡ false
 no_comma (Content.whitespace s) e = refl
 no_comma (Content.comment s) e = refl
 no_comma content e = cc
@@ -145,7 +145,7 @@ module _ (ns : List Node) (tree : IsTree ns) (c : ℕ) where
       let place : place_at ns m ≡ k = tree.placed c k inn in
       let less = (found_in (Ahead (suc k)) (is_comma_at ns) (reverse (take (suc k) row)) x e (taken (suc k) within)).1 in
       subst (λ l. place_at ns x < place_at ns (outermost ns n l)) (sym is)
-      (elim (cases_Bool (is_beside_at ns m)) [
+      (elim (cases_Bool (is_inline_trivia_at ns m)) [
         | inl beside ↦
             let plain : is_comma_at ns m ≡ false = no_comma (content_at ns m) beside in
             let further : find (is_comma_at ns) rest ≡ Some x = sym (ap (λ b. cond b (Some m) (find (is_comma_at ns) rest)) plain) ∙ found in

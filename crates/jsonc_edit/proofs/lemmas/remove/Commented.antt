@@ -19,18 +19,18 @@ use Rattle.jsonc_sound.specs.Shape as trivia
 use Rattle.jsonc_sound.specs.Shape.{IsLiteralBefore, Trivia}
 use Rattle.jsonc_sound.specs.SoundTrees.{SoundTree}
 use Rattle.jsonc_edit.specs.Changes.{row_below}
-use Rattle.jsonc_edit.specs.Comments.{due_without, removed_from}
+use Rattle.jsonc_edit.specs.Comments.{space_needed_without, removed_from}
 use Rattle.jsonc_edit.specs.Due.{begins_bare, behind_holder, behind_property, ends_bare, nearest, prints, prints_at, prints_within, seen_before, seen_behind}
 use Rattle.jsonc_edit.specs.Put.{IfDue}
 use Rattle.jsonc_edit.specs.remove.Laws.{CommentWantsNone}
 use Rattle.jsonc_edit.proofs.Removal.{from_before, trivia_gone}
-use Rattle.jsonc_edit.proofs.Walk.{Shows-row_below}
+use Rattle.jsonc_edit.proofs.ChangesUpward.{Shows-row_below}
 use Rattle.jsonc_edit.proofs.lemmas.commas.Holders.{value_at_path}
-use Rattle.jsonc_edit.proofs.lemmas.remove.Going.{element_no_trivia}
+use Rattle.jsonc_edit.proofs.lemmas.remove.RemovedStretches.{element_no_trivia}
 use Rattle.jsonc_edit.proofs.lemmas.remove.NoSpace.{in_property, in_root, in_value, none_if_second, root_apart, stands_in, value_apart, StandsIn}
 use Rattle.jsonc_edit.proofs.lemmas.remove.Parted.{no_bare_both, property_parts, shown_apart, value_element, Apart}
 use Rattle.jsonc_edit.proofs.lemmas.remove.Places.{after_in, before_in, row_split}
-use Rattle.jsonc_edit.proofs.lemmas.remove.Within.{part_prints}
+use Rattle.jsonc_edit.proofs.lemmas.remove.PrintedStretches.{part_prints}
 
 -- the last of a row prints something, and is no trivia
 abbrev Ended : OrderedTree → Type 0
@@ -134,7 +134,7 @@ module _ (ns : List Node) (tree : IsTree ns) (n c : ℕ) (said : parent_at ns n 
       let at : kids ≡ take begin kids ++ from ∷ drop (begin + 1) kids = sym (take-append-drop begin kids) ∙ ap (λ (l : List ℕ). take begin kids ++ l) (drop_more kids begin 0 (omega (arith, low, within))) in
       ap (nearest ns) (before_in ns tree c (take begin kids) (drop (begin + 1) kids) from at)
 
-  none_without : (k : ℕ) → Apart k ns false kids → seen_behind ns n ≡ nearest ns back → due_without ns c n ≡ None
+  none_without : (k : ℕ) → Apart k ns false kids → seen_behind ns n ≡ nearest ns back → space_needed_without ns c n ≡ None
   none_without k apart behind =
       let quiet : (ends_bare ns (seen_before ns from) && begins_bare ns (seen_behind ns n)) ≡ false =
       ap (λ o. ends_bare ns o && begins_bare ns (seen_behind ns n)) befores ∙ ap (λ o. ends_bare ns (nearest ns (reverse (take begin kids))) && begins_bare ns o) behind
@@ -158,19 +158,19 @@ no_property_value o (alone.literal {content = c} h) = by c h
 no_property_value o (alone.an_array g) = refl
 no_property_value o (alone.an_object g) = refl
 
-comment_in : (o : Options) (ns : List Node) (tree : IsTree ns) (sound : SoundTree o (ordered_tree ns 0)) (commas : o.missing_commas ≡ false) (n c : ℕ) → parent_at ns n ≡ Some c → IsTrue (is_comment_at ns n) → StandsIn o ns tree sound commas c → IfDue (due_without ns c n) → ⊥
+comment_in : (o : Options) (ns : List Node) (tree : IsTree ns) (sound : SoundTree o (ordered_tree ns 0)) (commas : o.missing_commas ≡ false) (n c : ℕ) → parent_at ns n ≡ Some c → IsTrue (is_comment_at ns n) → StandsIn o ns tree sound commas c → IfDue (space_needed_without ns c n) → ⊥
 comment_in o ns tree sound commas n c said comment (in_root e) h =
     let other : is_property (content_at ns c) ≡ false = ap is_property (ap (content_at ns) e ∙ tree.root_first) in
-    none_due (due_without ns c n) (none_without ns tree n c said comment 0x2C (subst (λ k. Apart 0x2C ns false (children_at ns k)) (sym e) (root_apart o ns tree sound commas)) (row_behind ns tree n c said comment other)) h
+    none_due (space_needed_without ns c n) (none_without ns tree n c said comment 0x2C (subst (λ k. Apart 0x2C ns false (children_at ns k)) (sym e) (root_apart o ns tree sound commas)) (row_behind ns tree n c said comment other)) h
 comment_in o ns tree sound commas n c said comment (in_value path at) h =
     let other : is_property (content_at ns c) ≡ false = no_property_value o (value_at_path o ns tree sound path c at) in
-    none_due (due_without ns c n) (none_without ns tree n c said comment 0x2C (value_apart o ns tree sound commas path n c said at) (row_behind ns tree n c said comment other)) h
+    none_due (space_needed_without ns c n) (none_without ns tree n c said comment 0x2C (value_apart o ns tree sound commas path n c said at) (row_behind ns tree n c said comment other)) h
 comment_in o ns tree sound commas n c said comment (in_property p is) h =
     let shows : Shows ns (children_at ns c) (row_below ns c) = Shows-row_below ns tree c (parent_there ns tree n c said).1 in
     let apart : Apart 0x3A ns false (children_at ns c) = shown_apart 0x3A ns false shows (property_parts o p) in
     let ended : EndedIn ns (children_at ns c) = shown_ended ns shows (ended_property o p) in
     let (m, found) = ended_behind ns (take (place_at ns n) (children_at ns c)) (drop (place_at ns n + 1) (children_at ns c)) n (subst (EndedIn ns) (row_split ns tree c n said) ended) (comment_trivia (content_at ns n) comment) in
-    none_due (due_without ns c n) (none_without ns tree n c said comment 0x3A apart (found_behind ns tree n c said comment m found)) h
+    none_due (space_needed_without ns c n) (none_without ns tree n c said comment 0x3A apart (found_behind ns tree n c said comment m found)) h
 
 pub comment_wants_none : (o : Options) (ns : List Node) (n : ℕ) → CommentWantsNone o ns n
 comment_wants_none o ns n tree sound commas over comment (c, said, due) = comment_in o ns tree sound commas n c said comment (stands_in o ns tree sound commas n c over said) due

@@ -5,7 +5,7 @@ use Rattle.jsonc_tree.specs.Content.{Content, array, object, token}
 use Rattle.jsonc_tree.specs.OrderedTree.{OrderedTree, none, more, Shows, shows_none, shows_more, ordered_tree}
 use Rattle.jsonc_tree.specs.Tree.{Node, content_at, children_at, IsTree, IsOver}
 use Rattle.jsonc_sound.specs.Shape.{IsLiteralBefore, token_then}
-use Rattle.jsonc_layout.specs.lines.Kinds.{holds_values}
+use Rattle.jsonc_layout.specs.lines.Kinds.{is_array_or_object}
 use Rattle.jsonc_sound.specs.Rows as rows
 use Rattle.jsonc_sound.specs.Rows.{RowKind, of_values, of_properties, holder, opening, closing, container_of, Last}
 use Rattle.jsonc_sound.specs.TreeChanges.{DocumentChanged}
@@ -13,10 +13,10 @@ use Rattle.jsonc_sound.proofs.HeldValues.{document_held}
 use Rattle.jsonc_sound.specs.Alone as alone
 use Rattle.jsonc_sound.specs.Alone.{ValueAlone, RowAlone}
 use Rattle.jsonc_sound.specs.SoundTrees.{SoundTree}
-use Rattle.jsonc_sound.proofs.Apart.{value_alone}
+use Rattle.jsonc_sound.proofs.NodesAlone.{value_alone}
 use Rattle.jsonc_edit.specs.Changes.{row_below, top_at}
 use Rattle.jsonc_edit.specs.Paths.{IsAt}
-use Rattle.jsonc_edit.proofs.Walk.{ChangedIn, Shows-row_below, changed_over}
+use Rattle.jsonc_edit.proofs.ChangesUpward.{ChangedIn, Shows-row_below, changed_over}
 
 -- what is a container, and the row behind its first bracket
 pub record Held (o : Options) (content : Content) (below : OrderedTree) : Type 0 where
@@ -26,12 +26,12 @@ pub record Held (o : Options) (content : Content) (below : OrderedTree) : Type 0
   pub under : below ≡ token_then (opening kind) row
   pub alone : RowAlone o kind rows.nothing_yet row
 
-no_literal : (o : Options) (content : Content) → IsTrue (holds_values content) → IsLiteralBefore o content [] → ⊥
+no_literal : (o : Options) (content : Content) → IsTrue (is_array_or_object content) → IsLiteralBefore o content [] → ⊥
 no_literal o array h l = l
 no_literal o object h l = l
 no_literal o content h l = cc
 
-held : (o : Options) {content : Content} {below : OrderedTree} → IsTrue (holds_values content) → ValueAlone o content below → Held o content below
+held : (o : Options) {content : Content} {below : OrderedTree} → IsTrue (is_array_or_object content) → ValueAlone o content below → Held o content below
 held o h (alone.literal {content = content} l) = absurd (no_literal o content h l)
 held o h (alone.an_array {row = row} g) = record { kind = of_values; row = row; is = refl; under = refl; alone = g }
 held o h (alone.an_object {row = row} g) = record { kind = of_properties; row = row; is = refl; under = refl; alone = g }
@@ -40,7 +40,7 @@ held o h (alone.an_object {row = row} g) = record { kind = of_properties; row = 
 same_nodes : (ns : List Node) (c : ℕ) → IsTree ns → ChangedIn ns ns c
 same_nodes ns c tree = record { tree = tree; content = λ n ne. refl; children = λ n ne. refl }
 
-pub held_at : (o : Options) (ns : List Node) → IsTree ns → SoundTree o (ordered_tree ns 0) → (path : List ℕ) (c : ℕ) → IsAt ns path c → IsTrue (holds_values (content_at ns c)) → Held o (content_at ns c) (row_below ns c)
+pub held_at : (o : Options) (ns : List Node) → IsTree ns → SoundTree o (ordered_tree ns 0) → (path : List ℕ) (c : ℕ) → IsAt ns path c → IsTrue (is_array_or_object (content_at ns c)) → Held o (content_at ns c) (row_below ns c)
 held_at o ns tree sound path c at holds =
     let there : DocumentChanged (top_at ns c) (top_at ns c) path (ordered_tree ns 0) (ordered_tree ns 0) = changed_over ns ns c (same_nodes ns c tree) tree refl c IsOver.itself (λ e. e) path at in
     held o holds (value_alone o (document_held o there sound.shaped).1)

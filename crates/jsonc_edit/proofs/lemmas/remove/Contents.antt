@@ -3,14 +3,14 @@ use Rattle.std.proofs.Common.{◌≡◌, ℕ, suc, ◌+◌, Bool, true, false, n
 use Rattle.jsonc_tree.specs.Content.{Content, whitespace}
 use Rattle.jsonc_tree.specs.OrderedTree.{OrderedTree, Shows, shows_none, shows_more}
 use Rattle.jsonc_tree.specs.Tree.{Node, content_at}
-use Rattle.jsonc_layout.specs.nodes.Kinds.{is_beside, is_element, is_trivia, is_comma}
+use Rattle.jsonc_layout.specs.nodes.Kinds.{is_inline_trivia, is_element, is_trivia, is_comma}
 use Rattle.jsonc_sound.specs.TriviaChanges.{AreTrivia}
-use Rattle.jsonc_sound.specs.Leaving.{AreBeside, ends_apart, has_no_comma, comma_comes, element_count}
+use Rattle.jsonc_sound.specs.Leaving.{AreInlineTrivia, ends_apart, has_no_comma, comma_comes, element_count}
 
 -- the same of contents as of rows of trees
 abbrev pub apart : List Content → Bool
 apart [] = true
-apart (x ∷ []) = not (is_beside x)
+apart (x ∷ []) = not (is_inline_trivia x)
 apart (x ∷ y ∷ rest) = apart (y ∷ rest)
 
 abbrev pub no_commas : List Content → Bool
@@ -44,7 +44,7 @@ module _ (ns : List Node) where
   count_shown (shows_more {n = n} p r) = ap (λ k. if is_element (content_at ns n) then suc k else k) (count_shown r)
 
 -- one list and then another
-pub apart_last : (xs : List Content) (x : Content) → apart (xs ++ x ∷ []) ≡ not (is_beside x)
+pub apart_last : (xs : List Content) (x : Content) → apart (xs ++ x ∷ []) ≡ not (is_inline_trivia x)
 apart_last [] x = refl
 apart_last (y ∷ []) x = refl
 apart_last (y ∷ z ∷ xs) x = apart_last (z ∷ xs) x
@@ -77,16 +77,16 @@ count_append (x ∷ xs) ys = by (is_element x) (count_append xs ys)
     by true e = omega (arith, e)
     by false e = e
 
-beside_no_element : (x : Content) → IsTrue (is_beside x) → is_element x ≡ false
+beside_no_element : (x : Content) → IsTrue (is_inline_trivia x) → is_element x ≡ false
 beside_no_element (Content.whitespace s) h = refl
 beside_no_element (Content.comment s) h = refl
 beside_no_element x h = cc
 
-pub count_beside : (xs : List Content) → AreBeside xs → count xs ≡ 0
+pub count_beside : (xs : List Content) → AreInlineTrivia xs → count xs ≡ 0
 count_beside [] h = refl
 count_beside (x ∷ xs) h = ap (λ b. if b then suc (count xs) else count xs) (beside_no_element x h.0) ∙ count_beside xs h.1
 
-pub beside_append : (xs ys : List Content) → AreBeside xs → AreBeside ys → AreBeside (xs ++ ys)
+pub beside_append : (xs ys : List Content) → AreInlineTrivia xs → AreInlineTrivia ys → AreInlineTrivia (xs ++ ys)
 beside_append [] ys f g = g
 beside_append (x ∷ xs) ys f g = (f.0, beside_append xs ys f.1 g)
 

@@ -16,44 +16,44 @@ use Rattle.jsonc_tree.proofs.Over.{over_up}
 use Rattle.jsonc_tree.proofs.OrderedTrees.{Shows-unique}
 use Rattle.jsonc_layout.specs.nodes.Kinds.{is_element, is_element_at, is_property}
 use Rattle.jsonc_layout.specs.nodes.Siblings.{elements_at}
-use Rattle.jsonc_layout.proofs.lemmas.nodes.There.{All-reverse}
-use Rattle.jsonc_layout.specs.lines.Kinds.{holds_values}
+use Rattle.jsonc_layout.proofs.lemmas.nodes.InTree.{All-reverse}
+use Rattle.jsonc_layout.specs.lines.Kinds.{is_array_or_object}
 use Rattle.jsonc_sound.specs.Shape.{token_then}
 use Rattle.jsonc_sound.specs.Rows.{RowKind, of_values, of_properties, holder, opening, closing, container_of}
 use Rattle.jsonc_tree.specs.OrderedTree.{Top}
 use Rattle.jsonc_sound.specs.TreeChanges.{IsElement, DocumentChanged}
 use Rattle.jsonc_sound.specs.SoundTrees.{SoundTree}
 use Rattle.jsonc_sound.specs.Adjacent.{or_else}
-use Rattle.jsonc_sound.specs.Leaving.{ElementLeaves}
-use Rattle.jsonc_edit.specs.Due.{nearest, seen_before, seen_behind, behind_holder, behind_property, due_between, listed, ends_bare, begins_bare, prints, prints_at, prints_within}
+use Rattle.jsonc_sound.specs.Leaving.{ElementRemoved}
+use Rattle.jsonc_edit.specs.Due.{nearest, seen_before, seen_behind, behind_holder, behind_property, space_needed_between, listed, ends_bare, begins_bare, prints, prints_at, prints_within}
 use Rattle.jsonc_edit.specs.Put.{AreSpaced}
-use Rattle.jsonc_edit.proofs.Putting.{children_kept, elements_kept}
-use Rattle.jsonc_edit.proofs.Whole.{Whole, more_whole, whole_leaf, row_whole}
+use Rattle.jsonc_edit.proofs.InsertedSpaces.{children_kept, elements_kept}
+use Rattle.jsonc_edit.proofs.WholeRows.{Whole, more_whole, whole_leaf, row_whole}
 use Rattle.jsonc_edit.specs.Changes.{row_below, top_at}
 use Rattle.jsonc_edit.specs.Paths.{IsAt, IsElementOf}
 use Rattle.jsonc_edit.specs.Spaced.{SpacesPut}
-use Rattle.jsonc_edit.proofs.DueKept.{due_between_same}
+use Rattle.jsonc_edit.proofs.SpacesNeededKept.{due_between_same}
 use Rattle.jsonc_edit.proofs.Elements.{stands_at}
-use Rattle.jsonc_edit.proofs.Kept.{at_kept, filter_same, top_stays, tree_stays}
-use Rattle.jsonc_edit.proofs.Placed.{Placed, between_placed, found_behind}
+use Rattle.jsonc_edit.proofs.NodesKept.{at_kept, filter_same, top_stays, tree_stays}
+use Rattle.jsonc_edit.proofs.SpacedNodes.{Placed, between_placed, found_behind}
 use Rattle.jsonc_edit.proofs.Spacing.{Spaced, all_spaced, parent_stays, spaces_sound}
 use Rattle.jsonc_edit.proofs.Uniqueness.{element_parent, leads_over}
-use Rattle.jsonc_edit.proofs.Walk.{ChangedIn, Shows-row_below, apart_kept, changed_over}
+use Rattle.jsonc_edit.proofs.ChangesUpward.{ChangedIn, Shows-row_below, apart_kept, changed_over}
 use Rattle.jsonc_edit.specs.remove.Laws.{EntryTaken}
 use Rattle.jsonc_edit.specs.remove.Leaving.{comma_gone, first_gone, last_gone}
-use Rattle.jsonc_edit.specs.remove.Removed.{comma_in, due_at_comma, due_at_stretch, is_next, is_hollow, hollow_from, hollow_to, IsClosedUp, IsTakenFrom, LosesChild, TakesElement}
+use Rattle.jsonc_edit.specs.remove.Removed.{comma_in, space_needed_at_comma, space_needed_at_stretch, is_next, is_hollow, hollow_from, hollow_to, IsClosedUp, IsTakenFrom, LosesChild, TakesElement}
 use Rattle.jsonc_edit.proofs.lemmas.remove.Containers.{Held, held_at, Brackets, brackets}
-use Rattle.jsonc_edit.proofs.lemmas.remove.Going.{is_end, Edges, Going, with_behind, with_before, with_none, going}
+use Rattle.jsonc_edit.proofs.lemmas.remove.RemovedStretches.{is_end, Edges, Going, with_behind, with_before, with_none, going}
 use Rattle.jsonc_edit.proofs.lemmas.remove.Outcomes.{Outcome, outcome}
-use Rattle.jsonc_edit.specs.SeamRemovals.{EntryLeavesWithSeams, LeavesWithSeams}
+use Rattle.jsonc_edit.specs.SeamRemovals.{EntryRemovedWithSeams, RemovedWithSeams}
 use Rattle.jsonc_edit.specs.SeamPlaces.{DocumentHolds}
 use Rattle.jsonc_edit.specs.Seams.{StandsBetween}
-use Rattle.jsonc_edit.proofs.AtStill.{at_still}
-use Rattle.jsonc_edit.proofs.Between.{between_above}
+use Rattle.jsonc_edit.proofs.PathsKept.{at_still}
+use Rattle.jsonc_edit.proofs.LeavesAroundNodes.{between_above}
 use Rattle.jsonc_edit.proofs.PathPlaces.{AtBetween, at_between, holds_between}
 use Rattle.jsonc_edit.proofs.lemmas.remove.Places.{Some_same, before_in, parent_in}
-use Rattle.jsonc_edit.proofs.lemmas.remove.Within.{elements_print}
-use Rattle.jsonc_edit.proofs.lemmas.remove.Settled.{DueWith, IsSettled, is_settled}
+use Rattle.jsonc_edit.proofs.lemmas.remove.PrintedStretches.{elements_print}
+use Rattle.jsonc_edit.proofs.lemmas.remove.SpacedRow.{DueWith, IsSettled, is_settled}
 use Rattle.jsonc_edit.proofs.lemmas.remove.Spaces.{AreSame, going_same, nearest_same, no_holder, or_none, front_same}
 
 opening_end : (kind : RowKind) → is_end (token (opening kind)) ≡ true
@@ -131,13 +131,13 @@ elements_spaced (x ∷ xs) old new tree (now, leaf, s, rest) c = elements_spaced
 over_at : (ns : List Node) → IsTree ns → (path : List ℕ) (n : ℕ) → IsAt ns path n → IsOver ns 0 n
 over_at ns tree path n (v, e, leads) = over_up ns v 0 n (element_parent ns tree 0 0 v e) (leads_over ns tree n v path leads)
 
-no_property : (content : Content) → IsTrue (holds_values content) → is_property content ≡ false
+no_property : (content : Content) → IsTrue (is_array_or_object content) → is_property content ≡ false
 no_property array h = refl
 no_property object h = refl
 no_property content h = cc
 
 -- the spaces that are due stand before children of c
-module _ (ns : List Node) (tree : IsTree ns) (c n : ℕ) (said : parent_at ns n ≡ Some c) (over : IsOver ns 0 c) (holds : IsTrue (holds_values (content_at ns c))) where
+module _ (ns : List Node) (tree : IsTree ns) (c n : ℕ) (said : parent_at ns n ≡ Some c) (over : IsOver ns 0 c) (holds : IsTrue (is_array_or_object (content_at ns c))) where
   due_kid : (q : Bool) (b x : ℕ) → parent_at ns b ≡ Some c → seen_behind ns b ≡ Some x → parent_at ns x ≡ Some c
   due_kid q b x told e =
       let holder : behind_holder ns b ≡ None = ap (option_and_then (λ p. behind_property ns (content_at ns p) p)) told ∙ no_holder ns tree c holds (content_at ns c) holds in
@@ -151,30 +151,30 @@ module _ (ns : List Node) (tree : IsTree ns) (c n : ℕ) (said : parent_at ns n 
   retarget : (b x : ℕ) → Placed ns b x → parent_at ns x ≡ Some c → Placed ns n x
   retarget b x p at = record { container = c; parent = at; over = p.over; element = p.element; place = p.place; apart = not_over_parent ns tree n c said }
 
-  due_placed : (a b : ℕ) → parent_at ns b ≡ Some c → All (Placed ns n) (listed (due_between ns a b))
+  due_placed : (a b : ℕ) → parent_at ns b ≡ Some c → All (Placed ns n) (listed (space_needed_between ns a b))
   due_placed a b told =
-      let kids : All (λ x. parent_at ns x ≡ Some c) (listed (due_between ns a b)) = one_kid (prints_within ns a b && (ends_bare ns (seen_before ns a) && begins_bare ns (seen_behind ns b))) b (seen_behind ns b) told refl in
-      let placed : All (Placed ns b) (listed (due_between ns a b)) = between_placed ns tree b c told (IsOver.above told over) a in
+      let kids : All (λ x. parent_at ns x ≡ Some c) (listed (space_needed_between ns a b)) = one_kid (prints_within ns a b && (ends_bare ns (seen_before ns a) && begins_bare ns (seen_behind ns b))) b (seen_behind ns b) told refl in
+      let placed : All (Placed ns b) (listed (space_needed_between ns a b)) = between_placed ns tree b c told (IsOver.above told over) a in
       λ k d l. retarget b _ (placed k d l) (kids k d l)
 
   abbrev pub dues : ℕ → ℕ → Option ℕ → Bool → List ℕ
-  dues from to None next = listed (due_between ns from to)
-  dues from to (Some k) next = listed (if next then None else due_between ns k k) ++ listed (if next then due_between ns k to else due_between ns from to)
+  dues from to None next = listed (space_needed_between ns from to)
+  dues from to (Some k) next = listed (if next then None else space_needed_between ns k k) ++ listed (if next then space_needed_between ns k to else space_needed_between ns from to)
 
   all_placed : (from to : ℕ) (o : Option ℕ) (next : Bool) → parent_at ns to ≡ Some c → StandsIf ns c o → All (Placed ns n) (dues from to o next)
   all_placed from to None next told k = due_placed from to told
   all_placed from to (Some k) true told s = due_placed k to told
   all_placed from to (Some k) false told s =
-      All-append (Placed ns n) (listed (due_between ns k k)) (listed (due_between ns from to)) (due_placed k k (parent_in ns tree c s.front s.back k s.row)) (due_placed from to told)
+      All-append (Placed ns n) (listed (space_needed_between ns k k)) (listed (space_needed_between ns from to)) (due_placed k k (parent_in ns tree c s.front s.back k s.row)) (due_placed from to told)
 
-  kids_due : (a b : ℕ) → parent_at ns b ≡ Some c → All (λ x. parent_at ns x ≡ Some c) (listed (due_between ns a b))
+  kids_due : (a b : ℕ) → parent_at ns b ≡ Some c → All (λ x. parent_at ns x ≡ Some c) (listed (space_needed_between ns a b))
   kids_due a b told = one_kid (prints_within ns a b && (ends_bare ns (seen_before ns a) && begins_bare ns (seen_behind ns b))) b (seen_behind ns b) told refl
 
   all_kids_due : (from to : ℕ) (o : Option ℕ) (next : Bool) → parent_at ns to ≡ Some c → StandsIf ns c o → All (λ x. parent_at ns x ≡ Some c) (dues from to o next)
   all_kids_due from to None next told k = kids_due from to told
   all_kids_due from to (Some k) true told s = kids_due k to told
   all_kids_due from to (Some k) false told s =
-      All-append (λ x. parent_at ns x ≡ Some c) (listed (due_between ns k k)) (listed (due_between ns from to)) (kids_due k k (parent_in ns tree c s.front s.back k s.row)) (kids_due from to told)
+      All-append (λ x. parent_at ns x ≡ Some c) (listed (space_needed_between ns k k)) (listed (space_needed_between ns from to)) (kids_due k k (parent_in ns tree c s.front s.back k s.row)) (kids_due from to told)
 
 -- spaces before children of c come into the row of c alone
 rows_spaced : (c : ℕ) (xs : List ℕ) (old new : List Node) → IsTree old → AreSpaced old xs new → All (λ x. parent_at old x ≡ Some c) xs → (k : ℕ) → k ≢ c → children_at new k ≡ children_at old k
@@ -189,7 +189,7 @@ next_of : List Node → ℕ → Option ℕ → Bool
 next_of ns from None = false
 next_of ns from (Some k) = is_next (seen_before ns from) (Some k)
 
-module _ (o : Options) (old new : List Node) (path : List ℕ) (c i n : ℕ) (tree : IsTree old) (after : IsTree new) (sound : SoundTree o (ordered_tree old 0)) (at : IsAt old path c) (holds : IsTrue (holds_values (content_at old c)))
+module _ (o : Options) (old new : List Node) (path : List ℕ) (c i n : ℕ) (tree : IsTree old) (after : IsTree new) (sound : SoundTree o (ordered_tree old 0)) (at : IsAt old path c) (holds : IsTrue (is_array_or_object (content_at old c)))
     (element : IsElementOf old c i n) (takes : TakesElement old new n) where
   said : parent_at old n ≡ Some c
   said = element_parent old tree c i n element
@@ -232,7 +232,7 @@ module _ (o : Options) (old new : List Node) (path : List ℕ) (c i n : ℕ) (tr
   stands = stand old c n b.open_with b.last from to (comma_gone old n) going_old
 
   all_same : AreSame old ready (children_at old c)
-  all_same = All-from_get_or (λ m. content_at ready m ≡ content_at old m) (children_at old c) 0 (λ k l. f.prepared.keeps.content (slice_index (children_at old c) k) (tree.there c k l))
+  all_same = All-from_get_or (λ m. content_at ready m ≡ content_at old m) (children_at old c) 0 (λ k l. f.prepared.keeps.content (slice_index (children_at old c) k) (tree.in_tree c k l))
 
   row_ready : children_at ready c ≡ children_at old c
   row_ready = f.prepared.keeps.children c c_there
@@ -240,8 +240,8 @@ module _ (o : Options) (old new : List Node) (path : List ℕ) (c i n : ℕ) (tr
   going_ready : Going ready c n b.open_with b.last from to (comma_gone old n)
   going_ready = going_same old ready c n b.open_with b.last from to (comma_gone old n) row_ready all_same going_old
 
-  holds_ready : IsTrue (holds_values (content_at ready c))
-  holds_ready = subst (λ w. IsTrue (holds_values w)) (sym (f.prepared.keeps.content c c_there)) holds
+  holds_ready : IsTrue (is_array_or_object (content_at ready c))
+  holds_ready = subst (λ w. IsTrue (is_array_or_object w)) (sym (f.prepared.keeps.content c c_there)) holds
 
   comma_is_gone : comma_in old c n ≡ comma_gone old n
   comma_is_gone = ap (λ b. if b then comma_gone old n else None) holds
@@ -249,7 +249,7 @@ module _ (o : Options) (old new : List Node) (path : List ℕ) (c i n : ℕ) (tr
   there_of : {x : ℕ} → Stands old c x → x < length old
   there_of {x} s = (parent_there old tree x c (parent_in old tree c s.front s.back x s.row)).0
 
-  same_due : (x y : ℕ) → x < length old → y < length old → due_between old x y ≡ due_between ready x y
+  same_due : (x y : ℕ) → x < length old → y < length old → space_needed_between old x y ≡ space_needed_between ready x y
   same_due x y p q = sym (due_between_same old ready tree f.prepared.keeps x y p q)
 
   same_seen : seen_before old from ≡ seen_before ready from
@@ -258,21 +258,21 @@ module _ (o : Options) (old new : List Node) (path : List ℕ) (c i n : ℕ) (tr
       ap (nearest old) (before_in old tree c s.front s.back from s.row) ∙ sym (nearest_same old ready (reverse s.front) (All-reverse (λ m. content_at ready m ≡ content_at old m) s.front (front_same old ready s.front (from ∷ s.back) (subst (AreSame old ready) s.row all_same))))
       ∙ sym (ap (nearest ready) (before_in ready f.prepared.tree c s.front s.back from (row_ready ∙ s.row)))
 
-  due_with : (g : Option ℕ) → StandsIf old c g → AreSpaced ready (listed (due_at_comma old from g) ++ listed (due_at_stretch old from to g)) spaced → DueWith ready from to g (next_of old from g) spaced
+  due_with : (g : Option ℕ) → StandsIf old c g → AreSpaced ready (listed (space_needed_at_comma old from g) ++ listed (space_needed_at_stretch old from to g)) spaced → DueWith ready from to g (next_of old from g) spaced
   unfolding next_of
   due_with None s put = subst (λ w. AreSpaced ready (listed w) spaced) (same_due from to (there_of stands.0) (there_of stands.1)) put
   due_with (Some k) s put = (
     ap (λ w. is_next w (Some k)) same_seen,
-    subst (λ w. AreSpaced ready (listed (if is_next (seen_before old from) (Some k) then None else due_between ready k k) ++ listed (if is_next (seen_before old from) (Some k) then due_between ready k to else w)) spaced) (same_due from to (there_of stands.0) (there_of stands.1))
-        (subst (λ w. AreSpaced ready (listed (if is_next (seen_before old from) (Some k) then None else due_between ready k k) ++ listed (if is_next (seen_before old from) (Some k) then w else due_between old from to)) spaced) (same_due k to (there_of s) (there_of stands.1))
-        (subst (λ w. AreSpaced ready (listed (if is_next (seen_before old from) (Some k) then None else w) ++ listed (if is_next (seen_before old from) (Some k) then due_between old k to else due_between old from to)) spaced) (same_due k k (there_of s) (there_of s)) put)),
+    subst (λ w. AreSpaced ready (listed (if is_next (seen_before old from) (Some k) then None else space_needed_between ready k k) ++ listed (if is_next (seen_before old from) (Some k) then space_needed_between ready k to else w)) spaced) (same_due from to (there_of stands.0) (there_of stands.1))
+        (subst (λ w. AreSpaced ready (listed (if is_next (seen_before old from) (Some k) then None else space_needed_between ready k k) ++ listed (if is_next (seen_before old from) (Some k) then w else space_needed_between old from to)) spaced) (same_due k to (there_of s) (there_of stands.1))
+        (subst (λ w. AreSpaced ready (listed (if is_next (seen_before old from) (Some k) then None else w) ++ listed (if is_next (seen_before old from) (Some k) then space_needed_between old k to else space_needed_between old from to)) spaced) (same_due k k (there_of s) (there_of s)) put)),
   )
 
-  spaces_are : AreSpaced ready (listed (due_at_comma old from (comma_gone old n)) ++ listed (due_at_stretch old from to (comma_gone old n))) spaced
+  spaces_are : AreSpaced ready (listed (space_needed_at_comma old from (comma_gone old n)) ++ listed (space_needed_at_stretch old from to (comma_gone old n))) spaced
   unfolding from to
   spaces_are =
-      subst (λ g. AreSpaced ready (listed (due_at_comma old (first_gone old n) g) ++ listed (due_at_stretch old (first_gone old n) (last_gone old n) g)) spaced) comma_is_gone
-      (subst (λ b. AreSpaced ready (listed (due_at_comma old (first_gone old n) (comma_in old c n)) ++ listed (if b then None else due_at_stretch old (first_gone old n) (last_gone old n) (comma_in old c n))) spaced) (no_property (content_at old c) holds) f.spaces)
+      subst (λ g. AreSpaced ready (listed (space_needed_at_comma old (first_gone old n) g) ++ listed (space_needed_at_stretch old (first_gone old n) (last_gone old n) g)) spaced) comma_is_gone
+      (subst (λ b. AreSpaced ready (listed (space_needed_at_comma old (first_gone old n) (comma_in old c n)) ++ listed (if b then None else space_needed_at_stretch old (first_gone old n) (last_gone old n) (comma_in old c n))) spaced) (no_property (content_at old c) holds) f.spaces)
 
   due : DueWith ready from to (comma_gone old n) (next_of old from (comma_gone old n)) spaced
   due = due_with (comma_gone old n) stands.2 spaces_are
@@ -324,8 +324,8 @@ module _ (o : Options) (old new : List Node) (path : List ℕ) (c i n : ℕ) (tr
   content_spaced : (k : ℕ) → k < length old → content_at spaced k ≡ content_at old k
   content_spaced k l = s.content k ∙ f.prepared.keeps.content k l
 
-  holds_spaced : IsTrue (holds_values (content_at spaced c))
-  holds_spaced = subst (λ w. IsTrue (holds_values w)) (sym (content_spaced c c_there)) holds
+  holds_spaced : IsTrue (is_array_or_object (content_at spaced c))
+  holds_spaced = subst (λ w. IsTrue (is_array_or_object w)) (sym (content_spaced c c_there)) holds
 
   at_spaced : IsAt spaced path c
   at_spaced = s.at path c at_ready
@@ -340,7 +340,7 @@ module _ (o : Options) (old new : List Node) (path : List ℕ) (c i n : ℕ) (tr
   element_spaced =
       ap (λ l. slice_get l i)
       (elements_spaced (dues ready f.prepared.tree c n said_ready (over_at ready f.prepared.tree path c at_ready) holds_ready from to (comma_gone old n) (next_of old from (comma_gone old n))) ready spaced f.prepared.tree (put_of (comma_gone old n) (next_of old from (comma_gone old n)) due) c
-      ∙ ap (filter (is_element_at ready)) row_ready ∙ filter_same (is_element_at ready) (is_element_at old) (children_at old c) (λ k h. ap is_element (f.prepared.keeps.content (slice_index (children_at old c) k) (tree.there c k h))))
+      ∙ ap (filter (is_element_at ready)) row_ready ∙ filter_same (is_element_at ready) (is_element_at old) (children_at old c) (λ k h. ap is_element (f.prepared.keeps.content (slice_index (children_at old c) k) (tree.in_tree c k h))))
       ∙ element
 
   longer : length old < length spaced + 1
@@ -413,7 +413,7 @@ module _ (o : Options) (old new : List Node) (path : List ℕ) (c i n : ℕ) (tr
   stands_new : StandsBetween new c place.first place.last
   stands_new = between_above spaced new c then_moved after c place.first place.last (between_above ready spaced c in_row s.tree c place.first place.last place.stands IsOver.itself) IsOver.itself
 
-  entry_with_seams : EntryLeavesWithSeams path i (top_at old n) (ordered_tree old 0) (ordered_tree new 0)
+  entry_with_seams : EntryRemovedWithSeams path i (top_at old n) (ordered_tree old 0) (ordered_tree new 0)
   entry_with_seams = record {
     kind = was_held.kind;
     row = out.ready_row;
@@ -424,7 +424,7 @@ module _ (o : Options) (old new : List Node) (path : List ℕ) (c i n : ℕ) (tr
     element = kind_of;
     held = subst (λ (t : OrderedTree). DocumentHolds (container_of was_held.kind out.ready_row) path t place.first place.last) same_tree (subst (λ (w : Top). DocumentHolds w path (ordered_tree ready 0) place.first place.last) ready_top place.holds);
     holds = subst (λ (w : Top). DocumentHolds w path (ordered_tree new 0) place.first place.last) now_top (holds_between new after path c place.first place.last at_new stands_new);
-    leaving = subst (λ (w : Top). LeavesWithSeams w i out.ready_row out.left) same_top out.seams;
+    leaving = subst (λ (w : Top). RemovedWithSeams w i out.ready_row out.left) same_top out.seams;
     closes = out.closes;
   }
 
@@ -438,7 +438,7 @@ module _ (o : Options) (old new : List Node) (path : List ℕ) (c i n : ℕ) (tr
     element = kind_of;
     spaces = spaces;
     changed = subst (λ (w : Top). DocumentChanged w (container_of was_held.kind out.now) path (ordered_tree spaced 0) (ordered_tree new 0)) was_top (subst (λ (w : Top). DocumentChanged (top_at spaced c) w path (ordered_tree spaced 0) (ordered_tree new 0)) now_top changed);
-    leaves = subst (λ (w : Top). ElementLeaves w i out.row out.left) same_top out.leaves;
+    leaves = subst (λ (w : Top). ElementRemoved w i out.row out.left) same_top out.leaves;
     closes = out.closes;
     seams = entry_with_seams;
   }

@@ -13,29 +13,29 @@ use Rattle.jsonc_tree.specs.Tree.{Node, children_at, content_at, is_container_at
 use Rattle.jsonc_tree.specs.Values.{is_passed_over}
 use Rattle.jsonc_tree.proofs.Order.{over_step, parent_there}
 use Rattle.jsonc_layout.specs.nodes.Kinds.{is_element_at, is_property, is_comma, is_comma_at}
-use Rattle.jsonc_layout.specs.lines.Kinds.{holds_values}
+use Rattle.jsonc_layout.specs.lines.Kinds.{is_array_or_object}
 use Rattle.jsonc_sound.specs.Alone.{PropertyAlone, RootAlone}
-use Rattle.jsonc_sound.specs.Leaving.{AreBeside, IsRestOfLine}
+use Rattle.jsonc_sound.specs.Leaving.{AreInlineTrivia, IsRestOfLine}
 use Rattle.jsonc_sound.specs.Rows.{RowKind, of_values, of_properties, closing, opening}
 use Rattle.jsonc_sound.specs.Shape.{DocumentShaped, IsNameBefore}
 use Rattle.jsonc_sound.specs.SoundTrees.{SoundTree}
-use Rattle.jsonc_sound.proofs.Apart.{document_alone}
+use Rattle.jsonc_sound.proofs.NodesAlone.{document_alone}
 use Rattle.jsonc_sound.proofs.RowParts.{beside_trivia, rest_trivia}
 use Rattle.jsonc_edit.specs.Changes.{row_below}
-use Rattle.jsonc_edit.specs.Due.{begins_bare, due_between, ends_bare, nearest, prints, prints_at, prints_within, seen_before, seen_behind}
+use Rattle.jsonc_edit.specs.Due.{begins_bare, space_needed_between, ends_bare, nearest, prints, prints_at, prints_within, seen_before, seen_behind}
 use Rattle.jsonc_edit.specs.Paths.{IsAt, as_root, as_value, as_property, as_name, between}
 use Rattle.jsonc_edit.specs.Put.{AreDue}
 use Rattle.jsonc_edit.specs.remove.Leaving.{comma_gone, first_gone, last_gone}
 use Rattle.jsonc_edit.specs.remove.Laws.{ElementWantsNone}
-use Rattle.jsonc_edit.specs.remove.Removed.{comma_in, due_at_comma, due_at_stretch, due_before_gap, due_behind_gap, is_next}
+use Rattle.jsonc_edit.specs.remove.Removed.{comma_in, space_needed_at_comma, space_needed_at_stretch, space_needed_before_gap, space_needed_after_gap, is_next}
 use Rattle.jsonc_edit.proofs.Printing.{unkept_prints}
-use Rattle.jsonc_edit.proofs.Standing.{all_stand}
+use Rattle.jsonc_edit.proofs.ShapedPlaces.{all_stand}
 use Rattle.jsonc_edit.proofs.Uniqueness.{element_parent}
-use Rattle.jsonc_edit.proofs.Walk.{Shows-row_below, document_is}
+use Rattle.jsonc_edit.proofs.ChangesUpward.{Shows-row_below, document_is}
 use Rattle.jsonc_edit.proofs.lemmas.commas.Holders.{name_is, property_alone, value_at_path}
 use Rattle.jsonc_edit.proofs.lemmas.remove.Containers.{Brackets, Held, brackets, held_at}
 use Rattle.jsonc_edit.proofs.lemmas.remove.Contents.{no_commas}
-use Rattle.jsonc_edit.proofs.lemmas.remove.Going.{Edges, Going, going, is_end, with_before, with_behind, with_none}
+use Rattle.jsonc_edit.proofs.lemmas.remove.RemovedStretches.{Edges, Going, going, is_end, with_before, with_behind, with_none}
 use Rattle.jsonc_edit.proofs.lemmas.remove.Parted.{apart_behind, follows, no_bare_begin, no_bare_between, no_bare_end, none_reversed, root_parts, shown_apart, state, value_parts, Apart, Parts}
 use Rattle.jsonc_edit.proofs.lemmas.remove.Places.{before_in, row_split}
 use Rattle.jsonc_edit.proofs.lemmas.remove.Spaces.{due_parts}
@@ -97,15 +97,15 @@ module _ (ns : List Node) (tree : IsTree ns) (c n : ℕ) (said : parent_at ns n 
       ap (λ (l : List ℕ). ends_bare ns (nearest ns l)) (before_in ns tree c around.away (around.tail ++ post) (first_gone ns n) from_first)
       ∙ no_bare_end 0x2C ns false around.away around.near post n (subst (Apart 0x2C ns false) whole apart) (beside_trivia (contents ns around.near) around.beside) element
 
-  none_from : (to : ℕ) → due_between ns (first_gone ns n) to ≡ None
+  none_from : (to : ℕ) → space_needed_between ns (first_gone ns n) to ≡ None
   none_from to = none_if_first (prints_within ns (first_gone ns n) to) (ends_bare ns (seen_before ns (first_gone ns n))) (begins_bare ns (seen_behind ns to)) (seen_behind ns to) none_before
 
   abbrev NoneDue : ℕ → Option ℕ → Type 0
-  NoneDue to g = (due_at_comma ns (first_gone ns n) g ≡ None) × (due_at_stretch ns (first_gone ns n) to g ≡ None)
+  NoneDue to g = (space_needed_at_comma ns (first_gone ns n) g ≡ None) × (space_needed_at_stretch ns (first_gone ns n) to g ≡ None)
 
   -- with a comma before it
   module _ (open_with last to k : ℕ) (away mid near line rest : List ℕ) (row : children_at ns c ≡ ((open_with ∷ away) ++ k ∷ mid) ++ ((near ++ n ∷ line) ++ (rest ++ last ∷ []))) (edges : Edges (near ++ n ∷ line) (first_gone ns n) to)
-      (beside : AreBeside (contents ns near)) (free : IsTrue (no_commas (contents ns mid))) (comma : IsTrue (is_comma_at ns k)) (ended : IsRestOfLine (contents ns line)) (holds : IsTrue (holds_values (content_at ns c))) where
+      (beside : AreInlineTrivia (contents ns near)) (free : IsTrue (no_commas (contents ns mid))) (comma : IsTrue (is_comma_at ns k)) (ended : IsRestOfLine (contents ns line)) (holds : IsTrue (is_array_or_object (content_at ns c))) where
     abbrev front : List ℕ
     front = open_with ∷ away
 
@@ -129,7 +129,7 @@ module _ (ns : List Node) (tree : IsTree ns) (c n : ℕ) (said : parent_at ns n 
         row ∙ ap (λ (l : List ℕ). (front ++ k ∷ mid) ++ (l ++ back)) edges.last_is ∙ ap (λ (l : List ℕ). (front ++ k ∷ mid) ++ l) (append_assoc edges.init (to ∷ []) back)
         ∙ sym (append_assoc (front ++ k ∷ mid) edges.init (to ∷ back))
 
-    none_to : due_between ns k to ≡ None
+    none_to : space_needed_between ns k to ≡ None
     none_to = elim (cases_Bool (prints_within ns k to)) [
       | inl e ↦
           due_parts ns tree c holds front (mid ++ (near ++ n ∷ (line ++ back))) ((front ++ k ∷ mid) ++ edges.init) back k to e behind_comma to_last
@@ -138,7 +138,7 @@ module _ (ns : List Node) (tree : IsTree ns) (c n : ℕ) (said : parent_at ns n 
     ]
 
     -- where something is printed between the comma and the element it begins with none
-    none_between : (m : ℕ) → nearest ns mid ≡ Some m → due_between ns k k ≡ None
+    none_between : (m : ℕ) → nearest ns mid ≡ Some m → space_needed_between ns k k ≡ None
     none_between m e =
         let rest_of : List ℕ = near ++ n ∷ (line ++ back) in
         let first : nearest ns (mid ++ rest_of) ≡ Some m = find-append (prints_at ns) mid rest_of ∙ ap (λ o. option_or o (nearest ns rest_of)) e in
@@ -162,36 +162,36 @@ module _ (ns : List Node) (tree : IsTree ns) (c n : ℕ) (said : parent_at ns n 
         ap (nearest ns) (before_in ns tree c (front ++ k ∷ mid) (edges.tail ++ back) (first_gone ns n) at ∙ reverse-append front (k ∷ mid))
         ∙ find-append (prints_at ns) (reverse (k ∷ mid)) (reverse front) ∙ ap (λ o. option_or o (nearest ns (reverse front))) here
 
-    none_at_comma : (o : Option ℕ) → nearest ns mid ≡ o → due_at_comma ns (first_gone ns n) (Some k) ≡ None
-    none_at_comma (Some m) e = none_either (is_next (seen_before ns (first_gone ns n)) (Some k)) None (due_between ns k k) refl (none_between m e)
+    none_at_comma : (o : Option ℕ) → nearest ns mid ≡ o → space_needed_at_comma ns (first_gone ns n) (Some k) ≡ None
+    none_at_comma (Some m) e = none_either (is_next (seen_before ns (first_gone ns n)) (Some k)) None (space_needed_between ns k k) refl (none_between m e)
     none_at_comma None e =
         let next : is_next (seen_before ns (first_gone ns n)) (Some k) ≡ true = ap (λ o. is_next o (Some k)) (seen_comma e) ∙ (bytes_eq-Decides (k ∷ []) (k ∷ [])).1 refl in
-        ap (λ b. cond b None (due_between ns k k)) next
+        ap (λ b. cond b None (space_needed_between ns k k)) next
 
     none_with_comma : NoneDue to (Some k)
-    none_with_comma = (none_at_comma (nearest ns mid) refl, none_either (is_next (seen_before ns (first_gone ns n)) (Some k)) (due_between ns k to) (due_between ns (first_gone ns n) to) none_to (none_from to))
+    none_with_comma = (none_at_comma (nearest ns mid) refl, none_either (is_next (seen_before ns (first_gone ns n)) (Some k)) (space_needed_between ns k to) (space_needed_between ns (first_gone ns n) to) none_to (none_from to))
 
-  none_gone : IsTrue (holds_values (content_at ns c)) → (open_with last to : ℕ) (g : Option ℕ) → Going ns c n open_with last (first_gone ns n) to g → NoneDue to g
+  none_gone : IsTrue (is_array_or_object (content_at ns c)) → (open_with last to : ℕ) (g : Option ℕ) → Going ns c n open_with last (first_gone ns n) to g → NoneDue to g
   none_gone holds open_with last to _ (with_behind away near gap line rest k row edges beside apart2 comma behind) = (refl, none_from to)
   none_gone holds open_with last to _ (with_none away near line rest row edges beside apart2 free ended first) = (refl, none_from to)
   none_gone holds open_with last to _ (with_before away mid near line rest {k = k} row edges beside apart2 free comma ended first) = none_with_comma open_with last to k away mid near line rest row edges beside free comma ended holds
 
   -- a root
-  none_bare : holds_values (content_at ns c) ≡ false → AreDue (due_before_gap ns c n) (due_behind_gap ns c n) → ⊥
+  none_bare : is_array_or_object (content_at ns c) ≡ false → AreDue (space_needed_before_gap ns c n) (space_needed_after_gap ns c n) → ⊥
   none_bare other h =
       let without : comma_in ns c n ≡ None = ap (λ b. if b then comma_gone ns n else None) other in
-      let before : due_before_gap ns c n ≡ None = ap (due_at_comma ns (first_gone ns n)) without in
-      let stretch : due_at_stretch ns (first_gone ns n) (last_gone ns n) (comma_in ns c n) ≡ None = ap (due_at_stretch ns (first_gone ns n) (last_gone ns n)) without ∙ none_from (last_gone ns n) in
-      neither_due (due_before_gap ns c n) (due_behind_gap ns c n) before (none_either (is_property (content_at ns c)) None (due_at_stretch ns (first_gone ns n) (last_gone ns n) (comma_in ns c n)) refl stretch) h
+      let before : space_needed_before_gap ns c n ≡ None = ap (space_needed_at_comma ns (first_gone ns n)) without in
+      let stretch : space_needed_at_stretch ns (first_gone ns n) (last_gone ns n) (comma_in ns c n) ≡ None = ap (space_needed_at_stretch ns (first_gone ns n) (last_gone ns n)) without ∙ none_from (last_gone ns n) in
+      neither_due (space_needed_before_gap ns c n) (space_needed_after_gap ns c n) before (none_either (is_property (content_at ns c)) None (space_needed_at_stretch ns (first_gone ns n) (last_gone ns n) (comma_in ns c n)) refl stretch) h
 
   -- an array or object
-  none_held : IsTrue (holds_values (content_at ns c)) → (open_with last : ℕ) → Going ns c n open_with last (first_gone ns n) (last_gone ns n) (comma_gone ns n) → AreDue (due_before_gap ns c n) (due_behind_gap ns c n) → ⊥
+  none_held : IsTrue (is_array_or_object (content_at ns c)) → (open_with last : ℕ) → Going ns c n open_with last (first_gone ns n) (last_gone ns n) (comma_gone ns n) → AreDue (space_needed_before_gap ns c n) (space_needed_after_gap ns c n) → ⊥
   none_held holds open_with last goes h =
       let with_it : comma_in ns c n ≡ comma_gone ns n = ap (λ b. if b then comma_gone ns n else None) holds in
       let both = none_gone holds open_with last (last_gone ns n) (comma_gone ns n) goes in
-      let before : due_before_gap ns c n ≡ None = ap (due_at_comma ns (first_gone ns n)) with_it ∙ both.0 in
-      let stretch : due_at_stretch ns (first_gone ns n) (last_gone ns n) (comma_in ns c n) ≡ None = ap (due_at_stretch ns (first_gone ns n) (last_gone ns n)) with_it ∙ both.1 in
-      neither_due (due_before_gap ns c n) (due_behind_gap ns c n) before (none_either (is_property (content_at ns c)) None (due_at_stretch ns (first_gone ns n) (last_gone ns n) (comma_in ns c n)) refl stretch) h
+      let before : space_needed_before_gap ns c n ≡ None = ap (space_needed_at_comma ns (first_gone ns n)) with_it ∙ both.0 in
+      let stretch : space_needed_at_stretch ns (first_gone ns n) (last_gone ns n) (comma_in ns c n) ≡ None = ap (space_needed_at_stretch ns (first_gone ns n) (last_gone ns n)) with_it ∙ both.1 in
+      neither_due (space_needed_before_gap ns c n) (space_needed_after_gap ns c n) before (none_either (is_property (content_at ns c)) None (space_needed_at_stretch ns (first_gone ns n) (last_gone ns n) (comma_in ns c n)) refl stretch) h
 
 no_container_name : (o : Options) (c : Content) → IsNameBefore o c [] → is_container c ≡ false
 no_container_name o (Content.string s) h = refl
@@ -232,7 +232,7 @@ module _ (o : Options) (ns : List Node) (tree : IsTree ns) (sound : SoundTree o 
       elim (all_stand o ns tree sound.shaped c (over_parent n c over said)) [
         | as_root e ↦ in_root e
         | as_value {path = path} at ↦ in_value path at
-        | as_property {path = path} {p = p} i at outer element is ↦ in_property (property_alone o ns tree sound path p c at (ap holds_values outer) (element_parent ns tree p i c element) is) is
+        | as_property {path = path} {p = p} i at outer element is ↦ in_property (property_alone o ns tree sound path p c at (ap is_array_or_object outer) (element_parent ns tree p i c element) is) is
         | as_name r is element ↦
             let up = over_parent c r (over_parent n c over said) (element_parent ns tree r 0 c element) in
             absurd (no_leaf n c said (no_container_name o (content_at ns c) (name_is o ns tree sound r c up is element)))
@@ -245,16 +245,16 @@ module _ (o : Options) (ns : List Node) (tree : IsTree ns) (sound : SoundTree o 
   pub value_apart : (path : List ℕ) (n c : ℕ) → parent_at ns n ≡ Some c → IsAt ns path c → Apart 0x2C ns false (children_at ns c)
   value_apart path n c said at = row_apart c (parent_there ns tree n c said).1 (value_parts o commas (value_at_path o ns tree sound path c at))
 
-  element_in : (n c : ℕ) → parent_at ns n ≡ Some c → IsTrue (is_element_at ns n) → StandsIn c → AreDue (due_before_gap ns c n) (due_behind_gap ns c n) → ⊥
+  element_in : (n c : ℕ) → parent_at ns n ≡ Some c → IsTrue (is_element_at ns n) → StandsIn c → AreDue (space_needed_before_gap ns c n) (space_needed_after_gap ns c n) → ⊥
   element_in n c said element (in_root e) h =
-      none_bare ns tree c n said element (subst (λ k. Apart 0x2C ns false (children_at ns k)) (sym e) root_apart) (ap holds_values (ap (content_at ns) e ∙ tree.root_first)) h
+      none_bare ns tree c n said element (subst (λ k. Apart 0x2C ns false (children_at ns k)) (sym e) root_apart) (ap is_array_or_object (ap (content_at ns) e ∙ tree.root_first)) h
   element_in n c said element (in_property alone is) h =
-      let before : due_before_gap ns c n ≡ None = ap (λ w. due_at_comma ns (first_gone ns n) (if holds_values w then comma_gone ns n else None)) is in
-      let behind : due_behind_gap ns c n ≡ None = ap (λ w. if is_property w then None else due_at_stretch ns (first_gone ns n) (last_gone ns n) (comma_in ns c n)) is in
-      neither_due (due_before_gap ns c n) (due_behind_gap ns c n) before behind h
+      let before : space_needed_before_gap ns c n ≡ None = ap (λ w. space_needed_at_comma ns (first_gone ns n) (if is_array_or_object w then comma_gone ns n else None)) is in
+      let behind : space_needed_after_gap ns c n ≡ None = ap (λ w. if is_property w then None else space_needed_at_stretch ns (first_gone ns n) (last_gone ns n) (comma_in ns c n)) is in
+      neither_due (space_needed_before_gap ns c n) (space_needed_after_gap ns c n) before behind h
   element_in n c said element (in_value path at) h =
       let apart : Apart 0x2C ns false (children_at ns c) = value_apart path n c said at in
-      elim (cases_Bool (holds_values (content_at ns c))) [
+      elim (cases_Bool (is_array_or_object (content_at ns c))) [
         | inr other ↦ none_bare ns tree c n said element apart other h
         | inl holds ↦
             let held : Held o (content_at ns c) (row_below ns c) = held_at o ns tree sound path c at holds in

@@ -14,31 +14,31 @@ use Rattle.jsonc_tree.proofs.OrderedTrees.{leaves-followed_by}
 use Rattle.jsonc_tree.proofs.Rows.{Shows-append, Shows-part, followed_by-assoc, followed_by-none}
 use Rattle.jsonc_layout.specs.nodes.Kinds.{is_element, is_element_at}
 use Rattle.jsonc_sound.specs.Shape.{token_then}
-use Rattle.jsonc_layout.specs.lines.Kinds.{holds_values}
+use Rattle.jsonc_layout.specs.lines.Kinds.{is_array_or_object}
 use Rattle.jsonc_sound.specs.Rows.{RowKind, opening, closing}
 use Rattle.jsonc_sound.specs.TriviaChanges.{leaves_then}
 use Rattle.jsonc_sound.specs.Adjacent.{last_printed}
 use Rattle.jsonc_sound.specs.Spaces.{first_printed, is_bare, is_bare_leaf, meet, space_then}
 use Rattle.jsonc_edit.specs.Due.{nearest, beginning_in, begins_bare, ends_bare, is_bare_at, prints_at}
 use Rattle.jsonc_edit.specs.Put.{a_space}
-use Rattle.jsonc_edit.specs.SeamRemovals.{SpaceFirst, none_first, space_first, LeavesWithSeams, comma_behind, comma_before, no_comma}
-use Rattle.jsonc_edit.proofs.Between.{silent_row}
-use Rattle.jsonc_sound.specs.Leaving.{AreBeside, ends_apart, element_count, among, ElementLeaves, with_comma_behind, with_comma_before, with_no_comma, ClosesUp}
+use Rattle.jsonc_edit.specs.SeamRemovals.{SpaceFirst, none_first, space_first, RemovedWithSeams, comma_behind, comma_before, no_comma}
+use Rattle.jsonc_edit.proofs.LeavesAroundNodes.{silent_row}
+use Rattle.jsonc_sound.specs.Leaving.{AreInlineTrivia, ends_apart, element_count, among, ElementRemoved, with_comma_behind, with_comma_before, with_no_comma, ClosesUp}
 use Rattle.jsonc_sound.proofs.RowParts.{rest_trivia, between_trivia, line_trivia}
-use Rattle.jsonc_edit.proofs.Whole.{Whole, more_whole, whole_before, whole_behind}
-use Rattle.jsonc_edit.proofs.Meeting.{back_bare, front_bare, meet_bare}
+use Rattle.jsonc_edit.proofs.WholeRows.{Whole, more_whole, whole_before, whole_behind}
+use Rattle.jsonc_edit.proofs.NearestLeaves.{back_bare, front_bare, meet_bare}
 use Rattle.jsonc_edit.specs.Changes.{row_below, top_at}
 use Rattle.jsonc_edit.specs.Paths.{IsElementOf}
 use Rattle.jsonc_edit.proofs.Elements.{stands_at}
-use Rattle.jsonc_edit.proofs.Walk.{Shows-row_below}
+use Rattle.jsonc_edit.proofs.ChangesUpward.{Shows-row_below}
 use Rattle.jsonc_edit.specs.remove.Removed.{IsClosedUp, LosesChild}
 use Rattle.jsonc_edit.proofs.lemmas.remove.Contents.{apart, count, apart_shown, commas_shown, first_shown, count_shown, count_append, count_beside}
-use Rattle.jsonc_edit.proofs.lemmas.remove.Going.{Edges}
+use Rattle.jsonc_edit.proofs.lemmas.remove.RemovedStretches.{Edges}
 use Rattle.jsonc_edit.proofs.lemmas.remove.Places.{Come, none_come, one_come, Quiet, place_in}
-use Rattle.jsonc_edit.proofs.lemmas.remove.Settled.{Settled, settled_behind, settled_before, settled_none, comma_is}
+use Rattle.jsonc_edit.proofs.lemmas.remove.SpacedRow.{Settled, settled_behind, settled_before, settled_none, comma_is}
 use Rattle.jsonc_edit.proofs.lemmas.remove.Stretches.{contents}
 use Rattle.jsonc_edit.proofs.lemmas.remove.Trees.{trivia_leaves, beside_leaves, leaves_shown, among_shown, leaf_below, quiet_inside, AreKids, all_kids, closes_row as close_up, NewRow, new_row}
-use Rattle.jsonc_edit.proofs.lemmas.remove.Weaving.{Rewoven, stretch_out, comma_out, Others, others_before, All-front, All-back}
+use Rattle.jsonc_edit.proofs.lemmas.remove.RemovedChildren.{Rewoven, stretch_out, comma_out, Others, others_before, All-front, All-back}
 
 -- two whole rows, one behind the other
 whole_joined : (o : Options) (t u : OrderedTree) → Whole o t → Whole o u → Whole o (followed_by t u)
@@ -52,11 +52,11 @@ pub record Outcome (old new : List Node) (c n i : ℕ) (kind : RowKind) (ready :
   pub now : OrderedTree
   pub was : row_below old c ≡ token_then (opening kind) row
   pub is : row_below new c ≡ token_then (opening kind) now
-  pub leaves : ElementLeaves (top_at old n) i row left
+  pub leaves : ElementRemoved (top_at old n) i row left
   pub closes : ClosesUp left now
   pub ready_row : OrderedTree
   pub shows_ready : Shows old ready (token_then (opening kind) ready_row)
-  pub seams : LeavesWithSeams (top_at old n) i ready_row left
+  pub seams : RemovedWithSeams (top_at old n) i ready_row left
 
 -- what a row is without the space that has come into it
 record Unspaced (ns : List Node) (xs : List ℕ) (before : List Content) (t : OrderedTree) : Type 0 where
@@ -128,9 +128,9 @@ counted ns (x ∷ xs) = by (is_element_at ns x) (counted ns xs)
     by false e = e
 
 module _ (o : Options) (old new : List Node) (tree : IsTree old) (after : IsTree new) (c n i open_with last from to : ℕ) (kind : RowKind) (there : c < length old) (n_there : n < length old)
-    (opens : content_at old open_with ≡ token (opening kind)) (closes : content_at old last ≡ token (closing kind)) (holds : IsTrue (holds_values (content_at old c))) (whole : Whole o (row_below old c)) (element : IsElementOf old c i n) where
+    (opens : content_at old open_with ≡ token (opening kind)) (closes : content_at old last ≡ token (closing kind)) (holds : IsTrue (is_array_or_object (content_at old c))) (whole : Whole o (row_below old c)) (element : IsElementOf old c i n) where
   -- the row by its parts
-  module _ (ahead near behind rest : List ℕ) (row : children_at old c ≡ (open_with ∷ ahead) ++ ((near ++ n ∷ behind) ++ (rest ++ last ∷ []))) (edges : Edges (near ++ n ∷ behind) from to) (beside : AreBeside (contents old near)) where
+  module _ (ahead near behind rest : List ℕ) (row : children_at old c ≡ (open_with ∷ ahead) ++ ((near ++ n ∷ behind) ++ (rest ++ last ∷ []))) (edges : Edges (near ++ n ∷ behind) from to) (beside : AreInlineTrivia (contents old near)) where
     abbrev stretch : List ℕ
     stretch = near ++ n ∷ behind
 
@@ -237,7 +237,7 @@ module _ (o : Options) (old new : List Node) (tree : IsTree old) (after : IsTree
 
   module _ (parted joined : List Node) (s : Splices old parted c (place_at old from) (place_at old to + 1) []) (closed : IsClosedUp joined new c) where
     -- where the stretch alone leaves
-    module _ (ahead near behind rest : List ℕ) (row : children_at old c ≡ (open_with ∷ ahead) ++ ((near ++ n ∷ behind) ++ (rest ++ last ∷ []))) (edges : Edges (near ++ n ∷ behind) from to) (beside : AreBeside (contents old near)) (same : joined ≡ parted)
+    module _ (ahead near behind rest : List ℕ) (row : children_at old c ≡ (open_with ∷ ahead) ++ ((near ++ n ∷ behind) ++ (rest ++ last ∷ []))) (edges : Edges (near ++ n ∷ behind) from to) (beside : AreInlineTrivia (contents old near)) (same : joined ≡ parted)
         (p : Pieces ahead near behind rest row edges beside) where
       stretch_row : NewRow old new tree after c open_with last kind there opens closes (followed_by p.front p.rest_of)
       stretch_row =
@@ -272,8 +272,8 @@ module _ (o : Options) (old new : List Node) (tree : IsTree old) (after : IsTree
           was = p.was;
           is = r.is;
           leaves =
-              subst (λ k. ElementLeaves (top_at old n) k p.row_is (followed_by p.front p.rest_of)) (stretch_index away near line rest row edges beside same p)
-              (subst (λ t. ElementLeaves (top_at old n) (element_count p.front) t (followed_by p.front p.rest_of)) (sym whole_row)
+              subst (λ k. ElementRemoved (top_at old n) k p.row_is (followed_by p.front p.rest_of)) (stretch_index away near line rest row edges beside same p)
+              (subst (λ t. ElementRemoved (top_at old n) (element_count p.front) t (followed_by p.front p.rest_of)) (sym whole_row)
               (with_no_comma p.front p.rest_of (contents old near) (contents old line) (stretch_apart away near line rest row edges beside same p apart_away) (commas_shown old p.shows_front ∙ none_away) beside ended
               (ap not (first_shown old p.shows_rest ∙ first)) (stretch_quiet away near line rest row edges beside same p quiet)));
           closes = r.shuts;
@@ -282,8 +282,8 @@ module _ (o : Options) (old new : List Node) (tree : IsTree old) (after : IsTree
               token_shown old tree open_with (opening kind) (away ++ ((near ++ n ∷ line) ++ back_nodes)) (followed_by p.front (followed_by p.stretch_of was.was)) opens
               (Shows-append old away ((near ++ n ∷ line) ++ back_nodes) p.front (followed_by p.stretch_of was.was) p.shows_front (Shows-append old (near ++ n ∷ line) back_nodes p.stretch_of was.was p.shows_stretch was.shows));
           seams =
-              subst (λ k. LeavesWithSeams (top_at old n) k (followed_by p.front (followed_by p.stretch_of was.was)) (followed_by p.front p.rest_of)) (stretch_index away near line rest row edges beside same p)
-              (subst (λ t. LeavesWithSeams (top_at old n) (element_count p.front) t (followed_by p.front p.rest_of)) (sym ready_is)
+              subst (λ k. RemovedWithSeams (top_at old n) k (followed_by p.front (followed_by p.stretch_of was.was)) (followed_by p.front p.rest_of)) (stretch_index away near line rest row edges beside same p)
+              (subst (λ t. RemovedWithSeams (top_at old n) (element_count p.front) t (followed_by p.front p.rest_of)) (sym ready_is)
               (no_comma p.front was.was p.rest_of (contents old near) (contents old line) beside ended was.space));
         }
     outcome _ _ (settled_behind away near between line rest k row edges beside apart_away comma goes quiet back_nodes come) same =
@@ -312,8 +312,8 @@ module _ (o : Options) (old new : List Node) (tree : IsTree old) (after : IsTree
           was = p.was;
           is = r.is;
           leaves =
-              subst (λ j. ElementLeaves (top_at old n) j p.row_is (followed_by p.front p.rest_of)) (stretch_index away near (between ++ k ∷ line) rest row edges beside same p)
-              (subst (λ t. ElementLeaves (top_at old n) (element_count p.front) t (followed_by p.front p.rest_of)) (sym whole_row)
+              subst (λ j. ElementRemoved (top_at old n) j p.row_is (followed_by p.front p.rest_of)) (stretch_index away near (between ++ k ∷ line) rest row edges beside same p)
+              (subst (λ t. ElementRemoved (top_at old n) (element_count p.front) t (followed_by p.front p.rest_of)) (sym whole_row)
               (with_comma_behind p.front p.rest_of (contents old near) (contents old between) (contents old line) (stretch_apart away near (between ++ k ∷ line) rest row edges beside same p apart_away) beside goes
               (stretch_quiet away near (between ++ k ∷ line) rest row edges beside same p quiet)));
           closes = r.shuts;
@@ -323,8 +323,8 @@ module _ (o : Options) (old new : List Node) (tree : IsTree old) (after : IsTree
               (Shows-append old away ((near ++ n ∷ (between ++ k ∷ line)) ++ back_nodes) p.front (followed_by p.stretch_of was.was) p.shows_front
               (Shows-append old (near ++ n ∷ (between ++ k ∷ line)) back_nodes p.stretch_of was.was p.shows_stretch was.shows));
           seams =
-              subst (λ j. LeavesWithSeams (top_at old n) j (followed_by p.front (followed_by p.stretch_of was.was)) (followed_by p.front p.rest_of)) (stretch_index away near (between ++ k ∷ line) rest row edges beside same p)
-              (subst (λ t. LeavesWithSeams (top_at old n) (element_count p.front) t (followed_by p.front p.rest_of)) (sym ready_is)
+              subst (λ j. RemovedWithSeams (top_at old n) j (followed_by p.front (followed_by p.stretch_of was.was)) (followed_by p.front p.rest_of)) (stretch_index away near (between ++ k ∷ line) rest row edges beside same p)
+              (subst (λ t. RemovedWithSeams (top_at old n) (element_count p.front) t (followed_by p.front p.rest_of)) (sym ready_is)
               (comma_behind p.front was.was p.rest_of (contents old near) (contents old between) (contents old line) beside goes was.space));
         }
     outcome _ _ (settled_before away mid near line rest {k = k} row edges beside apart_mid none_mid comma ended first far close mid_nodes back_nodes come_mid come) loses =
@@ -380,8 +380,8 @@ module _ (o : Options) (old new : List Node) (tree : IsTree old) (after : IsTree
           was = p.was;
           is = r.is;
           leaves =
-              subst (λ j. ElementLeaves (top_at old n) j p.row_is left) counts
-              (subst (λ t. ElementLeaves (top_at old n) (element_count two.0 + element_count one.after) t left) (sym whole_row)
+              subst (λ j. ElementRemoved (top_at old n) j p.row_is left) counts
+              (subst (λ t. ElementRemoved (top_at old n) (element_count two.0 + element_count one.after) t left) (sym whole_row)
               (with_comma_before two.0 one.after p.rest_of (contents old near) (contents old line) mid_apart (commas_shown old one.shown ∙ none_mid) beside ended (ap not (first_shown old p.shows_rest ∙ first))
               (meet_bare old o two.3 whole_away shows_back (whole_joined o one.after p.rest_of whole_mid p.whole_rest) ∙ quiet_inside old open_with away (mid ++ back) far)
               (meet_bare old o one.shown whole_mid p.shows_rest p.whole_rest ∙ close)));
@@ -392,7 +392,7 @@ module _ (o : Options) (old new : List Node) (tree : IsTree old) (after : IsTree
               (token_shown old tree open_with (opening kind) ((away ++ k ∷ mid_nodes) ++ ((near ++ n ∷ line) ++ back_nodes)) (followed_by ready_front (followed_by p.stretch_of was.was)) opens
               (Shows-append old (away ++ k ∷ mid_nodes) ((near ++ n ∷ line) ++ back_nodes) ready_front (followed_by p.stretch_of was.was) shows_front (Shows-append old (near ++ n ∷ line) back_nodes p.stretch_of was.was p.shows_stretch was.shows)));
           seams =
-              subst (λ j. LeavesWithSeams (top_at old n) j (followed_by ready_front (followed_by p.stretch_of was.was)) left) ready_counts
-              (subst (λ t. LeavesWithSeams (top_at old n) (element_count two.0 + element_count was_mid.was) t left) (sym ready_is)
+              subst (λ j. RemovedWithSeams (top_at old n) j (followed_by ready_front (followed_by p.stretch_of was.was)) left) ready_counts
+              (subst (λ t. RemovedWithSeams (top_at old n) (element_count two.0 + element_count was_mid.was) t left) (sym ready_is)
               (comma_before two.0 was_mid.was was.was one.after p.rest_of (contents old near) (contents old line) beside ended was_mid.space was.space));
         }

@@ -12,13 +12,13 @@ use Rattle.jsonc_tree.specs.Content.{Content, array, object}
 use Rattle.jsonc_tree.specs.Order.{with_parent}
 use Rattle.jsonc_tree.specs.Siblings.{row_of, siblings_after, siblings_before}
 use Rattle.jsonc_tree.specs.Tree.{Node, content_at, parent_at, children_at, place_at, IsTree}
-use Rattle.jsonc_layout.specs.lines.Kinds.{holds_values}
+use Rattle.jsonc_layout.specs.lines.Kinds.{is_array_or_object}
 use Rattle.jsonc_sound.specs.Spaces.{is_bare}
 use Rattle.jsonc_sound.proofs.Spaced.{space_first}
 use Rattle.jsonc_edit.specs.Due.{prints, prints_at, nearest, beginning_in, begins_bare, ends_bare, is_bare_at, listed}
 use Rattle.jsonc_edit.specs.Put.{a_space, StandsBefore, AreSpaced}
-use Rattle.jsonc_edit.proofs.Putting.{children_kept, contents_kept, container_row}
-use Rattle.jsonc_edit.proofs.Quiet.{ends_kept}
+use Rattle.jsonc_edit.proofs.InsertedSpaces.{children_kept, contents_kept, container_row}
+use Rattle.jsonc_edit.proofs.UnneededSpaces.{ends_kept}
 use Rattle.jsonc_edit.proofs.lemmas.remove.Contents.{Gains, gains_at}
 use Rattle.jsonc_edit.proofs.lemmas.remove.Stretches.{contents}
 
@@ -100,7 +100,7 @@ both_true true b e = (refl, e)
 both_true false b e = let wrong : false ≡ true = e in cc
 
 -- an array or object begins with itself
-holder_itself : (content : Content) → IsTrue (holds_values content) → (children : List ℕ) (x : ℕ) → beginning_in children x content ≡ Some x
+holder_itself : (content : Content) → IsTrue (is_array_or_object content) → (children : List ℕ) (x : ℕ) → beginning_in children x content ≡ Some x
 holder_itself array h children x = refl
 holder_itself object h children x = refl
 holder_itself content h children x = cc
@@ -150,7 +150,7 @@ some_reversed test x xs h =
 space_prints : prints a_space ≡ true
 space_prints = ap (λ o. starts (λ c. true) o) space_first
 
-module _ (old : List Node) (tree : IsTree old) (c : ℕ) (front part back ahead : List ℕ) (row : children_at old c ≡ front ++ (part ++ back)) (holds : IsTrue (holds_values (content_at old c))) where
+module _ (old : List Node) (tree : IsTree old) (c : ℕ) (front part back ahead : List ℕ) (row : children_at old c ≡ front ++ (part ++ back)) (holds : IsTrue (is_array_or_object (content_at old c))) where
   unspaced : Quiet old ahead part → OneSpace old old c front part back ahead
   unspaced quiet = record {
     tree = tree;
@@ -246,7 +246,7 @@ module _ (old : List Node) (tree : IsTree old) (c : ℕ) (front part back ahead 
         ∙ elim (cases_Bool (y == c)) [
           | inl h ↦
               (let same : y ≡ c = test_eq y c h in
-              let holder : IsTrue (holds_values (content_at old y)) = subst (λ k. IsTrue (holds_values (content_at old k))) (sym same) holds in
+              let holder : IsTrue (is_array_or_object (content_at old y)) = subst (λ k. IsTrue (is_array_or_object (content_at old k))) (sym same) holds in
               ap (is_bare_at now) (holder_itself (content_at old y) holder (children_at now y) y) ∙ bare_same (Some y) ∙ ap (is_bare_at old) (sym (holder_itself (content_at old y) holder (children_at old y) y)))
           | inr h ↦
               (let other : children_at now y ≡ children_at old y = children_kept old now x leaf tree s y (λ e. let wrong : false ≡ true = sym h ∙ eq_test y c (e ∙ is_c) in cc) in

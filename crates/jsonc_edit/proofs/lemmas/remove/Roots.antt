@@ -14,9 +14,9 @@ use Rattle.jsonc_tree.proofs.Order.{not_over_parent, parent_there}
 use Rattle.jsonc_tree.proofs.OrderedTrees.{Shows-unique}
 use Rattle.jsonc_tree.proofs.Rows.{Shows-append, Shows-part, followed_by-none}
 use Rattle.jsonc_layout.specs.nodes.Kinds.{is_trivia, is_element_at, is_property, is_blank_at}
-use Rattle.jsonc_layout.proofs.lemmas.nodes.There.{All-reverse}
+use Rattle.jsonc_layout.proofs.lemmas.nodes.InTree.{All-reverse}
 use Rattle.jsonc_sound.specs.Shape.{DocumentShaped, IsTrivia}
-use Rattle.jsonc_layout.specs.lines.Kinds.{holds_values}
+use Rattle.jsonc_layout.specs.lines.Kinds.{is_array_or_object}
 use Rattle.jsonc_layout.specs.lines.Siblings.{is_no_trivia_at, if_comma, trailing_comma_at}
 use Rattle.jsonc_tree.specs.OrderedTree.{Top}
 use Rattle.jsonc_sound.specs.TreeChanges.{IsElement}
@@ -25,28 +25,28 @@ use Rattle.jsonc_sound.specs.Alone as alone
 use Rattle.jsonc_sound.specs.Alone.{RootAlone}
 use Rattle.jsonc_sound.specs.SoundTrees.{SoundTree}
 use Rattle.jsonc_sound.specs.Spaces.{is_bare}
-use Rattle.jsonc_sound.proofs.Apart.{document_alone}
+use Rattle.jsonc_sound.proofs.NodesAlone.{document_alone}
 use Rattle.jsonc_sound.proofs.RowParts.{rest_trivia}
 use Rattle.jsonc_sound.specs.MarkChanges.{AreBlanks}
-use Rattle.jsonc_sound.specs.Leaving.{AreBeside, ends_apart, among, ValueLeaves, value_leaves, Empties, empties, IsRestOfLine}
-use Rattle.jsonc_edit.specs.Due.{nearest, prints_at, ends_bare, begins_bare, seen_before, seen_behind, due_between, prints_within, beginning_in, is_bare_at, listed}
+use Rattle.jsonc_sound.specs.Leaving.{AreInlineTrivia, ends_apart, among, ValueRemoved, value_leaves, Empties, empties, IsRestOfLine}
+use Rattle.jsonc_edit.specs.Due.{nearest, prints_at, ends_bare, begins_bare, seen_before, seen_behind, space_needed_between, prints_within, beginning_in, is_bare_at, listed}
 use Rattle.jsonc_edit.specs.Put.{AreSpaced}
 use Rattle.jsonc_edit.specs.Changes.{row_below, top_at}
 use Rattle.jsonc_edit.specs.Paths.{IsElementOf}
 use Rattle.jsonc_edit.proofs.Elements.{stands_at}
-use Rattle.jsonc_edit.proofs.Kept.{top_stays, tree_stays}
+use Rattle.jsonc_edit.proofs.NodesKept.{top_stays, tree_stays}
 use Rattle.jsonc_edit.proofs.Uniqueness.{element_parent}
-use Rattle.jsonc_edit.proofs.Walk.{Shows-row_below, apart_kept, document_is}
+use Rattle.jsonc_edit.proofs.ChangesUpward.{Shows-row_below, apart_kept, document_is}
 use Rattle.jsonc_edit.specs.remove.Laws.{ValueTaken}
 use Rattle.jsonc_edit.specs.remove.Leaving.{comes_to, comma_gone, first_gone, last_gone, last_past, line_end_at}
-use Rattle.jsonc_edit.specs.remove.Removed.{comma_in, due_at_comma, due_at_stretch, is_hollow, is_hollow_as, hollow_from, hollow_to, IsTakenFrom, LosesChild, TakesElement}
+use Rattle.jsonc_edit.specs.remove.Removed.{comma_in, space_needed_at_comma, space_needed_at_stretch, is_hollow, is_hollow_as, hollow_from, hollow_to, IsTakenFrom, LosesChild, TakesElement}
 use Rattle.jsonc_edit.proofs.lemmas.remove.Contents.{apart, apart_shown}
 use Rattle.jsonc_edit.proofs.lemmas.remove.Places.{row_split, before_in, after_in, place_in}
-use Rattle.jsonc_edit.proofs.lemmas.remove.Within.{find_holds}
+use Rattle.jsonc_edit.proofs.lemmas.remove.PrintedStretches.{find_holds}
 use Rattle.jsonc_edit.proofs.lemmas.remove.Spaces.{AreSame, contents_same, front_same, back_same, tail_same}
 use Rattle.jsonc_edit.proofs.lemmas.remove.Stretches.{contents, Near, near_of, Line, line_of}
 use Rattle.jsonc_edit.proofs.lemmas.remove.Trees.{trivia_leaves, beside_leaves, blank_leaves, leaves_shown, among_shown, AreKids, all_kids}
-use Rattle.jsonc_edit.proofs.lemmas.remove.Weaving.{Rewoven, rewoven_next, rewoven_changed, stretch_out, All-front, All-back}
+use Rattle.jsonc_edit.proofs.lemmas.remove.RemovedChildren.{Rewoven, rewoven_next, rewoven_changed, stretch_out, All-front, All-back}
 
 trivia_of : (o : Options) (c : Content) → IsTrivia o c → IsTrue (is_trivia c)
 trivia_of o (Content.whitespace s) h = refl
@@ -122,7 +122,7 @@ record Parts (ns : List Node) (n : ℕ) : Type 0 where
   tail : List ℕ
   init : List ℕ
   row : children_at ns 0 ≡ away ++ ((near ++ n ∷ line) ++ rest)
-  beside : AreBeside (contents ns near)
+  beside : AreInlineTrivia (contents ns near)
   apart_away : IsTrue (apart (contents ns away))
   trivia_away : AreTrivia (contents ns away)
   ended : IsRestOfLine (contents ns line)
@@ -186,7 +186,7 @@ module _ (o : Options) (ns : List Node) (tree : IsTree ns) (n : ℕ) (said : par
       }
 
   -- no space is due
-  none_due : due_between ns (first_gone ns n) (last_gone ns n) ≡ None
+  none_due : space_needed_between ns (first_gone ns n) (last_gone ns n) ≡ None
   none_due =
       let p = parts in
       let before : ends_bare ns (seen_before ns (first_gone ns n)) ≡ false =
@@ -215,13 +215,13 @@ module _ (o : Options) (old new : List Node) (n : ℕ) (tree : IsTree old) (afte
   p = parts o old tree n said kind_of sound
 
   no_comma_in : comma_in old 0 n ≡ None
-  no_comma_in = ap (λ w. if holds_values w then comma_gone old n else None) tree.root_first
+  no_comma_in = ap (λ w. if is_array_or_object w then comma_gone old n else None) tree.root_first
 
   same_spaced : f.spaced ≡ ready
   same_spaced =
       subst (λ w. AreSpaced ready (listed w) f.spaced) (none_due o old tree n said kind_of sound)
-      (subst (λ g. AreSpaced ready (listed (due_at_comma old (first_gone old n) g) ++ listed (due_at_stretch old (first_gone old n) (last_gone old n) g)) f.spaced) no_comma_in
-      (subst (λ b. AreSpaced ready (listed (due_at_comma old (first_gone old n) (comma_in old 0 n)) ++ listed (if b then None else due_at_stretch old (first_gone old n) (last_gone old n) (comma_in old 0 n))) f.spaced) (root_no_property (content_at old 0) tree.root_first) f.spaces))
+      (subst (λ g. AreSpaced ready (listed (space_needed_at_comma old (first_gone old n) g) ++ listed (space_needed_at_stretch old (first_gone old n) (last_gone old n) g)) f.spaced) no_comma_in
+      (subst (λ b. AreSpaced ready (listed (space_needed_at_comma old (first_gone old n) (comma_in old 0 n)) ++ listed (if b then None else space_needed_at_stretch old (first_gone old n) (last_gone old n) (comma_in old 0 n))) f.spaced) (root_no_property (content_at old 0) tree.root_first) f.spaces))
 
   stretch_ready : Splices ready f.parted 0 (place_at ready (first_gone old n)) (place_at ready (last_gone old n) + 1) []
   stretch_ready = subst (λ ns. Splices ns f.parted 0 (place_at ns (first_gone old n)) (place_at ns (last_gone old n) + 1) []) same_spaced f.stretch
@@ -248,7 +248,7 @@ module _ (o : Options) (old new : List Node) (n : ℕ) (tree : IsTree old) (afte
       (stretch_out ready f.parted 0 (place_at ready (first_gone old n)) (place_at ready (last_gone old n) + 1) p.away (p.near ++ n ∷ p.line) p.rest row_ready first_place last_place stretch_ready)
 
   all_same : AreSame old ready (children_at old 0)
-  all_same = All-from_get_or (λ m. content_at ready m ≡ content_at old m) (children_at old 0) 0 (λ k l. f.prepared.keeps.content (slice_index (children_at old 0) k) (tree.there 0 k l))
+  all_same = All-from_get_or (λ m. content_at ready m ≡ content_at old m) (children_at old 0) 0 (λ k l. f.prepared.keeps.content (slice_index (children_at old 0) k) (tree.in_tree 0 k l))
 
   same_parts : AreSame old ready (p.away ++ ((p.near ++ n ∷ p.line) ++ p.rest))
   same_parts = subst (AreSame old ready) p.row all_same
@@ -259,8 +259,8 @@ module _ (o : Options) (old new : List Node) (n : ℕ) (tree : IsTree old) (afte
   same_stretch : AreSame old ready (p.near ++ n ∷ p.line)
   same_stretch = front_same old ready (p.near ++ n ∷ p.line) p.rest (back_same old ready p.away ((p.near ++ n ∷ p.line) ++ p.rest) same_parts)
 
-  beside : AreBeside (contents ready p.near)
-  beside = subst AreBeside (sym (contents_same old ready p.near (front_same old ready p.near (n ∷ p.line) same_stretch))) p.beside
+  beside : AreInlineTrivia (contents ready p.near)
+  beside = subst AreInlineTrivia (sym (contents_same old ready p.near (front_same old ready p.near (n ∷ p.line) same_stretch))) p.beside
 
   ended : IsRestOfLine (contents ready p.line)
   ended = subst IsRestOfLine (sym (contents_same old ready p.line (tail_same old ready n p.line (back_same old ready p.near (n ∷ p.line) same_stretch)))) p.ended
@@ -302,7 +302,7 @@ module _ (o : Options) (old new : List Node) (n : ℕ) (tree : IsTree old) (afte
               subst (Empties left) (sym (row_then (p.away ++ p.rest) left r kids shown)) Empties.stays
           | inl hollow ↦
               let blanks : AreBlanks (contents ready (p.away ++ p.rest)) = subst AreBlanks (contents_joined (p.away ++ p.rest)) (all_blank f.joined (p.away ++ p.rest) (sym hollow_is ∙ hollow)) in
-              let from_none : hollow_from f.joined 0 ≡ 0 = ap (λ w. if holds_values w then 1 else 0) root_joined in
+              let from_none : hollow_from f.joined 0 ≡ 0 = ap (λ w. if is_array_or_object w then 1 else 0) root_joined in
               let whole : children_at f.joined 0 ≡ [] ++ ((p.away ++ p.rest) ++ []) = joined_row.is ∙ sym (append-nil (p.away ++ p.rest)) in
               let to_end : hollow_to f.joined 0 ≡ 0 + length (p.away ++ p.rest) = omega (arith, from_none, ap length joined_row.is) in
               let r : Rewoven ready new 0 [] = rewoven_next ready f.joined new 0 (p.away ++ p.rest) [] joined_row (stretch_out f.joined new 0 (hollow_from f.joined 0) (hollow_to f.joined 0) [] (p.away ++ p.rest) [] whole from_none to_end (f.closed.0 hollow)) in
@@ -321,7 +321,7 @@ module _ (o : Options) (old new : List Node) (n : ℕ) (tree : IsTree old) (afte
       ∙ ap (λ (t : OrderedTree). followed_by one.0 (leaves_then (contents ready p.near) (more (content_at ready n) (row_below ready n) t))) (leaves_shown ready f.prepared.tree p.line mid.after two.1 (trivia_leaves (contents ready p.line) (rest_trivia (contents ready p.line) ended)) mid.shown) in
       let left : OrderedTree = followed_by one.0 two.1 in
       let ends : IsTrue (ends_apart one.0) = apart_shown ready one.3 ∙ ap apart same_away ∙ p.apart_away in
-      let leaves : ValueLeaves (top_at ready n) (row_below ready 0) left = subst (λ t. ValueLeaves (top_at ready n) t left) (sym row_is) (value_leaves one.0 two.1 (contents ready p.near) (contents ready p.line) ends beside ended) in
+      let leaves : ValueRemoved (top_at ready n) (row_below ready 0) left = subst (λ t. ValueRemoved (top_at ready n) t left) (sym row_is) (value_leaves one.0 two.1 (contents ready p.near) (contents ready p.line) ends beside ended) in
       record {
         row = row_below ready 0;
         left = left;
@@ -329,6 +329,6 @@ module _ (o : Options) (old new : List Node) (n : ℕ) (tree : IsTree old) (afte
         element = kind_of;
         was = sym (tree_stays old ready tree f.prepared.keeps f.prepared.tree) ∙ sym (document_is ready f.prepared.tree (row_below ready 0) (Shows-row_below ready f.prepared.tree 0 f.prepared.tree.first));
         now = sym (document_is new after (row_below new 0) (Shows-row_below new after 0 after.first));
-        leaves = subst (λ (w : Top). ValueLeaves w (row_below ready 0) left) (top_stays old ready tree f.prepared.keeps f.prepared.tree n (parent_there old tree n 0 said).0) leaves;
+        leaves = subst (λ (w : Top). ValueRemoved w (row_below ready 0) left) (top_stays old ready tree f.prepared.keeps f.prepared.tree n (parent_there old tree n 0 said).0) leaves;
         empties = now left (Shows-append ready p.away p.rest one.0 two.1 one.3 two.4);
       }

@@ -5,17 +5,17 @@ use Rattle.std.specs.List.{All}
 use Rattle.std.specs.Option.{option_and_then}
 use Rattle.jsonc_tree.specs.Content.{Content, array, object}
 use Rattle.jsonc_tree.specs.Tree.{Node, content_at, children_at, IsTree}
-use Rattle.jsonc_layout.specs.lines.Kinds.{holds_values}
+use Rattle.jsonc_layout.specs.lines.Kinds.{is_array_or_object}
 use Rattle.jsonc_layout.specs.nodes.Kinds.{is_comma}
-use Rattle.jsonc_sound.specs.Leaving.{AreBeside, IsRestOfLine, LeavesBehind}
+use Rattle.jsonc_sound.specs.Leaving.{AreInlineTrivia, IsRestOfLine, LeavesBehind}
 use Rattle.jsonc_sound.specs.Adjacent.{or_else}
-use Rattle.jsonc_edit.specs.Due.{prints, prints_at, nearest, begins_bare, ends_bare, seen_before, seen_behind, behind_holder, behind_property, due_between, prints_within}
+use Rattle.jsonc_edit.specs.Due.{prints, prints_at, nearest, begins_bare, ends_bare, seen_before, seen_behind, behind_holder, behind_property, space_needed_between, prints_within}
 use Rattle.jsonc_edit.specs.Put.{AreSpaced}
 use Rattle.jsonc_edit.proofs.lemmas.remove.Contents.{apart, no_commas, comma_first}
 use Rattle.jsonc_edit.proofs.lemmas.remove.Places.{parent_in, before_in, after_in}
 use Rattle.jsonc_edit.proofs.lemmas.remove.Stretches.{contents}
-use Rattle.jsonc_edit.proofs.lemmas.remove.Weaving.{All-front, All-back}
-use Rattle.jsonc_edit.proofs.lemmas.remove.Going.{Going, with_behind, with_before, with_none}
+use Rattle.jsonc_edit.proofs.lemmas.remove.RemovedChildren.{All-front, All-back}
+use Rattle.jsonc_edit.proofs.lemmas.remove.RemovedStretches.{Going, with_behind, with_before, with_none}
 
 -- these nodes are what they were
 abbrev pub AreSame : List Node → List Node → List ℕ → Type 0
@@ -52,7 +52,7 @@ module _ (old new : List Node) where
       let stretch = front_same (near ++ n ∷ (between ++ k ∷ line)) (rest ++ last ∷ []) (back_same (open_with ∷ away) ((near ++ n ∷ (between ++ k ∷ line)) ++ (rest ++ last ∷ [])) all) in
       let past = tail_same n (between ++ k ∷ line) (back_same near (n ∷ (between ++ k ∷ line)) stretch) in
       let at_k = back_same between (k ∷ line) past in
-      with_behind away near between line rest k (e ∙ row) edges (subst AreBeside (sym (contents_same near (front_same near (n ∷ (between ++ k ∷ line)) stretch))) beside)
+      with_behind away near between line rest k (e ∙ row) edges (subst AreInlineTrivia (sym (contents_same near (front_same near (n ∷ (between ++ k ∷ line)) stretch))) beside)
       (subst (λ l. IsTrue (apart l)) (sym (contents_same away at_away)) apart_away) (subst (λ w. IsTrue (is_comma w)) (sym (head_same k line at_k)) comma)
       (subst (LeavesBehind (contents new between)) (sym (contents_same line (tail_same k line at_k))) (subst (λ l. LeavesBehind l (contents old line)) (sym (contents_same between (front_same between (k ∷ line) past))) goes))
   going_same c n open_with last from to _ e h (with_before away mid near line rest {k = k} row edges beside apart_mid none_mid comma ended first) =
@@ -61,7 +61,7 @@ module _ (old new : List Node) where
       let behind = back_same ((open_with ∷ away) ++ k ∷ mid) ((near ++ n ∷ line) ++ (rest ++ last ∷ [])) all in
       let stretch = front_same (near ++ n ∷ line) (rest ++ last ∷ []) behind in
       let at_line = tail_same n line (back_same near (n ∷ line) stretch) in
-      with_before away mid near line rest (e ∙ row) edges (subst AreBeside (sym (contents_same near (front_same near (n ∷ line) stretch))) beside)
+      with_before away mid near line rest (e ∙ row) edges (subst AreInlineTrivia (sym (contents_same near (front_same near (n ∷ line) stretch))) beside)
       (subst (λ l. IsTrue (apart l)) (sym (contents_same (k ∷ mid) ahead)) apart_mid) (subst (λ l. IsTrue (no_commas l)) (sym (contents_same mid (tail_same k mid ahead))) none_mid)
       (subst (λ w. IsTrue (is_comma w)) (sym (head_same k mid ahead)) comma) (subst IsRestOfLine (sym (contents_same line at_line)) ended)
       (ap comma_first (contents_same (rest ++ last ∷ []) (back_same (near ++ n ∷ line) (rest ++ last ∷ []) behind)) ∙ first)
@@ -71,7 +71,7 @@ module _ (old new : List Node) where
       let behind = back_same (open_with ∷ away) ((near ++ n ∷ line) ++ (rest ++ last ∷ [])) all in
       let stretch = front_same (near ++ n ∷ line) (rest ++ last ∷ []) behind in
       let at_line = tail_same n line (back_same near (n ∷ line) stretch) in
-      with_none away near line rest (e ∙ row) edges (subst AreBeside (sym (contents_same near (front_same near (n ∷ line) stretch))) beside)
+      with_none away near line rest (e ∙ row) edges (subst AreInlineTrivia (sym (contents_same near (front_same near (n ∷ line) stretch))) beside)
       (subst (λ l. IsTrue (apart l)) (sym (contents_same away at_away)) apart_away) (subst (λ l. IsTrue (no_commas l)) (sym (contents_same away at_away)) none_away) (subst IsRestOfLine (sym (contents_same line at_line)) ended)
       (ap comma_first (contents_same (rest ++ last ∷ []) (back_same (near ++ n ∷ line) (rest ++ last ∷ []) behind)) ∙ first)
 
@@ -81,8 +81,8 @@ spaced_parts [] ys old new h = (old, refl, h)
 spaced_parts (x ∷ xs) ys old new (now, leaf, s, rest) = let r = spaced_parts xs ys now new rest in (r.0, (now, leaf, s, r.1), r.2)
 
 -- where a space is due, by the parts of a row of an array or object
-module _ (ns : List Node) (tree : IsTree ns) (c : ℕ) (holds : IsTrue (holds_values (content_at ns c))) where
-  pub no_holder : (content : Content) → IsTrue (holds_values content) → behind_property ns content c ≡ None
+module _ (ns : List Node) (tree : IsTree ns) (c : ℕ) (holds : IsTrue (is_array_or_object (content_at ns c))) where
+  pub no_holder : (content : Content) → IsTrue (is_array_or_object content) → behind_property ns content c ≡ None
   no_holder array h = refl
   no_holder object h = refl
   no_holder content h = cc
@@ -92,7 +92,7 @@ module _ (ns : List Node) (tree : IsTree ns) (c : ℕ) (holds : IsTrue (holds_va
   or_none (Some x) = refl
 
   pub due_parts : (ahead behind others back : List ℕ) (from to : ℕ) → prints_within ns from to ≡ true → children_at ns c ≡ ahead ++ from ∷ behind → children_at ns c ≡ others ++ to ∷ back
-      → due_between ns from to ≡ cond (ends_bare ns (nearest ns (reverse ahead)) && begins_bare ns (nearest ns back)) (nearest ns back) None
+      → space_needed_between ns from to ≡ cond (ends_bare ns (nearest ns (reverse ahead)) && begins_bare ns (nearest ns back)) (nearest ns back) None
   due_parts ahead behind others back from to shown e f =
       let before : seen_before ns from ≡ nearest ns (reverse ahead) = ap (nearest ns) (before_in ns tree c ahead behind from e) in
       let holder : behind_holder ns to ≡ None = ap (option_and_then (λ p. behind_property ns (content_at ns p) p)) (parent_in ns tree c others back to f) ∙ no_holder (content_at ns c) holds in

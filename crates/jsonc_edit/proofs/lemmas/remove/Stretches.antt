@@ -4,16 +4,16 @@ use Rattle.std.proofs.lemmas.List.{append_assoc, map-append, reverse-append}
 use Rattle.std.specs.List.{find}
 use Rattle.jsonc_tree.specs.Content.{Content}
 use Rattle.jsonc_tree.specs.Tree.{Node, content_at}
-use Rattle.jsonc_layout.specs.nodes.Kinds.{is_beside, is_beside_at, is_newline, is_newline_at, is_trivia, is_trivia_at, is_whitespace_at, is_comma_at, is_comma}
+use Rattle.jsonc_layout.specs.nodes.Kinds.{is_inline_trivia, is_inline_trivia_at, is_newline, is_newline_at, is_trivia, is_trivia_at, is_whitespace_at, is_comma_at, is_comma}
 use Rattle.jsonc_layout.specs.lines.Siblings.{is_no_trivia_at, if_comma}
 use Rattle.jsonc_sound.specs.TriviaChanges.{AreTrivia}
-use Rattle.jsonc_sound.specs.Leaving.{AreBeside, IsRestOfLine, without_end, with_end}
+use Rattle.jsonc_sound.specs.Leaving.{AreInlineTrivia, IsRestOfLine, without_end, with_end}
 use Rattle.jsonc_sound.proofs.RowParts.{beside_trivia, newline_trivia}
-use Rattle.jsonc_layout.specs.nodes.Comments.{first_not_beside}
+use Rattle.jsonc_layout.specs.nodes.Comments.{first_not_inline_trivia}
 use Rattle.jsonc_edit.specs.remove.Leaving.{begins_other, line_end, newline_there, outermost}
 use Rattle.jsonc_edit.proofs.lemmas.remove.Contents.{apart, no_commas, comma_first, apart_last, beside_append}
 
-beside_line : (c : Content) (ls : List Content) → IsTrue (is_beside c) → IsRestOfLine ls → IsRestOfLine (c ∷ ls)
+beside_line : (c : Content) (ls : List Content) → IsTrue (is_inline_trivia c) → IsRestOfLine ls → IsRestOfLine (c ∷ ls)
 beside_line c ls f (without_end line h) = without_end (c ∷ line) (f, h)
 beside_line c ls f (with_end line end h n) = with_end (c ∷ line) end (f, h) n
 
@@ -27,25 +27,25 @@ module _ (ns : List Node) where
     pub near : List ℕ
     pub tail : List ℕ
     pub split : row ≡ away ++ near
-    pub beside : AreBeside (contents near)
+    pub beside : AreInlineTrivia (contents near)
     pub apart : IsTrue (apart (contents away))
     pub first_is : near ++ n ∷ [] ≡ first ∷ tail
 
   pub near_of : (n : ℕ) (back : List ℕ) → Near (reverse back) n (outermost ns n back)
   near_of n [] = record { away = []; near = []; tail = []; split = refl; beside = tt; apart = refl; first_is = refl }
-  near_of n (m ∷ rest) = by (is_beside_at ns m) refl (near_of m rest)
+  near_of n (m ∷ rest) = by (is_inline_trivia_at ns m) refl (near_of m rest)
     where
       turned : reverse (m ∷ rest) ≡ reverse rest ++ m ∷ []
       turned = reverse-append (m ∷ []) rest
 
-      by : (b : Bool) → is_beside_at ns m ≡ b → Near (reverse rest) m (outermost ns m rest) → Near (reverse (m ∷ rest)) n (if b then outermost ns m rest else n)
+      by : (b : Bool) → is_inline_trivia_at ns m ≡ b → Near (reverse rest) m (outermost ns m rest) → Near (reverse (m ∷ rest)) n (if b then outermost ns m rest else n)
       by true e r =
           record {
             away = r.away;
             near = r.near ++ m ∷ [];
             tail = r.tail ++ n ∷ [];
             split = turned ∙ ap (λ l. l ++ m ∷ []) r.split ∙ append_assoc r.away r.near (m ∷ []);
-            beside = subst AreBeside (sym (map-append (content_at ns) r.near (m ∷ []))) (beside_append (contents r.near) (contents (m ∷ [])) r.beside (e, tt));
+            beside = subst AreInlineTrivia (sym (map-append (content_at ns) r.near (m ∷ []))) (beside_append (contents r.near) (contents (m ∷ [])) r.beside (e, tt));
             apart = r.apart;
             first_is = ap (λ l. l ++ n ∷ []) r.first_is;
           }
@@ -73,9 +73,9 @@ module _ (ns : List Node) where
 
   pub line_of : (n : ℕ) (row : List ℕ) → Line row n (line_end ns n row)
   line_of n [] = no_line [] n
-  line_of n (m ∷ rest) = by (is_newline_at ns m) refl (is_beside_at ns m) refl (not (is_whitespace_at ns m && begins_other ns rest)) (line_of m rest)
+  line_of n (m ∷ rest) = by (is_newline_at ns m) refl (is_inline_trivia_at ns m) refl (not (is_whitespace_at ns m && begins_other ns rest)) (line_of m rest)
     where
-      by : (a : Bool) → is_newline_at ns m ≡ a → (b : Bool) → is_beside_at ns m ≡ b → (d : Bool) → Line rest m (line_end ns m rest) → Line (m ∷ rest) n (if a then m else (if b && d then line_end ns m rest else n))
+      by : (a : Bool) → is_newline_at ns m ≡ a → (b : Bool) → is_inline_trivia_at ns m ≡ b → (d : Bool) → Line rest m (line_end ns m rest) → Line (m ∷ rest) n (if a then m else (if b && d then line_end ns m rest else n))
       by true e b f d r = record { line = m ∷ []; rest = rest; init = n ∷ []; split = refl; ended = with_end [] (content_at ns m) tt e; last_is = refl }
       by false e true f true r =
           record {
@@ -94,7 +94,7 @@ module _ (ns : List Node) where
     pub line : List ℕ
     pub rest : List ℕ
     pub split : row ≡ (line ++ last ∷ []) ++ rest
-    pub beside : AreBeside (contents line)
+    pub beside : AreInlineTrivia (contents line)
     pub newline : IsTrue (is_newline_at ns last)
 
   abbrev pub line_through : {row : List ℕ} {last : ℕ} (n : ℕ) → Ended row last → Line row n last
@@ -107,26 +107,26 @@ module _ (ns : List Node) where
     last_is = refl;
   }
 
-  newline_next : (rest : List ℕ) → IsTrue (newline_there ns (first_not_beside ns rest)) → begins_other ns rest ≡ false
+  newline_next : (rest : List ℕ) → IsTrue (newline_there ns (first_not_inline_trivia ns rest)) → begins_other ns rest ≡ false
   newline_next [] h = refl
-  newline_next (p ∷ rest) h = by (is_beside_at ns p) refl h
+  newline_next (p ∷ rest) h = by (is_inline_trivia_at ns p) refl h
     where
-      by : (b : Bool) → is_beside_at ns p ≡ b → IsTrue (newline_there ns (if not b then Some p else first_not_beside ns rest)) → not (is_trivia_at ns p) ≡ false
+      by : (b : Bool) → is_inline_trivia_at ns p ≡ b → IsTrue (newline_there ns (if not b then Some p else first_not_inline_trivia ns rest)) → not (is_trivia_at ns p) ≡ false
       by true e k = ap not (beside_trivia (content_at ns p ∷ []) (e, tt)).0
       by false e k = ap not (newline_trivia (content_at ns p) k)
 
-  pub ended_of : (n : ℕ) (row : List ℕ) → IsTrue (newline_there ns (first_not_beside ns row)) → Ended row (line_end ns n row)
+  pub ended_of : (n : ℕ) (row : List ℕ) → IsTrue (newline_there ns (first_not_inline_trivia ns row)) → Ended row (line_end ns n row)
   ended_of n [] h = absurd (let wrong : false ≡ true = h in cc)
-  ended_of n (m ∷ rest) h = by (is_newline_at ns m) refl (is_beside_at ns m) refl h (newline_next rest) (ended_of m rest)
+  ended_of n (m ∷ rest) h = by (is_newline_at ns m) refl (is_inline_trivia_at ns m) refl h (newline_next rest) (ended_of m rest)
     where
-      through : is_beside_at ns m ≡ true → Ended rest (line_end ns m rest) → Ended (m ∷ rest) (line_end ns m rest)
+      through : is_inline_trivia_at ns m ≡ true → Ended rest (line_end ns m rest) → Ended (m ∷ rest) (line_end ns m rest)
       through f r = record { line = m ∷ r.line; rest = r.rest; split = ap (λ (l : List ℕ). m ∷ l) r.split; beside = (f, r.beside); newline = r.newline }
 
-      trailing : (is_whitespace_at ns m && begins_other ns rest) ≡ false → is_beside_at ns m ≡ true → Ended rest (line_end ns m rest) → Ended (m ∷ rest) (if true && not (is_whitespace_at ns m && begins_other ns rest) then line_end ns m rest else n)
+      trailing : (is_whitespace_at ns m && begins_other ns rest) ≡ false → is_inline_trivia_at ns m ≡ true → Ended rest (line_end ns m rest) → Ended (m ∷ rest) (if true && not (is_whitespace_at ns m && begins_other ns rest) then line_end ns m rest else n)
       trailing g f r = subst (λ d. Ended (m ∷ rest) (if not d then line_end ns m rest else n)) (sym g) (through f r)
 
-      by : (a : Bool) → is_newline_at ns m ≡ a → (b : Bool) → is_beside_at ns m ≡ b → IsTrue (newline_there ns (if not b then Some m else first_not_beside ns rest))
-          → (IsTrue (newline_there ns (first_not_beside ns rest)) → begins_other ns rest ≡ false) → (IsTrue (newline_there ns (first_not_beside ns rest)) → Ended rest (line_end ns m rest))
+      by : (a : Bool) → is_newline_at ns m ≡ a → (b : Bool) → is_inline_trivia_at ns m ≡ b → IsTrue (newline_there ns (if not b then Some m else first_not_inline_trivia ns rest))
+          → (IsTrue (newline_there ns (first_not_inline_trivia ns rest)) → begins_other ns rest ≡ false) → (IsTrue (newline_there ns (first_not_inline_trivia ns rest)) → Ended rest (line_end ns m rest))
           → Ended (m ∷ rest) (if a then m else (if b && not (is_whitespace_at ns m && begins_other ns rest) then line_end ns m rest else n))
       by true e b f k g r = record { line = []; rest = rest; split = refl; beside = tt; newline = e }
       by false e true f k g r = trailing (both (is_whitespace_at ns m) (g k)) f (r k)
@@ -137,18 +137,18 @@ module _ (ns : List Node) where
       by false e false f k g r = absurd (let wrong : true ≡ false = sym k ∙ e in cc)
 
   -- trivia before something else, with no newline first past whitespace and comments, are whitespace and comments
-  pub beside_between : (between after : List ℕ) (k : ℕ) → AreTrivia (contents between) → newline_there ns (first_not_beside ns (between ++ k ∷ after)) ≡ false → AreBeside (contents between)
+  pub beside_between : (between after : List ℕ) (k : ℕ) → AreTrivia (contents between) → newline_there ns (first_not_inline_trivia ns (between ++ k ∷ after)) ≡ false → AreInlineTrivia (contents between)
   beside_between [] after k t h = tt
-  beside_between (m ∷ between) after k t h = by (is_beside_at ns m) refl h (beside_between between after k t.1)
+  beside_between (m ∷ between) after k t h = by (is_inline_trivia_at ns m) refl h (beside_between between after k t.1)
     where
-      newline_or : (c : Content) → IsTrue (is_trivia c) → is_beside c ≡ false → is_newline c ≡ true
+      newline_or : (c : Content) → IsTrue (is_trivia c) → is_inline_trivia c ≡ false → is_newline c ≡ true
       newline_or (Content.newline x) u e = refl
       newline_or (Content.whitespace s) u e = absurd (let wrong : true ≡ false = e in cc)
       newline_or (Content.comment s) u e = absurd (let wrong : true ≡ false = e in cc)
       newline_or c u e = cc
 
-      by : (b : Bool) → is_beside_at ns m ≡ b → newline_there ns (if not b then Some m else first_not_beside ns (between ++ k ∷ after)) ≡ false
-          → (newline_there ns (first_not_beside ns (between ++ k ∷ after)) ≡ false → AreBeside (contents between)) → AreBeside (contents (m ∷ between))
+      by : (b : Bool) → is_inline_trivia_at ns m ≡ b → newline_there ns (if not b then Some m else first_not_inline_trivia ns (between ++ k ∷ after)) ≡ false
+          → (newline_there ns (first_not_inline_trivia ns (between ++ k ∷ after)) ≡ false → AreInlineTrivia (contents between)) → AreInlineTrivia (contents (m ∷ between))
       by true e q r = (e, r q)
       by false e q r = absurd (let wrong : true ≡ false = sym (newline_or (content_at ns m) t.0 e) ∙ q in cc)
 

@@ -13,21 +13,21 @@ use Rattle.jsonc_tree.specs.Tree.{Node, content_at, parent_at, children_at, IsTr
 use Rattle.jsonc_tree.proofs.Order.{not_over_parent}
 use Rattle.jsonc_tree.proofs.OrderedTrees.{Shows-unique}
 use Rattle.jsonc_tree.proofs.Rows.{Shows-part}
-use Rattle.jsonc_layout.specs.nodes.Kinds.{is_trivia, is_whitespace, is_newline, is_beside, is_blank_at}
+use Rattle.jsonc_layout.specs.nodes.Kinds.{is_trivia, is_whitespace, is_newline, is_inline_trivia, is_blank_at}
 use Rattle.jsonc_sound.specs.Shape.{token_then}
-use Rattle.jsonc_layout.specs.lines.Kinds.{holds_values}
+use Rattle.jsonc_layout.specs.lines.Kinds.{is_array_or_object}
 use Rattle.jsonc_sound.specs.Rows.{RowKind, opening, closing}
 use Rattle.jsonc_sound.specs.TriviaChanges.{AreTrivia, leaves_then}
 use Rattle.jsonc_sound.specs.MarkChanges.{AreBlanks}
-use Rattle.jsonc_sound.specs.Leaving.{AreBeside, ClosesUp, closes_up}
+use Rattle.jsonc_sound.specs.Leaving.{AreInlineTrivia, ClosesUp, closes_up}
 use Rattle.jsonc_edit.specs.Due.{nearest, prints_at, begins_bare, ends_bare}
 use Rattle.jsonc_edit.specs.Changes.{row_below}
-use Rattle.jsonc_edit.proofs.Walk.{Shows-row_below, apart_kept}
+use Rattle.jsonc_edit.proofs.ChangesUpward.{Shows-row_below, apart_kept}
 use Rattle.jsonc_edit.specs.remove.Leaving.{comes_to}
 use Rattle.jsonc_edit.specs.remove.Removed.{comes_to_last, is_hollow_as, hollow_from, hollow_to, IsClosedUp}
 use Rattle.jsonc_edit.proofs.lemmas.remove.Places.{Quiet}
 use Rattle.jsonc_edit.proofs.lemmas.remove.Stretches.{contents}
-use Rattle.jsonc_edit.proofs.lemmas.remove.Weaving.{Rewoven, rewoven_next, rewoven_changed, stretch_out, Others}
+use Rattle.jsonc_edit.proofs.lemmas.remove.RemovedChildren.{Rewoven, rewoven_next, rewoven_changed, stretch_out, Others}
 
 -- each of these is a leaf
 abbrev pub AreLeaves : List Content → Type 0
@@ -40,7 +40,7 @@ trivia_leaf (Content.newline k) h = refl
 trivia_leaf (Content.comment s) h = refl
 trivia_leaf c h = cc
 
-beside_leaf : (c : Content) → IsTrue (is_beside c) → is_container c ≡ false
+beside_leaf : (c : Content) → IsTrue (is_inline_trivia c) → is_container c ≡ false
 beside_leaf (Content.whitespace s) h = refl
 beside_leaf (Content.comment s) h = refl
 beside_leaf c h = cc
@@ -54,7 +54,7 @@ pub trivia_leaves : (cs : List Content) → AreTrivia cs → AreLeaves cs
 trivia_leaves [] h = tt
 trivia_leaves (c ∷ cs) h = (trivia_leaf c h.0, trivia_leaves cs h.1)
 
-pub beside_leaves : (cs : List Content) → AreBeside cs → AreLeaves cs
+pub beside_leaves : (cs : List Content) → AreInlineTrivia cs → AreLeaves cs
 beside_leaves [] h = tt
 beside_leaves (c ∷ cs) h = (beside_leaf c h.0, beside_leaves cs h.1)
 
@@ -137,14 +137,14 @@ comes_blanks ns (m ∷ inner) last h e =
     by true f g rest = (f, rest g)
     by false f g rest = absurd (let wrong : false ≡ true = g in cc)
 
-hollow_row : (content : Content) (ns : List Node) (row : List ℕ) → IsTrue (holds_values content) → is_hollow_as content ns row ≡ comes_to_last ns (first (reverse row)) (drop 1 row)
+hollow_row : (content : Content) (ns : List Node) (row : List ℕ) → IsTrue (is_array_or_object content) → is_hollow_as content ns row ≡ comes_to_last ns (first (reverse row)) (drop 1 row)
 hollow_row array ns row h = refl
 hollow_row object ns row h = refl
 hollow_row content ns row h = cc
 
-module _ (old joined new : List Node) (c open_with last : ℕ) (inner : List ℕ) (holds : IsTrue (holds_values (content_at old c))) (r : Rewoven old joined c (open_with ∷ (inner ++ last ∷ []))) (others : Others last inner) (closed_up : IsClosedUp joined new c) where
-  holds_still : IsTrue (holds_values (content_at joined c))
-  holds_still = subst (λ w. IsTrue (holds_values w)) (sym (r.content c)) holds
+module _ (old joined new : List Node) (c open_with last : ℕ) (inner : List ℕ) (holds : IsTrue (is_array_or_object (content_at old c))) (r : Rewoven old joined c (open_with ∷ (inner ++ last ∷ []))) (others : Others last inner) (closed_up : IsClosedUp joined new c) where
+  holds_still : IsTrue (is_array_or_object (content_at joined c))
+  holds_still = subst (λ w. IsTrue (is_array_or_object w)) (sym (r.content c)) holds
 
   last_first : first (reverse (open_with ∷ (inner ++ last ∷ []))) ≡ Some last
   last_first = ap (λ l. first l) (reverse-append (open_with ∷ inner) (last ∷ []))

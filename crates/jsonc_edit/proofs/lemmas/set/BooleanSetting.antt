@@ -8,8 +8,8 @@ use Rattle.jsonc_tree.specs.Content.{Content}
 use Rattle.jsonc_tree.specs.Order.{with_parent}
 use Rattle.jsonc_tree.specs.Tree.{Node, parent_at, children_at, place_at}
 use Rattle.jsonc_edit.specs.Due.{nearest, listed, seen_before}
-use Rattle.jsonc_edit.proofs.Placed.{IsChild}
-use Rattle.jsonc_edit.specs.set.Booleans.{due_for, is_boolean, is_hex_at}
+use Rattle.jsonc_edit.proofs.SpacedNodes.{IsChild}
+use Rattle.jsonc_edit.specs.set.Booleans.{space_needed_for, is_boolean, is_hex_at}
 
 -- where a hexadecimal number is seen before a node, this is somebody's child
 nothing_first : (ns : List Node) (k : ℕ) → nearest ns (reverse (take k [])) ≡ None
@@ -30,7 +30,7 @@ both_true true b e = e
 both_true false b e = absurd (false≢true e)
 
 -- before which the space comes
-pub due_children : (old ready : List Node) → Keeps (length old) old ready → (n : ℕ) → n < length old → (b : Bool) → All (IsChild ready) (listed (due_for old n b))
+pub due_children : (old ready : List Node) → Keeps (length old) old ready → (n : ℕ) → n < length old → (b : Bool) → All (IsChild ready) (listed (space_needed_for old n b))
 due_children old ready keeps n there b = by (not b && is_hex_at old (seen_before old n)) refl
   where
     by : (d : Bool) → (not b && is_hex_at old (seen_before old n)) ≡ d → All (IsChild ready) (listed (cond d (Some n) None))

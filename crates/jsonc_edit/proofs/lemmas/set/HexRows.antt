@@ -20,7 +20,7 @@ use Rattle.jsonc_sound.specs.Booleans.{is_hex_leaf}
 use Rattle.jsonc_sound.specs.Spaces.{is_bare}
 use Rattle.jsonc_sound.proofs.Spaces.{own_last, last_append}
 use Rattle.jsonc_edit.specs.Due.{prints, prints_at, nearest}
-use Rattle.jsonc_edit.proofs.Meeting.{Printed, value_last}
+use Rattle.jsonc_edit.proofs.NearestLeaves.{Printed, value_last}
 use Rattle.jsonc_edit.specs.set.Booleans.{is_hex_at}
 
 -- a leaf with nothing below it, or an array or object, which does not end with a literal without quotes

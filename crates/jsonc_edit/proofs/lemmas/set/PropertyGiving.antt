@@ -1,4 +1,4 @@
--- A property gives way to one that was built apart: what is known at each step.
+-- A property is replaced by one that was built apart: what is known at each step.
 use Rattle.std.proofs.Common.{◌≡◌, ℕ, ◌+◌, ◌<◌, ◌++◌, cond, Bool, true, false, List, [], ◌∷◌, length, Option, Some, None, refl, sym, ap, subst, ◌∙◌, arith}
 use Rattle.std.specs.List.{All}
 use Rattle.std.proofs.lemmas.List.Elements.{All-nil, All-tail, All-weaker}
@@ -11,19 +11,19 @@ use Rattle.jsonc_tree.proofs.Order.{parent_there}
 use Rattle.jsonc_sound.specs.TreeChanges.{IsElement}
 use Rattle.jsonc_layout.specs.from_input.Layout.{Layout}
 use Rattle.jsonc_layout.specs.from_input.Laid.{laid_property}
-use Rattle.jsonc_edit.specs.Due.{due_behind, due_before, listed}
-use Rattle.jsonc_edit.specs.Put.{AreAtHand, AreChildren, AreSpaced, Prepared, nodes_of}
+use Rattle.jsonc_edit.specs.Due.{space_needed_after, space_needed_before, listed}
+use Rattle.jsonc_edit.specs.Put.{AreAtHand, AreChildren, AreSpaced, Extends, nodes_of}
 use Rattle.jsonc_edit.specs.declared.put.Spaces.{Spaces}
 use Rattle.jsonc_edit.specs.Changes.{top_at}
 use Rattle.jsonc_edit.specs.Replacing.{TakesPlace}
 use Rattle.jsonc_edit.specs.Reading.{layout_for}
-use Rattle.jsonc_edit.proofs.DueKept.{due_behind_same}
-use Rattle.jsonc_edit.proofs.GivingWay.{may_join, takes_place}
-use Rattle.jsonc_edit.proofs.Kept.{built_top, over_no_old, top_stays}
-use Rattle.jsonc_edit.proofs.Placed.{IsChild, around_children}
+use Rattle.jsonc_edit.proofs.SpacesNeededKept.{due_behind_same}
+use Rattle.jsonc_edit.proofs.ReplacedChildren.{may_join, takes_place}
+use Rattle.jsonc_edit.proofs.NodesKept.{built_top, over_no_old, top_stays}
+use Rattle.jsonc_edit.proofs.SpacedNodes.{IsChild, around_children}
 use Rattle.jsonc_edit.proofs.Spacing.{Aside, AnySpaced, any_spaced}
-use Rattle.jsonc_edit.specs.set.Giving.{due_after, is_bare_value, property_top, PropertyGivesWay, IsPropertyReplaced}
-use Rattle.jsonc_edit.proofs.lemmas.set.Making.{still_kept}
+use Rattle.jsonc_edit.specs.set.Giving.{due_after, is_bare_value, property_top, PropertyReplacedBy, IsPropertyReplaced}
+use Rattle.jsonc_edit.proofs.lemmas.set.FirstValueMade.{still_kept}
 
 pub last_all : (P : ℕ → Type 0) (o : Option ℕ) (ys : List ℕ) → All P (listed o ++ ys) → All P ys
 last_all P None ys f = f
@@ -33,12 +33,12 @@ last_all P (Some x) ys f = All-tail P x ys f
 due_children : (ns : List Node) → IsTree ns → (n c : ℕ) → parent_at ns n ≡ Some c → (v : Plain) → All (IsChild ns) (listed (due_after ns n v))
 due_children ns tree n c said v = by (is_bare_value v)
   where
-    by : (b : Bool) → All (IsChild ns) (listed (cond b (due_behind ns n) None))
-    by true = last_all (IsChild ns) (due_before ns n) (listed (due_behind ns n)) (around_children ns tree n c said Content.null)
+    by : (b : Bool) → All (IsChild ns) (listed (cond b (space_needed_after ns n) None))
+    by true = last_all (IsChild ns) (space_needed_before ns n) (listed (space_needed_after ns n)) (around_children ns tree n c said Content.null)
     by false = All-nil (IsChild ns)
 
 -- Of the nodes `old`, n is a child of c; m was built apart among the nodes `made` as the property, and a space was made where one is due.
-module _ (old made ready : List Node) (tree : IsTree old) (n c m : ℕ) (layout : Layout) (name : List ℕ) (v : Plain) (said : parent_at old n ≡ Some c) (built : Builds old made m property (laid_property layout name v).below) (prepared : Prepared made ready) where
+module _ (old made ready : List Node) (tree : IsTree old) (n c m : ℕ) (layout : Layout) (name : List ℕ) (v : Plain) (said : parent_at old n ≡ Some c) (built : Builds old made m property (laid_property layout name v).below) (prepared : Extends made ready) where
   low : (n < length old) × (c < length old)
   low = parent_there old tree n c said
 
@@ -49,16 +49,16 @@ module _ (old made ready : List Node) (tree : IsTree old) (n c m : ℕ) (layout 
   child_ready = kept.parent n low.0 ∙ said
 
   m_element : IsElement (content_at ready m)
-  m_element = subst IsElement (sym (prepared.keeps.content m built.there ∙ built.is)) refl
+  m_element = subst IsElement (sym (prepared.keeps.content m built.in_tree ∙ built.is)) refl
 
   m_alone : parent_at ready m ≡ None
-  m_alone = prepared.keeps.parent m built.there ∙ built.alone
+  m_alone = prepared.keeps.parent m built.in_tree ∙ built.alone
 
   m_ready : m < length ready
-  m_ready = omega (arith, built.there, prepared.keeps.len)
+  m_ready = omega (arith, built.in_tree, prepared.keeps.len)
 
   m_top : top_at ready m ≡ property_top layout name v
-  m_top = top_stays made ready built.tree prepared.keeps prepared.tree m built.there ∙ built_top built
+  m_top = top_stays made ready built.tree prepared.keeps prepared.tree m built.in_tree ∙ built_top built
 
   due_same : due_after ready n v ≡ due_after old n v
   due_same = ap (λ o. cond (is_bare_value v) o None) (due_behind_same old ready tree kept n low.0)
@@ -109,7 +109,7 @@ module _ (old made ready : List Node) (tree : IsTree old) (n c m : ℕ) (layout 
       pub given_join : CanJoin spaced c (place_at spaced n) (place_at spaced n + 1) (m ∷ [])
       given_join = may_join spaced spaced known.tree n c m given_child there later alone apart
 
-      pub gives_way : (new : List Node) → IsTree new → Splices spaced new c (place_at spaced n) (place_at spaced n + 1) (m ∷ []) → PropertyGivesWay old new n m layout name v
+      pub gives_way : (new : List Node) → IsTree new → Splices spaced new c (place_at spaced n) (place_at spaced n + 1) (m ∷ []) → PropertyReplacedBy old new n m layout name v
       gives_way new last s = record {
         ready = ready;
         spaced = spaced;
@@ -120,4 +120,4 @@ module _ (old made ready : List Node) (tree : IsTree old) (n c m : ℕ) (layout 
       }
 
       pub is_replaced : layout ≡ layout_for old c n → (new : List Node) → IsTree new → Splices spaced new c (place_at spaced n) (place_at spaced n + 1) (m ∷ []) → IsPropertyReplaced old new n name v m
-      is_replaced told new last s = (c, said, subst (λ (l : Layout). PropertyGivesWay old new n m l name v) told (gives_way new last s))
+      is_replaced told new last s = (c, said, subst (λ (l : Layout). PropertyReplacedBy old new n m l name v) told (gives_way new last s))

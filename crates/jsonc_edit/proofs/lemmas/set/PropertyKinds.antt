@@ -8,7 +8,7 @@ use Rattle.jsonc_text.specs.declared.edit.EditError.{EditError}
 use Rattle.jsonc_text.specs.declared.edit.EditError.TheVariants.{OutOfMemory}
 use Rattle.jsonc_layout.specs.nodes.Properties.{value_at}
 use Rattle.jsonc_edit.specs.set.Kinds.{KeptOrReplaced, LacksKind}
-use Rattle.jsonc_edit.specs.set.PropertyValues.{HeldOrSet, IsUnset, LastValue}
+use Rattle.jsonc_edit.specs.set.PropertyValues.{HeldOrSet, EnsureValueError, LastValue}
 
 pub none_found : (o : Option ℕ) → ((n : ℕ) → o ≡ Some n → ⊥) → o ≡ None
 none_found None not = refl
@@ -40,10 +40,10 @@ pub on_ok : (X : Type 0) (r : Result ℕ EditError) → X → OnOk r X
 on_ok X (Ok m) x = x
 on_ok X (Err e) x = tt
 
--- memory was wanted
-pub unset : (kind : Content → Bool) (ns : List Node) (p : ℕ) (r : Result ℕ EditError) → IfErr r (λ e. e ≡ OutOfMemory) → LacksKind kind ns (value_at ns p) → IfErr r (IsUnset kind ns p)
+-- allocation failed
+pub unset : (kind : Content → Bool) (ns : List Node) (p : ℕ) (r : Result ℕ EditError) → IfErr r (λ e. e ≡ OutOfMemory) → LacksKind kind ns (value_at ns p) → IfErr r (EnsureValueError kind ns p)
 unset kind ns p (Ok m) memory lacks = tt
-unset kind ns p (Err e) memory lacks = subst (IsUnset kind ns p) (sym memory) lacks
+unset kind ns p (Err e) memory lacks = subst (EnsureValueError kind ns p) (sym memory) lacks
 
 pub not_missing : (b : Bool) (X : EditError → Type 0) (r : Result ℕ EditError) → b ≡ false → IfErr r (λ e. b ≡ true → X e)
 not_missing b X (Ok m) is = tt

@@ -1,4 +1,4 @@
--- Where a property has given way to another, the object stands where it stood, and the new one is the element that the old one was.
+-- Where a property has been replaced by another, the object stands where it stood, and the new one is the element that the old one was.
 use Rattle.std.proofs.Common.{◌≡◌, ◌≢◌, ℕ, ◌+◌, Bool, true, List, [], ◌∷◌, ◌++◌, length, take, drop, filter, slice_get, slice_index, Some, inl, inr, refl, sym, ap, subst, ◌∙◌}
 use Rattle.std.proofs.lemmas.Bool.{cases_Bool}
 use Rattle.std.specs.List.{splice}
@@ -15,8 +15,8 @@ use Rattle.jsonc_edit.specs.Put.{AreSpaced}
 use Rattle.jsonc_edit.specs.Paths.{IsElementOf, StepsTo, LeadsTo, itself, step, IsAt}
 use Rattle.jsonc_edit.specs.Reading.{layout_for}
 use Rattle.jsonc_edit.proofs.Elements.{Some_same, taken, left, StandsAt, stands_at}
-use Rattle.jsonc_edit.proofs.GivingWay.{InPlace, in_place}
-use Rattle.jsonc_edit.proofs.Kept.{at_kept, filter_same}
+use Rattle.jsonc_edit.proofs.ReplacedChildren.{InPlace, in_place}
+use Rattle.jsonc_edit.proofs.NodesKept.{at_kept, filter_same}
 use Rattle.jsonc_edit.proofs.NewPaths.{other_held}
 use Rattle.jsonc_edit.proofs.Spacing.{at_stays}
 use Rattle.jsonc_edit.proofs.Uniqueness.{element_parent, leads_over}
@@ -34,7 +34,7 @@ found_behind test (x ∷ front) m rest h =
       | inr fails ↦ ap (λ l. slice_get l (length (filter test (x ∷ front)))) (left test x (front ++ m ∷ rest) fails) ∙ ap (λ l. slice_get (filter test (front ++ m ∷ rest)) (length l)) (left test x front fails) ∙ others
     ]
 
--- n, a child of c, has given way to m
+-- n, a child of c, has been replaced by m
 module _ (old new : List Node) (tree : IsTree old) (n m c i : ℕ) (now : Top) (p : InPlace old new n m now) (element : IsElement now.content) (holds : IsElementOf old c i n) where
   said : parent_at old n ≡ Some c
   said = element_parent old tree c i n holds
@@ -105,7 +105,7 @@ takes_propertys_place old new path c i n m name v tree at holds (h, told, g) =
     ap (λ l. slice_get l i)
     (elements_spaced due g.ready g.spaced g.prepared.tree g.spaces c
     ∙ ap (filter (is_element_at g.ready)) (kept.children c there)
-    ∙ filter_same (is_element_at g.ready) (is_element_at old) (children_at old c) (λ k l. ap is_element (kept.content (slice_index (children_at old c) k) (tree.there c k l))))
+    ∙ filter_same (is_element_at g.ready) (is_element_at old) (children_at old c) (λ k l. ap is_element (kept.content (slice_index (children_at old c) k) (tree.in_tree c k l))))
     ∙ holds in
     let now : Top = property_top (layout_for old h n) name v in
     let p = in_place g.spaced new n m now g.place in (

@@ -37,19 +37,19 @@ use Rattle.jsonc_sound.proofs.RowsWithin.{LeafPrints, name_prints}
 use Rattle.jsonc_sound.proofs.Spaces.{last_append}
 use Rattle.jsonc_sound.specs.Leaving.{element_count}
 use Rattle.jsonc_sound.specs.Properties.{object_of}
-use Rattle.jsonc_edit.specs.Due.{begins_bare, due_before, due_behind, seen_behind, listed}
+use Rattle.jsonc_edit.specs.Due.{begins_bare, space_needed_before, space_needed_after, seen_behind, listed}
 use Rattle.jsonc_edit.specs.Put.{AreSpaced}
-use Rattle.jsonc_edit.proofs.Meeting.{value_last}
-use Rattle.jsonc_edit.proofs.Putting.{elements_kept}
-use Rattle.jsonc_edit.proofs.Quiet.{quiet_behind}
+use Rattle.jsonc_edit.proofs.NearestLeaves.{value_last}
+use Rattle.jsonc_edit.proofs.InsertedSpaces.{elements_kept}
+use Rattle.jsonc_edit.proofs.UnneededSpaces.{quiet_behind}
 use Rattle.jsonc_edit.specs.Changes.{row_below, top_at}
 use Rattle.jsonc_edit.specs.Paths.{IsAt}
 use Rattle.jsonc_edit.specs.Spaced.{SpacesPut}
 use Rattle.jsonc_edit.proofs.OneValue.{document_once}
-use Rattle.jsonc_edit.proofs.Placed.{Placed, around_placed}
+use Rattle.jsonc_edit.proofs.SpacedNodes.{Placed, around_placed}
 use Rattle.jsonc_edit.proofs.Spacing.{spaces_value}
 use Rattle.jsonc_edit.proofs.Uniqueness.{element_parent, leads_over}
-use Rattle.jsonc_edit.proofs.Walk.{Shows-row_below}
+use Rattle.jsonc_edit.proofs.ChangesUpward.{Shows-row_below}
 use Rattle.jsonc_edit.specs.set.Giving.{due_after, is_bare_value}
 use Rattle.jsonc_edit.proofs.lemmas.set.PropertyGiving.{last_all}
 
@@ -131,8 +131,8 @@ property_here h (alone.comma g) = cc
 pub due_placed : (ns : List Node) → IsTree ns → (n c : ℕ) → parent_at ns n ≡ Some c → IsOver ns 0 n → IsElement (content_at ns n) → (v : Plain) → All (Placed ns n) (listed (due_after ns n v))
 due_placed ns tree n c said below element v = by (is_bare_value v)
   where
-    by : (b : Bool) → All (Placed ns n) (listed (cond b (due_behind ns n) None))
-    by true = last_all (Placed ns n) (due_before ns n) (listed (due_behind ns n)) (around_placed ns tree n c said below Content.null element)
+    by : (b : Bool) → All (Placed ns n) (listed (cond b (space_needed_after ns n) None))
+    by true = last_all (Placed ns n) (space_needed_before ns n) (listed (space_needed_after ns n)) (around_placed ns tree n c said below Content.null element)
     by false = All-nil (Placed ns n)
 
 -- once the space has come none is due behind it any more

@@ -4,7 +4,7 @@ use Rattle.std.proofs.lemmas.List.{get_or_default}
 use Rattle.jsonc_tree.specs.Content.{property}
 use Rattle.jsonc_tree.specs.Tree.{Node, content_at, parent_at, children_at, IsTree}
 use Rattle.jsonc_layout.specs.nodes.Properties.{value_at}
-use Rattle.jsonc_layout.proofs.lemmas.nodes.Held.{held_among, value_is_held}
+use Rattle.jsonc_layout.proofs.lemmas.nodes.PropertyValues.{held_among, value_is_held}
 
 -- the value of a property is its child
 pub held_child : (ns : List Node) → IsTree ns → (p n : ℕ) → content_at ns p ≡ property → value_at ns p ≡ Some n → parent_at ns n ≡ Some p

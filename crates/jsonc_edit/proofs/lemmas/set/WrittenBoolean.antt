@@ -20,8 +20,8 @@ use Rattle.jsonc_tree.proofs.Rows.{Shows-append}
 use Rattle.jsonc_layout.specs.nodes.Kinds.{is_colon, is_colon_at, is_element, is_element_at}
 use Rattle.jsonc_layout.specs.nodes.Properties.{is_name, is_name_at, value_at}
 use Rattle.jsonc_layout.specs.nodes.Siblings.{AreThere, IsThere, elements_at}
-use Rattle.jsonc_layout.proofs.lemmas.nodes.Held.{IsAlike, held_alike, held_in, value_is_held}
-use Rattle.jsonc_layout.proofs.lemmas.nodes.There.{before_there, find_there}
+use Rattle.jsonc_layout.proofs.lemmas.nodes.PropertyValues.{IsAlike, held_alike, held_in, value_is_held}
+use Rattle.jsonc_layout.proofs.lemmas.nodes.InTree.{before_there, find_there}
 use Rattle.jsonc_sound.specs.Shape.{IsLiteralBefore, IsTrivia, token_then}
 use Rattle.jsonc_sound.proofs.ShapeValues.{document_printed}
 use Rattle.jsonc_sound.specs.ChangeLaws.{DiffersIn}
@@ -38,7 +38,7 @@ use Rattle.jsonc_sound.specs.Booleans.{boolean_leaf, is_hex_leaf}
 use Rattle.jsonc_sound.specs.InRows.{row_around}
 use Rattle.jsonc_sound.specs.SoundTrees.{SoundTree}
 use Rattle.jsonc_sound.specs.Spaces.{is_bare}
-use Rattle.jsonc_sound.proofs.Apart.{document_alone, value_alone}
+use Rattle.jsonc_sound.proofs.NodesAlone.{document_alone, value_alone}
 use Rattle.jsonc_sound.proofs.Booleans.{shaped_with_boolean}
 use Rattle.jsonc_sound.proofs.LooseChanges.{document_loose}
 use Rattle.jsonc_sound.proofs.RowsWithin.{LeafPrints, last_some, name_prints, opening_print, same_if_some}
@@ -48,33 +48,33 @@ use Rattle.jsonc_sound.proofs.Texts.{name_leaf}
 use Rattle.jsonc_sound.specs.MarkChanges.{MarksDifferIn, marks_under}
 use Rattle.jsonc_sound.specs.Marks.{marks}
 use Rattle.jsonc_sound.specs.Written as written_marks
-use Rattle.jsonc_sound.proofs.GivingWay.{values_marks}
+use Rattle.jsonc_sound.proofs.ReplacedStretches.{values_marks}
 use Rattle.jsonc_sound.specs.Leaving.{element_count}
-use Rattle.jsonc_edit.specs.Due.{prints, prints_at, nearest, beginning_in, due_before, ends_bare, is_bare_at, listed, seen_before}
+use Rattle.jsonc_edit.specs.Due.{prints, prints_at, nearest, beginning_in, space_needed_before, ends_bare, is_bare_at, listed, seen_before}
 use Rattle.jsonc_edit.specs.Put.{AreSpaced}
-use Rattle.jsonc_edit.proofs.Putting.{contents_kept}
-use Rattle.jsonc_edit.proofs.Quiet.{space_before}
+use Rattle.jsonc_edit.proofs.InsertedSpaces.{contents_kept}
+use Rattle.jsonc_edit.proofs.UnneededSpaces.{space_before}
 use Rattle.jsonc_edit.specs.Changes.{row_below, top_at, LeafChanged}
 use Rattle.jsonc_edit.specs.Paths.{IsElementOf, IsHeldBy, StepsTo, LeadsTo, itself, step, IsAt}
 use Rattle.jsonc_edit.specs.Spaced.{SpacesPut}
 use Rattle.jsonc_edit.specs.Written.{IsWrittenAt}
-use Rattle.jsonc_edit.proofs.DueKept.{due_before_same}
+use Rattle.jsonc_edit.proofs.SpacesNeededKept.{due_before_same}
 use Rattle.jsonc_edit.proofs.Elements.{StandsAt, stands_at}
-use Rattle.jsonc_edit.proofs.GivingWay.{parent_holds}
-use Rattle.jsonc_edit.proofs.Held.{HeldAt, by_root, by_array, by_property, held_at}
-use Rattle.jsonc_edit.proofs.Kept.{at_kept, filter_same, place_kept, top_stays, tree_stays}
-use Rattle.jsonc_edit.proofs.Placed.{Placed, not_first}
+use Rattle.jsonc_edit.proofs.ReplacedChildren.{parent_holds}
+use Rattle.jsonc_edit.proofs.ValuePlaces.{HeldAt, by_root, by_array, by_property, held_at}
+use Rattle.jsonc_edit.proofs.NodesKept.{at_kept, filter_same, place_kept, top_stays, tree_stays}
+use Rattle.jsonc_edit.proofs.SpacedNodes.{Placed, not_first}
 use Rattle.jsonc_edit.proofs.ReplacedValues.{at_child}
 use Rattle.jsonc_edit.proofs.SeamsParting.{tells_what_is_printed}
 use Rattle.jsonc_edit.proofs.Spacing.{all_spaced, Spaced, spaces_marks, spaces_sound}
 use Rattle.jsonc_edit.proofs.Splices.{leaf_over}
 use Rattle.jsonc_edit.proofs.Uniqueness.{element_parent}
-use Rattle.jsonc_edit.proofs.Walk.{ChangedIn, Shows-row_below, apart_kept, document_is}
-use Rattle.jsonc_edit.specs.set.Booleans.{due_for, is_boolean, is_hex_at, BooleanSet, StaysAtPath, WritesBoolean}
-use Rattle.jsonc_edit.specs.SeamPlaces.{DocumentHolds, GivesWayWithSeams}
+use Rattle.jsonc_edit.proofs.ChangesUpward.{ChangedIn, Shows-row_below, apart_kept, document_is}
+use Rattle.jsonc_edit.specs.set.Booleans.{space_needed_for, is_boolean, is_hex_at, BooleanSet, StaysAtPath, WritesBoolean}
+use Rattle.jsonc_edit.specs.SeamPlaces.{DocumentHolds, ReplacedWithSeams}
 use Rattle.jsonc_edit.specs.Seams.{space_if, StandsBetween}
-use Rattle.jsonc_edit.proofs.Between.{between_above}
-use Rattle.jsonc_edit.proofs.Between as seams_of
+use Rattle.jsonc_edit.proofs.LeavesAroundNodes.{between_above}
+use Rattle.jsonc_edit.proofs.LeavesAroundNodes as seams_of
 use Rattle.jsonc_edit.proofs.PathPlaces.{AtBetween, at_between, holds_between}
 use Rattle.jsonc_edit.proofs.lemmas.set.BooleanSetting.{boolean_of}
 use Rattle.jsonc_edit.proofs.lemmas.set.HexRows.{Flat, a_leaf, more_flat, flat_before, array_flat, property_flat, root_flat, hex_seen}
@@ -279,7 +279,7 @@ module _ (old new : List Node) (path : List ℕ) (n : ℕ) (b : Bool) (tree : Is
       by None e f = absurd (false≢true f)
       by (Some y) e f = omega (arith, place_ready, not_first old tree n c said y e)
 
-  placed : All (Placed ready n) (listed (due_for old n b))
+  placed : All (Placed ready n) (listed (space_needed_for old n b))
   placed = by (not b && is_hex_at old (seen_before old n)) refl
     where
       both_true : (d e : Bool) → d && e ≡ true → e ≡ true
@@ -299,7 +299,7 @@ module _ (old new : List Node) (path : List ℕ) (n : ℕ) (b : Bool) (tree : Is
           }) (All-nil (Placed ready n))
 
   s : Spaced ready spaced n
-  s = all_spaced n (listed (due_for old n b)) ready spaced g.prepared.tree placed g.spaces
+  s = all_spaced n (listed (space_needed_for old n b)) ready spaced g.prepared.tree placed g.spaces
 
   spaces : SpacesPut (ordered_tree old 0) (ordered_tree spaced 0)
   spaces = subst (λ t. SpacesPut t (ordered_tree spaced 0)) (tree_stays old ready tree kept g.prepared.tree) s.put
@@ -327,7 +327,7 @@ module _ (old new : List Node) (path : List ℕ) (n : ℕ) (b : Bool) (tree : Is
 
   -- and then the leaf has become the other
   r : LeafChanged spaced new n
-  r = record { content = Content.boolean b; tree = s.tree; there = n_spaced; after = g.tree; becomes = g.becomes }
+  r = record { content = Content.boolean b; tree = s.tree; in_tree = n_spaced; after = g.tree; becomes = g.becomes }
 
   new_leaf : top_at new n ≡ boolean_leaf b
   new_leaf =
@@ -418,10 +418,10 @@ module _ (old new : List Node) (path : List ℕ) (n : ℕ) (b : Bool) (tree : Is
   bare_before : (c : Bool) → c && is_hex_at old (seen_before old n) ≡ true → ends_bare ready (seen_before ready n) ≡ true
   bare_before false e = let wrong : false ≡ true = e in cc
   bare_before true e =
-      let bare : due_before old n ≡ Some n = ap (λ d. cond d (Some n) None) (hex_is_bare old (seen_before old n) e) in
+      let bare : space_needed_before old n ≡ Some n = ap (λ d. cond d (Some n) None) (hex_is_bare old (seen_before old n) e) in
       some_there (ends_bare ready (seen_before ready n)) (due_before_same old ready tree kept n low.0 ∙ bare)
 
-  seams : GivesWayWithSeams path (boolean_leaf a) (boolean_leaf b) (ordered_tree old 0) (ordered_tree new 0)
+  seams : ReplacedWithSeams path (boolean_leaf a) (boolean_leaf b) (ordered_tree old 0) (ordered_tree new 0)
   seams =
       let top_is : top_at ready n ≡ boolean_leaf a = sym (s.top (omega (arith, low.0, kept.len))) ∙ old_leaf in
       record {
@@ -548,10 +548,10 @@ module _ (old new : List Node) (path : List ℕ) (n : ℕ) (b : Bool) (tree : Is
           sound = after_sound;
         }
 
--- spaces have come, and then the one truth value has given way to the other at the path
+-- spaces have come, and then the one truth value has been replaced by the other at the path
 pub boolean_gives_way : (old new : List Node) (path : List ℕ) (n : ℕ) (b : Bool) → IsTree old → IsAt old path n → is_boolean (content_at old n) ≡ true → BooleanSet old new n b
     → (was : Bool) × (held : OrderedTree) × SpacesPut (ordered_tree old 0) held × DocumentChanged (boolean_leaf was) (boolean_leaf b) path held (ordered_tree new 0)
-    × GivesWayWithSeams path (boolean_leaf was) (boolean_leaf b) (ordered_tree old 0) (ordered_tree new 0)
+    × ReplacedWithSeams path (boolean_leaf was) (boolean_leaf b) (ordered_tree old 0) (ordered_tree new 0)
 boolean_gives_way old new path n b tree at h g = (a old new path n b tree at h g, ordered_tree g.spaced 0, spaces old new path n b tree at h g, changed old new path n b tree at h g, seams old new path n b tree at h g)
 
 pub writes_boolean : (o : Options) (old new : List Node) (path : List ℕ) (n : ℕ) (b : Bool) → WritesBoolean o old new path n b

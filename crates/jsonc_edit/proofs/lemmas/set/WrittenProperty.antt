@@ -1,4 +1,4 @@
--- A property of a sound document has given way to one of another name and value: what the document is then.
+-- A property of a sound document has been replaced by one of another name and value: what the document is then.
 use Rattle.std.proofs.Common.{◌≡◌, ℕ, ◌+◌, ◌<◌, Bool, true, false, ◌&&◌, List, [], ◌∷◌, ◌++◌, length, take, drop, filter, slice_get, slice_index, Some, refl, sym, ap, subst, ◌∙◌, arith}
 use Rattle.jsonc_text.specs.Options.{Options}
 use Rattle.jsonc_text.specs.Plain.{Plain}
@@ -25,7 +25,7 @@ use Rattle.jsonc_sound.specs.Adjacent.{last_printed}
 use Rattle.jsonc_sound.specs.Alone.{RowAlone}
 use Rattle.jsonc_sound.specs.SoundTrees.{SoundTree}
 use Rattle.jsonc_sound.specs.Spaces.{is_bare_leaf, first_printed, meet}
-use Rattle.jsonc_sound.proofs.Apart.{value_alone, property_alone}
+use Rattle.jsonc_sound.proofs.NodesAlone.{value_alone, property_alone}
 use Rattle.jsonc_sound.proofs.SeamStretches.{parted_row}
 use Rattle.jsonc_sound.specs.Marks.{marks}
 use Rattle.jsonc_sound.specs.MarkChanges.{MarksDifferIn, marks_under}
@@ -35,8 +35,8 @@ use Rattle.jsonc_sound.specs.Leaving.{element_count}
 use Rattle.jsonc_sound.specs.Properties.{among_properties, object_of, IsNewProperty, PropertyChanged, ReplacesMember}
 use Rattle.jsonc_sound.proofs.GivenProperties.{sound_with_property, value_with_property, marks_with_property}
 use Rattle.jsonc_edit.specs.Due.{nearest, begins_bare, behind_holder, listed}
-use Rattle.jsonc_edit.proofs.Meeting.{back_bare}
-use Rattle.jsonc_edit.proofs.Whole.{Whole, whole_behind, row_whole}
+use Rattle.jsonc_edit.proofs.NearestLeaves.{back_bare}
+use Rattle.jsonc_edit.proofs.WholeRows.{Whole, whole_behind, row_whole}
 use Rattle.jsonc_edit.specs.Changes.{row_below, top_at, Replaces, Respliced}
 use Rattle.jsonc_edit.specs.Paths.{IsAt, IsElementOf}
 use Rattle.jsonc_edit.specs.Reading.{layout_for}
@@ -44,13 +44,13 @@ use Rattle.jsonc_edit.specs.Spaced.{SpacesPut}
 use Rattle.jsonc_edit.specs.Writing.{FitsLayout, IsWritable}
 use Rattle.jsonc_edit.proofs.Elements.{Some_same, StandsAt, stands_at}
 use Rattle.jsonc_edit.proofs.Fitting.{layout_fits}
-use Rattle.jsonc_edit.proofs.Kept.{at_kept, filter_same, top_stays, tree_stays}
+use Rattle.jsonc_edit.proofs.NodesKept.{at_kept, filter_same, top_stays, tree_stays}
 use Rattle.jsonc_edit.proofs.Spacing.{all_spaced, Spaced, spaces_marks, spaces_sound}
 use Rattle.jsonc_edit.proofs.Splices.{joined_top, respliced_over, respliced_row}
 use Rattle.jsonc_edit.proofs.Uniqueness.{element_parent}
-use Rattle.jsonc_edit.proofs.Walk.{Shows-row_below}
+use Rattle.jsonc_edit.proofs.ChangesUpward.{Shows-row_below}
 use Rattle.jsonc_edit.proofs.Writable.{property_may_stand, value_may_stand}
-use Rattle.jsonc_edit.specs.set.Giving.{due_after, is_bare_value, property_top, PropertyGivesWay, IsPropertyReplaced}
+use Rattle.jsonc_edit.specs.set.Giving.{due_after, is_bare_value, property_top, PropertyReplacedBy, IsPropertyReplaced}
 use Rattle.jsonc_edit.specs.set.Properties.{IsPropertyWritten, WritesProperty}
 use Rattle.jsonc_edit.proofs.lemmas.set.PropertyRows.{elements_spaced, over_at, Parted, parted, ObjectRow, object_row, Inside, inside_of, property_here, counted_elements, due_placed, quiet_after, first_false, name_first, value_behind, and_false, property_differs, some_value_of, prints_value, prints_first}
 
@@ -62,8 +62,8 @@ module _ (o : Options) (old new : List Node) (path : List ℕ) (c i n m : ℕ) (
   abbrev layout : Layout
   layout = layout_for old c n
 
-  g : PropertyGivesWay old new n m layout name v
-  g = subst (λ k. PropertyGivesWay old new n m (layout_for old k n) name v) (Some_same given.0 c (sym given.1 ∙ said)) given.2
+  g : PropertyReplacedBy old new n m layout name v
+  g = subst (λ k. PropertyReplacedBy old new n m (layout_for old k n) name v) (Some_same given.0 c (sym given.1 ∙ said)) given.2
 
   abbrev ready : List Node
   ready = g.ready
@@ -118,7 +118,7 @@ module _ (o : Options) (old new : List Node) (path : List ℕ) (c i n m : ℕ) (
       ap (λ l. slice_get l i)
       (elements_spaced (listed (due_after ready n v)) ready spaced g.prepared.tree g.spaces c
       ∙ ap (filter (is_element_at ready)) (kept.children c c_there)
-      ∙ filter_same (is_element_at ready) (is_element_at old) (children_at old c) (λ k h. ap is_element (kept.content (slice_index (children_at old c) k) (tree.there c k h))))
+      ∙ filter_same (is_element_at ready) (is_element_at old) (children_at old c) (λ k h. ap is_element (kept.content (slice_index (children_at old c) k) (tree.in_tree c k h))))
       ∙ element
 
   top_same : top_at spaced n ≡ top_at old n
@@ -141,7 +141,7 @@ module _ (o : Options) (old new : List Node) (path : List ℕ) (c i n m : ℕ) (
   join = subst (λ k. CanJoin spaced k (place_at spaced n) (place_at spaced n + 1) (m ∷ [])) same r.join
 
   respliced : Respliced spaced new c
-  respliced = record { from = place_at spaced n; to = place_at spaced n + 1; put = m ∷ []; tree = s.tree; there = c_spaced; after = r.after; join = join; spliced = put }
+  respliced = record { from = place_at spaced n; to = place_at spaced n + 1; put = m ∷ []; tree = s.tree; in_tree = c_spaced; after = r.after; join = join; spliced = put }
 
   container_changed : DocumentChanged (top_at spaced c) (top_at new c) path (ordered_tree spaced 0) (ordered_tree new 0)
   container_changed = respliced_over spaced new c respliced c IsOver.itself path at_spaced
@@ -182,7 +182,7 @@ module _ (o : Options) (old new : List Node) (path : List ℕ) (c i n m : ℕ) (
   m_shown : Shows spaced (m ∷ []) (more property now none)
   m_shown =
       subst (λ (t : Top). Shows spaced (m ∷ []) (more t.content t.below none)) g.place.is
-      (shows_more {after = none} (Shows-row_below spaced s.tree m (join.there 0 (omega arith))) shows_none)
+      (shows_more {after = none} (Shows-row_below spaced s.tree m (join.in_tree 0 (omega arith))) shows_none)
 
   new_row : row_below new c ≡ token_then 0x7B (among_properties front now back)
   unfolding respliced

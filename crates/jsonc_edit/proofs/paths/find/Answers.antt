@@ -12,7 +12,7 @@ returns-in_err-value-2-clause-found g c =
 
 pub loop-place-preserved : goal.loop-place-preserved
 loop-place-preserved g c =
-    (c.in_ok-value-2.ensures.there, remains_more c.args.tree.now.nodes c.args.path.now c.loop-place.place-index c.loop-place.value c.loop-place.invariant.1 (get_or c.args.path.now c.loop-place.place-index 0) c.in_ok-value-2.value (omega (arith, c.loop-place-test.true)) refl c.in_ok-value-2.ensures.stepped)
+    (c.in_ok-value-2.ensures.in_tree, remains_more c.args.tree.now.nodes c.args.path.now c.loop-place.place-index c.loop-place.value c.loop-place.invariant.1 (get_or c.args.path.now c.loop-place.place-index 0) c.in_ok-value-2.value (omega (arith, c.loop-place-test.true)) refl c.in_ok-value-2.ensures.stepped)
 
 pub returns-clause-found : goal.returns-clause-found
 returns-clause-found g c = leads_there c.args.tree.now.nodes c.args.path.now c.loop-place.place-index c.loop-place.value c.loop-place.invariant.1 (omega (arith, c.loop-place-test.false))

@@ -1,5 +1,5 @@
 use Rattle.jsonc_tree.specs.Tree.{place_at}
-use Rattle.jsonc_edit.proofs.Placing.{may_come, gap_before}
+use Rattle.jsonc_edit.proofs.SpacePlaces.{may_come, gap_before}
 use Rattle.jsonc_edit.proofs.put.put_before.Goals as goal
 
 pub insert_between-requires-clause-can : goal.insert_between-requires-clause-can

@@ -1,4 +1,4 @@
-use Rattle.jsonc_edit.proofs.Placing.{node_there}
+use Rattle.jsonc_edit.proofs.SpacePlaces.{node_there}
 use Rattle.jsonc_edit.proofs.put.put_space.Goals as goal
 
 pub parent-requires : goal.parent-requires

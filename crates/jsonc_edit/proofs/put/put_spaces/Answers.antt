@@ -1,4 +1,4 @@
-use Rattle.jsonc_edit.proofs.Placing.{free_yet, children_yet, spaces_put}
+use Rattle.jsonc_edit.proofs.SpacePlaces.{free_yet, children_yet, spaces_put}
 use Rattle.jsonc_edit.proofs.put.put_spaces.Goals as goal
 
 pub put_space-requires-2-clause-free : goal.put_space-requires-2-clause-free

@@ -1,7 +1,7 @@
 use Rattle.jsonc_layout.specs.input.Views.{plain}
 use Rattle.jsonc_layout.specs.from_input.Layout.{layout_of}
-use Rattle.jsonc_edit.proofs.GivingWay.{child_raw, gives_way_raw, join_raw, where_refused}
-use Rattle.jsonc_edit.proofs.Kept.{tree_stays}
+use Rattle.jsonc_edit.proofs.ReplacedChildren.{child_raw, gives_way_raw, join_raw, where_refused}
+use Rattle.jsonc_edit.proofs.NodesKept.{tree_stays}
 use Rattle.jsonc_edit.proofs.replacing.replace_raw.Goals as goal
 
 pub returns-in_err-new-clause-document : goal.returns-in_err-new-clause-document

@@ -1,4 +1,4 @@
-use Rattle.jsonc_edit.proofs.Between.{spaces_stand_around}
+use Rattle.jsonc_edit.proofs.LeavesAroundNodes.{spaces_stand_around}
 use Rattle.jsonc_edit.proofs.seam_laws.spaces_stand_around.Goals as goal
 
 pub returns : goal.returns

@@ -1,5 +1,5 @@
-use Rattle.jsonc_edit.proofs.Meeting.{meet_bare, none_due}
-use Rattle.jsonc_edit.proofs.Whole.{row_whole, stretch_whole}
+use Rattle.jsonc_edit.proofs.NearestLeaves.{meet_bare, none_due}
+use Rattle.jsonc_edit.proofs.WholeRows.{row_whole, stretch_whole}
 use Rattle.jsonc_edit.proofs.space_laws.nearest_tell.Goals as goal
 
 pub returns-clause-meet : goal.returns-clause-meet

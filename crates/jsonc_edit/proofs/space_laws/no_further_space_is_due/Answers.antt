@@ -1,4 +1,4 @@
-use Rattle.jsonc_edit.proofs.Quiet.{none_due}
+use Rattle.jsonc_edit.proofs.UnneededSpaces.{none_due}
 use Rattle.jsonc_edit.proofs.space_laws.no_further_space_is_due.Goals as goal
 
 pub returns : goal.returns

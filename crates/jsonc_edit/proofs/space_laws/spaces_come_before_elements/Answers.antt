@@ -1,4 +1,4 @@
-use Rattle.jsonc_edit.proofs.Putting.{puts_space}
+use Rattle.jsonc_edit.proofs.InsertedSpaces.{puts_space}
 use Rattle.jsonc_edit.proofs.space_laws.spaces_come_before_elements.Goals as goal
 
 pub returns : goal.returns

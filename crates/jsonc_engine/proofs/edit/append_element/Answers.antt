@@ -3,11 +3,11 @@ use Rattle.jsonc_layout.specs.input.Views.{plain}
 use Rattle.jsonc_cst.specs.declared.cst.node.CstArray.{CstArray}
 use Rattle.jsonc_cst.specs.Document.{nodes_of}
 use Rattle.jsonc_cst.specs.typed.Setting.{FindsOrCreatesArray}
-use Rattle.jsonc_engine.proofs.Making.{appends_last, array_memory, array_stands, array_wanted, no_array, said_of}
+use Rattle.jsonc_engine.proofs.PuttingInContainers.{appends_last, array_memory, array_stands, array_wanted, no_array, said_of}
 use Rattle.jsonc_engine.proofs.edit.append_element.Goals as goal
 
-pub returns-in-Ok-None-clause-told : goal.returns-in-Ok-None-clause-told
-returns-in-Ok-None-clause-told g c = λ o sound.
+pub returns-in-Ok-None-clause-error : goal.returns-in-Ok-None-clause-error
+returns-in-Ok-None-clause-error g c = λ o sound.
     no_array o (nodes_of c.args.document.now) (nodes_of c.array_value_or_create.new.self) c.args.document.now.tree.tree sound c.in-Ok-None.field-0 c.in-Ok-None.field-0-is c.in-Ok-None.ensures.value
 
 pub returns-in-Ok-clause-appended : goal.returns-in-Ok-clause-appended
@@ -18,14 +18,14 @@ returns-in-Ok-clause-appended g c = λ o sound.
     (said_of c.in-Ok-Some.field-0 c.in-Ok-Some.array (λ (f : Option CstArray). FindsOrCreatesArray (nodes_of c.args.document.now) made f) c.in-Ok-Some.field-0-is c.in-Ok-Some.ensures.value)
     (c.in-Ok-Some.ensures.around o) c.in-Ok.field-0 c.in-Ok.ensures.put (c.in-Ok.ensures.written o)
 
-pub returns-in-Err-append-clause-told : goal.returns-in-Err-append-clause-told
-returns-in-Err-append-clause-told g c = λ o sound.
+pub returns-in-Err-append-clause-error : goal.returns-in-Err-append-clause-error
+returns-in-Err-append-clause-error g c = λ o sound.
     let made = nodes_of c.array_value_or_create.new.self in
     array_memory o (nodes_of c.args.document.now) made c.array_value_or_create.new.self.tree.tree c.in-Ok-Some.array (array_stands (nodes_of c.array_value_or_create.new.self) c.in-Ok-Some.field-0 c.in-Ok-Some.array c.in-Ok-Some.field-0-is c.in-Ok-Some.ensures.stands)
     (c.in-Ok-Some.ensures.written o) sound c.args.document.now.tree.tree
     (said_of c.in-Ok-Some.field-0 c.in-Ok-Some.array (λ (f : Option CstArray). FindsOrCreatesArray (nodes_of c.args.document.now) made f) c.in-Ok-Some.field-0-is c.in-Ok-Some.ensures.value)
     c.in-Err-append.error (c.in-Err-append.ensures.memory o)
 
-pub returns-in-Err-clause-told : goal.returns-in-Err-clause-told
-returns-in-Err-clause-told g c = λ o sound.
-    array_wanted o (nodes_of c.args.document.now) c.args.document.now.tree.tree sound c.in-Err.ensures.wanted c.in-Err.error c.in-Err.ensures.memory
+pub returns-in-Err-clause-error : goal.returns-in-Err-clause-error
+returns-in-Err-clause-error g c = λ o sound.
+    array_wanted o (nodes_of c.args.document.now) c.args.document.now.tree.tree sound c.in-Err.ensures.oom_only_if c.in-Err.error c.in-Err.ensures.memory

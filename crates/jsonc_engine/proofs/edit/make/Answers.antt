@@ -9,54 +9,54 @@ returns-in-Set-clause-made g c = λ o request is.
     ok_so c.set_property.result (set_makes o request (nodes_of c.args.document.now) (nodes_of c.set_property.new.document) c.in-Set.name c.in-Set.value (subst (IsChangeFor request) c.in-Set.is is))
     (c.set_property.ensures.set o)
 
-pub returns-in-Set-clause-told : goal.returns-in-Set-clause-told
-returns-in-Set-clause-told g c = λ o request is sound.
-    set_told o request (nodes_of c.args.document.now) c.in-Set.name c.in-Set.value (subst (IsChangeFor request) c.in-Set.is is) c.set_property.result (c.set_property.ensures.told o sound)
+pub returns-in-Set-clause-error : goal.returns-in-Set-clause-error
+returns-in-Set-clause-error g c = λ o request is sound.
+    set_told o request (nodes_of c.args.document.now) c.in-Set.name c.in-Set.value (subst (IsChangeFor request) c.in-Set.is is) c.set_property.result (c.set_property.ensures.error o sound)
 
 pub returns-in-Append-clause-made : goal.returns-in-Append-clause-made
 returns-in-Append-clause-made g c = λ o request is.
     ok_so c.append_element.result (append_makes o request (nodes_of c.args.document.now) (nodes_of c.append_element.new.document) c.in-Append.value (subst (IsChangeFor request) c.in-Append.is is))
     (c.append_element.ensures.appended o)
 
-pub returns-in-Append-clause-told : goal.returns-in-Append-clause-told
-returns-in-Append-clause-told g c = λ o request is sound.
-    append_told o request (nodes_of c.args.document.now) c.in-Append.value (subst (IsChangeFor request) c.in-Append.is is) c.append_element.result (c.append_element.ensures.told o sound)
+pub returns-in-Append-clause-error : goal.returns-in-Append-clause-error
+returns-in-Append-clause-error g c = λ o request is sound.
+    append_told o request (nodes_of c.args.document.now) c.in-Append.value (subst (IsChangeFor request) c.in-Append.is is) c.append_element.result (c.append_element.ensures.error o sound)
 
 pub returns-in-Remove-clause-made : goal.returns-in-Remove-clause-made
 returns-in-Remove-clause-made g c = λ o request is.
     ok_so c.remove_property.result (remove_makes o request (nodes_of c.args.document.now) (nodes_of c.remove_property.new.document) c.in-Remove.name (subst (IsChangeFor request) c.in-Remove.is is))
     (c.remove_property.ensures.removed o)
 
-pub returns-in-Remove-clause-told : goal.returns-in-Remove-clause-told
-returns-in-Remove-clause-told g c = λ o request is sound.
-    remove_told o request (nodes_of c.args.document.now) c.in-Remove.name (subst (IsChangeFor request) c.in-Remove.is is) c.remove_property.result (c.remove_property.ensures.told o sound)
+pub returns-in-Remove-clause-error : goal.returns-in-Remove-clause-error
+returns-in-Remove-clause-error g c = λ o request is sound.
+    remove_told o request (nodes_of c.args.document.now) c.in-Remove.name (subst (IsChangeFor request) c.in-Remove.is is) c.remove_property.result (c.remove_property.ensures.error o sound)
 
 pub returns-in-Sort-clause-made : goal.returns-in-Sort-clause-made
 returns-in-Sort-clause-made g c = λ o request is.
     ok_so c.sort_properties.result (sort_makes o request (nodes_of c.args.document.now) (nodes_of c.sort_properties.new.document) (subst (IsChangeFor request) c.in-Sort.is is))
     (c.sort_properties.ensures.sorted o)
 
-pub returns-in-Sort-clause-told : goal.returns-in-Sort-clause-told
-returns-in-Sort-clause-told g c = λ o request is sound.
-    sort_told o request (nodes_of c.args.document.now) (subst (IsChangeFor request) c.in-Sort.is is) c.sort_properties.result (c.sort_properties.ensures.told o sound)
+pub returns-in-Sort-clause-error : goal.returns-in-Sort-clause-error
+returns-in-Sort-clause-error g c = λ o request is sound.
+    sort_told o request (nodes_of c.args.document.now) (subst (IsChangeFor request) c.in-Sort.is is) c.sort_properties.result (c.sort_properties.ensures.error o sound)
 
 pub returns-in-Put-clause-made : goal.returns-in-Put-clause-made
 returns-in-Put-clause-made g c = λ o request is.
     ok_so c.put_setting.result (put_makes o request (nodes_of c.args.document.now) (nodes_of c.put_setting.new.document) c.in-Put.names c.in-Put.value (subst (IsChangeFor request) c.in-Put.is is) c.deref.result.now c.deref.ensures.value)
     (c.put_setting.ensures.put o)
 
-pub returns-in-Put-clause-told : goal.returns-in-Put-clause-told
-returns-in-Put-clause-told g c = λ o request is sound.
-    put_told o request (nodes_of c.args.document.now) c.in-Put.names c.in-Put.value (subst (IsChangeFor request) c.in-Put.is is) c.deref.result.now c.deref.ensures.value c.put_setting.result (c.put_setting.ensures.told o sound)
+pub returns-in-Put-clause-error : goal.returns-in-Put-clause-error
+returns-in-Put-clause-error g c = λ o request is sound.
+    put_told o request (nodes_of c.args.document.now) c.in-Put.names c.in-Put.value (subst (IsChangeFor request) c.in-Put.is is) c.deref.result.now c.deref.ensures.value c.put_setting.result (c.put_setting.ensures.error o sound)
 
 pub returns-clause-made : goal.returns-clause-made
 returns-clause-made g c = λ o request is.
     ok_so c.drop_setting.result (drop_makes o request (nodes_of c.args.document.now) (nodes_of c.drop_setting.new.document) c.in-Drop.names (subst (IsChangeFor request) c.in-Drop.is is) c.deref-in-Drop.result.now c.deref-in-Drop.ensures.value)
     (c.drop_setting.ensures.dropped o)
 
-pub returns-clause-told : goal.returns-clause-told
-returns-clause-told g c = λ o request is sound.
-    drop_told o request (nodes_of c.args.document.now) c.in-Drop.names (subst (IsChangeFor request) c.in-Drop.is is) c.deref-in-Drop.result.now c.deref-in-Drop.ensures.value c.drop_setting.result (c.drop_setting.ensures.told o sound)
+pub returns-clause-error : goal.returns-clause-error
+returns-clause-error g c = λ o request is sound.
+    drop_told o request (nodes_of c.args.document.now) c.in-Drop.names (subst (IsChangeFor request) c.in-Drop.is is) c.deref-in-Drop.result.now c.deref-in-Drop.ensures.value c.drop_setting.result (c.drop_setting.ensures.error o sound)
 
 pub returns-in-Stay-clause-made : goal.returns-in-Stay-clause-made
 returns-in-Stay-clause-made g c = λ o request is. stay_makes o request (nodes_of c.args.document.now) (subst (IsChangeFor request) c.in-Stay.is is)

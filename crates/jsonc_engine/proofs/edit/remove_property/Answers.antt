@@ -4,23 +4,23 @@ use Rattle.jsonc_engine.specs.Fault.{EndsOnObject}
 use Rattle.jsonc_engine.specs.declared.fault.Fault.TheVariants.{Edit}
 use Rattle.jsonc_engine.proofs.Changes.{err_by}
 use Rattle.jsonc_engine.proofs.RootKinds.{has_object}
-use Rattle.jsonc_engine.proofs.Making.{memory_on_object}
+use Rattle.jsonc_engine.proofs.PuttingInContainers.{memory_on_object}
 use Rattle.jsonc_engine.proofs.Removing.{first_found, no_object, one_loses, wants_memory}
 use Rattle.jsonc_engine.proofs.edit.remove_property.Goals as goal
 
-pub returns-in_default-clause-told : goal.returns-in_default-clause-told
-returns-in_default-clause-told g c = λ o sound.
+pub returns-in_default-clause-error : goal.returns-in_default-clause-error
+returns-in_default-clause-error g c = λ o sound.
     no_object o (nodes_of c.args.document.now) c.args.document.now.tree.tree sound (sym c.object_value.ensures.value ∙ c.in_default.is)
 
-pub returns-in_err-property-clause-told : goal.returns-in_err-property-clause-told
-returns-in_err-property-clause-told g c = λ o sound.
+pub returns-in_err-property-clause-error : goal.returns-in_err-property-clause-error
+returns-in_err-property-clause-error g c = λ o sound.
     let bytes = printed_of c.args.document.now in
     err_by (EndsOnObject o bytes) (Edit c.in_err-property.field-0.0) c.from_residual.result c.from_residual.ensures.1
     (memory_on_object o bytes c.in_err-property.field-0.0 c.in_err-property.ensures.memory
     (has_object o (nodes_of c.args.document.now) c.args.document.now.tree.tree sound c.in-Some.object (sym c.object_value.ensures.value ∙ c.in-Some.is)))
 
-pub returns-in-Err-clause-told : goal.returns-in-Err-clause-told
-returns-in-Err-clause-told g c = λ o sound.
+pub returns-in-Err-clause-error : goal.returns-in-Err-clause-error
+returns-in-Err-clause-error g c = λ o sound.
     let old = nodes_of c.args.document.now in
     let read = sym c.object_value.ensures.value ∙ c.in-Some.is in
     let first = first_found c.args.document.now c.in-Some.object (chars c.args.name.now) c.in_ok-property.field-0 c.in-Some-2.property c.in_ok-property.ensures.found c.in-Some-2.is in

@@ -8,7 +8,7 @@ use Rattle.jsonc_engine.specs.Fault.{TellsOfArgument}
 use Rattle.jsonc_engine.specs.Output.{output_bytes}
 use Rattle.jsonc_engine.proofs.Changes.{ok_so}
 use Rattle.jsonc_engine.proofs.Ending.{err_always, input_known, memory_known, no_memory, ok_always, puts_known, same_request, tells_known}
-use Rattle.jsonc_engine.proofs.Telling.{is_ready, never_behind, never_behind_words, told_of_input, told_of_read, told_of_words, told_of_write}
+use Rattle.jsonc_engine.proofs.FaultTexts.{is_ready, never_behind, never_behind_words, told_of_input, told_of_read, told_of_words, told_of_write}
 use Rattle.jsonc_engine.proofs.engine.engine.Goals as goal
 
 pub returns-clause-written : goal.returns-clause-written

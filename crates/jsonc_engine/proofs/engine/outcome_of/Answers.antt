@@ -10,4 +10,4 @@ returns-in-Get-clause-left g c = λ o request is sound.
 
 pub returns-in-Get-clause-refused : goal.returns-in-Get-clause-refused
 returns-in-Get-clause-refused g c = λ o request is sound.
-    get_told o request (nodes_of c.args.document) c.in-Get.names (subst (IsChangeFor request) c.in-Get.is is) c.deref.result.now c.deref.ensures.value c.get_setting.result (c.get_setting.ensures.told o sound)
+    get_told o request (nodes_of c.args.document) c.in-Get.names (subst (IsChangeFor request) c.in-Get.is is) c.deref.result.now c.deref.ensures.value c.get_setting.result (c.get_setting.ensures.error o sound)

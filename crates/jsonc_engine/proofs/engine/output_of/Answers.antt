@@ -3,7 +3,7 @@ use Rattle.jsonc_text.specs.OptionsOf.{parse_options}
 use Rattle.jsonc_cst.specs.Document.{nodes_of, printed_of}
 use Rattle.jsonc_engine.specs.Fault.{IsFaultOn}
 use Rattle.jsonc_engine.specs.Output.{IsLeft, output_bytes}
-use Rattle.jsonc_engine.specs.Parser.{IsDocument, IsFault, IsTold, RefusesText}
+use Rattle.jsonc_engine.specs.Parser.{IsDocument, IsFault, ParseFault, RefusesText}
 use Rattle.jsonc_engine.proofs.Changes.{on_ok, parsed_sound}
 use Rattle.jsonc_engine.proofs.engine.output_of.Goals as goal
 
@@ -36,5 +36,5 @@ returns-in-Err-clause-refused g c = λ request is.
     record {
       fault = subst (λ (b : List ℕ). IsFault b c.in-Err.error) same c.in-Err.ensures.fault;
       refused = subst (λ (b : List ℕ). RefusesText o b c.in-Err.error) same c.in-Err.ensures.refused;
-      told = subst (λ (b : List ℕ). IsTold o b true c.in-Err.error) same c.in-Err.ensures.told;
+      error = subst (λ (b : List ℕ). ParseFault o b true c.in-Err.error) same c.in-Err.ensures.error;
     }

@@ -2,7 +2,7 @@ use Rattle.std.proofs.Common.{inl, inr}
 use Rattle.jsonc_engine.specs.Command.{request_of}
 use Rattle.jsonc_engine.specs.Output.{output_bytes}
 use Rattle.jsonc_text.specs.OptionsOf.{parse_options}
-use Rattle.jsonc_engine.proofs.Telling.{is_ready, memory_told}
+use Rattle.jsonc_engine.proofs.FaultTexts.{is_ready, memory_told}
 use Rattle.jsonc_engine.proofs.engine.run_with.Goals as goal
 
 pub returns-in-Err-clause-not_utf8 : goal.returns-in-Err-clause-not_utf8

@@ -4,21 +4,21 @@ use Rattle.jsonc_tree.specs.Tree.{Node}
 use Rattle.jsonc_cst.specs.Document.{nodes_of}
 use Rattle.jsonc_cst.specs.Nodes.{number_of}
 use Rattle.jsonc_parser.specs.paths.Found.{FindsWhatShown, names_of}
-use Rattle.jsonc_engine.proofs.Standing.{memory_getting, memory_showing, nothing_there, shown_there}
+use Rattle.jsonc_engine.proofs.SettingsShown.{memory_getting, memory_showing, nothing_there, shown_there}
 use Rattle.jsonc_engine.proofs.settings.get_setting.Goals as goal
 
-pub returns-in-Ok-None-clause-told : goal.returns-in-Ok-None-clause-told
-returns-in-Ok-None-clause-told g c = λ o sound.
+pub returns-in-Ok-None-clause-error : goal.returns-in-Ok-None-clause-error
+returns-in-Ok-None-clause-error g c = λ o sound.
     let doc = c.args.document.now in
     let names = names_of c.args.names.now in
     nothing_there o doc sound names (subst (FindsWhatShown doc names) c.in-Ok-None.field-0-is c.in-Ok-None.ensures.found)
 
-pub returns-in-Err-clause-told : goal.returns-in-Err-clause-told
-returns-in-Err-clause-told g c = λ o sound.
-    memory_getting o (nodes_of c.args.document.now) sound (names_of c.args.names.now) c.in-Err.error c.in-Err.ensures.memory c.in-Err.ensures.wanted
+pub returns-in-Err-clause-error : goal.returns-in-Err-clause-error
+returns-in-Err-clause-error g c = λ o sound.
+    memory_getting o (nodes_of c.args.document.now) sound (names_of c.args.names.now) c.in-Err.error c.in-Err.ensures.memory c.in-Err.ensures.oom_only_if
 
-pub returns-in-Err-format-clause-told : goal.returns-in-Err-format-clause-told
-returns-in-Err-format-clause-told g c = λ o sound.
+pub returns-in-Err-format-clause-error : goal.returns-in-Err-format-clause-error
+returns-in-Err-format-clause-error g c = λ o sound.
     let doc = c.args.document.now in
     let names = names_of c.args.names.now in
     memory_showing o doc sound names c.in-Ok-Some.node (subst (FindsWhatShown doc names) c.in-Ok-Some.field-0-is c.in-Ok-Some.ensures.found)

@@ -4,7 +4,7 @@ use Rattle.jsonc_cst.specs.Document.{nodes_of}
 use Rattle.jsonc_text.specs.declared.edit.Over.TheVariants.{Keep}
 use Rattle.jsonc_parser.specs.paths.Calls.{PutsWhatShown}
 use Rattle.jsonc_parser.specs.paths.Found.{names_of}
-use Rattle.jsonc_engine.proofs.Standing.{in_the_way, memory_putting, puts_setting, stays_so}
+use Rattle.jsonc_engine.proofs.SettingsShown.{in_the_way, memory_putting, puts_setting, stays_so}
 use Rattle.jsonc_engine.proofs.settings.put_setting.Goals as goal
 
 pub returns-in-Ok-true-clause-put : goal.returns-in-Ok-true-clause-put
@@ -15,8 +15,8 @@ returns-in-Ok-true-clause-put g c = λ o sound.
     let names = names_of c.args.names.now in
     puts_setting o old sound v names new (subst (λ (b : Bool). PutsWhatShown v Keep names old new b) c.in-Ok-true.field-0-test c.in-Ok-true.ensures.put)
 
-pub returns-in-Ok-false-clause-told : goal.returns-in-Ok-false-clause-told
-returns-in-Ok-false-clause-told g c = λ o sound.
+pub returns-in-Ok-false-clause-error : goal.returns-in-Ok-false-clause-error
+returns-in-Ok-false-clause-error g c = λ o sound.
     let old = nodes_of c.args.document.now in
     let new = nodes_of c.set_at.new.doc in
     let v = plain c.args.value in
@@ -31,6 +31,6 @@ returns-in-Ok-false-clause-document g c = λ o sound.
     let names = names_of c.args.names.now in
     stays_so o old sound v names new (subst (λ (b : Bool). PutsWhatShown v Keep names old new b) c.in-Ok-false.field-0-test c.in-Ok-false.ensures.put)
 
-pub returns-in-Err-clause-told : goal.returns-in-Err-clause-told
-returns-in-Err-clause-told g c = λ o sound.
-    memory_putting o (nodes_of c.args.document.now) sound (names_of c.args.names.now) c.in-Err.error c.in-Err.ensures.told c.in-Err.ensures.wanted
+pub returns-in-Err-clause-error : goal.returns-in-Err-clause-error
+returns-in-Err-clause-error g c = λ o sound.
+    memory_putting o (nodes_of c.args.document.now) sound (names_of c.args.names.now) c.in-Err.error c.in-Err.ensures.error c.in-Err.ensures.oom_only_if

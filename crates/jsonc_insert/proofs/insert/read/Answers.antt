@@ -1,16 +1,16 @@
 use Rattle.std.proofs.Common.{◌≡◌, ◌<◌, ℕ, List, All, length, sym, ap, subst, ◌∙◌}
 use Rattle.jsonc_tree.specs.Tree.{children_at}
 use Rattle.jsonc_layout.specs.input.Views.{plain}
-use Rattle.jsonc_layout.proofs.lemmas.nodes.There.{children_there}
+use Rattle.jsonc_layout.proofs.lemmas.nodes.InTree.{children_there}
 use Rattle.jsonc_layout.specs.from_input.Layout.{Layout}
 use Rattle.jsonc_insert.specs.Planned.{has_brackets, planned}
 use Rattle.jsonc_insert.specs.Settings.{layout_in, on_several_lines}
 use Rattle.jsonc_insert.specs.Trimmed.{trimmed}
-use Rattle.jsonc_insert.proofs.Trimming.{trimmed_all, trimmed_brackets}
+use Rattle.jsonc_insert.proofs.TrimmedRows.{trimmed_all, trimmed_brackets}
 use Rattle.jsonc_insert.proofs.insert.read.Goals as goal
 
-pub layout_in-requires-clause-there : goal.layout_in-requires-clause-there
-layout_in-requires-clause-there g c =
+pub layout_in-requires-clause-in_tree : goal.layout_in-requires-clause-in_tree
+layout_in-requires-clause-in_tree g c =
     let ns = c.args.tree.now.nodes in
     let row = children_at ns c.args.container in
     let is : c.in_ok-kept.kept.items ≡ trimmed ns row = c.in_ok-kept.ensures ∙ ap (trimmed ns) (c.deref.ensures.value ∙ c.in_ok-row.ensures.children) in

@@ -1,4 +1,4 @@
-use Rattle.jsonc_insert.proofs.Leaving.{loses_blanks_alone}
+use Rattle.jsonc_insert.proofs.BlanksRemoved.{loses_blanks_alone}
 use Rattle.jsonc_insert.proofs.laws.blanks_alone_leave.Goals as goal
 
 pub returns : goal.returns

@@ -9,30 +9,30 @@ use Rattle.jsonc_tree.specs.Content.{Content, token}
 use Rattle.jsonc_tree.specs.OrderedTree.{OrderedTree, Top, none, more, followed_by, ordered_tree, Shows, shows_none, shows_more}
 use Rattle.jsonc_tree.specs.Tree.{Node, children_at, content_at, IsTree, IsOver}
 use Rattle.jsonc_tree.proofs.OrderedTrees.{Shows-unique}
-use Rattle.jsonc_layout.specs.lines.Kinds.{holds_values}
+use Rattle.jsonc_layout.specs.lines.Kinds.{is_array_or_object}
 use Rattle.jsonc_sound.specs.Shape.{token_then}
 use Rattle.jsonc_sound.specs.Rows.{RowKind, of_values, of_properties, opening, closing, holder}
 use Rattle.jsonc_sound.specs.SoundTrees.{SoundTree}
 use Rattle.jsonc_sound.specs.TreeChanges.{DocumentChanged}
 use Rattle.jsonc_edit.specs.Changes.{row_below, top_at, Respliced}
-use Rattle.jsonc_edit.specs.Put.{Prepared}
-use Rattle.jsonc_edit.proofs.Kept.{at_kept, top_stays, tree_stays}
+use Rattle.jsonc_edit.specs.Put.{Extends}
+use Rattle.jsonc_edit.proofs.NodesKept.{at_kept, top_stays, tree_stays}
 use Rattle.jsonc_edit.proofs.Splices.{respliced_over, respliced_row}
 use Rattle.jsonc_tree.specs.Changes.{CanJoin, Splices}
 use Rattle.jsonc_edit.specs.Paths.{IsAt}
 use Rattle.jsonc_text.specs.declared.edit.EditError.TheVariants.{OutOfMemory, MissingBrackets}
 use Rattle.jsonc_edit.proofs.FittingNodes.{over_there}
-use Rattle.jsonc_edit.proofs.Walk.{ChangedIn, Shows-row_below, changed_over}
+use Rattle.jsonc_edit.proofs.ChangesUpward.{ChangedIn, Shows-row_below, changed_over}
 use Rattle.jsonc_edit.proofs.lemmas.remove.Containers.{Brackets, brackets, held_at}
 use Rattle.jsonc_edit.specs.multiline.Laws.{bracketed}
 use Rattle.jsonc_edit.proofs.lemmas.multiline.Documents.{over_at}
 use Rattle.jsonc_edit.proofs.lemmas.multiline.OnLines.{standing}
 use Rattle.jsonc_insert.specs.Planned.{has_brackets}
 use Rattle.jsonc_layout.specs.nodes.Kinds.{is_token}
-use Rattle.jsonc_insert.specs.elements.Laws.{HasItsBrackets, WantsMemoryAlone}
+use Rattle.jsonc_insert.specs.elements.Laws.{HasItsBrackets, OnlyOutOfMemory}
 use Rattle.jsonc_insert.proofs.lemmas.elements.Documents.{row_in_document}
 use Rattle.jsonc_insert.proofs.lemmas.elements.Rows.{IsRow}
-use Rattle.jsonc_insert.proofs.lemmas.elements.Standing.{standing_then, token_first}
+use Rattle.jsonc_insert.proofs.lemmas.elements.RowsOfTrees.{standing_then, token_first}
 
 -- a row of two tokens and what stands between them
 both_true : (a b : Bool) → a ≡ true → b ≡ true → (a && b) ≡ true
@@ -84,7 +84,7 @@ same_holder of_properties of_properties e = refl
 same_holder of_values of_properties e = absurd (let wrong : content.array ≡ content.object = e in cc)
 same_holder of_properties of_values e = absurd (let wrong : content.object ≡ content.array = e in cc)
 
-holds_kind : (kind : RowKind) → holds_values (holder kind) ≡ true
+holds_kind : (kind : RowKind) → is_array_or_object (holder kind) ≡ true
 holds_kind of_values = refl
 holds_kind of_properties = refl
 
@@ -95,8 +95,8 @@ module _ (o : Options) (kind : RowKind) (ns : List Node) (path : List ℕ) (c : 
   pub there : c < length ns
   there = over_there ns tree c over
 
-  pub holds : holds_values (content_at ns c) ≡ true
-  holds = ap holds_values is ∙ holds_kind kind
+  pub holds : is_array_or_object (content_at ns c) ≡ true
+  holds = ap is_array_or_object is ∙ holds_kind kind
 
   -- its children
   found : (row : OrderedTree) × Brackets o ns c kind row
@@ -112,7 +112,7 @@ module _ (o : Options) (kind : RowKind) (ns : List Node) (path : List ℕ) (c : 
   has = ap (has_brackets ns) b.children ∙ bracketed_row ns b.open_with b.last b.inner (ap is_token b.opens) (ap is_token b.closes)
 
   kids_there : All (λ n. n < length ns) (b.open_with ∷ (b.inner ++ b.last ∷ []))
-  kids_there = subst (All (λ n. n < length ns)) b.children (All-from_get_or (λ n. n < length ns) (children_at ns c) 0 (λ k h. tree.there c k h))
+  kids_there = subst (All (λ n. n < length ns)) b.children (All-from_get_or (λ n. n < length ns) (children_at ns c) 0 (λ k h. tree.in_tree c k h))
 
   row_was : row_below ns c ≡ token_then (opening kind) (followed_by (standing ns b.inner) (token_then (closing kind) none))
   row_was =
@@ -133,22 +133,22 @@ module _ (o : Options) (kind : RowKind) (ns : List Node) (path : List ℕ) (c : 
   pub container_row : ContainerRow o kind ns c
   container_row = record { open_with = b.open_with; inner = b.inner; last = b.last; children = b.children; opens = b.opens; closes = b.closes; top = was_top; row = is_row }
 
--- the row of a container gives way to one that stands for another row of trees
+-- the row of a container is replaced by one that stands for another row of trees
 followed_none : (row : OrderedTree) → followed_by row none ≡ row
 followed_none none = refl
 followed_none (more content below after) = ap (more content below) (followed_none after)
 
-module _ (kind : RowKind) (old ready new : List Node) (path : List ℕ) (c : ℕ) (put : List ℕ) (was now : OrderedTree) (tree : IsTree old) (p : Prepared old ready) (there : c < length old) (is : content_at old c ≡ holder kind) (top : top_at old c ≡ bracketed kind was) (at : IsAt old path c) (after : IsTree new) (join : CanJoin ready c 0 (length (children_at old c)) put)
+module _ (kind : RowKind) (old ready new : List Node) (path : List ℕ) (c : ℕ) (put : List ℕ) (was now : OrderedTree) (tree : IsTree old) (p : Extends old ready) (there : c < length old) (is : content_at old c ≡ holder kind) (top : top_at old c ≡ bracketed kind was) (at : IsAt old path c) (after : IsTree new) (join : CanJoin ready c 0 (length (children_at old c)) put)
     (spliced : Splices ready new c 0 (length (children_at old c)) put) (stands : standing ready put ≡ token_then (opening kind) (followed_by now (token_then (closing kind) none))) where
   abbrev kids : List ℕ
   kids = children_at old c
 
   abbrev respliced : Respliced ready new c
-  respliced = record { from = 0; to = length kids; put = put; tree = p.tree; there = omega (arith, there, p.keeps.len); after = after; join = join; spliced = spliced }
+  respliced = record { from = 0; to = length kids; put = put; tree = p.tree; in_tree = omega (arith, there, p.keeps.len); after = after; join = join; spliced = spliced }
 
   new_row : row_below new c ≡ token_then (opening kind) (followed_by now (token_then (closing kind) none))
   new_row =
-      let all : All (λ n. n < length ready) put = All-from_get_or (λ n. n < length ready) put 0 (λ k h. join.there k h) in
+      let all : All (λ n. n < length ready) put = All-from_get_or (λ n. n < length ready) put 0 (λ k h. join.in_tree k h) in
       let none_behind : drop (length kids) (children_at ready c) ≡ [] = ap (drop (length kids)) (p.keeps.children c there) ∙ drop_all (length kids) kids (omega arith) in
       respliced_row ready new c respliced none (standing ready put) none shows_none (shows_standing ready p.tree put all) (subst (λ (r : List ℕ). Shows ready r none) (sym none_behind) shows_none)
       ∙ followed_none (standing ready put) ∙ stands
@@ -167,5 +167,5 @@ module _ (kind : RowKind) (old ready new : List Node) (path : List ℕ) (c : ℕ
 pub has_its_brackets : (o : Options) (ns : List Node) (path : List ℕ) (c : ℕ) → HasItsBrackets o ns path c
 has_its_brackets o ns path c tree sound at is = has o of_values ns path c tree sound at is
 
-pub wants_memory_alone : (o : Options) (ns : List Node) (path : List ℕ) (c : ℕ) → WantsMemoryAlone o ns path c
+pub wants_memory_alone : (o : Options) (ns : List Node) (path : List ℕ) (c : ℕ) → OnlyOutOfMemory o ns path c
 wants_memory_alone o ns path c tree sound at is = ap (λ v. cond v OutOfMemory MissingBrackets) (has o of_values ns path c tree sound at is)

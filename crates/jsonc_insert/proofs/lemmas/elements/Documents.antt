@@ -21,9 +21,9 @@ use Rattle.jsonc_sound.specs.Rows.{RowKind, of_values, of_properties, closing}
 use Rattle.jsonc_sound.specs.SoundTrees.{SoundTree}
 use Rattle.jsonc_sound.specs.Spaces.{is_bare_leaf, first_printed, meet}
 use Rattle.jsonc_sound.specs.TreeChanges.{ElementChanged, DocumentChanged, in_root}
-use Rattle.jsonc_sound.proofs.Apart.{value_alone, value_leaves}
+use Rattle.jsonc_sound.proofs.NodesAlone.{value_alone, value_leaves}
 use Rattle.jsonc_sound.proofs.FirstNodes.{here, over, beyond, meets_first, none_changed, no_element}
-use Rattle.jsonc_sound.proofs.GivingWay.{values_marks}
+use Rattle.jsonc_sound.proofs.ReplacedStretches.{values_marks}
 use Rattle.jsonc_sound.proofs.HeldValues.{document_held}
 use Rattle.jsonc_sound.proofs.Leaves.{parted_leaves, last_serves}
 use Rattle.jsonc_sound.proofs.LinesLeft.{row_lines}
@@ -35,7 +35,7 @@ use Rattle.jsonc_sound.proofs.SoundTrees.{kept_where_none_meet}
 use Rattle.jsonc_sound.proofs.Spaces.{last_of, serves_unless, stretch_no_word}
 use Rattle.jsonc_edit.proofs.OneValue.{document_once}
 use Rattle.jsonc_edit.specs.multiline.Laws.{bracketed}
-use Rattle.jsonc_insert.specs.elements.Coming.{ElementComes, comes}
+use Rattle.jsonc_insert.specs.elements.Coming.{ElementInserted, comes}
 use Rattle.jsonc_insert.specs.elements.Laws.{GainsMarks}
 use Rattle.jsonc_insert.proofs.lemmas.elements.Marked.{marks_then, new_marks}
 use Rattle.jsonc_insert.proofs.lemmas.elements.Rows.{IsRow}
@@ -127,10 +127,10 @@ module _ (o : Options) (kind : RowKind) where
             }
 
     -- the marks of the element have come
-    pub marks_come : {top : Top} {n : ℕ} (kept : OrderedTree) → ElementComes o top n kept new → marks row ≡ marks kept → (ms : List Mark) → marks_under top ≡ ms → GainsMarks ms n kept t u
+    pub marks_come : {top : Top} {n : ℕ} (kept : OrderedTree) → ElementInserted o top n kept new → marks row ≡ marks kept → (ms : List Mark) → marks_under top ≡ ms → GainsMarks ms n kept t u
     marks_come {top} kept e was ms literals = by e refl was
       where
-        by : {n : ℕ} {k now : OrderedTree} → ElementComes o top n k now → marks new ≡ marks now → marks row ≡ marks k → GainsMarks ms n k t u
+        by : {n : ℕ} {k now : OrderedTree} → ElementInserted o top n k now → marks new ≡ marks now → marks row ≡ marks k → GainsMarks ms n k t u
         by (comes front back led behind gap c takes none_comes w g) is had =
             let d = values_marks t (bracketed kind row) (bracketed kind new) path u changed in
             record {

@@ -15,9 +15,9 @@ use Rattle.jsonc_sound.specs.TriviaChanges.{AreTrivia, leaves_then}
 use Rattle.jsonc_sound.proofs.Entries.{blanks_trivia}
 use Rattle.jsonc_sound.proofs.FirstNodes.{value_of_element}
 use Rattle.jsonc_sound.proofs.JoinedRows.{joined_items, parted_items}
-use Rattle.jsonc_sound.proofs.LostEntries.{item_taken}
-use Rattle.jsonc_insert.specs.elements.Coming.{FirstLinesLeave, none_first, leave_first, LastLinesLeave, none_last, leave_last, BlankLinesLeave, Gap, nothing, a_space, a_line, CommaComes, none_comes, one_comes, GoesOn, elements_follow, none_follow, comma_last, ElementComes, comes}
-use Rattle.jsonc_insert.specs.elements.Laws.{ItemComes, this_item, later_item, item_count}
+use Rattle.jsonc_sound.proofs.RemovedEntries.{item_taken}
+use Rattle.jsonc_insert.specs.elements.Coming.{FirstLinesLeave, none_first, leave_first, LastLinesLeave, none_last, leave_last, BlankLinesLeave, Gap, nothing, a_space, a_line, CommaInserted, none_comes, one_comes, GoesOn, elements_follow, none_follow, comma_last, ElementInserted, comes}
+use Rattle.jsonc_insert.specs.elements.Laws.{ItemInserted, this_item, later_item, item_count}
 use Rattle.jsonc_insert.proofs.lemmas.elements.Stretches.{count_one}
 
 pub over : (content : Content) → IsTrue (is_trivia content) → IsTrue (is_passed_over content)
@@ -27,7 +27,7 @@ over (Content.comment s) h = refl
 over content h = cc
 
 -- the new value behind these
-comes_behind : (v : Plain) (vs ws : Items) → ItemComes v (item_count vs) (items_then vs ws) (items_then vs (item v ws))
+comes_behind : (v : Plain) (vs ws : Items) → ItemInserted v (item_count vs) (items_then vs ws) (items_then vs (item v ws))
 comes_behind v no_items ws = this_item
 comes_behind v (item w vs) ws = later_item (comes_behind v vs ws)
 
@@ -74,7 +74,7 @@ module _ (o : Options) where
   first_with_comma (values.pass_to_items p g) = values.pass_to_items p (comma_before g)
   first_with_comma (values.one_item h g) = values.one_item h (comma_before g)
 
-  led_items : {front led : OrderedTree} {vs : Items} → CommaComes front led → ItemsOf o front vs → ItemsOf o led vs
+  led_items : {front led : OrderedTree} {vs : Items} → CommaInserted front led → ItemsOf o front vs → ItemsOf o led vs
   led_items none_comes g = g
   led_items (one_comes front last beside el be) g =
       let rest : OrderedTree = leaves_then beside none in
@@ -86,12 +86,12 @@ module _ (o : Options) where
   behind_items (none_follow gap w n) g = gap_items w g
   behind_items (comma_last t n) g = comma_before g
 
-  pub items_come : {top : Top} {i : ℕ} {row new : OrderedTree} {v : Plain} {us : Items} → ElementComes o top i row new → HasValue o top v → ItemsOf o row us → (ws : Items) × ItemComes v i us ws × ItemsOf o new ws
+  pub items_come : {top : Top} {i : ℕ} {row new : OrderedTree} {v : Plain} {us : Items} → ElementInserted o top i row new → HasValue o top v → ItemsOf o row us → (ws : Items) × ItemInserted v i us ws × ItemsOf o new ws
   items_come {v = v} (comes front back led behind gap c t n w g) h r =
       let d = parted_items o front back r in
-      let number : ItemComes v (element_count front) (items_then d.0 d.1) (items_then d.0 (item v d.1)) =
-      subst (λ j. ItemComes v j (items_then d.0 d.1) (items_then d.0 (item v d.1))) (counted d.2) (comes_behind v d.0 d.1) in (
+      let number : ItemInserted v (element_count front) (items_then d.0 d.1) (items_then d.0 (item v d.1)) =
+      subst (λ j. ItemInserted v j (items_then d.0 d.1) (items_then d.0 (item v d.1))) (counted d.2) (comes_behind v d.0 d.1) in (
         items_then d.0 (item v d.1),
-        subst (λ l. ItemComes v (element_count front) l (items_then d.0 (item v d.1))) (sym d.4) number,
+        subst (λ l. ItemInserted v (element_count front) l (items_then d.0 (item v d.1))) (sym d.4) number,
         joined_items o (led_items c d.2) (gap_items w (values.one_item h (behind_items g d.3))),
       )

@@ -9,8 +9,8 @@ use Rattle.jsonc_sound.specs.Shape.{token_then}
 use Rattle.jsonc_sound.specs.Marks.{Mark, marks, marks_of}
 use Rattle.jsonc_sound.specs.MarkChanges.{AreBlanks, marks_under}
 use Rattle.jsonc_sound.specs.TriviaChanges.{leaves_then}
-use Rattle.jsonc_sound.proofs.GivingWay.{marks_join}
-use Rattle.jsonc_insert.specs.elements.Coming.{FirstLinesLeave, none_first, leave_first, LastLinesLeave, none_last, leave_last, BlankLinesLeave, Gap, nothing, a_space, a_line, CommaComes, none_comes, one_comes, GoesOn, elements_follow, none_follow, comma_last, ElementComes, comes}
+use Rattle.jsonc_sound.proofs.ReplacedStretches.{marks_join}
+use Rattle.jsonc_insert.specs.elements.Coming.{FirstLinesLeave, none_first, leave_first, LastLinesLeave, none_last, leave_last, BlankLinesLeave, Gap, nothing, a_space, a_line, CommaInserted, none_comes, one_comes, GoesOn, elements_follow, none_follow, comma_last, ElementInserted, comes}
 use Rattle.jsonc_insert.specs.elements.Laws.{HasAll, MarksComeIn, no_nodes, stays, comes_in}
 
 -- of one row after another
@@ -48,7 +48,7 @@ gap_marks row nothing = refl
 gap_marks row a_space = refl
 gap_marks row (a_line i) = refl
 
-pub led_marks : {front led : OrderedTree} → CommaComes front led → marks led ≡ marks front
+pub led_marks : {front led : OrderedTree} → CommaInserted front led → marks led ≡ marks front
 led_marks none_comes = refl
 led_marks (one_comes front last beside el be) =
     let rest : OrderedTree = leaves_then beside none in
@@ -62,7 +62,7 @@ behind_marks {rest = rest} (none_follow gap w n) = gap_marks rest w
 behind_marks (comma_last t n) = refl
 
 -- where an element comes its marks do
-pub new_marks : (o : Options) (top : Top) (front back led behind : OrderedTree) (gap : List Content) {b : Bool} → CommaComes front led → Gap b gap → GoesOn o back behind
+pub new_marks : (o : Options) (top : Top) (front back led behind : OrderedTree) (gap : List Content) {b : Bool} → CommaInserted front led → Gap b gap → GoesOn o back behind
     → marks (followed_by led (leaves_then gap (more top.content top.below behind))) ≡ marks front ++ (marks_under top ++ marks back)
 new_marks o top front back led behind gap c w g =
     let rest : OrderedTree = more top.content top.below behind in
@@ -87,7 +87,7 @@ all_then no_nodes b = b
 all_then (stays a) b = stays (all_then a b)
 all_then (comes_in a) b = comes_in (all_then a b)
 
-all_led : {front led : OrderedTree} → CommaComes front led → HasAll front led
+all_led : {front led : OrderedTree} → CommaInserted front led → HasAll front led
 all_led (none_comes {row = row}) = all_same row
 all_led (one_comes front last beside el be) = all_then (all_same front) (stays (comes_in (all_same (leaves_then beside none))))
 
@@ -101,5 +101,5 @@ all_behind {rest = rest} (elements_follow gap w n) = comes_in (all_gap w (all_sa
 all_behind {rest = rest} (none_follow gap w n) = all_gap w (all_same rest)
 all_behind {rest = rest} (comma_last t n) = comes_in (all_same rest)
 
-pub all_stay : {o : Options} {top : Top} {i : ℕ} {row new : OrderedTree} → ElementComes o top i row new → HasAll row new
+pub all_stay : {o : Options} {top : Top} {i : ℕ} {row new : OrderedTree} → ElementInserted o top i row new → HasAll row new
 all_stay (comes front back led behind gap c t n w g) = all_then (all_led c) (all_gap w (comes_in (all_behind g)))

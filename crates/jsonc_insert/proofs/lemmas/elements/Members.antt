@@ -13,13 +13,13 @@ use Rattle.jsonc_sound.specs.TreeChanges.{property_of}
 use Rattle.jsonc_sound.specs.TriviaChanges.{AreTrivia, leaves_then}
 use Rattle.jsonc_sound.proofs.Entries.{blanks_trivia}
 use Rattle.jsonc_sound.proofs.JoinedRows.{joined_members, parted_members}
-use Rattle.jsonc_sound.proofs.LostEntries.{member_taken}
-use Rattle.jsonc_insert.specs.elements.Coming.{FirstLinesLeave, none_first, leave_first, LastLinesLeave, none_last, leave_last, BlankLinesLeave, Gap, nothing, a_space, a_line, CommaComes, none_comes, one_comes, GoesOn, elements_follow, none_follow, comma_last, ElementComes, comes}
-use Rattle.jsonc_insert.specs.elements.Members.{MemberComes, this_member, later_member, member_count}
+use Rattle.jsonc_sound.proofs.RemovedEntries.{member_taken}
+use Rattle.jsonc_insert.specs.elements.Coming.{FirstLinesLeave, none_first, leave_first, LastLinesLeave, none_last, leave_last, BlankLinesLeave, Gap, nothing, a_space, a_line, CommaInserted, none_comes, one_comes, GoesOn, elements_follow, none_follow, comma_last, ElementInserted, comes}
+use Rattle.jsonc_insert.specs.elements.Members.{MemberInserted, this_member, later_member, member_count}
 use Rattle.jsonc_insert.proofs.lemmas.elements.Items.{over}
 
 -- the new property behind these
-comes_behind : (name : List ℕ) (v : Plain) (ms ns : Members) → MemberComes name v (member_count ms) (members_then ms ns) (members_then ms (member name v ns))
+comes_behind : (name : List ℕ) (v : Plain) (ms ns : Members) → MemberInserted name v (member_count ms) (members_then ms ns) (members_then ms (member name v ns))
 comes_behind name v no_members ns = this_member
 comes_behind name v (member n w ms) ns = later_member (comes_behind name v ms ns)
 
@@ -66,7 +66,7 @@ module _ (o : Options) where
   first_with_comma (values.pass_to_members p g) = values.pass_to_members p (comma_before g)
   first_with_comma (values.one_member h g) = values.one_member h (comma_before g)
 
-  led_members : {front led : OrderedTree} {ms : Members} → CommaComes front led → MembersOf o front ms → MembersOf o led ms
+  led_members : {front led : OrderedTree} {ms : Members} → CommaInserted front led → MembersOf o front ms → MembersOf o led ms
   led_members none_comes g = g
   led_members (one_comes front last beside el be) g =
       let rest : OrderedTree = leaves_then beside none in
@@ -78,13 +78,13 @@ module _ (o : Options) where
   behind_members (none_follow gap w n) g = gap_members w g
   behind_members (comma_last t n) g = comma_before g
 
-  pub members_come : {held : OrderedTree} {i : ℕ} {row new : OrderedTree} {name : List ℕ} {v : Plain} {ls : Members} → ElementComes o (property_of held) i row new → PropertyOf o held name v → MembersOf o row ls
-      → (ns : Members) × MemberComes name v i ls ns × MembersOf o new ns
+  pub members_come : {held : OrderedTree} {i : ℕ} {row new : OrderedTree} {name : List ℕ} {v : Plain} {ls : Members} → ElementInserted o (property_of held) i row new → PropertyOf o held name v → MembersOf o row ls
+      → (ns : Members) × MemberInserted name v i ls ns × MembersOf o new ns
   members_come {name = name} {v = v} (comes front back led behind gap c t n w g) h r =
       let d = parted_members o front back r in
       let all : Members = members_then d.0 (member name v d.1) in
-      let number : MemberComes name v (element_count front) (members_then d.0 d.1) all = subst (λ j. MemberComes name v j (members_then d.0 d.1) all) (members_counted d.2) (comes_behind name v d.0 d.1) in (
+      let number : MemberInserted name v (element_count front) (members_then d.0 d.1) all = subst (λ j. MemberInserted name v j (members_then d.0 d.1) all) (members_counted d.2) (comes_behind name v d.0 d.1) in (
         all,
-        subst (λ l. MemberComes name v (element_count front) l all) (sym d.4) number,
+        subst (λ l. MemberInserted name v (element_count front) l all) (sym d.4) number,
         joined_members o (led_members c d.2) (gap_members w (values.one_member h (behind_members g d.3))),
       )

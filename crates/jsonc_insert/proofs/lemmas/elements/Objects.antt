@@ -15,7 +15,7 @@ use Rattle.jsonc_sound.specs.Rows.{of_properties, opening, closing}
 use Rattle.jsonc_sound.specs.SoundTrees.{SoundTree}
 use Rattle.jsonc_sound.specs.TreeChanges.{DocumentChanged}
 use Rattle.jsonc_edit.specs.Paths.{IsAt}
-use Rattle.jsonc_edit.specs.Put.{Prepared}
+use Rattle.jsonc_edit.specs.Put.{Extends}
 use Rattle.jsonc_edit.specs.Writing.{FitsLayout, IsIndent}
 use Rattle.jsonc_edit.specs.multiline.Laws.{bracketed}
 use Rattle.jsonc_edit.specs.multiline.Reflows.{SpreadsOut}
@@ -24,33 +24,33 @@ use Rattle.jsonc_edit.proofs.lemmas.multiline.OnLines.{standing}
 use Rattle.jsonc_insert.specs.Planned.{elements, has_brackets, planned}
 use Rattle.jsonc_insert.specs.Trimmed.{trimmed}
 use Rattle.jsonc_insert.specs.declared.plan.Plan.{Plan}
-use Rattle.jsonc_insert.proofs.Trimming.{has_two, trimmed_all, trimmed_brackets, trimmed_elements, trimmed_once}
-use Rattle.jsonc_insert.specs.elements.Coming.{ElementComes}
-use Rattle.jsonc_insert.specs.elements.Members.{PropertyComesAt}
+use Rattle.jsonc_insert.proofs.TrimmedRows.{has_two, trimmed_all, trimmed_brackets, trimmed_elements, trimmed_once}
+use Rattle.jsonc_insert.specs.elements.Coming.{ElementInserted}
+use Rattle.jsonc_insert.specs.elements.Members.{PropertyInsertedAt}
 use Rattle.jsonc_insert.proofs.lemmas.elements.Blanks as blanks
 use Rattle.jsonc_insert.proofs.lemmas.elements.Containers as containers
 use Rattle.jsonc_insert.proofs.lemmas.elements.Containers.{ContainerRow}
-use Rattle.jsonc_insert.proofs.lemmas.elements.Filling as filling
-use Rattle.jsonc_insert.proofs.lemmas.elements.Filling.{Filled}
+use Rattle.jsonc_insert.proofs.lemmas.elements.PlannedRows as filling
+use Rattle.jsonc_insert.proofs.lemmas.elements.PlannedRows.{Filled}
 use Rattle.jsonc_insert.proofs.lemmas.elements.Opened as opened
 use Rattle.jsonc_insert.proofs.lemmas.elements.Opened.{filled_stands, filled_there, one_filled, Parted, parted_filled, spread_count}
 use Rattle.jsonc_insert.proofs.lemmas.elements.Plans as plans
 use Rattle.jsonc_insert.proofs.lemmas.elements.Rows.{IsRow, kept_row}
-use Rattle.jsonc_insert.proofs.lemmas.elements.Spread.{spread_row}
-use Rattle.jsonc_insert.proofs.lemmas.elements.Standing.{standing_count}
+use Rattle.jsonc_insert.proofs.lemmas.elements.SpreadObjects.{spread_row}
+use Rattle.jsonc_insert.proofs.lemmas.elements.RowsOfTrees.{standing_count}
 
 -- The property was put so: the leaves were made that put the object on several lines; then the property, with what comes beside it, for that row without blank
--- lines inside its brackets; and then the row of the object gave way to the new one.
+-- lines inside its brackets; and then the row of the object was replaced by the new one.
 pub record PropertyFilled (old new : List Node) (c i : ℕ) (name : List ℕ) (v : Plain) (m : ℕ) (layout : Layout) (outer : List ℕ) : Type 0 where
   pub lined : List Node
   pub lines : List ℕ
-  pub first : Prepared old lined
+  pub first : Extends old lined
   pub fills : AreFilled old lined (opened.opened old c) lines
   pub once : EachOnce lines
   pub brackets : has_brackets lined lines ≡ true
   pub ready : List Node
   pub row : List ℕ
-  pub second : Prepared lined ready
+  pub second : Extends lined ready
   pub filled : Filled ready layout outer (planned lined true layout.trailing_commas (trimmed lined lines) i) (laid_property layout name v) m (trimmed lined lines) row
   pub join : CanJoin ready c 0 (length (children_at old c)) row
   pub put : Splices ready new c 0 (length (children_at old c)) row
@@ -158,18 +158,18 @@ module _ (o : Options) (old new : List Node) (path : List ℕ) (c i : ℕ) (name
   row_stands : standing f.ready f.row ≡ token_then (opening of_properties) (followed_by new_row (token_then (closing of_properties) none))
   row_stands = filling.row_stands o of_properties f.lined f.ready f.first.tree f.second x y left opens closes row_now layout outer true plan fits (laid_property layout name v) m f.row filled kept_there
 
-  comes_into : ElementComes o (laid_property layout name v) (min i (element_count (standing old a.inner))) (standing f.lined left) new_row
+  comes_into : ElementInserted o (laid_property layout name v) (min i (element_count (standing old a.inner))) (standing f.lined left) new_row
   comes_into =
       filling.comes_into o of_properties f.lined f.ready f.first.tree f.second x y left opens closes row_now layout outer true plan fits (laid_property layout name v) m f.row filled kept_there fits_layout outer_fits (λ h. refl)
       (min i (element_count (standing old a.inner))) (front_count ∙ ap (min i) same_count)
 
-  both : Prepared old f.ready
+  both : Extends old f.ready
   both = record { keeps = Keeps-then (length old) old f.lined f.ready f.first.keeps (Keeps-fewer (length old) (length f.lined) f.lined f.ready f.first.keeps.len f.second.keeps); tree = f.second.tree }
 
   changed : DocumentChanged (bracketed of_properties (standing old a.inner)) (bracketed of_properties new_row) path (ordered_tree old 0) (ordered_tree new 0)
   changed = containers.row_given of_properties old f.ready new path c f.row (standing old a.inner) new_row tree both there is a.top at f.tree f.join f.put row_stands
 
-  pub property_comes_at : PropertyComesAt o path i name v (ordered_tree old 0) (ordered_tree new 0)
+  pub property_comes_at : PropertyInsertedAt o path i name v (ordered_tree old 0) (ordered_tree new 0)
   property_comes_at = record {
     layout = layout;
     row = standing old a.inner;

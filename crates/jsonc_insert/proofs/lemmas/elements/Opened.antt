@@ -14,16 +14,16 @@ use Rattle.jsonc_sound.specs.Shape.{DocumentShaped}
 use Rattle.jsonc_sound.specs.Leaving.{element_count}
 use Rattle.jsonc_sound.specs.Rows.{RowKind}
 use Rattle.jsonc_edit.specs.Changes.{row_below}
-use Rattle.jsonc_edit.specs.Put.{Prepared}
+use Rattle.jsonc_edit.specs.Put.{Extends}
 use Rattle.jsonc_edit.proofs.FittingIndents.{indents_fit}
-use Rattle.jsonc_edit.proofs.Kept.{row_kept}
+use Rattle.jsonc_edit.proofs.NodesKept.{row_kept}
 use Rattle.jsonc_edit.specs.multiline.Lines.{Lines, between, indent_if_any, lines_for, on_line, parts, spread_row, without_back, without_front}
 use Rattle.jsonc_edit.specs.multiline.Multiline.{has_line_end}
 use Rattle.jsonc_edit.specs.multiline.Reflows.{has_newline, Reflows, ended, kept, gone, line, line_end, SpreadsOut, reflows}
 use Rattle.jsonc_edit.specs.multiline.Slots.{Slot, stays, comes, AreFilled, no_more, stayed, came, row_in}
 use Rattle.jsonc_edit.proofs.lemmas.multiline.OnLines.{AllFit, bare_below, on_lines_fit, row_newline, row_reflows, standing, standing_newline}
 use Rattle.jsonc_insert.proofs.lemmas.elements.Containers.{ContainerRow}
-use Rattle.jsonc_insert.proofs.lemmas.elements.Fits.{indent_joined}
+use Rattle.jsonc_insert.proofs.lemmas.elements.FittingLayout.{indent_joined}
 
 -- the places of a container's row on several lines: as they are, where a line ends among them already
 abbrev pub enclosed : List ℕ → List Slot → List Slot
@@ -66,7 +66,7 @@ module _ (old ready : List Node) where
   pub one_filled : (n : ℕ) {row : List ℕ} → AreFilled old ready (stays n ∷ []) row → row ≡ n ∷ []
   one_filled n (stayed no_more) = refl
 
-  module _ (tree : IsTree old) (p : Prepared old ready) where
+  module _ (tree : IsTree old) (p : Extends old ready) where
     pub filled_stands : {slots : List Slot} {row : List ℕ} → AreFilled old ready slots row → AllFit old slots → standing ready row ≡ row_in old slots
     filled_stands no_more h = refl
     filled_stands (stayed {n = n} {slots = slots} {row = row} f) h =
@@ -144,7 +144,7 @@ module _ (o : Options) (kind : RowKind) (old : List Node) (c : ℕ) (tree : IsTr
       by false = ap (λ n. stays n ∷ (spread ++ stays (slice_index kids (length kids - 1)) ∷ [])) first_is ∙ ap (λ n. stays x ∷ (spread ++ stays n ∷ [])) last_is
 
   row_there : All (λ n. n < length old) (x ∷ (a.inner ++ y ∷ []))
-  row_there = subst (All (λ n. n < length old)) a.children (All-from_get_or (λ n. n < length old) kids 0 (λ k h. tree.there c k h))
+  row_there = subst (All (λ n. n < length old)) a.children (All-from_get_or (λ n. n < length old) kids 0 (λ k h. tree.in_tree c k h))
 
   all_front : (P : ℕ → Type 0) (xs ys : List ℕ) → All P (xs ++ ys) → All P xs
   all_front P [] ys all = All-nil P

@@ -10,11 +10,11 @@ use Rattle.jsonc_tree.proofs.Over.{over_up}
 use Rattle.jsonc_layout.specs.nodes.Kinds.{is_element, is_element_at}
 use Rattle.jsonc_layout.specs.nodes.Properties.{value_at}
 use Rattle.jsonc_layout.specs.nodes.Siblings.{elements_at}
-use Rattle.jsonc_layout.proofs.lemmas.nodes.Held.{IsAlike, held_alike, held_in, value_is_held}
-use Rattle.jsonc_layout.proofs.lemmas.nodes.Held as kinds
+use Rattle.jsonc_layout.proofs.lemmas.nodes.PropertyValues.{IsAlike, held_alike, held_in, value_is_held}
+use Rattle.jsonc_layout.proofs.lemmas.nodes.PropertyValues as kinds
 use Rattle.jsonc_edit.specs.Paths.{IsElementOf, StepsTo, LeadsTo, itself, step, IsAt}
 use Rattle.jsonc_edit.proofs.FittingNodes.{over_there}
-use Rattle.jsonc_edit.proofs.Kept.{filter_same}
+use Rattle.jsonc_edit.proofs.NodesKept.{filter_same}
 use Rattle.jsonc_edit.proofs.Uniqueness.{element_parent, leads_over}
 use Rattle.jsonc_insert.specs.Laws.{KeepsNodesBut}
 use Rattle.jsonc_insert.proofs.Numbering.{changes_one_row, takes_number}
@@ -30,7 +30,7 @@ module _ (old new : List Node) (c : ℕ) (tree : IsTree old) (k : KeepsNodesBut 
   row_stays : (x : ℕ) → x < length old → x ≢ c → elements_at new x ≡ elements_at old x
   row_stays x there ne =
       ap (filter (is_element_at new)) (k.children x there ne)
-      ∙ filter_same (is_element_at new) (is_element_at old) (children_at old x) (λ j h. ap is_element (k.content (slice_index (children_at old x) j) (tree.there x j h)))
+      ∙ filter_same (is_element_at new) (is_element_at old) (children_at old x) (λ j h. ap is_element (k.content (slice_index (children_at old x) j) (tree.in_tree x j h)))
 
   element_stays : (x j q : ℕ) → x ≢ c → IsElementOf old x j q → IsElementOf new x j q
   element_stays x j q ne e = ap (λ l. slice_get l j) (row_stays x (parent_there old tree q x (element_parent old tree x j q e)).1 ne) ∙ e
@@ -38,7 +38,7 @@ module _ (old new : List Node) (c : ℕ) (tree : IsTree old) (k : KeepsNodesBut 
   alike : (r : ℕ) → All (IsAlike old new) (children_at old r)
   alike r =
       All-from_get_or (IsAlike old new) (children_at old r) 0
-      (λ j h. let n = slice_index (children_at old r) j in kinds.same_kind (content_at new n) (content_at old n) (k.content n (tree.there r j h)))
+      (λ j h. let n = slice_index (children_at old r) j in kinds.same_kind (content_at new n) (content_at old n) (k.content n (tree.in_tree r j h)))
 
   held_stays : (r q : ℕ) → r < length old → content_at old r ≡ property → r ≢ c → value_at old r ≡ Some q → value_at new r ≡ Some q
   held_stays r q there is ne e =

@@ -14,7 +14,7 @@ use Rattle.jsonc_tree.specs.Changes.{EachOnce}
 use Rattle.jsonc_tree.specs.Content.{Content, token}
 use Rattle.jsonc_tree.specs.OrderedTree.{OrderedTree, none, more, followed_by}
 use Rattle.jsonc_tree.specs.Tree.{Node, content_at, IsTree}
-use Rattle.jsonc_layout.specs.nodes.Kinds.{is_beside, is_beside_at, is_element, is_element_at, is_newline, is_trivia, is_whitespace, is_comma_at, is_comma, is_blank_at}
+use Rattle.jsonc_layout.specs.nodes.Kinds.{is_inline_trivia, is_inline_trivia_at, is_element, is_element_at, is_newline, is_trivia, is_whitespace, is_comma_at, is_comma, is_blank_at}
 use Rattle.jsonc_layout.specs.nodes.Siblings.{is_no_newline_at}
 use Rattle.jsonc_layout.specs.lines.Breadth.{last_element}
 use Rattle.jsonc_sound.specs.Alone.{StretchAlone}
@@ -28,11 +28,11 @@ use Rattle.jsonc_insert.specs.Trimmed.{last_blanks, last_spaces}
 use Rattle.jsonc_insert.specs.declared.plan.Gap.TheVariants.{Nothing}
 use Rattle.jsonc_insert.specs.declared.plan.Plan.{Plan}
 use Rattle.jsonc_insert.proofs.Counting.{found_last, planned_count}
-use Rattle.jsonc_insert.proofs.Standing.{stands_inside}
+use Rattle.jsonc_insert.proofs.BeforeTheBracket.{stands_inside}
 use Rattle.jsonc_edit.proofs.lemmas.multiline.OnLines.{standing}
 use Rattle.jsonc_insert.specs.elements.Coming.{takes_element}
 use Rattle.jsonc_insert.proofs.lemmas.elements.Rows.{IsRow}
-use Rattle.jsonc_insert.proofs.lemmas.elements.Standing.{AllAre, comma_first, standing_comma, standing_count, standing_then}
+use Rattle.jsonc_insert.proofs.lemmas.elements.RowsOfTrees.{AllAre, comma_first, standing_comma, standing_count, standing_then}
 use Rattle.jsonc_insert.proofs.lemmas.elements.Stretches.{comma_past, none_comes_first, without_elements}
 
 -- what stands last behind one stretch and then another
@@ -40,12 +40,12 @@ pub last_then : (last : Last) (s t : OrderedTree) → last_behind last (followed
 last_then last none t = refl
 last_then last (more content below s) t = last_then (last_after last content) s t
 
-beside_last : (last : Last) (content : Content) → is_beside content ≡ true → last_after last content ≡ last
+beside_last : (last : Last) (content : Content) → is_inline_trivia content ≡ true → last_after last content ≡ last
 beside_last last (Content.whitespace s) h = refl
 beside_last last (Content.comment s) h = refl
 beside_last last content h = cc
 
-beside_trivia : (content : Content) → is_beside content ≡ true → IsTrue (is_trivia content)
+beside_trivia : (content : Content) → is_inline_trivia content ≡ true → IsTrue (is_trivia content)
 beside_trivia (Content.whitespace s) h = refl
 beside_trivia (Content.comment s) h = refl
 beside_trivia content h = cc
@@ -65,16 +65,16 @@ through_node row g k low high =
 
 module _ (ns : List Node) where
   -- whitespace and comments leave what stands last, and no comma is among them
-  beside_stays : (last : Last) (xs : List ℕ) → AllAre (is_beside_at ns) xs → last_behind last (standing ns xs) ≡ last
+  beside_stays : (last : Last) (xs : List ℕ) → AllAre (is_inline_trivia_at ns) xs → last_behind last (standing ns xs) ≡ last
   beside_stays last [] all = refl
   beside_stays last (n ∷ xs) all =
-      ap (λ l. last_behind l (standing ns xs)) (beside_last last (content_at ns n) (All-head (λ m. is_beside_at ns m ≡ true) n xs all)) ∙ beside_stays last xs (All-tail (λ m. is_beside_at ns m ≡ true) n xs all)
+      ap (λ l. last_behind l (standing ns xs)) (beside_last last (content_at ns n) (All-head (λ m. is_inline_trivia_at ns m ≡ true) n xs all)) ∙ beside_stays last xs (All-tail (λ m. is_inline_trivia_at ns m ≡ true) n xs all)
 
-  beside_no_comma : (xs ys : List ℕ) → AllAre (is_beside_at ns) xs → leaving.comma_comes (standing ns (xs ++ ys)) ≡ leaving.comma_comes (standing ns ys)
+  beside_no_comma : (xs ys : List ℕ) → AllAre (is_inline_trivia_at ns) xs → leaving.comma_comes (standing ns (xs ++ ys)) ≡ leaving.comma_comes (standing ns ys)
   beside_no_comma [] ys all = refl
   beside_no_comma (n ∷ xs) ys all =
-      comma_past (content_at ns n) (row_below ns n) (standing ns (xs ++ ys)) (beside_trivia (content_at ns n) (All-head (λ m. is_beside_at ns m ≡ true) n xs all))
-      ∙ beside_no_comma xs ys (All-tail (λ m. is_beside_at ns m ≡ true) n xs all)
+      comma_past (content_at ns n) (row_below ns n) (standing ns (xs ++ ys)) (beside_trivia (content_at ns n) (All-head (λ m. is_inline_trivia_at ns m ≡ true) n xs all))
+      ∙ beside_no_comma xs ys (All-tail (λ m. is_inline_trivia_at ns m ≡ true) n xs all)
 
   -- a node behind a row that is no comma brings none
   comma_before : (xs : List ℕ) (y : ℕ) → is_comma_at ns y ≡ false → leaving.comma_comes (standing ns (xs ++ y ∷ [])) ≡ leaving.comma_comes (standing ns xs)
@@ -113,7 +113,7 @@ module _ (o : Options) (kind : RowKind) (ns : List Node) (tree : IsTree ns) (x y
   -- the comma that a plan wants: none where none is due, else directly behind the last element
   pub data CommaAt (p : Plan) : Type 0 where
     none_due : p.comma ≡ None → IsTrue (takes_element (last_behind nothing_yet (standing ns (before p)))) → CommaAt p
-    one_due : (front : List ℕ) (n : ℕ) (mid : List ℕ) → before p ≡ front ++ n ∷ mid → p.comma ≡ Some (length front + 2) → is_element_at ns n ≡ true → AllAre (is_beside_at ns) mid → CommaAt p
+    one_due : (front : List ℕ) (n : ℕ) (mid : List ℕ) → before p ≡ front ++ n ∷ mid → p.comma ≡ Some (length front + 2) → is_element_at ns n ≡ true → AllAre (is_inline_trivia_at ns) mid → CommaAt p
 
   -- what a plan writes behind the element
   pub data Goes (commas : Bool) (p : Plan) : Type 0 where
@@ -260,10 +260,10 @@ module _ (o : Options) (kind : RowKind) (ns : List Node) (tree : IsTree ns) (x y
             get_or-take (prefix_len (is_no_newline_at ns) (slice_range row b (length row))) (slice_range row b (length row)) k 0 (omega (arith, h, on_is))
             ∙ get_or-between row b (length row) k 0 (omega (arith, h, on_short))
 
-        beside_range : (q : ℕ) → b ≤ q → q < past_comments ns row b → is_beside_at ns (slice_index row q) ≡ true
-        beside_range q low high = by (cases_Bool (list_all (is_beside_at ns) on))
+        beside_range : (q : ℕ) → b ≤ q → q < past_comments ns row b → is_inline_trivia_at ns (slice_index row q) ≡ true
+        beside_range q low high = by (cases_Bool (list_all (is_inline_trivia_at ns) on))
           where
-            by : (list_all (is_beside_at ns) on ≡ true) ⊎ (list_all (is_beside_at ns) on ≡ false) → is_beside_at ns (slice_index row q) ≡ true
+            by : (list_all (is_inline_trivia_at ns) on ≡ true) ⊎ (list_all (is_inline_trivia_at ns) on ≡ false) → is_inline_trivia_at ns (slice_index row q) ≡ true
             by (inr off) =
                 let none : past_comments ns row b ≡ b = ap (λ v. b + cond v (length on - last_spaces ns on) 0) off ∙ omega arith in
                 absurd (omega (arith, none, low, high))
@@ -272,36 +272,36 @@ module _ (o : Options) (kind : RowKind) (ns : List Node) (tree : IsTree ns) (x y
                 let k : ℕ = q - b in
                 let h : k < length on = omega (arith, many, low, high) in
                 let same : slice_index on k ≡ slice_index row q = on_at k h ∙ ap (slice_index row) (let z : b + k ≡ q = omega (arith, low) in z) in
-                elim (cases_Bool (is_beside_at ns (slice_index on k))) [
-                  | inl found ↦ sym (ap (is_beside_at ns) same) ∙ found
-                  | inr not_so ↦ absurd (false≢true (sym (list_all_at (is_beside_at ns) on k 0 h not_so) ∙ so))
+                elim (cases_Bool (is_inline_trivia_at ns (slice_index on k))) [
+                  | inl found ↦ sym (ap (is_inline_trivia_at ns) same) ∙ found
+                  | inr not_so ↦ absurd (false≢true (sym (list_all_at (is_inline_trivia_at ns) on k 0 h not_so) ∙ so))
                 ]
 
       from_place : (b : ℕ) → b ≤ past_comments ns row b
       from_place b = omega arith
 
-      last_no_beside : is_beside_at ns y ≡ false
-      last_no_beside = ap is_beside closes
+      last_no_beside : is_inline_trivia_at ns y ≡ false
+      last_no_beside = ap is_inline_trivia closes
 
       -- such a line ends before the last bracket
       before_last : (b : ℕ) → b ≤ length inner + 1 → past_comments ns row b ≤ length inner + 1
       before_last b h =
           elim (cases_lt (length inner + 1) (past_comments ns row b)) [
             | inr low ↦ low
-            | inl high ↦ absurd (false≢true (sym last_no_beside ∙ sym (ap (is_beside_at ns) at_last) ∙ beside_range b (length inner + 1) h high))
+            | inl high ↦ absurd (false≢true (sym last_no_beside ∙ sym (ap (is_inline_trivia_at ns) at_last) ∙ beside_range b (length inner + 1) h high))
           ]
 
       -- what stands between a place and where the line's comments end
-      mid_beside : (b : ℕ) → 2 ≤ b → b ≤ length inner + 1 → AllAre (is_beside_at ns) (slice_range inner (b - 1) (past_comments ns row b - 1))
+      mid_beside : (b : ℕ) → 2 ≤ b → b ≤ length inner + 1 → AllAre (is_inline_trivia_at ns) (slice_range inner (b - 1) (past_comments ns row b - 1))
       mid_beside b low high =
           let p : ℕ = past_comments ns row b in
           let top : p ≤ length inner + 1 = before_last b high in
           let l : length (slice_range inner (b - 1) (p - 1)) ≡ p - 1 - (b - 1) = length-between inner (b - 1) (p - 1) (omega (arith, top)) in
-          All-from_get_or (λ m. is_beside_at ns m ≡ true) (slice_range inner (b - 1) (p - 1)) 0
+          All-from_get_or (λ m. is_inline_trivia_at ns m ≡ true) (slice_range inner (b - 1) (p - 1)) 0
           (λ k h.
           let same : slice_index (slice_range inner (b - 1) (p - 1)) k ≡ slice_index inner (b - 1 + k) = get_or-between inner (b - 1) (p - 1) k 0 (omega (arith, h, l)) in
           let in_row : slice_index inner (b - 1 + k) ≡ slice_index row (b + k) = sym (at (b - 1 + k) (omega (arith, h, l, top))) ∙ ap (slice_index row) (let z : suc (b - 1 + k) ≡ b + k = omega (arith, low) in z) in
-          ap (is_beside_at ns) (same ∙ in_row) ∙ beside_range b (b + k) (omega arith) (omega (arith, h, l, low)))
+          ap (is_inline_trivia_at ns) (same ∙ in_row) ∙ beside_range b (b + k) (omega arith) (omega (arith, h, l, low)))
 
       -- the front of the row through the node before a place
       front_through : (b : ℕ) → 2 ≤ b → b ≤ length inner + 1 → take (past_comments ns row b - 1) inner ≡ take (b - 2) inner ++ slice_index row (b - 1) ∷ slice_range inner (b - 1) (past_comments ns row b - 1)

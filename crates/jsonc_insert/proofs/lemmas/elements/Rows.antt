@@ -32,7 +32,7 @@ use Rattle.jsonc_sound.proofs.RowParts.{beside_trivia, leaves_followed}
 use Rattle.jsonc_sound.proofs.SeamStretches.{followed_joined, joined_stretch, last_is, parted_stretch}
 use Rattle.jsonc_sound.proofs.Spaces.{Ends, last_of, serves_unless, stretch_no_word}
 use Rattle.jsonc_edit.specs.multiline.Reflows.{has_newline}
-use Rattle.jsonc_insert.specs.elements.Coming.{FirstLinesLeave, none_first, leave_first, LastLinesLeave, none_last, leave_last, BlankLinesLeave, Gap, nothing, a_space, a_line, CommaComes, none_comes, one_comes, takes_element, GoesOn, elements_follow, none_follow, comma_last, ElementComes, comes}
+use Rattle.jsonc_insert.specs.elements.Coming.{FirstLinesLeave, none_first, leave_first, LastLinesLeave, none_last, leave_last, BlankLinesLeave, Gap, nothing, a_space, a_line, CommaInserted, none_comes, one_comes, takes_element, GoesOn, elements_follow, none_follow, comma_last, ElementInserted, comes}
 use Rattle.jsonc_insert.proofs.lemmas.elements.Stretches.{and_false, behind_comma, ends_not_bare, false_and, first_comma, first_part, gap_ends, gap_first, gap_stretch, stretch_without, takes_stands, trivia_anywhere, trivia_first, without_elements}
 
 newline_ends : (k : CstNewlineKind) (n : Option ℕ) → Ends (or_else (first_char (Content.newline k)) n)
@@ -171,7 +171,7 @@ module _ (o : Options) (kind : RowKind) where
     lines : LinesEndLoosely true e led
     ends : LeavesEnd o (leaves led) None
 
-  leads : (e : Bool) {front led : OrderedTree} {mid : Last} → CommaComes front led → StretchAlone o kind nothing_yet front mid → LinesEndLoosely true e front → LeavesEnd o (leaves front) None → Leads e led
+  leads : (e : Bool) {front led : OrderedTree} {mid : Last} → CommaInserted front led → StretchAlone o kind nothing_yet front mid → LinesEndLoosely true e front → LeavesEnd o (leaves front) None → Leads e led
   leads e {mid = mid} none_comes g l h = record { to = mid; stretch = g; lines = l; ends = h }
   leads e (one_comes front last beside el be) g l h =
       let rest : OrderedTree = leaves_then beside none in
@@ -240,7 +240,7 @@ module _ (o : Options) (kind : RowKind) where
     one_ends : LeavesEnd o (leaves one) None
     one_ends = subst (λ l. LeavesEnd o (own_leaf top.content ++ l) None) (sym (append-nil (leaves top.below))) whole.ends
 
-    pub new_row : {i : ℕ} {row new : OrderedTree} → ElementComes o top i row new → IsRow o kind row → IsRow o kind new
+    pub new_row : {i : ℕ} {row new : OrderedTree} → ElementInserted o top i row new → IsRow o kind row → IsRow o kind new
     new_row (comes front back led behind gap c t n w g) r =
         let parts = parted_stretch o kind front back r.stretch in
         let lines = parted_loosely true false front back r.lines in

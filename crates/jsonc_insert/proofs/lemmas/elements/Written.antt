@@ -15,17 +15,17 @@ use Rattle.jsonc_sound.specs.Rows.{of_values, closing}
 use Rattle.jsonc_sound.specs.Sound.{HasValue, IsNewValue}
 use Rattle.jsonc_sound.specs.SoundTrees.{SoundTree}
 use Rattle.jsonc_sound.specs.Written.{written}
-use Rattle.jsonc_sound.proofs.Apart.{value_alone, value_leaves}
+use Rattle.jsonc_sound.proofs.NodesAlone.{value_alone, value_leaves}
 use Rattle.jsonc_sound.proofs.AtPath.{held_at_path}
 use Rattle.jsonc_sound.proofs.JoinedRows.{joined_items, parted_items}
 use Rattle.jsonc_sound.proofs.Laid.{laid_as_written}
 use Rattle.jsonc_sound.proofs.LeavesAround.{document_differs}
-use Rattle.jsonc_sound.proofs.LostEntries.{item_taken}
+use Rattle.jsonc_sound.proofs.RemovedEntries.{item_taken}
 use Rattle.jsonc_sound.proofs.RootRows.{loosened}
 use Rattle.jsonc_edit.specs.Writing.{IsWritable}
 use Rattle.jsonc_edit.proofs.Writable.{value_may_stand}
 use Rattle.jsonc_edit.specs.multiline.Laws.{bracketed}
-use Rattle.jsonc_insert.specs.elements.Laws.{ElementComesAt, GainsItem, InsertsElement, IsInserted, item_count, ItemComes, KeepsLeavesOutside, KeepsNodesInside}
+use Rattle.jsonc_insert.specs.elements.Laws.{ElementInsertedAt, InsertsItem, InsertsElement, IsInserted, item_count, ItemInserted, KeepsLeavesOutside, KeepsNodesInside}
 use Rattle.jsonc_insert.proofs.lemmas.elements.Documents.{Texts, marks_come, row_in_document, sound_with_row, texts}
 use Rattle.jsonc_insert.proofs.lemmas.elements.Items.{counted, items_come, kept_items}
 use Rattle.jsonc_insert.proofs.lemmas.elements.Marked.{all_stay, kept_marks}
@@ -53,7 +53,7 @@ outer_items : (o : Options) (row : OrderedTree) {vs : Items} → ItemsOf o row v
 outer_items o row {vs = vs} g =
     values.pass_to_items refl (subst (ItemsOf o (followed_by row bracket)) (items_whole vs) (joined_items o g (values.pass_to_items refl values.no_more_items)))
 
-module _ (o : Options) (path : List ℕ) (i : ℕ) (v : Plain) (t u : OrderedTree) (s : ElementComesAt o path i v t u) (sound : SoundTree o t) (writable : IsWritable o v) where
+module _ (o : Options) (path : List ℕ) (i : ℕ) (v : Plain) (t u : OrderedTree) (s : ElementInsertedAt o path i v t u) (sound : SoundTree o t) (writable : IsWritable o v) where
   whole : IsNewValue o (laid s.layout v) v
   whole = value_may_stand o s.layout v s.fits writable
 
@@ -75,7 +75,7 @@ module _ (o : Options) (path : List ℕ) (i : ℕ) (v : Plain) (t u : OrderedTre
     old : Items
     new : Items
     is : x ≡ Plain.array old
-    comes : ItemComes v (min i (item_count old)) old new
+    comes : ItemInserted v (min i (item_count old)) old new
     has : HasValue o (bracketed of_values s.new) (Plain.array new)
 
   value_gains : (x : Plain) → HasValue o (bracketed of_values s.row) x → Gains x
@@ -86,11 +86,11 @@ module _ (o : Options) (path : List ℕ) (i : ℕ) (v : Plain) (t u : OrderedTre
         old = vs;
         new = d.0;
         is = refl;
-        comes = subst (λ n. ItemComes v (min i n) vs d.0) (sym (counted o was)) d.1;
+        comes = subst (λ n. ItemInserted v (min i n) vs d.0) (sym (counted o was)) d.1;
         has = values.array (outer_items o s.new d.2);
       }
 
-  new_value : (x : Plain) → DocumentValueOf o t (Some x) → (y : Plain) × DocumentValueOf o u (Some y) × GainsItem path i v x y
+  new_value : (x : Plain) → DocumentValueOf o t (Some x) → (y : Plain) × DocumentValueOf o u (Some y) × InsertsItem path i v x y
   new_value x h =
       let held = held_at_path o x h s.changed in
       let g : Gains held.old = value_gains held.old held.had in
@@ -99,7 +99,7 @@ module _ (o : Options) (path : List ℕ) (i : ℕ) (v : Plain) (t u : OrderedTre
 
   is_inserted : IsInserted o path i v t u s
   is_inserted =
-      let both : Texts o of_values s.row s.new path t u s.changed (GainsItem path i v) = texts o of_values s.row s.new path t u s.changed (GainsItem path i v) sound still new_value in
+      let both : Texts o of_values s.row s.new path t u s.changed (InsertsItem path i v) = texts o of_values s.row s.new path t u s.changed (InsertsItem path i v) sound still new_value in
       record {
         before = both.before;
         after = both.after;
@@ -110,11 +110,11 @@ module _ (o : Options) (path : List ℕ) (i : ℕ) (v : Plain) (t u : OrderedTre
         sound = still;
       }
 
-pub inserts_element : (o : Options) (path : List ℕ) (i : ℕ) (v : Plain) (t u : OrderedTree) (s : ElementComesAt o path i v t u) → InsertsElement s
+pub inserts_element : (o : Options) (path : List ℕ) (i : ℕ) (v : Plain) (t u : OrderedTree) (s : ElementInsertedAt o path i v t u) → InsertsElement s
 inserts_element o path i v t u s sound writable = is_inserted o path i v t u s sound writable
 
-pub keeps_outside : (o : Options) (path : List ℕ) (i : ℕ) (v : Plain) (t u : OrderedTree) (s : ElementComesAt o path i v t u) → KeepsLeavesOutside s
+pub keeps_outside : (o : Options) (path : List ℕ) (i : ℕ) (v : Plain) (t u : OrderedTree) (s : ElementInsertedAt o path i v t u) → KeepsLeavesOutside s
 keeps_outside o path i v t u s = document_differs s.changed
 
-pub keeps_inside : (o : Options) (path : List ℕ) (i : ℕ) (v : Plain) (t u : OrderedTree) (s : ElementComesAt o path i v t u) → KeepsNodesInside s
+pub keeps_inside : (o : Options) (path : List ℕ) (i : ℕ) (v : Plain) (t u : OrderedTree) (s : ElementInsertedAt o path i v t u) → KeepsNodesInside s
 keeps_inside o path i v t u s = all_stay s.comes

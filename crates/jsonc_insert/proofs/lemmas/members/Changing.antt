@@ -8,17 +8,17 @@ use Rattle.jsonc_tree.proofs.OrderedTrees.{Shows-unique}
 use Rattle.jsonc_sound.specs.TreeChanges.{DocumentChanged}
 use Rattle.jsonc_edit.specs.Changes.{row_below, top_at, Respliced}
 use Rattle.jsonc_edit.specs.Paths.{IsAt}
-use Rattle.jsonc_edit.specs.Put.{Prepared}
-use Rattle.jsonc_edit.proofs.Kept.{at_kept, over_no_old, top_stays, tree_stays}
+use Rattle.jsonc_edit.specs.Put.{Extends}
+use Rattle.jsonc_edit.proofs.NodesKept.{at_kept, over_no_old, top_stays, tree_stays}
 use Rattle.jsonc_edit.proofs.Splices.{respliced_over, spliced_in}
-use Rattle.jsonc_edit.proofs.Walk.{apart_kept, Shows-row_below}
+use Rattle.jsonc_edit.proofs.ChangesUpward.{apart_kept, Shows-row_below}
 use Rattle.jsonc_insert.specs.Made.{IsFresh}
 use Rattle.jsonc_insert.specs.Settings.{indents_of}
 use Rattle.jsonc_insert.specs.members.Inserted.{plan_inside, PropertyPut}
 use Rattle.jsonc_insert.specs.members.Laws.{ChangesObjectAlone, IsTheProperty}
-use Rattle.jsonc_insert.specs.members.Told.{layout_inside}
-use Rattle.jsonc_insert.proofs.lemmas.members.Joining.{prepared_all}
-use Rattle.jsonc_insert.proofs.lemmas.members.Making.{property_is_new}
+use Rattle.jsonc_insert.specs.members.Layout.{layout_inside}
+use Rattle.jsonc_insert.proofs.lemmas.members.RowReplaced.{prepared_all}
+use Rattle.jsonc_insert.proofs.lemmas.members.MadeProperties.{property_is_new}
 
 same_below : (c d : Content) (x y : OrderedTree) → more c x none ≡ more d y none → x ≡ y
 same_below c d x y e = cc
@@ -27,11 +27,11 @@ abbrev top_of : Content → OrderedTree → Top
 top_of content below = record { content = content; below = below }
 
 module _ (old new : List Node) (c i : ℕ) (name : List ℕ) (v : Plain) (m : ℕ) (tree : IsTree old) (there : c < length old) (e : PropertyPut old new c i name v m) where
-  prepared : Prepared old e.ready
+  prepared : Extends old e.ready
   prepared = prepared_all old e.lined e.ready tree c there e.was e.before e.prepared i name v m e.row e.made
 
   respliced : Respliced e.ready new c
-  respliced = record { from = 0; to = length (children_at old c); put = e.row; tree = prepared.tree; there = omega (arith, there, prepared.keeps.len); after = e.tree; join = e.join; spliced = e.put }
+  respliced = record { from = 0; to = length (children_at old c); put = e.row; tree = prepared.tree; in_tree = omega (arith, there, prepared.keeps.len); after = e.tree; join = e.join; spliced = e.put }
 
   pub changes_object : (path : List ℕ) → IsAt old path c → DocumentChanged (top_at old c) (top_at new c) path (ordered_tree old 0) (ordered_tree new 0)
   changes_object path at =
@@ -48,8 +48,8 @@ module _ (old new : List Node) (c i : ℕ) (name : List ℕ) (v : Plain) (m : �
   below_same : row_below new m ≡ row_below e.ready m
   below_same =
       let ready = prepared.tree in
-      let here : m < length new = omega (arith, new_node.there, e.put.len) in
-      let was : Shows e.ready (m ∷ []) (more (content_at e.ready m) (row_below e.ready m) none) = shows_more (Shows-row_below e.ready ready m new_node.there) shows_none in
+      let here : m < length new = omega (arith, new_node.in_tree, e.put.len) in
+      let was : Shows e.ready (m ∷ []) (more (content_at e.ready m) (row_below e.ready m) none) = shows_more (Shows-row_below e.ready ready m new_node.in_tree) shows_none in
       let now : Shows new (m ∷ []) (more (content_at new m) (row_below new m) none) = shows_more (Shows-row_below new e.tree m here) shows_none in
       let kept : Shows new (m ∷ []) (more (content_at e.ready m) (row_below e.ready m) none) =
       apart_kept e.ready new c (spliced_in e.ready new c 0 (length (children_at old c)) e.row ready e.put) (m ∷ []) (more (content_at e.ready m) (row_below e.ready m) none)

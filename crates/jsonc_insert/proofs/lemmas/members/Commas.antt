@@ -11,7 +11,7 @@ use Rattle.jsonc_tree.specs.Tree.{Node, children_at, content_at, place_at, IsTre
 use Rattle.jsonc_layout.specs.nodes.Kinds.{is_element, is_element_at, is_trivia, is_comma}
 use Rattle.jsonc_layout.specs.nodes.Siblings.{siblings_after}
 use Rattle.jsonc_layout.specs.lines.Breadth.{last_element}
-use Rattle.jsonc_layout.specs.lines.Kinds.{holds_values}
+use Rattle.jsonc_layout.specs.lines.Kinds.{is_array_or_object}
 use Rattle.jsonc_layout.specs.lines.Siblings.{is_no_trivia_at, after_trivia_at, if_comma, trailing_comma_at}
 use Rattle.jsonc_sound.specs.Shape.{IsTrivia}
 use Rattle.jsonc_sound.specs.Alone as alone
@@ -134,7 +134,7 @@ module _ (o : Options) (ns : List Node) (path : List ℕ) (c : ℕ) (tree : IsTr
 
   behind : Behind
   behind =
-      let h = held_at o ns tree sound path c at (ap holds_values is) in
+      let h = held_at o ns tree sound path c at (ap is_array_or_object is) in
       let b : Brackets o ns c h.kind h.row = brackets o ns tree c (over_there ns tree c (over_at ns tree path c at)) h in
       record {
         open_with = b.open_with;

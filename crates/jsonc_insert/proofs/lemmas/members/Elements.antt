@@ -14,10 +14,10 @@ use Rattle.jsonc_edit.specs.multiline.Slots.{Slot, stays, comes, AreFilled, no_m
 use Rattle.jsonc_edit.specs.multiline.Lines.{Lines, between, indent_if_any, last_line, lines_for, on_lines, spread_row, without_back}
 use Rattle.jsonc_edit.specs.multiline.Multiline.{has_line_end}
 use Rattle.jsonc_edit.specs.multiline.Plans.{begins_behind, child_slots}
-use Rattle.jsonc_edit.proofs.lemmas.multiline.Weaving.{both_woven, woven}
+use Rattle.jsonc_edit.proofs.lemmas.multiline.RowByNode.{both_woven, woven}
 use Rattle.jsonc_insert.specs.Planned.{elements, has_brackets}
-use Rattle.jsonc_insert.proofs.Standing.{token_no_element}
-use Rattle.jsonc_insert.proofs.Trimming.{front_token, has_two}
+use Rattle.jsonc_insert.proofs.BeforeTheBracket.{token_no_element}
+use Rattle.jsonc_insert.proofs.TrimmedRows.{front_token, has_two}
 use Rattle.jsonc_insert.specs.members.Opened.{enclosed, opened, IsOpened}
 use Rattle.jsonc_insert.proofs.lemmas.members.Opening.{back_token}
 
@@ -202,7 +202,7 @@ module _ (old : List Node) (tree : IsTree old) (c : ℕ) (brackets : has_bracket
   There n = n < length old
 
   kids_there : All There kids
-  kids_there = All-from_get_or There kids 0 (λ k h. tree.there c k h)
+  kids_there = All-from_get_or There kids 0 (λ k h. tree.in_tree c k h)
 
   between_there : All There (between kids)
   between_there = All-take There (length kids - 1 - 1) (drop 1 kids) (All-drop There 1 kids kids_there)
@@ -214,9 +214,9 @@ module _ (old : List Node) (tree : IsTree old) (c : ℕ) (brackets : has_bracket
   spread_there =
       let two = has_two old kids brackets in
       subst (All There) (sym (enclosed_stay old kids brackets spread))
-      (All-cons There (slice_index kids 0) (staying spread ++ slice_index kids (length kids - 1) ∷ []) (tree.there c 0 (omega (arith, two)))
+      (All-cons There (slice_index kids 0) (staying spread ++ slice_index kids (length kids - 1) ∷ []) (tree.in_tree c 0 (omega (arith, two)))
       (All-append There (staying spread) (slice_index kids (length kids - 1) ∷ []) (lines_all (lines_for old c) old There (between kids) between_there)
-      (All-cons There (slice_index kids (length kids - 1)) [] (tree.there c (length kids - 1) (omega (arith, two))) (λ k d h. absurd (omega (arith, h))))))
+      (All-cons There (slice_index kids (length kids - 1)) [] (tree.in_tree c (length kids - 1) (omega (arith, two))) (λ k d h. absurd (omega (arith, h))))))
 
   spread_none : NoneComes (enclosed kids spread)
   spread_none = none_append spread (stays (slice_index kids (length kids - 1)) ∷ []) (lines_none (lines_for old c) old (between kids)) tt

@@ -9,8 +9,8 @@ use Rattle.jsonc_tree.specs.Tree.{Node, content_at, parent_at, children_at, is_i
 use Rattle.jsonc_tree.proofs.Splicing.{out_from}
 use Rattle.jsonc_tree.specs.declared.node.CstNewlineKind.{CstNewlineKind}
 use Rattle.jsonc_layout.specs.nodes.Kinds.{is_element, is_element_at}
-use Rattle.jsonc_edit.specs.Put.{Prepared}
-use Rattle.jsonc_edit.proofs.Kept.{filter_same}
+use Rattle.jsonc_edit.specs.Put.{Extends}
+use Rattle.jsonc_edit.proofs.NodesKept.{filter_same}
 use Rattle.jsonc_insert.specs.Inserted.{leaves_before, put_by, with_comma}
 use Rattle.jsonc_insert.specs.Laws.{KeepsNodesBut}
 use Rattle.jsonc_insert.specs.Made.{comma_at, comma_leaf, gap_leaves, IsFresh}
@@ -21,12 +21,12 @@ use Rattle.jsonc_insert.specs.declared.plan.Gap.{Gap}
 use Rattle.jsonc_insert.specs.declared.plan.Gap.TheVariants.{Nothing, Space, Line}
 use Rattle.jsonc_insert.specs.declared.plan.Plan.{Plan}
 use Rattle.jsonc_insert.proofs.Counting.{planned_count}
-use Rattle.jsonc_insert.proofs.Trimming.{has_two, trimmed_elements}
+use Rattle.jsonc_insert.proofs.TrimmedRows.{has_two, trimmed_elements}
 use Rattle.jsonc_insert.specs.members.Inserted.{plan_inside, PropertyPut}
 use Rattle.jsonc_insert.specs.members.Laws.{ChangesOneRow, TakesItsNumber}
-use Rattle.jsonc_insert.specs.members.Told.{layout_inside}
+use Rattle.jsonc_insert.specs.members.Layout.{layout_inside}
 use Rattle.jsonc_insert.proofs.lemmas.members.Elements.{opened_elements}
-use Rattle.jsonc_insert.proofs.lemmas.members.Joining.{before_brackets, before_once, before_there, prepared_all, row_stands}
+use Rattle.jsonc_insert.proofs.lemmas.members.RowReplaced.{before_brackets, before_once, before_there, prepared_all, row_stands}
 
 -- leaves that are written are no elements
 gap_none : (kind : CstNewlineKind) (indent : List ℕ) (gap : Gap) → length (filter is_element (gap_leaves kind indent gap)) ≡ 0
@@ -60,7 +60,7 @@ module _ (old new : List Node) (c i : ℕ) (name : List ℕ) (v : Plain) (m : �
   abbrev plan : Plan
   plan = plan_inside e.lined c e.was i
 
-  prepared : Prepared old e.ready
+  prepared : Extends old e.ready
   prepared = prepared_all old e.lined e.ready tree c there e.was e.before e.prepared i name v m e.row e.made
 
   pub row_is : children_at new c ≡ e.row

@@ -11,7 +11,7 @@ use Rattle.jsonc_tree.specs.Siblings.{first}
 use Rattle.jsonc_tree.specs.Tree.{Node, content_at, parent_at, children_at, place_at, IsTree}
 use Rattle.jsonc_tree.proofs.Builder.{Keeps-same}
 use Rattle.jsonc_tree.proofs.Order.{parent_there}
-use Rattle.jsonc_edit.specs.Put.{Prepared}
+use Rattle.jsonc_edit.specs.Put.{Extends}
 use Rattle.jsonc_edit.specs.remove.Removed as removed
 use Rattle.jsonc_edit.specs.multiline.Slots.{Slot, stays, AreFilled, no_more, stayed, came}
 use Rattle.jsonc_edit.specs.multiline.Lines.{lines_for, spread_row}
@@ -19,8 +19,8 @@ use Rattle.jsonc_edit.specs.multiline.Multiline.{has_line_end}
 use Rattle.jsonc_edit.specs.multiline.Plans.{IsFrom, PlannedRow}
 use Rattle.jsonc_insert.specs.Planned.{has_brackets}
 use Rattle.jsonc_layout.specs.nodes.Kinds.{is_token}
-use Rattle.jsonc_insert.proofs.Once.{apart_by, once_append}
-use Rattle.jsonc_insert.proofs.Trimming.{front_token, has_two}
+use Rattle.jsonc_insert.proofs.NoDuplicates.{apart_by, once_append}
+use Rattle.jsonc_insert.proofs.TrimmedRows.{front_token, has_two}
 use Rattle.jsonc_insert.specs.members.Opened.{enclosed, opened, IsOfRow, IsOpened}
 
 -- what holds where a call answers
@@ -160,7 +160,7 @@ module _ (old : List Node) (tree : IsTree old) (c : ℕ) where
 
     of_row : (n : ℕ) → IsFrom old lined c last n → IsOfRow old lined c n
     of_row n (inl f) = inl f.0
-    of_row n (inr f) = inr (record { later = f.0; there = f.1; alone = f.2 })
+    of_row n (inr f) = inr (record { later = f.0; in_tree = f.1; alone = f.2 })
 
     abbrev behind : List ℕ
     behind = inside ++ back ∷ []
@@ -211,7 +211,7 @@ module _ (old : List Node) (tree : IsTree old) (c : ℕ) where
         bracketed lined whole (omega (arith, long)) (ap is_token (p.keeps.content front front_there) ∙ front_token old kids brackets)
         (ap (λ n. is_token (content_at lined n)) back_at ∙ ap is_token (p.keeps.content back back_there) ∙ back_token old kids brackets)
 
-    pub opens_lines : slots ≡ spread_row (lines_for old c) old c → has_line_end old c ≡ false → Prepared old lined → (row : List ℕ) → row ≡ whole → IsOpened old lined c row
+    pub opens_lines : slots ≡ spread_row (lines_for old c) old c → has_line_end old c ≡ false → Extends old lined → (row : List ℕ) → row ≡ whole → IsOpened old lined c row
     opens_lines told none prepared row is =
         let slots_are : opened old c ≡ enclosed kids slots =
         ap (λ b. cond b (map stays kids) (enclosed kids (spread_row (lines_for old c) old c))) none ∙ ap (enclosed kids) (sym told) in

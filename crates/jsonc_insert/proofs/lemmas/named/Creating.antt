@@ -11,19 +11,19 @@ use Rattle.jsonc_tree.proofs.Order.{parent_there}
 use Rattle.jsonc_layout.specs.nodes.Kinds.{is_colon, is_colon_at, is_element, is_element_at}
 use Rattle.jsonc_layout.specs.nodes.Properties.{behind_first, is_name, is_name_at, value_at}
 use Rattle.jsonc_layout.specs.nodes.Siblings.{elements_at}
-use Rattle.jsonc_layout.proofs.lemmas.nodes.Held.{held_in, value_is_held}
+use Rattle.jsonc_layout.proofs.lemmas.nodes.PropertyValues.{held_in, value_is_held}
 use Rattle.jsonc_layout.specs.from_input.Laid.{laid, laid_property}
 use Rattle.jsonc_layout.specs.from_input.Layout.{Layout}
 use Rattle.jsonc_edit.specs.Changes.{row_below, top_at}
 use Rattle.jsonc_edit.proofs.FittingFinds.{passes, fails}
 use Rattle.jsonc_edit.proofs.Uniqueness.{element_parent}
-use Rattle.jsonc_edit.proofs.Walk.{Shows-row_below}
+use Rattle.jsonc_edit.proofs.ChangesUpward.{Shows-row_below}
 use Rattle.jsonc_insert.specs.Planned.{has_brackets}
 use Rattle.jsonc_insert.specs.members.Inserted.{PropertyPut}
-use Rattle.jsonc_insert.specs.members.Told.{layout_inside}
+use Rattle.jsonc_insert.specs.members.Layout.{layout_inside}
 use Rattle.jsonc_insert.proofs.lemmas.members.Changing.{is_property}
 use Rattle.jsonc_insert.proofs.lemmas.members.Numbering.{takes_number}
-use Rattle.jsonc_insert.proofs.lemmas.members.Past.{past_the_end}
+use Rattle.jsonc_insert.proofs.lemmas.members.PastTheEnd.{past_the_end}
 use Rattle.jsonc_text.specs.declared.edit.Shape.{Shape}
 use Rattle.jsonc_text.specs.declared.edit.Shape.TheVariants.{Object, Array}
 use Rattle.jsonc_edit.specs.set.Shapes.{is_of, empty_of}

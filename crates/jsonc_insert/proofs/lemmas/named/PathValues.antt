@@ -18,9 +18,9 @@ use Rattle.jsonc_sound.proofs.AtPath.{held_at_path}
 use Rattle.jsonc_edit.specs.Changes.{top_at}
 use Rattle.jsonc_edit.specs.Paths.{IsAt}
 use Rattle.jsonc_edit.proofs.OneValue.{document_once}
-use Rattle.jsonc_edit.proofs.Walk.{changed_over}
+use Rattle.jsonc_edit.proofs.ChangesUpward.{changed_over}
 
--- a node at a path may be said to give way to itself
+-- a node at a path may be said to be replaced by itself
 pub gives_way_to_itself : (ns : List Node) → IsTree ns → (path : List ℕ) (n : ℕ) → IsAt ns path n → DocumentChanged (top_at ns n) (top_at ns n) path (ordered_tree ns 0) (ordered_tree ns 0)
 gives_way_to_itself ns tree path n at =
     changed_over ns ns n (record { tree = tree; content = λ k ne. refl; children = λ k ne. refl }) tree refl n IsOver.itself (λ element. element) path at

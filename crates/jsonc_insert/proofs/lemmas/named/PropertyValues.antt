@@ -10,14 +10,14 @@ use Rattle.jsonc_sound.specs.Shape as shape
 use Rattle.jsonc_sound.specs.Shape.{IsTrivia, Trivia, nothing, trivia, token_then}
 use Rattle.jsonc_layout.specs.nodes.Kinds.{is_colon_at, is_element, is_element_at}
 use Rattle.jsonc_layout.specs.nodes.Properties.{behind_colon, behind_first, behind_name, lacks_name_at, value_at}
-use Rattle.jsonc_layout.proofs.lemmas.nodes.Held.{held_in, value_is_held}
+use Rattle.jsonc_layout.proofs.lemmas.nodes.PropertyValues.{held_in, value_is_held}
 use Rattle.jsonc_sound.specs.Alone as alone
 use Rattle.jsonc_sound.specs.Alone.{ValueAlone, RowAlone, PropertyAlone}
 use Rattle.jsonc_sound.specs.Rows as rows
 use Rattle.jsonc_sound.specs.Rows.{Last}
 use Rattle.jsonc_sound.specs.SoundTrees.{SoundTree}
 use Rattle.jsonc_sound.specs.TreeChanges.{IsElement}
-use Rattle.jsonc_sound.proofs.Apart.{value_alone}
+use Rattle.jsonc_sound.proofs.NodesAlone.{value_alone}
 use Rattle.jsonc_sound.proofs.FirstNodes.{name_element, trivia_over, value_element}
 use Rattle.jsonc_sound.proofs.HeldValues.{document_held}
 use Rattle.jsonc_sound.proofs.SeamStretches.{parted_row}
@@ -25,9 +25,9 @@ use Rattle.jsonc_edit.specs.Changes.{row_below, top_at}
 use Rattle.jsonc_edit.specs.Paths.{IsAt, StepsTo}
 use Rattle.jsonc_edit.proofs.Elements.{taken, left}
 use Rattle.jsonc_edit.proofs.ShapedProperties.{second_is_held}
-use Rattle.jsonc_edit.proofs.Standing.{at_further}
+use Rattle.jsonc_edit.proofs.ShapedPlaces.{at_further}
 use Rattle.jsonc_edit.proofs.Uniqueness.{element_parent}
-use Rattle.jsonc_edit.proofs.Walk.{Shows-row_below}
+use Rattle.jsonc_edit.proofs.ChangesUpward.{Shows-row_below}
 use Rattle.jsonc_tree.proofs.Order.{parent_there}
 use Rattle.jsonc_edit.proofs.lemmas.set.PropertyRows.{parted, object_row, inside_of}
 use Rattle.jsonc_insert.specs.named.Places.{IsPropertyOf, IsPropertyAt, a_property}

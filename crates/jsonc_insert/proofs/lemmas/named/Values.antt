@@ -11,7 +11,7 @@ use Rattle.jsonc_tree.specs.Values.{ValueOf, DocumentValueOf}
 use Rattle.jsonc_sound.specs.Shape.{printed_text}
 use Rattle.jsonc_sound.proofs.ShapeValues.{document_printed}
 use Rattle.jsonc_layout.specs.from_input.Laid.{laid}
-use Rattle.jsonc_sound.proofs.GivingWay.{marks_follow}
+use Rattle.jsonc_sound.proofs.ReplacedStretches.{marks_follow}
 use Rattle.jsonc_sound.proofs.Laid.{laid_as_written}
 use Rattle.jsonc_sound.proofs.LeavesAround.{document_differs}
 use Rattle.jsonc_sound.specs.Changes as changes
@@ -39,7 +39,7 @@ use Rattle.jsonc_text.specs.declared.edit.Shape.TheVariants.{Object, Array}
 use Rattle.jsonc_insert.specs.named.Named.{PropertyValueEnsured}
 use Rattle.jsonc_insert.specs.named.Places.{IsPropertyAt, IsPropertyOf}
 use Rattle.jsonc_edit.specs.set.Shapes.{has_shape, is_of, empty_of, EnsuredValue, has_it, must_give_way}
-use Rattle.jsonc_insert.specs.named.Values.{ReplacesHeld, ValueGivesWay, ValueEnsured, all_stays, empty_given}
+use Rattle.jsonc_insert.specs.named.Values.{ReplacesHeld, ReplacesValue, ValueEnsured, all_stays, empty_given}
 use Rattle.jsonc_insert.proofs.lemmas.named.PathValues.{gives_way_to_itself, value_at_path, value_of_text, value_once}
 use Rattle.jsonc_insert.proofs.lemmas.named.PropertyValues.{value_held}
 
@@ -63,8 +63,8 @@ same_shape Array values.null = refl
 same_shape Array (values.array h) = refl
 same_shape Array (values.object h) = refl
 
--- a value that was replaced has given way
-pub value_gives_way : (old new : List Node) (path : List ℕ) (n m : ℕ) (v : Plain) → IsTree old → IsAt old path n → IsReplaced old new n v m → ValueGivesWay path v (ordered_tree old 0) (ordered_tree new 0)
+-- a value that was replaced has been replaced
+pub value_gives_way : (old new : List Node) (path : List ℕ) (n m : ℕ) (v : Plain) → IsTree old → IsAt old path n → IsReplaced old new n v m → ReplacesValue path v (ordered_tree old 0) (ordered_tree new 0)
 value_gives_way old new path n m v tree at r =
     let top = laid (layout_for old r.0 n) v in
     let change = changed old new n m top tree r.2 path at in
@@ -80,7 +80,7 @@ value_gives_way old new path n m v tree at r =
 
 -- one of another shape than the value that has taken its place
 pub other_gives_way : (old new : List Node) (path : List ℕ) (n m : ℕ) (shape : Shape) → IsTree old → IsAt old path n → IsReplaced old new n (empty_of shape) m → is_of shape (content_at old n) ≡ false
-    → (given : ValueGivesWay path (empty_of shape) (ordered_tree old 0) (ordered_tree new 0)) × (is_of shape given.was.content ≡ false)
+    → (given : ReplacesValue path (empty_of shape) (ordered_tree old 0) (ordered_tree new 0)) × (is_of shape given.was.content ≡ false)
 unfolding value_gives_way
 other_gives_way old new path n m shape tree at r is = (value_gives_way old new path n m (empty_of shape) tree at r, is)
 
@@ -139,14 +139,14 @@ pub stays_ensured : (old new : List Node) (path : List ℕ) (shape : Shape) → 
 stays_ensured old new path shape tree (has_stayed n at is same) = all_stays (ap (λ (ns : List Node). ordered_tree ns 0) same)
 stays_ensured old new path shape tree (has_given_way n m at is r) = let g = other_gives_way old new path n m shape tree at r is in empty_given g.0 g.1
 
--- where spaces come, and then of the leaves some give way to others, so do their marks
+-- where spaces come, and then of the leaves some are replaced by others, so do their marks
 pub marks_given : (was now : Top) (t spaced u : OrderedTree) → SpacesPut t spaced → DiffersIn (leaves_of was) (leaves_of now) (leaves spaced) (leaves u) → MarksDifferIn (marks_under was) (marks_under now) (marks t) (marks u)
 marks_given was now t spaced u puts differs =
     let m = (marks_follow (leaves_of was) (leaves_of now) (leaves spaced) (leaves u) differs).0 in
     subst (λ l. MarksDifferIn (marks_under was) (marks_under now) l (marks u)) (spaces_marks puts) m
 
--- a value that gives way leaves its marks to those of the new one
-pub value_marked : (o : Options) (t u : OrderedTree) (path : List ℕ) (v : Plain) → IsWritable o v → ValueGivesWay path v t u → (was : List Mark) × MarksDifferIn was (written v) (marks t) (marks u)
+-- a value that is replaced leaves its marks to those of the new one
+pub value_marked : (o : Options) (t u : OrderedTree) (path : List ℕ) (v : Plain) → IsWritable o v → ReplacesValue path v t u → (was : List Mark) × MarksDifferIn was (written v) (marks t) (marks u)
 value_marked o t u path v may g =
     (marks_under g.was, subst (λ l. MarksDifferIn (marks_under g.was) l (marks t) (marks u)) (laid_as_written g.layout v may.texts) (marks_given g.was (laid g.layout v) t g.spaced u g.spaces g.around))
 

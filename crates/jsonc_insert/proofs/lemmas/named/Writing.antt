@@ -36,22 +36,22 @@ use Rattle.jsonc_text.specs.declared.edit.EditError.TheVariants.{OutOfMemory, Mi
 use Rattle.jsonc_edit.proofs.Elements.{taken, left}
 use Rattle.jsonc_edit.proofs.FittingNodes.{over_there}
 use Rattle.jsonc_edit.proofs.Uniqueness.{element_parent}
-use Rattle.jsonc_edit.proofs.Walk.{Shows-row_below}
+use Rattle.jsonc_edit.proofs.ChangesUpward.{Shows-row_below}
 use Rattle.jsonc_insert.specs.elements.Members as inserted
-use Rattle.jsonc_insert.specs.elements.Members.{member_count, IsMemberInserted, MemberComes, PropertyComesAt}
+use Rattle.jsonc_insert.specs.elements.Members.{member_count, IsMemberInserted, MemberInserted, PropertyInsertedAt}
 use Rattle.jsonc_insert.proofs.lemmas.elements.Marked.{marks_come_in}
 use Rattle.jsonc_insert.proofs.lemmas.elements.Members.{members_counted}
-use Rattle.jsonc_insert.proofs.lemmas.elements.Named.{inserts_member}
-use Rattle.jsonc_insert.proofs.lemmas.members.Past.{past_the_end}
-use Rattle.jsonc_insert.proofs.lemmas.members.Spreading.{wants_memory_alone}
-use Rattle.jsonc_insert.proofs.lemmas.properties.Coming.{properties_come_at}
+use Rattle.jsonc_insert.proofs.lemmas.elements.NamedProperties.{inserts_member}
+use Rattle.jsonc_insert.proofs.lemmas.members.PastTheEnd.{past_the_end}
+use Rattle.jsonc_insert.proofs.lemmas.members.SpreadObjects.{wants_memory_alone}
+use Rattle.jsonc_insert.proofs.lemmas.properties.InsertedRows.{properties_come_at}
 use Rattle.jsonc_edit.proofs.lemmas.set.PropertyRows.{counted_elements, over_at, prints_value, some_value_of}
 use Rattle.jsonc_text.specs.declared.edit.Over.{Over}
 use Rattle.jsonc_text.specs.declared.edit.Over.TheVariants as over
 use Rattle.jsonc_text.specs.declared.edit.Shape.{Shape}
-use Rattle.jsonc_insert.specs.named.Laws.{FindsMember, FoundAmong, IsNamedWritten, StaysAround, all_stays, value_given, property_come, ChangesMarks, none_leave, some_leave, name_comes, WantsMemoryAlone, WritesNamed}
+use Rattle.jsonc_insert.specs.named.Laws.{FindsMember, FoundAmong, IsNamedWritten, StaysAround, all_stays, value_given, property_come, ChangesMarks, none_leave, some_leave, name_comes, OnlyOutOfMemory, WritesNamed}
 use Rattle.jsonc_insert.specs.named.Members.{LacksMember, no_more, other_name, IsFirstMember, first_is, first_later, MemberEnsured, comes_last, this_member, later_member}
-use Rattle.jsonc_insert.specs.named.Named.{ComesNamed, EnsuredFor, IsUnensured, PropertyValueIs}
+use Rattle.jsonc_insert.specs.named.Named.{ComesNamed, EnsuredFor, EnsureError, PropertyValueIs}
 use Rattle.jsonc_insert.specs.named.Places.{IsPropertyOf, a_property}
 use Rattle.jsonc_edit.specs.set.Shapes.{has_shape, empty_of, EnsuredValue, has_it, may_stay}
 use Rattle.jsonc_insert.specs.named.Values as giving
@@ -91,7 +91,7 @@ first_named ns name _ _ r e (names.here {n = n} is) = let same : n ≡ r = cc in
 first_named ns name _ _ r e (names.later {rest = rest} {found = found} other f) = first_named ns name rest found r e f
 
 -- where none has the name, one that comes behind all comes last; where one has it, that one is ensured
-ensured_last : (name : List ℕ) (shape : Shape) (how : Over) (ms ns : Members) (i : ℕ) → i ≡ member_count ms → LacksMember name ms → MemberComes name (empty_of shape) i ms ns → MemberEnsured name shape how ms ns
+ensured_last : (name : List ℕ) (shape : Shape) (how : Over) (ms ns : Members) (i : ℕ) → i ≡ member_count ms → LacksMember name ms → MemberInserted name (empty_of shape) i ms ns → MemberEnsured name shape how ms ns
 ensured_last name shape how _ _ _ e no_more inserted.this_member = comes_last
 ensured_last name shape how _ _ _ e (other_name {n = n} {v = v} {ms = ms} ne l) inserted.this_member = absurd (omega (arith, e))
 ensured_last name shape how _ _ _ e (other_name ne l) (inserted.later_member {i = i} {ms = ms} {ns = ns} c) = later_member ne (ensured_last name shape how ms ns i (omega (arith, e)) l c)
@@ -280,7 +280,7 @@ module _ (o : Options) (ns : List Node) (path : List ℕ) (c : ℕ) (name : List
       let held = value_held o ns tree s (path ++ it.0 ∷ []) r (a_property path c it.0 at inside) in
       held_by_name ns r held.value (sym (ap (λ w. value_by w ns r) inside.is) ∙ held.holds) lacks
 
-  memory_alone : (shape : Shape) (how : Over) (e : EditError) → IsUnensured shape how ns c name e → e ≡ OutOfMemory
+  memory_alone : (shape : Shape) (how : Over) (e : EditError) → EnsureError shape how ns c name e → e ≡ OutOfMemory
   memory_alone shape how OutOfMemory k = refl
   memory_alone shape how MissingBrackets (none, told) = told_none (sym (wants_memory_alone o ns path c tree s at is).1 ∙ told)
     where
@@ -290,5 +290,5 @@ module _ (o : Options) (ns : List Node) (path : List ℕ) (c : ℕ) (name : List
   memory_alone shape over.Keep MissingName k = absurd k
   memory_alone shape how NoSuchPlace k = absurd k
 
-pub wants_memory : (o : Options) (ns : List Node) (path : List ℕ) (c : ℕ) (name : List ℕ) (shape : Shape) (how : Over) (e : EditError) → WantsMemoryAlone o ns path c name shape how e
+pub wants_memory : (o : Options) (ns : List Node) (path : List ℕ) (c : ℕ) (name : List ℕ) (shape : Shape) (how : Over) (e : EditError) → OnlyOutOfMemory o ns path c name shape how e
 wants_memory o ns path c name shape how e tree s at is k = memory_alone o ns path c name tree s at is shape how e k

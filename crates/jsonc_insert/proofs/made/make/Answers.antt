@@ -2,7 +2,7 @@ use Rattle.std.proofs.Common.{subst}
 use Rattle.jsonc_layout.specs.input.Views.{plain}
 use Rattle.jsonc_layout.specs.from_input.Layout.{layout_of}
 use Rattle.jsonc_insert.specs.Made.{comma_leaf, LeavesMade}
-use Rattle.jsonc_insert.proofs.Making.{nodes_made}
+use Rattle.jsonc_insert.proofs.MadeLeaves.{nodes_made}
 use Rattle.jsonc_insert.proofs.made.make.Goals as goal
 
 pub returns-clause-made : goal.returns-clause-made

@@ -1,6 +1,6 @@
 use Rattle.std.proofs.Common.{subst}
 use Rattle.jsonc_insert.specs.Made.{gap_leaves, LeavesMade}
-use Rattle.jsonc_insert.proofs.Making.{made_from}
+use Rattle.jsonc_insert.proofs.MadeLeaves.{made_from}
 use Rattle.jsonc_insert.proofs.made.make_before.Goals as goal
 
 pub returns-clause-made : goal.returns-clause-made

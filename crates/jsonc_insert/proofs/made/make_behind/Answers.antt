@@ -1,6 +1,6 @@
 use Rattle.std.proofs.Common.{◌++◌}
 use Rattle.jsonc_insert.specs.Made.{comma_leaf, gap_leaves}
-use Rattle.jsonc_insert.proofs.Making.{gained_then, made_from}
+use Rattle.jsonc_insert.proofs.MadeLeaves.{gained_then, made_from}
 use Rattle.jsonc_insert.proofs.made.make_behind.Goals as goal
 
 pub returns-clause-made : goal.returns-clause-made

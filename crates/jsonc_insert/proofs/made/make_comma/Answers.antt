@@ -1,5 +1,5 @@
 use Rattle.jsonc_insert.specs.Made.{comma_leaf}
-use Rattle.jsonc_insert.proofs.Making.{made_from}
+use Rattle.jsonc_insert.proofs.MadeLeaves.{made_from}
 use Rattle.jsonc_insert.proofs.made.make_comma.Goals as goal
 
 pub returns-clause-made : goal.returns-clause-made

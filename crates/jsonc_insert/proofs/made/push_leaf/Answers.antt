@@ -1,5 +1,5 @@
 use Rattle.jsonc_tree.specs.Stored.{content_of}
-use Rattle.jsonc_insert.proofs.Making.{leaf_gained_as}
+use Rattle.jsonc_insert.proofs.MadeLeaves.{leaf_gained_as}
 use Rattle.jsonc_insert.proofs.made.push_leaf.Goals as goal
 
 pub returns-clause-gains : goal.returns-clause-gains

@@ -1,6 +1,6 @@
 use Rattle.std.proofs.Common.{[], ◌∷◌}
 use Rattle.jsonc_tree.specs.Content.{newline, whitespace}
-use Rattle.jsonc_insert.proofs.Making.{gained_where}
+use Rattle.jsonc_insert.proofs.MadeLeaves.{gained_where}
 use Rattle.jsonc_insert.proofs.made.push_line.Goals as goal
 
 pub returns-clause-gains : goal.returns-clause-gains

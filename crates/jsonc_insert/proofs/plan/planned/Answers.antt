@@ -1,5 +1,5 @@
 use Rattle.std.proofs.Common.{◌≤◌, ◌+◌, length, sym, subst, ◌∙◌, arith}
-use Rattle.jsonc_insert.proofs.Standing.{stands_inside}
+use Rattle.jsonc_insert.proofs.BeforeTheBracket.{stands_inside}
 use Rattle.jsonc_insert.proofs.plan.planned.Goals as goal
 
 pub plan_behind-requires : goal.plan_behind-requires

@@ -16,16 +16,16 @@ on_ok (Err e) f h = tt
 
 -- a container that was built can be built on
 pub unfinished_built : {a b : List Node} {n : ℕ} {content : Content} {below : OrderedTree} → Builds a b n content below → IsTrue (is_container content) → IsUnfinished b n
-unfinished_built built h = record { tree = built.tree; there = built.there; holds = ap is_container built.is ∙ h; alone = built.alone }
+unfinished_built built h = record { tree = built.tree; in_tree = built.in_tree; holds = ap is_container built.is ∙ h; alone = built.alone }
 
 -- by a leaf
 pub extends_pushes : {a b : List Node} {c : ℕ} {other : Content} → IsUnfinished a c → Pushes a b c other → IsTree b → Extends a b c (more other none none)
 extends_pushes {a} {b} {c} {other} u pushes tree = record {
   unfinished = record {
     tree = tree;
-    there = omega (arith, u.there, pushes.len);
-    holds = ap is_container (pushes.contents c u.there) ∙ u.holds;
-    alone = pushes.parents c u.there ∙ u.alone;
+    in_tree = omega (arith, u.in_tree, pushes.len);
+    holds = ap is_container (pushes.contents c u.in_tree) ∙ u.holds;
+    alone = pushes.parents c u.in_tree ∙ u.alone;
   };
   builds = λ first content below built. Builds-pushes first a b c content other below built pushes tree;
 }
@@ -35,21 +35,21 @@ pub extends_appends : {a b d : List Node} {c m : ℕ} {other : Content} {inner :
 extends_appends {a} {b} {d} {c} {m} {other} {inner} u part appends tree = record {
   unfinished = record {
     tree = tree;
-    there = omega (arith, u.there, part.keeps.len, appends.len);
-    holds = ap is_container (appends.content c ∙ part.keeps.content c u.there) ∙ u.holds;
-    alone = appends.parents c (λ e. omega (arith, u.there, part.later, e)) ∙ part.keeps.parent c u.there ∙ u.alone;
+    in_tree = omega (arith, u.in_tree, part.keeps.len, appends.len);
+    holds = ap is_container (appends.content c ∙ part.keeps.content c u.in_tree) ∙ u.holds;
+    alone = appends.parents c (λ e. omega (arith, u.in_tree, part.later, e)) ∙ part.keeps.parent c u.in_tree ∙ u.alone;
   };
   builds = λ first content below built. Builds-appends first a b d c m content other below inner built part appends tree;
 }
 
 pub can_append : {a b : List Node} {c m : ℕ} {other : Content} {inner : OrderedTree} → IsUnfinished a c → Builds a b m other inner → CanAppend b c m
 can_append {a} {b} {c} {m} u part = record {
-  container = omega (arith, u.there, part.keeps.len);
-  holds = ap is_container (part.keeps.content c u.there) ∙ u.holds;
-  node = part.there;
-  not_root = λ e. omega (arith, e, part.later, u.there);
+  container = omega (arith, u.in_tree, part.keeps.len);
+  holds = ap is_container (part.keeps.content c u.in_tree) ∙ u.holds;
+  node = part.in_tree;
+  not_root = λ e. omega (arith, e, part.later, u.in_tree);
   alone = part.alone;
-  not_over = not_over_alone b m c (part.keeps.parent c u.there ∙ u.alone) (λ e. omega (arith, e, u.there, part.later));
+  not_over = not_over_alone b m c (part.keeps.parent c u.in_tree ∙ u.alone) (λ e. omega (arith, e, u.in_tree, part.later));
 }
 
 -- by nothing
@@ -68,14 +68,14 @@ extends_then {a} {b} {d} {c} {t} {u} p q = record {
 
 -- the nodes before the container stay
 pub keeps_pushes : {a b : List Node} {c : ℕ} {other : Content} → IsUnfinished a c → Pushes a b c other → Keeps c a b
-keeps_pushes {a} {b} {c} {other} u pushes = Keeps-pushes c a b c other (omega arith) (omega (arith, u.there)) pushes
+keeps_pushes {a} {b} {c} {other} u pushes = Keeps-pushes c a b c other (omega arith) (omega (arith, u.in_tree)) pushes
 
 pub keeps_apart : {a b : List Node} {c : ℕ} → IsUnfinished a c → Keeps (length a) a b → Keeps c a b
-keeps_apart {a} {b} {c} u keeps = Keeps-fewer c (length a) a b (omega (arith, u.there)) keeps
+keeps_apart {a} {b} {c} u keeps = Keeps-fewer c (length a) a b (omega (arith, u.in_tree)) keeps
 
 pub keeps_appends : {a b d : List Node} {c m : ℕ} {other : Content} {inner : OrderedTree} → IsUnfinished a c → Builds a b m other inner → Appends b d c m → Keeps c a d
 keeps_appends {a} {b} {d} {c} {m} u part appends =
-    Keeps-then c a b d (keeps_apart u part.keeps) (Keeps-appends c b d c m (omega arith) (omega (arith, u.there, part.later)) appends)
+    Keeps-then c a b d (keeps_apart u part.keeps) (Keeps-appends c b d c m (omega arith) (omega (arith, u.in_tree, part.later)) appends)
 
 pub keeps_more_room : {a b d : List Node} {c : ℕ} → IsUnfinished a c → Keeps (length a) a b → MakesRoom b d → Keeps c a d
 keeps_more_room {a} {b} {d} {c} u keeps room = Keeps-then c a b d (keeps_apart u keeps) (Keeps-room c b d room)

@@ -15,7 +15,7 @@ use Rattle.jsonc_text.specs.Plain.{number}
 use Rattle.jsonc_layout.specs.input.Numbers.{IsAlwaysNumber}
 use Rattle.jsonc_layout.specs.input.Views.{plain}
 use Rattle.jsonc_layout.specs.declared.input.value.CstInputValue.{Number}
-use Rattle.jsonc_layout.proofs.lemmas.input.Views.{plain-Number}
+use Rattle.jsonc_layout.proofs.lemmas.input.ValueLevels.{plain-Number}
 
 -- the digits of n: `0` alone, or the first of them is none
 data Digits (n : ℕ) : List ℕ → Type 0 where

@@ -13,7 +13,7 @@ levels_none zero ns = refl
 levels_none (suc depth) ns = levels_none depth ns
 
 all_children : (ns : List Node) → IsTree ns → (n : ℕ) → All (λ m. m < length ns) (children_at ns n)
-all_children ns tree n k d h = subst (λ m. m < length ns) (get_or_default (children_at ns n) k 0 d h) (tree.there n k h)
+all_children ns tree n k d h = subst (λ m. m < length ns) (get_or_default (children_at ns n) k 0 d h) (tree.in_tree n k h)
 
 -- the children of nodes are there
 pub all_below : (ns : List Node) → IsTree ns → (level : List ℕ) → All (λ m. m < length ns) (flat_map (children_at ns) level)

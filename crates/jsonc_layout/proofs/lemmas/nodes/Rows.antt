@@ -10,7 +10,7 @@ use Rattle.std.proofs.lemmas.Iterator.Consumers.{YieldsList-from_first}
 use Rattle.std.proofs.lemmas.Iterator.Search.{any_from_yields_List, find_from_yields_List}
 use Rattle.jsonc_tree.specs.Siblings.{first}
 use Rattle.jsonc_layout.specs.nodes.Properties.{behind_first}
-use Rattle.jsonc_tree.proofs.Sideways.{first_drop}
+use Rattle.jsonc_tree.proofs.LinkedRows.{first_drop}
 use denote.Param.Members.{Mut}
 use denote.Ref.{Bor}
 

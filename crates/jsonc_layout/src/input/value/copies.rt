@@ -6,7 +6,7 @@ use super::CstInputValue;
 use std::alloc::{AllocError, Allocator};
 
 impl<A: Allocator + Copy> CstInputValue<A> {
-    /// A value that stands for the same.
+    /// A copy of the value.
     #[cycle(copy)]
     pub fn try_clone(&self) -> Result<Self, AllocError>
         ensures { IfOk result (λ v. plain v ≡ plain self.now) }

@@ -9,7 +9,7 @@ use Rattle.jsonc_layout.specs.nodes.Names.{FirstInObject}
 use Rattle.jsonc_layout.specs.nodes.Properties.{value_at}
 use Rattle.jsonc_sound.specs.Documents.{Shows}
 use Rattle.jsonc_edit.specs.Paths.{IsAt}
-use Rattle.jsonc_edit.proofs.Standing.{all_stand}
+use Rattle.jsonc_edit.proofs.ShapedPlaces.{all_stand}
 use Rattle.jsonc_insert.specs.named.Laws.{FoundAmong}
 use Rattle.jsonc_insert.specs.named.Members.{IsFirstMember, LacksMember}
 use Rattle.jsonc_insert.specs.named.Places.{IsPropertyAt, IsPropertyOf, a_property}
@@ -17,8 +17,8 @@ use Rattle.jsonc_insert.proofs.lemmas.named.PropertyValues.{value_held}
 use Rattle.jsonc_insert.proofs.lemmas.named.Writing.{finds_member}
 use Rattle.jsonc_parser.specs.paths.AtPaths.{FindsFirst, PropertyHolds, RootHolds, StandsThere}
 use Rattle.jsonc_parser.proofs.lemmas.paths.Leading.{at_first, no_path}
-use Rattle.jsonc_parser.proofs.lemmas.paths.Reaching.{lacking}
-use Rattle.jsonc_parser.proofs.lemmas.paths.Standing.{begins_there, first_named, value_of_first, value_once}
+use Rattle.jsonc_parser.proofs.lemmas.paths.LongestPrefix.{lacking}
+use Rattle.jsonc_parser.proofs.lemmas.paths.NodesAtNames.{begins_there, first_named, value_of_first, value_once}
 
 -- a first one is not lacking
 first_there : {name : List ℕ} {i : ℕ} {ms : Members} → IsFirstMember name i ms → LacksMember name ms → ⊥

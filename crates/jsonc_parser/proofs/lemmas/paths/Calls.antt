@@ -12,22 +12,22 @@ use Rattle.jsonc_text.specs.declared.edit.EditError.{EditError}
 use Rattle.jsonc_text.specs.declared.edit.EditError.TheVariants.{OutOfMemory, MissingBrackets, MissingName, NoSuchPlace}
 use Rattle.jsonc_edit.proofs.OneValue.{document_once}
 use Rattle.jsonc_text.specs.declared.edit.Over.{Over}
-use Rattle.jsonc_run.specs.Edits.{Operation, IsMade, first_made, none_made}
+use Rattle.jsonc_run.specs.Edits.{Operation, EditStep, first_made, none_made}
 use Rattle.jsonc_run.specs.Named.{comment_count, IsNamed}
-use Rattle.jsonc_run.specs.Refusals.{IsToldBy}
+use Rattle.jsonc_run.specs.Refusals.{FailsWith}
 use Rattle.jsonc_run.specs.Steps.{IsOfCharacters, NumbersFit, Step, Steps, no_step, one_step}
 use Rattle.jsonc_run.specs.Written.{options_behind, IsChanged}
-use Rattle.jsonc_run.proofs.Named.{tells_unnamed}
+use Rattle.jsonc_run.proofs.NamedPlaces.{tells_unnamed}
 use Rattle.jsonc_run.proofs.Refused.{refused_so}
-use Rattle.jsonc_run.proofs.Steps.{makes_steps}
+use Rattle.jsonc_run.proofs.SoundChain.{makes_steps}
 use Rattle.jsonc_run.specs.promise.Words.{in_texts}
 use Rattle.jsonc_run.proofs.lemmas.promise.Chains.{steps_are_run}
-use Rattle.jsonc_parser.specs.paths.Calls.{DropsButForMemory, DropsByOneEdit, PutsButForMemory, PutsByOneEdit}
+use Rattle.jsonc_parser.specs.paths.Calls.{DropsButForMemory, DropsByOneEdit, PutsUnlessOutOfMemory, PutsByOneEdit}
 use Rattle.jsonc_parser.specs.paths.Positions.{IsDroppedBy, removes, IsPutBy, sets_root, sets_first, sets_value, appends, replaces}
 use Rattle.jsonc_parser.specs.paths.Settings.{nest}
 use Rattle.jsonc_parser.proofs.lemmas.paths.Leading.{drops_by_it, puts_by_it}
 use Rattle.jsonc_parser.proofs.lemmas.paths.Paths.{dropped_same, put_at, put_same}
-use Rattle.jsonc_parser.proofs.lemmas.paths.Reaching.{put_is_free}
+use Rattle.jsonc_parser.proofs.lemmas.paths.LongestPrefix.{put_is_free}
 
 -- what is nested is of these numbers
 nest_numbers : (o : Options) (names : List (List ℕ)) (v : Plain) → IsOfNumbers o v → IsOfNumbers o (nest names v)
@@ -70,7 +70,7 @@ one_step_only (one_step s (no_step says)) e = s
 one_step_only (one_step {es = es} s (one_step {e = k} {es = ks} t rest)) e = let wrong : k ∷ ks ≡ [] = e in cc
 
 module _ (d : Document) (op : Operation) (old new : List Node) (tree : IsTree old) (after : IsTree new) (shown : Shows d (ordered_tree old 0)) (characters : IsOfCharacters op) (numbers : NumbersFit d.options op)
-    (made : IsMade old op new) where
+    (made : EditStep old op new) where
   led : LedTo d op new
   led =
       let t : OrderedTree = ordered_tree old 0 in
@@ -107,13 +107,13 @@ drops_by_one_edit d names op old new tree after shown by made =
     (op, by, made, l.e, l.shown, record { edited = l.edited; dropped = dropped; elsewhere = λ path u k. dropped_same dropped path u k })
 
 -- what is named is refused for memory alone
-for_memory : (d : Document) (old : List Node) (op : Operation) (why : EditError) → IsTree old → Shows d (ordered_tree old 0) → IsNamed d.value (comment_count (ordered_tree old 0)) op → IsToldBy old op why → why ≡ OutOfMemory
+for_memory : (d : Document) (old : List Node) (op : Operation) (why : EditError) → IsTree old → Shows d (ordered_tree old 0) → IsNamed d.value (comment_count (ordered_tree old 0)) op → FailsWith old op why → why ≡ OutOfMemory
 for_memory d old op OutOfMemory tree shown named told = refl
 for_memory d old op NoSuchPlace tree shown named told = absurd ((tells_unnamed old d.options tree shown.sound op NoSuchPlace told d.value shown.value).0 refl named)
 for_memory d old op MissingBrackets tree shown named told = absurd (refused_so d.options old tree shown.sound op MissingBrackets told)
 for_memory d old op MissingName tree shown named told = absurd (refused_so d.options old tree shown.sound op MissingName told)
 
-pub puts_but_for_memory : (d : Document) (v : Plain) (over : Over) (names : List (List ℕ)) (op : Operation) (old : List Node) (why : EditError) → PutsButForMemory d v over names op old why
+pub puts_but_for_memory : (d : Document) (v : Plain) (over : Over) (names : List (List ℕ)) (op : Operation) (old : List Node) (why : EditError) → PutsUnlessOutOfMemory d v over names op old why
 puts_but_for_memory d v over names op old why tree shown by = for_memory d old op why tree shown ((puts_by_it v over d.value names op by).0 (comment_count (ordered_tree old 0)))
 
 pub drops_but_for_memory : (d : Document) (names : List (List ℕ)) (op : Operation) (old : List Node) (why : EditError) → DropsButForMemory d names op old why

@@ -12,14 +12,14 @@ use Rattle.jsonc_layout.specs.nodes.Properties.{value_at}
 use Rattle.jsonc_cst.specs.declared.cst.CstRootNode.{CstRootNode}
 use Rattle.jsonc_cst.specs.declared.cst.node.CstNode.{CstNode}
 use Rattle.jsonc_cst.specs.declared.cst.node.CstObject.{CstObject}
-use Rattle.jsonc_cst.specs.Document.{nodes_of, tree_of, Holds}
+use Rattle.jsonc_cst.specs.Document.{nodes_of, tree_of, HasNode}
 use Rattle.jsonc_cst.specs.Nodes.{number_of, object_node, typed, typed_at}
 use Rattle.jsonc_cst.specs.Readings.{value_under}
 use Rattle.jsonc_cst.proofs.Family.{number_of-typed}
 use Rattle.jsonc_parser.specs.paths.Found.{FindsInside, FindsInsideWhatShown, FindsWhatShown, names_of}
 use Rattle.jsonc_parser.specs.paths.Standing.{LeadsOnIn, NamesNode, NamesNothing}
 use Rattle.jsonc_parser.proofs.lemmas.paths.Paths.{at_none}
-use Rattle.jsonc_parser.proofs.lemmas.paths.Standing.{begins_there, leads_on_there, stops_there}
+use Rattle.jsonc_parser.proofs.lemmas.paths.NodesAtNames.{begins_there, leads_on_there, stops_there}
 
 -- what an object's node stands over
 pub object_content : (c : Content) (n : ℕ) (x : CstObject) → typed c n ≡ object_node x → c ≡ object
@@ -32,35 +32,35 @@ NamesWhatShown doc names node = (d : Document) → Shows d (tree_of doc) → Nam
 
 module _ {A : Type 0} (doc : CstRootNode A) (tree : IsTree (nodes_of doc)) where
   -- a node of the document is that of an object exactly where it has the content of one
-  pub is_object : (x : CstObject) → Holds doc (object_node x) → content_at (nodes_of doc) x.number ≡ object
+  pub is_object : (x : CstObject) → HasNode doc (object_node x) → content_at (nodes_of doc) x.number ≡ object
   is_object x held = object_content (content_at (nodes_of doc) x.number) x.number x held.1
 
-  pub no_object : (node : CstNode) → Holds doc node → ((x : CstObject) → node ≡ object_node x → ⊥) → content_at (nodes_of doc) (number_of node) ≡ object → ⊥
+  pub no_object : (node : CstNode) → HasNode doc node → ((x : CstObject) → node ≡ object_node x → ⊥) → content_at (nodes_of doc) (number_of node) ≡ object → ⊥
   no_object node held other is = other (record { number = number_of node }) (sym held.1 ∙ ap (λ (c : Content). typed c (number_of node)) is)
 
   -- inside a node that is no object nothing is found
-  pub no_object_found : (node : CstNode) (name : List ℕ) → Holds doc node → ((x : CstObject) → node ≡ object_node x → ⊥) → FindsInsideWhatShown doc node name None
+  pub no_object_found : (node : CstNode) (name : List ℕ) → HasNode doc node → ((x : CstObject) → node ≡ object_node x → ⊥) → FindsInsideWhatShown doc node name None
   no_object_found node name held other d names shown w rest = (stops_there d (nodes_of doc) names (number_of node) tree shown w (no_object node held other)).nothing name rest
 
-  none_in_object : (x : CstObject) (name : List ℕ) → Holds doc (object_node x) → FirstInObject (nodes_of doc) x.number name None → FindsInsideWhatShown doc (object_node x) name None
+  none_in_object : (x : CstObject) (name : List ℕ) → HasNode doc (object_node x) → FirstInObject (nodes_of doc) x.number name None → FindsInsideWhatShown doc (object_node x) name None
   none_in_object x name held first d names shown w = (leads_on_there d (nodes_of doc) names x.number name tree shown w (is_object x held)).nothing first
 
-  pub none_found : (node : CstNode) (x : CstObject) (name : List ℕ) → Holds doc node → node ≡ object_node x → FirstInObject (nodes_of doc) x.number name None → FindsInsideWhatShown doc node name None
+  pub none_found : (node : CstNode) (x : CstObject) (name : List ℕ) → HasNode doc node → node ≡ object_node x → FirstInObject (nodes_of doc) x.number name None → FindsInsideWhatShown doc node name None
   none_found node x name held is first =
-      subst (λ (k : CstNode). FindsInsideWhatShown doc k name None) (sym is) (none_in_object x name (subst (Holds doc) is held) first)
+      subst (λ (k : CstNode). FindsInsideWhatShown doc k name None) (sym is) (none_in_object x name (subst (HasNode doc) is held) first)
 
-  one_in_object : (x : CstObject) (name : List ℕ) (r : ℕ) → Holds doc (object_node x) → FirstInObject (nodes_of doc) x.number name (Some r) → FindsInsideWhatShown doc (object_node x) name (value_under doc r)
+  one_in_object : (x : CstObject) (name : List ℕ) (r : ℕ) → HasNode doc (object_node x) → FirstInObject (nodes_of doc) x.number name (Some r) → FindsInsideWhatShown doc (object_node x) name (value_under doc r)
   one_in_object x name r held first d names shown w = go (leads_on_there d (nodes_of doc) names x.number name tree shown w (is_object x held)) (value_at (nodes_of doc) r) refl
     where
       go : LeadsOnIn d (nodes_of doc) names x.number name w → (q : Option ℕ) → value_at (nodes_of doc) r ≡ q → FindsInside d doc names name (option_map (typed_at (nodes_of doc)) q)
       go there None e = absurd (there.holds r first e)
       go there (Some q) e = subst (NamesNode d (nodes_of doc) (names ++ name ∷ [])) (sym (number_of-typed (content_at (nodes_of doc) q) q)) (there.leads r q first e).2
 
-  pub one_found : (node : CstNode) (x : CstObject) (name : List ℕ) (r : ℕ) (found : Option CstNode) → Holds doc node → node ≡ object_node x → FirstInObject (nodes_of doc) x.number name (Some r) → found ≡ value_under doc r
+  pub one_found : (node : CstNode) (x : CstObject) (name : List ℕ) (r : ℕ) (found : Option CstNode) → HasNode doc node → node ≡ object_node x → FirstInObject (nodes_of doc) x.number name (Some r) → found ≡ value_under doc r
       → FindsInsideWhatShown doc node name found
   one_found node x name r found held is first value =
       subst (λ (f : Option CstNode). FindsInsideWhatShown doc node name f) (sym value)
-      (subst (λ (k : CstNode). FindsInsideWhatShown doc k name (value_under doc r)) (sym is) (one_in_object x name r (subst (Holds doc) is held) first))
+      (subst (λ (k : CstNode). FindsInsideWhatShown doc k name (value_under doc r)) (sym is) (one_in_object x name r (subst (HasNode doc) is held) first))
 
   pub no_value_found : None ≡ value_under doc 0 → (names : List (List ℕ)) → FindsWhatShown doc names None
   no_value_found e names d shown v a = go (value_at (nodes_of doc) 0) refl e

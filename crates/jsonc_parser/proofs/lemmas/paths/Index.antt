@@ -13,7 +13,7 @@ use Rattle.jsonc_layout.specs.nodes.Siblings.{siblings_before}
 use Rattle.jsonc_sound.specs.Alone.{RowAlone}
 use Rattle.jsonc_sound.specs.Rows as rows
 use Rattle.jsonc_sound.specs.SoundTrees.{SoundTree}
-use Rattle.jsonc_sound.proofs.Apart.{value_alone}
+use Rattle.jsonc_sound.proofs.NodesAlone.{value_alone}
 use Rattle.jsonc_sound.proofs.HeldValues.{document_held}
 use Rattle.jsonc_sound.proofs.SeamStretches.{parted_row}
 use Rattle.jsonc_edit.specs.Changes.{top_at}
@@ -23,7 +23,7 @@ use Rattle.jsonc_edit.proofs.Uniqueness.{element_parent}
 use Rattle.jsonc_edit.proofs.lemmas.set.PropertyRows.{inside_of, object_row, parted, property_here}
 use Rattle.jsonc_tree.specs.Tree.{IsOver}
 use Rattle.jsonc_sound.specs.TreeChanges.{DocumentChanged}
-use Rattle.jsonc_edit.proofs.Walk.{changed_over}
+use Rattle.jsonc_edit.proofs.ChangesUpward.{changed_over}
 
 -- as many pass a test backwards
 one_more_back : (test : ℕ → Bool) (x : ℕ) (xs : List ℕ) → length (filter test (reverse xs)) ≡ length (filter test xs)
@@ -59,7 +59,7 @@ same_taken p q xs n within h =
     let here : slice_index (take n xs) k ≡ slice_index xs k = get_or-take n xs k 0 short in
     ap p here ∙ h k (omega (arith, short, within)) ∙ sym (ap q here)))
 
--- a node at a path may be said to give way to itself (as jsonc_insert/proofs/lemmas/named/PathValues.antt says)
+-- a node at a path may be said to be replaced by itself (as jsonc_insert/proofs/lemmas/named/PathValues.antt says)
 gives_way_to_itself : (ns : List Node) → IsTree ns → (path : List ℕ) (n : ℕ) → IsAt ns path n → DocumentChanged (top_at ns n) (top_at ns n) path (ordered_tree ns 0) (ordered_tree ns 0)
 gives_way_to_itself ns tree path n at =
     changed_over ns ns n (record { tree = tree; content = λ k ne. refl; children = λ k ne. refl }) tree refl n IsOver.itself (λ element. element) path at

@@ -3,7 +3,7 @@ use Rattle.std.proofs.Common.{ℕ, suc, min, ◌≡◌, ◌≤◌, ◌<◌, sym,
 use Rattle.jsonc_text.specs.Plain.{Plain, Items, Members, no_members, member}
 use Rattle.jsonc_text.specs.Plain as plain
 use Rattle.jsonc_text.specs.declared.edit.Over.{Over}
-use Rattle.jsonc_parser.specs.paths.Operations.{MemberChanged, this_member, later_member, Changed, itself, in_array, in_object, MemberRemoved, LosesEntry, loses_item, loses_member, MemberComes, member_count, LacksMember, no_more, other_name, Operation, append_property, remove, replace, set_root, set_value, IsChanged, by_value, by_entry, by_all, by_root, by_setting, by_appending_member, StandsAt, IsNamed}
+use Rattle.jsonc_parser.specs.paths.Operations.{MemberChanged, this_member, later_member, Changed, itself, in_array, in_object, MemberRemoved, LosesEntry, loses_item, loses_member, MemberInserted, member_count, LacksMember, no_more, other_name, Operation, append_property, remove, replace, set_root, set_value, IsChanged, by_value, by_entry, by_all, by_root, by_setting, by_appending_member, StandsAt, IsNamed}
 use Rattle.jsonc_sound.specs.Values as removed
 use Rattle.jsonc_insert.specs.elements.Members as inserted
 use Rattle.jsonc_parser.specs.paths.Settings as settings
@@ -41,7 +41,7 @@ at_first this_at = this_one
 at_first (later_at ne f) = later_one ne (at_first f)
 
 -- one of a name that none had, put behind all, comes last
-comes_behind_all : {name : List ℕ} {v : Plain} {ms ns : Members} {i : ℕ} → i ≡ member_count ms → LacksMember name ms → MemberComes name v i ms ns → ComesLast name v ms ns
+comes_behind_all : {name : List ℕ} {v : Plain} {ms ns : Members} {i : ℕ} → i ≡ member_count ms → LacksMember name ms → MemberInserted name v i ms ns → ComesLast name v ms ns
 comes_behind_all e no_more inserted.this_member = comes_alone
 comes_behind_all e (other_name {ms = ms} ne l) inserted.this_member = absurd (omega (arith, e))
 comes_behind_all e (other_name {ms = ms} ne l) (inserted.later_member {i = i} c) = comes_behind ne (comes_behind_all (omega (arith, e)) l c)
@@ -180,7 +180,7 @@ record ByMember (path name : List ℕ) (v : Plain) (w y : Option Plain) : Type 0
   ns : Members
   is : w ≡ Some old
   now : y ≡ Some new
-  comes : MemberComes name v (member_count ms) ms ns
+  comes : MemberInserted name v (member_count ms) ms ns
   changed : Changed (plain.object ms) (plain.object ns) path old new
 
 least : (i n : ℕ) → n ≤ i → min i n ≡ n
@@ -191,7 +191,7 @@ appended (by_appending_member {i = i} {name = n} {v = u} {x = x} {y = y} {path =
     let a : p ≡ path = cc in
     let b : n ≡ name = cc in
     let c : u ≡ v = cc in
-    let last = subst (λ k. MemberComes n u k g.old g.new) (least i (member_count g.old) h) g.comes in
+    let last = subst (λ k. MemberInserted n u k g.old g.new) (least i (member_count g.old) h) g.comes in
     record {
       old = x;
       new = y;
@@ -199,7 +199,7 @@ appended (by_appending_member {i = i} {name = n} {v = u} {x = x} {y = y} {path =
       ns = g.new;
       is = refl;
       now = refl;
-      comes = subst (λ k. MemberComes name k (member_count g.old) g.old g.new) c (subst (λ k. MemberComes k u (member_count g.old) g.old g.new) b last);
+      comes = subst (λ k. MemberInserted name k (member_count g.old) g.old g.new) c (subst (λ k. MemberInserted k u (member_count g.old) g.old g.new) b last);
       changed = subst (λ k. Changed (plain.object g.old) (plain.object g.new) k x y) a g.changed;
     }
 appended c path name v e = cc

@@ -23,7 +23,7 @@ use Rattle.jsonc_parser.specs.paths.Standing.{NamesNode}
 use Rattle.jsonc_parser.specs.declared.paths.reached.Step.TheVariants.{On, Missing, Another}
 use Rattle.jsonc_parser.proofs.lemmas.paths.Found.{one_more, value_found}
 use Rattle.jsonc_parser.proofs.lemmas.paths.Leading.{no_path}
-use Rattle.jsonc_parser.proofs.lemmas.paths.Standing.{begins_there}
+use Rattle.jsonc_parser.proofs.lemmas.paths.NodesAtNames.{begins_there}
 
 module _ {A : Type 0} (doc : CstRootNode A) where
   -- so far the names lead over this path to this node

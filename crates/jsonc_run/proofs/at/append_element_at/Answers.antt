@@ -3,7 +3,7 @@ use Rattle.jsonc_insert.specs.Inserted.{ElementPut}
 use Rattle.jsonc_layout.specs.input.Views.{plain}
 use Rattle.jsonc_run.specs.Places.{IsArrayAt}
 use Rattle.jsonc_run.proofs.Inserted.{comes_last, told_behind}
-use Rattle.jsonc_run.proofs.Made.{no_place, nowhere}
+use Rattle.jsonc_run.proofs.EditsMade.{no_place, nowhere}
 use Rattle.jsonc_run.specs.Edits.{append_element}
 use Rattle.jsonc_run.specs.Refusals.{as_it_was}
 use Rattle.jsonc_run.proofs.at.append_element_at.Goals as goal
@@ -25,13 +25,13 @@ returns-in-Ok g c = record {
     comes_last c.args.tree.now.nodes c.insert_element.new.tree.nodes c.in-Some.array (plain c.args.value.now) c.in-Ok.field-0 c.in-Ok.ensures.brackets
         (subst (λ (k : ℕ). ElementPut c.args.tree.now.nodes c.insert_element.new.tree.nodes c.in-Some.array k (plain c.args.value.now) c.in-Ok.field-0) c.child_count-count.ensures c.in-Ok.ensures.put),
   );
-  told = tt;
+  error = tt;
   left = tt;
 }
 
 pub returns-in-Err : goal.returns-in-Err
 returns-in-Err g c = record {
   made = tt;
-  told = told_behind c.args.tree.now.nodes c.args.path.now c.in-Some.array (plain c.args.value.now) ((c.find_needed.ensures.found c.in-Some.array).0 c.in-Some.is) c.in-Err.error c.in-Err.ensures.told;
+  error = told_behind c.args.tree.now.nodes c.args.path.now c.in-Some.array (plain c.args.value.now) ((c.find_needed.ensures.found c.in-Some.array).0 c.in-Some.is) c.in-Err.error c.in-Err.ensures.error;
   left = as_it_was c.in-Err.ensures.kept c.in-Err.ensures.document;
 }

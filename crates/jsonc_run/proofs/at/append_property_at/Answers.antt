@@ -3,7 +3,7 @@ use Rattle.jsonc_layout.specs.input.Views.{plain}
 use Rattle.jsonc_insert.specs.members.Inserted.{PropertyPut}
 use Rattle.jsonc_run.specs.Places.{IsObjectAt}
 use Rattle.jsonc_run.proofs.Properties.{object_there, comes_last, told_behind}
-use Rattle.jsonc_run.proofs.Made.{no_place, nowhere}
+use Rattle.jsonc_run.proofs.EditsMade.{no_place, nowhere}
 use Rattle.jsonc_run.specs.Edits.{append_property}
 use Rattle.jsonc_run.specs.Refusals.{as_it_was}
 use Rattle.jsonc_run.proofs.at.append_property_at.Goals as goal
@@ -25,13 +25,13 @@ returns-in-Ok g c = record {
     comes_last c.args.tree.now.nodes c.insert_property.new.tree.nodes c.in-Some.object (chars c.args.name.now) (plain c.args.value.now) c.in-Ok.field-0 c.args.tree.now.tree (object_there c.args.tree.now.nodes c.args.tree.now.tree c.args.path.now c.in-Some.object at) c.in-Ok.ensures.brackets
         (subst (λ (k : ℕ). PropertyPut c.args.tree.now.nodes c.insert_property.new.tree.nodes c.in-Some.object k (chars c.args.name.now) (plain c.args.value.now) c.in-Ok.field-0) c.child_count-count.ensures c.in-Ok.ensures.put),
   );
-  told = tt;
+  error = tt;
   left = tt;
 }
 
 pub returns-in-Err : goal.returns-in-Err
 returns-in-Err g c = record {
   made = tt;
-  told = told_behind c.args.tree.now.nodes c.args.path.now c.in-Some.object (chars c.args.name.now) (plain c.args.value.now) ((c.find_needed.ensures.found c.in-Some.object).0 c.in-Some.is) c.in-Err.error c.in-Err.ensures.told;
+  error = told_behind c.args.tree.now.nodes c.args.path.now c.in-Some.object (chars c.args.name.now) (plain c.args.value.now) ((c.find_needed.ensures.found c.in-Some.object).0 c.in-Some.is) c.in-Err.error c.in-Err.ensures.error;
   left = as_it_was c.in-Err.ensures.kept c.in-Err.ensures.document;
 }

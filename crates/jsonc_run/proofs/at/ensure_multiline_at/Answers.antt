@@ -1,6 +1,6 @@
 use Rattle.jsonc_run.specs.Places.{IsContainerAt}
 use Rattle.jsonc_run.proofs.OnLines.{lines_made, lines_told}
-use Rattle.jsonc_run.proofs.Made.{no_place, nowhere, answers}
+use Rattle.jsonc_run.proofs.EditsMade.{no_place, nowhere, answers}
 use Rattle.jsonc_run.specs.Edits.{ensure_multiline}
 use Rattle.jsonc_run.proofs.at.ensure_multiline_at.Goals as goal
 
@@ -16,5 +16,5 @@ pub returns : goal.returns
 returns g c =
     answers c.args.tree.now.nodes c.ensure_multiline.new.tree.nodes (ensure_multiline c.args.path.now) c.ensure_multiline.result
     (lines_made c.args.tree.now.nodes c.args.path.now c.in-Some.container ((c.find_container.ensures.found c.in-Some.container).0 c.in-Some.is) c.ensure_multiline.result c.ensure_multiline.new.tree.nodes c.ensure_multiline.ensures.made)
-    (lines_told c.args.tree.now.nodes c.args.path.now c.in-Some.container ((c.find_container.ensures.found c.in-Some.container).0 c.in-Some.is) c.ensure_multiline.result c.ensure_multiline.ensures.told)
+    (lines_told c.args.tree.now.nodes c.args.path.now c.in-Some.container ((c.find_container.ensures.found c.in-Some.container).0 c.in-Some.is) c.ensure_multiline.result c.ensure_multiline.ensures.error)
     c.ensure_multiline.ensures.kept c.ensure_multiline.ensures.document

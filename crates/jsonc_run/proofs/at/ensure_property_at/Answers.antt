@@ -1,7 +1,7 @@
 use Rattle.std.proofs.Common.{chars}
 use Rattle.jsonc_run.specs.Places.{IsObjectAt}
 use Rattle.jsonc_run.proofs.Properties.{told_for}
-use Rattle.jsonc_run.proofs.Made.{no_place, nowhere}
+use Rattle.jsonc_run.proofs.EditsMade.{no_place, nowhere}
 use Rattle.jsonc_run.specs.Edits.{ensure_property}
 use Rattle.jsonc_run.specs.Refusals.{as_it_was}
 use Rattle.jsonc_run.proofs.at.ensure_property_at.Goals as goal
@@ -17,13 +17,13 @@ ensure_property-requires-clause-object g c = ((c.find_needed.ensures.found c.in-
 pub returns-in-Ok : goal.returns-in-Ok
 returns-in-Ok g c = record {
   made = (c.in-Some.object, c.in-Ok.field-0, (c.find_needed.ensures.found c.in-Some.object).0 c.in-Some.is, c.in-Ok.ensures.ensured);
-  told = tt;
+  error = tt;
   left = tt;
 }
 
 pub returns-in-Err : goal.returns-in-Err
 returns-in-Err g c = record {
   made = tt;
-  told = told_for c.args.tree.now.nodes c.args.path.now c.in-Some.object (chars c.args.name.now) c.args.shape c.args.over ((c.find_needed.ensures.found c.in-Some.object).0 c.in-Some.is) c.in-Err.error c.in-Err.ensures.told;
+  error = told_for c.args.tree.now.nodes c.args.path.now c.in-Some.object (chars c.args.name.now) c.args.shape c.args.over ((c.find_needed.ensures.found c.in-Some.object).0 c.in-Some.is) c.in-Err.error c.in-Err.ensures.error;
   left = as_it_was c.in-Err.ensures.kept c.in-Err.ensures.document;
 }

@@ -4,8 +4,8 @@ use Rattle.jsonc_tree.specs.Tree.{parent_at}
 use Rattle.jsonc_edit.specs.Paths.{IsAt}
 use Rattle.jsonc_edit.specs.Reading.{IsReplaced}
 use Rattle.jsonc_run.specs.Edits.{replace}
-use Rattle.jsonc_run.specs.Refusals.{IsToldBy, as_it_was}
-use Rattle.jsonc_run.proofs.Made.{no_place, not_alone, none_is, some_is, nowhere}
+use Rattle.jsonc_run.specs.Refusals.{FailsWith, as_it_was}
+use Rattle.jsonc_run.proofs.EditsMade.{no_place, not_alone, none_is, some_is, nowhere}
 use Rattle.jsonc_run.proofs.at.replace_at.Goals as goal
 
 pub returns-in_default : goal.returns-in_default
@@ -16,7 +16,7 @@ returns-in_default g c =
 pub returns-in-Ok-Some : goal.returns-in-Ok-Some
 returns-in-Ok-Some g c = record {
   made = (c.in-Some.node, c.in-Ok-Some.field-0-0, (c.find.ensures.found c.in-Some.node).0 c.in-Some.is, some_is c.in-Ok-Some.field-0 (IsReplaced c.args.tree.now.nodes c.replace.new.tree.nodes c.in-Some.node (plain c.args.value.now)) c.in-Ok-Some.field-0-0 c.in-Ok-Some.field-0-is c.in-Ok-Some.ensures.replaced);
-  told = tt;
+  error = tt;
   left = tt;
 }
 
@@ -26,6 +26,6 @@ returns-in-Ok-None g c = absurd (not_alone c.args.tree.now.nodes c.args.tree.now
 pub returns-in-Err : goal.returns-in-Err
 returns-in-Err g c = record {
   made = tt;
-  told = subst (IsToldBy c.args.tree.now.nodes (replace c.args.path.now (plain c.args.value.now))) (sym c.in-Err.ensures.memory) (c.in-Some.node, (c.find.ensures.found c.in-Some.node).0 c.in-Some.is);
+  error = subst (FailsWith c.args.tree.now.nodes (replace c.args.path.now (plain c.args.value.now))) (sym c.in-Err.ensures.memory) (c.in-Some.node, (c.find.ensures.found c.in-Some.node).0 c.in-Some.is);
   left = as_it_was c.in-Err.ensures.kept c.in-Err.ensures.document;
 }

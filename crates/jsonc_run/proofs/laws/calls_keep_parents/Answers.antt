@@ -1,5 +1,5 @@
 use Rattle.jsonc_run.proofs.Calls as calls
-use Rattle.jsonc_run.proofs.Elsewhere as elsewhere
+use Rattle.jsonc_run.proofs.DetachedNodes as elsewhere
 use Rattle.jsonc_run.proofs.Parents as parents
 use Rattle.jsonc_run.proofs.laws.calls_keep_parents.Goals as goal
 

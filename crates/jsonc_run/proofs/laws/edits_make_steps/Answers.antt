@@ -1,4 +1,4 @@
-use Rattle.jsonc_run.proofs.Steps.{makes_steps}
+use Rattle.jsonc_run.proofs.SoundChain.{makes_steps}
 use Rattle.jsonc_run.proofs.laws.edits_make_steps.Goals as goal
 
 pub returns : goal.returns

@@ -15,11 +15,11 @@ use Rattle.jsonc_text.specs.declared.edit.EditError.{EditError}
 use Rattle.jsonc_text.specs.declared.edit.EditError.TheVariants.{NoSuchPlace}
 use Rattle.jsonc_run.specs.declared.edit.Edit.{Edit}
 use Rattle.jsonc_run.specs.declared.edit.Edit.TheVariants.{Replace, Remove, RemoveComment, SetRoot, ClearRoot, ReplaceProperty, EnsureRoot, SetValue, EnsureValue, SetBoolean, EnsureMultiline, InsertElement, AppendElement, InsertProperty, AppendProperty, EnsureProperty, SetTrailingCommas, Sort}
-use Rattle.jsonc_run.specs.Edits.{Operation, Sorting, operation_of, set_some_commas, unsorted, AreMade, first_made, none_made}
+use Rattle.jsonc_run.specs.Edits.{Operation, Sorting, operation_of, set_some_commas, unsorted, EditSteps, first_made, none_made}
 use Rattle.jsonc_run.specs.Named.{comment_count, IsNamed}
-use Rattle.jsonc_run.specs.Refusals.{IsLeft, IsToldBy, as_it_was, set_in_part}
+use Rattle.jsonc_run.specs.Refusals.{IsLeft, FailsWith, as_it_was, set_in_part}
 use Rattle.jsonc_run.specs.Steps.{Fits, IsOfCharacters, NumbersFit}
-use Rattle.jsonc_run.proofs.Named.{tells_unnamed}
+use Rattle.jsonc_run.proofs.NamedPlaces.{tells_unnamed}
 use Rattle.jsonc_run.proofs.Refused.{made_tree, refused_so}
 use Rattle.jsonc_run.specs.promise.Asked.{asks, Ask, IsBegun, nothing, some_commas, StopsInText}
 use Rattle.jsonc_run.specs.promise.Words.{all_in_texts, in_texts}
@@ -68,9 +68,9 @@ left_so now new next _ m tree after shown asked (set_in_part {path = path} {mode
     record { e = lead.0; shown = lead.1; begun = all_in_texts (op ∷ []); is_begun = some_commas path asked; done = lead.2 }
 
 -- The first edits were made, and the next was refused.
-pub stops_so : {A : Type 0} (old now new : List Node) (edits : List (Edit A)) (k : ℕ) (ops : List Operation) (next : Edit A) (why : EditError) → IsTree old → IsTree new → AreMade old ops now → All IsOfCharacters ops
+pub stops_so : {A : Type 0} (old now new : List Node) (edits : List (Edit A)) (k : ℕ) (ops : List Operation) (next : Edit A) (why : EditError) → IsTree old → IsTree new → EditSteps old ops now → All IsOfCharacters ops
     → ((o : Options) → All (Fits o) (take k edits) → All (NumbersFit o) ops) → Ask (take k edits) (all_in_texts ops) → slice_get edits k ≡ Some next
-    → IsToldBy now (operation_of unsorted next) why → IsLeft now (operation_of unsorted next) new → StopsInText (ordered_tree old 0) edits k why (ordered_tree new 0)
+    → FailsWith now (operation_of unsorted next) why → IsLeft now (operation_of unsorted next) new → StopsInText (ordered_tree old 0) edits k why (ordered_tree new 0)
 stops_so old now new edits k ops next why tree after made characters numbers asked is_next told left d shown fit =
     let lead = edits_lead old now ops tree made characters d shown (numbers d.options fit) in
     let m : Document = lead.0 in

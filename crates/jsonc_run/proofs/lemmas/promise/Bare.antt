@@ -23,7 +23,7 @@ use Rattle.jsonc_sound.specs.Adjacent as adjacent
 use Rattle.jsonc_sound.specs.SoundTrees.{SoundTree}
 use Rattle.jsonc_sound.specs.Spaces as trees
 use Rattle.jsonc_sound.specs.Spaces.{first_printed, is_bare_leaf}
-use Rattle.jsonc_sound.proofs.Apart.{document_leaves}
+use Rattle.jsonc_sound.proofs.NodesAlone.{document_leaves}
 use Rattle.jsonc_sound.proofs.Texts.{AllUtf8}
 use Rattle.jsonc_run.specs.promise.PlaceLaws.{text_of_leaves}
 use Rattle.jsonc_run.proofs.lemmas.promise.Leaves.{text_joined, utf8_first, utf8_second}

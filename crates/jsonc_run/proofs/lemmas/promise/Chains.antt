@@ -14,13 +14,13 @@ use Rattle.jsonc_layout.specs.from_input.Texts.{IsOfTexts}
 use Rattle.jsonc_sound.specs.Documents.{document_of}
 use Rattle.jsonc_sound.specs.EntryLaws.{root_with}
 use Rattle.jsonc_sound.specs.SoundTrees.{SoundTree}
-use Rattle.jsonc_insert.specs.elements.Laws.{ElementComesAt, item_count}
-use Rattle.jsonc_insert.specs.named.Values.{ValueGivesWay}
+use Rattle.jsonc_insert.specs.elements.Laws.{ElementInsertedAt, item_count}
+use Rattle.jsonc_insert.specs.named.Values.{ReplacesValue}
 use Rattle.jsonc_edit.specs.remove.Laws.{ValueTaken}
-use Rattle.jsonc_edit.proofs.lemmas.remove.LostValue.{removes_value}
+use Rattle.jsonc_edit.proofs.lemmas.remove.RemovedValue.{removes_value}
 use Rattle.jsonc_run.specs.Edits.{Operation, replace, remove, remove_comment, set_root, clear_root, replace_property, ensure_root, set_value, ensure_value, set_boolean, ensure_multiline, insert_element, append_element, insert_property, append_property, ensure_property, set_commas, set_some_commas, rearrange}
 use Rattle.jsonc_run.specs.Steps.{IsOfCharacters, Says, Step, no_step, one_step}
-use Rattle.jsonc_run.specs.Written.{options_behind, IsChanged, by_boolean, by_comment, by_inserting, by_appending, EntryLeft, entry_left, value_left}
+use Rattle.jsonc_run.specs.Written.{options_behind, IsChanged, by_boolean, by_comment, by_inserting, by_appending, EntryRemoved, entry_left, value_left}
 use Rattle.jsonc_run.specs.promise.Chains.{RunsJoin, StepsAreRun}
 use Rattle.jsonc_run.specs.promise.Words.{in_texts}
 use Rattle.jsonc_run.proofs.lemmas.promise.Commenting.{comment_leaves}
@@ -29,7 +29,7 @@ use Rattle.jsonc_run.proofs.lemmas.promise.Inserting.{ItemGained, item_gained, g
 use Rattle.jsonc_run.proofs.lemmas.promise.Lines as lines
 use Rattle.jsonc_run.proofs.lemmas.promise.Lines.{commas_made, multiline_made, options_same}
 use Rattle.jsonc_run.proofs.lemmas.promise.Members.{property_inserted, property_appended}
-use Rattle.jsonc_run.proofs.lemmas.promise.Named.{property_ensured}
+use Rattle.jsonc_run.proofs.lemmas.promise.NamedProperties.{property_ensured}
 use Rattle.jsonc_run.proofs.lemmas.promise.Plains.{changed, entry_of}
 use Rattle.jsonc_run.proofs.lemmas.promise.Properties.{property_replaced}
 use Rattle.jsonc_run.proofs.lemmas.promise.Removing.{entry_removed}
@@ -55,28 +55,28 @@ comment_made o t u w x n s =
     let m = comment_leaves o s.old.sound s.new.sound s.made.2 w in
     subst (λ y. texts.LosesComment n (document_of o t w) (document_of o u y)) (sym (same_value s.changed)) (subst (λ k. texts.LosesComment k (document_of o t w) (document_of o u w)) s.made.3 m)
 
-removal_made : (o : Options) (t u : OrderedTree) (w x : Option Plain) {path : List ℕ} → Says o t w → Says o u x → EntryLeft t u path → Makes (document_of o t w) (texts.remove path) (document_of o u x)
+removal_made : (o : Options) (t u : OrderedTree) (w x : Option Plain) {path : List ℕ} → Says o t w → Says o u x → EntryRemoved t u path → Makes (document_of o t w) (texts.remove path) (document_of o u x)
 removal_made o t u w x old new (entry_left path i top taken) = entry_removed o old.sound new.sound w x old.value new.value path i top taken
 removal_made o t u w x old new (value_left top taken) =
     let none : x ≡ None = document_unique o (printed_text u) x None new.text (removes_value o t u top old.sound taken).new_text in
     (root_made o w x old.sound new.sound taken, texts.all none)
 
-boolean_made : (o : Options) {t u : OrderedTree} {w x : Option Plain} {path : List ℕ} {b : Bool} → SoundTree o t → SoundTree o u → IsChanged w (set_boolean path b) x → ValueGivesWay path (Plain.boolean b) t u
+boolean_made : (o : Options) {t u : OrderedTree} {w x : Option Plain} {path : List ℕ} {b : Bool} → SoundTree o t → SoundTree o u → IsChanged w (set_boolean path b) x → ReplacesValue path (Plain.boolean b) t u
     → Makes (document_of o t w) (texts.set_boolean path b) (document_of o u x)
 boolean_made o {path = path} {b = b} s r (by_boolean {was = was} {x = x} {y = y} c) given = (was, value_put_so o s r (Some x) (Some y) path (Plain.boolean b) tt given (Plain.boolean was) (changed c))
 
 -- a value has come into an array
-insertion_made : (o : Options) (t u : OrderedTree) (w x : Option Plain) (path : List ℕ) (i : ℕ) (v : Plain) → IsOfTexts v → SoundTree o t → SoundTree o u → IsChanged w (insert_element path i v) x → ElementComesAt o path i v t u
+insertion_made : (o : Options) (t u : OrderedTree) (w x : Option Plain) (path : List ℕ) (i : ℕ) (v : Plain) → IsOfTexts v → SoundTree o t → SoundTree o u → IsChanged w (insert_element path i v) x → ElementInsertedAt o path i v t u
     → Makes (document_of o t w) (texts.insert_element path i v) (document_of o u x)
 insertion_made o t u _ _ path i v texts s r (by_inserting gains) c =
     let k = gained o s r texts c gains in
     (k.front, k.back, in_place o s r texts c gains, gains_so o s r texts c gains k)
 
-append_made : (o : Options) (t u : OrderedTree) (w x : Option Plain) (path : List ℕ) (v : Plain) → IsOfTexts v → SoundTree o t → SoundTree o u → IsChanged w (append_element path v) x → (n : ℕ) → ((i : ℕ) → n ≤ i → ElementComesAt o path i v t u)
+append_made : (o : Options) (t u : OrderedTree) (w x : Option Plain) (path : List ℕ) (v : Plain) → IsOfTexts v → SoundTree o t → SoundTree o u → IsChanged w (append_element path v) x → (n : ℕ) → ((i : ℕ) → n ≤ i → ElementInsertedAt o path i v t u)
     → Makes (document_of o t w) (texts.append_element path v) (document_of o u x)
 append_made o t u _ _ path v texts s r (by_appending {i = i} {x = x} {y = y} gains far) n comes =
     let k = item_gained gains.comes in
-    let c : ElementComesAt o path n v t u = comes n (omega arith) in
+    let c : ElementInsertedAt o path n v t u = comes n (omega arith) in
     let count : item_count gains.old ≡ length (k.front ++ k.back) = ap item_count k.before ∙ counted (k.front ++ k.back) in
     let last : k.back ≡ [] = nothing_behind k.front k.back (k.place ∙ omega (arith, far, count)) in
     let all : ItemGained v (min i (item_count gains.old)) gains.old gains.new = k in

@@ -14,7 +14,7 @@ use Rattle.jsonc_text.specs.declared.edit.TrailingCommaMode.{TrailingCommaMode}
 use Rattle.jsonc_edit.specs.commas.Laws.{allowing, SaysTheSame}
 use Rattle.jsonc_run.specs.Edits.{set_commas, set_some_commas}
 use Rattle.jsonc_run.specs.Steps.{IsChangedAt}
-use Rattle.jsonc_run.proofs.Steps.{says}
+use Rattle.jsonc_run.proofs.SoundChain.{says}
 use Rattle.jsonc_run.specs.promise.Steps.{IsStepOf}
 use Rattle.jsonc_run.specs.promise.Words.{sets_some}
 use Rattle.jsonc_run.proofs.lemmas.promise.Lines.{commas_made, options_same}

@@ -7,7 +7,7 @@ use Rattle.jsonc_sound.proofs.Texts.{AllUtf8}
 use Rattle.jsonc_text.specs.Edits.{Without}
 use Rattle.jsonc_text.specs.Edits as texts
 use Rattle.jsonc_run.specs.promise.PlaceLaws.{text_of_leaves}
-use Rattle.jsonc_run.proofs.lemmas.promise.Standing.{comma_mark}
+use Rattle.jsonc_run.proofs.lemmas.promise.PrintedShapes.{comma_mark}
 
 -- the same characters before two texts
 pub same_before : {p : ℕ → Bool} (s : List ℕ) {x y : List ℕ} → Without p x y → Without p (s ++ x) (s ++ y)

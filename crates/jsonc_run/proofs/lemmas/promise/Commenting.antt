@@ -10,7 +10,7 @@ use Rattle.jsonc_tree.specs.OrderedTree.{OrderedTree, leaves}
 use Rattle.jsonc_sound.specs.Shape.{printed_text}
 use Rattle.jsonc_sound.specs.Marks as tree_marks
 use Rattle.jsonc_sound.specs.SoundTrees.{SoundTree}
-use Rattle.jsonc_sound.proofs.Apart.{document_alone}
+use Rattle.jsonc_sound.proofs.NodesAlone.{document_alone}
 use Rattle.jsonc_sound.proofs.Pieces.{Pieces, document_pieces}
 use Rattle.jsonc_sound.proofs.Texts.{AllUtf8}
 use Rattle.jsonc_edit.specs.SeamLaws.{comments_before, LosesWithSeam}

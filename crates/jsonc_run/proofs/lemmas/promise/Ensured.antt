@@ -16,7 +16,7 @@ use Rattle.jsonc_text.specs.declared.edit.Shape.{Shape}
 use Rattle.jsonc_text.specs.declared.edit.Shape.TheVariants.{Object, Array}
 use Rattle.jsonc_edit.specs.set.Shapes as shapes
 use Rattle.jsonc_edit.specs.set.Shapes.{has_shape, empty_of, EnsuredValue, has_it, may_stay, must_give_way}
-use Rattle.jsonc_insert.specs.named.Values.{ReplacesHeld, ValueGivesWay, ValueEnsured, all_stays, empty_given}
+use Rattle.jsonc_insert.specs.named.Values.{ReplacesHeld, ReplacesValue, ValueEnsured, all_stays, empty_given}
 use Rattle.jsonc_insert.proofs.lemmas.named.Values.{same_shape}
 use Rattle.jsonc_run.specs.Edits.{ensure_value}
 use Rattle.jsonc_run.specs.Written.{IsChanged, by_ensuring_held}
@@ -56,7 +56,7 @@ same_kind Array (Plain.string s) = refl
 same_kind Array (Plain.array vs) = refl
 same_kind Array (Plain.object ms) = refl
 
--- what stands at a path may give way to itself
+-- what stands at a path may be replaced by itself
 pub right_stands : {was now : Plain} {path : List ℕ} {x y : Plain} → Changed was now path x y → Changed now now path y y
 right_stands itself = itself
 right_stands (inside kind front back name c) = inside kind front back name (right_stands c)
@@ -83,8 +83,8 @@ may_stay_there shape {now = now} (may_stay e) = kept_if (is_of (kind_of shape) n
 may_stay_there shape {how} {now = now} (must_give_way e) = stays_if how (is_of (kind_of shape) now) (same_kind shape now ∙ empty_shaped shape)
 
 module _ (o : Options) {t u : OrderedTree} (path : List ℕ) (shape : Shape) where
-  -- another value has given way to an empty one
-  pub given_so : SoundTree o t → SoundTree o u → (w x : Option Plain) → DocumentValueOf o t w → DocumentValueOf o u x → (given : ValueGivesWay path (empty_of shape) t u) → shapes.is_of shape given.was.content ≡ false
+  -- another value has been replaced by an empty one
+  pub given_so : SoundTree o t → SoundTree o u → (w x : Option Plain) → DocumentValueOf o t w → DocumentValueOf o u x → (given : ReplacesValue path (empty_of shape) t u) → shapes.is_of shape given.was.content ≡ false
       → Ensures (kind_of shape) true path (document_of o t w) (document_of o u x)
   given_so s r w x h k given other =
       let m = value_becomes o w x h k path (empty_of shape) (empty_texts shape) given in

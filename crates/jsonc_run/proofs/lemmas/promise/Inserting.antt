@@ -7,7 +7,7 @@ use Rattle.jsonc_tree.specs.OrderedTree.{OrderedTree}
 use Rattle.jsonc_layout.specs.from_input.Texts.{IsOfTexts}
 use Rattle.jsonc_layout.proofs.lemmas.from_input.Meanings.{laid_value}
 use Rattle.jsonc_insert.specs.elements.Laws as laws
-use Rattle.jsonc_insert.specs.elements.Laws.{ElementComesAt, GainsItem, ItemComes, item_count}
+use Rattle.jsonc_insert.specs.elements.Laws.{ElementInsertedAt, InsertsItem, ItemInserted, item_count}
 use Rattle.jsonc_sound.specs.Rows.{of_values}
 use Rattle.jsonc_sound.specs.SoundTrees.{SoundTree}
 use Rattle.jsonc_sound.proofs.FirstNodes.{value_of_element}
@@ -29,7 +29,7 @@ pub record ItemGained (v : Plain) (n : ℕ) (vs ws : Items) : Type 0 where
   pub before : vs ≡ items (front ++ back)
   pub after : ws ≡ items (front ++ entry_of [] v ∷ back)
 
-pub item_gained : {v : Plain} {n : ℕ} {vs ws : Items} → ItemComes v n vs ws → ItemGained v n vs ws
+pub item_gained : {v : Plain} {n : ℕ} {vs ws : Items} → ItemInserted v n vs ws → ItemGained v n vs ws
 item_gained {v} (laws.this_item {vs = vs}) = record { front = []; back = list_of_items vs; place = refl; before = sym (same_items vs); after = ap (item v) (sym (same_items vs)) }
 item_gained (laws.later_item {w = w} k) =
     let m = item_gained k in
@@ -39,7 +39,7 @@ pub counted : (xs : List Named) → item_count (items xs) ≡ length xs
 counted [] = refl
 counted (x ∷ xs) = ap suc (counted xs)
 
-module _ (o : Options) {t u : OrderedTree} (s : SoundTree o t) (r : SoundTree o u) {path : List ℕ} {i j : ℕ} {v : Plain} (texts : IsOfTexts v) (c : ElementComesAt o path j v t u) {x y : Plain} (g : GainsItem path i v x y) where
+module _ (o : Options) {t u : OrderedTree} (s : SoundTree o t) (r : SoundTree o u) {path : List ℕ} {i j : ℕ} {v : Plain} (texts : IsOfTexts v) (c : ElementInsertedAt o path j v t u) {x y : Plain} (g : InsertsItem path i v x y) where
   pub gained : ItemGained v (min i (item_count g.old)) g.old g.new
   gained = item_gained g.comes
 

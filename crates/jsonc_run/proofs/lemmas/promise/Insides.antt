@@ -1,4 +1,4 @@
--- Where a container of a sound tree gives way to one of the same kind, nothing outside of it changes, and what its entries' texts are.
+-- Where a container of a sound tree is replaced by one of the same kind, nothing outside of it changes, and what its entries' texts are.
 use Rattle.std.proofs.Common.{ℕ, suc, ◌+◌, ◌≡◌, ◌∙◌, sym, ap, subst, refl, Bool, true, false, List, [], ◌∷◌, ◌++◌, length, IsTrue, Option}
 use Rattle.std.proofs.lemmas.List.{append_assoc, append-nil}
 use Rattle.jsonc_text.specs.Options.{Options}
@@ -21,15 +21,15 @@ use Rattle.jsonc_insert.proofs.lemmas.elements.Marked.{behind_marks, led_marks}
 use Rattle.jsonc_tree.proofs.OrderedTrees.{leaves-followed_by}
 use Rattle.jsonc_sound.specs.TriviaChanges.{AreTrivia, leaves_then}
 use Rattle.jsonc_insert.specs.elements.Coming as coming
-use Rattle.jsonc_insert.specs.elements.Coming.{FirstLinesLeave, LastLinesLeave, BlankLinesLeave, Gap, CommaComes, GoesOn, ElementComes}
+use Rattle.jsonc_insert.specs.elements.Coming.{FirstLinesLeave, LastLinesLeave, BlankLinesLeave, Gap, CommaInserted, GoesOn, ElementInserted}
 use Rattle.jsonc_text.specs.Paths.{Entry, HasEntries}
 use Rattle.jsonc_text.specs.Marks.{Mark}
 use Rattle.jsonc_text.specs.Edits.{Come, Document, Inside, Within}
 use Rattle.jsonc_run.specs.promise.PlaceLaws.{text_of_leaves, node_chars, texts_of}
 use Rattle.jsonc_run.proofs.lemmas.promise.Entries.{has_entries, element_text, over_text}
-use Rattle.jsonc_run.proofs.lemmas.promise.Flip.{flip, front_same, back_same}
+use Rattle.jsonc_run.proofs.lemmas.promise.Reversed.{flip, front_same, back_same}
 use Rattle.jsonc_run.proofs.lemmas.promise.Leaves.{row_back, front_of, back_of, document_parts, document_utf8, text_joined, utf8_first, utf8_second}
-use Rattle.jsonc_run.proofs.lemmas.promise.Reaching.{Reached, at_first, past_leaves, past_row}
+use Rattle.jsonc_run.proofs.lemmas.promise.StretchElements.{Reached, at_first, past_leaves, past_row}
 use Rattle.jsonc_run.proofs.lemmas.promise.RemovedTexts.{container_leaves, entry_begins, entry_there, none_more}
 use Rattle.jsonc_run.proofs.lemmas.promise.Stretches.{marks_in, marks_in_both, parted, parted_as}
 use Rattle.jsonc_sound.specs.Documents.{all_marks, document_of}
@@ -110,7 +110,7 @@ gap_trivia coming.nothing = tt
 gap_trivia coming.a_space = (refl, tt)
 gap_trivia (coming.a_line h) = (refl, (refl, tt))
 
-comma_comes : {front led : OrderedTree} → CommaComes front led → texts_of led ≡ texts_of front
+comma_comes : {front led : OrderedTree} → CommaInserted front led → texts_of led ≡ texts_of front
 comma_comes coming.none_comes = refl
 comma_comes (coming.one_comes front last beside h b) =
     let tail : OrderedTree = leaves_then beside none in
@@ -169,10 +169,10 @@ TextComes path come d e = (before behind : List (List ℕ)) × (text rest : List
 
 module _ (o : Options) (kind : RowKind) (row kept new : OrderedTree) {path : List ℕ} {t u : OrderedTree} (s : SoundTree o t) (r : SoundTree o u) (d : DocumentChanged (bracketed kind row) (bracketed kind new) path t u)
     (w x : Option Plain) (same_texts : texts_of row ≡ texts_of kept) (same_marks : marks kept ≡ marks row) {top : Top} (element : IsElement top.content) (come : List Mark) (is : marks_in (leaves_of top) ≡ come) where
-  pub text_comes : {n : ℕ} → ElementComes o top n kept new → TextComes path come (document_of o t w) (document_of o u x)
+  pub text_comes : {n : ℕ} → ElementInserted o top n kept new → TextComes path come (document_of o t w) (document_of o u x)
   text_comes c = by c refl refl
     where
-      by : {n : ℕ} {k now : OrderedTree} → ElementComes o top n k now → k ≡ kept → now ≡ new → TextComes path come (document_of o t w) (document_of o u x)
+      by : {n : ℕ} {k now : OrderedTree} → ElementInserted o top n k now → k ≡ kept → now ≡ new → TextComes path come (document_of o t w) (document_of o u x)
       by (coming.comes front back led behind gap c taken no_comma g on) e f =
           let bracket : OrderedTree = token_then (closing kind) none in
           let around : DocumentChanged (bracketed kind new) (bracketed kind row) path u t = flip d in

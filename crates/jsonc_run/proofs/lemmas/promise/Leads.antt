@@ -10,7 +10,7 @@ use Rattle.jsonc_edit.proofs.OneValue.{document_once}
 use Rattle.jsonc_run.specs.Edits.{Operation}
 use Rattle.jsonc_run.specs.Steps.{Says, Steps, no_step, one_step}
 use Rattle.jsonc_run.specs.Written.{options_after}
-use Rattle.jsonc_run.proofs.Steps.{makes_steps, says}
+use Rattle.jsonc_run.proofs.SoundChain.{makes_steps, says}
 use Rattle.jsonc_run.specs.promise.Chains.{EditsLead, ShownAreDocuments}
 use Rattle.jsonc_run.specs.promise.Words.{all_in_texts}
 use Rattle.jsonc_run.proofs.lemmas.promise.Chains.{steps_are_run}

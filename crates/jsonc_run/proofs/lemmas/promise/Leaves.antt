@@ -1,4 +1,4 @@
--- The leaves before and behind what gives way, and what they print.
+-- The leaves before and behind what is replaced, and what they print.
 use Rattle.std.proofs.Common.{ℕ, ◌≡◌, ◌∙◌, sym, ap, subst, refl, List, [], ◌∷◌, ◌++◌, chars}
 use Rattle.std.specs.List.{flat_map}
 use Rattle.std.proofs.lemmas.List.{append_assoc, append-nil}
@@ -10,11 +10,11 @@ use Rattle.jsonc_sound.specs.Shape as shape
 use Rattle.jsonc_sound.specs.Shape.{Trivia, DocumentShaped, printed_text}
 use Rattle.jsonc_sound.specs.ChangeLaws.{DiffersIn}
 use Rattle.jsonc_sound.specs.TreeChanges.{leaves_of, ElementChanged, this_element, passed, later_element, ValueChanged, itself, in_array, in_object, DocumentChanged, in_root}
-use Rattle.jsonc_sound.proofs.Apart.{value_alone}
+use Rattle.jsonc_sound.proofs.NodesAlone.{value_alone}
 use Rattle.jsonc_sound.proofs.Texts.{AllUtf8, trivia_all, value_all}
 use Rattle.jsonc_run.specs.promise.PlaceLaws.{text_of_leaves}
 
--- the leaves before the element that gives way in a row, and behind it
+-- the leaves before the element that is replaced in a row, and behind it
 abbrev pub row_front : {was now : Top} {i : ℕ} {row new : OrderedTree} → ElementChanged was now i row new → List Content
 row_front (this_element p q) = []
 row_front (passed {content = content} {below = below} h k) = own_leaf content ++ (leaves below ++ row_front k)

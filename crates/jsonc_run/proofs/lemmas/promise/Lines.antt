@@ -13,7 +13,7 @@ use Rattle.jsonc_sound.specs.Rows.{opening, closing}
 use Rattle.jsonc_sound.specs.Marks as tree_marks
 use Rattle.jsonc_sound.specs.SoundTrees.{SoundTree}
 use Rattle.jsonc_sound.specs.TreeChanges.{leaves_of}
-use Rattle.jsonc_sound.proofs.Apart.{document_alone}
+use Rattle.jsonc_sound.proofs.NodesAlone.{document_alone}
 use Rattle.jsonc_sound.proofs.Pieces.{Pieces, document_pieces}
 use Rattle.jsonc_sound.proofs.Texts.{AllUtf8}
 use Rattle.jsonc_edit.specs.commas.Laws.{allowing, LosesCommas, OnlyCommas}
@@ -37,7 +37,7 @@ use Rattle.jsonc_sound.specs.Documents.{document_of}
 use Rattle.jsonc_run.specs.Steps.{IsChangedAt}
 use Rattle.jsonc_run.specs.promise.Words.{sets_some}
 use Rattle.jsonc_run.proofs.lemmas.promise.CommaLeaves.{commas_leave}
-use Rattle.jsonc_run.proofs.lemmas.promise.Reflowing.{spread_texts}
+use Rattle.jsonc_run.proofs.lemmas.promise.ReflowedRows.{spread_texts}
 
 -- lists of leaves, of which the second is the first without some blanks
 data WithoutBlanks : List Content → List Content → Type 0 where

@@ -5,7 +5,7 @@ use Rattle.jsonc_text.specs.Plain as plain
 use Rattle.jsonc_text.specs.Plain.{Plain, Members, no_members, member}
 use Rattle.jsonc_tree.specs.OrderedTree.{OrderedTree}
 use Rattle.jsonc_insert.specs.elements.Members as laws
-use Rattle.jsonc_insert.specs.elements.Members.{PropertyComesAt, GainsMember, MemberComes, member_count}
+use Rattle.jsonc_insert.specs.elements.Members.{PropertyInsertedAt, InsertsMemberAt, MemberInserted, member_count}
 use Rattle.jsonc_sound.specs.Rows.{of_properties}
 use Rattle.jsonc_sound.specs.SoundTrees.{SoundTree}
 use Rattle.jsonc_run.specs.Edits.{insert_property, append_property}
@@ -18,11 +18,11 @@ use Rattle.jsonc_run.proofs.lemmas.promise.Insides.{kept_texts, text_comes}
 use Rattle.jsonc_run.proofs.lemmas.promise.Stretches.{laid_property_literals}
 use Rattle.jsonc_layout.specs.from_input.Texts.{IsCharacters, IsOfTexts}
 use Rattle.jsonc_insert.proofs.lemmas.elements.Marked.{kept_marks}
-use Rattle.jsonc_insert.proofs.lemmas.elements.Spread.{spread_marks}
+use Rattle.jsonc_insert.proofs.lemmas.elements.SpreadObjects.{spread_marks}
 use Rattle.jsonc_run.proofs.lemmas.promise.Inserting.{nothing_behind}
 use Rattle.jsonc_run.proofs.lemmas.promise.Plains.{changed, entry_of, list_of_members, same_members}
 use Rattle.jsonc_sound.specs.Documents.{document_of}
-use Rattle.jsonc_run.proofs.lemmas.promise.Reflowing.{spread_texts}
+use Rattle.jsonc_run.proofs.lemmas.promise.ReflowedRows.{spread_texts}
 
 -- the properties before and behind the one that has come
 pub record MemberGained (name : List ℕ) (v : Plain) (n : ℕ) (ms ns : Members) : Type 0 where
@@ -32,7 +32,7 @@ pub record MemberGained (name : List ℕ) (v : Plain) (n : ℕ) (ms ns : Members
   pub before : ms ≡ members (front ++ back)
   pub after : ns ≡ members (front ++ entry_of name v ∷ back)
 
-pub member_gained : {name : List ℕ} {v : Plain} {n : ℕ} {ms ns : Members} → MemberComes name v n ms ns → MemberGained name v n ms ns
+pub member_gained : {name : List ℕ} {v : Plain} {n : ℕ} {ms ns : Members} → MemberInserted name v n ms ns → MemberGained name v n ms ns
 member_gained {name} {v} (laws.this_member {ms = ms}) = record { front = []; back = list_of_members ms; place = refl; before = sym (same_members ms); after = ap (member name v) (sym (same_members ms)) }
 member_gained (laws.later_member {n = n} {w = w} k) =
     let m = member_gained k in
@@ -42,7 +42,7 @@ pub members_counted : (xs : List Named) → member_count (members xs) ≡ length
 members_counted [] = refl
 members_counted (x ∷ xs) = ap suc (members_counted xs)
 
-module _ (o : Options) {t u : OrderedTree} (s : SoundTree o t) (r : SoundTree o u) {path : List ℕ} {j : ℕ} {name : List ℕ} {v : Plain} (f : IsCharacters name × IsOfTexts v) (c : PropertyComesAt o path j name v t u) {x y : Plain} where
+module _ (o : Options) {t u : OrderedTree} (s : SoundTree o t) (r : SoundTree o u) {path : List ℕ} {j : ℕ} {name : List ℕ} {v : Plain} (f : IsCharacters name × IsOfTexts v) (c : PropertyInsertedAt o path j name v t u) {x y : Plain} where
   pub member_gains : {n : ℕ} {old new : Members} → Changed (plain.object old) (plain.object new) path x y → (k : MemberGained name v n old new) → Gains an_object path k.front k.back (entry_of name v) (document_of o t (Some x)) (document_of o u (Some y))
   member_gains {old = old} {new = new} g k =
       let comes = text_comes o of_properties c.row c.kept c.new s r c.changed (Some x) (Some y) (spread_texts c.spreads ∙ kept_texts c.leave) (kept_marks c.leave ∙ spread_marks o c.spreads) refl (written an_object (entry_of name v)) (laid_property_literals c.layout name v f.0 f.1) c.comes in (
@@ -57,16 +57,16 @@ module _ (o : Options) {t u : OrderedTree} (s : SoundTree o t) (r : SoundTree o 
       )
 
 pub property_inserted : (o : Options) (t u : OrderedTree) (w x : Option Plain) (path : List ℕ) (i : ℕ) (name : List ℕ) (v : Plain) → IsCharacters name × IsOfTexts v → SoundTree o t → SoundTree o u → IsChanged w (insert_property path i name v) x
-    → PropertyComesAt o path i name v t u → Makes (document_of o t w) (texts.insert_property path i name v) (document_of o u x)
+    → PropertyInsertedAt o path i name v t u → Makes (document_of o t w) (texts.insert_property path i name v) (document_of o u x)
 property_inserted o t u _ _ path i name v f s r (by_inserting_member gains) c =
     let k = member_gained gains.comes in
     (k.front, k.back, k.place ∙ ap (λ n. min i n) (ap member_count k.before ∙ members_counted (k.front ++ k.back)), member_gains o s r f c (changed gains.changed) k)
 
 pub property_appended : (o : Options) (t u : OrderedTree) (w x : Option Plain) (path : List ℕ) (name : List ℕ) (v : Plain) → IsCharacters name × IsOfTexts v → SoundTree o t → SoundTree o u → IsChanged w (append_property path name v) x
-    → (n : ℕ) → ((i : ℕ) → n ≤ i → PropertyComesAt o path i name v t u) → Makes (document_of o t w) (texts.append_property path name v) (document_of o u x)
+    → (n : ℕ) → ((i : ℕ) → n ≤ i → PropertyInsertedAt o path i name v t u) → Makes (document_of o t w) (texts.append_property path name v) (document_of o u x)
 property_appended o t u _ _ path name v f s r (by_appending_member {i = i} {x = x} {y = y} gains far) n comes =
     let k = member_gained gains.comes in
-    let c : PropertyComesAt o path n name v t u = comes n (omega arith) in
+    let c : PropertyInsertedAt o path n name v t u = comes n (omega arith) in
     let count : member_count gains.old ≡ length (k.front ++ k.back) = ap member_count k.before ∙ members_counted (k.front ++ k.back) in
     let last : k.back ≡ [] = nothing_behind k.front k.back (k.place ∙ omega (arith, far, count)) in
     (k.front, subst (λ (b : List Named). Gains an_object path k.front b (entry_of name v) (document_of o t (Some x)) (document_of o u (Some y))) last (member_gains o s r f c (changed gains.changed) k))

@@ -1,4 +1,4 @@
--- Where a property gives way to another in a sound tree, it gives way so in the text.
+-- Where a property is replaced by another in a sound tree, it is replaced so in the text.
 use Rattle.std.proofs.Common.{ℕ, suc, ◌≡◌, ◌∙◌, sym, ap, subst, refl, inl, true, List, [], ◌∷◌, ◌++◌, length, Option}
 use Rattle.std.proofs.lemmas.List.{append_assoc}
 use Rattle.jsonc_text.specs.Options.{Options}
@@ -12,12 +12,12 @@ use Rattle.jsonc_sound.specs.SoundTrees.{SoundTree}
 use Rattle.jsonc_sound.specs.TreeChanges.{IsElement, leaves_of, property_of, ElementChanged, this_element, passed, later_element}
 use Rattle.jsonc_sound.specs.Values as replaced
 use Rattle.jsonc_sound.specs.Values.{MemberReplaced}
-use Rattle.jsonc_sound.proofs.Apart.{value_alone}
+use Rattle.jsonc_sound.proofs.NodesAlone.{value_alone}
 use Rattle.jsonc_sound.proofs.HeldValues.{document_held}
 use Rattle.jsonc_sound.proofs.Texts.{AllUtf8}
 use Rattle.jsonc_run.specs.Edits.{replace_property}
-use Rattle.jsonc_run.specs.Written.{IsChanged, by_property, PropertyGivenWay, property_given}
-use Rattle.jsonc_edit.specs.SeamEntries.{PropertyHolds, PropertyGivesWayWithSeam}
+use Rattle.jsonc_run.specs.Written.{IsChanged, by_property, ReplacesProperty, property_given}
+use Rattle.jsonc_edit.specs.SeamEntries.{PropertyHolds, PropertyReplacedWithSeam}
 use Rattle.jsonc_edit.specs.SeamPlaces.{RowHolds, this_element, past_other, past_element, DocumentHolds}
 use Rattle.jsonc_edit.specs.Seams.{space_if}
 use Rattle.jsonc_edit.specs.set.Giving.{is_bare_value}
@@ -33,7 +33,7 @@ use Rattle.jsonc_text.specs.Edits.{IsSeam, Makes, Puts, Text, written}
 use Rattle.jsonc_run.specs.promise.PlaceLaws.{text_of_leaves}
 use Rattle.jsonc_run.proofs.lemmas.promise.Leaves.{back_of, document_parts, document_utf8, text_joined, utf8_first, utf8_second}
 use Rattle.jsonc_run.proofs.lemmas.promise.Plains.{changed, entry_of, list_of_members, same_members}
-use Rattle.jsonc_run.proofs.lemmas.promise.Reaching.{Reached}
+use Rattle.jsonc_run.proofs.lemmas.promise.StretchElements.{Reached}
 use Rattle.jsonc_run.proofs.lemmas.promise.RemovedTexts.{entry_begins, entry_there}
 use Rattle.jsonc_sound.specs.Documents.{document_of}
 use Rattle.jsonc_run.proofs.lemmas.promise.Stretches.{Begins, laid_property_literals, marks_in, parted, parted_as, seam_unmarked}
@@ -50,7 +50,7 @@ held_leaves {top} (past_element {content = content} {below = below} {f = f} {b =
     let own : List Content = own_leaf content in
     ap (λ l. own ++ (leaves below ++ l)) (held_leaves h) ∙ sym (append_assoc own (leaves below ++ f) (leaves_of top ++ b) ∙ ap (λ l. own ++ l) (append_assoc (leaves below) f (leaves_of top ++ b)))
 
--- it may give way to any other there
+-- it may be replaced by any other there
 reached : {top : Top} {i : ℕ} {row : OrderedTree} {f b : List Content} → RowHolds top i row f b → (y : Top) → IsElement y.content → Reached top y i row b
 reached (this_element {after = after} p) y q = record { new = OrderedTree.more y.content y.below after; changed = ElementChanged.this_element p q; same = refl }
 reached (past_other {content = content} {below = below} p h) y q = let m = reached h y q in record { new = OrderedTree.more content below m.new; changed = passed p m.changed; same = m.same }
@@ -107,7 +107,7 @@ module _ (o : Options) where
         stands = subst (λ l. Entry (path ++ i ∷ []) o (printed_text t) (text_of_leaves own ++ l) l) behind (entry_there o of_properties s m.changed (reached inner.1));
       }
 
-  module _ {path : List ℕ} {i : ℕ} {was now t u : OrderedTree} (s : SoundTree o t) (r : SoundTree o u) (g : PropertyGivesWayWithSeam path i was now t u) where
+  module _ {path : List ℕ} {i : ℕ} {was now t u : OrderedTree} (s : SoundTree o t) (r : SoundTree o u) (g : PropertyReplacedWithSeam path i was now t u) where
     abbrev old_own : List ℕ
     old_own = text_of_leaves (leaves_of (property_of was))
 
@@ -179,7 +179,7 @@ module _ (o : Options) where
           parted_as refl is (seam_unmarked g.quiet g.behind g.rest) new_parted,
         )
 
--- of the value the property has given way
+-- of the value the property has been replaced
 record MemberGiven (name : List ℕ) (v : Plain) (i : ℕ) (ms ns : Members) : Type 0 where
   front : List Named
   back : List Named
@@ -211,13 +211,13 @@ gives {name = name} {v = v} (by_property path i {x = x} {y = y} g) =
       subst (λ (l : Members). Changed (of an_object (m.front ++ m.old ∷ m.back)) (plain.object l) path x y) m.after (subst (λ (l : Members). Changed (plain.object l) (plain.object g.new) path x y) m.before (changed g.changed)),
     )
 
-puts : (o : Options) (t u : OrderedTree) (w x : Option Plain) (path name : List ℕ) (v : Plain) → IsCharacters name × IsOfTexts v → SoundTree o t → SoundTree o u → PropertyGivenWay name v t u path
+puts : (o : Options) (t u : OrderedTree) (w x : Option Plain) (path name : List ℕ) (v : Plain) → IsCharacters name × IsOfTexts v → SoundTree o t → SoundTree o u → ReplacesProperty name v t u path
     → Puts (Entry path) (written an_object (entry_of name v)) (document_of o t w) (document_of o u x)
 puts o t u w x _ name v f s r (property_given path i layout spaced front old back p c d seam bare) =
     property_puts o s r seam w x (written an_object (entry_of name v)) (laid_property_literals layout name v f.0 f.1) (λ e. property_ends layout name v (bare e))
 
 pub property_replaced : (o : Options) (t u : OrderedTree) (w x : Option Plain) (path name : List ℕ) (v : Plain) → IsCharacters name × IsOfTexts v → SoundTree o t → SoundTree o u → IsChanged w (replace_property path name v) x
-    → PropertyGivenWay name v t u path → Makes (document_of o t w) (texts.replace_property path name v) (document_of o u x)
+    → ReplacesProperty name v t u path → Makes (document_of o t w) (texts.replace_property path name v) (document_of o u x)
 property_replaced o t u w x path name v f s r c given =
     let k = gives c in
     (puts o t u w x path name v f s r given, k.0, k.1, k.2, k.3, k.4, k.5)

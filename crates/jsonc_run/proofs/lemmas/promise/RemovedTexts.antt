@@ -10,7 +10,7 @@ use Rattle.jsonc_tree.specs.Content.{Content, token}
 use Rattle.jsonc_tree.specs.OrderedTree.{OrderedTree, none, more, leaves, Top}
 use Rattle.jsonc_sound.specs.Shape as shape
 use Rattle.jsonc_sound.specs.Shape.{ValueShaped, token_then, printed_text}
-use Rattle.jsonc_sound.specs.Leaving.{AreBeside, IsRestOfLine, without_end, with_end, LeavesBehind, comma_alone, comma_and_line, among}
+use Rattle.jsonc_sound.specs.Leaving.{AreInlineTrivia, IsRestOfLine, without_end, with_end, LeavesBehind, comma_alone, comma_and_line, among}
 use Rattle.jsonc_sound.specs.Rows.{RowKind, of_values, of_properties, opening, container_of}
 use Rattle.jsonc_sound.specs.SoundTrees.{SoundTree}
 use Rattle.jsonc_sound.specs.TreeChanges.{IsElement, leaves_of, property_of, ElementChanged, DocumentChanged}
@@ -24,9 +24,9 @@ use Rattle.jsonc_text.specs.Edits.{Trail, Comma, Parted}
 use Rattle.jsonc_run.specs.promise.PlaceLaws.{text_of_leaves}
 use Rattle.jsonc_run.proofs.lemmas.promise.Entries.{value_stands_in, property_stands_in}
 use Rattle.jsonc_run.proofs.lemmas.promise.Leaves.{row_back, back_of, text_joined, utf8_first, utf8_second, document_utf8}
-use Rattle.jsonc_run.proofs.lemmas.promise.Reaching.{Reached, past_comma, property_top}
+use Rattle.jsonc_run.proofs.lemmas.promise.StretchElements.{Reached, past_comma, property_top}
 use Rattle.jsonc_sound.specs.Documents.{document_of}
-use Rattle.jsonc_run.proofs.lemmas.promise.Standing.{comma_mark}
+use Rattle.jsonc_run.proofs.lemmas.promise.PrintedShapes.{comma_mark}
 use Rattle.jsonc_run.proofs.lemmas.promise.Stretches.{Begins, beside_begins, marks_in, parted, property_begins, value_begins}
 use Rattle.jsonc_run.proofs.lemmas.promise.Trivia.{beside_text, trivia_text, end_text}
 use Rattle.jsonc_sound.proofs.FirstNodes.{none_changed}
@@ -140,7 +140,7 @@ module _ (o : Options) where
       subst (λ (x : Top). Begins (leaves_of x ++ behind)) (sym same) (property_begins o behind (object_place o (text_of_leaves (back_of d)) r.changed here).0.shaped)
 
   -- the marks of what leaves with an element: of what stands directly before it, its own, and of what stands behind it
-  pub gone_parted : {t : OrderedTree} → SoundTree o t → (w : Option Plain) (front lead own trail tail back : List Content) (text : List ℕ) → leaves t ≡ front ++ (lead ++ (own ++ (trail ++ (tail ++ back)))) → AreBeside lead
+  pub gone_parted : {t : OrderedTree} → SoundTree o t → (w : Option Plain) (front lead own trail tail back : List Content) (text : List ℕ) → leaves t ≡ front ++ (lead ++ (own ++ (trail ++ (tail ++ back)))) → AreInlineTrivia lead
       → Begins (own ++ (trail ++ (tail ++ back))) → text_of_leaves tail ≡ text
       → Parted (document_of o t w) (text_of_leaves lead ++ (text_of_leaves own ++ (text_of_leaves trail ++ (text ++ text_of_leaves back)))) (text_of_leaves back) (marks_in front) (marks_in (lead ++ (own ++ (trail ++ tail)))) (marks_in back)
   gone_parted s w front lead own trail tail back text parts beside begins e =

@@ -10,7 +10,7 @@ use Rattle.jsonc_tree.specs.OrderedTree.{OrderedTree, none, leaves, followed_by,
 use Rattle.jsonc_tree.specs.Values.{DocumentValueOf}
 use Rattle.jsonc_tree.proofs.OrderedTrees.{leaves-followed_by}
 use Rattle.jsonc_sound.specs.Shape.{token_then, printed_text}
-use Rattle.jsonc_sound.specs.Leaving.{AreBeside, IsRestOfLine, among, element_count, ClosesUp, stays, closes_up}
+use Rattle.jsonc_sound.specs.Leaving.{AreInlineTrivia, IsRestOfLine, among, element_count, ClosesUp, stays, closes_up}
 use Rattle.jsonc_sound.specs.MarkChanges.{AreBlanks}
 use Rattle.jsonc_sound.specs.Rows.{RowKind, opening, container_of}
 use Rattle.jsonc_sound.specs.SoundTrees.{SoundTree}
@@ -18,7 +18,7 @@ use Rattle.jsonc_sound.specs.Adjacent.{last_printed, or_else}
 use Rattle.jsonc_sound.specs.Spaces.{first_printed, is_bare_leaf, space_then}
 use Rattle.jsonc_sound.specs.TreeChanges.{IsElement, leaves_of}
 use Rattle.jsonc_sound.specs.TriviaChanges.{leaves_then}
-use Rattle.jsonc_sound.proofs.Apart.{document_alone}
+use Rattle.jsonc_sound.proofs.NodesAlone.{document_alone}
 use Rattle.jsonc_sound.proofs.Pieces.{Pieces, document_pieces}
 use Rattle.jsonc_sound.proofs.RowParts.{parted_at, at_comma, past_leaves, beside_trivia, rest_trivia, between_trivia, line_trivia}
 use Rattle.jsonc_sound.proofs.SeamStretches.{parted_row}
@@ -28,7 +28,7 @@ use Rattle.jsonc_sound.proofs.TriviaLeaves.{front_leaves}
 use Rattle.jsonc_edit.specs.Put.{a_space}
 use Rattle.jsonc_edit.proofs.Spacing.{spaces_value}
 use Rattle.jsonc_edit.specs.remove.Laws.{EntryTaken}
-use Rattle.jsonc_edit.specs.SeamRemovals.{SpaceFirst, none_first, space_first, LeavesWithSeams, comma_behind, comma_before, no_comma}
+use Rattle.jsonc_edit.specs.SeamRemovals.{SpaceFirst, none_first, space_first, RemovedWithSeams, comma_behind, comma_before, no_comma}
 use Rattle.jsonc_edit.specs.SeamPlaces.{DocumentHolds}
 use Rattle.jsonc_edit.specs.Seams.{PrintNothing, space_if}
 use Rattle.jsonc_text.specs.Paths.{Entry}
@@ -37,9 +37,9 @@ use Rattle.jsonc_text.specs.Edits.{Document, InLine, IsSeam, Trail, Comma, Leave
 use Rattle.jsonc_run.specs.promise.PlaceLaws.{text_of_leaves}
 use Rattle.jsonc_run.proofs.lemmas.promise.CommentTexts.{blanks_text}
 use Rattle.jsonc_run.proofs.lemmas.promise.Leaves.{back_of, document_parts, document_utf8, text_joined, utf8_first, utf8_second}
-use Rattle.jsonc_run.proofs.lemmas.promise.Losing.{loses_value}
-use Rattle.jsonc_run.proofs.lemmas.promise.Reaching.{renumber, rest_as, Reached, at_first, past_comma, past_row}
-use Rattle.jsonc_run.proofs.lemmas.promise.Reaching as reaching
+use Rattle.jsonc_run.proofs.lemmas.promise.RemovedEntries.{loses_value}
+use Rattle.jsonc_run.proofs.lemmas.promise.StretchElements.{renumber, rest_as, Reached, at_first, past_comma, past_row}
+use Rattle.jsonc_run.proofs.lemmas.promise.StretchElements as reaching
 use Rattle.jsonc_run.proofs.lemmas.promise.RemovedTexts.{Commas, behind_it, ahead_of_it, nowhere, among_leaves, container_leaves, none_more, text_cons, trail_text, comma_unmarked, entry_begins, entry_there, gone_parted, rest_pieces, pieces_first, pieces_second}
 use Rattle.jsonc_run.proofs.lemmas.promise.Stretches.{blanks_behind_unmarked, marks_in, marks_in_both, seam_unmarked}
 use Rattle.jsonc_sound.specs.Documents.{document_of}
@@ -158,13 +158,13 @@ record Gone (kind : RowKind) (top : Top) (i : ℕ) (row : OrderedTree) (t u : Or
   rest : List Content
   back : stretches.back ≡ rest ++ around
   reached : (y : Top) → IsElement y.content → Reached top y i row (stretches.trail ++ rest)
-  lead : AreBeside stretches.lead
+  lead : AreInlineTrivia stretches.lead
   with_comma : Bool
   commas : Commas with_comma stretches.comma stretches.mid stretches.trail
 
 module _ {kind : RowKind} {top : Top} {path : List ℕ} {t u : OrderedTree} {f b : List Content} (element : IsElement top.content) where
   -- with no comma, or with the one behind it
-  gone_ahead : (front back given : OrderedTree) (before behind : List Content) (row : OrderedTree) (c : Bool) → Commas c [] [] behind → AreBeside before → Around kind path t u row (followed_by front given) f b → SpaceFirst (leaves front) back given
+  gone_ahead : (front back given : OrderedTree) (before behind : List Content) (row : OrderedTree) (c : Bool) → Commas c [] [] behind → AreInlineTrivia before → Around kind path t u row (followed_by front given) f b → SpaceFirst (leaves front) back given
       → leaves row ≡ leaves front ++ (before ++ (leaves_of top ++ (behind ++ leaves back))) → ((y : Top) → IsElement y.content → Reached top y (element_count front) row (behind ++ leaves back)) → Gone kind top (element_count front) row t u b
   gone_ahead front back given before behind row c cm h d space e reach =
       let o : Content = token (opening kind) in
@@ -201,7 +201,7 @@ module _ {kind : RowKind} {top : Top} {path : List ℕ} {t u : OrderedTree} {f b
       regroup_new f fr bk b c = simp (append_assoc) refl
 
   -- with the one before it
-  gone_behind : (front mid back given_mid given : OrderedTree) (before line : List Content) (row : OrderedTree) → IsRestOfLine line → AreBeside before → Around kind path t u row (followed_by front (followed_by given_mid given)) f b
+  gone_behind : (front mid back given_mid given : OrderedTree) (before line : List Content) (row : OrderedTree) → IsRestOfLine line → AreInlineTrivia before → Around kind path t u row (followed_by front (followed_by given_mid given)) f b
       → SpaceFirst (leaves front) mid given_mid → SpaceFirst (leaves front ++ leaves given_mid) back given
       → leaves row ≡ leaves front ++ (token 0x2C ∷ (leaves mid ++ (before ++ (leaves_of top ++ (line ++ leaves back))))) → ((y : Top) → IsElement y.content → Reached top y (element_count front + element_count mid) row (line ++ leaves back)) → Gone kind top (element_count front + element_count mid) row t u b
   gone_behind front mid back given_mid given before line row rl h d space_mid space e reach =
@@ -240,7 +240,7 @@ module _ {kind : RowKind} {top : Top} {path : List ℕ} {t u : OrderedTree} {f b
       regroup_new : (f fr md bk b : List Content) (c : Content) → f ++ ((c ∷ (fr ++ (md ++ bk))) ++ b) ≡ (f ++ (c ∷ fr)) ++ (md ++ (bk ++ b))
       regroup_new f fr md bk b c = simp (append_assoc) refl
 
-  gone_of : {i : ℕ} {row left : OrderedTree} → LeavesWithSeams top i row left → Around kind path t u row left f b → Gone kind top i row t u b
+  gone_of : {i : ℕ} {row left : OrderedTree} → RemovedWithSeams top i row left → Around kind path t u row left f b → Gone kind top i row t u b
   gone_of (comma_behind front back given before between line be lb space) d =
       let comma : Content = token 0x2C in
       let trivia = beside_trivia before be in
@@ -271,7 +271,7 @@ module _ (o : Options) {t u : OrderedTree} (s : SoundTree o t) (r : SoundTree o 
       subst (λ l. Entry (path ++ i ∷ []) o (printed_text t) (text_of_leaves (leaves_of top) ++ (text_of_leaves rest ++ text_of_leaves l)) (text_of_leaves rest ++ text_of_leaves l)) d.last (entry_there o kind s d.changed reach)
 
   -- so it leaves the text
-  leaves_so : (kind : RowKind) {top : Top} {i : ℕ} {row left : OrderedTree} {path : List ℕ} {f b : List Content} → IsElement top.content → LeavesWithSeams top i row left → Around kind path t u row left f b
+  leaves_so : (kind : RowKind) {top : Top} {i : ℕ} {row left : OrderedTree} {path : List ℕ} {f b : List Content} → IsElement top.content → RemovedWithSeams top i row left → Around kind path t u row left f b
       → (w x : Option Plain) → Leaves (path ++ i ∷ []) (document_of o t w) (document_of o u x)
   leaves_so kind {top} {i} {path = path} {b = b} element leaving d w x =
       let g = gone_of element leaving d in
@@ -394,7 +394,7 @@ left_unspaced front _ _ blanks c h (space_first quiet rest silent last first) e 
 module _ (o : Options) (kind : RowKind) {top : Top} {path : List ℕ} {t u : OrderedTree} {f ar : List Content} (s : SoundTree o t) (r : SoundTree o u) (w x : Option Plain) where
   -- the entry leaves, and with it all blanks that are left
   close_up : {i : ℕ} {row : OrderedTree} (c : ℕ) (d : Around kind path t u row (token_then c none) f ar)
-      → (fr lead trail bk : List Content) (b : Bool) → Commas b [] [] trail → AreBeside lead → Unspaced (fr ++ bk) (token c) → bk ≢ []
+      → (fr lead trail bk : List Content) (b : Bool) → Commas b [] [] trail → AreInlineTrivia lead → Unspaced (fr ++ bk) (token c) → bk ≢ []
       → leaves row ≡ fr ++ (lead ++ (leaves_of top ++ (trail ++ bk))) → ((y : Top) → IsElement y.content → Reached top y i row (trail ++ bk))
       → Leaves (path ++ i ∷ []) (document_of o t w) (document_of o u x)
   close_up {i} {row} c d fr lead trail bk b commas beside un some e reach =
@@ -468,7 +468,7 @@ module _ (o : Options) (kind : RowKind) {top : Top} {path : List ℕ} {t u : Ord
       regroup_new : (f ar : List Content) (a z : Content) → f ++ ((a ∷ z ∷ []) ++ ar) ≡ (f ++ a ∷ []) ++ (z ∷ ar)
       regroup_new f ar a z = simp (append_assoc) refl
 
-  closes_so : {i : ℕ} {row left : OrderedTree} (element : IsElement top.content) → LeavesWithSeams top i row left → (blanks : List Content) (c : ℕ) → AreBlanks blanks → left ≡ leaves_then blanks (token_then c none)
+  closes_so : {i : ℕ} {row left : OrderedTree} (element : IsElement top.content) → RemovedWithSeams top i row left → (blanks : List Content) (c : ℕ) → AreBlanks blanks → left ≡ leaves_then blanks (token_then c none)
       → (d : Around kind path t u row (token_then c none) f ar) → Leaves (path ++ i ∷ []) (document_of o t w) (document_of o u x)
   closes_so element (comma_behind front back given before between line be lb space) blanks c h e d =
       let comma : Content = token 0x2C in
@@ -500,12 +500,12 @@ module _ (o : Options) (kind : RowKind) {top : Top} {path : List ℕ} {t u : Ord
       (λ y q. renumber (none_more (element_count front)) (past_row front (reaching.past_leaves before trivia (rest_as (front_leaves line back (rest_trivia line rl)) (at_first (leaves_then line back) element q)))))
 
   -- whether it closes up or not
-  entry_leaves_so : {i : ℕ} {row left new : OrderedTree} → IsElement top.content → LeavesWithSeams top i row left → ClosesUp left new → Around kind path t u row new f ar
+  entry_leaves_so : {i : ℕ} {row left new : OrderedTree} → IsElement top.content → RemovedWithSeams top i row left → ClosesUp left new → Around kind path t u row new f ar
       → Leaves (path ++ i ∷ []) (document_of o t w) (document_of o u x)
   entry_leaves_so {i} {row} {left} element leaving closing d = by refl closing d
     where
       by : {l n : OrderedTree} → l ≡ left → ClosesUp l n → Around kind path t u row n f ar → Leaves (path ++ i ∷ []) (document_of o t w) (document_of o u x)
-      by e stays d = leaves_so o s r kind element (subst (LeavesWithSeams top i row) (sym e) leaving) d w x
+      by e stays d = leaves_so o s r kind element (subst (RemovedWithSeams top i row) (sym e) leaving) d w x
       by e (closes_up blanks {c = c} h) d = closes_so element leaving blanks c h (sym e) d
 
 pub entry_removed : (o : Options) {t u : OrderedTree} → SoundTree o t → SoundTree o u → (w x : Option Plain) → DocumentValueOf o t w → DocumentValueOf o u x → (path : List ℕ) (i : ℕ) (top : Top) → EntryTaken path i top t u

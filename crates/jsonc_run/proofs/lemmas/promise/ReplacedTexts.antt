@@ -1,4 +1,4 @@
--- Where a value gives way to another in a sound tree, it gives way in the text.
+-- Where a value is replaced by another in a sound tree, it is replaced in the text.
 use Rattle.std.proofs.Common.{ℕ, ◌≡◌, subst, List, Option, None}
 use Rattle.jsonc_text.specs.Options.{Options}
 use Rattle.jsonc_text.specs.Plain.{Plain}

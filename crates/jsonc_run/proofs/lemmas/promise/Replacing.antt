@@ -1,4 +1,4 @@
--- Where a value gives way with spaces at the seams in sound trees, it gives way so in the texts.
+-- Where a value is replaced with spaces at the seams in sound trees, it is replaced so in the texts.
 use Rattle.std.proofs.Common.{ℕ, ◌≡◌, ◌∙◌, ap, subst, true, List, ◌++◌, Option, Some, None}
 use Rattle.std.proofs.lemmas.List.{append_assoc}
 use Rattle.jsonc_text.specs.Options.{Options}
@@ -16,13 +16,13 @@ use Rattle.jsonc_sound.specs.Spaces.{is_bare, is_bare_leaf}
 use Rattle.jsonc_sound.specs.TreeChanges.{leaves_of}
 use Rattle.jsonc_sound.specs.Sound.{HasValue}
 use Rattle.jsonc_sound.proofs.Values.{document_change}
-use Rattle.jsonc_sound.proofs.Apart.{value_alone}
+use Rattle.jsonc_sound.proofs.NodesAlone.{value_alone}
 use Rattle.jsonc_sound.proofs.Texts.{AllUtf8}
-use Rattle.jsonc_edit.proofs.Meeting.{value_first, value_last}
+use Rattle.jsonc_edit.proofs.NearestLeaves.{value_first, value_last}
 use Rattle.jsonc_edit.proofs.OneValue.{document_once}
 use Rattle.jsonc_edit.proofs.Spacing.{spaces_value}
-use Rattle.jsonc_insert.specs.named.Values.{ValueGivesWay}
-use Rattle.jsonc_edit.specs.SeamPlaces.{DocumentHolds, GivesWayWithSeams}
+use Rattle.jsonc_insert.specs.named.Values.{ReplacesValue}
+use Rattle.jsonc_edit.specs.SeamPlaces.{DocumentHolds, ReplacedWithSeams}
 use Rattle.jsonc_edit.specs.Seams.{space_if}
 use Rattle.jsonc_text.specs.Marks.{Mark, literals_of}
 use Rattle.jsonc_text.specs.Paths.{Value}
@@ -63,7 +63,7 @@ module _ (o : Options) where
         alone = value_alone o place.2.shaped;
       }
 
-  module _ {was now : Top} {path : List ℕ} {t u : OrderedTree} (s : SoundTree o t) (r : SoundTree o u) (g : GivesWayWithSeams path was now t u) where
+  module _ {was now : Top} {path : List ℕ} {t u : OrderedTree} (s : SoundTree o t) (r : SoundTree o u) (g : ReplacedWithSeams path was now t u) where
     abbrev old_own : List ℕ
     old_own = text_of_leaves (leaves_of was)
 
@@ -123,7 +123,7 @@ module _ (o : Options) where
         (spelled_second (leaves_of was) (g.quiet ++ g.rest) (spelled_second g.front (leaves_of was ++ (g.quiet ++ g.rest)) was_spelled)) parts.1 in
         meets (ends_behind (text_of_leaves g.front) (ends_behind (seam_if g.before) (own_ends parts.0))) (subst BeginsBare old_back begins))
 
-    -- the stretch of the text that gives way, with its seams
+    -- the stretch of the text that is replaced, with its seams
     pub puts_with_seams : (w x : Option Plain) (come : List Mark) → marks_in (leaves_of now) ≡ come → Puts (Value path) come (document_of o t w) (document_of o u x)
     puts_with_seams w x come is =
         let text : Text IsSeam (text_of_leaves g.front) old_own (seam_if g.before) new_own (seam_if g.behind) (text_of_leaves g.rest) (document_of o t w) (document_of o u x) =
@@ -156,8 +156,8 @@ module _ (o : Options) where
           parted_as (space_behind_unmarked g.front g.before) is (seam_unmarked g.quiet g.behind g.rest) new_parted,
         )
 
--- the value that stood at the path, and that it has given way in the document's
-pub value_becomes : (o : Options) {t u : OrderedTree} (w x : Option Plain) → DocumentValueOf o t w → DocumentValueOf o u x → (path : List ℕ) (v : Plain) → IsOfTexts v → (given : ValueGivesWay path v t u)
+-- the value that stood at the path, and that it has been replaced in the document's
+pub value_becomes : (o : Options) {t u : OrderedTree} (w x : Option Plain) → DocumentValueOf o t w → DocumentValueOf o u x → (path : List ℕ) (v : Plain) → IsOfTexts v → (given : ReplacesValue path v t u)
     → (was : Plain) × HasValue o given.was was × Becomes was v path w x
 value_becomes o {u = u} w x h k path v texts given = by w (spaces_value o w given.spaces h)
   where
@@ -168,7 +168,7 @@ value_becomes o {u = u} w x h k path v texts given = by w (spaces_value o w give
         (m.0, m.2, subst (Becomes m.0 v path (Some w)) (document_once o u (Some m.1) x m.4 k) (changed m.3))
 
 -- so it has in the document's value, in the words of trees
-pub value_changed : (o : Options) {t u : OrderedTree} (x y : Plain) → DocumentValueOf o t (Some x) → DocumentValueOf o u (Some y) → (path : List ℕ) (v : Plain) → IsOfTexts v → (given : ValueGivesWay path v t u)
+pub value_changed : (o : Options) {t u : OrderedTree} (x y : Plain) → DocumentValueOf o t (Some x) → DocumentValueOf o u (Some y) → (path : List ℕ) (v : Plain) → IsOfTexts v → (given : ReplacesValue path v t u)
     → (was : Plain) × HasValue o given.was was × tree_changes.Changed was v path x y
 value_changed o {u = u} x y h k path v texts given =
     let m = document_change o x v given.changed (laid_value o given.layout v texts) (spaces_value o (Some x) given.spaces h) in
@@ -176,12 +176,12 @@ value_changed o {u = u} x y h k path v texts given =
     let same : m.1 ≡ y = cc in
     (m.0, m.2, subst (λ z. tree_changes.Changed m.0 v path x z) same m.3)
 
-pub value_put_so : (o : Options) {t u : OrderedTree} → SoundTree o t → SoundTree o u → (w x : Option Plain) → (path : List ℕ) (v : Plain) → IsOfTexts v → ValueGivesWay path v t u
+pub value_put_so : (o : Options) {t u : OrderedTree} → SoundTree o t → SoundTree o u → (w x : Option Plain) → (path : List ℕ) (v : Plain) → IsOfTexts v → ReplacesValue path v t u
     → (was : Plain) → Becomes was v path w x → PutsValue was v path (document_of o t w) (document_of o u x)
 value_put_so o {t} {u} s r w x path v texts given was becomes =
     (puts_with_seams o s r given.seams w x (literals_of v) (laid_literals given.layout v texts), becomes)
 
-pub value_put : (o : Options) {t u : OrderedTree} → SoundTree o t → SoundTree o u → (w x : Option Plain) → DocumentValueOf o t w → DocumentValueOf o u x → (path : List ℕ) (v : Plain) → IsOfTexts v → ValueGivesWay path v t u
+pub value_put : (o : Options) {t u : OrderedTree} → SoundTree o t → SoundTree o u → (w x : Option Plain) → DocumentValueOf o t w → DocumentValueOf o u x → (path : List ℕ) (v : Plain) → IsOfTexts v → ReplacesValue path v t u
     → (was : Plain) × PutsValue was v path (document_of o t w) (document_of o u x)
 value_put o s r w x h k path v texts given =
     let m = value_becomes o w x h k path v texts given in

@@ -9,12 +9,12 @@ use Rattle.jsonc_tree.proofs.OrderedTrees.{leaves-followed_by}
 use Rattle.jsonc_sound.specs.Shape as shape
 use Rattle.jsonc_sound.specs.Shape.{Trivia, DocumentShaped, printed_text}
 use Rattle.jsonc_sound.specs.EntryLaws.{root_with}
-use Rattle.jsonc_sound.specs.Leaving.{AreBeside, IsRestOfLine, among, ValueLeaves, value_leaves, Empties, stays, empties}
+use Rattle.jsonc_sound.specs.Leaving.{AreInlineTrivia, IsRestOfLine, among, ValueRemoved, value_leaves, Empties, stays, empties}
 use Rattle.jsonc_sound.specs.MarkChanges.{AreBlanks}
 use Rattle.jsonc_sound.specs.SoundTrees.{SoundTree}
 use Rattle.jsonc_sound.specs.TriviaChanges.{AreTrivia, leaves_then}
 use Rattle.jsonc_sound.specs.TreeChanges.{IsElement, leaves_of, ElementChanged, this_element, passed, later_element, itself, DocumentChanged, in_root}
-use Rattle.jsonc_sound.proofs.Apart.{document_alone}
+use Rattle.jsonc_sound.proofs.NodesAlone.{document_alone}
 use Rattle.jsonc_sound.proofs.Entries.{blanks_trivia}
 use Rattle.jsonc_sound.proofs.FirstNodes.{none_changed, no_element, value_element}
 use Rattle.jsonc_sound.proofs.Pieces.{Pieces, document_pieces}
@@ -29,7 +29,7 @@ use Rattle.jsonc_run.specs.promise.PlaceLaws.{text_of_leaves}
 use Rattle.jsonc_run.proofs.lemmas.promise.CommentTexts.{blanks_text}
 use Rattle.jsonc_run.proofs.lemmas.promise.Closing.{blanks_first, blanks_second}
 use Rattle.jsonc_run.proofs.lemmas.promise.Leaves.{utf8_second, utf8_first, document_utf8}
-use Rattle.jsonc_run.proofs.lemmas.promise.Reaching.{Reached, rest_as, at_first, past_leaves, past_row}
+use Rattle.jsonc_run.proofs.lemmas.promise.StretchElements.{Reached, rest_as, at_first, past_leaves, past_row}
 use Rattle.jsonc_run.proofs.lemmas.promise.RemovedTexts as removing
 use Rattle.jsonc_run.proofs.lemmas.promise.RemovedTexts.{among_leaves, text_cons, trail_text, gone_parted, pieces_first, pieces_second}
 use Rattle.jsonc_run.proofs.lemmas.promise.Stretches.{blanks_behind_unmarked, marks_in, marks_in_both, value_begins}
@@ -50,7 +50,7 @@ module _ (o : Options) where
 
   -- it leaves, and with it what is said of both ends
   value_gone : {top : Top} {row new : OrderedTree} (s : SoundTree o (root_with row)) (r : SoundTree o (root_with new)) (w x : Option Plain) → (pre mid : List Content) (lead line more_of_it back : List Content)
-      → leaves row ≡ pre ++ (mid ++ (lead ++ (leaves_of top ++ (line ++ (more_of_it ++ back))))) → leaves new ≡ pre ++ back → AreBlanks mid → AreBlanks more_of_it → AreBeside lead → IsRestOfLine line
+      → leaves row ≡ pre ++ (mid ++ (lead ++ (leaves_of top ++ (line ++ (more_of_it ++ back))))) → leaves new ≡ pre ++ back → AreBlanks mid → AreBlanks more_of_it → AreInlineTrivia lead → IsRestOfLine line
       → Reached top (record { content = Content.null; below = none }) 0 row (line ++ (more_of_it ++ back))
       → Leaves [] (document_of o (root_with row) w) (document_of o (root_with new) x)
   value_gone {top} {row} {new} s r w x pre mid lead line tail back e f are are_too beside rest reach =
@@ -116,7 +116,7 @@ module _ (o : Options) where
         marks,
       )
 
-  pub root_gone : {top : Top} {row left new : OrderedTree} (s : SoundTree o (root_with row)) (r : SoundTree o (root_with new)) (w x : Option Plain) → IsElement top.content → ValueLeaves top row left → Empties left new
+  pub root_gone : {top : Top} {row left new : OrderedTree} (s : SoundTree o (root_with row)) (r : SoundTree o (root_with new)) (w x : Option Plain) → IsElement top.content → ValueRemoved top row left → Empties left new
       → Leaves [] (document_of o (root_with row) w) (document_of o (root_with new) x)
   root_gone {top} {row} {left} {new} s r w x element (value_leaves front back before line a b rl) em = by refl em r
     where

@@ -14,10 +14,10 @@ use Rattle.jsonc_layout.specs.from_input.Layout.{Layout}
 use Rattle.jsonc_layout.specs.from_input.Texts.{IsOfTexts}
 use Rattle.jsonc_layout.proofs.lemmas.from_input.Meanings.{laid_value}
 use Rattle.jsonc_sound.specs.Coming as coming
-use Rattle.jsonc_sound.specs.Coming.{ValueComes}
+use Rattle.jsonc_sound.specs.Coming.{ValueInserted}
 use Rattle.jsonc_sound.specs.EntryLaws.{root_with}
 use Rattle.jsonc_sound.specs.MarkChanges.{AreBlanks}
-use Rattle.jsonc_sound.proofs.GivingWay.{blanks_unmarked}
+use Rattle.jsonc_sound.proofs.ReplacedStretches.{blanks_unmarked}
 use Rattle.jsonc_text.specs.Marks.{literals_of}
 use Rattle.jsonc_sound.specs.SoundTrees.{SoundTree}
 use Rattle.jsonc_sound.specs.TreeChanges.{IsElement, leaves_of}
@@ -81,7 +81,7 @@ ends_text o (c ∷ ls) h u = subst AreLineEnds (sym (text_joined (c ∷ []) ls (
 
 module _ (o : Options) (top : Top) (v : Plain) where
   -- a value has come into the row of a root that had none
-  first_come : {row next : OrderedTree} → ValueComes top row next → IsElement top.content → SoundTree o (root_with row) → SoundTree o (root_with next) → (w x : Option Plain) → w ≡ None → x ≡ Some v
+  first_come : {row next : OrderedTree} → ValueInserted top row next → IsElement top.content → SoundTree o (root_with row) → SoundTree o (root_with next) → (w x : Option Plain) → w ≡ None → x ≡ Some v
       → marks_in (leaves_of top) ≡ literals_of v → ComesFirst v (document_of o (root_with row) w) (document_of o (root_with next) x)
   first_come (coming.value_comes front back before behind ft bt bl el quiet begins) element s r w x old new is =
       let row : OrderedTree = leaves_then (front ++ back) none in
@@ -123,7 +123,7 @@ module _ (o : Options) (top : Top) (v : Plain) where
 
 -- so a laid value has
 module _ (o : Options) {t u : OrderedTree} (s : SoundTree o t) (r : SoundTree o u) (w x : Option Plain) (h : DocumentValueOf o t w) (k : DocumentValueOf o u x) where
-  pub laid_come : (layout : Layout) (v : Plain) → IsOfTexts v → (row next : OrderedTree) → t ≡ root_with row → u ≡ root_with next → ValueComes (laid layout v) row next → ComesFirst v (document_of o t w) (document_of o u x)
+  pub laid_come : (layout : Layout) (v : Plain) → IsOfTexts v → (row next : OrderedTree) → t ≡ root_with row → u ≡ root_with next → ValueInserted (laid layout v) row next → ComesFirst v (document_of o t w) (document_of o u x)
   laid_come layout v texts row next was is comes =
       let top : Top = laid layout v in
       let value = laid_value o layout v texts in

@@ -14,8 +14,8 @@ use Rattle.jsonc_sort.specs.Slots.{Slot, stays, comes, all_stay}
 use Rattle.jsonc_sort.specs.Parts.{Part, has_comma, is_comma_at, is_whitespace_at, parts}
 use Rattle.jsonc_sort.specs.Leads.{blank_lines}
 use Rattle.jsonc_sort.specs.Sorting.{Entry, Headers, ends_with_comma, entries, entries_from, entry_at, goes_on, is_unchanged, lines_ended, no_entry, placed, placed_one, rearranged, row_end, slot_content, sorted, tail_with, travelling, without_comma}
-use Rattle.jsonc_sort.proofs.Held.{ByKind, HeldEntry, row_held}
-use Rattle.jsonc_sort.proofs.Choosing.{Each, all_members, all_moved, choose, choose_by, each_drop, each_moved}
+use Rattle.jsonc_sort.proofs.NodesOfEntries.{ByKind, HeldEntry, row_held}
+use Rattle.jsonc_sort.proofs.Choices.{Each, all_members, all_moved, choose, choose_by, each_drop, each_moved}
 
 -- the elements among places
 module _ (at : ℕ → Content) where

@@ -19,7 +19,7 @@ use Rattle.jsonc_sound.specs.SoundTrees.{SoundTree}
 use Rattle.jsonc_sound.specs.TreeChanges.{IsElement}
 use Rattle.jsonc_sound.proofs.AtPath.{HeldAtPath, held_at_path}
 use Rattle.jsonc_edit.proofs.OneValue.{document_once}
-use Rattle.jsonc_run.proofs.lemmas.promise.Flip.{flip}
+use Rattle.jsonc_run.proofs.lemmas.promise.Reversed.{flip}
 use Rattle.jsonc_sound.proofs.FirstNodes.{value_of_element}
 use Rattle.jsonc_insert.proofs.lemmas.named.PathValues.{value_once}
 use Rattle.jsonc_run.specs.Edits.{rearrange}
@@ -28,7 +28,7 @@ use Rattle.jsonc_sort.specs.Slots.{Slot, stays, comes, all_stay, row_then, top_i
 use Rattle.jsonc_sort.specs.Sorting.{Entry, Headers, entries, entry_at, slot_content}
 use Rattle.jsonc_sort.specs.Laws.{Sort, SortsEntries, sorts_items, sorts_members, IsOrderOf, container_before, container_after, content_of, closed, slots_of, item_at, items_in, name_at, value_at, members_in}
 use Rattle.jsonc_sort.specs.Paths.{SortedAt}
-use Rattle.jsonc_sort.proofs.Choosing.{Each, each_moved}
+use Rattle.jsonc_sort.proofs.Choices.{Each, each_moved}
 use Rattle.jsonc_sort.proofs.Weights.{entry_count}
 use Rattle.jsonc_text.specs.Marks as text_marks
 use Rattle.jsonc_text.specs.Paths.{an_array, an_object}
@@ -41,7 +41,7 @@ use Rattle.jsonc_run.proofs.lemmas.promise.Insides.{inside_so}
 use Rattle.jsonc_sound.specs.Documents.{all_marks, mark}
 use Rattle.jsonc_run.proofs.lemmas.promise.Plains.{changed, list_of_items, same_items, list_of_members, same_members}
 use Rattle.jsonc_sound.specs.Documents.{document_of}
-use Rattle.jsonc_run.proofs.lemmas.promise.Named.{right_so}
+use Rattle.jsonc_run.proofs.lemmas.promise.NamedProperties.{right_so}
 use Rattle.jsonc_run.proofs.lemmas.promise.Sorted.{elements, row_elements, sorted_elements}
 
 -- the texts of elements in places are those of what stands there

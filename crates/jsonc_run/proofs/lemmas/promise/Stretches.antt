@@ -11,13 +11,13 @@ use Rattle.jsonc_tree.specs.OrderedTree.{OrderedTree, own_leaf, leaves}
 use Rattle.jsonc_sound.specs.Shape as shape
 use Rattle.jsonc_sound.specs.Shape.{ValueShaped, PropertyShaped, IsNameBefore, IsLiteralBefore, printed_text}
 use Rattle.jsonc_sound.specs.Documents.{all_marks, document_of}
-use Rattle.jsonc_sound.specs.Leaving.{AreBeside}
+use Rattle.jsonc_sound.specs.Leaving.{AreInlineTrivia}
 use Rattle.jsonc_sound.specs.Marks.{marks_of}
 use Rattle.jsonc_sound.specs.SoundTrees.{SoundTree}
 use Rattle.jsonc_sound.specs.TreeChanges.{leaves_of, property_of}
 use Rattle.jsonc_sound.specs.Written as trees
 use Rattle.jsonc_sound.specs.MarkChanges.{AreBlanks}
-use Rattle.jsonc_sound.proofs.GivingWay.{blanks_unmarked, marks_join}
+use Rattle.jsonc_sound.proofs.ReplacedStretches.{blanks_unmarked, marks_join}
 use Rattle.jsonc_layout.specs.from_input.Laid.{laid, laid_property}
 use Rattle.jsonc_layout.specs.from_input.Layout.{Layout}
 use Rattle.jsonc_layout.specs.from_input.Texts.{IsCharacters, IsOfTexts}
@@ -59,7 +59,7 @@ module _ (o : Options) where
   pub property_begins : {held : OrderedTree} {r : List ℕ} (behind : List Content) → PropertyShaped o held r → Begins (leaves_of (property_of held) ++ behind)
   property_begins behind (shape.named {name = name} {after = after} n g h v) = subst Begins (sym (append_assoc (own_leaf name) (leaves after) behind)) (name_begins name (printed_text after) (leaves after ++ behind) n)
 
-pub beside_begins : (lead rest : List Content) → AreBeside lead → Begins rest → Begins (lead ++ rest)
+pub beside_begins : (lead rest : List Content) → AreInlineTrivia lead → Begins rest → Begins (lead ++ rest)
 beside_begins [] rest h e = e
 beside_begins (Content.whitespace s ∷ lead) rest h e = beside_begins lead rest h.1 e
 beside_begins (Content.comment s ∷ lead) rest h e = refl

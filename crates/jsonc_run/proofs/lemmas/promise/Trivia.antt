@@ -14,7 +14,7 @@ use Rattle.jsonc_layout.specs.nodes.Kinds.{is_newline, is_trivia}
 use Rattle.jsonc_sound.specs.Leaves.{is_inner_blank}
 use Rattle.jsonc_sound.specs.Shape.{IsTrivia}
 use Rattle.jsonc_sound.proofs.ShapeTexts.{trivia_utf8}
-use Rattle.jsonc_sound.specs.Leaving.{AreBeside}
+use Rattle.jsonc_sound.specs.Leaving.{AreInlineTrivia}
 use Rattle.jsonc_sound.specs.TriviaChanges.{AreTrivia}
 use Rattle.jsonc_sound.proofs.Pieces.{Piece, Pieces, a_literal, a_name, a_trivia}
 use Rattle.jsonc_text.specs.Edits as texts
@@ -56,7 +56,7 @@ module _ (o : Options) where
   piece_trivia content h p = cc
 
   -- whitespace and comments print a stretch of a line
-  pub beside_text : (ls : List Content) → AreBeside ls → Pieces o ls → InLine (text_of_leaves ls)
+  pub beside_text : (ls : List Content) → AreInlineTrivia ls → Pieces o ls → InLine (text_of_leaves ls)
   beside_text [] h p = subst InLine (sym chars-nil) texts.nothing
   beside_text (Content.whitespace s ∷ ls) h p =
       let t = piece_trivia (Content.whitespace s) refl p.0 in

@@ -20,11 +20,11 @@ use Rattle.jsonc_sound.proofs.FirstNodes.{none_changed, no_element, trivia_over,
 use Rattle.jsonc_sound.proofs.ReadRows.{closed_changed}
 use Rattle.jsonc_sound.proofs.Texts.{AllUtf8}
 use Rattle.jsonc_text.specs.Paths as places
-use Rattle.jsonc_text.specs.Paths.{an_array, an_object, opening, IsEntry, LeadsTo, EntryAt, Holds, ValueAt, Value}
+use Rattle.jsonc_text.specs.Paths.{an_array, an_object, opening, IsEntry, LeadsTo, EntryAt, HasEntry, ValueAt, Value}
 use Rattle.jsonc_run.specs.promise.PlaceLaws.{text_of_leaves, node_chars, StandsInText}
 use Rattle.jsonc_run.proofs.lemmas.promise.Leaves.{row_back, value_back, front_of, back_of, document_parts, document_parts_then, text_joined, utf8_first, utf8_second, document_utf8}
-use Rattle.jsonc_run.proofs.lemmas.promise.Standing as standing
-use Rattle.jsonc_run.proofs.lemmas.promise.Standing.{colon_mark, bracket_mark, brace_mark, mark_text, Carries, value_utf8, property_utf8, closed_some, separated_some, elements_some, properties_some, separated_stands, carries_more, node_text, value_stands, property_stands, name_stands, name_utf8, mark_some, closing_text, close_bracket_mark, close_brace_mark}
+use Rattle.jsonc_run.proofs.lemmas.promise.PrintedShapes as standing
+use Rattle.jsonc_run.proofs.lemmas.promise.PrintedShapes.{colon_mark, bracket_mark, brace_mark, mark_text, Carries, value_utf8, property_utf8, closed_some, separated_some, elements_some, properties_some, separated_stands, carries_more, node_text, value_stands, property_stands, name_stands, name_utf8, mark_some, closing_text, close_bracket_mark, close_brace_mark}
 
 top_of : Content → OrderedTree → Top
 top_of c a = record { content = c; below = a }
@@ -164,13 +164,13 @@ module _ (o : Options) where
           (called.0, _, _, subst (λ t. IsName o t called.0 (printed_text after ++ z)) row_text called.1, subst (Gap o _) (ap (λ t. t ++ z) (mark_text colon_mark u)) before.0, subst (Gap o _) (ap (λ t. t ++ z) value_text) behind.0) in
           (none_behind, subst (λ t. ValueHere t z) same here, subst (λ t. LeadsTo o an_object (printed_text (more name none after) ++ z) (node_chars t ++ z)) same leads)
 
-  -- a container holds the entry that gives way
+  -- a container holds the entry that is replaced
   pub array_place : {x y : Top} (z : List ℕ) {row : OrderedTree} {i : ℕ} {new : OrderedTree} (e : ElementChanged x y i row new) → ValueHere (record { content = Content.array; below = row }) z
-      → ValueHere x (text_of_leaves (row_back e) ++ z) × Holds o an_array i (printed_text row ++ z) (node_chars x ++ (text_of_leaves (row_back e) ++ z)) (text_of_leaves (row_back e) ++ z)
+      → ValueHere x (text_of_leaves (row_back e) ++ z) × HasEntry o an_array i (printed_text row ++ z) (node_chars x ++ (text_of_leaves (row_back e) ++ z)) (text_of_leaves (row_back e) ++ z)
   array_place {x} {y} z e here = by here.shaped here.lines e
     where
       by : {row : OrderedTree} {r : List ℕ} → ValueShaped o Content.array row r → LinesEndLoosely true false row → {i : ℕ} {new : OrderedTree} (e : ElementChanged x y i row new)
-          → ValueHere x (text_of_leaves (row_back e) ++ z) × Holds o an_array i (printed_text row ++ z) (node_chars x ++ (text_of_leaves (row_back e) ++ z)) (text_of_leaves (row_back e) ++ z)
+          → ValueHere x (text_of_leaves (row_back e) ++ z) × HasEntry o an_array i (printed_text row ++ z) (node_chars x ++ (text_of_leaves (row_back e) ++ z)) (text_of_leaves (row_back e) ++ z)
       by (shape.literal h) l e = absurd h
       by (shape.empty_array g) l e =
           let a = past_token 0x5B e in
@@ -186,11 +186,11 @@ module _ (o : Options) where
           (subst (ValueHere x) same m.0, (printed_text t ++ z, printed_text u ++ z, ap (λ c. c ++ z) (mark_text bracket_mark t), gap.0, subst (λ b. EntryAt o an_array i (printed_text u ++ z) (node_chars x ++ b) b) same m.1))
 
   pub object_place : {held given : OrderedTree} (z : List ℕ) {row : OrderedTree} {i : ℕ} {new : OrderedTree} (e : ElementChanged (property_of held) (property_of given) i row new) → ValueHere (record { content = Content.object; below = row }) z
-      → PropertyHere held (text_of_leaves (row_back e) ++ z) × Holds o an_object i (printed_text row ++ z) (printed_text held ++ (text_of_leaves (row_back e) ++ z)) (text_of_leaves (row_back e) ++ z)
+      → PropertyHere held (text_of_leaves (row_back e) ++ z) × HasEntry o an_object i (printed_text row ++ z) (printed_text held ++ (text_of_leaves (row_back e) ++ z)) (text_of_leaves (row_back e) ++ z)
   object_place {held} {given} z e here = by here.shaped here.lines e
     where
       by : {row : OrderedTree} {r : List ℕ} → ValueShaped o Content.object row r → LinesEndLoosely true false row → {i : ℕ} {new : OrderedTree} (e : ElementChanged (property_of held) (property_of given) i row new)
-          → PropertyHere held (text_of_leaves (row_back e) ++ z) × Holds o an_object i (printed_text row ++ z) (printed_text held ++ (text_of_leaves (row_back e) ++ z)) (text_of_leaves (row_back e) ++ z)
+          → PropertyHere held (text_of_leaves (row_back e) ++ z) × HasEntry o an_object i (printed_text row ++ z) (printed_text held ++ (text_of_leaves (row_back e) ++ z)) (text_of_leaves (row_back e) ++ z)
       by (shape.literal h) l e = absurd h
       by (shape.empty_object g) l e =
           let a = past_token 0x7B e in

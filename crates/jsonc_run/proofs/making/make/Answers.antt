@@ -1,16 +1,16 @@
 use Rattle.jsonc_run.specs.Edits.{operation_of, unsorted}
 use Rattle.jsonc_run.proofs.Refused.{answer_refused}
-use Rattle.jsonc_run.proofs.Named.{answer_unnamed}
-use Rattle.jsonc_run.proofs.Steps.{answer_steps}
+use Rattle.jsonc_run.proofs.NamedPlaces.{answer_unnamed}
+use Rattle.jsonc_run.proofs.SoundChain.{answer_steps}
 use Rattle.jsonc_run.proofs.making.make.Goals as goal
 
 pub returns-clause-memory_or_place : goal.returns-clause-memory_or_place
 returns-clause-memory_or_place g c = λ o sound.
-    answer_refused o c.args.tree.now.nodes c.args.tree.now.tree sound (operation_of unsorted c.args.edit.now) c.make_by_kind.result c.make_by_kind.ensures.told
+    answer_refused o c.args.tree.now.nodes c.args.tree.now.tree sound (operation_of unsorted c.args.edit.now) c.make_by_kind.result c.make_by_kind.ensures.error
 
 pub returns-clause-named : goal.returns-clause-named
 returns-clause-named g c = λ o sound.
-    answer_unnamed c.args.tree.now.nodes o c.args.tree.now.tree sound (operation_of unsorted c.args.edit.now) c.make_by_kind.result c.make_by_kind.ensures.told
+    answer_unnamed c.args.tree.now.nodes o c.args.tree.now.tree sound (operation_of unsorted c.args.edit.now) c.make_by_kind.result c.make_by_kind.ensures.error
 
 pub returns-clause-steps : goal.returns-clause-steps
 returns-clause-steps g c = λ o.

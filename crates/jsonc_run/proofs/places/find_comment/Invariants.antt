@@ -8,7 +8,7 @@ use Rattle.jsonc_run.proofs.places.find_comment.Given as goal
 
 abbrev pub invariant-loop-next : goal.invariant-loop-next
 invariant-loop-next g l = record {
-  there : IfSome l.next (λ n. n < length l.tree.nodes);
+  in_tree : IfSome l.next (λ n. n < length l.tree.nodes);
   over : IfSome l.next (λ n. IsOver l.tree.nodes 0 n);
   left : slice_get (filter (is_comment_at l.tree.nodes) (rest_at l.tree.nodes 0 l.next)) l.left ≡ comment_at l.tree.nodes l.initial.left;
 }

@@ -1,7 +1,7 @@
 use Rattle.std.proofs.Common.{refl}
 use Rattle.jsonc_scan.proofs.Reading.{line_read, block_read, lone_slash, open_block}
 use Rattle.std.proofs.lemmas.Str.{IsCharBoundary-end}
-use Rattle.jsonc_scan.proofs.ToldWords.{slash_told, block_told}
+use Rattle.jsonc_scan.proofs.WordFaults.{slash_told, block_told}
 use Rattle.jsonc_scan.proofs.comment.read_comment.Goals as goal
 
 pub returns-then-has_byte-clause-found : goal.returns-then-has_byte-clause-found
@@ -23,10 +23,10 @@ pub returns-in_default-clause-none : goal.returns-in_default-clause-none
 returns-in_default-clause-none c =
     open_block _ _ c.requires.slash (c.if-not-has_byte.ensures.here refl) c.in_default.ensures.none
 
-pub returns-then-not-has_byte-clause-told : goal.returns-then-not-has_byte-clause-told
-returns-then-not-has_byte-clause-told c =
-    slash_told _ _ _ c.requires.slash (c.if-has_byte.ensures.other refl) (c.if-not-has_byte.ensures.other refl) c.fault.ensures.told
+pub returns-then-not-has_byte-clause-error : goal.returns-then-not-has_byte-clause-error
+returns-then-not-has_byte-clause-error c =
+    slash_told _ _ _ c.requires.slash (c.if-has_byte.ensures.other refl) (c.if-not-has_byte.ensures.other refl) c.fault.ensures.error
 
-pub returns-in_default-clause-told : goal.returns-in_default-clause-told
-returns-in_default-clause-told c =
-    block_told _ _ _ c.requires.slash (c.if-not-has_byte.ensures.here refl) c.in_default.ensures.none c.fault-in_default.ensures.told
+pub returns-in_default-clause-error : goal.returns-in_default-clause-error
+returns-in_default-clause-error c =
+    block_told _ _ _ c.requires.slash (c.if-not-has_byte.ensures.here refl) c.in_default.ensures.none c.fault-in_default.ensures.error

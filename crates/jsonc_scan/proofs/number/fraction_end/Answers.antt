@@ -1,5 +1,5 @@
 use Rattle.std.proofs.Common.{refl}
-use Rattle.jsonc_scan.proofs.Between.{no_fraction, fraction_digits, fraction_bare}
+use Rattle.jsonc_scan.proofs.NumberParts.{no_fraction, fraction_digits, fraction_bare}
 use Rattle.jsonc_scan.proofs.number.fraction_end.Goals as goal
 
 pub returns-then-not-has_byte-clause-found : goal.returns-then-not-has_byte-clause-found

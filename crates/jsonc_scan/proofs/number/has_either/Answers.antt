@@ -1,7 +1,7 @@
 use Rattle.std.proofs.Common.{◌==◌, ◌||◌}
 use Rattle.jsonc_text.proofs.Ascii.{ascii_no}
-use Rattle.jsonc_scan.proofs.Between.{has_at, either_small}
-use Rattle.jsonc_text.proofs.Steps.{no_at_end}
+use Rattle.jsonc_scan.proofs.NumberParts.{has_at, either_small}
+use Rattle.jsonc_text.proofs.CharacterSteps.{no_at_end}
 use Rattle.jsonc_scan.proofs.number.has_either.Goals as goal
 
 pub returns-then-place-bytes-clause-here : goal.returns-then-place-bytes-clause-here

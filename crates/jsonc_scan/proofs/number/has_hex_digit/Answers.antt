@@ -1,8 +1,8 @@
 use Rattle.std.proofs.Common.{sym, ◌∙◌}
 use Rattle.jsonc_text.specs.Text.{is_hex_digit}
 use Rattle.jsonc_text.proofs.Ascii.{ascii_no, hex_digit_small}
-use Rattle.jsonc_scan.proofs.Between.{has_at}
-use Rattle.jsonc_text.proofs.Steps.{no_at_end}
+use Rattle.jsonc_scan.proofs.NumberParts.{has_at}
+use Rattle.jsonc_text.proofs.CharacterSteps.{no_at_end}
 use Rattle.jsonc_scan.proofs.number.has_hex_digit.Goals as goal
 
 pub returns-then-place-bytes-clause-here : goal.returns-then-place-bytes-clause-here

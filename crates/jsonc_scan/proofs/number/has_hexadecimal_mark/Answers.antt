@@ -1,5 +1,5 @@
 use Rattle.std.proofs.Common.{refl}
-use Rattle.jsonc_scan.proofs.Between.{no_zero}
+use Rattle.jsonc_scan.proofs.NumberParts.{no_zero}
 use Rattle.jsonc_scan.proofs.number.has_hexadecimal_mark.Goals as goal
 
 pub returns-then-not-has_byte-clause-other : goal.returns-then-not-has_byte-clause-other

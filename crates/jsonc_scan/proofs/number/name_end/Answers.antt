@@ -1,4 +1,4 @@
-use Rattle.jsonc_scan.proofs.Between.{infinity, nan}
+use Rattle.jsonc_scan.proofs.NumberParts.{infinity, nan}
 use Rattle.std.proofs.Common.{refl}
 use Rattle.jsonc_scan.proofs.NoLexemes.{lacks_names}
 use Rattle.jsonc_scan.proofs.number.name_end.Goals as goal

@@ -1,8 +1,8 @@
 use Rattle.std.proofs.Common.{refl}
 use Rattle.std.proofs.lemmas.Result.{IfErr-weaker}
-use Rattle.jsonc_scan.proofs.Between.{after_minus, after_plus, unsigned, ok_map}
+use Rattle.jsonc_scan.proofs.NumberParts.{after_minus, after_plus, unsigned, ok_map}
 use Rattle.jsonc_scan.proofs.NoNumbers.{minus_without_number, plus_without_number, plus_refused, without_sign}
-use Rattle.jsonc_scan.proofs.Told.{minus_sign, plus_sign, plus_told}
+use Rattle.jsonc_scan.proofs.NumberFaults.{minus_sign, plus_sign, plus_told}
 use Rattle.jsonc_scan.proofs.number.number_end.Goals as goal
 
 pub returns-then-has_byte-clause-found : goal.returns-then-has_byte-clause-found
@@ -31,18 +31,18 @@ returns-then-options-clause-none c =
 pub returns-clause-none : goal.returns-clause-none
 returns-clause-none c = λ names. plus_refused _ c.args.text.now c.args.start (c.if-not-has_byte.ensures.here refl) c.if-options.false
 
-pub returns-then-has_byte-clause-told : goal.returns-then-has_byte-clause-told
-returns-then-has_byte-clause-told c =
-    IfErr-weaker c.signed_end.result _ _ (λ e n begins. n (minus_sign _ _ _ (c.if-has_byte.ensures.here refl))) c.signed_end.ensures.told
+pub returns-then-has_byte-clause-error : goal.returns-then-has_byte-clause-error
+returns-then-has_byte-clause-error c =
+    IfErr-weaker c.signed_end.result _ _ (λ e n begins. n (minus_sign _ _ _ (c.if-has_byte.ensures.here refl))) c.signed_end.ensures.error
 
-pub returns-then-options-clause-told : goal.returns-then-options-clause-told
-returns-then-options-clause-told c =
+pub returns-then-options-clause-error : goal.returns-then-options-clause-error
+returns-then-options-clause-error c =
     IfErr-weaker
     c.signed_end-then-options.result
     _
     _
     (λ e n begins. n (plus_sign _ _ _ c.if-options.true (c.if-not-has_byte.ensures.here refl)))
-    c.signed_end-then-options.ensures.told
+    c.signed_end-then-options.ensures.error
 
-pub returns-clause-told : goal.returns-clause-told
-returns-clause-told c = λ begins. plus_told _ _ _ _ c.if-options.false (c.if-not-has_byte.ensures.here refl) c.fault.ensures.told
+pub returns-clause-error : goal.returns-clause-error
+returns-clause-error c = λ begins. plus_told _ _ _ _ c.if-options.false (c.if-not-has_byte.ensures.here refl) c.fault.ensures.error

@@ -1,6 +1,6 @@
 use Rattle.std.proofs.Common.{refl}
 use Rattle.jsonc_text.specs.Text.{is_hex_digit}
-use Rattle.jsonc_scan.proofs.Between.{some_found}
+use Rattle.jsonc_scan.proofs.NumberParts.{some_found}
 use Rattle.jsonc_scan.proofs.number.some_hex_digits_end.Goals as goal
 
 pub returns-clause-found : goal.returns-clause-found

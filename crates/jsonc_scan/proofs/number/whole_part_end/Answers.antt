@@ -1,5 +1,5 @@
 use Rattle.std.proofs.Common.{refl}
-use Rattle.jsonc_scan.proofs.Between.{zero_whole, digits_whole}
+use Rattle.jsonc_scan.proofs.NumberParts.{zero_whole, digits_whole}
 use Rattle.jsonc_scan.proofs.number.whole_part_end.Goals as goal
 
 pub returns-then-has_byte-clause-found : goal.returns-then-has_byte-clause-found

@@ -1,5 +1,5 @@
 use Rattle.jsonc_text.specs.Options.{all_on}
-use Rattle.jsonc_scan.proofs.Between.{decimal}
+use Rattle.jsonc_scan.proofs.NumberParts.{decimal}
 use Rattle.jsonc_scan.proofs.plain.digits_end.Goals as goal
 
 pub returns : goal.returns

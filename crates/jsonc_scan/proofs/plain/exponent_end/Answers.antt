@@ -1,5 +1,5 @@
 use Rattle.std.proofs.Common.{refl}
-use Rattle.jsonc_scan.proofs.Between.{no_exponent, exponent_digits, exponent_signed}
+use Rattle.jsonc_scan.proofs.NumberParts.{no_exponent, exponent_digits, exponent_signed}
 use Rattle.jsonc_scan.proofs.plain.exponent_end.Goals as goal
 
 pub returns-then-not-has_either : goal.returns-then-not-has_either

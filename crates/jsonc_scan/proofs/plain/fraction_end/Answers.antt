@@ -1,5 +1,5 @@
 use Rattle.std.proofs.Common.{refl}
-use Rattle.jsonc_scan.proofs.Between.{no_fraction, fraction_digits}
+use Rattle.jsonc_scan.proofs.NumberParts.{no_fraction, fraction_digits}
 use Rattle.jsonc_scan.proofs.plain.fraction_end.Goals as goal
 
 pub returns-then-not-has_byte : goal.returns-then-not-has_byte

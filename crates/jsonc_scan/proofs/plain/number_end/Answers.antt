@@ -1,5 +1,5 @@
 use Rattle.std.proofs.Common.{refl, true}
-use Rattle.jsonc_scan.proofs.Between.{after_minus, unsigned}
+use Rattle.jsonc_scan.proofs.NumberParts.{after_minus, unsigned}
 use Rattle.jsonc_scan.proofs.plain.number_end.Goals as goal
 
 pub returns-then-has_byte : goal.returns-then-has_byte

@@ -2,7 +2,7 @@ use Rattle.std.proofs.Common.{refl, sym, ◌∙◌}
 use Rattle.std.proofs.lemmas.Result.{IfErr-weaker}
 use Rattle.jsonc_text.specs.OptionsOf.{parse_options}
 use Rattle.jsonc_scan.proofs.NoLexemes.{lone_slash_nothing, number_no_names, number_nothing, apostrophe_nothing, word_nothing}
-use Rattle.jsonc_scan.proofs.ToldWords.{quote_told}
+use Rattle.jsonc_scan.proofs.WordFaults.{quote_told}
 use Rattle.jsonc_scan.proofs.reads.read_lexeme.Goals as goal
 
 pub returns-in-Some-clause-found : goal.returns-in-Some-clause-found
@@ -36,5 +36,5 @@ returns-clause-none c =
     (λ e n. word_nothing (parse_options c.args.options.now) c.args.text.now c.args.start c.requires.quote c.requires.mark (c.if-has_byte.ensures.other refl) begins c.in_default.ensures.none n)
     c.read_name_or_word.ensures.none
 
-pub returns-then-has_byte-2-clause-told : goal.returns-then-has_byte-2-clause-told
-returns-then-has_byte-2-clause-told c = λ l b. quote_told _ _ _ _ (c.if-has_byte-2.ensures.here refl) c.requires.quote c.fault.ensures.told
+pub returns-then-has_byte-2-clause-error : goal.returns-then-has_byte-2-clause-error
+returns-then-has_byte-2-clause-error c = λ l b. quote_told _ _ _ _ (c.if-has_byte-2.ensures.here refl) c.requires.quote c.fault.ensures.error

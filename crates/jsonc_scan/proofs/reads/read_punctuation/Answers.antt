@@ -1,6 +1,6 @@
 use Rattle.jsonc_text.specs.Lexemes.{is_punctuation}
 use Rattle.jsonc_text.proofs.Ascii.{ascii_no}
-use Rattle.jsonc_text.proofs.Steps.{no_at_end, steps_ascii}
+use Rattle.jsonc_text.proofs.CharacterSteps.{no_at_end, steps_ascii}
 use Rattle.jsonc_scan.proofs.Reading.{punctuation_small}
 use Rattle.jsonc_scan.proofs.reads.read_punctuation.Goals as goal
 

@@ -1,7 +1,7 @@
 use Rattle.std.proofs.Common.{sym, ◌∙◌, arith}
 use Rattle.jsonc_text.specs.Text.{stop}
 use Rattle.jsonc_text.specs.Words.{is_in_word}
-use Rattle.jsonc_text.proofs.Steps.{many_push}
+use Rattle.jsonc_text.proofs.CharacterSteps.{many_push}
 use Rattle.jsonc_scan.proofs.word.word_chars_end.Goals as goal
 
 pub loop-c-init : goal.loop-c-init

@@ -1,6 +1,6 @@
 use Rattle.std.proofs.Common.{refl, ◌≡◌, true, false}
 use Rattle.jsonc_scan.proofs.Words.{word_passed, not_passed}
-use Rattle.jsonc_scan.proofs.ToldWords.{word_told, character_told}
+use Rattle.jsonc_scan.proofs.WordFaults.{word_told, character_told}
 use Rattle.jsonc_scan.proofs.word.word_end.Goals as goal
 
 pub returns-then-ends_word-clause-found : goal.returns-then-ends_word-clause-found
@@ -15,12 +15,12 @@ returns-clause-none c =
     let others = c.word_chars_end-end.ensures in
     not_passed _ _ _ _ _ first.2 others.chars others.all (λ ends. let both : false ≡ true = c.if-ends_word.ensures.1 ends in cc)
 
-pub returns-in_default-clause-told : goal.returns-in_default-clause-told
-returns-in_default-clause-told c =
+pub returns-in_default-clause-error : goal.returns-in_default-clause-error
+returns-in_default-clause-error c =
     character_told _ _ _ c.utf8.text c.requires c.in_default.ensures.none c.fault_at.ensures.kind c.fault_at.ensures.next
 
-pub returns-clause-told : goal.returns-clause-told
-returns-clause-told c =
+pub returns-clause-error : goal.returns-clause-error
+returns-clause-error c =
     let first = c.in-Some.ensures.found in
     let others = c.word_chars_end-end.ensures in
-    word_told _ _ _ _ _ _ first.1 first.2 others.chars others.all (λ ends. let both : false ≡ true = c.if-ends_word.ensures.1 ends in cc) c.fault.ensures.told
+    word_told _ _ _ _ _ _ first.1 first.2 others.chars others.all (λ ends. let both : false ≡ true = c.if-ends_word.ensures.1 ends in cc) c.fault.ensures.error

@@ -1,7 +1,7 @@
 use Rattle.std.proofs.Common.{◌-◌, ap, drop, length, sym, take, ◌∙◌}
 use Rattle.jsonc_tree.specs.Tree.{children_at}
-use Rattle.jsonc_sort.proofs.Taking.{between_read}
-use Rattle.jsonc_sort.proofs.Telling.{found_inside, found_nothing}
+use Rattle.jsonc_sort.proofs.SortedRow.{between_read}
+use Rattle.jsonc_sort.proofs.LeadsRead.{found_inside, found_nothing}
 use Rattle.jsonc_sort.proofs.above.comments_above.Goals as goal
 
 pub returns-then-not-has_brackets : goal.returns-then-not-has_brackets

@@ -2,7 +2,7 @@ use Rattle.std.proofs.Common.{◌+◌, ap, arith}
 use Rattle.std.proofs.lemmas.List.{take_rest}
 use Rattle.jsonc_tree.specs.Tree.{content_at}
 use Rattle.jsonc_sort.proofs.LeadPlaces.{newline_there}
-use Rattle.jsonc_sort.proofs.Telling.{above_counted}
+use Rattle.jsonc_sort.proofs.LeadsRead.{above_counted}
 use Rattle.jsonc_sort.proofs.above.comments_behind.Goals as goal
 
 pub slice_bounds-rest-count : goal.slice_bounds-rest-count

@@ -1,6 +1,6 @@
 use Rattle.std.proofs.Common.{arith}
 use Rattle.jsonc_tree.specs.Tree.{content_at}
-use Rattle.jsonc_sort.proofs.Telling.{found_all}
+use Rattle.jsonc_sort.proofs.LeadsRead.{found_all}
 use Rattle.jsonc_sort.proofs.above.comments_in.Goals as goal
 
 pub returns : goal.returns

@@ -1,5 +1,5 @@
 use Rattle.jsonc_tree.specs.Tree.{content_at}
-use Rattle.jsonc_sort.proofs.Telling.{FoundSoFar}
+use Rattle.jsonc_sort.proofs.LeadsRead.{FoundSoFar}
 use Rattle.jsonc_sort.proofs.above.comments_in.Given as goal
 
 abbrev pub invariant-loop-entry : goal.invariant-loop-entry

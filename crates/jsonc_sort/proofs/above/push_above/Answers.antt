@@ -4,7 +4,7 @@ use Rattle.std.proofs.lemmas.List.{take_rest}
 use Rattle.jsonc_tree.specs.Tree.{content_at}
 use Rattle.jsonc_sort.specs.Leads.{is_comment_at}
 use Rattle.jsonc_sort.proofs.LeadPlaces.{newline_there}
-use Rattle.jsonc_sort.proofs.Telling.{above_is, above_none}
+use Rattle.jsonc_sort.proofs.LeadsRead.{above_is, above_none}
 use Rattle.jsonc_sort.proofs.above.push_above.Goals as goal
 
 pub slice_bounds-rest-count : goal.slice_bounds-rest-count

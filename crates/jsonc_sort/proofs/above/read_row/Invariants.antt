@@ -1,5 +1,5 @@
 use Rattle.jsonc_tree.specs.Tree.{content_at}
-use Rattle.jsonc_sort.proofs.Telling.{ToldSoFar}
+use Rattle.jsonc_sort.proofs.LeadsRead.{ToldSoFar}
 use Rattle.jsonc_sort.proofs.above.read_row.Given as goal
 
 abbrev pub invariant-loop-entry : goal.invariant-loop-entry

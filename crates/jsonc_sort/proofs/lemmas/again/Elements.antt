@@ -12,8 +12,8 @@ use Rattle.jsonc_sort.specs.Slots.{Slot, stays, comes, all_stay}
 use Rattle.jsonc_sort.specs.Parts.{has_comma, is_comma_at, is_whitespace_at}
 use Rattle.jsonc_sort.specs.Leads.{blank_lines}
 use Rattle.jsonc_sort.specs.Sorting.{Entry, Headers, ends_with_comma, entries, entry_at, goes_on, lines_ended, no_entry, placed, placed_one, rearranged, row_end, slot_content, tail_with, travelling, without_comma}
-use Rattle.jsonc_sort.proofs.Choosing.{Each, all_moved, choose, each_drop, each_joined, each_moved}
-use Rattle.jsonc_sort.proofs.Held.{ByKind, HeldEntry, row_held}
+use Rattle.jsonc_sort.proofs.Choices.{Each, all_moved, choose, each_drop, each_joined, each_moved}
+use Rattle.jsonc_sort.proofs.NodesOfEntries.{ByKind, HeldEntry, row_held}
 use Rattle.jsonc_sort.proofs.Values.{elements, row_elements}
 
 -- the number in a place, and that of an entry's element

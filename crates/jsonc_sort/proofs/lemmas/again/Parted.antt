@@ -12,9 +12,9 @@ use Rattle.jsonc_sort.specs.Above.{lead_read, leads, leads_at, leads_from, leads
 use Rattle.jsonc_sort.specs.Parts.{Part, parts}
 use Rattle.jsonc_sort.specs.Sorting.{entries_from}
 use Rattle.jsonc_sort.specs.Rearranged.{headers_of}
-use Rattle.jsonc_sort.proofs.Taking.{elements_between}
+use Rattle.jsonc_sort.proofs.SortedRow.{elements_between}
 use Rattle.jsonc_sort.proofs.Weights.{entry_count}
-use Rattle.jsonc_sort.specs.again.Parted.{is_parted, parted_at, PartedStay}
+use Rattle.jsonc_sort.specs.again.Parted.{is_separated, separated_at, SeparatedStay}
 use Rattle.jsonc_sort.proofs.lemmas.groups.Stretches.{stretches_stay}
 
 leads_count : (at : ℕ → Content) (groups : Bool) (pins : List (Option ℕ)) (lead : List ℕ) (rest : List Part) → length (leads_from lead rest) ≡ length (entries_from at groups pins lead rest)
@@ -31,11 +31,11 @@ module _ (ns : List Node) (c : ℕ) (whole : IsTrue (has_brackets ns c)) where
   leads_are : leads_at ns c ≡ leads at inner
   leads_are = rw whole refl
 
-  parted_count : length (parted_at ns c) ≡ length (elements_at ns c)
+  parted_count : length (separated_at ns c) ≡ length (elements_at ns c)
   parted_count =
-      length-map (leads_read ns c) is_parted ∙ length-map (leads_at ns c) (lead_read at) ∙ ap length leads_are
+      length-map (leads_read ns c) is_separated ∙ length-map (leads_at ns c) (lead_read at) ∙ ap length leads_are
       ∙ leads_count at false [] (parts at inner).lead (parts at inner).rest ∙ entry_count at (headers_of [] false) inner ∙ sym (ap length (elements_between ns c whole))
 
-pub parted_stay : {N : Type 0} (ns : List Node) (c : ℕ) (lt : N → N → Bool) (nodes : List (Option N)) (order : List ℕ) → PartedStay ns c lt nodes order
+pub parted_stay : {N : Type 0} (ns : List Node) (c : ℕ) (lt : N → N → Bool) (nodes : List (Option N)) (order : List ℕ) → SeparatedStay ns c lt nodes order
 parted_stay ns c lt nodes order whole o =
-    stretches_stay (parted_at ns c) lt nodes order (subst (λ (n : ℕ). IsOrderedBy (comes_before lt nodes (group_starts (parted_at ns c))) n order) (sym (parted_count ns c whole)) o)
+    stretches_stay (separated_at ns c) lt nodes order (subst (λ (n : ℕ). IsOrderedBy (comes_before lt nodes (group_starts (separated_at ns c))) n order) (sym (parted_count ns c whole)) o)

@@ -10,7 +10,7 @@ use Rattle.jsonc_sort.specs.ordering.Groups.{group_starts, starts_from}
 use Rattle.jsonc_sort.specs.ordering.Order.{start_in}
 use Rattle.jsonc_sort.proofs.lemmas.groups.Added.{added, added_moved, added_parted}
 use Rattle.jsonc_sort.specs.groups.Groups.{begins_at, GroupsStay, IsInGroups, IsStretch, StaysInGroups, StretchesStay}
-use Rattle.jsonc_sort.proofs.lemmas.groups.Ascending.{alike}
+use Rattle.jsonc_sort.proofs.lemmas.groups.AscendingLists.{alike}
 use Rattle.jsonc_sort.proofs.lemmas.groups.Counted.{by_counts, is_it, none_of}
 
 -- where groups begin, of a row from a place on, the group before which began at another

@@ -2,7 +2,7 @@ use Rattle.std.proofs.Common.{ap, drop, sym, refl, ◌∙◌}
 use Rattle.jsonc_tree.specs.Tree.{content_at}
 use Rattle.jsonc_sort.specs.Rearranged.{headers_of}
 use Rattle.jsonc_sort.specs.Sorting.{first_pin}
-use Rattle.jsonc_sort.proofs.Entering.{entered_more}
+use Rattle.jsonc_sort.proofs.EntriesOfRows.{entered_more}
 use Rattle.jsonc_sort.proofs.places.entries.Goals as goal
 
 pub loop-entry-preserved : goal.loop-entry-preserved

@@ -1,7 +1,7 @@
 use Rattle.std.proofs.Common.{◌-◌, length}
 use Rattle.jsonc_tree.specs.Tree.{content_at}
 use Rattle.jsonc_sort.specs.Rearranged.{headers_of}
-use Rattle.jsonc_sort.proofs.Entering.{Entered}
+use Rattle.jsonc_sort.proofs.EntriesOfRows.{Entered}
 use Rattle.jsonc_sort.proofs.places.entries.Given as goal
 
 abbrev pub invariant-loop-entry : goal.invariant-loop-entry

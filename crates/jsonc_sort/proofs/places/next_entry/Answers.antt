@@ -2,7 +2,7 @@ use Rattle.std.proofs.Common.{◌+◌, ap, arith, ◌∙◌}
 use Rattle.std.proofs.lemmas.List.{take_rest}
 use Rattle.jsonc_tree.specs.Tree.{content_at}
 use Rattle.jsonc_sort.specs.Places.{before_element}
-use Rattle.jsonc_sort.proofs.Entering.{last_there, next_is}
+use Rattle.jsonc_sort.proofs.EntriesOfRows.{last_there, next_is}
 use Rattle.jsonc_sort.proofs.places.next_entry.Goals as goal
 
 pub returns-then-element-row-clause-last : goal.returns-then-element-row-clause-last

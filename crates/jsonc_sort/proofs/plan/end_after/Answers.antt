@@ -1,6 +1,6 @@
 use Rattle.std.proofs.Common.{◌≤◌, arith, length, subst, sym}
 use Rattle.jsonc_sort.proofs.Lasts.{last_end}
-use Rattle.jsonc_sort.proofs.Placing.{end_within}
+use Rattle.jsonc_sort.proofs.PlannedRow.{end_within}
 use Rattle.jsonc_sort.proofs.plan.end_after.Goals as goal
 
 pub returns-in-Some-clause-end : goal.returns-in-Some-clause-end

@@ -1,4 +1,4 @@
-use Rattle.jsonc_sort.proofs.Placing.{order_below}
+use Rattle.jsonc_sort.proofs.PlannedRow.{order_below}
 use Rattle.jsonc_sort.proofs.plan.number_at.Goals as goal
 
 pub returns-clause-within : goal.returns-clause-within

@@ -5,7 +5,7 @@ use Rattle.jsonc_tree.specs.Tree.{content_at}
 use Rattle.jsonc_sort.specs.Plans.{Gains}
 use Rattle.jsonc_sort.specs.Slots.{all_stay}
 use Rattle.jsonc_sort.specs.declared.places.Places.{Places}
-use Rattle.jsonc_sort.proofs.Placing.{all_within, entry_planned, order_long, row_is_planned, started}
+use Rattle.jsonc_sort.proofs.PlannedRow.{all_within, entry_planned, order_long, row_is_planned, started}
 use Rattle.jsonc_sort.proofs.plan.plan_row.Goals as goal
 
 pub end_after-requires : goal.end_after-requires
@@ -16,7 +16,7 @@ number_at-number-requires-clause-place g c = omega (arith, order_long (length c.
 
 pub loop-place-init : goal.loop-place-init
 loop-place-init g c =
-    started c.args.tree.now.nodes c.args.newline c.args.row.now c.args.entries.now c.args.order.now c.requires.there c.requires.read (order_long (length c.args.entries.now) c.args.order.now c.requires.order) c.ends_with_comma-commas.result c.put_stretch.new.tree.nodes
+    started c.args.tree.now.nodes c.args.newline c.args.row.now c.args.entries.now c.args.order.now c.requires.in_tree c.requires.read (order_long (length c.args.entries.now) c.args.order.now c.requires.order) c.ends_with_comma-commas.result c.put_stretch.new.tree.nodes
     (record { newline = c.args.newline; nodes = c.new.result; goes_on = true }) c.put_stretch.new.plan (length c.args.entries.now) c.args.tree.now.tree refl refl c.new.ensures.items
     (subst (λ l. Gains c.args.tree.now.nodes (record { newline = c.args.newline; nodes = c.new.result; goes_on = true }) c.put_stretch.new.tree.nodes c.put_stretch.new.plan (all_stay l)) (take_rest c.args.row.now c.end_after.result ∙ ap (λ k. drop k c.args.row.now) c.end_after.ensures.end) c.in_ok-put_stretch.ensures.gains) c.put_stretch.ensures.prepared refl
 
@@ -29,7 +29,7 @@ loop-place-preserved g c =
     let is : number ≡ slice_index c.args.order.now k = c.number_at-number.ensures.number in
     let below : number < length ps = c.number_at-number.ensures.within in
     let chosen : slice_index c.args.order.now k < length ps = subst (λ n. n < length ps) is below in
-    entry_planned c.args.tree.now.nodes c.args.newline c.args.row.now ps c.args.order.now c.requires.there c.requires.read (order_long (length ps) c.args.order.now c.requires.order) c.ends_with_comma-commas.result c.comma_before-comma.result c.loop-place.tree.nodes c.put_entry.new.tree.nodes
+    entry_planned c.args.tree.now.nodes c.args.newline c.args.row.now ps c.args.order.now c.requires.in_tree c.requires.read (order_long (length ps) c.args.order.now c.requires.order) c.ends_with_comma-commas.result c.comma_before-comma.result c.loop-place.tree.nodes c.put_entry.new.tree.nodes
     c.loop-place.plan c.put_entry.new.plan c.loop-place.place (slice_index_or ps k none) (slice_index_or ps number none) c.loop-place.invariant c.loop-place-test.true chosen
     (get_or_default ps k none (slice_index_or ps k none) (omega (arith, c.loop-place.invariant.within)))
     (ap (λ n. slice_index_or ps n none) is ∙ get_or_default ps (slice_index c.args.order.now k) none (slice_index_or ps number none) chosen)
@@ -37,5 +37,5 @@ loop-place-preserved g c =
 
 pub returns-clause-planned : goal.returns-clause-planned
 returns-clause-planned g c =
-    row_is_planned c.args.tree.now.nodes c.args.newline c.args.row.now c.args.entries.now c.args.order.now c.requires.there c.requires.read (order_long (length c.args.entries.now) c.args.order.now c.requires.order) c.ends_with_comma-commas.result c.loop-place.tree.nodes c.loop-place.plan c.loop-place.place
+    row_is_planned c.args.tree.now.nodes c.args.newline c.args.row.now c.args.entries.now c.args.order.now c.requires.in_tree c.requires.read (order_long (length c.args.entries.now) c.args.order.now c.requires.order) c.ends_with_comma-commas.result c.loop-place.tree.nodes c.loop-place.plan c.loop-place.place
     c.ends_with_comma-commas.ensures c.loop-place.invariant (omega arith) c.reverse.new.self.items c.reverse.ensures.items

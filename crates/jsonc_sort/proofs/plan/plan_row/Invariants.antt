@@ -1,4 +1,4 @@
-use Rattle.jsonc_sort.proofs.Placing.{SoFar}
+use Rattle.jsonc_sort.proofs.PlannedRow.{SoFar}
 use Rattle.jsonc_sort.proofs.plan.plan_row.Given as goal
 
 abbrev pub invariant-loop-place : goal.invariant-loop-place

@@ -1,4 +1,4 @@
-use Rattle.jsonc_sort.proofs.Placing.{entry_gained}
+use Rattle.jsonc_sort.proofs.PlannedRow.{entry_gained}
 use Rattle.jsonc_sort.proofs.plan.put_entry.Goals as goal
 
 pub returns-clause-gains : goal.returns-clause-gains

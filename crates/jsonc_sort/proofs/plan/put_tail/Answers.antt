@@ -1,5 +1,5 @@
 use Rattle.std.proofs.Common.{sym, ◌∙◌}
-use Rattle.jsonc_sort.proofs.Placing.{bare_gained}
+use Rattle.jsonc_sort.proofs.PlannedRow.{bare_gained}
 use Rattle.jsonc_sort.proofs.plan.put_tail.Goals as goal
 
 pub returns-then-not-comma-clause-gains : goal.returns-then-not-comma-clause-gains

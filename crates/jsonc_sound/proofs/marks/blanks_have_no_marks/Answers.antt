@@ -1,4 +1,4 @@
-use Rattle.jsonc_sound.proofs.GivingWay.{one_mark_leaves, blanks_keep_marks, space_keeps_marks}
+use Rattle.jsonc_sound.proofs.ReplacedStretches.{one_mark_leaves, blanks_keep_marks, space_keeps_marks}
 use Rattle.jsonc_sound.proofs.marks.blanks_have_no_marks.Goals as goal
 
 pub returns-clause-comment : goal.returns-clause-comment

@@ -1,4 +1,4 @@
-use Rattle.jsonc_sound.proofs.Trimmed.{blanks_left_out, block_whole}
+use Rattle.jsonc_sound.proofs.TrimmedTexts.{blanks_left_out, block_whole}
 use Rattle.jsonc_sound.proofs.marks.comments_without_end_blanks.Goals as goal
 
 pub returns-clause-block : goal.returns-clause-block

@@ -1,4 +1,4 @@
-use Rattle.jsonc_sound.proofs.GivingWay.{marks_join, marks_follow}
+use Rattle.jsonc_sound.proofs.ReplacedStretches.{marks_join, marks_follow}
 use Rattle.jsonc_sound.proofs.Printed.{printed_give_way}
 use Rattle.jsonc_sound.proofs.marks.marks_give_way.Goals as goal
 

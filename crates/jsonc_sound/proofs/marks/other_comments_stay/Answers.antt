@@ -1,4 +1,4 @@
-use Rattle.jsonc_sound.proofs.GivingWay.{other_comments, others_alone}
+use Rattle.jsonc_sound.proofs.ReplacedStretches.{other_comments, others_alone}
 use Rattle.jsonc_sound.proofs.marks.other_comments_stay.Goals as goal
 
 pub returns-clause-kept : goal.returns-clause-kept

@@ -1,4 +1,4 @@
-use Rattle.jsonc_sound.proofs.GivingWay.{values_marks, trivias_marks, trivia_has_comments, last_is_comment}
+use Rattle.jsonc_sound.proofs.ReplacedStretches.{values_marks, trivias_marks, trivia_has_comments, last_is_comment}
 use Rattle.jsonc_sound.proofs.marks.values_and_trivia_give_way.Goals as goal
 
 pub returns-clause-value : goal.returns-clause-value

@@ -1,5 +1,5 @@
-use Rattle.jsonc_sound.proofs.LostEntries.{items_lose, members_lose}
-use Rattle.jsonc_sound.proofs.LostValues.{document_loses}
+use Rattle.jsonc_sound.proofs.RemovedEntries.{items_lose, members_lose}
+use Rattle.jsonc_sound.proofs.RemovedValues.{document_loses}
 use Rattle.jsonc_sound.proofs.rows.values_without_an_element.Goals as goal
 
 pub returns-clause-items : goal.returns-clause-items

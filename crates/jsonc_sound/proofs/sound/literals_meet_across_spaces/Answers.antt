@@ -1,5 +1,5 @@
 use Rattle.jsonc_sound.proofs.Spaces.{space_serves, stretch_ends, sound_where_none_meet}
-use Rattle.jsonc_sound.proofs.Flat.{sound_value_where_none_meet}
+use Rattle.jsonc_sound.proofs.LeafByLeaf.{sound_value_where_none_meet}
 use Rattle.jsonc_sound.proofs.Spaced.{sound_with_spaces}
 use Rattle.jsonc_sound.proofs.sound.literals_meet_across_spaces.Goals as goal
 

@@ -1,4 +1,4 @@
-use Rattle.jsonc_sound.proofs.Apart.{value_alone, value_leaves, property_alone, property_leaves}
+use Rattle.jsonc_sound.proofs.NodesAlone.{value_alone, value_leaves, property_alone, property_leaves}
 use Rattle.jsonc_sound.proofs.Commas.{none_meet, stretches_join}
 use Rattle.jsonc_sound.proofs.sound.rows_with_commas.Goals as goal
 

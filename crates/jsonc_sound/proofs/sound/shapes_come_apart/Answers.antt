@@ -1,6 +1,6 @@
 use Rattle.jsonc_sound.proofs.LooseLines.{document_loosens}
 use Rattle.jsonc_sound.proofs.ShapeValues.{document_printed}
-use Rattle.jsonc_sound.proofs.Apart.{document_alone, document_leaves, document_shaped}
+use Rattle.jsonc_sound.proofs.NodesAlone.{document_alone, document_leaves, document_shaped}
 use Rattle.jsonc_sound.proofs.sound.shapes_come_apart.Goals as goal
 
 pub returns-clause-apart : goal.returns-clause-apart

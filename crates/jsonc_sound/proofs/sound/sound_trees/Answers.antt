@@ -1,5 +1,5 @@
 use Rattle.jsonc_sound.proofs.LooseLines.{document_loosens}
-use Rattle.jsonc_sound.proofs.Apart.{document_alone, document_leaves, document_shaped}
+use Rattle.jsonc_sound.proofs.NodesAlone.{document_alone, document_leaves, document_shaped}
 use Rattle.jsonc_sound.proofs.ShapeValues.{document_printed}
 use Rattle.jsonc_sound.proofs.SoundTrees.{kept_by_stretches, kept_where_none_meet, kept_by_values}
 use Rattle.jsonc_sound.proofs.LooseComments.{kept_without_comment}

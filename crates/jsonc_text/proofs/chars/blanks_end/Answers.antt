@@ -1,6 +1,6 @@
 use Rattle.jsonc_text.specs.Gaps.{is_blank}
 use Rattle.jsonc_text.proofs.Ascii.{blank_step, no_blank_step}
-use Rattle.jsonc_text.proofs.Steps.{many_append}
+use Rattle.jsonc_text.proofs.CharacterSteps.{many_append}
 use Rattle.std.proofs.Common.{arith}
 use Rattle.jsonc_text.proofs.CharRuns.{passes_none, passes_more}
 use Rattle.jsonc_text.proofs.chars.blanks_end.Goals as goal

@@ -2,7 +2,7 @@ use Rattle.std.proofs.Common.{◌≡◌, ◌++◌, ◌+◌, ◌<◌, ◌∙◌, 
 use Rattle.std.proofs.lemmas.Str.{len_utf8_ascii}
 use Rattle.std.specs.Char.{len_utf8}
 use Rattle.jsonc_text.specs.Chars.{Steps}
-use Rattle.jsonc_text.proofs.Steps.{rest_end, some_of_match, steps_ascii, steps_char}
+use Rattle.jsonc_text.proofs.CharacterSteps.{rest_end, some_of_match, steps_ascii, steps_char}
 use Rattle.jsonc_text.proofs.chars.char_at.Goals as goal
 
 pub returns-then-place-bytes-clause-none : goal.returns-then-place-bytes-clause-none

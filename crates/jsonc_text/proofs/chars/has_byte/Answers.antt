@@ -1,5 +1,5 @@
 use Rattle.jsonc_text.proofs.Ascii.{here_at, other_at}
-use Rattle.jsonc_text.proofs.Steps.{no_at_end}
+use Rattle.jsonc_text.proofs.CharacterSteps.{no_at_end}
 use Rattle.std.proofs.Common.{◌==◌}
 use Rattle.jsonc_text.proofs.chars.has_byte.Goals as goal
 

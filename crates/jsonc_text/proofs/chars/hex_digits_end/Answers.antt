@@ -1,6 +1,6 @@
 use Rattle.std.proofs.Common.{sym, ◌∙◌}
 use Rattle.jsonc_text.specs.Text.{is_hex_digit}
-use Rattle.jsonc_text.proofs.Steps.{no_at_end}
+use Rattle.jsonc_text.proofs.CharacterSteps.{no_at_end}
 use Rattle.jsonc_text.proofs.Ascii.{ascii_no, hex_digit_small}
 use Rattle.jsonc_text.proofs.CharRuns.{passes_none, passes_ascii}
 use Rattle.jsonc_text.proofs.chars.hex_digits_end.Goals as goal

@@ -1,4 +1,4 @@
-use Rattle.jsonc_text.proofs.Alone.{scanned_alone, scanned_before, some_text}
+use Rattle.jsonc_text.proofs.LexemesAlone.{scanned_alone, scanned_before, some_text}
 use Rattle.jsonc_text.proofs.laws.lexemes_stand_alone.Goals as goal
 
 pub returns-clause-some : goal.returns-clause-some

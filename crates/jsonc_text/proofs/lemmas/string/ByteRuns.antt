@@ -6,7 +6,7 @@ use Rattle.std.proofs.lemmas.List.Edits.{get_or-between, length-between}
 use Rattle.std.proofs.lemmas.Str.{encode_ascii, encodes-chars, IsUtf8-between, IsCharBoundary-end, IsCharBoundary-before_ascii}
 use Rattle.jsonc_text.specs.Text.{rest, Many, stop, step, Spans}
 use Rattle.jsonc_text.specs.string.Between.{Reaches, LacksAt, is_neither}
-use Rattle.jsonc_text.proofs.Steps.{steps_ascii}
+use Rattle.jsonc_text.proofs.CharacterSteps.{steps_ascii}
 use Rattle.jsonc_text.proofs.Cuts.{chars_between}
 
 -- each byte from one place to another passes the test

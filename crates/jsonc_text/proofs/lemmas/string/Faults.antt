@@ -11,7 +11,7 @@ use Rattle.jsonc_text.specs.Strings.{Meaning, meaning, refused, AreHex4, hex4, i
 use Rattle.jsonc_text.proofs.Basics.{or_cases, and_both, test_eq, eq_test}
 use Rattle.jsonc_text.specs.string.Between.{LacksAt, Reaches, is_neither}
 use Rattle.jsonc_text.specs.string.Escapes.{is_plain}
-use Rattle.jsonc_text.specs.string.Told.{past, FewDigits, missing, digit, Writes, writes, LacksFour, of_one, of_second, LacksTwo, of_byte, LacksUnit, no_backslash, no_u, unknown, decimal, octal, TellsEscape, Ends, at_once, within, within_longer, escape, unterminated, IsTold, ReadTo, IsToldEscape, IsToldAnyhow}
+use Rattle.jsonc_text.specs.string.Faults.{past, FewDigits, missing, digit, Writes, writes, LacksFour, of_one, of_second, LacksTwo, of_byte, LacksUnit, no_backslash, no_u, unknown, decimal, octal, EscapeFaultAt, Ends, at_once, within, within_longer, escape, unterminated, IsStringFault, ReadTo, IsEscapeFault, IsStringFaultAnyhow}
 use Rattle.jsonc_text.proofs.lemmas.string.Escapes.{leads, two, five, not_taken}
 use Rattle.jsonc_text.proofs.lemmas.string.Decoding.{Decoding, decoded_run, plain_run, run_ends}
 
@@ -47,14 +47,14 @@ past_end bytes i j none some = go (rest bytes i) refl
     go (c ∷ t) e = rw (some c t e).0 refl
 
 -- a fault whose parts are known
-pub told_escape : (taken : Bool) (q : ℕ) (bytes : List ℕ) (i : ℕ) (fault : StringFault) (k : ParseStringErrorKind) (r : List ℕ) → fault.range.start ≡ i → rest bytes fault.range.end ≡ r → fault.kind ≡ k → TellsEscape taken q k (rest bytes i) r → IsToldEscape taken q bytes i fault
+pub told_escape : (taken : Bool) (q : ℕ) (bytes : List ℕ) (i : ℕ) (fault : StringFault) (k : ParseStringErrorKind) (r : List ℕ) → fault.range.start ≡ i → rest bytes fault.range.end ≡ r → fault.kind ≡ k → EscapeFaultAt taken q k (rest bytes i) r → IsEscapeFault taken q bytes i fault
 told_escape taken q bytes i fault k r s e f h = record { start = s; tells = rw (e, f) h }
 
 -- an escape's fault is the string's
-pub told_after : (taken : Bool) (q : ℕ) (bytes : List ℕ) (start i : ℕ) (fault : StringFault) → IsToldEscape taken q bytes i fault → ReadTo taken q bytes start i → IsTold taken q bytes start fault
+pub told_after : (taken : Bool) (q : ℕ) (bytes : List ℕ) (start i : ℕ) (fault : StringFault) → IsEscapeFault taken q bytes i fault → ReadTo taken q bytes start i → IsStringFault taken q bytes start fault
 told_after taken q bytes start i fault t (s, v, a, e, p) memory = rw (e, t.start) (escape p t.tells)
 
-pub told_end : (taken : Bool) (q : ℕ) (bytes : List ℕ) (start i : ℕ) (fault : StringFault) → fault.range.start ≡ start → rest bytes fault.range.end ≡ [] → fault.kind ≡ kind.UnterminatedStringLiteral → Ends taken (rest bytes i) → ReadTo taken q bytes start i → IsTold taken q bytes start fault
+pub told_end : (taken : Bool) (q : ℕ) (bytes : List ℕ) (start i : ℕ) (fault : StringFault) → fault.range.start ≡ start → rest bytes fault.range.end ≡ [] → fault.kind ≡ kind.UnterminatedStringLiteral → Ends taken (rest bytes i) → ReadTo taken q bytes start i → IsStringFault taken q bytes start fault
 told_end taken q bytes start i fault s e k h (t, v, a, f, p) memory = rw (s, e, k, f) (unterminated p h)
 
 -- `\u` and `\x` without all of their digits
@@ -69,19 +69,19 @@ lacks_second bytes i j k m v h w s e u f g =
 pub lacks_two : (bytes : List ℕ) (i : ℕ) {r : List ℕ} → Steps bytes i 0x5C (i + 1) → Steps bytes (i + 1) 0x78 (i + 2) → FewDigits 2 (rest bytes (i + 2)) r → LacksTwo true (rest bytes i) r
 lacks_two bytes i s u f = rw (two bytes i 0x5C 0x78 s u) (of_byte refl f)
 
-pub told_two : (q : ℕ) (bytes : List ℕ) (i stop : ℕ) (fault : StringFault) → fault.range.start ≡ i → rest bytes fault.range.end ≡ past (rest bytes stop) → fault.kind ≡ kind.ExpectedTwoHexDigits → Steps bytes i 0x5C (i + 1) → Steps bytes (i + 1) 0x78 (i + 2) → FewDigits 2 (rest bytes (i + 2)) (past (rest bytes stop)) → IsToldEscape true q bytes i fault
+pub told_two : (q : ℕ) (bytes : List ℕ) (i stop : ℕ) (fault : StringFault) → fault.range.start ≡ i → rest bytes fault.range.end ≡ past (rest bytes stop) → fault.kind ≡ kind.ExpectedTwoHexDigits → Steps bytes i 0x5C (i + 1) → Steps bytes (i + 1) 0x78 (i + 2) → FewDigits 2 (rest bytes (i + 2)) (past (rest bytes stop)) → IsEscapeFault true q bytes i fault
 told_two q bytes i stop fault a b k s u f = told_escape true q bytes i fault kind.ExpectedTwoHexDigits (past (rest bytes stop)) a b k (lacks_two bytes i s u f)
 
-pub told_four : (bytes : List ℕ) (i stop : ℕ) (fault : StringFault) → fault.range.start ≡ i → rest bytes fault.range.end ≡ past (rest bytes stop) → fault.kind ≡ kind.ExpectedFourHexDigits → LacksFour (rest bytes i) (past (rest bytes stop)) → IsToldAnyhow bytes i fault
+pub told_four : (bytes : List ℕ) (i stop : ℕ) (fault : StringFault) → fault.range.start ≡ i → rest bytes fault.range.end ≡ past (rest bytes stop) → fault.kind ≡ kind.ExpectedFourHexDigits → LacksFour (rest bytes i) (past (rest bytes stop)) → IsStringFaultAnyhow bytes i fault
 told_four bytes i stop fault a b k f taken q = told_escape taken q bytes i fault kind.ExpectedFourHexDigits (past (rest bytes stop)) a b k f
 
 -- a surrogate without its other half
 pub told_low : (bytes ds : List ℕ) (i v : ℕ) (fault : StringFault) → fault.range.start ≡ i → rest bytes fault.range.end ≡ past (rest bytes (i + 5)) → past (rest bytes (i + 5)) ≡ rest bytes (i + 6) → fault.kind ≡ kind.InvalidUnicodeEscapeSequence ds surrogate.UnpairedLowSurrogate
-    → Writes (λ n. n == v) ds (rest bytes i) (rest bytes (i + 6)) → IsTrue (is_low_surrogate v) → IsToldAnyhow bytes i fault
+    → Writes (λ n. n == v) ds (rest bytes i) (rest bytes (i + 6)) → IsTrue (is_low_surrogate v) → IsStringFaultAnyhow bytes i fault
 told_low bytes ds i v fault a b e k w h taken q = told_escape taken q bytes i fault (kind.InvalidUnicodeEscapeSequence ds surrogate.UnpairedLowSurrogate) (rest bytes (i + 6)) a (b ∙ e) k (writes_such is_low_surrogate v h w)
 
 pub told_high : (bytes ds : List ℕ) (i j stop v : ℕ) (fault : StringFault) → fault.range.start ≡ i → rest bytes fault.range.end ≡ past (rest bytes stop) → fault.kind ≡ kind.InvalidUnicodeEscapeSequence ds surrogate.UnpairedHighSurrogate
-    → Writes (λ n. n == v) ds (rest bytes i) (rest bytes j) → IsTrue (is_high_surrogate v) → LacksUnit (rest bytes j) (past (rest bytes stop)) → IsToldAnyhow bytes i fault
+    → Writes (λ n. n == v) ds (rest bytes i) (rest bytes j) → IsTrue (is_high_surrogate v) → LacksUnit (rest bytes j) (past (rest bytes stop)) → IsStringFaultAnyhow bytes i fault
 told_high bytes ds i j stop v fault a b k w h l taken q =
     told_escape taken q bytes i fault (kind.InvalidUnicodeEscapeSequence ds surrogate.UnpairedHighSurrogate) (past (rest bytes stop)) a b k (rest bytes j, writes_such is_high_surrogate v h w, l)
 
@@ -95,16 +95,16 @@ not_low : (n : ℕ) → IsTrue (nat_lt n 0xDC00 || nat_lt 0xDFFF n) → IsTrue (
 not_low n h = grind arith
 
 pub told_other : (bytes ds es : List ℕ) (i j k l stop v w : ℕ) (fault : StringFault) → fault.range.start ≡ i → rest bytes fault.range.end ≡ past (rest bytes stop) → fault.kind ≡ kind.InvalidUnicodeEscapeSequence ds surrogate.HighSurrogateNotFollowedByLowSurrogate
-    → Writes (λ n. n == v) ds (rest bytes i) (rest bytes j) → IsTrue (is_high_surrogate v) → Writes (λ n. n == w) es (rest bytes j) (rest bytes k) → IsTrue (nat_lt w 0xDC00 || nat_lt 0xDFFF w) → past (rest bytes l) ≡ rest bytes k → l ≡ stop → IsToldAnyhow bytes i fault
+    → Writes (λ n. n == v) ds (rest bytes i) (rest bytes j) → IsTrue (is_high_surrogate v) → Writes (λ n. n == w) es (rest bytes j) (rest bytes k) → IsTrue (nat_lt w 0xDC00 || nat_lt 0xDFFF w) → past (rest bytes l) ≡ rest bytes k → l ≡ stop → IsStringFaultAnyhow bytes i fault
 told_other bytes ds es i j k l stop v w fault a b f x h y m e g taken q =
     let end : past (rest bytes stop) ≡ rest bytes k = rw g at e in
     told_escape taken q bytes i fault (kind.InvalidUnicodeEscapeSequence ds surrogate.HighSurrogateNotFollowedByLowSurrogate) (rest bytes k) a (b ∙ end) f (rest bytes j, es, writes_such is_high_surrogate v h x, writes_such (λ n. not (is_low_surrogate n)) w (not_low w m) y)
 
 -- `\0` before a digit
-pub told_octal : (q : ℕ) (bytes : List ℕ) (i c j : ℕ) (fault : StringFault) → fault.range.start ≡ i → rest bytes fault.range.end ≡ past (rest bytes (i + 1)) → fault.kind ≡ kind.InvalidEscape → Steps bytes i 0x5C (i + 1) → Steps bytes (i + 1) 0x30 (i + 2) → Steps bytes (i + 2) c j → is_digit c ≡ true → IsToldEscape true q bytes i fault
+pub told_octal : (q : ℕ) (bytes : List ℕ) (i c j : ℕ) (fault : StringFault) → fault.range.start ≡ i → rest bytes fault.range.end ≡ past (rest bytes (i + 1)) → fault.kind ≡ kind.InvalidEscape → Steps bytes i 0x5C (i + 1) → Steps bytes (i + 1) 0x30 (i + 2) → Steps bytes (i + 2) c j → is_digit c ≡ true → IsEscapeFault true q bytes i fault
 told_octal q bytes i c j fault a b k s u t h =
     let follows : IsTrue (starts is_digit (next (rest bytes (i + 2)))) = rw t.0 h in
-    let stands : TellsEscape true q kind.InvalidEscape (rest bytes i) (rest bytes (i + 2)) = rw (two bytes i 0x5C 0x30 s u) (octal refl follows) in
+    let stands : EscapeFaultAt true q kind.InvalidEscape (rest bytes i) (rest bytes (i + 2)) = rw (two bytes i 0x5C 0x30 s u) (octal refl follows) in
     told_escape true q bytes i fault kind.InvalidEscape (rest bytes (i + 2)) a (b ∙ ap past u.0) k stands
 
 -- where the text ends within an escape
@@ -115,9 +115,9 @@ pub ends_longer : (bytes : List ℕ) (i c : ℕ) → IsTrue (c == 0x30 || c == 0
 ends_longer bytes i c h s u e = rw (two bytes i 0x5C c s u, e) (within_longer refl h)
 
 -- a digit that is no escape
-pub told_decimal : (taken : Bool) (q : ℕ) (bytes : List ℕ) (i c j : ℕ) (fault : StringFault) → fault.range.start ≡ i → rest bytes fault.range.end ≡ past (rest bytes (i + 1)) → fault.kind ≡ kind.InvalidEscape → IsTrue taken → refused ≡ meaning q c → Steps bytes i 0x5C (i + 1) → Steps bytes (i + 1) c j → IsToldEscape taken q bytes i fault
+pub told_decimal : (taken : Bool) (q : ℕ) (bytes : List ℕ) (i c j : ℕ) (fault : StringFault) → fault.range.start ≡ i → rest bytes fault.range.end ≡ past (rest bytes (i + 1)) → fault.kind ≡ kind.InvalidEscape → IsTrue taken → refused ≡ meaning q c → Steps bytes i 0x5C (i + 1) → Steps bytes (i + 1) c j → IsEscapeFault taken q bytes i fault
 told_decimal taken q bytes i c j fault a b k h e s u =
-    let stands : TellsEscape taken q kind.InvalidEscape (rest bytes i) (rest bytes j) = rw (s.0, u.0) (decimal h (sym e)) in
+    let stands : EscapeFaultAt taken q kind.InvalidEscape (rest bytes i) (rest bytes j) = rw (s.0, u.0) (decimal h (sym e)) in
     told_escape taken q bytes i fault kind.InvalidEscape (rest bytes j) a (b ∙ ap past u.0) k stands
 
 -- an escape that is not taken
@@ -144,10 +144,10 @@ is_no : (b : Bool) → b ≡ false → IsTrue (not b)
 is_no true h = cc
 is_no false h = refl
 
-tells_not_taken : (taken : Bool) (q c : ℕ) (k : ParseStringErrorKind) (r : List ℕ) → IsQuote all_on q → taken ≡ false → is_plain (meaning q c) ≡ false → KindOf c k → TellsEscape taken q k (0x5C ∷ c ∷ r) r
+tells_not_taken : (taken : Bool) (q c : ℕ) (k : ParseStringErrorKind) (r : List ℕ) → IsQuote all_on q → taken ≡ false → is_plain (meaning q c) ≡ false → KindOf c k → EscapeFaultAt taken q k (0x5C ∷ c ∷ r) r
 tells_not_taken taken q c k r quote n p (double, single, other) = go (c == 0x22) (c == 0x27) refl refl
   where
-    go : (x y : Bool) → (c == 0x22) ≡ x → (c == 0x27) ≡ y → TellsEscape taken q k (0x5C ∷ c ∷ r) r
+    go : (x y : Bool) → (c == 0x22) ≡ x → (c == 0x27) ≡ y → EscapeFaultAt taken q k (0x5C ∷ c ∷ r) r
     go true y e f =
         let same : c ≡ 0x22 = test_eq c 0x22 e in
         let stands : q ≡ 0x27 = other_quote q 0x22 0x27 (quote_cases q quote) (λ g. rw g refl) (rw same at p) in
@@ -162,18 +162,18 @@ tells_not_taken taken q c k r quote n p (double, single, other) = go (c == 0x22)
         rw last (unknown (is_no taken n) (is_no (is_plain (meaning q c)) p) neither)
 
 pub told_not_taken : (taken : Bool) (q : ℕ) (bytes : List ℕ) (start i c j : ℕ) (m : Meaning) (fault : StringFault) (k : ParseStringErrorKind) → fault.range.start ≡ i → rest bytes fault.range.end ≡ past (rest bytes (i + 1)) → fault.kind ≡ k → (is_plain m || taken) ≡ false → m ≡ meaning q c → KindOf c k
-    → Steps bytes i 0x5C (i + 1) → Steps bytes (i + 1) c j → ReadTo taken q bytes start i → IsTold taken q bytes start fault
+    → Steps bytes i 0x5C (i + 1) → Steps bytes (i + 1) c j → ReadTo taken q bytes start i → IsStringFault taken q bytes start fault
 told_not_taken taken q bytes start i c j m fault k a b f h e kinds s u read =
     let both = not_taken (is_plain m) taken h in
-    let stands : TellsEscape taken q k (rest bytes i) (rest bytes j) = rw (s.0, u.0) (tells_not_taken taken q c k (rest bytes j) read.2 both.1 (ap is_plain (sym e) ∙ both.0) kinds) in
+    let stands : EscapeFaultAt taken q k (rest bytes i) (rest bytes j) = rw (s.0, u.0) (tells_not_taken taken q c k (rest bytes j) read.2 both.1 (ap is_plain (sym e) ∙ both.0) kinds) in
     told_after taken q bytes start i fault (told_escape taken q bytes i fault k (rest bytes j) a (b ∙ ap past u.0) f stands) read
 
 -- extended escapes, where they are taken
-pub told_taken : (taken : Bool) (q : ℕ) (bytes : List ℕ) (start i : ℕ) (fault : StringFault) → IsTrue taken → IsToldEscape true q bytes i fault → ReadTo taken q bytes start i → IsTold taken q bytes start fault
+pub told_taken : (taken : Bool) (q : ℕ) (bytes : List ℕ) (start i : ℕ) (fault : StringFault) → IsTrue taken → IsEscapeFault true q bytes i fault → ReadTo taken q bytes start i → IsStringFault taken q bytes start fault
 told_taken true q bytes start i fault h t read = told_after true q bytes start i fault t read
 told_taken false q bytes start i fault h t read = cc
 
-pub end_taken : (taken : Bool) (q : ℕ) (bytes : List ℕ) (start i : ℕ) (fault : StringFault) → IsTrue taken → (ReadTo true q bytes start i → IsTold true q bytes start fault) → ReadTo taken q bytes start i → IsTold taken q bytes start fault
+pub end_taken : (taken : Bool) (q : ℕ) (bytes : List ℕ) (start i : ℕ) (fault : StringFault) → IsTrue taken → (ReadTo true q bytes start i → IsStringFault true q bytes start fault) → ReadTo taken q bytes start i → IsStringFault taken q bytes start fault
 end_taken true q bytes start i fault h f read = f read
 end_taken false q bytes start i fault h f read = cc
 
@@ -187,7 +187,7 @@ read_decoding taken q bytes copy start from place u quote s d =
 
 -- a string that no quote closes
 pub told_unclosed : (taken : Bool) (q : ℕ) (bytes : List ℕ) (start place : ℕ) (fault : StringFault) → fault.range.start ≡ start → rest bytes fault.range.end ≡ [] → fault.kind ≡ kind.UnterminatedStringLiteral → ReadTo taken q bytes start place
-    → LacksAt (is_neither q 0x5C) bytes place → LacksAt (λ c. c == q) bytes place → LacksAt (λ c. c == 0x5C) bytes place → IsTold taken q bytes start fault
+    → LacksAt (is_neither q 0x5C) bytes place → LacksAt (λ c. c == q) bytes place → LacksAt (λ c. c == 0x5C) bytes place → IsStringFault taken q bytes start fault
 told_unclosed taken q bytes start place fault a b k read stops lacks none =
     let ends : Ends taken (rest bytes place) = rw (run_ends q (rest bytes place) stops lacks none) at_once in
     told_end taken q bytes start place fault a b k ends read

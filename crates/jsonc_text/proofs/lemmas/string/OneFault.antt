@@ -11,7 +11,7 @@ use Rattle.jsonc_text.proofs.Basics.{clash, heads, tails, and_both, or_cases, te
 use Rattle.jsonc_text.proofs.StringFrames.{pieces_of_decodes}
 use Rattle.jsonc_text.proofs.UniqueStrings.{piece_unique, no_piece, no_backslash as quote_no_backslash}
 use Rattle.jsonc_text.specs.string.Escapes.{is_plain, IsUnit, unit_of, IsPiece, IsQuoted}
-use Rattle.jsonc_text.specs.string.Told.{FewDigits, missing, digit, Writes, writes, of_one, of_second, of_byte, LacksUnit, no_backslash, no_u, unknown, decimal, octal, TellsEscape, Ends, at_once, within, within_longer, Tells, escape, unterminated}
+use Rattle.jsonc_text.specs.string.Faults.{FewDigits, missing, digit, Writes, writes, of_one, of_second, of_byte, LacksUnit, no_backslash, no_u, unknown, decimal, octal, EscapeFaultAt, Ends, at_once, within, within_longer, StringFaultAt, escape, unterminated}
 use Rattle.jsonc_text.proofs.lemmas.string.Escapes.{StartsUnits, alone, paired, StartsByte, two_digits, StartsSome, some, Needs, needs, none_at_end, is_neither_half, is_either_half, is_no_high, unit_begins, hex_parts}
 use Rattle.jsonc_text.proofs.lemmas.string.Decoding.{no_piece_at_end}
 
@@ -142,7 +142,7 @@ pub data EscapeFault (taken : Bool) (q : ℕ) : ParseStringErrorKind → List �
 unit_case : {taken : Bool} {q : ℕ} {k : ParseStringErrorKind} {t r : List ℕ} → UnitFault k t r → (u : List ℕ) × (t ≡ 0x5C ∷ 0x75 ∷ u) → EscapeFault taken q k t r
 unit_case x (u, e) = rw e (of_unit (rw e at x))
 
-pub escape_case : (taken : Bool) (q : ℕ) (k : ParseStringErrorKind) {t r : List ℕ} → TellsEscape taken q k t r → EscapeFault taken q k t r
+pub escape_case : (taken : Bool) (q : ℕ) (k : ParseStringErrorKind) {t r : List ℕ} → EscapeFaultAt taken q k t r → EscapeFault taken q k t r
 escape_case taken q kind.InvalidEscapeInSingleQuoteString (n, e, f) = rw f (in_single n e)
 escape_case taken q kind.InvalidEscapeInDoubleQuoteString (n, e, f) = rw f (in_double n e)
 escape_case taken q kind.ExpectedFourHexDigits (of_one f) = of_unit (first refl f)
@@ -276,7 +276,7 @@ pieces_meet done (piece k g e) n m = absurd (n _ _ k)
 pieces_meet (piece k g e) done n m = absurd (m _ _ k)
 pieces_meet (piece k g e) (piece l h f) n m = pieces_meet g (rw (sym (piece_unique k l).1) at h) n m
 
-same_fault : (taken : Bool) (q : ℕ) {k l : ParseStringErrorKind} {s v t u r w : List ℕ} → s ≡ v → Tells taken q k s t r → Tells taken q l v u w → (k ≡ l) × (t ≡ u) × (r ≡ w)
+same_fault : (taken : Bool) (q : ℕ) {k l : ParseStringErrorKind} {s v t u r w : List ℕ} → s ≡ v → StringFaultAt taken q k s t r → StringFaultAt taken q l v u w → (k ≡ l) × (t ≡ u) × (r ≡ w)
 same_fault taken q {k} {l} e (escape p x) (escape g y) =
     let a = escape_case taken q k x in
     let b = escape_case taken q l y in
@@ -293,7 +293,7 @@ same_fault taken q {l = l} e (unterminated g y) (escape p x) =
     absurd (ends_no_escape y (rw same at a))
 same_fault taken q e (unterminated p x) (unterminated g y) = (refl, e, refl)
 
-pub fault_unique : (taken : Bool) (q : ℕ) (k l : ParseStringErrorKind) (s t u r w : List ℕ) → Tells taken q k s t r → Tells taken q l s u w → (k ≡ l) × (t ≡ u) × (r ≡ w)
+pub fault_unique : (taken : Bool) (q : ℕ) (k l : ParseStringErrorKind) (s t u r w : List ℕ) → StringFaultAt taken q k s t r → StringFaultAt taken q l s u w → (k ≡ l) × (t ≡ u) × (r ≡ w)
 fault_unique taken q k l s t u r w x y = same_fault taken q refl x y
 
 -- such a fault does not begin with the quote
@@ -311,7 +311,7 @@ ends_no_quote n at_once f = cc
 ends_no_quote n within f = n (sym (heads f))
 ends_no_quote n (within_longer h k) f = n (sym (heads f))
 
-pub no_string_told : (taken : Bool) (q : ℕ) (k : ParseStringErrorKind) (s t r v u : List ℕ) → IsQuote all_on q → Tells taken q k s t r → IsQuoted taken q v s u → ⊥
+pub no_string_told : (taken : Bool) (q : ℕ) (k : ParseStringErrorKind) (s t r v u : List ℕ) → IsQuote all_on q → StringFaultAt taken q k s t r → IsQuoted taken q v s u → ⊥
 no_string_told taken q k _ t r v u quote (escape p x) (inside, e, d) =
     let n = quote_no_backslash all_on quote in
     let a = escape_case taken q k x in

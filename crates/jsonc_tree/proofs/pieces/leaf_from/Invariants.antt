@@ -8,7 +8,7 @@ abbrev pub invariant-loop-next : goal.invariant-loop-next
 invariant-loop-next g l =
     let ns = nodes_of l.nodes.items in
     record {
-      there : IfSome l.next (λ n. n < vec_len l.nodes);
+      in_tree : IfSome l.next (λ n. n < vec_len l.nodes);
       over : IfSome l.next (λ n. IsOver ns 0 n);
       same : pieces_from ns l.fn.from ≡ pieces_from ns l.next;
     }

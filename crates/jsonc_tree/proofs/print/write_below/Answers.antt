@@ -6,7 +6,7 @@ use Rattle.jsonc_tree.specs.Tree as tree
 use Rattle.jsonc_tree.specs.Tree.{itself, content_at}
 use Rattle.jsonc_tree.specs.Stored.{nodes_of}
 use Rattle.jsonc_tree.specs.Stored.{content_of}
-use Rattle.jsonc_tree.proofs.Agreeing.{length_shown}
+use Rattle.jsonc_tree.proofs.AgreeingLinks.{length_shown}
 use Rattle.jsonc_tree.specs.Content.{text_of}
 use Rattle.jsonc_tree.specs.Order.{in_order, text_at, rest_at, following}
 use Rattle.jsonc_tree.proofs.OrderedTrees.{printed_at-ordered_tree}
@@ -19,7 +19,7 @@ loop-next-init g c =
     let there : c.args.end < length ns = omega (arith, length_shown c.args.nodes.now.items, c.args.nodes.now.ok.0) in
     let over : following ns c.args.end c.args.end ≡ [] = following_end ns c.requires.stored.tree c.args.end there in
     record {
-      there = c.requires.there;
+      in_tree = c.requires.in_tree;
       over = itself;
       written = λ p. ([], has_written_styled_nil _ _ p, sym (ap (λ l. flat_map (text_at ns) (in_order ns c.args.end ++ l)) over ∙ ap (flat_map (text_at ns)) (append-nil (in_order ns c.args.end)) ∙ printed_at-ordered_tree ns c.requires.stored.tree c.args.end there));
     }
@@ -30,7 +30,7 @@ loop-next-preserved g c =
     let own : text_at ns c.in-Some.n ≡ text_of (content_of c.kind_of.result.now) = ap text_of (sym c.kind_of.ensures) in
     let rest = ap (rest_at ns c.args.end) c.in-Some.is ∙ c.node_after-next.ensures.rest in
     record {
-      there = c.node_after-next.ensures.there;
+      in_tree = c.node_after-next.ensures.in_tree;
       over = c.node_after-next.ensures.over;
       written = λ p.
           let w = c.loop-next.invariant.written p in (

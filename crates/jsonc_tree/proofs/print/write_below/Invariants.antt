@@ -11,7 +11,7 @@ abbrev pub invariant-loop-next : goal.invariant-loop-next
 invariant-loop-next g l =
     let ns = nodes_of l.nodes.items in
     record {
-      there : IfSome l.next (λ n. n < vec_len l.nodes);
+      in_tree : IfSome l.next (λ n. n < vec_len l.nodes);
       over : IfSome l.next (λ n. IsOver ns l.end n);
       written : IsFlush l.initial.f → (done : List ℕ) × HasWrittenStyled g.W.Write.write_str_gives l.initial.f done l.f × (printed (ordered_tree ns l.end) ≡ done ++ flat_map (text_at ns) (rest_at ns l.end l.next));
     }

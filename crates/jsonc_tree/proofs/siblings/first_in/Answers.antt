@@ -1,5 +1,5 @@
 use Rattle.std.proofs.Common.{◌∙◌}
-use Rattle.jsonc_tree.proofs.Walks.{first_step}
+use Rattle.jsonc_tree.proofs.LinkSteps.{first_step}
 use Rattle.jsonc_tree.proofs.siblings.first_in.Goals as goal
 
 pub returns : goal.returns

@@ -1,5 +1,5 @@
 use Rattle.std.proofs.Common.{◌∙◌}
-use Rattle.jsonc_tree.proofs.Sideways.{last_first}
+use Rattle.jsonc_tree.proofs.LinkedRows.{last_first}
 use Rattle.jsonc_tree.proofs.siblings.last_in.Goals as goal
 
 pub returns : goal.returns

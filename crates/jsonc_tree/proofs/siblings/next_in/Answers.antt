@@ -1,4 +1,4 @@
-use Rattle.jsonc_tree.proofs.Sideways.{after_node}
+use Rattle.jsonc_tree.proofs.LinkedRows.{after_node}
 use Rattle.jsonc_tree.proofs.siblings.next_in.Goals as goal
 
 pub returns : goal.returns

@@ -1,4 +1,4 @@
-use Rattle.jsonc_tree.proofs.Sideways.{before_node}
+use Rattle.jsonc_tree.proofs.LinkedRows.{before_node}
 use Rattle.jsonc_tree.proofs.siblings.previous_in.Goals as goal
 
 pub returns : goal.returns

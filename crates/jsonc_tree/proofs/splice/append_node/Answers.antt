@@ -2,7 +2,7 @@ use Rattle.std.proofs.Common.{length, refl}
 use Rattle.jsonc_tree.specs.Tree.{children_at}
 use Rattle.jsonc_tree.proofs.Appending.{Appends-splice}
 use Rattle.jsonc_tree.specs.Stored.{nodes_of}
-use Rattle.jsonc_tree.proofs.Unmoved.{end_gap}
+use Rattle.jsonc_tree.proofs.UnchangedRows.{end_gap}
 use Rattle.jsonc_tree.proofs.splice.append_node.Goals as goal
 
 pub put_between-requires-clause-gap : goal.put_between-requires-clause-gap

@@ -1,17 +1,17 @@
 use Rattle.std.proofs.Common.{Some, arith, vec_len}
-use Rattle.jsonc_tree.proofs.Agreeing.{length_shown}
-use Rattle.jsonc_tree.proofs.Alike.{container_linked, container_ahead}
+use Rattle.jsonc_tree.proofs.AgreeingLinks.{length_shown}
+use Rattle.jsonc_tree.proofs.AlikeNodes.{container_linked, container_ahead}
 use Rattle.jsonc_tree.proofs.Moves.{in_memory, comes_by, gap_front_there, gap_back_there}
 use Rattle.jsonc_tree.proofs.splice.put_between.Goals as goal
 
-pub set_ahead-requires-clause-there : goal.set_ahead-requires-clause-there
-set_ahead-requires-clause-there g c = omega (arith, c.requires.can.container, length_shown c.args.nodes.now.items, c.args.nodes.now.ok.0)
+pub set_ahead-requires-clause-in_tree : goal.set_ahead-requires-clause-in_tree
+set_ahead-requires-clause-in_tree g c = omega (arith, c.requires.can.container, length_shown c.args.nodes.now.items, c.args.nodes.now.ok.0)
 
 pub set_ahead-requires-clause-before : goal.set_ahead-requires-clause-before
 set_ahead-requires-clause-before g c = gap_front_there c.args.nodes.now.items c.requires.stored c.args.c c.requires.gap.0 (vec_len c.args.nodes.now) c.args.before c.args.behind c.requires.gap.1 (omega (arith, length_shown c.args.nodes.now.items, c.args.nodes.now.ok.0))
 
-pub set_back-requires-clause-there : goal.set_back-requires-clause-there
-set_back-requires-clause-there g c = omega (arith, c.requires.can.container, length_shown c.args.nodes.now.items, c.args.nodes.now.ok.0, c.set_ahead.ensures.len)
+pub set_back-requires-clause-in_tree : goal.set_back-requires-clause-in_tree
+set_back-requires-clause-in_tree g c = omega (arith, c.requires.can.container, length_shown c.args.nodes.now.items, c.args.nodes.now.ok.0, c.set_ahead.ensures.len)
 
 pub set_back-requires-clause-behind : goal.set_back-requires-clause-behind
 set_back-requires-clause-behind g c = gap_back_there c.args.nodes.now.items c.requires.stored c.args.c c.requires.gap.0 (vec_len c.set_ahead.new.nodes) c.args.before c.args.behind c.requires.gap.1 (omega (arith, length_shown c.args.nodes.now.items, c.args.nodes.now.ok.0, c.set_ahead.ensures.len))

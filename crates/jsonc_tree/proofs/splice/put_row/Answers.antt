@@ -4,8 +4,8 @@ use Rattle.jsonc_tree.specs.Changes.{Splices}
 use Rattle.jsonc_tree.specs.Stored.{nodes_of}
 use Rattle.jsonc_tree.specs.Siblings.{IsGap}
 use Rattle.jsonc_tree.proofs.Stretches.{Splices-none}
-use Rattle.jsonc_tree.proofs.Agreeing.{length_shown}
-use Rattle.jsonc_tree.proofs.Walks.{put_step, put_can}
+use Rattle.jsonc_tree.proofs.AgreeingLinks.{length_shown}
+use Rattle.jsonc_tree.proofs.LinkSteps.{put_step, put_can}
 use Rattle.jsonc_tree.proofs.splice.put_row.Goals as goal
 
 pub loop-i-init : goal.loop-i-init
@@ -23,7 +23,7 @@ put_between-requires-clause-stored g c = c.loop-i.invariant.stored
 pub put_between-requires-clause-can : goal.put_between-requires-clause-can
 put_between-requires-clause-can g c =
     let gap = c.requires.can in
-    put_can (nodes_of c.args.nodes.now.items) (nodes_of c.loop-i.nodes.items) c.args.c gap.0 c.loop-i.i (slice_index c.args.new.now c.loop-i.i) c.args.new.now (omega (arith, c.requires.there, length_shown c.args.nodes.now.items, c.args.nodes.now.ok.0)) c.requires.container (omega arith) refl gap.2 (c.loop-i.invariant.splices gap.0 gap.1)
+    put_can (nodes_of c.args.nodes.now.items) (nodes_of c.loop-i.nodes.items) c.args.c gap.0 c.loop-i.i (slice_index c.args.new.now c.loop-i.i) c.args.new.now (omega (arith, c.requires.in_tree, length_shown c.args.nodes.now.items, c.args.nodes.now.ok.0)) c.requires.container (omega arith) refl gap.2 (c.loop-i.invariant.splices gap.0 gap.1)
 
 pub put_between-requires-clause-gap : goal.put_between-requires-clause-gap
 put_between-requires-clause-gap g c = (c.requires.can.0 + c.loop-i.i, c.loop-i.invariant.gap c.requires.can.0 c.requires.can.1)

@@ -1,18 +1,18 @@
 use Rattle.std.proofs.Common.{arith, vec_len}
 use Rattle.jsonc_tree.specs.Stored.{nodes_of}
-use Rattle.jsonc_tree.proofs.Agreeing.{length_shown}
-use Rattle.jsonc_tree.proofs.Alike.{container_linked, container_ahead}
+use Rattle.jsonc_tree.proofs.AgreeingLinks.{length_shown}
+use Rattle.jsonc_tree.proofs.AlikeNodes.{container_linked, container_ahead}
 use Rattle.jsonc_tree.proofs.Moves.{in_memory, in_row, goes_by, previous_there, next_there}
 use Rattle.jsonc_tree.proofs.splice.take_out.Goals as goal
 
-pub set_ahead-requires-clause-there : goal.set_ahead-requires-clause-there
-set_ahead-requires-clause-there g c = omega (arith, (in_row (nodes_of c.args.nodes.now.items) c.requires.stored.tree c.args.x c.args.c c.requires.child).0, length_shown c.args.nodes.now.items, c.args.nodes.now.ok.0)
+pub set_ahead-requires-clause-in_tree : goal.set_ahead-requires-clause-in_tree
+set_ahead-requires-clause-in_tree g c = omega (arith, (in_row (nodes_of c.args.nodes.now.items) c.requires.stored.tree c.args.x c.args.c c.requires.child).0, length_shown c.args.nodes.now.items, c.args.nodes.now.ok.0)
 
 pub set_ahead-requires-clause-before : goal.set_ahead-requires-clause-before
 set_ahead-requires-clause-before g c = previous_there c.args.nodes.now.items c.requires.stored c.args.x c.args.c (vec_len c.args.nodes.now) c.previous_of-before.result c.requires.child c.previous_of-before.ensures (omega (arith, length_shown c.args.nodes.now.items, c.args.nodes.now.ok.0))
 
-pub set_back-requires-clause-there : goal.set_back-requires-clause-there
-set_back-requires-clause-there g c = omega (arith, (in_row (nodes_of c.args.nodes.now.items) c.requires.stored.tree c.args.x c.args.c c.requires.child).0, length_shown c.args.nodes.now.items, c.args.nodes.now.ok.0, c.set_ahead.ensures.len)
+pub set_back-requires-clause-in_tree : goal.set_back-requires-clause-in_tree
+set_back-requires-clause-in_tree g c = omega (arith, (in_row (nodes_of c.args.nodes.now.items) c.requires.stored.tree c.args.x c.args.c c.requires.child).0, length_shown c.args.nodes.now.items, c.args.nodes.now.ok.0, c.set_ahead.ensures.len)
 
 pub set_back-requires-clause-behind : goal.set_back-requires-clause-behind
 set_back-requires-clause-behind g c = next_there c.args.nodes.now.items c.requires.stored c.args.x c.args.c (vec_len c.set_ahead.new.nodes) c.next_of-behind.result c.requires.child c.next_of-behind.ensures (omega (arith, length_shown c.args.nodes.now.items, c.args.nodes.now.ok.0, c.set_ahead.ensures.len))

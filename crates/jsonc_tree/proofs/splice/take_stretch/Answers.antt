@@ -3,8 +3,8 @@ use Rattle.jsonc_tree.specs.Changes.{Splices}
 use Rattle.jsonc_tree.specs.Stored.{nodes_of}
 use Rattle.jsonc_tree.proofs.Gaps.{at_named}
 use Rattle.jsonc_tree.proofs.Stretches.{Splices-none}
-use Rattle.jsonc_tree.proofs.Agreeing.{length_shown}
-use Rattle.jsonc_tree.proofs.Walks.{take_step, still_some, step_there}
+use Rattle.jsonc_tree.proofs.AgreeingLinks.{length_shown}
+use Rattle.jsonc_tree.proofs.LinkSteps.{take_step, still_some, step_there}
 use Rattle.jsonc_tree.proofs.splice.take_stretch.Goals as goal
 
 pub loop-i-init : goal.loop-i-init

@@ -1,7 +1,7 @@
 use Rattle.std.proofs.Common.{◌≡◌, ◌+◌, suc, slice_get, arith, sym, ap, ◌∙◌}
 use Rattle.jsonc_tree.specs.Tree.{children_at}
 use Rattle.jsonc_tree.specs.Stored.{nodes_of}
-use Rattle.jsonc_tree.proofs.Walks.{next_step}
+use Rattle.jsonc_tree.proofs.LinkSteps.{next_step}
 use Rattle.jsonc_tree.proofs.walk.child_from.Goals as goal
 
 pub loop-i-preserved : goal.loop-i-preserved

@@ -2,8 +2,8 @@ use Rattle.std.proofs.Common.{◌≡◌, ◌+◌, ◌-◌, ◌<◌, ℕ, List, l
 use Rattle.std.proofs.lemmas.Option.{slice_get_within}
 use Rattle.jsonc_tree.specs.Tree.{children_at}
 use Rattle.jsonc_tree.specs.Stored.{nodes_of}
-use Rattle.jsonc_tree.proofs.Agreeing.{row_short, length_shown}
-use Rattle.jsonc_tree.proofs.Walks.{next_step, step_there, none_at}
+use Rattle.jsonc_tree.proofs.AgreeingLinks.{row_short, length_shown}
+use Rattle.jsonc_tree.proofs.LinkSteps.{next_step, step_there, none_at}
 use Rattle.jsonc_tree.proofs.walk.count_of.Goals as goal
 
 pub overflow_add-count : goal.overflow_add-count

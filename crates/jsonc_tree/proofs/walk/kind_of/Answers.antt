@@ -1,7 +1,7 @@
 use Rattle.std.proofs.Common.{◌<◌, length, arith, ap, ◌∙◌}
 use Rattle.std.proofs.lemmas.List.{get_or_read}
 use Rattle.jsonc_tree.specs.Stored.{LinkedNode, nowhere}
-use Rattle.jsonc_tree.proofs.Agreeing.{content_shown}
+use Rattle.jsonc_tree.proofs.AgreeingLinks.{content_shown}
 use Rattle.jsonc_tree.proofs.walk.kind_of.Goals as goal
 
 pub returns : goal.returns

@@ -9,7 +9,7 @@ abbrev pub invariant-loop-at : goal.invariant-loop-at
 invariant-loop-at g l =
     let ns = nodes_of l.nodes.items in
     record {
-      there : l.at < vec_len l.nodes;
+      in_tree : l.at < vec_len l.nodes;
       over : IsOver ns l.end l.at;
       same : following ns l.end l.n ≡ following ns l.end l.at;
     }

@@ -1,5 +1,5 @@
 use Rattle.std.proofs.Common.{◌∙◌}
-use Rattle.jsonc_tree.proofs.Agreeing.{parent_shown}
+use Rattle.jsonc_tree.proofs.AgreeingLinks.{parent_shown}
 use Rattle.jsonc_tree.proofs.walk.parent_in.Goals as goal
 
 pub returns : goal.returns

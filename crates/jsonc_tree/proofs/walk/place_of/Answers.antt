@@ -2,8 +2,8 @@ use Rattle.std.proofs.Common.{◌≡◌, ◌+◌, ◌-◌, ◌<◌, arith, sym, 
 use Rattle.jsonc_tree.specs.Tree.{parent_at, place_at}
 use Rattle.jsonc_tree.specs.Stored.{nodes_of}
 use Rattle.jsonc_tree.specs.Siblings.{before}
-use Rattle.jsonc_tree.proofs.Agreeing.{length_shown}
-use Rattle.jsonc_tree.proofs.Walks.{row_under, start_back, back_more, front_reached, place_short}
+use Rattle.jsonc_tree.proofs.AgreeingLinks.{length_shown}
+use Rattle.jsonc_tree.proofs.LinkSteps.{row_under, start_back, back_more, front_reached, place_short}
 use Rattle.jsonc_tree.proofs.walk.place_of.Goals as goal
 
 pub loop-at-init : goal.loop-at-init

@@ -2,7 +2,7 @@ use Rattle.std.proofs.Common.{◌≡◌, ◌≤◌, ◌-◌}
 use Rattle.jsonc_tree.specs.Tree.{parent_at, place_at}
 use Rattle.jsonc_tree.specs.Stored.{nodes_of}
 use Rattle.jsonc_tree.specs.Siblings.{before}
-use Rattle.jsonc_tree.proofs.Walks.{row_under}
+use Rattle.jsonc_tree.proofs.LinkSteps.{row_under}
 use Rattle.jsonc_tree.proofs.walk.place_of.Given as goal
 
 abbrev pub invariant-loop-at : goal.invariant-loop-at

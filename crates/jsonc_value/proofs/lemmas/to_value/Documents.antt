@@ -6,7 +6,7 @@ use Rattle.jsonc_text.specs.Text.{rest}
 use Rattle.jsonc_text.specs.Gaps.{Gap}
 use Rattle.jsonc_text.specs.Grammar.{IsValue}
 use Rattle.jsonc_text.specs.Plain.{Plain, depth}
-use Rattle.jsonc_text.proofs.Steps.{rest_end}
+use Rattle.jsonc_text.proofs.CharacterSteps.{rest_end}
 use Rattle.jsonc_text.proofs.UniqueValues.{value_unique}
 use Rattle.jsonc_scan.specs.Scanner.{StandsAt}
 use Rattle.jsonc_value.specs.declared.value.JsonValue.{JsonValue}

@@ -13,7 +13,7 @@ use Rattle.jsonc_ast.specs.Located.{Ends}
 use Rattle.jsonc_ast.specs.to_ast.Refusals.{LeadsNowhere, LeadsOnlyTo, here, after, NothingFirst, NothingNext, OnlyFirst, OnlyNext}
 use Rattle.jsonc_ast.proofs.lemmas.to_ast.Loops.{AtHand, leads_hand, leads_on}
 use Rattle.jsonc_ast.proofs.lemmas.to_ast.NoValues.{elements_item}
-use Rattle.jsonc_ast.proofs.lemmas.to_ast.Standing.{GoesOn, goes_first, room_apart, elements_go_on}
+use Rattle.jsonc_ast.proofs.lemmas.to_ast.OpenContainers.{GoesOn, goes_first, room_apart, elements_go_on}
 use Rattle.jsonc_ast.proofs.lemmas.to_ast.Scans.{moved, kept_on}
 use Rattle.jsonc_value.specs.to_value.Reads.{Reads}
 use Rattle.jsonc_value.specs.to_value.Refusals.{NoValue, NoValueHere}

@@ -1,6 +1,6 @@
 use Rattle.jsonc_scan.specs.Scanner.{text_of}
 use Rattle.jsonc_ast.specs.to_ast.Context.{last, found_in}
-use Rattle.jsonc_ast.proofs.lemmas.to_ast.Given.{is_bracket, is_brace, kept_self, collects_self, reads_self, kept_given, collects_given, colon_given, no_colon_given, stops_given}
+use Rattle.jsonc_ast.proofs.lemmas.to_ast.MovedTokens.{is_bracket, is_brace, kept_self, collects_self, reads_self, kept_given, collects_given, colon_given, no_colon_given, stops_given}
 use Rattle.std.proofs.Common.{◌+◌, ◌≤◌, ◌∙◌, ap, sym, subst, arith, map, true, inr}
 use Rattle.jsonc_text.specs.Plain.{around}
 use Rattle.jsonc_ast.specs.Located.{value_at}
@@ -16,11 +16,11 @@ use Rattle.jsonc_text.specs.Text.{rest}
 use Rattle.jsonc_ast.specs.to_ast.Context.{text_in, options_in}
 use Rattle.jsonc_ast.specs.Views.{name_at}
 use Rattle.jsonc_ast.proofs.lemmas.to_ast.Refusals.{err_of, err_some, ok_of, still}
-use Rattle.jsonc_ast.specs.to_ast.Refusals.{NoPropertyHere, NoValueHere, Tells}
+use Rattle.jsonc_ast.specs.to_ast.Refusals.{NoPropertyHere, NoValueHere, OutOfMemoryOr}
 use Rattle.jsonc_ast.specs.declared.to_ast.container.Container.TheVariants.{Array, Object}
 use Rattle.jsonc_ast.proofs.lemmas.to_ast.Tokens.{opens_none}
-use Rattle.jsonc_ast.specs.to_ast.Told.{StopsAtContainer, StopsAtItem}
-use Rattle.jsonc_ast.proofs.lemmas.to_ast.Standing.{GoesOn, goes_first, elements_go_on, first_stops, next_stops, element_comes, element_stops, properties_go_on, property_comes, property_stops, name_stops, colon_missing_stops, no_token_stops, no_value_stops, deep_property_stops, value_told_stops, deep_stops, leaf_stops, room_whole, from_old}
+use Rattle.jsonc_ast.specs.to_ast.Faults.{StopsAtContainer, StopsAtItem}
+use Rattle.jsonc_ast.proofs.lemmas.to_ast.OpenContainers.{GoesOn, goes_first, elements_go_on, first_stops, next_stops, element_comes, element_stops, properties_go_on, property_comes, property_stops, name_stops, colon_missing_stops, no_token_stops, no_value_stops, deep_property_stops, value_told_stops, deep_stops, leaf_stops, room_whole, from_old}
 use Rattle.std.proofs.lemmas.List.Elements.{All-nil, All-cons}
 use Rattle.jsonc_ast.specs.Spelled.{spelled, spelled_in_property, spelled_in_elements, spelled_in_properties}
 use Rattle.jsonc_ast.specs.to_ast.Written.{IsWritten, IsLentHere, AreWrittenIn}
@@ -143,7 +143,7 @@ parse_object-returns-clause-found g t c =
 
 pub parse_array-returns-in_err-next-clause-refused : goal.parse_array-returns-in_err-next-clause-refused
 parse_array-returns-in_err-next-clause-refused g t c =
-    err_of (Tells (NoValueHere c.args.context.now c.args.count)) c.in_err-next.field-0.0 c.from_residual.result c.from_residual.ensures.1 (still (nothing_in_array c.args.context.now c.args.count c.requires.token) c.in_err-next.ensures.refused)
+    err_of (OutOfMemoryOr (NoValueHere c.args.context.now c.args.count)) c.in_err-next.field-0.0 c.from_residual.result c.from_residual.ensures.1 (still (nothing_in_array c.args.context.now c.args.count c.requires.token) c.in_err-next.ensures.refused)
 
 pub parse_array-returns-then-nests_too_deep-clause-refused : goal.parse_array-returns-then-nests_too_deep-clause-refused
 parse_array-returns-then-nests_too_deep-clause-refused g t c =
@@ -160,7 +160,7 @@ parse_array-returns-in_err-value-clause-refused g t c =
     let inv = c.loop-next.invariant in
     let left = subst (λ n. ElementsLeft old now n c.args.count) (ap (found_in c.loop-next.context) c.in-Some.is) inv.left in
     let e = c.in_err-value.field-0.0 in
-    err_of (Tells (NoValueHere c.args.context.now c.args.count)) e c.from_residual-in_err-value.result c.from_residual-in_err-value.ensures.1 (still (element_refused old now inv.so_far.kept (last c.loop-next.context c.in-Some.token) c.args.count left) c.in_err-value.ensures.refused)
+    err_of (OutOfMemoryOr (NoValueHere c.args.context.now c.args.count)) e c.from_residual-in_err-value.result c.from_residual-in_err-value.ensures.1 (still (element_refused old now inv.so_far.kept (last c.loop-next.context c.in-Some.token) c.args.count left) c.in_err-value.ensures.refused)
 
 pub parse_array-returns-in_err-next-2-clause-refused : goal.parse_array-returns-in_err-next-2-clause-refused
 parse_array-returns-in_err-next-2-clause-refused g t c =
@@ -171,13 +171,13 @@ parse_array-returns-in_err-next-2-clause-refused g t c =
     let mid = c.parse_value.new.context in
     let read = c.in_ok-value.ensures in
     let e = c.in_err-next-2.field-0.0 in
-    err_of (Tells (NoValueHere c.args.context.now c.args.count)) e c.from_residual-in_err-next-2.result c.from_residual-in_err-next-2.ensures.1
+    err_of (OutOfMemoryOr (NoValueHere c.args.context.now c.args.count)) e c.from_residual-in_err-next-2.result c.from_residual-in_err-next-2.ensures.1
     (still
     (next_element_refused old now inv.so_far.kept (last c.loop-next.context c.in-Some.token) c.args.count left mid (located c.in_ok-value.value) read.kept read.found) c.in_err-next-2.ensures.refused)
 
 pub parse_object-returns-in_err-next-clause-refused : goal.parse_object-returns-in_err-next-clause-refused
 parse_object-returns-in_err-next-clause-refused g t c =
-    err_of (Tells (NoValueHere c.args.context.now c.args.count)) c.in_err-next.field-0.0 c.from_residual.result c.from_residual.ensures.1 (still (nothing_in_object c.args.context.now c.args.count c.requires.token) c.in_err-next.ensures.refused)
+    err_of (OutOfMemoryOr (NoValueHere c.args.context.now c.args.count)) c.in_err-next.field-0.0 c.from_residual.result c.from_residual.ensures.1 (still (nothing_in_object c.args.context.now c.args.count c.requires.token) c.in_err-next.ensures.refused)
 
 pub parse_object-returns-in_err-property-clause-refused : goal.parse_object-returns-in_err-property-clause-refused
 parse_object-returns-in_err-property-clause-refused g t c =
@@ -186,7 +186,7 @@ parse_object-returns-in_err-property-clause-refused g t c =
     let inv = c.loop-next.invariant in
     let left = subst (λ n. PropertiesLeft old now n c.args.count) (ap (found_in c.loop-next.context) c.in-Some.is) inv.left in
     let e = c.in_err-property.field-0.0 in
-    err_of (Tells (NoValueHere c.args.context.now c.args.count)) e c.from_residual-in_err-property.result c.from_residual-in_err-property.ensures.1 (still (property_refused old now inv.so_far.kept (last c.loop-next.context c.in-Some.token) c.args.count left) c.in_err-property.ensures.refused)
+    err_of (OutOfMemoryOr (NoValueHere c.args.context.now c.args.count)) e c.from_residual-in_err-property.result c.from_residual-in_err-property.ensures.1 (still (property_refused old now inv.so_far.kept (last c.loop-next.context c.in-Some.token) c.args.count left) c.in_err-property.ensures.refused)
 
 pub parse_object-returns-in_err-next-2-clause-refused : goal.parse_object-returns-in_err-next-2-clause-refused
 parse_object-returns-in_err-next-2-clause-refused g t c =
@@ -197,17 +197,17 @@ parse_object-returns-in_err-next-2-clause-refused g t c =
     let mid = c.parse_property.new.context in
     let read = c.in_ok-property.ensures in
     let e = c.in_err-next-2.field-0.0 in
-    err_of (Tells (NoValueHere c.args.context.now c.args.count)) e c.from_residual-in_err-next-2.result c.from_residual-in_err-next-2.ensures.1
+    err_of (OutOfMemoryOr (NoValueHere c.args.context.now c.args.count)) e c.from_residual-in_err-next-2.result c.from_residual-in_err-next-2.ensures.1
     (still
     (next_property_refused old now inv.so_far.kept (last c.loop-next.context c.in-Some.token) c.args.count left mid (member_of c.in_ok-property.property) read.kept read.found) c.in_err-next-2.ensures.refused)
 
 pub parse_property-returns-in_err-name-clause-refused : goal.parse_property-returns-in_err-name-clause-refused
 parse_property-returns-in_err-name-clause-refused g t c =
-    err_of (Tells (NoPropertyHere c.args.context.now c.args.count)) c.in_err-name.field-0.0 c.from_residual.result c.from_residual.ensures.1 (inr (name_missing c.args.context.now c.args.count c.in_err-name.ensures.refused))
+    err_of (OutOfMemoryOr (NoPropertyHere c.args.context.now c.args.count)) c.in_err-name.field-0.0 c.from_residual.result c.from_residual.ensures.1 (inr (name_missing c.args.context.now c.args.count c.in_err-name.ensures.refused))
 
 pub parse_property-returns-in_err-pass_colon-clause-refused : goal.parse_property-returns-in_err-pass_colon-clause-refused
 parse_property-returns-in_err-pass_colon-clause-refused g t c =
-    err_of (Tells (NoPropertyHere c.args.context.now c.args.count)) c.in_err-pass_colon.field-0.0 c.from_residual-in_err-pass_colon.result c.from_residual-in_err-pass_colon.ensures.1
+    err_of (OutOfMemoryOr (NoPropertyHere c.args.context.now c.args.count)) c.in_err-pass_colon.field-0.0 c.from_residual-in_err-pass_colon.result c.from_residual-in_err-pass_colon.ensures.1
     (still (λ n. colon_missing c.args.context.now (name_at c.in_ok-name.name) c.args.count c.in_ok-name.ensures.name (no_colon_given c.args.context.now c.name.new.self c.name.ensures.gives n)) c.in_err-pass_colon.ensures.refused)
 
 pub parse_property-returns-in_err-found-clause-refused : goal.parse_property-returns-in_err-found-clause-refused
@@ -216,7 +216,7 @@ parse_property-returns-in_err-found-clause-refused g t c =
     let mid = c.pass_colon.new.self in
     let name = c.in_ok-name.ensures.name in
     let e = c.in_err-found.field-0.0 in
-    err_of (Tells (NoPropertyHere c.args.context.now c.args.count)) e c.from_residual-in_err-found.result c.from_residual-in_err-found.ensures.1
+    err_of (OutOfMemoryOr (NoPropertyHere c.args.context.now c.args.count)) e c.from_residual-in_err-found.result c.from_residual-in_err-found.ensures.1
     (still (no_token_for_value old mid (name_at c.in_ok-name.name) c.args.count name (kept_given c.args.context.now c.name.new.self c.pass_colon.new.self c.name.ensures.gives c.pass_colon.ensures.kept) (colon_given c.args.context.now c.name.new.self c.pass_colon.new.self c.name.ensures.gives c.in_ok-pass_colon.ensures.found)) c.in_err-found.ensures.refused)
 
 pub parse_property-returns-in_default-clause-refused : goal.parse_property-returns-in_default-clause-refused
@@ -235,7 +235,7 @@ parse_property-returns-in_err-value-clause-refused g t c =
     let found = c.in_ok-found.ensures in
     let at = c.scan.new.self in
     let e = c.in_err-value.field-0.0 in
-    err_of (Tells (NoPropertyHere c.args.context.now c.args.count)) e c.from_residual-in_err-value.result c.from_residual-in_err-value.ensures.1
+    err_of (OutOfMemoryOr (NoPropertyHere c.args.context.now c.args.count)) e c.from_residual-in_err-value.result c.from_residual-in_err-value.ensures.1
     (still
     (value_refused old mid (name_at c.in_ok-name.name) c.args.count name (kept_given c.args.context.now c.name.new.self c.pass_colon.new.self c.name.ensures.gives c.pass_colon.ensures.kept) (colon_given c.args.context.now c.name.new.self c.pass_colon.new.self c.name.ensures.gives c.in_ok-pass_colon.ensures.found) at (found_in c.scan.new.self c.in_ok-found.found) found.kept found.found found.lexeme) c.in_err-value.ensures.refused)
 
@@ -251,15 +251,15 @@ parse_property-returns-clause-collects g t c =
 pub parse_value-returns-in_default-clause-collects : goal.parse_value-returns-in_default-clause-collects
 parse_value-returns-in_default-clause-collects g t c = ok_is c.parse_leaf.result (collects_self c.args.context.now c.parse_leaf.new.context c.parse_leaf.ensures.gives)
 
-pub parse_array-returns-in_err-next-clause-told : goal.parse_array-returns-in_err-next-clause-told
-parse_array-returns-in_err-next-clause-told g t c =
+pub parse_array-returns-in_err-next-clause-error : goal.parse_array-returns-in_err-next-clause-error
+parse_array-returns-in_err-next-clause-error g t c =
     let old = c.args.context.now in
     let e = c.in_err-next.field-0.0 in
     err_of (StopsAtContainer old true c.args.count) e c.from_residual.result c.from_residual.ensures.1
-    (λ q d s many starts. first_stops true Array old c.args.count q d s e c.requires.token (room_whole Array c.args.count c.requires.around) many starts (λ q. c.in_err-next.ensures.told q _ (ap (rest (text_in old)) (sym c.token_start-start.ensures))))
+    (λ q d s many starts. first_stops true Array old c.args.count q d s e c.requires.token (room_whole Array c.args.count c.requires.around) many starts (λ q. c.in_err-next.ensures.error q _ (ap (rest (text_in old)) (sym c.token_start-start.ensures))))
 
-pub parse_array-returns-then-nests_too_deep-clause-told : goal.parse_array-returns-then-nests_too_deep-clause-told
-parse_array-returns-then-nests_too_deep-clause-told g t c =
+pub parse_array-returns-then-nests_too_deep-clause-error : goal.parse_array-returns-then-nests_too_deep-clause-error
+parse_array-returns-then-nests_too_deep-clause-error g t c =
     let old = c.args.context.now in
     let now = c.loop-next.context in
     let inv = c.loop-next.invariant in
@@ -267,18 +267,18 @@ parse_array-returns-then-nests_too_deep-clause-told g t c =
     let e = c.nesting_fault.result in
     (λ q d s many starts. deep_stops old now (last c.loop-next.context c.in-Some.token) c.token_start-start.result c.args.count q d s e inv.so_far.kept (subst (AtHand 0x5D now) (ap (found_in c.loop-next.context) c.in-Some.is) inv.so_far.hand) c.token_start-start.ensures many (c.nests_too_deep.ensures.deep c.if-nests_too_deep.true) c.nesting_fault.ensures.kind c.nesting_fault.ensures.range (reading q d s many starts))
 
-pub parse_array-returns-in_err-value-clause-told : goal.parse_array-returns-in_err-value-clause-told
-parse_array-returns-in_err-value-clause-told g t c =
+pub parse_array-returns-in_err-value-clause-error : goal.parse_array-returns-in_err-value-clause-error
+parse_array-returns-in_err-value-clause-error g t c =
     let old = c.args.context.now in
     let now = c.loop-next.context in
     let inv = c.loop-next.invariant in
     let reading = subst (λ n. GoesOn true Array old now n c.args.count) (ap (found_in c.loop-next.context) c.in-Some.is) inv.reading in
     let e = c.in_err-value.field-0.0 in
     err_of (StopsAtContainer old true c.args.count) e c.from_residual-in_err-value.result c.from_residual-in_err-value.ensures.1
-    (λ q d s many starts. element_stops true old now (last c.loop-next.context c.in-Some.token) c.args.count q d s e inv.so_far.kept (reading q d s many starts) many c.in_err-value.ensures.told)
+    (λ q d s many starts. element_stops true old now (last c.loop-next.context c.in-Some.token) c.args.count q d s e inv.so_far.kept (reading q d s many starts) many c.in_err-value.ensures.error)
 
-pub parse_array-returns-in_err-next-2-clause-told : goal.parse_array-returns-in_err-next-2-clause-told
-parse_array-returns-in_err-next-2-clause-told g t c =
+pub parse_array-returns-in_err-next-2-clause-error : goal.parse_array-returns-in_err-next-2-clause-error
+parse_array-returns-in_err-next-2-clause-error g t c =
     let old = c.args.context.now in
     let now = c.loop-next.context in
     let inv = c.loop-next.invariant in
@@ -291,37 +291,37 @@ parse_array-returns-in_err-next-2-clause-told g t c =
     (λ q d s many starts.
     let h = reading q d s many starts in
     next_stops true Array old now mid inv.so_far.kept read.kept (last c.loop-next.context c.in-Some.token) q d s h (element_comes true old now mid (last c.loop-next.context c.in-Some.token) q d s (value_at x) c.args.count h read.kept (value_read now mid x read.found) many read.within) e
-    (λ q. c.in_err-next-2.ensures.told q _ (from_old old mid c.token_start-start.result c.token_start-start.ensures (kept_on old now mid inv.so_far.kept read.kept))))
+    (λ q. c.in_err-next-2.ensures.error q _ (from_old old mid c.token_start-start.result c.token_start-start.ensures (kept_on old now mid inv.so_far.kept read.kept))))
 
-pub parse_value-returns-in_default-clause-told : goal.parse_value-returns-in_default-clause-told
-parse_value-returns-in_default-clause-told g t c =
-    err_some c.parse_leaf.result (λ e told. leaf_stops true c.args.context.now (last c.args.context.now c.args.token) e c.args.count c.requires.token c.requires.around (told (opens_none (last c.args.context.now c.args.token) (λ e. c.in_default.not-OpenBracket (is_bracket c.args.context.now.content c.args.token e)) (λ e. c.in_default.not-OpenBrace (is_brace c.args.context.now.content c.args.token e))))) c.parse_leaf.ensures.told
+pub parse_value-returns-in_default-clause-error : goal.parse_value-returns-in_default-clause-error
+parse_value-returns-in_default-clause-error g t c =
+    err_some c.parse_leaf.result (λ e told. leaf_stops true c.args.context.now (last c.args.context.now c.args.token) e c.args.count c.requires.token c.requires.around (told (opens_none (last c.args.context.now c.args.token) (λ e. c.in_default.not-OpenBracket (is_bracket c.args.context.now.content c.args.token e)) (λ e. c.in_default.not-OpenBrace (is_brace c.args.context.now.content c.args.token e))))) c.parse_leaf.ensures.error
 
-pub parse_value-returns-in-Err-clause-told : goal.parse_value-returns-in-Err-clause-told
-parse_value-returns-in-Err-clause-told g t c = λ q d s many starts. c.in-Err.ensures.told q d s many (starts.may, starts.gap)
+pub parse_value-returns-in-Err-clause-error : goal.parse_value-returns-in-Err-clause-error
+parse_value-returns-in-Err-clause-error g t c = λ q d s many starts. c.in-Err.ensures.error q d s many (starts.may, starts.gap)
 
-pub parse_value-returns-in-Err-parse_object-clause-told : goal.parse_value-returns-in-Err-parse_object-clause-told
-parse_value-returns-in-Err-parse_object-clause-told g t c = λ q d s many starts. c.in-Err-parse_object.ensures.told q d s many (starts.may, starts.gap)
+pub parse_value-returns-in-Err-parse_object-clause-error : goal.parse_value-returns-in-Err-parse_object-clause-error
+parse_value-returns-in-Err-parse_object-clause-error g t c = λ q d s many starts. c.in-Err-parse_object.ensures.error q d s many (starts.may, starts.gap)
 
-pub parse_object-returns-in_err-next-clause-told : goal.parse_object-returns-in_err-next-clause-told
-parse_object-returns-in_err-next-clause-told g t c =
+pub parse_object-returns-in_err-next-clause-error : goal.parse_object-returns-in_err-next-clause-error
+parse_object-returns-in_err-next-clause-error g t c =
     let old = c.args.context.now in
     let e = c.in_err-next.field-0.0 in
     err_of (StopsAtContainer old true c.args.count) e c.from_residual.result c.from_residual.ensures.1
-    (λ q d s many starts. first_stops true Object old c.args.count q d s e c.requires.token (room_whole Object c.args.count c.requires.around) many starts (λ q. c.in_err-next.ensures.told q _ (ap (rest (text_in old)) (sym c.token_start-start.ensures))))
+    (λ q d s many starts. first_stops true Object old c.args.count q d s e c.requires.token (room_whole Object c.args.count c.requires.around) many starts (λ q. c.in_err-next.ensures.error q _ (ap (rest (text_in old)) (sym c.token_start-start.ensures))))
 
-pub parse_object-returns-in_err-property-clause-told : goal.parse_object-returns-in_err-property-clause-told
-parse_object-returns-in_err-property-clause-told g t c =
+pub parse_object-returns-in_err-property-clause-error : goal.parse_object-returns-in_err-property-clause-error
+parse_object-returns-in_err-property-clause-error g t c =
     let old = c.args.context.now in
     let now = c.loop-next.context in
     let inv = c.loop-next.invariant in
     let reading = subst (λ n. GoesOn true Object old now n c.args.count) (ap (found_in c.loop-next.context) c.in-Some.is) inv.reading in
     let e = c.in_err-property.field-0.0 in
     err_of (StopsAtContainer old true c.args.count) e c.from_residual-in_err-property.result c.from_residual-in_err-property.ensures.1
-    (λ q d s many starts. property_stops true old now (last c.loop-next.context c.in-Some.token) c.args.count q d s e inv.so_far.kept (reading q d s many starts) many c.in_err-property.ensures.told)
+    (λ q d s many starts. property_stops true old now (last c.loop-next.context c.in-Some.token) c.args.count q d s e inv.so_far.kept (reading q d s many starts) many c.in_err-property.ensures.error)
 
-pub parse_object-returns-in_err-next-2-clause-told : goal.parse_object-returns-in_err-next-2-clause-told
-parse_object-returns-in_err-next-2-clause-told g t c =
+pub parse_object-returns-in_err-next-2-clause-error : goal.parse_object-returns-in_err-next-2-clause-error
+parse_object-returns-in_err-next-2-clause-error g t c =
     let old = c.args.context.now in
     let now = c.loop-next.context in
     let inv = c.loop-next.invariant in
@@ -334,31 +334,31 @@ parse_object-returns-in_err-next-2-clause-told g t c =
     (λ q d s many starts.
     let h = reading q d s many starts in
     next_stops true Object old now mid inv.so_far.kept read.kept (last c.loop-next.context c.in-Some.token) q d s h (property_comes true old now mid (last c.loop-next.context c.in-Some.token) q d s m.name.name (value_at m.value) c.args.count h read.kept (property_read now mid m read.found) many read.within) e
-    (λ q. c.in_err-next-2.ensures.told q _ (from_old old mid c.token_start-start.result c.token_start-start.ensures (kept_on old now mid inv.so_far.kept read.kept))))
+    (λ q. c.in_err-next-2.ensures.error q _ (from_old old mid c.token_start-start.result c.token_start-start.ensures (kept_on old now mid inv.so_far.kept read.kept))))
 
-pub parse_property-returns-in_err-name-clause-told : goal.parse_property-returns-in_err-name-clause-told
-parse_property-returns-in_err-name-clause-told g t c =
+pub parse_property-returns-in_err-name-clause-error : goal.parse_property-returns-in_err-name-clause-error
+parse_property-returns-in_err-name-clause-error g t c =
     let old = c.args.context.now in
     let e = c.in_err-name.field-0.0 in
     err_of (StopsAtItem Object old (last c.args.context.now c.args.token) true c.args.count) e c.from_residual.result c.from_residual.ensures.1
-    (λ q d s many starts. name_stops true old (last c.args.context.now c.args.token) q d s c.requires.token starts e c.in_err-name.ensures.told)
+    (λ q d s many starts. name_stops true old (last c.args.context.now c.args.token) q d s c.requires.token starts e c.in_err-name.ensures.error)
 
-pub parse_property-returns-in_err-pass_colon-clause-told : goal.parse_property-returns-in_err-pass_colon-clause-told
-parse_property-returns-in_err-pass_colon-clause-told g t c =
+pub parse_property-returns-in_err-pass_colon-clause-error : goal.parse_property-returns-in_err-pass_colon-clause-error
+parse_property-returns-in_err-pass_colon-clause-error g t c =
     let old = c.args.context.now in
     let e = c.in_err-pass_colon.field-0.0 in
     err_of (StopsAtItem Object old (last c.args.context.now c.args.token) true c.args.count) e c.from_residual-in_err-pass_colon.result c.from_residual-in_err-pass_colon.ensures.1
-    (λ q d s many starts. colon_missing_stops true old (last c.args.context.now c.args.token) q d s c.requires.token starts (name_at c.in_ok-name.name) c.in_ok-name.ensures.name e (stops_given c.args.context.now c.name.new.self e c.name.ensures.gives c.in_err-pass_colon.ensures.told true _))
+    (λ q d s many starts. colon_missing_stops true old (last c.args.context.now c.args.token) q d s c.requires.token starts (name_at c.in_ok-name.name) c.in_ok-name.ensures.name e (stops_given c.args.context.now c.name.new.self e c.name.ensures.gives c.in_err-pass_colon.ensures.error true _))
 
-pub parse_property-returns-in_err-found-clause-told : goal.parse_property-returns-in_err-found-clause-told
-parse_property-returns-in_err-found-clause-told g t c =
+pub parse_property-returns-in_err-found-clause-error : goal.parse_property-returns-in_err-found-clause-error
+parse_property-returns-in_err-found-clause-error g t c =
     let old = c.args.context.now in
     let e = c.in_err-found.field-0.0 in
     err_of (StopsAtItem Object old (last c.args.context.now c.args.token) true c.args.count) e c.from_residual-in_err-found.result c.from_residual-in_err-found.ensures.1
-    (λ q d s many starts. no_token_stops true old (last c.args.context.now c.args.token) q d s c.requires.token starts (name_at c.in_ok-name.name) c.in_ok-name.ensures.name c.pass_colon.new.self (kept_given c.args.context.now c.name.new.self c.pass_colon.new.self c.name.ensures.gives c.pass_colon.ensures.kept) (colon_given c.args.context.now c.name.new.self c.pass_colon.new.self c.name.ensures.gives c.in_ok-pass_colon.ensures.found) e c.in_err-found.ensures.told)
+    (λ q d s many starts. no_token_stops true old (last c.args.context.now c.args.token) q d s c.requires.token starts (name_at c.in_ok-name.name) c.in_ok-name.ensures.name c.pass_colon.new.self (kept_given c.args.context.now c.name.new.self c.pass_colon.new.self c.name.ensures.gives c.pass_colon.ensures.kept) (colon_given c.args.context.now c.name.new.self c.pass_colon.new.self c.name.ensures.gives c.in_ok-pass_colon.ensures.found) e c.in_err-found.ensures.error)
 
-pub parse_property-returns-then-nests_too_deep-clause-told : goal.parse_property-returns-then-nests_too_deep-clause-told
-parse_property-returns-then-nests_too_deep-clause-told g t c =
+pub parse_property-returns-then-nests_too_deep-clause-error : goal.parse_property-returns-then-nests_too_deep-clause-error
+parse_property-returns-then-nests_too_deep-clause-error g t c =
     let old = c.args.context.now in
     let found = c.in_ok-found.ensures in
     let nesting = c.nesting_fault.ensures in
@@ -367,22 +367,22 @@ parse_property-returns-then-nests_too_deep-clause-told g t c =
     (λ q d s many starts. deep_property_stops old (last c.args.context.now c.args.token) q d s c.requires.token starts (name_at c.in_ok-name.name) c.in_ok-name.ensures.name c.pass_colon.new.self (kept_given c.args.context.now c.name.new.self c.pass_colon.new.self c.name.ensures.gives c.pass_colon.ensures.kept) (colon_given c.args.context.now c.name.new.self c.pass_colon.new.self c.name.ensures.gives c.in_ok-pass_colon.ensures.found) c.scan.new.self (found_in c.scan.new.self c.in_ok-found.found) found.kept found.found found.lexeme
     e c.token_start-start.result c.token_start-start.ensures (omega (arith, many, deep)) nesting.kind nesting.range)
 
-pub parse_property-returns-in_default-clause-told : goal.parse_property-returns-in_default-clause-told
-parse_property-returns-in_default-clause-told g t c = λ q d s many starts.
+pub parse_property-returns-in_default-clause-error : goal.parse_property-returns-in_default-clause-error
+parse_property-returns-in_default-clause-error g t c = λ q d s many starts.
     let old = c.args.context.now in
     let found = c.in_ok-found.ensures in
     let small = c.nests_too_deep.ensures.within c.if-nests_too_deep.false in
     no_value_stops true old (last c.args.context.now c.args.token) q d s c.requires.token starts (name_at c.in_ok-name.name) c.in_ok-name.ensures.name c.pass_colon.new.self (kept_given c.args.context.now c.name.new.self c.pass_colon.new.self c.name.ensures.gives c.pass_colon.ensures.kept) (colon_given c.args.context.now c.name.new.self c.pass_colon.new.self c.name.ensures.gives c.in_ok-pass_colon.ensures.found) c.scan.new.self (found_in c.scan.new.self c.in_ok-found.found) found.kept found.found found.lexeme
     (ap (found_in c.scan.new.self) c.in_default.is) c.fault_here.result (omega (arith, many, small)) c.fault_here.ensures.kind c.fault_here.ensures.range
 
-pub parse_property-returns-in_err-value-clause-told : goal.parse_property-returns-in_err-value-clause-told
-parse_property-returns-in_err-value-clause-told g t c =
+pub parse_property-returns-in_err-value-clause-error : goal.parse_property-returns-in_err-value-clause-error
+parse_property-returns-in_err-value-clause-error g t c =
     let old = c.args.context.now in
     let found = c.in_ok-found.ensures in
     let e = c.in_err-value.field-0.0 in
     err_of (StopsAtItem Object old (last c.args.context.now c.args.token) true c.args.count) e c.from_residual-in_err-value.result c.from_residual-in_err-value.ensures.1
     (λ q d s many starts. value_told_stops true old (last c.args.context.now c.args.token) q d s c.requires.token starts (name_at c.in_ok-name.name) c.in_ok-name.ensures.name c.pass_colon.new.self (kept_given c.args.context.now c.name.new.self c.pass_colon.new.self c.name.ensures.gives c.pass_colon.ensures.kept) (colon_given c.args.context.now c.name.new.self c.pass_colon.new.self c.name.ensures.gives c.in_ok-pass_colon.ensures.found) c.scan.new.self (found_in c.scan.new.self c.in_ok-found.found) found.kept found.found found.lexeme
-    (last c.scan.new.self c.in-Some.token) (ap (found_in c.scan.new.self) c.in-Some.is) e (c.args.count + 1) (omega (arith, many)) c.in_err-value.ensures.told)
+    (last c.scan.new.self c.in-Some.token) (ap (found_in c.scan.new.self) c.in-Some.is) e (c.args.count + 1) (omega (arith, many)) c.in_err-value.ensures.error)
 
 pub parse_property-returns-clause-written : goal.parse_property-returns-clause-written
 parse_property-returns-clause-written g t c = λ lent.

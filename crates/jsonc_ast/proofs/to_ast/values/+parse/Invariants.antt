@@ -2,7 +2,7 @@ use Rattle.std.proofs.Common.{◌-◌, ◌*◌, length, map}
 use Rattle.jsonc_ast.specs.to_ast.Context.{text_in, token_start, found_in}
 use Rattle.jsonc_ast.specs.Views.{located, member_of}
 use Rattle.jsonc_ast.specs.Spelled.{spelled_in_elements, spelled_in_properties}
-use Rattle.jsonc_ast.proofs.lemmas.to_ast.Standing.{ElementsGoOn, PropertiesGoOn}
+use Rattle.jsonc_ast.proofs.lemmas.to_ast.OpenContainers.{ElementsGoOn, PropertiesGoOn}
 use Rattle.jsonc_ast.proofs.to_ast.values.+parse.Given as goal
 
 abbrev pub decreases-parse_value : goal.decreases-parse_value

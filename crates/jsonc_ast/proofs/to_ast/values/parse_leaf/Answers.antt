@@ -18,8 +18,8 @@ returns-clause-found g c = leaf_reads c.args.context.now (last c.args.context.no
 pub returns-in_default-clause-refused : goal.returns-in_default-clause-refused
 returns-in_default-clause-refused g c = no_literal_here c.args.context.now (last c.args.context.now c.args.token) _ c.range-range.result c.requires (ap (option_map located) c.in_default.is) c.leaf.ensures.located
 
-pub returns-in_default-clause-told : goal.returns-in_default-clause-told
-returns-in_default-clause-told g c = λ opens.
+pub returns-in_default-clause-error : goal.returns-in_default-clause-error
+returns-in_default-clause-error g c = λ opens.
     let none = map_none (leaf_at c.range-range.result) (leaf_value (scanned_of (last c.args.context.now c.args.token))) (sym c.leaf.ensures.located ∙ ap (option_map located) c.in_default.is) in
     is_unexpected c.args.context.now (last c.args.context.now c.args.token) c.fault_here.result opens none (c.fault_here.ensures.kind ∙ c.unexpected-kind.ensures.kind ∙ ap (λ x. unexpected_kind (scanned_of (token_held c.args.token x))) c.in_default.ensures.stays) c.fault_here.ensures.range
 

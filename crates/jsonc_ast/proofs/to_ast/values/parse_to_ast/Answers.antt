@@ -9,7 +9,7 @@ use Rattle.jsonc_ast.specs.Located.{IsLocatedDocument}
 use Rattle.jsonc_ast.specs.Spelled.{spelled}
 use Rattle.jsonc_ast.specs.Views.{located, plain}
 use Rattle.jsonc_ast.specs.to_ast.Refusals.{RefusesText}
-use Rattle.jsonc_ast.specs.to_ast.Told.{IsTold}
+use Rattle.jsonc_ast.specs.to_ast.Faults.{ParseFault}
 use Rattle.jsonc_ast.specs.to_ast.Written.{AreWritten}
 use Rattle.jsonc_ast.proofs.lemmas.to_ast.Grammar.{located_document}
 use Rattle.jsonc_ast.proofs.lemmas.to_ast.Collecting.{all_collected, all_lent, all_noted}
@@ -28,11 +28,11 @@ returns-in_err-value-clause-refused g c =
     let e = c.in_err-value.field-0.0 in
     err_of (RefusesText (parse_options c.args.options.now) c.args.text.now) e c.from_residual.result c.from_residual.ensures.1 (moved (λ p b. RefusesText p b e) start.options start.text c.in_err-value.ensures.refused)
 
-pub returns-in_err-value-clause-told : goal.returns-in_err-value-clause-told
-returns-in_err-value-clause-told g c =
+pub returns-in_err-value-clause-error : goal.returns-in_err-value-clause-error
+returns-in_err-value-clause-error g c =
     let start = c.new-context.ensures in
     let e = c.in_err-value.field-0.0 in
-    err_of (IsTold (parse_options c.args.options.now) c.args.text.now true) e c.from_residual.result c.from_residual.ensures.1 (moved (λ p b. IsTold p b true e) start.options start.text c.in_err-value.ensures.told)
+    err_of (ParseFault (parse_options c.args.options.now) c.args.text.now true) e c.from_residual.result c.from_residual.ensures.1 (moved (λ p b. ParseFault p b true e) start.options start.text c.in_err-value.ensures.error)
 
 pub returns-clause-accepted : goal.returns-clause-accepted
 returns-clause-accepted g c =
@@ -67,8 +67,8 @@ returns-clause-within g c = ok_of c.finish.result (λ r is. subst (λ f. IfSome 
 pub returns-clause-refused : goal.returns-clause-refused
 returns-clause-refused g c = err_some c.finish.result (λ e memory. inl memory) c.finish.ensures.memory
 
-pub returns-clause-told : goal.returns-clause-told
-returns-clause-told g c = err_some c.finish.result (λ e memory. inl memory) c.finish.ensures.memory
+pub returns-clause-error : goal.returns-clause-error
+returns-clause-error g c = err_some c.finish.result (λ e memory. inl memory) c.finish.ensures.memory
 
 pub returns-clause-tokens : goal.returns-clause-tokens
 returns-clause-tokens g c = ok_of c.finish.result (λ r is. ap is_some is ∙ c.in_ok-value.ensures.kept.tokens ∙ c.new-context.ensures.tokens) c.finish.ensures.tokens

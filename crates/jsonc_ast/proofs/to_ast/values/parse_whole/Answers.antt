@@ -1,6 +1,6 @@
 use Rattle.std.proofs.Common.{ap}
 use Rattle.jsonc_ast.specs.to_ast.Context.{last, found_in}
-use Rattle.jsonc_ast.proofs.lemmas.to_ast.Given.{none_found}
+use Rattle.jsonc_ast.proofs.lemmas.to_ast.MovedTokens.{none_found}
 use Rattle.jsonc_ast.specs.Views.{located}
 use Rattle.jsonc_ast.proofs.lemmas.to_ast.Leaves.{empty_document, value_document}
 use Rattle.jsonc_ast.proofs.lemmas.to_ast.Collecting.{collects_turn}
@@ -12,12 +12,12 @@ use Rattle.jsonc_ast.specs.to_ast.Refusals.{RefusesText}
 use Rattle.jsonc_ast.specs.Located.{value_at}
 use Rattle.jsonc_ast.specs.to_ast.Context.{text_in, options_in}
 use Rattle.jsonc_scan.specs.Scanner.{StandsAt}
-use Rattle.jsonc_ast.specs.to_ast.Told.{IsTold}
+use Rattle.jsonc_ast.specs.to_ast.Faults.{ParseFault}
 use Rattle.std.proofs.Common.{refl}
 use Rattle.jsonc_ast.proofs.lemmas.to_ast.Stopping.{stops_here}
 use Rattle.jsonc_ast.specs.to_ast.Reached.{document}
 use Rattle.std.proofs.Common.{[]}
-use Rattle.jsonc_ast.proofs.lemmas.to_ast.Standing.{root_stops, end_stops, second_stops, text_stops}
+use Rattle.jsonc_ast.proofs.lemmas.to_ast.OpenContainers.{root_stops, end_stops, second_stops, text_stops}
 use Rattle.std.proofs.Common.{subst}
 use Rattle.jsonc_ast.specs.Spelled.{spelled}
 use Rattle.jsonc_ast.specs.to_ast.Written.{IsLentHere}
@@ -94,36 +94,36 @@ returns-in_default-2-clause-refused g c =
     (document_goes_on old c.scan.new.self (found_in c.scan.new.self c.in_ok-token.field-0) c.scan.ensures.kept read.found read.lexeme (last c.scan.new.self c.in-Some.token) (ap (found_in c.scan.new.self) c.in-Some.is) c.parse_value.new.context (located c.in_ok-value.value) value.kept value.found
     c.scan-2.new.self (found_in c.scan-2.new.self c.in_ok-scan.field-0) c.scan-2.ensures.kept over.found over.lexeme (λ e. c.in_default-2.not-None (none_found c.scan-2.new.self.content c.in_ok-scan.field-0 e))))
 
-pub returns-in_err-token-clause-told : goal.returns-in_err-token-clause-told
-returns-in_err-token-clause-told g c =
+pub returns-in_err-token-clause-error : goal.returns-in_err-token-clause-error
+returns-in_err-token-clause-error g c =
     let old = c.args.context.now in
     let e = c.in_err-token.field-0.0 in
-    err_of (IsTold (options_in old) (text_in old) true) e c.from_residual.result c.from_residual.ensures.1
-    (text_stops true old _ _ e refl refl c.requires (stops_here old true [] document e c.in_err-token.ensures.told))
+    err_of (ParseFault (options_in old) (text_in old) true) e c.from_residual.result c.from_residual.ensures.1
+    (text_stops true old _ _ e refl refl c.requires (stops_here old true [] document e c.in_err-token.ensures.error))
 
-pub returns-in_err-value-clause-told : goal.returns-in_err-value-clause-told
-returns-in_err-value-clause-told g c =
+pub returns-in_err-value-clause-error : goal.returns-in_err-value-clause-error
+returns-in_err-value-clause-error g c =
     let old = c.args.context.now in
     let read = c.in_ok-token.ensures in
     let e = c.in_err-value.field-0.0 in
-    err_of (IsTold (options_in old) (text_in old) true) e c.from_residual-in_err-value.result c.from_residual-in_err-value.ensures.1
+    err_of (ParseFault (options_in old) (text_in old) true) e c.from_residual-in_err-value.result c.from_residual-in_err-value.ensures.1
     (text_stops true old _ _ e refl refl c.requires
-    (root_stops true old c.scan.new.self (found_in c.scan.new.self c.in_ok-token.field-0) c.scan.ensures.kept read.found read.lexeme (last c.scan.new.self c.in-Some.token) (ap (found_in c.scan.new.self) c.in-Some.is) e refl c.in_err-value.ensures.told))
+    (root_stops true old c.scan.new.self (found_in c.scan.new.self c.in_ok-token.field-0) c.scan.ensures.kept read.found read.lexeme (last c.scan.new.self c.in-Some.token) (ap (found_in c.scan.new.self) c.in-Some.is) e refl c.in_err-value.ensures.error))
 
-pub returns-in_err-scan-clause-told : goal.returns-in_err-scan-clause-told
-returns-in_err-scan-clause-told g c =
+pub returns-in_err-scan-clause-error : goal.returns-in_err-scan-clause-error
+returns-in_err-scan-clause-error g c =
     let old = c.args.context.now in
     let read = c.in_ok-token.ensures in
     let value = c.in_ok-value.ensures in
     let e = c.in_err-scan.field-0.0 in
     let x = located c.in_ok-value.value in
     let mid = c.parse_value.new.context in
-    err_of (IsTold (options_in old) (text_in old) true) e c.from_residual-in_err-scan.result c.from_residual-in_err-scan.ensures.1
+    err_of (ParseFault (options_in old) (text_in old) true) e c.from_residual-in_err-scan.result c.from_residual-in_err-scan.ensures.1
     (text_stops true old _ _ e refl refl c.requires
-    (end_stops true old c.scan.new.self (found_in c.scan.new.self c.in_ok-token.field-0) c.scan.ensures.kept read.found read.lexeme (last c.scan.new.self c.in-Some.token) (ap (found_in c.scan.new.self) c.in-Some.is) mid (value_at x) value.kept (value_read c.scan.new.self mid x value.found) value.within e c.in_err-scan.ensures.told))
+    (end_stops true old c.scan.new.self (found_in c.scan.new.self c.in_ok-token.field-0) c.scan.ensures.kept read.found read.lexeme (last c.scan.new.self c.in-Some.token) (ap (found_in c.scan.new.self) c.in-Some.is) mid (value_at x) value.kept (value_read c.scan.new.self mid x value.found) value.within e c.in_err-scan.ensures.error))
 
-pub returns-in_default-2-clause-told : goal.returns-in_default-2-clause-told
-returns-in_default-2-clause-told g c =
+pub returns-in_default-2-clause-error : goal.returns-in_default-2-clause-error
+returns-in_default-2-clause-error g c =
     let old = c.args.context.now in
     let read = c.in_ok-token.ensures in
     let value = c.in_ok-value.ensures in

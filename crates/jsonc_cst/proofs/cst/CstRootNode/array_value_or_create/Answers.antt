@@ -5,7 +5,7 @@ use Rattle.jsonc_layout.specs.nodes.Properties.{value_at}
 use Rattle.jsonc_edit.specs.set.Kinds.{is_array, FoundOrCreated}
 use Rattle.jsonc_cst.specs.Nodes.{array_node}
 use Rattle.jsonc_cst.proofs.lemmas.typed.Found.{created_found, stands_as}
-use Rattle.jsonc_cst.proofs.lemmas.typed.Kept.{nodes_stay}
+use Rattle.jsonc_cst.proofs.lemmas.typed.HandlesKept.{nodes_stay}
 use Rattle.jsonc_cst.proofs.lemmas.typed.Roots.{created_is, created_or_kept, array_is}
 use Rattle.jsonc_cst.proofs.lemmas.typed.Around.{created_around}
 use Rattle.jsonc_cst.proofs.lemmas.typed.Marked.{created_marked, created_written, empty_array_writable}
@@ -20,14 +20,14 @@ array_at-requires g c =
     created_is is_array (array no_items) Content.array (λ l. refl) array_is old new (value_at old 0) c.in-Some.number
     (subst (λ o. FoundOrCreated is_array (array no_items) old new (value_at old 0) o) c.in-Some.is c.in_ok-number.ensures.value)
 
-pub returns-clause-stays : goal.returns-clause-stays
-returns-clause-stays g c =
+pub returns-clause-handles : goal.returns-clause-handles
+returns-clause-handles g c =
     let old = c.args.self.now.tree.nodes in
     let new = c.root_value_or_create.new.tree.nodes in
     nodes_stay old new (created_or_kept is_array (array no_items) old new (value_at old 0) c.root_value_or_create.result c.root_value_or_create.ensures.value c.root_value_or_create.ensures.kept)
 
-pub returns-in_default-clause-stays : goal.returns-in_default-clause-stays
-returns-in_default-clause-stays g c =
+pub returns-in_default-clause-handles : goal.returns-in_default-clause-handles
+returns-in_default-clause-handles g c =
     let old = c.args.self.now.tree.nodes in
     let new = c.root_value_or_create.new.tree.nodes in
     nodes_stay old new (created_or_kept is_array (array no_items) old new (value_at old 0) c.root_value_or_create.result c.root_value_or_create.ensures.value c.root_value_or_create.ensures.kept)
@@ -39,7 +39,7 @@ returns-clause-stands g c =
     stands_as new c.in-Some.number (array_node c.array_at.result)
     (created_found is_array (array no_items) old new c.args.self.now.tree.tree c.root_value_or_create.new.tree.tree (value_at old 0) c.in-Some.number refl
     (subst (λ o. FoundOrCreated is_array (array no_items) old new (value_at old 0) o) c.in-Some.is c.in_ok-number.ensures.value))
-    c.array_at.ensures.number c.array_at.ensures.held
+    c.array_at.ensures.number c.array_at.ensures.in_document
 
 pub returns-clause-written : goal.returns-clause-written
 returns-clause-written g c = λ p.

@@ -5,7 +5,7 @@ use Rattle.jsonc_layout.specs.nodes.Properties.{value_at}
 use Rattle.jsonc_edit.specs.set.Kinds.{is_array}
 use Rattle.jsonc_cst.specs.Nodes.{array_node}
 use Rattle.jsonc_cst.proofs.lemmas.typed.Found.{set_found, stands_as}
-use Rattle.jsonc_cst.proofs.lemmas.typed.Kept.{nodes_stay}
+use Rattle.jsonc_cst.proofs.lemmas.typed.HandlesKept.{nodes_stay}
 use Rattle.jsonc_cst.proofs.lemmas.typed.Roots.{set_is, set_or_kept, array_is}
 use Rattle.jsonc_cst.specs.typed.Setting.{EmptyWritten}
 use Rattle.jsonc_cst.proofs.lemmas.typed.Around.{set_around}
@@ -20,8 +20,8 @@ array_at-requires g c =
     let new = c.root_value_or_set.new.tree.nodes in
     set_is is_array (array no_items) Content.array (λ l. refl) array_is old new (value_at old 0) c.in_ok-number.number c.in_ok-number.ensures.value
 
-pub returns-clause-stays : goal.returns-clause-stays
-returns-clause-stays g c =
+pub returns-clause-handles : goal.returns-clause-handles
+returns-clause-handles g c =
     let old = c.args.self.now.tree.nodes in
     let new = c.root_value_or_set.new.tree.nodes in
     nodes_stay old new (set_or_kept is_array (array no_items) old new (value_at old 0) c.root_value_or_set.result c.root_value_or_set.ensures.value c.root_value_or_set.ensures.kept)
@@ -32,7 +32,7 @@ returns-clause-stands g c =
     let new = c.root_value_or_set.new.tree.nodes in
     stands_as new c.in_ok-number.number (array_node c.array_at.result)
     (set_found is_array (array no_items) old new c.args.self.now.tree.tree c.root_value_or_set.new.tree.tree (value_at old 0) c.in_ok-number.number refl c.in_ok-number.ensures.value)
-    c.array_at.ensures.number c.array_at.ensures.held
+    c.array_at.ensures.number c.array_at.ensures.in_document
 
 pub returns-clause-written : goal.returns-clause-written
 returns-clause-written g c = λ p.

@@ -1,10 +1,10 @@
-use Rattle.jsonc_cst.proofs.lemmas.typed.Kept.{nodes_stay, stay_spliced}
-use Rattle.jsonc_edit.proofs.lemmas.set.Gaining.{leaves_bare}
+use Rattle.jsonc_cst.proofs.lemmas.typed.HandlesKept.{nodes_stay, stay_spliced}
+use Rattle.jsonc_edit.proofs.lemmas.set.FirstValueSet.{leaves_bare}
 use Rattle.jsonc_cst.proofs.lemmas.typed.Steps.{cleared_step}
 use Rattle.jsonc_cst.proofs.cst.CstRootNode.clear_children.Goals as goal
 
-pub returns-clause-stays : goal.returns-clause-stays
-returns-clause-stays g c =
+pub returns-clause-handles : goal.returns-clause-handles
+returns-clause-handles g c =
     let old = c.args.self.now.tree.nodes in
     let new = c.clear_root.new.tree.nodes in
     nodes_stay old new (stay_spliced old new _ _ _ _ c.clear_root.ensures.taken)

@@ -5,7 +5,7 @@ use Rattle.jsonc_layout.specs.nodes.Properties.{value_at}
 use Rattle.jsonc_edit.specs.set.Kinds.{is_object, FoundOrCreated}
 use Rattle.jsonc_cst.specs.Nodes.{object_node}
 use Rattle.jsonc_cst.proofs.lemmas.typed.Found.{created_found, stands_as}
-use Rattle.jsonc_cst.proofs.lemmas.typed.Kept.{nodes_stay}
+use Rattle.jsonc_cst.proofs.lemmas.typed.HandlesKept.{nodes_stay}
 use Rattle.jsonc_cst.proofs.lemmas.typed.Roots.{created_is, created_or_kept, object_is}
 use Rattle.jsonc_cst.proofs.lemmas.typed.Around.{created_around}
 use Rattle.jsonc_cst.proofs.lemmas.typed.Marked.{created_marked, created_written, empty_object_writable}
@@ -20,14 +20,14 @@ object_at-requires g c =
     created_is is_object (object no_members) Content.object (λ l. refl) object_is old new (value_at old 0) c.in-Some.number
     (subst (λ o. FoundOrCreated is_object (object no_members) old new (value_at old 0) o) c.in-Some.is c.in_ok-number.ensures.value)
 
-pub returns-clause-stays : goal.returns-clause-stays
-returns-clause-stays g c =
+pub returns-clause-handles : goal.returns-clause-handles
+returns-clause-handles g c =
     let old = c.args.self.now.tree.nodes in
     let new = c.root_value_or_create.new.tree.nodes in
     nodes_stay old new (created_or_kept is_object (object no_members) old new (value_at old 0) c.root_value_or_create.result c.root_value_or_create.ensures.value c.root_value_or_create.ensures.kept)
 
-pub returns-in_default-clause-stays : goal.returns-in_default-clause-stays
-returns-in_default-clause-stays g c =
+pub returns-in_default-clause-handles : goal.returns-in_default-clause-handles
+returns-in_default-clause-handles g c =
     let old = c.args.self.now.tree.nodes in
     let new = c.root_value_or_create.new.tree.nodes in
     nodes_stay old new (created_or_kept is_object (object no_members) old new (value_at old 0) c.root_value_or_create.result c.root_value_or_create.ensures.value c.root_value_or_create.ensures.kept)
@@ -39,7 +39,7 @@ returns-clause-stands g c =
     stands_as new c.in-Some.number (object_node c.object_at.result)
     (created_found is_object (object no_members) old new c.args.self.now.tree.tree c.root_value_or_create.new.tree.tree (value_at old 0) c.in-Some.number refl
     (subst (λ o. FoundOrCreated is_object (object no_members) old new (value_at old 0) o) c.in-Some.is c.in_ok-number.ensures.value))
-    c.object_at.ensures.number c.object_at.ensures.held
+    c.object_at.ensures.number c.object_at.ensures.in_document
 
 pub returns-clause-written : goal.returns-clause-written
 returns-clause-written g c = λ p.

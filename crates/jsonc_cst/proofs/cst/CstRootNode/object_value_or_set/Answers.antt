@@ -5,7 +5,7 @@ use Rattle.jsonc_layout.specs.nodes.Properties.{value_at}
 use Rattle.jsonc_edit.specs.set.Kinds.{is_object}
 use Rattle.jsonc_cst.specs.Nodes.{object_node}
 use Rattle.jsonc_cst.proofs.lemmas.typed.Found.{set_found, stands_as}
-use Rattle.jsonc_cst.proofs.lemmas.typed.Kept.{nodes_stay}
+use Rattle.jsonc_cst.proofs.lemmas.typed.HandlesKept.{nodes_stay}
 use Rattle.jsonc_cst.proofs.lemmas.typed.Roots.{set_is, set_or_kept, object_is}
 use Rattle.jsonc_cst.specs.typed.Setting.{EmptyWritten}
 use Rattle.jsonc_cst.proofs.lemmas.typed.Around.{set_around}
@@ -20,8 +20,8 @@ object_at-requires g c =
     let new = c.root_value_or_set.new.tree.nodes in
     set_is is_object (object no_members) Content.object (λ l. refl) object_is old new (value_at old 0) c.in_ok-number.number c.in_ok-number.ensures.value
 
-pub returns-clause-stays : goal.returns-clause-stays
-returns-clause-stays g c =
+pub returns-clause-handles : goal.returns-clause-handles
+returns-clause-handles g c =
     let old = c.args.self.now.tree.nodes in
     let new = c.root_value_or_set.new.tree.nodes in
     nodes_stay old new (set_or_kept is_object (object no_members) old new (value_at old 0) c.root_value_or_set.result c.root_value_or_set.ensures.value c.root_value_or_set.ensures.kept)
@@ -32,7 +32,7 @@ returns-clause-stands g c =
     let new = c.root_value_or_set.new.tree.nodes in
     stands_as new c.in_ok-number.number (object_node c.object_at.result)
     (set_found is_object (object no_members) old new c.args.self.now.tree.tree c.root_value_or_set.new.tree.tree (value_at old 0) c.in_ok-number.number refl c.in_ok-number.ensures.value)
-    c.object_at.ensures.number c.object_at.ensures.held
+    c.object_at.ensures.number c.object_at.ensures.in_document
 
 pub returns-clause-written : goal.returns-clause-written
 returns-clause-written g c = λ p.

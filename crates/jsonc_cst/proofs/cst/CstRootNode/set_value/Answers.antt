@@ -6,7 +6,7 @@ use Rattle.jsonc_cst.specs.Nodes.{number_of}
 use Rattle.jsonc_cst.proofs.Family.{number_of-typed}
 use Rattle.jsonc_cst.specs.typed.Setting.{ValueBecomes, ValueIsWritten}
 use Rattle.jsonc_cst.proofs.lemmas.typed.Found.{stands_as, value_found}
-use Rattle.jsonc_cst.proofs.lemmas.typed.Kept.{as_typed, nodes_stay}
+use Rattle.jsonc_cst.proofs.lemmas.typed.HandlesKept.{as_typed, nodes_stay}
 use Rattle.jsonc_cst.proofs.lemmas.typed.Roots.{becomes, is_written, set_there, stay_set}
 use Rattle.jsonc_cst.proofs.lemmas.typed.Marked.{root_marked}
 use Rattle.jsonc_cst.proofs.lemmas.typed.Around.{root_around}
@@ -37,8 +37,8 @@ returns-clause-written g c = λ p.
     as_typed (ValueIsWritten p old new v (value_at old 0)) new c.in_ok-number.number c.node_at.result c.node_at.ensures.node
     (is_written p old new v (value_at old 0) c.in_ok-number.number c.args.self.now.tree.tree refl (c.in_ok-number.ensures.written p) c.in_ok-number.ensures.first)
 
-pub returns-clause-stays : goal.returns-clause-stays
-returns-clause-stays g c =
+pub returns-clause-handles : goal.returns-clause-handles
+returns-clause-handles g c =
     let old = c.args.self.now.tree.nodes in
     let new = c.set_root.new.tree.nodes in
     let v = plain c.args.value in
@@ -52,7 +52,7 @@ returns-clause-stands g c =
     stands_as new c.in_ok-number.number c.node_at.result
     (value_found old new v (value_at old 0) c.in_ok-number.number c.args.self.now.tree.tree c.set_root.new.tree.tree refl
     (becomes old new v (value_at old 0) c.in_ok-number.number c.in_ok-number.ensures.replaced c.in_ok-number.ensures.first))
-    (ap number_of c.node_at.ensures.node ∙ number_of-typed (content_at new c.in_ok-number.number) c.in_ok-number.number) c.node_at.ensures.held
+    (ap number_of c.node_at.ensures.node ∙ number_of-typed (content_at new c.in_ok-number.number) c.in_ok-number.number) c.node_at.ensures.in_document
 
 pub returns-clause-marked : goal.returns-clause-marked
 returns-clause-marked g c = λ p.

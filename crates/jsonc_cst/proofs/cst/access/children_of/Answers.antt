@@ -13,13 +13,13 @@ loop-child-init g c =
     let all = c.into_iter-child-iterator.ensures.into_iter_gives ∙ c.children-child-items.ensures.children in
     record {
       so_far = ap (λ l. l ++ map (typed_at ns) c.into_iter-child-iterator.result) c.new-children.ensures.items ∙ ap (map (typed_at ns)) all;
-      there = All-same (λ m. m < length ns) c.into_iter-child-iterator.result (children_at ns c.args.number) all (children_there ns c.args.tree.now.tree c.args.number);
+      in_tree = All-same (λ m. m < length ns) c.into_iter-child-iterator.result (children_at ns c.args.number) all (children_there ns c.args.tree.now.tree c.args.number);
     }
 
 pub node_at-requires : goal.node_at-requires
 node_at-requires g c =
     let ns = c.args.tree.now.nodes in
-    All-head (λ m. m < length ns) c.in-Some.child c.next.new.self (subst (All (λ m. m < length ns)) c.in-Some.ensures.steps c.loop-child.invariant.there)
+    All-head (λ m. m < length ns) c.in-Some.child c.next.new.self (subst (All (λ m. m < length ns)) c.in-Some.ensures.steps c.loop-child.invariant.in_tree)
 
 pub loop-child-preserved : goal.loop-child-preserved
 loop-child-preserved g c =
@@ -29,7 +29,7 @@ loop-child-preserved g c =
     record {
       so_far = ap (λ l. l ++ rest) (c.in_ok-push.ensures.items ∙ ap (λ n. before ++ n ∷ []) c.node_at.ensures.node) ∙ append_assoc before (typed_at ns c.in-Some.child ∷ []) rest
           ∙ ap (λ l. before ++ map (typed_at ns) l) (sym c.in-Some.ensures.steps) ∙ c.loop-child.invariant.so_far;
-      there = All-tail (λ m. m < length ns) c.in-Some.child c.next.new.self (subst (All (λ m. m < length ns)) c.in-Some.ensures.steps c.loop-child.invariant.there);
+      in_tree = All-tail (λ m. m < length ns) c.in-Some.child c.next.new.self (subst (All (λ m. m < length ns)) c.in-Some.ensures.steps c.loop-child.invariant.in_tree);
     }
 
 pub returns-clause-children : goal.returns-clause-children
@@ -38,7 +38,7 @@ returns-clause-children g c =
     let items = c.loop-child.children.items in
     sym (append-nil items) ∙ ap (λ l. items ++ map (typed_at ns) l) (sym c.in-None.ensures.steps.0) ∙ c.loop-child.invariant.so_far
 
-pub returns-clause-held : goal.returns-clause-held
-returns-clause-held g c =
+pub returns-clause-in_document : goal.returns-clause-in_document
+returns-clause-in_document g c =
     let ns = c.args.tree.now.nodes in
     subst (All (IsNodeOf ns)) (sym (returns-clause-children g c)) (children_held ns c.args.tree.now.tree c.args.number)

@@ -9,5 +9,5 @@ abbrev pub invariant-loop-child : goal.invariant-loop-child
 invariant-loop-child g l =
     record {
       so_far : l.children.items ++ map (typed_at l.tree.nodes) l.child-iterator ≡ map (typed_at l.tree.nodes) (children_at l.tree.nodes l.number);
-      there : All (λ m. m < length l.tree.nodes) l.child-iterator;
+      in_tree : All (λ m. m < length l.tree.nodes) l.child-iterator;
     }

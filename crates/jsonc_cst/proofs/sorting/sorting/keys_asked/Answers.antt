@@ -9,10 +9,10 @@ returns-in-Ok-clause-keys g c =
 
 pub returns-in-Err-Refused-clause-refused : goal.returns-in-Err-Refused-clause-refused
 returns-in-Err-Refused-clause-refused g c =
-    inr (first_refused g.F.Fn c.args.key.now (g.D.IsDocument.same c.args.doc.now) c.args.nodes.now c.in-Err-Refused.field-0 c.in-Err-Refused.error (search rules)
+    inr (first_refused g.F.Fn c.args.key.now (g.D.DocumentArg.same c.args.doc.now) c.args.nodes.now c.in-Err-Refused.field-0 c.in-Err-Refused.error (search rules)
     (subst (λ (d : g.row.D.Denot). WhyNone g.F.Fn c.args.key.now d c.args.nodes.now c.in-Err-Refused.field-0) c.of.ensures c.in-Err-Refused.ensures.refused))
 
 pub returns-in-Err-OutOfMemory-clause-refused : goal.returns-in-Err-OutOfMemory-clause-refused
 returns-in-Err-OutOfMemory-clause-refused g c =
-    memory_behind g.F.Fn c.args.key.now (g.D.IsDocument.same c.args.doc.now) c.args.nodes.now c.in-Err-OutOfMemory.field-0 (search rules)
+    memory_behind g.F.Fn c.args.key.now (g.D.DocumentArg.same c.args.doc.now) c.args.nodes.now c.in-Err-OutOfMemory.field-0 (search rules)
     (subst (λ (d : g.row.D.Denot). WhyNone g.F.Fn c.args.key.now d c.args.nodes.now c.in-Err-OutOfMemory.field-0) c.of.ensures c.in-Err-OutOfMemory.ensures.refused)

@@ -9,9 +9,9 @@ returns-clause-order g c =
     let lt : g.row.K.Denot → g.row.K.Denot → Bool = λ x y. is_lt (g.K.Ord.cmp x y) in (
       keys,
       c.in_ok-keys.ensures.keys,
-      ordered_by g.F.Fn c.args.key.now (g.D.IsDocument.same c.args.doc.now) c.args.nodes.now lt c.args.starts.now keys c.deref.result.now c.in-Ok.order.items c.deref.ensures.value c.in_ok-keys.ensures.keys c.in-Ok.ensures,
+      ordered_by g.F.Fn c.args.key.now (g.D.DocumentArg.same c.args.doc.now) c.args.nodes.now lt c.args.starts.now keys c.deref.result.now c.in-Ok.order.items c.deref.ensures.value c.in_ok-keys.ensures.keys c.in-Ok.ensures,
     )
 
 pub returns-in_default-clause-refused : goal.returns-in_default-clause-refused
 returns-in_default-clause-refused g c =
-    memory_behind_all g.F.Fn c.args.key.now (g.D.IsDocument.same c.args.doc.now) c.args.nodes.now c.in_ok-keys.keys.items c.in_ok-keys.ensures.keys
+    memory_behind_all g.F.Fn c.args.key.now (g.D.DocumentArg.same c.args.doc.now) c.args.nodes.now c.in_ok-keys.keys.items c.in_ok-keys.ensures.keys

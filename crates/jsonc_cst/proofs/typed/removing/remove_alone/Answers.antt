@@ -3,9 +3,9 @@ use Rattle.jsonc_tree.specs.Changes.{Splices}
 use Rattle.jsonc_tree.specs.Tree.{parent_at, place_at}
 use Rattle.jsonc_tree.proofs.Order.{parent_there}
 use Rattle.jsonc_edit.proofs.Elements.{Some_same}
-use Rattle.jsonc_run.proofs.Elsewhere.{alone_elsewhere}
-use Rattle.jsonc_cst.proofs.lemmas.typed.Kept.{nodes_stay, stay_spliced}
-use Rattle.jsonc_cst.proofs.lemmas.typed.Nobodys.{left_nobodys}
+use Rattle.jsonc_run.proofs.DetachedNodes.{alone_elsewhere}
+use Rattle.jsonc_cst.proofs.lemmas.typed.HandlesKept.{nodes_stay, stay_spliced}
+use Rattle.jsonc_cst.proofs.lemmas.typed.Detached.{left_nobodys}
 use Rattle.jsonc_cst.proofs.typed.removing.remove_alone.Goals as goal
 
 pub child_count-requires : goal.child_count-requires
@@ -24,8 +24,8 @@ returns g c =
     let taken : Splices old new container place (place + 1) [] = rw c.child_index-place.ensures at c.splice.ensures.splices in
     record {
       taken = λ k parent. subst (λ j. Splices old new j place (place + 1) []) (Some_same container k (sym said ∙ parent)) taken;
-      elsewhere = alone_elsewhere old tree new n container _ _ _ said after taken;
+      detached = alone_elsewhere old tree new n container _ _ _ said after taken;
       gone = left_nobodys old new tree after n container said place (omega arith) taken;
       untouched = λ alone. absurd (let wrong : Some container ≡ None = sym said ∙ alone in cc);
-      stays = nodes_stay old new (stay_spliced old new _ _ _ _ taken);
+      handles = nodes_stay old new (stay_spliced old new _ _ _ _ taken);
     }

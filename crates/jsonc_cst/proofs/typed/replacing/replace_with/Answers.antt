@@ -6,11 +6,11 @@ use Rattle.jsonc_edit.specs.Written.{Writes}
 use Rattle.jsonc_cst.specs.Nodes.{number_of}
 use Rattle.jsonc_cst.specs.typed.Edits.{is_name_in, IsReplacedAs}
 use Rattle.jsonc_cst.specs.typed.Steps.{IsValueIn}
-use Rattle.jsonc_cst.proofs.lemmas.typed.Kept.{as_typed, nodes_stay, raw_there, replaced_there, stay_raw, stay_replaced}
+use Rattle.jsonc_cst.proofs.lemmas.typed.HandlesKept.{as_typed, nodes_stay, raw_there, replaced_there, stay_raw, stay_replaced}
 use Rattle.jsonc_cst.proofs.lemmas.typed.Marked.{replaced_marked}
 use Rattle.jsonc_cst.proofs.lemmas.typed.Around.{replaced_around}
-use Rattle.jsonc_run.proofs.Elsewhere.{raw_elsewhere, replaced_elsewhere}
-use Rattle.jsonc_cst.proofs.lemmas.typed.Nobodys.{raw_nobodys, replaced_nobodys}
+use Rattle.jsonc_run.proofs.DetachedNodes.{raw_elsewhere, replaced_elsewhere}
+use Rattle.jsonc_cst.proofs.lemmas.typed.Detached.{raw_nobodys, replaced_nobodys}
 use Rattle.jsonc_cst.proofs.lemmas.typed.Places.{value_unnamed}
 use Rattle.jsonc_cst.proofs.lemmas.typed.Steps.{replaced_step}
 use Rattle.jsonc_layout.proofs.lemmas.from_input.Texts.{of_texts}
@@ -26,7 +26,7 @@ returns-then-is_name_in g c =
     let tree = c.args.doc.now.tree.tree in
     let new = c.replace_name.new.tree.nodes in
     let after = c.replace_name.new.tree.tree in
-    let node = g.N.IsNode.node_of c.args.node in
+    let node = g.N.TypedNode.node_of c.args.node in
     let n = number_of node in
     let v = plain c.args.value in
     let m = c.in-Some-2.raw in
@@ -40,12 +40,12 @@ returns-then-is_name_in g c =
       marked = λ e. absurd (other e);
       around = λ e. absurd (other e);
       step = λ is. absurd (other (value_unnamed old n (subst (IsValueIn old) (sym c.requires.1) is)));
-      elsewhere = raw_elsewhere old tree new n m v after given;
+      detached = raw_elsewhere old tree new n m v after given;
       gone = raw_nobodys old new n m tree after v given;
       none = tt;
       untouched = tt;
-      held = c.node_at.ensures.held;
-      stays = nodes_stay old new (stay_raw old new n v m given);
+      in_document = c.node_at.ensures.in_document;
+      handles = nodes_stay old new (stay_raw old new n v m given);
       memory = tt;
       child = tt;
       kept = tt;
@@ -62,7 +62,7 @@ returns g c =
     let tree = c.args.doc.now.tree.tree in
     let new = c.replace.new.tree.nodes in
     let after = c.replace.new.tree.tree in
-    let node = g.N.IsNode.node_of c.args.node in
+    let node = g.N.TypedNode.node_of c.args.node in
     let n = number_of node in
     let v = plain c.args.value in
     let m = c.in-Some-3.new in
@@ -75,12 +75,12 @@ returns g c =
       marked = λ e. replaced_marked old new v tree n m given;
       around = λ e. replaced_around old new v tree n m given;
       step = λ is. replaced_step old new tree after n m v (of_texts _ c.args.value) given (subst (IsValueIn old) (sym c.requires.1) is);
-      elsewhere = replaced_elsewhere old tree new n m v after given;
+      detached = replaced_elsewhere old tree new n m v after given;
       gone = replaced_nobodys old new n m tree after v given;
       none = tt;
       untouched = tt;
-      held = c.node_at-2.ensures.held;
-      stays = nodes_stay old new (stay_replaced old new n v m given);
+      in_document = c.node_at-2.ensures.in_document;
+      handles = nodes_stay old new (stay_replaced old new n v m given);
       memory = tt;
       child = tt;
       kept = tt;

@@ -15,5 +15,5 @@ returns-clause-number g c =
     ap number_of (sym ((c.as_object.ensures c.in-Some.object).0 c.in-Some.is) ∙ c.node_at.ensures.node)
     ∙ number_of-typed (content_at c.args.tree.now.nodes c.args.number) c.args.number
 
-pub returns-clause-held : goal.returns-clause-held
-returns-clause-held g c = subst (IsNodeOf c.args.tree.now.nodes) ((c.as_object.ensures c.in-Some.object).0 c.in-Some.is) c.node_at.ensures.held
+pub returns-clause-in_document : goal.returns-clause-in_document
+returns-clause-in_document g c = subst (IsNodeOf c.args.tree.now.nodes) ((c.as_object.ensures c.in-Some.object).0 c.in-Some.is) c.node_at.ensures.in_document

@@ -8,7 +8,7 @@ pub splice-requires-clause-join : goal.splice-requires-clause-join
 splice-requires-clause-join g c =
     let old = c.args.tree.now.nodes in
     let new = c.reserve.new.self.nodes in
-    let added = CanAppend-adds old c.add.new.self.nodes (content_of c.args.kind) c.args.container c.add.new.self.tree (c.if-not-can_hold.ensures.there refl) (c.if-not-can_hold.ensures.container refl) c.in_ok-node.ensures.added in
+    let added = CanAppend-adds old c.add.new.self.nodes (content_of c.args.kind) c.args.container c.add.new.self.tree (c.if-not-can_hold.ensures.in_tree refl) (c.if-not-can_hold.ensures.container refl) c.in_ok-node.ensures.added in
     let can = CanAppend-room c.add.new.self.nodes new c.args.container (length old) c.in_ok-reserve.ensures.kept added in
     let one = CanJoin-one new (length old) c.args.container c.args.from c.args.to can.node can.not_root can.alone can.not_over in
     subst (λ n. CanJoin new c.args.container c.args.from c.args.to (n ∷ [])) (sym c.in_ok-node.ensures.number) one

@@ -1,6 +1,6 @@
 use Rattle.jsonc_tree.specs.Tree.{IsOver}
 use Rattle.jsonc_edit.specs.commas.InTurn.{holders}
-use Rattle.jsonc_edit.proofs.lemmas.commas.Anyway.{sets_anyway}
+use Rattle.jsonc_edit.proofs.lemmas.commas.UnsoundDocuments.{sets_anyway}
 use Rattle.jsonc_edit.proofs.lemmas.commas.Documents.{are_holders, holders_stay, leaves_set, sets_all, sets_in_part, sets_once}
 use Rattle.jsonc_edit.proofs.commas.laws.commas_are_set.Goals as goal
 

@@ -1,4 +1,4 @@
-use Rattle.jsonc_edit.proofs.lemmas.commas.Apart.{leaves_others, leaves_others_in_part}
+use Rattle.jsonc_edit.proofs.lemmas.commas.DetachedContainers.{leaves_others, leaves_others_in_part}
 use Rattle.jsonc_edit.proofs.lemmas.commas.Documents.{keeps_document, keeps_in_part}
 use Rattle.jsonc_edit.proofs.commas.laws.documents_say_the_same.Goals as goal
 

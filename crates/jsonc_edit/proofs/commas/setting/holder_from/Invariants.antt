@@ -6,7 +6,7 @@ use Rattle.jsonc_edit.proofs.commas.setting.holder_from.Given as goal
 
 abbrev pub invariant-loop-next : goal.invariant-loop-next
 invariant-loop-next g l = record {
-  there : IfSome l.next (λ n. n < length l.tree.nodes);
+  in_tree : IfSome l.next (λ n. n < length l.tree.nodes);
   over : IfSome l.next (IsOver l.tree.nodes l.end);
   inside : IfSome l.next (IsOpen l.tree.nodes l.end);
   come : to_come l.tree.nodes l.end l.fn.from ≡ to_come l.tree.nodes l.end l.next;

@@ -1,5 +1,5 @@
 use Rattle.std.proofs.Common.{◌∙◌, sym}
-use Rattle.jsonc_edit.proofs.lemmas.commas.Walk.{gone_by, less_inside, less_past, passed_by}
+use Rattle.jsonc_edit.proofs.lemmas.commas.ReachedContainers.{gone_by, less_inside, less_past, passed_by}
 use Rattle.jsonc_edit.proofs.commas.setting.next_from.Goals as goal
 
 pub next_inside-requires-clause-reached : goal.next_inside-requires-clause-reached
@@ -19,4 +19,4 @@ returns-clause-come g c =
 
 pub returns-clause-less : goal.returns-clause-less
 returns-clause-less g c =
-    less_past c.args.tree.now.nodes c.args.tree.now.tree c.args.end c.args.node c.next_past.result c.requires.there c.next_past.ensures.next
+    less_past c.args.tree.now.nodes c.args.tree.now.tree c.args.end c.args.node c.next_past.result c.requires.in_tree c.next_past.ensures.next

@@ -9,7 +9,7 @@ abbrev pub invariant-loop-at : goal.invariant-loop-at
 invariant-loop-at g l =
     let ns = l.tree.nodes in
     record {
-      there : l.at < length ns;
+      in_tree : l.at < length ns;
       over : IsOver ns l.end l.at;
       inside : IsOpen ns l.end l.at;
       same : following ns l.end l.node ≡ following ns l.end l.at;

@@ -1,7 +1,7 @@
 use Rattle.std.proofs.Common.{◌∙◌, ap}
 use Rattle.jsonc_tree.specs.Tree.{IsOver}
-use Rattle.jsonc_edit.proofs.lemmas.commas.Anyway.{due_where_refused, sets_anyway}
-use Rattle.jsonc_edit.proofs.lemmas.commas.Apart.{leaves_others, leaves_others_in_part}
+use Rattle.jsonc_edit.proofs.lemmas.commas.UnsoundDocuments.{due_where_refused, sets_anyway}
+use Rattle.jsonc_edit.proofs.lemmas.commas.DetachedContainers.{leaves_others, leaves_others_in_part}
 use Rattle.jsonc_edit.specs.commas.InTurn.{to_come}
 use Rattle.jsonc_edit.proofs.lemmas.commas.InTurn.{all_set, all_to_come, fewer, goes_on, met_still, none_set, over_still, refused_here, where_refused}
 use Rattle.jsonc_edit.proofs.commas.setting.set_trailing_commas.Goals as goal
@@ -14,7 +14,7 @@ loop-next-init g c =
     let n = c.holder_from-next.ensures in
     record {
       tree = c.args.tree.now.tree;
-      there = n.there;
+      in_tree = n.in_tree;
       over = n.over;
       met = n.met;
       set = none_set c.args.mode c.args.tree.now.nodes c.args.container c.holder_from-next.result (all_to_come c.args.tree.now.nodes c.args.tree.now.tree c.args.container c.requires ∙ n.come);
@@ -29,7 +29,7 @@ pub returns-in_err-set_comma-clause-due : goal.returns-in_err-set_comma-clause-d
 returns-in_err-set_comma-clause-due g c =
     let kept = c.in_err-set_comma.ensures in
     where_refused c.from_residual.result
-    (due_where_refused c.args.mode c.args.tree.now.nodes c.set_comma.new.tree.nodes c.args.container c.args.tree.now.tree kept.wanted
+    (due_where_refused c.args.mode c.args.tree.now.nodes c.set_comma.new.tree.nodes c.args.container c.args.tree.now.tree kept.oom_only_if
     (refused_here c.args.mode c.args.tree.now.nodes c.loop-next.tree.nodes c.args.container c.loop-next.next c.loop-next.invariant c.in-Some.node c.in-Some.is c.set_comma.new.tree.nodes kept.kept kept.missing))
 
 pub returns-in_err-set_comma-clause-apart : goal.returns-in_err-set_comma-clause-apart
@@ -56,7 +56,7 @@ loop-next-preserved g c =
     let n = c.next_holder-next.ensures in
     record {
       tree = c.set_comma.new.tree.tree;
-      there = n.there;
+      in_tree = n.in_tree;
       over = n.over;
       met = n.met;
       set = goes_on c.args.mode c.args.tree.now.nodes c.loop-next.tree.nodes c.args.container c.loop-next.next c.loop-next.invariant c.in-Some.node c.in-Some.is c.set_comma.new.tree.nodes c.set_comma.new.tree.tree c.in_ok-set_comma.ensures.set

@@ -1,6 +1,6 @@
 use Rattle.std.proofs.Common.{arith, rules}
 use Rattle.jsonc_layout.specs.nodes.Kinds.{is_whitespace_at}
-use Rattle.jsonc_edit.proofs.lemmas.multiline.Weaving.{back_count}
+use Rattle.jsonc_edit.proofs.lemmas.multiline.RowByNode.{back_count}
 use Rattle.jsonc_edit.proofs.multiline.plan.blanks_from.Goals as goal
 
 pub returns-then-not-is_whitespace-clause-from : goal.returns-then-not-is_whitespace-clause-from

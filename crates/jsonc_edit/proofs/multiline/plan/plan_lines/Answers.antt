@@ -2,9 +2,9 @@ use Rattle.std.proofs.Common.{List, true, length, refl, sym, ap, subst, ◌∙�
 use Rattle.jsonc_tree.specs.Building.{Keeps}
 use Rattle.jsonc_tree.specs.Tree.{Node, children_at}
 use Rattle.jsonc_tree.proofs.Builder.{Keeps-then, Keeps-fewer}
-use Rattle.jsonc_edit.specs.Put.{Prepared}
+use Rattle.jsonc_edit.specs.Put.{Extends}
 use Rattle.jsonc_edit.specs.multiline.LineViews.{lines_of}
-use Rattle.jsonc_edit.proofs.lemmas.multiline.Whole.{SoFar, items_are, item_there, so_far_more, so_far_none, row_planned, two_there}
+use Rattle.jsonc_edit.proofs.lemmas.multiline.WholeRow.{SoFar, items_are, item_there, so_far_more, so_far_none, row_planned, two_there}
 use Rattle.jsonc_edit.proofs.multiline.plan.plan_lines.Goals as goal
 
 pub push_child-requires : goal.push_child-requires
@@ -13,7 +13,7 @@ push_child-requires g c = item_there c.args.tree.now.nodes c.loop-child.tree.nod
 pub loop-child-init : goal.loop-child-init
 loop-child-init g c =
     subst (SoFar c.args.tree.now.nodes c.args.tree.now.nodes c.args.container (lines_of c.args.lines.now) _ 0 true) (sym c.new-row.ensures.items)
-    (so_far_none c.args.tree.now.nodes c.args.container (lines_of c.args.lines.now) _ c.args.tree.now.tree c.requires.there (two_there c.args.tree.now.nodes c.args.container c.requires.brackets)
+    (so_far_none c.args.tree.now.nodes c.args.container (lines_of c.args.lines.now) _ c.args.tree.now.tree c.requires.in_tree (two_there c.args.tree.now.nodes c.args.container c.requires.brackets)
     (items_are c.args.tree.now.nodes (children_at c.args.tree.now.nodes c.args.container) c.deref.result.now c.len.result c.blanks_from-end.result (c.deref.ensures.value ∙ c.in_ok-children.ensures.children)
     (c.len.ensures ∙ c.in_ok-children.children.ok.0 ∙ ap length c.in_ok-children.ensures.children) c.blanks_from-end.ensures.from))
 
@@ -27,7 +27,7 @@ returns-clause-planned g c =
     row_planned c.args.tree.now.nodes c.loop-child.tree.nodes c.args.container (lines_of c.args.lines.now) _ c.loop-child.child-index c.loop-child.begins c.loop-child.row.items c.loop-child.invariant c.loop-child-test.false c.push_last_line.new.tree.nodes c.push_last_line.new.row.items c.in_ok-push_last_line.ensures.gains
 
 -- what was kept through the loop is kept by what comes behind it
-prepared_then : (old now later : List Node) → Keeps (length old) old now → Prepared now later → Prepared old later
+prepared_then : (old now later : List Node) → Keeps (length old) old now → Extends now later → Extends old later
 prepared_then old now later keeps p = record {
   keeps = Keeps-then (length old) old now later keeps (Keeps-fewer (length old) (length now) now later keeps.len p.keeps);
   tree = p.tree;

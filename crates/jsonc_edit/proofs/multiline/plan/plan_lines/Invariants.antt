@@ -1,5 +1,5 @@
 use Rattle.jsonc_edit.specs.multiline.LineViews.{lines_of}
-use Rattle.jsonc_edit.proofs.lemmas.multiline.Whole.{SoFar}
+use Rattle.jsonc_edit.proofs.lemmas.multiline.WholeRow.{SoFar}
 use Rattle.jsonc_edit.proofs.multiline.plan.plan_lines.Given as goal
 
 abbrev pub invariant-loop-child : goal.invariant-loop-child

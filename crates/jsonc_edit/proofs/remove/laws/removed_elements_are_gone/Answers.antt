@@ -1,5 +1,5 @@
-use Rattle.jsonc_edit.proofs.lemmas.remove.Lost.{removes_entry}
-use Rattle.jsonc_edit.proofs.lemmas.remove.LostValue.{removes_value}
+use Rattle.jsonc_edit.proofs.lemmas.remove.RemovedElement.{removes_entry}
+use Rattle.jsonc_edit.proofs.lemmas.remove.RemovedValue.{removes_value}
 use Rattle.jsonc_edit.proofs.remove.laws.removed_elements_are_gone.Goals as goal
 
 pub returns-clause-entry : goal.returns-clause-entry

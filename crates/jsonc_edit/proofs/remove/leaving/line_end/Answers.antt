@@ -1,5 +1,5 @@
 use Rattle.std.proofs.Common.{sym, ◌∙◌}
-use Rattle.jsonc_edit.proofs.lemmas.remove.Walking.{after_fewer, line_goes_on, line_newline, line_over, line_stops, next_there}
+use Rattle.jsonc_edit.proofs.lemmas.remove.SiblingSteps.{after_fewer, line_goes_on, line_newline, line_over, line_stops, next_there}
 use Rattle.jsonc_edit.proofs.remove.leaving.line_end.Goals as goal
 
 pub trails_line-requires : goal.trails_line-requires
@@ -24,7 +24,7 @@ loop-next-preserved g c = record {
       c.loop-next.invariant.same
       ∙ line_goes_on c.args.tree.now.nodes c.args.tree.now.tree c.loop-next.last c.in-Some.next (sym c.next_sibling.ensures ∙ c.in-Some.is) (sym c.is_newline.ensures.newline ∙ c.if-is_newline.false)
       (sym c.trails_line.ensures ∙ c.if-not-trails_line.false);
-  there = next_there c.args.tree.now.nodes c.args.tree.now.tree c.loop-next.last c.in-Some.next (sym c.next_sibling.ensures ∙ c.in-Some.is);
+  in_tree = next_there c.args.tree.now.nodes c.args.tree.now.tree c.loop-next.last c.in-Some.next (sym c.next_sibling.ensures ∙ c.in-Some.is);
 }
 
 pub returns-clause-end : goal.returns-clause-end

@@ -6,7 +6,7 @@ use Rattle.jsonc_edit.proofs.remove.leaving.line_end.Given as goal
 abbrev pub invariant-loop-next : goal.invariant-loop-next
 invariant-loop-next g l = record {
   same : line_end l.tree.nodes l.node (siblings_after l.tree.nodes l.node) ≡ line_end l.tree.nodes l.last (siblings_after l.tree.nodes l.last);
-  there : l.last < length l.tree.nodes;
+  in_tree : l.last < length l.tree.nodes;
 }
 
 abbrev pub decreases-loop-next : goal.decreases-loop-next

@@ -1,5 +1,5 @@
 use Rattle.std.proofs.Common.{sym, ◌∙◌}
-use Rattle.jsonc_layout.proofs.lemmas.nodes.There.{rest_there}
+use Rattle.jsonc_layout.proofs.lemmas.nodes.InTree.{rest_there}
 use Rattle.jsonc_edit.proofs.lemmas.remove.Blanks.{comes_here, comes_on, comes_stops}
 use Rattle.jsonc_edit.proofs.remove.removing.comes_to.Goals as goal
 

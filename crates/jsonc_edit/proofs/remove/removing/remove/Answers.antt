@@ -1,8 +1,8 @@
 use Rattle.std.proofs.Common.{sym, ◌∙◌}
 use Rattle.jsonc_tree.proofs.Order.{parent_there}
-use Rattle.jsonc_edit.proofs.GivingWay.{where_refused}
-use Rattle.jsonc_edit.proofs.Kept.{tree_stays}
-use Rattle.jsonc_edit.proofs.lemmas.remove.Taking.{comma_stays, from_stays, space_children, stays_away, still_holds, still_in_order, to_stays}
+use Rattle.jsonc_edit.proofs.ReplacedChildren.{where_refused}
+use Rattle.jsonc_edit.proofs.NodesKept.{tree_stays}
+use Rattle.jsonc_edit.proofs.lemmas.remove.TakenElement.{comma_stays, from_stays, space_children, stays_away, still_holds, still_in_order, to_stays}
 use Rattle.jsonc_edit.proofs.remove.removing.remove.Goals as goal
 
 pub kind-requires : goal.kind-requires
@@ -15,7 +15,7 @@ returns-in_err-spaces-clause-document g c =
 pub put_spaces-requires-clause-children : goal.put_spaces-requires-clause-children
 put_spaces-requires-clause-children g c =
     space_children c.args.tree.now.nodes c.make_spaces.new.tree.nodes c.args.tree.now.tree c.make_spaces.ensures.prepared c.args.node c.in-Some.container (sym c.parent.ensures ∙ c.in-Some.is) c.first_gone-first.result c.last_gone-last.result c.comma_in-comma.result
-    c.first_gone-first.ensures.first c.last_gone-last.ensures.last c.comma_in-comma.ensures.comma c.due_at_comma-before.result c.due_behind_gap-behind.result c.due_at_comma-before.ensures.due c.due_behind_gap-behind.ensures.due c.in_ok-spaces.spaces
+    c.first_gone-first.ensures.first c.last_gone-last.ensures.last c.comma_in-comma.ensures.comma c.space_needed_at_comma-before.result c.space_needed_after_gap-behind.result c.space_needed_at_comma-before.ensures.due c.space_needed_after_gap-behind.ensures.due c.in_ok-spaces.spaces
     c.in_ok-spaces.ensures.hand.are
 
 pub take_stretch-requires-clause-first : goal.take_stretch-requires-clause-first

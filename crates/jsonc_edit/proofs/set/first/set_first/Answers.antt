@@ -1,8 +1,8 @@
 use Rattle.std.proofs.Common.{refl}
 use Rattle.jsonc_layout.specs.input.Views.{plain}
 use Rattle.jsonc_layout.specs.from_input.Layout.{layout_of}
-use Rattle.jsonc_edit.proofs.GivingWay.{where_refused}
-use Rattle.jsonc_edit.proofs.lemmas.set.Making.{still_kept, with_room, document_kept, can_join, nodes_stay, first_value}
+use Rattle.jsonc_edit.proofs.ReplacedChildren.{where_refused}
+use Rattle.jsonc_edit.proofs.lemmas.set.FirstValueMade.{still_kept, with_room, document_kept, can_join, nodes_stay, first_value}
 use Rattle.jsonc_edit.proofs.set.first.set_first.Goals as goal
 
 pub returns-in_err-before-clause-document : goal.returns-in_err-before-clause-document

@@ -1,5 +1,5 @@
-use Rattle.jsonc_edit.proofs.lemmas.set.Coming.{comes_among_rows}
-use Rattle.jsonc_edit.proofs.lemmas.set.Gaining.{gives_first_value}
+use Rattle.jsonc_edit.proofs.lemmas.set.FirstValueRows.{comes_among_rows}
+use Rattle.jsonc_edit.proofs.lemmas.set.FirstValueSet.{gives_first_value}
 use Rattle.jsonc_edit.proofs.set.laws.documents_have_their_first_value.Goals as goal
 
 pub returns-clause-rows : goal.returns-clause-rows

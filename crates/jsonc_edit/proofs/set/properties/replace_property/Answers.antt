@@ -2,8 +2,8 @@ use Rattle.std.proofs.Common.{sym, chars, ◌∙◌}
 use Rattle.jsonc_tree.proofs.Order.{parent_there}
 use Rattle.jsonc_layout.specs.input.Views.{plain}
 use Rattle.jsonc_layout.specs.from_input.Layout.{layout_of}
-use Rattle.jsonc_edit.proofs.GivingWay.{where_refused}
-use Rattle.jsonc_edit.proofs.Kept.{tree_stays}
+use Rattle.jsonc_edit.proofs.ReplacedChildren.{where_refused}
+use Rattle.jsonc_edit.proofs.NodesKept.{tree_stays}
 use Rattle.jsonc_edit.proofs.Refusals.{tree_stays_twice}
 use Rattle.jsonc_edit.proofs.lemmas.set.PropertyGiving.{given_children, given_child, given_join, is_replaced}
 use Rattle.jsonc_edit.proofs.set.properties.replace_property.Goals as goal

@@ -1,6 +1,6 @@
 use Rattle.jsonc_layout.specs.input.Views.{plain}
 use Rattle.jsonc_edit.specs.Written.{Writes}
-use Rattle.jsonc_edit.proofs.lemmas.set.Making.{some_holds}
+use Rattle.jsonc_edit.proofs.lemmas.set.FirstValueMade.{some_holds}
 use Rattle.jsonc_edit.proofs.set.root.replace_child.Goals as goal
 
 pub returns-clause-written : goal.returns-clause-written

@@ -15,8 +15,8 @@ returns-in_default-clause-value g c =
 pub returns-in_default-clause-named : goal.returns-in_default-clause-named
 returns-in_default-clause-named g c = on_ok _ c.set_property_value.result (sym c.lacks_name.ensures.lacks ∙ c.if-lacks_name.false)
 
-pub returns-in_default-clause-told : goal.returns-in_default-clause-told
-returns-in_default-clause-told g c =
+pub returns-in_default-clause-error : goal.returns-in_default-clause-error
+returns-in_default-clause-error g c =
     unset (is_of c.args.shape) c.args.tree.now.nodes c.args.property c.set_property_value.result c.set_property_value.ensures.memory
     (lacks_none (is_of c.args.shape) c.args.tree.now.nodes (value_at c.args.tree.now.nodes c.args.property) (sym c.value_of.ensures.value ∙ none_found c.value_of.result c.in_default.not-Some))
 
@@ -32,8 +32,8 @@ returns-clause-value g c =
 pub returns-clause-named : goal.returns-clause-named
 returns-clause-named g c = on_ok _ c.set_property_value-2.result (sym c.lacks_name.ensures.lacks ∙ c.if-lacks_name.false)
 
-pub returns-clause-told : goal.returns-clause-told
-returns-clause-told g c =
+pub returns-clause-error : goal.returns-clause-error
+returns-clause-error g c =
     unset (is_of c.args.shape) c.args.tree.now.nodes c.args.property c.set_property_value-2.result c.set_property_value-2.ensures.memory
     (lacks_other (is_of c.args.shape) c.args.tree.now.nodes (value_at c.args.tree.now.nodes c.args.property) c.in-Some.node (sym c.value_of.ensures.value ∙ c.in-Some.is) (ap (is_of c.args.shape) (sym c.kind.ensures) ∙ sym c.has_shape.ensures ∙ c.if-has_shape.false))
 

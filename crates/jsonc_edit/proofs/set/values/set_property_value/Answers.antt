@@ -3,7 +3,7 @@ use Rattle.jsonc_layout.specs.input.Views.{plain}
 use Rattle.jsonc_tree.specs.Tree.{parent_at}
 use Rattle.jsonc_layout.specs.nodes.Properties.{value_at}
 use Rattle.jsonc_edit.specs.Written.{Writes}
-use Rattle.jsonc_edit.proofs.lemmas.set.Making.{has_parent, holds_of_found}
+use Rattle.jsonc_edit.proofs.lemmas.set.FirstValueMade.{has_parent, holds_of_found}
 use Rattle.jsonc_edit.proofs.lemmas.set.PropertyValue.{held_child}
 use Rattle.jsonc_edit.proofs.set.values.set_property_value.Goals as goal
 

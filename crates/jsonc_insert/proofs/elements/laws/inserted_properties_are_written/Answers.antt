@@ -1,4 +1,4 @@
-use Rattle.jsonc_insert.proofs.lemmas.elements.Named.{inserts_member, keeps_around, keeps_within}
+use Rattle.jsonc_insert.proofs.lemmas.elements.NamedProperties.{inserts_member, keeps_around, keeps_within}
 use Rattle.jsonc_insert.proofs.elements.laws.inserted_properties_are_written.Goals as goal
 
 pub returns-clause-document : goal.returns-clause-document

@@ -1,4 +1,4 @@
-use Rattle.jsonc_insert.proofs.lemmas.members.Past.{past_the_end}
+use Rattle.jsonc_insert.proofs.lemmas.members.PastTheEnd.{past_the_end}
 use Rattle.jsonc_insert.proofs.members.laws.numbers_past_the_end_append.Goals as goal
 
 pub returns : goal.returns

@@ -1,5 +1,5 @@
-use Rattle.jsonc_insert.proofs.lemmas.members.Fits.{fits_as_told}
-use Rattle.jsonc_insert.proofs.lemmas.members.Spreading.{spreads_first, wants_memory_alone}
+use Rattle.jsonc_insert.proofs.lemmas.members.FittingLayout.{fits_as_told}
+use Rattle.jsonc_insert.proofs.lemmas.members.SpreadObjects.{spreads_first, wants_memory_alone}
 use Rattle.jsonc_insert.proofs.members.laws.objects_are_spread_first.Goals as goal
 
 pub returns-clause-spread : goal.returns-clause-spread

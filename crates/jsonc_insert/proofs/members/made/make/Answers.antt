@@ -2,7 +2,7 @@ use Rattle.std.proofs.Common.{chars, subst}
 use Rattle.jsonc_layout.specs.input.Views.{plain}
 use Rattle.jsonc_layout.specs.from_input.Layout.{layout_of}
 use Rattle.jsonc_insert.specs.Made.{comma_leaf, LeavesMade}
-use Rattle.jsonc_insert.proofs.lemmas.members.Making.{property_made}
+use Rattle.jsonc_insert.proofs.lemmas.members.MadeProperties.{property_made}
 use Rattle.jsonc_insert.proofs.members.made.make.Goals as goal
 
 pub returns-clause-made : goal.returns-clause-made

@@ -1,19 +1,19 @@
 use Rattle.std.proofs.Common.{chars, sym, ap, subst, ◌∙◌, ◌<◌, All, length}
 use Rattle.jsonc_tree.specs.Content.{is_container}
 use Rattle.jsonc_layout.specs.input.Views.{plain}
-use Rattle.jsonc_edit.proofs.GivingWay.{where_refused}
-use Rattle.jsonc_edit.proofs.Kept.{tree_stays}
+use Rattle.jsonc_edit.proofs.ReplacedChildren.{where_refused}
+use Rattle.jsonc_edit.proofs.NodesKept.{tree_stays}
 use Rattle.jsonc_insert.specs.Planned.{has_brackets}
 use Rattle.jsonc_insert.specs.members.Inserted.{RowMade}
-use Rattle.jsonc_insert.proofs.lemmas.members.Joining.{before_brackets, before_there, can_join, kept_twice, kept_with_room, put_so, within}
+use Rattle.jsonc_insert.proofs.lemmas.members.RowReplaced.{before_brackets, before_there, can_join, kept_twice, kept_with_room, put_so, within}
 use Rattle.jsonc_insert.proofs.members.members.insert_property.Goals as goal
 
 pub returns-in_err-before-clause-document : goal.returns-in_err-before-clause-document
 returns-in_err-before-clause-document g c =
     where_refused c.from_residual.result (tree_stays c.args.tree.now.nodes c.row_before.new.tree.nodes c.args.tree.now.tree c.row_before.ensures.prepared.keeps c.row_before.ensures.prepared.tree)
 
-pub make_row-requires-clause-there : goal.make_row-requires-clause-there
-make_row-requires-clause-there g c =
+pub make_row-requires-clause-in_tree : goal.make_row-requires-clause-in_tree
+make_row-requires-clause-in_tree g c =
     let lined = c.row_before.new.tree.nodes in
     subst (All (λ m. m < length lined)) (sym c.deref.ensures.value) (before_there c.args.tree.now.nodes lined c.args.tree.now.tree c.args.object c.in_ok-before.before.items c.in_ok-before.ensures.is)
 
@@ -49,25 +49,25 @@ returns-in_err-reserve-clause-document g c =
 pub splice-requires-clause-container : goal.splice-requires-clause-container
 splice-requires-clause-container g c =
     let kept = kept_with_room c.args.tree.now.nodes c.row_before.new.tree.nodes c.make_row.new.tree.nodes c.reserve.new.self.nodes c.row_before.ensures.prepared c.make_row.ensures.prepared c.reserve.ensures.kept in
-    ap is_container (kept.content c.args.object c.requires.there ∙ c.requires.object)
+    ap is_container (kept.content c.args.object c.requires.in_tree ∙ c.requires.object)
 
 pub splice-requires-clause-within : goal.splice-requires-clause-within
 splice-requires-clause-within g c =
-    within c.args.tree.now.nodes c.row_before.new.tree.nodes c.make_row.new.tree.nodes c.reserve.new.self.nodes c.args.tree.now.tree c.args.object c.requires.there c.in_ok-before.before.items c.in_ok-before.ensures.is c.make_row.ensures.prepared c.reserve.ensures.kept c.reserve.new.self.tree
+    within c.args.tree.now.nodes c.row_before.new.tree.nodes c.make_row.new.tree.nodes c.reserve.new.self.nodes c.args.tree.now.tree c.args.object c.requires.in_tree c.in_ok-before.before.items c.in_ok-before.ensures.is c.make_row.ensures.prepared c.reserve.ensures.kept c.reserve.new.self.tree
     c.args.index (chars c.args.name.now) (plain c.args.value.now) c.in_ok-made.made.property c.in_ok-made.made.row.items
     (subst (λ l. RowMade c.row_before.new.tree.nodes c.make_row.new.tree.nodes c.args.object l c.args.index (chars c.args.name.now) (plain c.args.value.now) c.in_ok-made.made.property c.in_ok-made.made.row.items) c.deref.ensures.value c.in_ok-made.ensures.made)
     c.child_count-count.result c.child_count-count.ensures c.deref-2.result.now c.deref-2.ensures.value
 
 pub splice-requires-clause-join : goal.splice-requires-clause-join
 splice-requires-clause-join g c =
-    can_join c.args.tree.now.nodes c.row_before.new.tree.nodes c.make_row.new.tree.nodes c.reserve.new.self.nodes c.args.tree.now.tree c.args.object c.requires.there c.in_ok-before.before.items c.in_ok-before.ensures.is c.make_row.ensures.prepared c.reserve.ensures.kept c.reserve.new.self.tree
+    can_join c.args.tree.now.nodes c.row_before.new.tree.nodes c.make_row.new.tree.nodes c.reserve.new.self.nodes c.args.tree.now.tree c.args.object c.requires.in_tree c.in_ok-before.before.items c.in_ok-before.ensures.is c.make_row.ensures.prepared c.reserve.ensures.kept c.reserve.new.self.tree
     c.args.index (chars c.args.name.now) (plain c.args.value.now) c.in_ok-made.made.property c.in_ok-made.made.row.items
     (subst (λ l. RowMade c.row_before.new.tree.nodes c.make_row.new.tree.nodes c.args.object l c.args.index (chars c.args.name.now) (plain c.args.value.now) c.in_ok-made.made.property c.in_ok-made.made.row.items) c.deref.ensures.value c.in_ok-made.ensures.made)
     c.child_count-count.result c.child_count-count.ensures c.deref-2.result.now c.deref-2.ensures.value
 
 pub returns-clause-put : goal.returns-clause-put
 returns-clause-put g c =
-    put_so c.args.tree.now.nodes c.row_before.new.tree.nodes c.make_row.new.tree.nodes c.reserve.new.self.nodes c.args.tree.now.tree c.args.object c.requires.there c.in_ok-before.before.items c.in_ok-before.ensures.is c.make_row.ensures.prepared c.reserve.ensures.kept c.reserve.new.self.tree
+    put_so c.args.tree.now.nodes c.row_before.new.tree.nodes c.make_row.new.tree.nodes c.reserve.new.self.nodes c.args.tree.now.tree c.args.object c.requires.in_tree c.in_ok-before.before.items c.in_ok-before.ensures.is c.make_row.ensures.prepared c.reserve.ensures.kept c.reserve.new.self.tree
     c.args.index (chars c.args.name.now) (plain c.args.value.now) c.in_ok-made.made.property c.in_ok-made.made.row.items
     (subst (λ l. RowMade c.row_before.new.tree.nodes c.make_row.new.tree.nodes c.args.object l c.args.index (chars c.args.name.now) (plain c.args.value.now) c.in_ok-made.made.property c.in_ok-made.made.row.items) c.deref.ensures.value c.in_ok-made.ensures.made)
     c.child_count-count.result c.child_count-count.ensures c.deref-2.result.now c.deref-2.ensures.value

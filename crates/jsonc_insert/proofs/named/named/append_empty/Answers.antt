@@ -12,7 +12,7 @@ value_of-requires g c =
     let new = c.insert_property.new.tree.nodes in
     let count = c.child_count-count.result in
     let put = subst (λ (v : Plain). PropertyPut old new c.args.object count (chars c.args.name.now) v c.in-Ok.property) c.empty_value-empty.ensures c.in-Ok.ensures.put in
-    property_there old new c.args.object count (chars c.args.name.now) c.args.shape c.in-Ok.property c.args.tree.now.tree c.requires.there c.in-Ok.ensures.brackets put
+    property_there old new c.args.object count (chars c.args.name.now) c.args.shape c.in-Ok.property c.args.tree.now.tree c.requires.in_tree c.in-Ok.ensures.brackets put
 
 pub unreachable-requires : goal.unreachable-requires
 unreachable-requires g c =
@@ -20,7 +20,7 @@ unreachable-requires g c =
     let new = c.insert_property.new.tree.nodes in
     let count = c.child_count-count.result in
     let put = subst (λ (v : Plain). PropertyPut old new c.args.object count (chars c.args.name.now) v c.in-Ok.property) c.empty_value-empty.ensures c.in-Ok.ensures.put in
-    let holds = holds_empty old new c.args.object count (chars c.args.name.now) c.args.shape c.in-Ok.property c.args.tree.now.tree c.requires.there c.in-Ok.ensures.brackets put in
+    let holds = holds_empty old new c.args.object count (chars c.args.name.now) c.args.shape c.in-Ok.property c.args.tree.now.tree c.requires.in_tree c.in-Ok.ensures.brackets put in
     c.in_default.not-Some holds.value (c.value_of.ensures.value ∙ holds.holds)
 
 pub returns-clause-comes : goal.returns-clause-comes
@@ -31,7 +31,7 @@ returns-clause-comes g c =
     let put = subst (λ (v : Plain). PropertyPut old new c.args.object count (chars c.args.name.now) v c.in-Ok.property) c.empty_value-empty.ensures c.in-Ok.ensures.put in
     record {
       property = c.in-Ok.property;
-      put = put_last old new c.args.object count (chars c.args.name.now) c.args.shape c.in-Ok.property c.args.tree.now.tree c.requires.there c.in-Ok.ensures.brackets put c.child_count-count.ensures;
+      put = put_last old new c.args.object count (chars c.args.name.now) c.args.shape c.in-Ok.property c.args.tree.now.tree c.requires.in_tree c.in-Ok.ensures.brackets put c.child_count-count.ensures;
       holds = sym c.value_of.ensures.value ∙ c.in-Some.is;
     }
 
@@ -41,6 +41,6 @@ returns-clause-shape g c =
     let new = c.insert_property.new.tree.nodes in
     let count = c.child_count-count.result in
     let put = subst (λ (v : Plain). PropertyPut old new c.args.object count (chars c.args.name.now) v c.in-Ok.property) c.empty_value-empty.ensures c.in-Ok.ensures.put in
-    let holds = holds_empty old new c.args.object count (chars c.args.name.now) c.args.shape c.in-Ok.property c.args.tree.now.tree c.requires.there c.in-Ok.ensures.brackets put in
+    let holds = holds_empty old new c.args.object count (chars c.args.name.now) c.args.shape c.in-Ok.property c.args.tree.now.tree c.requires.in_tree c.in-Ok.ensures.brackets put in
     let same : holds.value ≡ c.in-Some.value = some_same holds.value c.in-Some.value (sym holds.holds ∙ sym c.value_of.ensures.value ∙ c.in-Some.is) in
     subst (λ (m : ℕ). is_of c.args.shape (content_at new m) ≡ true) same holds.shaped

@@ -1,4 +1,4 @@
-use Rattle.jsonc_insert.proofs.lemmas.properties.Coming.{properties_are_written, properties_come_at, stands_in_place}
+use Rattle.jsonc_insert.proofs.lemmas.properties.InsertedRows.{properties_are_written, properties_come_at, stands_in_place}
 use Rattle.jsonc_insert.proofs.properties.laws.properties_come_into_documents.Goals as goal
 
 pub returns-clause-row : goal.returns-clause-row

@@ -11,7 +11,7 @@ use Rattle.jsonc_layout.specs.from_input.Laid.{laid, laid_items, laid_members, l
 use Rattle.jsonc_layout.proofs.lemmas.from_input.Extending.{on_ok, begun_same, built_on, can_append, extends_appends, extends_none, extends_same, extends_then, keeps_both, keeps_old}
 use Rattle.jsonc_layout.proofs.lemmas.from_input.Leaves.{leaf_built, built_as}
 use Rattle.jsonc_layout.proofs.lemmas.from_input.Rows.{lines_at, line_at, properties_at, lines_none, line_none, properties_past, line_written, among_written, written_start, written_end, pair_laid, elements_then, properties_then, elements_spread, properties_spread, properties_none}
-use Rattle.jsonc_layout.proofs.lemmas.from_input.Views.{plain-Array, plain-Object, plain-Null, plain-Bool, length_none, length_some, part_smaller}
+use Rattle.jsonc_layout.proofs.lemmas.from_input.ValueLevels.{plain-Array, plain-Object, plain-Null, plain-Bool, length_none, length_some, part_smaller}
 use Rattle.jsonc_layout.proofs.from_input.values.+lay_out.Goals as goal
 
 pub lay_out-returns-in-Null-clause-built : goal.lay_out-returns-in-Null-clause-built

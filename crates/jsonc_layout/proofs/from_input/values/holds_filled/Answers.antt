@@ -1,4 +1,4 @@
-use Rattle.jsonc_layout.proofs.lemmas.from_input.Views.{holds_found, holds_passed, holds_end}
+use Rattle.jsonc_layout.proofs.lemmas.from_input.ValueLevels.{holds_found, holds_passed, holds_end}
 use Rattle.jsonc_layout.proofs.from_input.values.holds_filled.Goals as goal
 
 pub returns-then-is_filled : goal.returns-then-is_filled

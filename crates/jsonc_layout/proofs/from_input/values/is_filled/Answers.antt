@@ -1,4 +1,4 @@
-use Rattle.jsonc_layout.proofs.lemmas.from_input.Views.{filled_Array, filled_Object}
+use Rattle.jsonc_layout.proofs.lemmas.from_input.ValueLevels.{filled_Array, filled_Object}
 use Rattle.jsonc_layout.proofs.from_input.values.is_filled.Goals as goal
 
 pub returns-in-Array : goal.returns-in-Array

@@ -1,7 +1,7 @@
 use Rattle.std.proofs.Common.{arith, chars, ◌∙◌, sym, ap, map}
 use Rattle.jsonc_text.specs.Plain.{object}
 use Rattle.jsonc_layout.specs.input.Views.{plain, named}
-use Rattle.jsonc_layout.proofs.lemmas.input.Views.{plain-Object, same_members, part_smaller, one_copied, all_copied}
+use Rattle.jsonc_layout.proofs.lemmas.input.ValueLevels.{plain-Object, same_members, part_smaller, one_copied, all_copied}
 use Rattle.jsonc_layout.proofs.input.value.+copy.Goals as goal
 
 pub CstInputValue::try_clone-returns-in_ok-copy_properties-in-Object :

@@ -16,7 +16,7 @@ returns-then-is_empty-clause-first g c =
     ∙ ap (find (is_sought ns c.args.changed c.args.row.now c.args.sought)) (levels_none (length ns - c.loop-depth._depth) ns))
 
 pub first_in-requires : goal.first_in-requires
-first_in-requires g c = record { there = subst (λ (level : List ℕ). All (λ m. m < length c.args.tree.now.nodes) level) (sym c.deref.ensures.value) c.loop-depth.invariant.there }
+first_in-requires g c = record { in_tree = subst (λ (level : List ℕ). All (λ m. m < length c.args.tree.now.nodes) level) (sym c.deref.ensures.value) c.loop-depth.invariant.in_tree }
 
 pub returns-in-Some-clause-first : goal.returns-in-Some-clause-first
 returns-in-Some-clause-first g c =
@@ -26,7 +26,7 @@ returns-in-Some-clause-first g c =
     sym (c.loop-depth.invariant.same ∙ found_here p ns (length ns) c.loop-depth._depth c.loop-depth.level.items (omega arith) c.in-Some.node here)
 
 pub level_below-requires : goal.level_below-requires
-level_below-requires g c = record { there = subst (λ (level : List ℕ). All (λ m. m < length c.args.tree.now.nodes) level) (sym c.deref-in-loop-depth.ensures.value) c.loop-depth.invariant.there }
+level_below-requires g c = record { in_tree = subst (λ (level : List ℕ). All (λ m. m < length c.args.tree.now.nodes) level) (sym c.deref-in-loop-depth.ensures.value) c.loop-depth.invariant.in_tree }
 
 pub loop-depth-preserved : goal.loop-depth-preserved
 loop-depth-preserved g c =
@@ -36,7 +36,7 @@ loop-depth-preserved g c =
     let below : c.in_ok-level-2.level.items ≡ flat_map (children_at ns) level = c.in_ok-level-2.ensures.below ∙ ap (flat_map (children_at ns)) c.deref-in-loop-depth.ensures.value in
     let none : find p level ≡ None = ap (find p) (sym c.deref.ensures.value) ∙ sym c.in_default.ensures.first in
     record {
-      there = subst (λ (xs : List ℕ). All (λ m. m < length ns) xs) (sym below) (all_below ns c.args.tree.now.tree level);
+      in_tree = subst (λ (xs : List ℕ). All (λ m. m < length ns) xs) (sym below) (all_below ns c.args.tree.now.tree level);
       same = c.loop-depth.invariant.same ∙ found_below p ns (length ns) c.loop-depth._depth level (omega arith) none
           ∙ ap (λ xs. find p (levels (length ns - (c.loop-depth._depth + 1)) ns xs)) (sym below);
     }

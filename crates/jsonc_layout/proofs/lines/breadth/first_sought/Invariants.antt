@@ -7,6 +7,6 @@ abbrev pub invariant-loop-depth : goal.invariant-loop-depth
 invariant-loop-depth g l =
     let ns = l.tree.nodes in
     record {
-      there : All (λ m. m < length ns) l.level.items;
+      in_tree : All (λ m. m < length ns) l.level.items;
       same : first_sought ns l.changed l.row l.sought l.start ≡ find (is_sought ns l.changed l.row l.sought) (levels (length ns - l._depth) ns l.level.items);
     }

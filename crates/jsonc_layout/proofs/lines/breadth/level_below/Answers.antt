@@ -12,7 +12,7 @@ flat_map_step f xs i before after within was now =
     ∙ ap (flat_map f) (sym (take_more xs i 0 within))
 
 pub push_children-requires : goal.push_children-requires
-push_children-requires g c = c.requires.there c.loop-node.node-index 0 c.loop-node-test.true
+push_children-requires g c = c.requires.in_tree c.loop-node.node-index 0 c.loop-node-test.true
 
 pub loop-node-preserved : goal.loop-node-preserved
 loop-node-preserved g c = flat_map_step (children_at c.args.tree.now.nodes) c.args.level.now c.loop-node.node-index c.loop-node.below.items c.push_children.new.list.items c.loop-node-test.true c.loop-node.invariant c.in_ok-push_children.ensures

@@ -1,7 +1,7 @@
 use Rattle.std.proofs.Common.{◌++◌, sym, ap, ◌∙◌, string_bytes}
 use Rattle.std.proofs.lemmas.List.{append_assoc}
 use Rattle.jsonc_layout.specs.lines.Lines.{blanks}
-use Rattle.jsonc_layout.proofs.lemmas.lines.Walking.{blanks_more}
+use Rattle.jsonc_layout.proofs.lemmas.lines.SiblingSteps.{blanks_more}
 use Rattle.jsonc_layout.proofs.lines.indent.joined_blanks.Goals as goal
 
 pub loop-sibling-preserved : goal.loop-sibling-preserved

@@ -9,7 +9,7 @@ abbrev pub invariant-loop-next : goal.invariant-loop-next
 invariant-loop-next g l =
     let ns = l.tree.nodes in
     record {
-      there : IfSome l.next (λ m. m < length ns);
+      in_tree : IfSome l.next (λ m. m < length ns);
       same : beyond_properties ns (upward ns (parent_at ns l.node)) ≡ beyond_properties ns (upward ns l.next);
     }
 

@@ -1,7 +1,7 @@
 use Rattle.std.proofs.Common.{◌≡◌, sym, ap, ◌∙◌, refl, Option, None, Some, is_some, false, String}
 use Rattle.std.proofs.lemmas.Bool.{false≢true}
 use Rattle.std.specs.Option.{option_or}
-use Rattle.jsonc_layout.proofs.lemmas.nodes.There.{rest_there}
+use Rattle.jsonc_layout.proofs.lemmas.nodes.InTree.{rest_there}
 use Rattle.jsonc_layout.specs.lines.Indents.{first_indent}
 use Rattle.jsonc_layout.specs.lines.IndentViews.{text_in}
 use Rattle.jsonc_layout.proofs.lines.indents.first_indent.Goals as goal
@@ -14,7 +14,7 @@ pub loop-child-preserved : goal.loop-child-preserved
 loop-child-preserved g c =
     let ns = c.args.tree.now.nodes in
     record {
-      there = rest_there ns c.loop-child.child-iterator c.in-Some.child c.next.new.self c.in-Some.ensures.steps c.loop-child.invariant.there;
+      in_tree = rest_there ns c.loop-child.child-iterator c.in-Some.child c.next.new.self c.in-Some.ensures.steps c.loop-child.invariant.in_tree;
       same = c.loop-child.invariant.same
           ∙ ap (first_indent ns) c.in-Some.ensures.steps
           ∙ ap (λ o. option_or o (first_indent ns c.next.new.self)) (sym c.in_ok-text.ensures.indent ∙ no_text c.in_ok-text.text (sym c.is_some.ensures ∙ c.if-is_some.false));

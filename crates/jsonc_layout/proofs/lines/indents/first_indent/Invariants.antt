@@ -8,6 +8,6 @@ abbrev pub invariant-loop-child : goal.invariant-loop-child
 invariant-loop-child g l =
     let ns = l.tree.nodes in
     record {
-      there : AreThere ns l.child-iterator;
+      in_tree : AreThere ns l.child-iterator;
       same : first_indent ns (children_at ns l.node) ≡ first_indent ns l.child-iterator;
     }

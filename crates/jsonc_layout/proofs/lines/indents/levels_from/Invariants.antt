@@ -8,7 +8,7 @@ abbrev pub invariant-loop-next : goal.invariant-loop-next
 invariant-loop-next g l =
     let ns = l.tree.nodes in
     record {
-      there : IfSome l.next (λ m. m < length ns);
+      in_tree : IfSome l.next (λ m. m < length ns);
       all : All (λ m. m < length ns) l.levels.items;
       same : levels_among ns (upward ns l.fn.start) ≡ l.levels.items ++ levels_among ns (upward ns l.next);
     }

@@ -1,7 +1,7 @@
 use Rattle.std.proofs.Common.{rules}
 use Rattle.jsonc_layout.specs.nodes.Siblings.{siblings_after}
 use Rattle.jsonc_layout.proofs.lemmas.nodes.Rows.{find_in}
-use Rattle.jsonc_layout.proofs.lemmas.nodes.There.{found_there}
+use Rattle.jsonc_layout.proofs.lemmas.nodes.InTree.{found_there}
 use Rattle.jsonc_layout.specs.lines.Siblings.{is_no_trivia_at}
 use Rattle.jsonc_layout.proofs.lines.siblings.after_trivia.Goals as goal
 
@@ -10,7 +10,7 @@ returns-clause-sibling g c =
     let ns = c.args.tree.now.nodes in
     find_in (is_no_trivia_at ns) (siblings_after ns c.args.node) _ _ _ c.find.ensures.ran c.next_siblings.ensures.siblings (λ x b q k. search rules)
 
-pub returns-clause-there : goal.returns-clause-there
-returns-clause-there g c =
+pub returns-clause-in_tree : goal.returns-clause-in_tree
+returns-clause-in_tree g c =
     let ns = c.args.tree.now.nodes in
-    found_there ns (is_no_trivia_at ns) c.find.result c.next_siblings.result (siblings_after ns c.args.node) (returns-clause-sibling g c) c.next_siblings.ensures.siblings c.next_siblings.ensures.there
+    found_there ns (is_no_trivia_at ns) c.find.result c.next_siblings.result (siblings_after ns c.args.node) (returns-clause-sibling g c) c.next_siblings.ensures.siblings c.next_siblings.ensures.in_tree

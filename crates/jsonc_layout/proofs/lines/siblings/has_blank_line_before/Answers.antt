@@ -1,6 +1,6 @@
 use Rattle.std.proofs.Common.{◌≡◌, ◌||◌, ◌&&◌, false, sym, ap, ◌∙◌}
 use Rattle.jsonc_layout.specs.nodes.Kinds.{is_newline_at, is_whitespace_at}
-use Rattle.jsonc_layout.proofs.lemmas.lines.Walking.{blank_from, blank_step}
+use Rattle.jsonc_layout.proofs.lemmas.lines.SiblingSteps.{blank_from, blank_step}
 use Rattle.jsonc_layout.proofs.lines.siblings.has_blank_line_before.Goals as goal
 
 pub loop-sibling-preserved : goal.loop-sibling-preserved

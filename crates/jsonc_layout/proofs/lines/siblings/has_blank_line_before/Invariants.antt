@@ -1,6 +1,6 @@
 use Rattle.std.proofs.Common.{◌≡◌, false}
 use Rattle.jsonc_layout.specs.nodes.Siblings.{siblings_before}
-use Rattle.jsonc_layout.proofs.lemmas.lines.Walking.{blank_from}
+use Rattle.jsonc_layout.proofs.lemmas.lines.SiblingSteps.{blank_from}
 use Rattle.jsonc_layout.proofs.lines.siblings.has_blank_line_before.Given as goal
 
 abbrev pub invariant-loop-sibling : goal.invariant-loop-sibling

@@ -4,7 +4,7 @@ use Rattle.jsonc_tree.specs.Content.{text_of}
 use Rattle.jsonc_tree.specs.Order.{text_at}
 use Rattle.jsonc_tree.specs.Stored.{content_of}
 use Rattle.jsonc_layout.specs.nodes.Names.{IsNoString, string_text}
-use Rattle.jsonc_layout.proofs.lemmas.nodes.Naming.{string_from_text}
+use Rattle.jsonc_layout.proofs.lemmas.nodes.NodeNames.{string_from_text}
 use Rattle.jsonc_layout.proofs.nodes.names.decoded_value.Goals as goal
 
 pub returns-in-Err-clause-fault : goal.returns-in-Err-clause-fault
@@ -14,5 +14,5 @@ returns-in-Err-clause-fault g c = λ ne.
     let same : text_at c.args.tree.now.nodes c.args.leaf ≡ c.in-Some.text.now = ap text_of (sym c.kind.ensures ∙ string_from_text content c.in-Some.text.now said) in
     subst (λ s. IsNoString s c.in-Err.fault.kind) (sym same) (record {
       none = λ v h. c.in-Err.ensures.fault.none ne v h.0 h.1;
-      told = (c.in-Err.fault.byte_index, c.in-Err.ensures.fault.told ne);
+      error = (c.in-Err.fault.byte_index, c.in-Err.ensures.fault.error ne);
     })

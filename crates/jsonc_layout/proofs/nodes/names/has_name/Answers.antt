@@ -1,6 +1,6 @@
 use Rattle.std.proofs.Common.{sym, subst, chars}
 use Rattle.jsonc_layout.specs.nodes.Names.{HasName, ReadsAs}
-use Rattle.jsonc_layout.proofs.lemmas.nodes.Naming.{has_name_once, name_compared, name_missing}
+use Rattle.jsonc_layout.proofs.lemmas.nodes.NodeNames.{has_name_once, name_compared, name_missing}
 use Rattle.jsonc_layout.proofs.nodes.names.has_name.Goals as goal
 
 pub returns-in-Some-clause-has : goal.returns-in-Some-clause-has

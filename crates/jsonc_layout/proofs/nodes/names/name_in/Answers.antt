@@ -3,7 +3,7 @@ use Rattle.std.specs.Option.{option_map}
 use Rattle.jsonc_tree.specs.Content.{Content}
 use Rattle.jsonc_tree.specs.Stored.{content_of}
 use Rattle.jsonc_layout.specs.nodes.Names.{Names, ReadsAs, string_text}
-use Rattle.jsonc_layout.proofs.lemmas.nodes.Naming.{string_from_text}
+use Rattle.jsonc_layout.proofs.lemmas.nodes.NodeNames.{string_from_text}
 use Rattle.jsonc_layout.proofs.nodes.names.name_in.Goals as goal
 
 pub returns-in-Some-clause-read : goal.returns-in-Some-clause-read

@@ -4,11 +4,11 @@ use Rattle.std.proofs.lemmas.List.Elements.{All-filter}
 use Rattle.jsonc_tree.specs.Tree.{children_at}
 use Rattle.jsonc_layout.specs.nodes.Kinds.{is_element_at}
 use Rattle.jsonc_layout.specs.nodes.Siblings.{AreThere, elements_at}
-use Rattle.jsonc_layout.proofs.lemmas.nodes.There.{children_there}
+use Rattle.jsonc_layout.proofs.lemmas.nodes.InTree.{children_there}
 use Rattle.jsonc_layout.proofs.nodes.within.elements.Goals as goal
 
-pub returns-clause-there : goal.returns-clause-there
-returns-clause-there g c =
+pub returns-clause-in_tree : goal.returns-clause-in_tree
+returns-clause-in_tree g c =
     let ns = c.args.tree.now.nodes in
     let all : c.loop-child.list.items ≡ elements_at ns c.args.node = grind (arith, common_steps) in
     subst (AreThere ns) (sym all)

@@ -1,4 +1,4 @@
-use Rattle.jsonc_layout.proofs.lemmas.to_input.Once.{gives_once}
+use Rattle.jsonc_layout.proofs.lemmas.to_input.OneValue.{gives_once}
 use Rattle.jsonc_layout.proofs.to_input.laws.one_value_is_given.Goals as goal
 
 pub returns : goal.returns

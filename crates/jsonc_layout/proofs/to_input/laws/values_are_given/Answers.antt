@@ -1,4 +1,4 @@
-use Rattle.jsonc_layout.proofs.lemmas.to_input.Given.{value_gives, document_gives}
+use Rattle.jsonc_layout.proofs.lemmas.to_input.ReadValues.{value_gives, document_gives}
 use Rattle.jsonc_layout.proofs.to_input.laws.values_are_given.Goals as goal
 
 pub returns-clause-node : goal.returns-clause-node

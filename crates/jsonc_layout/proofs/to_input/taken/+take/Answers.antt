@@ -5,7 +5,7 @@ use Rattle.jsonc_layout.specs.nodes.Names.{HasName, NameReads}
 use Rattle.jsonc_tree.specs.Stored.{content_of}
 use Rattle.jsonc_tree.specs.Tree.{children_at}
 use Rattle.jsonc_layout.specs.to_input.Taken.{IsTakenAt, AreTaken, AreMembersTaken, IsMemberTaken}
-use Rattle.jsonc_layout.proofs.lemmas.to_input.Below.{child_smaller, value_smaller}
+use Rattle.jsonc_layout.proofs.lemmas.to_input.Descendants.{child_smaller, value_smaller}
 use Rattle.jsonc_layout.proofs.lemmas.to_input.Items.{none_taken, nothing_more_taken, one_more_taken}
 use Rattle.jsonc_layout.proofs.lemmas.to_input.Members.{no_members_taken, nothing_more_put, one_more_put}
 use Rattle.jsonc_layout.proofs.lemmas.to_input.Leaves.{not_property}
@@ -28,8 +28,8 @@ take_elements-take-requires g t c κs within =
     let ns = c.args.tree.now.nodes in
     let so_far = c.loop-child.invariant in
     let step = given_at so_far.0 (children_at ns c.args.array) c.loop-child.child-iterator c.in-Some.child c.next.new.self so_far.1 c.in-Some.ensures.steps in
-    let there : c.in-Some.child < length ns = omega (arith, step.1, c.args.tree.now.tree.there c.args.array so_far.0 step.0) in
-    let smaller = child_smaller ns c.args.tree.now.tree c.args.array so_far.0 c.in-Some.child c.requires.there step.0 step.1 in
+    let there : c.in-Some.child < length ns = omega (arith, step.1, c.args.tree.now.tree.in_tree c.args.array so_far.0 step.0) in
+    let smaller = child_smaller ns c.args.tree.now.tree c.args.array so_far.0 c.in-Some.child c.requires.in_tree step.0 step.1 in
     (omega (arith, c.decreases, smaller), (within.0, (within.1, there)))
 
 pub take_elements-loop-child-preserved : goal.take_elements-loop-child-preserved
@@ -59,8 +59,8 @@ take_elements-returns g t c =
 pub take_held-take-requires : goal.take_held-take-requires
 take_held-take-requires g t c κs within =
     let ns = c.args.tree.now.nodes in
-    let smaller = value_smaller ns c.args.tree.now.tree c.args.node c.in-Some.value c.requires.there (sym c.in-Some.ensures.value) in
-    (omega (arith, c.decreases, smaller), (within.0, (within.1, c.in-Some.ensures.there)))
+    let smaller = value_smaller ns c.args.tree.now.tree c.args.node c.in-Some.value c.requires.in_tree (sym c.in-Some.ensures.value) in
+    (omega (arith, c.decreases, smaller), (within.0, (within.1, c.in-Some.ensures.in_tree)))
 
 pub take_held-returns-in-Some : goal.take_held-returns-in-Some
 take_held-returns-in-Some g t c = held_taken c.args.tree.now.nodes c.args.node c.in-Some.value _ (sym c.in-Some.ensures.value) c.take.ensures
@@ -76,8 +76,8 @@ take_properties-take_property-requires g t c κs within =
     let ns = c.args.tree.now.nodes in
     let so_far = c.loop-child.invariant in
     let step = given_at so_far.0 (children_at ns c.args.object) c.loop-child.child-iterator c.in-Some.child c.next.new.self so_far.1 c.in-Some.ensures.steps in
-    let there : c.in-Some.child < length ns = omega (arith, step.1, c.args.tree.now.tree.there c.args.object so_far.0 step.0) in
-    let smaller = child_smaller ns c.args.tree.now.tree c.args.object so_far.0 c.in-Some.child c.requires.there step.0 step.1 in
+    let there : c.in-Some.child < length ns = omega (arith, step.1, c.args.tree.now.tree.in_tree c.args.object so_far.0 step.0) in
+    let smaller = child_smaller ns c.args.tree.now.tree c.args.object so_far.0 c.in-Some.child c.requires.in_tree step.0 step.1 in
     (omega (arith, c.decreases, smaller), (within.0, (within.1, there)))
 
 pub take_properties-loop-child-preserved : goal.take_properties-loop-child-preserved

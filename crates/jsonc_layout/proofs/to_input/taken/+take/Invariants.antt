@@ -1,7 +1,7 @@
 use Rattle.std.proofs.Common.{◌≡◌, ◌+◌, ◌*◌, ℕ, drop, take}
 use Rattle.jsonc_tree.specs.Tree.{children_at}
 use Rattle.jsonc_layout.specs.to_input.Taken.{AreTaken, AreMembersTaken}
-use Rattle.jsonc_layout.proofs.lemmas.to_input.Below.{count_at}
+use Rattle.jsonc_layout.proofs.lemmas.to_input.Descendants.{count_at}
 use Rattle.jsonc_layout.proofs.to_input.taken.+take.Given as goal
 
 abbrev pub decreases-take : goal.decreases-take

@@ -7,11 +7,11 @@ make-requires g c = record { unsorted = no_sort c.args.edit.now c.in_default.not
 
 pub returns-in-Sort-clause-made : goal.returns-in-Sort-clause-made
 returns-in-Sort-clause-made g c =
-    sort_made c.args.edit.now c.in-Sort.path c.in-Sort.pin c.in-Sort.groups c.in-Sort.is c.deref.result.now c.deref.ensures.value g.C.Fn c.args.compare.now g.D.IsDocument.same c.args.doc.now c.sort_at.new.doc c.sort_at.result c.sort_at.ensures.made
+    sort_made c.args.edit.now c.in-Sort.path c.in-Sort.pin c.in-Sort.groups c.in-Sort.is c.deref.result.now c.deref.ensures.value g.C.Fn c.args.compare.now g.D.DocumentArg.same c.args.doc.now c.sort_at.new.doc c.sort_at.result c.sort_at.ensures.made
 
-pub returns-in-Sort-clause-told : goal.returns-in-Sort-clause-told
-returns-in-Sort-clause-told g c = λ s.
-    sort_told c.args.edit.now c.in-Sort.path c.in-Sort.pin c.in-Sort.groups c.in-Sort.is c.deref.result.now c.deref.ensures.value (nodes_of c.args.doc.now) s c.sort_at.result (c.sort_at.ensures.told s)
+pub returns-in-Sort-clause-error : goal.returns-in-Sort-clause-error
+returns-in-Sort-clause-error g c = λ s.
+    sort_told c.args.edit.now c.in-Sort.path c.in-Sort.pin c.in-Sort.groups c.in-Sort.is c.deref.result.now c.deref.ensures.value (nodes_of c.args.doc.now) s c.sort_at.result (c.sort_at.ensures.error s)
 
 pub returns-in-Sort-clause-left : goal.returns-in-Sort-clause-left
 returns-in-Sort-clause-left g c = λ s.
@@ -19,11 +19,11 @@ returns-in-Sort-clause-left g c = λ s.
 
 pub returns-in_default-clause-made : goal.returns-in_default-clause-made
 returns-in_default-clause-made g c =
-    plainly_made g.C.Fn c.args.compare.now g.D.IsDocument.same c.args.doc.now c.args.edit.now _ c.make.result (no_sort c.args.edit.now c.in_default.not-Sort) c.make.ensures.made
+    plainly_made g.C.Fn c.args.compare.now g.D.DocumentArg.same c.args.doc.now c.args.edit.now _ c.make.result (no_sort c.args.edit.now c.in_default.not-Sort) c.make.ensures.made
 
-pub returns-in_default-clause-told : goal.returns-in_default-clause-told
-returns-in_default-clause-told g c = λ s.
-    told_alike (nodes_of c.args.doc.now) s c.args.edit.now c.make.result (no_sort c.args.edit.now c.in_default.not-Sort) c.make.ensures.told
+pub returns-in_default-clause-error : goal.returns-in_default-clause-error
+returns-in_default-clause-error g c = λ s.
+    told_alike (nodes_of c.args.doc.now) s c.args.edit.now c.make.result (no_sort c.args.edit.now c.in_default.not-Sort) c.make.ensures.error
 
 pub returns-in_default-clause-left : goal.returns-in_default-clause-left
 returns-in_default-clause-left g c = λ s.

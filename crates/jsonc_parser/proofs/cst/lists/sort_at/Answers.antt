@@ -6,12 +6,12 @@ use Rattle.jsonc_cst.specs.Document.{nodes_of}
 use Rattle.jsonc_cst.specs.Nodes.{typed_at}
 use Rattle.jsonc_run.specs.Refusals.{as_it_was}
 use Rattle.jsonc_run.specs.Places.{IsContainerAt}
-use Rattle.jsonc_run.proofs.Made.{no_place}
+use Rattle.jsonc_run.proofs.EditsMade.{no_place}
 use Rattle.jsonc_parser.proofs.Sorts.{holds_them, sort_left, sort_made, sort_told}
 use Rattle.jsonc_parser.proofs.cst.lists.sort_at.Goals as goal
 
-pub returns-in_default-clause-told : goal.returns-in_default-clause-told
-returns-in_default-clause-told g c =
+pub returns-in_default-clause-error : goal.returns-in_default-clause-error
+returns-in_default-clause-error g c =
     let found : FindsExactly c.find_container.result (IsContainerAt (nodes_of c.args.doc.now) c.args.path.now) =
     subst (λ (ns : List Node). FindsExactly c.find_container.result (IsContainerAt ns c.args.path.now)) c.tree-tree.ensures c.find_container.ensures.found in
     λ s.
@@ -37,10 +37,10 @@ returns-clause-made g c =
     subst (λ (ns : List Node). FindsExactly c.find_container.result (IsContainerAt ns c.args.path.now)) c.tree-tree.ensures c.find_container.ensures.found in
     let node : c.node_at-container.result ≡ typed_at (nodes_of c.args.doc.now) c.in-Some.number =
     subst (λ (ns : List Node). c.node_at-container.result ≡ typed_at ns c.in-Some.number) c.tree-tree.ensures c.node_at-container.ensures.node in
-    sort_made c.args.doc.now c.args.path.now c.in-Some.number ((found c.in-Some.number).0 c.in-Some.is) c.node_at-container.result node g.C.Fn c.args.compare.now g.D.IsDocument.same c.sort_container.new.doc c.args.pin c.args.groups c.sort_container.result c.sort_container.ensures.sorted
+    sort_made c.args.doc.now c.args.path.now c.in-Some.number ((found c.in-Some.number).0 c.in-Some.is) c.node_at-container.result node g.C.Fn c.args.compare.now g.D.DocumentArg.same c.sort_container.new.doc c.args.pin c.args.groups c.sort_container.result c.sort_container.ensures.sorted
 
-pub returns-clause-told : goal.returns-clause-told
-returns-clause-told g c =
+pub returns-clause-error : goal.returns-clause-error
+returns-clause-error g c =
     let found : FindsExactly c.find_container.result (IsContainerAt (nodes_of c.args.doc.now) c.args.path.now) =
     subst (λ (ns : List Node). FindsExactly c.find_container.result (IsContainerAt ns c.args.path.now)) c.tree-tree.ensures c.find_container.ensures.found in
     let node : c.node_at-container.result ≡ typed_at (nodes_of c.args.doc.now) c.in-Some.number =

@@ -1,5 +1,5 @@
 use Rattle.jsonc_parser.proofs.lemmas.paths.Index.{counted_before}
-use Rattle.jsonc_parser.proofs.lemmas.paths.Standing.{begins_there, leads_on_there, stops_there}
+use Rattle.jsonc_parser.proofs.lemmas.paths.NodesAtNames.{begins_there, leads_on_there, stops_there}
 use Rattle.jsonc_parser.proofs.paths.laws.names_lead_over_nodes.Goals as goal
 
 pub returns-clause-begins : goal.returns-clause-begins

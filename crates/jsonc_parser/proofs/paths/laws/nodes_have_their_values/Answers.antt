@@ -1,4 +1,4 @@
-use Rattle.jsonc_parser.proofs.lemmas.paths.Taken.{nodes_have_values}
+use Rattle.jsonc_parser.proofs.lemmas.paths.TakenValues.{nodes_have_values}
 use Rattle.jsonc_parser.proofs.paths.laws.nodes_have_their_values.Goals as goal
 
 pub returns : goal.returns

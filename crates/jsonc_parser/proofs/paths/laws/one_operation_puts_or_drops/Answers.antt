@@ -1,5 +1,5 @@
 use Rattle.jsonc_parser.proofs.lemmas.paths.Leading.{drops_by_it, lead_to_what_stands, puts_by_it}
-use Rattle.jsonc_parser.proofs.lemmas.paths.Reaching.{put_by_one, reaches}
+use Rattle.jsonc_parser.proofs.lemmas.paths.LongestPrefix.{put_by_one, reaches}
 use Rattle.jsonc_parser.proofs.paths.laws.one_operation_puts_or_drops.Goals as goal
 
 pub returns-clause-leads : goal.returns-clause-leads

@@ -1,4 +1,4 @@
-use Rattle.jsonc_parser.proofs.lemmas.paths.Once.{put_once}
+use Rattle.jsonc_parser.proofs.lemmas.paths.UniqueValues.{put_once}
 use Rattle.jsonc_parser.proofs.lemmas.paths.Paths.{puts, never_both}
 use Rattle.jsonc_parser.proofs.paths.laws.values_are_put.Goals as goal
 

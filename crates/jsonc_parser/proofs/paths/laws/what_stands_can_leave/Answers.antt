@@ -1,4 +1,4 @@
-use Rattle.jsonc_parser.proofs.lemmas.paths.Once.{dropped_once}
+use Rattle.jsonc_parser.proofs.lemmas.paths.UniqueValues.{dropped_once}
 use Rattle.jsonc_parser.proofs.lemmas.paths.Paths.{drop_what_stands, dropped_at, dropped_same}
 use Rattle.jsonc_parser.proofs.paths.laws.what_stands_can_leave.Goals as goal
 

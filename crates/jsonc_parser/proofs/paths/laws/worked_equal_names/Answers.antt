@@ -2,7 +2,7 @@ use Rattle.std.proofs.Common.{true}
 use Rattle.jsonc_text.specs.Plain.{Plain}
 use Rattle.jsonc_parser.specs.paths.Settings.{Put, this_becomes, is_there, changes_inside, this_leaves, entry_leaves, this_one, in_object, itself}
 use Rattle.jsonc_parser.specs.paths.Worked.{a, both}
-use Rattle.jsonc_parser.proofs.lemmas.paths.Once.{put_once}
+use Rattle.jsonc_parser.proofs.lemmas.paths.UniqueValues.{put_once}
 use Rattle.jsonc_parser.proofs.paths.laws.worked_equal_names.Goals as goal
 
 pub returns-clause-first : goal.returns-clause-first

@@ -1,6 +1,6 @@
 use Rattle.std.proofs.Common.{◌∙◌, ◌+◌, ap}
 use Rattle.jsonc_layout.specs.input.Views.{chars_of, plain}
-use Rattle.jsonc_parser.proofs.lemmas.paths.Choosing.{appends_so, sliced}
+use Rattle.jsonc_parser.proofs.lemmas.paths.ChosenEdit.{appends_so, sliced}
 use Rattle.jsonc_parser.proofs.paths.put.appending.Goals as goal
 
 pub returns-in-Ok-nested-clause-appends : goal.returns-in-Ok-nested-clause-appends

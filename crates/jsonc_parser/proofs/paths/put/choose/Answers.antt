@@ -2,7 +2,7 @@ use Rattle.std.proofs.Common.{◌∙◌, refl, subst, sym}
 use Rattle.jsonc_layout.specs.input.Views.{plain}
 use Rattle.jsonc_parser.specs.paths.Found.{names_of}
 use Rattle.jsonc_parser.specs.paths.Reach.{ReachesWhatShown}
-use Rattle.jsonc_parser.proofs.lemmas.paths.Choosing.{chosen_first, chosen_kept, chosen_replace, chosen_result, chosen_root, chosen_value, nested_rest, no_names, sliced, some_names}
+use Rattle.jsonc_parser.proofs.lemmas.paths.ChosenEdit.{chosen_first, chosen_kept, chosen_replace, chosen_result, chosen_root, chosen_value, nested_rest, no_names, sliced, some_names}
 use Rattle.jsonc_parser.proofs.paths.put.choose.Goals as goal
 
 pub returns-in-Ok-clause-chosen : goal.returns-in-Ok-clause-chosen

@@ -1,5 +1,5 @@
 use Rattle.jsonc_cst.specs.Document.{nodes_of}
-use Rattle.jsonc_parser.proofs.lemmas.paths.Making.{left_alone, whole_no_sort}
+use Rattle.jsonc_parser.proofs.lemmas.paths.EditOutcome.{left_alone, whole_no_sort}
 use Rattle.jsonc_parser.proofs.paths.put.make_one.Goals as goal
 
 pub make-requires : goal.make-requires

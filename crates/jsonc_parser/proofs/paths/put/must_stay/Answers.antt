@@ -1,6 +1,6 @@
 use Rattle.jsonc_cst.specs.Document.{nodes_of}
 use Rattle.jsonc_parser.specs.paths.Found.{names_of}
-use Rattle.jsonc_parser.proofs.lemmas.paths.Wanting.{kept_stays, replaced_goes}
+use Rattle.jsonc_parser.proofs.lemmas.paths.MemoryNeeded.{kept_stays, replaced_goes}
 use Rattle.jsonc_parser.proofs.paths.put.must_stay.Goals as goal
 
 pub returns-in-Keep-clause-stays : goal.returns-in-Keep-clause-stays

@@ -1,7 +1,7 @@
 use Rattle.std.proofs.Common.{◌-◌, ◌∙◌, ◌∷◌, [], ap, arith}
 use Rattle.jsonc_layout.specs.input.Views.{chars_of, plain}
 use Rattle.jsonc_parser.specs.paths.Settings.{nest}
-use Rattle.jsonc_parser.proofs.lemmas.paths.Making.{nest_begins, nest_ends, nest_more}
+use Rattle.jsonc_parser.proofs.lemmas.paths.EditOutcome.{nest_begins, nest_ends, nest_more}
 use Rattle.jsonc_parser.proofs.paths.put.nested.Goals as goal
 
 pub loop-count-init : goal.loop-count-init

@@ -1,8 +1,8 @@
 use Rattle.std.proofs.Common.{refl, subst}
 use Rattle.jsonc_parser.specs.paths.Found.{names_of}
 use Rattle.jsonc_parser.specs.paths.Reach.{ReachesWhatShown}
-use Rattle.jsonc_parser.proofs.lemmas.paths.Choosing.{nothing_another, nothing_missing}
-use Rattle.jsonc_parser.proofs.lemmas.paths.Making.{drop_made, drop_refused}
+use Rattle.jsonc_parser.proofs.lemmas.paths.ChosenEdit.{nothing_another, nothing_missing}
+use Rattle.jsonc_parser.proofs.lemmas.paths.EditOutcome.{drop_made, drop_refused}
 use Rattle.jsonc_parser.proofs.paths.put.remove_at.Goals as goal
 
 pub returns-in-Ok-Missing-clause-dropped : goal.returns-in-Ok-Missing-clause-dropped
@@ -20,7 +20,7 @@ returns-in-Ok-clause-dropped g c =
     drop_made c.args.doc.now c.make_one.new.doc c.args.doc.now.tree.tree (names_of c.args.names.now) c.in-Ok-Value.path
     (subst (ReachesWhatShown c.args.doc.now (names_of c.args.names.now)) c.in-Ok-Value.field-0-is c.in-Ok-Value.ensures.reached) c.make_one.new.doc.tree.tree c.in-Ok.ensures.made
 
-pub returns-in-Err-make_one-clause-told : goal.returns-in-Err-make_one-clause-told
-returns-in-Err-make_one-clause-told g c =
+pub returns-in-Err-make_one-clause-error : goal.returns-in-Err-make_one-clause-error
+returns-in-Err-make_one-clause-error g c =
     drop_refused c.args.doc.now c.make_one.new.doc c.args.doc.now.tree.tree (names_of c.args.names.now) c.in-Ok-Value.path
-    (subst (ReachesWhatShown c.args.doc.now (names_of c.args.names.now)) c.in-Ok-Value.field-0-is c.in-Ok-Value.ensures.reached) c.in-Err-make_one.error c.in-Err-make_one.ensures.told
+    (subst (ReachesWhatShown c.args.doc.now (names_of c.args.names.now)) c.in-Ok-Value.field-0-is c.in-Ok-Value.ensures.reached) c.in-Err-make_one.error c.in-Err-make_one.ensures.error

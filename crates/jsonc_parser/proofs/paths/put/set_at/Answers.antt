@@ -2,7 +2,7 @@ use Rattle.std.proofs.Common.{subst}
 use Rattle.jsonc_layout.specs.input.Views.{plain}
 use Rattle.jsonc_parser.specs.paths.Choices.{Chooses}
 use Rattle.jsonc_parser.specs.paths.Found.{names_of}
-use Rattle.jsonc_parser.proofs.lemmas.paths.Making.{put_made, put_refused}
+use Rattle.jsonc_parser.proofs.lemmas.paths.EditOutcome.{put_made, put_refused}
 use Rattle.jsonc_parser.proofs.paths.put.set_at.Goals as goal
 
 pub returns-in-Ok-make_one-clause-put : goal.returns-in-Ok-make_one-clause-put
@@ -10,7 +10,7 @@ returns-in-Ok-make_one-clause-put g c =
     put_made c.args.doc.now c.make_one.new.doc c.args.doc.now.tree.tree (plain c.args.value) c.args.over (names_of c.args.names.now) c.in-Ok-Some.edit
     (subst (Chooses c.args.doc.now (plain c.args.value) c.args.over (names_of c.args.names.now)) c.in-Ok-Some.field-0-is c.in-Ok-Some.ensures.chosen) c.make_one.new.doc.tree.tree c.in-Ok-make_one.ensures.made
 
-pub returns-in-Err-make_one-clause-told : goal.returns-in-Err-make_one-clause-told
-returns-in-Err-make_one-clause-told g c =
+pub returns-in-Err-make_one-clause-error : goal.returns-in-Err-make_one-clause-error
+returns-in-Err-make_one-clause-error g c =
     put_refused c.args.doc.now c.make_one.new.doc c.args.doc.now.tree.tree (plain c.args.value) c.args.over (names_of c.args.names.now) c.in-Ok-Some.edit
-    (subst (Chooses c.args.doc.now (plain c.args.value) c.args.over (names_of c.args.names.now)) c.in-Ok-Some.field-0-is c.in-Ok-Some.ensures.chosen) c.in-Err-make_one.error c.in-Err-make_one.ensures.told
+    (subst (Chooses c.args.doc.now (plain c.args.value) c.args.over (names_of c.args.names.now)) c.in-Ok-Some.field-0-is c.in-Ok-Some.ensures.chosen) c.in-Err-make_one.error c.in-Err-make_one.ensures.error

@@ -9,7 +9,7 @@ returns-in_default-clause-reached g c = reached_nothing c.args.doc.now c.args.do
 
 pub loop-count-init : goal.loop-count-init
 loop-count-init g c =
-    (leads_begin c.args.doc.now c.in-Some.value c.new-path.result.items c.new-path.ensures.items c.args.doc.now.tree.tree (sym c.in-Some.is ∙ c.value.ensures.value), c.in-Some.ensures.held)
+    (leads_begin c.args.doc.now c.in-Some.value c.new-path.result.items c.new-path.ensures.items c.args.doc.now.tree.tree (sym c.in-Some.is ∙ c.value.ensures.value), c.in-Some.ensures.in_document)
 
 pub step_from-requires : goal.step_from-requires
 step_from-requires g c = c.loop-count.invariant.1
@@ -19,7 +19,7 @@ loop-count-preserved g c = (
   leads_more c.args.doc.now c.args.names.now c.loop-count.count c.index-names-count.result c.loop-count-test.true c.loop-count.path.items c.loop-count.node (chars c.deref.result.now)
       (ap chars c.deref.ensures ∙ ap chars_of c.index-names-count.is) c.loop-count.invariant.0 c.push.new.self.items c.in-Ok-On.index c.in-Ok-On.inner c.in-Ok.ensures.items
       (subst (StepsWhatShown c.args.doc.now c.loop-count.node (chars c.deref.result.now)) c.in-Ok-On.field-0-is c.in-Ok-On.ensures.step),
-  subst (StepHolds c.args.doc.now) c.in-Ok-On.field-0-is c.in-Ok-On.ensures.held,
+  subst (StepHolds c.args.doc.now) c.in-Ok-On.field-0-is c.in-Ok-On.ensures.in_document,
 )
 
 pub returns-in-Ok-Missing-clause-reached : goal.returns-in-Ok-Missing-clause-reached

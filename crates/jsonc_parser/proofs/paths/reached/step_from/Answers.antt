@@ -1,8 +1,8 @@
 use Rattle.std.proofs.Common.{chars, subst, sym, ◌∙◌}
-use Rattle.jsonc_cst.specs.Document.{Holds}
+use Rattle.jsonc_cst.specs.Document.{HasNode}
 use Rattle.jsonc_cst.specs.Readings.{IsFirstNamed}
-use Rattle.jsonc_parser.proofs.lemmas.paths.Stepping.{steps_nowhere, steps_on, steps_to_another, steps_to_missing}
-use Rattle.jsonc_parser.proofs.lemmas.paths.Wanting.{escaped_here}
+use Rattle.jsonc_parser.proofs.lemmas.paths.OneName.{steps_nowhere, steps_on, steps_to_another, steps_to_missing}
+use Rattle.jsonc_parser.proofs.lemmas.paths.MemoryNeeded.{escaped_here}
 use Rattle.jsonc_parser.proofs.paths.reached.step_from.Goals as goal
 
 pub returns-in_default-clause-step : goal.returns-in_default-clause-step
@@ -10,7 +10,7 @@ returns-in_default-clause-step g c =
     steps_to_another c.args.doc.now c.args.doc.now.tree.tree c.args.node (chars c.args.name.now) c.requires (λ x e. c.in_default.not-Some x ((c.as_object.ensures x).1 e))
 
 pub get-requires : goal.get-requires
-get-requires g c = subst (Holds c.args.doc.now) ((c.as_object.ensures c.in-Some.object).0 c.in-Some.is) c.requires
+get-requires g c = subst (HasNode c.args.doc.now) ((c.as_object.ensures c.in-Some.object).0 c.in-Some.is) c.requires
 
 pub returns-in-Ok-None-clause-step : goal.returns-in-Ok-None-clause-step
 returns-in-Ok-None-clause-step g c =

@@ -1,4 +1,4 @@
-use Rattle.jsonc_sort.proofs.lemmas.again.Coming.{comes_in_order}
+use Rattle.jsonc_sort.proofs.lemmas.again.ElementsRead.{comes_in_order}
 use Rattle.jsonc_sort.proofs.again.laws.elements_come_in_order.Goals as goal
 
 pub returns : goal.returns

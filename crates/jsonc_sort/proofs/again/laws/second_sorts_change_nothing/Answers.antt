@@ -1,4 +1,4 @@
-use Rattle.jsonc_sort.proofs.lemmas.again.Once.{sorts_once, sorts_texts_once}
+use Rattle.jsonc_sort.proofs.lemmas.again.SecondSort.{sorts_once, sorts_texts_once}
 use Rattle.jsonc_sort.proofs.again.laws.second_sorts_change_nothing.Goals as goal
 
 pub returns-clause-once : goal.returns-clause-once

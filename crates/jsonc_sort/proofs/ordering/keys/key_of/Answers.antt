@@ -1,6 +1,6 @@
 use Rattle.std.proofs.Common.{rules, refl}
 use Rattle.jsonc_sort.specs.ordering.Order.{node_in}
-use Rattle.jsonc_sort.proofs.lemmas.ordering.Told.{key_is}
+use Rattle.jsonc_sort.proofs.lemmas.ordering.AnsweredKeys.{key_is}
 use Rattle.jsonc_sort.proofs.ordering.keys.key_of.Goals as goal
 
 pub returns-in-Ok-clause-key : goal.returns-in-Ok-clause-key

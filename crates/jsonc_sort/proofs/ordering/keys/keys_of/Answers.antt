@@ -1,5 +1,5 @@
 use Rattle.std.proofs.Common.{rules, [], ◌∷◌, ◌++◌, ◌+◌, subst, sym, ◌≡◌, ◌<◌, length, List, Option}
-use Rattle.jsonc_sort.proofs.lemmas.ordering.Told.{AreKeysBelow, first_refused, memory_wanted, one_more}
+use Rattle.jsonc_sort.proofs.lemmas.ordering.AnsweredKeys.{AreKeysBelow, first_refused, memory_wanted, one_more}
 use Rattle.jsonc_sort.proofs.ordering.keys.keys_of.Goals as goal
 
 pub returns-in-Err-clause-refused : goal.returns-in-Err-clause-refused

@@ -1,5 +1,5 @@
 use Rattle.std.proofs.Common.{◌≡◌, length}
-use Rattle.jsonc_sort.proofs.lemmas.ordering.Told.{AreKeysBelow}
+use Rattle.jsonc_sort.proofs.lemmas.ordering.AnsweredKeys.{AreKeysBelow}
 use Rattle.jsonc_sort.proofs.ordering.keys.keys_of.Given as goal
 
 abbrev pub invariant-loop-place : goal.invariant-loop-place

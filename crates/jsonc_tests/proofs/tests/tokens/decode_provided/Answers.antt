@@ -1,7 +1,7 @@
 use Rattle.std.proofs.Common.{refl, List, ℕ, [], ◌∷◌, arith, rules}
 use Rattle.std.specs.Str.{IsAscii}
 use Rattle.std.proofs.lemmas.Str.{IsUtf8-from_ascii}
-use Rattle.jsonc_text.proofs.Steps.{steps_ascii}
+use Rattle.jsonc_text.proofs.CharacterSteps.{steps_ascii}
 use Rattle.jsonc_tests.proofs.tests.tokens.decode_provided.Goals as goal
 
 pub parse_string_with_char_provider-requires : goal.parse_string_with_char_provider-requires

@@ -37,12 +37,12 @@ returns-clause-lent g c =
       slice = λ b. absurd b;
     }
 
-pub returns-in-Err-clause-told : goal.returns-in-Err-clause-told
-returns-in-Err-clause-told g c =
-    c.in-Err.ensures.told (read_decoding _ _ _ _ _ _ _ c.utf8.text c.requires.quote c.requires.opens c.loop-escape.invariant.decoding)
+pub returns-in-Err-clause-error : goal.returns-in-Err-clause-error
+returns-in-Err-clause-error g c =
+    c.in-Err.ensures.error (read_decoding _ _ _ _ _ _ _ c.utf8.text c.requires.quote c.requires.opens c.loop-escape.invariant.decoding)
 
-pub returns-then-not-has_byte-clause-told : goal.returns-then-not-has_byte-clause-told
-returns-then-not-has_byte-clause-told g c =
+pub returns-then-not-has_byte-clause-error : goal.returns-then-not-has_byte-clause-error
+returns-then-not-has_byte-clause-error g c =
     let fault = c.unterminated.ensures in
     let read = read_decoding _ _ _ _ _ _ _ c.utf8.text c.requires.quote c.requires.opens c.loop-escape.invariant.decoding in
     told_unclosed _ _ _ _ _ _ fault.start fault.end fault.kind read c.loop-escape.invariant.decoding.stops (c.if-not-has_byte.ensures.other refl) (c.loop-escape-test.ensures.other refl)

@@ -16,8 +16,8 @@ pub returns-then-not-has_byte-clause-none : goal.returns-then-not-has_byte-claus
 returns-then-not-has_byte-clause-none g c = λ k.
     no_close_run _ _ _ _ _ c.requires.quote c.requires.opens c.stop_place-stop.ensures.passed c.stop_place-stop.ensures.stops (c.if-has_byte.ensures.other refl) (c.if-not-has_byte.ensures.other refl)
 
-pub returns-then-not-has_byte-clause-told : goal.returns-then-not-has_byte-clause-told
-returns-then-not-has_byte-clause-told g c =
+pub returns-then-not-has_byte-clause-error : goal.returns-then-not-has_byte-clause-error
+returns-then-not-has_byte-clause-error g c =
     let fault = c.unterminated.ensures in
     let read = read_run c.args.literal.extended _ _ _ _ c.requires.quote c.requires.opens c.stop_place-stop.ensures.passed in
     told_unclosed _ _ _ _ _ _ fault.start fault.end fault.kind read c.stop_place-stop.ensures.stops (c.if-has_byte.ensures.other refl) (c.if-not-has_byte.ensures.other refl)

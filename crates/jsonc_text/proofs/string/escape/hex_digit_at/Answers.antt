@@ -1,7 +1,7 @@
 use Rattle.std.proofs.Common.{sym, ◌∙◌}
 use Rattle.jsonc_text.specs.Text.{is_hex_digit}
 use Rattle.jsonc_text.proofs.Ascii.{ascii_no, hex_digit_small}
-use Rattle.jsonc_text.proofs.Steps.{steps_ascii, no_at_end}
+use Rattle.jsonc_text.proofs.CharacterSteps.{steps_ascii, no_at_end}
 use Rattle.jsonc_text.proofs.string.escape.hex_digit_at.Goals as goal
 
 pub returns-then-is_ascii_hexdigit-clause-found : goal.returns-then-is_ascii_hexdigit-clause-found

@@ -25,41 +25,41 @@ pub returns-then-not-is_taken-clause-none : goal.returns-then-not-is_taken-claus
 returns-then-not-is_taken-clause-none c =
     no_taken _ _ _ _ _ _ _ (sym c.if-not-is_taken.ensures) c.escape_meaning-meaning.ensures.meaning c.requires.backslash c.in-Some.ensures.some
 
-pub returns-in_default-clause-told : goal.returns-in_default-clause-told
-returns-in_default-clause-told c =
+pub returns-in_default-clause-error : goal.returns-in_default-clause-error
+returns-in_default-clause-error c =
     let read = c.unterminated.ensures in
     told_end _ _ _ _ _ _ read.start read.end read.kind (ends_within _ _ _ c.requires.backslash c.in_default.ensures.none)
 
-pub returns-then-not-is_taken-clause-told : goal.returns-then-not-is_taken-clause-told
-returns-then-not-is_taken-clause-told c =
+pub returns-then-not-is_taken-clause-error : goal.returns-then-not-is_taken-clause-error
+returns-then-not-is_taken-clause-error c =
     let read = c.string_fault.ensures in
     let why = c.refusal.ensures in
     told_not_taken _ _ _ _ _ _ _ _ _ _ read.start read.end read.kind (sym c.if-not-is_taken.ensures) c.escape_meaning-meaning.ensures.meaning (why.double, why.single, why.other) c.requires.backslash c.in-Some.ensures.some
 
-pub returns-in-CodeUnit-clause-told : goal.returns-in-CodeUnit-clause-told
-returns-in-CodeUnit-clause-told c =
+pub returns-in-CodeUnit-clause-error : goal.returns-in-CodeUnit-clause-error
+returns-in-CodeUnit-clause-error c =
     let literal = c.args.literal in
-    IfErr-weaker c.read_code_unit.result _ _ (λ f told. told_after _ _ _ _ _ _ (told literal.extended literal.quote)) c.read_code_unit.ensures.told
+    IfErr-weaker c.read_code_unit.result _ _ (λ f told. told_after _ _ _ _ _ _ (told literal.extended literal.quote)) c.read_code_unit.ensures.error
 
-pub returns-in-CodeByte-clause-told : goal.returns-in-CodeByte-clause-told
-returns-in-CodeByte-clause-told c =
+pub returns-in-CodeByte-clause-error : goal.returns-in-CodeByte-clause-error
+returns-in-CodeByte-clause-error c =
     let taken = taken_extended _ _ (sym c.if-not-is_taken.ensures) (ap (λ (m : Meaning). is_plain (meaning_of m)) c.in-CodeByte.is) in
-    IfErr-weaker c.read_code_byte.result _ _ (λ f told. told_taken _ _ _ _ _ _ taken (told c.args.literal.quote)) c.read_code_byte.ensures.told
+    IfErr-weaker c.read_code_byte.result _ _ (λ f told. told_taken _ _ _ _ _ _ taken (told c.args.literal.quote)) c.read_code_byte.ensures.error
 
-pub returns-in-Nul-clause-told : goal.returns-in-Nul-clause-told
-returns-in-Nul-clause-told c =
+pub returns-in-Nul-clause-error : goal.returns-in-Nul-clause-error
+returns-in-Nul-clause-error c =
     let taken = taken_extended _ _ (sym c.if-not-is_taken.ensures) (ap (λ (m : Meaning). is_plain (meaning_of m)) c.in-Nul.is) in
     let literal = c.args.literal in
-    IfErr-weaker c.read_nul.result _ _ (λ f told. end_taken literal.extended literal.quote c.args.text.now literal.start c.args.place f taken (told literal.quote)) c.read_nul.ensures.told
+    IfErr-weaker c.read_nul.result _ _ (λ f told. end_taken literal.extended literal.quote c.args.text.now literal.start c.args.place f taken (told literal.quote)) c.read_nul.ensures.error
 
-pub returns-in-CarriageReturn-clause-told : goal.returns-in-CarriageReturn-clause-told
-returns-in-CarriageReturn-clause-told c =
+pub returns-in-CarriageReturn-clause-error : goal.returns-in-CarriageReturn-clause-error
+returns-in-CarriageReturn-clause-error c =
     let taken = taken_extended _ _ (sym c.if-not-is_taken.ensures) (ap (λ (m : Meaning). is_plain (meaning_of m)) c.in-CarriageReturn.is) in
     let literal = c.args.literal in
-    IfErr-weaker c.read_line_end.result _ _ (λ f told. end_taken literal.extended literal.quote c.args.text.now literal.start c.args.place f taken (told literal.quote)) c.read_line_end.ensures.told
+    IfErr-weaker c.read_line_end.result _ _ (λ f told. end_taken literal.extended literal.quote c.args.text.now literal.start c.args.place f taken (told literal.quote)) c.read_line_end.ensures.error
 
-pub returns-in-Refused-clause-told : goal.returns-in-Refused-clause-told
-returns-in-Refused-clause-told c =
+pub returns-in-Refused-clause-error : goal.returns-in-Refused-clause-error
+returns-in-Refused-clause-error c =
     let read = c.string_fault-in-Refused.ensures in
     let taken = taken_extended _ _ (sym c.if-not-is_taken.ensures) (ap (λ (m : Meaning). is_plain (meaning_of m)) c.in-Refused.is) in
     told_after _ _ _ _ _ _ (told_decimal _ _ _ _ _ _ _ read.start read.end read.kind taken c.in-Refused.ensures.meaning c.requires.backslash c.in-Some.ensures.some)

@@ -9,7 +9,7 @@ returns-then-c-eq10-clause-found c = cr_lf_found _ _ _ _ c.requires.backslash c.
 pub returns-else-c-eq10-clause-found : goal.returns-else-c-eq10-clause-found
 returns-else-c-eq10-clause-found c = lone_cr_found _ _ _ _ c.requires.backslash c.requires.cr c.in-Some.ensures.some c.if-c-eq10.false
 
-pub returns-in_default-clause-told : goal.returns-in_default-clause-told
-returns-in_default-clause-told c = λ q.
+pub returns-in_default-clause-error : goal.returns-in_default-clause-error
+returns-in_default-clause-error c = λ q.
     let read = c.unterminated.ensures in
     told_end true q _ _ _ _ read.start read.end read.kind (ends_longer _ _ 0x0D refl c.requires.backslash c.requires.cr c.in_default.ensures.none)

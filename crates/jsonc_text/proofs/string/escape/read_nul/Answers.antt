@@ -10,12 +10,12 @@ returns-then-is_ascii_digit-clause-none c = no_zero _ _ _ _ c.requires.backslash
 pub returns-clause-found : goal.returns-clause-found
 returns-clause-found c = zero_found _ _ _ _ c.requires.backslash c.requires.nul c.in-Some.ensures.some (sym c.is_ascii_digit.ensures.value ∙ c.if-is_ascii_digit.false)
 
-pub returns-in_default-clause-told : goal.returns-in_default-clause-told
-returns-in_default-clause-told c = λ q.
+pub returns-in_default-clause-error : goal.returns-in_default-clause-error
+returns-in_default-clause-error c = λ q.
     let read = c.unterminated.ensures in
     told_end true q _ _ _ _ read.start read.end read.kind (ends_longer _ _ 0x30 refl c.requires.backslash c.requires.nul c.in_default.ensures.none)
 
-pub returns-then-is_ascii_digit-clause-told : goal.returns-then-is_ascii_digit-clause-told
-returns-then-is_ascii_digit-clause-told c = λ q.
+pub returns-then-is_ascii_digit-clause-error : goal.returns-then-is_ascii_digit-clause-error
+returns-then-is_ascii_digit-clause-error c = λ q.
     let read = c.string_fault.ensures in
     told_after true q _ _ _ _ (told_octal q _ _ _ _ _ read.start read.end read.kind c.requires.backslash c.requires.nul c.in-Some.ensures.some (sym c.is_ascii_digit.ensures.value ∙ c.if-is_ascii_digit.true))

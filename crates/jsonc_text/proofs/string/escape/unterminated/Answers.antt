@@ -1,6 +1,6 @@
 use Rattle.std.proofs.Common.{◌∙◌, ap, arith, length}
-use Rattle.jsonc_text.proofs.Steps.{rest_end}
-use Rattle.jsonc_text.specs.string.Told.{past}
+use Rattle.jsonc_text.proofs.CharacterSteps.{rest_end}
+use Rattle.jsonc_text.specs.string.Faults.{past}
 use Rattle.jsonc_text.proofs.string.escape.unterminated.Goals as goal
 
 pub returns-clause-end : goal.returns-clause-end

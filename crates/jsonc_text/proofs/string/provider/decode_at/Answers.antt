@@ -1,5 +1,5 @@
 use Rattle.jsonc_text.specs.string.Escapes.{escapes}
-use Rattle.jsonc_text.specs.string.Told.{of_string}
+use Rattle.jsonc_text.specs.string.Faults.{of_string}
 use Rattle.jsonc_text.proofs.lemmas.string.QuotedStrings.{quoted_of_string}
 use Rattle.jsonc_text.proofs.string.provider.decode_at.Goals as goal
 
@@ -10,5 +10,5 @@ returns-in-Err-clause-fault g c =
       boundary = read.places.spans.from;
       order = read.places.order;
       none = λ k v r x. read.none k v r (quoted_of_string (escapes c.args.extended) c.requires.quote.here.0 x);
-      told = λ k. of_string c.requires.quote.allowed (read.told k);
+      error = λ k. of_string c.requires.quote.allowed (read.error k);
     }

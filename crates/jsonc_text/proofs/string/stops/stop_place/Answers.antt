@@ -1,6 +1,6 @@
 use Rattle.std.proofs.Common.{ap, not}
 use Rattle.jsonc_text.specs.string.Between.{is_neither}
-use Rattle.jsonc_text.proofs.Steps.{no_at_end}
+use Rattle.jsonc_text.proofs.CharacterSteps.{no_at_end}
 use Rattle.jsonc_text.proofs.lemmas.string.ByteRuns.{pass_none, pass_more, many_bytes, stop_boundary, stop_lacks, wide_neither, at_end}
 use Rattle.jsonc_text.proofs.string.stops.stop_place.Goals as goal
 

@@ -1,7 +1,7 @@
 use Rattle.std.proofs.Common.{◌≡◌, false, refl, sym, ap, ◌∙◌}
 use Rattle.jsonc_tree.specs.Content.{is_container}
 use Rattle.jsonc_tree.specs.Stored.{LinkedNode, content_of}
-use Rattle.jsonc_tree.proofs.Alike.{leaf_ends, linked_same}
+use Rattle.jsonc_tree.proofs.AlikeNodes.{leaf_ends, linked_same}
 use Rattle.jsonc_tree.proofs.node.Node.set_leaf.Goals as goal
 
 pub returns : goal.returns

@@ -1,7 +1,7 @@
 use Rattle.std.proofs.Common.{rules, ◌≡◌, [], ◌∷◌, length, arith, ap, sym, subst, ◌∙◌}
 use Rattle.jsonc_tree.specs.Stored.{chain_back, StandsBefore}
-use Rattle.jsonc_tree.proofs.Agreeing.{length_shown}
-use Rattle.jsonc_tree.proofs.Sideways.{back_over, back_step}
+use Rattle.jsonc_tree.proofs.AgreeingLinks.{length_shown}
+use Rattle.jsonc_tree.proofs.LinkedRows.{back_over, back_step}
 use Rattle.jsonc_tree.proofs.siblings.PreviousSiblingsIterator.next.Goals as goal
 
 pub returns-in_default-clause-steps : goal.returns-in_default-clause-steps

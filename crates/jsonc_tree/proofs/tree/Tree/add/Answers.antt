@@ -3,7 +3,7 @@ use Rattle.std.specs.Result.{is_ok}
 use Rattle.jsonc_tree.specs.Tree as tree
 use Rattle.jsonc_tree.specs.Changes.{Adds}
 use Rattle.jsonc_tree.specs.Stored.{content_of, nodes_of, bare}
-use Rattle.jsonc_tree.proofs.Unmoved.{either_stored, pushed_stored, pushed_adds}
+use Rattle.jsonc_tree.proofs.UnchangedRows.{either_stored, pushed_stored, pushed_adds}
 use Rattle.jsonc_tree.proofs.tree.Tree.add.Goals as goal
 
 pub invariant_of-self-inside : goal.invariant_of-self-inside

@@ -1,6 +1,6 @@
 use Rattle.std.proofs.Common.{sym, ◌∙◌, vec_len}
 use Rattle.jsonc_tree.specs.Stored.{nodes_of}
-use Rattle.jsonc_tree.proofs.Agreeing.{length_shown}
+use Rattle.jsonc_tree.proofs.AgreeingLinks.{length_shown}
 use Rattle.jsonc_tree.proofs.Order.{parent_within}
 use Rattle.jsonc_tree.proofs.tree.Tree.ancestors.Goals as goal
 

@@ -1,9 +1,9 @@
 use Rattle.std.proofs.Common.{length, ap, ◌∙◌, arith}
 use Rattle.jsonc_tree.specs.Tree as tree
 use Rattle.jsonc_tree.specs.Tree.{children_at}
-use Rattle.jsonc_tree.proofs.Walks.{chain_first}
+use Rattle.jsonc_tree.proofs.LinkSteps.{chain_first}
 use Rattle.jsonc_tree.specs.Stored.{nodes_of}
-use Rattle.jsonc_tree.proofs.Agreeing.{length_shown, row_short}
+use Rattle.jsonc_tree.proofs.AgreeingLinks.{length_shown, row_short}
 use Rattle.jsonc_tree.proofs.tree.Tree.children.Goals as goal
 
 pub invariant_of-result : goal.invariant_of-result

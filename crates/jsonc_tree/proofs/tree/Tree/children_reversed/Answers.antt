@@ -1,10 +1,10 @@
 use Rattle.std.proofs.Common.{length, ap, reverse, ◌∙◌, arith}
 use Rattle.jsonc_tree.specs.Tree as tree
 use Rattle.jsonc_tree.specs.Tree.{children_at}
-use Rattle.jsonc_tree.proofs.Sideways.{back_last}
+use Rattle.jsonc_tree.proofs.LinkedRows.{back_last}
 use Rattle.std.proofs.lemmas.List.{length-reverse}
 use Rattle.jsonc_tree.specs.Stored.{nodes_of}
-use Rattle.jsonc_tree.proofs.Agreeing.{length_shown, row_short}
+use Rattle.jsonc_tree.proofs.AgreeingLinks.{length_shown, row_short}
 use Rattle.jsonc_tree.proofs.tree.Tree.children_reversed.Goals as goal
 
 pub invariant_of-result : goal.invariant_of-result

@@ -1,6 +1,6 @@
 use Rattle.std.proofs.Common.{refl}
 use Rattle.jsonc_tree.specs.Content.{root}
-use Rattle.jsonc_tree.proofs.Unmoved.{alone_stored}
+use Rattle.jsonc_tree.proofs.UnchangedRows.{alone_stored}
 use Rattle.jsonc_tree.proofs.tree.Tree.new.Goals as goal
 
 pub invariant_of-result : goal.invariant_of-result

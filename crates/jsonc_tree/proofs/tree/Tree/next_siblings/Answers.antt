@@ -1,9 +1,9 @@
 use Rattle.std.proofs.Common.{length, ap, ◌∙◌, arith}
 use Rattle.jsonc_tree.specs.Tree as tree
 use Rattle.jsonc_tree.specs.Siblings.{siblings_after}
-use Rattle.jsonc_tree.proofs.Sideways.{after_node, after_short}
+use Rattle.jsonc_tree.proofs.LinkedRows.{after_node, after_short}
 use Rattle.jsonc_tree.specs.Stored.{nodes_of}
-use Rattle.jsonc_tree.proofs.Agreeing.{length_shown}
+use Rattle.jsonc_tree.proofs.AgreeingLinks.{length_shown}
 use Rattle.jsonc_tree.proofs.tree.Tree.next_siblings.Goals as goal
 
 pub invariant_of-result : goal.invariant_of-result

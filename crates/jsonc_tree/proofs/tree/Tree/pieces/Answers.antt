@@ -4,8 +4,8 @@ use Rattle.jsonc_tree.specs.Tree as tree
 use Rattle.jsonc_tree.specs.Tree.{itself}
 use Rattle.jsonc_tree.specs.OrderedTree.{ordered_tree, pieces}
 use Rattle.jsonc_tree.specs.Stored.{nodes_of}
-use Rattle.jsonc_tree.proofs.Agreeing.{length_shown}
-use Rattle.jsonc_tree.proofs.Lending.{pieces_whole, pieces-joined, pieces-count}
+use Rattle.jsonc_tree.proofs.AgreeingLinks.{length_shown}
+use Rattle.jsonc_tree.proofs.PieceList.{pieces_whole, pieces-joined, pieces-count}
 use Rattle.jsonc_tree.proofs.tree.Tree.pieces.Goals as goal
 
 pub invariant_of-result : goal.invariant_of-result

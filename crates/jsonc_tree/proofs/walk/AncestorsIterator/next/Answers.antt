@@ -3,7 +3,7 @@ use Rattle.jsonc_tree.specs.Tree as tree
 use Rattle.jsonc_tree.specs.Tree.{parent_at}
 use Rattle.jsonc_tree.specs.Order.{upward}
 use Rattle.jsonc_tree.specs.Stored.{nodes_of}
-use Rattle.jsonc_tree.proofs.Agreeing.{length_shown}
+use Rattle.jsonc_tree.proofs.AgreeingLinks.{length_shown}
 use Rattle.jsonc_tree.proofs.Order.{upward_is, upward_none, parent_within}
 use Rattle.jsonc_tree.proofs.walk.AncestorsIterator.next.Goals as goal
 

@@ -1,6 +1,6 @@
 use Rattle.std.proofs.Common.{refl, subst, arith}
 use Rattle.jsonc_value.specs.Retained.{AnswersAt}
-use Rattle.jsonc_value.proofs.Retained.{kept_more, kept_same}
+use Rattle.jsonc_value.proofs.RetainedEntries.{kept_more, kept_same}
 use Rattle.jsonc_value.proofs.map.Map.retain.Goals as goal
 
 pub loop-place-preserved-then-not-keep : goal.loop-place-preserved-then-not-keep

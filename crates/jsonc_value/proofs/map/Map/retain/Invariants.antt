@@ -1,5 +1,5 @@
 use Rattle.jsonc_value.specs.Retained.{AnswersAt}
-use Rattle.jsonc_value.proofs.Retained.{Kept}
+use Rattle.jsonc_value.proofs.RetainedEntries.{Kept}
 use Rattle.jsonc_value.proofs.map.Map.retain.Given as goal
 
 abbrev pub invariant-loop-place : goal.invariant-loop-place

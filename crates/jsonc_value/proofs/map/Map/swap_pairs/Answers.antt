@@ -1,7 +1,7 @@
 use Rattle.std.proofs.Common.{length, swap, ap, ◌∙◌, arith}
 use Rattle.std.specs.List.{zip}
 use Rattle.jsonc_value.proofs.Zipped.{length_of_zip}
-use Rattle.jsonc_value.proofs.Retained.{zip_swap}
+use Rattle.jsonc_value.proofs.RetainedEntries.{zip_swap}
 use Rattle.jsonc_value.proofs.map.Map.swap_pairs.Goals as goal
 
 pub swap_indices-requires-clause-a_in_bounds : goal.swap_indices-requires-clause-a_in_bounds

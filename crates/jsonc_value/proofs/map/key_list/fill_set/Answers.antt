@@ -1,6 +1,6 @@
 use Rattle.std.proofs.Common.{◌≡◌, ◌≤◌, ◌++◌, ◌∷◌, [], length, ap, arith, length-append}
 use Rattle.indexmap.specs.IndexSet.{insert_key, spare}
-use Rattle.jsonc_value.proofs.Held.{one_done}
+use Rattle.jsonc_value.proofs.DistinctKeys.{one_done}
 use Rattle.jsonc_value.proofs.map.key_list.fill_set.Goals as goal
 
 pub loop-key-preserved : goal.loop-key-preserved

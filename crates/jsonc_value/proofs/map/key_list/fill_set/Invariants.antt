@@ -1,6 +1,6 @@
 use Rattle.std.proofs.Common.{length, ◌≤◌, vec_len}
 use Rattle.indexmap.specs.IndexSet.{spare}
-use Rattle.jsonc_value.proofs.Held.{Done}
+use Rattle.jsonc_value.proofs.DistinctKeys.{Done}
 use Rattle.jsonc_value.proofs.map.key_list.fill_set.Given as goal
 
 abbrev pub invariant-loop-key : goal.invariant-loop-key

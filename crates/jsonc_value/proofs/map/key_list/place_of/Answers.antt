@@ -1,5 +1,5 @@
 use Rattle.std.proofs.Common.{◌≡◌, ◌<◌, true, length, get_or, ap, sym, ◌∙◌, arith}
-use Rattle.jsonc_value.proofs.Held.{found_at, found_none}
+use Rattle.jsonc_value.proofs.DistinctKeys.{found_at, found_none}
 use Rattle.jsonc_value.proofs.map.key_list.place_of.Goals as goal
 
 pub returns-then-equivalent-clause-index : goal.returns-then-equivalent-clause-index

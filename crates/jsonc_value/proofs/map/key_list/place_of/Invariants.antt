@@ -1,4 +1,4 @@
-use Rattle.jsonc_value.proofs.Held.{FailsBefore}
+use Rattle.jsonc_value.proofs.DistinctKeys.{FailsBefore}
 use Rattle.jsonc_value.proofs.map.key_list.place_of.Given as goal
 
 abbrev pub invariant-loop-place : goal.invariant-loop-place

@@ -1,7 +1,7 @@
 use Rattle.std.proofs.Common.{◌≡◌, false, length, ap, sym, ◌∙◌, subst}
 use Rattle.std.specs.List.{list_any, position_or_len}
 use Rattle.jsonc_value.specs.Held.{held_keys, AreFewDistinct}
-use Rattle.jsonc_value.proofs.Held.{push_distinct}
+use Rattle.jsonc_value.proofs.DistinctKeys.{push_distinct}
 use Rattle.jsonc_value.proofs.Places.{place_absent}
 use Rattle.jsonc_value.proofs.map.key_list.push_held.Goals as goal
 

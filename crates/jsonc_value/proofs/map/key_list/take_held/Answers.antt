@@ -2,7 +2,7 @@ use Rattle.std.proofs.Common.{◌≡◌, ◌<◌, Some, false, length, position,
 use Rattle.std.specs.List.{list_any, find}
 use Rattle.std.specs.Set.{remove_key}
 use Rattle.jsonc_value.specs.Held.{held_keys, AreFewDistinct}
-use Rattle.jsonc_value.proofs.Held.{stands, lacks, remove_distinct}
+use Rattle.jsonc_value.proofs.DistinctKeys.{stands, lacks, remove_distinct}
 use Rattle.jsonc_value.proofs.map.key_list.take_held.Goals as goal
 
 pub returns-in-Some-clause-distinct : goal.returns-in-Some-clause-distinct

@@ -1,12 +1,12 @@
 use Rattle.std.proofs.Common.{refl, true}
 use Rattle.jsonc_ast.specs.to_ast.Context.{last, found_in}
 use Rattle.jsonc_ast.proofs.lemmas.to_ast.Collecting.{ok_is}
-use Rattle.jsonc_ast.proofs.lemmas.to_ast.Given.{is_bracket, is_brace, kept_self, kept_given, colon_given, no_colon_given, stops_given}
+use Rattle.jsonc_ast.proofs.lemmas.to_ast.MovedTokens.{is_bracket, is_brace, kept_self, kept_given, colon_given, no_colon_given, stops_given}
 use Rattle.std.proofs.Common.{◌∙◌, arith, subst, sym, ap, Some, false, inr}
 use Rattle.jsonc_text.specs.Tokens.{scanned_of}
 use Rattle.jsonc_text.specs.Grammar.{Separates, Closes}
 use Rattle.jsonc_ast.specs.to_ast.Context.{options_in}
-use Rattle.jsonc_ast.specs.to_ast.Refusals.{Tells}
+use Rattle.jsonc_ast.specs.to_ast.Refusals.{OutOfMemoryOr}
 use Rattle.jsonc_ast.specs.to_ast.Scanned.{leaf_value}
 use Rattle.jsonc_ast.specs.Views.{name_at}
 use Rattle.jsonc_value.specs.to_value.Views.{name_of}
@@ -18,11 +18,11 @@ use Rattle.jsonc_value.proofs.lemmas.to_value.Elements as elements
 use Rattle.jsonc_value.proofs.lemmas.to_value.Properties as properties
 use Rattle.jsonc_value.proofs.lemmas.to_value.Plains.{string_plain, number_plain, boolean_plain, null_plain}
 use Rattle.jsonc_value.proofs.lemmas.to_value.Leaves.{leaf_self, leaf_nowhere, leaf_element, element_self, string_value}
-use Rattle.jsonc_value.proofs.lemmas.to_value.Named.{name_missing, colon_missing, no_token_for_value, end_for_value, value_refused, property_read, property_put}
+use Rattle.jsonc_value.proofs.lemmas.to_value.NamedValues.{name_missing, colon_missing, no_token_for_value, end_for_value, value_refused, property_read, property_put}
 use Rattle.jsonc_value.specs.declared.value.JsonValue.TheVariants as JsonValue
 use Rattle.jsonc_ast.specs.declared.to_ast.container.Container.TheVariants.{Array, Object}
-use Rattle.jsonc_ast.specs.to_ast.Told.{StopsAtContainer, StopsAtItem}
-use Rattle.jsonc_ast.proofs.lemmas.to_ast.Standing.{first_stops, next_stops, element_comes, element_stops, property_comes, property_stops, name_stops, colon_missing_stops, no_token_stops, no_value_stops, value_told_stops, deep_container_stops, leaf_stops, room_apart}
+use Rattle.jsonc_ast.specs.to_ast.Faults.{StopsAtContainer, StopsAtItem}
+use Rattle.jsonc_ast.proofs.lemmas.to_ast.OpenContainers.{first_stops, next_stops, element_comes, element_stops, property_comes, property_stops, name_stops, colon_missing_stops, no_token_stops, no_value_stops, value_told_stops, deep_container_stops, leaf_stops, room_apart}
 use Rattle.jsonc_ast.proofs.lemmas.to_ast.Tokens.{opens_none}
 use Rattle.jsonc_value.proofs.to_value.values.+parse.Goals as goal
 
@@ -55,18 +55,18 @@ parse_array-returns-clause-found g t c =
 pub parse_array-returns-in_err-check_depth-clause-refused : goal.parse_array-returns-in_err-check_depth-clause-refused
 parse_array-returns-in_err-check_depth-clause-refused g t c =
     let old = c.args.context.now in
-    err_of (Tells (NoValueHere old c.args.count)) c.in_err-check_depth.field-0.0 c.from_residual.result c.from_residual.ensures.1 (inr (elements.array_too_deep old c.args.count c.requires.token c.in_err-check_depth.ensures.refused))
+    err_of (OutOfMemoryOr (NoValueHere old c.args.count)) c.in_err-check_depth.field-0.0 c.from_residual.result c.from_residual.ensures.1 (inr (elements.array_too_deep old c.args.count c.requires.token c.in_err-check_depth.ensures.refused))
 
 pub parse_array-returns-in_err-next-clause-refused : goal.parse_array-returns-in_err-next-clause-refused
 parse_array-returns-in_err-next-clause-refused g t c =
     let old = c.args.context.now in
-    err_of (Tells (NoValueHere old c.args.count)) c.in_err-next.field-0.0 c.from_residual-in_err-next.result c.from_residual-in_err-next.ensures.1 (still (elements.nothing_in_array old c.args.count c.requires.token) c.in_err-next.ensures.refused)
+    err_of (OutOfMemoryOr (NoValueHere old c.args.count)) c.in_err-next.field-0.0 c.from_residual-in_err-next.result c.from_residual-in_err-next.ensures.1 (still (elements.nothing_in_array old c.args.count c.requires.token) c.in_err-next.ensures.refused)
 
 pub parse_array-returns-in_err-parse_element-clause-refused : goal.parse_array-returns-in_err-parse_element-clause-refused
 parse_array-returns-in_err-parse_element-clause-refused g t c =
     let old = c.args.context.now in
     let now = c.loop-next.context in
-    err_of (Tells (NoValueHere old c.args.count)) c.in_err-parse_element.field-0.0 c.from_residual-in_err-parse_element.result c.from_residual-in_err-parse_element.ensures.1
+    err_of (OutOfMemoryOr (NoValueHere old c.args.count)) c.in_err-parse_element.field-0.0 c.from_residual-in_err-parse_element.result c.from_residual-in_err-parse_element.ensures.1
     (still
     (elements.element_refused old now (found_in c.loop-next.context c.loop-next.next) (last c.loop-next.context c.in-Some.token) c.args.count c.loop-next.elements.items c.loop-next.invariant (ap (found_in c.loop-next.context) c.in-Some.is)) c.in_err-parse_element.ensures.refused)
 
@@ -75,7 +75,7 @@ parse_array-returns-in_err-next-2-clause-refused g t c =
     let old = c.args.context.now in
     let now = c.loop-next.context in
     let read = c.in_ok-parse_element.ensures in
-    err_of (Tells (NoValueHere old c.args.count)) c.in_err-next-2.field-0.0 c.from_residual-in_err-next-2.result c.from_residual-in_err-next-2.ensures.1
+    err_of (OutOfMemoryOr (NoValueHere old c.args.count)) c.in_err-next-2.field-0.0 c.from_residual-in_err-next-2.result c.from_residual-in_err-next-2.ensures.1
     (still
     (elements.next_refused old now (found_in c.loop-next.context c.loop-next.next) (last c.loop-next.context c.in-Some.token) c.args.count c.loop-next.elements.items c.loop-next.invariant (ap (found_in c.loop-next.context) c.in-Some.is) c.parse_element.new.context read.found.0 read.kept read.found.1) c.in_err-next-2.ensures.refused)
 
@@ -87,18 +87,18 @@ parse_object-loop-next-init g t c =
 pub parse_object-returns-in_err-check_depth-clause-refused : goal.parse_object-returns-in_err-check_depth-clause-refused
 parse_object-returns-in_err-check_depth-clause-refused g t c =
     let old = c.args.context.now in
-    err_of (Tells (NoValueHere old c.args.count)) c.in_err-check_depth.field-0.0 c.from_residual.result c.from_residual.ensures.1 (inr (properties.object_too_deep old c.args.count c.requires.token c.in_err-check_depth.ensures.refused))
+    err_of (OutOfMemoryOr (NoValueHere old c.args.count)) c.in_err-check_depth.field-0.0 c.from_residual.result c.from_residual.ensures.1 (inr (properties.object_too_deep old c.args.count c.requires.token c.in_err-check_depth.ensures.refused))
 
 pub parse_object-returns-in_err-next-clause-refused : goal.parse_object-returns-in_err-next-clause-refused
 parse_object-returns-in_err-next-clause-refused g t c =
     let old = c.args.context.now in
-    err_of (Tells (NoValueHere old c.args.count)) c.in_err-next.field-0.0 c.from_residual-in_err-next.result c.from_residual-in_err-next.ensures.1 (still (properties.nothing_in_object old c.args.count c.requires.token) c.in_err-next.ensures.refused)
+    err_of (OutOfMemoryOr (NoValueHere old c.args.count)) c.in_err-next.field-0.0 c.from_residual-in_err-next.result c.from_residual-in_err-next.ensures.1 (still (properties.nothing_in_object old c.args.count c.requires.token) c.in_err-next.ensures.refused)
 
 pub parse_object-returns-in_err-parse_property-clause-refused : goal.parse_object-returns-in_err-parse_property-clause-refused
 parse_object-returns-in_err-parse_property-clause-refused g t c =
     let old = c.args.context.now in
     let now = c.loop-next.context in
-    err_of (Tells (NoValueHere old c.args.count)) c.in_err-parse_property.field-0.0 c.from_residual-in_err-parse_property.result c.from_residual-in_err-parse_property.ensures.1
+    err_of (OutOfMemoryOr (NoValueHere old c.args.count)) c.in_err-parse_property.field-0.0 c.from_residual-in_err-parse_property.result c.from_residual-in_err-parse_property.ensures.1
     (still
     (properties.property_refused old now (found_in c.loop-next.context c.loop-next.next) (last c.loop-next.context c.in-Some.token) c.args.count c.loop-next.properties c.loop-next.invariant (ap (found_in c.loop-next.context) c.in-Some.is)) c.in_err-parse_property.ensures.refused)
 
@@ -107,7 +107,7 @@ parse_object-returns-in_err-next-2-clause-refused g t c =
     let old = c.args.context.now in
     let now = c.loop-next.context in
     let read = c.in_ok-parse_property.ensures in
-    err_of (Tells (NoValueHere old c.args.count)) c.in_err-next-2.field-0.0 c.from_residual-in_err-next-2.result c.from_residual-in_err-next-2.ensures.1
+    err_of (OutOfMemoryOr (NoValueHere old c.args.count)) c.in_err-next-2.field-0.0 c.from_residual-in_err-next-2.result c.from_residual-in_err-next-2.ensures.1
     (still
     (properties.next_refused old now (found_in c.loop-next.context c.loop-next.next) (last c.loop-next.context c.in-Some.token) c.args.count c.loop-next.properties c.loop-next.invariant (ap (found_in c.loop-next.context) c.in-Some.is) c.parse_property.new.context read.found.0 read.kept read.found.1) c.in_err-next-2.ensures.refused)
 
@@ -134,18 +134,18 @@ parse_object-returns-clause-found g t c =
 
 pub parse_property-returns-in_err-name-clause-refused : goal.parse_property-returns-in_err-name-clause-refused
 parse_property-returns-in_err-name-clause-refused g t c =
-    err_of (Tells (NoPropertyHere c.args.context.now c.args.count)) c.in_err-name.field-0.0 c.from_residual.result c.from_residual.ensures.1 (inr (name_missing c.args.context.now c.args.count c.in_err-name.ensures.refused))
+    err_of (OutOfMemoryOr (NoPropertyHere c.args.context.now c.args.count)) c.in_err-name.field-0.0 c.from_residual.result c.from_residual.ensures.1 (inr (name_missing c.args.context.now c.args.count c.in_err-name.ensures.refused))
 
 pub parse_property-returns-in_err-pass_colon-clause-refused : goal.parse_property-returns-in_err-pass_colon-clause-refused
 parse_property-returns-in_err-pass_colon-clause-refused g t c =
     let old = c.args.context.now in
-    err_of (Tells (NoPropertyHere old c.args.count)) c.in_err-pass_colon.field-0.0 c.from_residual-in_err-pass_colon.result c.from_residual-in_err-pass_colon.ensures.1
+    err_of (OutOfMemoryOr (NoPropertyHere old c.args.count)) c.in_err-pass_colon.field-0.0 c.from_residual-in_err-pass_colon.result c.from_residual-in_err-pass_colon.ensures.1
     (still (λ n. colon_missing old (name_at c.in_ok-name.field-0) c.args.count c.in_ok-name.ensures.name (no_colon_given c.args.context.now c.name.new.self c.name.ensures.gives n)) c.in_err-pass_colon.ensures.refused)
 
 pub parse_property-returns-in_err-token-clause-refused : goal.parse_property-returns-in_err-token-clause-refused
 parse_property-returns-in_err-token-clause-refused g t c =
     let old = c.args.context.now in
-    err_of (Tells (NoPropertyHere old c.args.count)) c.in_err-token.field-0.0 c.from_residual-in_err-token.result c.from_residual-in_err-token.ensures.1
+    err_of (OutOfMemoryOr (NoPropertyHere old c.args.count)) c.in_err-token.field-0.0 c.from_residual-in_err-token.result c.from_residual-in_err-token.ensures.1
     (still (no_token_for_value old c.pass_colon.new.self (name_at c.in_ok-name.field-0) c.args.count c.in_ok-name.ensures.name (kept_given c.args.context.now c.name.new.self c.pass_colon.new.self c.name.ensures.gives c.pass_colon.ensures.kept) (colon_given c.args.context.now c.name.new.self c.pass_colon.new.self c.name.ensures.gives c.in_ok-pass_colon.ensures.found)) c.in_err-token.ensures.refused)
 
 pub parse_property-returns-in_default-clause-refused : goal.parse_property-returns-in_default-clause-refused
@@ -157,7 +157,7 @@ pub parse_property-returns-in_err-value-clause-refused : goal.parse_property-ret
 parse_property-returns-in_err-value-clause-refused g t c =
     let old = c.args.context.now in
     let read = c.in_ok-token.ensures in
-    err_of (Tells (NoPropertyHere old c.args.count)) c.in_err-value.field-0.0 c.from_residual-in_err-value.result c.from_residual-in_err-value.ensures.1
+    err_of (OutOfMemoryOr (NoPropertyHere old c.args.count)) c.in_err-value.field-0.0 c.from_residual-in_err-value.result c.from_residual-in_err-value.ensures.1
     (still
     (value_refused old c.pass_colon.new.self (name_at c.in_ok-name.field-0) c.args.count c.in_ok-name.ensures.name (kept_given c.args.context.now c.name.new.self c.pass_colon.new.self c.name.ensures.gives c.pass_colon.ensures.kept) (colon_given c.args.context.now c.name.new.self c.pass_colon.new.self c.name.ensures.gives c.in_ok-pass_colon.ensures.found) c.scan.new.self (found_in c.scan.new.self c.in_ok-token.field-0) read.kept read.found read.lexeme) c.in_err-value.ensures.refused)
 
@@ -180,32 +180,32 @@ pub parse_value-returns-in_default-clause-refused : goal.parse_value-returns-in_
 parse_value-returns-in_default-clause-refused g t c =
     err_some c.parse_leaf.result (λ e n. inr (leaf_nowhere c.args.context.now (last c.args.context.now c.args.token) c.args.count c.requires.token (λ e. c.in_default.not-OpenBracket (is_bracket c.args.context.now.content c.args.token e)) (λ e. c.in_default.not-OpenBrace (is_brace c.args.context.now.content c.args.token e)) n)) c.parse_leaf.ensures.refused
 
-pub parse_array-returns-in_err-check_depth-clause-told : goal.parse_array-returns-in_err-check_depth-clause-told
-parse_array-returns-in_err-check_depth-clause-told g t c =
+pub parse_array-returns-in_err-check_depth-clause-error : goal.parse_array-returns-in_err-check_depth-clause-error
+parse_array-returns-in_err-check_depth-clause-error g t c =
     let old = c.args.context.now in
     let deep = c.in_err-check_depth.ensures in
     let e = c.in_err-check_depth.field-0.0 in
     err_of (StopsAtContainer old false c.args.count) e c.from_residual.result c.from_residual.ensures.1 (deep_container_stops Array old c.args.count e c.requires.token deep.refused deep.kind deep.range)
 
-pub parse_array-returns-in_err-next-clause-told : goal.parse_array-returns-in_err-next-clause-told
-parse_array-returns-in_err-next-clause-told g t c =
+pub parse_array-returns-in_err-next-clause-error : goal.parse_array-returns-in_err-next-clause-error
+parse_array-returns-in_err-next-clause-error g t c =
     let old = c.args.context.now in
     let e = c.in_err-next.field-0.0 in
     err_of (StopsAtContainer old false c.args.count) e c.from_residual-in_err-next.result c.from_residual-in_err-next.ensures.1
-    (λ q d s many starts. first_stops false Array old c.args.count q d s e c.requires.token (room_apart Array c.args.count c.in_ok-check_depth.ensures.within) many starts (λ q. c.in_err-next.ensures.told q _ tt))
+    (λ q d s many starts. first_stops false Array old c.args.count q d s e c.requires.token (room_apart Array c.args.count c.in_ok-check_depth.ensures.within) many starts (λ q. c.in_err-next.ensures.error q _ tt))
 
-pub parse_array-returns-in_err-parse_element-clause-told : goal.parse_array-returns-in_err-parse_element-clause-told
-parse_array-returns-in_err-parse_element-clause-told g t c =
+pub parse_array-returns-in_err-parse_element-clause-error : goal.parse_array-returns-in_err-parse_element-clause-error
+parse_array-returns-in_err-parse_element-clause-error g t c =
     let old = c.args.context.now in
     let now = c.loop-next.context in
     let inv = c.loop-next.invariant in
     let reading = elements.reading_some old now (found_in c.loop-next.context c.loop-next.next) (last c.loop-next.context c.in-Some.token) c.args.count c.loop-next.elements.items inv (ap (found_in c.loop-next.context) c.in-Some.is) in
     let e = c.in_err-parse_element.field-0.0 in
     err_of (StopsAtContainer old false c.args.count) e c.from_residual-in_err-parse_element.result c.from_residual-in_err-parse_element.ensures.1
-    (λ q d s many starts. element_stops false old now (last c.loop-next.context c.in-Some.token) c.args.count q d s e inv.kept (reading q d s many starts) many c.in_err-parse_element.ensures.told)
+    (λ q d s many starts. element_stops false old now (last c.loop-next.context c.in-Some.token) c.args.count q d s e inv.kept (reading q d s many starts) many c.in_err-parse_element.ensures.error)
 
-pub parse_array-returns-in_err-next-2-clause-told : goal.parse_array-returns-in_err-next-2-clause-told
-parse_array-returns-in_err-next-2-clause-told g t c =
+pub parse_array-returns-in_err-next-2-clause-error : goal.parse_array-returns-in_err-next-2-clause-error
+parse_array-returns-in_err-next-2-clause-error g t c =
     let old = c.args.context.now in
     let now = c.loop-next.context in
     let inv = c.loop-next.invariant in
@@ -216,34 +216,34 @@ parse_array-returns-in_err-next-2-clause-told g t c =
     err_of (StopsAtContainer old false c.args.count) e c.from_residual-in_err-next-2.result c.from_residual-in_err-next-2.ensures.1
     (λ q d s many starts.
     let h = reading q d s many starts in
-    next_stops false Array old now mid inv.kept read.kept (last c.loop-next.context c.in-Some.token) q d s h (element_comes false old now mid (last c.loop-next.context c.in-Some.token) q d s read.found.1.value c.args.count h read.kept read.found.1.stands many read.found.1.within) e (λ q. c.in_err-next-2.ensures.told q _ tt))
+    next_stops false Array old now mid inv.kept read.kept (last c.loop-next.context c.in-Some.token) q d s h (element_comes false old now mid (last c.loop-next.context c.in-Some.token) q d s read.found.1.value c.args.count h read.kept read.found.1.stands many read.found.1.within) e (λ q. c.in_err-next-2.ensures.error q _ tt))
 
-pub parse_object-returns-in_err-check_depth-clause-told : goal.parse_object-returns-in_err-check_depth-clause-told
-parse_object-returns-in_err-check_depth-clause-told g t c =
+pub parse_object-returns-in_err-check_depth-clause-error : goal.parse_object-returns-in_err-check_depth-clause-error
+parse_object-returns-in_err-check_depth-clause-error g t c =
     let old = c.args.context.now in
     let deep = c.in_err-check_depth.ensures in
     let e = c.in_err-check_depth.field-0.0 in
     err_of (StopsAtContainer old false c.args.count) e c.from_residual.result c.from_residual.ensures.1 (deep_container_stops Object old c.args.count e c.requires.token deep.refused deep.kind deep.range)
 
-pub parse_object-returns-in_err-next-clause-told : goal.parse_object-returns-in_err-next-clause-told
-parse_object-returns-in_err-next-clause-told g t c =
+pub parse_object-returns-in_err-next-clause-error : goal.parse_object-returns-in_err-next-clause-error
+parse_object-returns-in_err-next-clause-error g t c =
     let old = c.args.context.now in
     let e = c.in_err-next.field-0.0 in
     err_of (StopsAtContainer old false c.args.count) e c.from_residual-in_err-next.result c.from_residual-in_err-next.ensures.1
-    (λ q d s many starts. first_stops false Object old c.args.count q d s e c.requires.token (room_apart Object c.args.count c.in_ok-check_depth.ensures.within) many starts (λ q. c.in_err-next.ensures.told q _ tt))
+    (λ q d s many starts. first_stops false Object old c.args.count q d s e c.requires.token (room_apart Object c.args.count c.in_ok-check_depth.ensures.within) many starts (λ q. c.in_err-next.ensures.error q _ tt))
 
-pub parse_object-returns-in_err-parse_property-clause-told : goal.parse_object-returns-in_err-parse_property-clause-told
-parse_object-returns-in_err-parse_property-clause-told g t c =
+pub parse_object-returns-in_err-parse_property-clause-error : goal.parse_object-returns-in_err-parse_property-clause-error
+parse_object-returns-in_err-parse_property-clause-error g t c =
     let old = c.args.context.now in
     let now = c.loop-next.context in
     let inv = c.loop-next.invariant in
     let reading = properties.reading_some old now (found_in c.loop-next.context c.loop-next.next) (last c.loop-next.context c.in-Some.token) c.args.count c.loop-next.properties inv (ap (found_in c.loop-next.context) c.in-Some.is) in
     let e = c.in_err-parse_property.field-0.0 in
     err_of (StopsAtContainer old false c.args.count) e c.from_residual-in_err-parse_property.result c.from_residual-in_err-parse_property.ensures.1
-    (λ q d s many starts. property_stops false old now (last c.loop-next.context c.in-Some.token) c.args.count q d s e inv.kept (reading q d s many starts) many c.in_err-parse_property.ensures.told)
+    (λ q d s many starts. property_stops false old now (last c.loop-next.context c.in-Some.token) c.args.count q d s e inv.kept (reading q d s many starts) many c.in_err-parse_property.ensures.error)
 
-pub parse_object-returns-in_err-next-2-clause-told : goal.parse_object-returns-in_err-next-2-clause-told
-parse_object-returns-in_err-next-2-clause-told g t c =
+pub parse_object-returns-in_err-next-2-clause-error : goal.parse_object-returns-in_err-next-2-clause-error
+parse_object-returns-in_err-next-2-clause-error g t c =
     let old = c.args.context.now in
     let now = c.loop-next.context in
     let inv = c.loop-next.invariant in
@@ -254,55 +254,55 @@ parse_object-returns-in_err-next-2-clause-told g t c =
     err_of (StopsAtContainer old false c.args.count) e c.from_residual-in_err-next-2.result c.from_residual-in_err-next-2.ensures.1
     (λ q d s many starts.
     let h = reading q d s many starts in
-    next_stops false Object old now mid inv.kept read.kept (last c.loop-next.context c.in-Some.token) q d s h (property_comes false old now mid (last c.loop-next.context c.in-Some.token) q d s (name_of read.found.0.0) read.found.1.value c.args.count h read.kept read.found.1.stands many (omega (arith, read.found.1.within))) e (λ q. c.in_err-next-2.ensures.told q _ tt))
+    next_stops false Object old now mid inv.kept read.kept (last c.loop-next.context c.in-Some.token) q d s h (property_comes false old now mid (last c.loop-next.context c.in-Some.token) q d s (name_of read.found.0.0) read.found.1.value c.args.count h read.kept read.found.1.stands many (omega (arith, read.found.1.within))) e (λ q. c.in_err-next-2.ensures.error q _ tt))
 
-pub parse_property-returns-in_err-name-clause-told : goal.parse_property-returns-in_err-name-clause-told
-parse_property-returns-in_err-name-clause-told g t c =
+pub parse_property-returns-in_err-name-clause-error : goal.parse_property-returns-in_err-name-clause-error
+parse_property-returns-in_err-name-clause-error g t c =
     let old = c.args.context.now in
     let e = c.in_err-name.field-0.0 in
     err_of (StopsAtItem Object old (last c.args.context.now c.args.token) false c.args.count) e c.from_residual.result c.from_residual.ensures.1
-    (λ q d s many starts. name_stops false old (last c.args.context.now c.args.token) q d s c.requires.token starts e c.in_err-name.ensures.told)
+    (λ q d s many starts. name_stops false old (last c.args.context.now c.args.token) q d s c.requires.token starts e c.in_err-name.ensures.error)
 
-pub parse_property-returns-in_err-pass_colon-clause-told : goal.parse_property-returns-in_err-pass_colon-clause-told
-parse_property-returns-in_err-pass_colon-clause-told g t c =
+pub parse_property-returns-in_err-pass_colon-clause-error : goal.parse_property-returns-in_err-pass_colon-clause-error
+parse_property-returns-in_err-pass_colon-clause-error g t c =
     let old = c.args.context.now in
     let e = c.in_err-pass_colon.field-0.0 in
     err_of (StopsAtItem Object old (last c.args.context.now c.args.token) false c.args.count) e c.from_residual-in_err-pass_colon.result c.from_residual-in_err-pass_colon.ensures.1
-    (λ q d s many starts. colon_missing_stops false old (last c.args.context.now c.args.token) q d s c.requires.token starts (name_at c.in_ok-name.field-0) c.in_ok-name.ensures.name e (stops_given c.args.context.now c.name.new.self e c.name.ensures.gives c.in_err-pass_colon.ensures.told false _))
+    (λ q d s many starts. colon_missing_stops false old (last c.args.context.now c.args.token) q d s c.requires.token starts (name_at c.in_ok-name.field-0) c.in_ok-name.ensures.name e (stops_given c.args.context.now c.name.new.self e c.name.ensures.gives c.in_err-pass_colon.ensures.error false _))
 
-pub parse_property-returns-in_err-token-clause-told : goal.parse_property-returns-in_err-token-clause-told
-parse_property-returns-in_err-token-clause-told g t c =
+pub parse_property-returns-in_err-token-clause-error : goal.parse_property-returns-in_err-token-clause-error
+parse_property-returns-in_err-token-clause-error g t c =
     let old = c.args.context.now in
     let e = c.in_err-token.field-0.0 in
     err_of (StopsAtItem Object old (last c.args.context.now c.args.token) false c.args.count) e c.from_residual-in_err-token.result c.from_residual-in_err-token.ensures.1
-    (λ q d s many starts. no_token_stops false old (last c.args.context.now c.args.token) q d s c.requires.token starts (name_at c.in_ok-name.field-0) c.in_ok-name.ensures.name c.pass_colon.new.self (kept_given c.args.context.now c.name.new.self c.pass_colon.new.self c.name.ensures.gives c.pass_colon.ensures.kept) (colon_given c.args.context.now c.name.new.self c.pass_colon.new.self c.name.ensures.gives c.in_ok-pass_colon.ensures.found) e c.in_err-token.ensures.told)
+    (λ q d s many starts. no_token_stops false old (last c.args.context.now c.args.token) q d s c.requires.token starts (name_at c.in_ok-name.field-0) c.in_ok-name.ensures.name c.pass_colon.new.self (kept_given c.args.context.now c.name.new.self c.pass_colon.new.self c.name.ensures.gives c.pass_colon.ensures.kept) (colon_given c.args.context.now c.name.new.self c.pass_colon.new.self c.name.ensures.gives c.in_ok-pass_colon.ensures.found) e c.in_err-token.ensures.error)
 
-pub parse_property-returns-in_default-clause-told : goal.parse_property-returns-in_default-clause-told
-parse_property-returns-in_default-clause-told g t c = λ q d s many starts.
+pub parse_property-returns-in_default-clause-error : goal.parse_property-returns-in_default-clause-error
+parse_property-returns-in_default-clause-error g t c = λ q d s many starts.
     let old = c.args.context.now in
     let read = c.in_ok-token.ensures in
     let small = c.requires.around in
     no_value_stops false old (last c.args.context.now c.args.token) q d s c.requires.token starts (name_at c.in_ok-name.field-0) c.in_ok-name.ensures.name c.pass_colon.new.self (kept_given c.args.context.now c.name.new.self c.pass_colon.new.self c.name.ensures.gives c.pass_colon.ensures.kept) (colon_given c.args.context.now c.name.new.self c.pass_colon.new.self c.name.ensures.gives c.in_ok-pass_colon.ensures.found) c.scan.new.self (found_in c.scan.new.self c.in_ok-token.field-0) read.kept read.found read.lexeme
     (ap (found_in c.scan.new.self) c.in_default.is) c.fault_here.result (omega (arith, many, small)) c.fault_here.ensures.kind c.fault_here.ensures.range
 
-pub parse_property-returns-in_err-value-clause-told : goal.parse_property-returns-in_err-value-clause-told
-parse_property-returns-in_err-value-clause-told g t c =
+pub parse_property-returns-in_err-value-clause-error : goal.parse_property-returns-in_err-value-clause-error
+parse_property-returns-in_err-value-clause-error g t c =
     let old = c.args.context.now in
     let read = c.in_ok-token.ensures in
     let e = c.in_err-value.field-0.0 in
     err_of (StopsAtItem Object old (last c.args.context.now c.args.token) false c.args.count) e c.from_residual-in_err-value.result c.from_residual-in_err-value.ensures.1
     (λ q d s many starts. value_told_stops false old (last c.args.context.now c.args.token) q d s c.requires.token starts (name_at c.in_ok-name.field-0) c.in_ok-name.ensures.name c.pass_colon.new.self (kept_given c.args.context.now c.name.new.self c.pass_colon.new.self c.name.ensures.gives c.pass_colon.ensures.kept) (colon_given c.args.context.now c.name.new.self c.pass_colon.new.self c.name.ensures.gives c.in_ok-pass_colon.ensures.found) c.scan.new.self (found_in c.scan.new.self c.in_ok-token.field-0) read.kept read.found read.lexeme
-    (last c.scan.new.self c.in-Some.token) (ap (found_in c.scan.new.self) c.in-Some.is) e c.args.count many c.in_err-value.ensures.told)
+    (last c.scan.new.self c.in-Some.token) (ap (found_in c.scan.new.self) c.in-Some.is) e c.args.count many c.in_err-value.ensures.error)
 
-pub parse_value-returns-in_default-clause-told : goal.parse_value-returns-in_default-clause-told
-parse_value-returns-in_default-clause-told g t c =
-    err_some c.parse_leaf.result (λ e told. leaf_stops false c.args.context.now (last c.args.context.now c.args.token) e c.args.count c.requires.token c.requires.around (told (opens_none (last c.args.context.now c.args.token) (λ e. c.in_default.not-OpenBracket (is_bracket c.args.context.now.content c.args.token e)) (λ e. c.in_default.not-OpenBrace (is_brace c.args.context.now.content c.args.token e))))) c.parse_leaf.ensures.told
+pub parse_value-returns-in_default-clause-error : goal.parse_value-returns-in_default-clause-error
+parse_value-returns-in_default-clause-error g t c =
+    err_some c.parse_leaf.result (λ e told. leaf_stops false c.args.context.now (last c.args.context.now c.args.token) e c.args.count c.requires.token c.requires.around (told (opens_none (last c.args.context.now c.args.token) (λ e. c.in_default.not-OpenBracket (is_bracket c.args.context.now.content c.args.token e)) (λ e. c.in_default.not-OpenBrace (is_brace c.args.context.now.content c.args.token e))))) c.parse_leaf.ensures.error
 
-pub parse_value-returns-in-Err-clause-told : goal.parse_value-returns-in-Err-clause-told
-parse_value-returns-in-Err-clause-told g t c = λ q d s many starts. c.in-Err.ensures.told q d s many (starts.may, starts.gap)
+pub parse_value-returns-in-Err-clause-error : goal.parse_value-returns-in-Err-clause-error
+parse_value-returns-in-Err-clause-error g t c = λ q d s many starts. c.in-Err.ensures.error q d s many (starts.may, starts.gap)
 
-pub parse_value-returns-in-Err-parse_object-clause-told : goal.parse_value-returns-in-Err-parse_object-clause-told
-parse_value-returns-in-Err-parse_object-clause-told g t c = λ q d s many starts. c.in-Err-parse_object.ensures.told q d s many (starts.may, starts.gap)
+pub parse_value-returns-in-Err-parse_object-clause-error : goal.parse_value-returns-in-Err-parse_object-clause-error
+parse_value-returns-in-Err-parse_object-clause-error g t c = λ q d s many starts. c.in-Err-parse_object.ensures.error q d s many (starts.may, starts.gap)
 
 pub parse_element-returns-in-String-clause-found : goal.parse_element-returns-in-String-clause-found
 parse_element-returns-in-String-clause-found g t c =

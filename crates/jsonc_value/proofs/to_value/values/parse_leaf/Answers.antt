@@ -14,6 +14,6 @@ returns-clause-found g c = leaf_reads c.args.context.now (last c.args.context.no
 pub returns-in_default-clause-refused : goal.returns-in_default-clause-refused
 returns-in_default-clause-refused g c = no_literal_here c.args.context.now (last c.args.context.now c.args.token) c.leaf.result c.requires c.in_default.is c.leaf.ensures.value
 
-pub returns-in_default-clause-told : goal.returns-in_default-clause-told
-returns-in_default-clause-told g c = λ opens.
+pub returns-in_default-clause-error : goal.returns-in_default-clause-error
+returns-in_default-clause-error g c = λ opens.
     is_unexpected c.args.context.now (last c.args.context.now c.args.token) c.fault_here.result opens (sym c.leaf.ensures.value ∙ ap (option_map plain) c.in_default.is) (c.fault_here.ensures.kind ∙ c.unexpected-kind.ensures.kind ∙ ap (λ x. unexpected_kind (scanned_of (token_held c.args.token x))) c.in_default.ensures.stays) c.fault_here.ensures.range

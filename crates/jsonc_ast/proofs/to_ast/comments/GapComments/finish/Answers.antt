@@ -1,4 +1,4 @@
-use Rattle.jsonc_ast.proofs.lemmas.to_ast.Noting.{shows_all}
+use Rattle.jsonc_ast.proofs.lemmas.to_ast.NotedComments.{shows_all}
 use Rattle.jsonc_ast.proofs.to_ast.comments.GapComments.finish.Goals as goal
 
 pub returns : goal.returns

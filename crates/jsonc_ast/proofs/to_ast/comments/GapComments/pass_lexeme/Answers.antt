@@ -1,6 +1,6 @@
 use Rattle.std.proofs.Common.{refl}
 use Rattle.jsonc_ast.specs.to_ast.Comments.{placed_from}
-use Rattle.jsonc_ast.proofs.lemmas.to_ast.Noting.{passes_lexeme}
+use Rattle.jsonc_ast.proofs.lemmas.to_ast.NotedComments.{passes_lexeme}
 use Rattle.jsonc_ast.proofs.to_ast.comments.GapComments.pass_lexeme.Goals as goal
 
 pub returns : goal.returns

@@ -1,6 +1,6 @@
 use Rattle.std.proofs.Common.{sym}
 use Rattle.jsonc_ast.specs.to_ast.Context.{last}
-use Rattle.jsonc_ast.proofs.lemmas.to_ast.Lent.{copy_collected}
+use Rattle.jsonc_ast.proofs.lemmas.to_ast.LentStrings.{copy_collected}
 use Rattle.jsonc_ast.proofs.to_ast.context.Context.collect.Goals as goal
 
 pub returns-clause-lent : goal.returns-clause-lent

@@ -2,7 +2,7 @@ use Rattle.std.proofs.Common.{ap}
 use Rattle.jsonc_ast.specs.to_ast.Context.{last, found_in}
 use Rattle.std.proofs.Common.{inr, ◌∷◌, is_some, refl}
 use Rattle.jsonc_ast.specs.to_ast.Reached.{container, first}
-use Rattle.jsonc_ast.specs.to_ast.Told.{StopsInside}
+use Rattle.jsonc_ast.specs.to_ast.Faults.{StopsInside}
 use Rattle.jsonc_ast.proofs.lemmas.to_ast.Stopping.{stops_here, open_stops}
 use Rattle.jsonc_ast.specs.to_ast.Context.{options_in}
 use Rattle.jsonc_ast.specs.to_ast.Refusals.{after}
@@ -35,20 +35,20 @@ returns-clause-stands g c =
     let read = c.in_ok-first.ensures in
     closes_none c.args.self.now c.scan.new.self (found_in c.scan.new.self c.in_ok-first.field-0) c.scan.ensures.kept read.found read.lexeme (last c.scan.new.self c.in-Some.first) (ap (found_in c.scan.new.self) c.in-Some.is) c.args.container (refuted c.closes.ensures.1 c.if-closes.false)
 
-pub returns-in_err-first-clause-told : goal.returns-in_err-first-clause-told
-returns-in_err-first-clause-told g c =
+pub returns-in_err-first-clause-error : goal.returns-in_err-first-clause-error
+returns-in_err-first-clause-error g c =
     let old = c.args.self.now in
     err_of (StopsInside c.args.container c.args.start (first c.args.container) old) c.in_err-first.field-0.0 c.from_residual.result c.from_residual.ensures.1
-    (λ q a h. stops_here old (is_some c.args.start) (container c.args.container a ∷ q) (first c.args.container) c.in_err-first.field-0.0 c.in_err-first.ensures.told)
+    (λ q a h. stops_here old (is_some c.args.start) (container c.args.container a ∷ q) (first c.args.container) c.in_err-first.field-0.0 c.in_err-first.ensures.error)
 
-pub returns-in_default-clause-told : goal.returns-in_default-clause-told
-returns-in_default-clause-told g c =
+pub returns-in_default-clause-error : goal.returns-in_default-clause-error
+returns-in_default-clause-error g c =
     let old = c.args.self.now in
     let new = c.scan.new.self in
     let read = c.in_ok-first.ensures in
     let kept = c.scan.ensures.kept in
     open_stops old new (found_in c.scan.new.self c.in_ok-first.field-0) kept read.found read.lexeme (ap (found_in c.scan.new.self) c.in_default.is) c.args.container c.args.start c.unterminated.result
-    (open_before old new c.args.container c.args.start c.unterminated.result kept (c.unterminated.ensures.told (end_here old new (found_in c.scan.new.self c.in_ok-first.field-0) kept read.found read.lexeme (ap (found_in c.scan.new.self) c.in_default.is)))) (first c.args.container) (λ whole q. refl)
+    (open_before old new c.args.container c.args.start c.unterminated.result kept (c.unterminated.ensures.error (end_here old new (found_in c.scan.new.self c.in_ok-first.field-0) kept read.found read.lexeme (ap (found_in c.scan.new.self) c.in_default.is)))) (first c.args.container) (λ whole q. refl)
 
 pub returns-in_default-clause-fault : goal.returns-in_default-clause-fault
 returns-in_default-clause-fault g c = subst (λ b. IsFault b c.unterminated.result) c.scan.ensures.kept.text c.unterminated.ensures.fault

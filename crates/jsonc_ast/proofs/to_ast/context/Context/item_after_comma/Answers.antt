@@ -3,7 +3,7 @@ use Rattle.std.proofs.Common.{inr, sym, ap, ◌∙◌, ◌∷◌, is_some, refl}
 use Rattle.jsonc_ast.specs.to_ast.Context.{IsBracket}
 use Rattle.jsonc_ast.specs.to_ast.Refusals.{here}
 use Rattle.jsonc_ast.specs.to_ast.Reached.{container, further}
-use Rattle.jsonc_ast.specs.to_ast.Told.{StopsInside}
+use Rattle.jsonc_ast.specs.to_ast.Faults.{StopsInside}
 use Rattle.jsonc_ast.proofs.lemmas.to_ast.Stopping.{stops_here, open_stops, trailing_stops}
 use Rattle.jsonc_ast.specs.to_ast.Context.{options_in}
 use Rattle.jsonc_ast.specs.to_ast.Refusals.{after}
@@ -43,24 +43,24 @@ returns-then-not-closes-clause-stands g c =
     let read = c.in_ok-token.ensures in
     closes_none c.args.self.now c.scan.new.self (found_in c.scan.new.self c.in_ok-token.field-0) c.scan.ensures.kept read.found read.lexeme (last c.scan.new.self c.in-Some.token) (ap (found_in c.scan.new.self) c.in-Some.is) c.args.container (refuted c.closes.ensures.1 c.if-not-closes.true)
 
-pub returns-in_err-token-clause-told : goal.returns-in_err-token-clause-told
-returns-in_err-token-clause-told g c =
+pub returns-in_err-token-clause-error : goal.returns-in_err-token-clause-error
+returns-in_err-token-clause-error g c =
     let old = c.args.self.now in
     let k = c.args.container in
     err_of (λ e. IsBracket 0x2C old → StopsInside k c.args.start (further k (here old)) old e) c.in_err-token.field-0.0 c.from_residual.result c.from_residual.ensures.1
-    (λ one q a h. stops_here old (is_some c.args.start) (container k a ∷ q) (further k (here old)) c.in_err-token.field-0.0 c.in_err-token.ensures.told)
+    (λ one q a h. stops_here old (is_some c.args.start) (container k a ∷ q) (further k (here old)) c.in_err-token.field-0.0 c.in_err-token.ensures.error)
 
-pub returns-in_default-clause-told : goal.returns-in_default-clause-told
-returns-in_default-clause-told g c = λ one.
+pub returns-in_default-clause-error : goal.returns-in_default-clause-error
+returns-in_default-clause-error g c = λ one.
     let old = c.args.self.now in
     let new = c.scan.new.self in
     let read = c.in_ok-token.ensures in
     let kept = c.scan.ensures.kept in
     open_stops old new (found_in c.scan.new.self c.in_ok-token.field-0) kept read.found read.lexeme (ap (found_in c.scan.new.self) c.in_default.is) c.args.container c.args.start c.unterminated.result
-    (open_before old new c.args.container c.args.start c.unterminated.result kept (c.unterminated.ensures.told (end_here old new (found_in c.scan.new.self c.in_ok-token.field-0) kept read.found read.lexeme (ap (found_in c.scan.new.self) c.in_default.is)))) (further c.args.container (here old)) (λ whole q. refl)
+    (open_before old new c.args.container c.args.start c.unterminated.result kept (c.unterminated.ensures.error (end_here old new (found_in c.scan.new.self c.in_ok-token.field-0) kept read.found read.lexeme (ap (found_in c.scan.new.self) c.in_default.is)))) (further c.args.container (here old)) (λ whole q. refl)
 
-pub returns-then-not-self-clause-told : goal.returns-then-not-self-clause-told
-returns-then-not-self-clause-told g c = λ one q a from.
+pub returns-then-not-self-clause-error : goal.returns-then-not-self-clause-error
+returns-then-not-self-clause-error g c = λ one q a from.
     let read = c.in_ok-token.ensures in
     let new = c.scan.new.self in
     trailing_stops c.args.self.now new (found_in c.scan.new.self c.in_ok-token.field-0) c.scan.ensures.kept read.found read.lexeme (last c.scan.new.self c.in-Some.token) (ap (found_in c.scan.new.self) c.in-Some.is) c.args.container (c.closes.ensures.0 c.if-not-closes.false) c.fault.result

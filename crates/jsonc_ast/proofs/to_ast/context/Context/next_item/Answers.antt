@@ -3,7 +3,7 @@ use Rattle.std.proofs.Common.{inr, sym, ap, ◌∙◌, ◌∷◌, Some, is_some,
 use Rattle.jsonc_text.specs.declared.tokens.Token.TheVariants as token
 use Rattle.jsonc_ast.specs.to_ast.Context.{text_in}
 use Rattle.jsonc_ast.specs.to_ast.Reached.{container, comma}
-use Rattle.jsonc_ast.specs.to_ast.Told.{StopsInside}
+use Rattle.jsonc_ast.specs.to_ast.Faults.{StopsInside}
 use Rattle.jsonc_ast.proofs.lemmas.to_ast.Scans.{token_is, at_token}
 use Rattle.jsonc_ast.proofs.lemmas.to_ast.Stopping.{stops_here, open_stops, missing_stops, comma_stops, from_before}
 use Rattle.jsonc_text.specs.Grammar.{plain, Closes}
@@ -93,24 +93,24 @@ returns-then-is_comma-clause-comes g c =
 pub returns-clause-comes : goal.returns-clause-comes
 returns-clause-comes g c = inr (c.in_ok-token.ensures.found.0, refuted c.is_comma.ensures.1 c.if-is_comma.false)
 
-pub returns-in_err-token-clause-told : goal.returns-in_err-token-clause-told
-returns-in_err-token-clause-told g c =
+pub returns-in_err-token-clause-error : goal.returns-in_err-token-clause-error
+returns-in_err-token-clause-error g c =
     let old = c.args.self.now in
     let k = c.args.container in
     err_of (StopsInside k c.args.start (comma k (after old)) old) c.in_err-token.field-0.0 c.from_residual.result c.from_residual.ensures.1
-    (λ q a h. stops_here old (is_some c.args.start) (container k a ∷ q) (comma k (after old)) c.in_err-token.field-0.0 c.in_err-token.ensures.told)
+    (λ q a h. stops_here old (is_some c.args.start) (container k a ∷ q) (comma k (after old)) c.in_err-token.field-0.0 c.in_err-token.ensures.error)
 
-pub returns-in_default-clause-told : goal.returns-in_default-clause-told
-returns-in_default-clause-told g c =
+pub returns-in_default-clause-error : goal.returns-in_default-clause-error
+returns-in_default-clause-error g c =
     let old = c.args.self.now in
     let new = c.scan.new.self in
     let read = c.in_ok-token.ensures in
     let kept = c.scan.ensures.kept in
     open_stops old new (found_in c.scan.new.self c.in_ok-token.field-0) kept read.found read.lexeme (ap (found_in c.scan.new.self) c.in_default.is) c.args.container c.args.start c.unterminated.result
-    (open_before old new c.args.container c.args.start c.unterminated.result kept (c.unterminated.ensures.told (end_here old new (found_in c.scan.new.self c.in_ok-token.field-0) kept read.found read.lexeme (ap (found_in c.scan.new.self) c.in_default.is)))) (comma c.args.container (after old)) (λ whole q. refl)
+    (open_before old new c.args.container c.args.start c.unterminated.result kept (c.unterminated.ensures.error (end_here old new (found_in c.scan.new.self c.in_ok-token.field-0) kept read.found read.lexeme (ap (found_in c.scan.new.self) c.in_default.is)))) (comma c.args.container (after old)) (λ whole q. refl)
 
-pub returns-then-is_comma-clause-told : goal.returns-then-is_comma-clause-told
-returns-then-is_comma-clause-told g c =
+pub returns-then-is_comma-clause-error : goal.returns-then-is_comma-clause-error
+returns-then-is_comma-clause-error g c =
     let old = c.args.self.now in
     let new = c.scan.new.self in
     let f = (found_in c.scan.new.self c.in_ok-token.field-0) in
@@ -121,10 +121,10 @@ returns-then-is_comma-clause-told g c =
     err_some c.item_after_comma-then-is_comma.result
     (λ e told q a from. comma_stops old new f kept read.found read.lexeme (last c.scan.new.self c.in-Some.token) (ap (found_in c.scan.new.self) c.in-Some.is) mark c.args.container e (is_some c.args.start) (container c.args.container a ∷ q) one
     (told one q a (from_before old new kept c.args.start a from)))
-    c.item_after_comma-then-is_comma.ensures.told
+    c.item_after_comma-then-is_comma.ensures.error
 
-pub returns-then-not-self-clause-told : goal.returns-then-not-self-clause-told
-returns-then-not-self-clause-told g c = λ q a from.
+pub returns-then-not-self-clause-error : goal.returns-then-not-self-clause-error
+returns-then-not-self-clause-error g c = λ q a from.
     let old = c.args.self.now in
     let new = c.scan.new.self in
     let read = c.in_ok-token.ensures in
@@ -163,8 +163,8 @@ returns-then-has_next-clause-comes g c =
     comes_after_ok c.args.self.now c.pass_next_comma.new.self (Some token.Comma) passed.kept passed.found refl token.Comma refl c.args.container c.item_after_comma.new.self (found_by c.item_after_comma.new.self c.item_after_comma.result)
     refl c.item_after_comma.ensures.found
 
-pub returns-then-has_next-clause-told : goal.returns-then-has_next-clause-told
-returns-then-has_next-clause-told g c =
+pub returns-then-has_next-clause-error : goal.returns-then-has_next-clause-error
+returns-then-has_next-clause-error g c =
     let old = c.args.self.now in
     let new = c.pass_next_comma.new.self in
     let passed = c.pass_next_comma.ensures in
@@ -173,7 +173,7 @@ returns-then-has_next-clause-told g c =
     err_some c.item_after_comma.result
     (λ e told q a from. comma_stops old new (Some token.Comma) kept passed.found refl token.Comma refl refl c.args.container e (is_some c.args.start) (container c.args.container a ∷ q) one
     (told one q a (from_before old new kept c.args.start a from)))
-    c.item_after_comma.ensures.told
+    c.item_after_comma.ensures.error
 
 pub returns-in_default-clause-fault : goal.returns-in_default-clause-fault
 returns-in_default-clause-fault g c = subst (λ b. IsFault b c.unterminated.result) c.scan.ensures.kept.text c.unterminated.ensures.fault

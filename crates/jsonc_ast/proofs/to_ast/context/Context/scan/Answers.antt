@@ -8,7 +8,7 @@ use Rattle.jsonc_ast.specs.to_ast.Context.{text_in}
 use Rattle.jsonc_ast.proofs.lemmas.to_ast.Scans.{passing_start, scan_found, kept_step, passing_on}
 use Rattle.jsonc_ast.proofs.lemmas.to_ast.Collecting.{collects_end, collects_nothing, collects_on_lexeme}
 use Rattle.jsonc_ast.proofs.lemmas.to_ast.Refusals.{err_of, scan_refused, comment_refused}
-use Rattle.jsonc_ast.specs.to_ast.Told.{StopsAnyhow}
+use Rattle.jsonc_ast.specs.to_ast.Faults.{StopsAnyhow}
 use Rattle.jsonc_ast.proofs.lemmas.to_ast.Stopping.{scan_stops, comment_stops}
 use Rattle.jsonc_ast.proofs.to_ast.context.Context.scan.Goals as goal
 
@@ -67,13 +67,13 @@ returns-then-not-collects-clause-collects g c =
     collects_nothing c.args.self.now c.loop-token.self c.step.new.self (token_found c.step.new.content c.in_ok-token.field-0) (token_held c.in-Some.token c.step.new.content) _ so_far.kept so_far.collects c.step.ensures.blanks refl c.in_ok-token.ensures.found (ap (token_found c.step.new.content) c.in-Some.is)
     (sym c.is_comment.ensures ∙ c.if-not-is_comment.true) (c.collects.ensures.tokens c.if-not-collects.true) refl (c.collects.ensures.comments c.if-not-collects.true)
 
-pub returns-in_err-token-clause-told : goal.returns-in_err-token-clause-told
-returns-in_err-token-clause-told g c =
+pub returns-in_err-token-clause-error : goal.returns-in_err-token-clause-error
+returns-in_err-token-clause-error g c =
     let e = c.in_err-token.field-0.0 in
-    err_of (StopsAnyhow c.args.self.now) e c.from_residual.result c.from_residual.ensures.1 (scan_stops c.args.self.now c.loop-token.self c.step.new.self e c.loop-token.invariant c.in_err-token.ensures.blanks c.in_err-token.ensures.told)
+    err_of (StopsAnyhow c.args.self.now) e c.from_residual.result c.from_residual.ensures.1 (scan_stops c.args.self.now c.loop-token.self c.step.new.self e c.loop-token.invariant c.in_err-token.ensures.blanks c.in_err-token.ensures.error)
 
-pub returns-in_err-pass_comment-clause-told : goal.returns-in_err-pass_comment-clause-told
-returns-in_err-pass_comment-clause-told g c =
+pub returns-in_err-pass_comment-clause-error : goal.returns-in_err-pass_comment-clause-error
+returns-in_err-pass_comment-clause-error g c =
     let e = c.in_err-pass_comment.field-0.0 in
     err_of (StopsAnyhow c.args.self.now) e c.from_residual-in_err-pass_comment.result c.from_residual-in_err-pass_comment.ensures.1
     (comment_stops c.args.self.now c.loop-token.self c.step.new.self (token_found c.step.new.content c.in_ok-token.field-0) (token_held c.in-Some.token c.step.new.content) e (ap (token_found c.step.new.content) c.in-Some.is) c.loop-token.invariant c.step.ensures.blanks c.in_ok-token.ensures.found

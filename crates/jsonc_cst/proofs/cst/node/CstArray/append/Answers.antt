@@ -1,8 +1,8 @@
 use Rattle.std.proofs.Common.{length, ap, ◌∙◌}
 use Rattle.jsonc_layout.specs.input.Views.{plain}
 use Rattle.jsonc_tree.specs.Tree.{children_at}
-use Rattle.jsonc_cst.proofs.lemmas.typed.ComingIn.{appended_element, behind_all}
-use Rattle.jsonc_cst.proofs.lemmas.typed.Held.{held_array}
+use Rattle.jsonc_cst.proofs.lemmas.typed.InsertedElements.{appended_element, behind_all}
+use Rattle.jsonc_cst.proofs.lemmas.typed.PropertyValues.{held_array}
 use Rattle.jsonc_cst.proofs.lemmas.typed.Steps.{appended_step, ok_with}
 use Rattle.jsonc_cst.specs.Nodes.{number_of}
 use Rattle.jsonc_layout.proofs.lemmas.from_input.Texts.{of_texts}

@@ -5,10 +5,10 @@ use Rattle.jsonc_layout.specs.nodes.Siblings.{elements_at}
 use Rattle.jsonc_edit.specs.Paths.{IsElementOf}
 use Rattle.jsonc_insert.specs.Inserted.{ElementPut}
 use Rattle.jsonc_cst.specs.Nodes.{number_of}
-use Rattle.jsonc_cst.proofs.lemmas.typed.ComingIn.{put_at_place, put_element, put_for_memory, put_others, put_stays, put_there, put_written}
-use Rattle.jsonc_run.proofs.Elsewhere.{row_elsewhere}
-use Rattle.jsonc_cst.proofs.lemmas.typed.Held.{held_array}
-use Rattle.jsonc_cst.proofs.lemmas.typed.Kept.{as_typed, nodes_stay}
+use Rattle.jsonc_cst.proofs.lemmas.typed.InsertedElements.{put_at_place, put_element, put_for_memory, put_others, put_stays, put_there, put_written}
+use Rattle.jsonc_run.proofs.DetachedNodes.{row_elsewhere}
+use Rattle.jsonc_cst.proofs.lemmas.typed.PropertyValues.{held_array}
+use Rattle.jsonc_cst.proofs.lemmas.typed.HandlesKept.{as_typed, nodes_stay}
 use Rattle.jsonc_cst.proofs.lemmas.typed.Steps.{inserted_step}
 use Rattle.jsonc_layout.proofs.lemmas.from_input.Texts.{of_texts}
 use Rattle.jsonc_cst.proofs.cst.node.CstArray.insert.Goals as goal
@@ -45,11 +45,11 @@ returns-in-Ok g c =
       written = λ o. put_written old new n v tree array o last m placed;
       step = inserted_step old new tree put.tree n i m v (of_texts _ c.args.value) put array;
       others = put_others old new n i v m tree c.requires.0 brackets put;
-      elsewhere = row_elsewhere old tree put.ready new n _ _ put.row put.tree put.prepared.keeps put.put;
-      told = tt;
+      detached = row_elsewhere old tree put.ready new n _ _ put.row put.tree put.prepared.keeps put.put;
+      error = tt;
       memory = λ o. tt;
-      held = c.node_at.ensures.held;
-      stays = nodes_stay old new (put_stays old new n i v m tree c.requires.0 brackets put);
+      in_document = c.node_at.ensures.in_document;
+      handles = nodes_stay old new (put_stays old new n i v m tree c.requires.0 brackets put);
       kept = tt;
       document = tt;
     }
@@ -58,4 +58,4 @@ pub returns-clause-memory : goal.returns-clause-memory
 returns-clause-memory g c = λ o.
     let old = c.args.doc.now.tree.nodes in
     put_for_memory old c.insert_element.new.tree.nodes c.args.self.number (plain c.args.value) c.args.doc.now.tree.tree (held_array old c.args.self c.requires) o c.in-Err.error
-    (rw (c.number-number.ensures ∙ ap number_of c.node.ensures) at c.in-Err.ensures.told)
+    (rw (c.number-number.ensures ∙ ap number_of c.node.ensures) at c.in-Err.ensures.error)

@@ -2,8 +2,8 @@ use Rattle.std.proofs.Common.{ap, ◌∙◌}
 use Rattle.jsonc_tree.specs.Tree.{content_at}
 use Rattle.jsonc_edit.specs.set.Booleans.{is_boolean}
 use Rattle.jsonc_cst.specs.Nodes.{number_of}
-use Rattle.jsonc_cst.proofs.lemmas.typed.Held.{boolean_is_written, boolean_or_kept, held_boolean}
-use Rattle.jsonc_cst.proofs.lemmas.typed.Elsewhere.{if_boolean}
+use Rattle.jsonc_cst.proofs.lemmas.typed.PropertyValues.{boolean_is_written, boolean_or_kept, held_boolean}
+use Rattle.jsonc_cst.proofs.lemmas.typed.DetachedNodes.{if_boolean}
 use Rattle.jsonc_cst.proofs.lemmas.typed.Steps.{boolean_step, ok_then}
 use Rattle.jsonc_cst.proofs.cst.node.CstBooleanLit.set_value.Goals as goal
 
@@ -28,10 +28,10 @@ returns g c =
       set = set;
       written = λ o. boolean_is_written old new n value c.requires.0 boolean o tree result set;
       step = ok_then result (λ made. boolean_step old new tree after n value made boolean) set;
-      elsewhere = if_boolean old new tree after n value c.requires.0 result set;
-      stays = boolean_or_kept old new n value c.requires.0 boolean result set c.set_boolean.ensures.kept;
+      detached = if_boolean old new tree after n value c.requires.0 result set;
+      handles = boolean_or_kept old new n value c.requires.0 boolean result set c.set_boolean.ensures.kept;
       memory = c.set_boolean.ensures.memory;
-      wanted = rw same at c.set_boolean.ensures.wanted;
+      oom_only_if = rw same at c.set_boolean.ensures.oom_only_if;
       kept = c.set_boolean.ensures.kept;
       document = c.set_boolean.ensures.document;
     }

@@ -1,8 +1,8 @@
 use Rattle.std.proofs.Common.{length, ap, ◌∙◌, chars}
 use Rattle.jsonc_layout.specs.input.Views.{plain}
 use Rattle.jsonc_tree.specs.Tree.{children_at}
-use Rattle.jsonc_cst.proofs.lemmas.typed.ComingIn.{appended_element, behind_all}
-use Rattle.jsonc_cst.proofs.lemmas.typed.Held.{held_object}
+use Rattle.jsonc_cst.proofs.lemmas.typed.InsertedElements.{appended_element, behind_all}
+use Rattle.jsonc_cst.proofs.lemmas.typed.PropertyValues.{held_object}
 use Rattle.jsonc_cst.proofs.lemmas.objects.Steps.{appended_step}
 use Rattle.jsonc_cst.proofs.lemmas.typed.Steps.{ok_with}
 use Rattle.jsonc_cst.specs.Nodes.{number_of}

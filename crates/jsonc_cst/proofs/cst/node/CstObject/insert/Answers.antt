@@ -5,10 +5,10 @@ use Rattle.jsonc_layout.specs.nodes.Siblings.{elements_at}
 use Rattle.jsonc_edit.specs.Paths.{IsElementOf}
 use Rattle.jsonc_insert.specs.members.Inserted.{PropertyPut}
 use Rattle.jsonc_cst.specs.Nodes.{number_of}
-use Rattle.jsonc_run.proofs.Elsewhere.{put_elsewhere}
-use Rattle.jsonc_cst.proofs.lemmas.objects.NamedIn.{put_at_place, put_element, put_for_memory, put_others, put_property, put_stays, put_there, put_written}
-use Rattle.jsonc_cst.proofs.lemmas.typed.Held.{held_object}
-use Rattle.jsonc_cst.proofs.lemmas.typed.Kept.{nodes_stay}
+use Rattle.jsonc_run.proofs.DetachedNodes.{put_elsewhere}
+use Rattle.jsonc_cst.proofs.lemmas.objects.InsertedProperties.{put_at_place, put_element, put_for_memory, put_others, put_property, put_stays, put_there, put_written}
+use Rattle.jsonc_cst.proofs.lemmas.typed.PropertyValues.{held_object}
+use Rattle.jsonc_cst.proofs.lemmas.typed.HandlesKept.{nodes_stay}
 use Rattle.jsonc_cst.proofs.lemmas.objects.Steps.{inserted_step}
 use Rattle.jsonc_layout.proofs.lemmas.from_input.Texts.{of_texts}
 use Rattle.std.proofs.lemmas.Str.{scalars-chars}
@@ -19,8 +19,8 @@ insert_property-requires-clause-object g c =
     let old = c.args.doc.now.tree.nodes in
     ap (content_at old) (c.number-number.ensures ∙ ap number_of c.node.ensures) ∙ held_object old c.args.self c.requires
 
-pub property_at-requires-clause-there : goal.property_at-requires-clause-there
-property_at-requires-clause-there g c =
+pub property_at-requires-clause-in_tree : goal.property_at-requires-clause-in_tree
+property_at-requires-clause-in_tree g c =
     let same = c.number-number.ensures ∙ ap number_of c.node.ensures in
     put_there c.args.doc.now.tree.nodes c.insert_property.new.tree.nodes c.args.self.number c.args.index (chars c.args.name.now) (plain c.args.value) c.in-Ok.property c.args.doc.now.tree.tree c.requires.0
     (rw same at c.in-Ok.ensures.brackets) (rw same at c.in-Ok.ensures.put)
@@ -53,11 +53,11 @@ returns-in-Ok g c =
       written = λ o. put_written old new n name v tree object o last m placed;
       step = inserted_step old new tree c.insert_property.new.tree.tree n name (scalars-chars c.args.name.now c.utf8.name) object i m v (of_texts _ c.args.value) put;
       others = put_others old new n i name v m tree c.requires.0 brackets put;
-      elsewhere = put_elsewhere old tree new n i name v m c.requires.0 put;
-      told = tt;
+      detached = put_elsewhere old tree new n i name v m c.requires.0 put;
+      error = tt;
       memory = λ o. tt;
-      held = c.property_at.ensures.held;
-      stays = nodes_stay old new (put_stays old new n i name v m tree c.requires.0 put);
+      in_document = c.property_at.ensures.in_document;
+      handles = nodes_stay old new (put_stays old new n i name v m tree c.requires.0 put);
       kept = tt;
       document = tt;
     }
@@ -66,4 +66,4 @@ pub returns-clause-memory : goal.returns-clause-memory
 returns-clause-memory g c = λ o.
     let old = c.args.doc.now.tree.nodes in
     put_for_memory old c.insert_property.new.tree.nodes c.args.self.number (chars c.args.name.now) (plain c.args.value) c.args.doc.now.tree.tree (held_object old c.args.self c.requires) o c.in-Err.error
-    (rw (c.number-number.ensures ∙ ap number_of c.node.ensures) at c.in-Err.ensures.told)
+    (rw (c.number-number.ensures ∙ ap number_of c.node.ensures) at c.in-Err.ensures.error)

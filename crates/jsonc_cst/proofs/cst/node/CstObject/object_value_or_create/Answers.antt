@@ -5,8 +5,8 @@ use Rattle.jsonc_text.specs.declared.edit.Shape.TheVariants.{Object}
 use Rattle.jsonc_insert.specs.named.Named.{NamedEnsured}
 use Rattle.jsonc_cst.specs.Nodes.{number_of}
 use Rattle.jsonc_cst.proofs.lemmas.objects.ByName.{named_elsewhere, named_for_memory, named_stays, named_written}
-use Rattle.jsonc_cst.proofs.lemmas.typed.Held.{held_object}
-use Rattle.jsonc_cst.proofs.lemmas.typed.Kept.{nodes_stay}
+use Rattle.jsonc_cst.proofs.lemmas.typed.PropertyValues.{held_object}
+use Rattle.jsonc_cst.proofs.lemmas.typed.HandlesKept.{nodes_stay}
 use Rattle.jsonc_cst.proofs.lemmas.objects.Steps.{ensured_step}
 use Rattle.std.proofs.lemmas.Str.{scalars-chars}
 use Rattle.jsonc_cst.proofs.cst.node.CstObject.object_value_or_create.Goals as goal
@@ -31,11 +31,11 @@ returns-in-Ok-Some g c =
       ensured = subst (NamedEnsured Object Keep old new n name) (c.in-Ok-Some.field-0-is ∙ ap Some (sym c.object_at.ensures.number)) ensured;
       written = λ o. named_written old new n name Object Keep tree object o answer ensured;
       step = ensured_step old new tree after n name (scalars-chars c.args.name.now c.utf8.name) object Object Keep answer ensured;
-      elsewhere = named_elsewhere old new n name Object tree after c.requires.0 Keep answer ensured;
-      told = tt;
+      detached = named_elsewhere old new n name Object tree after c.requires.0 Keep answer ensured;
+      error = tt;
       memory = λ o. tt;
-      held = c.object_at.ensures.held;
-      stays = nodes_stay old new (named_stays old new n name Object Keep tree c.requires.0 answer ensured);
+      in_document = c.object_at.ensures.in_document;
+      handles = nodes_stay old new (named_stays old new n name Object Keep tree c.requires.0 answer ensured);
       kept = tt;
       document = tt;
     }
@@ -55,11 +55,11 @@ returns-in-Ok-None g c =
       ensured = subst (NamedEnsured Object Keep old new n name) c.in-Ok-None.field-0-is ensured;
       written = λ o. named_written old new n name Object Keep tree object o answer ensured;
       step = ensured_step old new tree after n name (scalars-chars c.args.name.now c.utf8.name) object Object Keep answer ensured;
-      elsewhere = named_elsewhere old new n name Object tree after c.requires.0 Keep answer ensured;
-      told = tt;
+      detached = named_elsewhere old new n name Object tree after c.requires.0 Keep answer ensured;
+      error = tt;
       memory = λ o. tt;
-      held = tt;
-      stays = nodes_stay old new (named_stays old new n name Object Keep tree c.requires.0 answer ensured);
+      in_document = tt;
+      handles = nodes_stay old new (named_stays old new n name Object Keep tree c.requires.0 answer ensured);
       kept = tt;
       document = tt;
     }
@@ -68,4 +68,4 @@ pub returns-in-Err-clause-memory : goal.returns-in-Err-clause-memory
 returns-in-Err-clause-memory g c = λ o.
     let old = c.args.doc.now.tree.nodes in
     named_for_memory old c.ensure_property.new.tree.nodes c.args.self.number (chars c.args.name.now) Object Keep c.args.doc.now.tree.tree (held_object old c.args.self c.requires) o c.in-Err.error
-    (rw (c.number-number.ensures ∙ ap number_of c.node.ensures) at c.in-Err.ensures.told)
+    (rw (c.number-number.ensures ∙ ap number_of c.node.ensures) at c.in-Err.ensures.error)

@@ -19,7 +19,7 @@ returns-clause-properties g c =
     (YieldsList-from_filter _ (is_property_at ns) (row_yields row c.children_from.ensures.children) c.filter.ensures.closure (λ x b q k. search rules))
     c.map.ensures.closure (λ x r q k. search rules)))
 
-pub returns-clause-held : goal.returns-clause-held
-returns-clause-held g c =
+pub returns-clause-in_document : goal.returns-clause-in_document
+returns-clause-in_document g c =
     let ns = c.args.doc.now.tree.nodes in
     subst (λ (ps : List CstObjectProp). All (λ p. IsNodeOf ns (object_prop_node p)) ps) (sym (returns-clause-properties g c)) (properties_held ns (children_at ns c.args.self.number))

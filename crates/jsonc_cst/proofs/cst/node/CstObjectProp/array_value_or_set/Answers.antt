@@ -7,12 +7,12 @@ use Rattle.jsonc_edit.specs.Written.{Writes}
 use Rattle.jsonc_edit.specs.set.Kinds.{is_array}
 use Rattle.jsonc_edit.specs.set.PropertyValues.{HeldOrSet}
 use Rattle.jsonc_cst.specs.Nodes.{number_of}
-use Rattle.jsonc_cst.proofs.lemmas.typed.Kept.{nodes_stay, stay_kept}
+use Rattle.jsonc_cst.proofs.lemmas.typed.HandlesKept.{nodes_stay, stay_kept}
 use Rattle.jsonc_cst.proofs.lemmas.typed.Roots.{array_is}
-use Rattle.jsonc_cst.proofs.lemmas.typed.Held.{found_is, found_is_child, found_is_written, held_property, stay_found}
-use Rattle.jsonc_cst.proofs.lemmas.typed.Whole.{value_for_memory}
+use Rattle.jsonc_cst.proofs.lemmas.typed.PropertyValues.{found_is, found_is_child, found_is_written, held_property, stay_found}
+use Rattle.jsonc_cst.proofs.lemmas.typed.CompleteNodes.{value_for_memory}
 use Rattle.jsonc_cst.proofs.lemmas.typed.Marked.{held_empty_marked}
-use Rattle.jsonc_cst.proofs.lemmas.typed.Elsewhere.{found_elsewhere}
+use Rattle.jsonc_cst.proofs.lemmas.typed.DetachedNodes.{found_elsewhere}
 use Rattle.jsonc_text.specs.declared.edit.Shape.TheVariants.{Array}
 use Rattle.jsonc_cst.proofs.lemmas.typed.Steps.{held_shape_step}
 use Rattle.jsonc_cst.proofs.cst.node.CstObjectProp.array_value_or_set.Goals as goal
@@ -48,24 +48,24 @@ returns-in-Ok g c =
       written = λ o. subst (λ k. (n : ℕ) → held ≡ Some n → is_array (content_at old n) ≡ false → Writes o old new n k v) answered (found_is_written is_array v old new p o tree held m found);
       marked = held_empty_marked old new v tree is_array p held m found;
       step = held_shape_step old new tree after p Array m named found property;
-      elsewhere = found_elsewhere old new tree after p c.requires.0 property v is_array held m refl found;
+      detached = found_elsewhere old new tree after p c.requires.0 property v is_array held m refl found;
       named = named;
       child = subst (λ k. parent_at new k ≡ Some p) answered (found_is_child old new p v tree property is_array held m refl found);
-      held = c.array_at.ensures.held;
-      stays = nodes_stay old new (stay_found is_array v old new p held m found);
-      told = tt;
+      in_document = c.array_at.ensures.in_document;
+      handles = nodes_stay old new (stay_found is_array v old new p held m found);
+      error = tt;
       missing = tt;
       memory = λ o. tt;
       kept = tt;
       document = tt;
     }
 
-pub returns-in-Err-clause-stays : goal.returns-in-Err-clause-stays
-returns-in-Err-clause-stays g c =
+pub returns-in-Err-clause-handles : goal.returns-in-Err-clause-handles
+returns-in-Err-clause-handles g c =
     nodes_stay c.args.doc.now.tree.nodes c.property_value_or_set.new.tree.nodes (stay_kept c.args.doc.now.tree.nodes c.property_value_or_set.new.tree.nodes c.in-Err.ensures.kept)
 
 pub returns-in-Err-clause-memory : goal.returns-in-Err-clause-memory
 returns-in-Err-clause-memory g c = λ o.
     let old = c.args.doc.now.tree.nodes in
     value_for_memory {T = ℕ} o old c.args.doc.now.tree.tree is_array c.args.self.number c.requires.0 (held_property old c.args.self c.requires) (Err c.in-Err.error)
-    (rw (c.number-number.ensures ∙ ap number_of c.node.ensures) at c.in-Err.ensures.told)
+    (rw (c.number-number.ensures ∙ ap number_of c.node.ensures) at c.in-Err.ensures.error)

@@ -3,12 +3,12 @@ use Rattle.jsonc_layout.specs.input.Views.{plain}
 use Rattle.jsonc_edit.specs.set.Giving.{IsPropertyReplaced}
 use Rattle.jsonc_cst.specs.Nodes.{number_of}
 use Rattle.jsonc_cst.specs.typed.Around.{IsLaidProperty}
-use Rattle.jsonc_cst.proofs.lemmas.typed.Held.{held_property}
-use Rattle.jsonc_cst.proofs.lemmas.typed.Kept.{as_typed, nodes_stay}
+use Rattle.jsonc_cst.proofs.lemmas.typed.PropertyValues.{held_property}
+use Rattle.jsonc_cst.proofs.lemmas.typed.HandlesKept.{as_typed, nodes_stay}
 use Rattle.jsonc_cst.proofs.lemmas.typed.Roots.{property_is_written, property_there, stay_property}
 use Rattle.jsonc_cst.proofs.lemmas.typed.Around.{property_laid}
-use Rattle.jsonc_run.proofs.Elsewhere.{property_elsewhere}
-use Rattle.jsonc_cst.proofs.lemmas.typed.Nobodys.{property_nobodys}
+use Rattle.jsonc_run.proofs.DetachedNodes.{property_elsewhere}
+use Rattle.jsonc_cst.proofs.lemmas.typed.Detached.{property_nobodys}
 use Rattle.jsonc_cst.proofs.lemmas.typed.Steps.{property_replaced_step}
 use Rattle.jsonc_layout.proofs.lemmas.from_input.Texts.{of_texts}
 use Rattle.std.proofs.lemmas.Str.{scalars-chars}
@@ -35,12 +35,12 @@ returns-in-Ok-Some g c =
       written = λ p. property_is_written p old new n name v c.node_at.result tree given;
       laid = as_typed (IsLaidProperty old new n name v) new m c.node_at.result c.node_at.ensures.node (property_laid old new n m name v replaced);
       step = property_replaced_step old new tree after n m name v (scalars-chars c.args.name.now c.utf8.name) (of_texts _ c.args.value) replaced (held_property old c.args.self c.requires);
-      elsewhere = property_elsewhere old tree new n m name v after replaced;
+      detached = property_elsewhere old tree new n m name v after replaced;
       gone = property_nobodys old new n m tree after name v replaced;
       none = tt;
       untouched = tt;
-      held = c.node_at.ensures.held;
-      stays = nodes_stay old new (stay_property old new n name v m replaced);
+      in_document = c.node_at.ensures.in_document;
+      handles = nodes_stay old new (stay_property old new n name v m replaced);
       memory = tt;
       child = tt;
       kept = tt;

@@ -5,11 +5,11 @@ use Rattle.jsonc_layout.specs.nodes.Properties.{value_at}
 use Rattle.jsonc_edit.specs.Written.{Writes}
 use Rattle.jsonc_cst.specs.Nodes.{number_of}
 use Rattle.jsonc_cst.specs.typed.Values.{HeldBecomes}
-use Rattle.jsonc_cst.proofs.lemmas.typed.Kept.{as_typed, nodes_stay}
-use Rattle.jsonc_cst.proofs.lemmas.typed.Held.{held_becomes, held_is_child, held_is_written, held_property, held_there, stay_held}
+use Rattle.jsonc_cst.proofs.lemmas.typed.HandlesKept.{as_typed, nodes_stay}
+use Rattle.jsonc_cst.proofs.lemmas.typed.PropertyValues.{held_becomes, held_is_child, held_is_written, held_property, held_there, stay_held}
 use Rattle.jsonc_cst.proofs.lemmas.typed.Marked.{held_marked}
 use Rattle.jsonc_cst.proofs.lemmas.typed.Around.{held_around}
-use Rattle.jsonc_cst.proofs.lemmas.typed.Elsewhere.{held_elsewhere}
+use Rattle.jsonc_cst.proofs.lemmas.typed.DetachedNodes.{held_elsewhere}
 use Rattle.jsonc_cst.proofs.lemmas.typed.Steps.{held_step}
 use Rattle.jsonc_layout.proofs.lemmas.from_input.Texts.{of_texts}
 use Rattle.jsonc_cst.proofs.cst.node.CstObjectProp.set_value.Goals as goal
@@ -47,10 +47,10 @@ returns g c =
       marked = held_marked old new v tree held m replaced;
       around = held_around old new v tree held m replaced;
       step = held_step old new tree after p v m (of_texts _ c.args.value) becomes property;
-      elsewhere = held_elsewhere old new tree after p c.requires.0 property v held m refl becomes;
+      detached = held_elsewhere old new tree after p c.requires.0 property v held m refl becomes;
       child = as_typed (λ k. parent_at new k ≡ Some p) new m c.node_at.result c.node_at.ensures.node (held_is_child old new p v tree property held m refl becomes);
-      held = c.node_at.ensures.held;
-      stays = nodes_stay old new (stay_held old new p v held m becomes);
+      in_document = c.node_at.ensures.in_document;
+      handles = nodes_stay old new (stay_held old new p v held m becomes);
       memory = tt;
       kept = tt;
       document = tt;

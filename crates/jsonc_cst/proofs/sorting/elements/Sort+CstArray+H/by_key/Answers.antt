@@ -4,7 +4,7 @@ use Rattle.jsonc_cst.specs.Nodes.{array_node}
 use Rattle.jsonc_cst.specs.sorting.Asking.{IsInKeyOrder, IsUnkeyed}
 use Rattle.jsonc_cst.specs.sorting.Rows.{elements_asked, starts_of}
 use Rattle.jsonc_cst.proofs.lemmas.sorting.Ordered.{elements_in_key_order}
-use Rattle.jsonc_cst.proofs.lemmas.sorting.Wired.{wired}
+use Rattle.jsonc_cst.proofs.lemmas.sorting.SortedRead.{wired}
 use Rattle.jsonc_cst.proofs.sorting.elements.Sort+CstArray+H.by_key.Goals as goal
 
 pub returns-clause-sorted : goal.returns-clause-sorted
@@ -13,14 +13,14 @@ returns-clause-sorted g c =
     let groups = c.args.self.groups in
     let node = array_node c.args.self.container in
     let pinned : CstNode → List (Option CstNode) → List (Option ℕ) → Type 0 = λ n xs ps. g.H.HeaderRule.pins c.args.self.rule doc n xs ps in
-    let wanted : CstNode → List (Option CstNode) → List ℕ → Type 0 = λ n xs order. IsInKeyOrder g.F.Fn c.args.key (g.D.IsDocument.same doc) g.K.Ord.cmp xs (starts_of doc n groups) order in
+    let wanted : CstNode → List (Option CstNode) → List ℕ → Type 0 = λ n xs order. IsInKeyOrder g.F.Fn c.args.key (g.D.DocumentArg.same doc) g.K.Ord.cmp xs (starts_of doc n groups) order in
     wired doc c.sort_by_key.new.doc groups pinned wanted node c.node.result c.node-2.result (elements_asked doc node) c.deref.result.now c.deref-2.result.now c.in_ok-pins.pins.items c.deref-3.result.now c.sort_by_key.result
     c.node.ensures c.node-2.ensures (c.deref.ensures.value ∙ c.in_ok-nodes.ensures.nodes) (c.deref-2.ensures.value ∙ c.in_ok-nodes.ensures.nodes) c.deref-3.ensures.value c.in_ok-pins.ensures.pins c.sort_by_key.ensures.sorted
 
 pub returns-clause-refused : goal.returns-clause-refused
 returns-clause-refused g c =
-    subst (λ (nodes : List (Option CstNode)). IfErr c.sort_by_key.result (IsUnkeyed g.F.Fn c.args.key (g.D.IsDocument.same c.args.doc.now) nodes)) (c.deref-2.ensures.value ∙ c.in_ok-nodes.ensures.nodes) c.sort_by_key.ensures.refused
+    subst (λ (nodes : List (Option CstNode)). IfErr c.sort_by_key.result (IsUnkeyed g.F.Fn c.args.key (g.D.DocumentArg.same c.args.doc.now) nodes)) (c.deref-2.ensures.value ∙ c.in_ok-nodes.ensures.nodes) c.sort_by_key.ensures.refused
 
 pub returns-clause-again : goal.returns-clause-again
 returns-clause-again g c =
-    elements_in_key_order c.args.key (g.D.IsDocument.same) g.K.Ord.cmp c.args.doc.now c.sort_by_key.new.doc c.args.self.groups c.sort_by_key.result g.F.Fn c.args.self.container (λ n xs ps. g.H.HeaderRule.pins c.args.self.rule c.args.doc.now n xs ps) c.args.doc.now.tree.tree c.sort_by_key.new.doc.tree.tree c.requires.held (returns-clause-sorted g c)
+    elements_in_key_order c.args.key (g.D.DocumentArg.same) g.K.Ord.cmp c.args.doc.now c.sort_by_key.new.doc c.args.self.groups c.sort_by_key.result g.F.Fn c.args.self.container (λ n xs ps. g.H.HeaderRule.pins c.args.self.rule c.args.doc.now n xs ps) c.args.doc.now.tree.tree c.sort_by_key.new.doc.tree.tree c.requires.in_document (returns-clause-sorted g c)

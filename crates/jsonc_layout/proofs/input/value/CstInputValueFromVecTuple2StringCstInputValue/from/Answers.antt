@@ -1,4 +1,4 @@
-use Rattle.jsonc_layout.proofs.lemmas.input.Views.{plain-Object}
+use Rattle.jsonc_layout.proofs.lemmas.input.ValueLevels.{plain-Object}
 use Rattle.jsonc_layout.proofs.input.value.CstInputValueFromVecTuple2StringCstInputValue.from.Goals as goal
 
 pub returns : goal.returns

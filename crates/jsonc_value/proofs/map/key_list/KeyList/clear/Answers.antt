@@ -1,4 +1,4 @@
-use Rattle.jsonc_value.proofs.Held.{none_distinct}
+use Rattle.jsonc_value.proofs.DistinctKeys.{none_distinct}
 use Rattle.jsonc_value.proofs.map.key_list.KeyList.clear.Goals as goal
 use Rattle.jsonc_value.proofs.map.key_list.KeyList.clear.Goals.{in-Few, in-Many}
 

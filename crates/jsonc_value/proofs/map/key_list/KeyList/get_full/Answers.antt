@@ -1,7 +1,7 @@
 use Rattle.std.proofs.Common.{◌≡◌, ◌<◌, Some, false, length, position, ap, sym, ◌∙◌, subst}
 use Rattle.std.specs.List.{list_any, find}
 use Rattle.jsonc_value.specs.Held.{held_keys}
-use Rattle.jsonc_value.proofs.Held.{stands, lacks}
+use Rattle.jsonc_value.proofs.DistinctKeys.{stands, lacks}
 use Rattle.jsonc_value.proofs.map.key_list.KeyList.get_full.Goals as goal
 
 pub returns-in-Some-clause-key : goal.returns-in-Some-clause-key

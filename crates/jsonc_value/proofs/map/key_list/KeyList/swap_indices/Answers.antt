@@ -1,6 +1,6 @@
 use Rattle.std.proofs.Common.{◌<◌, length, ap, arith, subst}
 use Rattle.jsonc_value.specs.Held.{held_keys, AreFewDistinct}
-use Rattle.jsonc_value.proofs.Held.{swap_distinct}
+use Rattle.jsonc_value.proofs.DistinctKeys.{swap_distinct}
 use Rattle.jsonc_value.proofs.map.key_list.KeyList.swap_indices.Goals as goal
 use Rattle.jsonc_value.proofs.map.key_list.KeyList.swap_indices.Goals.{in-Few, in-Many}
 

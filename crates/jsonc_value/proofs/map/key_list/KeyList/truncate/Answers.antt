@@ -1,6 +1,6 @@
 use Rattle.std.proofs.Common.{subst}
 use Rattle.jsonc_value.specs.Held.{AreFewDistinct}
-use Rattle.jsonc_value.proofs.Held.{take_distinct}
+use Rattle.jsonc_value.proofs.DistinctKeys.{take_distinct}
 use Rattle.jsonc_value.proofs.map.key_list.KeyList.truncate.Goals as goal
 use Rattle.jsonc_value.proofs.map.key_list.KeyList.truncate.Goals.{in-Few, in-Many}
 

@@ -1,4 +1,4 @@
-use Rattle.jsonc_value.proofs.Held.{none_distinct}
+use Rattle.jsonc_value.proofs.DistinctKeys.{none_distinct}
 use Rattle.jsonc_value.proofs.map.key_list.KeyList.with_capacity.Goals as goal
 
 pub invariant_of-result : goal.invariant_of-result

@@ -1,5 +1,0 @@
-use Rattle.jsonc_cst.proofs.Readings.{typed_all_held}
-use Rattle.jsonc_cst.proofs.cst.navigation.IsNode.next_siblings.Goals as goal
-
-pub returns-clause-held : goal.returns-clause-held
-returns-clause-held g c = typed_all_held c.args.doc.now.tree.nodes c.next_siblings.result c.next_siblings.ensures.there

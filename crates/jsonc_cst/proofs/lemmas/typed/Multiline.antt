@@ -1,0 +1,61 @@
+-- Arrays and objects that are put on several lines: what becomes of a document and its nodes.
+use Rattle.std.proofs.Common.{◌≡◌, ℕ, Bool, true, false, not, List, length, IsTrue, Result, Ok, Err, OnOk, OnErr, IfErr, inl, inr, refl, ap}
+use Rattle.std.proofs.lemmas.Bool.{cases_Bool}
+use Rattle.jsonc_text.specs.Options.{Options}
+use Rattle.jsonc_tree.specs.Building.{Keeps}
+use Rattle.jsonc_tree.specs.OrderedTree.{ordered_tree}
+use Rattle.jsonc_tree.specs.Tree.{Node, content_at, IsTree}
+use Rattle.jsonc_layout.specs.lines.Kinds.{is_array_or_object}
+use Rattle.jsonc_text.specs.declared.edit.EditError.{EditError}
+use Rattle.jsonc_text.specs.declared.edit.EditError.TheVariants.{OutOfMemory, MissingBrackets, MissingName, NoSuchPlace}
+use Rattle.jsonc_edit.proofs.lemmas.commas.Holders.{holder_path}
+use Rattle.jsonc_edit.specs.multiline.Multiline.{has_line_end, IsUnspread, MadeMultiline}
+use Rattle.jsonc_edit.proofs.lemmas.multiline.Documents.{spread_at}
+use Rattle.jsonc_edit.proofs.lemmas.multiline.LineEnds.{has_end, has_its_brackets}
+use Rattle.jsonc_edit.proofs.lemmas.multiline.SameDocument.{keeps_document}
+use Rattle.jsonc_cst.specs.typed.Lines.{SpreadsAtItsPath}
+use Rattle.jsonc_cst.specs.typed.Removing.{OnlyOutOfMemory}
+use Rattle.jsonc_cst.proofs.lemmas.typed.HandlesKept.{Stays, stay_both, stay_kept, stay_same, stay_spliced}
+
+-- what is so is not otherwise
+contradicts : (b : Bool) → IsTrue b → IsTrue (not b) → ⊥
+contradicts true h k = let wrong : false ≡ true = k in cc
+contradicts false h k = let wrong : false ≡ true = h in cc
+
+module _ (old new : List Node) (n : ℕ) (before : IsTree old) (after : IsTree new) (holds : IsTrue (is_array_or_object (content_at old n))) where
+  written_so : (o : Options) → MadeMultiline old new n → SpreadsAtItsPath o old new n
+  written_so o made = λ sound path at.
+      let spread = spread_at o old new path n before after sound at holds made in
+      record { spread = spread; same = keeps_document o (ordered_tree old 0) (ordered_tree new 0) path sound spread }
+
+  pub lines_written : {T E : Type 0} (o : Options) (r : Result T E) → OnOk r (MadeMultiline old new n) → OnOk r (SpreadsAtItsPath o old new n)
+  lines_written o (Ok x) made = written_so o made
+  lines_written o (Err e) made = tt
+
+  pub on_lines : {T E : Type 0} (r : Result T E) → OnOk r (MadeMultiline old new n) → OnOk r (IsTrue (has_line_end new n))
+  on_lines (Ok x) made = has_end old new n before made
+  on_lines (Err e) made = tt
+
+  memory_alone : (o : Options) (e : EditError) → IsUnspread old n e → OnlyOutOfMemory o old n e
+  memory_alone o OutOfMemory why = λ sound over. refl
+  memory_alone o MissingBrackets why = λ sound over.
+      let place = holder_path o old before sound n over holds in
+      let has = has_its_brackets o old place.0 n before sound place.1 holds in
+      absurd (contradicts _ has why)
+  memory_alone o MissingName why = absurd why
+  memory_alone o NoSuchPlace why = absurd why
+
+  pub but_for_memory : {T : Type 0} (o : Options) (r : Result T EditError) → IfErr r (IsUnspread old n) → IfErr r (OnlyOutOfMemory o old n)
+  but_for_memory o (Ok x) why = tt
+  but_for_memory o (Err e) why = memory_alone o e why
+
+  spread_stays : MadeMultiline old new n → Stays old new
+  spread_stays made =
+      elim (cases_Bool (has_line_end old n)) [
+        | inl is ↦ stay_same old new (made.was is)
+        | inr other ↦ let row = made.is (ap not other) in stay_both old row.ready new (stay_kept old row.ready row.prepared.keeps) (stay_spliced row.ready new _ _ _ _ row.put)
+      ]
+
+  pub nodes_spread : {T E : Type 0} (r : Result T E) → OnOk r (MadeMultiline old new n) → OnErr r (Keeps (length old) old new) → Stays old new
+  nodes_spread (Ok x) made kept = spread_stays made
+  nodes_spread (Err e) made kept = stay_kept old new kept

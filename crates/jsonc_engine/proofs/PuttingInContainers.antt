@@ -1,0 +1,217 @@
+-- The array or object that a document has, or that comes first, and what is put into it.
+use Rattle.std.proofs.Common.{◌≡◌, ℕ, Bool, true, false, List, [], ◌∷◌, length, Option, Some, None, IfSome, if◌then◌else◌, refl, sym, ap, subst, ◌∙◌}
+use Rattle.jsonc_text.specs.Options.{Options}
+use Rattle.jsonc_text.specs.Plain.{Plain}
+use Rattle.jsonc_tree.specs.Content.{array, object, property}
+use Rattle.jsonc_tree.specs.OrderedTree.{ordered_tree, printed}
+use Rattle.jsonc_tree.specs.Tree.{Node, content_at, children_at, IsTree}
+use Rattle.jsonc_layout.specs.nodes.Names.{FirstNamed, FirstInObject}
+use Rattle.jsonc_layout.specs.nodes.Names as names
+use Rattle.jsonc_layout.specs.nodes.Properties.{value_at}
+use Rattle.jsonc_layout.specs.nodes.Siblings.{elements_at}
+use Rattle.jsonc_layout.specs.from_input.Texts.{IsCharacters}
+use Rattle.jsonc_sound.specs.SoundTrees.{SoundTree}
+use Rattle.jsonc_edit.specs.Paths.{IsAt, IsElementOf}
+use Rattle.jsonc_text.specs.declared.edit.EditError.{EditError}
+use Rattle.jsonc_text.specs.declared.edit.EditError.TheVariants.{OutOfMemory}
+use Rattle.jsonc_edit.proofs.FittingFinds.{none_is_some}
+use Rattle.jsonc_edit.proofs.lemmas.set.PropertyRows.{over_at}
+use Rattle.jsonc_edit.specs.set.Kinds.{FoundOrCreated}
+use Rattle.jsonc_insert.specs.named.Places.{IsPropertyOf, a_property}
+use Rattle.jsonc_edit.specs.set.Shapes.{has_shape, is_array, is_object, is_of, empty_of}
+use Rattle.jsonc_text.specs.declared.edit.Shape.{Shape}
+use Rattle.jsonc_text.specs.declared.edit.Shape.TheVariants.{Object, Array}
+use Rattle.jsonc_run.proofs.EnsuredValues.{held}
+use Rattle.jsonc_insert.proofs.lemmas.named.PropertyValues.{value_held}
+use Rattle.jsonc_run.proofs.Roots.{value_stands}
+use Rattle.jsonc_cst.specs.declared.cst.node.CstArray.{CstArray}
+use Rattle.jsonc_cst.specs.declared.cst.node.CstObject.{CstObject}
+use Rattle.jsonc_cst.specs.declared.cst.node.CstNode.{CstNode}
+use Rattle.jsonc_cst.specs.declared.cst.node.CstObjectProp.{CstObjectProp}
+use Rattle.jsonc_cst.specs.Nodes.{array_node, object_node}
+use Rattle.jsonc_cst.specs.Readings.{array_if, object_if, typed_if}
+use Rattle.jsonc_cst.specs.typed.Inserting.{InsertedAt, PutsAtItsPath}
+use Rattle.jsonc_cst.specs.typed.Removing.{OnlyOutOfMemory}
+use Rattle.jsonc_cst.specs.objects.Members.{NamedInsertedAt, PutsNamedAtItsPath}
+use Rattle.jsonc_cst.specs.typed.Setting.{FindsOrCreatesArray, FindsOrCreatesObject, FirstArrayAround, FirstArrayWritten, FirstObjectAround, FirstObjectWritten, FirstOrSame}
+use Rattle.jsonc_cst.specs.typed.Values.{HeldIsMarked, HeldIsWritten, ValueIs}
+use Rattle.jsonc_engine.specs.declared.fault.Fault.TheVariants.{Edit, NotArray, NotObject}
+use Rattle.jsonc_engine.specs.Appending.{AppendsLast}
+use Rattle.jsonc_engine.specs.Fault.{EndsAppending, EndsOnObject, EndsSetting}
+use Rattle.jsonc_engine.specs.Input.{HasAnother, HasKind, MayHave}
+use Rattle.jsonc_engine.specs.Setting.{HasSet, SetsFirst, SetOrAppended}
+use Rattle.jsonc_engine.proofs.RootKinds.{array_read, of_found, wanted}
+use Rattle.jsonc_engine.proofs.Removing.{object_read, found_element}
+
+-- what was found stands there
+pub array_stands : (ns : List Node) (found : Option CstArray) (x : CstArray) → found ≡ Some x → IfSome found (λ a. typed_if ns (value_at ns 0) ≡ Some (array_node a))
+    → typed_if ns (value_at ns 0) ≡ Some (array_node x)
+array_stands ns found x e h = subst (λ (f : Option CstArray). IfSome f (λ a. typed_if ns (value_at ns 0) ≡ Some (array_node a))) e h
+
+pub object_stands : (ns : List Node) (found : Option CstObject) (x : CstObject) → found ≡ Some x → IfSome found (λ a. typed_if ns (value_at ns 0) ≡ Some (object_node a))
+    → typed_if ns (value_at ns 0) ≡ Some (object_node x)
+object_stands ns found x e h = subst (λ (f : Option CstObject). IfSome f (λ a. typed_if ns (value_at ns 0) ≡ Some (object_node a))) e h
+
+-- and so is what is said of it
+pub said_of : {T : Type 0} (found : Option T) (x : T) (P : Option T → Type 0) → found ≡ Some x → P found → P (Some x)
+said_of found x P e h = subst P e h
+
+-- what is told where another value stands
+if_none : (b : Bool) (n : ℕ) → None ≡ (if b then Some n else None) → b ≡ false
+if_none true n e = none_is_some n e
+if_none false n e = refl
+
+module _ (o : Options) (old made : List Node) where
+  -- a document that has got its first value, or is the same, is sound where it was
+  sound_by : (v : Plain) (w : Option ℕ) → FirstOrSame old made o v w → SoundTree o (ordered_tree old 0) → SoundTree o (ordered_tree made 0)
+  sound_by v None first s = (first s).after.sound
+  sound_by v (Some n) same s = subst (λ (ns : List Node). SoundTree o (ordered_tree ns 0)) (sym same) s
+
+  -- where none of the shape was found another value stands
+  another_by : (shape : Shape) → IsTree old → SoundTree o (ordered_tree old 0) → (w : Option ℕ) → value_at old 0 ≡ w
+      → FoundOrCreated (is_of shape) (empty_of shape) old made w None → HasAnother (has_shape shape) o (printed (ordered_tree old 0))
+  another_by shape tree s None e (m, told, f) = none_is_some m told
+  another_by shape tree s (Some n) e (told, same) =
+      let h = held o old tree s n e in
+      (h.value, h.text, sym (h.error shape) ∙ if_none (is_of shape (content_at old n)) n told)
+
+  pub sound_array : FirstArrayWritten old made o → SoundTree o (ordered_tree old 0) → SoundTree o (ordered_tree made 0)
+  sound_array first s = sound_by (empty_of Array) (value_at old 0) first s
+
+  pub sound_object : FirstObjectWritten old made o → SoundTree o (ordered_tree old 0) → SoundTree o (ordered_tree made 0)
+  sound_object first s = sound_by (empty_of Object) (value_at old 0) first s
+
+  pub no_array : IsTree old → SoundTree o (ordered_tree old 0) → (found : Option CstArray) → found ≡ None → FindsOrCreatesArray old made found
+      → EndsAppending o (printed (ordered_tree old 0)) NotArray
+  no_array tree s found none h =
+      another_by Array tree s (value_at old 0) refl (subst (λ (f : Option CstArray). FindsOrCreatesArray old made f) none h)
+
+  pub no_object : IsTree old → SoundTree o (ordered_tree old 0) → (found : Option CstObject) → found ≡ None → FindsOrCreatesObject old made found
+      → EndsSetting o (printed (ordered_tree old 0)) NotObject
+  no_object tree s found none h =
+      another_by Object tree s (value_at old 0) refl (subst (λ (f : Option CstObject). FindsOrCreatesObject old made f) none h)
+
+-- allocation failure can end an edit, where the value is of the kind that is wanted
+pub memory_appending : (o : Options) (bytes : List ℕ) (e : EditError) → e ≡ OutOfMemory → MayHave is_array o bytes → EndsAppending o bytes (Edit e)
+memory_appending o bytes e is has = subst (λ (x : EditError). EndsAppending o bytes (Edit x)) (sym is) has
+
+pub memory_setting : (o : Options) (bytes : List ℕ) (e : EditError) → e ≡ OutOfMemory → MayHave is_object o bytes → EndsSetting o bytes (Edit e)
+memory_setting o bytes e is has = subst (λ (x : EditError). EndsSetting o bytes (Edit x)) (sym is) has
+
+pub memory_on_object : (o : Options) (bytes : List ℕ) (e : EditError) → e ≡ OutOfMemory → HasKind is_object o bytes → EndsOnObject o bytes (Edit e)
+memory_on_object o bytes e is has = subst (λ (x : EditError). EndsOnObject o bytes (Edit x)) (sym is) has
+
+-- so it is while the first value is made
+module _ (o : Options) (old : List Node) (tree : IsTree old) (s : SoundTree o (ordered_tree old 0)) (none : value_at old 0 ≡ None) where
+  pub array_wanted : (e : EditError) → e ≡ OutOfMemory → EndsAppending o (printed (ordered_tree old 0)) (Edit e)
+  array_wanted e is = memory_appending o (printed (ordered_tree old 0)) e is (wanted o old tree s Array none)
+
+  pub object_wanted : (e : EditError) → e ≡ OutOfMemory → EndsSetting o (printed (ordered_tree old 0)) (Edit e)
+  object_wanted e is = memory_setting o (printed (ordered_tree old 0)) e is (wanted o old tree s Object none)
+
+-- what is put into the array
+module _ (o : Options) (old made : List Node) (tree : IsTree made) (x : CstArray) (stands : typed_if made (value_at made 0) ≡ Some (array_node x))
+    (first : FirstArrayWritten old made o) (s : SoundTree o (ordered_tree old 0)) where
+  abbrev c : ℕ
+  c = x.number
+
+  is : (value_at made 0 ≡ Some c) × (content_at made c ≡ array)
+  is = array_read made (value_at made 0) x (ap array_if stands)
+
+  at : IsAt made [] c
+  at = value_stands made tree c is.0
+
+  pub appends_last : (new : List Node) (v : Plain) → FindsOrCreatesArray old made (Some x) → FirstArrayAround old made o → (now : CstNode)
+      → InsertedAt made new c (length (elements_at made c)) v now → PutsAtItsPath o made new c (length (elements_at made c)) v → AppendsLast o v old new
+  appends_last new v found around now comes put = record {
+    made = made;
+    x = x;
+    found = found;
+    first = first;
+    around = around;
+    value = is.0;
+    is_array = is.1;
+    now = now;
+    comes = comes;
+    put = λ may. put (sound_array o old made first s) may [] at;
+  }
+
+  pub array_memory : IsTree old → FindsOrCreatesArray old made (Some x) → (e : EditError) → OnlyOutOfMemory o made c e → EndsAppending o (printed (ordered_tree old 0)) (Edit e)
+  array_memory before found e told =
+      memory_appending o (printed (ordered_tree old 0)) e (told (sound_array o old made first s) (over_at made tree [] c at)) (of_found o old before s Array made c found)
+
+-- a property that was found is one
+Property : List Node → Option ℕ → Type 0
+Property ns None = Unit {0}
+Property ns (Some n) = content_at ns n ≡ property
+
+found_property : (ns : List Node) (v xs : List ℕ) (found : Option ℕ) → FirstNamed ns v xs found → Property ns found
+unfolding Property
+found_property ns v _ _ names.none = tt
+found_property ns v _ _ (names.here is) = is.0
+found_property ns v _ _ (names.later {rest = rest} {found = found} other f) = found_property ns v rest found f
+
+-- what is set in the object
+module _ (o : Options) (old made : List Node) (tree : IsTree made) (x : CstObject) (stands : typed_if made (value_at made 0) ≡ Some (object_node x))
+    (first : FirstObjectWritten old made o) (s : SoundTree o (ordered_tree old 0)) where
+  abbrev k : ℕ
+  k = x.number
+
+  is_found : (value_at made 0 ≡ Some k) × (content_at made k ≡ object)
+  is_found = object_read made (value_at made 0) x (ap object_if stands)
+
+  stands_there : IsAt made [] k
+  stands_there = value_stands made tree k is_found.0
+
+  sound : SoundTree o (ordered_tree made 0)
+  sound = sound_object o old made first s
+
+  module _ (new : List Node) (name : List ℕ) (v : Plain) (found : FindsOrCreatesObject old made (Some x)) (around : FirstObjectAround old made o) where
+    sets_by : (p : Option ℕ) → FirstInObject made k name p → SetOrAppended o name v made new k p → SetsFirst o name v old new
+    sets_by p named set = record {
+      made = made;
+      x = x;
+      found = found;
+      first = first;
+      around = around;
+      value = is_found.0;
+      is_object = is_found.1;
+      property = p;
+      named = named;
+      set = set;
+    }
+
+    pub appends_property : FirstInObject made k name None → IsCharacters name → (now : CstObjectProp) → NamedInsertedAt made new k (length (elements_at made k)) name v now
+        → PutsNamedAtItsPath o made new k (length (elements_at made k)) name v → SetsFirst o name v old new
+    appends_property named texts now comes put = sets_by None named (record { now = now; comes = comes; put = λ may. put sound texts may [] stands_there })
+
+    module _ (p : ℕ) (now : CstNode) (named : FirstInObject made k name (Some p)) where
+      element : (i : ℕ) × IsElementOf made k i p
+      element = found_element made name k p named
+
+      inside : IsPropertyOf made k element.0 p
+      unfolding Property
+      inside = record { of_object = is_found.1; element = element.1; is = found_property made name (children_at made k) (Some p) named }
+
+      sets_value : ValueIs made new p v now → HeldIsWritten made new o p v now → HeldIsMarked made new p v → HasSet o v made new k p
+      sets_value becomes written marked =
+          let h = value_held o made tree sound (element.0 ∷ []) p (a_property [] k element.0 stands_there inside) in
+          record {
+            i = element.0;
+            n = h.value;
+            now = now;
+            element = element.1;
+            holds = h.holds;
+            becomes = becomes;
+            written = λ may. written h.value h.holds (element.0 ∷ []) sound h.at may;
+            marked = λ may. marked h.value h.holds (element.0 ∷ []) h.at may.texts;
+          }
+
+      pub sets_property : ValueIs made new p v now → HeldIsWritten made new o p v now → HeldIsMarked made new p v → SetsFirst o name v old new
+      sets_property becomes written marked = sets_by (Some p) named (sets_value becomes written marked)
+
+  pub object_memory : IsTree old → FindsOrCreatesObject old made (Some x) → (e : EditError) → e ≡ OutOfMemory → EndsSetting o (printed (ordered_tree old 0)) (Edit e)
+  object_memory before found e is = memory_setting o (printed (ordered_tree old 0)) e is (of_found o old before s Object made k found)
+
+  pub append_memory : IsTree old → FindsOrCreatesObject old made (Some x) → (e : EditError) → OnlyOutOfMemory o made k e → EndsSetting o (printed (ordered_tree old 0)) (Edit e)
+  append_memory before found e told = object_memory before found e (told sound (over_at made tree [] k stands_there))

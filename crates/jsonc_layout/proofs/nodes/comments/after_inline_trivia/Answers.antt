@@ -1,0 +1,16 @@
+use Rattle.std.proofs.Common.{rules}
+use Rattle.jsonc_layout.specs.nodes.Comments.{is_not_inline_trivia_at}
+use Rattle.jsonc_layout.specs.nodes.Siblings.{siblings_after}
+use Rattle.jsonc_layout.proofs.lemmas.nodes.Rows.{find_in}
+use Rattle.jsonc_layout.proofs.lemmas.nodes.InTree.{found_there}
+use Rattle.jsonc_layout.proofs.nodes.comments.after_inline_trivia.Goals as goal
+
+pub returns-clause-sibling : goal.returns-clause-sibling
+returns-clause-sibling g c =
+    let ns = c.args.tree.now.nodes in
+    find_in (is_not_inline_trivia_at ns) (siblings_after ns c.args.node) _ _ _ c.find.ensures.ran c.next_siblings.ensures.siblings (λ x b q k. search rules)
+
+pub returns-clause-in_tree : goal.returns-clause-in_tree
+returns-clause-in_tree g c =
+    let ns = c.args.tree.now.nodes in
+    found_there ns (is_not_inline_trivia_at ns) c.find.result c.next_siblings.result (siblings_after ns c.args.node) (returns-clause-sibling g c) c.next_siblings.ensures.siblings c.next_siblings.ensures.in_tree
