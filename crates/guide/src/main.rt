@@ -23,6 +23,8 @@ enum Recipe {
     RemoveFont,
     RemoveWithComments,
     SortWithHeaders,
+    SortUnderHeaders,
+    SetLast,
     SetTrailingCommas,
     NeverThenIfMultiline,
     DropFirst,
@@ -30,7 +32,7 @@ enum Recipe {
 }
 
 /// Each recipe with its name and the texts that it is shown on.
-static RECIPES: [(&str, Recipe, &str); 20] = [
+static RECIPES: [(&str, Recipe, &str); 24] = [
     ("set_font_size", Recipe::SetFontSize, texts::EDITOR),
     ("set_font_size", Recipe::SetFontSize, "{}"),
     ("set_font_size", Recipe::SetFontSize, "{\"editor\": 1}"),
@@ -47,11 +49,15 @@ static RECIPES: [(&str, Recipe, &str); 20] = [
     ),
     ("sort_by_name", Recipe::SortWithHeaders, texts::SORT),
     ("sort_by_name", Recipe::SortWithHeaders, texts::BESIDE),
+    ("sort_by_name", Recipe::SortWithHeaders, texts::OWN),
+    ("sort_under_headers", Recipe::SortUnderHeaders, texts::OWN),
     (
         "use_trailing_commas",
         Recipe::SetTrailingCommas,
         texts::COMMAS,
     ),
+    ("set_last_font_size", Recipe::SetLast, texts::TWO),
+    ("set_last_font_size", Recipe::SetLast, ""),
     (
         "never_then_if_multiline",
         Recipe::NeverThenIfMultiline,
@@ -74,6 +80,8 @@ fn make<A: Allocator + Copy>(recipe: Recipe, doc: &mut CstRootNode<A>) -> Result
         Recipe::RemoveFont => recipes::remove_font(doc),
         Recipe::RemoveWithComments => recipes::remove_with_comments(doc),
         Recipe::SortWithHeaders => recipes::sort_by_name(doc),
+        Recipe::SortUnderHeaders => recipes::sort_under_headers(doc),
+        Recipe::SetLast => recipes::set_last_font_size(doc),
         Recipe::SetTrailingCommas => recipes::use_trailing_commas(doc),
         Recipe::NeverThenIfMultiline => recipes::never_then_if_multiline(doc),
         Recipe::DropFirst => recipes::drop_first(doc),

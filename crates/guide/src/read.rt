@@ -74,31 +74,6 @@ fn print_theme<R: AllocGlobal + Print>(rt: &R, text: &str) -> anyhow::Result<()>
     Ok(())
 }
 
-/// What VS Code takes in its own settings: JSON with comments and trailing commas.
-fn vs_code() -> ParseOptions {
-    ParseOptions {
-        allow_comments: true,
-        allow_trailing_commas: true,
-        ..json()
-    }
-}
-
-/// JSON.
-fn json() -> ParseOptions {
-    ParseOptions {
-        allow_comments: false,
-        allow_loose_object_property_names: false,
-        allow_trailing_commas: false,
-        allow_missing_commas: false,
-        allow_single_quoted_strings: false,
-        allow_hexadecimal_numbers: false,
-        allow_unary_plus_numbers: false,
-        allow_bare_decimal_point_numbers: false,
-        allow_non_finite_numbers: false,
-        allow_extended_string_escapes: false,
-    }
-}
-
 /// JSON5.
 fn json5() -> ParseOptions {
     ParseOptions {
@@ -114,7 +89,7 @@ fn lint<R: AllocGlobal + Print>(
     text: &str,
     options: &ParseOptions,
 ) -> anyhow::Result<()> {
-    match parse_to_value(rt.alloc(), text, options) {
+    match parse_to_ast(rt.alloc(), text, &CollectOptions::default(), options) {
         Ok(_) => println!(rt; "{name}: {text:?}: no fault")?,
         Err(fault) => {
             let line = fault.line_display();
@@ -186,8 +161,8 @@ static LINTED: [(Options, &str); 30] = [
 
 fn lint_under<R: AllocGlobal + Print>(rt: &R, options: Options, text: &str) -> anyhow::Result<()> {
     match options {
-        Options::Json => lint(rt, "JSON", text, &json()),
-        Options::VsCode => lint(rt, "VS Code", text, &vs_code()),
+        Options::Json => lint(rt, "JSON", text, &ParseOptions::json()),
+        Options::VsCode => lint(rt, "VS Code", text, &ParseOptions::jsonc()),
         Options::Json5 => lint(rt, "JSON5", text, &json5()),
         Options::Default => lint(rt, "default", text, &ParseOptions::default()),
     }

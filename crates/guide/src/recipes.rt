@@ -1,8 +1,8 @@
 //! Recipes that edit a document.
 
 use jsonc_parser::cst::{
-    CstInputValue, CstNode, CstObjectProp, CstRootNode, Edit, EditError, IsNode, Over,
-    TrailingCommaMode, run,
+    CstComment, CstInputValue, CstNode, CstObjectProp, CstRootNode, Edit, EditError, Over,
+    TrailingCommaMode, TypedNode, run,
 };
 use jsonc_parser::settings::{find_at, set_at};
 use std::alloc::{AllocError, Allocator};
@@ -114,6 +114,89 @@ pub(crate) fn sort_by_name<A: Allocator + Copy>(doc: &mut CstRootNode<A>) -> Res
             Err(_) => Err(EditError::OutOfMemory),
         },
     )
+}
+
+/// How many of the comments above a property stand above the last blank line there.
+fn header_length<A: Allocator + Copy>(
+    doc: &CstRootNode<A>,
+    property: CstObjectProp,
+    comments: &[CstComment],
+) -> usize {
+    if !doc.holds(property.node()) {
+        return 0;
+    }
+    let mut own = 0usize; // so many comments stand below the node
+    let mut line_ends = false; // whether a line without a comment ends behind it
+    for node in property.previous_siblings(doc) {
+        if node.is_newline() {
+            if line_ends {
+                return comments.len().saturating_sub(own);
+            }
+            line_ends = true;
+        } else if node.is_comment() {
+            line_ends = false;
+            own = own.saturating_add(1);
+        } else if !node.is_whitespace() {
+            break;
+        }
+    }
+    0
+}
+
+/// Sorts by name; comments above the last blank line before a property stay where they are.
+pub(crate) fn sort_under_headers<A: Allocator + Copy>(
+    doc: &mut CstRootNode<A>,
+) -> Result<(), EditError> {
+    let Some(object) = doc.object_value() else {
+        return Ok(());
+    };
+    let header = |doc: &CstRootNode<_>, property: CstObjectProp, comments: &[CstComment]| {
+        header_length(doc, property, comments)
+    };
+    let sort = object.sort_properties().pin_comment_headers_with(header);
+    sort.by_key(
+        doc,
+        |doc: &CstRootNode<_>, property: CstObjectProp| match property.decoded_name(doc) {
+            Ok(name) => Ok(name),
+            Err(_) => Err(EditError::OutOfMemory),
+        },
+    )
+}
+
+/// Sets the value of the last property of a name, which VS Code reads.
+fn set_last<A: Allocator + Copy>(
+    doc: &mut CstRootNode<A>,
+    name: &str,
+    value: CstInputValue<A>,
+) -> Result<(), EditError> {
+    let object = doc.object_value_or_set()?;
+    let mut last = None;
+    for property in object.properties(doc)? {
+        if !doc.holds(property.node()) {
+            continue;
+        }
+        match property.decoded_name(doc) {
+            Ok(Some(found)) if found.as_str() == name => last = Some(property),
+            Ok(_) => {}
+            Err(_) => return Err(EditError::OutOfMemory),
+        }
+    }
+    if let Some(property) = last
+        && doc.holds(property.node())
+    {
+        property.set_value(doc, value)?;
+    } else if doc.holds(object.node()) {
+        object.append(doc, name, value)?;
+    }
+    Ok(())
+}
+
+/// Sets the last font size to 16.
+pub(crate) fn set_last_font_size<A: Allocator + Copy>(
+    doc: &mut CstRootNode<A>,
+) -> Result<(), EditError> {
+    let alloc = *doc.allocator();
+    set_last(doc, "editor.fontSize", CstInputValue::from_u32(alloc, 16)?)
 }
 
 /// Sets a trailing comma wherever an array or object stands on several lines.

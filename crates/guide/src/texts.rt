@@ -59,6 +59,19 @@ pub(crate) const CARRIED: &str = r#"{
   "fontSize": 14
 }"#;
 
+pub(crate) const OWN: &str = r#"{
+  // How it looks.
+
+  // or dark
+  "theme": "light",
+  "fontSize": 14
+}"#;
+
+pub(crate) const TWO: &str = r#"{
+  "editor.fontSize": 1,
+  "editor.fontSize": 2
+}"#;
+
 pub(crate) const BESIDE: &str = r#"{
   "c": 1, "b": 2, // both
   "a": 3
