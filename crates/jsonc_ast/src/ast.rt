@@ -17,7 +17,7 @@ use std::borrow::CowStr;
 
 /// A string, as `"name"`.
 #[derive(Drop)]
-#[derive_where(PartialEq, Eq)]
+#[derive_where(Debug, PartialEq, Eq)]
 pub struct StringLit<'a, A: Allocator> {
     pub range: Range,
     /// What stands between the quotes, with its escapes decoded.
@@ -25,14 +25,14 @@ pub struct StringLit<'a, A: Allocator> {
 }
 
 /// A name without quotes.
-#[derive(Clone, PartialEq, Eq, Drop)]
+#[derive(Clone, Debug, PartialEq, Eq, Drop)]
 pub struct WordLit<'a> {
     pub range: Range,
     pub value: &'a str,
 }
 
 /// A number, as `123` or `-1.2e+2`.
-#[derive(Clone, PartialEq, Eq, Drop)]
+#[derive(Clone, Debug, PartialEq, Eq, Drop)]
 pub struct NumberLit<'a> {
     pub range: Range,
     /// Its text.
@@ -40,21 +40,21 @@ pub struct NumberLit<'a> {
 }
 
 /// `true` or `false`.
-#[derive(Clone, PartialEq, Eq, Drop)]
+#[derive(Clone, Debug, PartialEq, Eq, Drop)]
 pub struct BooleanLit {
     pub range: Range,
     pub value: bool,
 }
 
 /// `null`.
-#[derive(Clone, PartialEq, Eq, Drop)]
+#[derive(Clone, Debug, PartialEq, Eq, Drop)]
 pub struct NullKeyword {
     pub range: Range,
 }
 
 /// The name of a property, with or without quotes.
 #[derive(Drop)]
-#[derive_where(PartialEq, Eq)]
+#[derive_where(Debug, PartialEq, Eq)]
 pub enum ObjectPropName<'a, A: Allocator> {
     String(StringLit<'a, A>),
     Word(WordLit<'a>),
@@ -63,7 +63,7 @@ pub enum ObjectPropName<'a, A: Allocator> {
 /// A value.
 #[cycle(ast)]
 #[derive(Drop)]
-#[derive_where(PartialEq, Eq)]
+#[derive_where(Debug, PartialEq, Eq)]
 pub enum Value<'a, A: Allocator> {
     StringLit(StringLit<'a, A>),
     NumberLit(NumberLit<'a>),
@@ -76,7 +76,7 @@ pub enum Value<'a, A: Allocator> {
 /// An object, as `{ "name": 4 }`, from its `{` to its `}`.
 #[cycle(ast)]
 #[derive(Drop)]
-#[derive_where(PartialEq, Eq)]
+#[derive_where(Debug, PartialEq, Eq)]
 pub struct Object<'a, A: Allocator> {
     pub range: Range,
     pub properties: Vec<ObjectProp<'a, A>, A>,
@@ -85,7 +85,7 @@ pub struct Object<'a, A: Allocator> {
 /// A property of an object, from its name to its value.
 #[cycle(ast)]
 #[derive(Drop)]
-#[derive_where(PartialEq, Eq)]
+#[derive_where(Debug, PartialEq, Eq)]
 pub struct ObjectProp<'a, A: Allocator> {
     pub range: Range,
     pub name: ObjectPropName<'a, A>,
@@ -95,7 +95,7 @@ pub struct ObjectProp<'a, A: Allocator> {
 /// An array, as `[5, 6]`, from its `[` to its `]`.
 #[cycle(ast)]
 #[derive(Drop)]
-#[derive_where(PartialEq, Eq)]
+#[derive_where(Debug, PartialEq, Eq)]
 pub struct Array<'a, A: Allocator> {
     pub range: Range,
     pub elements: Vec<Value<'a, A>, A>,

@@ -4,25 +4,12 @@ use Rattle.std.proofs.lemmas.List.{append-nil, same_from_push, append_assoc, len
 use Rattle.std.proofs.lemmas.Str.{length-le-encodes}
 use Rattle.jsonc_text.specs.Text.{byte_length}
 use Rattle.jsonc_text.proofs.Cuts.{byte_length-append}
+use Rattle.jsonc_text.proofs.Lines.{past, walked_push}
 use Rattle.jsonc_text.specs.Places.{ends_line, walked, LineColumn}
 use Rattle.jsonc_parser.proofs.Changes.{Back, back_of, size_of, boundary_behind}
 
--- from this line and column over one character, where r follows it
-abbrev pub past : ℕ × ℕ → ℕ → List ℕ → ℕ × ℕ
-past at c r = cond (ends_line c r) (at.0 + 1, 1) (at.0, at.1 + 1)
-
 both : (p q : ℕ × ℕ) → p ≡ q → (p.0 ≡ q.0) × (p.1 ≡ q.1)
 both p q e = (ap (λ r. r.0) e, ap (λ r. r.1) e)
-
-cond_past : (b : Bool) (x y : ℕ × ℕ) (c : ℕ) (r : List ℕ) → cond b (past x c r) (past y c r) ≡ past (cond b x y) c r
-cond_past true x y c r = refl
-cond_past false x y c r = refl
-
-walked_further : (line column : ℕ) (s : List ℕ) (c : ℕ) (r : List ℕ) → walked line column (s ++ c ∷ []) r ≡ past (walked line column s (c ∷ r)) c r
-walked_further line column [] c r = refl
-walked_further line column (d ∷ s) c r =
-    rw (append_assoc s (c ∷ []) r, walked_further (line + 1) 1 s c r, walked_further line (column + 1) s c r)
-    (cond_past (ends_line d (s ++ c ∷ r)) (walked (line + 1) 1 s (c ∷ r)) (walked line (column + 1) s (c ∷ r)) c r)
 
 -- no beginning of what was passed ends in this line and column
 abbrev pub NotYet : List ℕ → List ℕ → ℕ → ℕ → Type 0
@@ -59,7 +46,7 @@ pub walk_goes_on : (text rest : List ℕ) (c : ℕ) (r : List ℕ) (line column 
 walk_goes_on text rest c r line column here_line here_column line' column' w e other to small = record {
   passed = w.passed ++ c ∷ [];
   split = w.split ∙ ap (λ t. w.passed ++ t) e ∙ sym (append_assoc w.passed (c ∷ []) r);
-  position = to ∙ ap (λ q. past q c r) (w.position ∙ ap (λ t. walked 1 1 w.passed t) e) ∙ sym (walked_further 1 1 w.passed c r);
+  position = to ∙ ap (λ q. past q c r) (w.position ∙ ap (λ t. walked 1 1 w.passed t) e) ∙ sym (walked_push 1 1 w.passed c r);
   not_yet = λ b x m g p. not_yet_after w.passed c r line column (subst (λ t. NotYet w.passed t line column) e w.not_yet) (λ h. other (both (line, column) (here_line, here_column) (h ∙ ap (λ t. walked 1 1 w.passed t) (sym e) ∙ sym w.position))) b x m (back_of m) g p;
   few = (omega (arith, w.few.0, small.0, length-append w.passed (c ∷ [])), omega (arith, w.few.1, small.1, length-append w.passed (c ∷ [])));
 }

@@ -1,14 +1,10 @@
-//! Places of a text by line and column.
+//! Lines and columns of places in a text, and places by line and column.
 
 ghost use Rattle.std.specs.Prelude.{◌≡◌, ℕ, chars, IfNone, IfSome, IsCharBoundary};
-ghost use Rattle.jsonc_text.specs.Places.{ends_line, LineColumn};
+ghost use Rattle.jsonc_text.specs.Places.{LineColumn};
 
-// Whether the character before these ones ends a line: an LF, or a CR that no LF follows.
-fn ends_line(c: char, rest: &str) -> bool
-    ensures { result ≡ ends_line c (chars rest.now) }
-{
-    c == '\n' || c == '\r' && rest.chars().next() != Some('\n')
-}
+use jsonc_text::line::ends_line;
+pub use jsonc_text::line::{LineAndColumn, line_and_column};
 
 /// The place of a line and column, both counted from 1, if the text has them.
 ///

@@ -15,7 +15,7 @@ cond_of : {A B : Type 0} (f : A → B) (b : Bool) (x y : A) → cond b (f x) (f 
 cond_of f true x y = refl
 cond_of f false x y = refl
 
-walked_push : (line column : ℕ) (s : List ℕ) (c : ℕ) (r : List ℕ) → walked line column (s ++ c ∷ []) r ≡ past (walked line column s (c ∷ r)) c r
+pub walked_push : (line column : ℕ) (s : List ℕ) (c : ℕ) (r : List ℕ) → walked line column (s ++ c ∷ []) r ≡ past (walked line column s (c ∷ r)) c r
 walked_push line column [] c r = refl
 walked_push line column (d ∷ s) c r =
     rw (append_assoc s (c ∷ []) r, walked_push (line + 1) 1 s c r, walked_push line (column + 1) s c r)

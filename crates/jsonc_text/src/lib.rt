@@ -11,7 +11,7 @@ pub mod common;
 pub mod edit;
 pub mod errors;
 pub mod laws;
-mod line;
+pub mod line;
 pub mod options;
 pub mod string;
 pub mod tokens;

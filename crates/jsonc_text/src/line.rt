@@ -1,29 +1,28 @@
-//! Lines and columns of places.
+//! Lines and columns of places in a text.
 ghost use Rattle.std.specs.Prelude.{◌≡◌, IsCharBoundary, chars};
 ghost use Rattle.jsonc_text.specs.Text.{rest};
 ghost use Rattle.jsonc_text.specs.Places.{LineColumn, ends_line};
 
-use crate::chars::{char_at, has_byte};
+use crate::chars::char_at;
 
 /// A line and a column in it, both counted from 1, the column in characters.
-#[derive(Clone, Copy, Debug)]
+#[derive(Clone, Copy, Debug, PartialEq, Eq)]
 pub struct LineAndColumn {
     pub line: usize,
     pub column: usize,
 }
 
-/// Whether the character before a place ends a line: an LF, or a CR that no LF follows.
-fn ends_line(c: char, text: &str, after: usize) -> bool
-    requires { IsCharBoundary text.now after }
-    ensures { result ≡ ends_line c (rest text.now after) }
+/// Whether the character before these ones ends a line: an LF, or a CR that no LF follows.
+pub fn ends_line(c: char, rest: &str) -> bool
+    ensures { result ≡ ends_line c (chars rest.now) }
 {
-    if c == '\r' {
-        return !has_byte(text, after, b'\n');
-    }
-    c == '\n'
+    c == '\n' || c == '\r' && rest.chars().next() != Some('\n')
 }
 
-/// The line and the column of a place, by one pass over the characters before it.
+/// The line and the column of a place that is counted in bytes, as in a `ParseError`.
+///
+/// LF, CR LF and CR alone end a line. Nothing is allocated; the characters before the place are
+/// passed once. In `{\n  "a": 1\n}` place 4 is in line 2, column 3.
 pub fn line_and_column(text: &str, place: usize) -> LineAndColumn
     requires { IsCharBoundary text.now place }
     ensures { LineColumn (chars text.now) place result.line result.column }
@@ -34,7 +33,7 @@ pub fn line_and_column(text: &str, place: usize) -> LineAndColumn
     let mut at = 0;
     while let Some(c) = char_at(before, at) {
         at += c.len_utf8();
-        if ends_line(c, text, at) {
+        if ends_line(c, &text[at..]) {
             line += 1;
             column = 1;
         } else {

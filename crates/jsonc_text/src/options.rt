@@ -38,7 +38,7 @@ impl Default for ScannerOptions {
 }
 
 /// What a text may hold beyond JSON. Each flag is on by default.
-#[derive(Clone, Drop)]
+#[derive(Clone, Debug, Drop)]
 pub struct ParseOptions {
     /// Comments, from `//` to the end of the line and between `/*` and `*/`.
     pub allow_comments: bool,

@@ -135,6 +135,7 @@ impl<'a, A: Allocator + Copy> Token<'a, A> {
 
 /// A token with its range.
 #[derive(Drop)]
+#[derive_where(Debug)]
 pub struct TokenAndRange<'a, A: Allocator> {
     /// The bytes of the text that it covers.
     pub range: Range,

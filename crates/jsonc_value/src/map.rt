@@ -14,6 +14,7 @@ ghost use Rattle.std.specs.Vec.Iter.{into_iter_items};
 ghost use Rattle.indexmap.specs.IndexMap.{insert_entry};
 ghost use Rattle.jsonc_value.specs.Names.{is_named};
 
+mod debug;
 mod equality;
 mod iter;
 mod key_list;

@@ -17,7 +17,7 @@ use std::{slice, vec};
 /// A JSON value.
 #[cycle(json)]
 #[derive(Drop)]
-#[derive_where(PartialEq, Eq)]
+#[derive_where(Debug, PartialEq, Eq)]
 pub enum JsonValue<'a, A: Allocator> {
     /// A string, with its escapes decoded.
     String(CowStr<'a, A>),
@@ -32,13 +32,13 @@ pub enum JsonValue<'a, A: Allocator> {
 /// An object: values by their names, in the order in which the names came.
 #[cycle(json)]
 #[derive(Drop)]
-#[derive_where(PartialEq, Eq)]
+#[derive_where(Debug, PartialEq, Eq)]
 pub struct JsonObject<'a, A: Allocator>(Map<CowStr<'a, A>, JsonValue<'a, A>, A>);
 
 /// An array.
 #[cycle(json)]
 #[derive(Drop)]
-#[derive_where(PartialEq, Eq)]
+#[derive_where(Debug, PartialEq, Eq)]
 pub struct JsonArray<'a, A: Allocator>(Vec<JsonValue<'a, A>, A>);
 
 impl<'a, A: Allocator + Copy> JsonObject<'a, A> {

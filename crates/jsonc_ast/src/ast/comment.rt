@@ -15,7 +15,7 @@ pub enum CommentKind {
 }
 
 /// A comment to the end of its line, as `// why`.
-#[derive(Clone, PartialEq, Eq, Drop)]
+#[derive(Clone, Debug, PartialEq, Eq, Drop)]
 pub struct CommentLine<'a> {
     pub range: Range,
     /// What stands after its `//`.
@@ -23,7 +23,7 @@ pub struct CommentLine<'a> {
 }
 
 /// A comment between marks, as `/* why */`.
-#[derive(Clone, PartialEq, Eq, Drop)]
+#[derive(Clone, Debug, PartialEq, Eq, Drop)]
 pub struct CommentBlock<'a> {
     pub range: Range,
     /// What stands between its `/*` and its `*/`.
@@ -31,7 +31,7 @@ pub struct CommentBlock<'a> {
 }
 
 /// A comment.
-#[derive(Clone, PartialEq, Eq, Drop)]
+#[derive(Clone, Debug, PartialEq, Eq, Drop)]
 pub enum Comment<'a> {
     Line(CommentLine<'a>),
     Block(CommentBlock<'a>),

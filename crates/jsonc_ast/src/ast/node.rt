@@ -10,7 +10,7 @@ use jsonc_text::common::{Range, Ranged};
 use std::alloc::{AllocError, Allocator};
 
 /// A node of the syntax tree, borrowed from it.
-#[derive_where(Copy, PartialEq, Eq)]
+#[derive_where(Copy, Debug, PartialEq, Eq)]
 pub enum Node<'b, 'a, A: Allocator> {
     StringLit(&'b StringLit<'a, A>),
     NumberLit(&'b NumberLit<'a>),

@@ -40,7 +40,7 @@ impl Default for CommentCollectionStrategy {
 }
 
 /// What is collected besides the value. By default nothing is.
-#[derive(Clone, Copy, Drop)]
+#[derive(Clone, Copy, Debug, Drop)]
 pub struct CollectOptions {
     /// Where comments are collected.
     pub comments: CommentCollectionStrategy,

@@ -9,85 +9,85 @@ ghost use Rattle.jsonc_cst.specs.Nodes.{null_keyword_node, word_lit_node};
 ghost use Rattle.jsonc_cst.specs.Nodes.{token_node, whitespace_node, newline_node, comment_node};
 
 /// The root of a document.
-#[derive(Clone, Copy, PartialEq, Eq)]
+#[derive(Clone, Copy, Debug, PartialEq, Eq)]
 pub struct CstRoot {
     pub(super) number: usize,
 }
 
 /// An array.
-#[derive(Clone, Copy, PartialEq, Eq)]
+#[derive(Clone, Copy, Debug, PartialEq, Eq)]
 pub struct CstArray {
     pub(super) number: usize,
 }
 
 /// An object.
-#[derive(Clone, Copy, PartialEq, Eq)]
+#[derive(Clone, Copy, Debug, PartialEq, Eq)]
 pub struct CstObject {
     pub(super) number: usize,
 }
 
 /// A property of an object: a name, a colon and a value.
-#[derive(Clone, Copy, PartialEq, Eq)]
+#[derive(Clone, Copy, Debug, PartialEq, Eq)]
 pub struct CstObjectProp {
     pub(super) number: usize,
 }
 
 /// `true` or `false`.
-#[derive(Clone, Copy, PartialEq, Eq)]
+#[derive(Clone, Copy, Debug, PartialEq, Eq)]
 pub struct CstBooleanLit {
     pub(super) number: usize,
 }
 
 /// `null`.
-#[derive(Clone, Copy, PartialEq, Eq)]
+#[derive(Clone, Copy, Debug, PartialEq, Eq)]
 pub struct CstNullKeyword {
     pub(super) number: usize,
 }
 
 /// A number.
-#[derive(Clone, Copy, PartialEq, Eq)]
+#[derive(Clone, Copy, Debug, PartialEq, Eq)]
 pub struct CstNumberLit {
     pub(super) number: usize,
 }
 
 /// A string between quotes.
-#[derive(Clone, Copy, PartialEq, Eq)]
+#[derive(Clone, Copy, Debug, PartialEq, Eq)]
 pub struct CstStringLit {
     pub(super) number: usize,
 }
 
 /// A word that is no keyword.
-#[derive(Clone, Copy, PartialEq, Eq)]
+#[derive(Clone, Copy, Debug, PartialEq, Eq)]
 pub struct CstWordLit {
     pub(super) number: usize,
 }
 
 /// A bracket, comma or colon.
-#[derive(Clone, Copy, PartialEq, Eq)]
+#[derive(Clone, Copy, Debug, PartialEq, Eq)]
 pub struct CstToken {
     pub(super) number: usize,
 }
 
 /// Blanks within a line.
-#[derive(Clone, Copy, PartialEq, Eq)]
+#[derive(Clone, Copy, Debug, PartialEq, Eq)]
 pub struct CstWhitespace {
     pub(super) number: usize,
 }
 
 /// The end of a line.
-#[derive(Clone, Copy, PartialEq, Eq)]
+#[derive(Clone, Copy, Debug, PartialEq, Eq)]
 pub struct CstNewline {
     pub(super) number: usize,
 }
 
 /// A comment with its marks.
-#[derive(Clone, Copy, PartialEq, Eq)]
+#[derive(Clone, Copy, Debug, PartialEq, Eq)]
 pub struct CstComment {
     pub(super) number: usize,
 }
 
 /// A node that may have children.
-#[derive(Clone, Copy, PartialEq, Eq)]
+#[derive(Clone, Copy, Debug, PartialEq, Eq)]
 pub enum CstContainerNode {
     Root(CstRoot),
     Array(CstArray),
@@ -96,7 +96,7 @@ pub enum CstContainerNode {
 }
 
 /// A node that has no children.
-#[derive(Clone, Copy, PartialEq, Eq)]
+#[derive(Clone, Copy, Debug, PartialEq, Eq)]
 pub enum CstLeafNode {
     BooleanLit(CstBooleanLit),
     NullKeyword(CstNullKeyword),
@@ -110,14 +110,14 @@ pub enum CstLeafNode {
 }
 
 /// A node of any kind.
-#[derive(Clone, Copy, PartialEq, Eq)]
+#[derive(Clone, Copy, Debug, PartialEq, Eq)]
 pub enum CstNode {
     Container(CstContainerNode),
     Leaf(CstLeafNode),
 }
 
 /// The name of a property: a string, or a word without quotes.
-#[derive(Clone, Copy, PartialEq, Eq)]
+#[derive(Clone, Copy, Debug, PartialEq, Eq)]
 pub enum ObjectPropName {
     String(CstStringLit),
     Word(CstWordLit),
