@@ -4,6 +4,7 @@ use crate::recipes::path;
 use jsonc_parser::common::Ranged;
 use jsonc_parser::cst::{CstInputValue, CstRootNode};
 use jsonc_parser::errors::ParseError;
+use jsonc_parser::numbers::parse_u64;
 use jsonc_parser::settings::read_at;
 use jsonc_parser::{CollectOptions, JsonValue, ParseOptions, parse_to_ast, parse_to_value};
 use std::alloc::Allocator;
@@ -16,15 +17,15 @@ const SETTINGS: &str = r#"{
   "zoom": 1, "zoom": 2
 }"#;
 
-/// The number of a name, of a text's object. None where it is none, or none of whole numbers.
+/// The number of a name, of a text's object. None where it is none, or no whole one.
 fn number_of<A: Allocator + Copy>(
     alloc: A,
     text: &str,
     name: &str,
-) -> Result<Option<u32>, ParseError> {
+) -> Result<Option<u64>, ParseError> {
     match parse_to_value(alloc, text, &ParseOptions::default())? {
         Some(JsonValue::Object(object)) => match object.get_number(name) {
-            Some(digits) => Ok(digits.parse::<u32>().ok()),
+            Some(digits) => Ok(parse_u64(digits)),
             None => Ok(None),
         },
         _ => Ok(None),

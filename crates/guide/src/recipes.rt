@@ -1,12 +1,11 @@
 //! Recipes that edit a document.
 
 use jsonc_parser::cst::{
-    CstComment, CstInputValue, CstNode, CstObjectProp, CstRootNode, Edit, EditError, Over,
-    TrailingCommaMode, TypedNode, run,
+    CstComment, CstInputValue, CstObjectProp, CstRootNode, Edit, EditError, Over,
+    TrailingCommaMode, TypedNode, run_unsorted,
 };
 use jsonc_parser::settings::{find_at, set_at};
 use std::alloc::{AllocError, Allocator};
-use std::cmp::Ordering;
 
 /// A path of names.
 pub(crate) fn path<A: Allocator + Copy>(
@@ -226,8 +225,7 @@ fn first_out<A: Allocator + Copy>(alloc: A) -> Result<Vec<Edit<A>, A>, AllocErro
 /// Makes this list.
 pub(crate) fn drop_first<A: Allocator + Copy>(doc: &mut CstRootNode<A>) -> Result<(), EditError> {
     let edits = first_out(*doc.allocator())?;
-    let unsorted = |_: &CstRootNode<_>, _: CstNode, _: CstNode| Ordering::Equal;
-    match run(doc, edits, &unsorted) {
+    match run_unsorted(doc, edits) {
         Ok(()) => Ok(()),
         Err((_, why)) => Err(why),
     }

@@ -191,13 +191,13 @@ fn read_root_edit(alloc: Global, words: &[&str]) -> Result<Edit<Global>, CaseErr
 /// An edit of a property's value, or of a truth value.
 fn read_setting(alloc: Global, words: &[&str]) -> Result<Edit<Global>, CaseError> {
     match words {
-        ["SetValue", path, value @ ..] => {
-            let (path, value) = read_value_at(alloc, path, value)?;
-            Ok(Edit::SetValue(path, value))
-        }
         ["EnsureValue", path, shape] => {
             let shape = chosen(shape, &SHAPES)?;
             Ok(Edit::EnsureValue(read_path(alloc, path)?, shape))
+        }
+        ["SetValue", path, value @ ..] => {
+            let (path, value) = read_value_at(alloc, path, value)?;
+            Ok(Edit::SetValue(path, value))
         }
         ["SetBoolean", path, value] => {
             let value = chosen(value, &BOOLEANS)?;
@@ -344,7 +344,7 @@ fn value_of(
         Some('F') => Ok(CstInputValue::Bool(false)),
         Some('#') => Ok(CstInputValue::Number(unescaped_text(alloc, rest)?)),
         Some('\'') => Ok(CstInputValue::String(unescaped_text(alloc, rest)?)),
-        Some('[') => elements_of(alloc, read, read_number(rest)?),
+        Some('[') => elements_of(alloc, read_number(rest)?, read),
         Some('{') => properties_of(alloc, read, read_number(rest)?),
         _ => Err(CaseError::Edit),
     }
@@ -353,8 +353,8 @@ fn value_of(
 /// The array of so many values that were read last, the last one first.
 fn elements_of(
     alloc: Global,
-    read: &mut Vec<CstInputValue<Global>>,
     count: usize,
+    read: &mut Vec<CstInputValue<Global>>,
 ) -> Result<CstInputValue<Global>, CaseError> {
     let mut elements = Vec::new(alloc);
     for _ in 0..count {

@@ -4,4 +4,8 @@ pub mod Readings
 pub mod Colons
 pub mod Tree
 pub mod Shown
+pub mod RangeWalk
+pub mod JsonValues
+pub mod NodePaths
+pub mod RepeatedNames
 pub mod lemmas

@@ -7,3 +7,6 @@ pub mod Values
 pub mod sorting
 pub mod typed
 pub mod objects
+pub mod Ranges
+pub mod Paths
+pub mod RepeatedNames

@@ -1,11 +1,14 @@
 //! The tests, and what they share.
 
 mod changes;
+mod checked;
 mod commas;
 mod lists;
 mod nested;
 mod nodes;
+mod paths;
 mod pieces;
+mod ranges;
 mod reading;
 mod rows;
 mod settings;

@@ -4,3 +4,8 @@ pub mod Promise
 pub mod lemmas
 pub mod Changes
 pub mod LineWalk
+pub mod NumberLaws
+pub mod NumberScan
+pub mod NumberSigns
+pub mod NumberTexts
+pub mod NumberValues

@@ -1,88 +1,194 @@
--- The place of a line and a column: a walk over a text that has not met them before.
-use Rattle.std.proofs.Common.{◌≡◌, ◌∙◌, refl, sym, ap, subst, arith, ℕ, ◌+◌, ◌-◌, ◌≤◌, List, [], ◌∷◌, ◌++◌, length, chars, IsUtf8, IsCharBoundary, Bool, true, false, cond}
-use Rattle.std.proofs.lemmas.List.{append-nil, same_from_push, append_assoc, length-append}
-use Rattle.std.proofs.lemmas.Str.{length-le-encodes}
-use Rattle.jsonc_text.specs.Text.{byte_length}
-use Rattle.jsonc_text.proofs.Cuts.{byte_length-append}
-use Rattle.jsonc_text.proofs.Lines.{past, walked_push}
+-- Lines and columns: a walk over a text, the place of a line and a column, and the line and column of a place.
+use Rattle.std.proofs.Common.{◌≡◌, ◌∙◌, refl, sym, ap, subst, arith, ℕ, ◌+◌, ◌-◌, ◌<◌, ◌≤◌, List, [], ◌∷◌, ◌++◌, length, take, drop, chars, IsUtf8, IsCharBoundary, Bool, true, false, cond, ◌⊎◌, inl, inr, Option, None, Some, IfSome, IfNone}
+use Rattle.std.proofs.lemmas.Bool.{cases_lt, lt-ltb, le-ltb}
+use Rattle.std.proofs.lemmas.List.{append-nil, same_from_push, append_assoc, take-append-drop, length-drop}
+use Rattle.std.proofs.lemmas.Str.{chars-append, IsUtf8-take, len_utf8_bounds}
+use Rattle.std.specs.Char.{len_utf8}
+use Rattle.jsonc_text.specs.Text.{byte_length, rest}
 use Rattle.jsonc_text.specs.Places.{ends_line, walked, LineColumn}
+use Rattle.jsonc_text.proofs.Cuts.{byte_length-append, byte_length-one}
+use Rattle.jsonc_parser.specs.declared.places.ColumnUnit.{ColumnUnit}
+use Rattle.jsonc_parser.specs.declared.places.ColumnUnit.TheVariants.{Character, Utf16}
+use Rattle.jsonc_parser.specs.Places.{past, walked_by, LineColumnBy, utf16_units, units}
 use Rattle.jsonc_parser.proofs.Changes.{Back, back_of, size_of, boundary_behind}
 
-both : (p q : ℕ × ℕ) → p ≡ q → (p.0 ≡ q.0) × (p.1 ≡ q.1)
-both p q e = (ap (λ r. r.0) e, ap (λ r. r.1) e)
+-- no character takes more units of a column than bytes
+abbrev pub IsNarrow : (ℕ → ℕ) → Type 0
+IsNarrow w = (c : ℕ) → w c ≤ len_utf8 c
 
--- no beginning of what was passed ends in this line and column
-abbrev pub NotYet : List ℕ → List ℕ → ℕ → ℕ → Type 0
-NotYet passed r line column = (b : List ℕ) (x : ℕ) (m : List ℕ) → passed ≡ b ++ x ∷ m → (line, column) ≡ walked 1 1 b (x ∷ (m ++ r)) → ⊥
+-- a character takes two UTF-16 code units above U+FFFF, and one otherwise
+pub one_unit : (c : ℕ) → c < 0x1_0000 → utf16_units c ≡ 1
+one_unit c h = rw (lt-ltb c 0x1_0000 h) refl
 
--- the walk over a text has passed these characters, and come to this line and column, without meeting the other
-pub record HasWalked (text rest : List ℕ) (line column here_line here_column : ℕ) : Type 0 where
+pub two_units : (c : ℕ) → 0x1_0000 ≤ c → utf16_units c ≡ 2
+two_units c h = rw (le-ltb c 0x1_0000 h) refl
+
+utf16_is_narrow : (c : ℕ) → (c < 0x1_0000) ⊎ (0x1_0000 ≤ c) → utf16_units c ≤ len_utf8 c
+utf16_is_narrow c (inl h) = omega (arith, one_unit c h, (len_utf8_bounds c).0)
+utf16_is_narrow c (inr h) =
+    let past_one : 0x80 ≤ c = omega (arith, h) in
+    let past_two : 0x800 ≤ c = omega (arith, h) in
+    let four : len_utf8 c ≡ 4 = rw (le-ltb c 0x80 past_one, le-ltb c 0x800 past_two, le-ltb c 0x1_0000 h) refl in
+    omega (arith, two_units c h, four)
+
+pub narrow : (u : ColumnUnit) → IsNarrow (units u)
+narrow Character c = (len_utf8_bounds c).0
+narrow Utf16 c = utf16_is_narrow c (cases_lt c 0x1_0000)
+
+-- a walk over some characters and then others is the two walks, one after the other
+pub walked_append : (w : ℕ → ℕ) (p : ℕ × ℕ) (s v r : List ℕ) → walked_by w p (s ++ v) r ≡ walked_by w (walked_by w p s (v ++ r)) v r
+walked_append w p [] v r = refl
+walked_append w p (d ∷ s) v r = ap (λ t. walked_by w (past w p d t) (s ++ v) r) (append_assoc s v r) ∙ walked_append w (past w p d (s ++ (v ++ r))) s v r
+
+-- where each character takes one unit, columns are counted in characters
+of_cond : {A B : Type 0} (f : A → B) (b : Bool) (x y : A) → f (cond b x y) ≡ cond b (f x) (f y)
+of_cond f true x y = refl
+of_cond f false x y = refl
+
+by_characters : (line column : ℕ) (s r : List ℕ) → walked_by (units Character) (line, column) s r ≡ walked line column s r
+by_characters line column [] r = refl
+by_characters line column (c ∷ s) r =
+    of_cond (λ p. walked_by (units Character) p s r) (ends_line c (s ++ r)) (line + 1, 1) (line, column + 1)
+    ∙ ap (λ t. cond (ends_line c (s ++ r)) t (walked_by (units Character) (line, column + 1) s r)) (by_characters (line + 1) 1 s r)
+    ∙ ap (λ t. cond (ends_line c (s ++ r)) (walked (line + 1) 1 s r) t) (by_characters line (column + 1) s r)
+
+pub in_characters : (t : List ℕ) (p line column : ℕ) → LineColumnBy (units Character) t p line column → LineColumn t p line column
+in_characters t p line column x = record { before = x.before; after = x.after; split = x.split; at = x.at; position = x.position ∙ by_characters 1 1 x.before x.after }
+
+pub of_characters : (t : List ℕ) (p line column : ℕ) → LineColumn t p line column → LineColumnBy (units Character) t p line column
+of_characters t p line column x = record { before = x.before; after = x.after; split = x.split; at = x.at; position = x.position ∙ sym (by_characters 1 1 x.before x.after) }
+
+pub found_in_characters : (t : List ℕ) (line column : ℕ) (r : Option ℕ) → IfSome r (λ p. LineColumnBy (units Character) t p line column) → IfSome r (λ p. LineColumn t p line column)
+found_in_characters t line column None h = h
+found_in_characters t line column (Some p) h = in_characters t p line column h
+
+pub none_in_characters : (t : List ℕ) (line column : ℕ) (r : Option ℕ) → IfNone r ((p : ℕ) → LineColumnBy (units Character) t p line column → ⊥) → IfNone r ((p : ℕ) → LineColumn t p line column → ⊥)
+none_in_characters t line column None h = λ p x. h p (of_characters t p line column x)
+none_in_characters t line column (Some p) h = h
+
+-- a walk over a text has passed these characters, and come to this line and column
+pub record Walked (w : ℕ → ℕ) (text rest : List ℕ) (line column : ℕ) : Type 0 where
   pub passed : List ℕ
   pub split : text ≡ passed ++ rest
-  pub position : (here_line, here_column) ≡ walked 1 1 passed rest
-  pub not_yet : NotYet passed rest line column
-  pub few : (here_line ≤ length passed + 1) × (here_column ≤ length passed + 1)
+  pub position : (line, column) ≡ walked_by w (1, 1) passed rest
+  pub few : (line ≤ byte_length passed + 1) × (column ≤ byte_length passed + 1)
 
-nothing_passed : (b : List ℕ) (x : ℕ) (m : List ℕ) → [] ≡ b ++ x ∷ m → ⊥
-nothing_passed [] x m e = cc
-nothing_passed (d ∷ b) x m e = cc
+pub walked_start : (w : ℕ → ℕ) (text : List ℕ) → Walked w text text 1 1
+walked_start w text = record { passed = []; split = refl; position = refl; few = (omega arith, omega arith) }
 
-pub walk_begins : (text : List ℕ) (line column : ℕ) → HasWalked text text line column 1 1
-walk_begins text line column = record { passed = []; split = refl; position = refl; not_yet = λ b x m e p. nothing_passed b x m e; few = (omega arith, omega arith) }
-
-not_yet_after : (passed : List ℕ) (c : ℕ) (r : List ℕ) (line column : ℕ) → NotYet passed (c ∷ r) line column → ((line, column) ≡ walked 1 1 passed (c ∷ r) → ⊥)
-    → (b : List ℕ) (x : ℕ) (m : List ℕ) → Back m → passed ++ c ∷ [] ≡ b ++ x ∷ m → (line, column) ≡ walked 1 1 b (x ∷ (m ++ r)) → ⊥
-not_yet_after passed c r line column before here b x m (Back.empty z) e p =
-    let same = same_from_push passed b c x (e ∙ ap (λ t. b ++ x ∷ t) z) in
-    here (p ∙ ap (λ t. walked 1 1 b (x ∷ (t ++ r))) z ∙ ap (λ t. walked 1 1 t (x ∷ r)) (sym same.0) ∙ ap (λ k. walked 1 1 passed (k ∷ r)) (sym same.1))
-not_yet_after passed c r line column before here b x m (Back.ends n d z) e p =
-    let same = same_from_push passed (b ++ x ∷ n) c d (e ∙ ap (λ t. b ++ x ∷ t) z ∙ sym (append_assoc b (x ∷ n) (d ∷ []))) in
-    before b x n same.0 (p ∙ ap (λ t. walked 1 1 b (x ∷ (t ++ r))) z ∙ ap (λ t. walked 1 1 b (x ∷ t)) (append_assoc n (d ∷ []) r) ∙ ap (λ k. walked 1 1 b (x ∷ (n ++ k ∷ r))) (sym same.1))
+few_past : (b : Bool) (u size n h k : ℕ) → u ≤ size → 1 ≤ size → (h ≤ n + 1) × (k ≤ n + 1) → ((cond {A = ℕ × ℕ} b (h + 1, 1) (h, k + u)).0 ≤ n + size + 1) × ((cond {A = ℕ × ℕ} b (h + 1, 1) (h, k + u)).1 ≤ n + size + 1)
+few_past true u size n h k least some few = (omega (arith, few.0), omega arith)
+few_past false u size n h k least some few = (omega (arith, few.0), omega (arith, few.1))
 
 -- one character further
-pub walk_goes_on : (text rest : List ℕ) (c : ℕ) (r : List ℕ) (line column here_line here_column line' column' : ℕ) → HasWalked text rest line column here_line here_column → rest ≡ c ∷ r
-    → ((line ≡ here_line) × (column ≡ here_column) → ⊥) → (line', column') ≡ past (here_line, here_column) c r → (line' ≤ here_line + 1) × (column' ≤ here_column + 1)
-    → HasWalked text r line column line' column'
-walk_goes_on text rest c r line column here_line here_column line' column' w e other to small = record {
-  passed = w.passed ++ c ∷ [];
-  split = w.split ∙ ap (λ t. w.passed ++ t) e ∙ sym (append_assoc w.passed (c ∷ []) r);
-  position = to ∙ ap (λ q. past q c r) (w.position ∙ ap (λ t. walked 1 1 w.passed t) e) ∙ sym (walked_push 1 1 w.passed c r);
-  not_yet = λ b x m g p. not_yet_after w.passed c r line column (subst (λ t. NotYet w.passed t line column) e w.not_yet) (λ h. other (both (line, column) (here_line, here_column) (h ∙ ap (λ t. walked 1 1 w.passed t) (sym e) ∙ sym w.position))) b x m (back_of m) g p;
-  few = (omega (arith, w.few.0, small.0, length-append w.passed (c ∷ [])), omega (arith, w.few.1, small.1, length-append w.passed (c ∷ [])));
-}
-
--- at the end of the text no place is in that line and column
-pub walk_ends : (text rest : List ℕ) (line column here_line here_column : ℕ) → HasWalked text rest line column here_line here_column → rest ≡ []
-    → ((line ≡ here_line) × (column ≡ here_column) → ⊥) → (p : ℕ) → LineColumn text p line column → ⊥
-walk_ends text rest line column here_line here_column w e other p at = by at.before at.after (sym at.split ∙ w.split ∙ ap (λ t. w.passed ++ t) e ∙ append-nil w.passed) at.position
-  where
-    by : (b a : List ℕ) → b ++ a ≡ w.passed → (line, column) ≡ walked 1 1 b a → ⊥
-    by b [] g q = other (both (line, column) (here_line, here_column) (q ∙ ap (λ t. walked 1 1 t []) (sym (append-nil b) ∙ g) ∙ ap (λ t. walked 1 1 w.passed t) (sym e) ∙ sym w.position))
-    by b (x ∷ m) g q = w.not_yet b x m (sym g) (q ∙ ap (λ t. walked 1 1 b (x ∷ t)) (sym (append-nil m) ∙ ap (λ t. m ++ t) (sym e)))
+pub walked_on : (w : ℕ → ℕ) (text rest : List ℕ) (c : ℕ) (r : List ℕ) (h k h' k' : ℕ) → IsNarrow w → Walked w text rest h k → rest ≡ c ∷ r → (h', k') ≡ past w (h, k) c r → Walked w text r h' k'
+walked_on w text rest c r h k h' k' least walk e to =
+    let size : byte_length (walk.passed ++ c ∷ []) ≡ byte_length walk.passed + len_utf8 c = byte_length-append walk.passed (c ∷ []) ∙ ap (λ n. byte_length walk.passed + n) (byte_length-one c) in
+    let few = few_past (ends_line c r) (w c) (len_utf8 c) (byte_length walk.passed) h k (least c) (len_utf8_bounds c).0 walk.few in
+    record {
+      passed = walk.passed ++ c ∷ [];
+      split = walk.split ∙ ap (λ t. walk.passed ++ t) e ∙ sym (append_assoc walk.passed (c ∷ []) r);
+      position = to ∙ ap (λ q. past w q c r) (walk.position ∙ ap (λ t. walked_by w (1, 1) walk.passed t) e) ∙ sym (walked_append w (1, 1) walk.passed (c ∷ []) r);
+      few = (omega (arith, ap (λ q. q.0) to, few.0, size), omega (arith, ap (λ q. q.1) to, few.1, size));
+    }
 
 -- the bytes of a text are those of what was passed, and of the rest
 pub passed_size : (text rest passed : List ℕ) → IsUtf8 text → IsUtf8 rest → chars text ≡ passed ++ chars rest → length text ≡ byte_length passed + length rest
 passed_size text rest passed u v e = sym (size_of text u) ∙ ap byte_length e ∙ byte_length-append passed (chars rest) ∙ ap (λ n. byte_length passed + n) (size_of rest v)
 
--- there are no more characters than bytes
-pub walk_fits : (text rest : List ℕ) (line column h k : ℕ) → IsUtf8 text → IsUtf8 rest → HasWalked (chars text) (chars rest) line column h k → (h ≤ length text + 1) × (k ≤ length text + 1)
-walk_fits text rest line column h k u v w =
-    let sizes = passed_size text rest w.passed u v w.split in
-    (omega (arith, sizes, w.few.0, length-le-encodes w.passed), omega (arith, sizes, w.few.1, length-le-encodes w.passed))
+-- lines and columns are no more than the bytes
+pub walked_fits : (w : ℕ → ℕ) (text rest : List ℕ) (h k : ℕ) → IsUtf8 text → IsUtf8 rest → Walked w (chars text) (chars rest) h k → (h ≤ length text + 1) × (k ≤ length text + 1)
+walked_fits w text rest h k u v walk =
+    let size = passed_size text rest walk.passed u v walk.split in
+    (omega (arith, size, walk.few.0), omega (arith, size, walk.few.1))
 
 -- the place that the walk has come to
-pub walk_is_at : (text rest : List ℕ) (line column : ℕ) → IsUtf8 text → IsUtf8 rest → HasWalked (chars text) (chars rest) line column line column → LineColumn (chars text) (length text - length rest) line column
-walk_is_at text rest line column u v w =
-    record { before = w.passed; after = chars rest; split = w.split; at = omega (arith, passed_size text rest w.passed u v w.split); position = w.position }
+pub walked_place : (w : ℕ → ℕ) (text rest : List ℕ) (place h k : ℕ) → IsUtf8 text → IsUtf8 rest → place ≡ length text - length rest → Walked w (chars text) (chars rest) h k → LineColumnBy w (chars text) place h k
+walked_place w text rest place h k u v e walk =
+    record { before = walk.passed; after = chars rest; split = walk.split; at = omega (arith, e, passed_size text rest walk.passed u v walk.split); position = walk.position }
 
-pub walk_boundary : (text rest : List ℕ) (line column h k : ℕ) → IsUtf8 text → IsUtf8 rest → HasWalked (chars text) (chars rest) line column h k → IsCharBoundary text (length text - length rest)
-walk_boundary text rest line column h k u v w =
-    let place : byte_length w.passed ≡ length text - length rest = omega (arith, passed_size text rest w.passed u v w.split) in
-    subst (IsCharBoundary text) place (boundary_behind text w.passed (chars rest) u w.split)
+pub walked_boundary : (w : ℕ → ℕ) (text rest : List ℕ) (h k : ℕ) → IsUtf8 text → IsUtf8 rest → Walked w (chars text) (chars rest) h k → IsCharBoundary text (length text - length rest)
+walked_boundary w text rest h k u v walk =
+    let place : byte_length walk.passed ≡ length text - length rest = omega (arith, passed_size text rest walk.passed u v walk.split) in
+    subst (IsCharBoundary text) place (boundary_behind text walk.passed (chars rest) u walk.split)
 
--- past the end of a line, and past any other character
-pub walk_past_line : (text rest : List ℕ) (c : ℕ) (r : List ℕ) (line column h k : ℕ) → HasWalked text rest line column h k → rest ≡ c ∷ r → ((line ≡ h) × (column ≡ k) → ⊥) → ends_line c r ≡ true → HasWalked text r line column (h + 1) 1
-walk_past_line text rest c r line column h k w e other ends = walk_goes_on text rest c r line column h k (h + 1) 1 w e other (rw ends refl) (omega arith, omega arith)
+-- no beginning of what was passed ends in this line and column
+abbrev pub NotYet : (ℕ → ℕ) → List ℕ → List ℕ → ℕ → ℕ → Type 0
+NotYet w passed r line column = (b : List ℕ) (x : ℕ) (m : List ℕ) → passed ≡ b ++ x ∷ m → (line, column) ≡ walked_by w (1, 1) b (x ∷ (m ++ r)) → ⊥
 
-pub walk_past_other : (text rest : List ℕ) (c : ℕ) (r : List ℕ) (line column h k : ℕ) → HasWalked text rest line column h k → rest ≡ c ∷ r → ((line ≡ h) × (column ≡ k) → ⊥) → ends_line c r ≡ false → HasWalked text r line column h (k + 1)
-walk_past_other text rest c r line column h k w e other ends = walk_goes_on text rest c r line column h k h (k + 1) w e other (rw ends refl) (omega arith, omega arith)
+-- a walk that has not met the one line and column, and has come to the other
+pub record HasWalked (w : ℕ → ℕ) (text rest : List ℕ) (line column here_line here_column : ℕ) : Type 0 where
+  pub walk : Walked w text rest here_line here_column
+  pub not_yet : NotYet w walk.passed rest line column
+
+nothing_passed : (b : List ℕ) (x : ℕ) (m : List ℕ) → [] ≡ b ++ x ∷ m → ⊥
+nothing_passed [] x m e = cc
+nothing_passed (d ∷ b) x m e = cc
+
+pub walk_begins : (w : ℕ → ℕ) (text : List ℕ) (line column : ℕ) → HasWalked w text text line column 1 1
+unfolding walked_start
+walk_begins w text line column = record { walk = walked_start w text; not_yet = λ b x m e p. nothing_passed b x m e }
+
+not_yet_after : (w : ℕ → ℕ) (passed : List ℕ) (c : ℕ) (r : List ℕ) (line column : ℕ) → NotYet w passed (c ∷ r) line column → ((line, column) ≡ walked_by w (1, 1) passed (c ∷ r) → ⊥)
+    → (b : List ℕ) (x : ℕ) (m : List ℕ) → Back m → passed ++ c ∷ [] ≡ b ++ x ∷ m → (line, column) ≡ walked_by w (1, 1) b (x ∷ (m ++ r)) → ⊥
+not_yet_after w passed c r line column before here b x m (Back.empty z) e p =
+    let same = same_from_push passed b c x (e ∙ ap (λ t. b ++ x ∷ t) z) in
+    here (p ∙ ap (λ t. walked_by w (1, 1) b (x ∷ (t ++ r))) z ∙ ap (λ t. walked_by w (1, 1) t (x ∷ r)) (sym same.0) ∙ ap (λ k. walked_by w (1, 1) passed (k ∷ r)) (sym same.1))
+not_yet_after w passed c r line column before here b x m (Back.ends n d z) e p =
+    let same = same_from_push passed (b ++ x ∷ n) c d (e ∙ ap (λ t. b ++ x ∷ t) z ∙ sym (append_assoc b (x ∷ n) (d ∷ []))) in
+    before b x n same.0 (p ∙ ap (λ t. walked_by w (1, 1) b (x ∷ (t ++ r))) z ∙ ap (λ t. walked_by w (1, 1) b (x ∷ t)) (append_assoc n (d ∷ []) r) ∙ ap (λ k. walked_by w (1, 1) b (x ∷ (n ++ k ∷ r))) (sym same.1))
+
+-- the walk has come to another line and column
+abbrev pub IsElsewhere : ℕ → ℕ → ℕ → ℕ → Type 0
+IsElsewhere line column h k = (line ≡ h) × (column ≡ k) → ⊥
+
+not_here : (w : ℕ → ℕ) (text rest : List ℕ) (line column h k : ℕ) (walk : Walked w text rest h k) → IsElsewhere line column h k → (line, column) ≡ walked_by w (1, 1) walk.passed rest → ⊥
+not_here w text rest line column h k walk other e = let same : (line, column) ≡ (h, k) = e ∙ sym walk.position in other (ap (λ q. q.0) same, ap (λ q. q.1) same)
+
+-- one character further
+pub walk_goes_on : (w : ℕ → ℕ) (text rest : List ℕ) (c : ℕ) (r : List ℕ) (line column h k h' k' : ℕ) → IsNarrow w → HasWalked w text rest line column h k → rest ≡ c ∷ r
+    → IsElsewhere line column h k → (h', k') ≡ past w (h, k) c r → HasWalked w text r line column h' k'
+unfolding walked_on
+walk_goes_on w text rest c r line column h k h' k' least x e other to = record {
+  walk = walked_on w text rest c r h k h' k' least x.walk e to;
+  not_yet = λ b y m g p. not_yet_after w x.walk.passed c r line column (subst (λ t. NotYet w x.walk.passed t line column) e x.not_yet) (λ q. not_here w text rest line column h k x.walk other (q ∙ ap (λ t. walked_by w (1, 1) x.walk.passed t) (sym e))) b y m (back_of m) g p;
+}
+
+-- at the end of the text no place is in that line and column
+pub walk_ends : (w : ℕ → ℕ) (text rest : List ℕ) (line column h k : ℕ) → HasWalked w text rest line column h k → rest ≡ [] → IsElsewhere line column h k → (p : ℕ) → LineColumnBy w text p line column → ⊥
+walk_ends w text rest line column h k x e other p at = by at.before at.after (sym at.split ∙ x.walk.split ∙ ap (λ t. x.walk.passed ++ t) e ∙ append-nil x.walk.passed) at.position
+  where
+    by : (b a : List ℕ) → b ++ a ≡ x.walk.passed → (line, column) ≡ walked_by w (1, 1) b a → ⊥
+    by b [] g q = not_here w text rest line column h k x.walk other (q ∙ ap (λ t. walked_by w (1, 1) t []) (sym (append-nil b) ∙ g) ∙ ap (λ t. walked_by w (1, 1) x.walk.passed t) (sym e))
+    by b (y ∷ m) g q = x.not_yet b y m (sym g) (q ∙ ap (λ t. walked_by w (1, 1) b (y ∷ t)) (sym (append-nil m) ∙ ap (λ t. m ++ t) (sym e)))
+
+-- a walk that has come to a line and column, and has these characters ahead before the last ones
+pub record WalksTo (w : ℕ → ℕ) (text rest last : List ℕ) (line column : ℕ) : Type 0 where
+  pub walk : Walked w text rest line column
+  pub ahead : List ℕ
+  pub still : rest ≡ ahead ++ last
+
+pub walks_to_start : (w : ℕ → ℕ) (text : List ℕ) (place : ℕ) → IsUtf8 text → IsCharBoundary text place → WalksTo w (chars text) (chars text) (rest text place) 1 1
+walks_to_start w text place u b = record {
+  walk = walked_start w (chars text);
+  ahead = chars (take place text);
+  still = ap chars (sym (take-append-drop place text)) ∙ chars-append (take place text) (drop place text) (IsUtf8-take text place u b);
+}
+
+still_past : (ahead last rest : List ℕ) (c : ℕ) (r : List ℕ) → rest ≡ ahead ++ last → rest ≡ c ∷ r → byte_length last < byte_length rest → (m : List ℕ) × (r ≡ m ++ last)
+still_past [] last rest c r e f more = absurd (omega (arith, ap byte_length e))
+still_past (x ∷ m) last rest c r e f more = (m, cc)
+
+-- one character further, before the last ones
+pub walks_to_on : (w : ℕ → ℕ) (text rest last : List ℕ) (c : ℕ) (r : List ℕ) (h k h' k' : ℕ) → IsNarrow w → WalksTo w text rest last h k → rest ≡ c ∷ r → byte_length last < byte_length rest
+    → (h', k') ≡ past w (h, k) c r → WalksTo w text r last h' k'
+walks_to_on w text rest last c r h k h' k' least x e more to =
+    let behind = still_past x.ahead last rest c r x.still e more in
+    record { walk = walked_on w text rest c r h k h' k' least x.walk e to; ahead = behind.0; still = behind.1 }
+
+-- the walk is at the place once no more than the last ones is left
+pub walks_to_end : (w : ℕ → ℕ) (text left : List ℕ) (place h k : ℕ) → IsUtf8 text → IsUtf8 left → IsCharBoundary text place → IsUtf8 (drop place text) → WalksTo w (chars text) (chars left) (rest text place) h k → length left ≤ length (drop place text)
+    → LineColumnBy w (chars text) place h k
+walks_to_end w text left place h k u v b d x few =
+    let ahead : byte_length (chars left) ≡ byte_length x.ahead + byte_length (rest text place) = ap byte_length x.still ∙ byte_length-append x.ahead (rest text place) in
+    walked_place w text left place h k u v (omega (arith, ahead, few, size_of left v, size_of (drop place text) d, length-drop place text, b.0)) x.walk

@@ -23,7 +23,7 @@ use Rattle.jsonc_run.proofs.lemmas.promise.Leads.{edits_lead}
 use Rattle.jsonc_cst.specs.declared.cst.CstRootNode.{CstRootNode}
 use Rattle.jsonc_cst.specs.declared.cst.node.CstNode.{CstNode}
 use Rattle.jsonc_cst.specs.Document.{nodes_of}
-use Rattle.jsonc_parser.specs.Lists.{RunSteps, none_made, first_made, RunOk, RunErr, IsAsked, RunStep, IsRunStep, IsSorting}
+use Rattle.jsonc_parser.specs.Lists.{RunSteps, none_made, first_made, RunOk, RunErr, RunUnsortedOk, RunUnsortedErr, AreAsked, IsAsked, RunStep, IsRunStep, IsSorting}
 
 -- an edit that is no sort asks for the same however sorts are done
 pub asks_alike : {A : Type 0} (s : Sorting) (e : Edit A) → is_sort e ≡ false → operation_of unsorted e ≡ operation_of s e
@@ -199,3 +199,31 @@ module _ {C D A : Type 0} (call : Shared C (Bor D × (CstNode × (CstNode × Uni
     left = left;
     edited = stops_so (nodes_of old) (nodes_of now) (nodes_of new) es k ops next why tree after (as_nodes made) (are_characters made) (λ o fit. numbers_fit o made fit) (asked_for made) is_next (told unsorted) (left unsorted);
   }
+
+  -- without the comparison, they are what the edits ask for
+  are_asked : {old new : CstRootNode A} {es : List (Edit A)} {ops : List Operation} → RunSteps call compare same old es ops new → AreAsked es ops
+  are_asked none_made = AreAsked.none_asked
+  are_asked (first_made {e = e} {es = es} {operations = operations} is after rest) =
+      subst (λ (op : Operation). AreAsked (e ∷ es) (op ∷ operations)) (sym is.is) (AreAsked.one_asked is.sorting (are_asked rest))
+
+  pub unsorted_ok : {T E : Type 0} (old new : CstRootNode A) (seen es : List (Edit A)) (r : Result T E) → seen ≡ es → OnOk r (RunOk call compare same old seen new) → OnOk r (RunUnsortedOk old es new)
+  unsorted_ok old new seen es (Err x) is run = tt
+  unsorted_ok old new seen es (Ok x) is run =
+      let all = subst (λ l. RunOk call compare same old l new) is run in
+      record { operations = all.operations; asked = are_asked all.made; made = as_nodes all.made; edited = all.edited }
+
+  pub unsorted_err : {T : Type 0} (old new : CstRootNode A) (seen es : List (Edit A)) (r : Result T (ℕ × EditError)) → seen ≡ es → IfErr r (λ e. RunErr call compare same old seen e.0 e.1 new) → IfErr r (λ e. RunUnsortedErr old es e.0 e.1 new)
+  unsorted_err old new seen es (Ok x) is run = tt
+  unsorted_err old new seen es (Err x) is run =
+      let part = subst (λ l. RunErr call compare same old l x.0 x.1 new) is run in
+      record {
+        operations = part.operations;
+        asked = are_asked part.made;
+        now = nodes_of part.now;
+        made = as_nodes part.made;
+        next = part.next;
+        is_next = part.is_next;
+        error = part.error;
+        left = part.left;
+        edited = part.edited;
+      }

@@ -1,5 +1,5 @@
 -- An array or object at a path that is sorted.
-use Rattle.std.proofs.Common.{◌≡◌, ℕ, Bool, List, Option, Result, Ok, Err, OnOk, OnErr, IfErr, IsTrue, length, refl, sym, ap, subst}
+use Rattle.std.proofs.Common.{◌≡◌, ℕ, Bool, List, Result, Ok, Err, OnOk, OnErr, IfErr, IsTrue, length, refl, sym, subst}
 use Rattle.std.specs.declared.cmp.Ordering.{Ordering}
 use denote.Ref.{Bor}
 use denote.Param.Members.{Shared}

@@ -3,3 +3,5 @@ pub mod Promise
 pub mod Errors
 pub mod paths
 pub mod Changes
+pub mod Places
+pub mod Numbers

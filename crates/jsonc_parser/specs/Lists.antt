@@ -1,15 +1,15 @@
 -- What a list of edits makes of a document.
-use Rattle.std.specs.Prelude.{◌≡◌, ℕ, Bool, List, [], ◌∷◌, ◌++◌, Some, take}
-use Rattle.std.specs.List.{slice_get, All}
+use Rattle.std.specs.Prelude.{◌≡◌, ℕ, Bool, List, [], ◌∷◌, Some, take}
+use Rattle.std.specs.List.{slice_get}
 use Rattle.std.specs.declared.cmp.Ordering.{Ordering}
 use denote.Ref.{Bor}
 use denote.Param.Members.{Shared}
-use Rattle.jsonc_tree.specs.Tree.{IsTree}
+use Rattle.jsonc_tree.specs.Tree.{Node, IsTree}
 use Rattle.jsonc_text.specs.declared.edit.EditError.{EditError}
 use Rattle.jsonc_sort.specs.Rearranged.{headers_of}
 use Rattle.jsonc_run.specs.declared.edit.Edit.{Edit}
 use Rattle.jsonc_run.specs.declared.edit.Edit.TheVariants.{Sort}
-use Rattle.jsonc_run.specs.Edits.{Operation, Sorting, operation_of, EditStep}
+use Rattle.jsonc_run.specs.Edits.{Operation, Sorting, operation_of, EditStep, EditSteps}
 use Rattle.jsonc_run.specs.Places.{IsContainerAt}
 use Rattle.jsonc_run.specs.Refusals.{IsLeft, FailsWith}
 use Rattle.jsonc_run.specs.promise.Asked.{EditsTheText, StopsInText}
@@ -72,4 +72,30 @@ module _ {C D A : Type 0} (call : Shared C (Bor D × (CstNode × (CstNode × Uni
     pub is_next : slice_get edits k ≡ Some next
     pub error : (s : Sorting) → FailsWith (nodes_of now) (operation_of s next) why
     pub left : (s : Sorting) → IsLeft (nodes_of now) (operation_of s next) (nodes_of new)
+    pub edited : StopsInText (tree_of old) edits k why (tree_of new)
+
+module _ {A : Type 0} where
+  -- each operation is what its edit asks for; where that sorts, in some order
+  pub data AreAsked : List (Edit A) → List Operation → Type 0 where
+    none_asked : AreAsked [] []
+    one_asked : {e : Edit A} {es : List (Edit A)} {operations : List Operation} (s : Sorting) → AreAsked es operations → AreAsked (e ∷ es) (operation_of s e ∷ operations)
+
+  -- The edits were all made, without a comparison. Whatever document the old one shows, if the numbers that they write are numbers, they lead from it to one that
+  -- the new one shows.
+  pub record RunUnsortedOk (old : CstRootNode A) (edits : List (Edit A)) (new : CstRootNode A) : Type 0 where
+    pub operations : List Operation
+    pub asked : AreAsked edits operations
+    pub made : EditSteps (nodes_of old) operations (nodes_of new)
+    pub edited : EditsTheText (tree_of old) edits (tree_of new)
+
+  -- The first k of them were made, each whole; there is one more, which was not made for this reason, and has left the document so.
+  pub record RunUnsortedErr (old : CstRootNode A) (edits : List (Edit A)) (k : ℕ) (why : EditError) (new : CstRootNode A) : Type 0 where
+    pub operations : List Operation
+    pub asked : AreAsked (take k edits) operations
+    pub now : List Node
+    pub made : EditSteps (nodes_of old) operations now
+    pub next : Edit A
+    pub is_next : slice_get edits k ≡ Some next
+    pub error : (s : Sorting) → FailsWith now (operation_of s next) why
+    pub left : (s : Sorting) → IsLeft now (operation_of s next) (nodes_of new)
     pub edited : StopsInText (tree_of old) edits k why (tree_of new)

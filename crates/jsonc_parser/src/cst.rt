@@ -28,5 +28,5 @@ pub use jsonc_cst::sorting::{
 };
 pub use jsonc_cst::typed::DocumentArg;
 pub use jsonc_run::{Edit, Over, Shape};
-pub use lists::run;
+pub use lists::{run, run_unsorted};
 pub use texts::{EditTextError, edit_text};

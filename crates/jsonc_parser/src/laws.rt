@@ -1,6 +1,9 @@
 //! Laws that lead from one call to the next, and from names and paths to what stands there; and those that
 //! lead from what a call says to what users rely on.
 //!
+//! The texts that write a float are the numbers of the grammar, and each writes one
+//! ([`numbers_have_one_value`]).
+//!
 //! A text has at most one value ([`one_value`]), and what is at most 256 levels deep has at most 512
 //! containers and properties around a value ([`around_is_within_twice_depth`]). Equality of values is one
 //! ([`equality`]), is that of their parts ([`equality_by_parts`]), and copies are equal
@@ -22,6 +25,7 @@
 //! ([`sorted_containers_keep_their_children`]); and a second sort changes no byte
 //! ([`second_sorts_change_no_byte`], [`second_sorts_by_key_change_no_byte`]).
 
+pub use crate::numbers::laws::numbers_have_one_value;
 pub use crate::paths::laws::{
     each_node_stands_at_its_place, names_lead_over_nodes, nodes_have_their_values,
     one_edit_puts_or_drops, one_operation_puts_or_drops, one_value_at_names, values_are_put,

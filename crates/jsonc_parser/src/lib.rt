@@ -9,6 +9,7 @@
 mod change;
 pub mod cst;
 pub mod laws;
+pub mod numbers;
 mod paths;
 mod places;
 pub mod settings;
@@ -26,4 +27,4 @@ pub use jsonc_text::options::{ParseOptions, ScannerOptions};
 pub use jsonc_text::{common, errors, tokens};
 pub use jsonc_value::to_value::parse_to_value;
 pub use jsonc_value::{JsonArray, JsonObject, JsonValue, Map, map};
-pub use places::place_of;
+pub use places::{LineAndColumn, line_and_column, line_and_column_utf16, place_of, place_of_utf16};

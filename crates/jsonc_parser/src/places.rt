@@ -1,10 +1,71 @@
 //! Lines and columns of places in a text, and places by line and column.
 
-ghost use Rattle.std.specs.Prelude.{◌≡◌, ℕ, chars, IfNone, IfSome, IsCharBoundary};
+ghost use Rattle.std.specs.Prelude.{◌≡◌, ◌+◌, ◌<◌, ◌^◌, ℕ, chars, IfNone, IfSome, IsCharBoundary};
 ghost use Rattle.jsonc_text.specs.Places.{LineColumn};
+ghost use Rattle.jsonc_parser.specs.Places.{LineColumnBy, LineColumnUtf16, past, units};
 
 use jsonc_text::line::ends_line;
 pub use jsonc_text::line::{LineAndColumn, line_and_column};
+
+/// What a column counts.
+#[derive(Clone, Copy)]
+enum ColumnUnit {
+    /// Characters, whatever their size.
+    Character,
+    /// UTF-16 code units, of which a character above U+FFFF takes two.
+    Utf16,
+}
+
+impl ColumnUnit {
+    /// How many of these units a character takes.
+    fn units(self, c: char) -> usize
+        ensures { result ≡ units self c }
+    {
+        match self {
+            ColumnUnit::Character => 1,
+            ColumnUnit::Utf16 => c.len_utf16(),
+        }
+    }
+}
+
+/// The line and column behind the character `c`, which stands at `at` and in front of `rest`.
+fn past(at: LineAndColumn, c: char, rest: &str, unit: ColumnUnit) -> LineAndColumn
+    requires line { at.line + 1 < 2 ^ 64 }
+    requires column { at.column + 2 < 2 ^ 64 }
+    ensures { (result.line, result.column) ≡ past (units unit) (at.line, at.column) c (chars rest.now) }
+{
+    if ends_line(c, rest) {
+        LineAndColumn {
+            line: at.line + 1,
+            column: 1,
+        }
+    } else {
+        LineAndColumn {
+            line: at.line,
+            column: at.column + unit.units(c),
+        }
+    }
+}
+
+/// The place of a line and column, both counted from 1, the column in the units named.
+fn place_by(text: &str, line: usize, column: usize, unit: ColumnUnit) -> Option<usize>
+    ensures found { IfSome result (λ p. LineColumnBy (units unit) (chars text.now) p line column) }
+    ensures boundary { IfSome result (IsCharBoundary text.now) }
+    ensures none { IfNone result ((p : ℕ) → LineColumnBy (units unit) (chars text.now) p line column → ⊥) }
+{
+    let mut rest = text.chars();
+    let mut at = LineAndColumn { line: 1, column: 1 };
+    loop {
+        let left = rest.as_str();
+        if at.line == line && at.column == column {
+            return Some(text.len() - left.len());
+        }
+        let Some(c) = rest.next() else {
+            return None;
+        };
+        at = past(at, c, rest.as_str(), unit);
+    }
+}
 
 /// The place of a line and column, both counted from 1, if the text has them.
 ///
@@ -16,20 +77,40 @@ pub fn place_of(text: &str, line: usize, column: usize) -> Option<usize>
     ensures boundary { IfSome result (IsCharBoundary text.now) }
     ensures none { IfNone result ((p : ℕ) → LineColumn (chars text.now) p line column → ⊥) }
 {
+    place_by(text, line, column, ColumnUnit::Character)
+}
+
+/// The place of a line and a UTF-16 column, if the text has them.
+///
+/// Line and column are counted from 1, the column in UTF-16 code units, and the place in bytes. A
+/// character above U+FFFF takes two units, and no place is within it. A language server counts lines
+/// and columns from 0, so add 1 to both of its numbers. Lines end as in [`place_of`], and nothing is
+/// allocated. In `a😀b` line 1, column 4 is place 5, and column 3 is no place.
+pub fn place_of_utf16(text: &str, line: usize, column: usize) -> Option<usize>
+    ensures found { IfSome result (λ p. LineColumnUtf16 (chars text.now) p line column) }
+    ensures boundary { IfSome result (IsCharBoundary text.now) }
+    ensures none { IfNone result ((p : ℕ) → LineColumnUtf16 (chars text.now) p line column → ⊥) }
+{
+    place_by(text, line, column, ColumnUnit::Utf16)
+}
+
+/// The line and the UTF-16 column of a place.
+///
+/// Line and column are counted from 1, the column in UTF-16 code units and not in characters, and the
+/// place in bytes. A character above U+FFFF takes two units. A language server counts lines and
+/// columns from 0, so take 1 off both. Lines end as in [`line_and_column`]. Nothing is allocated; the
+/// characters before the place are passed once. In `a😀b` place 5 is in line 1, column 4.
+pub fn line_and_column_utf16(text: &str, place: usize) -> LineAndColumn
+    requires { IsCharBoundary text.now place }
+    ensures { LineColumnUtf16 (chars text.now) place result.line result.column }
+{
+    let after = text.len() - place;
     let mut rest = text.chars();
-    let mut at = (1usize, 1usize);
-    loop {
-        let left = rest.as_str();
-        if at.0 == line && at.1 == column {
-            return Some(text.len() - left.len());
-        }
-        let Some(c) = rest.next() else {
-            return None;
-        };
-        if ends_line(c, rest.as_str()) {
-            at = (at.0 + 1, 1);
-        } else {
-            at = (at.0, at.1 + 1);
-        }
+    let mut at = LineAndColumn { line: 1, column: 1 };
+    while rest.as_str().len() > after
+        && let Some(c) = rest.next()
+    {
+        at = past(at, c, rest.as_str(), ColumnUnit::Utf16);
     }
+    at
 }

@@ -9,3 +9,4 @@ pub mod RefusedLexemes
 pub mod NumberFaults
 pub mod WordFaults
 pub mod Words
+mod WholeNumbers

@@ -16,3 +16,5 @@ pub mod scanner;
 mod stops;
 mod string;
 mod word;
+
+pub use number::is_number;

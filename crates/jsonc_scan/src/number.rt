@@ -1,10 +1,10 @@
 //! Where numbers end (RFC 8259, 6; JSON5, 6).
 //!
 //! A number commits: what begins as one is that number or a fault, never a shorter number.
-ghost use Rattle.std.specs.Prelude.{◌≡◌, ◌+◌, ◌<◌, ◌||◌, ◌==◌, IsTrue, false, IfOk, IfErr, IfSome, IfNone, codes, IsCharBoundary, length};
+ghost use Rattle.std.specs.Prelude.{◌≡◌, ◌↔◌, ◌+◌, ◌<◌, ◌||◌, ◌==◌, IsTrue, false, IfOk, IfErr, IfSome, IfNone, chars, codes, IsCharBoundary, length};
 ghost use Rattle.jsonc_text.specs.string.Between.{Between, Reaches, LacksAt, NoneFrom};
 ghost use Rattle.jsonc_scan.specs.Between.{HasAt, IsWhole};
-ghost use Rattle.jsonc_text.specs.Numbers.{Whole, Fraction, Exponent, Number};
+ghost use Rattle.jsonc_text.specs.Numbers.{Whole, Fraction, Exponent, Number, NumberLit};
 ghost use Rattle.jsonc_text.specs.Chars.{Steps};
 ghost use Rattle.jsonc_text.specs.OptionsOf.{parse_options};
 ghost use Rattle.jsonc_scan.specs.Reads.{HasHexadecimalMark, HasName, LacksHexadecimalMark, IsRead, IsReadName, IsAfterSign, IsSignedName, IsUnsigned, NoFinite, NoFraction, NoNames, NoneAfterSign, NoNumber, NoUnsigned, begins_number};
@@ -436,4 +436,33 @@ pub(crate) fn read_name<'a>(text: &'a str, start: usize) -> Option<Read<'a>>
     };
     let lexeme = Lexeme::Number(&text[start..end]);
     Some(Read { lexeme, end })
+}
+
+/// The place after the number at the start of a text, or none where no number begins it.
+fn first_number_end(text: &str, options: &ParseOptions) -> Option<usize>
+    ensures found { IfSome result (Between (Number (parse_options options.now)) text.now 0) }
+    ensures none { IfNone result (NoneFrom (Number (parse_options options.now)) text.now 0) }
+{
+    if begins_number(text, 0) {
+        return number_end(text, 0, options).ok();
+    }
+    if !options.allow_non_finite_numbers {
+        return None;
+    }
+    if let Some(end) = whole_end(text, 0, "Infinity") {
+        return Some(end);
+    }
+    whole_end(text, 0, "NaN")
+}
+
+/// Whether a text is, whole, a number that the options allow.
+///
+/// Nothing may stand before or after the number, blanks neither. Nothing is allocated.
+pub fn is_number(text: &str, options: &ParseOptions) -> bool
+    ensures { IsTrue result ↔ NumberLit (parse_options options.now) (chars text.now) }
+{
+    let Some(end) = first_number_end(text, options) else {
+        return false;
+    };
+    end == text.len()
 }

@@ -6,6 +6,7 @@ mod kinds;
 mod lines;
 mod maps;
 mod nodes;
+mod numbers;
 mod printed;
 mod refusals;
 mod streams;

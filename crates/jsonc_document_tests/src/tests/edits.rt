@@ -6,7 +6,7 @@ use failing_alloc::outcome::Outcome;
 use jsonc_edit::find;
 use jsonc_layout::from_input::{Layout, lay_out_property};
 use jsonc_layout::to_input::to_value;
-use jsonc_parser::cst::{CstInputValue, CstNode, CstRootNode, Edit, run};
+use jsonc_parser::cst::{CstInputValue, CstNode, CstRootNode, Edit, EditError, run, run_unsorted};
 use jsonc_tree::{CstNewlineKind, Tree};
 use std::alloc::{AllocError, Allocator};
 use std::cmp::Ordering;
@@ -113,10 +113,42 @@ fn is_property<A: Allocator + Copy>(alloc: A, doc: &CstRootNode<A>) -> Outcome {
     }
 }
 
-/// A list of edits is made, and a property laid out.
+/// The document with the comma and the comment, without the comment.
+const UNCOMMENTED: &str = "{\n  \"a\": [1,\n 2,]\n}";
+
+/// Edits that take the first comment out, and then again.
+fn removals<A: Allocator + Copy>(alloc: A) -> Result<Vec<Edit<A>, A>, AllocError> {
+    let mut edits = Vec::new(alloc);
+    edits.push(Edit::RemoveComment(0))?;
+    edits.push(Edit::RemoveComment(0))?;
+    Ok(edits)
+}
+
+/// Makes them where there is one comment, which is gone then.
+fn is_uncommented<A: Allocator + Copy>(doc: CstRootNode<A>, edits: Vec<Edit<A>, A>) -> Outcome {
+    let mut doc = doc;
+    match run_unsorted(&mut doc, edits) {
+        Err((1, EditError::NoSuchPlace)) => Outcome::of_text(doc.text(), UNCOMMENTED),
+        Err((_, error)) => Outcome::from(error),
+        Ok(()) => Outcome::Other,
+    }
+}
+
+/// A list without sorts.
+fn unsorted<A: Allocator + Copy>(alloc: A) -> Outcome {
+    match (read(alloc, SPACED), removals(alloc)) {
+        (Ok(doc), Ok(edits)) => is_uncommented(doc, edits),
+        (Err(outcome), _) => outcome,
+        (_, Err(error)) => Outcome::from(error),
+    }
+}
+
+/// Lists of edits are made, and a property laid out.
 pub fn edited<A: Allocator + Copy>(alloc: A) -> Outcome {
     match read(alloc, TWICE) {
-        Ok(doc) => is_put(alloc, &doc).then(is_property(alloc, &doc)),
+        Ok(doc) => is_put(alloc, &doc)
+            .then(is_property(alloc, &doc))
+            .then(unsorted(alloc)),
         Err(outcome) => outcome,
     }
 }

@@ -65,7 +65,6 @@ static SINGLE: [OneEdit; 18] = [
         "[[\n  7,\n  [8]\n], 2]",
     ),
     (Memory::Some, (&[], SET_COMMAS), BARE, SET),
-    (Memory::None, (&[0], Change::Remove), "[1, 2]", "[ 2]"),
     (Memory::None, (&[1], Change::Remove), "[1, 2]", "[1]"),
     (
         Memory::None,
@@ -80,6 +79,7 @@ static SINGLE: [OneEdit; 18] = [
         "{\n\"b\": 2\n}",
     ),
     (Memory::None, (&[], Change::Remove), "// a\n1", "// a\n"),
+    (Memory::None, (&[0], Change::Remove), "[1, 2]", "[ 2]"),
     (Memory::None, (&[], TAKE_COMMAS), SET, BARE),
     (Memory::Edits, (&[1], Change::Remove), "[1[2]3]", "[1 3]"),
     (

@@ -4,7 +4,7 @@ ghost use Rattle.std.specs.Prelude.{◌≡◌, IfErr, OnErr, OnOk};
 ghost use Rattle.jsonc_cst.specs.Document.{nodes_of};
 ghost use Rattle.jsonc_run.specs.Edits.{operation_of, rearrange, EditStep, Sorting};
 ghost use Rattle.jsonc_run.specs.Refusals.{IsLeft, FailsWith};
-ghost use Rattle.jsonc_parser.specs.Lists.{RunOk, RunErr, IsRunStep, IsSorting, MayBeAsked};
+ghost use Rattle.jsonc_parser.specs.Lists.{RunOk, RunErr, RunUnsortedOk, RunUnsortedErr, IsRunStep, IsSorting, MayBeAsked};
 
 use jsonc_cst::cst::{CstNode, CstRootNode, EditError, node_at};
 use jsonc_cst::sorting::sort_container;
@@ -105,4 +105,18 @@ pub fn run<A: Allocator + Copy, D: DocumentArg<A>, C: Fn(&D, CstNode, CstNode) -
         (λ e. RunErr C.Fn compare.now D.same doc.old edits.items e.0 e.1 doc.new) }
 {
     make_all(doc, &edits, compare)
+}
+
+/// Makes edits in order, without a comparison.
+///
+/// It does what [`run`] does, and answers as it does. An edit that sorts leaves the order as it is.
+pub fn run_unsorted<A: Allocator + Copy>(
+    doc: &mut CstRootNode<A>,
+    edits: Vec<Edit<A>, A>,
+) -> Result<(), (usize, EditError)>
+    ensures made { OnOk result (RunUnsortedOk doc.old edits.items doc.new) }
+    ensures stopped { IfErr result (λ e. RunUnsortedErr doc.old edits.items e.0 e.1 doc.new) }
+{
+    let equal = |_: &CstRootNode<A>, _: CstNode, _: CstNode| Ordering::Equal;
+    make_all(doc, &edits, &equal)
 }

@@ -104,11 +104,6 @@ const SETTINGS: &str = "{a: 1 /*c*/ \"b\\u0020\": [] \"\\u0062\": 2 d: 3}";
 
 const SETTINGS_WITHOUT: &str = "{a: 1 /*c*/ \"b\\u0020\": [] d: 3}";
 
-/// An array with a comment behind its last element, and with one more element.
-const COMMENT_INSIDE: &str = "[1 //c\n]";
-
-const COMMENT_BEFORE: &str = "[1, //c\n  2\n]";
-
 /// An object with a comment behind its first property, and with its properties in the order of their names.
 const UNSORTED: &str = "{\"b\": 1, // one\n \"a\": 2}";
 
@@ -135,10 +130,6 @@ const INNER_DROPPED: &str = "{\"a\": { \"c\": 2}}";
 /// One with comments, an escape and looser spelling.
 const LOOSE: &str = "// one\n[{a: '\\x62', 0x1F: +.5, c: Infinity,}, /* two */ [NaN -1]]";
 
-/// Forty numbers, so that the room for the rest of the tokens is taken at once.
-const NUMBERS: &str =
-    "[0,1,2,3,4,5,6,7,8,9,0,1,2,3,4,5,6,7,8,9,0,1,2,3,4,5,6,7,8,9,0,1,2,3,4,5,6,7,8,9]";
-
 /// One with comments in three gaps, and with two in the first of them, which ends at 17.
 const COMMENTED: &str = "// one\n/* two */ [1, /* three */ 2] // four";
 
@@ -149,6 +140,15 @@ const VALUES: &str = "[true, {'\\x61': '\\x62', 0x1F: +.5, c: Infinity,}] // end
 const ESCAPES: &str = "'one\\ttwo\\u0020three'";
 
 const DECODED: &str = "one\ttwo three";
+
+/// An array with a comment behind its last element, and with one more element.
+const COMMENT_INSIDE: &str = "[1 //c\n]";
+
+const COMMENT_BEFORE: &str = "[1, //c\n  2\n]";
+
+/// Forty numbers, so that the room for the rest of the tokens is taken at once.
+const NUMBERS: &str =
+    "[0,1,2,3,4,5,6,7,8,9,0,1,2,3,4,5,6,7,8,9,0,1,2,3,4,5,6,7,8,9,0,1,2,3,4,5,6,7,8,9]";
 
 /// What comes of a call under an allocator.
 pub fn outcome_of<A: Allocator + Copy>(call: Call, alloc: A) -> Outcome {

@@ -1,7 +1,10 @@
 //! Calls on texts alone, and values read by reference.
 
 use jsonc_parser::common::Range;
-use jsonc_parser::{JsonObject, JsonValue, ParseOptions, parse_to_value, place_of, text_change};
+use jsonc_parser::{
+    JsonObject, JsonValue, ParseOptions, line_and_column, line_and_column_utf16, parse_to_value,
+    place_of, place_of_utf16, text_change,
+};
 use std::alloc::Allocator;
 
 /// An old text, a new one, and the change between them.
@@ -30,6 +33,19 @@ static PLACED: [(&str, usize, usize, Option<usize>); 11] = [
     ("", 0, 0, None),
 ];
 
+/// A text, a line and a column in UTF-16 code units, and the place of these.
+static PLACED_UTF16: [(&str, usize, usize, Option<usize>); 9] = [
+    ("a😀b", 1, 2, Some(1)),
+    ("a😀b", 1, 3, None),
+    ("a😀b", 1, 4, Some(5)),
+    ("a😀b", 1, 5, Some(6)),
+    ("\u{FFFF}\u{10000}", 1, 3, None),
+    ("\u{FFFF}\u{10000}", 1, 4, Some(7)),
+    ("😀\r\n𝄞x", 1, 4, Some(5)),
+    ("😀\n", 1, 4, None),
+    ("😀\r\n𝄞x", 2, 3, Some(10)),
+];
+
 #[test]
 fn changes_are_the_smallest(rt: HostRuntime) {
     for (old, new, start, end, text) in &CHANGED {
@@ -42,6 +58,20 @@ fn changes_are_the_smallest(rt: HostRuntime) {
 fn lines_and_columns_have_places(rt: HostRuntime) {
     for (text, line, column, place) in &PLACED {
         assert!(rt; place_of(text, *line, *column) == *place);
+    }
+}
+
+#[test]
+fn utf16_columns_have_places(rt: HostRuntime) {
+    for (text, line, column, place) in &PLACED_UTF16 {
+        let found = place_of_utf16(text, *line, *column);
+        assert!(rt; found == *place);
+        if let Some(place) = found {
+            let at = line_and_column_utf16(text, place);
+            assert!(rt; at.line == *line && at.column == *column);
+            let in_characters = line_and_column(text, place);
+            assert!(rt; place_of(text, *line, in_characters.column) == Some(place));
+        }
     }
 }
 

@@ -21,26 +21,10 @@ use Rattle.jsonc_edit.specs.Paths.{IsAt, IsElementOf}
 use Rattle.jsonc_edit.proofs.Elements.{found_among, stands_at, taken, left}
 use Rattle.jsonc_edit.proofs.Uniqueness.{element_parent}
 use Rattle.jsonc_edit.proofs.lemmas.set.PropertyRows.{inside_of, object_row, parted, property_here}
+use Rattle.jsonc_cst.proofs.NodePaths.{counted_back}
 use Rattle.jsonc_tree.specs.Tree.{IsOver}
 use Rattle.jsonc_sound.specs.TreeChanges.{DocumentChanged}
 use Rattle.jsonc_edit.proofs.ChangesUpward.{changed_over}
-
--- as many pass a test backwards
-one_more_back : (test : ℕ → Bool) (x : ℕ) (xs : List ℕ) → length (filter test (reverse xs)) ≡ length (filter test xs)
-    → length (filter test (reverse xs)) + length (filter test (x ∷ [])) ≡ length (filter test (x ∷ xs))
-one_more_back test x xs rest =
-    elim (cases_Bool (test x)) [
-      | inl h ↦ (let one = ap length (taken test x [] h) in let all = ap length (taken test x xs h) in omega (arith, one, all, rest))
-      | inr h ↦ (let one = ap length (left test x [] h) in let all = ap length (left test x xs h) in omega (arith, one, all, rest))
-    ]
-
-counted_back : (test : ℕ → Bool) (xs : List ℕ) → length (filter test (reverse xs)) ≡ length (filter test xs)
-counted_back test [] = refl
-counted_back test (x ∷ xs) =
-    ap (λ l. length (filter test l)) (reverse-append (x ∷ []) xs)
-    ∙ ap length (filter-append test (reverse xs) (x ∷ []))
-    ∙ length-append (filter test (reverse xs)) (filter test (x ∷ []))
-    ∙ one_more_back test x xs (counted_back test xs)
 
 -- two tests that agree in a list keep as many
 same_kept : (p q : ℕ → Bool) (xs : List ℕ) → ((k : ℕ) → k < length xs → p (slice_index xs k) ≡ q (slice_index xs k)) → filter p xs ≡ filter q xs

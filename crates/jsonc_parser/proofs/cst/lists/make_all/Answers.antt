@@ -1,6 +1,5 @@
-use Rattle.std.proofs.Common.{take, List, [], subst, arith}
+use Rattle.std.proofs.Common.{[], subst, arith}
 use Rattle.std.proofs.lemmas.List.{take_all}
-use Rattle.jsonc_run.specs.Edits.{Operation}
 use Rattle.jsonc_parser.specs.Lists.{RunSteps, none_made}
 use Rattle.jsonc_parser.proofs.Lists.{have_been_made, have_stopped, more_made_after, next_seen}
 use Rattle.jsonc_parser.proofs.cst.lists.make_all.Goals as goal

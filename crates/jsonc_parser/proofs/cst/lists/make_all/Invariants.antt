@@ -1,6 +1,5 @@
 use Rattle.std.proofs.Common.{List, take}
 use Rattle.jsonc_run.specs.Edits.{Operation}
-use Rattle.jsonc_cst.specs.Document.{nodes_of}
 use Rattle.jsonc_parser.specs.Lists.{RunSteps}
 use Rattle.jsonc_parser.proofs.cst.lists.make_all.Given as goal
 

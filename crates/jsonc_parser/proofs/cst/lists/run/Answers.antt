@@ -1,5 +1,4 @@
-use Rattle.std.proofs.Common.{List, OnOk, IfErr, subst}
-use Rattle.jsonc_run.specs.declared.edit.Edit.{Edit}
+use Rattle.std.proofs.Common.{OnOk, IfErr, subst}
 use Rattle.jsonc_parser.specs.Lists.{RunOk, RunErr}
 use Rattle.jsonc_parser.proofs.cst.lists.run.Goals as goal
 

@@ -1,0 +1,16 @@
+use Rattle.std.proofs.Common.{◌<◌, length, IfSome, IsTrue}
+use Rattle.jsonc_tree.specs.Tree.{is_in, IsOver}
+use Rattle.jsonc_tree.specs.Order.{rest_at}
+use Rattle.jsonc_cst.proofs.RangeWalk.{HasCounted}
+use Rattle.jsonc_cst.proofs.cst.ranges.bytes_before.Given as goal
+
+abbrev pub invariant-loop-next : goal.invariant-loop-next
+invariant-loop-next g l = record {
+  in_tree : IfSome l.next (λ n. n < length l.tree.nodes);
+  over : IfSome l.next (λ n. IsOver l.tree.nodes 0 n);
+  counted : HasCounted l.tree.nodes 0 l.count l.next;
+  ahead : IsOver l.tree.nodes 0 l.node → IsTrue (is_in l.node (rest_at l.tree.nodes 0 l.next));
+}
+
+abbrev pub decreases-loop-next : goal.decreases-loop-next
+decreases-loop-next g l = length (rest_at l.tree.nodes 0 l.next)

@@ -1,0 +1,55 @@
+//! Where nodes stand in the text of their document.
+
+use jsonc_parser::ParseOptions;
+use jsonc_parser::common::Range;
+use jsonc_parser::cst::{CstNode, CstRootNode, TypedNode};
+use std::alloc::Allocator;
+use std::test::Fail;
+
+const TEXT: &str = "{\r\n\"é\": [1, 2] /*a*/ }\n";
+
+/// Places of the text, each with the range of the innermost node there and that of its parent.
+static PLACES: [(usize, usize, usize, usize, usize); 7] = [
+    (0, 0, 1, 0, 23),
+    (2, 1, 3, 0, 23),
+    (5, 3, 7, 3, 15),
+    (7, 7, 8, 3, 15),
+    (13, 13, 14, 9, 15),
+    (18, 16, 21, 0, 23),
+    (23, 23, 24, 0, 24),
+];
+
+/// The ranges of the innermost node at a place and of its parent.
+fn ranges_at<A: Allocator>(doc: &CstRootNode<A>, place: usize) -> Option<(Range, Range)> {
+    let node = doc.node_at(place)?;
+    let parent = CstNode::from(node.parent(doc)?);
+    Some((doc.range(node)?, doc.range(parent)?))
+}
+
+#[test]
+fn nodes_have_ranges(rt: HostRuntime) -> Result<(), Fail> {
+    let doc = CstRootNode::parse(rt.alloc(), TEXT, &ParseOptions::jsonc())?;
+    for (place, start, end, above, below) in &PLACES {
+        let ranges = (Range::new(*start, *end), Range::new(*above, *below));
+        assert!(rt; ranges_at(&doc, *place) == Some(ranges));
+    }
+    assert!(rt; doc.node_at(24).is_none());
+    Ok(())
+}
+
+/// Removes the number at a place, and answers whether it has no range then.
+fn loses_its_range<A: Allocator + Copy>(doc: &mut CstRootNode<A>, place: usize) -> Option<bool> {
+    let node = doc.node_at(place)?;
+    let Ok(()) = node.as_number_lit()?.remove(doc) else {
+        return None;
+    };
+    Some(doc.holds(node) && doc.range(node).is_none())
+}
+
+#[test]
+fn removed_nodes_have_none(rt: HostRuntime) -> Result<(), Fail> {
+    let mut doc = CstRootNode::parse(rt.alloc(), TEXT, &ParseOptions::jsonc())?;
+    assert!(rt; loses_its_range(&mut doc, 10) == Some(true));
+    assert!(rt; ranges_at(&doc, 10) == Some((Range::new(10, 11), Range::new(9, 13))));
+    Ok(())
+}
