@@ -40,7 +40,11 @@ fn nodes_have_ranges(rt: HostRuntime) -> Result<(), Fail> {
 /// Removes the number at a place, and answers whether it has no range then.
 fn loses_its_range<A: Allocator + Copy>(doc: &mut CstRootNode<A>, place: usize) -> Option<bool> {
     let node = doc.node_at(place)?;
-    let Ok(()) = node.as_number_lit()?.remove(doc) else {
+    let number = node.as_number_lit()?;
+    if !doc.holds(number.node()) {
+        return None;
+    }
+    let Ok(()) = number.remove(doc) else {
         return None;
     };
     Some(doc.holds(node) && doc.range(node).is_none())
