@@ -5,7 +5,7 @@ ghost use Rattle.jsonc_text.specs.Places.{LineColumn, ends_line};
 
 use crate::chars::char_at;
 
-/// A line and a column in it, both counted from 1, the column in characters.
+/// A line and a column in it, both counted from 1; the call that tells it says what a column counts.
 #[derive(Clone, Copy, Debug, PartialEq, Eq)]
 pub struct LineAndColumn {
     pub line: usize,

@@ -36,7 +36,7 @@ module _ {F D N K : Type 0} (g : Shared F (Bor D × (N × Unit {0})) (Result K E
   pub record HaveAnswered (nodes : List (Option N)) : Type 0 where
     pub count : ℕ
     pub some : count ≡ 0 → length nodes ≡ 0
-    pub error : (i : ℕ) → i < count → (k : Option K) × IsKeyOf g key doc (node_in nodes i) k
+    pub keys : (i : ℕ) → i < count → (k : Option K) × IsKeyOf g key doc (node_in nodes i) k
 
   -- why they come in no order: allocation failed where each key that was asked so far had been told; or the first was refused
   abbrev pub LacksKeys : List (Option N) → EditError → Type 0

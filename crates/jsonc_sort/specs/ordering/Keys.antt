@@ -38,7 +38,7 @@ module _ {F D N K E : Type 0} (g : Shared F (Bor D × (N × Unit {0})) (Result K
   pub record WantsMemory (nodes : List (Option N)) : Type 0 where
     pub place : ℕ
     pub in_tree : place < length nodes
-    pub error : (i : ℕ) → i ≤ place → (k : Option K) × IsKeyOf (node_in nodes i) k
+    pub keys : (i : ℕ) → i ≤ place → (k : Option K) × IsKeyOf (node_in nodes i) k
 
   -- why there are no keys: allocation failed, or the first that was refused
   abbrev pub WhyNone : List (Option N) → KeysError E → Type 0

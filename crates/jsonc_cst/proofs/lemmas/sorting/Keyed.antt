@@ -25,14 +25,14 @@ module _ {F D N K E : Type 0} (g : Shared F (Bor D × (N × Unit {0})) (Result K
   pub told_so_far : (why : KeysError E) → why ≡ OutOfMemory → WhyNone g key doc nodes why → (count : ℕ) × (count ≡ 0 → length nodes ≡ 0) × ((i : ℕ) → i < count → (k : Option K) × IsKeyOf g key doc (node_in nodes i) k)
   told_so_far why is none =
       let m = subst (λ (w : KeysError E). WhyNone g key doc nodes w) is none in
-      (m.place + 1, λ e. absurd (omega (arith, e)), λ i h. m.error i (omega (arith, h)))
+      (m.place + 1, λ e. absurd (omega (arith, e)), λ i h. m.keys i (omega (arith, h)))
 
 module _ {F D N K : Type 0} (g : Shared F (Bor D × (N × Unit {0})) (Result K EditError)) (key : F) (doc : D) (nodes : List (Option N)) where
   pub memory_behind : (why : KeysError EditError) → why ≡ OutOfMemory → WhyNone g key doc nodes why → LacksKeys g key doc nodes error.OutOfMemory
-  memory_behind why is none = let t = told_so_far g key doc nodes why is none in inl (refl, record { count = t.0; some = t.1; error = t.2 })
+  memory_behind why is none = let t = told_so_far g key doc nodes why is none in inl (refl, record { count = t.0; some = t.1; keys = t.2 })
 
   pub memory_behind_all : (keys : List (Option K)) → AreKeys g key doc nodes keys → LacksKeys g key doc nodes error.OutOfMemory
-  memory_behind_all keys are = inl (refl, record { count = length nodes; some = λ e. e; error = λ i h. (node_in keys i, are.at i h) })
+  memory_behind_all keys are = inl (refl, record { count = length nodes; some = λ e. e; keys = λ i h. (node_in keys i, are.at i h) })
 
   pub unkeyed : {T : Type 0} (r : Result T EditError) → IfErr r (LacksKeys g key doc nodes) → IfErr r (IsUnkeyed g key doc nodes)
   unkeyed (Ok x) why = tt

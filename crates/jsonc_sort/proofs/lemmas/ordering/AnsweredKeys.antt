@@ -35,7 +35,7 @@ module _ {F D N K E : Type 0} (g : Shared F (Bor D × (N × Unit {0})) (Result K
   memory_wanted nodes n keys k there below now = record {
     place = n;
     in_tree = there;
-    error = λ i h. elim (cases_lt i n) [
+    keys = λ i h. elim (cases_lt i n) [
       | inl less ↦ (node_in keys i, below i less)
       | inr more ↦
           let same : n ≡ i = omega (arith, h, more) in
