@@ -134,3 +134,12 @@ impl<A: Allocator> fmt::Display for CstRootNode<A> {
         self.tree.fmt(f)
     }
 }
+
+/// Writes `CstRootNode(`, the document's text as it stands, and `)`.
+impl<A: Allocator> fmt::Debug for CstRootNode<A> {
+    fn fmt<W: fmt::Write>(&self, f: &mut fmt::Formatter<W>) -> fmt::Result {
+        f.write_str("CstRootNode(")?;
+        fmt::Display::fmt(&self.tree, f)?;
+        f.write_str(")")
+    }
+}

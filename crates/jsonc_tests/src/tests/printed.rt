@@ -3,7 +3,7 @@
 use failing_alloc::awaited::{Awaited, prints};
 use jsonc_engine::fault::Fault;
 use jsonc_parser::cst::{CstRootNode, EditError};
-use jsonc_parser::{ParseOptions, parse_to_value};
+use jsonc_parser::{JsonValue, ParseOptions, parse_to_value};
 use std::alloc::Global;
 use std::default::Default;
 use std::fmt;
@@ -61,4 +61,49 @@ fn fault_prints_alike(alloc: Global) -> bool {
 fn options_of_a_format_change_nothing(rt: HostRuntime) {
     assert!(rt; document_prints_alike(rt.alloc()));
     assert!(rt; fault_prints_alike(rt.alloc()));
+}
+
+/// Whether this is what `Debug` of something prints.
+fn debugs<T: fmt::Debug>(shown: &T, text: &str) -> bool {
+    let mut printed = Awaited {
+        rest: text.as_bytes(),
+    };
+    let is_printed = write!(printed, "{shown:?}").is_ok();
+    is_printed && printed.rest.is_empty()
+}
+
+/// A value, its object, and the map of that.
+fn value_debugs(alloc: Global) -> bool {
+    let text = "{\"b\": [1, null, true], \"a\": \"x\\n\"}";
+    let Ok(Some(value)) = parse_to_value(alloc, text, &ParseOptions::json()) else {
+        return false;
+    };
+    let map =
+        "{\"b\": Array(JsonArray([Number(\"1\"), Null, Boolean(true)])), \"a\": String(\"x\\n\")}";
+    let Ok(object) = format!(in alloc; "JsonObject({map})") else {
+        return false;
+    };
+    let Ok(whole) = format!(in alloc; "Object({object})") else {
+        return false;
+    };
+    if !debugs(&value, &whole) {
+        return false;
+    }
+    match value {
+        JsonValue::Object(inner) => debugs(&inner, &object) && debugs(&inner.take_inner(), map),
+        _ => false,
+    }
+}
+
+fn document_debugs(alloc: Global) -> bool {
+    match CstRootNode::parse(alloc, "[1, /*a*/ 2]", &ParseOptions::jsonc()) {
+        Ok(document) => debugs(&document, "CstRootNode([1, /*a*/ 2])"),
+        Err(_) => false,
+    }
+}
+
+#[test]
+fn values_and_documents_have_debug(rt: HostRuntime) {
+    assert!(rt; value_debugs(rt.alloc()));
+    assert!(rt; document_debugs(rt.alloc()));
 }
