@@ -7,5 +7,6 @@ pub mod Shown
 pub mod RangeWalk
 pub mod JsonValues
 pub mod NodePaths
+pub mod NamePaths
 pub mod RepeatedNames
 pub mod lemmas

@@ -100,7 +100,7 @@ module _ (ns : List Node) where
 
 module _ (ns : List Node) (tree : IsTree ns) where
   -- an element has one container
-  container_once : (p q i j v : ℕ) → IsElementOf ns p i v → IsElementOf ns q j v → p ≡ q
+  pub container_once : (p q i j v : ℕ) → IsElementOf ns p i v → IsElementOf ns q j v → p ≡ q
   container_once p q i j v e f = Some_same p q (sym (element_parent ns tree p i v e) ∙ element_parent ns tree q j v f)
 
   -- an element is at its index among the elements of its parent
@@ -139,7 +139,7 @@ module _ (ns : List Node) (tree : IsTree ns) where
   not_entry c i r at no_object p j entry = no_object (subst (λ z. content_at ns z ≡ object) (container_once p c j i r entry.1 at) entry.0)
 
   -- the steps that lead to a value are from one container
-  source_once : (p q i j v : ℕ) → StepsTo ns p i v → StepsTo ns q j v → p ≡ q
+  pub source_once : (p q i j v : ℕ) → StepsTo ns p i v → StepsTo ns q j v → p ≡ q
   source_once p q i j v (in_array a e) (in_array b f) = container_once p q i j v e f
   source_once p q i j v (in_array a e) (in_object {r = r} o f h) =
       absurd (no_array_is_property (content_at ns p) a (subst (λ z. content_at ns z ≡ property) (container_once r p 1 i v h.1 e) h.0))

@@ -1,16 +1,17 @@
 //! The paths that lead to nodes, found by going up from them.
 
-ghost use Rattle.std.specs.Prelude.{◌≡◌, ◌↔◌, ◌<◌, ℕ, List, length, IfErr, IfNone, IfOk, IfSome, IsTrue, Some};
+ghost use Rattle.std.specs.Prelude.{◌≡◌, ◌↔◌, ◌<◌, ℕ, List, length, map, IfErr, IfNone, IfOk, IfSome, IsTrue, Some};
 ghost use Rattle.jsonc_tree.specs.Content as content;
 ghost use Rattle.jsonc_tree.specs.Tree.{content_at};
+ghost use Rattle.jsonc_layout.specs.input.Views.{chars_of};
 ghost use Rattle.jsonc_edit.specs.Paths.{IsAt, IsElementOf, IsHeldBy, StepsTo};
 ghost use Rattle.jsonc_cst.specs.Document.{nodes_of, HasNode};
 ghost use Rattle.jsonc_cst.specs.Nodes.{number_of};
-ghost use Rattle.jsonc_cst.specs.Paths.{IsEntryOf};
+ghost use Rattle.jsonc_cst.specs.Paths.{IsAtNames, IsEntryOf, StepsByName, StepsThrough};
 
 use super::node::CstNode;
 use super::{CstRootNode, EditError};
-use jsonc_layout::nodes::{element_at, element_index, is_element, value_of};
+use jsonc_layout::nodes::{decoded_name, element_at, element_index, is_element, value_of};
 use jsonc_tree::{Kind, Tree};
 use std::alloc::{AllocError, Allocator};
 
@@ -120,6 +121,74 @@ fn path_of<A: Allocator, B: Allocator>(
     Ok(Some(path))
 }
 
+// The object from which a step leads to a value, and the property in it that the step goes through.
+fn step_by_property<A: Allocator>(tree: &Tree<A>, value: usize) -> Option<(usize, usize)>
+    requires { value < length tree.now.nodes }
+    ensures found { IfSome result (λ s. StepsThrough tree.now.nodes s.0 s.1 value) }
+    ensures none { IfNone result ((p r : ℕ) → StepsThrough tree.now.nodes p r value → ⊥) }
+    ensures in_tree { IfSome result (λ s. s.0 < length tree.now.nodes) }
+    ensures property { IfSome result (λ s. s.1 < length tree.now.nodes) }
+{
+    let Some((container, _)) = element_place(tree, value) else {
+        return None;
+    };
+    match tree.kind(container) {
+        Kind::Property(_) => match step_through(tree, container, value) {
+            Some((object, _)) => Some((object, container)),
+            None => None,
+        },
+        _ => None,
+    }
+}
+
+// The object from which a step leads to a value, and the name of the property that the step goes through.
+fn step_by_name<A: Allocator, B: Allocator + Copy>(
+    alloc: B,
+    tree: &Tree<A>,
+    value: usize,
+) -> Result<Option<(usize, String<B>)>, AllocError>
+    requires { value < length tree.now.nodes }
+    ensures found { IfOk result
+        (λ found. IfSome found (λ s. StepsByName tree.now.nodes s.0 (chars_of s.1) value)) }
+    ensures none { IfOk result (λ found. IfNone found
+        ((p : ℕ) (name : List ℕ) → StepsByName tree.now.nodes p name value → ⊥)) }
+    ensures in_tree { IfOk result (λ found. IfSome found (λ s. s.0 < length tree.now.nodes)) }
+{
+    let Some((object, property)) = step_by_property(tree, value) else {
+        return Ok(None);
+    };
+    match decoded_name(alloc, tree, property)? {
+        Some(name) => Ok(Some((object, name))),
+        None => Ok(None),
+    }
+}
+
+// The names through which one comes from the document's value to a node, if names lead there.
+fn names_to<A: Allocator, B: Allocator + Copy>(
+    alloc: B,
+    tree: &Tree<A>,
+    node: usize,
+) -> Result<Option<Vec<String<B>, B>>, AllocError>
+    requires { node < length tree.now.nodes }
+    ensures found { IfOk result
+        (λ found. IfSome found (λ names. IsAtNames tree.now.nodes (map chars_of names.items) node)) }
+    ensures none { IfOk result
+        (λ found. IfNone found ((names : List (List ℕ)) → IsAtNames tree.now.nodes names node → ⊥)) }
+{
+    let first = element_at(tree, 0, 0);
+    let mut names = Vec::new(alloc);
+    let mut value = node;
+    while first != Some(value) {
+        let Some((above, name)) = step_by_name(alloc, tree, value)? else {
+            return Ok(None);
+        };
+        names.push(name)?;
+        value = above;
+    }
+    names.reverse();
+    Ok(Some(names))
+}
+
 impl<A: Allocator + Copy> CstRootNode<A> {
     /// The path that leads to a node from the document's value, as in an `Edit`.
     ///
@@ -139,5 +208,28 @@ impl<A: Allocator + Copy> CstRootNode<A> {
             return Err(EditError::OutOfMemory);
         };
         Ok(path)
+    }
+
+    /// The names of the properties that lead to a node, outermost first.
+    ///
+    /// They lead from the document's value, and are decoded, as `jsonc_parser::settings` takes them. In
+    /// `{"a": {"b": 1}}` the 1 has the names `a` and `b`, and the outer object has the empty path. None
+    /// where a step goes through an array, where a property on the way has no name that decodes, and
+    /// where [`CstRootNode::path`] answers none.
+    ///
+    /// Where an object has a name twice, those calls take its first property of that name, which the
+    /// one that leads here need not be.
+    pub fn path_of_names(&self, node: CstNode) -> Result<Option<Vec<String<A>, A>>, EditError>
+        requires { HasNode self.now node }
+        ensures found { IfOk result (λ found. IfSome found
+            (λ names. IsAtNames (nodes_of self.now) (map chars_of names.items) (number_of node))) }
+        ensures none { IfOk result (λ found. IfNone found
+            ((names : List (List ℕ)) → IsAtNames (nodes_of self.now) names (number_of node) → ⊥)) }
+        ensures memory { IfErr result (λ e. e ≡ EditError.OutOfMemory) }
+    {
+        let Ok(names) = names_to(self.alloc, &self.tree, node.number()) else {
+            return Err(EditError::OutOfMemory);
+        };
+        Ok(names)
     }
 }
