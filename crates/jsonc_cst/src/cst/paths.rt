@@ -212,13 +212,13 @@ impl<A: Allocator + Copy> CstRootNode<A> {
 
     /// The names of the properties that lead to a node, outermost first.
     ///
-    /// They lead from the document's value, and are decoded, as `jsonc_parser::settings` takes them. In
-    /// `{"a": {"b": 1}}` the 1 has the names `a` and `b`, and the outer object has the empty path. None
-    /// where a step goes through an array, where a property on the way has no name that decodes, and
-    /// where [`CstRootNode::path`] answers none.
+    /// They begin at the document's value, and are decoded, as `jsonc_parser::settings` takes them. In
+    /// `{"a": {"b": 1}}` the names `a` and `b` lead to the 1, and no names to the outer object: its path
+    /// is empty. None where a step goes through an array, where a property on the way has no name that
+    /// decodes, and where [`CstRootNode::path`] answers none.
     ///
-    /// Where an object has a name twice, those calls take its first property of that name, which the
-    /// one that leads here need not be.
+    /// Where an object has a name twice, `jsonc_parser::settings` takes its first property of that name,
+    /// and may find another node.
     pub fn path_of_names(&self, node: CstNode) -> Result<Option<Vec<String<A>, A>>, EditError>
         requires { HasNode self.now node }
         ensures found { IfOk result (λ found. IfSome found
