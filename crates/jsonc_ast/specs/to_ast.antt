@@ -12,3 +12,5 @@ pub mod Faults
 pub mod Laws
 pub mod Written
 pub mod Ranges
+pub mod Handed
+pub mod Trees

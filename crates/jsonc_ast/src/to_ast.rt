@@ -1,11 +1,13 @@
-//! From a text to its syntax tree; and the walk over gaps, brackets, commas and colons.
+//! From a text to its syntax tree; and the walk over a text, whatever is made of it.
 
 pub mod collect;
 pub mod comments;
 pub mod container;
 pub mod context;
 pub mod laws;
+pub mod receiver;
 mod room;
 mod values;
+pub mod walk;
 
 pub use values::parse_to_ast;

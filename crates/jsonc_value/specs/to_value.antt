@@ -1,3 +1,4 @@
 pub mod Views
 pub mod Reads
 pub mod Refusals
+pub mod Made

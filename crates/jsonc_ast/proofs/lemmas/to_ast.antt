@@ -27,3 +27,6 @@ pub mod Rows
 pub mod Spelling
 pub mod ReadsToEnd
 pub mod Ranges
+pub mod Handing
+pub mod Walks
+pub mod MadeTrees

@@ -1,11 +1,11 @@
 -- Laws of reading: what is said of each text.
-use Rattle.std.specs.Prelude.{ℕ, ◌≡◌, ◌≤◌, Bool, List, [], Option, Some, None}
+use Rattle.std.specs.Prelude.{ℕ, ◌≡◌, Bool, List, [], Option, None}
 use Rattle.jsonc_text.specs.Gaps.{Gap}
 use Rattle.jsonc_text.specs.Grammar.{IsDocument}
 use Rattle.jsonc_text.specs.Plain.{Plain}
 use Rattle.jsonc_text.specs.Lexemes.{LexemeKind, Lexeme}
 use Rattle.jsonc_text.specs.Options.{Options}
-use Rattle.jsonc_ast.specs.to_ast.Reached.{Opened, Due, at, Reached, size}
+use Rattle.jsonc_ast.specs.to_ast.Reached.{Opened, Due, at, Reached, FitsIn}
 use Rattle.jsonc_ast.specs.to_ast.Faults.{Fault, wrong_end, HasFault}
 
 -- s is lexemes, with a gap before each, and then t
@@ -25,20 +25,15 @@ HasOneWay o whole s = (q p : List Opened) (d e : Due) (t : List ℕ) → Reached
 abbrev pub HasOneFault : Options → Bool → List ℕ → Type 0
 HasOneFault o whole s = (f g : Fault) → HasFault o whole s f → HasFault o whole s g → f ≡ g
 
--- what counts is at most 512
-abbrev pub IsWithin : Bool → Option Plain → Type 0
-IsWithin whole None = Unit {0}
-IsWithin whole (Some v) = size whole v ≤ 512
-
--- where a fault is told, the text has no value that is within
+-- where a fault is told, the text has no value that is small enough
 abbrev pub FaultMeansNoDocument : Options → Bool → List ℕ → Type 0
-FaultMeansNoDocument o whole s = (f : Fault) (v : Option Plain) → HasFault o whole s f → IsDocument o s v → IsWithin whole v → ⊥
+FaultMeansNoDocument o whole s = (f : Fault) (v : Option Plain) → HasFault o whole s f → IsDocument o s v → FitsIn whole v → ⊥
 
--- the text has a value that is within, or none
+-- the text has a value that is small enough, or none
 abbrev pub HasValue : Options → Bool → List ℕ → Type 0
-HasValue o whole s = (v : Option Plain) × IsDocument o s v × IsWithin whole v
+HasValue o whole s = (v : Option Plain) × IsDocument o s v × FitsIn whole v
 
--- where reading has come to the end of the text and nothing is wrong there, it is the document of a value that is within
+-- where reading has come to the end of the text and nothing is wrong there, it is the document of such a value
 abbrev pub ReadsToDocument : Options → Bool → List ℕ → Type 0
 ReadsToDocument o whole s = (q : List Opened) (d : Due) (t : List ℕ) → Reached o whole s (at q d t) → Gap o t []
     → wrong_end whole q d ≡ None → HasValue o whole s

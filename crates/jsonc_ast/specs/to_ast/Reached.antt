@@ -1,6 +1,6 @@
 -- Where reading a text comes to, and what is due there.
 -- A place of a text is the text from there on.
-use Rattle.std.specs.Prelude.{ℕ, suc, ◌≡◌, Bool, true, false, ◌&&◌, ◌||◌, ◌==◌, List, [], ◌∷◌, length, Some, IsTrue, nat_lt}
+use Rattle.std.specs.Prelude.{ℕ, suc, ◌≡◌, Bool, true, false, ◌&&◌, ◌||◌, ◌==◌, ◌≤◌, List, [], ◌∷◌, length, Option, Some, None, IsTrue, nat_lt}
 use Rattle.jsonc_text.specs.Gaps.{Gap}
 use Rattle.jsonc_text.specs.Grammar.{IsName, literal_value}
 use Rattle.jsonc_text.specs.Lexemes.{LexemeKind, Lexeme, punctuation}
@@ -68,6 +68,21 @@ count false q = containers q
 abbrev pub size : Bool → Plain → ℕ
 size true v = around v
 size false v = depth v
+
+-- the value, if there is one, needs at most 512
+abbrev pub FitsIn : Bool → Option Plain → Type 0
+FitsIn whole None = Unit {0}
+FitsIn whole (Some v) = size whole v ≤ 512
+
+-- how much a property counts beside its value
+abbrev pub per_property : Bool → ℕ
+per_property true = 1
+per_property false = 0
+
+-- how many an empty container needs
+abbrev pub least : Bool → ℕ
+least true = 0
+least false = 1
 
 -- `[` or `{`
 abbrev pub is_opening : LexemeKind → Bool

@@ -1,5 +1,5 @@
 -- What an error of a parser says of the text.
-use Rattle.std.specs.Prelude.{ℕ, ◌+◌, ◌≤◌, ◌≡◌, Bool, false, not, ◌||◌, ◌==◌, List, [], length, Option, Some, None, IfSome, IsTrue, ◌⊎◌, chars}
+use Rattle.std.specs.Prelude.{ℕ, ◌+◌, ◌≤◌, ◌≡◌, Bool, true, false, not, ◌||◌, ◌==◌, List, [], length, Option, Some, None, IfSome, IsTrue, ◌⊎◌, chars}
 use Rattle.jsonc_text.specs.declared.common.Range.{Range}
 use Rattle.jsonc_text.specs.declared.errors.ParseError.{ParseError}
 use Rattle.jsonc_text.specs.declared.errors.ParseErrorKind.{ParseErrorKind}
@@ -10,13 +10,14 @@ use Rattle.jsonc_text.specs.Faults.{kind_of, range_of}
 use Rattle.jsonc_text.specs.Text.{rest, next, starts}
 use Rattle.jsonc_text.specs.Gaps.{Gap}
 use Rattle.jsonc_text.specs.Lexemes.{LexemeKind, Lexeme}
-use Rattle.jsonc_text.specs.Plain.{Plain, around}
+use Rattle.jsonc_text.specs.Plain.{Plain}
 use Rattle.jsonc_text.specs.Grammar.{literal_value, IsValue, IsName, IsProperty, IsDocument, Separates, Closes}
 use Rattle.jsonc_ast.specs.Located.{Ends, TrailingComma}
 use Rattle.jsonc_ast.specs.declared.to_ast.container.Container.{Container}
 use Rattle.jsonc_ast.specs.declared.to_ast.context.Context.{Context}
 use Rattle.jsonc_ast.specs.to_ast.Containers.{closing, unterminated_kind}
 use Rattle.jsonc_ast.specs.to_ast.Context.{text_in, options_in, token_start, token_end, token_range}
+use Rattle.jsonc_ast.specs.to_ast.Reached.{size, per_property, FitsIn}
 
 -- allocation failed
 abbrev pub IsAllocationFailure : ParseError → Type 0
@@ -65,26 +66,29 @@ pub record LeadsOnlyTo (o : Options) (gap close : List ℕ → List ℕ → Type
   pub no_close : (r : List ℕ) → close t r → ⊥
   pub only : (u : List ℕ) → gap t u → AtItem o u → u ≡ w
 
--- no value stands at the front of t that can stand inside of so many containers and properties
-abbrev pub NoValue : Options → List ℕ → ℕ → Type 0
-NoValue o t count = (v : Plain) (r : List ℕ) → IsValue o t v r → around v + count ≤ 512 → ⊥
+-- no value stands at the front of t that can stand inside of so many of what counts
+abbrev pub NoValue : Options → Bool → List ℕ → ℕ → Type 0
+NoValue o whole t count = (v : Plain) (r : List ℕ) → IsValue o t v r → size whole v + count ≤ 512 → ⊥
 
 -- nor a property
-abbrev pub NoProperty : Options → List ℕ → ℕ → Type 0
-NoProperty o t count = (name : List ℕ) (v : Plain) (r : List ℕ) → IsProperty o t name v r → around v + (count + 1) ≤ 512 → ⊥
+abbrev pub NoProperty : Options → Bool → List ℕ → ℕ → Type 0
+NoProperty o whole t count = (name : List ℕ) (v : Plain) (r : List ℕ) → IsProperty o t name v r → size whole v + (count + per_property whole) ≤ 512 → ⊥
+
+-- the text has no value that is small enough
+abbrev pub NoDocument : Options → Bool → List ℕ → Type 0
+NoDocument o whole t = (v : Option Plain) → IsDocument o t v → FitsIn whole v → ⊥
+
+-- allocation failed, or the text has no such value
+abbrev pub Refuses : Options → Bool → List ℕ → ParseError → Type 0
+Refuses o whole bytes e = IsAllocationFailure e ⊎ NoDocument o whole (chars bytes)
 
 -- at most 512 containers and properties are around each value in it
 abbrev pub IsWithin : Option Plain → Type 0
-IsWithin None = Unit {0}
-IsWithin (Some v) = around v ≤ 512
+IsWithin v = FitsIn true v
 
--- the text has no value that is within
-abbrev pub NoDocument : Options → List ℕ → Type 0
-NoDocument o t = (v : Option Plain) → IsDocument o t v → IsWithin v → ⊥
-
--- allocation failed, or the text has no such value
+-- allocation failed, or the text has no value that is within
 abbrev pub RefusesText : Options → List ℕ → ParseError → Type 0
-RefusesText o bytes e = IsAllocationFailure e ⊎ NoDocument o (chars bytes)
+RefusesText o bytes e = Refuses o true bytes e
 
 -- allocation failed, or this holds
 abbrev pub OutOfMemoryOr : Type 0 → ParseError → Type 0
@@ -145,10 +149,10 @@ module _ {A : Type 0} where
   abbrev pub NoLiteral : Context A → Type 0
   NoLiteral c = (k : LexemeKind) (v : Plain) (r : List ℕ) → Lexeme (options_in c) k (here c) r → literal_value k ≡ Some v → ⊥
 
-  -- no value begins with the last token that can stand inside of so many containers and properties
-  abbrev pub NoValueHere : Context A → ℕ → Type 0
-  NoValueHere c count = NoValue (options_in c) (here c) count
+  -- no value begins with the last token that can stand inside of so many of what counts
+  abbrev pub NoValueHere : Context A → Bool → ℕ → Type 0
+  NoValueHere c whole count = NoValue (options_in c) whole (here c) count
 
   -- nor a property
-  abbrev pub NoPropertyHere : Context A → ℕ → Type 0
-  NoPropertyHere c count = NoProperty (options_in c) (here c) count
+  abbrev pub NoPropertyHere : Context A → Bool → ℕ → Type 0
+  NoPropertyHere c whole count = NoProperty (options_in c) whole (here c) count

@@ -1,10 +1,8 @@
 -- How the strings and names of a syntax tree stand in their text.
-use Rattle.std.specs.Prelude.{ℕ, ◌≡◌, List, ◌∷◌, [], Option, Some, chars}
+use Rattle.std.specs.Prelude.{ℕ, ◌≡◌, List, Option, Some, chars}
 use Rattle.std.specs.List.{All}
 use Rattle.std.specs.Cow.{cow_str_bytes}
-use Rattle.jsonc_text.specs.declared.common.Range.{Range}
 use Rattle.jsonc_text.specs.declared.tokens.Token.{Token}
-use Rattle.jsonc_text.specs.declared.tokens.Token.TheVariants as token
 use Rattle.jsonc_text.specs.Lexemes.{LexemeKind, Lexeme, lexeme, string}
 use Rattle.jsonc_text.specs.Options.{Options}
 use Rattle.jsonc_text.specs.string.Escapes.{IsLentUnescaped}
@@ -34,8 +32,3 @@ module _ {A : Type 0} where
   -- strings and names stand so in the text that a parser reads
   abbrev pub AreWrittenIn : Context A → List (ObjectPropName A) → Type 0
   AreWrittenIn c = AreWritten (options_in c) (text_in c)
-
--- what a token is by itself, as a string or name of a value
-abbrev pub spelled_of : {A : Type 0} → Range → Token A → List (ObjectPropName A)
-spelled_of r (token.String v) = String (record { range = r; value = v }) ∷ []
-spelled_of r _ = []

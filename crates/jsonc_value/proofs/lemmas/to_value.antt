@@ -1,9 +1,4 @@
 pub mod Plains
 pub mod Insertions
-pub mod Arrays
-pub mod Objects
-pub mod Elements
-pub mod Properties
-pub mod Leaves
-pub mod NamedValues
+pub mod Grown
 pub mod Documents

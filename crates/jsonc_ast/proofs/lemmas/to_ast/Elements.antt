@@ -1,11 +1,12 @@
 -- The elements of an array so far, and what is still to come.
-use Rattle.std.proofs.Common.{ℕ, suc, max, ◌≡◌, ◌∙◌, sym, ap, subst, refl, arith, List, [], ◌∷◌, ◌++◌}
+use Rattle.std.proofs.Common.{ℕ, Bool, true, false, suc, max, ◌≡◌, ◌∙◌, sym, ap, subst, refl, arith, List, [], ◌∷◌, ◌++◌}
 use Rattle.jsonc_text.specs.Options.{Options}
 use Rattle.jsonc_text.specs.Gaps.{Gap}
 use Rattle.jsonc_text.specs.Grammar.{Separates, Closes}
-use Rattle.jsonc_text.specs.Plain.{around, items_around}
+use Rattle.jsonc_text.specs.Plain.{array, around, depth, items_around, items_depth}
 use Rattle.jsonc_ast.specs.Located.{Located, LocatedItems, no_items_at, item_at, range_at, value_at, items_at, Between, IsLocated, AreItems, AreFurtherItems}
 use Rattle.jsonc_ast.specs.Views.{items_of}
+use Rattle.jsonc_ast.specs.to_ast.Reached.{size}
 
 -- the elements so far, before those that follow
 abbrev pub prepend : List Located → LocatedItems → LocatedItems
@@ -20,9 +21,18 @@ prepend_none : (xs : List Located) → prepend xs no_items_at ≡ items_of xs
 prepend_none [] = refl
 prepend_none (x ∷ xs) = ap (item_at x) (prepend_none xs)
 
-pub push_around : (xs : List Located) (x : Located) → items_around (items_at (items_of (xs ++ x ∷ []))) ≡ max (items_around (items_at (items_of xs))) (suc (around (value_at x)))
+push_around : (xs : List Located) (x : Located) → items_around (items_at (items_of (xs ++ x ∷ []))) ≡ max (items_around (items_at (items_of xs))) (suc (around (value_at x)))
 push_around [] x = omega arith
 push_around (z ∷ xs) x = omega (arith, push_around xs x)
+
+push_depth : (xs : List Located) (x : Located) → items_depth (items_at (items_of (xs ++ x ∷ []))) ≡ max (items_depth (items_at (items_of xs))) (depth (value_at x))
+push_depth [] x = omega arith
+push_depth (z ∷ xs) x = omega (arith, push_depth xs x)
+
+-- what counts of one element more
+pub push_size : (whole : Bool) (xs : List Located) (x : Located) → size whole (array (items_at (items_of (xs ++ x ∷ [])))) ≡ max (size whole (array (items_at (items_of xs)))) (suc (size whole (value_at x)))
+push_size true xs x = push_around xs x
+push_size false xs x = let most = push_depth xs x in omega (arith, most)
 
 module _ (o : Options) (bytes : List ℕ) (i : ℕ) where
   -- an element from the place on, and what follows it, make the whole

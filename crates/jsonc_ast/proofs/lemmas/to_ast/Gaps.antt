@@ -3,8 +3,8 @@ use Rattle.std.proofs.Common.{ℕ, ◌≡◌, ◌∙◌, subst, inl, inr, refl, 
 use Rattle.jsonc_scan.specs.declared.scanner.Scanner.{Scanner}
 use Rattle.jsonc_text.specs.declared.tokens.Token.{Token}
 use Rattle.jsonc_text.specs.Options.{Options}
-use Rattle.jsonc_text.specs.Text.{rest, Many, stop, step, Spans}
-use Rattle.jsonc_text.specs.Gaps.{Gap, none, blank, comment, is_blank}
+use Rattle.jsonc_text.specs.Text.{rest, Many, Spans}
+use Rattle.jsonc_text.specs.Gaps.{Gap, none, comment, is_blank}
 use Rattle.jsonc_text.specs.Lexemes.{Scanned, lexeme, line_comment, block_comment, IsScanned}
 use Rattle.jsonc_text.specs.Places.{is_comment}
 pub use Rattle.jsonc_text.proofs.Gaps.{blanks_gap, gap_append}

@@ -1,15 +1,16 @@
 -- A parser among the items of a container.
-use Rattle.std.proofs.Common.{ℕ, suc, max, ◌+◌, ◌-◌, ◌<◌, ◌≤◌, ◌≡◌, sym, ap, subst, arith, List, [], ◌∷◌, ◌++◌, length, Option, Some, None, IsUtf8, IsCharBoundary}
+use Rattle.std.proofs.Common.{ℕ, Bool, true, false, ◌+◌, ◌-◌, ◌<◌, ◌≤◌, ◌≡◌, sym, ap, subst, refl, arith, List, [], ◌∷◌, ◌++◌, length, Option, Some, None, IsUtf8, IsCharBoundary}
 use Rattle.std.proofs.lemmas.Str.{IsUtf8-from_is_utf8}
 use Rattle.jsonc_text.specs.declared.common.Range.{Range}
 use Rattle.jsonc_text.specs.declared.tokens.Token.{Token}
 use Rattle.jsonc_text.specs.Text.{Spans}
 use Rattle.jsonc_text.specs.Gaps.{Gap}
 use Rattle.jsonc_text.specs.Grammar.{Separates, Closes}
-use Rattle.jsonc_text.specs.Plain.{around, items_around}
+use Rattle.jsonc_text.specs.Plain.{array, no_items}
 use Rattle.jsonc_ast.specs.declared.to_ast.context.Context.{Context}
 use Rattle.jsonc_ast.specs.to_ast.Context.{text_in, options_in, token_start, token_end, Keeps, IsBracket, Leads, IsToken}
 use Rattle.jsonc_ast.specs.Located.{Located, array_at, value_at, items_at, Between, One, Ends, Brackets, IsLocated, AreItems}
+use Rattle.jsonc_ast.specs.to_ast.Reached.{size, least}
 use Rattle.jsonc_ast.specs.to_ast.Reads.{Reads}
 use Rattle.jsonc_ast.specs.Views.{items_of}
 use Rattle.jsonc_ast.proofs.lemmas.to_ast.Elements as elements
@@ -25,6 +26,10 @@ brackets bytes a b r p q s e first last opening closing order opens closes =
       closes = subst (λ k. Between bytes (One b) k r.end) before (subst (λ k. Between bytes (One b) s k) (sym last) closes);
       order = omega arith;
     }
+
+empty_size : (whole : Bool) → size whole (array no_items) ≡ least whole
+empty_size true = refl
+empty_size false = refl
 
 module _ {A : Type 0} where
   -- the token that an item begins with, or the closing bracket
@@ -58,25 +63,25 @@ module _ {A : Type 0} where
   ElementsSoFar old now xs None = elements.Whole (options_in old) (text_in old) (token_end old) xs (token_end now)
   ElementsSoFar old now xs (Some t) = elements.Open (options_in old) (text_in old) (token_end old) xs (token_start now)
 
-  -- an array's elements so far, inside of so many containers and properties
-  pub record Elements (old now : Context A) (next : Option (Token A)) (xs : List Located) (count : ℕ) : Type 0 where
+  -- an array's elements so far, inside of so many of what counts
+  pub record Elements (whole : Bool) (old now : Context A) (next : Option (Token A)) (xs : List Located) (count : ℕ) : Type 0 where
     pub kept : Keeps old now
     pub hand : AtHand 0x5D now next
     pub on : token_end old ≤ token_start now
     pub so_far : ElementsSoFar old now xs next
-    pub within : items_around (items_at (items_of xs)) + count ≤ 512
+    pub within : size whole (array (items_at (items_of xs))) + count ≤ 512
 
   start_so_far : (old now : Context A) (next : Option (Token A)) → Leads (Gap (options_in old)) (Ends (options_in old) 0x5D) 0x5D old now next → ElementsSoFar old now [] next
   start_so_far old now None h = h.0
   start_so_far old now (Some t) h = elements.first_open (options_in old) (text_in old) (token_end old) (token_start now) h.0
 
-  pub elements_start : (old now : Context A) (next : Option (Token A)) (xs : List Located) (count : ℕ) → xs ≡ [] → Keeps old now → Leads (Gap (options_in old)) (Ends (options_in old) 0x5D) 0x5D old now next → count ≤ 512 → Elements old now next xs count
-  elements_start old now next xs count e kept h small = subst (λ l. Elements old now next l count) (sym e) (record {
+  pub elements_start : (whole : Bool) (old now : Context A) (next : Option (Token A)) (xs : List Located) (count : ℕ) → xs ≡ [] → Keeps old now → Leads (Gap (options_in old)) (Ends (options_in old) 0x5D) 0x5D old now next → count + least whole ≤ 512 → Elements whole old now next xs count
+  elements_start whole old now next xs count e kept h small = subst (λ l. Elements whole old now next l count) (sym e) (record {
     kept = kept;
     hand = leads_hand _ _ 0x5D old now next h;
     on = leads_on _ _ 0x5D old now next h;
     so_far = start_so_far old now next h;
-    within = omega (arith, small);
+    within = let none = empty_size whole in omega (arith, none, small);
   })
 
   module _ (old now mid new : Context A) (x : Located) (xs : List Located) (kept : Keeps old now) (read : Reads now mid x) (kept_mid : Keeps now mid) where
@@ -95,14 +100,14 @@ module _ {A : Type 0} where
         (moved (λ p b. Between b (Separates p) (token_end mid) (token_start new)) both.options both.text h.0)
 
   -- one more element
-  pub elements_turn : (old now mid new : Context A) (n next : Option (Token A)) (t : Token A) (x : Located) (xs ys : List Located) (count : ℕ) → Elements old now n xs count → n ≡ Some t
+  pub elements_turn : (whole : Bool) (old now mid new : Context A) (n next : Option (Token A)) (t : Token A) (x : Located) (xs ys : List Located) (count : ℕ) → Elements whole old now n xs count → n ≡ Some t
       → Keeps now mid → Reads now mid x → Keeps mid new → Leads (Separates (options_in mid)) (Closes (options_in mid) 0x5D) 0x5D mid new next
-      → ys ≡ xs ++ x ∷ [] → around (value_at x) + (count + 1) ≤ 512 → Elements old new next ys count
-  elements_turn old now mid new n next t x xs ys count inv is kept read further h grown small =
+      → ys ≡ xs ++ x ∷ [] → size whole (value_at x) + (count + 1) ≤ 512 → Elements whole old new next ys count
+  elements_turn whole old now mid new n next t x xs ys count inv is kept read further h grown small =
       let held = subst (ElementsSoFar old now xs) is inv.so_far in
-      let most : items_around (items_at (items_of (xs ++ x ∷ []))) ≡ max (items_around (items_at (items_of xs))) (suc (around (value_at x))) = elements.push_around xs x in
+      let most = elements.push_size whole xs x in
       let on : token_end mid ≤ token_start new = leads_on _ _ 0x5D mid new next h in
-      subst (λ l. Elements old new next l count) (sym grown) (record {
+      subst (λ l. Elements whole old new next l count) (sym grown) (record {
         kept = kept_on old now new inv.kept (kept_on now mid new kept further);
         hand = leads_hand _ _ 0x5D mid new next h;
         on = omega (arith, inv.on, now.scanner.order, read.on, on);
@@ -111,9 +116,9 @@ module _ {A : Type 0} where
       })
 
   -- the whole array
-  pub elements_whole : (old now : Context A) (n : Option (Token A)) (xs : List Located) (count : ℕ) (r : Range) → Elements old now n xs count → n ≡ None → IsBracket 0x5B old → r.start ≡ token_start old → r.end ≡ token_end now
+  pub elements_whole : (whole : Bool) (old now : Context A) (n : Option (Token A)) (xs : List Located) (count : ℕ) (r : Range) → Elements whole old now n xs count → n ≡ None → IsBracket 0x5B old → r.start ≡ token_start old → r.end ≡ token_end now
       → Reads old now (array_at r (items_of xs))
-  elements_whole old now n xs count r inv is opening first last =
+  elements_whole whole old now n xs count r inv is opening first last =
       let bytes = text_in old in
       let utf8 : IsUtf8 bytes = IsUtf8-from_is_utf8 bytes old.utf8 in
       let closing : Between bytes (One 0x5D) (token_start now) (token_end now) = subst (λ b. Between b (One 0x5D) (token_start now) (token_end now)) inv.kept.text (subst (AtHand 0x5D now) is inv.hand) in

@@ -1,11 +1,12 @@
 -- The properties of an object so far, and what is still to come.
-use Rattle.std.proofs.Common.{ℕ, suc, max, ◌≡◌, ◌∙◌, sym, ap, subst, refl, arith, List, [], ◌∷◌, ◌++◌}
+use Rattle.std.proofs.Common.{ℕ, Bool, true, false, suc, max, ◌+◌, ◌≡◌, ◌∙◌, sym, ap, subst, refl, arith, List, [], ◌∷◌, ◌++◌}
 use Rattle.jsonc_text.specs.Options.{Options}
 use Rattle.jsonc_text.specs.Gaps.{Gap}
 use Rattle.jsonc_text.specs.Grammar.{Separates, Closes}
-use Rattle.jsonc_text.specs.Plain.{around, members_around}
+use Rattle.jsonc_text.specs.Plain.{object, around, depth, members_around, members_depth}
 use Rattle.jsonc_ast.specs.Located.{LocatedMembers, no_members_at, member_at, range_at, value_at, members_at, Between, IsNamed, IsLocated, AreMembers, AreFurtherMembers}
 use Rattle.jsonc_ast.specs.Views.{LocatedMember, members_of}
+use Rattle.jsonc_ast.specs.to_ast.Reached.{size, per_property}
 
 -- the property m before others
 abbrev pub before : LocatedMember → LocatedMembers → LocatedMembers
@@ -24,9 +25,19 @@ prepend_none : (ms : List LocatedMember) → prepend ms no_members_at ≡ member
 prepend_none [] = refl
 prepend_none (m ∷ ms) = ap (before m) (prepend_none ms)
 
-pub push_around : (ms : List LocatedMember) (m : LocatedMember) → members_around (members_at (members_of (ms ++ m ∷ []))) ≡ max (members_around (members_at (members_of ms))) (suc (suc (around (value_at m.value))))
+push_around : (ms : List LocatedMember) (m : LocatedMember) → members_around (members_at (members_of (ms ++ m ∷ []))) ≡ max (members_around (members_at (members_of ms))) (suc (suc (around (value_at m.value))))
 push_around [] m = omega arith
 push_around (z ∷ ms) m = omega (arith, push_around ms m)
+
+push_depth : (ms : List LocatedMember) (m : LocatedMember) → members_depth (members_at (members_of (ms ++ m ∷ []))) ≡ max (members_depth (members_at (members_of ms))) (depth (value_at m.value))
+push_depth [] m = omega arith
+push_depth (z ∷ ms) m = omega (arith, push_depth ms m)
+
+-- what counts of one property more
+pub push_size : (whole : Bool) (ms : List LocatedMember) (m : LocatedMember)
+    → size whole (object (members_at (members_of (ms ++ m ∷ [])))) ≡ max (size whole (object (members_at (members_of ms)))) (suc (size whole (value_at m.value) + per_property whole))
+push_size true ms m = let most = push_around ms m in omega (arith, most)
+push_size false ms m = let most = push_depth ms m in omega (arith, most)
 
 -- a property in its range
 pub record IsProperty (o : Options) (bytes : List ℕ) (m : LocatedMember) : Type 0 where

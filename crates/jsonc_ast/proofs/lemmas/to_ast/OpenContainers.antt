@@ -1,6 +1,4 @@
 -- Reading on in a container.
-use Rattle.jsonc_ast.specs.declared.ast.ObjectPropName.{ObjectPropName}
-use Rattle.jsonc_ast.specs.to_ast.Written.{IsLentHere, AreWrittenIn}
 use Rattle.std.proofs.Common.{ℕ, suc, ◌+◌, ◌<◌, ◌≤◌, ◌≡◌, ◌≢◌, ◌∙◌, sym, ap, subst, refl, Bool, true, false, List, [], ◌∷◌, length, Option, Some, None, IfSome, ◌⊎◌, inl, inr, arith, IsTrue, nat_lt}
 use Rattle.jsonc_text.specs.declared.errors.ParseError.{ParseError}
 use Rattle.jsonc_text.specs.declared.errors.ParseErrorKind.TheVariants.{NestingDepthExceeded, ExpectedObjectValue, MultipleRootJsonValues}
@@ -13,22 +11,17 @@ use Rattle.jsonc_text.specs.Options.{Options}
 use Rattle.jsonc_text.specs.Plain.{Plain}
 use Rattle.jsonc_text.specs.Text.{rest}
 use Rattle.jsonc_text.specs.Tokens.{scanned_of}
-use Rattle.jsonc_ast.specs.Located.{Located, LocatedName}
-use Rattle.jsonc_ast.specs.Views.{LocatedMember}
+use Rattle.jsonc_ast.specs.Located.{LocatedName}
 use Rattle.jsonc_ast.specs.declared.to_ast.container.Container.{Container}
 use Rattle.jsonc_ast.specs.declared.to_ast.container.Container.TheVariants.{Array, Object}
 use Rattle.jsonc_ast.specs.declared.to_ast.context.Context.{Context}
 use Rattle.jsonc_ast.specs.to_ast.Containers.{opening, closing}
-use Rattle.jsonc_ast.specs.to_ast.Collected.{Collects}
 use Rattle.jsonc_ast.specs.to_ast.Context.{text_in, options_in, token_start, token_end, token_range, Keeps, IsToken, IsBracket, LeadsToFirst, LeadsToNext, IsNameHere, PassesColon, Finds, IsNoComment, ClosesNone, Comes}
 use Rattle.jsonc_ast.specs.to_ast.Refusals.{IsAllocationFailure, after, here}
 use Rattle.jsonc_ast.specs.to_ast.Scanned.{begins_value, unexpected_kind}
-use Rattle.jsonc_ast.specs.to_ast.Reached.{Opened, container, property, Due, document, end, first, further, comma, colon, value, Place, at, first_item, further_item, without_comma, ValueMayCome, of_text, of_array, of_property, Step, opens, takes_comma, takes_name, takes_colon, ComesTo, containers, count, size, is_opening, is_deep}
+use Rattle.jsonc_ast.specs.to_ast.Reached.{Opened, container, property, Due, document, end, first, further, comma, colon, value, Place, at, first_item, further_item, without_comma, ValueMayCome, of_text, of_array, of_property, Step, opens, takes_comma, takes_name, takes_colon, ComesTo, containers, count, size, per_property, least, is_opening, is_deep}
 use Rattle.jsonc_ast.specs.to_ast.Faults.{fault, wrong_lexeme, wrong_ending, wrong, wrong_end, wrong_value, wrong_item, StopsAnyhow, is_mark, HasFaultFrom, fault_in, IsFrom, StopsAfter, StopsFrom, StopsAtItem, StopsAtValue, ItemStarts, ValueStarts, ContainerStarts, IsUnexpected, IsWrongName, ParseFault}
 use Rattle.jsonc_ast.proofs.lemmas.to_ast.Gaps.{stands}
-use Rattle.jsonc_ast.proofs.lemmas.to_ast.Loops.{Elements}
-use Rattle.jsonc_ast.proofs.lemmas.to_ast.NoValues.{ElementsLeft, PropertiesLeft}
-use Rattle.jsonc_ast.proofs.lemmas.to_ast.Properties.{Properties}
 use Rattle.jsonc_ast.proofs.lemmas.to_ast.ReadsValues.{leads_on, one_step, not_past, value_reads, property_reads}
 use Rattle.jsonc_ast.proofs.lemmas.to_ast.Scans.{moved, kept_on}
 use Rattle.jsonc_ast.proofs.lemmas.to_ast.Stopping.{no_mark, fault_at, lexeme_stops, gap_to_end, rest_nothing, at_end}
@@ -39,17 +32,10 @@ use Rattle.jsonc_text.proofs.CharacterSteps.{rest_end}
 abbrev pub Room : Bool → Container → ℕ → Type 0
 Room whole k n = (q : List Opened) → count whole q ≡ n → is_deep whole q (punctuation (opening k)) ≡ false
 
-pub room_whole : (k : Container) (n : ℕ) → n ≤ 512 → Room true k n
-room_whole k n h q many = not_past 512 (length q) (omega (arith, many, h))
-
-pub room_apart : (k : Container) (n : ℕ) → n + 1 ≤ 512 → Room false k n
-room_apart Array n h q many = not_past 511 (containers q) (omega (arith, many, h))
-room_apart Object n h q many = not_past 511 (containers q) (omega (arith, many, h))
-
--- how much a property counts
-abbrev pub per_property : Bool → ℕ
-per_property true = 1
-per_property false = 0
+pub has_room : (whole : Bool) (k : Container) (n : ℕ) → n + least whole ≤ 512 → Room whole k n
+has_room true k n h q many = not_past 512 (length q) (omega (arith, many, h))
+has_room false Array n h q many = not_past 511 (containers q) (omega (arith, many, h))
+has_room false Object n h q many = not_past 511 (containers q) (omega (arith, many, h))
 
 pub count_container : (whole : Bool) (k : Container) (a : List ℕ) (q : List Opened) → count whole (container k a ∷ q) ≡ count whole q + 1
 count_container true k a q = omega arith
@@ -416,23 +402,6 @@ module _ {A : Type 0} where
           lexeme_stops mid new f kept_on_new found no_comment u is l.0 l.1 e true (property (here old) ∷ q) value (deep_property_value q l.0 (here old) (rest (text_in mid) (token_start new)) (rest (text_in mid) (token_end new)) deep ∙ ap Some is_fault)
 
   -- the place that a container's fault is told from
-  pub from_old : (old mid : Context A) (start : ℕ) → start ≡ token_start old → Keeps old mid → IsFrom (text_in mid) (Some start) (here old)
-  from_old old mid start at_start kept = ap (rest (text_in old)) (sym at_start) ∙ ap (λ b. rest b start) (sym kept.text)
-
-  -- an array's elements so far, and what is left of it
-  pub record ElementsGoOn (old now : Context A) (next : Option (Token A)) (xs : List Located) (names : List (ObjectPropName A)) (n : ℕ) : Type 0 where
-    pub so_far : Elements old now next xs n
-    pub left : ElementsLeft old now next n
-    pub collects : Collects old now
-    pub reading : GoesOn true Array old now next n
-    pub lent : IsLentHere now next
-    pub written : AreWrittenIn old names
-
-  -- an object's properties
-  pub record PropertiesGoOn (old now : Context A) (next : Option (Token A)) (xs : List LocatedMember) (names : List (ObjectPropName A)) (n : ℕ) : Type 0 where
-    pub so_far : Properties old now next xs n
-    pub left : PropertiesLeft old now next n
-    pub collects : Collects old now
-    pub reading : GoesOn true Object old now next n
-    pub lent : IsLentHere now next
-    pub written : AreWrittenIn old names
+  pub from_old : (old mid : Context A) (start : Option ℕ) → IfSome start (λ i. i ≡ token_start old) → Keeps old mid → IsFrom (text_in mid) start (here old)
+  from_old old mid None at_start kept = tt
+  from_old old mid (Some start) at_start kept = ap (rest (text_in old)) (sym at_start) ∙ ap (λ b. rest b start) (sym kept.text)

@@ -3,7 +3,7 @@ use Rattle.std.proofs.Common.{ℕ, ◌≡◌, ◌∙◌, ◌++◌, sym, ap, subs
 use Rattle.std.specs.List.{flat_map}
 use Rattle.std.specs.declared.borrow.CowStr.{CowStr}
 use Rattle.std.proofs.lemmas.List.{map_push, append-nil}
-use Rattle.std.proofs.lemmas.List.Elements.{All-append, All-nil, All-cons}
+use Rattle.std.proofs.lemmas.List.Elements.{All-append}
 use Rattle.std.proofs.lemmas.List.Concat.{flat_map-cons}
 use Rattle.std.proofs.lemmas.Grind.{flat_map-append}
 use Rattle.jsonc_text.specs.declared.common.Range.{Range}
@@ -21,9 +21,9 @@ use Rattle.jsonc_ast.specs.declared.ast.Value.{Value}
 use Rattle.jsonc_ast.specs.Located.{Between, In}
 use Rattle.jsonc_ast.specs.Spelled.{spelled, spelled_in_property, spelled_in_elements, spelled_in_properties}
 use Rattle.jsonc_ast.specs.declared.to_ast.context.Context.{Context}
-use Rattle.jsonc_ast.specs.to_ast.Context.{text_in, options_in, token_range, IsToken, Keeps}
+use Rattle.jsonc_ast.specs.to_ast.Context.{text_in, options_in, token_range, IsToken}
 use Rattle.jsonc_ast.specs.to_ast.Scanned.{loose_text}
-use Rattle.jsonc_ast.specs.to_ast.Written.{IsWritten, AreWritten, AreWrittenIn, IsLentHere, spelled_of}
+use Rattle.jsonc_ast.specs.to_ast.Written.{IsWritten, AreWritten, IsLentHere}
 use Rattle.jsonc_ast.proofs.lemmas.to_ast.Gaps.{stands}
 
 none_same : (a : List ℕ) → None ≡ Some a → ⊥
@@ -52,46 +52,17 @@ module _ {A : Type 0} where
       (subst (λ t. Between (text_in c) (IsScanned (options_in c) (scanned_of t)) (start_of c.scanner) (end_of c.scanner)) is (here c t at), subst (λ t. IsLentHere c (Some t)) is lent) in
       subst (λ r. IsWritten (options_in c) (text_in c) (String (record { range = r; value = v }))) (sym e) written
 
-  -- what the last token is by itself
-  token_written : (c : Context A) (t : Token A) (r : Range) → IsToken c t → r ≡ token_range c → IsLentHere c (Some t) → AreWrittenIn c (spelled_of r t)
-  token_written c (token.String v) r at e lent =
-      let P = IsWritten {A = A} (options_in c) (text_in c) in
-      All-cons P (String (record { range = r; value = v })) [] (string_written c (token.String v) v r at refl e lent) (All-nil P)
-  token_written c token.OpenBrace r at e lent = All-nil (IsWritten (options_in c) (text_in c))
-  token_written c token.CloseBrace r at e lent = All-nil (IsWritten (options_in c) (text_in c))
-  token_written c token.OpenBracket r at e lent = All-nil (IsWritten (options_in c) (text_in c))
-  token_written c token.CloseBracket r at e lent = All-nil (IsWritten (options_in c) (text_in c))
-  token_written c token.Comma r at e lent = All-nil (IsWritten (options_in c) (text_in c))
-  token_written c token.Colon r at e lent = All-nil (IsWritten (options_in c) (text_in c))
-  token_written c token.Null r at e lent = All-nil (IsWritten (options_in c) (text_in c))
-  token_written c (token.Word s) r at e lent = All-nil (IsWritten (options_in c) (text_in c))
-  token_written c (token.Boolean b) r at e lent = All-nil (IsWritten (options_in c) (text_in c))
-  token_written c (token.Number s) r at e lent = All-nil (IsWritten (options_in c) (text_in c))
-  token_written c (token.CommentLine s) r at e lent = All-nil (IsWritten (options_in c) (text_in c))
-  token_written c (token.CommentBlock s) r at e lent = All-nil (IsWritten (options_in c) (text_in c))
-
-  pub leaf_written : (c : Context A) (t : Token A) (r : Range) (xs : List (ObjectPropName A)) → IsToken c t → xs ≡ spelled_of r t → r ≡ token_range c → IsLentHere c (Some t) → AreWrittenIn c xs
-  leaf_written c t r xs at is e lent = subst (AreWrittenIn c) (sym is) (token_written c t r at e lent)
-
-  -- what is written in a text is written in it whatever the parser has passed
-  pub still_written : (old now : Context A) (xs : List (ObjectPropName A)) → Keeps old now → AreWrittenIn now xs → AreWrittenIn old xs
-  still_written old now xs kept h = subst (λ o. AreWritten o (text_in old) xs) kept.options (subst (λ b. AreWritten (options_in now) b xs) kept.text h)
-
-  -- and so it is in the text that the parser was given, by its options
-  pub written_from_start : (c : Context A) (xs : List (ObjectPropName A)) (bytes : List ℕ) (o : Options) → text_in c ≡ bytes → options_in c ≡ o → AreWrittenIn c xs → AreWritten o bytes xs
-  written_from_start c xs bytes o text options h = subst (λ p. AreWritten p bytes xs) options (subst (λ b. AreWritten (options_in c) b xs) text h)
-
   joined : (xs : List (List (ObjectPropName A))) (x : List (ObjectPropName A)) → flat_map (λ names. names) (xs ++ x ∷ []) ≡ flat_map (λ names. names) xs ++ x
   joined xs x =
       flat_map-append (λ names. names) xs (x ∷ []) ∙ ap (λ r. flat_map (λ names. names) xs ++ r) (flat_map-cons (λ names. names) x [] ∙ append-nil x)
 
   -- one element more, and one property more
-  pub element_written : (c : Context A) (xs ys : List (Value A)) (v : Value A) → AreWrittenIn c (spelled_in_elements xs) → AreWrittenIn c (spelled v) → ys ≡ xs ++ v ∷ [] → AreWrittenIn c (spelled_in_elements ys)
-  element_written c xs ys v so_far one e =
+  pub element_written : (o : Options) (bytes : List ℕ) (xs ys : List (Value A)) (v : Value A) → AreWritten o bytes (spelled_in_elements xs) → AreWritten o bytes (spelled v) → ys ≡ xs ++ v ∷ [] → AreWritten o bytes (spelled_in_elements ys)
+  element_written o bytes xs ys v so_far one e =
       let grown = ap spelled_in_elements e ∙ ap (flat_map (λ names. names)) (map_push spelled xs v) ∙ joined (map spelled xs) (spelled v) in
-      subst (AreWrittenIn c) (sym grown) (All-append (IsWritten (options_in c) (text_in c)) (spelled_in_elements xs) (spelled v) so_far one)
+      subst (AreWritten o bytes) (sym grown) (All-append (IsWritten o bytes) (spelled_in_elements xs) (spelled v) so_far one)
 
-  pub property_written : (c : Context A) (xs ys : List (ObjectProp A)) (p : ObjectProp A) → AreWrittenIn c (spelled_in_properties xs) → AreWrittenIn c (spelled_in_property p) → ys ≡ xs ++ p ∷ [] → AreWrittenIn c (spelled_in_properties ys)
-  property_written c xs ys p so_far one e =
+  pub property_written : (o : Options) (bytes : List ℕ) (xs ys : List (ObjectProp A)) (p : ObjectProp A) → AreWritten o bytes (spelled_in_properties xs) → AreWritten o bytes (spelled_in_property p) → ys ≡ xs ++ p ∷ [] → AreWritten o bytes (spelled_in_properties ys)
+  property_written o bytes xs ys p so_far one e =
       let grown = ap spelled_in_properties e ∙ ap (flat_map (λ names. names)) (map_push spelled_in_property xs p) ∙ joined (map spelled_in_property xs) (spelled_in_property p) in
-      subst (AreWrittenIn c) (sym grown) (All-append (IsWritten (options_in c) (text_in c)) (spelled_in_properties xs) (spelled_in_property p) so_far one)
+      subst (AreWritten o bytes) (sym grown) (All-append (IsWritten o bytes) (spelled_in_properties xs) (spelled_in_property p) so_far one)

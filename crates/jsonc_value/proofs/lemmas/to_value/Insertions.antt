@@ -5,15 +5,11 @@ use Rattle.std.specs.declared.borrow.CowStr.{CowStr}
 use Rattle.jsonc_text.specs.Plain.{member}
 use Rattle.jsonc_text.proofs.TokenTexts.{same_bytes}
 use Rattle.jsonc_value.specs.declared.value.JsonValue.{JsonValue}
+use Rattle.jsonc_value.specs.to_value.Made.{AreTexts}
 use Rattle.jsonc_value.specs.to_value.Views.{plain, name_of, same_name, inserted, members_plain}
 use Rattle.jsonc_text.proofs.Collapse.{put}
 
 module _ {A : Type 0} where
-  -- the names are texts
-  abbrev pub AreTexts : List (CowStr A × JsonValue A) → Type 0
-  AreTexts [] = Unit {0}
-  AreTexts (p ∷ ps) = IsUtf8 (cow_str_bytes p.0) × AreTexts ps
-
   pub insert_texts : (ps : List (CowStr A × JsonValue A)) (k : CowStr A) (v : JsonValue A) → AreTexts ps → IsUtf8 (cow_str_bytes k) → AreTexts (inserted ps k v)
   insert_texts [] k v h u = (u, tt)
   insert_texts (p ∷ ps) k v h u = go (same_name k p.0) (insert_texts ps k v h.1 u)

@@ -1,0 +1,59 @@
+-- Syntax trees that a receiver makes, one item more at a time.
+use Rattle.std.proofs.Common.{◌≡◌, ◌∙◌, ◌++◌, ◌∷◌, [], sym, ap, subst, List, map}
+use Rattle.std.proofs.lemmas.List.{map_push}
+use Rattle.std.proofs.lemmas.List.Elements.{All-cons}
+use Rattle.jsonc_text.specs.declared.common.Range.{Range}
+use Rattle.jsonc_ast.specs.declared.ast.ObjectProp.{ObjectProp}
+use Rattle.jsonc_ast.specs.declared.ast.ObjectPropName.{ObjectPropName}
+use Rattle.jsonc_ast.specs.declared.ast.Value.{Value}
+use Rattle.jsonc_ast.specs.declared.to_ast.values.TreeMaker.{TreeMaker}
+use Rattle.jsonc_ast.specs.Located.{Located, LocatedName, array_at, object_at}
+use Rattle.jsonc_ast.specs.Spelled.{spelled, spelled_in_property, spelled_in_elements, spelled_in_properties}
+use Rattle.jsonc_ast.specs.Views.{LocatedMember, located, member_of, name_at, items_of, members_of, items_located, members_located}
+use Rattle.jsonc_ast.specs.to_ast.Handed.{Source}
+use Rattle.jsonc_ast.specs.to_ast.Trees.{source_in, AreProperties, AreTrees, IsName, IsTree}
+use Rattle.jsonc_ast.specs.to_ast.Written.{AreWritten, IsWritten}
+use Rattle.jsonc_ast.proofs.lemmas.to_ast.Spelling.{element_written, property_written}
+
+pushed : {X : Type 0} (xs : List X) (x y : X) → x ≡ y → xs ++ x ∷ [] ≡ xs ++ y ∷ []
+pushed xs x y e = ap (λ z. xs ++ z ∷ []) e
+
+module _ {A : Type 0} where
+  moved_written : (s m : Source) (names : List (ObjectPropName A)) → m ≡ s → AreWritten m.options m.bytes names → AreWritten s.options s.bytes names
+  moved_written s m names e h = subst (λ x. AreWritten x.options x.bytes names) e h
+
+  pub element_made : (s m old new : TreeMaker A) (xs ys : List (Value A)) (v : Value A) (ls : List Located) (x : Located) → AreTrees s m xs ls → IsTree m old v x → source_in new ≡ source_in old → ys ≡ xs ++ v ∷ [] → AreTrees s new ys (ls ++ x ∷ [])
+  element_made s m old new xs ys v ls x held made stays grown = record {
+    same = stays ∙ made.same ∙ held.same;
+    located = ap (map located) grown ∙ map_push located xs v ∙ ap (λ l. l ++ located v ∷ []) held.located ∙ pushed ls (located v) x made.located;
+    written = element_written (source_in s).options (source_in s).bytes xs ys v held.written (moved_written (source_in s) (source_in m) (spelled v) held.same made.written) grown;
+  }
+
+  pub array_made : (s old new : TreeMaker A) (vs : List (Value A)) (v : Value A) (r : Range) (xs : List Located) → AreTrees s old vs xs → source_in new ≡ source_in old → located v ≡ array_at r (items_located vs) → spelled v ≡ spelled_in_elements vs → IsTree s new v (array_at r (items_of xs))
+  array_made s old new vs v r xs held stays at spells = record {
+    same = stays ∙ held.same;
+    located = at ∙ ap (λ l. array_at r (items_of l)) held.located;
+    written = subst (AreWritten (source_in s).options (source_in s).bytes) (sym spells) held.written;
+  }
+
+  pub property_made : (s m k old new : TreeMaker A) (ps qs : List (ObjectProp A)) (p : ObjectProp A) (name : ObjectPropName A) (v : Value A) (r : Range) (ms : List LocatedMember) (n : LocatedName) (x : Located)
+      → AreProperties s m ps ms → IsName m k name n → IsTree k old v x → source_in new ≡ source_in old → member_of p ≡ record { range = r; name = name_at name; value = located v } → spelled_in_property p ≡ name ∷ spelled v
+      → qs ≡ ps ++ p ∷ [] → AreProperties s new qs (ms ++ record { range = r; name = n; value = x } ∷ [])
+  property_made s m k old new ps qs p name v r ms n x held named made stays at spells grown =
+      let o = (source_in s).options in
+      let b = (source_in s).bytes in
+      let key : IsWritten o b name = subst (λ q. IsWritten q.options q.bytes name) held.same named.written in
+      let value = moved_written (source_in s) (source_in k) (spelled v) (named.same ∙ held.same) made.written in
+      record {
+        same = stays ∙ made.same ∙ named.same ∙ held.same;
+        located = ap (map member_of) grown ∙ map_push member_of ps p ∙ ap (λ l. l ++ member_of p ∷ []) held.located
+            ∙ pushed ms (member_of p) (record { range = r; name = n; value = x }) (at ∙ ap (λ y. record { range = r; name = y; value = located v }) named.located ∙ ap (λ y. record { range = r; name = n; value = y }) made.located);
+        written = property_written o b ps qs p held.written (subst (AreWritten o b) (sym spells) (All-cons (IsWritten o b) name (spelled v) key value)) grown;
+      }
+
+  pub object_made : (s old new : TreeMaker A) (ps : List (ObjectProp A)) (v : Value A) (r : Range) (ms : List LocatedMember) → AreProperties s old ps ms → source_in new ≡ source_in old → located v ≡ object_at r (members_located ps) → spelled v ≡ spelled_in_properties ps → IsTree s new v (object_at r (members_of ms))
+  object_made s old new ps v r ms held stays at spells = record {
+    same = stays ∙ held.same;
+    located = at ∙ ap (λ l. object_at r (members_of l)) held.located;
+    written = subst (AreWritten (source_in s).options (source_in s).bytes) (sym spells) held.written;
+  }

@@ -1,0 +1,34 @@
+use Rattle.std.proofs.Common.{ap, sym, refl, ◌∙◌, None, option_map, inr}
+use Rattle.jsonc_text.specs.Tokens.{scanned_of}
+use Rattle.jsonc_ast.specs.Located.{leaf_at}
+use Rattle.jsonc_scan.specs.Found.{token_held}
+use Rattle.jsonc_scan.specs.Scanner.{start_of, end_of}
+use Rattle.jsonc_ast.specs.to_ast.Context.{last}
+use Rattle.jsonc_ast.specs.to_ast.Scanned.{unexpected_kind}
+use Rattle.jsonc_ast.proofs.lemmas.to_ast.NoValues.{no_literal_here}
+use Rattle.jsonc_ast.proofs.lemmas.to_ast.Stopping.{is_unexpected}
+use Rattle.jsonc_ast.proofs.lemmas.to_ast.Leaves.{leaf_reads}
+use Rattle.jsonc_ast.proofs.to_ast.walk.parse_leaf.Goals as goal
+
+pub returns-in_default-found-clause-refused : goal.returns-in_default-found-clause-refused
+returns-in_default-found-clause-refused g c =
+    let old = c.args.context.now in
+    let t = last old c.args.token in
+    let none = rw c.in_default-found.is at c.in-Ok.ensures.none in
+    inr (no_literal_here old t None c.range-range.result c.requires.token refl (ap (option_map (leaf_at c.range-range.result)) (sym none)))
+
+pub returns-in_default-found-clause-error : goal.returns-in_default-found-clause-error
+returns-in_default-found-clause-error g c = λ opens.
+    let old = c.args.context.now in
+    let t = last old c.args.token in
+    let none = rw c.in_default-found.is at c.in-Ok.ensures.none in
+    let stays = rw c.in_default-found.is at c.in-Ok.ensures.stays in
+    inr (is_unexpected old t c.fault_here.result opens none
+    (c.fault_here.ensures.kind ∙ c.unexpected-kind.ensures.kind ∙ ap (λ x. unexpected_kind (scanned_of (token_held c.args.token x))) stays)
+    (c.fault_here.ensures.range ∙ ap (λ s. record { start = start_of s; end = end_of s }) c.leaf.ensures.gives.scanner))
+
+pub returns-clause-found : goal.returns-clause-found
+returns-clause-found g c =
+    let old = c.args.context.now in
+    let made = rw c.in-Some.is at c.in-Ok.ensures.made in
+    leaf_reads old (last old c.args.token) (g.R.Receiver.makes c.args.to.now c.leaf.new.to c.in-Some.value) c.range-range.result c.requires.token made c.range-range.ensures

@@ -1,0 +1,148 @@
+use Rattle.std.proofs.Common.{◌∙◌, [], ap, inr, refl, subst, arith}
+use Rattle.jsonc_text.specs.Faults.{IsFault}
+use Rattle.jsonc_ast.specs.Located.{value_at}
+use Rattle.jsonc_ast.specs.to_ast.Context.{last, found_in, text_in, options_in}
+use Rattle.jsonc_ast.specs.to_ast.Reached.{document}
+use Rattle.jsonc_ast.specs.to_ast.Refusals.{Refuses}
+use Rattle.jsonc_ast.specs.to_ast.Faults.{ParseFault}
+use Rattle.jsonc_ast.proofs.lemmas.to_ast.MovedTokens.{none_found}
+use Rattle.jsonc_ast.proofs.lemmas.to_ast.Leaves.{empty_document, value_document}
+use Rattle.jsonc_ast.proofs.lemmas.to_ast.NoValues.{value_read, document_no_token, document_no_value, document_no_end, document_goes_on, document_from_start}
+use Rattle.jsonc_ast.proofs.lemmas.to_ast.Refusals.{err_of, still}
+use Rattle.jsonc_ast.proofs.lemmas.to_ast.Scans.{kept_on}
+use Rattle.jsonc_ast.proofs.lemmas.to_ast.OpenContainers.{root_stops, end_stops, second_stops, text_stops}
+use Rattle.jsonc_ast.proofs.lemmas.to_ast.Stopping.{stops_here}
+use Rattle.jsonc_ast.proofs.lemmas.to_ast.Walks.{root_counts, root_fits}
+use Rattle.jsonc_ast.proofs.lemmas.to_ast.Collecting.{collects_turn}
+use Rattle.jsonc_scan.specs.Scanner.{StandsAt}
+use Rattle.jsonc_ast.proofs.to_ast.walk.read_document.Goals as goal
+
+pub returns-in_default-clause-found : goal.returns-in_default-clause-found
+returns-in_default-clause-found g c = empty_document c.args.context.now c.scan.new.self (found_in c.scan.new.self c.in_ok-token.field-0) c.requires.start c.scan.ensures.kept c.in_ok-token.ensures.found (ap (found_in c.scan.new.self) c.in_default.is)
+
+pub returns-clause-found : goal.returns-clause-found
+returns-clause-found g c =
+    let old = c.args.context.now in
+    let now = c.scan.new.self in
+    let mid = c.parse_value.new.context in
+    let end = c.scan-2.new.self in
+    let read = c.in_ok-value.ensures.found in (
+      read.value,
+      value_document old now mid end (found_in now c.in_ok-token.field-0) (found_in end c.in_ok-scan.field-0) read.value c.requires.start
+          c.scan.ensures.kept c.in_ok-token.ensures.found c.in_ok-value.ensures.kept read.reads c.scan-2.ensures.kept c.in_ok-scan.ensures.found (ap (found_in end) c.in-None.is),
+      omega (arith, read.within),
+      read.made,
+    )
+
+pub returns-clause-kept : goal.returns-clause-kept
+returns-clause-kept g c =
+    let mid = c.parse_value.new.context in
+    kept_on c.args.context.now c.scan.new.self c.scan-2.new.self c.scan.ensures.kept (kept_on c.scan.new.self mid c.scan-2.new.self c.in_ok-value.ensures.kept c.scan-2.ensures.kept)
+
+pub returns-in_err-token-clause-refused : goal.returns-in_err-token-clause-refused
+returns-in_err-token-clause-refused g c =
+    let old = c.args.context.now in
+    let e = c.in_err-token.field-0.0 in
+    err_of (Refuses (options_in old) g.R.Receiver.whole (text_in old)) e c.from_residual.result c.from_residual.ensures.1
+    (still (λ n. document_from_start g.R.Receiver.whole old _ _ c.requires.start refl refl (document_no_token g.R.Receiver.whole old n)) c.in_err-token.ensures.refused)
+
+pub returns-in_err-value-clause-refused : goal.returns-in_err-value-clause-refused
+returns-in_err-value-clause-refused g c =
+    let old = c.args.context.now in
+    let now = c.scan.new.self in
+    let read = c.in_ok-token.ensures in
+    let e = c.in_err-value.field-0.0 in
+    err_of (Refuses (options_in old) g.R.Receiver.whole (text_in old)) e c.from_residual-in_err-value.result c.from_residual-in_err-value.ensures.1
+    (still (λ n. document_from_start g.R.Receiver.whole old _ _ c.requires.start refl refl (document_no_value g.R.Receiver.whole old now (found_in c.scan.new.self c.in_ok-token.field-0) c.scan.ensures.kept read.found read.lexeme (last c.scan.new.self c.in-Some.token) (ap (found_in c.scan.new.self) c.in-Some.is) n)) c.in_err-value.ensures.refused)
+
+pub returns-in_err-scan-clause-refused : goal.returns-in_err-scan-clause-refused
+returns-in_err-scan-clause-refused g c =
+    let old = c.args.context.now in
+    let now = c.scan.new.self in
+    let read = c.in_ok-token.ensures in
+    let value = c.in_ok-value.ensures in
+    let e = c.in_err-scan.field-0.0 in
+    err_of (Refuses (options_in old) g.R.Receiver.whole (text_in old)) e c.from_residual-in_err-scan.result c.from_residual-in_err-scan.ensures.1
+    (still
+    (λ n. document_from_start g.R.Receiver.whole old _ _ c.requires.start refl refl (document_no_end g.R.Receiver.whole old now (found_in c.scan.new.self c.in_ok-token.field-0) c.scan.ensures.kept read.found read.lexeme (last c.scan.new.self c.in-Some.token) (ap (found_in c.scan.new.self) c.in-Some.is) c.parse_value.new.context value.found.value value.kept value.found.reads n)) c.in_err-scan.ensures.refused)
+
+pub returns-in_default-2-clause-refused : goal.returns-in_default-2-clause-refused
+returns-in_default-2-clause-refused g c =
+    let old = c.args.context.now in
+    let read = c.in_ok-token.ensures in
+    let value = c.in_ok-value.ensures in
+    let over = c.in_ok-scan.ensures in
+    inr (document_from_start g.R.Receiver.whole old _ _ c.requires.start refl refl
+    (document_goes_on g.R.Receiver.whole old c.scan.new.self (found_in c.scan.new.self c.in_ok-token.field-0) c.scan.ensures.kept read.found read.lexeme (last c.scan.new.self c.in-Some.token) (ap (found_in c.scan.new.self) c.in-Some.is) c.parse_value.new.context value.found.value value.kept value.found.reads
+    c.scan-2.new.self (found_in c.scan-2.new.self c.in_ok-scan.field-0) c.scan-2.ensures.kept over.found over.lexeme (λ e. c.in_default-2.not-None (none_found c.scan-2.new.self.content c.in_ok-scan.field-0 e))))
+
+pub returns-in_err-token-clause-error : goal.returns-in_err-token-clause-error
+returns-in_err-token-clause-error g c =
+    let old = c.args.context.now in
+    let e = c.in_err-token.field-0.0 in
+    err_of (ParseFault (options_in old) (text_in old) g.R.Receiver.whole) e c.from_residual.result c.from_residual.ensures.1
+    (text_stops g.R.Receiver.whole old _ _ e refl refl c.requires.start (stops_here old g.R.Receiver.whole [] document e c.in_err-token.ensures.error))
+
+pub returns-in_err-value-clause-error : goal.returns-in_err-value-clause-error
+returns-in_err-value-clause-error g c =
+    let old = c.args.context.now in
+    let read = c.in_ok-token.ensures in
+    let e = c.in_err-value.field-0.0 in
+    err_of (ParseFault (options_in old) (text_in old) g.R.Receiver.whole) e c.from_residual-in_err-value.result c.from_residual-in_err-value.ensures.1
+    (text_stops g.R.Receiver.whole old _ _ e refl refl c.requires.start
+    (root_stops g.R.Receiver.whole old c.scan.new.self (found_in c.scan.new.self c.in_ok-token.field-0) c.scan.ensures.kept read.found read.lexeme (last c.scan.new.self c.in-Some.token) (ap (found_in c.scan.new.self) c.in-Some.is) e (root_counts g.R.Receiver.whole) c.in_err-value.ensures.error))
+
+pub returns-in_err-scan-clause-error : goal.returns-in_err-scan-clause-error
+returns-in_err-scan-clause-error g c =
+    let old = c.args.context.now in
+    let read = c.in_ok-token.ensures in
+    let value = c.in_ok-value.ensures in
+    let e = c.in_err-scan.field-0.0 in
+    let x = value.found.value in
+    let mid = c.parse_value.new.context in
+    err_of (ParseFault (options_in old) (text_in old) g.R.Receiver.whole) e c.from_residual-in_err-scan.result c.from_residual-in_err-scan.ensures.1
+    (text_stops g.R.Receiver.whole old _ _ e refl refl c.requires.start
+    (end_stops g.R.Receiver.whole old c.scan.new.self (found_in c.scan.new.self c.in_ok-token.field-0) c.scan.ensures.kept read.found read.lexeme (last c.scan.new.self c.in-Some.token) (ap (found_in c.scan.new.self) c.in-Some.is) mid (value_at x) value.kept (value_read c.scan.new.self mid x value.found.reads) (root_fits g.R.Receiver.whole _ value.found.within) e c.in_err-scan.ensures.error))
+
+pub returns-in_default-2-clause-error : goal.returns-in_default-2-clause-error
+returns-in_default-2-clause-error g c =
+    let old = c.args.context.now in
+    let read = c.in_ok-token.ensures in
+    let value = c.in_ok-value.ensures in
+    let over = c.in_ok-scan.ensures in
+    let x = value.found.value in
+    let mid = c.parse_value.new.context in
+    text_stops g.R.Receiver.whole old _ _ c.fault_here.result refl refl c.requires.start
+    (second_stops g.R.Receiver.whole old c.scan.new.self (found_in c.scan.new.self c.in_ok-token.field-0) c.scan.ensures.kept read.found read.lexeme (last c.scan.new.self c.in-Some.token) (ap (found_in c.scan.new.self) c.in-Some.is) mid (value_at x) value.kept (value_read c.scan.new.self mid x value.found.reads) (root_fits g.R.Receiver.whole _ value.found.within)
+    c.scan-2.new.self (found_in c.scan-2.new.self c.in_ok-scan.field-0) c.scan-2.ensures.kept over.found over.lexeme (λ e. c.in_default-2.not-None (none_found c.scan-2.new.self.content c.in_ok-scan.field-0 e)) c.fault_here.result c.fault_here.ensures.kind c.fault_here.ensures.range)
+
+pub returns-in_err-token-clause-fault : goal.returns-in_err-token-clause-fault
+returns-in_err-token-clause-fault g c = err_of (IsFault (text_in c.args.context.now)) c.in_err-token.field-0.0 c.from_residual.result c.from_residual.ensures.1 c.in_err-token.ensures.fault
+
+pub returns-in_err-value-clause-fault : goal.returns-in_err-value-clause-fault
+returns-in_err-value-clause-fault g c =
+    let e = c.in_err-value.field-0.0 in
+    err_of (IsFault (text_in c.args.context.now)) e c.from_residual-in_err-value.result c.from_residual-in_err-value.ensures.1 (subst (λ b. IsFault b e) c.scan.ensures.kept.text c.in_err-value.ensures.fault)
+
+pub returns-in_err-scan-clause-fault : goal.returns-in_err-scan-clause-fault
+returns-in_err-scan-clause-fault g c =
+    let e = c.in_err-scan.field-0.0 in
+    err_of (IsFault (text_in c.args.context.now)) e c.from_residual-in_err-scan.result c.from_residual-in_err-scan.ensures.1
+    (subst (λ b. IsFault b e) (c.in_ok-value.ensures.kept.text ∙ c.scan.ensures.kept.text) c.in_err-scan.ensures.fault)
+
+pub returns-in_default-2-clause-fault : goal.returns-in_default-2-clause-fault
+returns-in_default-2-clause-fault g c =
+    let e = c.fault_here.result in
+    subst (λ b. IsFault b e) (c.scan-2.ensures.kept.text ∙ c.in_ok-value.ensures.kept.text ∙ c.scan.ensures.kept.text) c.fault_here.ensures.fault
+
+pub returns-in_default-clause-end : goal.returns-in_default-clause-end
+returns-in_default-clause-end g c = subst (StandsAt c.scan.new.self.scanner) (ap (found_in c.scan.new.self) c.in_default.is) c.in_ok-token.ensures.found.1
+
+pub returns-clause-end : goal.returns-clause-end
+returns-clause-end g c = subst (StandsAt c.scan-2.new.self.scanner) (ap (found_in c.scan-2.new.self) c.in-None.is) c.in_ok-scan.ensures.found.1
+
+pub returns-clause-collects : goal.returns-clause-collects
+returns-clause-collects g c =
+    let read = c.in_ok-token.ensures in
+    let value = c.in_ok-value.ensures in
+    collects_turn c.args.context.now c.scan.new.self c.parse_value.new.context c.scan-2.new.self read.kept read.collects value.kept value.collects c.in_ok-scan.ensures.collects

@@ -1,0 +1,98 @@
+-- What a walk over a text hands to a receiver, and what is made of it.
+use Rattle.std.specs.Prelude.{ℕ, ◌+◌, ◌-◌, ◌≤◌, ◌≡◌, ◌⊎◌, Bool, List, [], ◌∷◌, ◌++◌, Option, Some, None, option_map, chars, slice_range}
+use Rattle.jsonc_text.specs.declared.common.Range.{Range}
+use Rattle.jsonc_text.specs.declared.errors.ParseError.{ParseError}
+use Rattle.jsonc_text.specs.declared.tokens.Token.{Token}
+use Rattle.jsonc_text.specs.Lexemes.{LexemeKind, Lexeme, lexeme, string, number}
+use Rattle.jsonc_text.specs.Options.{Options}
+use Rattle.jsonc_text.specs.Tokens.{scanned_of}
+use Rattle.jsonc_text.specs.string.Escapes.{HoldsBackslash}
+use Rattle.jsonc_ast.specs.Located.{Located, leaf_at, value_at, In, IsLocatedDocument}
+use Rattle.jsonc_ast.specs.Views.{LocatedMember}
+use Rattle.jsonc_ast.specs.declared.to_ast.context.Context.{Context}
+use Rattle.jsonc_ast.specs.to_ast.Context.{text_in, options_in}
+use Rattle.jsonc_ast.specs.to_ast.Faults.{IsUnexpected}
+use Rattle.jsonc_ast.specs.to_ast.Reached.{size, per_property}
+use Rattle.jsonc_ast.specs.to_ast.Reads.{Reads, ReadsMember}
+use Rattle.jsonc_ast.specs.to_ast.Refusals.{IsAllocationFailure}
+use Rattle.jsonc_ast.specs.to_ast.Scanned.{leaf_value, loose_text}
+
+-- a text by its bytes, and what it may hold
+pub record Source : Type 0 where
+  pub bytes : List ℕ
+  pub options : Options
+
+-- the characters from one place to another
+abbrev pub chars_between : Source → ℕ → ℕ → List ℕ
+chars_between s i j = chars (slice_range s.bytes i j)
+
+-- the lexeme stands in the range
+abbrev pub HasLexeme : Source → LexemeKind → Range → Type 0
+HasLexeme s k r = In s.bytes (Lexeme s.options k) r
+
+-- a string without a backslash does: it means what stands between its quotes
+pub record HasPlainString (s : Source) (r : Range) : Type 0 where
+  pub stands : HasLexeme s (string (chars_between s (r.start + 1) (r.end - 1))) r
+  pub plain : HoldsBackslash s.bytes r.start r.end → ⊥
+
+-- a string with a backslash does, and means v
+pub record HasEscapedString (s : Source) (r : Range) (v : List ℕ) : Type 0 where
+  pub stands : HasLexeme s (string v) r
+  pub escaped : HoldsBackslash s.bytes r.start r.end
+
+-- a number does
+abbrev pub HasNumber : Source → Range → Type 0
+HasNumber s r = HasLexeme s (number (chars_between s r.start r.end)) r
+
+-- what may be a name without quotes does
+pub record HasLooseName (s : Source) (r : Range) : Type 0 where
+  pub kind : LexemeKind
+  pub stands : HasLexeme s kind r
+  pub text : loose_text (lexeme kind) ≡ Some (chars_between s r.start r.end)
+
+-- a token is a value by itself, and something is made of that
+pub record LeafMade {A : Type 0} (r : Range) (t : Token A) (is_made : Located → Type 0) : Type 0 where
+  pub leaf : Located
+  pub is : Some leaf ≡ option_map (leaf_at r) (leaf_value (scanned_of t))
+  pub made : is_made leaf
+
+module _ {A : Type 0} where
+  abbrev pub source_of : Context A → Source
+  source_of c = record { bytes = text_in c; options = options_in c }
+
+  -- a value was read, inside of so many of what counts, and something is made of it
+  pub record ReadsMade (old new : Context A) (whole : Bool) (count : ℕ) (is_made : Located → Type 0) : Type 0 where
+    pub value : Located
+    pub reads : Reads old new value
+    pub within : size whole (value_at value) + count ≤ 512
+    pub made : is_made value
+
+  -- a value was, and what held elements now holds this one too
+  pub record ElementMade (old new : Context A) (whole : Bool) (count : ℕ) (held holds_now : List Located → Type 0) : Type 0 where
+    pub element : Located
+    pub reads : Reads old new element
+    pub within : size whole (value_at element) + count ≤ 512
+    pub put : (xs : List Located) → held xs → holds_now (xs ++ element ∷ [])
+
+  -- a property was, and what held properties now holds this one too
+  pub record PropertyMade (old new : Context A) (whole : Bool) (count : ℕ) (held holds_now : List LocatedMember → Type 0) : Type 0 where
+    pub member : LocatedMember
+    pub reads : ReadsMember old new member
+    pub within : size whole (value_at member.value) + (count + per_property whole) ≤ 512
+    pub put : (ms : List LocatedMember) → held ms → holds_now (ms ++ member ∷ [])
+
+  -- the last token is a value by itself, and something is made of it
+  pub record ReadsLeaf (c : Context A) (is_made : Located → Type 0) : Type 0 where
+    pub leaf : Located
+    pub reads : Reads c c leaf
+    pub flat : (whole : Bool) → size whole (value_at leaf) ≡ 0
+    pub made : is_made leaf
+
+  -- allocation failed, or no value begins with the last token, and the fault says so
+  abbrev pub IsUnexpectedHere : Context A → Token A → ParseError → Type 0
+  IsUnexpectedHere c t e = IsAllocationFailure e ⊎ IsUnexpected c t e
+
+-- the text has no value; or it has one, which is small enough, and something is made of it
+abbrev pub IsDocumentMade : {I : Type 0} → Source → Bool → (I → Located → Type 0) → Option I → Type 0
+IsDocumentMade s whole makes None = IsLocatedDocument s.options s.bytes None
+IsDocumentMade s whole makes (Some i) = (x : Located) × IsLocatedDocument s.options s.bytes (Some x) × (size whole (value_at x) ≤ 512) × makes i x

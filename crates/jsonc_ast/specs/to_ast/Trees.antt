@@ -1,0 +1,38 @@
+-- What a receiver has made of a text, where that is a syntax tree.
+use Rattle.std.specs.Prelude.{◌≡◌, List, map}
+use Rattle.jsonc_text.specs.OptionsOf.{parse_options}
+use Rattle.jsonc_ast.specs.declared.ast.ObjectProp.{ObjectProp}
+use Rattle.jsonc_ast.specs.declared.ast.ObjectPropName.{ObjectPropName}
+use Rattle.jsonc_ast.specs.declared.ast.Value.{Value}
+use Rattle.jsonc_ast.specs.declared.to_ast.values.TreeMaker.{TreeMaker}
+use Rattle.jsonc_ast.specs.Located.{Located, LocatedName}
+use Rattle.jsonc_ast.specs.Spelled.{spelled, spelled_in_elements, spelled_in_properties}
+use Rattle.jsonc_ast.specs.Views.{LocatedMember, located, member_of, name_at}
+use Rattle.jsonc_ast.specs.to_ast.Handed.{Source}
+use Rattle.jsonc_ast.specs.to_ast.Written.{AreWritten, IsWritten}
+
+module _ {A : Type 0} where
+  abbrev pub source_in : TreeMaker A → Source
+  source_in m = record { bytes = m.text.now; options = parse_options m.options }
+
+  -- from the one state to the other the text stays, and the value is located so, its strings and names written as they are in the text
+  pub record IsTree (old new : TreeMaker A) (v : Value A) (x : Located) : Type 0 where
+    pub same : source_in new ≡ source_in old
+    pub located : located v ≡ x
+    pub written : AreWritten (source_in old).options (source_in old).bytes (spelled v)
+
+  pub record IsName (old new : TreeMaker A) (n : ObjectPropName A) (x : LocatedName) : Type 0 where
+    pub same : source_in new ≡ source_in old
+    pub located : name_at n ≡ x
+    pub written : IsWritten (source_in old).options (source_in old).bytes n
+
+  -- so are an array's elements and an object's properties
+  pub record AreTrees (old new : TreeMaker A) (vs : List (Value A)) (xs : List Located) : Type 0 where
+    pub same : source_in new ≡ source_in old
+    pub located : map located vs ≡ xs
+    pub written : AreWritten (source_in old).options (source_in old).bytes (spelled_in_elements vs)
+
+  pub record AreProperties (old new : TreeMaker A) (ps : List (ObjectProp A)) (ms : List LocatedMember) : Type 0 where
+    pub same : source_in new ≡ source_in old
+    pub located : map member_of ps ≡ ms
+    pub written : AreWritten (source_in old).options (source_in old).bytes (spelled_in_properties ps)

@@ -1,0 +1,161 @@
+//! What a walk over a text hands what it reads to.
+
+use jsonc_text::common::Range;
+use std::alloc::{AllocError, Allocator};
+
+/// A string that owns its characters.
+pub trait Text: Drop {
+    ghost use Rattle.std.specs.Prelude.{List, ℕ};
+
+    ghost chars_of: { Self → List ℕ };
+}
+
+impl<A: Allocator> Text for String<A> {
+    ghost use Rattle.std.specs.Prelude.{chars, string_bytes};
+
+    ghost chars_of = { λ s. chars (string_bytes s) };
+}
+
+/// What is made of a text as it is read. The receiver has the text itself, and is told of literals by their places.
+///
+/// Between two of its states an item is made of a value, and a property is named. An array or an object
+/// that was opened at one state holds elements or properties at a later one. It fails for want of memory alone.
+pub trait Receiver<S: Text> {
+    ghost use Rattle.std.specs.Prelude.{ℕ, ◌+◌, ◌-◌, ◌≡◌, Bool, List, [], ◌∷◌, ◌++◌, IfOk, OnOk};
+    ghost use Rattle.jsonc_text.specs.Plain.{string, number, boolean, null};
+    ghost use Rattle.jsonc_text.specs.Text.{Spans};
+    ghost use Rattle.jsonc_ast.specs.Located.{Located, LocatedName, leaf_at, array_at, object_at};
+    ghost use Rattle.jsonc_ast.specs.Views.{LocatedMember, items_of, members_of};
+    ghost use Rattle.jsonc_ast.specs.to_ast.Handed.{Source, chars_between, HasEscapedString, HasLooseName, HasNumber, HasPlainString};
+
+    type Item: Drop;
+
+    type Array: Drop;
+
+    type Object: Drop;
+
+    type Property: Drop;
+
+    ghost whole: { Bool };
+
+    /// The text, and its options.
+    ghost source: { Self → Source };
+
+    ghost makes: { Self → Self → Self.Item → Located → Type 0 };
+
+    ghost names: { Self → Self → Self.Property → LocatedName → Type 0 };
+
+    ghost holds_elements: { Self → Self → Self.Array → List Located → Type 0 };
+
+    ghost holds_properties: { Self → Self → Self.Object → List LocatedMember → Type 0 };
+
+    /// Whether properties count towards the depth beside containers. If so, faults of a container
+    /// are told from where it begins.
+    fn is_whole(&self) -> bool
+        ensures { result ≡ whole };
+
+    /// A string without a backslash: it means what stands between its quotes.
+    fn string(&mut self, range: Range) -> Result<Self::Item, AllocError>
+        requires inside { Spans (source self.old).bytes (range.start + 1) (range.end - 1) }
+        requires stands { HasPlainString (source self.old) range }
+        ensures kept { OnOk result (source self.new ≡ source self.old) }
+        ensures made { IfOk result (λ i. makes self.old self.new i
+            (leaf_at range (string (chars_between (source self.old) (range.start + 1) (range.end - 1))))) };
+
+    /// A string with a backslash, and what it means.
+    fn decoded(&mut self, range: Range, value: S) -> Result<Self::Item, AllocError>
+        requires { HasEscapedString (source self.old) range (S.chars_of value) }
+        ensures kept { OnOk result (source self.new ≡ source self.old) }
+        ensures made { IfOk result (λ i. makes self.old self.new i (leaf_at range (string (S.chars_of value)))) };
+
+    /// A number.
+    fn number(&mut self, range: Range) -> Result<Self::Item, AllocError>
+        requires inside { Spans (source self.old).bytes range.start range.end }
+        requires stands { HasNumber (source self.old) range }
+        ensures kept { OnOk result (source self.new ≡ source self.old) }
+        ensures made { IfOk result (λ i. makes self.old self.new i
+            (leaf_at range (number (chars_between (source self.old) range.start range.end)))) };
+
+    /// `true` or `false`.
+    fn boolean(&mut self, range: Range, value: bool) -> Result<Self::Item, AllocError>
+        ensures kept { OnOk result (source self.new ≡ source self.old) }
+        ensures made { IfOk result (λ i. makes self.old self.new i (leaf_at range (boolean value))) };
+
+    /// `null`.
+    fn null(&mut self, range: Range) -> Result<Self::Item, AllocError>
+        ensures kept { OnOk result (source self.new ≡ source self.old) }
+        ensures made { IfOk result (λ i. makes self.old self.new i (leaf_at range null)) };
+
+    /// The `[` of an array.
+    fn open_array(&mut self, start: usize) -> Result<Self::Array, AllocError>
+        ensures kept { OnOk result (source self.new ≡ source self.old) }
+        ensures held { IfOk result (λ a. holds_elements self.old self.new a []) };
+
+    /// An element of an array, behind the others.
+    fn element(&mut self, array: &mut Self::Array, item: Self::Item) -> Result<(), AllocError>
+        requires { (s : Self) × (m : Self) × (xs : List Located) × (x : Located) × holds_elements s m array.old xs
+            × makes m self.old item x }
+        ensures kept { OnOk result (source self.new ≡ source self.old) }
+        ensures held { OnOk result
+            ((s m : Self) (xs : List Located) (x : Located) → holds_elements s m array.old xs → makes m self.old item x
+            → holds_elements s self.new array.new (xs ++ x ∷ [])) };
+
+    /// The array of these elements, whose `]` was read.
+    fn close_array(&mut self, array: Self::Array, range: Range) -> Result<Self::Item, AllocError>
+        requires { (s : Self) × (xs : List Located) × holds_elements s self.old array xs }
+        ensures kept { OnOk result (source self.new ≡ source self.old) }
+        ensures made { IfOk result
+            (λ i. (s : Self) (xs : List Located) → holds_elements s self.old array xs
+            → makes s self.new i (array_at range (items_of xs))) };
+
+    /// The `{` of an object.
+    fn open_object(&mut self, start: usize) -> Result<Self::Object, AllocError>
+        ensures kept { OnOk result (source self.new ≡ source self.old) }
+        ensures held { IfOk result (λ o. holds_properties self.old self.new o []) };
+
+    /// A name in quotes without a backslash.
+    fn string_name(&mut self, range: Range) -> Result<Self::Property, AllocError>
+        requires inside { Spans (source self.old).bytes (range.start + 1) (range.end - 1) }
+        requires stands { HasPlainString (source self.old) range }
+        ensures kept { OnOk result (source self.new ≡ source self.old) }
+        ensures named { IfOk result (λ p. names self.old self.new p
+            (record { range = range; name = chars_between (source self.old) (range.start + 1) (range.end - 1) })) };
+
+    /// A name in quotes with a backslash, and what it means.
+    fn decoded_name(&mut self, range: Range, value: S) -> Result<Self::Property, AllocError>
+        requires { HasEscapedString (source self.old) range (S.chars_of value) }
+        ensures kept { OnOk result (source self.new ≡ source self.old) }
+        ensures named { IfOk result (λ p. names self.old self.new p (record { range = range; name = S.chars_of value })) };
+
+    /// A name without quotes.
+    fn word_name(&mut self, range: Range) -> Result<Self::Property, AllocError>
+        requires inside { Spans (source self.old).bytes range.start range.end }
+        requires stands { HasLooseName (source self.old) range }
+        ensures kept { OnOk result (source self.new ≡ source self.old) }
+        ensures named { IfOk result (λ p. names self.old self.new p
+            (record { range = range; name = chars_between (source self.old) range.start range.end })) };
+
+    /// A property of an object, put among the others.
+    fn property(
+        &mut self,
+        object: &mut Self::Object,
+        property: Self::Property,
+        item: Self::Item,
+        range: Range,
+    ) -> Result<(), AllocError>
+        requires { (s : Self) × (m : Self) × (k : Self) × (ms : List LocatedMember) × (n : LocatedName) × (x : Located)
+            × holds_properties s m object.old ms × names m k property n × makes k self.old item x }
+        ensures kept { OnOk result (source self.new ≡ source self.old) }
+        ensures held { OnOk result
+            ((s m k : Self) (ms : List LocatedMember) (n : LocatedName) (x : Located) → holds_properties s m object.old ms
+            → names m k property n → makes k self.old item x
+            → holds_properties s self.new object.new (ms ++ record { range = range; name = n; value = x } ∷ [])) };
+
+    /// The object of these properties, whose `}` was read.
+    fn close_object(&mut self, object: Self::Object, range: Range) -> Result<Self::Item, AllocError>
+        requires { (s : Self) × (ms : List LocatedMember) × holds_properties s self.old object ms }
+        ensures kept { OnOk result (source self.new ≡ source self.old) }
+        ensures made { IfOk result
+            (λ i. (s : Self) (ms : List LocatedMember) → holds_properties s self.old object ms
+            → makes s self.new i (object_at range (members_of ms))) };
+}

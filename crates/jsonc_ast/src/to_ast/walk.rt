@@ -1,0 +1,440 @@
+//! The walk over a text, by recursive descent, whatever is made of it.
+ghost use Rattle.std.specs.Prelude.{List, ◌≡◌, ◌+◌, ◌≤◌, ◌<◌, IfOk, IfErr, OnOk, IfSome, IfNone, IsTrue, true, false, chars, is_some};
+ghost use Rattle.std.specs.Cow.{cow_str_bytes};
+ghost use Rattle.std.specs.Str.{IsUtf8};
+ghost use Rattle.jsonc_text.specs.Faults.{IsFault, IsOutOfMemory};
+ghost use Rattle.jsonc_text.specs.Plain.{string};
+ghost use Rattle.jsonc_text.specs.Tokens.{scanned_of};
+ghost use Rattle.jsonc_ast.specs.Located.{Located, leaf_at};
+ghost use Rattle.jsonc_ast.specs.Views.{LocatedMember, name_at};
+ghost use Rattle.jsonc_ast.specs.declared.ast.ObjectPropName.TheVariants.{String as quoted};
+ghost use Rattle.jsonc_ast.specs.declared.to_ast.container.Container.TheVariants.{Object};
+ghost use Rattle.jsonc_ast.specs.to_ast.Collected.{Collects};
+ghost use Rattle.jsonc_ast.specs.to_ast.Context.{text_in, options_in, token_end, token_range, Keeps, AtEnd, IsToken, IsBracket, OpensNone, GivesAway, last};
+ghost use Rattle.jsonc_ast.specs.to_ast.Faults.{ParseFault, StopsAtContainer, StopsAtItem, StopsAtValue};
+ghost use Rattle.jsonc_ast.specs.to_ast.Handed.{source_of, ElementMade, IsDocumentMade, IsUnexpectedHere, LeafMade, PropertyMade, ReadsLeaf, ReadsMade};
+ghost use Rattle.jsonc_ast.specs.to_ast.Reached.{least, per_property};
+ghost use Rattle.jsonc_ast.specs.to_ast.Refusals.{NoLiteral, NoPropertyHere, NoValueHere, OutOfMemoryOr, Refuses};
+ghost use Rattle.jsonc_ast.specs.to_ast.Scanned.{leaf_value};
+ghost use Rattle.jsonc_ast.specs.to_ast.Written.{IsLentHere, IsWritten};
+
+use crate::ast::{ObjectPropName, StringLit};
+use crate::to_ast::container::Container;
+use crate::to_ast::context::{Context, MAXIMUM_NESTING};
+use crate::to_ast::receiver::Receiver;
+use jsonc_scan::found::TokenKind;
+use jsonc_text::common::Range;
+use jsonc_text::errors::{ParseError, ParseErrorKind};
+use std::alloc::{AllocError, Allocator};
+use std::borrow::CowStr;
+
+// The error of an allocation failure. It is cold, so that it takes no room where items are made.
+#[cold]
+fn no_memory<'a, A: Allocator + Copy>(context: &Context<'a, A>) -> ParseError
+    ensures fault { IsFault (text_in context.now) result }
+    ensures memory { IsOutOfMemory result }
+{
+    context.out_of_memory()
+}
+
+// Whether no container may begin inside of so many, where containers alone count.
+#[inline(always)]
+fn opens_too_deep<A: Allocator, R: Receiver<String<A>>>(to: &R, around: usize) -> bool
+    requires { around ≤ 512 }
+    ensures apart { IsTrue result → R.whole ≡ false }
+    ensures deep { IsTrue result → 512 < around + least R.whole }
+    ensures within { result ≡ false → around + least R.whole ≤ 512 }
+{
+    !to.is_whole() && around >= MAXIMUM_NESTING
+}
+
+// Whether so many are around an element's array, or around a property, that its value is too deep, where
+// properties count.
+#[inline(always)]
+fn holds_too_deep<A: Allocator, R: Receiver<String<A>>>(to: &R, around: usize) -> bool
+    requires { around + least R.whole ≤ 513 }
+    ensures whole { IsTrue result → R.whole ≡ true }
+    ensures deep { IsTrue result → 512 < around + 1 }
+    ensures within { result ≡ false → around + per_property R.whole ≤ 512 }
+{
+    to.is_whole() && around >= MAXIMUM_NESTING
+}
+
+// How many are around a property's value, where so many are around the property.
+#[inline(always)]
+fn around_value<A: Allocator, R: Receiver<String<A>>>(to: &R, around: usize) -> usize
+    requires { around + per_property R.whole ≤ 512 }
+    ensures { result ≡ around + per_property R.whole }
+{
+    if to.is_whole() { around + 1 } else { around }
+}
+
+// The place that faults of a container are told from: where it begins, or else where they stand.
+#[inline(always)]
+fn told_from<A: Allocator, R: Receiver<String<A>>>(to: &R, start: usize) -> Option<usize>
+    ensures some { is_some result ≡ R.whole }
+    ensures place { IfSome result (λ i. i ≡ start) }
+{
+    if to.is_whole() { Some(start) } else { None }
+}
+
+// A string, handed over: by its place where it has no backslash.
+#[inline(always)]
+fn hand_string<'a, A: Allocator, R: Receiver<String<A>>>(
+    to: &mut R,
+    range: Range,
+    value: CowStr<'a, A>,
+) -> Result<R::Item, AllocError>
+    requires utf8 { IsUtf8 (R.source to.old).bytes }
+    requires written { IsWritten (R.source to.old).options (R.source to.old).bytes (quoted (record { range = range; value = value })) }
+    ensures source { OnOk result (R.source to.new ≡ R.source to.old) }
+    ensures made { IfOk result (λ i. R.makes to.old to.new i (leaf_at range (string (chars (cow_str_bytes value.entry))))) }
+{
+    match value {
+        CowStr::Borrowed(_) => to.string(range),
+        CowStr::Owned(value) => to.decoded(range, value),
+    }
+}
+
+// A name, handed over so.
+#[inline(always)]
+fn hand_name<'a, A: Allocator, R: Receiver<String<A>>>(
+    to: &mut R,
+    name: ObjectPropName<'a, A>,
+) -> Result<R::Property, AllocError>
+    requires utf8 { IsUtf8 (R.source to.old).bytes }
+    requires written { IsWritten (R.source to.old).options (R.source to.old).bytes name }
+    ensures source { OnOk result (R.source to.new ≡ R.source to.old) }
+    ensures named { IfOk result (λ p. R.names to.old to.new p (name_at name.entry)) }
+{
+    match name {
+        ObjectPropName::Word(word) => to.word_name(word.range),
+        ObjectPropName::String(string) => {
+            let StringLit { range, value } = string;
+            match value {
+                CowStr::Borrowed(_) => to.string_name(range),
+                CowStr::Owned(value) => to.decoded_name(range, value),
+            }
+        }
+    }
+}
+
+// What the last token is by itself, handed over. A string is given away.
+#[inline(always)]
+fn leaf<'a, A: Allocator + Copy, R: Receiver<String<A>>>(
+    context: &mut Context<'a, A>,
+    to: &mut R,
+    token: TokenKind,
+    range: Range,
+) -> Result<Option<R::Item>, AllocError>
+    requires token { IsToken context.old (last context.old token) }
+    requires lent { IsLentHere context.old (Some (last context.old token)) }
+    requires place { range ≡ token_range context.old }
+    requires source { R.source to.old ≡ source_of context.old }
+    ensures source { OnOk result (R.source to.new ≡ R.source to.old) }
+    ensures gives { GivesAway context.old context.new }
+    ensures made { IfOk result
+        (λ f. IfSome f (λ i. LeafMade range (last context.old token) (R.makes to.old to.new i))) }
+    ensures none { IfOk result (λ f. IfNone f (leaf_value (scanned_of (last context.old token)) ≡ None)) }
+    ensures stays { IfOk result (λ f. IfNone f (context.new.content ≡ context.old.content)) }
+{
+    match token {
+        TokenKind::String => {
+            let value = context.content.take_string();
+            let item = hand_string(to, range, value)?;
+            Ok(Some(item))
+        }
+        TokenKind::Number => {
+            let item = to.number(range)?;
+            Ok(Some(item))
+        }
+        TokenKind::True => {
+            let item = to.boolean(range, true)?;
+            Ok(Some(item))
+        }
+        TokenKind::False => {
+            let item = to.boolean(range, false)?;
+            Ok(Some(item))
+        }
+        TokenKind::Null => {
+            let item = to.null(range)?;
+            Ok(Some(item))
+        }
+        _ => Ok(None),
+    }
+}
+
+// The value that the last token is by itself.
+#[inline(always)]
+fn parse_leaf<'a, A: Allocator + Copy, R: Receiver<String<A>>>(
+    context: &mut Context<'a, A>,
+    to: &mut R,
+    token: TokenKind,
+) -> Result<R::Item, ParseError>
+    requires token { IsToken context.old (last context.old token) }
+    requires lent { IsLentHere context.old (Some (last context.old token)) }
+    requires source { R.source to.old ≡ source_of context.old }
+    ensures source { OnOk result (R.source to.new ≡ R.source to.old) }
+    ensures gives { GivesAway context.old context.new }
+    ensures found { IfOk result (λ i. ReadsLeaf context.old (R.makes to.old to.new i)) }
+    ensures refused { IfErr result (OutOfMemoryOr (NoLiteral context.old)) }
+    ensures fault { IfErr result (IsFault (text_in context.old)) }
+    ensures error { IfErr result (λ e. OpensNone (last context.old token)
+        → IsUnexpectedHere context.old (last context.old token) e) }
+{
+    let range = context.range();
+    let Ok(found) = leaf(context, to, token, range) else {
+        return Err(no_memory(context));
+    };
+    let Some(value) = found else {
+        let kind = context.unexpected(token);
+        return Err(context.fault_here(kind));
+    };
+    Ok(value)
+}
+
+// The value that begins with the last token, inside of so many of what counts.
+#[cycle(parse)]
+#[inline(always)]
+fn parse_value<'a, A: Allocator + Copy, R: Receiver<String<A>>>(
+    context: &mut Context<'a, A>,
+    to: &mut R,
+    token: TokenKind,
+    count: usize,
+) -> Result<R::Item, ParseError>
+    requires token { IsToken context.old (last context.old token) }
+    requires around { count ≤ 512 }
+    requires lent { IsLentHere context.old (Some (last context.old token)) }
+    requires source { R.source to.old ≡ source_of context.old }
+    ensures source { OnOk result (R.source to.new ≡ R.source to.old) }
+    ensures kept { OnOk result (Keeps context.old context.new) }
+    ensures collects { OnOk result (Collects context.old context.new) }
+    ensures found { IfOk result (λ i. ReadsMade context.old context.new R.whole count (R.makes to.old to.new i)) }
+    ensures refused { IfErr result (OutOfMemoryOr (NoValueHere context.old R.whole count)) }
+    ensures fault { IfErr result (IsFault (text_in context.old)) }
+    ensures error { IfErr result (StopsAtValue context.old (last context.old token) R.whole count) }
+{
+    // The results of the two calls are taken apart, so that those of literals can stay in registers.
+    match token {
+        TokenKind::OpenBracket => match parse_array(context, to, count) {
+            Ok(value) => Ok(value),
+            Err(error) => Err(error),
+        },
+        TokenKind::OpenBrace => match parse_object(context, to, count) {
+            Ok(value) => Ok(value),
+            Err(error) => Err(error),
+        },
+        token => parse_leaf(context, to, token),
+    }
+}
+
+// The element that begins with the last token, put behind the others. A string or a number is made where it
+// is to stand.
+#[cycle(parse)]
+#[inline(always)]
+fn parse_element<'a, A: Allocator + Copy, R: Receiver<String<A>>>(
+    context: &mut Context<'a, A>,
+    to: &mut R,
+    elements: &mut R::Array,
+    token: TokenKind,
+    count: usize,
+) -> Result<(), ParseError>
+    requires token { IsToken context.old (last context.old token) }
+    requires around { count ≤ 512 }
+    requires held { (s : R) × (xs : List Located) × R.holds_elements s to.old elements.old xs }
+    requires lent { IsLentHere context.old (Some (last context.old token)) }
+    requires source { R.source to.old ≡ source_of context.old }
+    ensures source { OnOk result (R.source to.new ≡ R.source to.old) }
+    ensures kept { OnOk result (Keeps context.old context.new) }
+    ensures collects { OnOk result (Collects context.old context.new) }
+    ensures found { OnOk result
+        ((s : R) → ElementMade context.old context.new R.whole count (R.holds_elements s to.old elements.old)
+        (R.holds_elements s to.new elements.new)) }
+    ensures refused { IfErr result (OutOfMemoryOr (NoValueHere context.old R.whole count)) }
+    ensures fault { IfErr result (IsFault (text_in context.old)) }
+    ensures error { IfErr result (StopsAtValue context.old (last context.old token) R.whole count) }
+{
+    match token {
+        TokenKind::String => {
+            let range = context.range();
+            let string = context.content.take_string();
+            let Ok(item) = hand_string(to, range, string) else {
+                return Err(no_memory(context));
+            };
+            let Ok(()) = to.element(elements, item) else {
+                return Err(no_memory(context));
+            };
+            Ok(())
+        }
+        TokenKind::Number => {
+            let range = context.range();
+            let Ok(item) = to.number(range) else {
+                return Err(no_memory(context));
+            };
+            let Ok(()) = to.element(elements, item) else {
+                return Err(no_memory(context));
+            };
+            Ok(())
+        }
+        token => {
+            let value = parse_value(context, to, token, count)?;
+            let Ok(()) = to.element(elements, value) else {
+                return Err(no_memory(context));
+            };
+            Ok(())
+        }
+    }
+}
+
+// The array that begins with the last token, a `[`.
+#[cycle(parse)]
+#[inline(never)]
+fn parse_array<'a, A: Allocator + Copy, R: Receiver<String<A>>>(
+    context: &mut Context<'a, A>,
+    to: &mut R,
+    count: usize,
+) -> Result<R::Item, ParseError>
+    requires token { IsBracket 0x5B context.old }
+    requires around { count ≤ 512 }
+    requires source { R.source to.old ≡ source_of context.old }
+    ensures source { OnOk result (R.source to.new ≡ R.source to.old) }
+    ensures kept { OnOk result (Keeps context.old context.new) }
+    ensures collects { OnOk result (Collects context.old context.new) }
+    ensures found { IfOk result (λ i. ReadsMade context.old context.new R.whole count (R.makes to.old to.new i)) }
+    ensures refused { IfErr result (OutOfMemoryOr (NoValueHere context.old R.whole count)) }
+    ensures fault { IfErr result (IsFault (text_in context.old)) }
+    ensures error { IfErr result (StopsAtContainer context.old R.whole count) }
+{
+    let start = context.scanner.token_start();
+    if opens_too_deep(to, count) {
+        return Err(context.nesting_fault(start));
+    }
+    let from = told_from(to, start);
+    let Ok(mut elements) = to.open_array(start) else {
+        return Err(no_memory(context));
+    };
+    let mut next = context.first_item(Container::Array, from)?;
+    while let Some(token) = next {
+        if holds_too_deep(to, count) {
+            return Err(context.nesting_fault(start));
+        }
+        parse_element(context, to, &mut elements, token, count + 1)?;
+        next = context.next_item(Container::Array, from)?;
+    }
+    let range = Range::new(start, context.scanner.token_end());
+    let Ok(array) = to.close_array(elements, range) else {
+        return Err(no_memory(context));
+    };
+    Ok(array)
+}
+
+// The object that begins with the last token, a `{`.
+#[cycle(parse)]
+#[inline(never)]
+fn parse_object<'a, A: Allocator + Copy, R: Receiver<String<A>>>(
+    context: &mut Context<'a, A>,
+    to: &mut R,
+    count: usize,
+) -> Result<R::Item, ParseError>
+    requires token { IsBracket 0x7B context.old }
+    requires around { count ≤ 512 }
+    requires source { R.source to.old ≡ source_of context.old }
+    ensures source { OnOk result (R.source to.new ≡ R.source to.old) }
+    ensures kept { OnOk result (Keeps context.old context.new) }
+    ensures collects { OnOk result (Collects context.old context.new) }
+    ensures found { IfOk result (λ i. ReadsMade context.old context.new R.whole count (R.makes to.old to.new i)) }
+    ensures refused { IfErr result (OutOfMemoryOr (NoValueHere context.old R.whole count)) }
+    ensures fault { IfErr result (IsFault (text_in context.old)) }
+    ensures error { IfErr result (StopsAtContainer context.old R.whole count) }
+{
+    let start = context.scanner.token_start();
+    if opens_too_deep(to, count) {
+        return Err(context.nesting_fault(start));
+    }
+    let from = told_from(to, start);
+    let Ok(mut properties) = to.open_object(start) else {
+        return Err(no_memory(context));
+    };
+    let mut next = context.first_item(Container::Object, from)?;
+    while let Some(token) = next {
+        parse_property(context, to, &mut properties, token, count + 1)?;
+        next = context.next_item(Container::Object, from)?;
+    }
+    let range = Range::new(start, context.scanner.token_end());
+    let Ok(object) = to.close_object(properties, range) else {
+        return Err(no_memory(context));
+    };
+    Ok(object)
+}
+
+// The property that begins with the last token, inside of so many of what counts, put among the others.
+#[cycle(parse)]
+#[inline(always)]
+fn parse_property<'a, A: Allocator + Copy, R: Receiver<String<A>>>(
+    context: &mut Context<'a, A>,
+    to: &mut R,
+    properties: &mut R::Object,
+    token: TokenKind,
+    count: usize,
+) -> Result<(), ParseError>
+    requires token { IsToken context.old (last context.old token) }
+    requires around { count + least R.whole ≤ 513 }
+    requires held { (s : R) × (ms : List LocatedMember) × R.holds_properties s to.old properties.old ms }
+    requires lent { IsLentHere context.old (Some (last context.old token)) }
+    requires source { R.source to.old ≡ source_of context.old }
+    ensures source { OnOk result (R.source to.new ≡ R.source to.old) }
+    ensures kept { OnOk result (Keeps context.old context.new) }
+    ensures collects { OnOk result (Collects context.old context.new) }
+    ensures found { OnOk result
+        ((s : R) → PropertyMade context.old context.new R.whole count (R.holds_properties s to.old properties.old)
+        (R.holds_properties s to.new properties.new)) }
+    ensures refused { IfErr result (OutOfMemoryOr (NoPropertyHere context.old R.whole count)) }
+    ensures fault { IfErr result (IsFault (text_in context.old)) }
+    ensures error { IfErr result (StopsAtItem Object context.old (last context.old token) R.whole count) }
+{
+    let start = context.scanner.token_start();
+    let name = context.name(token)?;
+    let Ok(named) = hand_name(to, name) else {
+        return Err(no_memory(context));
+    };
+    context.pass_colon()?;
+    let found = context.scan()?;
+    if holds_too_deep(to, count) {
+        return Err(context.nesting_fault(start));
+    }
+    let Some(token) = found else {
+        return Err(context.fault_here(ParseErrorKind::ExpectedObjectValue));
+    };
+    let around = around_value(to, count);
+    let value = parse_value(context, to, token, around)?;
+    let range = Range::new(start, context.scanner.token_end());
+    let Ok(()) = to.property(properties, named, value, range) else {
+        return Err(no_memory(context));
+    };
+    Ok(())
+}
+
+/// Reads the whole text, and answers what was made of its value, or none where it holds blanks and comments alone.
+pub fn read_document<'a, A: Allocator + Copy, R: Receiver<String<A>>>(
+    context: &mut Context<'a, A>,
+    to: &mut R,
+) -> Result<Option<R::Item>, ParseError>
+    requires start { token_end context.old ≡ 0 }
+    requires source { R.source to.old ≡ source_of context.old }
+    ensures kept { OnOk result (Keeps context.old context.new) }
+    ensures collects { OnOk result (Collects context.old context.new) }
+    ensures end { OnOk result (AtEnd context.new) }
+    ensures found { IfOk result (IsDocumentMade (source_of context.old) R.whole (R.makes to.old to.new)) }
+    ensures refused { IfErr result (Refuses (options_in context.old) R.whole (text_in context.old)) }
+    ensures fault { IfErr result (IsFault (text_in context.old)) }
+    ensures error { IfErr result (ParseFault (options_in context.old) (text_in context.old) R.whole) }
+{
+    let Some(token) = context.scan()? else {
+        return Ok(None);
+    };
+    let value = parse_value(context, to, token, 0)?;
+    let None = context.scan()? else {
+        return Err(context.fault_here(ParseErrorKind::MultipleRootJsonValues));
+    };
+    Ok(Some(value))
+}

@@ -1,0 +1,38 @@
+-- What a receiver has made of a text, where that is a value.
+use Rattle.std.specs.Prelude.{◌≡◌, List, [], ◌∷◌}
+use Rattle.std.specs.Cow.{cow_str_bytes}
+use Rattle.std.specs.Str.{IsUtf8}
+use Rattle.std.specs.declared.borrow.CowStr.{CowStr}
+use Rattle.jsonc_text.specs.OptionsOf.{parse_options}
+use Rattle.jsonc_text.specs.Plain.{collapse, collapse_items, collapse_members}
+use Rattle.jsonc_ast.specs.Located.{Located, LocatedName, value_at, items_at, members_at}
+use Rattle.jsonc_ast.specs.Views.{LocatedMember, items_of, members_of}
+use Rattle.jsonc_ast.specs.to_ast.Handed.{Source}
+use Rattle.jsonc_value.specs.declared.to_value.values.ValueMaker.{ValueMaker}
+use Rattle.jsonc_value.specs.declared.value.JsonValue.{JsonValue}
+use Rattle.jsonc_value.specs.to_value.Views.{plain, name_of, items_plain, members_plain}
+
+module _ {A : Type 0} where
+  abbrev pub source_in : ValueMaker A → Source
+  source_in m = record { bytes = m.text.now; options = parse_options m.options }
+
+  -- the value, collapsed
+  abbrev pub IsCollapsed : JsonValue A → Located → Type 0
+  IsCollapsed v x = plain v ≡ collapse (value_at x)
+
+  -- the name, which is UTF-8
+  abbrev pub IsName : CowStr A → LocatedName → Type 0
+  IsName k n = (name_of k ≡ n.name) × IsUtf8 (cow_str_bytes k)
+
+  -- the elements of an array
+  abbrev pub AreElements : List (JsonValue A) → List Located → Type 0
+  AreElements vs xs = items_plain vs ≡ collapse_items (items_at (items_of xs))
+
+  -- each name is UTF-8
+  abbrev pub AreTexts : List (CowStr A × JsonValue A) → Type 0
+  AreTexts [] = Unit {0}
+  AreTexts (p ∷ ps) = IsUtf8 (cow_str_bytes p.0) × AreTexts ps
+
+  -- the properties of an object
+  abbrev pub AreProperties : List (CowStr A × JsonValue A) → List LocatedMember → Type 0
+  AreProperties ps ms = (members_plain ps ≡ collapse_members (members_at (members_of ms))) × AreTexts ps
