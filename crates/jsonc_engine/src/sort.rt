@@ -1,13 +1,13 @@
 //! Properties that are sorted by their names as they are written.
 ghost use Rattle.std.specs.Prelude.{◌≡◌, IfErr, OnErr, OnOk};
+ghost use Rattle.jsonc_cst.specs.Document.{nodes_of, printed_of, tree_of, HasNode};
 ghost use Rattle.std.specs.Cmp.Lexicographic.{slice_cmp};
 ghost use Rattle.std.specs.Ordering.{nat_cmp};
+ghost use Rattle.jsonc_engine.specs.Sorting.{SortsIfSound, between_quotes, written_name};
 ghost use Rattle.jsonc_text.specs.Options.{Options};
 ghost use Rattle.jsonc_sound.specs.SoundTrees.{SoundTree};
-ghost use Rattle.jsonc_cst.specs.Document.{nodes_of, printed_of, tree_of, HasNode};
 ghost use Rattle.jsonc_cst.specs.Nodes.{object_prop_node};
 ghost use Rattle.jsonc_engine.specs.Fault.{EndsOnObject};
-ghost use Rattle.jsonc_engine.specs.Sorting.{SortsIfSound, between_quotes, written_name};
 
 use crate::fault::Fault;
 use jsonc_parser::cst::{CstObjectProp, CstRootNode, ObjectPropName};

@@ -2,13 +2,13 @@
 ghost use Rattle.std.specs.Prelude.{◌≡◌, IfOk, IfErr, OnOk, false, chars};
 ghost use Rattle.std.specs.Cow.{cow_str_bytes};
 ghost use Rattle.std.specs.Str.{IsUtf8};
+ghost use Rattle.jsonc_value.specs.to_value.Views.{plain, name_of, inserted, items_plain, members_plain};
+ghost use Rattle.jsonc_value.specs.to_value.Reads.{IsValueOf};
+ghost use Rattle.jsonc_value.specs.to_value.Refusals.{RefusesText};
+ghost use Rattle.jsonc_ast.specs.to_ast.Faults.{ParseFault};
 ghost use Rattle.jsonc_text.specs.Faults.{IsFault};
 ghost use Rattle.jsonc_text.specs.OptionsOf.{parse_options};
 ghost use Rattle.jsonc_text.specs.Plain.{array, object};
-ghost use Rattle.jsonc_ast.specs.to_ast.Faults.{ParseFault};
-ghost use Rattle.jsonc_value.specs.to_value.Reads.{IsValueOf};
-ghost use Rattle.jsonc_value.specs.to_value.Refusals.{RefusesText};
-ghost use Rattle.jsonc_value.specs.to_value.Views.{plain, name_of, inserted, items_plain, members_plain};
 
 use crate::{JsonArray, JsonObject, JsonValue, Map};
 use jsonc_ast::to_ast::collect::CollectOptions;
