@@ -88,6 +88,19 @@ fn elements_of<A: Allocator>(object: &JsonObject<'_, A>) -> usize {
     count
 }
 
+/// The same by loops over what is lent.
+fn lent_elements_of<A: Allocator>(object: &JsonObject<'_, A>) -> usize {
+    let mut count = 0usize;
+    for (_, value) in object {
+        if let JsonValue::Array(array) = value {
+            for _ in array {
+                count = count.saturating_add(1);
+            }
+        }
+    }
+    count
+}
+
 #[test]
 fn values_are_read_by_reference(rt: HostRuntime) {
     let text = "{\"a\": [1, 2], \"b\": 3, \"c\": [4]}";
@@ -96,4 +109,5 @@ fn values_are_read_by_reference(rt: HostRuntime) {
         return assert!(rt; false);
     };
     assert!(rt; elements_of(&object) == 3);
+    assert!(rt; lent_elements_of(&object) == 3);
 }
