@@ -3,7 +3,7 @@
 use failing_alloc::awaited::{Awaited, prints};
 use jsonc_engine::fault::Fault;
 use jsonc_parser::cst::{CstRootNode, EditError};
-use jsonc_parser::{JsonValue, ParseOptions, parse_to_value};
+use jsonc_parser::{JsonObject, JsonValue, ParseOptions, parse_to_value};
 use std::alloc::Global;
 use std::default::Default;
 use std::fmt;
@@ -72,27 +72,31 @@ fn debugs<T: fmt::Debug>(shown: &T, text: &str) -> bool {
     is_printed && printed.rest.is_empty()
 }
 
-/// A value, its object, and the map of that.
+/// A text, and what `Debug` prints of its value, of the object that this is, and of the map of that.
+const OBJECT: &str = "{\"b\": [1, null], \"a\": \"x\\n\"}";
+
+const AS_VALUE: &str =
+    "Object(JsonObject({\"b\": Array(JsonArray([Number(\"1\"), Null])), \"a\": String(\"x\\n\")}))";
+
+const AS_OBJECT: &str =
+    "JsonObject({\"b\": Array(JsonArray([Number(\"1\"), Null])), \"a\": String(\"x\\n\")})";
+
+const AS_MAP: &str = "{\"b\": Array(JsonArray([Number(\"1\"), Null])), \"a\": String(\"x\\n\")}";
+
+fn object_debugs(object: JsonObject<'_, Global>) -> bool {
+    let is_object = debugs(&object, AS_OBJECT);
+    let map = object.take_inner();
+    let is_map = debugs(&map, AS_MAP);
+    let value = JsonValue::Object(JsonObject::new(map));
+    is_object && is_map && debugs(&value, AS_VALUE)
+}
+
 fn value_debugs(alloc: Global) -> bool {
-    let text = "{\"b\": [1, null, true], \"a\": \"x\\n\"}";
-    let Ok(Some(value)) = parse_to_value(alloc, text, &ParseOptions::json()) else {
+    let Ok(Some(JsonValue::Object(object))) = parse_to_value(alloc, OBJECT, &ParseOptions::json())
+    else {
         return false;
     };
-    let map =
-        "{\"b\": Array(JsonArray([Number(\"1\"), Null, Boolean(true)])), \"a\": String(\"x\\n\")}";
-    let Ok(object) = format!(in alloc; "JsonObject({map})") else {
-        return false;
-    };
-    let Ok(whole) = format!(in alloc; "Object({object})") else {
-        return false;
-    };
-    if !debugs(&value, &whole) {
-        return false;
-    }
-    match value {
-        JsonValue::Object(inner) => debugs(&inner, &object) && debugs(&inner.take_inner(), map),
-        _ => false,
-    }
+    object_debugs(object)
 }
 
 fn document_debugs(alloc: Global) -> bool {
