@@ -8,7 +8,6 @@ mod nested;
 mod nodes;
 mod paths;
 mod pieces;
-mod ranges;
 mod reading;
 mod rows;
 mod settings;

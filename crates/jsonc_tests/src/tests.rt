@@ -8,6 +8,7 @@ mod maps;
 mod nodes;
 mod numbers;
 mod printed;
+mod ranges;
 mod refusals;
 mod streams;
 mod texts;
