@@ -144,21 +144,13 @@ impl<'a, A: Allocator + Copy> Context<'a, A> {
         }
     }
 
-    /// The error of an allocation failure.
+    /// The error of an allocation failure. It is cold, so that it takes no room where items are made.
+    #[cold]
     pub fn out_of_memory(&self) -> ParseError
         ensures fault { IsFault (text_in self.now) result }
         ensures memory { IsOutOfMemory result }
     {
         ParseError::out_of_memory()
-    }
-
-    /// Whether a value would have too many containers and properties around it.
-    #[inline(always)]
-    pub(crate) fn nests_too_deep(&self, around: usize) -> bool
-        ensures deep { IsTrue result → 512 < around }
-        ensures within { result ≡ false → around ≤ 512 }
-    {
-        around > MAXIMUM_NESTING
     }
 
     /// The fault of a value that too many containers and properties are around. The innermost of
@@ -171,23 +163,6 @@ impl<'a, A: Allocator + Copy> Context<'a, A> {
         ensures range { range_of result ≡ record { start = start; end = token_end self.now } }
     {
         self.fault_from(start, ParseErrorKind::NestingDepthExceeded)
-    }
-
-    /// Refuses a value that too many containers and properties are around.
-    /// The innermost of them begins at the place.
-    #[inline(always)]
-    pub fn check_nesting(&self, start: usize, around: usize) -> Result<(), ParseError>
-        requires { Spans (text_in self.now) start (token_end self.now) }
-        ensures within { OnOk result (around ≤ 512) }
-        ensures refused { IfErr result (λ _. 512 < around) }
-        ensures fault { IfErr result (IsFault (text_in self.now)) }
-        ensures kind { IfErr result (λ e. kind_of e ≡ ParseErrorKind.NestingDepthExceeded) }
-        ensures range { IfErr result (λ e. range_of e ≡ record { start = start; end = token_end self.now }) }
-    {
-        if self.nests_too_deep(around) {
-            return Err(self.nesting_fault(start));
-        }
-        Ok(())
     }
 
     /// Whether anything is collected.

@@ -2,7 +2,7 @@
 ghost use Rattle.std.specs.Prelude.{List, ◌≡◌, ◌+◌, ◌≤◌, ◌<◌, IfOk, IfErr, OnOk, IfSome, IfNone, IsTrue, true, false, chars, is_some};
 ghost use Rattle.std.specs.Cow.{cow_str_bytes};
 ghost use Rattle.std.specs.Str.{IsUtf8};
-ghost use Rattle.jsonc_text.specs.Faults.{IsFault, IsOutOfMemory};
+ghost use Rattle.jsonc_text.specs.Faults.{IsFault};
 ghost use Rattle.jsonc_text.specs.Plain.{string};
 ghost use Rattle.jsonc_text.specs.Tokens.{scanned_of};
 ghost use Rattle.jsonc_ast.specs.Located.{Located, leaf_at};
@@ -27,15 +27,6 @@ use jsonc_text::common::Range;
 use jsonc_text::errors::{ParseError, ParseErrorKind};
 use std::alloc::{AllocError, Allocator};
 use std::borrow::CowStr;
-
-// The error of an allocation failure. It is cold, so that it takes no room where items are made.
-#[cold]
-fn no_memory<'a, A: Allocator + Copy>(context: &Context<'a, A>) -> ParseError
-    ensures fault { IsFault (text_in context.now) result }
-    ensures memory { IsOutOfMemory result }
-{
-    context.out_of_memory()
-}
 
 // Whether no container may begin inside of so many, where containers alone count.
 #[inline(always)]
@@ -184,7 +175,7 @@ fn parse_leaf<'a, A: Allocator + Copy, R: Receiver<String<A>>>(
 {
     let range = context.range();
     let Ok(found) = leaf(context, to, token, range) else {
-        return Err(no_memory(context));
+        return Err(context.out_of_memory());
     };
     let Some(value) = found else {
         let kind = context.unexpected(token);
@@ -259,27 +250,27 @@ fn parse_element<'a, A: Allocator + Copy, R: Receiver<String<A>>>(
             let range = context.range();
             let string = context.content.take_string();
             let Ok(item) = hand_string(to, range, string) else {
-                return Err(no_memory(context));
+                return Err(context.out_of_memory());
             };
             let Ok(()) = to.element(elements, item) else {
-                return Err(no_memory(context));
+                return Err(context.out_of_memory());
             };
             Ok(())
         }
         TokenKind::Number => {
             let range = context.range();
             let Ok(item) = to.number(range) else {
-                return Err(no_memory(context));
+                return Err(context.out_of_memory());
             };
             let Ok(()) = to.element(elements, item) else {
-                return Err(no_memory(context));
+                return Err(context.out_of_memory());
             };
             Ok(())
         }
         token => {
             let value = parse_value(context, to, token, count)?;
             let Ok(()) = to.element(elements, value) else {
-                return Err(no_memory(context));
+                return Err(context.out_of_memory());
             };
             Ok(())
         }
@@ -311,7 +302,7 @@ fn parse_array<'a, A: Allocator + Copy, R: Receiver<String<A>>>(
     }
     let from = told_from(to, start);
     let Ok(mut elements) = to.open_array(start) else {
-        return Err(no_memory(context));
+        return Err(context.out_of_memory());
     };
     let mut next = context.first_item(Container::Array, from)?;
     while let Some(token) = next {
@@ -323,7 +314,7 @@ fn parse_array<'a, A: Allocator + Copy, R: Receiver<String<A>>>(
     }
     let range = Range::new(start, context.scanner.token_end());
     let Ok(array) = to.close_array(elements, range) else {
-        return Err(no_memory(context));
+        return Err(context.out_of_memory());
     };
     Ok(array)
 }
@@ -353,7 +344,7 @@ fn parse_object<'a, A: Allocator + Copy, R: Receiver<String<A>>>(
     }
     let from = told_from(to, start);
     let Ok(mut properties) = to.open_object(start) else {
-        return Err(no_memory(context));
+        return Err(context.out_of_memory());
     };
     let mut next = context.first_item(Container::Object, from)?;
     while let Some(token) = next {
@@ -362,7 +353,7 @@ fn parse_object<'a, A: Allocator + Copy, R: Receiver<String<A>>>(
     }
     let range = Range::new(start, context.scanner.token_end());
     let Ok(object) = to.close_object(properties, range) else {
-        return Err(no_memory(context));
+        return Err(context.out_of_memory());
     };
     Ok(object)
 }
@@ -395,7 +386,7 @@ fn parse_property<'a, A: Allocator + Copy, R: Receiver<String<A>>>(
     let start = context.scanner.token_start();
     let name = context.name(token)?;
     let Ok(named) = hand_name(to, name) else {
-        return Err(no_memory(context));
+        return Err(context.out_of_memory());
     };
     context.pass_colon()?;
     let found = context.scan()?;
@@ -409,7 +400,7 @@ fn parse_property<'a, A: Allocator + Copy, R: Receiver<String<A>>>(
     let value = parse_value(context, to, token, around)?;
     let range = Range::new(start, context.scanner.token_end());
     let Ok(()) = to.property(properties, named, value, range) else {
-        return Err(no_memory(context));
+        return Err(context.out_of_memory());
     };
     Ok(())
 }

@@ -5,7 +5,6 @@ use Rattle.std.specs.Char.{len_utf8}
 use Rattle.std.specs.Cow.{cow_str_bytes, IsBorrowedStr, IsOwnedStr}
 use Rattle.std.specs.declared.borrow.CowStr.{CowStr}
 use Rattle.std.specs.declared.borrow.CowStr.TheVariants as cow
-use Rattle.std.specs.declared.string.String.{String as OwnString}
 use denote.Ref.{Bor}
 use Rattle.jsonc_text.specs.declared.common.Range.{Range}
 use Rattle.jsonc_text.specs.declared.tokens.Token.TheVariants as token
@@ -26,7 +25,7 @@ use Rattle.jsonc_ast.specs.declared.ast.WordLit.{WordLit}
 use Rattle.jsonc_ast.specs.Located.{Located, LocatedName, leaf_at, In}
 use Rattle.jsonc_ast.specs.declared.to_ast.context.Context.{Context}
 use Rattle.jsonc_ast.specs.to_ast.Context.{text_in, options_in, token_range, IsToken, last}
-use Rattle.jsonc_ast.specs.to_ast.Handed.{Source, source_of, chars_between, HasLexeme, HasPlainString, HasEscapedString, HasNumber, HasLooseName, LeafMade}
+use Rattle.jsonc_ast.specs.to_ast.Handed.{Source, source_of, chars_between, HasLexeme, HasPlainString, HasNumber, HasLooseName, LeafMade}
 use Rattle.jsonc_ast.specs.to_ast.Scanned.{loose_text, leaf_value}
 use Rattle.jsonc_ast.specs.to_ast.Written.{IsLentHere, IsWritten}
 use Rattle.jsonc_ast.proofs.lemmas.to_ast.Gaps.{stands}
@@ -82,9 +81,6 @@ module _ {A : Type 0} (v : CowStr A) where
   pub not_owned : (t : Bor (List ℕ)) → v ≡ cow.Borrowed t → IsOwnedStr v → ⊥
   not_owned t e = subst (λ x. IsOwnedStr x → ⊥) (sym e) (λ h. h)
 
-  pub is_copied : (t : OwnString A) → v ≡ cow.Owned t → IsOwnedStr v
-  is_copied t e = subst IsOwnedStr (sym e) tt
-
 -- a string that is written in a text, by its place
 module _ {A : Type 0} (s : Source) (r : Range) (v : CowStr A) (h : IsWritten s.options s.bytes (String (record { range = r; value = v }))) where
   pub string_inside : IsUtf8 s.bytes → Spans s.bytes (r.start + 1) (r.end - 1)
@@ -98,9 +94,6 @@ module _ {A : Type 0} (s : Source) (r : Range) (v : CowStr A) (h : IsWritten s.o
     stands = subst (λ x. HasLexeme s (LexemeKind.string x) r) (sym (string_means lent)) h.0;
     plain = λ held. apart (h.1.copied.1 held);
   }
-
-  pub string_escaped : IsOwnedStr v → HasEscapedString s r (chars (cow_str_bytes v))
-  string_escaped owned = record { stands = h.0; escaped = h.1.copied.0 owned }
 
 -- and a name without quotes
 module _ (s : Source) (w : WordLit) (utf8 : IsUtf8 s.bytes) (h : (k : LexemeKind) × HasLexeme s k w.range × (loose_text (lexeme k) ≡ Some (chars w.value.now))) where

@@ -1,5 +1,5 @@
 -- A parser among the items of a container.
-use Rattle.std.proofs.Common.{ℕ, Bool, true, false, ◌+◌, ◌-◌, ◌<◌, ◌≤◌, ◌≡◌, sym, ap, subst, refl, arith, List, [], ◌∷◌, ◌++◌, length, Option, Some, None, IsUtf8, IsCharBoundary}
+use Rattle.std.proofs.Common.{ℕ, Bool, true, false, ◌+◌, ◌-◌, ◌≤◌, ◌≡◌, sym, subst, refl, arith, List, [], ◌∷◌, ◌++◌, Option, Some, None, IsUtf8, IsCharBoundary}
 use Rattle.std.proofs.lemmas.Str.{IsUtf8-from_is_utf8}
 use Rattle.jsonc_text.specs.declared.common.Range.{Range}
 use Rattle.jsonc_text.specs.declared.tokens.Token.{Token}
@@ -52,12 +52,6 @@ module _ {A : Type 0} where
     to = now.scanner.at_place;
     order = omega (arith, e, old.scanner.order, on);
   }
-
-  -- each turn leads on
-  pub smaller : (now mid new : Context A) (t : Token A) → IsToken now t → Keeps now new → token_end now ≤ token_end mid → token_end mid ≤ token_start new → length (text_in new) - token_start new < length (text_in now) - token_start now
-  smaller now mid new t at kept on further =
-      let same : length (text_in new) ≡ length (text_in now) = ap length kept.text in
-      omega (arith, same, at.0, now.scanner.at_place.0, on, further)
 
   abbrev pub ElementsSoFar : Context A → Context A → List Located → Option (Token A) → Type 0
   ElementsSoFar old now xs None = elements.Whole (options_in old) (text_in old) (token_end old) xs (token_end now)

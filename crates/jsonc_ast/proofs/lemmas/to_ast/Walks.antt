@@ -57,9 +57,6 @@ item_fits true n h l = h
 item_fits false n h l = l
 
 module _ {A : Type 0} where
-  pub source_kept : (old new : Context A) → Keeps old new → source_of old ≡ source_of new
-  source_kept old new kept = sym (ap (λ b. record { bytes = b; options = options_in new }) kept.text ∙ ap (λ o. record { bytes = text_in old; options = o }) kept.options)
-
   -- a leaf's fault, or an allocation failure
   pub leaf_told : (whole : Bool) (c : Context A) (t : Token A) (e : ParseError) (n : ℕ) → IsToken c t → n ≤ 512 → IsUnexpectedHere c t e → StopsAtValue c t whole n e
   leaf_told whole c t e n at small (inl w) = λ q d s many h. inl w

@@ -1,5 +1,5 @@
 -- The value of a document.
-use Rattle.std.proofs.Common.{◌≡◌, ap, refl, false, ℕ, List, Option, None, Some, chars}
+use Rattle.std.proofs.Common.{ap, refl, false, ℕ, List, Option, None, Some, chars}
 use Rattle.jsonc_text.specs.Options.{Options}
 use Rattle.jsonc_ast.specs.Located.{value_at}
 use Rattle.jsonc_ast.specs.to_ast.Handed.{IsDocumentMade}

@@ -1,7 +1,6 @@
 -- A value, grown by an element or a property.
-use Rattle.std.proofs.Common.{◌≡◌, ◌∙◌, sym, ap, subst, refl, List, [], ◌∷◌, ◌++◌, map, IsUtf8, Result, Ok, Err, OnOk}
+use Rattle.std.proofs.Common.{◌≡◌, ◌∙◌, sym, ap, subst, refl, List, [], ◌∷◌, ◌++◌, map, Result, Ok, Err, OnOk}
 use Rattle.std.proofs.lemmas.List.{map_push}
-use Rattle.std.specs.Cow.{cow_str_bytes}
 use Rattle.std.specs.declared.borrow.CowStr.{CowStr}
 use Rattle.jsonc_text.specs.Plain.{Plain, Items, item, no_items, member, collapse, collapse_items, collapse_members}
 use Rattle.jsonc_text.proofs.Collapse as members
@@ -9,7 +8,7 @@ use Rattle.jsonc_ast.specs.Located.{Located, value_at, items_at, members_at}
 use Rattle.jsonc_ast.specs.Views as located
 use Rattle.jsonc_ast.specs.Views.{LocatedMember}
 use Rattle.jsonc_value.specs.declared.value.JsonValue.{JsonValue}
-use Rattle.jsonc_value.specs.to_value.Made.{AreElements, AreProperties, AreTexts, IsCollapsed, IsName}
+use Rattle.jsonc_value.specs.to_value.Made.{AreElements, AreProperties, IsCollapsed, IsName}
 use Rattle.jsonc_value.specs.to_value.Views.{plain, name_of, inserted, items_of}
 use Rattle.jsonc_value.proofs.lemmas.to_value.Insertions.{insert_puts, insert_texts}
 

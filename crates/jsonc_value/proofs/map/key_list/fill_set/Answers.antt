@@ -1,5 +1,5 @@
-use Rattle.std.proofs.Common.{◌≡◌, ◌≤◌, ◌++◌, ◌∷◌, [], length, ap, arith, length-append}
-use Rattle.indexmap.specs.IndexSet.{insert_key, spare}
+use Rattle.std.proofs.Common.{◌≤◌, ◌∷◌, [], length, ap, arith, length-append}
+use Rattle.indexmap.specs.IndexSet.{spare}
 use Rattle.jsonc_value.proofs.DistinctKeys.{one_done}
 use Rattle.jsonc_value.proofs.map.key_list.fill_set.Goals as goal
 

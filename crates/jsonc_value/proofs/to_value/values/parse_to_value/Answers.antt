@@ -1,5 +1,4 @@
 use Rattle.std.proofs.Common.{false}
-use Rattle.jsonc_text.specs.Faults.{IsFault}
 use Rattle.jsonc_ast.specs.to_ast.Faults.{ParseFault}
 use Rattle.jsonc_ast.proofs.lemmas.to_ast.Refusals.{err_some, ok_of}
 use Rattle.jsonc_ast.proofs.lemmas.to_ast.Scans.{moved}
