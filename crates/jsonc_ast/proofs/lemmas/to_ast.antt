@@ -30,3 +30,4 @@ pub mod Ranges
 pub mod Handing
 pub mod Walks
 pub mod MadeTrees
+pub mod Following

@@ -1,13 +1,15 @@
 -- What a walk over a text hands to a receiver, and what is made of it.
-use Rattle.std.specs.Prelude.{ℕ, ◌+◌, ◌-◌, ◌≤◌, ◌≡◌, ◌⊎◌, Bool, List, [], ◌∷◌, ◌++◌, Option, Some, None, option_map, chars, slice_range}
+use Rattle.std.specs.Prelude.{ℕ, ◌+◌, ◌-◌, ◌≤◌, ◌≡◌, ◌⊎◌, ◌||◌, ◌==◌, IsTrue, Bool, List, [], ◌∷◌, ◌++◌, Option, Some, None, option_map, chars, slice_range}
 use Rattle.jsonc_text.specs.declared.common.Range.{Range}
 use Rattle.jsonc_text.specs.declared.errors.ParseError.{ParseError}
 use Rattle.jsonc_text.specs.declared.tokens.Token.{Token}
+use Rattle.jsonc_text.specs.Gaps.{Gap, is_blank}
+use Rattle.jsonc_text.specs.Text.{next, no, rest}
 use Rattle.jsonc_text.specs.Lexemes.{LexemeKind, Lexeme, lexeme, string, number}
 use Rattle.jsonc_text.specs.Options.{Options}
 use Rattle.jsonc_text.specs.Tokens.{scanned_of}
 use Rattle.jsonc_text.specs.string.Escapes.{HoldsBackslash}
-use Rattle.jsonc_ast.specs.Located.{Located, leaf_at, value_at, In, IsLocatedDocument}
+use Rattle.jsonc_ast.specs.Located.{Located, LocatedName, leaf_at, range_at, value_at, Between, In, IsLocatedDocument}
 use Rattle.jsonc_ast.specs.Views.{LocatedMember}
 use Rattle.jsonc_ast.specs.declared.to_ast.context.Context.{Context}
 use Rattle.jsonc_ast.specs.to_ast.Context.{text_in, options_in}
@@ -49,6 +51,23 @@ pub record HasLooseName (s : Source) (r : Range) : Type 0 where
   pub kind : LexemeKind
   pub stands : HasLexeme s kind r
   pub text : loose_text (lexeme kind) ≡ Some (chars_between s r.start r.end)
+
+-- t is a gap, in which a comma or a colon may stand, and then r
+pub data Divides (o : Options) : List ℕ → List ℕ → Type 0 where
+  gap_alone : {t r : List ℕ} → Gap o t r → Divides o t r
+  with_mark : {c : ℕ} {t u r : List ℕ} → IsTrue (c == 0x2C || c == 0x3A) → Gap o t (c ∷ u) → Gap o u r → Divides o t r
+
+-- from a place that was reached that alone stands up to the place i, where no blank does
+pub record Follows (s : Source) (is_reached : ℕ → Type 0) (i : ℕ) : Type 0 where
+  pub from : ℕ
+  pub reached : is_reached from
+  pub divides : Between s.bytes (Divides s.options) from i
+  pub ends : IsTrue (no is_blank (next (rest s.bytes i)))
+
+-- a property's range is from its name through its value
+pub record Covers (r : Range) (n : LocatedName) (x : Located) : Type 0 where
+  pub starts : r.start ≡ n.range.start
+  pub ends : r.end ≡ (range_at x).end
 
 -- a token is a value by itself, and something is made of that
 pub record LeafMade {A : Type 0} (r : Range) (t : Token A) (is_made : Located → Type 0) : Type 0 where

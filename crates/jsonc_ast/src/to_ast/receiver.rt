@@ -20,13 +20,16 @@ impl<A: Allocator> Text for String<A> {
 ///
 /// Between two of its states an item is made of a value, and a property is named. An array or an object
 /// that was opened at one state holds elements or properties at a later one. It fails for want of memory alone.
+///
+/// At each state it has come to a place of the text. What is handed next begins there, or behind a gap in which
+/// a comma or a colon may stand.
 pub trait Receiver<S: Text> {
-    ghost use Rattle.std.specs.Prelude.{ℕ, ◌+◌, ◌-◌, ◌≡◌, Bool, List, [], ◌∷◌, ◌++◌, IfOk, OnOk};
+    ghost use Rattle.std.specs.Prelude.{ℕ, ◌+◌, ◌-◌, ◌<◌, ◌≡◌, Bool, List, [], ◌∷◌, ◌++◌, IfOk, OnOk};
     ghost use Rattle.jsonc_text.specs.Plain.{string, number, boolean, null};
     ghost use Rattle.jsonc_text.specs.Text.{Spans};
     ghost use Rattle.jsonc_ast.specs.Located.{Located, LocatedName, leaf_at, array_at, object_at};
     ghost use Rattle.jsonc_ast.specs.Views.{LocatedMember, items_of, members_of};
-    ghost use Rattle.jsonc_ast.specs.to_ast.Handed.{Source, chars_between, HasEscapedString, HasLooseName, HasNumber, HasPlainString};
+    ghost use Rattle.jsonc_ast.specs.to_ast.Handed.{Source, chars_between, HasEscapedString, HasLooseName, HasNumber, HasPlainString, Covers, Follows};
 
     type Item: Drop;
 
@@ -45,9 +48,13 @@ pub trait Receiver<S: Text> {
 
     ghost names: { Self → Self → Self.Property → LocatedName → Type 0 };
 
-    ghost holds_elements: { Self → Self → Self.Array → List Located → Type 0 };
+    /// An array that began at a place.
+    ghost holds_elements: { Self → Self → Self.Array → ℕ → List Located → Type 0 };
 
-    ghost holds_properties: { Self → Self → Self.Object → List LocatedMember → Type 0 };
+    ghost holds_properties: { Self → Self → Self.Object → ℕ → List LocatedMember → Type 0 };
+
+    /// The place that it has come to.
+    ghost reached: { Self → ℕ → Type 0 };
 
     /// Whether properties count towards the depth beside containers. If so, faults of a container
     /// are told from where it begins.
@@ -58,80 +65,106 @@ pub trait Receiver<S: Text> {
     fn string(&mut self, range: Range) -> Result<Self::Item, AllocError>
         requires inside { Spans (source self.old).bytes (range.start + 1) (range.end - 1) }
         requires stands { HasPlainString (source self.old) range }
+        requires follows { Follows (source self.old) (reached self.old) range.start }
         ensures kept { OnOk result (source self.new ≡ source self.old) }
+        ensures reached { OnOk result (reached self.new range.end) }
         ensures made { IfOk result (λ i. makes self.old self.new i
             (leaf_at range (string (chars_between (source self.old) (range.start + 1) (range.end - 1))))) };
 
     /// A string with a backslash, and what it means.
     fn decoded(&mut self, range: Range, value: S) -> Result<Self::Item, AllocError>
-        requires { HasEscapedString (source self.old) range (S.chars_of value) }
+        requires stands { HasEscapedString (source self.old) range (S.chars_of value) }
+        requires follows { Follows (source self.old) (reached self.old) range.start }
         ensures kept { OnOk result (source self.new ≡ source self.old) }
+        ensures reached { OnOk result (reached self.new range.end) }
         ensures made { IfOk result (λ i. makes self.old self.new i (leaf_at range (string (S.chars_of value)))) };
 
     /// A number.
     fn number(&mut self, range: Range) -> Result<Self::Item, AllocError>
         requires inside { Spans (source self.old).bytes range.start range.end }
         requires stands { HasNumber (source self.old) range }
+        requires follows { Follows (source self.old) (reached self.old) range.start }
         ensures kept { OnOk result (source self.new ≡ source self.old) }
+        ensures reached { OnOk result (reached self.new range.end) }
         ensures made { IfOk result (λ i. makes self.old self.new i
             (leaf_at range (number (chars_between (source self.old) range.start range.end)))) };
 
     /// `true` or `false`.
     fn boolean(&mut self, range: Range, value: bool) -> Result<Self::Item, AllocError>
+        requires inside { Spans (source self.old).bytes range.start range.end }
+        requires follows { Follows (source self.old) (reached self.old) range.start }
         ensures kept { OnOk result (source self.new ≡ source self.old) }
+        ensures reached { OnOk result (reached self.new range.end) }
         ensures made { IfOk result (λ i. makes self.old self.new i (leaf_at range (boolean value))) };
 
     /// `null`.
     fn null(&mut self, range: Range) -> Result<Self::Item, AllocError>
+        requires inside { Spans (source self.old).bytes range.start range.end }
+        requires follows { Follows (source self.old) (reached self.old) range.start }
         ensures kept { OnOk result (source self.new ≡ source self.old) }
+        ensures reached { OnOk result (reached self.new range.end) }
         ensures made { IfOk result (λ i. makes self.old self.new i (leaf_at range null)) };
 
     /// The `[` of an array.
     fn open_array(&mut self, start: usize) -> Result<Self::Array, AllocError>
+        requires follows { Follows (source self.old) (reached self.old) start }
         ensures kept { OnOk result (source self.new ≡ source self.old) }
-        ensures held { IfOk result (λ a. holds_elements self.old self.new a []) };
+        ensures reached { OnOk result (reached self.new (start + 1)) }
+        ensures held { IfOk result (λ a. holds_elements self.old self.new a start []) };
 
     /// An element of an array, behind the others.
     fn element(&mut self, array: &mut Self::Array, item: Self::Item) -> Result<(), AllocError>
-        requires { (s : Self) × (m : Self) × (xs : List Located) × (x : Located) × holds_elements s m array.old xs
-            × makes m self.old item x }
+        requires held { (s : Self) × (m : Self) × (i : ℕ) × (xs : List Located) × (x : Located)
+            × holds_elements s m array.old i xs × makes m self.old item x }
         ensures kept { OnOk result (source self.new ≡ source self.old) }
+        ensures reached { OnOk result ((i : ℕ) → reached self.old i → reached self.new i) }
         ensures held { OnOk result
-            ((s m : Self) (xs : List Located) (x : Located) → holds_elements s m array.old xs → makes m self.old item x
-            → holds_elements s self.new array.new (xs ++ x ∷ [])) };
+            ((s m : Self) (i : ℕ) (xs : List Located) (x : Located) → holds_elements s m array.old i xs
+            → makes m self.old item x → holds_elements s self.new array.new i (xs ++ x ∷ [])) };
 
     /// The array of these elements, whose `]` was read.
     fn close_array(&mut self, array: Self::Array, range: Range) -> Result<Self::Item, AllocError>
-        requires { (s : Self) × (xs : List Located) × holds_elements s self.old array xs }
+        requires held { (s : Self) × (xs : List Located) × holds_elements s self.old array range.start xs }
+        requires ends { 0 < range.end }
+        requires follows { Follows (source self.old) (reached self.old) (range.end - 1) }
         ensures kept { OnOk result (source self.new ≡ source self.old) }
+        ensures reached { OnOk result (reached self.new range.end) }
         ensures made { IfOk result
-            (λ i. (s : Self) (xs : List Located) → holds_elements s self.old array xs
+            (λ i. (s : Self) (xs : List Located) → holds_elements s self.old array range.start xs
             → makes s self.new i (array_at range (items_of xs))) };
 
     /// The `{` of an object.
     fn open_object(&mut self, start: usize) -> Result<Self::Object, AllocError>
+        requires follows { Follows (source self.old) (reached self.old) start }
         ensures kept { OnOk result (source self.new ≡ source self.old) }
-        ensures held { IfOk result (λ o. holds_properties self.old self.new o []) };
+        ensures reached { OnOk result (reached self.new (start + 1)) }
+        ensures held { IfOk result (λ o. holds_properties self.old self.new o start []) };
 
     /// A name in quotes without a backslash.
     fn string_name(&mut self, range: Range) -> Result<Self::Property, AllocError>
         requires inside { Spans (source self.old).bytes (range.start + 1) (range.end - 1) }
         requires stands { HasPlainString (source self.old) range }
+        requires follows { Follows (source self.old) (reached self.old) range.start }
         ensures kept { OnOk result (source self.new ≡ source self.old) }
+        ensures reached { OnOk result (reached self.new range.end) }
         ensures named { IfOk result (λ p. names self.old self.new p
             (record { range = range; name = chars_between (source self.old) (range.start + 1) (range.end - 1) })) };
 
     /// A name in quotes with a backslash, and what it means.
     fn decoded_name(&mut self, range: Range, value: S) -> Result<Self::Property, AllocError>
-        requires { HasEscapedString (source self.old) range (S.chars_of value) }
+        requires stands { HasEscapedString (source self.old) range (S.chars_of value) }
+        requires follows { Follows (source self.old) (reached self.old) range.start }
         ensures kept { OnOk result (source self.new ≡ source self.old) }
+        ensures reached { OnOk result (reached self.new range.end) }
         ensures named { IfOk result (λ p. names self.old self.new p (record { range = range; name = S.chars_of value })) };
 
     /// A name without quotes.
     fn word_name(&mut self, range: Range) -> Result<Self::Property, AllocError>
         requires inside { Spans (source self.old).bytes range.start range.end }
         requires stands { HasLooseName (source self.old) range }
+        requires follows { Follows (source self.old) (reached self.old) range.start }
         ensures kept { OnOk result (source self.new ≡ source self.old) }
+        ensures reached { OnOk result (reached self.new range.end) }
         ensures named { IfOk result (λ p. names self.old self.new p
             (record { range = range; name = chars_between (source self.old) range.start range.end })) };
 
@@ -143,19 +176,24 @@ pub trait Receiver<S: Text> {
         item: Self::Item,
         range: Range,
     ) -> Result<(), AllocError>
-        requires { (s : Self) × (m : Self) × (k : Self) × (ms : List LocatedMember) × (n : LocatedName) × (x : Located)
-            × holds_properties s m object.old ms × names m k property n × makes k self.old item x }
+        requires held { (s : Self) × (m : Self) × (k : Self) × (i : ℕ) × (ms : List LocatedMember) × (n : LocatedName)
+            × (x : Located) × holds_properties s m object.old i ms × names m k property n × makes k self.old item x
+            × Covers range n x }
         ensures kept { OnOk result (source self.new ≡ source self.old) }
+        ensures reached { OnOk result ((i : ℕ) → reached self.old i → reached self.new i) }
         ensures held { OnOk result
-            ((s m k : Self) (ms : List LocatedMember) (n : LocatedName) (x : Located) → holds_properties s m object.old ms
-            → names m k property n → makes k self.old item x
-            → holds_properties s self.new object.new (ms ++ record { range = range; name = n; value = x } ∷ [])) };
+            ((s m k : Self) (i : ℕ) (ms : List LocatedMember) (n : LocatedName) (x : Located)
+            → holds_properties s m object.old i ms → names m k property n → makes k self.old item x → Covers range n x
+            → holds_properties s self.new object.new i (ms ++ record { range = range; name = n; value = x } ∷ [])) };
 
     /// The object of these properties, whose `}` was read.
     fn close_object(&mut self, object: Self::Object, range: Range) -> Result<Self::Item, AllocError>
-        requires { (s : Self) × (ms : List LocatedMember) × holds_properties s self.old object ms }
+        requires held { (s : Self) × (ms : List LocatedMember) × holds_properties s self.old object range.start ms }
+        requires ends { 0 < range.end }
+        requires follows { Follows (source self.old) (reached self.old) (range.end - 1) }
         ensures kept { OnOk result (source self.new ≡ source self.old) }
+        ensures reached { OnOk result (reached self.new range.end) }
         ensures made { IfOk result
-            (λ i. (s : Self) (ms : List LocatedMember) → holds_properties s self.old object ms
+            (λ i. (s : Self) (ms : List LocatedMember) → holds_properties s self.old object range.start ms
             → makes s self.new i (object_at range (members_of ms))) };
 }

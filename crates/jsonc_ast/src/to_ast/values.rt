@@ -58,9 +58,11 @@ impl<'a, A: Allocator + Copy> Receiver<String<A>> for TreeMaker<'a, A> {
 
     ghost names = { IsName };
 
-    ghost holds_elements = { λ s t a xs. AreTrees s t a.items xs };
+    ghost holds_elements = { λ s t a i xs. AreTrees s t a.items xs };
 
-    ghost holds_properties = { λ s t o ms. AreProperties s t o.items ms };
+    ghost holds_properties = { λ s t o i ms. AreProperties s t o.items ms };
+
+    ghost reached = { λ s i. Unit {0} };
 
     #[inline(always)]
     fn is_whole(&self) -> bool {

@@ -1,5 +1,5 @@
 //! The walk over a text, by recursive descent, whatever is made of it.
-ghost use Rattle.std.specs.Prelude.{List, ◌≡◌, ◌+◌, ◌≤◌, ◌<◌, IfOk, IfErr, OnOk, IfSome, IfNone, IsTrue, true, false, chars, is_some};
+ghost use Rattle.std.specs.Prelude.{ℕ, List, ◌≡◌, ◌+◌, ◌≤◌, ◌<◌, IfOk, IfErr, OnOk, IfSome, IfNone, IsTrue, true, false, chars, is_some};
 ghost use Rattle.std.specs.Cow.{cow_str_bytes};
 ghost use Rattle.std.specs.Str.{IsUtf8};
 ghost use Rattle.jsonc_text.specs.Faults.{IsFault};
@@ -10,9 +10,9 @@ ghost use Rattle.jsonc_ast.specs.Views.{LocatedMember, name_at};
 ghost use Rattle.jsonc_ast.specs.declared.ast.ObjectPropName.TheVariants.{String as quoted};
 ghost use Rattle.jsonc_ast.specs.declared.to_ast.container.Container.TheVariants.{Object};
 ghost use Rattle.jsonc_ast.specs.to_ast.Collected.{Collects};
-ghost use Rattle.jsonc_ast.specs.to_ast.Context.{text_in, options_in, token_end, token_range, Keeps, AtEnd, IsToken, IsBracket, OpensNone, GivesAway, last};
+ghost use Rattle.jsonc_ast.specs.to_ast.Context.{text_in, options_in, token_start, token_end, token_range, Keeps, AtEnd, IsToken, IsBracket, OpensNone, GivesAway, last};
 ghost use Rattle.jsonc_ast.specs.to_ast.Faults.{ParseFault, StopsAtContainer, StopsAtItem, StopsAtValue};
-ghost use Rattle.jsonc_ast.specs.to_ast.Handed.{source_of, ElementMade, IsDocumentMade, IsUnexpectedHere, LeafMade, PropertyMade, ReadsLeaf, ReadsMade};
+ghost use Rattle.jsonc_ast.specs.to_ast.Handed.{source_of, ElementMade, Follows, IsDocumentMade, IsUnexpectedHere, LeafMade, PropertyMade, ReadsLeaf, ReadsMade};
 ghost use Rattle.jsonc_ast.specs.to_ast.Reached.{least, per_property};
 ghost use Rattle.jsonc_ast.specs.to_ast.Refusals.{NoLiteral, NoPropertyHere, NoValueHere, OutOfMemoryOr, Refuses};
 ghost use Rattle.jsonc_ast.specs.to_ast.Scanned.{leaf_value};
@@ -78,7 +78,9 @@ fn hand_string<'a, A: Allocator, R: Receiver<String<A>>>(
 ) -> Result<R::Item, AllocError>
     requires utf8 { IsUtf8 (R.source to.old).bytes }
     requires written { IsWritten (R.source to.old).options (R.source to.old).bytes (quoted (record { range = range; value = value })) }
+    requires follows { Follows (R.source to.old) (R.reached to.old) range.start }
     ensures source { OnOk result (R.source to.new ≡ R.source to.old) }
+    ensures reached { OnOk result (R.reached to.new range.end) }
     ensures made { IfOk result (λ i. R.makes to.old to.new i (leaf_at range (string (chars (cow_str_bytes value.entry))))) }
 {
     match value {
@@ -95,7 +97,9 @@ fn hand_name<'a, A: Allocator, R: Receiver<String<A>>>(
 ) -> Result<R::Property, AllocError>
     requires utf8 { IsUtf8 (R.source to.old).bytes }
     requires written { IsWritten (R.source to.old).options (R.source to.old).bytes name }
+    requires follows { Follows (R.source to.old) (R.reached to.old) (name_at name).range.start }
     ensures source { OnOk result (R.source to.new ≡ R.source to.old) }
+    ensures reached { OnOk result (R.reached to.new (name_at name.entry).range.end) }
     ensures named { IfOk result (λ p. R.names to.old to.new p (name_at name.entry)) }
 {
     match name {
@@ -122,7 +126,9 @@ fn leaf<'a, A: Allocator + Copy, R: Receiver<String<A>>>(
     requires lent { IsLentHere context.old (Some (last context.old token)) }
     requires place { range ≡ token_range context.old }
     requires source { R.source to.old ≡ source_of context.old }
+    requires follows { Follows (R.source to.old) (R.reached to.old) range.start }
     ensures source { OnOk result (R.source to.new ≡ R.source to.old) }
+    ensures reached { IfOk result (λ f. IfSome f (λ _. R.reached to.new range.end)) }
     ensures gives { GivesAway context.old context.new }
     ensures made { IfOk result
         (λ f. IfSome f (λ i. LeafMade range (last context.old token) (R.makes to.old to.new i))) }
@@ -165,7 +171,9 @@ fn parse_leaf<'a, A: Allocator + Copy, R: Receiver<String<A>>>(
     requires token { IsToken context.old (last context.old token) }
     requires lent { IsLentHere context.old (Some (last context.old token)) }
     requires source { R.source to.old ≡ source_of context.old }
+    requires follows { Follows (R.source to.old) (R.reached to.old) (token_start context.old) }
     ensures source { OnOk result (R.source to.new ≡ R.source to.old) }
+    ensures reached { OnOk result (R.reached to.new (token_end context.new)) }
     ensures gives { GivesAway context.old context.new }
     ensures found { IfOk result (λ i. ReadsLeaf context.old (R.makes to.old to.new i)) }
     ensures refused { IfErr result (OutOfMemoryOr (NoLiteral context.old)) }
@@ -197,7 +205,9 @@ fn parse_value<'a, A: Allocator + Copy, R: Receiver<String<A>>>(
     requires around { count ≤ 512 }
     requires lent { IsLentHere context.old (Some (last context.old token)) }
     requires source { R.source to.old ≡ source_of context.old }
+    requires follows { Follows (R.source to.old) (R.reached to.old) (token_start context.old) }
     ensures source { OnOk result (R.source to.new ≡ R.source to.old) }
+    ensures reached { OnOk result (R.reached to.new (token_end context.new)) }
     ensures kept { OnOk result (Keeps context.old context.new) }
     ensures collects { OnOk result (Collects context.old context.new) }
     ensures found { IfOk result (λ i. ReadsMade context.old context.new R.whole count (R.makes to.old to.new i)) }
@@ -232,15 +242,17 @@ fn parse_element<'a, A: Allocator + Copy, R: Receiver<String<A>>>(
 ) -> Result<(), ParseError>
     requires token { IsToken context.old (last context.old token) }
     requires around { count ≤ 512 }
-    requires held { (s : R) × (xs : List Located) × R.holds_elements s to.old elements.old xs }
+    requires held { (s : R) × (i : ℕ) × (xs : List Located) × R.holds_elements s to.old elements.old i xs }
     requires lent { IsLentHere context.old (Some (last context.old token)) }
     requires source { R.source to.old ≡ source_of context.old }
+    requires follows { Follows (R.source to.old) (R.reached to.old) (token_start context.old) }
     ensures source { OnOk result (R.source to.new ≡ R.source to.old) }
+    ensures reached { OnOk result (R.reached to.new (token_end context.new)) }
     ensures kept { OnOk result (Keeps context.old context.new) }
     ensures collects { OnOk result (Collects context.old context.new) }
     ensures found { OnOk result
-        ((s : R) → ElementMade context.old context.new R.whole count (R.holds_elements s to.old elements.old)
-        (R.holds_elements s to.new elements.new)) }
+        ((s : R) (i : ℕ) → ElementMade context.old context.new R.whole count (R.holds_elements s to.old elements.old i)
+        (R.holds_elements s to.new elements.new i)) }
     ensures refused { IfErr result (OutOfMemoryOr (NoValueHere context.old R.whole count)) }
     ensures fault { IfErr result (IsFault (text_in context.old)) }
     ensures error { IfErr result (StopsAtValue context.old (last context.old token) R.whole count) }
@@ -288,7 +300,9 @@ fn parse_array<'a, A: Allocator + Copy, R: Receiver<String<A>>>(
     requires token { IsBracket 0x5B context.old }
     requires around { count ≤ 512 }
     requires source { R.source to.old ≡ source_of context.old }
+    requires follows { Follows (R.source to.old) (R.reached to.old) (token_start context.old) }
     ensures source { OnOk result (R.source to.new ≡ R.source to.old) }
+    ensures reached { OnOk result (R.reached to.new (token_end context.new)) }
     ensures kept { OnOk result (Keeps context.old context.new) }
     ensures collects { OnOk result (Collects context.old context.new) }
     ensures found { IfOk result (λ i. ReadsMade context.old context.new R.whole count (R.makes to.old to.new i)) }
@@ -330,7 +344,9 @@ fn parse_object<'a, A: Allocator + Copy, R: Receiver<String<A>>>(
     requires token { IsBracket 0x7B context.old }
     requires around { count ≤ 512 }
     requires source { R.source to.old ≡ source_of context.old }
+    requires follows { Follows (R.source to.old) (R.reached to.old) (token_start context.old) }
     ensures source { OnOk result (R.source to.new ≡ R.source to.old) }
+    ensures reached { OnOk result (R.reached to.new (token_end context.new)) }
     ensures kept { OnOk result (Keeps context.old context.new) }
     ensures collects { OnOk result (Collects context.old context.new) }
     ensures found { IfOk result (λ i. ReadsMade context.old context.new R.whole count (R.makes to.old to.new i)) }
@@ -370,15 +386,17 @@ fn parse_property<'a, A: Allocator + Copy, R: Receiver<String<A>>>(
 ) -> Result<(), ParseError>
     requires token { IsToken context.old (last context.old token) }
     requires around { count + least R.whole ≤ 513 }
-    requires held { (s : R) × (ms : List LocatedMember) × R.holds_properties s to.old properties.old ms }
+    requires held { (s : R) × (i : ℕ) × (ms : List LocatedMember) × R.holds_properties s to.old properties.old i ms }
     requires lent { IsLentHere context.old (Some (last context.old token)) }
     requires source { R.source to.old ≡ source_of context.old }
+    requires follows { Follows (R.source to.old) (R.reached to.old) (token_start context.old) }
     ensures source { OnOk result (R.source to.new ≡ R.source to.old) }
+    ensures reached { OnOk result (R.reached to.new (token_end context.new)) }
     ensures kept { OnOk result (Keeps context.old context.new) }
     ensures collects { OnOk result (Collects context.old context.new) }
     ensures found { OnOk result
-        ((s : R) → PropertyMade context.old context.new R.whole count (R.holds_properties s to.old properties.old)
-        (R.holds_properties s to.new properties.new)) }
+        ((s : R) (i : ℕ) → PropertyMade context.old context.new R.whole count (R.holds_properties s to.old properties.old i)
+        (R.holds_properties s to.new properties.new i)) }
     ensures refused { IfErr result (OutOfMemoryOr (NoPropertyHere context.old R.whole count)) }
     ensures fault { IfErr result (IsFault (text_in context.old)) }
     ensures error { IfErr result (StopsAtItem Object context.old (last context.old token) R.whole count) }
@@ -412,10 +430,12 @@ pub fn read_document<'a, A: Allocator + Copy, R: Receiver<String<A>>>(
 ) -> Result<Option<R::Item>, ParseError>
     requires start { token_end context.old ≡ 0 }
     requires source { R.source to.old ≡ source_of context.old }
+    requires reached { R.reached to.old 0 }
     ensures kept { OnOk result (Keeps context.old context.new) }
     ensures collects { OnOk result (Collects context.old context.new) }
     ensures end { OnOk result (AtEnd context.new) }
     ensures found { IfOk result (IsDocumentMade (source_of context.old) R.whole (R.makes to.old to.new)) }
+    ensures none { IfOk result (λ f. IfNone f (to.new ≡ to.old)) }
     ensures refused { IfErr result (Refuses (options_in context.old) R.whole (text_in context.old)) }
     ensures fault { IfErr result (IsFault (text_in context.old)) }
     ensures error { IfErr result (ParseFault (options_in context.old) (text_in context.old) R.whole) }

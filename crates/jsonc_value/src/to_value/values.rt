@@ -90,9 +90,11 @@ impl<'a, A: Allocator + Copy> Receiver<String<A>> for ValueMaker<'a, A> {
 
     ghost names = { λ s t p n. IsName p n };
 
-    ghost holds_elements = { λ s t a xs. AreElements a.items xs };
+    ghost holds_elements = { λ s t a i xs. AreElements a.items xs };
 
-    ghost holds_properties = { λ s t o ms. AreProperties o ms };
+    ghost holds_properties = { λ s t o i ms. AreProperties o ms };
+
+    ghost reached = { λ s i. Unit {0} };
 
     #[inline(always)]
     fn is_whole(&self) -> bool {

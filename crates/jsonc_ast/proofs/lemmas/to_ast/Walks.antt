@@ -22,6 +22,7 @@ use Rattle.jsonc_ast.specs.to_ast.Refusals.{here, NoPropertyHere, NoValueHere}
 use Rattle.jsonc_ast.specs.to_ast.Reached.{count, per_property, least}
 use Rattle.jsonc_ast.specs.to_ast.Reads.{Reads, ReadsMember}
 use Rattle.jsonc_ast.specs.to_ast.Written.{IsLentHere}
+use Rattle.jsonc_ast.proofs.lemmas.to_ast.Following.{ItemFollows}
 use Rattle.jsonc_ast.proofs.lemmas.to_ast.Loops.{Elements, start_spans}
 use Rattle.jsonc_ast.proofs.lemmas.to_ast.NoValues.{ElementsLeft, PropertiesLeft, nesting_in_property, nesting_refused}
 use Rattle.jsonc_ast.proofs.lemmas.to_ast.OpenContainers.{GoesOn, deep_container_stops, deep_property_stops, deep_stops, leaf_stops}
@@ -30,7 +31,7 @@ use Rattle.jsonc_ast.proofs.lemmas.to_ast.Scans.{moved, kept_on}
 
 module _ {A : Type 0} where
   -- an array's elements so far, what is held of them, and what is left of it
-  pub record ElementsGoOn (source : Source) (old now : Context A) (whole : Bool) (next : Option (Token A)) (n : ℕ) (is_held : List Located → Type 0) : Type 0 where
+  pub record ElementsGoOn (source : Source) (old now : Context A) (whole : Bool) (next : Option (Token A)) (n : ℕ) (is_held : List Located → Type 0) (is_reached : ℕ → Type 0) : Type 0 where
     pub elements : List Located
     pub held : is_held elements
     pub same : source ≡ source_of old
@@ -39,9 +40,10 @@ module _ {A : Type 0} where
     pub collects : Collects old now
     pub reading : GoesOn whole Array old now next n
     pub lent : IsLentHere now next
+    pub follows : ItemFollows source is_reached now next
 
   -- an object's properties
-  pub record PropertiesGoOn (source : Source) (old now : Context A) (whole : Bool) (next : Option (Token A)) (n : ℕ) (is_held : List LocatedMember → Type 0) : Type 0 where
+  pub record PropertiesGoOn (source : Source) (old now : Context A) (whole : Bool) (next : Option (Token A)) (n : ℕ) (is_held : List LocatedMember → Type 0) (is_reached : ℕ → Type 0) : Type 0 where
     pub properties : List LocatedMember
     pub held : is_held properties
     pub same : source ≡ source_of old
@@ -50,6 +52,7 @@ module _ {A : Type 0} where
     pub collects : Collects old now
     pub reading : GoesOn whole Object old now next n
     pub lent : IsLentHere now next
+    pub follows : ItemFollows source is_reached now next
 
 -- where an item may stand, and what counts in it may as well
 pub item_fits : (whole : Bool) (n : ℕ) → n + per_property whole ≤ 512 → n + least whole ≤ 512 → n + 1 ≤ 512

@@ -11,6 +11,7 @@ use Rattle.jsonc_ast.specs.to_ast.Refusals.{here, NoPropertyHere, NoValueHere, O
 use Rattle.jsonc_ast.specs.to_ast.Faults.{StopsAtContainer, StopsAtItem}
 use Rattle.jsonc_ast.specs.declared.to_ast.container.Container.TheVariants.{Array, Object}
 use Rattle.jsonc_ast.proofs.lemmas.to_ast.MovedTokens.{is_bracket, is_brace, kept_self, collects_self, collects_given, reads_self, kept_given, colon_given, no_colon_given, stops_given}
+use Rattle.jsonc_ast.proofs.lemmas.to_ast.Following.{colon_follows, first_follows, next_follows, source_on}
 use Rattle.jsonc_ast.proofs.lemmas.to_ast.Scans.{kept_on}
 use Rattle.jsonc_ast.proofs.lemmas.to_ast.Collecting.{ok_is, collects_turn}
 use Rattle.jsonc_ast.proofs.lemmas.to_ast.Loops.{AtHand, elements_start, elements_turn, elements_whole}
@@ -24,6 +25,8 @@ use Rattle.jsonc_ast.proofs.lemmas.to_ast.Handing.{name_here, number_here, numbe
 use Rattle.std.specs.Cow.{cow_str_bytes}
 use Rattle.std.specs.Prelude.{chars}
 use Rattle.jsonc_ast.specs.to_ast.Handed.{chars_between}
+use Rattle.jsonc_scan.specs.Scanner.{StandsAt}
+use Rattle.jsonc_ast.specs.to_ast.Written.{IsLentHere}
 use Rattle.jsonc_ast.proofs.to_ast.walk.+parse.Goals as goal
 
 pub parse_array-loop-next-init : goal.parse_array-loop-next-init
@@ -38,6 +41,7 @@ parse_array-loop-next-init g t c =
       lent = read.lent;
       collects = read.collects;
       same = c.in-Ok.ensures.kept ∙ c.requires.source;
+      follows = first_follows Array 0x5B old now (g.R.Receiver.source c.open_array.new.self) (g.R.Receiver.reached c.open_array.new.self) c.token_start-start.result found (omega arith) c.requires.token (c.in-Ok.ensures.kept ∙ c.requires.source) c.token_start-start.ensures c.in-Ok.ensures.reached c.first_item.ensures.kept read.found;
       so_far = elements_start whole old now found [] c.args.count refl c.first_item.ensures.kept read.found (c.opens_too_deep.ensures.within c.if-opens_too_deep.false);
       left = elements_left_start whole old now found c.args.count c.requires.token c.first_item.ensures.kept read.only;
       reading = goes_first whole Array old now found c.args.count c.requires.token (has_room whole Array c.args.count (c.opens_too_deep.ensures.within c.if-opens_too_deep.false)) c.first_item.ensures.kept read.found read.stands;
@@ -55,6 +59,7 @@ parse_object-loop-next-init g t c =
       lent = read.lent;
       collects = read.collects;
       same = c.in-Ok.ensures.kept ∙ c.requires.source;
+      follows = first_follows Object 0x7B old now (g.R.Receiver.source c.open_object.new.self) (g.R.Receiver.reached c.open_object.new.self) c.token_start-start.result found (omega arith) c.requires.token (c.in-Ok.ensures.kept ∙ c.requires.source) c.token_start-start.ensures c.in-Ok.ensures.reached c.first_item.ensures.kept read.found;
       so_far = properties_start whole old now found [] c.args.count refl c.first_item.ensures.kept read.found (c.opens_too_deep.ensures.within c.if-opens_too_deep.false);
       left = properties_left_start whole old now found c.args.count c.requires.token c.first_item.ensures.kept read.only;
       reading = goes_first whole Object old now found c.args.count c.requires.token (has_room whole Object c.args.count (c.opens_too_deep.ensures.within c.if-opens_too_deep.false)) c.first_item.ensures.kept read.found read.stands;
@@ -71,7 +76,7 @@ parse_array-loop-next-preserved g t c =
     let t = last now c.in-Some.token in
     let is = ap (found_in now) c.in-Some.is in
     let kept = c.in_ok-parse_element.ensures.kept in
-    let read = c.in_ok-parse_element.ensures.found c.args.to.now in
+    let read = c.in_ok-parse_element.ensures.found c.args.to.now c.token_start-start.result in
     let further = c.in_ok-next-2.ensures in
     let inv = c.loop-next.invariant in record {
       elements = inv.elements ++ read.element ∷ [];
@@ -79,6 +84,7 @@ parse_array-loop-next-preserved g t c =
       lent = further.lent;
       collects = collects_turn old now mid new inv.so_far.kept inv.collects kept c.in_ok-parse_element.ensures.collects further.collects;
       same = c.in_ok-parse_element.ensures.source ∙ inv.same;
+      follows = next_follows Array mid new (g.R.Receiver.source c.parse_element.new.to) (g.R.Receiver.reached c.parse_element.new.to) next (source_on old mid _ (kept_on old now mid inv.so_far.kept kept) (c.in_ok-parse_element.ensures.source ∙ inv.same)) c.in_ok-parse_element.ensures.reached c.next_item.ensures.kept further.found;
       so_far = elements_turn whole old now mid new (found_in now c.loop-next.next) next t read.element inv.elements (inv.elements ++ read.element ∷ []) c.args.count inv.so_far is kept read.reads c.next_item.ensures.kept further.found refl read.within;
       left = elements_left_turn whole old now inv.so_far.kept t c.args.count (subst (λ n. ElementsLeft whole old now n c.args.count) is inv.left) mid read.element kept read.reads new next c.next_item.ensures.kept further.only;
       reading = elements_go_on whole old now inv.so_far.kept t mid (value_at read.element) c.args.count (subst (λ n. GoesOn whole Array old now n c.args.count) is inv.reading) kept (value_read now mid read.element read.reads) read.within
@@ -96,7 +102,7 @@ parse_object-loop-next-preserved g t c =
     let t = last now c.in-Some.token in
     let is = ap (found_in now) c.in-Some.is in
     let kept = c.in_ok-parse_property.ensures.kept in
-    let read = c.in_ok-parse_property.ensures.found c.args.to.now in
+    let read = c.in_ok-parse_property.ensures.found c.args.to.now c.token_start-start.result in
     let m = read.member in
     let further = c.in_ok-next-2.ensures in
     let inv = c.loop-next.invariant in record {
@@ -105,6 +111,7 @@ parse_object-loop-next-preserved g t c =
       lent = further.lent;
       collects = collects_turn old now mid new inv.so_far.kept inv.collects kept c.in_ok-parse_property.ensures.collects further.collects;
       same = c.in_ok-parse_property.ensures.source ∙ inv.same;
+      follows = next_follows Object mid new (g.R.Receiver.source c.parse_property.new.to) (g.R.Receiver.reached c.parse_property.new.to) next (source_on old mid _ (kept_on old now mid inv.so_far.kept kept) (c.in_ok-parse_property.ensures.source ∙ inv.same)) c.in_ok-parse_property.ensures.reached c.next_item.ensures.kept further.found;
       so_far = properties_turn whole old now mid new (found_in now c.loop-next.next) next t m inv.properties (inv.properties ++ m ∷ []) c.args.count inv.so_far is kept read.reads c.next_item.ensures.kept further.found refl read.within;
       left = properties_left_turn whole old now inv.so_far.kept t c.args.count (subst (λ n. PropertiesLeft whole old now n c.args.count) is inv.left) mid m kept read.reads new next c.next_item.ensures.kept further.only;
       reading = properties_go_on whole old now inv.so_far.kept t mid m.name.name (value_at m.value) c.args.count (subst (λ n. GoesOn whole Object old now n c.args.count) is inv.reading) kept (property_read now mid m read.reads) read.within
@@ -122,7 +129,7 @@ parse_array-returns-clause-found g t c =
       reads = elements_whole whole old now (found_in now c.loop-next.next) inv.elements c.args.count c.new-range.result inv.so_far none c.requires.token
           (c.new-range.ensures.start ∙ c.token_start-start.ensures) (c.new-range.ensures.end ∙ c.token_end.ensures);
       within = inv.so_far.within;
-      made = c.in-Ok-close_array.ensures.made c.args.to.now inv.elements inv.held;
+      made = c.in-Ok-close_array.ensures.made c.args.to.now inv.elements (subst (λ i. g.R.Receiver.holds_elements c.args.to.now c.loop-next.to c.loop-next.elements i inv.elements) (sym c.new-range.ensures.start) inv.held);
     }
 
 pub parse_object-returns-clause-found : goal.parse_object-returns-clause-found
@@ -136,11 +143,11 @@ parse_object-returns-clause-found g t c =
       reads = properties_whole whole old now (found_in now c.loop-next.next) inv.properties c.args.count c.new-range.result inv.so_far none c.requires.token
           (c.new-range.ensures.start ∙ c.token_start-start.ensures) (c.new-range.ensures.end ∙ c.token_end.ensures);
       within = inv.so_far.within;
-      made = c.in-Ok-close_object.ensures.made c.args.to.now inv.properties inv.held;
+      made = c.in-Ok-close_object.ensures.made c.args.to.now inv.properties (subst (λ i. g.R.Receiver.holds_properties c.args.to.now c.loop-next.to c.loop-next.properties i inv.properties) (sym c.new-range.ensures.start) inv.held);
     }
 
 pub parse_property-returns-clause-found : goal.parse_property-returns-clause-found
-parse_property-returns-clause-found g t c = λ s.
+parse_property-returns-clause-found g t c = λ s i.
     let whole = g.R.Receiver.whole in
     let old = c.args.context.now in
     let named = c.name.new.self in
@@ -154,7 +161,7 @@ parse_property-returns-clause-found g t c = λ s.
       reads = member_reads old mid at new n c.new-range.result read.value c.in_ok-name.ensures.name c.in_ok-name.ensures.range (kept_given old named mid c.name.ensures.gives c.pass_colon.ensures.kept) (colon_given old named mid c.name.ensures.gives c.in_ok-pass_colon.ensures.found) found.kept found.found.0 read.reads
           (c.new-range.ensures.start ∙ c.token_start-start.ensures) (c.new-range.ensures.end ∙ c.token_end.ensures);
       within = subst (λ n. size whole (value_at read.value) + n ≤ 512) c.around_value-around.ensures read.within;
-      put = λ ms held. c.in-Ok-property.ensures.held s c.args.to.now c.hand_name.new.to ms n read.value held c.in-Ok.ensures.named read.made;
+      put = λ ms held. c.in-Ok-property.ensures.held s c.args.to.now c.hand_name.new.to i ms n read.value held c.in-Ok.ensures.named read.made (record { starts = c.new-range.ensures.start ∙ c.token_start-start.ensures ∙ ap (λ q. q.start) (sym c.in_ok-name.ensures.range); ends = c.new-range.ensures.end ∙ c.token_end.ensures ∙ sym read.reads.ends });
     }
 
 pub parse_value-returns-in_default-clause-kept : goal.parse_value-returns-in_default-clause-kept
@@ -227,7 +234,7 @@ parse_array-returns-in_err-next-2-clause-refused g t c =
     let left = subst (λ n. ElementsLeft whole old now n c.args.count) (ap (found_in c.loop-next.context) c.in-Some.is) inv.left in
     let mid = c.parse_element.new.context in
     let read = c.in_ok-parse_element.ensures in
-    let made = read.found c.args.to.now in
+    let made = read.found c.args.to.now c.token_start-start.result in
     let e = c.in_err-next-2.field-0.0 in
     err_of (OutOfMemoryOr (NoValueHere c.args.context.now whole c.args.count)) e c.from_residual-in_err-next-2.result c.from_residual-in_err-next-2.ensures.1
     (still
@@ -242,7 +249,7 @@ parse_array-returns-in_err-next-2-clause-error g t c =
     let reading = subst (λ n. GoesOn whole Array old now n c.args.count) (ap (found_in c.loop-next.context) c.in-Some.is) inv.reading in
     let mid = c.parse_element.new.context in
     let read = c.in_ok-parse_element.ensures in
-    let made = read.found c.args.to.now in
+    let made = read.found c.args.to.now c.token_start-start.result in
     let x = made.element in
     let e = c.in_err-next-2.field-0.0 in
     err_of (StopsAtContainer old whole c.args.count) e c.from_residual-in_err-next-2.result c.from_residual-in_err-next-2.ensures.1
@@ -294,7 +301,7 @@ parse_object-returns-in_err-next-2-clause-refused g t c =
     let left = subst (λ n. PropertiesLeft whole old now n c.args.count) (ap (found_in c.loop-next.context) c.in-Some.is) inv.left in
     let mid = c.parse_property.new.context in
     let read = c.in_ok-parse_property.ensures in
-    let made = read.found c.args.to.now in
+    let made = read.found c.args.to.now c.token_start-start.result in
     let e = c.in_err-next-2.field-0.0 in
     err_of (OutOfMemoryOr (NoValueHere c.args.context.now whole c.args.count)) e c.from_residual-in_err-next-2.result c.from_residual-in_err-next-2.ensures.1
     (still
@@ -309,7 +316,7 @@ parse_object-returns-in_err-next-2-clause-error g t c =
     let reading = subst (λ n. GoesOn whole Object old now n c.args.count) (ap (found_in c.loop-next.context) c.in-Some.is) inv.reading in
     let mid = c.parse_property.new.context in
     let read = c.in_ok-parse_property.ensures in
-    let made = read.found c.args.to.now in
+    let made = read.found c.args.to.now c.token_start-start.result in
     let m = made.member in
     let e = c.in_err-next-2.field-0.0 in
     err_of (StopsAtContainer old whole c.args.count) e c.from_residual-in_err-next-2.result c.from_residual-in_err-next-2.ensures.1
@@ -470,22 +477,22 @@ pub parse_property-hand_name-requires-clause-written : goal.parse_property-hand_
 parse_property-hand_name-requires-clause-written g t c = name_here c.args.context.now (g.R.Receiver.source c.args.to.now) c.in_ok-name.name c.requires.source (c.in_ok-name.ensures.written c.requires.lent)
 
 pub parse_element-returns-in-Ok-element-clause-found : goal.parse_element-returns-in-Ok-element-clause-found
-parse_element-returns-in-Ok-element-clause-found g t c = λ s.
+parse_element-returns-in-Ok-element-clause-found g t c = λ s i.
     let whole = g.R.Receiver.whole in
     let old = c.args.context.now in
-    element_put old _ (last old c.args.token) c.range-range.result (string (chars (cow_str_bytes c.take_string-string.result))) whole c.args.count (g.R.Receiver.holds_elements s c.args.to.now c.args.elements.now) _
+    element_put old _ (last old c.args.token) c.range-range.result (string (chars (cow_str_bytes c.take_string-string.result))) whole c.args.count (g.R.Receiver.holds_elements s c.args.to.now c.args.elements.now i) _
     c.requires.token (ap (λ k. leaf_value (scanned_of (last old k))) c.in-String.is ∙ ap (λ x. Some (string (chars (cow_str_bytes x)))) (sym c.take_string-string.ensures.string)) c.range-range.ensures (record { scanner = refl; tokens = refl; comments = refl; apart = refl }) c.requires.around
-    (λ xs held. c.in-Ok-element.ensures.held s c.args.to.now xs _ held c.in-Ok.ensures.made)
+    (λ xs held. c.in-Ok-element.ensures.held s c.args.to.now i xs _ held c.in-Ok.ensures.made)
 
 pub parse_element-returns-in-Ok-element-2-clause-found : goal.parse_element-returns-in-Ok-element-2-clause-found
-parse_element-returns-in-Ok-element-2-clause-found g t c = λ s.
+parse_element-returns-in-Ok-element-2-clause-found g t c = λ s i.
     let whole = g.R.Receiver.whole in
     let old = c.args.context.now in
     let source = g.R.Receiver.source c.args.to.now in
     let r = c.range-range-in-Number.result in
-    element_put old old (last old c.args.token) r (number (chars_between source r.start r.end)) whole c.args.count (g.R.Receiver.holds_elements s c.args.to.now c.args.elements.now) _
+    element_put old old (last old c.args.token) r (number (chars_between source r.start r.end)) whole c.args.count (g.R.Receiver.holds_elements s c.args.to.now c.args.elements.now i) _
     c.requires.token (ap (λ k. leaf_value (scanned_of (last old k))) c.in-Number.is ∙ ap (λ x. Some (number x)) (number_means old source c.args.token r c.in-Number.is c.requires.source c.requires.token c.range-range-in-Number.ensures)) c.range-range-in-Number.ensures (gives_nothing old) c.requires.around
-    (λ xs held. c.in-Ok-element-2.ensures.held s c.args.to.now xs _ held c.in-Ok-number.ensures.made)
+    (λ xs held. c.in-Ok-element-2.ensures.held s c.args.to.now i xs _ held c.in-Ok-number.ensures.made)
 
 pub parse_property-returns-clause-collects : goal.parse_property-returns-clause-collects
 parse_property-returns-clause-collects g t c =
@@ -500,3 +507,22 @@ parse_element-returns-in-Ok-element-clause-collects g t c = collects_self c.args
 
 pub parse_element-returns-in-Ok-element-2-clause-collects : goal.parse_element-returns-in-Ok-element-2-clause-collects
 parse_element-returns-in-Ok-element-2-clause-collects g t c = collects_self c.args.context.now _ (gives_nothing c.args.context.now)
+
+pub parse_property-parse_value-requires : goal.parse_property-parse_value-requires
+parse_property-parse_value-requires g t c κs within =
+    let old = c.args.context.now in
+    let named = c.name.new.self in
+    let mid = c.pass_colon.new.self in
+    let at = c.scan.new.self in
+    let to = c.hand_name.new.to in
+    let found = c.in_ok-found.ensures in
+    let is = ap (found_in at) c.in-Some.is in
+    let kept = kept_given old named mid c.name.ensures.gives c.pass_colon.ensures.kept in
+    let token = subst (StandsAt at.scanner) is found.found.1 in
+    let same = c.in-Ok.ensures.source ∙ c.requires.source in
+    let small = c.holds_too_deep.ensures.within c.if-holds_too_deep.false in
+    let follows = colon_follows old mid at (last at c.in-Some.token) (g.R.Receiver.source to) (g.R.Receiver.reached to) (name_at c.in_ok-name.name).range.end same (ap (λ q. q.end) c.in_ok-name.ensures.range) c.in-Ok.ensures.reached kept found.kept
+    (colon_given old named mid c.name.ensures.gives c.in_ok-pass_colon.ensures.found) found.found.0 token in
+    let lent = subst (IsLentHere at) is found.lent in
+    let source = source_on old at (g.R.Receiver.source to) (kept_on old mid at kept found.kept) same in
+    (omega (arith, c.around_value-around.ensures, small), (within.0, (within.1.0, (within.1.1.0, (within.1.1.1.0, (within.1.1.1.1.0, (within.1.1.1.1.1, (token, (omega (arith, c.around_value-around.ensures, small), (lent, (source, follows)))))))))))

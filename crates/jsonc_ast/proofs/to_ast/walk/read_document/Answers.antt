@@ -9,6 +9,7 @@ use Rattle.jsonc_ast.proofs.lemmas.to_ast.MovedTokens.{none_found}
 use Rattle.jsonc_ast.proofs.lemmas.to_ast.Leaves.{empty_document, value_document}
 use Rattle.jsonc_ast.proofs.lemmas.to_ast.NoValues.{value_read, document_no_token, document_no_value, document_no_end, document_goes_on, document_from_start}
 use Rattle.jsonc_ast.proofs.lemmas.to_ast.Refusals.{err_of, still}
+use Rattle.jsonc_ast.proofs.lemmas.to_ast.Following.{root_follows}
 use Rattle.jsonc_ast.proofs.lemmas.to_ast.Scans.{kept_on}
 use Rattle.jsonc_ast.proofs.lemmas.to_ast.OpenContainers.{root_stops, end_stops, second_stops, text_stops}
 use Rattle.jsonc_ast.proofs.lemmas.to_ast.Stopping.{stops_here}
@@ -146,3 +147,10 @@ returns-clause-collects g c =
     let read = c.in_ok-token.ensures in
     let value = c.in_ok-value.ensures in
     collects_turn c.args.context.now c.scan.new.self c.parse_value.new.context c.scan-2.new.self read.kept read.collects value.kept value.collects c.in_ok-scan.ensures.collects
+
+pub parse_value-requires-clause-follows : goal.parse_value-requires-clause-follows
+parse_value-requires-clause-follows g c =
+    let now = c.scan.new.self in
+    let read = c.in_ok-token.ensures in
+    let is = ap (found_in now) c.in-Some.is in
+    root_follows c.args.context.now now (last now c.in-Some.token) (g.R.Receiver.source c.args.to.now) (g.R.Receiver.reached c.args.to.now) c.requires.source c.requires.start c.requires.reached read.kept read.found.0 (subst (StandsAt now.scanner) is read.found.1)

@@ -3,4 +3,4 @@ use Rattle.jsonc_value.proofs.to_value.values.ValueMakerReceiverString.property.
 
 pub returns-clause-held : goal.returns-clause-held
 returns-clause-held g c = then_ok c.put_property.result c.put_property.ensures
-    (λ put s m k ms n x held named made. property_grown c.args.object.now _ c.args.property c.args.item ms (record { range = c.args._range; name = n; value = x }) put held named made)
+    (λ put s m k i ms n x held named made covers. property_grown c.args.object.now _ c.args.property c.args.item ms (record { range = c.args._range; name = n; value = x }) put held named made)
