@@ -8,6 +8,7 @@ use crate::node::Node;
 use std::alloc::Allocator;
 
 // The node before a gap leads on to this one, or the container if there is none before.
+#[inline(always)]
 pub(crate) fn set_ahead<A: Allocator>(
     nodes: &mut Vec<Node<A>, A>,
     c: usize,

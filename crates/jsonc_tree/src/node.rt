@@ -1,6 +1,6 @@
 //! What a node is.
 
-ghost use Rattle.std.specs.Prelude.{◌≡◌, ◌<◌, ◌-◌, ◌^◌, true, false, None, option_map, IfSome};
+ghost use Rattle.std.specs.Prelude.{◌≡◌, ◌<◌, ◌-◌, ◌^◌, true, false, None, Some, option_map, IfSome};
 ghost use Rattle.jsonc_tree.specs.Content.{is_container, kept_text};
 ghost use Rattle.jsonc_tree.specs.Stored.{bare, content_of, first_end, last_end, no_ends};
 
@@ -228,6 +228,25 @@ pub(crate) fn bare_node<A: Allocator>(kind: Kind<A>) -> Node<A>
         kind: without_children(kind),
         parent: Link::from_option(None),
         previous: Link::from_option(None),
+        next: Link::from_option(None),
+    }
+}
+
+// A node that stands behind this one in a container's row, at its end.
+#[inline(always)]
+pub(crate) fn node_in<A: Allocator>(
+    kind: Kind<A>,
+    parent: usize,
+    previous: Option<usize>,
+) -> Node<A>
+    requires parent { parent < 2 ^ 64 - 1 }
+    requires previous { IfSome previous (λ n. n < 2 ^ 64 - 1) }
+    ensures { result ≡ record (bare (content_of kind)) { parent = Some parent; previous = previous } }
+{
+    Node {
+        kind: without_children(kind),
+        parent: Link::from_option(Some(parent)),
+        previous: Link::from_option(previous),
         next: Link::from_option(None),
     }
 }
