@@ -1,170 +1,267 @@
--- The children of a container so far, and what is still to be built.
-use Rattle.std.proofs.Common.{ℕ, ◌+◌, ◌-◌, ◌<◌, ◌≤◌, ◌≡◌, ◌∙◌, sym, ap, subst, refl, List, length, drop, get_or, arith, Result, Ok, Err, OnOk, IsTrue, Some}
-use Rattle.std.proofs.lemmas.List.{drop_more, drop_all}
-use Rattle.jsonc_tree.specs.Content.{Content, is_container, token}
-use Rattle.jsonc_tree.specs.Tree.{Node, is_container_at}
-use Rattle.jsonc_tree.specs.OrderedTree.{OrderedTree, none, more, followed_by}
+-- Nodes that are added to a container, and what they are made of.
+use Rattle.std.proofs.Common.{ℕ, ◌+◌, ◌-◌, ◌<◌, ◌≡◌, ◌∙◌, sym, ap, subst, refl, List, [], ◌∷◌, ◌++◌, length, arith, IsTrue, Result, Ok, Err, OnOk, IfOk}
+use Rattle.std.proofs.lemmas.List.{append_assoc, append-nil}
+use Rattle.std.specs.Rc.{rc_str_bytes}
 use Rattle.jsonc_text.specs.declared.common.Range.{Range}
 use Rattle.jsonc_text.specs.Text.{Spans}
-use Rattle.jsonc_ast.specs.Located.{Located, LocatedItems, LocatedMembers, LocatedName, array_at, object_at, no_items_at, item_at, no_members_at, member_at, range_at}
-use Rattle.jsonc_ast.specs.Views.{located, member_of, items_located, members_located}
-use Rattle.jsonc_ast.specs.declared.ast.Value.{Value}
-use Rattle.jsonc_ast.specs.declared.ast.ObjectProp.{ObjectProp}
 use Rattle.jsonc_tree.specs.Changes.{Pushes}
+use Rattle.jsonc_tree.specs.Content.{Content, is_container, array, object, property, token}
+use Rattle.jsonc_tree.specs.OrderedTree.{OrderedTree, none, more, followed_by}
+use Rattle.jsonc_tree.specs.Tree.{Node, is_container_at}
+use Rattle.jsonc_tree.specs.Growing.{IsGrowing, container_of, nodes_so_far}
+use Rattle.jsonc_tree.specs.declared.growing.Growing.{Growing}
+use Rattle.jsonc_ast.specs.Located.{Located, LocatedName, array_at, object_at, item_at, member_at, range_at}
+use Rattle.jsonc_ast.specs.Views.{LocatedMember, items_of, members_of}
+use Rattle.jsonc_ast.specs.to_ast.Handed.{Covers}
+use Rattle.jsonc_build.specs.declared.maker.DocumentMaker.{DocumentMaker}
 use Rattle.jsonc_build.specs.Growth.{Grows}
-use Rattle.jsonc_build.specs.Laid.{FillsBetween, bracketed, array_node, object_node, Laid, ItemsLaid, an_element, no_element, MembersLaid, a_property, no_property, PropertyLaid, NameLaid, name_and_value, CanLay, CanLayItems, CanLayMembers, RootLaid}
-use Rattle.jsonc_build.proofs.AddedChildren.{grows_none, grows_append, grows_below, grows_leaf}
+use Rattle.jsonc_build.specs.Laid.{FillsBetween, ItemsLaid, MembersLaid, Laid, NameLaid, a_property, an_element, array_node, bracketed, name_and_value, no_element, no_property, object_node}
+use Rattle.jsonc_build.specs.Making.{container_in, source_in, nodes_in, Adds, Closes, HasElements, HasProperties, Holds, HoldsElements, HoldsProperties, IsAt, Names, Opens, Puts, PutsLeaf, Stays}
+use Rattle.jsonc_build.proofs.AddedChildren.{grows_none, grows_append, grows_below, grows_leaf, container_kept}
 use Rattle.jsonc_build.proofs.Rows.{followed_assoc}
 
--- one more node after a row of leaves
-regroup : (row fill : OrderedTree) (content : Content) (below rest : OrderedTree) → followed_by row (followed_by fill (more content below rest)) ≡ followed_by (followed_by (followed_by row fill) (more content below none)) rest
-regroup row fill content below rest = sym (followed_assoc (followed_by row fill) (more content below none) rest ∙ followed_assoc row fill (more content below rest))
+-- the leaves before a node, the node, and the row below it
+put_grown : {old filled pushed new : List Node} {c : ℕ} {fill row : OrderedTree} {content : Content} → c < length old → Grows old filled c fill → Pushes filled pushed c content → Grows pushed new (length filled) row → Grows old new c (followed_by fill (more content row none))
+put_grown there filled push grown = grows_append there filled (grows_below (omega (arith, there, filled.len)) push grown)
 
--- elements: the row so far, and how what is left makes it whole
-pub record ElementsBuilt (old now : List Node) (c : ℕ) (text : List ℕ) (start from end : ℕ) (xs left : LocatedItems) : Type 0 where
-  pub row : OrderedTree
-  pub grows : Grows old now c row
-  pub lies : CanLayItems text from left end
-  pub whole : (rest : OrderedTree) → ItemsLaid text from left end rest → ItemsLaid text start xs end (followed_by row rest)
-
-pub elements_start : (ns : List Node) (c : ℕ) (text : List ℕ) (start end : ℕ) (xs : LocatedItems) → CanLayItems text start xs end → ElementsBuilt ns ns c text start start end xs xs
-elements_start ns c text start end xs h = record { row = none; grows = grows_none ns c; lies = h; whole = λ rest l. l }
-
-pub elements_more : {old now mid new : List Node} {c : ℕ} {text : List ℕ} {start from end : ℕ} {xs rest : LocatedItems} {x : Located} {r : Range} {fill below : OrderedTree} {content : Content}
-    → c < length old → r ≡ range_at x → ElementsBuilt old now c text start from end xs (item_at x rest) → Grows now mid c fill → FillsBetween text from r.start fill
-    → Grows mid new c (more content below none) → Laid text x content below → ElementsBuilt old new c text start r.end end xs rest
-elements_more {old} {new = new} {c = c} {text = text} {start = start} {from = from} {end = end} {xs = xs} {rest = left} {x = x} {fill = fill} {below = below} {content = content} there same so_far filled f valued l = subst (λ k. ElementsBuilt old new c text start k.end end xs left) (sym same) (record {
-  row = followed_by (followed_by so_far.row fill) (more content below none);
-  grows = grows_append there (grows_append there so_far.grows filled) valued;
-  lies = so_far.lies.2;
-  whole = λ rest h. subst (ItemsLaid text start xs end) (regroup so_far.row fill content below rest) (so_far.whole (followed_by fill (more content below rest)) (an_element (subst (λ k. FillsBetween text from k.start fill) same f) l h));
-})
-
-pub elements_end : {old now new : List Node} {c : ℕ} {text : List ℕ} {start from end : ℕ} {xs left : LocatedItems} {fill : OrderedTree}
-    → c < length old → left ≡ no_items_at → ElementsBuilt old now c text start from end xs left → Grows now new c fill → FillsBetween text from end fill
-    → (row : OrderedTree) × Grows old new c row × ItemsLaid text start xs end row
-elements_end {text = text} {from = from} {end = end} {fill = fill} there e so_far filled f =
-    (followed_by so_far.row fill, grows_append there so_far.grows filled, so_far.whole fill (subst (λ l. ItemsLaid text from l end fill) (sym e) (no_element f)))
-
-pub items_left : {A : Type 0} (vs : List (Value A)) (i : ℕ) (d : Value A) → i < length vs → items_located (drop i vs) ≡ item_at (located (get_or vs i d)) (items_located (drop (i + 1) vs))
-items_left vs i d h = ap items_located (drop_more vs i d h)
-
-pub items_none_left : {A : Type 0} (vs : List (Value A)) (i : ℕ) → length vs ≤ i → items_located (drop i vs) ≡ no_items_at
-items_none_left vs i h = ap items_located (drop_all i vs h)
-
--- properties, in the same way
-pub record PropertiesBuilt (old now : List Node) (c : ℕ) (text : List ℕ) (start from end : ℕ) (ms left : LocatedMembers) : Type 0 where
-  pub row : OrderedTree
-  pub grows : Grows old now c row
-  pub lies : CanLayMembers text from left end
-  pub whole : (rest : OrderedTree) → MembersLaid text from left end rest → MembersLaid text start ms end (followed_by row rest)
-
-pub properties_start : (ns : List Node) (c : ℕ) (text : List ℕ) (start end : ℕ) (ms : LocatedMembers) → CanLayMembers text start ms end → PropertiesBuilt ns ns c text start start end ms ms
-properties_start ns c text start end ms h = record { row = none; grows = grows_none ns c; lies = h; whole = λ rest l. l }
-
-pub properties_more : {old now mid pushed new : List Node} {c : ℕ} {text : List ℕ} {start from end : ℕ} {ms rest : LocatedMembers} {r k : Range} {n : LocatedName} {x : Located} {fill below : OrderedTree}
-    → c < length old → k ≡ r → PropertiesBuilt old now c text start from end ms (member_at r n x rest) → Grows now mid c fill → FillsBetween text from k.start fill
-    → Pushes mid pushed c Content.property → Grows pushed new (length mid) below → PropertyLaid text n x below → PropertiesBuilt old new c text start k.end end ms rest
-properties_more {old} {now} {mid} {new = new} {c = c} {text = text} {start = start} {from = from} {end = end} {ms = ms} {rest = left} {fill = fill} {below = below} there same so_far filled f push grown l =
-    let below_mid : c < length mid = omega (arith, there, so_far.grows.len, filled.len) in
-    subst (λ k. PropertiesBuilt old new c text start k.end end ms left) (sym same) (record {
-      row = followed_by (followed_by so_far.row fill) (more Content.property below none);
-      grows = grows_append there (grows_append there so_far.grows filled) (grows_below below_mid push grown);
-      lies = so_far.lies.4;
-      whole = λ rest h. subst (MembersLaid text start ms end) (regroup so_far.row fill Content.property below rest) (so_far.whole (followed_by fill (more Content.property below rest)) (a_property (subst (λ k. FillsBetween text from k.start fill) same f) l h));
-    })
-
-pub properties_end : {old now new : List Node} {c : ℕ} {text : List ℕ} {start from end : ℕ} {ms left : LocatedMembers} {fill : OrderedTree}
-    → c < length old → left ≡ no_members_at → PropertiesBuilt old now c text start from end ms left → Grows now new c fill → FillsBetween text from end fill
-    → (row : OrderedTree) × Grows old new c row × MembersLaid text start ms end row
-properties_end {text = text} {from = from} {end = end} {fill = fill} there e so_far filled f =
-    (followed_by so_far.row fill, grows_append there so_far.grows filled, so_far.whole fill (subst (λ l. MembersLaid text from l end fill) (sym e) (no_property f)))
-
-pub members_left : {A : Type 0} (ps : List (ObjectProp A)) (i : ℕ) (d : ObjectProp A) → i < length ps
-    → members_located (drop i ps) ≡ member_at (member_of (get_or ps i d)).range (member_of (get_or ps i d)).name (member_of (get_or ps i d)).value (members_located (drop (i + 1) ps))
-members_left ps i d h = ap members_located (drop_more ps i d h)
-
-pub members_none_left : {A : Type 0} (ps : List (ObjectProp A)) (i : ℕ) → length ps ≤ i → members_located (drop i ps) ≡ no_members_at
-members_none_left ps i h = ap members_located (drop_all i ps h)
-
--- at an element that is still to be built
-pub elements_at : {A : Type 0} {old now : List Node} {c : ℕ} {text : List ℕ} {start from end : ℕ} {xs : LocatedItems} (vs : List (Value A)) (i : ℕ) (v : Value A) → i < length vs → v ≡ get_or vs i v
-    → ElementsBuilt old now c text start from end xs (items_located (drop i vs)) → ElementsBuilt old now c text start from end xs (item_at (located v) (items_located (drop (i + 1) vs)))
-elements_at {old = old} {now} {c} {text} {start} {from} {end} {xs} vs i v h e built =
-    subst (ElementsBuilt old now c text start from end xs) (items_left vs i v h ∙ ap (λ w. item_at (located w) (items_located (drop (i + 1) vs))) (sym e)) built
-
-pub properties_at : {A : Type 0} {old now : List Node} {c : ℕ} {text : List ℕ} {start from end : ℕ} {ms : LocatedMembers} (ps : List (ObjectProp A)) (i : ℕ) (p : ObjectProp A) → i < length ps → p ≡ get_or ps i p
-    → PropertiesBuilt old now c text start from end ms (members_located (drop i ps))
-    → PropertiesBuilt old now c text start from end ms (member_at (member_of p).range (member_of p).name (member_of p).value (members_located (drop (i + 1) ps)))
-properties_at {old = old} {now} {c} {text} {start} {from} {end} {ms} ps i p h e built =
-    subst (PropertiesBuilt old now c text start from end ms)
-    (members_left ps i p h ∙ ap (λ q. member_at (member_of q).range (member_of q).name (member_of q).value (members_located (drop (i + 1) ps))) (sym e)) built
-
--- a property's name, what stands between, and its value
-pub property_built : {a b d e : List Node} {c : ℕ} {text : List ℕ} {n : LocatedName} {x y : Located} {r v : Range} {fill below : OrderedTree} {name content : Content}
-    → c < length a → r ≡ n.range → v ≡ range_at x → y ≡ x → Spans text n.range.start n.range.end
-    → Grows a b c (more name none none) → NameLaid text r name → Grows b d c fill → FillsBetween text r.end v.start fill → Grows d e c (more content below none) → Laid text y content below
-    → (row : OrderedTree) × Grows a e c row × PropertyLaid text n x row
-property_built {text = text} {n = n} {x = x} {r = r} {fill = fill} {below = below} {name = name} {content = content} there names values same spans named m filled f valued l = (
-  followed_by (more name none fill) (more content below none),
-  grows_append there (grows_append there named filled) valued,
-  name_and_value spans (subst (λ k. NameLaid text k name) names m)
-      (subst (λ k. FillsBetween text k.end (range_at x).start fill) names (subst (λ k. FillsBetween text r.end k.start fill) values f))
-      (subst (λ z. Laid text z content below) same l),
-)
-
-pub on_ok : {T E P Q : Type 0} (r : Result T E) → (P → Q) → OnOk r P → OnOk r Q
-on_ok (Ok x) f h = f h
-on_ok (Err e) f h = tt
-
--- a new container
 pub pushed_there : {a b : List Node} {c : ℕ} {content : Content} (n : ℕ) → n ≡ length a → Pushes a b c content → n < length b
 pushed_there n e push = omega (arith, push.len, e)
 
 pub pushed_container : {a b : List Node} {c : ℕ} {content : Content} (n : ℕ) → n ≡ length a → Pushes a b c content → IsTrue (is_container content) → IsTrue (is_container_at b n)
 pushed_container {b = b} n e push h = ap (is_container_at b) e ∙ ap is_container push.last ∙ h
 
-pub grows_into : {a b d : List Node} {c : ℕ} {content : Content} {row : OrderedTree} (n : ℕ) → c < length a → n ≡ length a → Pushes a b c content → Grows b d n row → Grows a d c (more content row none)
-grows_into {b = b} {d = d} {row = row} n there e push grown = grows_below there push (subst (λ m. Grows b d m row) e grown)
+-- one more node after a row of leaves, and more after it
+regroup : (row fill : OrderedTree) (content : Content) (below rest : OrderedTree) → followed_by row (followed_by fill (more content below rest)) ≡ followed_by (followed_by row (followed_by fill (more content below none))) rest
+regroup row fill content below rest = ap (followed_by row) (sym (followed_assoc fill (more content below none) rest)) ∙ sym (followed_assoc row (followed_by fill (more content below none)) rest)
 
--- a node stays where others are added
-pub still_there : {a b : List Node} {c n : ℕ} {content : Content} → n < length a → Pushes a b c content → n < length b
-still_there h push = omega (arith, push.len, h)
+-- more after one more
+once_more : {X : Type 0} (xs : List X) (x : X) (ys : List X) → xs ++ x ∷ ys ≡ (xs ++ x ∷ []) ++ ys
+once_more xs x ys = sym (append_assoc xs (x ∷ []) ys)
 
--- a new container: its opening bracket, a row, and its closing bracket
-pub bracketed_into : {a b d e f : List Node} {c : ℕ} {content : Content} {opening closing : ℕ} {row : OrderedTree} (n : ℕ) → c < length a → n ≡ length a → Pushes a b c content
-    → Pushes b d n (token opening) → Grows d e n row → Pushes e f n (token closing) → Grows a f c (more content (bracketed opening row closing) none)
-bracketed_into {b = b} {d = d} {e = e} n there same push opens grown closes =
-    let at_first : n < length b = pushed_there n same push in
-    let at_second : n < length d = still_there at_first opens in
-    let at_third : n < length e = omega (arith, at_second, grown.len) in
-    grows_into n there same push (grows_append at_first (grows_leaf at_first opens) (grows_append at_second grown (grows_leaf at_third closes)))
+module _ {A : Type 0} where
+  pub stays_on : (a b d : DocumentMaker A) → Stays a b → Stays b d → Stays a d
+  stays_on a b d h k = record { source = k.source ∙ h.source; whole = k.whole; before = h.before; growing = k.growing }
 
--- the same row between equal places
-pub items_within : (text : List ℕ) (xs : LocatedItems) (r s : Range) → s.start ≡ r.start + 1 → s.end ≡ r.end - 1 → CanLayItems text (r.start + 1) xs (r.end - 1) → CanLayItems text s.start xs s.end
-items_within text xs r s from to h = subst (λ i. CanLayItems text i xs s.end) (sym from) (subst (λ j. CanLayItems text (r.start + 1) xs j) (sym to) h)
+  text_same : (a b : DocumentMaker A) → Stays a b → b.text.now ≡ a.text.now
+  text_same a b h = ap (λ s. s.bytes) h.source
 
-pub members_within : (text : List ℕ) (ms : LocatedMembers) (r s : Range) → s.start ≡ r.start + 1 → s.end ≡ r.end - 1 → CanLayMembers text (r.start + 1) ms (r.end - 1) → CanLayMembers text s.start ms s.end
-members_within text ms r s from to h = subst (λ i. CanLayMembers text i ms s.end) (sym from) (subst (λ j. CanLayMembers text (r.start + 1) ms j) (sym to) h)
+  -- the tree alone has changed
+  mid_stays : (old mid : DocumentMaker A) (i : ℕ) (tree : Growing A) → IsAt old i → mid ≡ record old { tree = mid.tree } → IsGrowing tree → (place : ℕ) → Stays old (record mid { tree = tree; place = place })
+  mid_stays old mid i tree at rest growing place = record {
+    source = ap source_in rest;
+    whole = subst (λ m. rc_str_bytes m.whole ≡ m.text.now) (sym rest) at.whole;
+    before = at.growing;
+    growing = growing;
+  }
 
-pub items_inside : {text : List ℕ} {xs : LocatedItems} {row : OrderedTree} (r s : Range) → s.start ≡ r.start + 1 → s.end ≡ r.end - 1 → ItemsLaid text s.start xs s.end row → Laid text (array_at r xs) Content.array (bracketed 0x5B row 0x5D)
-items_inside {text} {xs} {row} r s from to h = array_node (subst (λ i. ItemsLaid text i xs (r.end - 1) row) from (subst (λ j. ItemsLaid text s.start xs j row) to h))
+  pub leaf_put : (old mid : DocumentMaker A) (r : Range) (i n : ℕ) (content : Content) → IsAt old i → mid ≡ record old { tree = mid.tree } → container_in mid ≡ container_in old → IsGrowing mid.tree
+      → Puts (nodes_in old) (nodes_in mid) (container_in old) old.text.now old.place r.start content n → PutsLeaf old (record mid { place = r.end }) r content
+  leaf_put old mid r i n content at rest same growing h = record {
+    stays = mid_stays old mid i mid.tree at rest growing r.end;
+    same = same;
+    place = refl;
+    fill = h.fill;
+    grows = put_grown at.growing.in_tree h.grows h.pushes (grows_none (nodes_in mid) (length h.filled));
+    fills = h.fills;
+  }
 
-pub members_inside : {text : List ℕ} {ms : LocatedMembers} {row : OrderedTree} (r s : Range) → s.start ≡ r.start + 1 → s.end ≡ r.end - 1 → MembersLaid text s.start ms s.end row → Laid text (object_at r ms) Content.object (bracketed 0x7B row 0x7D)
-members_inside {text} {ms} {row} r s from to h = object_node (subst (λ i. MembersLaid text i ms (r.end - 1) row) from (subst (λ j. MembersLaid text s.start ms j row) to h))
+  abbrev opens_put : (old mid new : DocumentMaker A) (start n : ℕ) (content : Content) → Stays old new → Puts (nodes_in old) (nodes_in mid) (container_in old) old.text.now old.place start content n → Opens old new start content
+  opens_put old mid new start n content stays h = record { stays = stays; filled = h.filled; pushed = nodes_in mid; fill = h.fill; grows = h.grows; fills = h.fills; pushes = h.pushes }
 
-pub laid_as : {text : List ℕ} {x y : Located} {content : Content} {below : OrderedTree} → x ≡ y → Laid text y content below → Laid text x content below
-laid_as {text} {content = content} {below = below} e l = subst (λ z. Laid text z content below) (sym e) l
+  -- a new node in a container that has just been entered
+  entered : (mid : DocumentMaker A) (at_node after : Growing A) (n : ℕ) (content : Content) → nodes_so_far at_node ≡ nodes_in mid → container_of at_node ≡ n → container_of after ≡ container_of at_node → Pushes (nodes_so_far at_node) (nodes_so_far after) (container_of at_node) content
+      → Pushes (nodes_in mid) (nodes_so_far after) (container_of after) content
+  entered mid at_node after n content nodes is same push =
+      subst (λ ns. Pushes ns (nodes_so_far after) (container_of after) content) nodes (subst (λ c. Pushes (nodes_so_far at_node) (nodes_so_far after) c content) (sym same) push)
 
-pub can_lay_as : (text : List ℕ) {x y : Located} → x ≡ y → CanLay text x → CanLay text y
-can_lay_as text e h = subst (CanLay text) e h
+  pub container_opened : (old mid : DocumentMaker A) (at_node after : Growing A) (start i n : ℕ) (content : Content) (bracket : ℕ) → IsAt old i → mid ≡ record old { tree = mid.tree }
+      → Puts (nodes_in old) (nodes_in mid) (container_in old) old.text.now old.place start content n
+      → nodes_so_far at_node ≡ nodes_in mid → container_of at_node ≡ n → container_of after ≡ container_of at_node → Pushes (nodes_so_far at_node) (nodes_so_far after) (container_of at_node) (token bracket) → IsGrowing after
+      → (around : ℕ) → around ≡ container_in old → Holds old (record mid { tree = after; place = start + 1 }) around start content bracket none
+  container_opened old mid at_node after start i n content bracket at rest h nodes is same push growing around outer = record {
+    opens = opens_put old mid _ start n content (mid_stays old mid i after at rest growing (start + 1)) h;
+    is = outer;
+    same = same ∙ is ∙ h.number;
+    opened = nodes_so_far after;
+    bracketed = entered mid at_node after n (token bracket) nodes is same push;
+    has = grows_none (nodes_so_far after) (container_of after);
+  }
 
--- the leaves before a document's value, the value, and the leaves after it
-pub root_built : {a b d e : List Node} {text : List ℕ} {x : Located} {r : Range} {before below after : OrderedTree} {content : Content}
-    → 0 < length a → r ≡ range_at x → Grows a b 0 before → FillsBetween text 0 r.start before → Grows b d 0 (more content below none) → Laid text x content below → Grows d e 0 after → FillsBetween text r.end (length text) after
-    → (row : OrderedTree) × Grows a e 0 row × RootLaid text (Some x) row
-root_built {a} {e = e} {text = text} {before = before} {below = below} {after = after} {content = content} there same first f value l last g = (
-  followed_by before (more content below after),
-  subst (Grows a e 0) (followed_assoc before (more content below none) after) (grows_append there (grows_append there first value) last),
-  (before, after, below, content, refl, subst (λ k. FillsBetween text 0 k.start before) same f, l, subst (λ k. FillsBetween text k.end (length text) after) same g),
-)
+  pub name_opened : (old mid : DocumentMaker A) (at_node after : Growing A) (r : Range) (i n : ℕ) (name : Content) (x : List ℕ) → IsAt old i → mid ≡ record old { tree = mid.tree }
+      → Puts (nodes_in old) (nodes_in mid) (container_in old) old.text.now old.place r.start property n
+      → nodes_so_far at_node ≡ nodes_in mid → container_of at_node ≡ n → container_of after ≡ container_of at_node → Pushes (nodes_so_far at_node) (nodes_so_far after) (container_of at_node) name → IsGrowing after
+      → Spans old.text.now r.start r.end → NameLaid old.text.now r name
+      → (around : ℕ) → around ≡ container_in old → Names old (record mid { tree = after; place = r.end }) around (record { range = r; name = x })
+  name_opened old mid at_node after r i n name x at rest h nodes is same push growing spans laid around outer = record {
+    opens = opens_put old mid _ r.start n property (mid_stays old mid i after at rest growing r.end) h;
+    is = outer;
+    same = same ∙ is ∙ h.number;
+    place = refl;
+    name = name;
+    has = grows_leaf (pushed_there (container_of after) (same ∙ is ∙ h.number) h.pushes) (entered mid at_node after n name nodes is same push);
+    spans = spans;
+    laid = laid;
+  }
+
+  pub end_put : (old mid : DocumentMaker A) (tree : Growing A) (around : ℕ) (r : Range) (i n bracket : ℕ) → IsAt old i → mid ≡ record old { tree = mid.tree }
+      → Puts (nodes_in old) (nodes_in mid) (container_in old) old.text.now old.place (r.end - 1) (token bracket) n
+      → nodes_so_far tree ≡ nodes_in mid → container_of tree ≡ around → IsGrowing tree
+      → Closes old (record mid { tree = tree; place = r.end }) around r bracket
+  end_put old mid tree around r i n bracket at rest h nodes is growing = record {
+    stays = mid_stays old mid i tree at rest growing r.end;
+    same = is;
+    place = refl;
+    filled = h.filled;
+    fill = h.fill;
+    grows = h.grows;
+    fills = h.fills;
+    pushes = subst (λ ns. Pushes h.filled ns (container_in old) (token bracket)) (sym nodes) h.pushes;
+  }
+
+  -- what was there is there still, a container too
+  pub still_there : (old mid : DocumentMaker A) (start i n a : ℕ) (content : Content) → IsAt old i → Puts (nodes_in old) (nodes_in mid) (container_in old) old.text.now old.place start content n → a < length (nodes_in old) → a < length (nodes_in mid)
+  still_there old mid start i n a content at h there = omega (arith, there, h.grows.len, h.pushes.len)
+
+  pub still_container : (old mid : DocumentMaker A) (start i n a : ℕ) (content : Content) → IsAt old i → Puts (nodes_in old) (nodes_in mid) (container_in old) old.text.now old.place start content n → a < length (nodes_in old) → IsTrue (is_container_at (nodes_in old) a)
+      → IsTrue (is_container_at (nodes_in mid) a)
+  still_container old mid start i n a content at h there holds = ap is_container (h.pushes.contents a (omega (arith, there, h.grows.len)) ∙ h.grows.contents a there) ∙ holds
+
+  pub leaf_added : (old new : DocumentMaker A) (x : Located) (content : Content) → PutsLeaf old new (range_at x) content → Laid old.text.now x content none → Adds old new x
+  leaf_added old new x content h laid = record { stays = h.stays; same = h.same; place = h.place; fill = h.fill; content = content; below = none; grows = h.grows; fills = h.fills; laid = laid }
+
+  -- what an open container has grown
+  within : (old new : DocumentMaker A) (around start : ℕ) (content : Content) (bracket : ℕ) (row : OrderedTree) (h : Holds old new around start content bracket row) → (container_in new) < length h.opened
+  within old new around start content bracket row h = omega (arith, h.same, h.opens.pushes.len, h.bracketed.len)
+
+  pub holds_grows : (old new : DocumentMaker A) (around start : ℕ) (content : Content) (bracket : ℕ) (row : OrderedTree) (h : Holds old new around start content bracket row)
+      → Grows (nodes_in old) (nodes_in new) (container_in old) (followed_by h.opens.fill (more content (more (token bracket) none row) none))
+  holds_grows old new around start content bracket row h =
+      let first : (container_in new) < length h.opens.pushed = pushed_there (container_in new) h.same h.opens.pushes in
+      put_grown h.opens.stays.before.in_tree h.opens.grows h.opens.pushes (subst (λ n. Grows h.opens.pushed (nodes_in new) n (more (token bracket) none row)) h.same (grows_append first (grows_leaf first h.bracketed) h.has))
+
+  -- the container around it is there still
+  pub around_there : (old new : DocumentMaker A) (around start : ℕ) (content : Content) (bracket : ℕ) (row : OrderedTree) → Holds old new around start content bracket row → around < length (nodes_in new)
+  around_there old new around start content bracket row h = omega (arith, h.is, h.opens.stays.before.in_tree, (holds_grows old new around start content bracket row h).len)
+
+  pub around_container : (old new : DocumentMaker A) (around start : ℕ) (content : Content) (bracket : ℕ) (row : OrderedTree) → Holds old new around start content bracket row → IsTrue (is_container_at (nodes_in new) around)
+  around_container old new around start content bracket row h =
+      subst (λ n. IsTrue (is_container_at (nodes_in new) n)) (sym h.is) (container_kept h.opens.stays.before.in_tree h.opens.stays.before.holds (holds_grows old new around start content bracket row h))
+
+  -- a container that is closed
+  closed_grows : (s old new : DocumentMaker A) (around start : ℕ) (r : Range) (content : Content) (opening closing : ℕ) (row : OrderedTree) (h : Holds s old around start content opening row) (k : Closes old new around r closing)
+      → Grows (nodes_in s) (nodes_in new) (container_in s) (followed_by h.opens.fill (more content (bracketed opening (followed_by row k.fill) closing) none))
+  closed_grows s old new around start r content opening closing row h k =
+      let n = (container_in old) in
+      let first : n < length h.opens.pushed = pushed_there n h.same h.opens.pushes in
+      let second : n < length h.opened = within s old around start content opening row h in
+      let third : n < length k.filled = omega (arith, second, h.has.len, k.grows.len) in
+      put_grown h.opens.stays.before.in_tree h.opens.grows h.opens.pushes
+      (subst (λ m. Grows h.opens.pushed (nodes_in new) m (bracketed opening (followed_by row k.fill) closing)) h.same (grows_append first (grows_leaf first h.bracketed) (grows_append second (grows_append second h.has k.grows) (grows_leaf third k.pushes))))
+
+  closed_stays : (s old new : DocumentMaker A) (around start : ℕ) (r : Range) (content : Content) (opening closing : ℕ) (row : OrderedTree) → Holds s old around start content opening row → Closes old new around r closing → Stays s new
+  closed_stays s old new around start r content opening closing row h k = stays_on s old new h.opens.stays k.stays
+
+  pub array_closed : (s old new : DocumentMaker A) (around : ℕ) (r : Range) (xs : List Located) → HoldsElements s old around r.start xs → Closes old new around r 0x5D → Adds s new (array_at r (items_of xs))
+  array_closed s old new around r xs (row, h, all) k = record {
+    stays = closed_stays s old new around r.start r array 0x5B 0x5D row h k;
+    same = k.same ∙ h.is;
+    place = k.place;
+    fill = h.opens.fill;
+    content = array;
+    below = bracketed 0x5B (followed_by row k.fill) 0x5D;
+    grows = closed_grows s old new around r.start r array 0x5B 0x5D row h k;
+    fills = h.opens.fills;
+    laid = array_node (subst (λ ys. ItemsLaid s.text.now (r.start + 1) (items_of ys) (r.end - 1) (followed_by row k.fill)) (append-nil xs)
+        (all [] (r.end - 1) k.fill (no_element (subst (λ t. FillsBetween t old.place (r.end - 1) k.fill) (text_same s old h.opens.stays) k.fills))));
+  }
+
+  pub object_closed : (s old new : DocumentMaker A) (around : ℕ) (r : Range) (ms : List LocatedMember) → HoldsProperties s old around r.start ms → Closes old new around r 0x7D → Adds s new (object_at r (members_of ms))
+  object_closed s old new around r ms (row, h, all) k = record {
+    stays = closed_stays s old new around r.start r object 0x7B 0x7D row h k;
+    same = k.same ∙ h.is;
+    place = k.place;
+    fill = h.opens.fill;
+    content = object;
+    below = bracketed 0x7B (followed_by row k.fill) 0x7D;
+    grows = closed_grows s old new around r.start r object 0x7B 0x7D row h k;
+    fills = h.opens.fills;
+    laid = object_node (subst (λ ys. MembersLaid s.text.now (r.start + 1) (members_of ys) (r.end - 1) (followed_by row k.fill)) (append-nil ms)
+        (all [] (r.end - 1) k.fill (no_property (subst (λ t. FillsBetween t old.place (r.end - 1) k.fill) (text_same s old h.opens.stays) k.fills))));
+  }
+
+  -- a container that holds one more
+  holds_on : (s m new : DocumentMaker A) (around start : ℕ) (content : Content) (bracket : ℕ) (row one : OrderedTree) (h : Holds s m around start content bracket row)
+      → Stays m new → (container_in new) ≡ (container_in m) → Grows (nodes_in m) (nodes_in new) (container_in m) one → Holds s new around start content bracket (followed_by row one)
+  holds_on s m new around start content bracket row one h stays same grows = record {
+    opens = record {
+      stays = stays_on s m new h.opens.stays stays;
+      filled = h.opens.filled;
+      pushed = h.opens.pushed;
+      fill = h.opens.fill;
+      grows = h.opens.grows;
+      fills = h.opens.fills;
+      pushes = h.opens.pushes;
+    };
+    is = h.is;
+    same = same ∙ h.same;
+    opened = h.opened;
+    bracketed = subst (λ n. Pushes h.opens.pushed h.opened n (token bracket)) (sym same) h.bracketed;
+    has = subst (λ n. Grows h.opened (nodes_in new) n (followed_by row one)) (sym same) (grows_append (within s m around start content bracket row h) h.has grows);
+  }
+
+  pub element_held : (s m new : DocumentMaker A) (around i : ℕ) (xs : List Located) (x : Located) → HoldsElements s m around i xs → Adds m new x → HoldsElements s new around i (xs ++ x ∷ [])
+  element_held s m new around i xs x (row, h, all) k =
+      let text = s.text.now in
+      let same : m.text.now ≡ text = text_same s m h.opens.stays in
+      let fills = subst (λ t. FillsBetween t m.place (range_at x).start k.fill) same k.fills in
+      let laid = subst (λ t. Laid t x k.content k.below) same k.laid in (
+        followed_by row (followed_by k.fill (more k.content k.below none)),
+        holds_on s m new around i array 0x5B row _ h k.stays k.same k.grows,
+        λ ys j rest after.
+            subst (λ zs. ItemsLaid text (i + 1) (items_of zs) j (followed_by (followed_by row (followed_by k.fill (more k.content k.below none))) rest)) (once_more xs x ys)
+            (subst (ItemsLaid text (i + 1) (items_of (xs ++ x ∷ ys)) j) (regroup row k.fill k.content k.below rest)
+            (all (x ∷ ys) j (followed_by k.fill (more k.content k.below rest)) (an_element fills laid (subst (λ p. ItemsLaid text p (items_of ys) j rest) k.place after)))),
+      )
+
+  -- a property that has its name and its value
+  property_grows : (m k t : DocumentMaker A) (around : ℕ) (n : LocatedName) (x : Located) (h : Names m k around n) (v : Adds k t x)
+      → Grows (nodes_in m) (nodes_in t) (container_in m) (followed_by h.opens.fill (more property (more h.name none (followed_by v.fill (more v.content v.below none))) none))
+  property_grows m k t around n x h v =
+      let there : (container_in k) < length h.opens.pushed = pushed_there (container_in k) h.same h.opens.pushes in
+      put_grown h.opens.stays.before.in_tree h.opens.grows h.opens.pushes (subst (λ c. Grows h.opens.pushed (nodes_in t) c (more h.name none (followed_by v.fill (more v.content v.below none)))) h.same (grows_append there h.has v.grows))
+
+  pub property_there : (m k t : DocumentMaker A) (around : ℕ) (n : LocatedName) (x : Located) → Names m k around n → Adds k t x → around < length (nodes_in t)
+  property_there m k t around n x h v = omega (arith, h.is, h.opens.stays.before.in_tree, (property_grows m k t around n x h v).len)
+
+  pub property_container : (m k t : DocumentMaker A) (around : ℕ) (n : LocatedName) (x : Located) → Names m k around n → Adds k t x → IsTrue (is_container_at (nodes_in t) around)
+  property_container m k t around n x h v = subst (λ c. IsTrue (is_container_at (nodes_in t) c)) (sym h.is) (container_kept h.opens.stays.before.in_tree h.opens.stays.before.holds (property_grows m k t around n x h v))
+
+  pub property_held : (s m k t : DocumentMaker A) (tree : Growing A) (outer around i : ℕ) (ms : List LocatedMember) (n : LocatedName) (x : Located) (r : Range) → HoldsProperties s m outer i ms → Names m k around n → Adds k t x → Covers r n x
+      → nodes_so_far tree ≡ nodes_in t → container_of tree ≡ around → IsGrowing tree
+      → HoldsProperties s (record t { tree = tree }) outer i (ms ++ record { range = r; name = n; value = x } ∷ [])
+  property_held s m k t tree outer around i ms n x r (row, h, all) named v covers nodes is growing =
+      let text = s.text.now in
+      let to_m : m.text.now ≡ text = text_same s m h.opens.stays in
+      let to_k : k.text.now ≡ text = text_same m k named.opens.stays ∙ to_m in
+      let fill = named.opens.fill in
+      let below = more named.name none (followed_by v.fill (more v.content v.below none)) in
+      let stays = stays_on m k t named.opens.stays v.stays in
+      let fills = subst (λ p. FillsBetween text m.place p fill) (sym covers.starts) (subst (λ t. FillsBetween t m.place n.range.start fill) to_m named.opens.fills) in
+      let spans = subst (λ t. Spans t n.range.start n.range.end) to_m named.spans in
+      let name = subst (λ t. NameLaid t n.range named.name) to_m named.laid in
+      let between = subst (λ p. FillsBetween text p (range_at x).start v.fill) named.place (subst (λ t. FillsBetween t k.place (range_at x).start v.fill) to_k v.fills) in
+      let laid = subst (λ t. Laid t x v.content v.below) to_k v.laid in (
+        followed_by row (followed_by fill (more property below none)),
+        holds_on s m (record t { tree = tree }) outer i object 0x7B row (followed_by fill (more property below none)) h
+            (record { source = stays.source; whole = stays.whole; before = stays.before; growing = growing }) (is ∙ named.is)
+            (subst (λ ns. Grows (nodes_in m) ns (container_in m) (followed_by fill (more property below none))) (sym nodes) (property_grows m k t around n x named v)),
+        λ ys j rest after.
+            subst (λ zs. MembersLaid text (i + 1) (members_of zs) j (followed_by (followed_by row (followed_by fill (more property below none))) rest)) (once_more ms (record { range = r; name = n; value = x }) ys)
+            (subst (MembersLaid text (i + 1) (members_of (ms ++ record { range = r; name = n; value = x } ∷ ys)) j) (regroup row fill property below rest)
+            (all (record { range = r; name = n; value = x } ∷ ys) j (followed_by fill (more property below rest)) (a_property fills (name_and_value spans name between laid) (subst (λ p. MembersLaid text p (members_of ys) j rest) (v.place ∙ sym covers.ends) after)))),
+      )
+
+-- what an answer says where the call went well
+pub ok_of : {T E P : Type 0} {Q : T → Type 0} (r : Result T E) → (P → (x : T) → Q x) → OnOk r P → IfOk r Q
+ok_of (Ok x) f h = f h x
+ok_of (Err e) f h = tt

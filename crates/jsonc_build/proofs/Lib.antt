@@ -5,7 +5,6 @@ pub mod Starts
 pub mod AddedChildren
 pub mod GapLeaves
 pub mod Rows
-pub mod LocatedValues
 pub mod Names
 pub mod FilledGaps
 pub mod Lines
@@ -15,3 +14,4 @@ pub mod LeafShapes
 pub mod Shapes
 pub mod Building
 pub mod Parts
+pub mod Documents

@@ -1,5 +1,8 @@
 -- What adding to a container does to the nodes of a tree.
 use Rattle.std.specs.Prelude.{ℕ, ◌≡◌, ◌≢◌, ◌<◌, ◌≤◌, List, [], ◌∷◌, ◌++◌, length}
+use Rattle.jsonc_tree.specs.Changes.{Pushes}
+use Rattle.jsonc_tree.specs.Content.{Content}
+use Rattle.jsonc_sound.specs.Leaves.{LeafAt}
 use Rattle.jsonc_tree.specs.Tree.{Node, children_at, content_at}
 use Rattle.jsonc_tree.specs.OrderedTree.{OrderedTree, Shows}
 
@@ -18,3 +21,9 @@ pub record Grows (old new : List Node) (c : ℕ) (row : OrderedTree) : Type 0 wh
   pub closed : (n : ℕ) → length old ≤ n → n < length new → AreFrom (length old) (length new) (children_at new n)
   pub others : (n : ℕ) → n < length old → n ≢ c → children_at new n ≡ children_at old n
   pub contents : (n : ℕ) → n < length old → content_at new n ≡ content_at old n
+
+-- the container has one more child, which is the leaf of the text from the place i up to the place j
+pub record AddsLeaf (old new : List Node) (c : ℕ) (text : List ℕ) (i j : ℕ) : Type 0 where
+  pub content : Content
+  pub leaf : LeafAt text content i j
+  pub pushes : Pushes old new c content

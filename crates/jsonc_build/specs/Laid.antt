@@ -7,9 +7,10 @@ use Rattle.jsonc_text.specs.Text.{next, starts, rest, Spans}
 use Rattle.jsonc_text.specs.Plain.{Plain}
 use Rattle.jsonc_tree.specs.Content.{Content, token}
 use Rattle.jsonc_tree.specs.OrderedTree.{OrderedTree, none, more, followed_by}
-use Rattle.jsonc_ast.specs.Located.{Located, LocatedItems, LocatedMembers, LocatedName, Brackets, leaf_at, array_at, object_at, no_items_at, item_at, no_members_at, member_at, range_at, IsLocatedDocument}
+use Rattle.jsonc_ast.specs.Located.{Located, LocatedItems, LocatedMembers, LocatedName, leaf_at, array_at, object_at, no_items_at, item_at, no_members_at, member_at, range_at, IsLocatedDocument}
+use Rattle.jsonc_tree.specs.Tree.{Node}
+use Rattle.jsonc_build.specs.Growth.{Grows}
 use Rattle.jsonc_sound.specs.Leaves.{Fills}
-use Rattle.jsonc_sound.specs.Filling.{IsFillable}
 
 -- the bytes of a range
 abbrev pub bytes_in : List ℕ → Range → List ℕ
@@ -19,6 +20,10 @@ bytes_in bytes r = slice_range bytes r.start r.end
 pub record FillsBetween (bytes : List ℕ) (i j : ℕ) (row : OrderedTree) : Type 0 where
   pub spans : Spans bytes i j
   pub fills : Fills (rest bytes i) row (rest bytes j)
+
+-- a container has got the leaves of the text from the place i up to the place j
+abbrev pub FillsGap : List Node → List Node → ℕ → List ℕ → ℕ → ℕ → Type 0
+FillsGap old new c text i j = (row : OrderedTree) × Grows old new c row × FillsBetween text i j row
 
 abbrev pub is_quote : ℕ → Bool
 is_quote c = c == 0x22 || c == 0x27
@@ -84,31 +89,7 @@ RootLaid bytes (Some x) row =
 abbrev pub DocumentLaid : List ℕ → Option Located → OrderedTree → Type 0
 DocumentLaid bytes x tree = (row : OrderedTree) × (tree ≡ more Content.root row none) × RootLaid bytes x row
 
--- each node has its range in the text, a container its brackets, and what stands between the nodes can be filled with leaves
-abbrev mutual
-  pub CanLay : List ℕ → Located → Type 0
-  CanLay bytes (leaf_at r v) = Spans bytes r.start r.end
-  CanLay bytes (array_at r xs) = Brackets bytes 0x5B 0x5D r × CanLayItems bytes (r.start + 1) xs (r.end - 1)
-  CanLay bytes (object_at r ms) = Brackets bytes 0x7B 0x7D r × CanLayMembers bytes (r.start + 1) ms (r.end - 1)
-
-  pub CanLayItems : List ℕ → ℕ → LocatedItems → ℕ → Type 0
-  CanLayItems bytes i no_items_at j = IsFillable bytes i j
-  CanLayItems bytes i (item_at x xs) j = IsFillable bytes i (range_at x).start × CanLay bytes x × CanLayItems bytes (range_at x).end xs j
-
-  pub CanLayMembers : List ℕ → ℕ → LocatedMembers → ℕ → Type 0
-  CanLayMembers bytes i no_members_at j = IsFillable bytes i j
-  CanLayMembers bytes i (member_at r n x ms) j
-      = IsFillable bytes i r.start × Spans bytes n.range.start n.range.end
-      × IsFillable bytes n.range.end (range_at x).start × CanLay bytes x × CanLayMembers bytes r.end ms j
-
--- the same of a property's name and value
-abbrev pub CanLayProperty : List ℕ → LocatedName → Located → Type 0
-CanLayProperty bytes n x = Spans bytes n.range.start n.range.end × IsFillable bytes n.range.end (range_at x).start × CanLay bytes x
-
-abbrev pub CanLayDocument : List ℕ → Option Located → Type 0
-CanLayDocument bytes None = IsFillable bytes 0 (length bytes)
-CanLayDocument bytes (Some x) = IsFillable bytes 0 (range_at x).start × CanLay bytes x × IsFillable bytes (range_at x).end (length bytes)
-
--- the text has this located value, or none, under some options
-abbrev pub HasLocatedValue : List ℕ → Option Located → Type 0
-HasLocatedValue bytes x = (o : Options) × IsLocatedDocument o bytes x
+-- The text has a value, or none, and the tree lies in it place by place: a value, a name or a bracket is a node there, and between them each comment is a leaf,
+-- each line's end is one (CR LF is one), each run of blanks is one, and so is each comma and colon.
+abbrev pub LiesIn : Options → List ℕ → OrderedTree → Type 0
+LiesIn o bytes tree = (x : Option Located) × IsLocatedDocument o bytes x × DocumentLaid bytes x tree

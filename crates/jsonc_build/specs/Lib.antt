@@ -1,3 +1,3 @@
 pub mod Growth
 pub mod Laid
-pub mod Given
+pub mod Making

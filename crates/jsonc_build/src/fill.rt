@@ -1,22 +1,20 @@
 //! The leaves between values: commas and colons, comments, line ends and blanks.
-ghost use Rattle.std.specs.Prelude.{◌≡◌, ◌+◌, ◌<◌, ◌≤◌, ◌⊎◌, ℕ, [], ◌∷◌, List, ◌==◌, IfNone, IfOk, IfSome, IsCharBoundary, IsTrue, OnOk, length};
+ghost use Rattle.std.specs.Prelude.{◌≡◌, ◌+◌, ◌<◌, ◌≤◌, ◌⊎◌, ℕ, [], ◌∷◌, List, ◌==◌, IfNone, IfOk, IfSome, IsCharBoundary, IsTrue, OnOk};
 ghost use Rattle.std.specs.Char.{len_utf8};
 ghost use Rattle.std.specs.Rc.{rc_str_bytes};
 ghost use Rattle.jsonc_text.specs.Text.{Many, next, no, rest, starts};
 ghost use Rattle.jsonc_text.specs.Chars.{Steps};
 ghost use Rattle.jsonc_text.specs.Gaps.{ends_block, is_in_line, IsComment, UpToBlockEnd};
 ghost use Rattle.jsonc_tree.specs.Content.{newline};
-ghost use Rattle.jsonc_tree.specs.OrderedTree.{OrderedTree};
-ghost use Rattle.jsonc_tree.specs.Stored.{content_of};
-ghost use Rattle.jsonc_tree.specs.Tree.{is_container_at};
+ghost use Rattle.jsonc_tree.specs.Growing.{IsGrowing, container_of, nodes_so_far};
 ghost use Rattle.jsonc_sound.specs.Filling.{BeginsComment, IsFillable, is_filling, is_separator};
-ghost use Rattle.jsonc_build.specs.Growth.{Grows};
-ghost use Rattle.jsonc_build.specs.Laid.{FillsBetween};
-ghost use Rattle.jsonc_sound.specs.Leaves.{GapLeaf, LeafAt, is_inner_blank};
+ghost use Rattle.jsonc_build.specs.Growth.{AddsLeaf};
+ghost use Rattle.jsonc_build.specs.Laid.{FillsGap};
+ghost use Rattle.jsonc_sound.specs.Leaves.{GapLeaf, is_inner_blank};
 
 use crate::room::make_room;
 use jsonc_text::chars::char_at;
-use jsonc_tree::{CstNewlineKind, Kind, Part, Tree};
+use jsonc_tree::{CstNewlineKind, Growing, Kind, Part};
 use std::alloc::{AllocError, Allocator};
 use std::rc::RcStr;
 
@@ -50,6 +48,7 @@ fn has_char(text: &str, place: usize, wanted: char) -> bool
 }
 
 // The length of the blank at a place that ends no line, or 0 where none stands.
+#[inline(always)]
 fn blank_len(text: &str, place: usize) -> usize
     requires { IsCharBoundary text.now place }
     ensures none { result ≡ 0 → IsTrue (no is_inner_blank (next (rest text.now place))) }
@@ -166,84 +165,91 @@ fn comment_end(text: &str, place: usize) -> usize
     block_end(text, place + 2)
 }
 
-// The leaf that begins at a place with the character `c`, and where it ends.
-fn leaf_at<A: Allocator>(
+// Adds the comment at a place, and answers where it ends.
+#[inline(never)]
+fn push_comment<A: Allocator>(
+    tree: &mut Growing<A>,
+    whole: &RcStr<A>,
+    text: &str,
+    place: usize,
+) -> Result<usize, AllocError>
+    requires whole { rc_str_bytes whole.now ≡ text.now }
+    requires growing { IsGrowing tree.old }
+    requires place { IsCharBoundary text.now place }
+    requires comment { BeginsComment (rest text.now place) }
+    ensures added { IfOk result (AddsLeaf (nodes_so_far tree.old) (nodes_so_far tree.new) (container_of tree.old) text.now place) }
+    ensures container { OnOk result (container_of tree.new ≡ container_of tree.old) }
+    ensures growing { OnOk result (IsGrowing tree.new) }
+{
+    let end = comment_end(text, place);
+    let comment = Part::new(whole, place, end)?;
+    tree.push(Kind::CommentPart(comment))?;
+    Ok(end)
+}
+
+// Adds the leaf that begins at a place with the character `c`, and answers where it ends.
+#[inline(always)]
+fn push_leaf<A: Allocator>(
+    tree: &mut Growing<A>,
     whole: &RcStr<A>,
     text: &str,
     place: usize,
     c: char,
-) -> Result<(Kind<A>, usize), AllocError>
+) -> Result<usize, AllocError>
     requires whole { rc_str_bytes whole.now ≡ text.now }
+    requires growing { IsGrowing tree.old }
     requires place { IsCharBoundary text.now place }
     requires stands { Steps text.now place c (place + len_utf8 c) }
     requires filling { IsTrue (is_filling c) ⊎ BeginsComment (rest text.now place) }
-    ensures { IfOk result (λ x. LeafAt text.now (content_of x.0) place x.1) }
+    ensures added { IfOk result (AddsLeaf (nodes_so_far tree.old) (nodes_so_far tree.new) (container_of tree.old) text.now place) }
+    ensures container { OnOk result (container_of tree.new ≡ container_of tree.old) }
+    ensures growing { OnOk result (IsGrowing tree.new) }
 {
     if c == '/' {
-        let end = comment_end(text, place);
-        let comment = Part::new(whole, place, end)?;
-        return Ok((Kind::CommentPart(comment), end));
+        return push_comment(tree, whole, text, place);
     }
     let after = place + c.len_utf8();
     if is_separator(c) {
-        return Ok((Kind::token(c), after));
+        tree.push(Kind::token(c))?;
+        return Ok(after);
     }
     if c == '\n' {
-        return Ok((Kind::Newline(CstNewlineKind::LineFeed), after));
+        tree.push(Kind::Newline(CstNewlineKind::LineFeed))?;
+        return Ok(after);
     }
     if c == '\r' {
         let (newline, end) = carriage_return(text, after);
-        return Ok((Kind::Newline(newline), end));
+        tree.push(Kind::Newline(newline))?;
+        return Ok(end);
     }
     let end = blanks_end(text, after);
     let blanks = Part::new(whole, place, end)?;
-    Ok((Kind::WhitespacePart(blanks), end))
+    tree.push(Kind::WhitespacePart(blanks))?;
+    Ok(end)
 }
 
-// Adds the leaves between two places to the end of a container.
-fn fill_gap<A: Allocator + Copy>(
-    tree: &mut Tree<A>,
-    container: usize,
+// Makes room for nodes, and adds the leaves between two places to the end of the container at hand.
+pub(crate) fn fill_gap<A: Allocator>(
+    tree: &mut Growing<A>,
     whole: &RcStr<A>,
     text: &str,
     from: usize,
     to: usize,
 ) -> Result<(), AllocError>
     requires whole { rc_str_bytes whole.now ≡ text.now }
-    requires in_tree { container < length tree.old.nodes }
-    requires container { IsTrue (is_container_at tree.old.nodes container) }
+    requires growing { IsGrowing tree.old }
     requires fillable { IsFillable text.now from to }
-    ensures { OnOk result ((row : OrderedTree) × Grows tree.old.nodes tree.new.nodes container row
-        × FillsBetween text.now from to row) }
+    ensures filled { OnOk result (FillsGap (nodes_so_far tree.old) (nodes_so_far tree.new) (container_of tree.old) text.now from to) }
+    ensures container { OnOk result (container_of tree.new ≡ container_of tree.old) }
+    ensures growing { OnOk result (IsGrowing tree.new) }
 {
+    make_room(tree, from, text.len())?;
     let mut place = from;
     'leaves: while place < to {
         let Some(c) = char_at(text, place) else {
             unreachable!()
         };
-        let (kind, end) = leaf_at(whole, text, place, c)?;
-        tree.push_child(container, kind)?;
-        place = end;
+        place = push_leaf(tree, whole, text, place, c)?;
     }
     Ok(())
-}
-
-// Makes room for nodes, and adds the leaves between two places to the end of a container.
-pub(crate) fn fill_between<A: Allocator + Copy>(
-    tree: &mut Tree<A>,
-    container: usize,
-    whole: &RcStr<A>,
-    text: &str,
-    from: usize,
-    to: usize,
-) -> Result<(), AllocError>
-    requires whole { rc_str_bytes whole.now ≡ text.now }
-    requires in_tree { container < length tree.old.nodes }
-    requires container { IsTrue (is_container_at tree.old.nodes container) }
-    requires fillable { IsFillable text.now from to }
-    ensures { OnOk result ((row : OrderedTree) × Grows tree.old.nodes tree.new.nodes container row
-        × FillsBetween text.now from to row) }
-{
-    make_room(tree, from, text.len())?;
-    fill_gap(tree, container, whole, text, from, to)
 }

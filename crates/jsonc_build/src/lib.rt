@@ -1,10 +1,11 @@
-//! The tree of a text: from the text and its syntax tree, a [`Tree`](jsonc_tree::Tree) whose leaves
-//! are every byte of the text.
+//! The tree of a text, made as the text is read: a [`Tree`](jsonc_tree::Tree) whose leaves are every
+//! byte of the text.
 #![tactic(auto)]
 
-mod builder;
 mod fill;
 pub mod laws;
+mod maker;
+mod parse;
 mod room;
 
-pub use builder::build;
+pub use parse::parse_tree;

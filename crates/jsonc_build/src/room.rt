@@ -1,7 +1,8 @@
 //! Room for the nodes that are still to come.
 ghost use Rattle.std.specs.Prelude.{◌≡◌};
+ghost use Rattle.jsonc_tree.specs.Growing.{IsGrowing, container_of, nodes_so_far};
 
-use jsonc_tree::Tree;
+use jsonc_tree::Growing;
 use std::alloc::{AllocError, Allocator};
 
 // How many nodes to make room for: as many as the rest of a text has where it goes on as up to this place,
@@ -19,11 +20,13 @@ fn nodes_to_come(count: usize, place: usize, len: usize) -> usize {
 
 // Makes room for nodes before there is none, so that a tree takes little more memory than it fills.
 pub(crate) fn make_room<A: Allocator>(
-    tree: &mut Tree<A>,
+    tree: &mut Growing<A>,
     place: usize,
     len: usize,
 ) -> Result<(), AllocError>
-    ensures { tree.new.nodes ≡ tree.old.nodes }
+    ensures nodes { nodes_so_far tree.new ≡ nodes_so_far tree.old }
+    ensures container { container_of tree.new ≡ container_of tree.old }
+    ensures growing { IsGrowing tree.old → IsGrowing tree.new }
 {
     if tree.spare() >= 8 {
         return Ok(());

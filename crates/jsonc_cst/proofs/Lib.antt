@@ -1,4 +1,3 @@
-pub mod Lent
 pub mod Family
 pub mod Readings
 pub mod Colons

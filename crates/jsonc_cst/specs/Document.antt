@@ -3,7 +3,6 @@ use Rattle.std.specs.Prelude.{ℕ, List, Option, chars}
 use Rattle.jsonc_text.specs.Grammar.{IsDocument}
 use Rattle.jsonc_text.specs.Options.{Options}
 use Rattle.jsonc_text.specs.Plain.{Plain}
-use Rattle.jsonc_ast.specs.Located.{Located, IsLocatedDocument}
 use Rattle.jsonc_tree.specs.Content.{Content}
 use Rattle.jsonc_tree.specs.Tree.{Node, content_at}
 use Rattle.jsonc_tree.specs.OrderedTree.{OrderedTree, ordered_tree, printed}
@@ -11,16 +10,11 @@ pub use Rattle.jsonc_text.specs.EditErrors.{edit_error_text}
 pub use Rattle.jsonc_text.specs.declared.edit.EditError.{EditError}
 pub use Rattle.jsonc_text.specs.declared.edit.EditError.TheVariants.{OutOfMemory}
 pub use Rattle.jsonc_ast.specs.to_ast.Refusals.{RefusesText, IsWithin}
-pub use Rattle.jsonc_build.specs.Laid.{DocumentLaid}
+pub use Rattle.jsonc_build.specs.Laid.{DocumentLaid, LiesIn}
 use Rattle.jsonc_cst.specs.declared.cst.CstRootNode.{CstRootNode}
 use Rattle.jsonc_cst.specs.declared.cst.node.CstContainerNode.{CstContainerNode}
 use Rattle.jsonc_cst.specs.declared.cst.node.CstNode.{CstNode}
 use Rattle.jsonc_cst.specs.Nodes.{number_of, parent_node, nodes_above, child_nodes, IsNodeOf}
-
--- The text has a value, or none, and its tree lies in it place by place: a value, a name or a bracket is a node there, and between them each comment is a leaf,
--- each line's end is one (CR LF is one), each run of blanks is one, and so is each comma and colon.
-abbrev pub LiesIn : Options → List ℕ → OrderedTree → Type 0
-LiesIn o bytes tree = (x : Option Located) × IsLocatedDocument o bytes x × DocumentLaid bytes x tree
 
 -- no more than 512 containers and properties are around each value in the text
 abbrev pub HasNoDeeperValue : Options → List ℕ → Type 0

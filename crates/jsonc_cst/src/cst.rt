@@ -38,9 +38,7 @@ mod values;
 
 pub use access::{AncestorIterator, node_at};
 pub use input::CstInputValue;
-use jsonc_ast::to_ast::collect::CollectOptions;
-use jsonc_ast::to_ast::parse_to_ast;
-use jsonc_build::build;
+use jsonc_build::parse_tree;
 pub use jsonc_edit::{EditError, TrailingCommaMode};
 use jsonc_text::errors::ParseError;
 use jsonc_text::options::ParseOptions;
@@ -91,11 +89,7 @@ impl<A: Allocator + Copy> CstRootNode<A> {
         ensures fault { IfErr result (IsFault text.now) }
         ensures error { IfErr result (ParseFault (parse_options options.now) text.now true) }
     {
-        let collect = CollectOptions::default();
-        let parsed = parse_to_ast(alloc, text, &collect, options)?;
-        let Ok(tree) = build(alloc, text, parsed.value.as_ref()) else {
-            return Err(ParseError::out_of_memory());
-        };
+        let tree = parse_tree(alloc, text, options)?;
         Ok(CstRootNode { tree, alloc })
     }
 

@@ -6,6 +6,7 @@ mod Arguments
 mod PuttingInContainers
 mod Changes
 mod Ending
+mod LocatedValues
 mod Names
 mod SettingsShown
 mod FaultTexts

@@ -18,7 +18,7 @@ use Rattle.jsonc_ast.specs.declared.ast.Object.{Object}
 use Rattle.jsonc_ast.specs.declared.ast.StringLit.{StringLit}
 use Rattle.jsonc_ast.specs.declared.ast.Value.{Value}
 use Rattle.jsonc_ast.specs.declared.ast.Value as values
-use Rattle.jsonc_build.proofs.LocatedValues.{view-Array, view-BooleanLit, view-NullKeyword, view-NumberLit, view-Object, view-StringLit}
+use Rattle.jsonc_engine.proofs.LocatedValues.{view-Array, view-BooleanLit, view-NullKeyword, view-NumberLit, view-Object, view-StringLit}
 use Rattle.jsonc_layout.specs.input.Views.{chars_of, items_of}
 use Rattle.jsonc_parser.specs.paths.Found.{names_of}
 use Rattle.jsonc_engine.specs.Argument.{AreNames, AreNoNames, IsFaultOfNames, IsFaultOfPath, IsPath, items_in, strings, text_in}

@@ -2,12 +2,12 @@
 ghost use Rattle.std.specs.Prelude.{◌<◌, IfSome, length};
 
 use failing_alloc::outcome::Outcome;
-use jsonc_build::build;
+use jsonc_build::parse_tree;
 use jsonc_layout::lines::{
     Indents, has_blank_line_before, indent_text, indents_at, newline_kind, single_indent_text,
     trailing_comma, uses_trailing_commas,
 };
-use jsonc_parser::{CollectOptions, ParseOptions, parse_to_ast};
+use jsonc_parser::ParseOptions;
 use jsonc_tree::{CstNewlineKind, Kind, Tree};
 use std::alloc::{AllocError, Allocator};
 use std::default::Default;
@@ -23,12 +23,8 @@ const NESTED: &str = "{\n \"c\": {\n   \"d\": 3\n }\n}";
 
 /// The tree of a document.
 pub fn tree_of<A: Allocator + Copy>(alloc: A, text: &str) -> Result<Tree<A>, Outcome> {
-    let collect = CollectOptions::default();
-    let parsed = parse_to_ast(alloc, text, &collect, &ParseOptions::default())?;
-    match build(alloc, text, parsed.value.as_ref()) {
-        Ok(tree) => Ok(tree),
-        Err(error) => Err(Outcome::from(error)),
-    }
+    let tree = parse_tree(alloc, text, &ParseOptions::default())?;
+    Ok(tree)
 }
 
 fn is_string<A: Allocator>(kind: &Kind<A>, text: &str) -> bool {

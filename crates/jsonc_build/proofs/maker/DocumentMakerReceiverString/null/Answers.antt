@@ -1,0 +1,6 @@
+use Rattle.jsonc_build.specs.Laid.{null_leaf}
+use Rattle.jsonc_build.proofs.Building.{leaf_added, ok_of}
+use Rattle.jsonc_build.proofs.maker.DocumentMakerReceiverString.null.Goals as goal
+
+pub returns-clause-made : goal.returns-clause-made
+returns-clause-made g c = ok_of c.leaf.result (λ put i. leaf_added c.args.self.now c.leaf.new.self _ _ put (null_leaf c.requires.inside)) c.leaf.ensures.put
