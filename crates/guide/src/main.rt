@@ -6,6 +6,7 @@ mod files;
 mod read;
 mod recipes;
 mod texts;
+mod walk;
 
 use jsonc_parser::ParseOptions;
 use jsonc_parser::cst::{CstRootNode, EditError};
@@ -119,5 +120,6 @@ fn main(rt: HostRuntime) -> anyhow::Result<ExitCode> {
         show(&rt, name, *recipe, text)?;
     }
     read::readings(&rt)?;
+    walk::walks(&rt)?;
     Ok(ExitCode::SUCCESS)
 }

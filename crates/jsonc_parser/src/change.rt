@@ -6,7 +6,7 @@ ghost use Rattle.jsonc_parser.specs.Changes.{BeginsApart, EndsApart, IsLeastChan
 
 use jsonc_text::common::Range;
 
-/// A stretch of a text, and the text that replaces it.
+/// A stretch of a text, and the text that replaces it. The stretch may begin or end inside a CR LF.
 #[derive(Clone, Copy, Debug, PartialEq, Eq)]
 pub struct TextChange<'n> {
     /// The bytes of the old text that are replaced.
@@ -60,7 +60,7 @@ fn before_common_end<'o, 'n>(old: &'o str, new: &'n str) -> (&'o str, &'n str)
     }
 }
 
-/// The smallest change that makes the new text of the old one.
+/// The smallest change that makes the new text of the old one, which may begin or end inside a CR LF.
 ///
 /// With the bytes `range` of `old` replaced by `new_text` it is `new`. The range lies between
 /// characters. No other change of whole characters replaces fewer bytes or begins later. An editor
