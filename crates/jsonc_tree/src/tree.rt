@@ -1,7 +1,7 @@
 //! The nodes of a document, and their changes.
 
 ghost use Rattle.std.specs.Prelude.{◌≡◌, ℕ, false, IsTrue, ◌+◌, ◌-◌, ◌^◌, ◌<◌, ◌≤◌, [], ◌∷◌};
-ghost use Rattle.std.specs.Prelude.{length, max, vec_capacity, vec_len, IfOk, OnErr, OnOk};
+ghost use Rattle.std.specs.Prelude.{length, vec_capacity, vec_len, IfOk, OnErr, OnOk};
 ghost use Rattle.jsonc_tree.specs.Content.{is_container};
 ghost use Rattle.jsonc_tree.specs.Tree.{children_at, is_container_at, room_at};
 ghost use Rattle.jsonc_tree.specs.Changes.{Adds, Appends, CanAppend, CanJoin};
@@ -67,38 +67,12 @@ fn has_room<A: Allocator>(nodes: &Vec<Node<A>, A>, c: usize)
     let _ = first_of(nodes, c);
 }
 
-// How many more nodes there is memory for.
-fn spare_of<A: Allocator>(nodes: &Vec<Node<A>, A>) -> usize
-    ensures { result ≡ vec_capacity nodes.now - vec_len nodes.now }
-{
-    nodes.capacity() - nodes.len()
-}
-
 impl<A: Allocator> Tree<A> {
     /// How many nodes there are, those that were taken out included.
     pub fn len(&self) -> usize
         ensures len { result ≡ length self.now.nodes }
     {
         self.nodes.len()
-    }
-
-    /// How many more nodes there is memory for.
-    pub fn spare(&self) -> usize
-        ensures { result ≡ self.now.room }
-    {
-        spare_of(&self.nodes)
-    }
-
-    /// Makes room for so many more nodes, and for no more than that where it takes memory.
-    ///
-    /// On an error the tree stays as it was.
-    pub fn reserve_nodes(&mut self, additional: usize) -> Result<(), AllocError>
-        ensures nodes { self.new.nodes ≡ self.old.nodes }
-        ensures room { OnOk result (additional ≤ self.new.room) }
-        ensures exact { OnOk result (self.new.room ≡ max self.old.room additional) }
-        ensures spare { self.old.room ≤ self.new.room }
-    {
-        self.nodes.reserve_exact(additional)
     }
 
     /// Makes room for so many more children, so that a splice that adds as many needs no memory.
