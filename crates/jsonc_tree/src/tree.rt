@@ -10,7 +10,7 @@ ghost use Rattle.jsonc_tree.specs.Siblings.{Fills, HasGap};
 ghost use Rattle.jsonc_tree.specs.Stored.{content_of, nodes_in, IsStored};
 ghost use Rattle.jsonc_tree.specs.StoredOnce.{IsStored-prop};
 
-use crate::links::first_of;
+use crate::links::{first_of, next_number};
 use crate::node::{Ends, Kind, Node, bare_node};
 use crate::splice::{append_node, put_between, splice_nodes};
 use std::alloc::{AllocError, Allocator};
@@ -170,20 +170,22 @@ impl<A: Allocator> Tree<A> {
 
     /// Adds a node without a parent, and answers its number.
     ///
-    /// On an error the tree stays as it was.
+    /// A tree has at most 2^32 - 1 nodes: one more is refused as out of memory. On an error the tree
+    /// stays as it was.
     pub fn add(&mut self, kind: Kind<A>) -> Result<usize, AllocError>
         ensures number { IfOk result (λ n. n ≡ length self.old.nodes) }
         ensures added { OnOk result (Adds self.old.nodes self.new.nodes (content_of kind)) }
         ensures err { OnErr result (self.new.nodes ≡ self.old.nodes) }
     {
-        let number = self.len();
+        let number = next_number(&self.nodes)?;
         self.nodes.push(bare_node(kind))?;
         Ok(number)
     }
 
     /// Adds a node as a container's last child, and answers its number.
     ///
-    /// On an error every node stays as it was, though the container may have more room.
+    /// A tree has at most 2^32 - 1 nodes: one more is refused as out of memory. On an error every node
+    /// stays as it was, though the container may have more room.
     pub fn push_child(&mut self, container: usize, kind: Kind<A>) -> Result<usize, AllocError>
         requires in_tree { container < length self.old.nodes }
         requires container { IsTrue (is_container_at self.old.nodes container) }
