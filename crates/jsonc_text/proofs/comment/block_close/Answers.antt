@@ -1,7 +1,7 @@
 use Rattle.std.proofs.Common.{◌-◌, ◌∙◌, ap, get_or, arith}
-use Rattle.jsonc_scan.proofs.BlockCloses.{block_by_slash, by_run, by_slash, no_block_by, slash_of}
-use Rattle.jsonc_scan.proofs.stops.block_close.Goals.{else-start-slash-via-then-start-slash+else-bytes-slash-eq42, else-start-slash-via-else-start-slash}
-use Rattle.jsonc_scan.proofs.stops.block_close.Goals as goal
+use Rattle.jsonc_text.proofs.BlockCloses.{block_by_slash, by_run, by_slash, no_block_by, slash_of}
+use Rattle.jsonc_text.proofs.comment.block_close.Goals.{else-start-slash-via-then-start-slash+else-bytes-slash-eq42, else-start-slash-via-else-start-slash}
+use Rattle.jsonc_text.proofs.comment.block_close.Goals as goal
 
 pub returns-then-bytes-slash-eq42-clause-found : goal.returns-then-bytes-slash-eq42-clause-found
 returns-then-bytes-slash-eq42-clause-found c =

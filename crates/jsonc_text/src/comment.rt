@@ -1,13 +1,13 @@
-//! The end of a block comment.
+//! Where a block comment ends.
 ghost use Rattle.std.specs.Prelude.{IsCharBoundary, IfSome, IfNone};
 ghost use Rattle.jsonc_text.specs.string.Between.{NoneFrom};
-ghost use Rattle.jsonc_scan.specs.Between.{HoldsBlock};
+ghost use Rattle.jsonc_text.specs.Comments.{HoldsBlock};
 ghost use Rattle.jsonc_text.specs.Gaps.{UpToBlockEnd};
 
-use jsonc_text::runs::byte_stop;
+use crate::runs::byte_stop;
 
 /// The place of the first `*/` from `start` on, or none.
-pub(crate) fn block_close(text: &str, start: usize) -> Option<usize>
+pub fn block_close(text: &str, start: usize) -> Option<usize>
     requires { IsCharBoundary text.now start }
     ensures found { IfSome result (HoldsBlock text.now start) }
     ensures none { IfNone result (NoneFrom UpToBlockEnd text.now start) }

@@ -1,5 +1,5 @@
 -- Where a block comment ends, by its bytes.
-use Rattle.std.proofs.Common.{drop, ℕ, ◌+◌, ◌-◌, ◌<◌, ◌≤◌, ◌≡◌, ◌∙◌, sym, ap, refl, Bool, true, false, not, ◌||◌, List, [], ◌∷◌, ◌++◌, length, get_or, arith, IsUtf8, IsTrue, IsCharBoundary, chars, encode_utf8, encode_utf8_all, slice_range, ◌==◌, ◌&&◌, ◌⊎◌, inl, inr, length-append, length-drop, append_assoc}
+use Rattle.std.proofs.Common.{drop, ℕ, ◌+◌, ◌-◌, ◌<◌, ◌≤◌, ◌≡◌, ◌∙◌, sym, ap, refl, Bool, true, false, ◌||◌, List, [], ◌∷◌, ◌++◌, length, get_or, arith, IsUtf8, IsTrue, IsCharBoundary, chars, encode_utf8, encode_utf8_all, slice_range, ◌==◌, ◌&&◌, inl, inr, length-append, length-drop, append_assoc}
 use Rattle.std.proofs.lemmas.Bool.{cases_lt}
 use Rattle.std.proofs.lemmas.List.{get_or-append-add}
 use Rattle.std.proofs.Math.Seq.{get_or-append_seam}
@@ -9,7 +9,7 @@ use Rattle.jsonc_text.specs.Text.{rest, Spans}
 use Rattle.jsonc_text.specs.Chars.{Steps}
 use Rattle.jsonc_text.specs.Runs.{RunsTo}
 use Rattle.jsonc_text.specs.string.Between.{NoneFrom, is_neither}
-use Rattle.jsonc_scan.specs.Between.{HoldsBlock}
+use Rattle.jsonc_text.specs.Comments.{HoldsBlock}
 use Rattle.jsonc_text.specs.Gaps.{HasNoEndInside}
 use Rattle.jsonc_text.proofs.CharacterSteps.{steps_ascii}
 use Rattle.std.proofs.lemmas.List.{get_or-drop}
