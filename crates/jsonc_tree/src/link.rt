@@ -4,7 +4,8 @@ ghost use Rattle.std.specs.Prelude.{◌≡◌, ◌<◌, ◌-◌, ◌^◌, IfSome
 
 use std::marker::Model;
 
-// The number of a node, or none, in four bytes: a tree has no more nodes than such numbers.
+// The number of a node, or none, in four bytes: a tree has no more nodes than such numbers. The largest
+// number stands for none.
 #[derive(Drop)]
 pub(crate) struct Link {
     number: u32,
