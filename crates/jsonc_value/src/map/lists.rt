@@ -59,35 +59,34 @@ impl<K: Eq + Hash + Clone + Drop, V: Clone, A: Allocator + Clone> Map<K, V, A> {
         requires { EqualsItsClones K.eq K.is_clone }
         ensures { IfOk result (AllZip (IsPairClone K.is_clone V.is_clone) self.now) }
     {
-        let keys = self.keys.clone()?;
-        let values = self.values.clone()?;
-        Ok(Map { keys, values })
+        let hashes = self.hashes.clone()?;
+        let pairs = self.pairs.clone()?;
+        Ok(Map { pairs, hashes })
     }
 }
 
 impl<K: Eq + Hash, V, A: Allocator> Map<K, V, A> {
-    /// The values, in their order.
-    pub(crate) fn values_slice(&self) -> &[V]
-        ensures { result.now ≡ values_of self.now }
+    /// The pairs, in their order.
+    pub(crate) fn pairs_slice(&self) -> &[(K, V)]
+        ensures { result.now ≡ self.now }
     {
-        self.values.as_slice()
+        self.pairs.as_slice()
     }
 
     /// What the map takes its memory from.
     pub(crate) fn allocator(&self) -> &A {
-        self.values.allocator()
+        self.pairs.allocator()
     }
 }
 
 impl<K: Eq + Hash + Clone + Drop, V: Drop, A: Allocator + Clone> Map<K, V, A> {
-    /// Clones of the keys, in their order, with these values.
-    pub(crate) fn clone_keys_with(&self, values: Vec<V, A>) -> Result<Self, AllocError>
-        requires len { length values.items ≡ length self.now }
-        requires keys { EqualsItsClones K.eq K.is_clone }
-        ensures keys { IfOk result (λ m. AllZip K.is_clone (keys_of self.now) (keys_of m)) }
-        ensures values { IfOk result (λ m. values_of m ≡ values.items) }
+    /// A map of these pairs, whose keys are clones of this one's, in their order.
+    pub(crate) fn with_copies(&self, pairs: Vec<(K, V), A>) -> Result<Self, AllocError>
+        requires keys { AllZip K.is_clone (keys_of self.now) (keys_of pairs.items) }
+        requires equal { EqualsItsClones K.eq K.is_clone }
+        ensures { IfOk result (λ m. m ≡ pairs.items) }
     {
-        let keys = self.keys.clone()?;
-        Ok(Map { keys, values })
+        let hashes = self.hashes.clone()?;
+        Ok(Map { pairs, hashes })
     }
 }
