@@ -1,9 +1,13 @@
 -- Keys that stay distinct.
-use Rattle.std.proofs.Common.{◌≡◌, ℕ, zero, suc, ◌<◌, Bool, false, List, [], ◌∷◌, ◌++◌, length, take, swap, subst, sym}
+use Rattle.std.proofs.Common.{◌≡◌, ℕ, zero, suc, ◌<◌, Bool, false, List, [], ◌∷◌, ◌++◌, length, take, swap, subst, refl, sym, ap, ◌∙◌, append_assoc}
 use Rattle.std.proofs.lemmas.List.Sorted.{IsPermutation-swap}
 use Rattle.std.proofs.lemmas.Map.Keys.{IsDistinct-push, IsDistinct-IsPermutation}
+use Rattle.std.proofs.lemmas.List.{append-nil, map-append}
 use Rattle.std.specs.Cmp.{IsEquivalence}
+use Rattle.std.specs.Map.{keys_of}
+use Rattle.indexmap.specs.IndexMap.{insert_all}
 use Rattle.std.specs.List.{remove, list_any, AllByRecursion, IsDistinct}
+use Rattle.jsonc_value.proofs.Pairs.{inserted_last}
 
 module _ {K : Type 0} (eq : K → K → Bool) where
   pub same_distinct : (ks ls : List K) → ls ≡ ks → IsDistinct eq ks → IsDistinct eq ls
@@ -49,3 +53,21 @@ module _ {K : Type 0} (eq : K → K → Bool) where
 
     pub push_distinct : (k : K) (ks ls : List K) → ls ≡ ks ++ k ∷ [] → list_any (eq k) ks ≡ false → IsDistinct eq ks → IsDistinct eq ls
     push_distinct k ks ls e none d = same_distinct (ks ++ k ∷ []) ls e (IsDistinct-push laws ks k d none)
+
+    all_of_one : (P : K → Type 0) (ks xs : List K) (x : K) → AllByRecursion P (ks ++ x ∷ xs) → P x
+    all_of_one P [] xs x a = a.0
+    all_of_one P (k ∷ ks) xs x a = all_of_one P ks xs x a.1
+
+    absent_before : (ks xs : List K) (x : K) → IsDistinct eq (ks ++ x ∷ xs) → list_any (eq x) ks ≡ false
+    unfolding IsDistinct
+    absent_before [] xs x d = refl
+    absent_before (k ∷ ks) xs x d = rw (laws.symm x k ∙ all_of_one (λ y. eq k y ≡ false) ks xs x d.0) (absent_before ks xs x d.1)
+
+    -- pairs whose keys are distinct stand as they are inserted
+    pub all_last : {V : Type 0} (done es : List (K × V)) → IsDistinct eq (keys_of (done ++ es)) → insert_all eq done es ≡ done ++ es
+    all_last done [] d = sym (append-nil done)
+    all_last done (e ∷ es) d =
+        let apart : keys_of (done ++ e ∷ es) ≡ keys_of done ++ e.0 ∷ keys_of es = map-append (λ p. p.0) done (e ∷ es) in
+        let none : list_any (eq e.0) (keys_of done) ≡ false = absent_before (keys_of done) (keys_of es) e.0 (subst (IsDistinct eq) apart d) in
+        let moved : (done ++ e ∷ []) ++ es ≡ done ++ e ∷ es = append_assoc done (e ∷ []) es in
+        ap (λ l. insert_all eq l es) (sym (inserted_last eq done e.0 e.1 (sym none))) ∙ all_last (done ++ e ∷ []) es (subst (λ l. IsDistinct eq (keys_of l)) (sym moved) d) ∙ moved

@@ -1,9 +1,9 @@
 -- Keys that are found by their hashes, and hashes that go with their keys.
-use Rattle.std.proofs.Common.{◌≡◌, ℕ, zero, suc, ◌+◌, ◌<◌, nat_eq, Bool, true, false, cond, not, List, [], ◌∷◌, ◌++◌, map, length, get_or, take, swap, position, Option, Some, None, refl, sym, ap, ◌∙◌, arith, true≢false}
+use Rattle.std.proofs.Common.{◌≡◌, ℕ, zero, suc, ◌+◌, ◌<◌, nat_eq, Bool, true, false, cond, not, List, [], ◌∷◌, ◌++◌, map, length, get_or, take, swap, position, Option, Some, None, refl, sym, ap, subst, ◌∙◌, arith, true≢false}
 use Rattle.std.proofs.Math.ListN.{get_or-map}
 use Rattle.std.proofs.lemmas.List.{length-map, map-append, take-map}
 use Rattle.std.specs.Cmp.{nat_eq_equiv}
-use Rattle.std.specs.List.{remove, list_any, AllZip}
+use Rattle.std.specs.List.{remove, list_any, AllByRecursion, AllZip, IsDistinct}
 use Rattle.std.proofs.Math.Seq.{take-length}
 use Rattle.indexmap.specs.IndexSet.{IndexSet, insert_key}
 use Rattle.indexmap.proofs.SetLemmas.{map-remove}
@@ -25,7 +25,7 @@ taken_suc [] i x lt at = absurd (omega (arith, lt))
 taken_suc (y ∷ xs) zero x lt at = ap (λ z. z ∷ []) at
 taken_suc (y ∷ xs) (suc i) x lt at = ap (λ l. y ∷ l) (taken_suc xs i x (omega (arith, lt)) at)
 
-taken_more : {X : Type 0} (xs : List X) (i : ℕ) (x : X) → i < length xs → get_or xs i x ≡ x → take (i + 1) xs ≡ take i xs ++ x ∷ []
+pub taken_more : {X : Type 0} (xs : List X) (i : ℕ) (x : X) → i < length xs → get_or xs i x ≡ x → take (i + 1) xs ≡ take i xs ++ x ∷ []
 taken_more xs i x lt at = ap (λ n. take n xs) (let one : i + 1 ≡ suc i = omega arith in one) ∙ taken_suc xs i x lt at
 
 module _ {K : Type 0} (input : K → List (List ℕ)) where
@@ -94,3 +94,18 @@ cloned_numbers [] [] all = refl
 cloned_numbers [] (y ∷ ys) all = absurd all
 cloned_numbers (x ∷ xs) [] all = absurd all
 cloned_numbers (x ∷ xs) (y ∷ ys) all = λ i. all.0 i ∷ cloned_numbers xs ys all.1 i
+
+-- keys whose hashes are distinct are distinct
+module _ {K : Type 0} (input : K → List (List ℕ)) (eq : K → K → Bool) (respects : (k l : K) → eq k l ≡ true → input k ≡ input l) where
+  none_equal : (k : K) (ks : List K) → AllByRecursion (λ h. nat_eq (hash input k) h ≡ false) (map (hash input) ks) → AllByRecursion (λ l. eq k l ≡ false) ks
+  none_equal k [] all = tt
+  none_equal k (l ∷ ks) all =
+      (fails_too (eq k l) (nat_eq (hash input k) (hash input l)) (λ e. same_hash (hash input k) (input k) (input l) refl (respects k l e)) all.0, none_equal k ks all.1)
+
+  by_hash : (ks : List K) → IsDistinct nat_eq (map (hash input) ks) → IsDistinct eq ks
+  unfolding IsDistinct
+  by_hash [] d = tt
+  by_hash (k ∷ ks) d = (none_equal k ks d.0, by_hash ks d.1)
+
+  pub distinct_by_hash : (ks : List K) (hs : List ℕ) → hs ≡ map (hash input) ks → IsDistinct nat_eq hs → IsDistinct eq ks
+  distinct_by_hash ks hs e d = by_hash ks (subst (IsDistinct nat_eq) e d)

@@ -1,5 +1,6 @@
 //! The hashes of a map's keys, by which one of many is found.
-ghost use Rattle.std.specs.Prelude.{◌≡◌, [], IfOk};
+ghost use Rattle.std.specs.Prelude.{◌≡◌, [], IfOk, IfSome};
+ghost use Rattle.std.specs.List.{IsDistinct};
 ghost use Rattle.std.specs.Map.{keys_of};
 ghost use Rattle.jsonc_value.specs.Hashes.{hashed, AreHashesOf, HasOneMore};
 
@@ -38,12 +39,13 @@ pub(crate) fn empty_hashes<K: Eq + Hash, A: Allocator + Copy>(
 
 /// The hashes of these pairs' keys, with room for so many, unless two keys have the same.
 #[cold]
-fn hashes_of<K: Eq + Hash, V, A: Allocator + Copy>(
+pub(crate) fn hashes_of<K: Eq + Hash, V, A: Allocator + Copy>(
     alloc: A,
     pairs: &[(K, V)],
     room: usize,
 ) -> Result<Hashes<A>, AllocError>
-    ensures { IfOk result (AreHashesOf K.hash_input (keys_of pairs.now)) }
+    ensures hashes { IfOk result (AreHashesOf K.hash_input (keys_of pairs.now)) }
+    ensures distinct { IfOk result (λ h. IfSome h (λ _. IsDistinct K.eq (keys_of pairs.now))) }
 {
     let empty = IndexSet::with_capacity(alloc, room)?;
     let mut set = Box::new(alloc, empty)?;

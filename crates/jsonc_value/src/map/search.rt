@@ -10,7 +10,7 @@ use std::alloc::Allocator;
 use std::hash::Hash;
 
 /// The first place of this key, one pair after another.
-fn search<K: Eq + Hash, V, Q: Equivalent<K>>(pairs: &[(K, V)], key: Q) -> Option<usize>
+pub(crate) fn search<K: Eq + Hash, V, Q: Equivalent<K>>(pairs: &[(K, V)], key: Q) -> Option<usize>
     ensures index { result ≡ position (Q.equivalent key) (keys_of pairs.now) }
     ensures found { is_some result ≡ list_any (Q.equivalent key) (keys_of pairs.now) }
     ensures within { IfSome result (λ i. i < length pairs.now) }
