@@ -1,0 +1,65 @@
+//! Texts that are written into a caller's buffer.
+ghost use Rattle.std.specs.Prelude.{◌≡◌, ◌<◌, ◌++◌, ◌∷◌, [], length, take};
+
+use crate::commands::line_at;
+use crate::edits::JsoncEdit;
+use crate::fault::{JsoncFault, NO_ROOM, OK};
+use crate::handed::without_line_feed;
+use crate::lists::text_after;
+use std::alloc::Global;
+
+/// Writes bytes to the front of a buffer, if it has the room, and how many they are.
+fn fill(bytes: &[u8], room: &mut [u8], len: &mut usize) -> u32
+    ensures len { len.new ≡ length bytes.now }
+    ensures filled { result ≡ 0 → take len.new room.new ≡ bytes.now }
+    ensures no_room { ¬ (result ≡ 0) → (result ≡ 17) × (length room.old < len.new) }
+{
+    *len = bytes.len();
+    if bytes.len() > room.len() {
+        return NO_ROOM;
+    }
+    room[..bytes.len()].copy_from_slice(bytes);
+    OK
+}
+
+/// Writes the value at a path, as it is written, into a buffer, as `jsonc_get` hands it out.
+///
+/// 17: the buffer is too small. `len` tells how long the value is then, too.
+#[unsafe(no_mangle)]
+pub extern "C" fn jsonc_get_into(
+    alloc: Global,
+    text: &[u8],
+    path: &[u8],
+    options: u32,
+    room: &mut [u8],
+    len: &mut usize,
+    fault: &mut JsoncFault,
+) -> u32
+{
+    *len = 0;
+    match line_at(alloc, text, path, options, fault) {
+        Ok(line) => fill(without_line_feed(line).as_slice(), room, len),
+        Err(status) => status,
+    }
+}
+
+/// Writes the text after edits into a buffer, as `jsonc_edit` hands it out.
+///
+/// 17: the buffer is too small. `len` tells how long the text is then, too.
+#[unsafe(no_mangle)]
+pub extern "C" fn jsonc_edit_into(
+    alloc: Global,
+    text: &[u8],
+    edits: &[JsoncEdit],
+    options: u32,
+    room: &mut [u8],
+    len: &mut usize,
+    fault: &mut JsoncFault,
+) -> u32
+{
+    *len = 0;
+    match text_after(alloc, text, edits, options, fault) {
+        Ok(made) => fill(made.as_bytes(), room, len),
+        Err(status) => status,
+    }
+}
