@@ -105,7 +105,7 @@ pub(crate) const NO_SUCH_EDIT: u32 = 16;
 /// The caller's buffer is too small. How long the text is stands behind the pointer for its length.
 pub(crate) const NO_ROOM: u32 = 17;
 
-/// Nothing else went wrong. No call answers it.
+/// Anything else. No call answers it.
 pub(crate) const OTHER: u32 = 18;
 
 fn string_kind_number(kind: &ParseStringErrorKind) -> u32

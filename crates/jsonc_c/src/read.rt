@@ -154,7 +154,10 @@ fn read_edit(alloc: Global, edit: &JsoncEdit, fault: &mut JsoncFault) -> Result<
             path_edit(alloc, edit)
         }
         REPLACE | SET_VALUE | INSERT_ELEMENT | APPEND_ELEMENT => value_edit(alloc, edit, fault),
-        _ => property_edit(alloc, edit, fault),
+        REPLACE_PROPERTY | INSERT_PROPERTY | APPEND_PROPERTY | ENSURE_PROPERTY => {
+            property_edit(alloc, edit, fault)
+        }
+        _ => Err(NO_SUCH_EDIT),
     }
 }
 
