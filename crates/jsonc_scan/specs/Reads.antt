@@ -142,3 +142,7 @@ module _ {A : Type 0} where
     pub stands : Between (IsScanned o (lexeme (string (chars (cow_str_bytes read.string))))) bytes start read.end
     pub lent : IsLentUnescaped bytes start read.end read.string
     pub escaped : IsOwnedStr read.string → StringHoldsBackslash bytes start
+
+  -- the same, under all options
+  abbrev pub IsStringAnyhow : List ℕ → ℕ → Decoded A → Type 0
+  IsStringAnyhow bytes start read = (o : Options) → IsStringRead o bytes start read

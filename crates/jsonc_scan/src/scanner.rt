@@ -5,7 +5,7 @@ use crate::faults::out_of_memory;
 use crate::found::{TokenContent, TokenKind};
 use crate::plain::plain_number;
 use crate::reads::{quote_at, read_lexeme, read_punctuation};
-use crate::string::read_string;
+use crate::string::{plain_string, read_string};
 use jsonc_text::chars::{blanks_end, has_byte};
 use jsonc_text::errors::{ParseError, ParseErrorKind};
 use jsonc_text::options::{ParseOptions, ScannerOptions};
@@ -151,6 +151,11 @@ impl<'a, A: Allocator + Copy> Scanner<'a, A> {
         self.token_start = start;
         if start == self.file_text.len() {
             return Ok(None);
+        }
+        if let Some(read) = plain_string(self.file_text, start) {
+            self.byte_index = read.end;
+            content.string = read.string;
+            return Ok(Some(TokenKind::String));
         }
         if let Some(mark) = read_punctuation(self.file_text, start) {
             self.byte_index = start + 1;

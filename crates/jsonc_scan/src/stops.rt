@@ -1,8 +1,10 @@
-//! The end of a block comment, a byte at a time: no byte of a wider character is one of ASCII.
+//! The end of a block comment.
 ghost use Rattle.std.specs.Prelude.{IsCharBoundary, IfSome, IfNone};
 ghost use Rattle.jsonc_text.specs.string.Between.{NoneFrom};
 ghost use Rattle.jsonc_scan.specs.Between.{HoldsBlock};
 ghost use Rattle.jsonc_text.specs.Gaps.{UpToBlockEnd};
+
+use jsonc_text::runs::byte_stop;
 
 /// The place of the first `*/` from `start` on, or none.
 pub(crate) fn block_close(text: &str, start: usize) -> Option<usize>
@@ -11,12 +13,12 @@ pub(crate) fn block_close(text: &str, start: usize) -> Option<usize>
     ensures none { IfNone result (NoneFrom UpToBlockEnd text.now start) }
 {
     let bytes = text.as_bytes();
-    let mut place = start;
-    while bytes.len() - place > 1 {
-        if (bytes[place] == b'*') & (bytes[place + 1] == b'/') {
-            return Some(place);
+    let mut slash = byte_stop(bytes, start, b'/', b'/');
+    while slash < bytes.len() {
+        if start < slash && bytes[slash - 1] == b'*' {
+            return Some(slash - 1);
         }
-        place += 1;
+        slash = byte_stop(bytes, slash + 1, b'/', b'/');
     }
     None
 }

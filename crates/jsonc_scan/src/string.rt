@@ -1,19 +1,41 @@
 //! String tokens.
-ghost use Rattle.std.specs.Prelude.{◌≡◌, ◌≢◌, ◌↔◌, IsCharBoundary, IfOk, IfErr};
+ghost use Rattle.std.specs.Prelude.{◌≡◌, ◌≢◌, ◌↔◌, IsCharBoundary, IfOk, IfErr, IfSome};
 ghost use Rattle.jsonc_text.specs.Faults.{IsFault, kind_of};
 ghost use Rattle.jsonc_text.specs.OptionsOf.{parse_options};
 ghost use Rattle.jsonc_text.specs.Text.{Spans};
 ghost use Rattle.jsonc_text.specs.string.Escapes.{StringHoldsBackslash};
-ghost use Rattle.jsonc_scan.specs.Reads.{IsStringRead, NothingAt};
+ghost use Rattle.jsonc_scan.specs.Reads.{IsStringAnyhow, IsStringRead, NothingAt};
 ghost use Rattle.jsonc_scan.specs.Refusals.{IsFaultOfString, IsFaultOfStringToken};
 ghost use Rattle.jsonc_text.specs.string.Quotes.{OpensString};
 
 use crate::faults::out_of_memory;
+use jsonc_text::chars::has_byte;
 use jsonc_text::errors::{ParseError, ParseErrorKind, ParseStringErrorKind};
 use jsonc_text::options::ParseOptions;
 use jsonc_text::string::decode::{Decoded, decode_string};
 use jsonc_text::string::escape::{Literal, StringFault};
+use jsonc_text::string::stops::stop_place;
 use std::alloc::Allocator;
+use std::borrow::CowStr;
+
+/// The string between double quotes at a place, if one without a backslash stands there.
+#[inline(always)]
+pub(crate) fn plain_string<'a, A: Allocator>(text: &'a str, start: usize) -> Option<Decoded<'a, A>>
+    requires { IsCharBoundary text.now start }
+    ensures { IfSome result (IsStringAnyhow text.now start) }
+{
+    if !has_byte(text, start, b'"') {
+        return None;
+    }
+    let stop = stop_place(text, start + 1, b'"', b'\\');
+    if !has_byte(text, stop, b'"') {
+        return None;
+    }
+    Some(Decoded {
+        string: CowStr::Borrowed(&text[start + 1..stop]),
+        end: stop + 1,
+    })
+}
 
 /// The string at a place, where its quote stands.
 pub(crate) fn read_string<'a, A: Allocator + Copy>(

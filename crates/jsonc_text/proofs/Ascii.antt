@@ -82,3 +82,10 @@ blank_step bytes i u l a t = (get_or bytes i 0, sym (ascii_blank (get_or bytes i
 pub no_blank_step : (bytes : List ℕ) (i : ℕ) → IsUtf8 bytes → i < length bytes → get_or bytes i 0 < 128 → ((nat_lt 8 (get_or bytes i 0) && nat_lt (get_or bytes i 0) 14) || get_or bytes i 0 == 32) ≡ false
     → IsTrue (no is_blank (next (rest bytes i)))
 no_blank_step bytes i u l a f = rw (steps_ascii bytes i u l a).0 (ap not (sym (ascii_blank (get_or bytes i 0) a) ∙ f))
+
+-- past the space, ASCII has no blank
+pub past_space : (bytes : List ℕ) (i : ℕ) → IsUtf8 bytes → i < length bytes → 32 < get_or bytes i 0 → get_or bytes i 0 < 128 → IsTrue (no is_blank (next (rest bytes i)))
+past_space bytes i u l h a = no_blank_step bytes i u l a (no_test (get_or bytes i 0) h)
+  where
+    no_test : (c : ℕ) → 32 < c → ((nat_lt 8 c && nat_lt c 14) || c == 32) ≡ false
+    no_test c h = grind arith

@@ -14,6 +14,7 @@ pub mod Rows
 pub mod RowsPlaces
 pub mod RowsRefused
 pub mod CharRuns
+pub mod LaneRuns
 pub mod SameOptions
 pub mod CharacterSteps
 pub mod StringFrames

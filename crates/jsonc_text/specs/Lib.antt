@@ -1,6 +1,7 @@
 pub mod Options
 pub mod Text
 pub mod Chars
+pub mod Runs
 pub mod Gaps
 pub mod Letters
 pub mod Words

@@ -102,15 +102,20 @@ pub fn blanks_end(text: &str, start: usize) -> usize
 {
     let bytes = text.as_bytes();
     let mut place = start;
-    while place < bytes.len() && bytes[place] < 0x80 {
+    while place < bytes.len() {
         let byte = bytes[place];
-        if (8 < byte) & (byte < 14) | (byte == 0x20) {
-            place += 1;
-        } else {
+        if byte > 0x20 {
+            if byte < 0x80 {
+                return place;
+            }
+            return any_blanks_end(text, place);
+        }
+        if !((8 < byte) & (byte < 14) | (byte == 0x20)) {
             return place;
         }
+        place += 1;
     }
-    any_blanks_end(text, place)
+    place
 }
 
 /// The first place from `start` on where no digit stands.

@@ -13,5 +13,6 @@ pub mod errors;
 pub mod laws;
 pub mod line;
 pub mod options;
+pub mod runs;
 pub mod string;
 pub mod tokens;

@@ -1,5 +1,5 @@
 -- What links show: where they are those of a tree's rows, just that tree.
-use Rattle.std.proofs.Common.{◌≡◌, ℕ, zero, suc, ◌+◌, ◌<◌, ◌≤◌, List, [], ◌∷◌, length, get_or, drop, inl, inr, eqb, slice_get, refl, sym, ap, subst, ◌∙◌, arith}
+use Rattle.std.proofs.Common.{◌≡◌, ℕ, zero, suc, ◌+◌, ◌<◌, ◌≤◌, List, [], ◌∷◌, length, get_or, drop, inl, inr, eqb, slice_get, refl, sym, ap, subst, ◌∙◌, arith, ◌-◌, ◌^◌}
 use Rattle.std.proofs.lemmas.Bool.{cases_lt, ne_eqb}
 use Rattle.std.proofs.lemmas.Option.{slice_get-get_or, slice_get_past}
 use Rattle.std.proofs.lemmas.List.{get_or-map, get_or_past, length-map, drop_more, drop_all, get_or_default}
@@ -71,10 +71,11 @@ module _ (ls : List LinkedNode) (ns : List tree.Node) (t : IsTree ns) (same : Ag
   pub shown_is : nodes_of ls ≡ ns
   shown_is = list_same tree.nowhere (nodes_of ls) ns (length-map ls (shown ls) ∙ same.len) node_is
 
-  pub stored_by : IsStored ls
-  stored_by = record {
+  pub stored_by : length ls ≤ 2 ^ 32 - 1 → IsStored ls
+  stored_by few = record {
     tree = subst IsTree (sym shown_is) t;
     linked = subst (IsLinked ls) (sym shown_is) same.linked;
+    few = few;
   }
 
 module _ (ls : List LinkedNode) where

@@ -1,5 +1,5 @@
 -- A node behind the last child of a container, where which child that is is kept apart.
-use Rattle.std.proofs.Common.{◌≡◌, ◌≢◌, ℕ, true, ◌+◌, ◌<◌, ◌≤◌, List, [], ◌∷◌, ◌++◌, length, set, cond, eqb, Option, None, Some, IfSome, inl, inr, refl, sym, ap, subst, ◌∙◌, arith, length-set, eq-eqb}
+use Rattle.std.proofs.Common.{◌≡◌, ◌≢◌, ℕ, true, ◌+◌, ◌<◌, ◌≤◌, List, [], ◌∷◌, ◌++◌, length, set, cond, eqb, Option, None, Some, IfSome, inl, inr, refl, sym, ap, subst, ◌∙◌, arith, length-set, eq-eqb, ◌-◌, ◌^◌}
 use Rattle.std.proofs.lemmas.Bool.{cases_eq, cases_Bool, ne_eqb}
 use Rattle.std.proofs.lemmas.List.{get_or_append_left, get_or_push, length_push}
 use Rattle.jsonc_tree.specs.Content.{Content, is_container, root}
@@ -9,7 +9,7 @@ use Rattle.jsonc_tree.specs.Changes.{Adds, Appends, CanAppend, Pushes}
 use Rattle.jsonc_tree.specs.Stored.{LinkedNode, bare, nowhere, link_at, nodes_of, ahead_set, back_set, IsStored}
 use Rattle.jsonc_tree.proofs.AgreeingLinks.{length_shown, list_same}
 use Rattle.jsonc_tree.proofs.Appending.{Appends-splice, CanAppend-adds}
-use Rattle.jsonc_tree.proofs.Moves.{comes, gap_front_there}
+use Rattle.jsonc_tree.proofs.Moves.{comes, gap_front_there, in_memory}
 use Rattle.jsonc_tree.proofs.UnchangedRows.{alone_stored, end_gap, pushed_adds, pushed_stored}
 use Rattle.jsonc_tree.proofs.Written.{same_here, same_there, length-ahead_set, length-back_set, relinked}
 
@@ -97,10 +97,17 @@ module _ (ls : List LinkedNode) (c : ℕ) (last : Option ℕ) where
     pub last_there : (size : ℕ) → size ≡ length ls → IfSome last (λ n. n < size)
     last_there size s = gap_front_there filled ok c (length (children_at (nodes_of filled) c)) size last None (end_gap filled ok c last last_is) (s ∙ sym size_same)
 
+    -- and has a number that a link can hold
+    pub last_fits : IfSome last (λ n. n < 2 ^ 32 - 1)
+    last_fits = in_memory last (length ls) (last_there (length ls) refl) (omega (arith, ok.few, length-back_set ls c None last))
+
     -- another container's last child is there
     pub other_last_there : (items : List LinkedNode) (d : ℕ) (l : Option ℕ) (size : ℕ) → items ≡ filled → l ≡ (link_at items d).last → size ≡ length ls → IfSome l (λ n. n < size)
     other_last_there items d l size is said s =
         gap_front_there filled ok d (length (children_at (nodes_of filled) d)) size l None (end_gap filled ok d l (said ∙ ap (λ m. (link_at m d).last) is)) (s ∙ sym size_same)
+
+    pub other_last_fits : (items : List LinkedNode) (d : ℕ) (l : Option ℕ) → items ≡ filled → l ≡ (link_at items d).last → IfSome l (λ n. n < 2 ^ 32 - 1)
+    other_last_fits items d l is said = in_memory l (length ls) (other_last_there items d l (length ls) is said refl) (omega (arith, ok.few, length-back_set ls c None last))
 
     module _ (content : Content) where
       abbrev child : LinkedNode
@@ -201,9 +208,9 @@ module _ (ls : List LinkedNode) (c : ℕ) (last : Option ℕ) where
       ])
 
       -- what a push makes of the nodes
-      pub grows : is_container_at (nodes_of filled) c ≡ true → Pushes (nodes_of filled) (nodes_of grown) c content × IsStored grown
-      grows holds =
-          let stored = pushed_stored filled content ok in
+      pub grows : length ls < 2 ^ 32 - 1 → is_container_at (nodes_of filled) c ≡ true → Pushes (nodes_of filled) (nodes_of grown) c content × IsStored grown
+      grows fits holds =
+          let stored = pushed_stored filled content ok (omega (arith, fits, length-back_set ls c None last)) in
           let adds = pushed_adds filled content ok in
           let old : List tree.Node = nodes_of filled in
           let mid : List tree.Node = nodes_of added in
@@ -216,11 +223,11 @@ module _ (ls : List LinkedNode) (c : ℕ) (last : Option ℕ) where
           (subst (λ l. Pushes old (nodes_of l) c content) steps_same pushes, subst IsStored steps_same came.1)
 
       -- by what a call says of it
-      pub grows_by : (items : List LinkedNode) (now end : Option ℕ) (size : ℕ) → is_container_at (nodes_of filled) c ≡ true → now ≡ last → size ≡ length ls → end ≡ Some size → items ≡ ahead_set (ls ++ record (bare content) { parent = Some c; previous = now } ∷ []) c now (Some size) → Pushes (nodes_of filled) (nodes_of (back_set items c None end)) c content × IsStored (back_set items c None end)
-      grows_by items now end size holds at_last at_size at_end said =
+      pub grows_by : (items : List LinkedNode) (now end : Option ℕ) (size : ℕ) → size < 2 ^ 32 - 1 → is_container_at (nodes_of filled) c ≡ true → now ≡ last → size ≡ length ls → end ≡ Some size → items ≡ ahead_set (ls ++ record (bare content) { parent = Some c; previous = now } ∷ []) c now (Some size) → Pushes (nodes_of filled) (nodes_of (back_set items c None end)) c content × IsStored (back_set items c None end)
+      grows_by items now end size fits holds at_last at_size at_end said =
           let is : items ≡ written = said ∙ ap (λ o. ahead_set (ls ++ record (bare content) { parent = Some c; previous = o } ∷ []) c o (Some size)) at_last ∙ ap (λ n. ahead_set (ls ++ child ∷ []) c last (Some n)) at_size in
           let whole : back_set items c None end ≡ grown = ap (λ l. back_set l c None end) is ∙ ap (back_set written c None) (at_end ∙ ap Some at_size) in
-          subst (λ l. Pushes (nodes_of filled) (nodes_of l) c content × IsStored l) (sym whole) (grows holds)
+          subst (λ l. Pushes (nodes_of filled) (nodes_of l) c content × IsStored l) (sym whole) (grows (omega (arith, fits, at_size)) holds)
 
 -- the container at hand stays one
 pub Pushes-holds : (old new : List tree.Node) (c : ℕ) (content : Content) → Pushes old new c content → c < length old → is_container_at old c ≡ true → (c < length new) × (is_container_at new c ≡ true)

@@ -91,7 +91,7 @@ rooms_after ns new c i j xs rooms splices at_c n h =
     ]
 
 -- what is there has a number that a link can say
-pub in_memory : (o : Option ℕ) (size : ℕ) → IfSome o (λ n. n < size) → size ≤ 2 ^ 64 - 1 → IfSome o (λ n. n < 2 ^ 64 - 1)
+pub in_memory : (o : Option ℕ) (size : ℕ) → IfSome o (λ n. n < size) → size ≤ 2 ^ 32 - 1 → IfSome o (λ n. n < 2 ^ 32 - 1)
 in_memory None size h le = tt
 in_memory (Some n) size h le = omega (arith, h)
 
@@ -148,26 +148,26 @@ module _ (ls : List LinkedNode) (ok : IsStored ls) where
       let fits : Agrees (relinked ls c (before row g) (slice_get row g) (Some x) (Some x) x (Some c) (before row g) (slice_get row g)) new = came_agrees ls ns new ok.tree same c g x can.container can.node made.1.len made.1.content (λ n ne. (made.1.others n ne).0) moved.1 rooms gap.inside can.alone made.1.children moved.0 in
       let here : Agrees (relinked ls c b a (Some x) (Some x) x (Some c) b a) new = rw (gap.front, gap.back) fits in (
         subst (λ (l : List Node). Splices ns l c g g (x ∷ [])) (sym (shown_is _ new made.2 here)) made.1,
-        stored_by _ new made.2 here,
+        stored_by _ new made.2 here (omega (arith, ok.few, here.len, made.1.len, length_shown ls)),
       )
 
   -- a child goes out of its row
-  pub goes : (c g x : ℕ) (b a : Option ℕ) → length ls ≤ 2 ^ 64 → c < length (nodes_of ls) → is_container_at (nodes_of ls) c ≡ true → slice_get (children_at (nodes_of ls) c) g ≡ Some x → b ≡ before (children_at (nodes_of ls) c) g → a ≡ slice_get (children_at (nodes_of ls) c) (suc g) → Splices (nodes_of ls) (nodes_of (relinked ls c b a a b x None None None)) c g (suc g) [] × IsStored (relinked ls c b a a b x None None None)
-  goes c g x b a size at holds stood front back =
+  pub goes : (c g x : ℕ) (b a : Option ℕ) → c < length (nodes_of ls) → is_container_at (nodes_of ls) c ≡ true → slice_get (children_at (nodes_of ls) c) g ≡ Some x → b ≡ before (children_at (nodes_of ls) c) g → a ≡ slice_get (children_at (nodes_of ls) c) (suc g) → Splices (nodes_of ls) (nodes_of (relinked ls c b a a b x None None None)) c g (suc g) [] × IsStored (relinked ls c b a a b x None None None)
+  goes c g x b a at holds stood front back =
       let ns : List Node = nodes_of ls in
       let row : List ℕ = children_at ns c in
       let same = agrees ls ok in
       let inside = slice_get_within row g x stood in
       let there : x < length ns = omega (arith, ok.tree.in_tree c g inside, let both : Some (get_or row g 0) ≡ Some x = sym (slice_get-get_or row g 0 inside) ∙ stood in let is : get_or row g 0 ≡ x = cc in is) in
       let room = same.room c at in
-      let made = spliced ns c g (suc g) (room_over (splice row g (suc g) [])) [] ok.tree at holds (omega arith) (omega arith) (CanJoin-none ns c g (suc g)) (omega (arith, room, length_went row g inside, row_short ns ok.tree c, length_shown ls)) in
+      let made = spliced ns c g (suc g) (room_over (splice row g (suc g) [])) [] ok.tree at holds (omega arith) (omega arith) (CanJoin-none ns c g (suc g)) (omega (arith, room, length_went row g inside, row_short ns ok.tree c, length_shown ls, ok.few)) in
       let new : List Node = made.0 in
       let moved = parent_went ns new c g x stood made.1 in
       let rooms = rooms_after ns new c g (suc g) [] same.room made.1 made.3 in
       let fits : Agrees (relinked ls c (before row g) (slice_get row (suc g)) (slice_get row (suc g)) (before row g) x None None None) new = went_agrees ls ns new ok.tree same c g x at there made.1.len made.1.content (λ n ne. (made.1.others n ne).0) moved.1 rooms inside stood made.1.children moved.0 in
       let here : Agrees (relinked ls c b a a b x None None None) new = rw (front, back) fits in (
         subst (λ (l : List Node). Splices ns l c g (suc g) []) (sym (shown_is _ new made.2 here)) made.1,
-        stored_by _ new made.2 here,
+        stored_by _ new made.2 here (omega (arith, ok.few, here.len, made.1.len, length_shown ls)),
       )
 
   -- by the three steps
@@ -175,10 +175,10 @@ module _ (ls : List LinkedNode) (ok : IsStored ls) where
   comes_by l1 l2 l3 c g x b a e1 e2 e3 can gap =
       subst (λ (l : List LinkedNode). Splices (nodes_of ls) (nodes_of l) c g g (x ∷ []) × IsStored l) (sym (three ls l1 l2 l3 c x b a (Some x) (Some x) (Some c) b a e1 e2 e3)) (comes c g x b a can gap)
 
-  pub goes_by : (l1 l2 l3 : List LinkedNode) (c x : ℕ) (b a : Option ℕ) → l1 ≡ ahead_set ls c b a → l2 ≡ back_set l1 c a b → l3 ≡ place_set l2 x None None None → length ls ≤ 2 ^ 64 → parent_at (nodes_of ls) x ≡ Some c → b ≡ (link_at ls x).previous → a ≡ (link_at ls x).next → Splices (nodes_of ls) (nodes_of l3) c (place_at (nodes_of ls) x) (suc (place_at (nodes_of ls) x)) [] × IsStored l3
-  goes_by l1 l2 l3 c x b a e1 e2 e3 size said front back =
+  pub goes_by : (l1 l2 l3 : List LinkedNode) (c x : ℕ) (b a : Option ℕ) → l1 ≡ ahead_set ls c b a → l2 ≡ back_set l1 c a b → l3 ≡ place_set l2 x None None None → parent_at (nodes_of ls) x ≡ Some c → b ≡ (link_at ls x).previous → a ≡ (link_at ls x).next → Splices (nodes_of ls) (nodes_of l3) c (place_at (nodes_of ls) x) (suc (place_at (nodes_of ls) x)) [] × IsStored l3
+  goes_by l1 l2 l3 c x b a e1 e2 e3 said front back =
       let r = in_row (nodes_of ls) ok.tree x c said in
-      subst (λ (l : List LinkedNode). Splices (nodes_of ls) (nodes_of l) c (place_at (nodes_of ls) x) (suc (place_at (nodes_of ls) x)) [] × IsStored l) (sym (three ls l1 l2 l3 c x b a a b None None None e1 e2 e3)) (goes c (place_at (nodes_of ls) x) x b a size r.0 r.1 r.2 (front ∙ previous_is x c said) (back ∙ next_is x c said))
+      subst (λ (l : List LinkedNode). Splices (nodes_of ls) (nodes_of l) c (place_at (nodes_of ls) x) (suc (place_at (nodes_of ls) x)) [] × IsStored l) (sym (three ls l1 l2 l3 c x b a a b None None None e1 e2 e3)) (goes c (place_at (nodes_of ls) x) x b a r.0 r.1 r.2 (front ∙ previous_is x c said) (back ∙ next_is x c said))
 
   -- the neighbours are there
   pub previous_there : (x c size : ℕ) (b : Option ℕ) → parent_at (nodes_of ls) x ≡ Some c → b ≡ (link_at ls x).previous → size ≡ length (nodes_of ls) → IfSome b (λ n. n < size)

@@ -1,6 +1,6 @@
 -- Changes that leave every row as it is: a new node, a leaf that becomes another.
 use Rattle.std.specs.Prelude.{if◌then◌else◌}
-use Rattle.std.proofs.Common.{◌≡◌, ◌^◌, ℕ, Bool, true, false, zero, suc, ◌<◌, ◌≤◌, List, [], ◌∷◌, ◌++◌, length, get_or, set, Option, None, Some, inl, inr, slice_get, refl, sym, ap, subst, ◌∙◌, arith, length-set}
+use Rattle.std.proofs.Common.{◌≡◌, ◌^◌, ℕ, Bool, true, false, zero, suc, ◌<◌, ◌≤◌, List, [], ◌∷◌, ◌++◌, length, get_or, set, Option, None, Some, inl, inr, slice_get, refl, sym, ap, subst, ◌∙◌, arith, length-set, ◌-◌}
 use Rattle.std.proofs.lemmas.Bool.{cases_lt, cases_eq, false≢true}
 use Rattle.std.proofs.lemmas.List.{get_or_append_left, get_or_past, get_or_push, length_push, get_or-set_same, get_or-set_other}
 use Rattle.std.proofs.lemmas.Option.{slice_get_past}
@@ -114,8 +114,8 @@ module _ (ls : List LinkedNode) (content : Content) (ok : IsStored ls) where
         };
       }
 
-  pub pushed_stored : IsStored (ls ++ bare content ∷ [])
-  pushed_stored = stored_by _ _ (IsTree-pushed (nodes_of ls) content ok.tree) pushed_agrees
+  pub pushed_stored : length ls < 2 ^ 32 - 1 → IsStored (ls ++ bare content ∷ [])
+  pushed_stored fits = stored_by _ _ (IsTree-pushed (nodes_of ls) content ok.tree) pushed_agrees (omega (arith, fits, length_push ls (bare content)))
 
   pub pushed_adds : Adds (nodes_of ls) (nodes_of (ls ++ bare content ∷ [])) content
   pushed_adds = subst (λ (l : List tree.Node). Adds (nodes_of ls) l content) (sym (shown_is _ _ (IsTree-pushed (nodes_of ls) content ok.tree) pushed_agrees)) (Adds-pushed (nodes_of ls) content)
@@ -155,6 +155,7 @@ module _ (content : Content) (said : content ≡ root) where
       back = λ c k h. let r = alone_row c in let first : k ≡ 0 = omega (arith, h, ap length r) in rw (r, first) (one_bare (λ n. n.last) (bare content) nowhere c refl);
       alone = λ n e. (one_bare (λ x. x.next) (bare content) nowhere n refl, one_bare (λ x. x.previous) (bare content) nowhere n refl);
     };
+    few = omega arith;
   }
 
 -- a leaf that becomes another
@@ -227,7 +228,7 @@ module _ (ls : List LinkedNode) (ok : IsStored ls) (n : ℕ) (e : LinkedNode) (c
       }
 
   pub other_leaf_stored : IsStored other_leaf
-  other_leaf_stored = stored_by _ _ leaf_set_tree other_agrees
+  other_leaf_stored = stored_by _ _ leaf_set_tree other_agrees (omega (arith, ok.few, length-set ls n (record e { content = content })))
 
   pub other_leaf_says : LeafBecomes (nodes_of ls) (nodes_of other_leaf) n content
   other_leaf_says = subst (λ (l : List tree.Node). LeafBecomes (nodes_of ls) l n content) (sym (shown_is _ _ leaf_set_tree other_agrees)) becomes
@@ -245,8 +246,8 @@ module _ (ls : List LinkedNode) (ok : IsStored ls) where
       }
 
   -- there is room for more children than a number in memory can say
-  pub room_wide : (c : ℕ) → c < length (nodes_of ls) → length ls ≤ 2 ^ 64 → 2 ^ 64 ≤ room_at (nodes_of ls) c
-  room_wide c h size = omega (arith, (agrees ls ok).room c h, row_short (nodes_of ls) ok.tree c, length_shown ls)
+  pub room_wide : (c : ℕ) → c < length (nodes_of ls) → 2 ^ 64 ≤ room_at (nodes_of ls) c
+  room_wide c h = omega (arith, (agrees ls ok).room c h, row_short (nodes_of ls) ok.tree c, length_shown ls, ok.few)
 
 -- what holds of a list and of another holds of either
 pub either_stored : (b : Bool) (ls ms : List LinkedNode) → IsStored ls → IsStored ms → IsStored (if b then ls else ms)

@@ -1,8 +1,13 @@
 -- A tree under way, which grows at the end of one container.
-use Rattle.std.specs.Prelude.{ℕ, ◌<◌, List, length, None, IsTrue}
+use Rattle.std.specs.Prelude.{ℕ, ◌<◌, ◌-◌, List, [], ◌∷◌, ◌++◌, length, Option, None, Some, vec_len, vec_capacity, IsTrue}
+use Rattle.jsonc_tree.specs.Content.{Content}
 use Rattle.jsonc_tree.specs.Tree.{Node, is_container_at}
-use Rattle.jsonc_tree.specs.Stored.{nodes_of, back_set, IsStored}
+use Rattle.jsonc_tree.specs.Stored.{LinkedNode, bare, nodes_of, ahead_set, back_set, IsStored}
 use Rattle.jsonc_tree.specs.declared.growing.Growing.{Growing}
+
+-- the nodes, and one more of this number behind a container's last child, which leads on to it
+abbrev pub child_behind : List LinkedNode → ℕ → Option ℕ → Content → ℕ → List LinkedNode
+child_behind ls c last content number = ahead_set (ls ++ record (bare content) { parent = Some c; previous = last } ∷ []) c last (Some number)
 
 module _ {A : Type 0} where
   -- what nodes there are, with the last child of the container at hand in its place
@@ -12,6 +17,10 @@ module _ {A : Type 0} where
   -- the container at hand
   abbrev pub container_of : Growing A → ℕ
   container_of g = g.container
+
+  -- how many more nodes there is memory for
+  abbrev pub room_of : Growing A → ℕ
+  room_of g = vec_capacity g.nodes - vec_len g.nodes
 
   -- they are a tree, and the container at hand is one of them
   pub record IsGrowing (g : Growing A) : Type 0 where

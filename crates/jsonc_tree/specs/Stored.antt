@@ -134,7 +134,8 @@ StandsBefore ls o = (c : ℕ) × (k : ℕ) × (k ≤ length (children_at (nodes_
 abbrev pub Stands : List LinkedNode → Option ℕ → Type 0
 Stands ls o = (c : ℕ) × (k : ℕ) × (k ≤ length (children_at (nodes_of ls) c)) × (o ≡ slice_get (children_at (nodes_of ls) c) k)
 
--- what is shown is a tree, and the links are those of its rows
+-- what is shown is a tree, the links are those of its rows, and each node has a number that a link can hold
 pub record IsStored (ls : List LinkedNode) : Type 0 where
   pub tree : IsTree (nodes_of ls)
   pub linked : IsLinked ls (nodes_of ls)
+  pub few : length ls ≤ 2 ^ 32 - 1

@@ -1,6 +1,6 @@
 -- That links are those of a tree has one proof at most.
 use Rattle.std.specs.Prelude.{◌≡◌, ℕ, List, Option}
-use Rattle.std.specs.Coded.{Coded-set, coded_option, coded_ℕ}
+use Rattle.std.specs.Coded.{Coded-set, coded_option, coded_ℕ, le_prop}
 use Rattle.jsonc_tree.specs.Tree as tree
 use Rattle.jsonc_tree.specs.Codes.{IsTree-prop}
 use Rattle.jsonc_tree.specs.Stored.{LinkedNode, IsLinked, IsStored, nodes_of}
@@ -19,4 +19,5 @@ pub IsStored-prop : (ls : List LinkedNode) → IsProp (IsStored ls)
 IsStored-prop ls s t = λ i. record {
   tree = IsTree-prop (nodes_of ls) s.tree t.tree i;
   linked = IsLinked-prop ls (nodes_of ls) s.linked t.linked i;
+  few = le_prop s.few t.few i;
 }

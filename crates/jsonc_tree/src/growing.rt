@@ -1,15 +1,15 @@
 //! A tree under way that is fast to add to.
 
-ghost use Rattle.std.specs.Prelude.{◌≡◌, ◌<◌, [], ◌∷◌, ◌++◌, true, Some, length, vec_len};
+ghost use Rattle.std.specs.Prelude.{◌≡◌, ◌<◌, ◌≤◌, ◌-◌, ◌^◌, [], true, length, max, vec_len};
 ghost use Rattle.std.specs.Prelude.{IsTrue, IfOk, IfSome, OnOk};
 ghost use Rattle.jsonc_tree.specs.Content.{is_container};
 ghost use Rattle.jsonc_tree.specs.Tree.{children_at, is_container_at};
 ghost use Rattle.jsonc_tree.specs.Changes.{Pushes};
-ghost use Rattle.jsonc_tree.specs.Growing.{IsGrowing, container_of, nodes_so_far};
-ghost use Rattle.jsonc_tree.specs.Stored.{ahead_set, bare, content_of, link_at};
+ghost use Rattle.jsonc_tree.specs.Growing.{IsGrowing, child_behind, container_of, nodes_so_far, room_of};
+ghost use Rattle.jsonc_tree.specs.Stored.{content_of, link_at};
 
 use crate::link::Link;
-use crate::links::{last_of, set_ahead, set_back};
+use crate::links::{last_of, next_number, set_ahead, set_back};
 use crate::node::{Ends, Kind, Node, bare_node, node_in};
 use crate::tree::Tree;
 use std::alloc::{AllocError, Allocator};
@@ -36,9 +36,10 @@ fn push_behind<A: Allocator>(
     requires container { is_container (link_at nodes.old.items c).content ≡ true }
     requires last { IfSome last (λ n. n < vec_len nodes.old) }
     ensures number { IfOk result (λ n. n ≡ vec_len nodes.old) }
-    ensures nodes { OnOk result (nodes.new.items ≡ ahead_set (nodes.old.items ++ record (bare (content_of kind)) { parent = Some c; previous = last } ∷ []) c last (Some (vec_len nodes.old))) }
+    ensures fits { OnOk result (vec_len nodes.old < 2 ^ 32 - 1) }
+    ensures nodes { OnOk result (nodes.new.items ≡ child_behind nodes.old.items c last (content_of kind) (vec_len nodes.old)) }
 {
-    let number = nodes.len();
+    let number = next_number(nodes)?;
     nodes.push(node_in(kind, c, last))?;
     set_ahead(nodes, c, last, Some(number));
     Ok(number)
@@ -78,7 +79,9 @@ impl<A: Allocator> Growing<A> {
 
     /// How many more nodes there is memory for.
     #[inline(always)]
-    pub fn spare(&self) -> usize {
+    pub fn spare(&self) -> usize
+        ensures { result ≡ room_of self.now }
+    {
         self.nodes.capacity() - self.nodes.len()
     }
 
@@ -89,11 +92,16 @@ impl<A: Allocator> Growing<A> {
         ensures nodes { nodes_so_far self.new ≡ nodes_so_far self.old }
         ensures container { container_of self.new ≡ container_of self.old }
         ensures growing { IsGrowing self.old → IsGrowing self.new }
+        ensures room { OnOk result (additional ≤ room_of self.new) }
+        ensures exact { OnOk result (room_of self.new ≡ max (room_of self.old) additional) }
+        ensures spare { room_of self.old ≤ room_of self.new }
     {
         self.nodes.reserve_exact(additional)
     }
 
     /// Adds a node as the last child of the container at hand, and answers its number.
+    ///
+    /// A tree has at most 2^32 - 1 nodes: one more is refused as out of memory.
     #[inline(always)]
     pub fn push(&mut self, kind: Kind<A>) -> Result<usize, AllocError>
         requires { IsGrowing self.old }

@@ -1,13 +1,13 @@
-//! The number of a node, or none, in one word.
+//! The number of a node, or none, in four bytes.
 
 ghost use Rattle.std.specs.Prelude.{◌≡◌, ◌<◌, ◌-◌, ◌^◌, IfSome};
 
 use std::marker::Model;
 
-// The number of a node, or none, in one word: no memory has so many nodes.
+// The number of a node, or none: a tree has no more nodes than such numbers.
 #[derive(Drop)]
 pub(crate) struct Link {
-    number: usize,
+    number: u32,
 }
 
 impl Model for Link {
@@ -20,23 +20,27 @@ impl Model for Link {
 }
 
 impl Link {
+    #[inline(always)]
     pub(crate) fn from_option(o: Option<usize>) -> Link
-        requires { IfSome o (λ n. n < 2 ^ 64 - 1) }
+        requires { IfSome o (λ n. n < 2 ^ 32 - 1) }
         ensures { result ≡ o }
     {
         match o {
-            None => Link { number: usize::MAX },
-            Some(number) => Link { number },
+            None => Link { number: u32::MAX },
+            Some(number) => Link {
+                number: number as u32,
+            },
         }
     }
 
+    #[inline(always)]
     pub(crate) fn get(&self) -> Option<usize>
         ensures { result ≡ self.now }
     {
-        if self.number == usize::MAX {
+        if self.number == u32::MAX {
             None
         } else {
-            Some(self.number)
+            Some(self.number as usize)
         }
     }
 }

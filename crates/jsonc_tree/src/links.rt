@@ -1,11 +1,26 @@
 //! The links of a row: how they are read and written, one at a time.
 
-ghost use Rattle.std.specs.Prelude.{◌≡◌, ◌<◌, ◌-◌, ◌^◌, true, vec_len, vec_capacity, IfSome};
+ghost use Rattle.std.specs.Prelude.{◌≡◌, ◌<◌, ◌≤◌, ◌-◌, ◌^◌, true, vec_len, vec_capacity};
+ghost use Rattle.std.specs.Prelude.{IfOk, IfSome, OnErr, OnOk};
 ghost use Rattle.jsonc_tree.specs.Content.{is_container};
 ghost use Rattle.jsonc_tree.specs.Stored.{link_at, ahead_set, back_set, back_at, place_set};
 
 use crate::node::Node;
-use std::alloc::Allocator;
+use std::alloc::{AllocError, Allocator};
+
+// The number of the next node. It is out of memory where no link can hold that number.
+#[inline(always)]
+pub(crate) fn next_number<A: Allocator>(nodes: &Vec<Node<A>, A>) -> Result<usize, AllocError>
+    ensures number { IfOk result (λ n. n ≡ vec_len nodes.now) }
+    ensures fits { OnOk result (vec_len nodes.now < 2 ^ 32 - 1) }
+    ensures full { OnErr result (2 ^ 32 - 1 ≤ vec_len nodes.now) }
+{
+    let number = nodes.len();
+    if number >= u32::MAX as usize {
+        return Err(AllocError);
+    }
+    Ok(number)
+}
 
 // The node before a gap leads on to this one, or the container if there is none before.
 #[inline(always)]
@@ -18,7 +33,7 @@ pub(crate) fn set_ahead<A: Allocator>(
     requires in_tree { c < vec_len nodes.old }
     requires container { is_container (link_at nodes.old.items c).content ≡ true }
     requires before { IfSome before (λ n. n < vec_len nodes.old) }
-    requires to { IfSome to (λ n. n < 2 ^ 64 - 1) }
+    requires to { IfSome to (λ n. n < 2 ^ 32 - 1) }
     ensures nodes { nodes.new.items ≡ ahead_set nodes.old.items c before to }
     ensures len { vec_len nodes.new ≡ vec_len nodes.old }
     ensures capacity { vec_capacity nodes.new ≡ vec_capacity nodes.old }
@@ -45,7 +60,7 @@ pub(crate) fn set_back<A: Allocator>(
     requires in_tree { c < vec_len nodes.old }
     requires container { is_container (link_at nodes.old.items c).content ≡ true }
     requires behind { IfSome behind (λ n. n < vec_len nodes.old) }
-    requires to { IfSome to (λ n. n < 2 ^ 64 - 1) }
+    requires to { IfSome to (λ n. n < 2 ^ 32 - 1) }
     ensures nodes { nodes.new.items ≡ back_set nodes.old.items c behind to }
     ensures len { vec_len nodes.new ≡ vec_len nodes.old }
     ensures capacity { vec_capacity nodes.new ≡ vec_capacity nodes.old }
@@ -71,9 +86,9 @@ pub(crate) fn set_place<A: Allocator>(
     next: Option<usize>,
 )
     requires in_tree { n < vec_len nodes.old }
-    requires parent { IfSome parent (λ n. n < 2 ^ 64 - 1) }
-    requires previous { IfSome previous (λ n. n < 2 ^ 64 - 1) }
-    requires next { IfSome next (λ n. n < 2 ^ 64 - 1) }
+    requires parent { IfSome parent (λ n. n < 2 ^ 32 - 1) }
+    requires previous { IfSome previous (λ n. n < 2 ^ 32 - 1) }
+    requires next { IfSome next (λ n. n < 2 ^ 32 - 1) }
     ensures nodes { nodes.new.items ≡ place_set nodes.old.items n parent previous next }
     ensures len { vec_len nodes.new ≡ vec_len nodes.old }
     ensures capacity { vec_capacity nodes.new ≡ vec_capacity nodes.old }

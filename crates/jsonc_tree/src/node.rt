@@ -45,7 +45,7 @@ impl Ends {
     }
 
     fn set_first(&mut self, to: Option<usize>)
-        requires { IfSome to (λ n. n < 2 ^ 64 - 1) }
+        requires { IfSome to (λ n. n < 2 ^ 32 - 1) }
         ensures first { self.new.first ≡ to }
         ensures last { self.new.last ≡ self.old.last }
     {
@@ -53,7 +53,7 @@ impl Ends {
     }
 
     fn set_last(&mut self, to: Option<usize>)
-        requires { IfSome to (λ n. n < 2 ^ 64 - 1) }
+        requires { IfSome to (λ n. n < 2 ^ 32 - 1) }
         ensures first { self.new.first ≡ self.old.first }
         ensures last { self.new.last ≡ to }
     {
@@ -149,7 +149,7 @@ impl<A: Allocator> Kind<A> {
     // A container gets this first child.
     fn set_first(&mut self, to: Option<usize>)
         requires container { is_container (content_of self.old) ≡ true }
-        requires to { IfSome to (λ n. n < 2 ^ 64 - 1) }
+        requires to { IfSome to (λ n. n < 2 ^ 32 - 1) }
         ensures content { content_of self.new ≡ content_of self.old }
         ensures first { first_end self.new ≡ to }
         ensures last { last_end self.new ≡ last_end self.old }
@@ -166,7 +166,7 @@ impl<A: Allocator> Kind<A> {
     // A container gets this last child.
     fn set_last(&mut self, to: Option<usize>)
         requires container { is_container (content_of self.old) ≡ true }
-        requires to { IfSome to (λ n. n < 2 ^ 64 - 1) }
+        requires to { IfSome to (λ n. n < 2 ^ 32 - 1) }
         ensures content { content_of self.new ≡ content_of self.old }
         ensures first { first_end self.new ≡ first_end self.old }
         ensures last { last_end self.new ≡ to }
@@ -239,8 +239,8 @@ pub(crate) fn node_in<A: Allocator>(
     parent: usize,
     previous: Option<usize>,
 ) -> Node<A>
-    requires parent { parent < 2 ^ 64 - 1 }
-    requires previous { IfSome previous (λ n. n < 2 ^ 64 - 1) }
+    requires parent { parent < 2 ^ 32 - 1 }
+    requires previous { IfSome previous (λ n. n < 2 ^ 32 - 1) }
     ensures { result ≡ record (bare (content_of kind)) { parent = Some parent; previous = previous } }
 {
     Node {
@@ -299,7 +299,7 @@ impl<A: Allocator> Node<A> {
 
     pub(crate) fn set_first(&mut self, to: Option<usize>)
         requires container { is_container self.old.content ≡ true }
-        requires to { IfSome to (λ n. n < 2 ^ 64 - 1) }
+        requires to { IfSome to (λ n. n < 2 ^ 32 - 1) }
         ensures { self.new ≡ record self.old { first = to } }
     {
         self.kind.set_first(to);
@@ -307,21 +307,21 @@ impl<A: Allocator> Node<A> {
 
     pub(crate) fn set_last(&mut self, to: Option<usize>)
         requires container { is_container self.old.content ≡ true }
-        requires to { IfSome to (λ n. n < 2 ^ 64 - 1) }
+        requires to { IfSome to (λ n. n < 2 ^ 32 - 1) }
         ensures { self.new ≡ record self.old { last = to } }
     {
         self.kind.set_last(to);
     }
 
     pub(crate) fn set_previous(&mut self, to: Option<usize>)
-        requires { IfSome to (λ n. n < 2 ^ 64 - 1) }
+        requires { IfSome to (λ n. n < 2 ^ 32 - 1) }
         ensures { self.new ≡ record self.old { previous = to } }
     {
         self.previous = Link::from_option(to);
     }
 
     pub(crate) fn set_next(&mut self, to: Option<usize>)
-        requires { IfSome to (λ n. n < 2 ^ 64 - 1) }
+        requires { IfSome to (λ n. n < 2 ^ 32 - 1) }
         ensures { self.new ≡ record self.old { next = to } }
     {
         self.next = Link::from_option(to);
@@ -334,9 +334,9 @@ impl<A: Allocator> Node<A> {
         previous: Option<usize>,
         next: Option<usize>,
     )
-        requires parent { IfSome parent (λ n. n < 2 ^ 64 - 1) }
-        requires previous { IfSome previous (λ n. n < 2 ^ 64 - 1) }
-        requires next { IfSome next (λ n. n < 2 ^ 64 - 1) }
+        requires parent { IfSome parent (λ n. n < 2 ^ 32 - 1) }
+        requires previous { IfSome previous (λ n. n < 2 ^ 32 - 1) }
+        requires next { IfSome next (λ n. n < 2 ^ 32 - 1) }
         ensures { self.new ≡ record self.old { parent = parent; previous = previous; next = next } }
     {
         self.parent = Link::from_option(parent);

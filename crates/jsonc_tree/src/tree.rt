@@ -1,7 +1,7 @@
 //! The nodes of a document, and their changes.
 
 ghost use Rattle.std.specs.Prelude.{◌≡◌, ℕ, false, IsTrue, ◌+◌, ◌-◌, ◌^◌, ◌<◌, ◌≤◌, [], ◌∷◌};
-ghost use Rattle.std.specs.Prelude.{length, max, vec_capacity, vec_len, IfOk, OnErr, OnOk};
+ghost use Rattle.std.specs.Prelude.{length, vec_capacity, vec_len, IfOk, OnErr, OnOk};
 ghost use Rattle.jsonc_tree.specs.Content.{is_container};
 ghost use Rattle.jsonc_tree.specs.Tree.{children_at, is_container_at, room_at};
 ghost use Rattle.jsonc_tree.specs.Changes.{Adds, Appends, CanAppend, CanJoin};
@@ -10,7 +10,7 @@ ghost use Rattle.jsonc_tree.specs.Siblings.{Fills, HasGap};
 ghost use Rattle.jsonc_tree.specs.Stored.{content_of, nodes_in, IsStored};
 ghost use Rattle.jsonc_tree.specs.StoredOnce.{IsStored-prop};
 
-use crate::links::first_of;
+use crate::links::{first_of, next_number};
 use crate::node::{Ends, Kind, Node, bare_node};
 use crate::splice::{append_node, put_between, splice_nodes};
 use std::alloc::{AllocError, Allocator};
@@ -67,38 +67,12 @@ fn has_room<A: Allocator>(nodes: &Vec<Node<A>, A>, c: usize)
     let _ = first_of(nodes, c);
 }
 
-// How many more nodes there is memory for.
-fn spare_of<A: Allocator>(nodes: &Vec<Node<A>, A>) -> usize
-    ensures { result ≡ vec_capacity nodes.now - vec_len nodes.now }
-{
-    nodes.capacity() - nodes.len()
-}
-
 impl<A: Allocator> Tree<A> {
     /// How many nodes there are, those that were taken out included.
     pub fn len(&self) -> usize
         ensures len { result ≡ length self.now.nodes }
     {
         self.nodes.len()
-    }
-
-    /// How many more nodes there is memory for.
-    pub fn spare(&self) -> usize
-        ensures { result ≡ self.now.room }
-    {
-        spare_of(&self.nodes)
-    }
-
-    /// Makes room for so many more nodes, and for no more than that where it takes memory.
-    ///
-    /// On an error the tree stays as it was.
-    pub fn reserve_nodes(&mut self, additional: usize) -> Result<(), AllocError>
-        ensures nodes { self.new.nodes ≡ self.old.nodes }
-        ensures room { OnOk result (additional ≤ self.new.room) }
-        ensures exact { OnOk result (self.new.room ≡ max self.old.room additional) }
-        ensures spare { self.old.room ≤ self.new.room }
-    {
-        self.nodes.reserve_exact(additional)
     }
 
     /// Makes room for so many more children, so that a splice that adds as many needs no memory.
@@ -196,20 +170,22 @@ impl<A: Allocator> Tree<A> {
 
     /// Adds a node without a parent, and answers its number.
     ///
-    /// On an error the tree stays as it was.
+    /// A tree has at most 2^32 - 1 nodes: one more is refused as out of memory. On an error the tree
+    /// stays as it was.
     pub fn add(&mut self, kind: Kind<A>) -> Result<usize, AllocError>
         ensures number { IfOk result (λ n. n ≡ length self.old.nodes) }
         ensures added { OnOk result (Adds self.old.nodes self.new.nodes (content_of kind)) }
         ensures err { OnErr result (self.new.nodes ≡ self.old.nodes) }
     {
-        let number = self.len();
+        let number = next_number(&self.nodes)?;
         self.nodes.push(bare_node(kind))?;
         Ok(number)
     }
 
     /// Adds a node as a container's last child, and answers its number.
     ///
-    /// On an error every node stays as it was, though the container may have more room.
+    /// A tree has at most 2^32 - 1 nodes: one more is refused as out of memory. On an error every node
+    /// stays as it was, though the container may have more room.
     pub fn push_child(&mut self, container: usize, kind: Kind<A>) -> Result<usize, AllocError>
         requires in_tree { container < length self.old.nodes }
         requires container { IsTrue (is_container_at self.old.nodes container) }

@@ -1,5 +1,5 @@
 //! Strings in their quotes, and what they stand for (RFC 8259, 7; JSON5, 5).
-ghost use Rattle.std.specs.Prelude.{◌≡◌, ◌≢◌, ◌++◌, ◌+◌, IfOk, IfErr, IsCharBoundary, chars};
+ghost use Rattle.std.specs.Prelude.{◌≡◌, ◌≢◌, ◌≤◌, ◌++◌, ◌+◌, length, IfOk, IfErr, IsCharBoundary, chars};
 ghost use Rattle.std.specs.String.{string_bytes};
 ghost use Rattle.std.specs.Cow.{cow_str_bytes, IsOwnedStr};
 ghost use Rattle.jsonc_text.specs.Chars.{Steps};
@@ -13,6 +13,7 @@ ghost use Rattle.jsonc_text.specs.string.Faults.{IsStringFault};
 use crate::chars::has_byte;
 use crate::common::Range;
 use crate::errors::ParseStringErrorKind;
+use crate::runs::byte_stop;
 use crate::string::escape::{Literal, StringFault, read_escape, unterminated};
 use crate::string::stops::stop_place;
 use std::alloc::{AllocError, Allocator};
@@ -80,6 +81,23 @@ fn append<A: Allocator>(
     Ok(())
 }
 
+/// The place of the quote that closes a string, from its first backslash on, or the end of the text.
+///
+/// A string stands for no more bytes than it is written in.
+fn closing_place(bytes: &[u8], first_stop: usize, quote: u8) -> usize
+    requires { first_stop ≤ length bytes.now }
+    ensures { first_stop ≤ result }
+{
+    let mut place = first_stop;
+    while place < bytes.len() && bytes[place] == b'\\' {
+        if bytes.len() - place < 2 {
+            return bytes.len();
+        }
+        place = byte_stop(bytes, place + 2, quote, b'\\');
+    }
+    place
+}
+
 /// The same, of a string whose first backslash stands at a place: a copy.
 fn decode_escaped<'a, A: Allocator>(
     alloc: A,
@@ -110,7 +128,10 @@ fn decode_escaped<'a, A: Allocator>(
         },
         kind: ParseStringErrorKind::OutOfMemory,
     };
-    let mut copy = String::new(alloc);
+    let room = closing_place(text.as_bytes(), first_stop, literal.quote) - literal.start;
+    let Ok(mut copy) = String::with_capacity(alloc, room) else {
+        return Err(no_memory);
+    };
     let mut from = literal.start + 1;
     let mut place = first_stop;
     while has_byte(text, place, b'\\') {

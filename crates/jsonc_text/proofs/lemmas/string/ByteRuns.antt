@@ -5,8 +5,9 @@ use Rattle.std.proofs.lemmas.List.{get_or-append-add}
 use Rattle.std.proofs.lemmas.List.Edits.{get_or-between, length-between}
 use Rattle.std.proofs.lemmas.Str.{encode_ascii, encodes-chars, IsUtf8-between, IsCharBoundary-end, IsCharBoundary-before_ascii}
 use Rattle.jsonc_text.specs.Text.{rest, Many, stop, step, Spans}
+use Rattle.jsonc_text.specs.Runs.{RunsTo}
 use Rattle.jsonc_text.specs.string.Between.{Reaches, LacksAt, is_neither}
-use Rattle.jsonc_text.proofs.CharacterSteps.{steps_ascii}
+use Rattle.jsonc_text.proofs.CharacterSteps.{no_at_end, steps_ascii}
 use Rattle.jsonc_text.proofs.Cuts.{chars_between}
 
 -- each byte from one place to another passes the test
@@ -75,3 +76,14 @@ wide_neither a b h k c l = grind arith
 
 pub at_end : (bytes : List ℕ) (j : ℕ) → j ≤ length bytes → length bytes ≤ j → IsCharBoundary bytes j
 at_end bytes j h l = let e : length bytes ≡ j = omega arith in let P : ℕ → Type 0 = λ k. IsCharBoundary bytes k in subst P e (IsCharBoundary-end bytes)
+
+-- a run of bytes up to one of two characters of ASCII, as characters
+pub run_stops : (a b : ℕ) (bytes : List ℕ) (i j : ℕ) → (a < 128) × (b < 128) → IsUtf8 bytes → IsCharBoundary bytes i → RunsTo (is_neither a b) bytes i j
+    → Reaches (Many (is_neither a b)) bytes i j × LacksAt (is_neither a b) bytes j
+run_stops a b bytes i j small u from run =
+    let wide = wide_neither a b small.0 small.1 in
+    let passes : BytesPass (is_neither a b) bytes i j = record { order = run.order; within = run.within; pass = run.pass } in
+    elim (cases_lt j (length bytes)) [
+      | inl more ↦ (many_bytes _ wide bytes i j u from (stop_boundary _ wide bytes j more (run.stops more)) passes, stop_lacks _ wide bytes j u more (run.stops more))
+      | inr past ↦ (many_bytes _ wide bytes i j u from (at_end bytes j run.within past) passes, no_at_end (is_neither a b) bytes j past)
+    ]

@@ -19,17 +19,17 @@ set_back-requires-clause-behind g c = next_there c.args.nodes.now.items c.requir
 
 pub returns-clause-gone : goal.returns-clause-gone
 returns-clause-gone g c =
-    (goes_by c.args.nodes.now.items c.requires.stored c.set_ahead.new.nodes.items c.set_back.new.nodes.items c.set_place.new.nodes.items c.args.c c.args.x c.previous_of-before.result c.next_of-behind.result c.set_ahead.ensures.nodes c.set_back.ensures.nodes c.set_place.ensures.nodes (omega (arith, c.args.nodes.now.ok)) c.requires.child c.previous_of-before.ensures c.next_of-behind.ensures).0
+    (goes_by c.args.nodes.now.items c.requires.stored c.set_ahead.new.nodes.items c.set_back.new.nodes.items c.set_place.new.nodes.items c.args.c c.args.x c.previous_of-before.result c.next_of-behind.result c.set_ahead.ensures.nodes c.set_back.ensures.nodes c.set_place.ensures.nodes c.requires.child c.previous_of-before.ensures c.next_of-behind.ensures).0
 
 pub returns-clause-stored : goal.returns-clause-stored
 returns-clause-stored g c =
-    (goes_by c.args.nodes.now.items c.requires.stored c.set_ahead.new.nodes.items c.set_back.new.nodes.items c.set_place.new.nodes.items c.args.c c.args.x c.previous_of-before.result c.next_of-behind.result c.set_ahead.ensures.nodes c.set_back.ensures.nodes c.set_place.ensures.nodes (omega (arith, c.args.nodes.now.ok)) c.requires.child c.previous_of-before.ensures c.next_of-behind.ensures).1
+    (goes_by c.args.nodes.now.items c.requires.stored c.set_ahead.new.nodes.items c.set_back.new.nodes.items c.set_place.new.nodes.items c.args.c c.args.x c.previous_of-before.result c.next_of-behind.result c.set_ahead.ensures.nodes c.set_back.ensures.nodes c.set_place.ensures.nodes c.requires.child c.previous_of-before.ensures c.next_of-behind.ensures).1
 
 pub set_ahead-requires-clause-to : goal.set_ahead-requires-clause-to
-set_ahead-requires-clause-to g c = in_memory c.next_of-behind.result (vec_len c.args.nodes.now) (next_there c.args.nodes.now.items c.requires.stored c.args.x c.args.c (vec_len c.args.nodes.now) c.next_of-behind.result c.requires.child c.next_of-behind.ensures (omega (arith, length_shown c.args.nodes.now.items, c.args.nodes.now.ok.0))) (omega (arith, c.args.nodes.now.ok))
+set_ahead-requires-clause-to g c = in_memory c.next_of-behind.result (vec_len c.args.nodes.now) (next_there c.args.nodes.now.items c.requires.stored c.args.x c.args.c (vec_len c.args.nodes.now) c.next_of-behind.result c.requires.child c.next_of-behind.ensures (omega (arith, length_shown c.args.nodes.now.items, c.args.nodes.now.ok.0))) (omega (arith, c.requires.stored.few, c.args.nodes.now.ok.0))
 
 pub set_back-requires-clause-to : goal.set_back-requires-clause-to
-set_back-requires-clause-to g c = in_memory c.previous_of-before.result (vec_len c.args.nodes.now) (previous_there c.args.nodes.now.items c.requires.stored c.args.x c.args.c (vec_len c.args.nodes.now) c.previous_of-before.result c.requires.child c.previous_of-before.ensures (omega (arith, length_shown c.args.nodes.now.items, c.args.nodes.now.ok.0))) (omega (arith, c.args.nodes.now.ok))
+set_back-requires-clause-to g c = in_memory c.previous_of-before.result (vec_len c.args.nodes.now) (previous_there c.args.nodes.now.items c.requires.stored c.args.x c.args.c (vec_len c.args.nodes.now) c.previous_of-before.result c.requires.child c.previous_of-before.ensures (omega (arith, length_shown c.args.nodes.now.items, c.args.nodes.now.ok.0))) (omega (arith, c.requires.stored.few, c.args.nodes.now.ok.0))
 
 pub set_ahead-requires-clause-container : goal.set_ahead-requires-clause-container
 set_ahead-requires-clause-container g c =

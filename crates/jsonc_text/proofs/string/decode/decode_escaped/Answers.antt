@@ -6,7 +6,7 @@ use Rattle.jsonc_text.proofs.string.decode.decode_escaped.Goals as goal
 pub loop-escape-init : goal.loop-escape-init
 loop-escape-init g c = record {
   past = omega arith;
-  decoding = decoding_start _ _ _ _ _ _ c.requires.opens.1 c.new-copy.ensures.bytes c.requires.run c.requires.backslash;
+  decoding = decoding_start _ _ _ _ _ _ c.requires.opens.1 c.in-Ok.ensures.bytes c.requires.run c.requires.backslash;
 }
 
 pub returns-in-Err-clause-none : goal.returns-in-Err-clause-none
@@ -17,8 +17,8 @@ pub loop-escape-preserved : goal.loop-escape-preserved
 loop-escape-preserved g c =
     let next = c.stop_place-place.ensures in
     record {
-      past = omega (arith, c.loop-escape.invariant.past, c.in-Ok.ensures.found.order, next.passed.order);
-      decoding = decoding_more _ _ _ _ _ _ c.in-Ok.escape.character _ _ _ _ _ c.utf8.text c.loop-escape.invariant.decoding c.range.ensures.value c.in-Ok.ensures.found c.in-Ok-append.ensures next.passed next.stops;
+      past = omega (arith, c.loop-escape.invariant.past, c.in-Ok-read_escape.ensures.found.order, next.passed.order);
+      decoding = decoding_more _ _ _ _ _ _ c.in-Ok-read_escape.escape.character _ _ _ _ _ c.utf8.text c.loop-escape.invariant.decoding c.range.ensures.value c.in-Ok-read_escape.ensures.found c.in-Ok-append.ensures next.passed next.stops;
     }
 
 pub returns-then-not-has_byte-clause-none : goal.returns-then-not-has_byte-clause-none

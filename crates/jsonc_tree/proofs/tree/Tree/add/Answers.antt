@@ -1,4 +1,4 @@
-use Rattle.std.proofs.Common.{subst, ◌++◌, ◌∷◌, []}
+use Rattle.std.proofs.Common.{subst, ◌++◌, ◌∷◌, [], arith}
 use Rattle.std.specs.Result.{is_ok}
 use Rattle.jsonc_tree.specs.Tree as tree
 use Rattle.jsonc_tree.specs.Changes.{Adds}
@@ -9,7 +9,7 @@ use Rattle.jsonc_tree.proofs.tree.Tree.add.Goals as goal
 pub invariant_of-self-inside : goal.invariant_of-self-inside
 invariant_of-self-inside g c =
     let items = c.self.inside.nodes.items in
-    let stored = pushed_stored items (content_of c.args.kind) c.self.inside.stored in
+    let stored = pushed_stored items (content_of c.args.kind) c.self.inside.stored (omega (arith, c.in_ok-number.ensures.fits, c.self.inside.nodes.ok.0)) in
     (rw (c.push.ensures.items, c.bare_node.ensures) (either_stored (is_ok c.push.result) (items ++ bare (content_of c.args.kind) ∷ []) items stored c.self.inside.stored), tt)
 
 pub returns-clause-added : goal.returns-clause-added

@@ -1,0 +1,13 @@
+-- Runs of bytes that pass a test.
+use Rattle.std.specs.Prelude.{ℕ, ◌≡◌, ◌≤◌, ◌<◌, Bool, false, ◌==◌, ◌||◌, List, length, get_or, IsTrue}
+
+-- one of two bytes
+abbrev pub is_either : ℕ → ℕ → ℕ → Bool
+is_either a b c = c == a || c == b
+
+-- the bytes from one place to another pass the test, and the next one, if there is one, fails it
+pub record RunsTo (p : ℕ → Bool) (bytes : List ℕ) (start end : ℕ) : Type 0 where
+  pub order : start ≤ end
+  pub within : end ≤ length bytes
+  pub pass : (k : ℕ) → start ≤ k → k < end → IsTrue (p (get_or bytes k 0))
+  pub stops : end < length bytes → p (get_or bytes end 0) ≡ false

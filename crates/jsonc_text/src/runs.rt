@@ -1,0 +1,52 @@
+//! Runs of bytes up to one of two, sixteen at a time.
+ghost use Rattle.std.specs.Prelude.{◌≡◌, ◌≤◌, length, map};
+ghost use Rattle.std.specs.Simd.Lanes.{mask_l};
+ghost use Rattle.jsonc_text.specs.Runs.{RunsTo, is_either};
+ghost use Rattle.jsonc_text.specs.string.Between.{is_neither};
+
+use std::simd::prelude::*;
+
+/// How many bytes one load takes.
+const LANES: usize = 16;
+
+/// The first place from `start` on where one of two bytes stands, or the end.
+#[inline(always)]
+pub fn byte_stop(bytes: &[u8], start: usize, first: u8, second: u8) -> usize
+    requires { start ≤ length bytes.now }
+    ensures { RunsTo (is_neither first second) bytes.now start result }
+{
+    let mut place = start;
+    while bytes.len() - place >= LANES {
+        let stops = stops_in(u8x16::from_slice(&bytes[place..]), first, second);
+        if stops != 0 {
+            return place + stops.trailing_zeros() as usize;
+        }
+        place += LANES;
+    }
+    last_stop(bytes, place, first, second)
+}
+
+/// A bit for each of sixteen bytes: whether it is one of two.
+#[inline(always)]
+fn stops_in(bytes: u8x16, first: u8, second: u8) -> u64
+    ensures { result ≡ mask_l (map (is_either first second) bytes) }
+{
+    let stops = bytes.simd_eq(u8x16::splat(first)) | bytes.simd_eq(u8x16::splat(second));
+    stops.to_bitmask()
+}
+
+/// The same as [`byte_stop`], a byte at a time, for the last bytes.
+#[inline(never)]
+fn last_stop(bytes: &[u8], start: usize, first: u8, second: u8) -> usize
+    requires { start ≤ length bytes.now }
+    ensures { RunsTo (is_neither first second) bytes.now start result }
+{
+    let mut place = start;
+    while place < bytes.len() {
+        if (bytes[place] == first) | (bytes[place] == second) {
+            return place;
+        }
+        place += 1;
+    }
+    place
+}
