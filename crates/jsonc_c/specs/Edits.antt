@@ -1,6 +1,7 @@
 -- What edits of C ask for.
-use Rattle.std.specs.Prelude.{◌≡◌, ◌<◌, ℕ, Bool, true, false, List, [], ◌∷◌, Option, Some, None, String, string_bytes, chars, length}
-use denote.Ref.{Bor}
+use Rattle.std.specs.Prelude.{◌≡◌, ◌≤◌, ◌<◌, ◌⊎◌, ℕ, Bool, true, false, List, [], ◌∷◌, Option, Some, None, IsUtf8, string_bytes, chars}
+use Rattle.std.specs.List.{slice_get}
+use Rattle.jsonc_text.specs.Grammar.{IsDocument}
 use Rattle.jsonc_text.specs.Options.{Options, all_on}
 use Rattle.jsonc_text.specs.declared.edit.EditError.{EditError}
 use Rattle.jsonc_text.specs.declared.edit.Over.{Over}
@@ -8,6 +9,7 @@ use Rattle.jsonc_text.specs.declared.edit.Over.TheVariants.{Keep}
 use Rattle.jsonc_text.specs.declared.edit.Over.TheVariants as over
 use Rattle.jsonc_text.specs.declared.edit.Shape.{Shape}
 use Rattle.jsonc_text.specs.declared.edit.Shape.TheVariants as shape
+use Rattle.jsonc_text.specs.declared.errors.ParseError.{ParseError}
 use Rattle.jsonc_text.specs.declared.edit.TrailingCommaMode.{TrailingCommaMode}
 use Rattle.jsonc_text.specs.declared.edit.TrailingCommaMode.TheVariants as commas
 use Rattle.jsonc_layout.specs.input.Views.{plain}
@@ -16,6 +18,9 @@ use Rattle.jsonc_run.specs.declared.edit.Edit.{Edit}
 use Rattle.jsonc_run.specs.declared.edit.Edit.TheVariants as edit
 use Rattle.jsonc_cst.specs.Values.{IsValueOfText}
 use Rattle.jsonc_parser.specs.Promise.{IsEditedText, StopsText}
+use Rattle.jsonc_engine.specs.Input.{IsRefusal, IsRefusalOf}
+use Rattle.jsonc_c.specs.Told.{IsToldOf, edit_status}
+use Rattle.jsonc_c.specs.declared.fault.JsoncFault.{JsoncFault}
 use Rattle.jsonc_c.specs.declared.edits.JsoncEdit.{JsoncEdit}
 
 -- an array, or an object
@@ -63,3 +68,47 @@ module _ {A : Type 0} where
   pub data AreReadAs : List JsoncEdit → List (Edit A) → Type 0 where
     none_read : AreReadAs [] []
     one_read : {c : JsoncEdit} {e : Edit A} {cs : List JsoncEdit} {es : List (Edit A)} → IsReadAs c e → AreReadAs cs es → AreReadAs (c ∷ cs) (e ∷ es)
+
+-- the kinds of edits: of the document's value or of a comment; at a path, writing no value; at one, writing a value; at one, writing a property
+abbrev pub IsOfRoot : ℕ → Type 0
+IsOfRoot kind = (kind ≡ 2) ⊎ ((kind ≡ 3) ⊎ ((kind ≡ 4) ⊎ (kind ≡ 6)))
+
+abbrev pub IsOfPath : ℕ → Type 0
+IsOfPath kind = (kind ≡ 1) ⊎ ((kind ≡ 8) ⊎ ((kind ≡ 9) ⊎ ((kind ≡ 10) ⊎ ((kind ≡ 16) ⊎ (kind ≡ 17)))))
+
+abbrev pub IsOfValue : ℕ → Type 0
+IsOfValue kind = (kind ≡ 0) ⊎ ((kind ≡ 7) ⊎ ((kind ≡ 11) ⊎ (kind ≡ 12)))
+
+abbrev pub IsOfProperty : ℕ → Type 0
+IsOfProperty kind = (kind ≡ 5) ⊎ ((kind ≡ 13) ⊎ (kind ≡ 14))
+
+-- an allocation failed, or the name is not UTF-8
+abbrev pub IsWanting : JsoncEdit → ℕ → Type 0
+IsWanting c status = (status ≡ 1) ⊎ ((status ≡ 2) × ¬ (IsUtf8 c.name.now))
+
+-- Why C's edit is none: an allocation failed; its name or JSON text is not UTF-8; that text is no document, and the fault tells what is wrong with it; it has no
+-- value; or no edit has its kind.
+pub data IsUnread (c : JsoncEdit) : ℕ → JsoncFault → Type 0 where
+  for_memory : {f : JsoncFault} → IsUnread c 1 f
+  for_name : {f : JsoncFault} → ¬ (IsUtf8 c.name.now) → IsUnread c 2 f
+  for_json : {f : JsoncFault} → ¬ (IsUtf8 c.json.now) → IsUnread c 2 f
+  for_text : {f : JsoncFault} (e : ParseError) → IsRefusal c.json.now e → IsToldOf e f → IsUnread c 7 f
+  for_value : {f : JsoncFault} → IsDocument all_on (chars c.json.now) None → IsUnread c 8 f
+  for_kind : {f : JsoncFault} → 17 < c.kind → IsUnread c 16 f
+
+-- why one of C's edits is none: an allocation failed, or so it is of the one of the number that the fault tells
+abbrev pub IsUnreadIn : List JsoncEdit → ℕ → JsoncFault → Type 0
+IsUnreadIn cs status f = (status ≡ 1) ⊎ ((c : JsoncEdit) × (slice_get cs f.made ≡ Some c) × IsUnread c status f)
+
+-- The text is a document, and if each number that the edits write is, whole, one of the options, they lead from it to one of the other text.
+abbrev pub IsEdited : Type 0 → Options → List ℕ → List JsoncEdit → List ℕ → Type 0
+IsEdited A o text cs made = (es : List (Edit A)) × AreReadAs cs es × IsEditedText o (chars text) es (chars made)
+
+-- Why the text was not edited: it is not UTF-8; it is no document, and the fault tells what is wrong with it; or the edit was refused before which so many were
+-- made, or there was no memory for the text behind all.
+pub data IsUnedited (A : Type 0) (o : Options) (text : List ℕ) (cs : List JsoncEdit) : ℕ → JsoncFault → Type 0 where
+  for_edits : {status : ℕ} {f : JsoncFault} → IsUnreadIn cs status f → IsUnedited A o text cs status f
+  for_bytes : {f : JsoncFault} → ¬ (IsUtf8 text) → IsUnedited A o text cs 3 f
+  for_memory : {f : JsoncFault} → IsUnedited A o text cs 1 f
+  for_text : {f : JsoncFault} (e : ParseError) → IsRefusalOf o text e → IsToldOf e f → IsUnedited A o text cs 4 f
+  for_edit : {f : JsoncFault} (es : List (Edit A)) (why : EditError) → AreReadAs cs es → StopsText o (chars text) es f.made why → IsUnedited A o text cs (edit_status why) f

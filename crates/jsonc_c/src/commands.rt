@@ -1,8 +1,8 @@
 //! The commands of the program `jsonc`, one call for each.
-ghost use Rattle.std.specs.Prelude.{◌≡◌, ◌≤◌, ◌⊎◌, ◌++◌, ◌∷◌, [], IsTrue, IsUtf8};
+ghost use Rattle.std.specs.Prelude.{◌≡◌, ◌≤◌, ◌⊎◌, ◌++◌, ◌∷◌, [], IfErr, IfOk, IsUtf8, OnOk, string_bytes};
 ghost use Rattle.jsonc_engine.specs.Change.{IsGot, IsMadeOf};
 ghost use Rattle.jsonc_engine.specs.Command as asked;
-ghost use Rattle.jsonc_engine.specs.Command.{request_of, writes};
+ghost use Rattle.jsonc_engine.specs.Command.{request_of};
 ghost use Rattle.jsonc_engine.specs.Input.{IsInputOf};
 ghost use Rattle.jsonc_engine.specs.Output.{IsLeft};
 ghost use Rattle.jsonc_c.specs.Commands.{IsRefused};
@@ -178,6 +178,7 @@ pub(crate) fn line_at(
     ensures line { IfOk result (λ line. IsGot (options_of options) path.now text.now (string_bytes line)) }
     ensures accepted { OnOk result (IsInputOf (options_of options) text.now) }
     ensures status { IfErr result (λ status. 1 ≤ status) }
+    ensures other { IfErr result (λ status. ¬ (status ≡ 17)) }
     ensures words { IfErr result (λ status. status ≡ 2 → ¬ (IsUtf8 path.now)) }
     ensures refused { IfErr result (λ status. 3 ≤ status →
         IsRefused (options_of options) (asked.get path.now) text.now status fault.new) }

@@ -33,7 +33,11 @@ fn name_of(document: &CstRootNode<Global>, property: CstObjectProp) -> &[u8]
 fn boolean_of(document: &CstRootNode<Global>, boolean: CstBooleanLit) -> &'static [u8]
     requires { HasNode document.now (boolean_lit_node boolean) }
 {
-    if boolean.value(document) { b"true" } else { b"false" }
+    if boolean.value(document) {
+        b"true"
+    } else {
+        b"false"
+    }
 }
 
 /// What goes by in a sort: of a property its name, of a literal its text, of an array or object nothing.

@@ -1,7 +1,5 @@
 //! Why a call ends without success: a status, and of a text that is refused what is wrong with it.
-ghost use Rattle.std.specs.Prelude.{◌≡◌, ◌≢◌, ◌⊎◌, ◌×◌, ◌≤◌, length, min, take, string_bytes};
-ghost use Rattle.jsonc_text.specs.Faults.{kind_of};
-ghost use Rattle.jsonc_engine.specs.declared.fault.Fault.{Fault};
+ghost use Rattle.std.specs.Prelude.{◌≡◌, ◌⊎◌, ◌≤◌, take};
 ghost use Rattle.jsonc_c.specs.Told.{IsTold, IsToldOf, edit_status, kind_number, no_fault, string_kind_number};
 
 use jsonc_engine::fault::Fault;
@@ -214,6 +212,8 @@ pub(crate) fn edit_status(error: EditError) -> u32
 /// Tells a fault of the engine, and answers its status.
 pub(crate) fn tell(alloc: Global, told: &Fault, fault: &mut JsoncFault) -> u32
     ensures told { (result ≡ 1) ⊎ IsTold told.now result fault.new }
+    ensures status { 1 ≤ result }
+    ensures other { ¬ (result ≡ 17) }
 {
     match told {
         Fault::Input(error) => tell_error(alloc, error, TEXT, fault),

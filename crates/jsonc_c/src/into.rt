@@ -1,5 +1,12 @@
 //! Texts that are written into a caller's buffer.
-ghost use Rattle.std.specs.Prelude.{◌≡◌, ◌<◌, ◌++◌, ◌∷◌, [], length, take};
+ghost use Rattle.std.specs.Prelude.{◌≡◌, ◌≤◌, ◌<◌, ◌++◌, ◌∷◌, [], IsUtf8, length, take};
+ghost use Rattle.std.specs.declared.alloc.Global.{Global};
+ghost use Rattle.jsonc_engine.specs.Change.{IsGot};
+ghost use Rattle.jsonc_engine.specs.Command as asked;
+ghost use Rattle.jsonc_engine.specs.Input.{IsInputOf};
+ghost use Rattle.jsonc_c.specs.Commands.{IsRefused};
+ghost use Rattle.jsonc_c.specs.Edits.{IsEdited, IsUnedited};
+ghost use Rattle.jsonc_c.specs.Options.{options_of};
 
 use crate::commands::line_at;
 use crate::edits::JsoncEdit;
@@ -35,6 +42,12 @@ pub extern "C" fn jsonc_get_into(
     len: &mut usize,
     fault: &mut JsoncFault,
 ) -> u32
+    ensures got { result ≡ 0 →
+        IsGot (options_of options) path.now text.now (take len.new room.new ++ 0x0A ∷ []) }
+    ensures no_room { result ≡ 17 → length room.old < len.new }
+    ensures words { result ≡ 2 → ¬ (IsUtf8 path.now) }
+    ensures refused { 3 ≤ result → ¬ (result ≡ 17) →
+        IsRefused (options_of options) (asked.get path.now) text.now result fault.new }
 {
     *len = 0;
     match line_at(alloc, text, path, options, fault) {
@@ -56,6 +69,11 @@ pub extern "C" fn jsonc_edit_into(
     len: &mut usize,
     fault: &mut JsoncFault,
 ) -> u32
+    ensures edited { result ≡ 0 →
+        IsEdited Global (options_of options) text.now edits.now (take len.new room.new) }
+    ensures no_room { result ≡ 17 → length room.old < len.new }
+    ensures refused { ¬ (result ≡ 0) → ¬ (result ≡ 17) →
+        IsUnedited Global (options_of options) text.now edits.now result fault.new }
 {
     *len = 0;
     match text_after(alloc, text, edits, options, fault) {

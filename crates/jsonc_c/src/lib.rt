@@ -21,7 +21,8 @@ mod read;
 
 pub use check::jsonc_check;
 pub use commands::{
-    jsonc_append, jsonc_drop, jsonc_get, jsonc_print, jsonc_put, jsonc_remove, jsonc_set, jsonc_sort,
+    jsonc_append, jsonc_drop, jsonc_get, jsonc_print, jsonc_put, jsonc_remove, jsonc_set,
+    jsonc_sort,
 };
 pub use edits::JsoncEdit;
 pub use fault::JsoncFault;

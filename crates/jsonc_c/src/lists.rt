@@ -1,10 +1,12 @@
 //! Lists of edits.
+ghost use Rattle.std.specs.Prelude.{◌≡◌, ◌≤◌, [], IfErr, IfOk, string_bytes};
+ghost use Rattle.std.specs.declared.alloc.Global.{Global};
+ghost use Rattle.jsonc_c.specs.Edits.{AreReadAs, IsEdited, IsUnedited};
+ghost use Rattle.jsonc_c.specs.Options.{options_of};
 
 use crate::compare::compare;
 use crate::edits::JsoncEdit;
-use crate::fault::{
-    JsoncFault, NOT_UTF8, OK, TEXT, edit_status, no_fault, tell_error,
-};
+use crate::fault::{JsoncFault, NOT_UTF8, OK, TEXT, edit_status, no_fault, tell_error};
 use crate::handed::hand_out;
 use crate::options::options_of;
 use crate::read::read_edits;
@@ -19,6 +21,10 @@ fn edited(
     options: u32,
     fault: &mut JsoncFault,
 ) -> Result<String, u32>
+    ensures edited { (listed : List JsoncEdit) → AreReadAs listed edits.items
+        → IfOk result (λ made. IsEdited Global (options_of options) text.now listed (string_bytes made)) }
+    ensures refused { (listed : List JsoncEdit) → AreReadAs listed edits.items
+        → IfErr result (λ status. IsUnedited Global (options_of options) text.now listed status fault.new) }
 {
     let compare = |document: &CstRootNode<Global>, one: CstNode, other: CstNode| compare(
         document, one, other,
@@ -41,16 +47,19 @@ pub(crate) fn text_after(
     options: u32,
     fault: &mut JsoncFault,
 ) -> Result<String, u32>
+    ensures edited { IfOk result (λ made. IsEdited Global (options_of options) text.now edits.now (string_bytes made)) }
+    ensures refused { IfErr result
+        (λ status. IsUnedited Global (options_of options) text.now edits.now status fault.new) }
 {
     *fault = no_fault();
-    let edits = match read_edits(alloc, edits, fault) {
-        Ok(edits) => edits,
+    let read = match read_edits(alloc, edits, fault) {
+        Ok(read) => read,
         Err(status) => return Err(status),
     };
     let Ok(text) = str::from_utf8(text) else {
         return Err(NOT_UTF8);
     };
-    edited(alloc, text, edits, options, fault)
+    edited(alloc, text, read, options, fault)
 }
 
 /// Makes edits in order, and hands out the text after them. Where one is refused, none is made.
@@ -67,6 +76,9 @@ pub extern "C" fn jsonc_edit(
     out: &mut &'static [u8],
     fault: &mut JsoncFault,
 ) -> u32
+    ensures edited { result ≡ 0 → IsEdited Global (options_of options) text.now edits.now out.new.now }
+    ensures refused { ¬ (result ≡ 0) → IsUnedited Global (options_of options) text.now edits.now result fault.new }
+    ensures empty { ¬ (result ≡ 0) → out.new.now ≡ [] }
 {
     *out = &[];
     match text_after(alloc, text, edits, options, fault) {

@@ -2,7 +2,8 @@
 
 use crate::check::jsonc_check;
 use crate::commands::{
-    jsonc_append, jsonc_drop, jsonc_get, jsonc_print, jsonc_put, jsonc_remove, jsonc_set, jsonc_sort,
+    jsonc_append, jsonc_drop, jsonc_get, jsonc_print, jsonc_put, jsonc_remove, jsonc_set,
+    jsonc_sort,
 };
 use crate::edits::JsoncEdit;
 use crate::fault::no_fault;
@@ -24,7 +25,10 @@ fn checks(rt: HostRuntime) -> Result<(), Fail> {
     assert_eq!(rt; fault.end, 6);
     assert_eq!(rt; fault.line, 2);
     assert_eq!(rt; fault.column, 2);
-    assert_eq!(rt; &fault.text[..fault.text_len], b"Unexpected token on line 2 column 2".as_slice());
+    assert_eq!(rt;
+        &fault.text[..fault.text_len],
+        b"Unexpected token on line 2 column 2".as_slice()
+    );
     assert_eq!(rt; jsonc_check(rt.alloc(), b"\xff", ALL, &mut fault), 3);
     assert_eq!(rt; jsonc_check(rt.alloc(), b"[1,]", 0, &mut fault), 4);
     Ok(())
@@ -37,13 +41,28 @@ fn changes(rt: HostRuntime) -> Result<(), Fail> {
     let mut out: &'static [u8] = &[];
     assert_eq!(rt; jsonc_print(alloc, TEXT, ALL, &mut out, &mut fault), 0);
     assert_eq!(rt; out, TEXT);
-    assert_eq!(rt; jsonc_set(alloc, TEXT, b"b", b"null", ALL, &mut out, &mut fault), 0);
-    assert_eq!(rt; out, b"{\n  \"b\": null, // x\n  \"a\": [2]\n}\n".as_slice());
-    assert_eq!(rt; jsonc_append(alloc, b"[1]", b"2", ALL, &mut out, &mut fault), 0);
+    assert_eq!(rt;
+        jsonc_set(alloc, TEXT, b"b", b"null", ALL, &mut out, &mut fault),
+        0
+    );
+    assert_eq!(rt;
+        out,
+        b"{\n  \"b\": null, // x\n  \"a\": [2]\n}\n".as_slice()
+    );
+    assert_eq!(rt;
+        jsonc_append(alloc, b"[1]", b"2", ALL, &mut out, &mut fault),
+        0
+    );
     assert_eq!(rt; out, b"[1, 2]".as_slice());
-    assert_eq!(rt; jsonc_remove(alloc, TEXT, b"b", ALL, &mut out, &mut fault), 0);
+    assert_eq!(rt;
+        jsonc_remove(alloc, TEXT, b"b", ALL, &mut out, &mut fault),
+        0
+    );
     assert_eq!(rt; out, b"{\n  \"a\": [2]\n}\n".as_slice());
-    assert_eq!(rt; jsonc_sort(alloc, b"{\"b\":1,\"a\":2}", ALL, &mut out, &mut fault), 0);
+    assert_eq!(rt;
+        jsonc_sort(alloc, b"{\"b\":1,\"a\":2}", ALL, &mut out, &mut fault),
+        0
+    );
     assert_eq!(rt; out, b"{\"a\":2,\"b\":1}".as_slice());
     Ok(())
 }
@@ -53,17 +72,40 @@ fn paths(rt: HostRuntime) -> Result<(), Fail> {
     let alloc = rt.alloc();
     let mut fault = no_fault();
     let mut out: &'static [u8] = &[];
-    assert_eq!(rt; jsonc_get(alloc, TEXT, b"[\"a\"]", ALL, &mut out, &mut fault), 0);
+    assert_eq!(rt;
+        jsonc_get(alloc, TEXT, b"[\"a\"]", ALL, &mut out, &mut fault),
+        0
+    );
     assert_eq!(rt; out, b"[2]".as_slice());
-    assert_eq!(rt; jsonc_get(alloc, TEXT, b"[\"c\"]", ALL, &mut out, &mut fault), 11);
+    assert_eq!(rt;
+        jsonc_get(alloc, TEXT, b"[\"c\"]", ALL, &mut out, &mut fault),
+        11
+    );
     assert_eq!(rt; out, b"".as_slice());
-    assert_eq!(rt; jsonc_put(alloc, TEXT, b"[\"b\"]", b"2", ALL, &mut out, &mut fault), 0);
+    assert_eq!(rt;
+        jsonc_put(alloc, TEXT, b"[\"b\"]", b"2", ALL, &mut out, &mut fault),
+        0
+    );
     assert_eq!(rt; out, b"{\n  \"b\": 2, // x\n  \"a\": [2]\n}\n".as_slice());
-    assert_eq!(rt; jsonc_drop(alloc, TEXT, b"[\"b\"]", ALL, &mut out, &mut fault), 0);
+    assert_eq!(rt;
+        jsonc_drop(alloc, TEXT, b"[\"b\"]", ALL, &mut out, &mut fault),
+        0
+    );
     assert_eq!(rt; out, b"{\n  \"a\": [2]\n}\n".as_slice());
     let mut room = [0u8; 4];
     let mut len = 0usize;
-    assert_eq!(rt; jsonc_get_into(alloc, TEXT, b"[\"a\"]", ALL, room.as_mut_slice(), &mut len, &mut fault), 0);
+    assert_eq!(rt;
+        jsonc_get_into(
+            alloc,
+            TEXT,
+            b"[\"a\"]",
+            ALL,
+            room.as_mut_slice(),
+            &mut len,
+            &mut fault
+        ),
+        0
+    );
     assert_eq!(rt; &room[..3], b"[2]".as_slice());
     Ok(())
 }
@@ -74,15 +116,53 @@ fn edits(rt: HostRuntime) -> Result<(), Fail> {
     let mut fault = no_fault();
     let mut out: &'static [u8] = &[];
     let edits = [
-        JsoncEdit { kind: 1, path: &[0], name: b"", json: b"", index: 0, first: false, second: false },
-        JsoncEdit { kind: 12, path: &[0], name: b"", json: b"true", index: 0, first: false, second: false },
-        JsoncEdit { kind: 17, path: &[], name: b"", json: b"", index: 0, first: false, second: false },
+        JsoncEdit {
+            kind: 1,
+            path: &[0],
+            name: b"",
+            json: b"",
+            index: 0,
+            first: false,
+            second: false,
+        },
+        JsoncEdit {
+            kind: 12,
+            path: &[0],
+            name: b"",
+            json: b"true",
+            index: 0,
+            first: false,
+            second: false,
+        },
+        JsoncEdit {
+            kind: 17,
+            path: &[],
+            name: b"",
+            json: b"",
+            index: 0,
+            first: false,
+            second: false,
+        },
     ];
-    assert_eq!(rt; jsonc_edit(alloc, TEXT, edits.as_slice(), ALL, &mut out, &mut fault), 0);
+    assert_eq!(rt;
+        jsonc_edit(alloc, TEXT, edits.as_slice(), ALL, &mut out, &mut fault),
+        0
+    );
     assert_eq!(rt; out, b"{\n  \"a\": [2, true]\n}\n".as_slice());
     let mut room = [0u8; 8];
     let mut len = 0usize;
-    assert_eq!(rt; jsonc_edit_into(alloc, TEXT, edits.as_slice(), ALL, room.as_mut_slice(), &mut len, &mut fault), 17);
+    assert_eq!(rt;
+        jsonc_edit_into(
+            alloc,
+            TEXT,
+            edits.as_slice(),
+            ALL,
+            room.as_mut_slice(),
+            &mut len,
+            &mut fault
+        ),
+        17
+    );
     assert_eq!(rt; len, out.len());
     Ok(())
 }
