@@ -1,8 +1,8 @@
 //! The commands of the program `jsonc`, one call for each.
-ghost use Rattle.std.specs.Prelude.{◌≡◌, ◌≤◌, ◌⊎◌, ◌++◌, ◌∷◌, [], IfErr, IfOk, IsUtf8, OnOk, string_bytes};
+ghost use Rattle.std.specs.Prelude.{◌≡◌, ◌≤◌, ◌⊎◌, ◌++◌, ◌∷◌, [], IfErr, IfOk, IsUtf8, OnOk, string_bytes, true};
 ghost use Rattle.jsonc_engine.specs.Change.{IsGot, IsMadeOf};
 ghost use Rattle.jsonc_engine.specs.Command as asked;
-ghost use Rattle.jsonc_engine.specs.Command.{request_of};
+ghost use Rattle.jsonc_engine.specs.Command.{request_of, writes};
 ghost use Rattle.jsonc_engine.specs.Input.{IsInputOf};
 ghost use Rattle.jsonc_engine.specs.Output.{IsLeft};
 ghost use Rattle.jsonc_c.specs.Commands.{IsRefused};
@@ -24,6 +24,7 @@ fn change(
     out: &mut &'static [u8],
     fault: &mut JsoncFault,
 ) -> u32
+    requires { writes (request_of command.entry) ≡ true }
     ensures made { result ≡ 0 → IsLeft (options_of options) (request_of command.entry) text.now out.new.now }
     ensures accepted { result ≡ 0 → IsInputOf (options_of options) text.now }
     ensures refused { 2 ≤ result → IsRefused (options_of options) (request_of command.entry) text.now result fault.new }
@@ -36,7 +37,7 @@ fn change(
             hand_out(made, out);
             OK
         }
-        // (the commands of this crate all write)
+        // (the command writes)
         Ok(None) => OTHER,
         Err(told) => tell(alloc, &told, fault),
     }

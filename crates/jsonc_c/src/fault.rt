@@ -166,7 +166,7 @@ fn put_text(text: &[u8], fault: &mut JsoncFault)
     ensures line { fault.new.line ≡ fault.old.line }
     ensures column { fault.new.column ≡ fault.old.column }
 {
-    let count = text.len().min(TEXT_LEN);
+    let count = TEXT_LEN.min(text.len());
     fault.text[..count].copy_from_slice(&text[..count]);
     fault.text_len = count;
 }
