@@ -24,7 +24,7 @@ fn change(
     out: &mut &'static [u8],
     fault: &mut JsoncFault,
 ) -> u32
-    requires { writes (request_of command.entry) ≡ true }
+    requires { writes (request_of command) ≡ true }
     ensures made { result ≡ 0 → IsLeft (options_of options) (request_of command.entry) text.now out.new.now }
     ensures accepted { result ≡ 0 → IsInputOf (options_of options) text.now }
     ensures refused { 2 ≤ result → IsRefused (options_of options) (request_of command.entry) text.now result fault.new }
