@@ -1,2 +1,3 @@
 mod Fronts
 mod Inputs
+mod Unread

@@ -123,6 +123,7 @@ fn path_edit(alloc: Global, edit: &JsoncEdit) -> Result<Edit<Global>, u32>
 }
 
 /// An edit at a path that writes a value.
+#[tactic(auto, using(crate::proofs::Unread::unread_memory, crate::proofs::Unread::unread_wanting))]
 fn value_edit(alloc: Global, edit: &JsoncEdit, fault: &mut JsoncFault) -> Result<Edit<Global>, u32>
     requires { IsOfValue edit.now.kind }
     ensures read { IfOk result (IsReadAs edit.now) }
@@ -166,6 +167,7 @@ fn ensuring_edit(alloc: Global, edit: &JsoncEdit) -> Result<Edit<Global>, u32>
 }
 
 /// An edit at a path that writes a property.
+#[tactic(auto, using(crate::proofs::Unread::unread_memory, crate::proofs::Unread::unread_wanting))]
 fn property_edit(
     alloc: Global,
     edit: &JsoncEdit,
@@ -195,6 +197,7 @@ fn property_edit(
 }
 
 /// The edit that is asked for.
+#[tactic(auto, using(crate::proofs::Unread::unread_kind, crate::proofs::Unread::unread_memory, crate::proofs::Unread::unread_wanting))]
 fn read_edit(alloc: Global, edit: &JsoncEdit, fault: &mut JsoncFault) -> Result<Edit<Global>, u32>
     ensures read { IfOk result (IsReadAs edit.now) }
     ensures refused { IfErr result (λ status. IsUnread edit.now status fault.new) }
