@@ -160,6 +160,15 @@ fn without_indents(field: &str) -> String {
     }
 }
 
+/// Whether the first edits of a list write a space between literals: what later ones make of it differs too.
+fn writes_a_space(text: &str, bits: u32, list: &[edits::Drawn]) -> bool {
+    let Ok(root) = theirs::document(text, bits) else { return false };
+    let given: Vec<jsonc::Edit> = list.iter().map(|it| it.edit.clone()).collect();
+    let all = list.iter().all(|it| edits::make(&root, it).is_some());
+    let made = jsonc::edit(text, Options::from_bits(bits), &given);
+    all && made.is_ok_and(|made| has_spaces_more(&made, &root.to_string()))
+}
+
 /// A list of one to four edits. Each is drawn for the document that the ones before it made.
 fn lists(draw: &mut Draw, counts: &mut Counts) {
     let (text, bits) = (generate::text(draw, false), generate::options(draw));
@@ -184,6 +193,10 @@ fn lists(draw: &mut Draw, counts: &mut Counts) {
         Err(error) => format!("{error:?}"),
     };
     let answer = stop.map_or_else(|| root.to_string(), |count| format!("{:?}", Error::NoSuchPlace(count)));
+    if made != answer && (1..list.len()).any(|count| writes_a_space(&text, bits, &list[..count])) {
+        counts.spaces += 1;
+        return;
+    }
     counts.compare(if stop.is_some() { "refused edits" } else { "edits" }, case, &made, &answer);
 }
 

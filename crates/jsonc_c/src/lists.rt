@@ -1,5 +1,6 @@
 //! Lists of edits.
-ghost use Rattle.std.specs.Prelude.{◌≡◌, ◌≤◌, [], IfErr, IfOk, string_bytes};
+ghost use Rattle.std.specs.Prelude.{◌≡◌, List, [], IfErr, IfOk, string_bytes};
+ghost use Rattle.jsonc_c.specs.declared.edits.JsoncEdit.{JsoncEdit};
 ghost use Rattle.std.specs.declared.alloc.Global.{Global};
 ghost use Rattle.jsonc_c.specs.Edits.{AreReadAs, IsEdited, IsUnedited};
 ghost use Rattle.jsonc_c.specs.Options.{options_of};
