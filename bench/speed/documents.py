@@ -1,11 +1,14 @@
 """The documents that are measured, the same on every machine."""
 import random
+import re
 
 SIZES = {'1 KB': 1_000, '100 KB': 100_000, '1 MB': 1_000_000, '10 MB': 10_000_000}
 # An array of so many numbers, beside those of a size.
 COUNT = 100_000
 # What is an array of numbers.
 ARRAYS = ('numbers', 'array')
+STRING = r'"(?:\\.|[^"\\])*"'
+COMMENT = r'//[^\n]*|/\*(?:(?!\*/).)*\*/'
 
 
 def settings(pick, size):
@@ -59,9 +62,19 @@ def array(pick, count):
     return '[\n' + ',\n'.join(lines) + '\n]\n'
 
 
-def make():
+def make(sizes=tuple(SIZES)):
     """Each document by its kind and the name of its size."""
-    texts = {(make.__name__, name): make(random.Random(7), size).encode()
-             for make in (settings, numbers, strings) for name, size in SIZES.items()}
+    texts = {(make.__name__, name): make(random.Random(7), SIZES[name]).encode()
+             for make in (settings, numbers, strings) for name in sizes}
     texts['array', '100,000 numbers'] = array(random.Random(7), COUNT).encode()
     return texts
+
+
+def without_trailing_commas(text):
+    """The same text, with comments alone."""
+    return re.sub(r'(%s|%s)|,(?=(?:\s|%s)*[\]}])' % (STRING, COMMENT, COMMENT), lambda it: it.group(1) or '', text, flags=re.S)
+
+
+def strict(text):
+    """The same text as JSON, with neither comments nor trailing commas."""
+    return re.sub(r'(%s)|\s*(?:%s)' % (STRING, COMMENT), lambda it: it.group(1) or '', without_trailing_commas(text), flags=re.S)

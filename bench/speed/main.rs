@@ -86,12 +86,23 @@ fn replaced(text: &str, count: u64) -> Answer {
     Ok(sum)
 }
 
+fn appended(text: &str, count: u64) -> Answer {
+    let document = CstRootNode::parse(text, &ParseOptions::default())?;
+    let mut sum = 0;
+    for _ in 0..count {
+        array(&document)?.append(CstInputValue::Number("7".to_string()));
+        sum += 1;
+    }
+    Ok(sum)
+}
+
 fn repeat(call: &str, input: &[u8], count: u64) -> Answer {
     let text = std::str::from_utf8(input)?;
     match call {
         "print" => return print(text, count),
         "replaced" => return replaced(text, count),
         "siblings" => return siblings(text, count),
+        "appended" => return appended(text, count),
         _ => {}
     }
     let mut sum = 0;

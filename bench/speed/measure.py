@@ -21,9 +21,13 @@ import documents
 
 HERE = os.path.dirname(os.path.abspath(__file__))
 REPORT = os.path.join(HERE, "..", "..", "docs", "proofs", "SPEED.md")
-CALLS = ['scan', 'ast', 'tokens', 'value', 'document', 'print', 'program', 'replaced', 'siblings']
-# Those that are made of an array of numbers.
-OF_ARRAYS = ('replaced', 'siblings')
+CALLS = ['scan', 'ast', 'tokens', 'value', 'document', 'print', 'program', 'replaced', 'siblings', 'appended']
+# Those that are made of an array of numbers, with the kinds of document that they are made of.
+OF_ARRAYS = {'replaced': documents.ARRAYS, 'siblings': documents.ARRAYS, 'appended': ('array',)}
+# How often in a row both programs make a call that lets its document grow.
+IN_A_ROW = {'appended': 1000}
+# So many calls take long, so that this many rounds are enough.
+ROUNDS_IN_A_ROW = 2
 TARGETS = {'scan': 1, 'ast': 1, 'tokens': 1, 'value': 1, 'document': 4, 'print': 2}
 # What is counted of a call.
 COUNTS = ['instructions', 'misses of 1 MB', 'misses of 32 MB', 'own time', "the system's", 'page faults']
@@ -81,20 +85,20 @@ def calls(program, call, path, settings):
     return count
 
 
-def taken(call, runs, rounds, settings, falls_short):
-    """What one call took of each of two runs, a program and a text, made in turn, so that both meet what others do on the
+def taken(runs, rounds, settings=None, falls_short=lambda found: False):
+    """What one call took of each run, a program, its call and a text, made in turn, so that all meet what others do on the
     machine. Where they fall short they are made again as often, and once more; of all of them the least counts."""
-    counts = [calls(program, call, path, settings) for program, path in runs]
+    counts = [IN_A_ROW.get(call) or calls(program, call, path, settings) for program, call, path in runs]
     found = [([], []) for _ in runs]
     for _ in range(TURNS):
         for _ in range(rounds):
-            for (program, path), count, (many, none) in zip(runs, counts, found):
+            for (program, call, path), count, (many, none) in zip(runs, counts, found):
                 many.append(run(program, call, count, path, settings)[0])
                 none.append(run(program, call, 0, path, settings)[0])
-        pair = [least(many).each(least(none), count) for (many, none), count in zip(found, counts)]
-        if not falls_short(pair):
+        each = [least(many).each(least(none), count) for (many, none), count in zip(found, counts)]
+        if not falls_short(each):
             break
-    return pair
+    return each
 
 
 def timed(programs, call, path, rounds, settings=None):
@@ -102,7 +106,8 @@ def timed(programs, call, path, rounds, settings=None):
     if len({run(program, call, 1, path)[1] for program in programs}) > 1:
         sys.exit('the answers of %s differ on %s' % (call, path))
     falls_short = lambda pair: ratio(pair) < TARGETS.get(call, 0)
-    return taken(call, [(program, path) for program in programs], rounds, settings, falls_short)
+    rounds = min(rounds, ROUNDS_IN_A_ROW) if call in IN_A_ROW else rounds
+    return taken([(program, call, path) for program in programs], rounds, settings, falls_short)
 
 
 class Counted(collections.namedtuple('Counted', 'instructions small large')):
@@ -173,7 +178,7 @@ def measured(programs, preload, folder, rounds):
         for call in CALLS:
             if call == 'value' and not all(has_value(program, path) for program in programs):
                 continue
-            if call in OF_ARRAYS and kind not in documents.ARRAYS:
+            if kind not in OF_ARRAYS.get(call, (kind,)):
                 continue
             times[kind, size, call] = timed(programs, call, path, rounds)
             print('%-9s %-7s %-9s %6.2f' % (kind, size, call, ratio(times[kind, size, call])), flush=True)
@@ -208,8 +213,8 @@ def growths(ours, folder, rounds, times):
             continue
         found[kind, call] = large[0], pair[0]
         if growth(found[kind, call]) > GROWTH:
-            runs = [(ours, path_of(folder, kind, it)) for it in ('10 MB', '1 MB')]
-            found[kind, call] = taken(call, runs, rounds, None, lambda pair: growth(pair) > GROWTH)
+            runs = [(ours, call, path_of(folder, kind, it)) for it in ('10 MB', '1 MB')]
+            found[kind, call] = taken(runs, rounds, falls_short=lambda pair: growth(pair) > GROWTH)
     return found
 
 
@@ -304,6 +309,14 @@ def reasons(memory, short, grown, grown_most):
     ])
 
 
+def put(section, written):
+    """Writes a section of docs/proofs/SPEED.md in its place. A page without it stays as it is."""
+    with open(REPORT) as report:
+        text = report.read()
+    with open(REPORT, 'w') as report:
+        report.write(re.sub(r'## %s\n.*?(?=\n## |\Z)' % section, lambda _: written, text, flags=re.S))
+
+
 def main(ours, theirs, preload, folder, rounds='5'):
     programs, rounds = [ours, theirs], int(rounds)
     times, memory, lengths = measured(programs, preload, folder, rounds)
@@ -311,10 +324,7 @@ def main(ours, theirs, preload, folder, rounds='5'):
     written = figures(times, memory)
     print(written)
     print(reasons(memory, short, grown, grown_rows(ours, folder, grown)))
-    with open(REPORT) as report:
-        text = report.read()
-    with open(REPORT, 'w') as report:
-        report.write(re.sub(r'## Figures\n.*?(?=\n## |\Z)', lambda _: written, text, flags=re.S))
+    put('Figures', written)
 
 
 if __name__ == '__main__':

@@ -1,14 +1,15 @@
 -- Comments between values: their marks, their text and their end.
-use Rattle.std.proofs.Common.{ℕ, ◌+◌, ◌≤◌, ◌≡◌, ◌≢◌, ◌∙◌, sym, ap, subst, refl, Bool, true, false, not, ◌&&◌, ◌==◌, inl, inr, List, [], ◌∷◌, ◌++◌, arith, IsTrue, IsUtf8, IsCharBoundary}
+use Rattle.std.proofs.Common.{ℕ, ◌+◌, ◌≤◌, ◌≡◌, ◌≢◌, ◌∙◌, sym, ap, subst, refl, Bool, true, false, not, ◌&&◌, ◌==◌, inl, inr, List, [], ◌∷◌, ◌++◌, arith, IsTrue, IsUtf8, IsCharBoundary, chars, slice_range}
 use Rattle.std.proofs.lemmas.List.{append_assoc}
 use Rattle.std.proofs.lemmas.Bool.{ne_eqb}
 use Rattle.std.specs.Char.{len_utf8}
-use Rattle.jsonc_text.specs.Text.{rest, next, no, starts, Many}
+use Rattle.jsonc_text.specs.Text.{rest, next, no, starts, Many, Spans}
 use Rattle.jsonc_text.specs.Chars.{Steps}
-use Rattle.jsonc_text.specs.Gaps.{is_in_line, ends_block, line, UpToBlockEnd, here, later, block, IsComment}
+use Rattle.jsonc_text.specs.Comments.{HoldsBlock}
+use Rattle.jsonc_text.specs.Gaps.{is_in_line, line, UpToBlockEnd, block, BlockComment, IsComment}
 use Rattle.jsonc_text.proofs.Basics.{and_both, test_eq, tails}
-use Rattle.jsonc_text.proofs.BlockComments.{block_inside}
-use Rattle.jsonc_text.proofs.Cuts.{rest_past, byte_length-one, many_split}
+use Rattle.jsonc_text.proofs.BlockComments.{block_inside, block_of}
+use Rattle.jsonc_text.proofs.Cuts.{chars_between, rest_past, byte_length-one, many_split}
 use Rattle.jsonc_sound.specs.Filling.{BeginsComment}
 
 -- a comment's text, with its marks
@@ -84,53 +85,14 @@ pub block_at : {bytes : List ℕ} {i : ℕ} {slash : Bool} (j : ℕ) → Opened 
 block_at j (opens_line two) h g = cc
 block_at {bytes} j (opens_block two goes) h g = subst (λ t. IsComment t (rest bytes j)) (sym two.both) (inr (block g))
 
--- `*/` by its two characters
-pub star_then : (t : List ℕ) → ends_block (0x2A ∷ t) ≡ starts (λ d. d == 0x2F) (next t)
-star_then [] = refl
-star_then (d ∷ t) = refl
-
-pub no_star : (c : ℕ) (t : List ℕ) → c ≢ 0x2A → ends_block (c ∷ t) ≡ false
-no_star c [] e = refl
-no_star c (d ∷ t) e = ap (λ b. b && (d == 0x2F)) (ne_eqb c 0x2A e)
-
-pub ends_block_text : (t : List ℕ) → IsTrue (ends_block t) → (r : List ℕ) × (t ≡ 0x2A ∷ 0x2F ∷ r)
-ends_block_text [] h = cc
-ends_block_text (c ∷ []) h = cc
-ends_block_text (c ∷ d ∷ t) h = (t, let both = and_both (c == 0x2A) (d == 0x2F) h in let first = test_eq c 0x2A both.0 in let second = test_eq d 0x2F both.1 in cc)
-
--- characters of a block comment so far
-pub record InBlock (text : List ℕ) (start place : ℕ) : Type 0 where
-  pub boundary : IsCharBoundary text place
-  pub order : start ≤ place
-  pub whole : (r : List ℕ) → UpToBlockEnd (rest text place) r → UpToBlockEnd (rest text start) r
-  pub closed : (r : List ℕ) × UpToBlockEnd (rest text place) r
-
-pub in_block_start : (text : List ℕ) (start : ℕ) → IsCharBoundary text start → (r : List ℕ) × UpToBlockEnd (rest text start) r → InBlock text start start
-in_block_start text start b closed = record { boundary = b; order = omega arith; whole = λ r g. g; closed = closed }
-
--- a block that does not end here goes on
-goes_on : {t : List ℕ} (c : ℕ) (u : List ℕ) → t ≡ c ∷ u → ends_block t ≡ false → (r : List ℕ) × UpToBlockEnd t r → (r : List ℕ) × UpToBlockEnd u r
-goes_on c u e not_here (r, here) = absurd (let wrong : true ≡ false = not_here in cc)
-goes_on c u e not_here (r, later {t = v} h g) = (r, subst (λ x. UpToBlockEnd x r) (tails e) g)
-
-pub in_block_more : (text : List ℕ) (start place c end : ℕ) → InBlock text start place → Steps text place c end → place ≤ end → ends_block (rest text place) ≡ false → InBlock text start end
-in_block_more text start place c end held step le not_here = record {
-  boundary = step.1;
-  order = omega (arith, held.order);
-  whole = λ r g. held.whole r (subst (λ x. UpToBlockEnd x r) (sym step.0) (later (ap not (ap ends_block (sym step.0) ∙ not_here)) g));
-  closed = goes_on c (rest text end) step.0 not_here held.closed;
-}
-
-pub in_block_end : (text : List ℕ) (start place : ℕ) → IsUtf8 text → InBlock text start place → IsTrue (ends_block (rest text place)) → IsCharBoundary text (place + 2) × UpToBlockEnd (rest text start) (rest text (place + 2))
-in_block_end text start place u held h =
-    let found = ends_block_text (rest text place) h in
-    let two = two_steps text place 0x2A 0x2F found.0 u held.boundary refl refl found.1 in
-    (two.two, held.whole (rest text (place + 2)) (subst (λ x. UpToBlockEnd x (rest text (place + 2))) (sym two.both) here))
-
--- a block comment does not end where the text does
-pub not_at_end : (text : List ℕ) (start place : ℕ) → InBlock text start place → rest text place ≡ [] → ⊥
-not_at_end text start place held e = nothing held.closed.1 e
+-- a block comment's text and its end, found by its bytes
+pub block_found : (bytes : List ℕ) (i j : ℕ) → IsUtf8 bytes → IsCharBoundary bytes i → HoldsBlock bytes i j → UpToBlockEnd (rest bytes i) (rest bytes (j + 2))
+block_found bytes i j u b h =
+    let spans : Spans bytes i j = record { from = b; to = h.boundary; order = h.order } in
+    let text = chars (slice_range bytes i j) in
+    let closing : rest bytes j ≡ 0x2A ∷ 0x2F ∷ rest bytes (j + 2) = h.star.0 ∙ ap (λ t. 0x2A ∷ t) h.slash.0 in
+    let parts : rest bytes i ≡ text ++ 0x2A ∷ 0x2F ∷ rest bytes (j + 2) = chars_between bytes i j u spans ∙ ap (λ t. text ++ t) closing in
+    rw parts (inside (block_of text (rest bytes (j + 2)) h.text))
   where
-    nothing : {t r : List ℕ} → UpToBlockEnd t r → t ≡ [] → ⊥
-    nothing here e = cc
-    nothing (later h g) e = cc
+    inside : {t r : List ℕ} → BlockComment (0x2F ∷ 0x2A ∷ t) r → UpToBlockEnd t r
+    inside (block g) = g

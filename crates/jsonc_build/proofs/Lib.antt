@@ -1,5 +1,6 @@
 pub mod PassedCharacters
 pub mod Comments
+pub mod InnerBlanks
 pub mod Stretches
 pub mod Starts
 pub mod AddedChildren

@@ -4,7 +4,7 @@ ghost use Rattle.std.specs.Char.{len_utf8};
 ghost use Rattle.std.specs.Rc.{rc_str_bytes};
 ghost use Rattle.jsonc_text.specs.Text.{Many, next, no, rest, starts};
 ghost use Rattle.jsonc_text.specs.Chars.{Steps};
-ghost use Rattle.jsonc_text.specs.Gaps.{ends_block, is_in_line, IsComment, UpToBlockEnd};
+ghost use Rattle.jsonc_text.specs.Gaps.{IsComment, UpToBlockEnd};
 ghost use Rattle.jsonc_tree.specs.Content.{newline};
 ghost use Rattle.jsonc_tree.specs.Growing.{IsGrowing, container_of, nodes_so_far};
 ghost use Rattle.jsonc_sound.specs.Filling.{BeginsComment, IsFillable, is_filling, is_separator};
@@ -14,6 +14,8 @@ ghost use Rattle.jsonc_sound.specs.Leaves.{GapLeaf, is_inner_blank};
 
 use crate::room::make_room;
 use jsonc_text::chars::char_at;
+use jsonc_text::comment::block_close;
+use jsonc_text::string::stops::stop_place;
 use jsonc_tree::{CstNewlineKind, Growing, Kind, Part};
 use std::alloc::{AllocError, Allocator};
 use std::rc::RcStr;
@@ -30,12 +32,6 @@ fn is_separator(c: char) -> bool
     (c == ',') | (c == ':')
 }
 
-fn is_in_line(c: char) -> bool
-    ensures { result ≡ is_in_line c }
-{
-    !((c == '\n') | (c == '\r'))
-}
-
 // Whether a character stands at a place.
 fn has_char(text: &str, place: usize, wanted: char) -> bool
     requires { IsCharBoundary text.now place }
@@ -48,7 +44,6 @@ fn has_char(text: &str, place: usize, wanted: char) -> bool
 }
 
 // The length of the blank at a place that ends no line, or 0 where none stands.
-#[inline(always)]
 fn blank_len(text: &str, place: usize) -> usize
     requires { IsCharBoundary text.now place }
     ensures none { result ≡ 0 → IsTrue (no is_inner_blank (next (rest text.now place))) }
@@ -60,8 +55,9 @@ fn blank_len(text: &str, place: usize) -> usize
     }
 }
 
-// The first place from `start` on where no blank stands, or one that ends a line.
-fn blanks_end(text: &str, start: usize) -> usize
+// The first place from `start` on where no blank stands, or one that ends a line, by characters.
+#[cold]
+fn any_blanks_end(text: &str, start: usize) -> usize
     requires { IsCharBoundary text.now start }
     ensures place { IsCharBoundary text.now result }
     ensures order { start ≤ result }
@@ -73,6 +69,32 @@ fn blanks_end(text: &str, start: usize) -> usize
     while len > 0 {
         place += len;
         len = blank_len(text, place);
+    }
+    place
+}
+
+// The first place from `start` on where no blank stands, or one that ends a line.
+fn blanks_end(text: &str, start: usize) -> usize
+    requires { IsCharBoundary text.now start }
+    ensures place { IsCharBoundary text.now result }
+    ensures order { start ≤ result }
+    ensures blanks { Many is_inner_blank (rest text.now start) (rest text.now result) }
+    ensures all { IsTrue (no is_inner_blank (next (rest text.now result))) }
+{
+    let bytes = text.as_bytes();
+    let mut place = start;
+    while place < bytes.len() {
+        let byte = bytes[place];
+        if byte > 0x20 {
+            if byte < 0x80 {
+                return place;
+            }
+            return any_blanks_end(text, place);
+        }
+        if !((byte == 0x20) | (byte == 9) | (byte == 11) | (byte == 12)) {
+            return place;
+        }
+        place += 1;
     }
     place
 }
@@ -93,46 +115,6 @@ fn carriage_return(text: &str, place: usize) -> (CstNewlineKind, usize)
     (CstNewlineKind::CarriageReturn, place)
 }
 
-// The length of the character at a place, or 0 where the line ends.
-fn in_line_len(text: &str, place: usize) -> usize
-    requires { IsCharBoundary text.now place }
-    ensures none { result ≡ 0 → IsTrue (no is_in_line (next (rest text.now place))) }
-    ensures some { 0 < result → (c : ℕ) × IsTrue (is_in_line c) × Steps text.now place c (place + result) }
-{
-    match char_at(text, place) {
-        Some(c) if is_in_line(c) => c.len_utf8(),
-        _ => 0,
-    }
-}
-
-// The first place from `start` on where the line ends, or the text.
-fn line_end(text: &str, start: usize) -> usize
-    requires { IsCharBoundary text.now start }
-    ensures place { IsCharBoundary text.now result }
-    ensures order { start ≤ result }
-    ensures line { Many is_in_line (rest text.now start) (rest text.now result) }
-    ensures all { IsTrue (no is_in_line (next (rest text.now result))) }
-{
-    let mut place = start;
-    let mut len = in_line_len(text, place);
-    while len > 0 {
-        place += len;
-        len = in_line_len(text, place);
-    }
-    place
-}
-
-// Whether `*/` stands at a place.
-fn is_block_end(text: &str, place: usize) -> bool
-    requires { IsCharBoundary text.now place }
-    ensures { result ≡ ends_block (rest text.now place) }
-{
-    match char_at(text, place) {
-        Some('*') => has_char(text, place + 1, '/'),
-        _ => false,
-    }
-}
-
 // The place after the first `*/` from `start` on.
 fn block_end(text: &str, start: usize) -> usize
     requires start { IsCharBoundary text.now start }
@@ -141,14 +123,10 @@ fn block_end(text: &str, start: usize) -> usize
     ensures order { start ≤ result }
     ensures block { UpToBlockEnd (rest text.now start) (rest text.now result) }
 {
-    let mut place = start;
-    'inside: while let Some(c) = char_at(text, place) {
-        if is_block_end(text, place) {
-            return place + 2;
-        }
-        place += c.len_utf8();
-    }
-    place
+    let Some(close) = block_close(text, start) else {
+        unreachable!()
+    };
+    close + 2
 }
 
 // The place after the comment at a place.
@@ -160,7 +138,7 @@ fn comment_end(text: &str, place: usize) -> usize
     ensures comment { IsComment (rest text.now place) (rest text.now result) }
 {
     if has_char(text, place + 1, '/') {
-        return line_end(text, place + 2);
+        return stop_place(text, place + 2, b'\n', b'\r');
     }
     block_end(text, place + 2)
 }

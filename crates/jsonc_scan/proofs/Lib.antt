@@ -1,5 +1,4 @@
 pub mod NumberParts
-pub mod BlockCloses
 pub mod NoLexemes
 pub mod NoNumbers
 pub mod OneFault

@@ -4,7 +4,8 @@ use Rattle.jsonc_text.specs.Options.{Options}
 use Rattle.jsonc_text.specs.Text.{rest, next, no, starts, Many, Spans, is_digit, is_ascii_letter}
 use Rattle.jsonc_text.specs.Chars.{Steps}
 use Rattle.jsonc_text.specs.string.Between.{Between, Reaches, LacksAt, is_neither, NoneFrom}
-use Rattle.jsonc_scan.specs.Between.{IsWhole, PassesWord, HoldsBlock}
+use Rattle.jsonc_scan.specs.Between.{IsWhole, PassesWord}
+use Rattle.jsonc_text.specs.Comments.{HoldsBlock}
 use Rattle.jsonc_text.specs.Gaps.{line, block, UpToBlockEnd, IsComment}
 use Rattle.jsonc_text.specs.Letters.{is_wide_letter}
 use Rattle.jsonc_text.specs.Lexemes.{IsScanned, lexeme, line_comment, block_comment, word, number, is_punctuation}

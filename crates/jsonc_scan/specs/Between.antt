@@ -1,6 +1,6 @@
 -- Characters, words and block comments at places of a text.
-use Rattle.std.specs.Prelude.{ℕ, ◌+◌, ◌≡◌, ◌≤◌, ◌<◌, Bool, List, ◌++◌, IsCharBoundary, IsTrue, ◌==◌, ◌||◌, ◌&&◌, nat_lt, chars, slice_range}
-use Rattle.jsonc_text.specs.Gaps.{is_blank, HasNoEndInside}
+use Rattle.std.specs.Prelude.{ℕ, ◌+◌, ◌≡◌, ◌<◌, Bool, List, ◌++◌, IsTrue, ◌==◌, ◌||◌, ◌&&◌, nat_lt}
+use Rattle.jsonc_text.specs.Gaps.{is_blank}
 use Rattle.jsonc_text.specs.Text.{next, starts, Many}
 use Rattle.jsonc_text.specs.Chars.{Steps}
 use Rattle.jsonc_text.specs.Words.{EndsThere, EndsWhole, EndsWord, begins_word, is_in_word}
@@ -30,11 +30,3 @@ pub record PassesWord (t r : List ℕ) : Type 0 where
 -- a character that may stand after a word
 abbrev pub may_follow_word : ℕ → Bool
 may_follow_word c = c == 0x3A || c == 0x20 || c == 0x09 || c == 0x0A || c == 0x0C || c == 0x0D || (nat_lt 0x7F c && is_blank c)
-
--- the text of a block comment begins at a place, and its `*/` stands at another
-pub record HoldsBlock (bytes : List ℕ) (start close : ℕ) : Type 0 where
-  pub boundary : IsCharBoundary bytes close
-  pub order : start ≤ close
-  pub text : HasNoEndInside (chars (slice_range bytes start close))
-  pub star : Steps bytes close 0x2A (close + 1)
-  pub slash : Steps bytes (close + 1) 0x2F (close + 2)

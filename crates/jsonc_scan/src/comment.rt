@@ -8,8 +8,8 @@ ghost use Rattle.jsonc_scan.specs.Refusals.{IsTextFault, IsFaultOfComment};
 
 use crate::faults::fault;
 use crate::lexeme::{Lexeme, Read};
-use crate::stops::block_close;
 use jsonc_text::chars::has_byte;
+use jsonc_text::comment::block_close;
 use jsonc_text::errors::{ParseError, ParseErrorKind};
 use jsonc_text::string::stops::stop_place;
 

@@ -13,7 +13,6 @@ mod number;
 mod plain;
 mod reads;
 pub mod scanner;
-mod stops;
 mod string;
 mod word;
 

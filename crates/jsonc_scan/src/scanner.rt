@@ -152,9 +152,9 @@ impl<'a, A: Allocator + Copy> Scanner<'a, A> {
         if start == self.file_text.len() {
             return Ok(None);
         }
-        if let Some(read) = plain_string(self.file_text, start) {
-            self.byte_index = read.end;
-            content.string = read.string;
+        if let Some(plain) = plain_string(self.file_text, start) {
+            self.byte_index = plain.end;
+            content.string = plain.string;
             return Ok(Some(TokenKind::String));
         }
         if let Some(mark) = read_punctuation(self.file_text, start) {

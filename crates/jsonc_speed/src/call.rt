@@ -39,6 +39,8 @@ pub enum Call {
     Replaced,
     /// `next_sibling` of each element of an array that is parsed once.
     Siblings,
+    /// `append` of a number to an array that is parsed once.
+    Appended,
 }
 
 impl Call {
@@ -55,6 +57,7 @@ impl Call {
             "program" => Some(Call::Program),
             "replaced" => Some(Call::Replaced),
             "siblings" => Some(Call::Siblings),
+            "appended" => Some(Call::Appended),
             _ => None,
         }
     }
@@ -68,6 +71,7 @@ impl Call {
             Call::Print => print(alloc, text, count),
             Call::Replaced => replaced(alloc, text, count),
             Call::Siblings => siblings(alloc, text, count),
+            Call::Appended => appended(alloc, text, count),
             _ => self.each(alloc, text, count),
         }
     }
@@ -82,7 +86,7 @@ impl Call {
 
     fn once(self, alloc: Global, text: &str) -> Result<usize, Fault> {
         match self {
-            Call::Nothing | Call::Print | Call::Replaced | Call::Siblings => Ok(0),
+            Call::Nothing | Call::Print | Call::Replaced | Call::Siblings | Call::Appended => Ok(0),
             Call::Scan => scan(alloc, text),
             Call::Ast => ast(alloc, text),
             Call::Tokens => tokens(alloc, text),
@@ -260,6 +264,29 @@ fn replaced(alloc: Global, text: &str, count: u64) -> Result<usize, Fault> {
     let mut sum = 0usize;
     for _ in 0..count {
         last = replace(alloc, &mut document, last)?;
+        sum = sum.saturating_add(1);
+    }
+    Ok(sum)
+}
+
+/// Appends a number to the array of a document.
+fn append(alloc: Global, document: &mut CstRootNode<Global>) -> Result<(), Fault> {
+    let Some(array) = document.array_value() else {
+        return Err(Fault::NotArray);
+    };
+    let digits = String::from_str(alloc, "7")?;
+    match array.append(document, CstInputValue::Number(digits)) {
+        Ok(_) => Ok(()),
+        Err(error) => Err(Fault::Edit(error)),
+    }
+}
+
+/// How often a number was appended to the array of one document.
+fn appended(alloc: Global, text: &str, count: u64) -> Result<usize, Fault> {
+    let mut document = parsed(alloc, text)?;
+    let mut sum = 0usize;
+    for _ in 0..count {
+        append(alloc, &mut document)?;
         sum = sum.saturating_add(1);
     }
     Ok(sum)

@@ -1,5 +1,5 @@
 -- From the mask of sixteen bytes to the bytes.
-use Rattle.std.proofs.Common.{ℕ, ◌≡◌, ◌∙◌, inl, inr, ◌+◌, ◌<◌, ◌≤◌, ◌%◌, ◌^◌, refl, sym, ap, subst, ap₂, arith, List, [], ◌∷◌, map, length, get_or, replicate, Bool, true, false, not, cond, eqb, ◌||◌, bit_or, IsTrue}
+use Rattle.std.proofs.Common.{ℕ, ◌≡◌, ◌∙◌, inl, inr, ◌+◌, ◌<◌, ◌≤◌, ◌%◌, ◌^◌, refl, sym, ap, subst, ap₂, arith, List, [], ◌∷◌, map, length, replicate, Bool, true, false, not, cond, eqb, ◌||◌, bit_or}
 use Rattle.std.proofs.lemmas.List.{length-map}
 use Rattle.std.proofs.lemmas.Simd.{zip2_splat, mask_l-mod, mask_l-lt, none_from_empty_mask, trailing_mask_l, run_in_chunk_le, run_in_chunk_fails, run_in_chunk_stops, length-chunk}
 use Rattle.std.proofs.lemmas.Bool.{cases_lt}

@@ -3,6 +3,7 @@ pub mod Ascii
 pub mod Basics
 pub mod Begins
 pub mod BlockComments
+pub mod BlockCloses
 pub mod Collapse
 pub mod Cuts
 pub mod FaultLemmas

@@ -1,5 +1,5 @@
 -- What edits make of plain values: a container is a kind and a list of entries.
-use Rattle.std.specs.Prelude.{ℕ, Bool, true, false, List, [], ◌∷◌, ◌++◌, length, Option, Some, None}
+use Rattle.std.specs.Prelude.{ℕ, Bool, true, false, List, [], ◌∷◌, ◌++◌, length, Option, Some}
 use Rattle.jsonc_text.specs.Plain.{Plain, array, object, Items, no_items, item, Members, no_members, member}
 use Rattle.jsonc_text.specs.Paths.{Kind, an_array, an_object}
 

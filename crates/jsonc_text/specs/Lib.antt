@@ -3,6 +3,7 @@ pub mod Text
 pub mod Chars
 pub mod Runs
 pub mod Gaps
+pub mod Comments
 pub mod Letters
 pub mod Words
 pub mod Numbers

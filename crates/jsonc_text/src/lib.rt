@@ -7,6 +7,7 @@
 #![tactic(auto)]
 
 pub mod chars;
+pub mod comment;
 pub mod common;
 pub mod edit;
 pub mod errors;

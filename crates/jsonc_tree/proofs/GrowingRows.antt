@@ -102,7 +102,7 @@ module _ (ls : List LinkedNode) (c : ℕ) (last : Option ℕ) where
     last_fits = in_memory last (length ls) (last_there (length ls) refl) (omega (arith, ok.few, length-back_set ls c None last))
 
     -- another container's last child is there
-    pub other_last_there : (items : List LinkedNode) (d : ℕ) (l : Option ℕ) (size : ℕ) → items ≡ filled → l ≡ (link_at items d).last → size ≡ length ls → IfSome l (λ n. n < size)
+    other_last_there : (items : List LinkedNode) (d : ℕ) (l : Option ℕ) (size : ℕ) → items ≡ filled → l ≡ (link_at items d).last → size ≡ length ls → IfSome l (λ n. n < size)
     other_last_there items d l size is said s =
         gap_front_there filled ok d (length (children_at (nodes_of filled) d)) size l None (end_gap filled ok d l (said ∙ ap (λ m. (link_at m d).last) is)) (s ∙ sym size_same)
 

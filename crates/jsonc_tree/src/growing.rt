@@ -8,7 +8,7 @@ ghost use Rattle.jsonc_tree.specs.Changes.{Pushes};
 ghost use Rattle.jsonc_tree.specs.Growing.{IsGrowing, child_behind, container_of, nodes_so_far, room_of};
 ghost use Rattle.jsonc_tree.specs.Stored.{content_of, link_at};
 
-use crate::link::Link;
+use crate::link::WideLink;
 use crate::links::{last_of, next_number, set_ahead, set_back};
 use crate::node::{Ends, Kind, Node, bare_node, node_in};
 use crate::tree::Tree;
@@ -21,7 +21,7 @@ use std::alloc::{AllocError, Allocator};
 pub struct Growing<A: Allocator> {
     nodes: Vec<Node<A>, A>,
     container: usize,
-    last: Link,
+    last: WideLink,
 }
 
 // Adds a node behind the last child of a container, but leaves the container's link to that.
@@ -58,7 +58,7 @@ impl<A: Allocator> Growing<A> {
         Ok(Growing {
             nodes,
             container: 0,
-            last: Link::from_option(None),
+            last: WideLink::from_option(None),
         })
     }
 
@@ -112,7 +112,7 @@ impl<A: Allocator> Growing<A> {
     {
         let last = self.last.get();
         let number = push_behind(&mut self.nodes, self.container, last, kind)?;
-        self.last = Link::from_option(Some(number));
+        self.last = WideLink::from_option(Some(number));
         Ok(number)
     }
 
@@ -128,7 +128,7 @@ impl<A: Allocator> Growing<A> {
         let last = self.last.get();
         set_back(&mut self.nodes, self.container, None, last);
         self.container = container;
-        self.last = Link::from_option(last_of(&self.nodes, container));
+        self.last = WideLink::from_option(last_of(&self.nodes, container));
     }
 
     /// The tree as it is now.

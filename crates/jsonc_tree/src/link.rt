@@ -1,10 +1,11 @@
-//! The number of a node, or none, in four bytes.
+//! The number of a node, or none.
 
 ghost use Rattle.std.specs.Prelude.{◌≡◌, ◌<◌, ◌-◌, ◌^◌, IfSome};
 
 use std::marker::Model;
 
-// The number of a node, or none: a tree has no more nodes than such numbers.
+// The number of a node, or none, in four bytes: a tree has no more nodes than such numbers. The largest
+// number stands for none.
 #[derive(Drop)]
 pub(crate) struct Link {
     number: u32,
@@ -41,6 +42,45 @@ impl Link {
             None
         } else {
             Some(self.number as usize)
+        }
+    }
+}
+
+// The same in eight bytes, for what stands beside a text: words of one size are moved at once.
+#[derive(Drop)]
+pub(crate) struct WideLink {
+    number: usize,
+}
+
+impl Model for WideLink {
+    ghost use Rattle.std.specs.Prelude.{ℕ, Option};
+    ghost use Rattle.jsonc_tree.specs.Link.{wide_link_of};
+
+    ghost Value = { Option ℕ };
+
+    ghost view = { λ l. wide_link_of l.number };
+}
+
+impl WideLink {
+    #[inline(always)]
+    pub(crate) fn from_option(o: Option<usize>) -> WideLink
+        requires { IfSome o (λ n. n < 2 ^ 32 - 1) }
+        ensures { result ≡ o }
+    {
+        match o {
+            None => WideLink { number: usize::MAX },
+            Some(number) => WideLink { number },
+        }
+    }
+
+    #[inline(always)]
+    pub(crate) fn get(&self) -> Option<usize>
+        ensures { result ≡ self.now }
+    {
+        if self.number == usize::MAX {
+            None
+        } else {
+            Some(self.number)
         }
     }
 }

@@ -4,7 +4,7 @@ ghost use Rattle.std.specs.Prelude.{◌≡◌, ◌<◌, ◌-◌, ◌^◌, true, 
 ghost use Rattle.jsonc_tree.specs.Content.{is_container, kept_text};
 ghost use Rattle.jsonc_tree.specs.Stored.{bare, content_of, first_end, last_end, no_ends};
 
-use crate::link::Link;
+use crate::link::{Link, WideLink};
 use crate::part::Part;
 use crate::token::TokenChar;
 use std::alloc::Allocator;
@@ -29,8 +29,8 @@ impl Default for CstNewlineKind {
 /// The first and the last child of a container, where it has any.
 #[derive(Drop)]
 pub struct Ends {
-    first: Link,
-    last: Link,
+    first: WideLink,
+    last: WideLink,
 }
 
 impl Ends {
@@ -39,8 +39,8 @@ impl Ends {
         ensures { result ≡ no_ends }
     {
         Ends {
-            first: Link::from_option(None),
-            last: Link::from_option(None),
+            first: WideLink::from_option(None),
+            last: WideLink::from_option(None),
         }
     }
 
@@ -49,7 +49,7 @@ impl Ends {
         ensures first { self.new.first ≡ to }
         ensures last { self.new.last ≡ self.old.last }
     {
-        self.first = Link::from_option(to);
+        self.first = WideLink::from_option(to);
     }
 
     fn set_last(&mut self, to: Option<usize>)
@@ -57,7 +57,7 @@ impl Ends {
         ensures first { self.new.first ≡ self.old.first }
         ensures last { self.new.last ≡ to }
     {
-        self.last = Link::from_option(to);
+        self.last = WideLink::from_option(to);
     }
 }
 

@@ -1,7 +1,9 @@
-pub mod Zipped
+pub mod Firsts
+pub mod Pairs
 pub mod DistinctKeys
+pub mod HashedKeys
+pub mod CopiedKeys
 pub mod Lists
-pub mod Places
 pub mod RetainedEntries
 pub mod Contents
 pub mod Equality

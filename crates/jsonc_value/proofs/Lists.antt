@@ -5,7 +5,7 @@ use Rattle.indexmap.specs.IndexMap.{insert_entry, insert_all}
 use Rattle.jsonc_value.specs.Lists.{InsertsUpTo}
 
 module _ {K V : Type 0} (eq : K → K → Bool) where
-  one_later : (old done : List (K × V)) (p : K × V) → insert_all eq old (done ++ p ∷ []) ≡ insert_entry eq (insert_all eq old done) p.0 p.1
+  pub one_later : (old done : List (K × V)) (p : K × V) → insert_all eq old (done ++ p ∷ []) ≡ insert_entry eq (insert_all eq old done) p.0 p.1
   one_later old [] p = refl
   one_later old (d ∷ done) p = one_later (insert_entry eq old d.0 d.1) done p
 

@@ -1,6 +1,5 @@
 pub mod formers
-pub mod Held
-pub mod Left
+pub mod Hashes
 pub mod Equal
 pub mod Names
 pub mod Kinds

@@ -4,56 +4,58 @@
 //! words for what a call does to that list are std's own of lists of pairs: `lookup` and
 //! `lookup_entry` find a key's value or pair, `remove_entry` closes up, `insert_entry` puts a new key
 //! last and gives a present one the value in its place.
-ghost use Rattle.std.specs.Prelude.{◌≡◌, ◌↔◌, ◌+◌, ◌<◌, ◌≤◌, [], length, min, IsTrue, IfOk, IfErr, OnOk, OnErr, Some, is_some, slice_get, option_copied};
+ghost use Rattle.std.specs.Prelude.{◌≡◌, ◌↔◌, ◌+◌, ◌<◌, ◌≤◌, false, [], ◌∷◌, ◌++◌, length, position, remove, IsTrue, IfOk, IfErr, IfSome, OnOk, OnErr, Some, is_some, slice_get, option_copied};
 ghost use Rattle.std.specs.Option.{option_map};
 ghost use Rattle.std.specs.Map.{lookup, lookup_entry, remove_entry, keys_of, values_of};
 ghost use Rattle.std.specs.Map.Iter.{deref_pair};
-ghost use Rattle.std.specs.List.{IsDistinct};
-ghost use Rattle.std.specs.Slice.Iter.{iter_rest};
-ghost use Rattle.std.specs.Vec.Iter.{into_iter_items};
+ghost use Rattle.std.specs.List.{IsDistinct, list_any};
 ghost use Rattle.indexmap.specs.IndexMap.{insert_entry};
 ghost use Rattle.jsonc_value.specs.Names.{is_named};
 
 mod debug;
 mod equality;
+mod hashes;
 mod iter;
-mod key_list;
 mod lends;
 mod lists;
 mod retain;
+mod search;
 
 #[doc(hidden)]
-pub use iter::Left;
-pub use iter::{IntoIter, IntoKeys, Iter};
-#[doc(hidden)]
-pub use key_list::{Held, KeyList};
+pub use hashes::Hashes;
+use hashes::{FEW, empty_hashes, push_hash, reserve_hashes};
+use indexmap::Equivalent;
+pub use iter::{IntoIter, IntoKeys, IntoValues, Iter, Keys, Values};
 pub use lends::Entry;
+use search::place_of;
 use std::alloc::{AllocError, AllocFailed, Allocator};
 use std::borrow::CowStr;
 use std::hash::Hash;
 use std::marker::Model;
-use std::{mem, slice, vec};
+use std::mem;
 
 /// A map whose pairs keep the order in which their keys were first inserted.
 #[derive(Drop)]
 pub struct Map<K: Eq + Hash, V, A: Allocator> {
-    keys: KeyList<K, A>,
-    // The value of each key, in the keys' order.
-    values: Vec<V, A>,
+    pairs: Vec<(K, V), A>,
+    // Of more than a few pairs the hashes of the keys.
+    hashes: Hashes<A>,
 }
 
 impl<K: Eq + Hash, V, A: Allocator> Model for Map<K, V, A> {
-    ghost use Rattle.std.specs.Prelude.{◌≡◌, List, length};
-    ghost use Rattle.std.specs.List.{zip};
+    ghost use Rattle.std.specs.Prelude.{List};
+    ghost use Rattle.std.specs.Map.{keys_of};
+    ghost use Rattle.std.specs.List.{IsDistinct};
+    ghost use Rattle.jsonc_value.specs.Hashes.{AreHashesOf};
     ghost use base.Stored.{coded×, coded_list};
 
     ghost Value = { List (K × V) };
 
     ghost coded = { coded_list (coded× K.code V.code) };
 
-    ghost view = { λ m. zip m.keys m.values.items };
+    ghost view = { λ m. m.pairs.items };
 
-    ghost invariant = { λ m. length m.values.items ≡ length m.keys };
+    ghost invariant = { λ m. IsDistinct K.eq (keys_of m.pairs.items) × AreHashesOf K.hash_input (keys_of m.pairs.items) m.hashes };
 }
 
 impl<K: Eq + Hash, V, A: Allocator + Copy> Map<K, V, A> {
@@ -62,8 +64,8 @@ impl<K: Eq + Hash, V, A: Allocator + Copy> Map<K, V, A> {
         ensures { result ≡ [] }
     {
         Map {
-            keys: KeyList::new(alloc),
-            values: Vec::new(alloc),
+            pairs: Vec::new(alloc),
+            hashes: None,
         }
     }
 
@@ -73,17 +75,10 @@ impl<K: Eq + Hash, V, A: Allocator + Copy> Map<K, V, A> {
         K: Drop,
         ensures { IfOk result (λ m. m ≡ []) }
     {
-        let keys = KeyList::with_capacity(alloc, capacity)?;
-        let values = Vec::with_capacity(alloc, capacity)?;
-        Ok(Map { keys, values })
+        let hashes = empty_hashes::<K, A>(alloc, capacity)?;
+        let pairs = Vec::with_capacity(alloc, capacity)?;
+        Ok(Map { pairs, hashes })
     }
-}
-
-/// The lesser of two numbers of pairs: a map holds as many as both its keys and its values can.
-fn pairs_held(keys: usize, values: usize) -> usize
-    ensures { result ≡ min keys values }
-{
-    keys.min(values)
 }
 
 impl<K: Eq + Hash, V, A: Allocator> Map<K, V, A> {
@@ -92,7 +87,7 @@ impl<K: Eq + Hash, V, A: Allocator> Map<K, V, A> {
         ensures len { result ≡ length self.now }
         ensures unique { IsDistinct K.eq (keys_of self.now) }
     {
-        self.keys.len()
+        self.pairs.len()
     }
 
     /// Whether there are no pairs.
@@ -106,7 +101,11 @@ impl<K: Eq + Hash, V, A: Allocator> Map<K, V, A> {
     pub fn capacity(&self) -> usize
         ensures { length self.now ≤ result }
     {
-        pairs_held(self.keys.capacity(), self.values.capacity())
+        let hashed = match &self.hashes {
+            Some(set) => set.capacity(),
+            None => FEW,
+        };
+        self.pairs.capacity().min(hashed).max(self.pairs.len())
     }
 
     /// Makes room for this many more pairs. On an error the pairs stay as they are.
@@ -116,8 +115,8 @@ impl<K: Eq + Hash, V, A: Allocator> Map<K, V, A> {
         A: Copy,
         ensures { self.new ≡ self.old }
     {
-        self.keys.reserve(additional)?;
-        self.values.reserve(additional)
+        reserve_hashes(&mut self.hashes, &self.pairs, additional)?;
+        self.pairs.reserve(additional)
     }
 
     /// Removes all pairs.
@@ -127,8 +126,32 @@ impl<K: Eq + Hash, V, A: Allocator> Map<K, V, A> {
         V: Drop,
         ensures { self.new ≡ [] }
     {
-        self.keys.clear();
-        self.values.clear();
+        self.pairs.clear();
+        if let Some(set) = &mut self.hashes {
+            set.clear();
+        }
+    }
+
+    // The place of this key.
+    fn find<Q: Equivalent<K>>(&self, key: Q) -> Option<usize>
+        ensures index { result ≡ position (Q.equivalent key) (keys_of self.now) }
+        ensures found { is_some result ≡ list_any (Q.equivalent key) (keys_of self.now) }
+        ensures within { IfSome result (λ i. i < length self.now) }
+    {
+        place_of(self.pairs.as_slice(), &self.hashes, key)
+    }
+
+    // Takes out the pair at this place. The pairs after it close up.
+    fn take_at(&mut self, place: usize) -> (K, V)
+        requires { place < length self.old }
+        ensures pair { slice_get self.old place ≡ Some result }
+        ensures pairs { self.new ≡ remove self.old place }
+    {
+        let pair = self.pairs.remove(place);
+        if let Some(set) = &mut self.hashes {
+            let _hash = set.shift_remove_index(place);
+        }
+        pair
     }
 
     // The pair at this place.
@@ -136,15 +159,16 @@ impl<K: Eq + Hash, V, A: Allocator> Map<K, V, A> {
         requires { index < length self.now }
         ensures { slice_get self.now index ≡ Some (result.0.now, result.1.now) }
     {
-        (self.keys.at(index), &self.values[index])
+        let (key, value) = &self.pairs[index];
+        (key, value)
     }
 
     /// The value of this key.
     pub fn get(&self, key: &K) -> Option<&V>
         ensures { option_copied result ≡ lookup (K.eq key.now) self.now }
     {
-        match self.keys.get_index_of(key) {
-            Some(index) => Some(&self.values[index]),
+        match self.find(key) {
+            Some(index) => Some(self.pair_at(index).1),
             None => None,
         }
     }
@@ -153,8 +177,8 @@ impl<K: Eq + Hash, V, A: Allocator> Map<K, V, A> {
     pub fn get_key_value(&self, key: &K) -> Option<(&K, &V)>
         ensures { option_map deref_pair result ≡ lookup_entry (K.eq key.now) self.now }
     {
-        match self.keys.get_full(key) {
-            Some((index, found)) => Some((found, &self.values[index])),
+        match self.find(key) {
+            Some(index) => Some(self.pair_at(index)),
             None => None,
         }
     }
@@ -171,8 +195,8 @@ impl<K: Eq + Hash, V, A: Allocator> Map<K, V, A> {
         ensures entry { result ≡ lookup_entry (K.eq key.now) self.old }
         ensures entries { self.new ≡ remove_entry (K.eq key.now) self.old }
     {
-        match self.keys.shift_remove_full(key) {
-            Some((index, found)) => Some((found, self.values.remove(index))),
+        match self.find(key) {
+            Some(index) => Some(self.take_at(index)),
             None => None,
         }
     }
@@ -194,44 +218,42 @@ impl<K: Eq + Hash, V, A: Allocator> Map<K, V, A> {
     pub fn iter(&self) -> Iter<'_, K, V>
         ensures { result ≡ self.now }
     {
-        Iter::new(self.keys.as_slice(), self.values.as_slice())
+        Iter::new(self.pairs.as_slice())
     }
 
     /// The keys, in their order.
-    pub fn keys(&self) -> slice::Iter<'_, K>
-        ensures { iter_rest result ≡ keys_of self.now }
+    pub fn keys(&self) -> Keys<'_, K, V>
+        ensures { result ≡ keys_of self.now }
     {
-        self.keys.iter()
+        Keys::new(self.pairs.as_slice())
     }
 
     /// The values, in their order.
-    pub fn values(&self) -> slice::Iter<'_, V>
-        ensures { iter_rest result ≡ values_of self.now }
+    pub fn values(&self) -> Values<'_, K, V>
+        ensures { result ≡ values_of self.now }
     {
-        self.values.as_slice().iter()
+        Values::new(self.pairs.as_slice())
     }
 
     /// The keys, in their order, by value.
-    pub fn into_keys(self) -> IntoKeys<K, A>
+    pub fn into_keys(self) -> IntoKeys<K, V, A>
     where
         K: Drop,
         V: Drop,
         ensures { result ≡ keys_of self }
     {
-        let Map { keys, values } = self;
-        drop(values);
-        keys.into_iter()
+        let Map { pairs, hashes: _ } = self;
+        IntoKeys::new(pairs.into_iter())
     }
 
     /// The values, in their order, by value.
-    pub fn into_values(self) -> vec::IntoIter<V, A>
+    pub fn into_values(self) -> IntoValues<K, V, A>
     where
         K: Drop,
-        ensures { into_iter_items result ≡ values_of self }
+        ensures { result ≡ values_of self }
     {
-        let Map { keys, values } = self;
-        drop(keys);
-        values.into_iter()
+        let Map { pairs, hashes: _ } = self;
+        IntoValues::new(pairs.into_iter())
     }
 }
 
@@ -240,8 +262,8 @@ impl<'a, V, A: Allocator> Map<CowStr<'a, A>, V, A> {
     pub(crate) fn get_named(&self, name: &str) -> Option<&V>
         ensures { option_copied result ≡ lookup (is_named name.now) self.now }
     {
-        match self.keys.get_index_of(name) {
-            Some(index) => Some(&self.values[index]),
+        match self.find(name) {
+            Some(index) => Some(self.pair_at(index).1),
             None => None,
         }
     }
@@ -251,14 +273,32 @@ impl<'a, V, A: Allocator> Map<CowStr<'a, A>, V, A> {
         ensures entry { result ≡ lookup_entry (is_named name.now) self.old }
         ensures entries { self.new ≡ remove_entry (is_named name.now) self.old }
     {
-        match self.keys.shift_remove_full(name) {
-            Some((index, found)) => Some((found, self.values.remove(index))),
+        match self.find(name) {
+            Some(index) => Some(self.take_at(index)),
             None => None,
         }
     }
 }
 
 impl<K: Eq + Hash + Drop, V, A: Allocator + Copy> Map<K, V, A> {
+    // Puts a pair last, whose key is equal to none of the others.
+    fn push(&mut self, key: K, value: V) -> Result<(), AllocFailed<(K, V)>>
+        requires { list_any (K.eq key) (keys_of self.old) ≡ false }
+        ensures pairs { OnOk result (self.new ≡ self.old ++ (key, value) ∷ []) }
+        ensures value_returned { IfErr result (λ y. y.value ≡ (key, value)) }
+        ensures err { OnErr result (self.new ≡ self.old) }
+    {
+        let has_room = reserve_hashes(&mut self.hashes, &self.pairs, 1).is_ok();
+        if !has_room || self.pairs.reserve(1).is_err() {
+            return Err(AllocFailed {
+                value: (key, value),
+            });
+        }
+        push_hash(&mut self.hashes, &key);
+        self.pairs.push_reserved((key, value));
+        Ok(())
+    }
+
     /// Sets the value of this key, and answers the old one.
     ///
     /// A new key is appended; a present one keeps its place. On an error the pair is given back,
@@ -269,23 +309,12 @@ impl<K: Eq + Hash + Drop, V, A: Allocator + Copy> Map<K, V, A> {
         ensures value_returned { IfErr result (λ y. y.value ≡ (key, value)) }
         ensures err { OnErr result (self.new ≡ self.old) }
     {
-        if self.values.reserve(1).is_err() {
-            return Err(AllocFailed {
-                value: (key, value),
-            });
-        }
-        match self.keys.insert_full(key) {
-            Ok((_, true)) => {
-                self.values.push_reserved(value);
-                Ok(None)
-            }
-            Ok((index, false)) => Ok(Some(mem::replace(&mut self.values[index], value))),
-            Err(failed) => {
-                let AllocFailed { value: key } = failed;
-                Err(AllocFailed {
-                    value: (key, value),
-                })
-            }
+        match self.find(&key) {
+            Some(index) => Ok(Some(mem::replace(&mut self.pairs[index].1, value))),
+            None => match self.push(key, value) {
+                Ok(()) => Ok(None),
+                Err(failed) => Err(failed),
+            },
         }
     }
 }

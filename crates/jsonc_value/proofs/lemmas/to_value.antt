@@ -2,3 +2,4 @@ pub mod Plains
 pub mod Insertions
 pub mod Grown
 pub mod Documents
+pub mod Stacked

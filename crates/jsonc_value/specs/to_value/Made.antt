@@ -1,8 +1,9 @@
 -- What a receiver has made of a text, where that is a value.
-use Rattle.std.specs.Prelude.{◌≡◌, List, [], ◌∷◌}
+use Rattle.std.specs.Prelude.{◌≡◌, ℕ, List, [], ◌∷◌, ◌++◌, length}
 use Rattle.std.specs.Cow.{cow_str_bytes}
 use Rattle.std.specs.Str.{IsUtf8}
 use Rattle.std.specs.declared.borrow.CowStr.{CowStr}
+use Rattle.indexmap.specs.IndexMap.{insert_all}
 use Rattle.jsonc_text.specs.OptionsOf.{parse_options}
 use Rattle.jsonc_text.specs.Plain.{collapse, collapse_items, collapse_members}
 use Rattle.jsonc_ast.specs.Located.{Located, LocatedName, value_at, items_at, members_at}
@@ -10,7 +11,7 @@ use Rattle.jsonc_ast.specs.Views.{LocatedMember, items_of, members_of}
 use Rattle.jsonc_ast.specs.to_ast.Handed.{Source}
 use Rattle.jsonc_value.specs.declared.to_value.values.ValueMaker.{ValueMaker}
 use Rattle.jsonc_value.specs.declared.value.JsonValue.{JsonValue}
-use Rattle.jsonc_value.specs.to_value.Views.{plain, name_of, items_plain, members_plain}
+use Rattle.jsonc_value.specs.to_value.Views.{plain, name_of, same_name, items_plain, members_plain}
 
 module _ {A : Type 0} where
   abbrev pub source_in : ValueMaker A → Source
@@ -36,3 +37,23 @@ module _ {A : Type 0} where
   -- the properties of an object
   abbrev pub AreProperties : List (CowStr A × JsonValue A) → List LocatedMember → Type 0
   AreProperties ps ms = (members_plain ps ≡ collapse_members (members_at (members_of ms))) × AreTexts ps
+
+  -- from s to t the same elements and properties of containers that have not ended
+  abbrev pub SameOpen : ValueMaker A → ValueMaker A → Type 0
+  SameOpen s t = (t.elements.items ≡ s.elements.items) × (t.properties.items ≡ s.properties.items)
+
+  -- behind the elements that s has, t has those of an array that begins there
+  pub record HoldsElements (s t : ValueMaker A) (start : ℕ) (xs : List Located) : Type 0 where
+    pub elements : List (JsonValue A)
+    pub begins : start ≡ length s.elements.items
+    pub stacked : t.elements.items ≡ s.elements.items ++ elements
+    pub same : t.properties.items ≡ s.properties.items
+    pub are : AreElements elements xs
+
+  -- behind the properties that s has, t has those of an object that begins there, each as it was read
+  pub record HoldsProperties (s t : ValueMaker A) (start : ℕ) (ms : List LocatedMember) : Type 0 where
+    pub properties : List (CowStr A × JsonValue A)
+    pub begins : start ≡ length s.properties.items
+    pub stacked : t.properties.items ≡ s.properties.items ++ properties
+    pub same : t.elements.items ≡ s.elements.items
+    pub are : AreProperties (insert_all same_name [] properties) ms

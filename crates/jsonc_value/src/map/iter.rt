@@ -1,12 +1,11 @@
-//! The iterators over the pairs of a map. Each is seen as the list of the pairs that it has left.
+//! The iterators over the pairs of a map. Each is seen as the list of what it has left.
 ghost use Rattle.std.specs.Prelude.{◌≡◌, length};
-ghost use Rattle.std.specs.List.{zip};
 ghost use Rattle.std.specs.Iterator.{at_most};
-ghost use Rattle.std.specs.Map.Iter.{TakesFirst, deref_pair};
+ghost use Rattle.std.specs.Map.{keys_of, values_of};
+ghost use Rattle.std.specs.Map.Iter.{TakesFirst, deref, deref_pair};
 ghost use Rattle.std.specs.Vec.Iter.{into_iter_items};
 
 use super::Map;
-use indexmap::set;
 use std::alloc::Allocator;
 use std::hash::Hash;
 use std::marker::Model;
@@ -15,30 +14,24 @@ use std::{slice, vec};
 /// The pairs of a map, each as `(&K, &V)`.
 #[derive(Drop)]
 pub struct Iter<'a, K, V> {
-    keys: slice::Iter<'a, K>,
-    values: slice::Iter<'a, V>,
+    pairs: slice::Iter<'a, (K, V)>,
 }
 
 impl<'a, K, V> Model for Iter<'a, K, V> {
-    ghost use Rattle.std.specs.Prelude.{◌≡◌, List, length};
-    ghost use Rattle.std.specs.List.{zip};
+    ghost use Rattle.std.specs.Prelude.{List};
     ghost use Rattle.std.specs.Slice.Iter.{iter_rest};
 
     ghost Value = { List (K × V) };
 
-    ghost view = { λ s. zip (iter_rest s.keys) (iter_rest s.values) };
-
-    ghost invariant = { λ s. length (iter_rest s.values) ≡ length (iter_rest s.keys) };
+    ghost view = { λ s. iter_rest s.pairs };
 }
 
 impl<'a, K, V> Iter<'a, K, V> {
-    pub(crate) fn new(keys: &'a [K], values: &'a [V]) -> Self
-        requires { length values.now ≡ length keys.now }
-        ensures { result ≡ zip keys.now values.now }
+    pub(crate) fn new(pairs: &'a [(K, V)]) -> Self
+        ensures { result ≡ pairs.now }
     {
         Iter {
-            keys: keys.iter(),
-            values: values.iter(),
+            pairs: pairs.iter(),
         }
     }
 }
@@ -51,86 +44,102 @@ impl<'a, K, V> Iterator for Iter<'a, K, V> {
     ghost remaining = { λ s. at_most (length s) };
 
     fn next(&mut self) -> Option<(&'a K, &'a V)> {
-        let key = self.keys.next()?;
-        Some((key, self.values.next().unwrap()))
+        let (key, value) = self.pairs.next()?;
+        Some((key, value))
     }
 }
 
-/// Where the keys that are left are held.
-#[doc(hidden)]
+/// The keys of a map.
 #[derive(Drop)]
-pub enum Left<K, A: Allocator> {
-    /// In what was a vector.
-    Few(vec::IntoIter<K, A>),
-    /// In what was a set.
-    Many(set::IntoIter<K, A>),
+pub struct Keys<'a, K, V> {
+    pairs: slice::Iter<'a, (K, V)>,
 }
 
-/// The keys of a map, by value.
-#[derive(Drop)]
-pub struct IntoKeys<K, A: Allocator> {
-    left: Left<K, A>,
-}
-
-impl<K, A: Allocator> Model for IntoKeys<K, A> {
+impl<'a, K, V> Model for Keys<'a, K, V> {
     ghost use Rattle.std.specs.Prelude.{List};
-    ghost use Rattle.jsonc_value.specs.Left.{left_keys};
+    ghost use Rattle.std.specs.Map.{keys_of};
+    ghost use Rattle.std.specs.Slice.Iter.{iter_rest};
 
     ghost Value = { List K };
 
-    ghost view = { λ s. left_keys s.left };
+    ghost view = { λ s. keys_of (iter_rest s.pairs) };
 }
 
-impl<K, A: Allocator> IntoKeys<K, A> {
-    pub(crate) fn few(keys: vec::IntoIter<K, A>) -> Self
-        ensures { result ≡ into_iter_items keys }
+impl<'a, K, V> Keys<'a, K, V> {
+    pub(crate) fn new(pairs: &'a [(K, V)]) -> Self
+        ensures { result ≡ keys_of pairs.now }
     {
-        IntoKeys {
-            left: Left::Few(keys),
-        }
-    }
-
-    pub(crate) fn many(keys: set::IntoIter<K, A>) -> Self
-        ensures { result ≡ keys }
-    {
-        IntoKeys {
-            left: Left::Many(keys),
+        Keys {
+            pairs: pairs.iter(),
         }
     }
 }
 
-impl<K: Drop, A: Allocator> Iterator for IntoKeys<K, A> {
-    type Item = K;
+impl<'a, K, V> Iterator for Keys<'a, K, V> {
+    type Item = &'a K;
 
-    ghost next_gives = { TakesFirst (λ k. k) };
+    ghost next_gives = { TakesFirst deref };
 
     ghost remaining = { λ s. at_most (length s) };
 
-    fn next(&mut self) -> Option<K> {
-        match &mut self.left {
-            Left::Few(keys) => keys.next(),
-            Left::Many(keys) => keys.next(),
+    fn next(&mut self) -> Option<&'a K> {
+        let (key, _) = self.pairs.next()?;
+        Some(key)
+    }
+}
+
+/// The values of a map.
+#[derive(Drop)]
+pub struct Values<'a, K, V> {
+    pairs: slice::Iter<'a, (K, V)>,
+}
+
+impl<'a, K, V> Model for Values<'a, K, V> {
+    ghost use Rattle.std.specs.Prelude.{List};
+    ghost use Rattle.std.specs.Map.{values_of};
+    ghost use Rattle.std.specs.Slice.Iter.{iter_rest};
+
+    ghost Value = { List V };
+
+    ghost view = { λ s. values_of (iter_rest s.pairs) };
+}
+
+impl<'a, K, V> Values<'a, K, V> {
+    pub(crate) fn new(pairs: &'a [(K, V)]) -> Self
+        ensures { result ≡ values_of pairs.now }
+    {
+        Values {
+            pairs: pairs.iter(),
         }
+    }
+}
+
+impl<'a, K, V> Iterator for Values<'a, K, V> {
+    type Item = &'a V;
+
+    ghost next_gives = { TakesFirst deref };
+
+    ghost remaining = { λ s. at_most (length s) };
+
+    fn next(&mut self) -> Option<&'a V> {
+        let (_, value) = self.pairs.next()?;
+        Some(value)
     }
 }
 
 /// The pairs of a map, by value.
 #[derive(Drop)]
 pub struct IntoIter<K, V, A: Allocator> {
-    keys: IntoKeys<K, A>,
-    values: vec::IntoIter<V, A>,
+    pairs: vec::IntoIter<(K, V), A>,
 }
 
 impl<K, V, A: Allocator> Model for IntoIter<K, V, A> {
-    ghost use Rattle.std.specs.Prelude.{◌≡◌, List, length};
-    ghost use Rattle.std.specs.List.{zip};
+    ghost use Rattle.std.specs.Prelude.{List};
     ghost use Rattle.std.specs.Vec.Iter.{into_iter_items};
 
     ghost Value = { List (K × V) };
 
-    ghost view = { λ s. zip s.keys (into_iter_items s.values) };
-
-    ghost invariant = { λ s. length (into_iter_items s.values) ≡ length s.keys };
+    ghost view = { λ s. into_iter_items s.pairs };
 }
 
 impl<K: Drop, V: Drop, A: Allocator> Iterator for IntoIter<K, V, A> {
@@ -141,8 +150,81 @@ impl<K: Drop, V: Drop, A: Allocator> Iterator for IntoIter<K, V, A> {
     ghost remaining = { λ s. at_most (length s) };
 
     fn next(&mut self) -> Option<(K, V)> {
-        let key = self.keys.next()?;
-        Some((key, self.values.next().unwrap()))
+        self.pairs.next()
+    }
+}
+
+/// The keys of a map, by value.
+#[derive(Drop)]
+pub struct IntoKeys<K, V, A: Allocator> {
+    pairs: vec::IntoIter<(K, V), A>,
+}
+
+impl<K, V, A: Allocator> Model for IntoKeys<K, V, A> {
+    ghost use Rattle.std.specs.Prelude.{List};
+    ghost use Rattle.std.specs.Map.{keys_of};
+    ghost use Rattle.std.specs.Vec.Iter.{into_iter_items};
+
+    ghost Value = { List K };
+
+    ghost view = { λ s. keys_of (into_iter_items s.pairs) };
+}
+
+impl<K, V, A: Allocator> IntoKeys<K, V, A> {
+    pub(crate) fn new(pairs: vec::IntoIter<(K, V), A>) -> Self
+        ensures { result ≡ keys_of (into_iter_items pairs) }
+    {
+        IntoKeys { pairs }
+    }
+}
+
+impl<K: Drop, V: Drop, A: Allocator> Iterator for IntoKeys<K, V, A> {
+    type Item = K;
+
+    ghost next_gives = { TakesFirst (λ k. k) };
+
+    ghost remaining = { λ s. at_most (length s) };
+
+    fn next(&mut self) -> Option<K> {
+        let (key, _) = self.pairs.next()?;
+        Some(key)
+    }
+}
+
+/// The values of a map, by value.
+#[derive(Drop)]
+pub struct IntoValues<K, V, A: Allocator> {
+    pairs: vec::IntoIter<(K, V), A>,
+}
+
+impl<K, V, A: Allocator> Model for IntoValues<K, V, A> {
+    ghost use Rattle.std.specs.Prelude.{List};
+    ghost use Rattle.std.specs.Map.{values_of};
+    ghost use Rattle.std.specs.Vec.Iter.{into_iter_items};
+
+    ghost Value = { List V };
+
+    ghost view = { λ s. values_of (into_iter_items s.pairs) };
+}
+
+impl<K, V, A: Allocator> IntoValues<K, V, A> {
+    pub(crate) fn new(pairs: vec::IntoIter<(K, V), A>) -> Self
+        ensures { result ≡ values_of (into_iter_items pairs) }
+    {
+        IntoValues { pairs }
+    }
+}
+
+impl<K: Drop, V: Drop, A: Allocator> Iterator for IntoValues<K, V, A> {
+    type Item = V;
+
+    ghost next_gives = { TakesFirst (λ v. v) };
+
+    ghost remaining = { λ s. at_most (length s) };
+
+    fn next(&mut self) -> Option<V> {
+        let (_, value) = self.pairs.next()?;
+        Some(value)
     }
 }
 
@@ -154,10 +236,9 @@ impl<K: Eq + Hash + Drop, V: Drop, A: Allocator> IntoIterator for Map<K, V, A> {
     ghost into_iter_gives = { λ m r. r ≡ m };
 
     fn into_iter(self) -> IntoIter<K, V, A> {
-        let Map { keys, values } = self;
+        let Map { pairs, hashes: _ } = self;
         IntoIter {
-            keys: keys.into_iter(),
-            values: values.into_iter(),
+            pairs: pairs.into_iter(),
         }
     }
 }

@@ -25,8 +25,8 @@ impl<K: Eq + Hash, V, A: Allocator> Map<K, V, A> {
             (lends_value K.row V.row A.row K.Hash A.Allocator self.entry (K.eq key.now) result) }
         ensures value { option_copied_mut result ≡ lookup (K.eq key.now) self.old }
     {
-        match self.keys.get_index_of(key) {
-            Some(index) => Some(&mut self.values[index]),
+        match self.find(key) {
+            Some(index) => Some(&mut self.pairs[index].1),
             None => None,
         }
     }
@@ -59,16 +59,16 @@ impl<K: Eq + Hash + Drop, V: Drop, A: Allocator + Copy> Map<K, V, A> {
         ensures value_returned { IfErr result (λ y. y.value ≡ value) }
         ensures err { OnErr result (self.new ≡ self.old) }
     {
-        if self.values.reserve(1).is_err() {
-            return Err(AllocFailed { value });
+        if let Some(index) = self.find(&key) {
+            return Ok(index);
         }
-        match self.keys.insert_full(key) {
-            Ok((index, true)) => {
-                self.values.push_reserved(value);
-                Ok(index)
+        let index = self.len();
+        match self.push(key, value) {
+            Ok(()) => Ok(index),
+            Err(failed) => {
+                let AllocFailed { value: (_, value) } = failed;
+                Err(AllocFailed { value })
             }
-            Ok((index, false)) => Ok(index),
-            Err(_) => Err(AllocFailed { value }),
         }
     }
 }
@@ -86,7 +86,7 @@ impl<'a, K: Eq + Hash + Drop, V: Drop, A: Allocator + Copy> Entry<'a, K, V, A> {
     {
         let Entry { map, key } = self;
         match map.place_or_insert(key, value) {
-            Ok(index) => Ok(&mut map.values[index]),
+            Ok(index) => Ok(&mut map.pairs[index].1),
             Err(failed) => Err(failed),
         }
     }

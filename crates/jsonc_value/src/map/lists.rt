@@ -1,12 +1,15 @@
 //! Maps of lists of pairs, and copies of maps.
-ghost use Rattle.std.specs.Prelude.{◌≡◌, [], length, IfOk, IfErr, OnOk};
-ghost use Rattle.std.specs.List.{AllZip};
+ghost use Rattle.std.specs.Prelude.{◌≡◌, [], IsTrue, IfOk, IfErr, IfSome, OnOk};
+ghost use Rattle.std.specs.List.{AllZip, IsDistinct};
 ghost use Rattle.std.specs.Map.{keys_of, values_of};
 ghost use Rattle.indexmap.specs.IndexMap.{insert_all};
 ghost use Rattle.jsonc_value.specs.Copies.{EqualsItsClones, IsPairClone};
+ghost use Rattle.jsonc_value.specs.Hashes.{AreHashesOf};
 ghost use Rattle.jsonc_value.specs.Lists.{InsertsUpTo};
 
 use super::Map;
+use super::hashes::{FEW, Hashes, hashes_of};
+use super::search::search;
 use std::alloc::{AllocError, AllocFailed, Allocator};
 use std::hash::Hash;
 
@@ -19,6 +22,53 @@ impl<K: Eq + Hash + Drop, V: Drop, A: Allocator + Copy> Map<K, V, A> {
         match map.extend_list(pairs) {
             Ok(()) => Ok(map),
             Err(_) => Err(AllocError),
+        }
+    }
+}
+
+// Whether no key of these pairs equals another.
+fn are_distinct<K: Eq + Hash, V>(pairs: &[(K, V)]) -> bool
+    ensures { IsTrue result → IsDistinct K.eq (keys_of pairs.now) }
+{
+    for place in 0..pairs.len() {
+        if search(&pairs[..place], &pairs[place].0).is_some() {
+            return false;
+        }
+    }
+    true
+}
+
+// The hashes to keep of these pairs' keys, if the keys are seen to be distinct.
+fn hashes_if_distinct<K: Eq + Hash, V, A: Allocator + Copy>(
+    alloc: A,
+    pairs: &[(K, V)],
+) -> Result<Option<Hashes<A>>, AllocError>
+    ensures distinct { IfOk result (λ r. IfSome r (λ _. IsDistinct K.eq (keys_of pairs.now))) }
+    ensures hashes { IfOk result (λ r. IfSome r (AreHashesOf K.hash_input (keys_of pairs.now))) }
+{
+    if pairs.len() <= FEW {
+        return Ok(if are_distinct(pairs) {
+            Some(None)
+        } else {
+            None
+        });
+    }
+    match hashes_of(alloc, pairs, pairs.len())? {
+        Some(set) => Ok(Some(Some(set))),
+        None => Ok(None),
+    }
+}
+
+impl<K: Eq + Hash + Drop, V: Drop, A: Allocator + Copy> Map<K, V, A> {
+    /// A map of these pairs, inserted one after another. Where the keys are distinct, the vector
+    /// itself is taken.
+    pub(crate) fn from_vec(pairs: Vec<(K, V), A>) -> Result<Self, AllocError>
+        ensures { IfOk result (λ m. m ≡ insert_all K.eq [] pairs.items) }
+    {
+        let alloc = *pairs.allocator();
+        match hashes_if_distinct(alloc, pairs.as_slice())? {
+            Some(hashes) => Ok(Map { pairs, hashes }),
+            None => Map::from_list(alloc, pairs),
         }
     }
 }
@@ -59,35 +109,34 @@ impl<K: Eq + Hash + Clone + Drop, V: Clone, A: Allocator + Clone> Map<K, V, A> {
         requires { EqualsItsClones K.eq K.is_clone }
         ensures { IfOk result (AllZip (IsPairClone K.is_clone V.is_clone) self.now) }
     {
-        let keys = self.keys.clone()?;
-        let values = self.values.clone()?;
-        Ok(Map { keys, values })
+        let hashes = self.hashes.clone()?;
+        let pairs = self.pairs.clone()?;
+        Ok(Map { pairs, hashes })
     }
 }
 
 impl<K: Eq + Hash, V, A: Allocator> Map<K, V, A> {
-    /// The values, in their order.
-    pub(crate) fn values_slice(&self) -> &[V]
-        ensures { result.now ≡ values_of self.now }
+    /// The pairs, in their order.
+    pub(crate) fn pairs_slice(&self) -> &[(K, V)]
+        ensures { result.now ≡ self.now }
     {
-        self.values.as_slice()
+        self.pairs.as_slice()
     }
 
     /// What the map takes its memory from.
     pub(crate) fn allocator(&self) -> &A {
-        self.values.allocator()
+        self.pairs.allocator()
     }
 }
 
 impl<K: Eq + Hash + Clone + Drop, V: Drop, A: Allocator + Clone> Map<K, V, A> {
-    /// Clones of the keys, in their order, with these values.
-    pub(crate) fn clone_keys_with(&self, values: Vec<V, A>) -> Result<Self, AllocError>
-        requires len { length values.items ≡ length self.now }
-        requires keys { EqualsItsClones K.eq K.is_clone }
-        ensures keys { IfOk result (λ m. AllZip K.is_clone (keys_of self.now) (keys_of m)) }
-        ensures values { IfOk result (λ m. values_of m ≡ values.items) }
+    /// A map of these pairs, whose keys are clones of this one's, in their order.
+    pub(crate) fn with_copies(&self, pairs: Vec<(K, V), A>) -> Result<Self, AllocError>
+        requires keys { AllZip K.is_clone (keys_of self.now) (keys_of pairs.items) }
+        requires equal { EqualsItsClones K.eq K.is_clone }
+        ensures { IfOk result (λ m. m ≡ pairs.items) }
     {
-        let keys = self.keys.clone()?;
-        Ok(Map { keys, values })
+        let hashes = self.hashes.clone()?;
+        Ok(Map { pairs, hashes })
     }
 }

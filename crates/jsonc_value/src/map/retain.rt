@@ -13,8 +13,10 @@ impl<K: Eq + Hash, V, A: Allocator> Map<K, V, A> {
         requires second { second < length self.old }
         ensures { self.new ≡ swap self.old first second }
     {
-        self.keys.swap_indices(first, second);
-        self.values.swap(first, second);
+        self.pairs.swap(first, second);
+        if let Some(set) = &mut self.hashes {
+            set.swap_indices(first, second);
+        }
     }
 
     // Keeps the first pairs, this many at most.
@@ -24,8 +26,10 @@ impl<K: Eq + Hash, V, A: Allocator> Map<K, V, A> {
         V: Drop,
         ensures { self.new ≡ take len self.old }
     {
-        self.keys.truncate(len);
-        self.values.truncate(len);
+        self.pairs.truncate(len);
+        if let Some(set) = &mut self.hashes {
+            set.truncate(len);
+        }
     }
 }
 

@@ -1,8 +1,8 @@
 //! A value, made of a text.
-ghost use Rattle.std.specs.Prelude.{◌≡◌, IfOk, IfErr, OnOk, false, chars};
+ghost use Rattle.std.specs.Prelude.{◌≡◌, ◌≤◌, length, take, drop, IfOk, IfErr, OnOk, false, chars};
 ghost use Rattle.std.specs.Cow.{cow_str_bytes};
 ghost use Rattle.std.specs.Str.{IsUtf8};
-ghost use Rattle.jsonc_value.specs.to_value.Views.{plain, name_of, inserted, items_plain, members_plain};
+ghost use Rattle.jsonc_value.specs.to_value.Views.{plain, name_of, items_plain, members_plain};
 ghost use Rattle.jsonc_value.specs.to_value.Reads.{IsValueOf};
 ghost use Rattle.jsonc_value.specs.to_value.Refusals.{RefusesText};
 ghost use Rattle.jsonc_ast.specs.to_ast.Faults.{ParseFault};
@@ -20,6 +20,7 @@ use jsonc_text::errors::ParseError;
 use jsonc_text::options::ParseOptions;
 use std::alloc::{AllocError, Allocator};
 use std::borrow::CowStr;
+use std::mem;
 
 /// A name that the text lends.
 #[inline(always)]
@@ -48,37 +49,47 @@ fn object_of<'a, A: Allocator>(
     JsonValue::Object(JsonObject::new(properties))
 }
 
-/// One property more, or another value of a name that is there.
-fn put_property<'a, A: Allocator + Copy>(
-    properties: &mut Map<CowStr<'a, A>, JsonValue<'a, A>, A>,
-    name: CowStr<'a, A>,
-    value: JsonValue<'a, A>,
-) -> Result<(), AllocError>
-    ensures { OnOk result (properties.new ≡ inserted properties.old name.entry value.entry) }
+/// So many items at least are taken with the room of their stack, if they are all that it has.
+const LONG: usize = 1024;
+
+/// Takes the items from this place on, in a vector of their own.
+fn taken_from<T, A: Allocator + Copy>(
+    stack: &mut Vec<T, A>,
+    start: usize,
+) -> Result<Vec<T, A>, AllocError>
+    requires { start ≤ length stack.old.items }
+    ensures left { OnOk result (stack.new.items ≡ take start stack.old.items) }
+    ensures taken { IfOk result (λ v. v.items ≡ drop start stack.old.items) }
 {
-    match properties.insert(name, value) {
-        Ok(_) => Ok(()),
-        Err(_) => Err(AllocError),
+    if start == 0 && stack.len() >= LONG {
+        let alloc = *stack.allocator();
+        return Ok(mem::replace(stack, Vec::new(alloc)));
     }
+    stack.split_off(start)
 }
 
 /// What makes a value of a text as it is read.
 #[derive(Drop)]
 pub(crate) struct ValueMaker<'a, A: Allocator> {
-    alloc: A,
     text: &'a str,
     options: ParseOptions,
+    // The elements of the arrays that have not ended, those of the outer ones first.
+    elements: Vec<JsonValue<'a, A>, A>,
+    // The properties of the objects that have not ended.
+    properties: Vec<(CowStr<'a, A>, JsonValue<'a, A>), A>,
 }
 
 impl<'a, A: Allocator + Copy> Receiver<String<A>> for ValueMaker<'a, A> {
     ghost use Rattle.std.specs.Prelude.{false};
-    ghost use Rattle.jsonc_value.specs.to_value.Made.{source_in, AreElements, AreProperties, IsCollapsed, IsName};
+    ghost use Rattle.jsonc_value.specs.to_value.Made.{source_in, HoldsElements, HoldsProperties, SameOpen, IsCollapsed, IsName};
 
     type Item = JsonValue<'a, A>;
 
-    type Array = Vec<JsonValue<'a, A>, A>;
+    // Where its elements begin among those of the arrays that have not ended.
+    type Array = usize;
 
-    type Object = Map<CowStr<'a, A>, JsonValue<'a, A>, A>;
+    // The same of its properties.
+    type Object = usize;
 
     type Property = CowStr<'a, A>;
 
@@ -86,13 +97,13 @@ impl<'a, A: Allocator + Copy> Receiver<String<A>> for ValueMaker<'a, A> {
 
     ghost source = { source_in };
 
-    ghost makes = { λ s t i x. IsCollapsed i x };
+    ghost makes = { λ s t i x. IsCollapsed i x × SameOpen s t };
 
-    ghost names = { λ s t p n. IsName p n };
+    ghost names = { λ s t p n. IsName p n × SameOpen s t };
 
-    ghost holds_elements = { λ s t a i xs. AreElements a.items xs };
+    ghost holds_elements = { λ s t a i xs. HoldsElements s t a xs };
 
-    ghost holds_properties = { λ s t o i ms. AreProperties o ms };
+    ghost holds_properties = { λ s t o i ms. HoldsProperties s t o ms };
 
     ghost reached = { λ s i. Unit {0} };
 
@@ -127,35 +138,25 @@ impl<'a, A: Allocator + Copy> Receiver<String<A>> for ValueMaker<'a, A> {
     }
 
     #[inline(always)]
-    fn open_array(&mut self, _start: usize) -> Result<Vec<JsonValue<'a, A>, A>, AllocError> {
-        Ok(Vec::new(self.alloc))
+    fn open_array(&mut self, _start: usize) -> Result<usize, AllocError> {
+        Ok(self.elements.len())
     }
 
     #[inline(always)]
-    fn element(
-        &mut self,
-        array: &mut Vec<JsonValue<'a, A>, A>,
-        item: JsonValue<'a, A>,
-    ) -> Result<(), AllocError> {
-        array.push(item)?;
+    fn element(&mut self, _array: &mut usize, item: JsonValue<'a, A>) -> Result<(), AllocError> {
+        self.elements.push(item)?;
         Ok(())
     }
 
     #[inline(always)]
-    fn close_array(
-        &mut self,
-        array: Vec<JsonValue<'a, A>, A>,
-        _range: Range,
-    ) -> Result<JsonValue<'a, A>, AllocError> {
-        Ok(array_of(array))
+    fn close_array(&mut self, array: usize, _range: Range) -> Result<JsonValue<'a, A>, AllocError> {
+        let elements = taken_from(&mut self.elements, array)?;
+        Ok(array_of(elements))
     }
 
     #[inline(always)]
-    fn open_object(
-        &mut self,
-        _start: usize,
-    ) -> Result<Map<CowStr<'a, A>, JsonValue<'a, A>, A>, AllocError> {
-        Ok(Map::new(self.alloc))
+    fn open_object(&mut self, _start: usize) -> Result<usize, AllocError> {
+        Ok(self.properties.len())
     }
 
     #[inline(always)]
@@ -180,21 +181,23 @@ impl<'a, A: Allocator + Copy> Receiver<String<A>> for ValueMaker<'a, A> {
     #[inline(always)]
     fn property(
         &mut self,
-        object: &mut Map<CowStr<'a, A>, JsonValue<'a, A>, A>,
+        _object: &mut usize,
         property: CowStr<'a, A>,
         item: JsonValue<'a, A>,
         _range: Range,
     ) -> Result<(), AllocError> {
-        put_property(object, property, item)
+        self.properties.push((property, item))?;
+        Ok(())
     }
 
     #[inline(always)]
     fn close_object(
         &mut self,
-        object: Map<CowStr<'a, A>, JsonValue<'a, A>, A>,
+        object: usize,
         _range: Range,
     ) -> Result<JsonValue<'a, A>, AllocError> {
-        Ok(object_of(object))
+        let properties = taken_from(&mut self.properties, object)?;
+        Ok(object_of(Map::from_vec(properties)?))
     }
 }
 
@@ -216,9 +219,10 @@ pub fn parse_to_value<'a, A: Allocator + Copy>(
 {
     let mut context = Context::new(alloc, text, &CollectOptions::default(), options);
     let mut to = ValueMaker {
-        alloc,
         text,
         options: options.copied(),
+        elements: Vec::new(alloc),
+        properties: Vec::new(alloc),
     };
     read_document(&mut context, &mut to)
 }

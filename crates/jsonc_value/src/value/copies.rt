@@ -1,9 +1,10 @@
 //! Copies of values.
 ghost use Rattle.std.specs.Prelude.{◌≡◌, IfOk, map};
-ghost use Rattle.jsonc_value.specs.Contents.{content, object_content, array_content};
+ghost use Rattle.jsonc_value.specs.Contents.{content, named_contents, object_content, array_content};
 
 use super::{JsonArray, JsonObject, JsonValue};
 use std::alloc::{AllocError, Allocator};
+use std::borrow::CowStr;
 
 impl<'a, A: Allocator + Copy> JsonValue<'a, A> {
     /// A copy of the value. Its properties are in the same order.
@@ -28,8 +29,8 @@ impl<'a, A: Allocator + Copy> JsonObject<'a, A> {
     pub fn try_clone(&self) -> Result<Self, AllocError>
         ensures { IfOk result (λ o. object_content o ≡ object_content self.now) }
     {
-        let copies = copy_all(*self.0.allocator(), self.0.values_slice())?;
-        Ok(JsonObject(self.0.clone_keys_with(copies)?))
+        let copies = copy_pairs(*self.0.allocator(), self.0.pairs_slice())?;
+        Ok(JsonObject(self.0.with_copies(copies)?))
     }
 }
 
@@ -55,6 +56,21 @@ fn copy_all<'a, A: Allocator + Copy>(
     let mut copies = Vec::with_capacity(alloc, values.len())?;
     for value in values {
         copies.push(value.try_clone()?)?;
+    }
+    Ok(copies)
+}
+
+// The same names and values again, in a vector of this allocator.
+#[cycle(copy)]
+fn copy_pairs<'a, A: Allocator + Copy>(
+    alloc: A,
+    pairs: &[(CowStr<'a, A>, JsonValue<'a, A>)],
+) -> Result<Vec<(CowStr<'a, A>, JsonValue<'a, A>), A>, AllocError>
+    ensures { IfOk result (λ v. named_contents v.items ≡ named_contents pairs.now) }
+{
+    let mut copies = Vec::with_capacity(alloc, pairs.len())?;
+    for (name, value) in pairs {
+        copies.push((name.clone()?, value.try_clone()?))?;
     }
     Ok(copies)
 }

@@ -1,10 +1,10 @@
-use Rattle.std.proofs.Common.{◌-◌, length}
+use Rattle.std.proofs.Common.{◌≡◌, ◌-◌, length}
+use Rattle.jsonc_text.proofs.CharRuns.{Passes}
 use Rattle.jsonc_sound.specs.Leaves.{is_inner_blank}
-use Rattle.jsonc_build.proofs.PassedCharacters.{Passes}
 use Rattle.jsonc_build.proofs.fill.blanks_end.Given as goal
 
-abbrev pub invariant-loop-len : goal.invariant-loop-len
-invariant-loop-len l = Passes is_inner_blank l.text l.start l.place l.len
+abbrev pub invariant-loop-place : goal.invariant-loop-place
+invariant-loop-place l = (l.bytes ≡ l.text) × Passes is_inner_blank l.text l.start l.place
 
-abbrev pub decreases-loop-len : goal.decreases-loop-len
-decreases-loop-len l = length l.text - l.place
+abbrev pub decreases-loop-place : goal.decreases-loop-place
+decreases-loop-place l = length l.bytes - l.place

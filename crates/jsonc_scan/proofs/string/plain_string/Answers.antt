@@ -1,5 +1,4 @@
 use Rattle.std.proofs.Common.{refl, ◌+◌}
-use Rattle.jsonc_text.specs.Options.{Options}
 use Rattle.jsonc_text.proofs.lemmas.string.Decoding.{quoted_run, run_holds_none, before_quote}
 use Rattle.jsonc_text.proofs.lemmas.string.QuotedStrings.{scanned_of_quoted}
 use Rattle.jsonc_scan.proofs.string.plain_string.Goals as goal

@@ -1,4 +1,4 @@
-use Rattle.std.proofs.Common.{ap, sym, ◌∙◌, arith}
+use Rattle.std.proofs.Common.{ap, arith}
 use lib.Count.{count_trailing_zeros}
 use Rattle.jsonc_text.proofs.LaneRuns.{pass_sixteen, stop_in_sixteen}
 use Rattle.jsonc_text.proofs.runs.byte_stop.Goals as goal

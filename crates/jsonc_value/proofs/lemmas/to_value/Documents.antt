@@ -8,6 +8,6 @@ use Rattle.jsonc_value.specs.declared.value.JsonValue.{JsonValue}
 use Rattle.jsonc_value.specs.to_value.Made.{IsCollapsed}
 use Rattle.jsonc_value.specs.to_value.Reads.{IsValueOf}
 
-pub document_made : {A : Type 0} (o : Options) (bytes : List ℕ) (found : Option (JsonValue A)) → IsDocumentMade (record { bytes = bytes; options = o }) false (λ i x. IsCollapsed i x) found → IsValueOf o (chars bytes) found
-document_made o bytes None h = (None, located_document o bytes None h, tt, refl)
-document_made o bytes (Some v) (x, document, small, made) = (Some (value_at x), located_document o bytes (Some x) document, small, ap Some made)
+pub document_made : {A : Type 0} (o : Options) (bytes : List ℕ) (found : Option (JsonValue A)) (same : Type 0) → IsDocumentMade (record { bytes = bytes; options = o }) false (λ i x. IsCollapsed i x × same) found → IsValueOf o (chars bytes) found
+document_made o bytes None same h = (None, located_document o bytes None h, tt, refl)
+document_made o bytes (Some v) same (x, document, small, made) = (Some (value_at x), located_document o bytes (Some x) document, small, ap Some made.0)

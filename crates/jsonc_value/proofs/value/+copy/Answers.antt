@@ -1,13 +1,9 @@
 use Rattle.std.proofs.Common.{◌∙◌, sym, ap, map, arith}
 use denote.Param.Weighed.{most}
-use Rattle.std.proofs.lemmas.List.{length-map}
-use Rattle.std.specs.Map.{values_of}
-use Rattle.jsonc_value.specs.Contents.{content, array, object}
+use Rattle.jsonc_value.specs.Contents.{content, named_contents, array, object}
 use Rattle.jsonc_value.specs.Kinds.{properties}
 use Rattle.jsonc_value.specs.declared.value.JsonValue.{size-JsonValue}
-use Rattle.std.specs.Cow.{cow_str_bytes}
-use Rattle.jsonc_value.proofs.Zipped.{texts_equal_clones}
-use Rattle.jsonc_value.proofs.Contents.{content-Array, content-Object, same_named, as_many, one_copied, all_copied, size-in-array, size-of-array, size-in-object, size-of-object, size-element}
+use Rattle.jsonc_value.proofs.Contents.{content-Array, content-Object, same_texts, one_pair_copied, size-pair, one_copied, all_copied, size-in-array, size-of-array, size-of-object, size-element}
 use Rattle.jsonc_value.proofs.value.+copy.Goals as goal
 
 pub JsonValue::try_clone-returns-in_ok-try_clone-in-Object : goal.JsonValue::try_clone-returns-in_ok-try_clone-in-Object
@@ -21,18 +17,6 @@ JsonValue::try_clone-returns-in_ok-try_clone-in-Array g t c =
 pub copies::copy_all-loop-value-preserved : goal.copies::copy_all-loop-value-preserved
 copies::copy_all-loop-value-preserved g t c =
     one_copied c.args.values.now c.loop-value.copies.items c.push.new.self.items c.loop-value.value-index c.value-item.result c.in_ok-try_clone.field-0 c.loop-value.invariant c.loop-value-test.true c.value-item.is c.in_ok-try_clone.ensures c.in_ok-push.ensures.items
-
-pub JsonObject::try_clone-clone_keys_with-requires-clause-keys : goal.JsonObject::try_clone-clone_keys_with-requires-clause-keys
-JsonObject::try_clone-clone_keys_with-requires-clause-keys g t c = texts_equal_clones cow_str_bytes
-
-pub JsonObject::try_clone-clone_keys_with-requires-clause-len : goal.JsonObject::try_clone-clone_keys_with-requires-clause-len
-JsonObject::try_clone-clone_keys_with-requires-clause-len g t c =
-    as_many c.in_ok-copies.copies.items (values_of (properties c.args.self.now)) (c.in_ok-copies.ensures ∙ ap (map content) c.values_slice.ensures)
-    ∙ length-map (properties c.args.self.now) (λ p. p.1)
-
-pub JsonObject::try_clone-returns : goal.JsonObject::try_clone-returns
-JsonObject::try_clone-returns g t c =
-    same_named (properties c.args.self.now) c.in_ok-clone_keys_with.field-0 c.in_ok-clone_keys_with.ensures.keys (ap (map content) c.in_ok-clone_keys_with.ensures.values ∙ c.in_ok-copies.ensures ∙ ap (map content) c.values_slice.ensures)
 
 pub JsonValue::try_clone-try_clone-requires : goal.JsonValue::try_clone-try_clone-requires
 JsonValue::try_clone-try_clone-requires g t c κs within =
@@ -58,10 +42,6 @@ pub JsonArray::try_clone-copy_all-requires : goal.JsonArray::try_clone-copy_all-
 JsonArray::try_clone-copy_all-requires g t c κs within =
     (omega (arith, size-in-array g.row.A.Denot c.args.self.now, ap (λ xs. most (λ x. size-JsonValue g.row.A.Denot x) xs) c.as_slice.ensures.value), within)
 
-pub JsonObject::try_clone-copy_all-requires : goal.JsonObject::try_clone-copy_all-requires
-JsonObject::try_clone-copy_all-requires g t c κs within =
-    (omega (arith, size-in-object g.row.A.Denot c.args.self.now, ap (λ xs. most (λ x. size-JsonValue g.row.A.Denot x) xs) c.values_slice.ensures), within)
-
 pub copies::copy_all-loop-value-init : goal.copies::copy_all-loop-value-init
 copies::copy_all-loop-value-init g t c =
     ap (map content) c.in_ok-copies.ensures.items
@@ -77,3 +57,16 @@ copies::copy_all-loop-value-smaller g t c =
 pub copies::copy_all-returns : goal.copies::copy_all-returns
 copies::copy_all-returns g t c =
     all_copied c.args.values.now c.loop-value.copies.items c.loop-value.value-index c.loop-value-test.false c.loop-value.invariant
+
+pub JsonObject::try_clone-with_copies-requires-clause-keys : goal.JsonObject::try_clone-with_copies-requires-clause-keys
+JsonObject::try_clone-with_copies-requires-clause-keys g t c =
+    same_texts (properties c.args.self.now) c.in_ok-copies.copies.items (c.in_ok-copies.ensures ∙ ap named_contents c.pairs_slice.ensures)
+
+pub copies::copy_pairs-try_clone-requires : goal.copies::copy_pairs-try_clone-requires
+copies::copy_pairs-try_clone-requires g t c κs within =
+    (omega (arith, size-pair g.row.A.Denot c.args.pairs.now c.loop-name.name-index c.loop-name-item.result c.loop-name-test.true c.loop-name-item.is), within)
+
+pub copies::copy_pairs-loop-name-preserved : goal.copies::copy_pairs-loop-name-preserved
+copies::copy_pairs-loop-name-preserved g t c =
+    one_pair_copied c.args.pairs.now c.loop-name.copies.items c.push.new.self.items c.loop-name.name-index c.loop-name-item.result (c.in_ok-clone.field-0, c.in_ok-try_clone.field-0)
+    c.loop-name.invariant c.loop-name-test.true c.loop-name-item.is c.in_ok-clone.ensures.cases c.in_ok-try_clone.ensures c.in_ok-push.ensures.items

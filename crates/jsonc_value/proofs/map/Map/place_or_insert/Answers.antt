@@ -1,39 +1,28 @@
-use Rattle.std.proofs.Common.{sym, ◌∙◌}
-use Rattle.jsonc_value.proofs.Places.{placed_last, placed_there}
+use Rattle.std.proofs.Common.{◌≡◌, Some, get_or, ap, ◌∙◌, slice_get}
+use Rattle.std.specs.Option.{unwrap_or}
+use Rattle.std.specs.Map.{values_of}
+use Rattle.std.proofs.lemmas.Option.{slice_get-get_or}
+use Rattle.indexmap.specs.Layout.{set_value_at}
+use Rattle.jsonc_value.proofs.Pairs.{value_there, value_none, written_there, written_last, value_at, value_last}
 use Rattle.jsonc_value.proofs.map.Map.place_or_insert.Goals as goal
 
-pub returns-in-Ok-default-true-clause-within : goal.returns-in-Ok-default-true-clause-within
-returns-in-Ok-default-true-clause-within g c =
-    let added = sym c.in-Ok-default-true.field-0-1-test ∙ c.in-Ok-default-true.ensures.added in
-    (placed_last g.K.PartialEq.eq c.args.key c.self.inside.keys c.insert_full.new.self c.self.inside.values.items c.reserve.new.self.items c.push_reserved.new.self.items c.args.self.now c.args.value c.in-Ok-default-true.index
-    c.self.view_is c.self.invariant added c.in-Ok-default-true.ensures.keys c.in-Ok-default-true.ensures.index c.reserve.ensures.items c.push_reserved.ensures.items).within
+pub returns-in-Some-clause-place : goal.returns-in-Some-clause-place
+returns-in-Some-clause-place g c =
+    λ w. written_there g.K.PartialEq.eq c.args.self.now c.in-Some.index c.args.key w c.in-Some.ensures.within c.in-Some.ensures.index
 
-pub returns-in-Ok-default-true-clause-place : goal.returns-in-Ok-default-true-clause-place
-returns-in-Ok-default-true-clause-place g c =
-    let added = sym c.in-Ok-default-true.field-0-1-test ∙ c.in-Ok-default-true.ensures.added in
-    (placed_last g.K.PartialEq.eq c.args.key c.self.inside.keys c.insert_full.new.self c.self.inside.values.items c.reserve.new.self.items c.push_reserved.new.self.items c.args.self.now c.args.value c.in-Ok-default-true.index
-    c.self.view_is c.self.invariant added c.in-Ok-default-true.ensures.keys c.in-Ok-default-true.ensures.index c.reserve.ensures.items c.push_reserved.ensures.items).place
+pub returns-in-Some-clause-value : goal.returns-in-Some-clause-value
+returns-in-Some-clause-value g c =
+    let es = c.args.self.now in
+    let i = c.in-Some.index in
+    let e = get_or es i (c.args.key, c.args.value) in
+    let here : slice_get es i ≡ Some e = slice_get-get_or es i (c.args.key, c.args.value) c.in-Some.ensures.within in
+    value_at es i e here ∙ ap (λ o. Some (unwrap_or o c.args.value)) (value_there (g.K.PartialEq.eq c.args.key) es i e c.in-Some.ensures.within c.in-Some.ensures.index here)
 
-pub returns-in-Ok-default-true-clause-value : goal.returns-in-Ok-default-true-clause-value
-returns-in-Ok-default-true-clause-value g c =
-    let added = sym c.in-Ok-default-true.field-0-1-test ∙ c.in-Ok-default-true.ensures.added in
-    (placed_last g.K.PartialEq.eq c.args.key c.self.inside.keys c.insert_full.new.self c.self.inside.values.items c.reserve.new.self.items c.push_reserved.new.self.items c.args.self.now c.args.value c.in-Ok-default-true.index
-    c.self.view_is c.self.invariant added c.in-Ok-default-true.ensures.keys c.in-Ok-default-true.ensures.index c.reserve.ensures.items c.push_reserved.ensures.items).value
+pub returns-in-Ok-clause-place : goal.returns-in-Ok-clause-place
+returns-in-Ok-clause-place g c =
+    λ w. (λ j. set_value_at (c.in-Ok.ensures.pairs j) (c.len-index.ensures.len j) w) ∙ written_last g.K.PartialEq.eq c.args.self.now c.args.key c.args.value w c.in_default.ensures.found
 
-pub returns-in-Ok-default-false-clause-within : goal.returns-in-Ok-default-false-clause-within
-returns-in-Ok-default-false-clause-within g c =
-    let added = sym c.in-Ok-default-false.field-0-1-test ∙ c.in-Ok-default-false.ensures.added in
-    (placed_there g.K.PartialEq.eq c.args.key c.self.inside.keys c.insert_full.new.self c.self.inside.values.items c.reserve.new.self.items c.args.self.now c.args.value c.in-Ok-default-false.index
-    c.self.view_is c.self.invariant added c.in-Ok-default-false.ensures.keys c.in-Ok-default-false.ensures.index c.in-Ok-default-false.ensures.within c.reserve.ensures.items).within
-
-pub returns-in-Ok-default-false-clause-place : goal.returns-in-Ok-default-false-clause-place
-returns-in-Ok-default-false-clause-place g c =
-    let added = sym c.in-Ok-default-false.field-0-1-test ∙ c.in-Ok-default-false.ensures.added in
-    (placed_there g.K.PartialEq.eq c.args.key c.self.inside.keys c.insert_full.new.self c.self.inside.values.items c.reserve.new.self.items c.args.self.now c.args.value c.in-Ok-default-false.index
-    c.self.view_is c.self.invariant added c.in-Ok-default-false.ensures.keys c.in-Ok-default-false.ensures.index c.in-Ok-default-false.ensures.within c.reserve.ensures.items).place
-
-pub returns-in-Ok-default-false-clause-value : goal.returns-in-Ok-default-false-clause-value
-returns-in-Ok-default-false-clause-value g c =
-    let added = sym c.in-Ok-default-false.field-0-1-test ∙ c.in-Ok-default-false.ensures.added in
-    (placed_there g.K.PartialEq.eq c.args.key c.self.inside.keys c.insert_full.new.self c.self.inside.values.items c.reserve.new.self.items c.args.self.now c.args.value c.in-Ok-default-false.index
-    c.self.view_is c.self.invariant added c.in-Ok-default-false.ensures.keys c.in-Ok-default-false.ensures.index c.in-Ok-default-false.ensures.within c.reserve.ensures.items).value
+pub returns-in-Ok-clause-value : goal.returns-in-Ok-clause-value
+returns-in-Ok-clause-value g c =
+    (λ j. slice_get (values_of (c.in-Ok.ensures.pairs j)) (c.len-index.ensures.len j)) ∙ value_last c.args.self.now c.args.key c.args.value
+    ∙ ap (λ o. Some (unwrap_or o c.args.value)) (value_none (g.K.PartialEq.eq c.args.key) c.args.self.now c.in_default.ensures.found)

@@ -1,6 +1,6 @@
 use Rattle.std.proofs.Common.{sym, ap, ◌∙◌}
 use Rattle.std.specs.Option.{option_map}
-use Rattle.jsonc_value.proofs.Zipped.{value_of_entry}
+use Rattle.jsonc_value.proofs.Pairs.{value_of_entry}
 use Rattle.jsonc_value.proofs.map.Map.remove.Goals as goal
 
 pub returns-in-Some-clause-value : goal.returns-in-Some-clause-value

@@ -2,7 +2,7 @@ use Rattle.std.proofs.Common.{sym, ap, ◌∙◌}
 use Rattle.std.specs.Option.{option_map}
 use Rattle.jsonc_value.specs.Kinds.{properties}
 use Rattle.jsonc_value.specs.Names.{is_named}
-use Rattle.jsonc_value.proofs.Zipped.{value_of_entry}
+use Rattle.jsonc_value.proofs.Pairs.{value_of_entry}
 use Rattle.jsonc_value.proofs.value.JsonObject.take.Goals as goal
 
 pub returns-in-Some-clause-value : goal.returns-in-Some-clause-value

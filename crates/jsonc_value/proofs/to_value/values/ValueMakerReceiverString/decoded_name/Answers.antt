@@ -3,4 +3,4 @@ use Rattle.std.proofs.lemmas.Str.{IsUtf8-string_bytes}
 use Rattle.jsonc_value.proofs.to_value.values.ValueMakerReceiverString.decoded_name.Goals as goal
 
 pub returns-clause-named : goal.returns-clause-named
-returns-clause-named g c = (refl, IsUtf8-string_bytes c.args.value)
+returns-clause-named g c = ((refl, IsUtf8-string_bytes c.args.value), (refl, refl))

@@ -1,0 +1,23 @@
+use Rattle.std.proofs.Common.{◌≡◌, ◌∷◌, [], ◌++◌, ◌+◌, ◌<◌, false, length, take, get_or, refl, sym, ap, ◌∙◌, arith}
+use Rattle.std.specs.List.{list_any}
+use Rattle.std.specs.Map.{keys_of}
+use Rattle.std.proofs.lemmas.List.{take-map}
+use Rattle.std.proofs.lemmas.Map.Entries.{length-keys_of}
+use Rattle.jsonc_value.proofs.Pairs.{key_at}
+use Rattle.jsonc_value.proofs.HashedKeys.{taken_more}
+use Rattle.jsonc_value.proofs.DistinctKeys.{none_distinct, push_distinct}
+use Rattle.jsonc_value.proofs.map.lists.are_distinct.Goals as goal
+
+pub loop-place-init : goal.loop-place-init
+loop-place-init g c = none_distinct g.K.PartialEq.eq [] refl
+
+pub loop-place-preserved : goal.loop-place-preserved
+loop-place-preserved g c =
+    let eq = g.K.PartialEq.eq in
+    let pairs = c.args.pairs.now in
+    let i = c.loop-place.place in
+    let key = (get_or pairs i c.index-pairs-place.result).0 in
+    let within : i < length (keys_of pairs) = omega (arith, c.loop-place-test.true, length-keys_of pairs) in
+    let more : take (i + 1) (keys_of pairs) ≡ take i (keys_of pairs) ++ key ∷ [] = taken_more (keys_of pairs) i key within (key_at pairs i c.index-pairs-place.result key c.loop-place-test.true) in
+    let none : list_any (eq key) (take i (keys_of pairs)) ≡ false = ap (list_any (eq key)) (take-map (λ p. p.0) i pairs) ∙ sym c.search.ensures.found ∙ sym c.is_some.ensures ∙ c.if-is_some.false in
+    push_distinct eq g.met.K.Eq.laws key (take i (keys_of pairs)) (take (i + 1) (keys_of pairs)) more none c.loop-place.invariant

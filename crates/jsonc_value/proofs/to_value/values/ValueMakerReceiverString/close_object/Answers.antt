@@ -1,0 +1,17 @@
+use Rattle.std.proofs.Common.{[], ap, ◌∙◌}
+use Rattle.indexmap.specs.IndexMap.{insert_all}
+use Rattle.jsonc_text.specs.Plain.{object}
+use Rattle.jsonc_value.specs.to_value.Views.{same_name, members_plain}
+use Rattle.jsonc_value.proofs.lemmas.to_value.Stacked.{Parted, parted}
+use Rattle.jsonc_value.proofs.to_value.values.ValueMakerReceiverString.close_object.Goals as goal
+
+pub taken_from-requires : goal.taken_from-requires
+taken_from-requires g c =
+    let h = c.requires.held.2 in
+    (parted c.args.self.now.properties.items c.requires.held.0.properties.items h.properties c.args.object h.begins h.stacked).within
+
+pub returns-clause-made : goal.returns-clause-made
+returns-clause-made g c = λ s ms h.
+    let apart : Parted c.args.self.now.properties.items s.properties.items h.properties c.args.object = parted c.args.self.now.properties.items s.properties.items h.properties c.args.object h.begins h.stacked in
+    let same = c.in_ok-from_vec.ensures ∙ ap (insert_all same_name []) (c.in_ok-properties.ensures.taken ∙ apart.taken) in
+    (c.object_of.ensures ∙ ap (λ ps. object (members_plain ps)) same ∙ ap object h.are.0, (h.same, c.in_ok-properties.ensures.left ∙ apart.left))
