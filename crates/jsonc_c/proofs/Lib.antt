@@ -1,3 +1,5 @@
 mod Fronts
 mod Inputs
+mod Reading
+mod Unedited
 mod Unread

@@ -76,8 +76,9 @@ pub extern "C" fn jsonc_edit_into(
         IsUnedited Global (options_of options) text.now edits.now result fault.new }
 {
     *len = 0;
-    match text_after(alloc, text, edits, options, fault) {
-        Ok(made) => fill(made.as_bytes(), room, len),
-        Err(status) => status,
-    }
+    let made = match text_after(alloc, text, edits, options, fault) {
+        Ok(made) => made,
+        Err(status) => return status,
+    };
+    fill(made.as_bytes(), room, len)
 }

@@ -225,16 +225,17 @@ pub(crate) fn read_edits(
 {
     let mut read = Vec::new(alloc);
     for (count, edit) in edits.iter().enumerate() {
-        fault.made = count;
         match read_edit(alloc, edit, fault) {
             Ok(edit) => {
                 let Ok(()) = read.push(edit) else {
                     return Err(OUT_OF_MEMORY);
                 };
             }
-            Err(status) => return Err(status),
+            Err(status) => {
+                fault.made = count;
+                return Err(status);
+            }
         }
     }
-    fault.made = 0;
     Ok(read)
 }
