@@ -183,7 +183,7 @@ JSONC_ASSERT(offsetof(jsonc_edit_t, first) == 64);
 JSONC_ASSERT(offsetof(jsonc_edit_t, second) == 65);
 
 /*
- * Parses a text, and makes nothing of it.
+ * Checks whether a text is a document.
  *
  * 0: it is a document of the options. 1: an allocation failed. 3: it is not UTF-8. 4: it is no document within
  * the nesting, and the fault tells what is wrong with it.

@@ -200,7 +200,7 @@ const _: () = assert!(offset_of!(Edit, first) == 64);
 const _: () = assert!(offset_of!(Edit, second) == 65);
 
 unsafe extern "C" {
-    /// Parses a text, and makes nothing of it.
+    /// Checks whether a text is a document.
     ///
     /// 0: it is a document of the options. 1: an allocation failed. 3: it is not UTF-8. 4: it is no document
     /// within the nesting, and the fault tells what is wrong with it.
