@@ -1,5 +1,5 @@
 -- Edits of C, read one after another.
-use Rattle.std.proofs.Common.{◌≡◌, ◌≤◌, ◌<◌, ◌+◌, ◌++◌, ◌∷◌, ◌⊎◌, ℕ, zero, suc, List, [], Some, ap, arith, get_or, inl, inr, length, refl, subst, sym, take}
+use Rattle.std.proofs.Common.{◌≡◌, ◌<◌, ◌+◌, ◌++◌, ◌∷◌, ℕ, zero, suc, List, [], Some, arith, get_or, inr, length, refl, subst, sym, take}
 use Rattle.std.specs.List.{slice_get}
 use Rattle.std.proofs.lemmas.List.{take_more}
 use Rattle.jsonc_text.specs.declared.errors.ParseError.{ParseError}
@@ -27,7 +27,7 @@ abbrev pub counted : JsoncFault → ℕ → JsoncFault
 counted f k = record { kind = f.kind; made = k; start = f.start; end = f.end; line = f.line; column = f.column; text_len = f.text_len; text = f.text }
 
 told_counted : (e : ParseError) (f : JsoncFault) (k : ℕ) → IsToldOf e f → IsToldOf e (counted f k)
-told_counted e f k t = record { kind = t.kind; start = t.start; end = t.end; line = t.line; column = t.column; text = t.text }
+told_counted e f k t = record { kind = t.kind; start = t.start; end = t.end; line = t.line; column = t.column; text = t.text; within = t.within }
 
 -- it tells the same of an edit
 pub unread_counted : {c : JsoncEdit} {status : ℕ} {f : JsoncFault} (k : ℕ) → IsUnread c status f → IsUnread c status (counted f k)

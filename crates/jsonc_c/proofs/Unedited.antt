@@ -5,7 +5,6 @@ use Rattle.jsonc_text.specs.declared.edit.EditError.{EditError}
 use Rattle.jsonc_text.specs.declared.edit.EditError.TheVariants as refused
 use Rattle.jsonc_run.specs.declared.edit.Edit.{Edit}
 use Rattle.jsonc_parser.specs.Promise.{IsEditedText, StopsText}
-use Rattle.jsonc_engine.specs.Input.{IsRefusalOf}
 use Rattle.jsonc_engine.specs.Parser.{IsFault, ParseError, ParseFault, RefusesText}
 use Rattle.jsonc_c.specs.Edits.{AreReadAs, IsEdited, IsUnedited, IsUnread, IsUnreadIn}
 use Rattle.jsonc_c.specs.Told.{IsToldOf, edit_status}

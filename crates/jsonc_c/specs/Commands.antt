@@ -1,5 +1,5 @@
 -- Why a call did not do what was asked.
-use Rattle.std.specs.Prelude.{◌≡◌, ℕ, List}
+use Rattle.std.specs.Prelude.{ℕ, List}
 use Rattle.jsonc_text.specs.Options.{Options}
 use Rattle.jsonc_engine.specs.Command.{Request}
 use Rattle.jsonc_engine.specs.Fault.{IsCause}

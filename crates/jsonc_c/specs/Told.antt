@@ -1,5 +1,5 @@
 -- What a call tells of a fault: numbers, places and a text.
-use Rattle.std.specs.Prelude.{◌≡◌, ℕ, replicate, take}
+use Rattle.std.specs.Prelude.{◌≡◌, ◌≤◌, ℕ, replicate, take}
 use Rattle.jsonc_text.specs.Faults.{column_of, kind_of, line_of, range_of}
 use Rattle.jsonc_text.specs.Messages.{error_text}
 use Rattle.jsonc_text.specs.declared.edit.EditError.{EditError}
@@ -10,7 +10,7 @@ use Rattle.jsonc_text.specs.declared.errors.ParseErrorKind.TheVariants as kind
 use Rattle.jsonc_text.specs.declared.errors.ParseStringErrorKind.{ParseStringErrorKind}
 use Rattle.jsonc_text.specs.declared.errors.ParseStringErrorKind.TheVariants as string
 use Rattle.jsonc_engine.specs.declared.fault.Fault.{Fault}
-use Rattle.jsonc_engine.specs.declared.fault.Fault.TheVariants.{Argument, Edit, Input, NoSetting, NoValue, NotArray, NotNames, NotObject, NotUtf8, OnTheWay, Path, Read, Usage, Write}
+use Rattle.jsonc_engine.specs.declared.fault.Fault.TheVariants.{Argument, Edit, Input, NoSetting, NoValue, NotArray, NotNames, NotObject, NotUtf8, OnTheWay, Path}
 use Rattle.jsonc_c.specs.declared.fault.JsoncFault.{JsoncFault}
 
 -- the number of what is wrong with a string
@@ -59,7 +59,7 @@ kind_number kind.OutOfMemory = 28
 abbrev pub no_fault : JsoncFault
 no_fault = record { kind = 0; made = 0; start = 0; end = 0; line = 0; column = 0; text_len = 0; text = replicate 192 0 }
 
--- the error is told: its kind by number, the bytes that it is told of, its line and column, and the first 192 bytes of what it prints
+-- the error is told: its kind by number, the bytes that it is told of, its line and column, and the first 192 bytes of what it prints, and no more
 pub record IsToldOf (e : ParseError) (f : JsoncFault) : Type 0 where
   pub kind : f.kind ≡ kind_number (kind_of e)
   pub start : f.start ≡ (range_of e).start
@@ -67,6 +67,7 @@ pub record IsToldOf (e : ParseError) (f : JsoncFault) : Type 0 where
   pub line : f.line ≡ line_of e
   pub column : f.column ≡ column_of e
   pub text : take f.text_len f.text ≡ take 192 (error_text e)
+  pub within : f.text_len ≤ 192
 
 -- the status of an edit that was refused
 abbrev pub edit_status : EditError → ℕ

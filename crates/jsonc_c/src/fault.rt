@@ -160,6 +160,7 @@ fn kind_number(kind: &ParseErrorKind) -> u32
 /// Puts the front of a text into the fault.
 fn put_text(text: &[u8], fault: &mut JsoncFault)
     ensures text { take fault.new.text_len fault.new.text ≡ take 192 text.now }
+    ensures within { fault.new.text_len ≤ 192 }
     ensures kind { fault.new.kind ≡ fault.old.kind }
     ensures start { fault.new.start ≡ fault.old.start }
     ensures end { fault.new.end ≡ fault.old.end }

@@ -26,8 +26,8 @@ fn checks(rt: HostRuntime) -> Result<(), Fail> {
     assert_eq!(rt; fault.line, 2);
     assert_eq!(rt; fault.column, 2);
     assert_eq!(rt;
-        &fault.text[..fault.text_len],
-        b"Unexpected token on line 2 column 2".as_slice()
+        fault.text.as_slice().get(0..fault.text_len),
+        Some(b"Unexpected token on line 2 column 2".as_slice())
     );
     assert_eq!(rt; jsonc_check(rt.alloc(), b"\xff", ALL, &mut fault), 3);
     assert_eq!(rt; jsonc_check(rt.alloc(), b"[1,]", 0, &mut fault), 4);
@@ -106,7 +106,7 @@ fn paths(rt: HostRuntime) -> Result<(), Fail> {
         ),
         0
     );
-    assert_eq!(rt; &room[..3], b"[2]".as_slice());
+    assert_eq!(rt; room.as_slice().get(0..3), Some(b"[2]".as_slice()));
     Ok(())
 }
 
