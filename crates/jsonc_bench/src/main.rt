@@ -3,39 +3,12 @@
 //! `docs/proofs/BENCH.md` has the forms of cases and answers.
 #![tactic(auto)]
 
-mod answer;
-mod comments;
-mod decoded;
-mod document;
-mod edited;
-mod input;
-mod lookup;
-mod member;
-mod program;
-mod reading;
-mod scanned;
-mod show;
-mod syntax;
-mod value;
-
-use jsonc_cases::case::Case;
+use jsonc_answers::answer_line;
 use jsonc_cases::error::CaseError;
 use std::alloc::{AllocError, Global};
 use std::io;
 use std::io::{BufWriter, Read, Write};
 use std::process::ExitCode;
-
-/// The line of an answer.
-fn answer_line(alloc: Global, line: &[u8]) -> Result<String, CaseError> {
-    let Ok(line) = str::from_utf8(line) else {
-        return Err(CaseError::NotUtf8);
-    };
-    let case = Case::from_line(alloc, line)?;
-    let Case { id, question } = case;
-    let answer = answer::answer(alloc, question)?;
-    let line = format!(in alloc; "{id}\t{answer}")?;
-    Ok(line)
-}
 
 /// What stands in the place of an answer where the line with this number, counted from 1, is no case.
 fn error_line(alloc: Global, number: u64, error: &CaseError) -> Result<String, AllocError> {

@@ -1,0 +1,187 @@
+/* Each call from C: what it answers, threads that call at once, and each allocation refused in turn.
+ * The last needs -Wl,--wrap=malloc,--wrap=realloc, and is left out where REFUSE is not defined. */
+#include "jsonc.h"
+#include <pthread.h>
+#include <stdio.h>
+#include <string.h>
+
+#define B(s) (s), strlen(s)
+#define T(s) {(const uint8_t *)(s), sizeof(s) - 1}
+
+static int checks, wrong;
+
+static void is(int holds, const char *what) {
+  checks++;
+  if (!holds) {
+    wrong++;
+    printf("wrong: %s\n", what);
+  }
+}
+
+static int made(uint32_t status, jsonc_text_t out, const char *want) {
+  int same = status == JSONC_OK && out.len == strlen(want) && !memcmp(out.at, want, out.len);
+  jsonc_free(out);
+  return same;
+}
+
+static void faults(void) {
+  jsonc_fault_t fault = {0};
+  jsonc_text_t out = JSONC_NO_TEXT;
+  is(jsonc_check(B("[1,\n @]"), JSONC_ALL, &fault) == JSONC_TEXT, "a refused text is told");
+  is(fault.kind == JSONC_KIND_UNEXPECTED_TOKEN && fault.start == 5 && fault.end == 6, "its kind and range");
+  is(fault.line == 2 && fault.column == 2, "its line and column");
+  const char *text = "Unexpected token on line 2 column 2";
+  is(fault.text_len == strlen(text) && !memcmp(fault.text, text, fault.text_len), "its printed text");
+  is(jsonc_check(B("[1]"), JSONC_ALL, &fault) == JSONC_OK && fault.kind == 0 && fault.text_len == 0, "no fault");
+  is(jsonc_check(B("\xff"), JSONC_ALL, &fault) == JSONC_NOT_UTF8, "bytes that are no UTF-8");
+  is(jsonc_check(B("// c"), JSONC_JSON_ALONE, &fault) == JSONC_TEXT, "a comment that is not allowed");
+  is(jsonc_check(B("// c"), JSONC_WITH_COMMENTS, &fault) == JSONC_OK, "a comment that is");
+  is(jsonc_set(B("{}"), B("\xff"), B("1"), JSONC_ALL, &out, &fault) == JSONC_WORD_NOT_UTF8, "a name");
+  is(jsonc_set(B("{}"), B("a"), B("dark"), JSONC_ALL, &out, &fault) == JSONC_JSON && out.len == 0, "a JSON text");
+  is(fault.kind == JSONC_KIND_UNEXPECTED_WORD && fault.column == 1, "what is wrong with it");
+  is(jsonc_set(B("[]"), B("a"), B("1"), JSONC_ALL, &out, &fault) == JSONC_NOT_OBJECT, "no object");
+  is(jsonc_append(B("{}"), B("1"), JSONC_ALL, &out, &fault) == JSONC_NOT_ARRAY, "no array");
+  is(jsonc_append(B("[]"), B(" "), JSONC_ALL, &out, &fault) == JSONC_NO_VALUE, "no value");
+  is(jsonc_get(B("{}"), B("[\"a\"]"), JSONC_ALL, &out, &fault) == JSONC_NO_SETTING, "no setting");
+  is(jsonc_get(B("{}"), B("[1]"), JSONC_ALL, &out, &fault) == JSONC_NOT_NAMES, "no names");
+  is(jsonc_get(B("{}"), B("["), JSONC_ALL, &out, &fault) == JSONC_PATH && fault.kind != 0, "no path");
+  is(jsonc_put(B("[]"), B("[\"a\"]"), B("1"), JSONC_ALL, &out, &fault) == JSONC_ON_THE_WAY, "on the way");
+  is(out.len == 0, "nothing is handed out");
+}
+
+static const char *const text = "{\n  // one\n  \"b\": 1, // first\n  \"a\": {\"c\": [1, 2]}\n}\n";
+
+static void texts(void) {
+  jsonc_fault_t fault;
+  jsonc_text_t out = JSONC_NO_TEXT;
+  uint32_t s = jsonc_print(B(text), JSONC_ALL, &out, &fault);
+  is(made(s, out, text), "print");
+  s = jsonc_print(B(""), JSONC_ALL, &out, &fault);
+  is(made(s, out, ""), "print of an empty text");
+  s = jsonc_set(B("{\"a\": 1 /* c */}"), B("a"), B("[true]"), JSONC_ALL, &out, &fault);
+  is(made(s, out, "{\"a\": [true] /* c */}"), "set");
+  s = jsonc_append(B("[1, 2]"), B("9"), JSONC_ALL, &out, &fault);
+  is(made(s, out, "[1, 2, 9]"), "append");
+  s = jsonc_remove(B("{ \"a\": 1, \"b\": 2 }"), B("b"), JSONC_ALL, &out, &fault);
+  is(made(s, out, "{ \"a\": 1 }"), "remove");
+  s = jsonc_sort(B("{\"b\":1,\"a\":2}"), JSONC_ALL, &out, &fault);
+  is(made(s, out, "{\"a\":2,\"b\":1}"), "sort");
+  s = jsonc_get(B(text), B("[\"a\", \"c\"]"), JSONC_ALL, &out, &fault);
+  is(made(s, out, "[1, 2]"), "get");
+  s = jsonc_put(B("{\"a\": {\"b\": 1}}"), B("[\"a\", \"b\"]"), B("2"), JSONC_ALL, &out, &fault);
+  is(made(s, out, "{\"a\": {\"b\": 2}}"), "put");
+  s = jsonc_drop(B("{ \"a\": 1, \"b\": 2 }"), B("[\"b\"]"), JSONC_ALL, &out, &fault);
+  is(made(s, out, "{ \"a\": 1 }"), "drop");
+  size_t len = 0;
+  char room[8];
+  s = jsonc_get_into(B(text), B("[\"a\", \"c\"]"), JSONC_ALL, room, 6, &len, &fault);
+  is(s == JSONC_OK && len == 6 && !memcmp(room, "[1, 2]", 6), "get into a buffer");
+  s = jsonc_get_into(B(text), B("[\"a\", \"c\"]"), JSONC_ALL, room, 5, &len, &fault);
+  is(s == JSONC_NO_ROOM && len == 6, "get into a small buffer");
+}
+
+static void lists(void) {
+  static const size_t nowhere[1], first[1] = {0};
+  jsonc_edit_t edits[] = {
+      {JSONC_EDIT_REMOVE, {first, 1}, JSONC_NO_TEXT, JSONC_NO_TEXT, 0, false, false},
+      {JSONC_EDIT_APPEND_ELEMENT, {nowhere, 0}, JSONC_NO_TEXT, T("true"), 0, false, false},
+      {JSONC_EDIT_SORT, {nowhere, 0}, JSONC_NO_TEXT, JSONC_NO_TEXT, 0, false, false},
+      {99, {nowhere, 0}, JSONC_NO_TEXT, JSONC_NO_TEXT, 0, false, false},
+  };
+  jsonc_fault_t fault = {0};
+  jsonc_text_t out = JSONC_NO_TEXT;
+  uint32_t s = jsonc_edit(B("[\n  3,\n  2\n]"), edits, 3, JSONC_ALL, &out, &fault);
+  is(made(s, out, "[\n  2,\n  true\n]"), "a list of edits");
+  s = jsonc_edit(B("1"), edits, 3, JSONC_ALL, &out, &fault);
+  is(s == JSONC_NO_SUCH_PLACE && fault.made == 0 && out.len == 0, "an edit without a place");
+  s = jsonc_edit(B("[3]"), edits, 4, JSONC_ALL, &out, &fault);
+  is(s == JSONC_NO_SUCH_EDIT && fault.made == 3 && out.len == 0, "an edit of no kind");
+  char room[32];
+  size_t len = 0;
+  s = jsonc_edit_into(B("[\n  3,\n  2\n]"), edits, 3, JSONC_ALL, room, sizeof room, &len, &fault);
+  is(s == JSONC_OK && len == 15 && !memcmp(room, "[\n  2,\n  true\n]", len), "edits into a buffer");
+}
+
+static void *many(void *bad) {
+  for (int i = 0; i < 200; i++) {
+    jsonc_fault_t fault = {0};
+    jsonc_text_t out = JSONC_NO_TEXT;
+    uint32_t s = jsonc_sort(B(text), JSONC_ALL, &out, &fault);
+    if (s || out.len != strlen(text)) *(int *)bad = 1;
+    jsonc_free(out);
+  }
+  return 0;
+}
+
+static void threads(void) {
+  pthread_t thread[4];
+  int bad[4] = {0};
+  for (int i = 0; i < 4; i++) pthread_create(&thread[i], 0, many, &bad[i]);
+  for (int i = 0; i < 4; i++) {
+    pthread_join(thread[i], 0);
+    is(!bad[i], "a thread's calls");
+  }
+}
+
+#ifdef REFUSE
+void *__real_malloc(size_t n);
+void *__real_realloc(void *p, size_t n);
+static long left = -1;
+static int refuses(void) { return left >= 0 && left-- == 0; }
+void *__wrap_malloc(size_t n) { return refuses() ? 0 : __real_malloc(n); }
+void *__wrap_realloc(void *p, size_t n) { return refuses() ? 0 : __real_realloc(p, n); }
+
+/* One of the calls, by its number. */
+static uint32_t call(int which, jsonc_text_t *out, jsonc_fault_t *fault) {
+  static const size_t nowhere[1];
+  static const jsonc_edit_t edits[] = {
+      {JSONC_EDIT_APPEND_PROPERTY, {nowhere, 0}, T("z"), T("{\"x\": [1, \"two\"]}"), 0, false, false},
+      {JSONC_EDIT_SORT, {nowhere, 0}, JSONC_NO_TEXT, JSONC_NO_TEXT, 0, false, false},
+  };
+  switch (which) {
+  case 0: return jsonc_check(B(text), JSONC_ALL, fault);
+  case 1: return jsonc_print(B(text), JSONC_ALL, out, fault);
+  case 2: return jsonc_set(B(text), B("z"), B("{\"x\": [1]}"), JSONC_ALL, out, fault);
+  case 3: return jsonc_append(B(" "), B("[1, \"two\"]"), JSONC_ALL, out, fault);
+  case 4: return jsonc_remove(B(text), B("a"), JSONC_ALL, out, fault);
+  case 5: return jsonc_sort(B(text), JSONC_ALL, out, fault);
+  case 6: return jsonc_get(B(text), B("[\"a\", \"c\"]"), JSONC_ALL, out, fault);
+  case 7: return jsonc_put(B(text), B("[\"x\", \"y\"]"), B("1"), JSONC_ALL, out, fault);
+  case 8: return jsonc_drop(B(text), B("[\"a\", \"c\"]"), JSONC_ALL, out, fault);
+  case 9: return jsonc_edit(B(text), edits, 2, JSONC_ALL, out, fault);
+  default: return jsonc_check(B("[1,"), JSONC_ALL, fault);
+  }
+}
+
+static void refusals(void) {
+  for (int which = 0; which <= 10; which++) {
+    jsonc_text_t whole = JSONC_NO_TEXT;
+    jsonc_fault_t fault = {0};
+    uint32_t ample = call(which, &whole, &fault);
+    int used = 1;
+    for (long n = 0; used && n < 100000; n++) {
+      jsonc_text_t out = JSONC_NO_TEXT;
+      left = n;
+      uint32_t s = call(which, &out, &fault);
+      used = left < 0;
+      left = -1;
+      if (s == JSONC_OUT_OF_MEMORY) is(out.len == 0, "want of memory hands nothing out");
+      else is(s == ample && out.len == whole.len && !memcmp(out.at, whole.at, out.len), "a refused allocation");
+      jsonc_free(out);
+    }
+    jsonc_free(whole);
+  }
+}
+#endif
+
+int main(void) {
+  faults();
+  texts();
+  lists();
+  threads();
+#ifdef REFUSE
+  refusals();
+#endif
+  printf("%d checks from C, %d wrong\n", checks, wrong);
+  return wrong != 0;
+}

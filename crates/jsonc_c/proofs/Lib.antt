@@ -1,0 +1,6 @@
+mod Fronts
+mod Inputs
+mod Reading
+mod Refused
+mod Unedited
+mod Unread

@@ -1,0 +1,10 @@
+use Rattle.std.proofs.Common.{◌≡◌, ℕ, List, arith, rules, subst}
+use Rattle.jsonc_engine.specs.Command as asked
+use Rattle.jsonc_c.specs.Commands.{IsRefused}
+use Rattle.jsonc_c.specs.Options.{options_of}
+use Rattle.jsonc_c.proofs.commands.jsonc_append.Goals as goal
+
+pub returns-clause-refused : goal.returns-clause-refused
+returns-clause-refused c = λ three.
+    let read : c.in-Ok.json.now ≡ c.args.json.now = search rules in
+    subst (λ (b : List ℕ). IsRefused (options_of c.args.options) (asked.append b) c.args.text.now c.change.result c.change.new.fault) read (c.change.ensures.refused (omega (arith, three)))

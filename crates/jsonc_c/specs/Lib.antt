@@ -1,0 +1,4 @@
+pub mod Options
+pub mod Told
+pub mod Commands
+pub mod Edits

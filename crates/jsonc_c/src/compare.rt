@@ -1,0 +1,65 @@
+//! The order of what an edit sorts.
+ghost use Rattle.jsonc_cst.specs.Document.{HasNode};
+ghost use Rattle.jsonc_cst.specs.Nodes.{boolean_lit_node, object_prop_node};
+
+use jsonc_parser::cst::{
+    CstBooleanLit, CstContainerNode, CstLeafNode, CstNode, CstObjectProp, CstRootNode,
+    ObjectPropName,
+};
+use std::alloc::Global;
+use std::cmp::Ordering;
+
+/// The bytes of a string as it is written, without its quotes.
+fn between_quotes(text: &str) -> &[u8] {
+    let bytes = text.as_bytes();
+    if bytes.len() < 2 {
+        return &[];
+    }
+    &bytes[1..bytes.len() - 1]
+}
+
+/// The name of a property as it is written, without quotes.
+fn name_of(document: &CstRootNode<Global>, property: CstObjectProp) -> &[u8]
+    requires { HasNode document.now (object_prop_node property) }
+{
+    match property.name(document) {
+        Some(ObjectPropName::String(string)) => between_quotes(string.raw_value(document)),
+        Some(ObjectPropName::Word(word)) => word.raw_value(document).as_bytes(),
+        None => &[],
+    }
+}
+
+/// A truth value as it is written.
+fn boolean_of(document: &CstRootNode<Global>, boolean: CstBooleanLit) -> &'static [u8]
+    requires { HasNode document.now (boolean_lit_node boolean) }
+{
+    if boolean.value(document) {
+        b"true"
+    } else {
+        b"false"
+    }
+}
+
+/// What goes by in a sort: of a property its name, of a literal its text, of an array or object nothing.
+fn sorted_by(document: &CstRootNode<Global>, node: CstNode) -> &[u8]
+    requires { HasNode document.now node }
+{
+    match node {
+        CstNode::Container(CstContainerNode::ObjectProp(property)) => name_of(document, property),
+        CstNode::Leaf(CstLeafNode::StringLit(string)) => string.raw_value(document).as_bytes(),
+        CstNode::Leaf(CstLeafNode::NumberLit(number)) => number.raw_value(document).as_bytes(),
+        CstNode::Leaf(CstLeafNode::BooleanLit(boolean)) => boolean_of(document, boolean),
+        CstNode::Leaf(CstLeafNode::NullKeyword(_)) => b"null",
+        _ => &[],
+    }
+}
+
+/// Compares properties by their names and literals by their texts, as they are written, without the quotes of names,
+/// byte by byte. Arrays and objects come first, and are all equal.
+pub(crate) fn compare(document: &CstRootNode<Global>, one: CstNode, other: CstNode) -> Ordering
+    requires one { HasNode document.now one }
+    requires other { HasNode document.now other }
+{
+    let text = sorted_by(document, one);
+    text.cmp(&sorted_by(document, other))
+}

@@ -1,0 +1,33 @@
+//! The parser and editor as a static library for C and Rust.
+//!
+//! Each call takes whole texts as bytes, and keeps nothing when it returns. It answers a status, 0 for success
+//! (`fault`), and writes what else it has to say behind the pointers that it is given. A text that it makes is one
+//! block of the C library's `malloc`, which the caller frees with `free`; an empty text is no block. No call asks
+//! anything of its arguments beyond their types, since nothing checks a caller in C.
+//!
+//! `include/jsonc.h` and `rust/jsonc` declare the calls; `bench/declare-calls` makes both from these sources.
+#![tactic(auto)]
+
+mod check;
+mod commands;
+mod compare;
+mod edits;
+mod fault;
+mod handed;
+mod into;
+mod lists;
+mod options;
+mod read;
+
+pub use check::jsonc_check;
+pub use commands::{
+    jsonc_append, jsonc_drop, jsonc_get, jsonc_print, jsonc_put, jsonc_remove, jsonc_set,
+    jsonc_sort,
+};
+pub use edits::JsoncEdit;
+pub use fault::JsoncFault;
+pub use into::{jsonc_edit_into, jsonc_get_into};
+pub use lists::jsonc_edit;
+
+#[cfg(test)]
+mod tests;

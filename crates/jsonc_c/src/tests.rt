@@ -1,0 +1,168 @@
+//! Each call once.
+
+use crate::check::jsonc_check;
+use crate::commands::{
+    jsonc_append, jsonc_drop, jsonc_get, jsonc_print, jsonc_put, jsonc_remove, jsonc_set,
+    jsonc_sort,
+};
+use crate::edits::JsoncEdit;
+use crate::fault::no_fault;
+use crate::into::{jsonc_edit_into, jsonc_get_into};
+use crate::lists::jsonc_edit;
+use std::test::Fail;
+
+const ALL: u32 = 1023;
+
+const TEXT: &[u8] = b"{\n  \"b\": 1, // x\n  \"a\": [2]\n}\n";
+
+#[test]
+fn checks(rt: HostRuntime) -> Result<(), Fail> {
+    let mut fault = no_fault();
+    assert_eq!(rt; jsonc_check(rt.alloc(), TEXT, ALL, &mut fault), 0);
+    assert_eq!(rt; jsonc_check(rt.alloc(), b"[1,\n @]", ALL, &mut fault), 4);
+    assert_eq!(rt; fault.kind, 21);
+    assert_eq!(rt; fault.start, 5);
+    assert_eq!(rt; fault.end, 6);
+    assert_eq!(rt; fault.line, 2);
+    assert_eq!(rt; fault.column, 2);
+    assert_eq!(rt;
+        fault.text.as_slice().get(0..fault.text_len),
+        Some(b"Unexpected token on line 2 column 2".as_slice())
+    );
+    assert_eq!(rt; jsonc_check(rt.alloc(), b"\xff", ALL, &mut fault), 3);
+    assert_eq!(rt; jsonc_check(rt.alloc(), b"[1,]", 0, &mut fault), 4);
+    Ok(())
+}
+
+#[test]
+fn changes(rt: HostRuntime) -> Result<(), Fail> {
+    let alloc = rt.alloc();
+    let mut fault = no_fault();
+    let mut out: &'static [u8] = &[];
+    assert_eq!(rt; jsonc_print(alloc, TEXT, ALL, &mut out, &mut fault), 0);
+    assert_eq!(rt; out, TEXT);
+    assert_eq!(rt;
+        jsonc_set(alloc, TEXT, b"b", b"null", ALL, &mut out, &mut fault),
+        0
+    );
+    assert_eq!(rt;
+        out,
+        b"{\n  \"b\": null, // x\n  \"a\": [2]\n}\n".as_slice()
+    );
+    assert_eq!(rt;
+        jsonc_append(alloc, b"[1]", b"2", ALL, &mut out, &mut fault),
+        0
+    );
+    assert_eq!(rt; out, b"[1, 2]".as_slice());
+    assert_eq!(rt;
+        jsonc_remove(alloc, TEXT, b"b", ALL, &mut out, &mut fault),
+        0
+    );
+    assert_eq!(rt; out, b"{\n  \"a\": [2]\n}\n".as_slice());
+    assert_eq!(rt;
+        jsonc_sort(alloc, b"{\"b\":1,\"a\":2}", ALL, &mut out, &mut fault),
+        0
+    );
+    assert_eq!(rt; out, b"{\"a\":2,\"b\":1}".as_slice());
+    Ok(())
+}
+
+#[test]
+fn paths(rt: HostRuntime) -> Result<(), Fail> {
+    let alloc = rt.alloc();
+    let mut fault = no_fault();
+    let mut out: &'static [u8] = &[];
+    assert_eq!(rt;
+        jsonc_get(alloc, TEXT, b"[\"a\"]", ALL, &mut out, &mut fault),
+        0
+    );
+    assert_eq!(rt; out, b"[2]".as_slice());
+    assert_eq!(rt;
+        jsonc_get(alloc, TEXT, b"[\"c\"]", ALL, &mut out, &mut fault),
+        11
+    );
+    assert_eq!(rt; out, b"".as_slice());
+    assert_eq!(rt;
+        jsonc_put(alloc, TEXT, b"[\"b\"]", b"2", ALL, &mut out, &mut fault),
+        0
+    );
+    assert_eq!(rt; out, b"{\n  \"b\": 2, // x\n  \"a\": [2]\n}\n".as_slice());
+    assert_eq!(rt;
+        jsonc_drop(alloc, TEXT, b"[\"b\"]", ALL, &mut out, &mut fault),
+        0
+    );
+    assert_eq!(rt; out, b"{\n  \"a\": [2]\n}\n".as_slice());
+    let mut room = [0u8; 4];
+    let mut len = 0usize;
+    assert_eq!(rt;
+        jsonc_get_into(
+            alloc,
+            TEXT,
+            b"[\"a\"]",
+            ALL,
+            room.as_mut_slice(),
+            &mut len,
+            &mut fault
+        ),
+        0
+    );
+    assert_eq!(rt; room.as_slice().get(0..3), Some(b"[2]".as_slice()));
+    Ok(())
+}
+
+#[test]
+fn edits(rt: HostRuntime) -> Result<(), Fail> {
+    let alloc = rt.alloc();
+    let mut fault = no_fault();
+    let mut out: &'static [u8] = &[];
+    let edits = [
+        JsoncEdit {
+            kind: 1,
+            path: &[0],
+            name: b"",
+            json: b"",
+            index: 0,
+            first: false,
+            second: false,
+        },
+        JsoncEdit {
+            kind: 12,
+            path: &[0],
+            name: b"",
+            json: b"true",
+            index: 0,
+            first: false,
+            second: false,
+        },
+        JsoncEdit {
+            kind: 17,
+            path: &[],
+            name: b"",
+            json: b"",
+            index: 0,
+            first: false,
+            second: false,
+        },
+    ];
+    assert_eq!(rt;
+        jsonc_edit(alloc, TEXT, edits.as_slice(), ALL, &mut out, &mut fault),
+        0
+    );
+    assert_eq!(rt; out, b"{\n  \"a\": [2, true]\n}\n".as_slice());
+    let mut room = [0u8; 8];
+    let mut len = 0usize;
+    assert_eq!(rt;
+        jsonc_edit_into(
+            alloc,
+            TEXT,
+            edits.as_slice(),
+            ALL,
+            room.as_mut_slice(),
+            &mut len,
+            &mut fault
+        ),
+        17
+    );
+    assert_eq!(rt; len, out.len());
+    Ok(())
+}

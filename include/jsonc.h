@@ -1,0 +1,295 @@
+/* The parser and editor of JSON with comments, for C. Made by bench/declare-calls from crates/jsonc_c/src.
+ *
+ * include/README.md says how to link it, and what is trusted.
+ *
+ * - A text is a pointer and a length. The pointer is not null, also where the length is 0: write "" and 0.
+ * - Start a jsonc_text_t with JSONC_NO_TEXT, and a jsonc_fault_t with {0}.
+ * - What a call hands out is one block of malloc: free it with jsonc_free. On a status other than 0 there is none.
+ * - Each call answers a status. Texts, names, paths and JSON texts are UTF-8. A path is a JSON text, an array of names.
+ * - Paths and JSON texts are read with all options on, the text with those that are given.
+ * - Calls share nothing: any number of threads may make them at once.
+ */
+#ifndef JSONC_H
+#define JSONC_H
+#include <stdbool.h>
+#include <stddef.h>
+#include <stdint.h>
+#include <stdlib.h>
+
+#ifdef __cplusplus
+extern "C" {
+#define JSONC_ASSERT(holds) static_assert(holds, "jsonc.h is of x86-64")
+#else
+#define JSONC_ASSERT(holds) _Static_assert(holds, "jsonc.h is of x86-64")
+#endif
+
+/* Bytes of UTF-8. */
+typedef struct {
+  const uint8_t *at;
+  size_t len;
+} jsonc_text_t;
+JSONC_ASSERT(sizeof(jsonc_text_t) == 16);
+
+/* Steps of a path, each a place among elements or properties, from 0. */
+typedef struct {
+  const size_t *at;
+  size_t len;
+} jsonc_path_t;
+JSONC_ASSERT(sizeof(jsonc_path_t) == 16);
+
+#define JSONC_NO_TEXT {(const uint8_t *)"", 0}
+
+/* What calls answer. */
+enum jsonc_status {
+  JSONC_OK = 0, /* It succeeded. */
+  JSONC_OUT_OF_MEMORY = 1, /* An allocation failed. */
+  JSONC_WORD_NOT_UTF8 = 2, /* A name, path or JSON text is not UTF-8. */
+  JSONC_NOT_UTF8 = 3, /* The text is not UTF-8. */
+  JSONC_TEXT = 4, /* The text is no document. The fault tells what is wrong with it. */
+  JSONC_PATH = 5, /* The path is no document. The fault tells what is wrong with it. */
+  JSONC_NOT_NAMES = 6, /* The path is no array of strings. */
+  JSONC_JSON = 7, /* The JSON text of a value is no document. The fault tells what is wrong with it. */
+  JSONC_NO_VALUE = 8, /* The JSON text has no value. */
+  JSONC_NOT_OBJECT = 9, /* The document's value is no object. */
+  JSONC_NOT_ARRAY = 10, /* The document's value is no array. */
+  JSONC_NO_SETTING = 11, /* Nothing stands at the path. */
+  JSONC_ON_THE_WAY = 12, /* A value of another kind than an object stands on the path. */
+  JSONC_NO_SUCH_PLACE = 13, /* The path of an edit leads to nothing that it needs, or no comment has its number. */
+  JSONC_MISSING_BRACKETS = 14, /* An array or object lacks a bracket. No call answers it of a text. */
+  JSONC_MISSING_NAME = 15, /* A property lacks its name or colon. No call answers it of a text. */
+  JSONC_NO_SUCH_EDIT = 16, /* No edit has this kind. */
+  JSONC_NO_ROOM = 17, /* The caller's buffer is too small. How long the text is stands behind the pointer for its length. */
+  JSONC_OTHER = 18, /* Anything else. No call answers it. */
+};
+
+/* What a text may hold beyond JSON. */
+enum jsonc_options {
+  JSONC_JSON_ALONE = 0,
+  JSONC_ALLOW_COMMENTS = 1,
+  JSONC_ALLOW_LOOSE_OBJECT_PROPERTY_NAMES = 2,
+  JSONC_ALLOW_TRAILING_COMMAS = 4,
+  JSONC_ALLOW_MISSING_COMMAS = 8,
+  JSONC_ALLOW_SINGLE_QUOTED_STRINGS = 16,
+  JSONC_ALLOW_HEXADECIMAL_NUMBERS = 32,
+  JSONC_ALLOW_UNARY_PLUS_NUMBERS = 64,
+  JSONC_ALLOW_BARE_DECIMAL_POINT_NUMBERS = 128,
+  JSONC_ALLOW_NON_FINITE_NUMBERS = 256,
+  JSONC_ALLOW_EXTENDED_STRING_ESCAPES = 512,
+  JSONC_WITH_COMMENTS = JSONC_ALLOW_COMMENTS | JSONC_ALLOW_TRAILING_COMMAS, /* as VS Code reads its settings */
+  JSONC_ALL = 1023
+};
+
+/* What is wrong with a text (docs/FAULTS.md). */
+enum jsonc_kind {
+  JSONC_KIND_STRING_INVALID_ESCAPE_IN_SINGLE_QUOTE_STRING = 101,
+  JSONC_KIND_STRING_INVALID_ESCAPE_IN_DOUBLE_QUOTE_STRING = 102,
+  JSONC_KIND_STRING_EXPECTED_FOUR_HEX_DIGITS = 103,
+  JSONC_KIND_STRING_EXPECTED_TWO_HEX_DIGITS = 104,
+  JSONC_KIND_STRING_INVALID_UNICODE_ESCAPE_SEQUENCE = 105,
+  JSONC_KIND_STRING_INVALID_ESCAPE = 106,
+  JSONC_KIND_STRING_UNTERMINATED_STRING_LITERAL = 107,
+  JSONC_KIND_STRING_OUT_OF_MEMORY = 108,
+  JSONC_KIND_BARE_DECIMAL_POINT_NUMBERS_NOT_ALLOWED = 1,
+  JSONC_KIND_COMMENTS_NOT_ALLOWED = 2,
+  JSONC_KIND_EXPECTED_COLON_AFTER_OBJECT_KEY = 3,
+  JSONC_KIND_EXPECTED_OBJECT_VALUE = 4,
+  JSONC_KIND_EXPECTED_DIGIT = 5,
+  JSONC_KIND_EXPECTED_DIGIT_FOLLOWING_NEGATIVE_SIGN = 6,
+  JSONC_KIND_EXPECTED_PLUS_MINUS_OR_DIGIT_IN_NUMBER_LITERAL = 7,
+  JSONC_KIND_EXPECTED_STRING_OBJECT_PROPERTY = 8,
+  JSONC_KIND_HEXADECIMAL_NUMBERS_NOT_ALLOWED = 9,
+  JSONC_KIND_EXPECTED_COMMA = 10,
+  JSONC_KIND_MULTIPLE_ROOT_JSON_VALUES = 11,
+  JSONC_KIND_NON_FINITE_NUMBERS_NOT_ALLOWED = 12,
+  JSONC_KIND_SINGLE_QUOTED_STRINGS_NOT_ALLOWED = 13,
+  JSONC_KIND_TRAILING_COMMAS_NOT_ALLOWED = 15,
+  JSONC_KIND_UNARY_PLUS_NUMBERS_NOT_ALLOWED = 16,
+  JSONC_KIND_UNEXPECTED_CLOSE_BRACE = 17,
+  JSONC_KIND_UNEXPECTED_CLOSE_BRACKET = 18,
+  JSONC_KIND_UNEXPECTED_COLON = 19,
+  JSONC_KIND_UNEXPECTED_COMMA = 20,
+  JSONC_KIND_UNEXPECTED_TOKEN = 21,
+  JSONC_KIND_UNEXPECTED_TOKEN_IN_OBJECT = 22,
+  JSONC_KIND_UNEXPECTED_WORD = 23,
+  JSONC_KIND_UNTERMINATED_ARRAY = 24,
+  JSONC_KIND_UNTERMINATED_COMMENT_BLOCK = 25,
+  JSONC_KIND_UNTERMINATED_OBJECT = 26,
+  JSONC_KIND_NESTING_DEPTH_EXCEEDED = 27,
+  JSONC_KIND_OUT_OF_MEMORY = 28,
+};
+
+/* What an edit does (docs/EDITS.md). */
+enum jsonc_edit_kind {
+  JSONC_EDIT_REPLACE = 0, /* Replaces the value at the path. */
+  JSONC_EDIT_REMOVE = 1, /* Removes the element or property at the path, or the document's value. */
+  JSONC_EDIT_REMOVE_COMMENT = 2, /* Removes the comment of the number in `index`. */
+  JSONC_EDIT_SET_ROOT = 3, /* Sets the document's value. */
+  JSONC_EDIT_CLEAR_ROOT = 4, /* Removes all that the document has. */
+  JSONC_EDIT_REPLACE_PROPERTY = 5, /* Replaces the property at the path by one of a name and value. */
+  JSONC_EDIT_ENSURE_ROOT = 6, /* Sees that the document has an object, or an array if `first`. */
+  JSONC_EDIT_SET_VALUE = 7, /* Sets the value of the property at the path. */
+  JSONC_EDIT_ENSURE_VALUE = 8, /* Sees that the property at the path has an object, or an array if `first`. */
+  JSONC_EDIT_SET_BOOLEAN = 9, /* Sets the truth value at the path to `first`. */
+  JSONC_EDIT_ENSURE_MULTILINE = 10, /* Puts the array or object at the path on several lines. */
+  JSONC_EDIT_INSERT_ELEMENT = 11, /* Inserts a value into the array at the path, at `index`. */
+  JSONC_EDIT_APPEND_ELEMENT = 12, /* Appends a value to the array at the path. */
+  JSONC_EDIT_INSERT_PROPERTY = 13, /* Inserts a property into the object at the path, at `index`. */
+  JSONC_EDIT_APPEND_PROPERTY = 14, /* Appends a property to the object at the path. */
+  JSONC_EDIT_ENSURE_PROPERTY = 15, /* Sees that the object at the path has an object at the name, or an array if `first`. */
+  JSONC_EDIT_SET_TRAILING_COMMAS = 16, /* Sets trailing commas from the path down, or removes them if `first`. */
+  JSONC_EDIT_SORT = 17, /* Sorts the array or object at the path. */
+};
+
+#define JSONC_FAULT_TEXT_LEN 192
+
+/* What is wrong with a text. All of it is 0 where no text is at fault. */
+typedef struct {
+  uint32_t kind; /* The number of its kind. */
+  size_t made; /* How many edits of a list were made, or read, before the one that was refused. */
+  size_t start; /* The byte offset at which it begins. */
+  size_t end; /* The byte offset at which it ends. */
+  size_t line; /* The line of its start, counted from 1. */
+  size_t column; /* The column of its start in characters, counted from 1. */
+  size_t text_len; /* How many bytes its printed text has here. */
+  char text[JSONC_FAULT_TEXT_LEN]; /* Its printed text, as `Expected comma on line 3 column 7`. */
+} jsonc_fault_t;
+JSONC_ASSERT(sizeof(jsonc_fault_t) == 248);
+JSONC_ASSERT(offsetof(jsonc_fault_t, kind) == 0);
+JSONC_ASSERT(offsetof(jsonc_fault_t, made) == 8);
+JSONC_ASSERT(offsetof(jsonc_fault_t, start) == 16);
+JSONC_ASSERT(offsetof(jsonc_fault_t, end) == 24);
+JSONC_ASSERT(offsetof(jsonc_fault_t, line) == 32);
+JSONC_ASSERT(offsetof(jsonc_fault_t, column) == 40);
+JSONC_ASSERT(offsetof(jsonc_fault_t, text_len) == 48);
+JSONC_ASSERT(offsetof(jsonc_fault_t, text) == 56);
+
+/* An edit: the number of its kind, and of the rest what that kind asks for. */
+typedef struct {
+  uint32_t kind; /* The number of its kind. */
+  jsonc_path_t path; /* The steps of its path, each a place among elements or properties, from 0. */
+  jsonc_text_t name; /* A name. */
+  jsonc_text_t json; /* A value, as a JSON text. */
+  size_t index; /* The place to insert at, or the number of the comment. */
+  bool first; /* An array and no object; the truth value; no trailing commas; or to pin comments. */
+  bool second; /* To replace a value of another kind; or to sort within groups. */
+} jsonc_edit_t;
+JSONC_ASSERT(sizeof(jsonc_edit_t) == 72);
+JSONC_ASSERT(offsetof(jsonc_edit_t, kind) == 0);
+JSONC_ASSERT(offsetof(jsonc_edit_t, path) == 8);
+JSONC_ASSERT(offsetof(jsonc_edit_t, name) == 24);
+JSONC_ASSERT(offsetof(jsonc_edit_t, json) == 40);
+JSONC_ASSERT(offsetof(jsonc_edit_t, index) == 56);
+JSONC_ASSERT(offsetof(jsonc_edit_t, first) == 64);
+JSONC_ASSERT(offsetof(jsonc_edit_t, second) == 65);
+
+/*
+ * Checks whether a text is a document.
+ *
+ * 0: it is a document of the options. 1: an allocation failed. 3: it is not UTF-8. 4: it is no document within
+ * the nesting, and the fault tells what is wrong with it.
+ */
+uint32_t jsonc_check(const void *text, size_t text_len, uint32_t options, jsonc_fault_t *fault);
+
+/*
+ * Hands out the text that the document prints, which is the text itself.
+ *
+ * 0: it is a document of the options. 1, 3 and 4 as of `jsonc_check`.
+ */
+uint32_t jsonc_print(const void *text, size_t text_len, uint32_t options, jsonc_text_t *out, jsonc_fault_t *fault);
+
+/*
+ * Sets the value of the first property of a name in the document's object to that of a JSON text, or appends
+ * such a property. A document without a value gets an object.
+ *
+ * 0: it is done. 1, 3 and 4 as of `jsonc_check`. 2: the name or JSON text is not UTF-8. 7 and 8: the JSON text
+ * is no document, or has no value. 9: the document's value is another.
+ */
+uint32_t jsonc_set(const void *text, size_t text_len, const void *name, size_t name_len, const void *json,
+                   size_t json_len, uint32_t options, jsonc_text_t *out, jsonc_fault_t *fault);
+
+/*
+ * Appends the value of a JSON text to the document's array. A document without a value gets an array.
+ *
+ * 10: the document's value is another. Else as `jsonc_set`.
+ */
+uint32_t jsonc_append(const void *text, size_t text_len, const void *json, size_t json_len, uint32_t options,
+                      jsonc_text_t *out, jsonc_fault_t *fault);
+
+/*
+ * Removes the first property of a name from the document's object. Where it has none the text stays as it is.
+ *
+ * 0: it is done. 1, 3 and 4 as of `jsonc_check`. 2: the name is not UTF-8. 9: the document's value is no
+ * object.
+ */
+uint32_t jsonc_remove(const void *text, size_t text_len, const void *name, size_t name_len, uint32_t options,
+                      jsonc_text_t *out, jsonc_fault_t *fault);
+
+/*
+ * Sorts the properties of the document's object by their names as they are written, without quotes, byte by
+ * byte.
+ *
+ * 0: it is done. 1, 3 and 4 as of `jsonc_check`. 9: the document's value is no object.
+ */
+uint32_t jsonc_sort(const void *text, size_t text_len, uint32_t options, jsonc_text_t *out, jsonc_fault_t *fault);
+
+/*
+ * Hands out the value at a path as it is written. The path is a JSON text, an array of names.
+ *
+ * 0: it is done. 1, 3 and 4 as of `jsonc_check`. 2: the path is not UTF-8. 5 and 6: it is no document, or no
+ * array of strings. 11: nothing stands there.
+ */
+uint32_t jsonc_get(const void *text, size_t text_len, const void *path, size_t path_len, uint32_t options,
+                   jsonc_text_t *out, jsonc_fault_t *fault);
+
+/*
+ * Puts the value of a JSON text at a path. Names that are missing come with it.
+ *
+ * 12: a value of another kind than an object stands on the path, and stays. Else as `jsonc_get` and
+ * `jsonc_set`.
+ */
+uint32_t jsonc_put(const void *text, size_t text_len, const void *path, size_t path_len, const void *json,
+                   size_t json_len, uint32_t options, jsonc_text_t *out, jsonc_fault_t *fault);
+
+/*
+ * Drops what stands at a path. Where nothing stands there the text stays as it is.
+ *
+ * As `jsonc_get`, but never 11.
+ */
+uint32_t jsonc_drop(const void *text, size_t text_len, const void *path, size_t path_len, uint32_t options,
+                    jsonc_text_t *out, jsonc_fault_t *fault);
+
+/*
+ * Makes edits in order, and hands out the text after them. Where one is refused, none is made.
+ *
+ * 0: it is done. 1, 3 and 4 as of `jsonc_check`. 2: a name or JSON text is not UTF-8. 7 and 8: a JSON text is
+ * no document, or has no value. 13: an edit has no place. 16: an edit has no such kind. The fault tells how
+ * many edits stand before it.
+ */
+uint32_t jsonc_edit(const void *text, size_t text_len, const jsonc_edit_t *edits, size_t edits_len,
+                    uint32_t options, jsonc_text_t *out, jsonc_fault_t *fault);
+
+/*
+ * Writes the value at a path, as it is written, into a buffer, as `jsonc_get` hands it out.
+ *
+ * 17: the buffer is too small. `len` tells how long the value is then, too.
+ */
+uint32_t jsonc_get_into(const void *text, size_t text_len, const void *path, size_t path_len, uint32_t options,
+                        void *room, size_t room_len, size_t *len, jsonc_fault_t *fault);
+
+/*
+ * Writes the text after edits into a buffer, as `jsonc_edit` hands it out.
+ *
+ * 17: the buffer is too small. `len` tells how long the text is then, too.
+ */
+uint32_t jsonc_edit_into(const void *text, size_t text_len, const jsonc_edit_t *edits, size_t edits_len,
+                         uint32_t options, void *room, size_t room_len, size_t *len, jsonc_fault_t *fault);
+
+/* Frees a text that was handed out. */
+static inline void jsonc_free(jsonc_text_t text) {
+  if (text.len) free((void *)text.at);
+}
+
+#ifdef __cplusplus
+}
+#endif
+#endif

@@ -1,0 +1,132 @@
+//! The calls.
+use crate::edit::Edit;
+use crate::error::Error;
+use crate::text::Text;
+use crate::{Options, ffi};
+
+/// A fault with all of it 0.
+fn no_fault() -> ffi::Fault {
+    ffi::Fault { kind: 0, made: 0, start: 0, end: 0, line: 0, column: 0, text_len: 0, text: [0; ffi::FAULT_TEXT_LEN] }
+}
+
+/// The JSON text of these names.
+fn path(names: &[&str]) -> String {
+    let mut text = String::from("[");
+    for (count, name) in names.iter().enumerate() {
+        text.push_str(if count == 0 { "\"" } else { ",\"" });
+        for c in name.chars() {
+            if c == '"' || c == '\\' {
+                text.push('\\');
+            }
+            text.push(c);
+        }
+        text.push('"');
+    }
+    text.push(']');
+    text
+}
+
+/// What a call of these texts hands out.
+macro_rules! handed {
+    ($call:ident, $options:expr $(, $text:expr)*) => {{
+        let (mut out, mut fault) = (Text::NONE, no_fault());
+        // SAFETY: `ffi` declares the call as the library has it; the pointers and lengths are those of texts that are
+        // borrowed for the call, and `out` and `fault` are this function's own.
+        let status = unsafe { ffi::$call($($text.as_ptr(), $text.len(),)* $options.bits(), &mut out, &mut fault) };
+        match status {
+            ffi::OK => Ok(Text::of(out)),
+            status => Err(Error::of(status, &fault, 0)),
+        }
+    }};
+}
+
+/// Whether the text is a document of the options.
+pub fn check(text: &str, options: Options) -> Result<(), Error> {
+    let mut fault = no_fault();
+    // SAFETY: as in `handed`.
+    match unsafe { ffi::jsonc_check(text.as_ptr(), text.len(), options.bits(), &mut fault) } {
+        ffi::OK => Ok(()),
+        status => Err(Error::of(status, &fault, 0)),
+    }
+}
+
+/// The text that the document prints, which is the text itself.
+pub fn print(text: &str, options: Options) -> Result<Text, Error> {
+    handed!(jsonc_print, options, text)
+}
+
+/// Sets the value of the first property of a name in the document's object, or appends one.
+pub fn set(text: &str, options: Options, name: &str, value: &str) -> Result<Text, Error> {
+    handed!(jsonc_set, options, text, name, value)
+}
+
+/// Appends a value to the document's array.
+pub fn append(text: &str, options: Options, value: &str) -> Result<Text, Error> {
+    handed!(jsonc_append, options, text, value)
+}
+
+/// Removes the first property of a name from the document's object, if there is one.
+pub fn remove(text: &str, options: Options, name: &str) -> Result<Text, Error> {
+    handed!(jsonc_remove, options, text, name)
+}
+
+/// Sorts the properties of the document's object by their names as they are written.
+pub fn sort(text: &str, options: Options) -> Result<Text, Error> {
+    handed!(jsonc_sort, options, text)
+}
+
+/// The value at a path of names as it is written, if there is one.
+pub fn get(text: &str, options: Options, names: &[&str]) -> Result<Option<Text>, Error> {
+    let path = path(names);
+    match handed!(jsonc_get, options, text, path) {
+        Ok(value) => Ok(Some(value)),
+        Err(Error::Other(ffi::NO_SETTING)) => Ok(None),
+        Err(error) => Err(error),
+    }
+}
+
+/// Puts a value at a path of names. Names that are missing come with it.
+pub fn put(text: &str, options: Options, names: &[&str], value: &str) -> Result<Text, Error> {
+    let path = path(names);
+    handed!(jsonc_put, options, text, path, value)
+}
+
+/// Drops what stands at a path of names, if anything does.
+pub fn drop_at(text: &str, options: Options, names: &[&str]) -> Result<Text, Error> {
+    let path = path(names);
+    handed!(jsonc_drop, options, text, path)
+}
+
+/// Makes edits in order. Where one is refused, none is made.
+pub fn edit(text: &str, options: Options, edits: &[Edit]) -> Result<Text, Error> {
+    let edits: Vec<ffi::Edit> = edits.iter().map(Edit::listed).collect();
+    handed!(jsonc_edit, options, text, edits)
+}
+
+/// Writes the value at a path of names into a buffer, and answers its length, if there is one.
+pub fn get_into(text: &str, options: Options, names: &[&str], room: &mut [u8]) -> Result<Option<usize>, Error> {
+    let (path, mut len, mut fault) = (path(names), 0, no_fault());
+    // SAFETY: as in `handed`; the buffer too is borrowed for the call.
+    let status = unsafe {
+        ffi::jsonc_get_into(text.as_ptr(), text.len(), path.as_ptr(), path.len(), options.bits(), room.as_mut_ptr(), room.len(), &mut len, &mut fault)
+    };
+    match status {
+        ffi::OK => Ok(Some(len)),
+        ffi::NO_SETTING => Ok(None),
+        status => Err(Error::of(status, &fault, len)),
+    }
+}
+
+/// Writes the text after edits into a buffer, and answers its length.
+pub fn edit_into(text: &str, options: Options, edits: &[Edit], room: &mut [u8]) -> Result<usize, Error> {
+    let edits: Vec<ffi::Edit> = edits.iter().map(Edit::listed).collect();
+    let (mut len, mut fault) = (0, no_fault());
+    // SAFETY: as in `get_into`.
+    let status = unsafe {
+        ffi::jsonc_edit_into(text.as_ptr(), text.len(), edits.as_ptr(), edits.len(), options.bits(), room.as_mut_ptr(), room.len(), &mut len, &mut fault)
+    };
+    match status {
+        ffi::OK => Ok(len),
+        status => Err(Error::of(status, &fault, len)),
+    }
+}

@@ -1,0 +1,97 @@
+//! Why a call did not do what was asked.
+use crate::ffi;
+use std::fmt;
+
+/// What is wrong with a text, and where.
+#[derive(Clone, Debug, PartialEq, Eq)]
+pub struct Fault {
+    /// The kind, as `UNEXPECTED_TOKEN`.
+    pub kind: &'static str,
+    /// The bytes that it is told of.
+    pub range: std::ops::Range<usize>,
+    /// The line of their start, counted from 1.
+    pub line: usize,
+    /// The column of their start in characters, counted from 1.
+    pub column: usize,
+    text: String,
+}
+
+impl Fault {
+    pub(crate) fn of(fault: &ffi::Fault) -> Fault {
+        let kind = ffi::KINDS.iter().find(|(number, _)| *number == fault.kind).map_or("", |(_, name)| name);
+        let text = &fault.text[..fault.text_len.min(ffi::FAULT_TEXT_LEN)];
+        Fault {
+            kind,
+            range: fault.start..fault.end,
+            line: fault.line,
+            column: fault.column,
+            text: String::from_utf8_lossy(text).into_owned(),
+        }
+    }
+}
+
+impl fmt::Display for Fault {
+    fn fmt(&self, f: &mut fmt::Formatter<'_>) -> fmt::Result {
+        f.write_str(&self.text)
+    }
+}
+
+/// Why a call did not do what was asked.
+#[derive(Clone, Debug, PartialEq, Eq)]
+pub enum Error {
+    /// The text is no document.
+    Text(Fault),
+    /// The JSON text of a value is no document.
+    Json(Fault),
+    /// The JSON text of a value has none.
+    NoValue,
+    /// The document's value is no object.
+    NotObject,
+    /// The document's value is no array.
+    NotArray,
+    /// A value of another kind than an object stands on the path.
+    OnTheWay,
+    /// An edit has no place; so many stand before it in the list.
+    NoSuchPlace(usize),
+    /// The buffer is too small; so many bytes are wanted.
+    NoRoom(usize),
+    OutOfMemory,
+    /// Another status, which no call answers here.
+    Other(u32),
+}
+
+impl Error {
+    pub(crate) fn of(status: u32, fault: &ffi::Fault, len: usize) -> Error {
+        match status {
+            ffi::OUT_OF_MEMORY => Error::OutOfMemory,
+            ffi::TEXT => Error::Text(Fault::of(fault)),
+            ffi::JSON => Error::Json(Fault::of(fault)),
+            ffi::NO_VALUE => Error::NoValue,
+            ffi::NOT_OBJECT => Error::NotObject,
+            ffi::NOT_ARRAY => Error::NotArray,
+            ffi::ON_THE_WAY => Error::OnTheWay,
+            ffi::NO_SUCH_PLACE => Error::NoSuchPlace(fault.made),
+            ffi::NO_ROOM => Error::NoRoom(len),
+            other => Error::Other(other),
+        }
+    }
+}
+
+impl fmt::Display for Error {
+    fn fmt(&self, f: &mut fmt::Formatter<'_>) -> fmt::Result {
+        match self {
+            Error::Text(fault) => fault.fmt(f),
+            Error::Json(fault) => write!(f, "value: {fault}"),
+            Error::NoValue => f.write_str("value: no value"),
+            Error::NotObject => f.write_str("root value is not an object"),
+            Error::NotArray => f.write_str("root value is not an array"),
+            Error::OnTheWay => f.write_str("a value on the path is not an object"),
+            Error::NoSuchPlace(made) => write!(f, "No such place, edits made before: {made}"),
+            Error::NoRoom(len) => write!(f, "the text has {len} bytes"),
+            Error::OutOfMemory => f.write_str("Out of memory"),
+            Error::Other(status) => write!(f, "status {status}"),
+        }
+    }
+}
+
+impl std::error::Error for Error {}

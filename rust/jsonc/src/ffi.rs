@@ -1,0 +1,275 @@
+//! The calls of the static library, as it declares them. Made by bench/declare-calls from crates/jsonc_c/src.
+#![allow(dead_code)]
+use std::ffi::c_void;
+use std::mem::offset_of;
+
+/// A pointer that is not null, and how many values stand there.
+#[repr(C)]
+#[derive(Clone, Copy)]
+pub struct Slice<T> {
+    pub at: *const T,
+    pub len: usize,
+}
+const _: () = assert!(size_of::<Slice<u8>>() == 16);
+
+pub const FAULT_TEXT_LEN: usize = 192;
+
+/// It succeeded.
+pub const OK: u32 = 0;
+/// An allocation failed.
+pub const OUT_OF_MEMORY: u32 = 1;
+/// A name, path or JSON text is not UTF-8.
+pub const WORD_NOT_UTF8: u32 = 2;
+/// The text is not UTF-8.
+pub const NOT_UTF8: u32 = 3;
+/// The text is no document. The fault tells what is wrong with it.
+pub const TEXT: u32 = 4;
+/// The path is no document. The fault tells what is wrong with it.
+pub const PATH: u32 = 5;
+/// The path is no array of strings.
+pub const NOT_NAMES: u32 = 6;
+/// The JSON text of a value is no document. The fault tells what is wrong with it.
+pub const JSON: u32 = 7;
+/// The JSON text has no value.
+pub const NO_VALUE: u32 = 8;
+/// The document's value is no object.
+pub const NOT_OBJECT: u32 = 9;
+/// The document's value is no array.
+pub const NOT_ARRAY: u32 = 10;
+/// Nothing stands at the path.
+pub const NO_SETTING: u32 = 11;
+/// A value of another kind than an object stands on the path.
+pub const ON_THE_WAY: u32 = 12;
+/// The path of an edit leads to nothing that it needs, or no comment has its number.
+pub const NO_SUCH_PLACE: u32 = 13;
+/// An array or object lacks a bracket. No call answers it of a text.
+pub const MISSING_BRACKETS: u32 = 14;
+/// A property lacks its name or colon. No call answers it of a text.
+pub const MISSING_NAME: u32 = 15;
+/// No edit has this kind.
+pub const NO_SUCH_EDIT: u32 = 16;
+/// The caller's buffer is too small. How long the text is stands behind the pointer for its length.
+pub const NO_ROOM: u32 = 17;
+/// Anything else. No call answers it.
+pub const OTHER: u32 = 18;
+
+pub const ALLOW_COMMENTS: u32 = 1;
+pub const ALLOW_LOOSE_OBJECT_PROPERTY_NAMES: u32 = 2;
+pub const ALLOW_TRAILING_COMMAS: u32 = 4;
+pub const ALLOW_MISSING_COMMAS: u32 = 8;
+pub const ALLOW_SINGLE_QUOTED_STRINGS: u32 = 16;
+pub const ALLOW_HEXADECIMAL_NUMBERS: u32 = 32;
+pub const ALLOW_UNARY_PLUS_NUMBERS: u32 = 64;
+pub const ALLOW_BARE_DECIMAL_POINT_NUMBERS: u32 = 128;
+pub const ALLOW_NON_FINITE_NUMBERS: u32 = 256;
+pub const ALLOW_EXTENDED_STRING_ESCAPES: u32 = 512;
+
+/// The kinds of faults by their numbers.
+pub const KINDS: [(u32, &str); 35] = [
+    (101, "STRING_INVALID_ESCAPE_IN_SINGLE_QUOTE_STRING"),
+    (102, "STRING_INVALID_ESCAPE_IN_DOUBLE_QUOTE_STRING"),
+    (103, "STRING_EXPECTED_FOUR_HEX_DIGITS"),
+    (104, "STRING_EXPECTED_TWO_HEX_DIGITS"),
+    (105, "STRING_INVALID_UNICODE_ESCAPE_SEQUENCE"),
+    (106, "STRING_INVALID_ESCAPE"),
+    (107, "STRING_UNTERMINATED_STRING_LITERAL"),
+    (108, "STRING_OUT_OF_MEMORY"),
+    (1, "BARE_DECIMAL_POINT_NUMBERS_NOT_ALLOWED"),
+    (2, "COMMENTS_NOT_ALLOWED"),
+    (3, "EXPECTED_COLON_AFTER_OBJECT_KEY"),
+    (4, "EXPECTED_OBJECT_VALUE"),
+    (5, "EXPECTED_DIGIT"),
+    (6, "EXPECTED_DIGIT_FOLLOWING_NEGATIVE_SIGN"),
+    (7, "EXPECTED_PLUS_MINUS_OR_DIGIT_IN_NUMBER_LITERAL"),
+    (8, "EXPECTED_STRING_OBJECT_PROPERTY"),
+    (9, "HEXADECIMAL_NUMBERS_NOT_ALLOWED"),
+    (10, "EXPECTED_COMMA"),
+    (11, "MULTIPLE_ROOT_JSON_VALUES"),
+    (12, "NON_FINITE_NUMBERS_NOT_ALLOWED"),
+    (13, "SINGLE_QUOTED_STRINGS_NOT_ALLOWED"),
+    (15, "TRAILING_COMMAS_NOT_ALLOWED"),
+    (16, "UNARY_PLUS_NUMBERS_NOT_ALLOWED"),
+    (17, "UNEXPECTED_CLOSE_BRACE"),
+    (18, "UNEXPECTED_CLOSE_BRACKET"),
+    (19, "UNEXPECTED_COLON"),
+    (20, "UNEXPECTED_COMMA"),
+    (21, "UNEXPECTED_TOKEN"),
+    (22, "UNEXPECTED_TOKEN_IN_OBJECT"),
+    (23, "UNEXPECTED_WORD"),
+    (24, "UNTERMINATED_ARRAY"),
+    (25, "UNTERMINATED_COMMENT_BLOCK"),
+    (26, "UNTERMINATED_OBJECT"),
+    (27, "NESTING_DEPTH_EXCEEDED"),
+    (28, "OUT_OF_MEMORY"),
+];
+
+/// Replaces the value at the path.
+pub const EDIT_REPLACE: u32 = 0;
+/// Removes the element or property at the path, or the document's value.
+pub const EDIT_REMOVE: u32 = 1;
+/// Removes the comment of the number in `index`.
+pub const EDIT_REMOVE_COMMENT: u32 = 2;
+/// Sets the document's value.
+pub const EDIT_SET_ROOT: u32 = 3;
+/// Removes all that the document has.
+pub const EDIT_CLEAR_ROOT: u32 = 4;
+/// Replaces the property at the path by one of a name and value.
+pub const EDIT_REPLACE_PROPERTY: u32 = 5;
+/// Sees that the document has an object, or an array if `first`.
+pub const EDIT_ENSURE_ROOT: u32 = 6;
+/// Sets the value of the property at the path.
+pub const EDIT_SET_VALUE: u32 = 7;
+/// Sees that the property at the path has an object, or an array if `first`.
+pub const EDIT_ENSURE_VALUE: u32 = 8;
+/// Sets the truth value at the path to `first`.
+pub const EDIT_SET_BOOLEAN: u32 = 9;
+/// Puts the array or object at the path on several lines.
+pub const EDIT_ENSURE_MULTILINE: u32 = 10;
+/// Inserts a value into the array at the path, at `index`.
+pub const EDIT_INSERT_ELEMENT: u32 = 11;
+/// Appends a value to the array at the path.
+pub const EDIT_APPEND_ELEMENT: u32 = 12;
+/// Inserts a property into the object at the path, at `index`.
+pub const EDIT_INSERT_PROPERTY: u32 = 13;
+/// Appends a property to the object at the path.
+pub const EDIT_APPEND_PROPERTY: u32 = 14;
+/// Sees that the object at the path has an object at the name, or an array if `first`.
+pub const EDIT_ENSURE_PROPERTY: u32 = 15;
+/// Sets trailing commas from the path down, or removes them if `first`.
+pub const EDIT_SET_TRAILING_COMMAS: u32 = 16;
+/// Sorts the array or object at the path.
+pub const EDIT_SORT: u32 = 17;
+
+/// What is wrong with a text. All of it is 0 where no text is at fault.
+#[repr(C)]
+#[derive(Clone, Copy)]
+pub struct Fault {
+    /// The number of its kind.
+    pub kind: u32,
+    /// How many edits of a list were made, or read, before the one that was refused.
+    pub made: usize,
+    /// The byte offset at which it begins.
+    pub start: usize,
+    /// The byte offset at which it ends.
+    pub end: usize,
+    /// The line of its start, counted from 1.
+    pub line: usize,
+    /// The column of its start in characters, counted from 1.
+    pub column: usize,
+    /// How many bytes its printed text has here.
+    pub text_len: usize,
+    /// Its printed text, as `Expected comma on line 3 column 7`.
+    pub text: [u8; FAULT_TEXT_LEN],
+}
+const _: () = assert!(size_of::<Fault>() == 248);
+const _: () = assert!(offset_of!(Fault, kind) == 0);
+const _: () = assert!(offset_of!(Fault, made) == 8);
+const _: () = assert!(offset_of!(Fault, start) == 16);
+const _: () = assert!(offset_of!(Fault, end) == 24);
+const _: () = assert!(offset_of!(Fault, line) == 32);
+const _: () = assert!(offset_of!(Fault, column) == 40);
+const _: () = assert!(offset_of!(Fault, text_len) == 48);
+const _: () = assert!(offset_of!(Fault, text) == 56);
+
+/// An edit: the number of its kind, and of the rest what that kind asks for.
+#[repr(C)]
+#[derive(Clone, Copy)]
+pub struct Edit {
+    /// The number of its kind.
+    pub kind: u32,
+    /// The steps of its path, each a place among elements or properties, from 0.
+    pub path: Slice<usize>,
+    /// A name.
+    pub name: Slice<u8>,
+    /// A value, as a JSON text.
+    pub json: Slice<u8>,
+    /// The place to insert at, or the number of the comment.
+    pub index: usize,
+    /// An array and no object; the truth value; no trailing commas; or to pin comments.
+    pub first: bool,
+    /// To replace a value of another kind; or to sort within groups.
+    pub second: bool,
+}
+const _: () = assert!(size_of::<Edit>() == 72);
+const _: () = assert!(offset_of!(Edit, kind) == 0);
+const _: () = assert!(offset_of!(Edit, path) == 8);
+const _: () = assert!(offset_of!(Edit, name) == 24);
+const _: () = assert!(offset_of!(Edit, json) == 40);
+const _: () = assert!(offset_of!(Edit, index) == 56);
+const _: () = assert!(offset_of!(Edit, first) == 64);
+const _: () = assert!(offset_of!(Edit, second) == 65);
+
+unsafe extern "C" {
+    /// Checks whether a text is a document.
+    ///
+    /// 0: it is a document of the options. 1: an allocation failed. 3: it is not UTF-8. 4: it is no document
+    /// within the nesting, and the fault tells what is wrong with it.
+    pub fn jsonc_check(text: *const u8, text_len: usize, options: u32, fault: *mut Fault) -> u32;
+
+    /// Hands out the text that the document prints, which is the text itself.
+    ///
+    /// 0: it is a document of the options. 1, 3 and 4 as of `jsonc_check`.
+    pub fn jsonc_print(text: *const u8, text_len: usize, options: u32, out: *mut Slice<u8>, fault: *mut Fault) -> u32;
+
+    /// Sets the value of the first property of a name in the document's object to that of a JSON text, or
+    /// appends such a property. A document without a value gets an object.
+    ///
+    /// 0: it is done. 1, 3 and 4 as of `jsonc_check`. 2: the name or JSON text is not UTF-8. 7 and 8: the JSON
+    /// text is no document, or has no value. 9: the document's value is another.
+    pub fn jsonc_set(text: *const u8, text_len: usize, name: *const u8, name_len: usize, json: *const u8, json_len: usize, options: u32, out: *mut Slice<u8>, fault: *mut Fault) -> u32;
+
+    /// Appends the value of a JSON text to the document's array. A document without a value gets an array.
+    ///
+    /// 10: the document's value is another. Else as `jsonc_set`.
+    pub fn jsonc_append(text: *const u8, text_len: usize, json: *const u8, json_len: usize, options: u32, out: *mut Slice<u8>, fault: *mut Fault) -> u32;
+
+    /// Removes the first property of a name from the document's object. Where it has none the text stays as it
+    /// is.
+    ///
+    /// 0: it is done. 1, 3 and 4 as of `jsonc_check`. 2: the name is not UTF-8. 9: the document's value is no
+    /// object.
+    pub fn jsonc_remove(text: *const u8, text_len: usize, name: *const u8, name_len: usize, options: u32, out: *mut Slice<u8>, fault: *mut Fault) -> u32;
+
+    /// Sorts the properties of the document's object by their names as they are written, without quotes, byte
+    /// by byte.
+    ///
+    /// 0: it is done. 1, 3 and 4 as of `jsonc_check`. 9: the document's value is no object.
+    pub fn jsonc_sort(text: *const u8, text_len: usize, options: u32, out: *mut Slice<u8>, fault: *mut Fault) -> u32;
+
+    /// Hands out the value at a path as it is written. The path is a JSON text, an array of names.
+    ///
+    /// 0: it is done. 1, 3 and 4 as of `jsonc_check`. 2: the path is not UTF-8. 5 and 6: it is no document, or
+    /// no array of strings. 11: nothing stands there.
+    pub fn jsonc_get(text: *const u8, text_len: usize, path: *const u8, path_len: usize, options: u32, out: *mut Slice<u8>, fault: *mut Fault) -> u32;
+
+    /// Puts the value of a JSON text at a path. Names that are missing come with it.
+    ///
+    /// 12: a value of another kind than an object stands on the path, and stays. Else as `jsonc_get` and
+    /// `jsonc_set`.
+    pub fn jsonc_put(text: *const u8, text_len: usize, path: *const u8, path_len: usize, json: *const u8, json_len: usize, options: u32, out: *mut Slice<u8>, fault: *mut Fault) -> u32;
+
+    /// Drops what stands at a path. Where nothing stands there the text stays as it is.
+    ///
+    /// As `jsonc_get`, but never 11.
+    pub fn jsonc_drop(text: *const u8, text_len: usize, path: *const u8, path_len: usize, options: u32, out: *mut Slice<u8>, fault: *mut Fault) -> u32;
+
+    /// Makes edits in order, and hands out the text after them. Where one is refused, none is made.
+    ///
+    /// 0: it is done. 1, 3 and 4 as of `jsonc_check`. 2: a name or JSON text is not UTF-8. 7 and 8: a JSON text
+    /// is no document, or has no value. 13: an edit has no place. 16: an edit has no such kind. The fault tells
+    /// how many edits stand before it.
+    pub fn jsonc_edit(text: *const u8, text_len: usize, edits: *const Edit, edits_len: usize, options: u32, out: *mut Slice<u8>, fault: *mut Fault) -> u32;
+
+    /// Writes the value at a path, as it is written, into a buffer, as `jsonc_get` hands it out.
+    ///
+    /// 17: the buffer is too small. `len` tells how long the value is then, too.
+    pub fn jsonc_get_into(text: *const u8, text_len: usize, path: *const u8, path_len: usize, options: u32, room: *mut u8, room_len: usize, len: *mut usize, fault: *mut Fault) -> u32;
+
+    /// Writes the text after edits into a buffer, as `jsonc_edit` hands it out.
+    ///
+    /// 17: the buffer is too small. `len` tells how long the text is then, too.
+    pub fn jsonc_edit_into(text: *const u8, text_len: usize, edits: *const Edit, edits_len: usize, options: u32, room: *mut u8, room_len: usize, len: *mut usize, fault: *mut Fault) -> u32;
+
+    /// The C library's.
+    pub fn free(at: *mut c_void);
+}

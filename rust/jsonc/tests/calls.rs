@@ -1,0 +1,114 @@
+//! Each call: its text, its faults, and its threads.
+use jsonc::{Edit, Error, Options, Shape, append, check, drop_at, edit, edit_into, get, get_into, print, put, remove, set, sort};
+
+const TEXT: &str = "{\n  // one\n  \"a\": 1, // first\n  \"b\": {\"c\": [1, 2]},\n}\n";
+
+fn made(result: Result<jsonc::Text, Error>) -> String {
+    result.expect("it is made").to_string()
+}
+
+#[test]
+fn a_text_prints_as_it_is() {
+    for text in ["", " ", "null", TEXT, "[1,2 /* c */ ,3]", "{a:'\\x41',}", "\u{e9}".repeat(0).as_str()] {
+        assert_eq!(check(text, Options::ALL), Ok(()));
+        assert_eq!(made(print(text, Options::ALL)), text);
+    }
+}
+
+#[test]
+fn a_fault_has_its_place_and_text() {
+    // (the Rust crate jsonc-parser 0.34.0 tells the same)
+    let rows = [
+        ("[1,\n @]", Options::ALL, "UNEXPECTED_TOKEN", 5..6, 2, 2, "Unexpected token on line 2 column 2"),
+        ("[1, /* c ]", Options::ALL, "UNTERMINATED_COMMENT_BLOCK", 4..10, 1, 5, "Unterminated comment block on line 1 column 5"),
+        ("[1,]", Options::JSON, "TRAILING_COMMAS_NOT_ALLOWED", 2..3, 1, 3, "Trailing commas are not allowed on line 1 column 3"),
+        ("// c", Options::JSON, "COMMENTS_NOT_ALLOWED", 0..4, 1, 1, "Comments are not allowed on line 1 column 1"),
+        ("{\"a\"", Options::ALL, "EXPECTED_COLON_AFTER_OBJECT_KEY", 4..4, 1, 5, "Expected colon after the string or word in object property on line 1 column 5"),
+    ];
+    for (text, options, kind, range, line, column, printed) in rows {
+        for refused in [check(text, options), print(text, options).map(drop)] {
+            let Err(Error::Text(fault)) = refused else { panic!("{text} is refused: {refused:?}") };
+            assert_eq!((fault.kind, fault.range.clone(), fault.line, fault.column), (kind, range.clone(), line, column), "{text}");
+            assert_eq!(fault.to_string(), printed);
+        }
+    }
+    assert!(matches!(set("{}", Options::ALL, "a", "dark"), Err(Error::Json(_))));
+    assert!(matches!(set("[]", Options::ALL, "a", "1"), Err(Error::NotObject)));
+    assert!(matches!(append("{}", Options::ALL, "1"), Err(Error::NotArray)));
+    assert!(matches!(put("[]", Options::ALL, &["a"], "1"), Err(Error::OnTheWay)));
+    assert!(matches!(put("{}", Options::ALL, &["a"], " "), Err(Error::NoValue)));
+}
+
+#[test]
+fn edits_keep_the_rest() {
+    assert_eq!(made(set(TEXT, Options::ALL, "a", "2")), TEXT.replace("\"a\": 1", "\"a\": 2"));
+    assert_eq!(made(put(TEXT, Options::ALL, &["b", "c"], "[]")), TEXT.replace("[1, 2]", "[]"));
+    assert_eq!(made(append("[1, 2]", Options::ALL, "9")), "[1, 2, 9]");
+    assert_eq!(made(remove("{ \"a\": 1, \"b\": 2 }", Options::ALL, "b")), "{ \"a\": 1 }");
+    assert_eq!(made(drop_at("{ \"a\": 1, \"b\": 2 }", Options::ALL, &["b"])), "{ \"a\": 1 }");
+    assert_eq!(made(drop_at(TEXT, Options::ALL, &["z"])), TEXT);
+    assert_eq!(made(sort("{\"b\":1,\"a\":2}", Options::ALL)), "{\"a\":2,\"b\":1}");
+}
+
+#[test]
+fn values_are_read_as_they_are_written() {
+    assert_eq!(get(TEXT, Options::ALL, &["b", "c"]).expect("it is read").as_deref(), Some("[1, 2]"));
+    assert!(get(TEXT, Options::ALL, &["b", "d"]).expect("it is read").is_none());
+    assert_eq!(get("{\"a\\\"\\\\\\n\": 1}", Options::ALL, &["a\"\\\n"]).expect("it is read").as_deref(), Some("1"));
+    let mut room = [0; 6];
+    assert_eq!(get_into(TEXT, Options::ALL, &["b", "c"], &mut room), Ok(Some(6)));
+    assert_eq!(&room, b"[1, 2]");
+    assert_eq!(get_into(TEXT, Options::ALL, &["b", "c"], &mut room[..5]), Err(Error::NoRoom(6)));
+    assert_eq!(get_into(TEXT, Options::ALL, &["z"], &mut room), Ok(None));
+}
+
+#[test]
+fn each_edit_is_made() {
+    // (docs/EDITS.md has these, or the Rust crate answers them so)
+    let list = |edits: &[Edit], text: &str| made(edit(text, Options::ALL, edits));
+    let at = |steps: &[usize]| steps.to_vec();
+    let value = || "9".to_string();
+    let name = || "z".to_string();
+    let none: Vec<usize> = vec![];
+    assert_eq!(list(&[Edit::Replace { path: at(&[1]), value: value() }], "[1, 2]"), "[1, 9]");
+    assert_eq!(list(&[Edit::Remove { path: at(&[1]) }], "[1, 2]"), "[1]");
+    assert_eq!(list(&[Edit::RemoveComment { index: 0 }], "[1/*c*/2]"), "[1 2]");
+    assert_eq!(list(&[Edit::SetRoot { value: value() }], "// c"), "// c\n9\n");
+    assert_eq!(list(&[Edit::ClearRoot], TEXT), "");
+    assert_eq!(list(&[Edit::ReplaceProperty { path: at(&[0]), name: name(), value: value() }], "{\"a\": 1}"), "{\"z\": 9}");
+    assert_eq!(list(&[Edit::EnsureRoot { shape: Shape::Array, replace: true }], "1"), "[]");
+    assert_eq!(list(&[Edit::EnsureRoot { shape: Shape::Array, replace: false }], "1"), "1");
+    assert_eq!(list(&[Edit::SetValue { path: at(&[0]), value: value() }], "{\"a\": 1}"), "{\"a\": 9}");
+    assert_eq!(list(&[Edit::EnsureValue { path: at(&[0]), shape: Shape::Object }], "{\"a\": 1}"), "{\"a\": {}}");
+    assert_eq!(list(&[Edit::SetBoolean { path: at(&[1]), value: false }], "[0x1true]"), "[0x1 false]");
+    assert_eq!(list(&[Edit::EnsureMultiline { path: none.clone() }], "[1]"), "[\n  1\n]");
+    assert_eq!(list(&[Edit::InsertElement { path: none.clone(), index: 1, value: value() }], "[1, 2]"), "[1, 9,  2]");
+    assert_eq!(list(&[Edit::AppendElement { path: none.clone(), value: value() }], "[1, 2]"), "[1, 2, 9]");
+    let two = "{\n  \"z\": 9,\n  \"a\": 1\n}";
+    assert_eq!(list(&[Edit::InsertProperty { path: none.clone(), index: 0, name: name(), value: value() }], "{\n  \"a\": 1\n}"), two);
+    assert_eq!(list(&[Edit::AppendProperty { path: none.clone(), name: name(), value: value() }], "{\"a\":1}"), "{\n  \"a\":1,\n  \"z\": 9\n}");
+    let ensured = Edit::EnsureProperty { path: none.clone(), name: name(), shape: Shape::Array, replace: false };
+    assert_eq!(list(&[ensured], "{\"z\":1}"), "{\"z\":1}");
+    assert_eq!(list(&[Edit::SetTrailingCommas { path: none.clone(), never: true }], "[1,]"), "[1]");
+    assert_eq!(list(&[Edit::Sort { path: none.clone(), pin: false, groups: false }], "[3, 1]"), "[1, 3]");
+    let stopped = [Edit::Remove { path: at(&[0]) }, Edit::Remove { path: at(&[5]) }];
+    assert_eq!(edit("[1, 2]", Options::ALL, &stopped).map(drop), Err(Error::NoSuchPlace(1)));
+    let mut room = [0; 16];
+    assert_eq!(edit_into("[1, 2]", Options::ALL, &stopped[..1], &mut room), Ok(4));
+    assert_eq!(&room[..4], b"[ 2]");
+}
+
+#[test]
+fn threads_call_at_once() {
+    std::thread::scope(|scope| {
+        for thread in 0..4 {
+            scope.spawn(move || {
+                for count in 0..200 {
+                    let value = (thread * 1000 + count).to_string();
+                    let text = made(set(TEXT, Options::ALL, "a", &value));
+                    assert_eq!(get(&text, Options::ALL, &["a"]).expect("it is read").as_deref(), Some(value.as_str()));
+                }
+            });
+        }
+    });
+}
