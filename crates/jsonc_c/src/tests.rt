@@ -110,39 +110,28 @@ fn paths(rt: HostRuntime) -> Result<(), Fail> {
     Ok(())
 }
 
+/// An edit of this kind at a path, with a JSON text.
+fn edit_at<'a>(kind: u32, path: &'a [usize], json: &'a [u8]) -> JsoncEdit<'a> {
+    JsoncEdit {
+        kind,
+        path,
+        name: b"",
+        json,
+        index: 0,
+        first: false,
+        second: false,
+    }
+}
+
 #[test]
 fn edits(rt: HostRuntime) -> Result<(), Fail> {
     let alloc = rt.alloc();
     let mut fault = no_fault();
     let mut out: &'static [u8] = &[];
     let edits = [
-        JsoncEdit {
-            kind: 1,
-            path: &[0],
-            name: b"",
-            json: b"",
-            index: 0,
-            first: false,
-            second: false,
-        },
-        JsoncEdit {
-            kind: 12,
-            path: &[0],
-            name: b"",
-            json: b"true",
-            index: 0,
-            first: false,
-            second: false,
-        },
-        JsoncEdit {
-            kind: 17,
-            path: &[],
-            name: b"",
-            json: b"",
-            index: 0,
-            first: false,
-            second: false,
-        },
+        edit_at(1, &[0], b""),
+        edit_at(12, &[0], b"true"),
+        edit_at(17, &[], b""),
     ];
     assert_eq!(rt;
         jsonc_edit(alloc, TEXT, edits.as_slice(), ALL, &mut out, &mut fault),
