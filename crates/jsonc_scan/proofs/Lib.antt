@@ -1,3 +1,4 @@
+pub mod Seen
 pub mod NumberParts
 pub mod NoLexemes
 pub mod NoNumbers
