@@ -1,9 +1,11 @@
 -- A loop that passes one character after another.
-use Rattle.std.proofs.Common.{ℕ, zero, suc, add-zero, subst, ◌≡◌, ◌-◌, ◌+◌, ◌<◌, ◌≤◌, List, length, get_or, arith, IsUtf8, IsTrue, Bool, IsCharBoundary}
-use Rattle.jsonc_text.specs.Text.{rest, Many, stop}
+use Rattle.std.proofs.Common.{ℕ, inl, inr, zero, suc, add-zero, subst, ◌≡◌, ◌-◌, ◌+◌, ◌<◌, ◌≤◌, List, length, get_or, arith, IsUtf8, IsTrue, Bool, IsCharBoundary}
+use Rattle.std.proofs.lemmas.Bool.{cases_lt}
+use Rattle.jsonc_text.specs.Text.{rest, next, no, Many, stop}
+use Rattle.jsonc_text.specs.Runs.{RunsTo}
 use Rattle.jsonc_text.specs.Chars.{Steps}
-use Rattle.jsonc_text.proofs.CharacterSteps.{steps_ascii, many_push}
-use Rattle.jsonc_text.proofs.Ascii.{OnlyAscii}
+use Rattle.jsonc_text.proofs.CharacterSteps.{no_at_end, steps_ascii, many_push}
+use Rattle.jsonc_text.proofs.Ascii.{OnlyAscii, ascii_no}
 
 -- from start to place stand characters that pass the test
 pub record Passes (p : ℕ → Bool) (bytes : List ℕ) (start place : ℕ) : Type 0 where
@@ -31,8 +33,19 @@ passes_bytes p bytes i (suc n) small u b l all =
     let P : ℕ → Type 0 = λ j. Passes p bytes i j in
     subst P same (passes_ascii p bytes i (i + n) small u before (omega arith) (all n (omega arith)))
 
-pub passes_run : (p : ℕ → Bool) (bytes : List ℕ) (i j : ℕ) → OnlyAscii p → IsUtf8 bytes → IsCharBoundary bytes i → i ≤ j → j ≤ length bytes → ((k : ℕ) → i ≤ k → k < j → IsTrue (p (get_or bytes k 0))) → Passes p bytes i j
-passes_run p bytes i j small u b le l all =
+passes_run : (p : ℕ → Bool) (bytes : List ℕ) (i j : ℕ) → OnlyAscii p → IsUtf8 bytes → IsCharBoundary bytes i → RunsTo p bytes i j → Passes p bytes i j
+passes_run p bytes i j small u b run =
+    let le = run.order in
+    let l = run.within in
     let same : i + (j - i) ≡ j = omega arith in
     let P : ℕ → Type 0 = λ m. Passes p bytes i m in
-    subst P same (passes_bytes p bytes i (j - i) small u b (omega arith) (λ k h. all (i + k) (omega arith) (omega arith)))
+    subst P same (passes_bytes p bytes i (j - i) small u b (omega arith) (λ k h. run.pass (i + k) (omega arith) (omega arith)))
+
+-- a run of bytes, of which only ASCII passes, as characters
+pub small_run : (p : ℕ → Bool) (bytes : List ℕ) (i j : ℕ) → OnlyAscii p → IsUtf8 bytes → IsCharBoundary bytes i → RunsTo p bytes i j → Passes p bytes i j × IsTrue (no p (next (rest bytes j)))
+small_run p bytes i j small u b run =
+    let passed = passes_run p bytes i j small u b run in
+    elim (cases_lt j (length bytes)) [
+      | inl more ↦ (passed, ascii_no p small bytes j u passed.boundary more (run.stops more))
+      | inr past ↦ (passed, no_at_end p bytes j past)
+    ]

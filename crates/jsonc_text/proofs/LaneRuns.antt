@@ -1,12 +1,14 @@
 -- From the mask of sixteen bytes to the bytes.
-use Rattle.std.proofs.Common.{ℕ, ◌≡◌, ◌∙◌, inl, inr, ◌+◌, ◌<◌, ◌≤◌, ◌%◌, ◌^◌, refl, sym, ap, subst, ap₂, arith, List, [], ◌∷◌, map, length, replicate, Bool, true, false, not, cond, eqb, ◌||◌, bit_or}
+use Rattle.std.proofs.Common.{ℕ, ◌≡◌, ◌∙◌, inl, inr, ◌+◌, ◌<◌, ◌≤◌, ◌%◌, ◌^◌, refl, sym, ap, subst, ap₂, arith, List, [], ◌∷◌, map, length, replicate, get_or, Bool, true, false, not, cond, eqb, ◌||◌, bit_or}
 use Rattle.std.proofs.lemmas.List.{length-map}
-use Rattle.std.proofs.lemmas.Simd.{zip2_splat, mask_l-mod, mask_l-lt, none_from_empty_mask, trailing_mask_l, run_in_chunk_le, run_in_chunk_fails, run_in_chunk_stops, length-chunk}
+use Rattle.std.proofs.lemmas.Simd.{zip2_splat, zip2_splat_left, mask_l-mod, mask_l-lt, none_from_empty_mask, trailing_mask_l, run_in_chunk_le, run_in_chunk_fails, run_in_chunk_stops, length-chunk}
 use Rattle.std.proofs.lemmas.Bool.{cases_lt}
 use lib.Lanes.{chunk, zip2, mask_l, top}
 use lib.Count.{count_trailing_zeros}
+use lib.Dec.{ltb}
 use borrow.Author.Numbers.{trailing_lt}
-use Rattle.jsonc_text.specs.Runs.{RunsTo, is_either}
+use Rattle.jsonc_text.specs.Runs.{RunsTo, is_either, is_no_digit}
+use Rattle.jsonc_text.specs.Text.{is_digit}
 use Rattle.jsonc_text.specs.string.Between.{is_neither}
 use Rattle.jsonc_text.proofs.lemmas.string.ByteRuns.{BytesPass}
 
@@ -14,50 +16,84 @@ use Rattle.jsonc_text.proofs.lemmas.string.ByteRuns.{BytesPass}
 abbrev pub hit : ℕ → ℕ → ℕ
 hit a b = cond (eqb a b) 255 0
 
+abbrev pub hit_below : ℕ → ℕ → ℕ
+hit_below a b = cond (ltb a b) 255 0
+
 one_lane : (b c : Bool) → top 7 (bit_or (cond b 255 0) (cond c 255 0)) ≡ (b || c)
 one_lane true true = refl
 one_lane true false = refl
 one_lane false true = refl
 one_lane false false = refl
 
-two_compared : (f s : ℕ) (v : List ℕ) → map (top 7) (zip2 bit_or (map (λ x. hit x f) v) (map (λ x. hit x s) v)) ≡ map (is_either f s) v
-two_compared f s [] = refl
-two_compared f s (x ∷ v) = ap₂ (λ b l. b ∷ l) (one_lane (eqb x f) (eqb x s)) (two_compared f s v)
+-- two comparisons joined, in each lane
+two_compared : (a b t : ℕ → Bool) → ((c : ℕ) → (a c || b c) ≡ t c) → (v : List ℕ)
+    → map (top 7) (zip2 bit_or (map (λ x. cond (a x) 255 0) v) (map (λ x. cond (b x) 255 0) v)) ≡ map t v
+two_compared a b t same [] = refl
+two_compared a b t same (x ∷ v) = ap₂ (λ d l. d ∷ l) (one_lane (a x) (b x) ∙ same x) (two_compared a b t same v)
+
+-- the mask of sixteen tests
+mask_of : (t : ℕ → Bool) (v : List ℕ) → length v ≡ 16 → mask_l (map t v) % 2 ^ 64 ≡ mask_l (map t v)
+mask_of t v long = mask_l-mod (map t v) 64 (omega (arith, length-map v t, long))
 
 -- the mask of two comparisons
 pub either_mask : (f s : ℕ) (v : List ℕ) → length v ≡ 16
     → mask_l (map (top 7) (zip2 bit_or (zip2 hit v (replicate 16 f)) (zip2 hit v (replicate 16 s)))) % 2 ^ 64 ≡ mask_l (map (is_either f s) v)
 either_mask f s v long =
     ap (λ l. mask_l (map (top 7) l) % 2 ^ 64) (ap₂ (zip2 bit_or) (zip2_splat hit v 16 f long) (zip2_splat hit v 16 s long))
-    ∙ ap (λ l. mask_l l % 2 ^ 64) (two_compared f s v)
-    ∙ mask_l-mod (map (is_either f s) v) 64 (omega (arith, length-map v (is_either f s), long))
+    ∙ ap (λ l. mask_l l % 2 ^ 64) (two_compared (λ x. eqb x f) (λ x. eqb x s) (is_either f s) (λ c. refl) v)
+    ∙ mask_of (is_either f s) v long
+
+out_of_digits : (c : ℕ) → (ltb c 48 || ltb 57 c) ≡ is_no_digit c
+out_of_digits c = grind arith
+
+-- the mask of a comparison with the first digit and one with the last
+pub no_digit_mask : (v : List ℕ) → length v ≡ 16
+    → mask_l (map (top 7) (zip2 bit_or (zip2 hit_below v (replicate 16 48)) (zip2 hit_below (replicate 16 57) v))) % 2 ^ 64 ≡ mask_l (map is_no_digit v)
+no_digit_mask v long =
+    ap (λ l. mask_l (map (top 7) l) % 2 ^ 64) (ap₂ (zip2 bit_or) (zip2_splat hit_below v 16 48 long) (zip2_splat_left hit_below 57 16 v long))
+    ∙ ap (λ l. mask_l l % 2 ^ 64) (two_compared (λ x. ltb x 48) (λ x. ltb 57 x) is_no_digit out_of_digits v)
+    ∙ mask_of is_no_digit v long
+
+-- what passes is what the mask has no bit of
+abbrev pub Opposite : (ℕ → Bool) → (ℕ → Bool) → Type 0
+Opposite p t = (c : ℕ) → p c ≡ not (t c)
+
+pub neither_opposite : (f s : ℕ) → Opposite (is_neither f s) (is_either f s)
+neither_opposite f s c = refl
+
+pub digit_opposite : Opposite is_digit is_no_digit
+digit_opposite c = go (is_digit c)
+  where
+    go : (b : Bool) → b ≡ not (not b)
+    go true = refl
+    go false = refl
 
 -- where the mask is empty, all sixteen pass
-pub pass_sixteen : (f s : ℕ) (bytes : List ℕ) (start place : ℕ) → BytesPass (is_neither f s) bytes start place → place + 16 ≤ length bytes
-    → mask_l (map (is_either f s) (chunk place 16 bytes)) ≡ 0 → BytesPass (is_neither f s) bytes start (place + 16)
-pass_sixteen f s bytes start place held room none = record {
+pub pass_sixteen : (p t : ℕ → Bool) → Opposite p t → (bytes : List ℕ) (start place : ℕ) → BytesPass p bytes start place → place + 16 ≤ length bytes
+    → mask_l (map t (chunk place 16 bytes)) ≡ 0 → BytesPass p bytes start (place + 16)
+pass_sixteen p t other bytes start place held room none = record {
   order = omega (arith, held.order);
   within = room;
   pass = λ k from to. elim (cases_lt k place) [
     | inl before ↦ held.pass k from before
-    | inr after ↦ ap not (none_from_empty_mask (is_either f s) bytes place 16 0 room none k after to)
+    | inr after ↦ other (get_or bytes k 0) ∙ ap not (none_from_empty_mask t bytes place 16 0 room none k after to)
   ];
 }
 
 -- where it is not, the lowest bit is that of the first one that does not
-pub stop_in_sixteen : (f s : ℕ) (bytes : List ℕ) (start place r : ℕ) → BytesPass (is_neither f s) bytes start place → place + 16 ≤ length bytes
-    → 0 < mask_l (map (is_either f s) (chunk place 16 bytes)) → r ≡ count_trailing_zeros 64 (mask_l (map (is_either f s) (chunk place 16 bytes))) → RunsTo (is_neither f s) bytes start (place + r)
-stop_in_sixteen f s bytes start place r held room some found =
+pub stop_in_sixteen : (p t : ℕ → Bool) → Opposite p t → (bytes : List ℕ) (start place r : ℕ) → BytesPass p bytes start place → place + 16 ≤ length bytes
+    → 0 < mask_l (map t (chunk place 16 bytes)) → r ≡ count_trailing_zeros 64 (mask_l (map t (chunk place 16 bytes))) → RunsTo p bytes start (place + r)
+stop_in_sixteen p t other bytes start place r held room some found =
     let long = length-chunk place 16 bytes room in
-    let counted = found ∙ trailing_mask_l (is_either f s) 64 (chunk place 16 bytes) (omega (arith, long)) some in
-    let small : mask_l (map (is_either f s) (chunk place 16 bytes)) < 2 ^ 16 = subst (λ n. mask_l (map (is_either f s) (chunk place 16 bytes)) < 2 ^ n) (length-map (chunk place 16 bytes) (is_either f s) ∙ long) (mask_l-lt (map (is_either f s) (chunk place 16 bytes))) in
-    let short : r < 16 = omega (arith, counted, sym (trailing_mask_l (is_either f s) 16 (chunk place 16 bytes) (omega (arith, long)) some), trailing_lt 16 _ some small) in
+    let counted = found ∙ trailing_mask_l t 64 (chunk place 16 bytes) (omega (arith, long)) some in
+    let small : mask_l (map t (chunk place 16 bytes)) < 2 ^ 16 = subst (λ n. mask_l (map t (chunk place 16 bytes)) < 2 ^ n) (length-map (chunk place 16 bytes) t ∙ long) (mask_l-lt (map t (chunk place 16 bytes))) in
+    let short : r < 16 = omega (arith, counted, sym (trailing_mask_l t 16 (chunk place 16 bytes) (omega (arith, long)) some), trailing_lt 16 _ some small) in
     record {
       order = omega (arith, held.order);
-      within = omega (arith, run_in_chunk_le (is_either f s) bytes place 16 r 0 room counted);
+      within = omega (arith, run_in_chunk_le t bytes place 16 r 0 room counted);
       pass = λ k from to. elim (cases_lt k place) [
         | inl before ↦ held.pass k from before
-        | inr after ↦ ap not (run_in_chunk_fails (is_either f s) bytes place 16 r 0 room counted k after to)
+        | inr after ↦ other (get_or bytes k 0) ∙ ap not (run_in_chunk_fails t bytes place 16 r 0 room counted k after to)
       ];
-      stops = λ more. ap not (run_in_chunk_stops (is_either f s) bytes place 16 r 0 room counted short);
+      stops = λ more. other (get_or bytes (place + r) 0) ∙ ap not (run_in_chunk_stops t bytes place 16 r 0 room counted short);
     }

@@ -1,9 +1,13 @@
 -- Runs of bytes that pass a test.
-use Rattle.std.specs.Prelude.{ℕ, ◌≡◌, ◌≤◌, ◌<◌, Bool, false, ◌==◌, ◌||◌, List, length, get_or, IsTrue}
+use Rattle.std.specs.Prelude.{ℕ, ◌≡◌, ◌≤◌, ◌<◌, Bool, false, not, ◌==◌, ◌||◌, List, length, get_or, IsTrue}
+use Rattle.jsonc_text.specs.Text.{is_digit}
 
 -- one of two bytes
 abbrev pub is_either : ℕ → ℕ → ℕ → Bool
 is_either a b c = c == a || c == b
+
+abbrev pub is_no_digit : ℕ → Bool
+is_no_digit c = not (is_digit c)
 
 -- the bytes from one place to another pass the test, and the next one, if there is one, fails it
 pub record RunsTo (p : ℕ → Bool) (bytes : List ℕ) (start end : ℕ) : Type 0 where

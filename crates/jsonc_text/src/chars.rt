@@ -5,6 +5,8 @@ ghost use Rattle.jsonc_text.specs.Text.{Many, rest, next, no, is_digit, is_hex_d
 ghost use Rattle.jsonc_text.specs.Gaps.{is_blank};
 ghost use Rattle.jsonc_text.specs.Chars.{Steps};
 
+use crate::runs::digit_stop;
+
 /// The character at a place, or none at the end.
 #[inline(always)]
 pub fn char_at(text: &str, place: usize) -> Option<char>
@@ -127,11 +129,13 @@ pub fn digits_end(text: &str, start: usize) -> usize
     ensures all { IsTrue (no is_digit (next (rest text.now result))) }
 {
     let bytes = text.as_bytes();
-    let mut place = start;
-    while place < bytes.len() && bytes[place].is_ascii_digit() {
-        place += 1;
+    if start >= bytes.len() {
+        return start;
     }
-    place
+    if !bytes[start].is_ascii_digit() {
+        return start;
+    }
+    digit_stop(bytes, start)
 }
 
 /// The first place from `start` on where no hex digit stands.

@@ -1,8 +1,9 @@
-//! Runs of bytes up to one of two, sixteen at a time.
+//! Runs of bytes up to one of two, and of digits, sixteen at a time.
 ghost use Rattle.std.specs.Prelude.{◌≡◌, ◌≤◌, length, map};
 ghost use Rattle.std.specs.Simd.Lanes.{mask_l};
-ghost use Rattle.jsonc_text.specs.Runs.{RunsTo, is_either};
+ghost use Rattle.jsonc_text.specs.Runs.{RunsTo, is_either, is_no_digit};
 ghost use Rattle.jsonc_text.specs.string.Between.{is_neither};
+ghost use Rattle.jsonc_text.specs.Text.{is_digit};
 
 use std::simd::prelude::*;
 
@@ -46,6 +47,45 @@ fn last_stop(bytes: &[u8], start: usize, first: u8, second: u8) -> usize
         if (bytes[place] == first) | (bytes[place] == second) {
             return place;
         }
+        place += 1;
+    }
+    place
+}
+
+/// The first place from `start` on where no ASCII digit stands, or the end.
+#[inline(always)]
+pub fn digit_stop(bytes: &[u8], start: usize) -> usize
+    requires { start ≤ length bytes.now }
+    ensures { RunsTo is_digit bytes.now start result }
+{
+    let mut place = start;
+    while bytes.len() - place >= LANES {
+        let others = digit_stops_in(u8x16::from_slice(&bytes[place..]));
+        if others != 0 {
+            return place + others.trailing_zeros() as usize;
+        }
+        place += LANES;
+    }
+    last_digit_stop(bytes, place)
+}
+
+/// A bit for each of sixteen bytes: whether it is no digit.
+#[inline(always)]
+fn digit_stops_in(bytes: u8x16) -> u64
+    ensures { result ≡ mask_l (map is_no_digit bytes) }
+{
+    let others = bytes.simd_lt(u8x16::splat(b'0')) | bytes.simd_gt(u8x16::splat(b'9'));
+    others.to_bitmask()
+}
+
+/// The same as [`digit_stop`], a byte at a time, for the last bytes.
+#[inline(never)]
+fn last_digit_stop(bytes: &[u8], start: usize) -> usize
+    requires { start ≤ length bytes.now }
+    ensures { RunsTo is_digit bytes.now start result }
+{
+    let mut place = start;
+    while place < bytes.len() && bytes[place].is_ascii_digit() {
         place += 1;
     }
     place
