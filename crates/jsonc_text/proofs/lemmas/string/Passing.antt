@@ -1,10 +1,9 @@
 -- Strings that are passed and not decoded.
-use Rattle.std.proofs.Common.{ℕ, ◌+◌, ◌-◌, ◌≡◌, ◌==◌, ◌<◌, ◌≤◌, sym, refl, List, [], ◌∷◌, ◌++◌, arith, IsUtf8, IsTrue, Bool, not, IsCharBoundary, slice_range, chars}
-use Rattle.std.proofs.lemmas.List.{append-nil}
+use Rattle.std.proofs.Common.{ℕ, ◌+◌, ◌-◌, ◌≡◌, ◌==◌, ◌<◌, sym, refl, List, ◌++◌, arith, IsUtf8, IsTrue, Bool, not, IsCharBoundary, slice_range, chars}
 use Rattle.jsonc_text.specs.Options.{all_on}
 use Rattle.jsonc_text.specs.Text.{rest, Many}
 use Rattle.jsonc_text.specs.Chars.{Steps}
-use Rattle.jsonc_text.specs.Strings.{Pieces, done, piece, IsQuote}
+use Rattle.jsonc_text.specs.Strings.{Pieces, piece, IsQuote}
 use Rattle.jsonc_text.specs.StringValue.{string_value}
 use Rattle.jsonc_text.specs.string.Between.{Between, Reaches, LacksAt, is_neither}
 use Rattle.jsonc_text.specs.string.Escapes.{escapes, IsPiece, NoPiece, IsQuoted, NoQuoted}

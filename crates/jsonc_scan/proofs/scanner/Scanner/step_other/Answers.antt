@@ -1,7 +1,7 @@
-use Rattle.std.proofs.Common.{◌≡◌, ◌≢◌, arith}
+use Rattle.std.proofs.Common.{◌≢◌, arith}
 use Rattle.jsonc_text.specs.declared.errors.ParseErrorKind.TheVariants.{OutOfMemory}
 use Rattle.jsonc_text.specs.Faults.{kind_of}
-use Rattle.jsonc_scan.specs.Scanner.{HoldsEscape, IsTrueThere, NothingStands}
+use Rattle.jsonc_scan.specs.Scanner.{IsTrueThere}
 use Rattle.jsonc_scan.proofs.NumberFaults.{err_of}
 use Rattle.jsonc_scan.proofs.scanner.Scanner.step_other.Goals as goal
 

@@ -1,5 +1,5 @@
-use Rattle.std.proofs.Common.{refl, ◌+◌, chars, slice_range}
-use Rattle.jsonc_text.proofs.lemmas.string.Decoding.{quoted_run, no_close_run, run_holds_none, before_quote}
+use Rattle.std.proofs.Common.{refl}
+use Rattle.jsonc_text.proofs.lemmas.string.Decoding.{no_close_run, run_holds_none}
 use Rattle.jsonc_text.proofs.lemmas.string.Faults.{read_run, told_unclosed}
 use Rattle.jsonc_text.proofs.lemmas.string.Passing.{passed_run, value_of_run}
 use Rattle.jsonc_text.proofs.string.pass.pass_string.Goals as goal
