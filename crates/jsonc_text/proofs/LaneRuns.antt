@@ -118,7 +118,7 @@ later_mask t bytes place from n whole =
 -- a run of digits within the sixteen bytes of a mask
 pub digits_by_mask : (bytes : List ℕ) (near mask start from : ℕ) → IsDigitMask bytes near mask → from < 16 → start ≡ near + from
     → 0 < mask / 2 ^ from → RunsTo is_digit bytes start (start + count_trailing_zeros 64 (mask / 2 ^ from))
-digits_by_mask bytes near mask start from (inl none) few here some = absurd (omega (arith, some, ap (λ m. m / 2 ^ from) none, zero-div (2 ^ from)))
+digits_by_mask bytes near mask start from (inl none) few here some = absurd (omega (arith, some, ap (λ m. m / 2 ^ from) none.1, zero-div (2 ^ from)))
 digits_by_mask bytes near mask start from (inr (room, marks)) few here some =
     let rest = ap (λ m. m / 2 ^ from) marks ∙ later_mask is_no_digit bytes near from (16 - from) (omega arith) ∙ ap (λ k. mask_l (map is_no_digit (chunk k (16 - from) bytes))) (sym here) in
     stop_in_lanes (16 - from) (omega arith) is_digit is_no_digit digit_opposite bytes start start _ (record { order = omega arith; within = omega arith; pass = λ k h l. absurd (omega arith) }) (omega arith) (omega (arith, rest, some)) (ap (count_trailing_zeros 64) rest)

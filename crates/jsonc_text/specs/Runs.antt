@@ -18,6 +18,6 @@ pub record RunsTo (p : ℕ → Bool) (bytes : List ℕ) (start end : ℕ) : Type
   pub pass : (k : ℕ) → start ≤ k → k < end → IsTrue (p (get_or bytes k 0))
   pub stops : end < length bytes → p (get_or bytes end 0) ≡ false
 
--- a bit for each of the sixteen bytes at a place: whether it is no digit; or none, where the bytes may be fewer
+-- a bit for each of the sixteen bytes at a place: whether it is no digit; or none, where the bytes are fewer
 abbrev pub IsDigitMask : List ℕ → ℕ → ℕ → Type 0
-IsDigitMask bytes place mask = (mask ≡ 0) ⊎ ((place + 16 ≤ length bytes) × (mask ≡ mask_l (map is_no_digit (chunk place 16 bytes))))
+IsDigitMask bytes place mask = ((length bytes < place + 16) × (mask ≡ 0)) ⊎ ((place + 16 ≤ length bytes) × (mask ≡ mask_l (map is_no_digit (chunk place 16 bytes))))
