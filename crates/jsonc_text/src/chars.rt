@@ -128,14 +128,7 @@ pub fn digits_end(text: &str, start: usize) -> usize
     ensures digits { Many is_digit (rest text.now start) (rest text.now result) }
     ensures all { IsTrue (no is_digit (next (rest text.now result))) }
 {
-    let bytes = text.as_bytes();
-    if start >= bytes.len() {
-        return start;
-    }
-    if !bytes[start].is_ascii_digit() {
-        return start;
-    }
-    digit_stop(bytes, start)
+    digit_stop(text.as_bytes(), start)
 }
 
 /// The first place from `start` on where no hex digit stands.

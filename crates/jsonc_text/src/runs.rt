@@ -1,7 +1,7 @@
 //! Runs of bytes up to one of two, and of digits, sixteen at a time.
 ghost use Rattle.std.specs.Prelude.{◌≡◌, ◌≤◌, length, map};
 ghost use Rattle.std.specs.Simd.Lanes.{mask_l};
-ghost use Rattle.jsonc_text.specs.Runs.{RunsTo, is_either, is_no_digit};
+ghost use Rattle.jsonc_text.specs.Runs.{IsDigitMask, RunsTo, is_either, is_no_digit};
 ghost use Rattle.jsonc_text.specs.string.Between.{is_neither};
 ghost use Rattle.jsonc_text.specs.Text.{is_digit};
 
@@ -89,4 +89,43 @@ fn last_digit_stop(bytes: &[u8], start: usize) -> usize
         place += 1;
     }
     place
+}
+
+/// Which of the sixteen bytes at a place are no digits, a bit for each. No bit where the bytes are fewer.
+#[inline(always)]
+pub fn digit_mask(bytes: &[u8], place: usize) -> u64
+    requires { place ≤ length bytes.now }
+    ensures { IsDigitMask bytes.now place result }
+{
+    if bytes.len() - place < LANES {
+        return 0;
+    }
+    digit_stops_in(u8x16::from_slice(&bytes[place..]))
+}
+
+/// The same as [`digit_stop`], by the mask of the sixteen bytes at `near` where these tell.
+#[inline(always)]
+pub fn digit_stop_near(bytes: &[u8], near: usize, mask: u64, start: usize) -> usize
+    requires start { start ≤ length bytes.now }
+    requires order { near ≤ start }
+    requires mask { IsDigitMask bytes.now near mask }
+    ensures { RunsTo is_digit bytes.now start result }
+{
+    let from = start - near;
+    if from < LANES {
+        let others = mask >> from as u32;
+        if others != 0 {
+            return start + others.trailing_zeros() as usize;
+        }
+    }
+    far_digit_stop(bytes, start)
+}
+
+/// The same as [`digit_stop`], for digits that go on after sixteen bytes.
+#[inline(never)]
+fn far_digit_stop(bytes: &[u8], start: usize) -> usize
+    requires { start ≤ length bytes.now }
+    ensures { RunsTo is_digit bytes.now start result }
+{
+    digit_stop(bytes, start)
 }
