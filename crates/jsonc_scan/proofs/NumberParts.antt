@@ -7,7 +7,9 @@ use Rattle.jsonc_text.specs.Chars.{Steps}
 use Rattle.jsonc_text.specs.string.Between.{Between, Reaches, LacksAt}
 use Rattle.jsonc_scan.specs.Between.{HasAt, IsAlone}
 use Rattle.jsonc_text.specs.Numbers.{Sign, Whole, Fraction, Exponent, Unsigned, Number, is_x, is_e, is_sign, is_point}
-use Rattle.jsonc_text.proofs.Ascii.{OnlyAscii}
+use Rattle.jsonc_text.specs.Runs.{RunsTo}
+use Rattle.jsonc_text.proofs.Ascii.{OnlyAscii, digit_small}
+use Rattle.jsonc_text.proofs.CharRuns.{small_run}
 use Rattle.jsonc_text.proofs.Basics.{clash}
 use Rattle.jsonc_text.proofs.CharacterSteps.{steps_ascii}
 
@@ -19,6 +21,15 @@ either_small b d h k c e = grind arith
 
 pub some_found : (p : ℕ → Bool) (bytes : List ℕ) (i j : ℕ) → HasAt p bytes i → IsCharBoundary bytes j → i + 1 ≤ j → Many p (rest bytes (i + 1)) (rest bytes j) → LacksAt p bytes j → Between (AllOf p) bytes i j
 some_found p bytes i j h b l m n = record { boundary = b; order = omega arith; piece = rw h.2.0 (all_of h.1 m n) }
+
+-- a run of digits that is not empty
+pub run_found : (bytes : List ℕ) (i j : ℕ) → IsUtf8 bytes → IsCharBoundary bytes i → RunsTo is_digit bytes i j → (j ≡ i → ⊥) → Between (AllOf is_digit) bytes i j
+run_found bytes i j u b run more =
+    let long : i < j = omega (arith, run.order, more) in
+    let here = has_at is_digit digit_small bytes i u (omega (arith, run.within)) (run.pass i (omega arith) long) in
+    let after : RunsTo is_digit bytes (i + 1) j = record { order = omega arith; within = run.within; pass = λ k from to. run.pass k (omega arith) to; stops = run.stops } in
+    let others = small_run is_digit bytes (i + 1) j digit_small u here.2.1 after in
+    some_found is_digit bytes i j here others.0.boundary after.order others.0.many others.1
 
 pub no_exponent : (bytes : List ℕ) (i : ℕ) → IsCharBoundary bytes i → LacksAt is_e bytes i → Reaches Exponent bytes i i
 no_exponent bytes i b n = record { boundary = b; order = omega arith; piece = Exponent.none n }

@@ -38,7 +38,7 @@ pub(crate) fn has_either(text: &str, place: usize, first: u8, second: u8) -> boo
 }
 
 /// Whether a digit stands at a place.
-fn has_digit(text: &str, place: usize) -> bool
+pub(crate) fn has_digit(text: &str, place: usize) -> bool
     requires { IsCharBoundary text.now place }
     ensures here { IsTrue result → HasAt is_digit text.now place }
     ensures other { result ≡ false → LacksAt is_digit text.now place }
