@@ -7,13 +7,12 @@ use Rattle.std.specs.declared.borrow.CowStr.{CowStr}
 use Rattle.std.specs.declared.borrow.CowStr.TheVariants as cow
 use denote.Ref.{Bor}
 use Rattle.jsonc_text.specs.declared.common.Range.{Range}
-use Rattle.jsonc_text.specs.declared.tokens.Token.TheVariants as token
+use Rattle.jsonc_text.specs.string.Escapes.{IsLentUnescaped}
 use Rattle.jsonc_text.specs.Lexemes.{Lexeme, LexemeKind, lexeme}
 use Rattle.jsonc_text.specs.Options.{Options}
 use Rattle.jsonc_text.specs.Plain.{number}
 use Rattle.jsonc_text.specs.Strings.{IsQuote}
 use Rattle.jsonc_text.specs.Text.{Spans, rest, byte_length}
-use Rattle.jsonc_text.specs.Tokens.{scanned_of}
 use Rattle.jsonc_text.specs.Words.{keyword_text}
 use Rattle.jsonc_text.proofs.Basics.{or_cases, and_both, test_eq}
 use Rattle.jsonc_text.proofs.Cuts.{slice_chars, rest_past, step_place, byte_length-append, byte_length-one}
@@ -108,11 +107,12 @@ module _ {A : Type 0} where
   utf8_there c s e = subst (λ x. IsUtf8 x.bytes) (sym e) (IsUtf8-from_is_utf8 (text_in c) c.utf8)
 
   -- what the last token is, by its place in the text of a receiver
-  pub string_here : (c : Context A) (s : Source) (k : TokenKind) (v : CowStr A) (r : Range) → k ≡ kind.String → v ≡ c.content.string → s ≡ source_of c → IsToken c (last c k) → IsLentHere c (Some (last c k)) → r ≡ token_range c
+  pub string_here : (c : Context A) (s : Source) (k : TokenKind) (v : CowStr A) (r : Range) → k ≡ kind.String → v ≡ c.content.string → s ≡ source_of c → IsToken c (last c k) → IsLentHere c (Some k) → r ≡ token_range c
       → IsWritten s.options s.bytes (String (record { range = r; value = v }))
   string_here c s k v r is same e at lent place =
-      let token_is : last c k ≡ token.String v = ap (last c) is ∙ ap token.String (sym same) in
-      subst (λ x. IsWritten x.options x.bytes (String (record { range = r; value = v }))) (sym e) (string_written c (last c k) v r at token_is place lent)
+      let there : IsToken c (lexeme (LexemeKind.string (chars (cow_str_bytes c.content.string)))) = subst (IsToken c) (ap (last c) is) at in
+      let lent_there : IsLentUnescaped (text_in c) (token_range c).start (token_range c).end c.content.string = subst (λ k. IsLentHere c (Some k)) is lent in
+      subst (λ x. IsWritten x.options x.bytes (String (record { range = r; value = v }))) (sym e) (string_written c v r (subst (λ s. IsToken c (lexeme (LexemeKind.string (chars (cow_str_bytes s))))) (sym same) there) place (subst (λ s. IsLentUnescaped (text_in c) (token_range c).start (token_range c).end s) (sym same) lent_there))
 
   pub name_here : (c : Context A) (s : Source) (n : ObjectPropName A) → s ≡ source_of c → IsWritten (options_in c) (text_in c) n → IsWritten s.options s.bytes n
   name_here c s n e h = subst (λ x. IsWritten x.options x.bytes n) (sym e) h
@@ -120,7 +120,7 @@ module _ {A : Type 0} where
   number_stands : (c : Context A) (k : TokenKind) → k ≡ kind.Number → IsToken c (last c k) → In (text_in c) (Lexeme (options_in c) (LexemeKind.number (chars c.content.text.now))) (token_range c)
   number_stands c k is at =
       let found = subst (IsToken c) (ap (last c) is) at in
-      stands (text_in c) (options_in c) c.scanner (token.Number c.content.text) refl refl found
+      stands (text_in c) (options_in c) c.scanner (lexeme (LexemeKind.number (chars c.content.text.now))) refl refl found
 
   number_text : (c : Context A) (k : TokenKind) → k ≡ kind.Number → IsToken c (last c k) → chars c.content.text.now ≡ chars (slice_range (text_in c) (token_range c).start (token_range c).end)
   number_text c k is at = same_slice (options_in c) (text_in c) (LexemeKind.number (chars c.content.text.now)) (chars c.content.text.now) (token_range c) (IsUtf8-from_is_utf8 (text_in c) c.utf8) refl (number_stands c k is at)
@@ -138,7 +138,7 @@ module _ {A : Type 0} where
       → is_made (leaf_at r (number (chars_between s r.start r.end))) → LeafMade r (last c k) is_made
   number_made c s k r is_made is e at place made = record {
     leaf = leaf_at r (number (chars_between s r.start r.end));
-    is = ap (λ t. Some (leaf_at r (number t))) (sym (number_means c s k r is e at place)) ∙ sym (ap (λ k. option_map (leaf_at r) (leaf_value (scanned_of (last c k)))) is);
+    is = ap (λ t. Some (leaf_at r (number t))) (sym (number_means c s k r is e at place)) ∙ sym (ap (λ k. option_map (leaf_at r) (leaf_value (last c k))) is);
     made = made;
   }
 
