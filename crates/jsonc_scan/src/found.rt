@@ -21,6 +21,8 @@ pub enum TokenKind {
     Comma,
     Colon,
     String,
+    /// A string with a backslash in it that was passed: what it stands for is not kept.
+    Passed,
     Word,
     True,
     False,
@@ -118,6 +120,7 @@ impl<'a, A: Allocator> TokenContent<'a, A> {
             TokenKind::Comma => Token::Comma,
             TokenKind::Colon => Token::Colon,
             TokenKind::String => Token::String(self.string),
+            TokenKind::Passed => Token::Null,
             TokenKind::Word => Token::Word(self.text),
             TokenKind::True => Token::Boolean(true),
             TokenKind::False => Token::Boolean(false),
