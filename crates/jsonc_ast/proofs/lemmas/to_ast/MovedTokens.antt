@@ -1,9 +1,11 @@
 -- A parser that has given away what its last token holds; and tokens by their kinds.
-use Rattle.std.proofs.Common.{ℕ, ◌⊎◌, ◌≡◌, ◌∙◌, sym, ap, subst, refl, arith, Bool, false, List, [], Option, None, Some, option_map, IfSome, IsTrue, is_some, not, ◌==◌, ◌≢◌}
+use Rattle.std.proofs.Common.{ℕ, ◌⊎◌, ◌≡◌, ◌∙◌, sym, ap, subst, refl, arith, Bool, true, false, List, [], Option, None, Some, option_map, IfSome, IsTrue, is_some, not, ◌==◌, ◌≢◌}
 use Rattle.std.proofs.lemmas.List.{append-nil}
 use Rattle.std.proofs.lemmas.List.Elements.{All-nil}
 use Rattle.jsonc_scan.specs.declared.scanner.Scanner.{Scanner}
-use Rattle.jsonc_scan.specs.Scanner.{scanned_seen}
+use Rattle.jsonc_scan.specs.Scanner.{scanned_seen, IsLent, IsLentSeen}
+use Rattle.jsonc_scan.specs.Found.{token_held}
+use Rattle.jsonc_text.specs.Tokens.{scanned_of}
 use Rattle.jsonc_text.specs.declared.errors.ParseError.{ParseError}
 use Rattle.jsonc_text.specs.Lexemes.{lexeme, punctuation, string}
 use Rattle.jsonc_text.proofs.Basics.{clash, eq_test}
@@ -44,6 +46,7 @@ module _ {A : Type 0} where
     is_bracket kind.Comma e = absurd (mark_apart 0x2C 0x5B refl e)
     is_bracket kind.Colon e = absurd (mark_apart 0x3A 0x5B refl e)
     is_bracket kind.String e = cc
+    is_bracket kind.Passed e = cc
     is_bracket kind.Word e = cc
     is_bracket kind.True e = cc
     is_bracket kind.False e = cc
@@ -60,6 +63,7 @@ module _ {A : Type 0} where
     is_brace kind.Comma e = absurd (mark_apart 0x2C 0x7B refl e)
     is_brace kind.Colon e = absurd (mark_apart 0x3A 0x7B refl e)
     is_brace kind.String e = cc
+    is_brace kind.Passed e = cc
     is_brace kind.Word e = cc
     is_brace kind.True e = cc
     is_brace kind.False e = cc
@@ -68,21 +72,39 @@ module _ {A : Type 0} where
     is_brace kind.CommentLine e = cc
     is_brace kind.CommentBlock e = cc
 
-    pub no_string : (k : TokenKind) → k ≢ kind.String → (v : List ℕ) → scanned_seen s x k ≡ lexeme (string v) → ⊥
-    no_string kind.String n v e = n refl
-    no_string kind.OpenBracket n v e = cc
-    no_string kind.OpenBrace n v e = cc
-    no_string kind.CloseBrace n v e = cc
-    no_string kind.CloseBracket n v e = cc
-    no_string kind.Comma n v e = cc
-    no_string kind.Colon n v e = cc
-    no_string kind.Word n v e = cc
-    no_string kind.True n v e = cc
-    no_string kind.False n v e = cc
-    no_string kind.Number n v e = cc
-    no_string kind.Null n v e = cc
-    no_string kind.CommentLine n v e = cc
-    no_string kind.CommentBlock n v e = cc
+    pub no_string : (k : TokenKind) → k ≢ kind.String → k ≢ kind.Passed → (v : List ℕ) → scanned_seen s x k ≡ lexeme (string v) → ⊥
+    no_string kind.String n m v e = n refl
+    no_string kind.Passed n m v e = m refl
+    no_string kind.OpenBracket n m v e = cc
+    no_string kind.OpenBrace n m v e = cc
+    no_string kind.CloseBrace n m v e = cc
+    no_string kind.CloseBracket n m v e = cc
+    no_string kind.Comma n m v e = cc
+    no_string kind.Colon n m v e = cc
+    no_string kind.Word n m v e = cc
+    no_string kind.True n m v e = cc
+    no_string kind.False n m v e = cc
+    no_string kind.Number n m v e = cc
+    no_string kind.Null n m v e = cc
+    no_string kind.CommentLine n m v e = cc
+    no_string kind.CommentBlock n m v e = cc
+
+    -- what is no string that was passed is the token that is held
+    pub seen_held : (k : TokenKind) → k ≢ kind.Passed → scanned_seen s x k ≡ scanned_of (token_held k x)
+    seen_held kind.Passed n = absurd (n refl)
+    seen_held k n = refl
+
+    pub lent_held : (k : TokenKind) → k ≢ kind.Passed → IsLentSeen s x k → IsLent s (Some (token_held k x))
+    lent_held kind.Passed n h = absurd (n refl)
+    lent_held k n h = h
+
+    -- a comment is none
+    pub comment_held : (k : TokenKind) → is_comment (scanned_seen s x k) ≡ is_comment (scanned_of (token_held k x))
+    comment_held kind.Passed = refl
+    comment_held k = refl
+
+    pub comment_kept : (k : TokenKind) → is_comment (scanned_seen s x k) ≡ true → k ≢ kind.Passed
+    comment_kept k h e = let both : false ≡ true = subst (λ k. is_comment (scanned_seen s x k) ≡ true) e h in cc
 
   -- a token is the same where nothing has changed
   pub seen_same : (s t : Scanner A) (x y : TokenContent A) (k : TokenKind) → t ≡ s → y ≡ x → scanned_seen t y k ≡ scanned_seen s x k
