@@ -31,3 +31,4 @@ pub mod Handing
 pub mod Walks
 pub mod MadeTrees
 pub mod Following
+pub mod PassedStrings
