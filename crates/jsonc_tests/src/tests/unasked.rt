@@ -85,7 +85,8 @@ fn scanning_takes_no_memory(rt: HostRuntime) {
 const TEXT: &str = " {\"a\": [1, [\"\\b\", {}], null], // c\r\n \"d\": /* e */ false }\n";
 
 /// A text whose strings and names have no escapes, with each kind of value.
-const WITHOUT_ESCAPES: &str = "{'a': [1, [\"b\", {}], null], // c\r\n d: /* e */ false, 0x1F: true,}\n";
+const WITHOUT_ESCAPES: &str =
+    "{'a': [1, [\"b\", {}], null], // c\r\n d: /* e */ false, 0x1F: true,}\n";
 
 /// A check of a text accepts it, or tells this fault of these bytes.
 fn is_checked(heap: &Refusing<Global>, text: &str, fault: Option<(ParseErrorKind, Range)>) -> bool {
