@@ -21,6 +21,12 @@ fn scan(text: &str) -> Answer {
     Ok(count)
 }
 
+/// The crate has no call that keeps nothing: this is its parse that keeps least.
+fn check(text: &str) -> Answer {
+    black_box(parse_to_value(text, &ParseOptions::default())?);
+    Ok(1)
+}
+
 fn ast(text: &str) -> Answer {
     let parsed = parse_to_ast(text, &CollectOptions::default(), &ParseOptions::default())?;
     Ok(black_box(parsed).value.is_some() as usize)
@@ -110,6 +116,7 @@ fn repeat(call: &str, input: &[u8], count: u64) -> Answer {
         sum += match call {
             "nothing" => 0,
             "scan" => scan(text)?,
+            "check" => check(text)?,
             "ast" => ast(text)?,
             "tokens" => tokens(text)?,
             "value" => value(text)?,

@@ -21,7 +21,7 @@ import documents
 
 HERE = os.path.dirname(os.path.abspath(__file__))
 REPORT = os.path.join(HERE, "..", "..", "docs", "proofs", "SPEED.md")
-CALLS = ['scan', 'ast', 'tokens', 'value', 'document', 'print', 'program', 'replaced', 'siblings', 'appended']
+CALLS = ['scan', 'check', 'ast', 'tokens', 'value', 'document', 'print', 'program', 'replaced', 'siblings', 'appended']
 # Those that are made of an array of numbers, with the kinds of document that they are made of.
 OF_ARRAYS = {'replaced': documents.ARRAYS, 'siblings': documents.ARRAYS, 'appended': ('array',)}
 # How often in a row both programs make a call that lets its document grow.

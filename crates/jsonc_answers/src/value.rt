@@ -2,22 +2,65 @@
 
 use crate::show::push_fault;
 use jsonc_cases::escape::Escaped;
-use jsonc_parser::{JsonArray, JsonObject, JsonValue, ParseOptions, parse_to_value};
+use jsonc_parser::{JsonArray, JsonObject, JsonValue, ParseOptions, check, parse_to_value};
 use std::alloc::{AllocError, Global};
 use std::borrow::CowStr;
 
-/// The value of a text, or that it has none, or its fault.
+/// The value of a text, or that it has none, or its fault; and what a check tells of the text, where that is
+/// anything else.
 pub fn value(alloc: Global, text: &str, options: &ParseOptions) -> Result<String, AllocError> {
+    let checked = told_by_a_check(alloc, text, options)?;
     let mut out = String::new(alloc);
-    match parse_to_value(alloc, text, options) {
-        Ok(Some(value)) => {
-            out.push_str("ok\t")?;
-            push_value(alloc, &mut out, value)?;
+    let is_told = match parse_to_value(alloc, text, options) {
+        Ok(found) => {
+            push_found(alloc, &mut out, found)?;
+            checked.is_none()
         }
-        Ok(None) => out.push_str("ok\t-")?,
-        Err(error) => push_fault(alloc, &mut out, &error)?,
+        Err(error) => {
+            push_fault(alloc, &mut out, &error)?;
+            checked.as_ref() == Some(&out)
+        }
+    };
+    if !is_told {
+        push_check(&mut out, checked.as_ref())?;
     }
     Ok(out)
+}
+
+fn push_found(
+    alloc: Global,
+    out: &mut String,
+    found: Option<JsonValue<'_, Global>>,
+) -> Result<(), AllocError> {
+    out.push_str("ok\t")?;
+    match found {
+        Some(value) => push_value(alloc, out, value),
+        None => out.push('-'),
+    }
+}
+
+/// The fault of a text that a check refuses.
+fn told_by_a_check(
+    alloc: Global,
+    text: &str,
+    options: &ParseOptions,
+) -> Result<Option<String>, AllocError> {
+    match check(alloc, text, options) {
+        Ok(()) => Ok(None),
+        Err(error) => {
+            let mut out = String::new(alloc);
+            push_fault(alloc, &mut out, &error)?;
+            Ok(Some(out))
+        }
+    }
+}
+
+fn push_check(out: &mut String, checked: Option<&String>) -> Result<(), AllocError> {
+    out.push_str("\tcheck: ")?;
+    match checked {
+        Some(fault) => out.push_str(fault.as_str()),
+        None => out.push_str("ok"),
+    }
 }
 
 /// Whether two texts have equal values.

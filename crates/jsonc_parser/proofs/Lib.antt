@@ -9,3 +9,4 @@ pub mod NumberScan
 pub mod NumberSigns
 pub mod NumberTexts
 pub mod NumberValues
+mod Checks

@@ -5,3 +5,4 @@ pub mod paths
 pub mod Changes
 pub mod Places
 pub mod Numbers
+pub mod Checker

@@ -1,12 +1,14 @@
 //! A parser for JSON with comments, and a document that keeps every byte of its text.
 //!
 //! [`cst::CstRootNode::parse`] reads a text into a document, which prints as the text was written;
-//! [`parse_to_ast`] reads it into values with their ranges, [`parse_to_value`] into values alone.
+//! [`parse_to_ast`] reads it into values with their ranges, [`parse_to_value`] into values alone, and
+//! [`check`] keeps nothing of it.
 //! What a text may hold beyond JSON is said by [`ParseOptions`]; what is wrong with a text, and
 //! where, by [`errors::ParseError`].
 #![tactic(auto)]
 
 mod change;
+mod checker;
 pub mod cst;
 pub mod laws;
 pub mod numbers;
@@ -16,6 +18,7 @@ pub mod settings;
 pub mod string;
 
 pub use change::{TextChange, text_change};
+pub use checker::check;
 pub use jsonc_ast::ast;
 pub use jsonc_ast::to_ast::collect::{
     CollectOptions, CommentCollectionStrategy, CommentMap, ParseResult,

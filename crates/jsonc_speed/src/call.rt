@@ -11,8 +11,8 @@ use jsonc_parser::cst::{
     TypedNode,
 };
 use jsonc_parser::{
-    CollectOptions, CommentCollectionStrategy, ParseOptions, Scanner, ScannerOptions, parse_to_ast,
-    parse_to_value,
+    CollectOptions, CommentCollectionStrategy, ParseOptions, Scanner, ScannerOptions, check,
+    parse_to_ast, parse_to_value,
 };
 use std::alloc::Global;
 
@@ -23,6 +23,8 @@ pub enum Call {
     Nothing,
     /// Every token of a scanner.
     Scan,
+    /// `check`, which keeps nothing.
+    Check,
     /// `parse_to_ast`, with nothing collected.
     Ast,
     /// `parse_to_ast`, with tokens and the comments among them.
@@ -49,6 +51,7 @@ impl Call {
         match word {
             "nothing" => Some(Call::Nothing),
             "scan" => Some(Call::Scan),
+            "check" => Some(Call::Check),
             "ast" => Some(Call::Ast),
             "tokens" => Some(Call::Tokens),
             "value" => Some(Call::Value),
@@ -88,6 +91,7 @@ impl Call {
         match self {
             Call::Nothing | Call::Print | Call::Replaced | Call::Siblings | Call::Appended => Ok(0),
             Call::Scan => scan(alloc, text),
+            Call::Check => checked(alloc, text),
             Call::Ast => ast(alloc, text),
             Call::Tokens => tokens(alloc, text),
             Call::Value => value(alloc, text),
@@ -110,6 +114,14 @@ fn scan(alloc: Global, text: &str) -> Result<usize, Fault> {
         }
     }
     Ok(count)
+}
+
+/// 1 for each text.
+fn checked(alloc: Global, text: &str) -> Result<usize, Fault> {
+    match check(alloc, text, &ParseOptions::default()) {
+        Ok(()) => Ok(1),
+        Err(error) => Err(Fault::Input(error)),
+    }
 }
 
 /// 1 for a text with a value, 0 for one without.

@@ -6,7 +6,7 @@ use jsonc_parser::common::{Range, Ranged};
 use jsonc_parser::cst::CstRootNode;
 use jsonc_parser::errors::{ParseError, ParseErrorKind};
 use jsonc_parser::tokens::Token;
-use jsonc_parser::{ParseOptions, Scanner, ScannerOptions};
+use jsonc_parser::{ParseOptions, Scanner, ScannerOptions, check};
 use std::alloc::{Allocator, Global};
 use std::default::Default;
 
@@ -83,6 +83,37 @@ fn scanning_takes_no_memory(rt: HostRuntime) {
 }
 
 const TEXT: &str = " {\"a\": [1, [\"\\b\", {}], null], // c\r\n \"d\": /* e */ false }\n";
+
+/// A text whose strings and names have no escapes, with each kind of value.
+const WITHOUT_ESCAPES: &str =
+    "{'a': [1, [\"b\", {}], null], // c\r\n d: /* e */ false, 0x1F: true,}\n";
+
+/// A check of a text accepts it, or tells this fault of these bytes.
+fn is_checked(heap: &Refusing<Global>, text: &str, fault: Option<(ParseErrorKind, Range)>) -> bool {
+    match (check(heap, text, &ParseOptions::default()), fault) {
+        (Ok(()), None) => true,
+        (Err(error), Some((kind, range))) => *error.kind() == kind && error.range() == range,
+        _ => false,
+    }
+}
+
+#[test]
+fn checking_takes_no_memory_without_escapes(rt: HostRuntime) {
+    let heap = Refusing::always(rt.alloc());
+    assert!(rt; is_checked(&heap, WITHOUT_ESCAPES, None));
+    assert!(rt; is_checked(&heap, " // one", None));
+    let wrong = (ParseErrorKind::UnexpectedToken, Range::new(53, 54));
+    assert!(rt; is_checked(&heap, TOKENS, Some(wrong)));
+    assert!(rt; heap.asked() == 0);
+}
+
+#[test]
+fn checking_takes_memory_for_escapes_alone(rt: HostRuntime) {
+    let heap = Refusing::always(rt.alloc());
+    let failed = (ParseErrorKind::OutOfMemory, Range::new(0, 0));
+    assert!(rt; is_checked(&heap, TEXT, Some(failed)));
+    assert!(rt; heap.asked() == 1);
+}
 
 /// The document prints its text, and asks for nothing.
 fn is_printed(heap: &Refusing<Global>) -> bool {

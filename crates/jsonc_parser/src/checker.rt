@@ -1,0 +1,154 @@
+//! Whether a text is read, and what is wrong with one that is not.
+ghost use Rattle.std.specs.Prelude.{IfErr, OnOk, false, chars};
+ghost use Rattle.jsonc_ast.specs.to_ast.Faults.{ParseFault};
+ghost use Rattle.jsonc_parser.specs.Checker.{HasValueWithin};
+ghost use Rattle.jsonc_text.specs.Faults.{IsFault};
+ghost use Rattle.jsonc_text.specs.OptionsOf.{parse_options};
+ghost use Rattle.jsonc_value.specs.to_value.Refusals.{RefusesText};
+
+use jsonc_ast::to_ast::collect::CollectOptions;
+use jsonc_ast::to_ast::context::Context;
+use jsonc_ast::to_ast::receiver::Receiver;
+use jsonc_ast::to_ast::walk::read_document;
+use jsonc_text::common::Range;
+use jsonc_text::errors::ParseError;
+use jsonc_text::options::ParseOptions;
+use std::alloc::{AllocError, Allocator};
+
+/// What makes nothing of a text as it is read.
+#[derive(Drop)]
+pub(crate) struct Checker<'a> {
+    text: &'a str,
+    options: ParseOptions,
+}
+
+impl<'a, A: Allocator> Receiver<String<A>> for Checker<'a> {
+    ghost use Rattle.std.specs.Prelude.{false};
+    ghost use Rattle.jsonc_parser.specs.Checker.{source_in};
+
+    type Item = ();
+
+    type Array = ();
+
+    type Object = ();
+
+    type Property = ();
+
+    ghost whole = { false };
+
+    ghost source = { source_in };
+
+    ghost makes = { λ s t i x. Unit {0} };
+
+    ghost names = { λ s t p n. Unit {0} };
+
+    ghost holds_elements = { λ s t a i xs. Unit {0} };
+
+    ghost holds_properties = { λ s t o i ms. Unit {0} };
+
+    ghost reached = { λ s i. Unit {0} };
+
+    #[inline(always)]
+    fn is_whole(&self) -> bool {
+        false
+    }
+
+    #[inline(always)]
+    fn string(&mut self, _range: Range) -> Result<(), AllocError> {
+        Ok(())
+    }
+
+    #[inline(always)]
+    fn decoded(&mut self, _range: Range, _value: String<A>) -> Result<(), AllocError> {
+        Ok(())
+    }
+
+    #[inline(always)]
+    fn number(&mut self, _range: Range) -> Result<(), AllocError> {
+        Ok(())
+    }
+
+    #[inline(always)]
+    fn boolean(&mut self, _range: Range, _value: bool) -> Result<(), AllocError> {
+        Ok(())
+    }
+
+    #[inline(always)]
+    fn null(&mut self, _range: Range) -> Result<(), AllocError> {
+        Ok(())
+    }
+
+    #[inline(always)]
+    fn open_array(&mut self, _start: usize) -> Result<(), AllocError> {
+        Ok(())
+    }
+
+    #[inline(always)]
+    fn element(&mut self, _array: &mut (), _item: ()) -> Result<(), AllocError> {
+        Ok(())
+    }
+
+    #[inline(always)]
+    fn close_array(&mut self, _array: (), _range: Range) -> Result<(), AllocError> {
+        Ok(())
+    }
+
+    #[inline(always)]
+    fn open_object(&mut self, _start: usize) -> Result<(), AllocError> {
+        Ok(())
+    }
+
+    #[inline(always)]
+    fn string_name(&mut self, _range: Range) -> Result<(), AllocError> {
+        Ok(())
+    }
+
+    #[inline(always)]
+    fn decoded_name(&mut self, _range: Range, _value: String<A>) -> Result<(), AllocError> {
+        Ok(())
+    }
+
+    #[inline(always)]
+    fn word_name(&mut self, _range: Range) -> Result<(), AllocError> {
+        Ok(())
+    }
+
+    #[inline(always)]
+    fn property(
+        &mut self,
+        _object: &mut (),
+        _property: (),
+        _item: (),
+        _range: Range,
+    ) -> Result<(), AllocError> {
+        Ok(())
+    }
+
+    #[inline(always)]
+    fn close_object(&mut self, _object: (), _range: Range) -> Result<(), AllocError> {
+        Ok(())
+    }
+}
+
+/// Checks a text, and keeps nothing of it.
+///
+/// It accepts what [`parse_to_value`](crate::parse_to_value) does, a text without a value too, and its errors are
+/// those of that call: a text with more than 512 containers inside one another is an error.
+pub fn check<A: Allocator + Copy>(
+    alloc: A,
+    text: &str,
+    options: &ParseOptions,
+) -> Result<(), ParseError>
+    ensures accepted { OnOk result (HasValueWithin (parse_options options.now) (chars text.now)) }
+    ensures refused { IfErr result (RefusesText (parse_options options.now) text.now) }
+    ensures fault { IfErr result (IsFault text.now) }
+    ensures error { IfErr result (ParseFault (parse_options options.now) text.now false) }
+{
+    let mut context = Context::new(alloc, text, &CollectOptions::default(), options);
+    let mut to = Checker {
+        text,
+        options: options.copied(),
+    };
+    read_document(&mut context, &mut to)?;
+    Ok(())
+}
