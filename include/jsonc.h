@@ -269,12 +269,70 @@ uint32_t jsonc_edit(const void *text, size_t text_len, const jsonc_edit_t *edits
                     uint32_t options, jsonc_text_t *out, jsonc_fault_t *fault);
 
 /*
+ * Writes the text that the document prints into a buffer, as `jsonc_print` hands it out.
+ *
+ * 17: the buffer is too small. `len` tells how long the text is then, too.
+ */
+uint32_t jsonc_print_into(const void *text, size_t text_len, uint32_t options, void *room, size_t room_len,
+                          size_t *len, jsonc_fault_t *fault);
+
+/*
+ * Writes the text with a property set into a buffer, as `jsonc_set` hands it out.
+ *
+ * 17: the buffer is too small. `len` tells how long the text is then, too.
+ */
+uint32_t jsonc_set_into(const void *text, size_t text_len, const void *name, size_t name_len, const void *json,
+                        size_t json_len, uint32_t options, void *room, size_t room_len, size_t *len,
+                        jsonc_fault_t *fault);
+
+/*
+ * Writes the text with an element appended into a buffer, as `jsonc_append` hands it out.
+ *
+ * 17: the buffer is too small. `len` tells how long the text is then, too.
+ */
+uint32_t jsonc_append_into(const void *text, size_t text_len, const void *json, size_t json_len, uint32_t options,
+                           void *room, size_t room_len, size_t *len, jsonc_fault_t *fault);
+
+/*
+ * Writes the text without a property into a buffer, as `jsonc_remove` hands it out.
+ *
+ * 17: the buffer is too small. `len` tells how long the text is then, too.
+ */
+uint32_t jsonc_remove_into(const void *text, size_t text_len, const void *name, size_t name_len, uint32_t options,
+                           void *room, size_t room_len, size_t *len, jsonc_fault_t *fault);
+
+/*
+ * Writes the text with its properties sorted into a buffer, as `jsonc_sort` hands it out.
+ *
+ * 17: the buffer is too small. `len` tells how long the text is then, too.
+ */
+uint32_t jsonc_sort_into(const void *text, size_t text_len, uint32_t options, void *room, size_t room_len,
+                         size_t *len, jsonc_fault_t *fault);
+
+/*
  * Writes the value at a path, as it is written, into a buffer, as `jsonc_get` hands it out.
  *
  * 17: the buffer is too small. `len` tells how long the value is then, too.
  */
 uint32_t jsonc_get_into(const void *text, size_t text_len, const void *path, size_t path_len, uint32_t options,
                         void *room, size_t room_len, size_t *len, jsonc_fault_t *fault);
+
+/*
+ * Writes the text with a value put at a path into a buffer, as `jsonc_put` hands it out.
+ *
+ * 17: the buffer is too small. `len` tells how long the text is then, too.
+ */
+uint32_t jsonc_put_into(const void *text, size_t text_len, const void *path, size_t path_len, const void *json,
+                        size_t json_len, uint32_t options, void *room, size_t room_len, size_t *len,
+                        jsonc_fault_t *fault);
+
+/*
+ * Writes the text without what stands at a path into a buffer, as `jsonc_drop` hands it out.
+ *
+ * 17: the buffer is too small. `len` tells how long the text is then, too.
+ */
+uint32_t jsonc_drop_into(const void *text, size_t text_len, const void *path, size_t path_len, uint32_t options,
+                         void *room, size_t room_len, size_t *len, jsonc_fault_t *fault);
 
 /*
  * Writes the text after edits into a buffer, as `jsonc_edit` hands it out.

@@ -72,12 +72,6 @@ static void texts(void) {
   is(made(s, out, "{\"a\": {\"b\": 2}}"), "put");
   s = jsonc_drop(B("{ \"a\": 1, \"b\": 2 }"), B("[\"b\"]"), JSONC_ALL, &out, &fault);
   is(made(s, out, "{ \"a\": 1 }"), "drop");
-  size_t len = 0;
-  char room[8];
-  s = jsonc_get_into(B(text), B("[\"a\", \"c\"]"), JSONC_ALL, room, 6, &len, &fault);
-  is(s == JSONC_OK && len == 6 && !memcmp(room, "[1, 2]", 6), "get into a buffer");
-  s = jsonc_get_into(B(text), B("[\"a\", \"c\"]"), JSONC_ALL, room, 5, &len, &fault);
-  is(s == JSONC_NO_ROOM && len == 6, "get into a small buffer");
 }
 
 static void lists(void) {
@@ -96,10 +90,59 @@ static void lists(void) {
   is(s == JSONC_NO_SUCH_PLACE && fault.made == 0 && out.len == 0, "an edit without a place");
   s = jsonc_edit(B("[3]"), edits, 4, JSONC_ALL, &out, &fault);
   is(s == JSONC_NO_SUCH_EDIT && fault.made == 3 && out.len == 0, "an edit of no kind");
-  char room[32];
-  size_t len = 0;
-  s = jsonc_edit_into(B("[\n  3,\n  2\n]"), edits, 3, JSONC_ALL, room, sizeof room, &len, &fault);
-  is(s == JSONC_OK && len == 15 && !memcmp(room, "[\n  2,\n  true\n]", len), "edits into a buffer");
+}
+
+static const size_t whole_document[1];
+static const jsonc_edit_t edits_made[] = {
+    {JSONC_EDIT_APPEND_PROPERTY, {whole_document, 0}, T("z"), T("{\"x\": [1, \"two\"]}"), 0, false, false},
+    {JSONC_EDIT_SORT, {whole_document, 0}, JSONC_NO_TEXT, JSONC_NO_TEXT, 0, false, false},
+};
+
+/* One of the calls, by its number. */
+static uint32_t call(int which, jsonc_text_t *out, jsonc_fault_t *fault) {
+  switch (which) {
+  case 0: return jsonc_check(B(text), JSONC_ALL, fault);
+  case 1: return jsonc_print(B(text), JSONC_ALL, out, fault);
+  case 2: return jsonc_set(B(text), B("z"), B("{\"x\": [1]}"), JSONC_ALL, out, fault);
+  case 3: return jsonc_append(B(" "), B("[1, \"two\"]"), JSONC_ALL, out, fault);
+  case 4: return jsonc_remove(B(text), B("a"), JSONC_ALL, out, fault);
+  case 5: return jsonc_sort(B(text), JSONC_ALL, out, fault);
+  case 6: return jsonc_get(B(text), B("[\"a\", \"c\"]"), JSONC_ALL, out, fault);
+  case 7: return jsonc_put(B(text), B("[\"x\", \"y\"]"), B("1"), JSONC_ALL, out, fault);
+  case 8: return jsonc_drop(B(text), B("[\"a\", \"c\"]"), JSONC_ALL, out, fault);
+  case 9: return jsonc_edit(B(text), edits_made, 2, JSONC_ALL, out, fault);
+  default: return jsonc_check(B("[1,"), JSONC_ALL, fault);
+  }
+}
+
+/* The same into a buffer. */
+static uint32_t call_into(int which, char *room, size_t size, size_t *len, jsonc_fault_t *fault) {
+  switch (which) {
+  case 1: return jsonc_print_into(B(text), JSONC_ALL, room, size, len, fault);
+  case 2: return jsonc_set_into(B(text), B("z"), B("{\"x\": [1]}"), JSONC_ALL, room, size, len, fault);
+  case 3: return jsonc_append_into(B(" "), B("[1, \"two\"]"), JSONC_ALL, room, size, len, fault);
+  case 4: return jsonc_remove_into(B(text), B("a"), JSONC_ALL, room, size, len, fault);
+  case 5: return jsonc_sort_into(B(text), JSONC_ALL, room, size, len, fault);
+  case 6: return jsonc_get_into(B(text), B("[\"a\", \"c\"]"), JSONC_ALL, room, size, len, fault);
+  case 7: return jsonc_put_into(B(text), B("[\"x\", \"y\"]"), B("1"), JSONC_ALL, room, size, len, fault);
+  case 8: return jsonc_drop_into(B(text), B("[\"a\", \"c\"]"), JSONC_ALL, room, size, len, fault);
+  default: return jsonc_edit_into(B(text), edits_made, 2, JSONC_ALL, room, size, len, fault);
+  }
+}
+
+static void buffers(void) {
+  for (int which = 1; which <= 9; which++) {
+    char room[256];
+    size_t len = 0;
+    jsonc_text_t out = JSONC_NO_TEXT;
+    jsonc_fault_t fault = {0};
+    is(call(which, &out, &fault) == JSONC_OK, "a call");
+    is(call_into(which, room, sizeof room, &len, &fault) == JSONC_OK, "the same into a buffer");
+    is(len == out.len && !memcmp(room, out.at, len), "it writes what the other hands out");
+    is(call_into(which, room, out.len, &len, &fault) == JSONC_OK && len == out.len, "a buffer that just fits");
+    is(call_into(which, room, out.len - 1, &len, &fault) == JSONC_NO_ROOM && len == out.len, "a small buffer");
+    jsonc_free(out);
+  }
 }
 
 static void *many(void *bad) {
@@ -131,38 +174,26 @@ static int refuses(void) { return left >= 0 && left-- == 0; }
 void *__wrap_malloc(size_t n) { return refuses() ? 0 : __real_malloc(n); }
 void *__wrap_realloc(void *p, size_t n) { return refuses() ? 0 : __real_realloc(p, n); }
 
-/* One of the calls, by its number. */
-static uint32_t call(int which, jsonc_text_t *out, jsonc_fault_t *fault) {
-  static const size_t nowhere[1];
-  static const jsonc_edit_t edits[] = {
-      {JSONC_EDIT_APPEND_PROPERTY, {nowhere, 0}, T("z"), T("{\"x\": [1, \"two\"]}"), 0, false, false},
-      {JSONC_EDIT_SORT, {nowhere, 0}, JSONC_NO_TEXT, JSONC_NO_TEXT, 0, false, false},
-  };
-  switch (which) {
-  case 0: return jsonc_check(B(text), JSONC_ALL, fault);
-  case 1: return jsonc_print(B(text), JSONC_ALL, out, fault);
-  case 2: return jsonc_set(B(text), B("z"), B("{\"x\": [1]}"), JSONC_ALL, out, fault);
-  case 3: return jsonc_append(B(" "), B("[1, \"two\"]"), JSONC_ALL, out, fault);
-  case 4: return jsonc_remove(B(text), B("a"), JSONC_ALL, out, fault);
-  case 5: return jsonc_sort(B(text), JSONC_ALL, out, fault);
-  case 6: return jsonc_get(B(text), B("[\"a\", \"c\"]"), JSONC_ALL, out, fault);
-  case 7: return jsonc_put(B(text), B("[\"x\", \"y\"]"), B("1"), JSONC_ALL, out, fault);
-  case 8: return jsonc_drop(B(text), B("[\"a\", \"c\"]"), JSONC_ALL, out, fault);
-  case 9: return jsonc_edit(B(text), edits, 2, JSONC_ALL, out, fault);
-  default: return jsonc_check(B("[1,"), JSONC_ALL, fault);
-  }
+/* So numbered, or, past 10, into a buffer, which is copied. */
+static uint32_t call_either(int which, jsonc_text_t *out, jsonc_fault_t *fault) {
+  if (which <= 10) return call(which, out, fault);
+  char room[256];
+  size_t len = 0;
+  uint32_t s = call_into(which - 10, room, sizeof room, &len, fault);
+  if (len) *out = (jsonc_text_t){memcpy(__real_malloc(len), room, len), len};
+  return s;
 }
 
 static void refusals(void) {
-  for (int which = 0; which <= 10; which++) {
+  for (int which = 0; which <= 19; which++) {
     jsonc_text_t whole = JSONC_NO_TEXT;
     jsonc_fault_t fault = {0};
-    uint32_t ample = call(which, &whole, &fault);
+    uint32_t ample = call_either(which, &whole, &fault);
     int used = 1;
     for (long n = 0; used && n < 100000; n++) {
       jsonc_text_t out = JSONC_NO_TEXT;
       left = n;
-      uint32_t s = call(which, &out, &fault);
+      uint32_t s = call_either(which, &out, &fault);
       used = left < 0;
       left = -1;
       if (s == JSONC_OUT_OF_MEMORY) is(out.len == 0, "want of memory hands nothing out");
@@ -178,6 +209,7 @@ int main(void) {
   faults();
   texts();
   lists();
+  buffers();
   threads();
 #ifdef REFUSE
   refusals();

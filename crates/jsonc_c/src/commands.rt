@@ -1,45 +1,40 @@
 //! The commands of the program `jsonc`, one call for each.
-ghost use Rattle.std.specs.Prelude.{◌≡◌, ◌≤◌, ◌⊎◌, ◌++◌, ◌∷◌, [], IfErr, IfOk, IsUtf8, OnOk, string_bytes, true};
+ghost use Rattle.std.specs.Prelude.{◌≡◌, ◌≤◌, ◌⊎◌, ◌++◌, ◌∷◌, [], IsUtf8};
 ghost use Rattle.jsonc_engine.specs.Change.{IsGot, IsMadeOf};
 ghost use Rattle.jsonc_engine.specs.Command as asked;
-ghost use Rattle.jsonc_engine.specs.Command.{request_of, writes};
 ghost use Rattle.jsonc_engine.specs.Input.{IsInputOf};
 ghost use Rattle.jsonc_engine.specs.Output.{IsLeft};
-ghost use Rattle.jsonc_c.specs.Commands.{IsRefused};
+ghost use Rattle.jsonc_c.specs.Commands.{HasNoText, IsRefused, asked_of};
 ghost use Rattle.jsonc_c.specs.Options.{options_of};
 
-use crate::fault::{JsoncFault, OK, OTHER, WORD_NOT_UTF8, no_fault, tell};
+use crate::asked::{Asked, written};
+use crate::fault::{JsoncFault, OK};
 use crate::handed::{hand_out, hand_out_line};
-use crate::options::options_of;
-use jsonc_engine::command::Command;
-use jsonc_engine::engine::run_with;
 use std::alloc::Global;
 
-/// Makes a command's change of a text, and hands out the text that comes of it.
+/// Hands out what a command writes of a text.
 fn change(
     alloc: Global,
-    command: Command,
+    command: Asked,
     text: &[u8],
     options: u32,
     out: &mut &'static [u8],
     fault: &mut JsoncFault,
 ) -> u32
-    requires { writes (request_of command) ≡ true }
-    ensures made { result ≡ 0 → IsLeft (options_of options) (request_of command.entry) text.now out.new.now }
+    ensures made { result ≡ 0 → IsLeft (options_of options) (asked_of command.entry) text.now out.new.now }
     ensures accepted { result ≡ 0 → IsInputOf (options_of options) text.now }
-    ensures refused { 2 ≤ result → IsRefused (options_of options) (request_of command.entry) text.now result fault.new }
+    ensures words { result ≡ 2 → HasNoText (asked_of command.entry) }
+    ensures refused { 3 ≤ result →
+        IsRefused (options_of options) (asked_of command.entry) text.now result fault.new }
     ensures empty { 1 ≤ result → out.new.now ≡ [] }
 {
     *out = &[];
-    *fault = no_fault();
-    match run_with(alloc, &options_of(options), command, text) {
-        Ok(Some(made)) => {
+    match written(alloc, command, text, options, fault) {
+        Ok(made) => {
             hand_out(made, out);
             OK
         }
-        // (the command writes)
-        Ok(None) => OTHER,
-        Err(told) => tell(alloc, &told, fault),
+        Err(status) => status,
     }
 }
 
@@ -59,7 +54,7 @@ pub extern "C" fn jsonc_print(
     ensures refused { 2 ≤ result → IsRefused (options_of options) asked.print text.now result fault.new }
     ensures empty { 1 ≤ result → out.new.now ≡ [] }
 {
-    change(alloc, Command::Print, text, options, out, fault)
+    change(alloc, Asked::Print, text, options, out, fault)
 }
 
 /// Sets the value of the first property of a name in the document's object to that of a JSON text, or appends such a
@@ -84,15 +79,7 @@ pub extern "C" fn jsonc_set(
         IsRefused (options_of options) (asked.set name.now json.now) text.now result fault.new }
     ensures empty { 1 ≤ result → out.new.now ≡ [] }
 {
-    *out = &[];
-    *fault = no_fault();
-    let Ok(name) = str::from_utf8(name) else {
-        return WORD_NOT_UTF8;
-    };
-    let Ok(json) = str::from_utf8(json) else {
-        return WORD_NOT_UTF8;
-    };
-    change(alloc, Command::Set(name, json), text, options, out, fault)
+    change(alloc, Asked::Set(name, json), text, options, out, fault)
 }
 
 /// Appends the value of a JSON text to the document's array. A document without a value gets an array.
@@ -114,12 +101,7 @@ pub extern "C" fn jsonc_append(
         IsRefused (options_of options) (asked.append json.now) text.now result fault.new }
     ensures empty { 1 ≤ result → out.new.now ≡ [] }
 {
-    *out = &[];
-    *fault = no_fault();
-    let Ok(json) = str::from_utf8(json) else {
-        return WORD_NOT_UTF8;
-    };
-    change(alloc, Command::Append(json), text, options, out, fault)
+    change(alloc, Asked::Append(json), text, options, out, fault)
 }
 
 /// Removes the first property of a name from the document's object. Where it has none the text stays as it is.
@@ -141,12 +123,7 @@ pub extern "C" fn jsonc_remove(
         IsRefused (options_of options) (asked.remove name.now) text.now result fault.new }
     ensures empty { 1 ≤ result → out.new.now ≡ [] }
 {
-    *out = &[];
-    *fault = no_fault();
-    let Ok(name) = str::from_utf8(name) else {
-        return WORD_NOT_UTF8;
-    };
-    change(alloc, Command::Remove(name), text, options, out, fault)
+    change(alloc, Asked::Remove(name), text, options, out, fault)
 }
 
 /// Sorts the properties of the document's object by their names as they are written, without quotes, byte by byte.
@@ -165,35 +142,7 @@ pub extern "C" fn jsonc_sort(
     ensures refused { 2 ≤ result → IsRefused (options_of options) asked.sort text.now result fault.new }
     ensures empty { 1 ≤ result → out.new.now ≡ [] }
 {
-    change(alloc, Command::Sort, text, options, out, fault)
-}
-
-/// The line of the value at a path.
-pub(crate) fn line_at(
-    alloc: Global,
-    text: &[u8],
-    path: &[u8],
-    options: u32,
-    fault: &mut JsoncFault,
-) -> Result<String, u32>
-    ensures line { IfOk result (λ line. IsGot (options_of options) path.now text.now (string_bytes line)) }
-    ensures accepted { OnOk result (IsInputOf (options_of options) text.now) }
-    ensures status { IfErr result (λ status. 1 ≤ status) }
-    ensures other { IfErr result (λ status. ¬ (status ≡ 17)) }
-    ensures words { IfErr result (λ status. status ≡ 2 → ¬ (IsUtf8 path.now)) }
-    ensures refused { IfErr result (λ status. 3 ≤ status →
-        IsRefused (options_of options) (asked.get path.now) text.now status fault.new) }
-{
-    *fault = no_fault();
-    let Ok(path) = str::from_utf8(path) else {
-        return Err(WORD_NOT_UTF8);
-    };
-    match run_with(alloc, &options_of(options), Command::Get(path), text) {
-        Ok(Some(line)) => Ok(line),
-        // (the command writes)
-        Ok(None) => Err(OTHER),
-        Err(told) => Err(tell(alloc, &told, fault)),
-    }
+    change(alloc, Asked::Sort, text, options, out, fault)
 }
 
 /// Hands out the value at a path as it is written. The path is a JSON text, an array of names.
@@ -217,7 +166,7 @@ pub extern "C" fn jsonc_get(
     ensures empty { 1 ≤ result → out.new.now ≡ [] }
 {
     *out = &[];
-    match line_at(alloc, text, path, options, fault) {
+    match written(alloc, Asked::Get(path), text, options, fault) {
         Ok(line) => {
             hand_out_line(line, out);
             OK
@@ -246,15 +195,7 @@ pub extern "C" fn jsonc_put(
         IsRefused (options_of options) (asked.put path.now json.now) text.now result fault.new }
     ensures empty { 1 ≤ result → out.new.now ≡ [] }
 {
-    *out = &[];
-    *fault = no_fault();
-    let Ok(path) = str::from_utf8(path) else {
-        return WORD_NOT_UTF8;
-    };
-    let Ok(json) = str::from_utf8(json) else {
-        return WORD_NOT_UTF8;
-    };
-    change(alloc, Command::Put(path, json), text, options, out, fault)
+    change(alloc, Asked::Put(path, json), text, options, out, fault)
 }
 
 /// Drops what stands at a path. Where nothing stands there the text stays as it is.
@@ -276,10 +217,5 @@ pub extern "C" fn jsonc_drop(
         IsRefused (options_of options) (asked.drop path.now) text.now result fault.new }
     ensures empty { 1 ≤ result → out.new.now ≡ [] }
 {
-    *out = &[];
-    *fault = no_fault();
-    let Ok(path) = str::from_utf8(path) else {
-        return WORD_NOT_UTF8;
-    };
-    change(alloc, Command::Drop(path), text, options, out, fault)
+    change(alloc, Asked::Drop(path), text, options, out, fault)
 }

@@ -1,14 +1,15 @@
 //! Texts that are written into a caller's buffer.
-ghost use Rattle.std.specs.Prelude.{◌≡◌, ◌≤◌, ◌<◌, ◌++◌, ◌∷◌, [], IsUtf8, length, take};
+ghost use Rattle.std.specs.Prelude.{◌≡◌, ◌≤◌, ◌<◌, ◌⊎◌, ◌++◌, ◌∷◌, [], IsUtf8, length, take};
 ghost use Rattle.std.specs.declared.alloc.Global.{Global};
-ghost use Rattle.jsonc_engine.specs.Change.{IsGot};
+ghost use Rattle.jsonc_engine.specs.Change.{IsGot, IsMadeOf};
 ghost use Rattle.jsonc_engine.specs.Command as asked;
 ghost use Rattle.jsonc_engine.specs.Input.{IsInputOf};
-ghost use Rattle.jsonc_c.specs.Commands.{IsRefused};
+ghost use Rattle.jsonc_engine.specs.Output.{IsLeft};
+ghost use Rattle.jsonc_c.specs.Commands.{HasNoText, IsRefused, asked_of};
 ghost use Rattle.jsonc_c.specs.Edits.{IsEdited, IsUnedited};
 ghost use Rattle.jsonc_c.specs.Options.{options_of};
 
-use crate::commands::line_at;
+use crate::asked::{Asked, written};
 use crate::edits::JsoncEdit;
 use crate::fault::{JsoncFault, NO_ROOM, OK};
 use crate::handed::without_line_feed;
@@ -29,6 +30,155 @@ fn fill(bytes: &[u8], room: &mut [u8], len: &mut usize) -> u32
     OK
 }
 
+/// Writes what a command writes of a text into a buffer.
+fn change_into(
+    alloc: Global,
+    command: Asked,
+    text: &[u8],
+    options: u32,
+    room: &mut [u8],
+    len: &mut usize,
+    fault: &mut JsoncFault,
+) -> u32
+    ensures made { result ≡ 0 →
+        IsLeft (options_of options) (asked_of command.entry) text.now (take len.new room.new) }
+    ensures accepted { result ≡ 0 → IsInputOf (options_of options) text.now }
+    ensures no_room { result ≡ 17 → length room.old < len.new }
+    ensures words { result ≡ 2 → HasNoText (asked_of command.entry) }
+    ensures refused { 3 ≤ result → ¬ (result ≡ 17) →
+        IsRefused (options_of options) (asked_of command.entry) text.now result fault.new }
+{
+    *len = 0;
+    match written(alloc, command, text, options, fault) {
+        Ok(made) => fill(made.as_bytes(), room, len),
+        Err(status) => status,
+    }
+}
+
+/// Writes the text that the document prints into a buffer, as `jsonc_print` hands it out.
+///
+/// 17: the buffer is too small. `len` tells how long the text is then, too.
+#[unsafe(no_mangle)]
+pub extern "C" fn jsonc_print_into(
+    alloc: Global,
+    text: &[u8],
+    options: u32,
+    room: &mut [u8],
+    len: &mut usize,
+    fault: &mut JsoncFault,
+) -> u32
+    ensures printed { result ≡ 0 → take len.new room.new ≡ text.now }
+    ensures accepted { result ≡ 0 → IsInputOf (options_of options) text.now }
+    ensures no_room { result ≡ 17 → length room.old < len.new }
+    ensures refused { 2 ≤ result → ¬ (result ≡ 17) →
+        IsRefused (options_of options) asked.print text.now result fault.new }
+{
+    change_into(alloc, Asked::Print, text, options, room, len, fault)
+}
+
+/// Writes the text with a property set into a buffer, as `jsonc_set` hands it out.
+///
+/// 17: the buffer is too small. `len` tells how long the text is then, too.
+#[unsafe(no_mangle)]
+pub extern "C" fn jsonc_set_into(
+    alloc: Global,
+    text: &[u8],
+    name: &[u8],
+    json: &[u8],
+    options: u32,
+    room: &mut [u8],
+    len: &mut usize,
+    fault: &mut JsoncFault,
+) -> u32
+    ensures set { result ≡ 0 →
+        IsMadeOf (options_of options) (asked.set name.now json.now) text.now (take len.new room.new) }
+    ensures accepted { result ≡ 0 → IsInputOf (options_of options) text.now }
+    ensures no_room { result ≡ 17 → length room.old < len.new }
+    ensures words { result ≡ 2 → ¬ (IsUtf8 name.now) ⊎ ¬ (IsUtf8 json.now) }
+    ensures refused { 3 ≤ result → ¬ (result ≡ 17) →
+        IsRefused (options_of options) (asked.set name.now json.now) text.now result fault.new }
+{
+    change_into(
+        alloc,
+        Asked::Set(name, json),
+        text,
+        options,
+        room,
+        len,
+        fault,
+    )
+}
+
+/// Writes the text with an element appended into a buffer, as `jsonc_append` hands it out.
+///
+/// 17: the buffer is too small. `len` tells how long the text is then, too.
+#[unsafe(no_mangle)]
+pub extern "C" fn jsonc_append_into(
+    alloc: Global,
+    text: &[u8],
+    json: &[u8],
+    options: u32,
+    room: &mut [u8],
+    len: &mut usize,
+    fault: &mut JsoncFault,
+) -> u32
+    ensures appended { result ≡ 0 →
+        IsMadeOf (options_of options) (asked.append json.now) text.now (take len.new room.new) }
+    ensures accepted { result ≡ 0 → IsInputOf (options_of options) text.now }
+    ensures no_room { result ≡ 17 → length room.old < len.new }
+    ensures words { result ≡ 2 → ¬ (IsUtf8 json.now) }
+    ensures refused { 3 ≤ result → ¬ (result ≡ 17) →
+        IsRefused (options_of options) (asked.append json.now) text.now result fault.new }
+{
+    change_into(alloc, Asked::Append(json), text, options, room, len, fault)
+}
+
+/// Writes the text without a property into a buffer, as `jsonc_remove` hands it out.
+///
+/// 17: the buffer is too small. `len` tells how long the text is then, too.
+#[unsafe(no_mangle)]
+pub extern "C" fn jsonc_remove_into(
+    alloc: Global,
+    text: &[u8],
+    name: &[u8],
+    options: u32,
+    room: &mut [u8],
+    len: &mut usize,
+    fault: &mut JsoncFault,
+) -> u32
+    ensures removed { result ≡ 0 →
+        IsMadeOf (options_of options) (asked.remove name.now) text.now (take len.new room.new) }
+    ensures accepted { result ≡ 0 → IsInputOf (options_of options) text.now }
+    ensures no_room { result ≡ 17 → length room.old < len.new }
+    ensures words { result ≡ 2 → ¬ (IsUtf8 name.now) }
+    ensures refused { 3 ≤ result → ¬ (result ≡ 17) →
+        IsRefused (options_of options) (asked.remove name.now) text.now result fault.new }
+{
+    change_into(alloc, Asked::Remove(name), text, options, room, len, fault)
+}
+
+/// Writes the text with its properties sorted into a buffer, as `jsonc_sort` hands it out.
+///
+/// 17: the buffer is too small. `len` tells how long the text is then, too.
+#[unsafe(no_mangle)]
+pub extern "C" fn jsonc_sort_into(
+    alloc: Global,
+    text: &[u8],
+    options: u32,
+    room: &mut [u8],
+    len: &mut usize,
+    fault: &mut JsoncFault,
+) -> u32
+    ensures sorted { result ≡ 0 →
+        IsMadeOf (options_of options) asked.sort text.now (take len.new room.new) }
+    ensures accepted { result ≡ 0 → IsInputOf (options_of options) text.now }
+    ensures no_room { result ≡ 17 → length room.old < len.new }
+    ensures refused { 2 ≤ result → ¬ (result ≡ 17) →
+        IsRefused (options_of options) asked.sort text.now result fault.new }
+{
+    change_into(alloc, Asked::Sort, text, options, room, len, fault)
+}
+
 /// Writes the value at a path, as it is written, into a buffer, as `jsonc_get` hands it out.
 ///
 /// 17: the buffer is too small. `len` tells how long the value is then, too.
@@ -44,16 +194,74 @@ pub extern "C" fn jsonc_get_into(
 ) -> u32
     ensures got { result ≡ 0 →
         IsGot (options_of options) path.now text.now (take len.new room.new ++ 0x0A ∷ []) }
+    ensures accepted { result ≡ 0 → IsInputOf (options_of options) text.now }
     ensures no_room { result ≡ 17 → length room.old < len.new }
     ensures words { result ≡ 2 → ¬ (IsUtf8 path.now) }
     ensures refused { 3 ≤ result → ¬ (result ≡ 17) →
         IsRefused (options_of options) (asked.get path.now) text.now result fault.new }
 {
     *len = 0;
-    match line_at(alloc, text, path, options, fault) {
+    match written(alloc, Asked::Get(path), text, options, fault) {
         Ok(line) => fill(without_line_feed(line).as_slice(), room, len),
         Err(status) => status,
     }
+}
+
+/// Writes the text with a value put at a path into a buffer, as `jsonc_put` hands it out.
+///
+/// 17: the buffer is too small. `len` tells how long the text is then, too.
+#[unsafe(no_mangle)]
+pub extern "C" fn jsonc_put_into(
+    alloc: Global,
+    text: &[u8],
+    path: &[u8],
+    json: &[u8],
+    options: u32,
+    room: &mut [u8],
+    len: &mut usize,
+    fault: &mut JsoncFault,
+) -> u32
+    ensures put { result ≡ 0 →
+        IsMadeOf (options_of options) (asked.put path.now json.now) text.now (take len.new room.new) }
+    ensures accepted { result ≡ 0 → IsInputOf (options_of options) text.now }
+    ensures no_room { result ≡ 17 → length room.old < len.new }
+    ensures words { result ≡ 2 → ¬ (IsUtf8 path.now) ⊎ ¬ (IsUtf8 json.now) }
+    ensures refused { 3 ≤ result → ¬ (result ≡ 17) →
+        IsRefused (options_of options) (asked.put path.now json.now) text.now result fault.new }
+{
+    change_into(
+        alloc,
+        Asked::Put(path, json),
+        text,
+        options,
+        room,
+        len,
+        fault,
+    )
+}
+
+/// Writes the text without what stands at a path into a buffer, as `jsonc_drop` hands it out.
+///
+/// 17: the buffer is too small. `len` tells how long the text is then, too.
+#[unsafe(no_mangle)]
+pub extern "C" fn jsonc_drop_into(
+    alloc: Global,
+    text: &[u8],
+    path: &[u8],
+    options: u32,
+    room: &mut [u8],
+    len: &mut usize,
+    fault: &mut JsoncFault,
+) -> u32
+    ensures dropped { result ≡ 0 →
+        IsMadeOf (options_of options) (asked.drop path.now) text.now (take len.new room.new) }
+    ensures accepted { result ≡ 0 → IsInputOf (options_of options) text.now }
+    ensures no_room { result ≡ 17 → length room.old < len.new }
+    ensures words { result ≡ 2 → ¬ (IsUtf8 path.now) }
+    ensures refused { 3 ≤ result → ¬ (result ≡ 17) →
+        IsRefused (options_of options) (asked.drop path.now) text.now result fault.new }
+{
+    change_into(alloc, Asked::Drop(path), text, options, room, len, fault)
 }
 
 /// Writes the text after edits into a buffer, as `jsonc_edit` hands it out.

@@ -8,6 +8,7 @@
 //! `include/jsonc.h` and `rust/jsonc` declare the calls; `bench/declare-calls` makes both from these sources.
 #![tactic(auto)]
 
+mod asked;
 mod check;
 mod commands;
 mod compare;
@@ -26,7 +27,10 @@ pub use commands::{
 };
 pub use edits::JsoncEdit;
 pub use fault::JsoncFault;
-pub use into::{jsonc_edit_into, jsonc_get_into};
+pub use into::{
+    jsonc_append_into, jsonc_drop_into, jsonc_edit_into, jsonc_get_into, jsonc_print_into,
+    jsonc_put_into, jsonc_remove_into, jsonc_set_into, jsonc_sort_into,
+};
 pub use lists::jsonc_edit;
 
 #[cfg(test)]

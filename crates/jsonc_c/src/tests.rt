@@ -7,7 +7,10 @@ use crate::commands::{
 };
 use crate::edits::JsoncEdit;
 use crate::fault::no_fault;
-use crate::into::{jsonc_edit_into, jsonc_get_into};
+use crate::into::{
+    jsonc_append_into, jsonc_drop_into, jsonc_edit_into, jsonc_get_into, jsonc_print_into,
+    jsonc_put_into, jsonc_remove_into, jsonc_set_into, jsonc_sort_into,
+};
 use crate::lists::jsonc_edit;
 use std::test::Fail;
 
@@ -107,6 +110,109 @@ fn paths(rt: HostRuntime) -> Result<(), Fail> {
         0
     );
     assert_eq!(rt; room.as_slice().get(0..3), Some(b"[2]".as_slice()));
+    Ok(())
+}
+
+#[test]
+fn buffers(rt: HostRuntime) -> Result<(), Fail> {
+    let alloc = rt.alloc();
+    let mut fault = no_fault();
+    let mut room = [0u8; 16];
+    let mut len = 0usize;
+    assert_eq!(rt;
+        jsonc_print_into(
+            alloc,
+            b"[1]",
+            ALL,
+            room.as_mut_slice(),
+            &mut len,
+            &mut fault
+        ),
+        0
+    );
+    assert_eq!(rt; room.as_slice().get(0..len), Some(b"[1]".as_slice()));
+    assert_eq!(rt;
+        jsonc_set_into(
+            alloc,
+            b"{\"a\":1}",
+            b"a",
+            b"2",
+            ALL,
+            room.as_mut_slice(),
+            &mut len,
+            &mut fault
+        ),
+        0
+    );
+    assert_eq!(rt; room.as_slice().get(0..len), Some(b"{\"a\":2}".as_slice()));
+    assert_eq!(rt;
+        jsonc_append_into(
+            alloc,
+            b"[1]",
+            b"2",
+            ALL,
+            room.as_mut_slice(),
+            &mut len,
+            &mut fault
+        ),
+        0
+    );
+    assert_eq!(rt; room.as_slice().get(0..len), Some(b"[1, 2]".as_slice()));
+    assert_eq!(rt;
+        jsonc_remove_into(
+            alloc,
+            b"{\"a\":1,\"b\":2}",
+            b"b",
+            ALL,
+            room.as_mut_slice(),
+            &mut len,
+            &mut fault
+        ),
+        0
+    );
+    assert_eq!(rt; room.as_slice().get(0..len), Some(b"{\"a\":1}".as_slice()));
+    assert_eq!(rt;
+        jsonc_sort_into(
+            alloc,
+            b"{\"b\":1,\"a\":2}",
+            ALL,
+            room.as_mut_slice(),
+            &mut len,
+            &mut fault
+        ),
+        0
+    );
+    assert_eq!(rt;
+        room.as_slice().get(0..len),
+        Some(b"{\"a\":2,\"b\":1}".as_slice())
+    );
+    assert_eq!(rt;
+        jsonc_put_into(
+            alloc,
+            b"{\"a\":1}",
+            b"[\"a\"]",
+            b"2",
+            ALL,
+            room.as_mut_slice(),
+            &mut len,
+            &mut fault
+        ),
+        0
+    );
+    assert_eq!(rt; room.as_slice().get(0..len), Some(b"{\"a\":2}".as_slice()));
+    assert_eq!(rt;
+        jsonc_drop_into(
+            alloc,
+            b"{\"a\":1,\"b\":2}",
+            b"[\"b\"]",
+            ALL,
+            room.as_mut_slice(),
+            &mut len,
+            &mut fault
+        ),
+        0
+    );
+    assert_eq!(rt; room.as_slice().get(0..len), Some(b"{\"a\":1}".as_slice()));
     Ok(())
 }
 

@@ -40,6 +40,19 @@ macro_rules! handed {
     }};
 }
 
+/// How long what a call of these texts writes into a buffer is.
+macro_rules! filled {
+    ($call:ident, $room:expr, $options:expr $(, $text:expr)*) => {{
+        let (mut len, mut fault) = (0, no_fault());
+        // SAFETY: as in `handed`; the buffer too is borrowed for the call.
+        let status = unsafe { ffi::$call($($text.as_ptr(), $text.len(),)* $options.bits(), $room.as_mut_ptr(), $room.len(), &mut len, &mut fault) };
+        match status {
+            ffi::OK => Ok(len),
+            status => Err(Error::of(status, &fault, len)),
+        }
+    }};
+}
+
 /// Whether the text is a document of the options.
 pub fn check(text: &str, options: Options) -> Result<(), Error> {
     let mut fault = no_fault();
@@ -103,30 +116,55 @@ pub fn edit(text: &str, options: Options, edits: &[Edit]) -> Result<Text, Error>
     handed!(jsonc_edit, options, text, edits)
 }
 
-/// Writes the value at a path of names into a buffer, and answers its length, if there is one.
+/// Writes the text that the document prints into a buffer, and answers its length, as each of the next calls.
+pub fn print_into(text: &str, options: Options, room: &mut [u8]) -> Result<usize, Error> {
+    filled!(jsonc_print_into, room, options, text)
+}
+
+/// As [`set`].
+pub fn set_into(text: &str, options: Options, name: &str, value: &str, room: &mut [u8]) -> Result<usize, Error> {
+    filled!(jsonc_set_into, room, options, text, name, value)
+}
+
+/// As [`append`].
+pub fn append_into(text: &str, options: Options, value: &str, room: &mut [u8]) -> Result<usize, Error> {
+    filled!(jsonc_append_into, room, options, text, value)
+}
+
+/// As [`remove`].
+pub fn remove_into(text: &str, options: Options, name: &str, room: &mut [u8]) -> Result<usize, Error> {
+    filled!(jsonc_remove_into, room, options, text, name)
+}
+
+/// As [`sort`].
+pub fn sort_into(text: &str, options: Options, room: &mut [u8]) -> Result<usize, Error> {
+    filled!(jsonc_sort_into, room, options, text)
+}
+
+/// As [`get`], of whose value it answers the length, if there is one.
 pub fn get_into(text: &str, options: Options, names: &[&str], room: &mut [u8]) -> Result<Option<usize>, Error> {
-    let (path, mut len, mut fault) = (path(names), 0, no_fault());
-    // SAFETY: as in `handed`; the buffer too is borrowed for the call.
-    let status = unsafe {
-        ffi::jsonc_get_into(text.as_ptr(), text.len(), path.as_ptr(), path.len(), options.bits(), room.as_mut_ptr(), room.len(), &mut len, &mut fault)
-    };
-    match status {
-        ffi::OK => Ok(Some(len)),
-        ffi::NO_SETTING => Ok(None),
-        status => Err(Error::of(status, &fault, len)),
+    let path = path(names);
+    match filled!(jsonc_get_into, room, options, text, path) {
+        Ok(len) => Ok(Some(len)),
+        Err(Error::Other(ffi::NO_SETTING)) => Ok(None),
+        Err(error) => Err(error),
     }
 }
 
-/// Writes the text after edits into a buffer, and answers its length.
+/// As [`put`].
+pub fn put_into(text: &str, options: Options, names: &[&str], value: &str, room: &mut [u8]) -> Result<usize, Error> {
+    let path = path(names);
+    filled!(jsonc_put_into, room, options, text, path, value)
+}
+
+/// As [`drop_at`].
+pub fn drop_at_into(text: &str, options: Options, names: &[&str], room: &mut [u8]) -> Result<usize, Error> {
+    let path = path(names);
+    filled!(jsonc_drop_into, room, options, text, path)
+}
+
+/// As [`edit`].
 pub fn edit_into(text: &str, options: Options, edits: &[Edit], room: &mut [u8]) -> Result<usize, Error> {
     let edits: Vec<ffi::Edit> = edits.iter().map(Edit::listed).collect();
-    let (mut len, mut fault) = (0, no_fault());
-    // SAFETY: as in `get_into`.
-    let status = unsafe {
-        ffi::jsonc_edit_into(text.as_ptr(), text.len(), edits.as_ptr(), edits.len(), options.bits(), room.as_mut_ptr(), room.len(), &mut len, &mut fault)
-    };
-    match status {
-        ffi::OK => Ok(len),
-        status => Err(Error::of(status, &fault, len)),
-    }
+    filled!(jsonc_edit_into, room, options, text, edits)
 }

@@ -260,10 +260,45 @@ unsafe extern "C" {
     /// how many edits stand before it.
     pub fn jsonc_edit(text: *const u8, text_len: usize, edits: *const Edit, edits_len: usize, options: u32, out: *mut Slice<u8>, fault: *mut Fault) -> u32;
 
+    /// Writes the text that the document prints into a buffer, as `jsonc_print` hands it out.
+    ///
+    /// 17: the buffer is too small. `len` tells how long the text is then, too.
+    pub fn jsonc_print_into(text: *const u8, text_len: usize, options: u32, room: *mut u8, room_len: usize, len: *mut usize, fault: *mut Fault) -> u32;
+
+    /// Writes the text with a property set into a buffer, as `jsonc_set` hands it out.
+    ///
+    /// 17: the buffer is too small. `len` tells how long the text is then, too.
+    pub fn jsonc_set_into(text: *const u8, text_len: usize, name: *const u8, name_len: usize, json: *const u8, json_len: usize, options: u32, room: *mut u8, room_len: usize, len: *mut usize, fault: *mut Fault) -> u32;
+
+    /// Writes the text with an element appended into a buffer, as `jsonc_append` hands it out.
+    ///
+    /// 17: the buffer is too small. `len` tells how long the text is then, too.
+    pub fn jsonc_append_into(text: *const u8, text_len: usize, json: *const u8, json_len: usize, options: u32, room: *mut u8, room_len: usize, len: *mut usize, fault: *mut Fault) -> u32;
+
+    /// Writes the text without a property into a buffer, as `jsonc_remove` hands it out.
+    ///
+    /// 17: the buffer is too small. `len` tells how long the text is then, too.
+    pub fn jsonc_remove_into(text: *const u8, text_len: usize, name: *const u8, name_len: usize, options: u32, room: *mut u8, room_len: usize, len: *mut usize, fault: *mut Fault) -> u32;
+
+    /// Writes the text with its properties sorted into a buffer, as `jsonc_sort` hands it out.
+    ///
+    /// 17: the buffer is too small. `len` tells how long the text is then, too.
+    pub fn jsonc_sort_into(text: *const u8, text_len: usize, options: u32, room: *mut u8, room_len: usize, len: *mut usize, fault: *mut Fault) -> u32;
+
     /// Writes the value at a path, as it is written, into a buffer, as `jsonc_get` hands it out.
     ///
     /// 17: the buffer is too small. `len` tells how long the value is then, too.
     pub fn jsonc_get_into(text: *const u8, text_len: usize, path: *const u8, path_len: usize, options: u32, room: *mut u8, room_len: usize, len: *mut usize, fault: *mut Fault) -> u32;
+
+    /// Writes the text with a value put at a path into a buffer, as `jsonc_put` hands it out.
+    ///
+    /// 17: the buffer is too small. `len` tells how long the text is then, too.
+    pub fn jsonc_put_into(text: *const u8, text_len: usize, path: *const u8, path_len: usize, json: *const u8, json_len: usize, options: u32, room: *mut u8, room_len: usize, len: *mut usize, fault: *mut Fault) -> u32;
+
+    /// Writes the text without what stands at a path into a buffer, as `jsonc_drop` hands it out.
+    ///
+    /// 17: the buffer is too small. `len` tells how long the text is then, too.
+    pub fn jsonc_drop_into(text: *const u8, text_len: usize, path: *const u8, path_len: usize, options: u32, room: *mut u8, room_len: usize, len: *mut usize, fault: *mut Fault) -> u32;
 
     /// Writes the text after edits into a buffer, as `jsonc_edit` hands it out.
     ///

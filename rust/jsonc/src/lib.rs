@@ -19,7 +19,8 @@ mod error;
 mod ffi;
 mod text;
 
-pub use calls::{append, check, drop_at, edit, edit_into, get, get_into, print, put, remove, set, sort};
+pub use calls::{append, check, drop_at, edit, get, print, put, remove, set, sort};
+pub use calls::{append_into, drop_at_into, edit_into, get_into, print_into, put_into, remove_into, set_into, sort_into};
 pub use edit::{Edit, Shape};
 pub use error::{Error, Fault};
 pub use text::Text;

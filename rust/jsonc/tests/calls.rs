@@ -1,5 +1,6 @@
 //! Each call: its text, its faults, and its threads.
-use jsonc::{Edit, Error, Options, Shape, append, check, drop_at, edit, edit_into, get, get_into, print, put, remove, set, sort};
+use jsonc::{Edit, Error, Options, Shape, append, check, drop_at, edit, get, print, put, remove, set, sort};
+use jsonc::{append_into, drop_at_into, edit_into, get_into, print_into, put_into, remove_into, set_into, sort_into};
 
 const TEXT: &str = "{\n  // one\n  \"a\": 1, // first\n  \"b\": {\"c\": [1, 2]},\n}\n";
 
@@ -96,6 +97,32 @@ fn each_edit_is_made() {
     let mut room = [0; 16];
     assert_eq!(edit_into("[1, 2]", Options::ALL, &stopped[..1], &mut room), Ok(4));
     assert_eq!(&room[..4], b"[ 2]");
+}
+
+#[test]
+fn buffers_take_the_same() {
+    const ALL: Options = Options::ALL;
+    type Call<'a> = Box<dyn Fn(&mut [u8]) -> Result<usize, Error> + 'a>;
+    let rows: [(Result<jsonc::Text, Error>, Call); 8] = [
+        (print(TEXT, ALL), Box::new(|room| print_into(TEXT, ALL, room))),
+        (set(TEXT, ALL, "a", "2"), Box::new(|room| set_into(TEXT, ALL, "a", "2", room))),
+        (append("[1]", ALL, "2"), Box::new(|room| append_into("[1]", ALL, "2", room))),
+        (remove(TEXT, ALL, "b"), Box::new(|room| remove_into(TEXT, ALL, "b", room))),
+        (sort(TEXT, ALL), Box::new(|room| sort_into(TEXT, ALL, room))),
+        (put(TEXT, ALL, &["b", "c"], "2"), Box::new(|room| put_into(TEXT, ALL, &["b", "c"], "2", room))),
+        (drop_at(TEXT, ALL, &["b", "c"]), Box::new(|room| drop_at_into(TEXT, ALL, &["b", "c"], room))),
+        (edit(TEXT, ALL, &[Edit::ClearRoot]), Box::new(|room| edit_into(TEXT, ALL, &[Edit::ClearRoot], room))),
+    ];
+    for (handed, call) in rows {
+        let text = made(handed);
+        let mut room = [0; 128];
+        assert_eq!(call(&mut room), Ok(text.len()));
+        assert_eq!(&room[..text.len()], text.as_bytes());
+        if let Some(less) = text.len().checked_sub(1) {
+            assert_eq!(call(&mut room[..less]), Err(Error::NoRoom(text.len())));
+        }
+    }
+    assert_eq!(set_into("[]", ALL, "a", "1", &mut []), Err(Error::NotObject));
 }
 
 #[test]
