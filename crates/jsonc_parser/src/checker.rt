@@ -6,7 +6,6 @@ ghost use Rattle.jsonc_text.specs.Faults.{IsFault};
 ghost use Rattle.jsonc_text.specs.OptionsOf.{parse_options};
 ghost use Rattle.jsonc_value.specs.to_value.Refusals.{RefusesText};
 
-use jsonc_ast::to_ast::collect::CollectOptions;
 use jsonc_ast::to_ast::context::Context;
 use jsonc_ast::to_ast::receiver::Receiver;
 use jsonc_ast::to_ast::walk::read_document;
@@ -64,6 +63,11 @@ impl<'a, A: Allocator> Receiver<String<A>> for Checker<'a> {
     }
 
     #[inline(always)]
+    fn passed(&mut self, _range: Range) -> Result<(), AllocError> {
+        Ok(())
+    }
+
+    #[inline(always)]
     fn number(&mut self, _range: Range) -> Result<(), AllocError> {
         Ok(())
     }
@@ -109,6 +113,11 @@ impl<'a, A: Allocator> Receiver<String<A>> for Checker<'a> {
     }
 
     #[inline(always)]
+    fn passed_name(&mut self, _range: Range) -> Result<(), AllocError> {
+        Ok(())
+    }
+
+    #[inline(always)]
     fn word_name(&mut self, _range: Range) -> Result<(), AllocError> {
         Ok(())
     }
@@ -130,7 +139,7 @@ impl<'a, A: Allocator> Receiver<String<A>> for Checker<'a> {
     }
 }
 
-/// Checks a text, and keeps nothing of it.
+/// Checks a text, and keeps nothing of it: no string is decoded.
 ///
 /// It accepts what [`parse_to_value`](crate::parse_to_value) does, a text without a value too, and its errors are
 /// those of that call: a text with more than 512 containers inside one another is an error.
@@ -144,7 +153,7 @@ pub fn check<A: Allocator + Copy>(
     ensures fault { IfErr result (IsFault text.now) }
     ensures error { IfErr result (ParseFault (parse_options options.now) text.now false) }
 {
-    let mut context = Context::new(alloc, text, &CollectOptions::default(), options);
+    let mut context = Context::of_places(alloc, text, options);
     let mut to = Checker {
         text,
         options: options.copied(),

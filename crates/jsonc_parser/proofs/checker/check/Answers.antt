@@ -6,5 +6,5 @@ use Rattle.jsonc_parser.proofs.checker.check.Goals as goal
 
 pub returns-clause-accepted : goal.returns-clause-accepted
 returns-clause-accepted g c =
-    let start = c.new-context.ensures in
+    let start = c.of_places-context.ensures in
     moved (λ o b. HasValueWithin o (chars b)) start.options start.text (value_within _ _ c.in_ok-read_document.field-0 c.in_ok-read_document.ensures.found)
