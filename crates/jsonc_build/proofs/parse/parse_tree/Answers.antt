@@ -22,44 +22,44 @@ same_source s o b t e f g = ap (λ x. record { bytes = x; options = s.options })
 
 pub returns-in_err-read_document-clause-refused : goal.returns-in_err-read_document-clause-refused
 returns-in_err-read_document-clause-refused g c =
-    let start = c.new-context.ensures in
+    let start = c.of_places-context.ensures in
     let e = c.in_err-read_document.field-0.0 in
     err_of (RefusesText (parse_options c.args.options.now) c.args.text.now) e c.from_residual.result c.from_residual.ensures.1 (moved (λ p b. RefusesText p b e) start.options start.text c.in_err-read_document.ensures.refused)
 
 pub returns-in_err-read_document-clause-error : goal.returns-in_err-read_document-clause-error
 returns-in_err-read_document-clause-error g c =
-    let start = c.new-context.ensures in
+    let start = c.of_places-context.ensures in
     let e = c.in_err-read_document.field-0.0 in
     err_of (ParseFault (parse_options c.args.options.now) c.args.text.now true) e c.from_residual.result c.from_residual.ensures.1 (moved (λ p b. ParseFault p b true e) start.options start.text c.in_err-read_document.ensures.error)
 
 pub returns-in_err-read_document-clause-fault : goal.returns-in_err-read_document-clause-fault
 returns-in_err-read_document-clause-fault g c =
     let e = c.in_err-read_document.field-0.0 in
-    err_of (IsFault c.args.text.now) e c.from_residual.result c.from_residual.ensures.1 (subst (λ b. IsFault b e) c.new-context.ensures.text c.in_err-read_document.ensures.fault)
+    err_of (IsFault c.args.text.now) e c.from_residual.result c.from_residual.ensures.1 (subst (λ b. IsFault b e) c.of_places-context.ensures.text c.in_err-read_document.ensures.fault)
 
 pub finish-requires-clause-reached : goal.finish-requires-clause-reached
 finish-requires-clause-reached g c =
     let o = parse_options c.args.options.now in
     let to = c.in-Ok.ensures in
-    let start = c.new-context.ensures in
+    let start = c.of_places-context.ensures in
     let read = c.in_ok-read_document.ensures in
-    (ends_there o c.args.text.now (source_of c.new-context.result) c.in-Ok.to c.read_document.new.to to.source (same_source (source_of c.new-context.result) o c.args.text.now (source_in c.in-Ok.to) start.text start.options to.source) to.reached c.in_ok-read_document.field-0 read.found read.none).at
+    (ends_there o c.args.text.now (source_of c.of_places-context.result) c.in-Ok.to c.read_document.new.to to.source (same_source (source_of c.of_places-context.result) o c.args.text.now (source_in c.in-Ok.to) start.text start.options to.source) to.reached c.in_ok-read_document.field-0 read.found read.none).at
 
 pub finish-requires-clause-left : goal.finish-requires-clause-left
 finish-requires-clause-left g c =
     let o = parse_options c.args.options.now in
     let to = c.in-Ok.ensures in
-    let start = c.new-context.ensures in
+    let start = c.of_places-context.ensures in
     let read = c.in_ok-read_document.ensures in
-    (ends_there o c.args.text.now (source_of c.new-context.result) c.in-Ok.to c.read_document.new.to to.source (same_source (source_of c.new-context.result) o c.args.text.now (source_in c.in-Ok.to) start.text start.options to.source) to.reached c.in_ok-read_document.field-0 read.found read.none).left
+    (ends_there o c.args.text.now (source_of c.of_places-context.result) c.in-Ok.to c.read_document.new.to to.source (same_source (source_of c.of_places-context.result) o c.args.text.now (source_in c.in-Ok.to) start.text start.options to.source) to.reached c.in_ok-read_document.field-0 read.found read.none).left
 
 pub returns-clause-laid : goal.returns-clause-laid
 returns-clause-laid g c =
     let o : Options = parse_options c.args.options.now in
     let to = c.in-Ok.ensures in
-    let start = c.new-context.ensures in
+    let start = c.of_places-context.ensures in
     let read = c.in_ok-read_document.ensures in
-    let h : HasRead o c.args.text.now (ordered_tree c.in-Ok-finish.tree.nodes 0) = has_read o c.args.text.now (source_of c.new-context.result) c.in-Ok.to c.read_document.new.to to.source (same_source (source_of c.new-context.result) o c.args.text.now (source_in c.in-Ok.to) start.text start.options to.source) to.reached c.in_ok-read_document.field-0 read.found read.none
+    let h : HasRead o c.args.text.now (ordered_tree c.in-Ok-finish.tree.nodes 0) = has_read o c.args.text.now (source_of c.of_places-context.result) c.in-Ok.to c.read_document.new.to to.source (same_source (source_of c.of_places-context.result) o c.args.text.now (source_in c.in-Ok.to) start.text start.options to.source) to.reached c.in_ok-read_document.field-0 read.found read.none
     c.in-Ok-finish.tree.nodes to.root to.one to.bare c.in-Ok-finish.tree.tree c.in-Ok-finish.ensures in
     (h.value, h.located, h.laid)
 
@@ -67,9 +67,9 @@ pub returns-clause-printed : goal.returns-clause-printed
 returns-clause-printed g c =
     let o : Options = parse_options c.args.options.now in
     let to = c.in-Ok.ensures in
-    let start = c.new-context.ensures in
+    let start = c.of_places-context.ensures in
     let read = c.in_ok-read_document.ensures in
-    let h : HasRead o c.args.text.now (ordered_tree c.in-Ok-finish.tree.nodes 0) = has_read o c.args.text.now (source_of c.new-context.result) c.in-Ok.to c.read_document.new.to to.source (same_source (source_of c.new-context.result) o c.args.text.now (source_in c.in-Ok.to) start.text start.options to.source) to.reached c.in_ok-read_document.field-0 read.found read.none
+    let h : HasRead o c.args.text.now (ordered_tree c.in-Ok-finish.tree.nodes 0) = has_read o c.args.text.now (source_of c.of_places-context.result) c.in-Ok.to c.read_document.new.to to.source (same_source (source_of c.of_places-context.result) o c.args.text.now (source_in c.in-Ok.to) start.text start.options to.source) to.reached c.in_ok-read_document.field-0 read.found read.none
     c.in-Ok-finish.tree.nodes to.root to.one to.bare c.in-Ok-finish.tree.tree c.in-Ok-finish.ensures in
     document_prints o c.args.text.now c.utf8.text h.value (ordered_tree c.in-Ok-finish.tree.nodes 0) h.laid h.located
 
@@ -77,9 +77,9 @@ pub returns-clause-value : goal.returns-clause-value
 returns-clause-value g c =
     let o : Options = parse_options c.args.options.now in
     let to = c.in-Ok.ensures in
-    let start = c.new-context.ensures in
+    let start = c.of_places-context.ensures in
     let read = c.in_ok-read_document.ensures in
-    let h : HasRead o c.args.text.now (ordered_tree c.in-Ok-finish.tree.nodes 0) = has_read o c.args.text.now (source_of c.new-context.result) c.in-Ok.to c.read_document.new.to to.source (same_source (source_of c.new-context.result) o c.args.text.now (source_in c.in-Ok.to) start.text start.options to.source) to.reached c.in_ok-read_document.field-0 read.found read.none
+    let h : HasRead o c.args.text.now (ordered_tree c.in-Ok-finish.tree.nodes 0) = has_read o c.args.text.now (source_of c.of_places-context.result) c.in-Ok.to c.read_document.new.to to.source (same_source (source_of c.of_places-context.result) o c.args.text.now (source_in c.in-Ok.to) start.text start.options to.source) to.reached c.in_ok-read_document.field-0 read.found read.none
     c.in-Ok-finish.tree.nodes to.root to.one to.bare c.in-Ok-finish.tree.tree c.in-Ok-finish.ensures in
     (option_map value_at h.value, located_document o c.args.text.now h.value h.located, h.fits, document_value o c.args.text.now c.utf8.text h.value (ordered_tree c.in-Ok-finish.tree.nodes 0) h.laid h.located)
 
@@ -87,9 +87,9 @@ pub returns-clause-shaped : goal.returns-clause-shaped
 returns-clause-shaped g c =
     let o : Options = parse_options c.args.options.now in
     let to = c.in-Ok.ensures in
-    let start = c.new-context.ensures in
+    let start = c.of_places-context.ensures in
     let read = c.in_ok-read_document.ensures in
-    let h : HasRead o c.args.text.now (ordered_tree c.in-Ok-finish.tree.nodes 0) = has_read o c.args.text.now (source_of c.new-context.result) c.in-Ok.to c.read_document.new.to to.source (same_source (source_of c.new-context.result) o c.args.text.now (source_in c.in-Ok.to) start.text start.options to.source) to.reached c.in_ok-read_document.field-0 read.found read.none
+    let h : HasRead o c.args.text.now (ordered_tree c.in-Ok-finish.tree.nodes 0) = has_read o c.args.text.now (source_of c.of_places-context.result) c.in-Ok.to c.read_document.new.to to.source (same_source (source_of c.of_places-context.result) o c.args.text.now (source_in c.in-Ok.to) start.text start.options to.source) to.reached c.in_ok-read_document.field-0 read.found read.none
     c.in-Ok-finish.tree.nodes to.root to.one to.bare c.in-Ok-finish.tree.tree c.in-Ok-finish.ensures in
     document_shaped o c.args.text.now c.utf8.text h.value (ordered_tree c.in-Ok-finish.tree.nodes 0) h.laid h.located
 
@@ -97,8 +97,8 @@ pub returns-clause-lines : goal.returns-clause-lines
 returns-clause-lines g c =
     let o : Options = parse_options c.args.options.now in
     let to = c.in-Ok.ensures in
-    let start = c.new-context.ensures in
+    let start = c.of_places-context.ensures in
     let read = c.in_ok-read_document.ensures in
-    let h : HasRead o c.args.text.now (ordered_tree c.in-Ok-finish.tree.nodes 0) = has_read o c.args.text.now (source_of c.new-context.result) c.in-Ok.to c.read_document.new.to to.source (same_source (source_of c.new-context.result) o c.args.text.now (source_in c.in-Ok.to) start.text start.options to.source) to.reached c.in_ok-read_document.field-0 read.found read.none
+    let h : HasRead o c.args.text.now (ordered_tree c.in-Ok-finish.tree.nodes 0) = has_read o c.args.text.now (source_of c.of_places-context.result) c.in-Ok.to c.read_document.new.to to.source (same_source (source_of c.of_places-context.result) o c.args.text.now (source_in c.in-Ok.to) start.text start.options to.source) to.reached c.in_ok-read_document.field-0 read.found read.none
     c.in-Ok-finish.tree.nodes to.root to.one to.bare c.in-Ok-finish.tree.tree c.in-Ok-finish.ensures in
     document_lines o c.args.text.now h.value (ordered_tree c.in-Ok-finish.tree.nodes 0) h.laid h.located
