@@ -161,7 +161,7 @@ fn buffers(rt: HostRuntime) -> Result<(), Fail> {
     assert_eq!(rt;
         jsonc_remove_into(
             alloc,
-            b"{\"a\":1,\"b\":2}",
+            b"{ \"a\": 1, \"b\": 2 }",
             b"b",
             ALL,
             room.as_mut_slice(),
@@ -170,7 +170,10 @@ fn buffers(rt: HostRuntime) -> Result<(), Fail> {
         ),
         0
     );
-    assert_eq!(rt; room.as_slice().get(0..len), Some(b"{\"a\":1}".as_slice()));
+    assert_eq!(rt;
+        room.as_slice().get(0..len),
+        Some(b"{ \"a\": 1 }".as_slice())
+    );
     assert_eq!(rt;
         jsonc_sort_into(
             alloc,
@@ -203,7 +206,7 @@ fn buffers(rt: HostRuntime) -> Result<(), Fail> {
     assert_eq!(rt;
         jsonc_drop_into(
             alloc,
-            b"{\"a\":1,\"b\":2}",
+            b"{ \"a\": 1, \"b\": 2 }",
             b"[\"b\"]",
             ALL,
             room.as_mut_slice(),
@@ -212,7 +215,10 @@ fn buffers(rt: HostRuntime) -> Result<(), Fail> {
         ),
         0
     );
-    assert_eq!(rt; room.as_slice().get(0..len), Some(b"{\"a\":1}".as_slice()));
+    assert_eq!(rt;
+        room.as_slice().get(0..len),
+        Some(b"{ \"a\": 1 }".as_slice())
+    );
     Ok(())
 }
 
