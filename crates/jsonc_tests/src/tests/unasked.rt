@@ -84,9 +84,8 @@ fn scanning_takes_no_memory(rt: HostRuntime) {
 
 const TEXT: &str = " {\"a\": [1, [\"\\b\", {}], null], // c\r\n \"d\": /* e */ false }\n";
 
-/// A text whose strings and names have no escapes, with each kind of value.
-const WITHOUT_ESCAPES: &str =
-    "{'a': [1, [\"b\", {}], null], // c\r\n d: /* e */ false, 0x1F: true,}\n";
+/// A text with names in single quotes and without quotes, and with escapes.
+const NAMES: &str = "{'\\t': [1, ['\\u0062', {}], null], // c\r\n d: /* e */ false, 0x1F: true,}\n";
 
 /// A check of a text accepts it, or tells this fault of these bytes.
 fn is_checked(heap: &Refusing<Global>, text: &str, fault: Option<(ParseErrorKind, Range)>) -> bool {
@@ -98,21 +97,14 @@ fn is_checked(heap: &Refusing<Global>, text: &str, fault: Option<(ParseErrorKind
 }
 
 #[test]
-fn checking_takes_no_memory_without_escapes(rt: HostRuntime) {
+fn checking_takes_no_memory(rt: HostRuntime) {
     let heap = Refusing::always(rt.alloc());
-    assert!(rt; is_checked(&heap, WITHOUT_ESCAPES, None));
+    assert!(rt; is_checked(&heap, TEXT, None));
+    assert!(rt; is_checked(&heap, NAMES, None));
     assert!(rt; is_checked(&heap, " // one", None));
     let wrong = (ParseErrorKind::UnexpectedToken, Range::new(53, 54));
     assert!(rt; is_checked(&heap, TOKENS, Some(wrong)));
     assert!(rt; heap.asked() == 0);
-}
-
-#[test]
-fn checking_takes_memory_for_escapes_alone(rt: HostRuntime) {
-    let heap = Refusing::always(rt.alloc());
-    let failed = (ParseErrorKind::OutOfMemory, Range::new(0, 0));
-    assert!(rt; is_checked(&heap, TEXT, Some(failed)));
-    assert!(rt; heap.asked() == 1);
 }
 
 /// The document prints its text, and asks for nothing.
