@@ -9,16 +9,15 @@ ghost use Rattle.jsonc_c.specs.Told.{IsToldOf};
 use crate::fault::{JsoncFault, NOT_UTF8, OK, TEXT, no_fault, tell_error};
 use crate::options::options_of;
 use jsonc_parser::errors::ParseError;
-use jsonc_parser::{CollectOptions, ParseOptions, parse_to_ast};
+use jsonc_parser::{ParseOptions, check_document};
 use std::alloc::Global;
-use std::default::Default;
 
-/// Parses a text, and makes nothing of it.
+/// Checks a text, and makes nothing of it.
 fn checked(alloc: Global, text: &str, options: &ParseOptions) -> Result<(), ParseError>
     ensures accepted { OnOk result (IsInputOf (parse_options options.now) text.now) }
     ensures refused { IfErr result (IsRefusalOf (parse_options options.now) text.now) }
 {
-    parse_to_ast(alloc, text, &CollectOptions::default(), options)?;
+    check_document(alloc, text, options)?;
     Ok(())
 }
 

@@ -1,10 +1,10 @@
 //! Whether a text is read, and what is wrong with one that is not.
-ghost use Rattle.std.specs.Prelude.{IfErr, OnOk, false, chars};
+ghost use Rattle.std.specs.Prelude.{IfErr, OnOk, chars, false, true};
 ghost use Rattle.jsonc_ast.specs.to_ast.Faults.{ParseFault};
+ghost use Rattle.jsonc_ast.specs.to_ast.Refusals.{Refuses};
 ghost use Rattle.jsonc_parser.specs.Checker.{HasValueWithin};
 ghost use Rattle.jsonc_text.specs.Faults.{IsFault};
 ghost use Rattle.jsonc_text.specs.OptionsOf.{parse_options};
-ghost use Rattle.jsonc_value.specs.to_value.Refusals.{RefusesText};
 
 use jsonc_ast::to_ast::context::Context;
 use jsonc_ast::to_ast::receiver::Receiver;
@@ -14,15 +14,56 @@ use jsonc_text::errors::ParseError;
 use jsonc_text::options::ParseOptions;
 use std::alloc::{AllocError, Allocator};
 
-/// What makes nothing of a text as it is read.
-#[derive(Drop)]
-pub(crate) struct Checker<'a> {
-    text: &'a str,
-    options: ParseOptions,
+/// What counts towards the depth.
+pub(crate) trait Depth: Drop {
+    ghost use Rattle.std.specs.Prelude.{Bool, ◌≡◌};
+
+    ghost whole: { Bool };
+
+    /// Whether properties count beside containers.
+    fn is_whole(&self) -> bool
+        ensures { result ≡ whole };
 }
 
-impl<'a, A: Allocator> Receiver<String<A>> for Checker<'a> {
+/// Containers alone count, as in values.
+#[derive(Drop)]
+struct Containers;
+
+impl Depth for Containers {
     ghost use Rattle.std.specs.Prelude.{false};
+
+    ghost whole = { false };
+
+    #[inline(always)]
+    fn is_whole(&self) -> bool {
+        false
+    }
+}
+
+/// Properties count too, as in documents.
+#[derive(Drop)]
+struct ContainersAndProperties;
+
+impl Depth for ContainersAndProperties {
+    ghost use Rattle.std.specs.Prelude.{true};
+
+    ghost whole = { true };
+
+    #[inline(always)]
+    fn is_whole(&self) -> bool {
+        true
+    }
+}
+
+/// What makes nothing of a text as it is read.
+#[derive(Drop)]
+pub(crate) struct Checker<'a, D: Depth> {
+    text: &'a str,
+    options: ParseOptions,
+    depth: D,
+}
+
+impl<'a, A: Allocator, D: Depth> Receiver<String<A>> for Checker<'a, D> {
     ghost use Rattle.jsonc_parser.specs.Checker.{source_in};
 
     type Item = ();
@@ -33,7 +74,7 @@ impl<'a, A: Allocator> Receiver<String<A>> for Checker<'a> {
 
     type Property = ();
 
-    ghost whole = { false };
+    ghost whole = { D.whole };
 
     ghost source = { source_in };
 
@@ -49,7 +90,7 @@ impl<'a, A: Allocator> Receiver<String<A>> for Checker<'a> {
 
     #[inline(always)]
     fn is_whole(&self) -> bool {
-        false
+        self.depth.is_whole()
     }
 
     #[inline(always)]
@@ -139,6 +180,28 @@ impl<'a, A: Allocator> Receiver<String<A>> for Checker<'a> {
     }
 }
 
+/// Reads a text by its places, and makes nothing of it.
+fn check_by<A: Allocator + Copy, D: Depth>(
+    alloc: A,
+    text: &str,
+    options: &ParseOptions,
+    depth: D,
+) -> Result<(), ParseError>
+    ensures accepted { OnOk result (HasValueWithin D.whole (parse_options options.now) (chars text.now)) }
+    ensures refused { IfErr result (Refuses (parse_options options.now) D.whole text.now) }
+    ensures fault { IfErr result (IsFault text.now) }
+    ensures error { IfErr result (ParseFault (parse_options options.now) text.now D.whole) }
+{
+    let mut context = Context::of_places(alloc, text, options);
+    let mut to = Checker {
+        text,
+        options: options.copied(),
+        depth,
+    };
+    read_document(&mut context, &mut to)?;
+    Ok(())
+}
+
 /// Checks a text, and keeps nothing of it: no string is decoded.
 ///
 /// It accepts what [`parse_to_value`](crate::parse_to_value) does, a text without a value too, and its errors are
@@ -148,16 +211,25 @@ pub fn check<A: Allocator + Copy>(
     text: &str,
     options: &ParseOptions,
 ) -> Result<(), ParseError>
-    ensures accepted { OnOk result (HasValueWithin (parse_options options.now) (chars text.now)) }
-    ensures refused { IfErr result (RefusesText (parse_options options.now) text.now) }
+    ensures accepted { OnOk result (HasValueWithin false (parse_options options.now) (chars text.now)) }
+    ensures refused { IfErr result (Refuses (parse_options options.now) false text.now) }
     ensures fault { IfErr result (IsFault text.now) }
     ensures error { IfErr result (ParseFault (parse_options options.now) text.now false) }
 {
-    let mut context = Context::of_places(alloc, text, options);
-    let mut to = Checker {
-        text,
-        options: options.copied(),
-    };
-    read_document(&mut context, &mut to)?;
-    Ok(())
+    check_by(alloc, text, options, Containers)
+}
+
+/// The same of a document: it accepts what [`CstRootNode::parse`](crate::cst::CstRootNode::parse) does, with the errors
+/// of that call. At most 512 containers and properties may be around a value.
+pub fn check_document<A: Allocator + Copy>(
+    alloc: A,
+    text: &str,
+    options: &ParseOptions,
+) -> Result<(), ParseError>
+    ensures accepted { OnOk result (HasValueWithin true (parse_options options.now) (chars text.now)) }
+    ensures refused { IfErr result (Refuses (parse_options options.now) true text.now) }
+    ensures fault { IfErr result (IsFault text.now) }
+    ensures error { IfErr result (ParseFault (parse_options options.now) text.now true) }
+{
+    check_by(alloc, text, options, ContainersAndProperties)
 }

@@ -18,7 +18,7 @@ pub mod settings;
 pub mod string;
 
 pub use change::{TextChange, text_change};
-pub use checker::check;
+pub use checker::{check, check_document};
 pub use jsonc_ast::ast;
 pub use jsonc_ast::to_ast::collect::{
     CollectOptions, CommentCollectionStrategy, CommentMap, ParseResult,
