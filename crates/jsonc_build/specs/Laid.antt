@@ -2,6 +2,7 @@
 -- container, and what stands between them is leaves of its own.
 use Rattle.std.specs.Prelude.{ℕ, ◌+◌, ◌-◌, ◌≡◌, Bool, true, false, ◌||◌, ◌==◌, List, Option, Some, None, length, slice_range}
 use Rattle.jsonc_text.specs.declared.common.Range.{Range}
+use Rattle.jsonc_text.specs.Gaps.{Gap}
 use Rattle.jsonc_text.specs.Options.{Options}
 use Rattle.jsonc_text.specs.Text.{next, starts, rest, Spans}
 use Rattle.jsonc_text.specs.Plain.{Plain}
@@ -20,6 +21,10 @@ bytes_in bytes r = slice_range bytes r.start r.end
 pub record FillsBetween (bytes : List ℕ) (i j : ℕ) (row : OrderedTree) : Type 0 where
   pub spans : Spans bytes i j
   pub fills : Fills (rest bytes i) row (rest bytes j)
+
+-- no blank stands at the front of t, nor a comment where o allows them
+abbrev pub NoGap : Options → List ℕ → Type 0
+NoGap o t = (r : List ℕ) → Gap o t r → t ≡ r
 
 -- a container has got the leaves of the text from the place i up to the place j
 abbrev pub FillsGap : List Node → List Node → ℕ → List ℕ → ℕ → ℕ → Type 0

@@ -8,6 +8,7 @@ use crate::ast::{ObjectPropName, StringLit, WordLit};
 use crate::to_ast::collect::{CollectOptions, CommentCollectionStrategy, CommentMap};
 use crate::to_ast::comments::{GapComments, comment_of};
 use crate::to_ast::container::Container;
+use crate::to_ast::receiver::Receiver;
 use crate::to_ast::room::make_room;
 use jsonc_scan::found::{TokenContent, TokenKind};
 use jsonc_scan::scanner::Scanner;
@@ -298,7 +299,10 @@ impl<'a, A: Allocator + Copy> Context<'a, A> {
     }
 
     /// Passes a gap, and answers the kind of the token after it, or none at the end of the text.
-    pub fn scan(&mut self) -> Result<Option<TokenKind>, ParseError>
+    pub fn scan<R: Receiver<String<A>>>(
+        &mut self,
+        to: &mut R,
+    ) -> Result<Option<TokenKind>, ParseError>
         ensures kept { Keeps self.old self.new }
         ensures found { IfOk (found_by self.new result) (Finds (Gap (options_in self.old)) self.old self.new) }
         ensures lexeme { IfOk (found_by self.new result) IsNoComment }
@@ -308,6 +312,10 @@ impl<'a, A: Allocator + Copy> Context<'a, A> {
         ensures fault { IfErr result (IsFault (text_in self.old)) }
         ensures error { IfErr result (StopsAnyhow self.old) }
     {
+        let Ok(place) = to.pass_gap(self.scanner.token_end()) else {
+            return Err(self.out_of_memory());
+        };
+        self.scanner.pass_to(place);
         loop {
             let Some(token) = self.scanner.step(&mut self.content)? else {
                 return Ok(None);
@@ -370,8 +378,9 @@ impl<'a, A: Allocator + Copy> Context<'a, A> {
     /// property begins with, or none past the closing bracket. Where the text ends in the
     /// container, the fault is told from the place where that began, if one is given.
     #[inline(always)]
-    pub fn first_item(
+    pub fn first_item<R: Receiver<String<A>>>(
         &mut self,
+        to: &mut R,
         container: Container,
         start: Option<usize>,
     ) -> Result<Option<TokenKind>, ParseError>
@@ -386,7 +395,7 @@ impl<'a, A: Allocator + Copy> Context<'a, A> {
         ensures error { IfErr result (StopsInside container start (Due.first container) self.old) }
         ensures stands { IfOk (found_by self.new result) (λ f. IfSome f (ClosesNone container)) }
     {
-        let Some(first) = self.scan()? else {
+        let Some(first) = self.scan(to)? else {
             return Err(self.unterminated(container, start));
         };
         if self.closes(container, first) {
@@ -397,8 +406,9 @@ impl<'a, A: Allocator + Copy> Context<'a, A> {
 
     /// Passes what stands after a comma, the last token, as `first_item` does.
     #[inline(always)]
-    fn item_after_comma(
+    fn item_after_comma<R: Receiver<String<A>>>(
         &mut self,
+        to: &mut R,
         container: Container,
         start: Option<usize>,
     ) -> Result<Option<TokenKind>, ParseError>
@@ -415,7 +425,7 @@ impl<'a, A: Allocator + Copy> Context<'a, A> {
         ensures stands { IfOk (found_by self.new result) (λ f. IfSome f (ClosesNone container)) }
     {
         let comma = self.range();
-        let Some(token) = self.scan()? else {
+        let Some(token) = self.scan(to)? else {
             return Err(self.unterminated(container, start));
         };
         if !self.closes(container, token) {
@@ -446,8 +456,9 @@ impl<'a, A: Allocator + Copy> Context<'a, A> {
     /// Passes what stands after an element or a property: answers the kind of the token that the
     /// next one begins with, or none past the closing bracket.
     #[inline(always)]
-    pub fn next_item(
+    pub fn next_item<R: Receiver<String<A>>>(
         &mut self,
+        to: &mut R,
         container: Container,
         start: Option<usize>,
     ) -> Result<Option<TokenKind>, ParseError>
@@ -465,17 +476,17 @@ impl<'a, A: Allocator + Copy> Context<'a, A> {
     {
         if self.has_next(b',') {
             self.pass_next_comma();
-            return self.item_after_comma(container, start);
+            return self.item_after_comma(to, container, start);
         }
         let end = self.scanner.token_end();
-        let Some(token) = self.scan()? else {
+        let Some(token) = self.scan(to)? else {
             return Err(self.unterminated(container, start));
         };
         if self.closes(container, token) {
             return Ok(None);
         }
         if self.is_comma(token) {
-            return self.item_after_comma(container, start);
+            return self.item_after_comma(to, container, start);
         }
         if !self.options.allow_missing_commas {
             return Err(self.missing_comma(container, token, end));
@@ -516,7 +527,7 @@ impl<'a, A: Allocator + Copy> Context<'a, A> {
 
     /// Passes a gap and the colon after it.
     #[inline(always)]
-    pub fn pass_colon(&mut self) -> Result<(), ParseError>
+    pub fn pass_colon<R: Receiver<String<A>>>(&mut self, to: &mut R) -> Result<(), ParseError>
         ensures kept { Keeps self.old self.new }
         ensures found { OnOk result (PassesColon self.old self.new) }
         ensures collects { OnOk result (Collects self.old self.new) }
@@ -528,7 +539,7 @@ impl<'a, A: Allocator + Copy> Context<'a, A> {
             self.pass_next_colon();
             return Ok(());
         }
-        let Some(token) = self.scan()? else {
+        let Some(token) = self.scan(to)? else {
             return Err(self.fault_here(ParseErrorKind::ExpectedColonAfterObjectKey));
         };
         if !self.is_colon(token) {
