@@ -8,7 +8,7 @@ use Rattle.jsonc_text.specs.Text.{next, starts, rest, Spans}
 use Rattle.jsonc_text.specs.Plain.{Plain}
 use Rattle.jsonc_tree.specs.Content.{Content, token}
 use Rattle.jsonc_tree.specs.OrderedTree.{OrderedTree, none, more, followed_by}
-use Rattle.jsonc_ast.specs.Located.{Located, LocatedItems, LocatedMembers, LocatedName, leaf_at, array_at, object_at, no_items_at, item_at, no_members_at, member_at, range_at, IsLocatedDocument}
+use Rattle.jsonc_ast.specs.Located.{Located, LocatedItems, LocatedMembers, LocatedName, leaf_at, array_at, object_at, no_items_at, item_at, no_members_at, member_at, range_at, Between, IsLocatedDocument}
 use Rattle.jsonc_tree.specs.Tree.{Node}
 use Rattle.jsonc_build.specs.Growth.{Grows}
 use Rattle.jsonc_sound.specs.Leaves.{Fills}
@@ -22,9 +22,9 @@ pub record FillsBetween (bytes : List ℕ) (i j : ℕ) (row : OrderedTree) : Typ
   pub spans : Spans bytes i j
   pub fills : Fills (rest bytes i) row (rest bytes j)
 
--- no blank stands at the front of t, nor a comment where o allows them
-abbrev pub NoGap : Options → List ℕ → Type 0
-NoGap o t = (r : List ℕ) → Gap o t r → t ≡ r
+-- no blank stands at the place, nor a comment where o allows them
+abbrev pub EndsGap : Options → List ℕ → ℕ → Type 0
+EndsGap o bytes i = (j : ℕ) → Between bytes (Gap o) i j → i ≡ j
 
 -- a container has got the leaves of the text from the place i up to the place j
 abbrev pub FillsGap : List Node → List Node → ℕ → List ℕ → ℕ → ℕ → Type 0

@@ -11,7 +11,7 @@ ghost use Rattle.jsonc_tree.specs.Content.{newline};
 ghost use Rattle.jsonc_tree.specs.Growing.{IsGrowing, container_of, nodes_so_far};
 ghost use Rattle.jsonc_sound.specs.Leaves.{GapLeaf, is_inner_blank};
 ghost use Rattle.jsonc_build.specs.Growth.{AddsLeaf};
-ghost use Rattle.jsonc_build.specs.Laid.{FillsGap, NoGap};
+ghost use Rattle.jsonc_build.specs.Laid.{EndsGap, FillsGap};
 
 use crate::room::make_room;
 use jsonc_text::chars::{char_at, has_byte};
@@ -195,7 +195,7 @@ fn push_leaf<A: Allocator>(
     ensures added { IfOk result (λ f. IfSome f (AddsLeaf (nodes_so_far tree.old) (nodes_so_far tree.new) (container_of tree.old) text.now place)) }
     ensures gap { IfOk result (λ f. IfSome f (λ e. Gap (parse_options options.now) (rest text.now place) (rest text.now e))) }
     ensures same { IfOk result (λ f. IfNone f (nodes_so_far tree.new ≡ nodes_so_far tree.old)) }
-    ensures none { IfOk result (λ f. IfNone f (NoGap (parse_options options.now) (rest text.now place))) }
+    ensures none { IfOk result (λ f. IfNone f (EndsGap (parse_options options.now) text.now place)) }
     ensures container { OnOk result (container_of tree.new ≡ container_of tree.old) }
     ensures growing { OnOk result (IsGrowing tree.new) }
 {
@@ -225,7 +225,7 @@ pub(crate) fn fill_gap<A: Allocator>(
     requires place { IsCharBoundary text.now from }
     ensures filled { IfOk result (FillsGap (nodes_so_far tree.old) (nodes_so_far tree.new) (container_of tree.old) text.now from) }
     ensures gap { IfOk result (λ e. Gap (parse_options options.now) (rest text.now from) (rest text.now e)) }
-    ensures ends { IfOk result (λ e. NoGap (parse_options options.now) (rest text.now e)) }
+    ensures ends { IfOk result (EndsGap (parse_options options.now) text.now) }
     ensures container { OnOk result (container_of tree.new ≡ container_of tree.old) }
     ensures growing { OnOk result (IsGrowing tree.new) }
 {

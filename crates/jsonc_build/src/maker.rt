@@ -1,8 +1,8 @@
 //! What makes the tree of a document as its text is read.
-ghost use Rattle.std.specs.Prelude.{ℕ, List, [], ◌≡◌, ◌+◌, ◌-◌, ◌<◌, true, IfOk, OnOk, IsCharBoundary, IsTrue, length, slice_range};
+ghost use Rattle.std.specs.Prelude.{ℕ, List, [], ◌≡◌, ◌+◌, ◌-◌, ◌<◌, ◌==◌, true, IfOk, OnOk, IsCharBoundary, IsTrue, length, slice_range};
 ghost use Rattle.std.specs.Rc.{rc_str_bytes};
 ghost use Rattle.jsonc_text.specs.OptionsOf.{parse_options};
-ghost use Rattle.jsonc_text.specs.Text.{Spans, rest};
+ghost use Rattle.jsonc_text.specs.Text.{Spans, next, rest, starts};
 ghost use Rattle.jsonc_tree.specs.Content.{Content, array, is_container, object, property, token};
 ghost use Rattle.jsonc_tree.specs.Growing.{IsGrowing};
 ghost use Rattle.jsonc_tree.specs.OrderedTree.{OrderedTree, none};
@@ -11,7 +11,8 @@ ghost use Rattle.jsonc_tree.specs.Tree.{children_at, is_container_at};
 ghost use Rattle.jsonc_text.specs.Gaps.{Gap};
 ghost use Rattle.jsonc_ast.specs.Located.{Between};
 ghost use Rattle.jsonc_ast.specs.to_ast.Handed.{Follows, IsBehind};
-ghost use Rattle.jsonc_build.specs.Laid.{FillsGap, NameLaid, NoGap, is_quote_at};
+ghost use Rattle.jsonc_sound.specs.Filling.{is_separator};
+ghost use Rattle.jsonc_build.specs.Laid.{EndsGap, FillsGap, NameLaid, is_quote_at};
 ghost use Rattle.jsonc_build.specs.Making.{container_in, source_in, nodes_in, Closes, Holds, IsAt, Names, Opens, Passes, Puts, PutsLeaf};
 
 use crate::fill::fill_gap;
@@ -44,6 +45,21 @@ fn is_quote_at(text: &str, place: usize) -> bool
     match char_at(text, place) {
         Some(c) => (c == '"') | (c == '\''),
         None => false,
+    }
+}
+
+// The comma or colon at a place.
+#[inline(always)]
+fn mark_at(text: &str, place: usize) -> char
+    requires boundary { IsCharBoundary text.now place }
+    requires stands { IsTrue (starts is_separator (next (rest text.now place))) }
+    ensures here { IsTrue (starts (λ c. c == result) (next (rest text.now place))) }
+    ensures mark { IsTrue (is_separator result) }
+{
+    if has_byte(text, place, b',') {
+        ','
+    } else {
+        ':'
     }
 }
 
@@ -114,11 +130,7 @@ impl<'a, A: Allocator + Copy> DocumentMaker<'a, A> {
         if self.place == from {
             return Ok(());
         }
-        let mark = if has_byte(self.text, self.place, b',') {
-            ','
-        } else {
-            ':'
-        };
+        let mark = mark_at(self.text, self.place);
         self.tree.push(Kind::token(mark))?;
         Ok(())
     }
@@ -131,7 +143,7 @@ impl<'a, A: Allocator + Copy> DocumentMaker<'a, A> {
         ensures passes { OnOk result (Passes self.old self.new) }
         ensures at { IfOk result (IsAt self.new) }
         ensures gap { IfOk result (Between self.old.text.now (Gap (source_in self.old).options) from) }
-        ensures ends { IfOk result (λ p. NoGap (source_in self.old).options (rest self.old.text.now p)) }
+        ensures ends { IfOk result (EndsGap (source_in self.old).options self.old.text.now) }
     {
         self.mark(from)?;
         let end = fill_gap(&mut self.tree, &self.whole, self.text, from, &self.options)?;
@@ -252,7 +264,8 @@ impl<'a, A: Allocator + Copy> Receiver<String<A>> for DocumentMaker<'a, A> {
 
     #[inline(always)]
     fn pass_gap(&mut self, from: usize) -> Result<usize, AllocError> {
-        self.pass(from)
+        let end = self.pass(from)?;
+        Ok(end)
     }
 
     fn string(&mut self, range: Range) -> Result<(), AllocError> {

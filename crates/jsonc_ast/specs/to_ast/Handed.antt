@@ -61,10 +61,10 @@ pub data IsBehind (s : Source) (is_reached : ℕ → Type 0) : ℕ → Type 0 wh
   behind_mark : {c i j : ℕ} → IsTrue (c == 0x2C || c == 0x3A) → is_reached i → Between s.bytes (One c) i j → IsBehind s is_reached j
 
 -- what is named or held at the one state is so at the other
-pub record StaysHeld {S P E O : Type 0} (names : S → S → P → LocatedName → Type 0) (elements : S → S → E → ℕ → List Located → Type 0) (properties : S → S → O → ℕ → List LocatedMember → Type 0) (old new : S) : Type 0 where
+pub record StaysHeld {S P E O : Type 0} (names : S → S → P → LocatedName → Type 0) (holds_elements : S → S → E → ℕ → List Located → Type 0) (holds_properties : S → S → O → ℕ → List LocatedMember → Type 0) (old new : S) : Type 0 where
   pub named : (s : S) (p : P) (n : LocatedName) → names s old p n → names s new p n
-  pub elements : (s : S) (a : E) (i : ℕ) (xs : List Located) → elements s old a i xs → elements s new a i xs
-  pub properties : (s : S) (o : O) (i : ℕ) (ms : List LocatedMember) → properties s old o i ms → properties s new o i ms
+  pub elements : (s : S) (a : E) (i : ℕ) (xs : List Located) → holds_elements s old a i xs → holds_elements s new a i xs
+  pub properties : (s : S) (o : O) (i : ℕ) (ms : List LocatedMember) → holds_properties s old o i ms → holds_properties s new o i ms
 
 -- something is made of a value between two states, and gaps are passed before and after
 abbrev pub MadeBetweenGaps : {S I : Type 0} → (S → S → Type 0) → (S → S → I → Located → Type 0) → S → S → I → Located → Type 0
