@@ -5,6 +5,7 @@ pub mod comments;
 pub mod container;
 pub mod context;
 pub mod laws;
+pub mod passed;
 pub mod receiver;
 mod room;
 mod values;

@@ -4,14 +4,12 @@ use Rattle.std.specs.Prelude.{ℕ, ◌≡◌, Bool, false, cond, ◌&&◌, ◌||
 use Rattle.jsonc_text.specs.declared.errors.ParseErrorKind.{ParseErrorKind}
 use Rattle.jsonc_text.specs.declared.errors.ParseErrorKind.TheVariants.{CommentsNotAllowed, ExpectedColonAfterObjectKey, ExpectedObjectValue, ExpectedStringObjectProperty, ExpectedComma, MultipleRootJsonValues, TrailingCommasNotAllowed, UnexpectedTokenInObject, NestingDepthExceeded}
 use Rattle.jsonc_text.specs.Gaps.{Gap, IsComment}
-use Rattle.jsonc_text.specs.Lexemes.{LexemeKind, Lexeme, lexeme, punctuation, string}
+use Rattle.jsonc_text.specs.Lexemes.{Scanned, LexemeKind, Lexeme, lexeme, punctuation, string}
 use Rattle.jsonc_text.specs.Options.{Options}
 use Rattle.jsonc_text.specs.declared.errors.ParseError.{ParseError}
 use Rattle.jsonc_text.specs.Faults.{kind_of, range_of}
 use Rattle.jsonc_text.specs.Text.{rest}
 use Rattle.jsonc_ast.specs.declared.to_ast.context.Context.{Context}
-use Rattle.jsonc_text.specs.declared.tokens.Token.{Token}
-use Rattle.jsonc_text.specs.Tokens.{scanned_of}
 use Rattle.jsonc_ast.specs.to_ast.Context.{text_in, options_in}
 use Rattle.jsonc_ast.specs.to_ast.Refusals.{IsAllocationFailure, here, after}
 use Rattle.jsonc_scan.specs.Faults.{LexemeFault}
@@ -143,39 +141,39 @@ module _ {A : Type 0} where
   StopsAtColon c e = (whole : Bool) (q : List Opened) → StopsAfter c whole q colon e
 
   -- the fault is what is wrong with the last token where a name must stand
-  abbrev pub IsWrongName : Context A → Token A → ParseError → Type 0
-  IsWrongName c t e = (l : LexemeKind) → scanned_of t ≡ lexeme l → wrong_name (options_in c) l (here c) (after c) ≡ Some (fault_in (text_in c) e)
+  abbrev pub IsWrongName : Context A → Scanned → ParseError → Type 0
+  IsWrongName c t e = (l : LexemeKind) → t ≡ lexeme l → wrong_name (options_in c) l (here c) (after c) ≡ Some (fault_in (text_in c) e)
 
   -- no value begins with the last token, and the fault says so
-  abbrev pub IsUnexpected : Context A → Token A → ParseError → Type 0
-  IsUnexpected c t e = (l : LexemeKind) → scanned_of t ≡ lexeme l
+  abbrev pub IsUnexpected : Context A → Scanned → ParseError → Type 0
+  IsUnexpected c t e = (l : LexemeKind) → t ≡ lexeme l
       → (begins_value (lexeme l) ≡ false)
       × (fault (unexpected_kind (lexeme l)) (here c) (after c) ≡ fault_in (text_in c) e)
 
   -- from there past a gap the last token stands, a lexeme, and an element or a property must begin with it
-  pub record ItemStarts (k : Container) (c : Context A) (t : Token A) (whole : Bool) (q : List Opened) (d : Due) (s : List ℕ) : Type 0 where
+  pub record ItemStarts (k : Container) (c : Context A) (t : Scanned) (whole : Bool) (q : List Opened) (d : Due) (s : List ℕ) : Type 0 where
     pub may : ItemMayCome (options_in c) k d
     pub gap : Gap (options_in c) s (here c)
-    pub lexeme_here : (l : LexemeKind) × (scanned_of t ≡ lexeme l)
-    pub must : (l : LexemeKind) (u r : List ℕ) → scanned_of t ≡ lexeme l → wrong (options_in c) whole q d l u r ≡ wrong_item (options_in c) whole k q l u r
+    pub lexeme_here : (l : LexemeKind) × (t ≡ lexeme l)
+    pub must : (l : LexemeKind) (u r : List ℕ) → t ≡ lexeme l → wrong (options_in c) whole q d l u r ≡ wrong_item (options_in c) whole k q l u r
 
   -- a value must
-  pub record ValueStarts (c : Context A) (t : Token A) (whole : Bool) (q : List Opened) (d : Due) (s : List ℕ) : Type 0 where
+  pub record ValueStarts (c : Context A) (t : Scanned) (whole : Bool) (q : List Opened) (d : Due) (s : List ℕ) : Type 0 where
     pub may : ValueMayCome (options_in c) d
     pub gap : Gap (options_in c) s (here c)
-    pub lexeme_here : (l : LexemeKind) × (scanned_of t ≡ lexeme l)
-    pub must : (l : LexemeKind) (u r : List ℕ) → scanned_of t ≡ lexeme l → wrong (options_in c) whole q d l u r ≡ wrong_value whole q l u r
+    pub lexeme_here : (l : LexemeKind) × (t ≡ lexeme l)
+    pub must : (l : LexemeKind) (u r : List ℕ) → t ≡ lexeme l → wrong (options_in c) whole q d l u r ≡ wrong_value whole q l u r
 
   -- a container may begin with it
   abbrev pub ContainerStarts : Context A → Due → List ℕ → Type 0
   ContainerStarts c d s = ValueMayCome (options_in c) d × Gap (options_in c) s (here c)
 
   -- from each place where so many of what is open count and an item must begin with the last token, reading on stops with this fault
-  abbrev pub StopsAtItem : Container → Context A → Token A → Bool → ℕ → ParseError → Type 0
+  abbrev pub StopsAtItem : Container → Context A → Scanned → Bool → ℕ → ParseError → Type 0
   StopsAtItem k c t whole n e = (q : List Opened) (d : Due) (s : List ℕ) → count whole q ≡ n → ItemStarts k c t whole q d s → StopsFrom c whole (at q d s) e
 
   -- where a value must
-  abbrev pub StopsAtValue : Context A → Token A → Bool → ℕ → ParseError → Type 0
+  abbrev pub StopsAtValue : Context A → Scanned → Bool → ℕ → ParseError → Type 0
   StopsAtValue c t whole n e = (q : List Opened) (d : Due) (s : List ℕ) → count whole q ≡ n → ValueStarts c t whole q d s → StopsFrom c whole (at q d s) e
 
   -- where a container may

@@ -2,16 +2,16 @@
 use Rattle.std.specs.Prelude.{ℕ, ◌+◌, ◌-◌, ◌≤◌, ◌≡◌, ◌⊎◌, ◌||◌, ◌==◌, IsCharBoundary, IsTrue, Bool, List, [], ◌∷◌, ◌++◌, Option, Some, None, option_map, chars, slice_range}
 use Rattle.jsonc_text.specs.declared.common.Range.{Range}
 use Rattle.jsonc_text.specs.declared.errors.ParseError.{ParseError}
-use Rattle.jsonc_text.specs.declared.tokens.Token.{Token}
-use Rattle.jsonc_text.specs.Lexemes.{LexemeKind, Lexeme, lexeme, string, number}
+use Rattle.jsonc_text.specs.Lexemes.{Scanned, LexemeKind, Lexeme, lexeme, string, number}
+use Rattle.jsonc_text.specs.Gaps.{Gap}
 use Rattle.jsonc_text.specs.Options.{Options}
-use Rattle.jsonc_text.specs.Tokens.{scanned_of}
+use Rattle.jsonc_text.specs.StringValue.{string_value}
 use Rattle.jsonc_text.specs.string.Escapes.{HoldsBackslash}
 use Rattle.jsonc_ast.specs.Located.{Located, LocatedName, leaf_at, range_at, value_at, Between, In, IsLocatedDocument, One}
 use Rattle.jsonc_ast.specs.Views.{LocatedMember}
 use Rattle.jsonc_ast.specs.declared.to_ast.context.Context.{Context}
-use Rattle.jsonc_ast.specs.to_ast.Context.{text_in, options_in}
-use Rattle.jsonc_ast.specs.to_ast.Faults.{IsUnexpected}
+use Rattle.jsonc_ast.specs.to_ast.Context.{text_in, options_in, token_range, IsNameHere}
+use Rattle.jsonc_ast.specs.to_ast.Faults.{IsUnexpected, IsWrongName}
 use Rattle.jsonc_ast.specs.to_ast.Reached.{size, per_property}
 use Rattle.jsonc_ast.specs.to_ast.Reads.{Reads, ReadsMember}
 use Rattle.jsonc_ast.specs.to_ast.Refusals.{IsAllocationFailure}
@@ -25,6 +25,10 @@ pub record Source : Type 0 where
 -- the characters from one place to another
 abbrev pub chars_between : Source → ℕ → ℕ → List ℕ
 chars_between s i j = chars (slice_range s.bytes i j)
+
+-- what the string in a range stands for
+abbrev pub value_in : Source → Range → List ℕ
+value_in s r = string_value s.bytes r.start r.end
 
 -- the lexeme stands in the range
 abbrev pub HasLexeme : Source → LexemeKind → Range → Type 0
@@ -60,6 +64,10 @@ pub data IsBehind (s : Source) (is_reached : ℕ → Type 0) : ℕ → Type 0 wh
   at_place : {i : ℕ} → is_reached i → IsBehind s is_reached i
   behind_mark : {c i j : ℕ} → IsTrue (c == 0x2C || c == 0x3A) → is_reached i → Between s.bytes (One c) i j → IsBehind s is_reached j
 
+-- a gap leads from the place to one from which each gap leads to a place that was reached
+abbrev pub ReachesBehind : Source → (ℕ → Type 0) → ℕ → Type 0
+ReachesBehind s is_reached i = (p : ℕ) × Between s.bytes (Gap s.options) i p × ((k : ℕ) → Between s.bytes (Gap s.options) p k → is_reached k)
+
 -- what is named or held at the one state is so at the other
 pub record StaysHeld {S P E O : Type 0} (names : S → S → P → LocatedName → Type 0) (holds_elements : S → S → E → ℕ → List Located → Type 0) (holds_properties : S → S → O → ℕ → List LocatedMember → Type 0) (old new : S) : Type 0 where
   pub named : (s : S) (p : P) (n : LocatedName) → names s old p n → names s new p n
@@ -76,9 +84,9 @@ pub record Covers (r : Range) (n : LocatedName) (x : Located) : Type 0 where
   pub ends : r.end ≡ (range_at x).end
 
 -- a token is a value by itself, and something is made of that
-pub record LeafMade {A : Type 0} (r : Range) (t : Token A) (is_made : Located → Type 0) : Type 0 where
+pub record LeafMade (r : Range) (t : Scanned) (is_made : Located → Type 0) : Type 0 where
   pub leaf : Located
-  pub is : Some leaf ≡ option_map (leaf_at r) (leaf_value (scanned_of t))
+  pub is : Some leaf ≡ option_map (leaf_at r) (leaf_value t)
   pub made : is_made leaf
 
 module _ {A : Type 0} where
@@ -113,8 +121,19 @@ module _ {A : Type 0} where
     pub flat : (whole : Bool) → size whole (value_at leaf) ≡ 0
     pub made : is_made leaf
 
+  -- the last token is a name, and something is made of it
+  pub record NameMade (c : Context A) (is_made : LocatedName → Type 0) : Type 0 where
+    pub name : LocatedName
+    pub stands : IsNameHere c name
+    pub range : name.range ≡ token_range c
+    pub made : is_made name
+
+  -- allocation failed, or the last token is no name, and the fault says so
+  abbrev pub IsWrongNameHere : Context A → Scanned → ParseError → Type 0
+  IsWrongNameHere c t e = IsAllocationFailure e ⊎ IsWrongName c t e
+
   -- allocation failed, or no value begins with the last token, and the fault says so
-  abbrev pub IsUnexpectedHere : Context A → Token A → ParseError → Type 0
+  abbrev pub IsUnexpectedHere : Context A → Scanned → ParseError → Type 0
   IsUnexpectedHere c t e = IsAllocationFailure e ⊎ IsUnexpected c t e
 
 -- the text has no value; or it has one, which is small enough, and something is made of it

@@ -4,12 +4,11 @@ use Rattle.jsonc_text.specs.declared.common.Range.{Range}
 use Rattle.jsonc_text.specs.declared.errors.ParseError.{ParseError}
 use Rattle.jsonc_text.specs.declared.errors.ParseErrorKind.{ParseErrorKind}
 use Rattle.jsonc_text.specs.declared.errors.ParseErrorKind.TheVariants.{OutOfMemory, CommentsNotAllowed}
-use Rattle.jsonc_text.specs.declared.tokens.Token.{Token}
 use Rattle.jsonc_text.specs.Options.{Options}
 use Rattle.jsonc_text.specs.Faults.{kind_of, range_of}
 use Rattle.jsonc_text.specs.Text.{rest, next, starts}
 use Rattle.jsonc_text.specs.Gaps.{Gap}
-use Rattle.jsonc_text.specs.Lexemes.{LexemeKind, Lexeme}
+use Rattle.jsonc_text.specs.Lexemes.{Scanned, LexemeKind, Lexeme}
 use Rattle.jsonc_text.specs.Plain.{Plain}
 use Rattle.jsonc_text.specs.Grammar.{literal_value, IsValue, IsName, IsProperty, IsDocument, Separates, Closes}
 use Rattle.jsonc_ast.specs.Located.{Ends, TrailingComma}
@@ -94,6 +93,10 @@ RefusesText o bytes e = Refuses o true bytes e
 abbrev pub OutOfMemoryOr : Type 0 → ParseError → Type 0
 OutOfMemoryOr fact e = IsAllocationFailure e ⊎ fact
 
+-- this holds where a token was found
+abbrev pub WhereSome : Type 0 → Option Scanned → Type 0
+WhereSome fact found = IfSome found (λ t. fact)
+
 module _ {A : Type 0} where
   -- the text from the last token on
   abbrev pub here : Context A → List ℕ
@@ -102,10 +105,6 @@ module _ {A : Type 0} where
   -- the text after the last token
   abbrev pub after : Context A → List ℕ
   after c = rest (text_in c) (token_end c)
-
-  -- this holds where a token was found
-  abbrev pub WhereSome : Type 0 → Option (Token A) → Type 0
-  WhereSome fact found = IfSome found (λ t. fact)
 
   -- allocation failed, or comments are not allowed, and that is told of the last token
   abbrev pub RefusesComment : Context A → ParseError → Type 0

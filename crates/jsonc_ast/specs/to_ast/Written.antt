@@ -1,17 +1,17 @@
 -- How the strings and names of a syntax tree stand in their text.
-use Rattle.std.specs.Prelude.{ℕ, ◌≡◌, List, Option, Some, chars}
+use Rattle.std.specs.Prelude.{ℕ, ◌≡◌, List, Option, Some, IfSome, chars}
 use Rattle.std.specs.List.{All}
 use Rattle.std.specs.Cow.{cow_str_bytes}
-use Rattle.jsonc_text.specs.declared.tokens.Token.{Token}
-use Rattle.jsonc_text.specs.Lexemes.{LexemeKind, Lexeme, lexeme, string}
+use Rattle.jsonc_text.specs.Lexemes.{Scanned, LexemeKind, Lexeme, lexeme, string}
 use Rattle.jsonc_text.specs.Options.{Options}
 use Rattle.jsonc_text.specs.string.Escapes.{IsLentUnescaped}
-use Rattle.jsonc_scan.specs.Scanner.{IsLent}
+use Rattle.jsonc_scan.specs.declared.found.TokenKind.{TokenKind}
 use Rattle.jsonc_ast.specs.declared.ast.ObjectPropName.{ObjectPropName}
 use Rattle.jsonc_ast.specs.declared.ast.ObjectPropName.TheVariants.{String, Word}
 use Rattle.jsonc_ast.specs.Located.{In}
 use Rattle.jsonc_ast.specs.declared.to_ast.context.Context.{Context}
 use Rattle.jsonc_ast.specs.to_ast.Context.{text_in, options_in}
+use Rattle.jsonc_scan.specs.Scanner.{IsLentSeen}
 use Rattle.jsonc_ast.specs.to_ast.Scanned.{loose_text}
 
 module _ {A : Type 0} where
@@ -26,8 +26,8 @@ module _ {A : Type 0} where
   AreWritten o bytes = All (IsWritten o bytes)
 
   -- the last token, if it is a string, is lent by the text exactly where no backslash is in it
-  abbrev pub IsLentHere : Context A → Option (Token A) → Type 0
-  IsLentHere c = IsLent c.scanner
+  abbrev pub IsLentHere : Context A → Option TokenKind → Type 0
+  IsLentHere c found = IfSome found (IsLentSeen c.scanner c.content)
 
   -- strings and names stand so in the text that a parser reads
   abbrev pub AreWrittenIn : Context A → List (ObjectPropName A) → Type 0

@@ -1,7 +1,6 @@
 //! Containers, and what a token is to a parser.
 ghost use Rattle.std.specs.Prelude.{◌≡◌, ◌≢◌, ◌↔◌, IsTrue, chars, option_map};
 ghost use Rattle.jsonc_text.specs.Lexemes.{lexeme, punctuation};
-ghost use Rattle.jsonc_text.specs.Tokens.{scanned_of};
 ghost use Rattle.jsonc_text.specs.Places.{is_comment as is_a_comment};
 ghost use Rattle.jsonc_ast.specs.to_ast.Containers.{closing, unterminated_kind, begins, misplaced_kind};
 ghost use Rattle.jsonc_ast.specs.to_ast.Context.{last};
@@ -37,7 +36,7 @@ impl<'a, A: Allocator> Context<'a, A> {
     /// Whether it is the bracket that closes a container.
     #[inline(always)]
     pub(crate) fn closes(&self, container: Container, token: TokenKind) -> bool
-        ensures { IsTrue result ↔ (scanned_of (last self.now token) ≡ lexeme (punctuation (closing container))) }
+        ensures { IsTrue result ↔ (last self.now token ≡ lexeme (punctuation (closing container))) }
     {
         match container {
             Container::Array => matches!(token, TokenKind::CloseBracket),
@@ -47,7 +46,7 @@ impl<'a, A: Allocator> Context<'a, A> {
 
     /// Whether an element, or a property, may begin with it.
     pub(crate) fn begins(&self, container: Container, token: TokenKind) -> bool
-        ensures { result ≡ begins container (scanned_of (last self.now token)) }
+        ensures { result ≡ begins container (last self.now token) }
     {
         match container {
             Container::Array => self.is_value_start(token),
@@ -57,7 +56,7 @@ impl<'a, A: Allocator> Context<'a, A> {
 
     /// What is wrong with it where an element, or a property, must begin.
     pub(crate) fn misplaced(&self, container: Container, token: TokenKind) -> ParseErrorKind
-        ensures kind { result ≡ misplaced_kind container (scanned_of (last self.now token)) }
+        ensures kind { result ≡ misplaced_kind container (last self.now token) }
         ensures memory { result ≢ ParseErrorKind.OutOfMemory }
     {
         match container {
@@ -68,12 +67,13 @@ impl<'a, A: Allocator> Context<'a, A> {
 
     /// Whether a value may begin with it.
     fn is_value_start(&self, token: TokenKind) -> bool
-        ensures { result ≡ begins_value (scanned_of (last self.now token)) }
+        ensures { result ≡ begins_value (last self.now token) }
     {
         match token {
             TokenKind::OpenBrace => true,
             TokenKind::OpenBracket => true,
             TokenKind::String => true,
+            TokenKind::Passed => true,
             TokenKind::Number => true,
             TokenKind::True => true,
             TokenKind::False => true,
@@ -84,10 +84,11 @@ impl<'a, A: Allocator> Context<'a, A> {
 
     /// Whether it may be a name, where the options allow it.
     fn is_name_start(&self, token: TokenKind) -> bool
-        ensures { result ≡ begins_name (scanned_of (last self.now token)) }
+        ensures { result ≡ begins_name (last self.now token) }
     {
         match token {
             TokenKind::String => true,
+            TokenKind::Passed => true,
             TokenKind::Word => true,
             TokenKind::Number => true,
             TokenKind::True => true,
@@ -100,7 +101,7 @@ impl<'a, A: Allocator> Context<'a, A> {
     /// What is wrong with it where a value must stand.
     #[inline(always)]
     pub fn unexpected(&self, token: TokenKind) -> ParseErrorKind
-        ensures kind { result ≡ unexpected_kind (scanned_of (last self.now token)) }
+        ensures kind { result ≡ unexpected_kind (last self.now token) }
         ensures memory { result ≢ ParseErrorKind.OutOfMemory }
     {
         match token {
@@ -116,7 +117,7 @@ impl<'a, A: Allocator> Context<'a, A> {
     /// Whether it is a comment.
     #[inline(always)]
     pub(crate) fn is_comment(&self, token: TokenKind) -> bool
-        ensures { result ≡ is_a_comment (scanned_of (last self.now token)) }
+        ensures { result ≡ is_a_comment (last self.now token) }
     {
         match token {
             TokenKind::CommentLine => true,
@@ -128,7 +129,7 @@ impl<'a, A: Allocator> Context<'a, A> {
     /// Whether it is a comma.
     #[inline(always)]
     pub(crate) fn is_comma(&self, token: TokenKind) -> bool
-        ensures { IsTrue result ↔ (scanned_of (last self.now token) ≡ lexeme (punctuation 0x2C)) }
+        ensures { IsTrue result ↔ (last self.now token ≡ lexeme (punctuation 0x2C)) }
     {
         matches!(token, TokenKind::Comma)
     }
@@ -136,7 +137,7 @@ impl<'a, A: Allocator> Context<'a, A> {
     /// Whether it is a colon.
     #[inline(always)]
     pub(crate) fn is_colon(&self, token: TokenKind) -> bool
-        ensures { IsTrue result ↔ (scanned_of (last self.now token) ≡ lexeme (punctuation 0x3A)) }
+        ensures { IsTrue result ↔ (last self.now token ≡ lexeme (punctuation 0x3A)) }
     {
         matches!(token, TokenKind::Colon)
     }
@@ -144,7 +145,7 @@ impl<'a, A: Allocator> Context<'a, A> {
     /// Its text, if it may be a name without quotes.
     #[inline(always)]
     pub(crate) fn loose_name(&self, token: TokenKind) -> Option<&'a str>
-        ensures { option_map (λ s. chars s.now) result ≡ loose_text (scanned_of (last self.now token)) }
+        ensures { option_map (λ s. chars s.now) result ≡ loose_text (last self.now token) }
     {
         match token {
             TokenKind::Word => Some(self.content.text),

@@ -1,5 +1,5 @@
 //! What a parser has before it: the scanner, the options, and what is collected so far.
-ghost use Rattle.std.specs.Prelude.{◌≡◌, true};
+ghost use Rattle.std.specs.Prelude.{◌≡◌, true, false, is_some};
 ghost use Rattle.std.specs.Str.{is_utf8};
 ghost use Rattle.jsonc_text.specs.OptionsOf.{parse_options};
 ghost use Rattle.jsonc_scan.specs.Scanner.{options_of};
@@ -28,11 +28,14 @@ pub struct Context<'a, A: Allocator> {
     pub content: TokenContent<'a, A>,
     pub alloc: A,
     pub options: ParseOptions,
+    /// Whether strings are decoded. Where they are not, those with a backslash are passed, and no tokens are collected.
+    pub decodes: bool,
     pub tokens: Option<Vec<TokenAndRange<'a, A>, A>>,
     pub comments_are_tokens: bool,
     pub comments: Option<GapComments<'a, A>>,
     pub ghost same: { parse_options options ≡ options_of scanner },
     pub ghost utf8: { is_utf8 scanner.file_text.now ≡ true },
+    pub ghost by_place: { decodes ≡ false → is_some tokens ≡ false },
 }
 
 impl<'a, A: Allocator + Copy> Context<'a, A> {
@@ -42,7 +45,6 @@ impl<'a, A: Allocator + Copy> Context<'a, A> {
     ghost use Rattle.jsonc_text.specs.Gaps.{Gap};
     ghost use Rattle.jsonc_text.specs.Places.{is_comment as is_a_comment};
     ghost use Rattle.jsonc_text.specs.Text.{Spans};
-    ghost use Rattle.jsonc_text.specs.Tokens.{scanned_of};
     ghost use Rattle.jsonc_ast.specs.to_ast.Context.{text_in, options_in, token_end, token_range, tokens_asked, comments_asked, last, found_in, found_by, GivesAway, Keeps, Finds, LeadsToFirst, LeadsAfterComma, LeadsToNext, PassesColon, IsToken, IsNameHere, IsNoComment, AtEnd, ClosesNone, Comes};
     ghost use Rattle.jsonc_scan.specs.Scanner.{ComesNext};
     ghost use Rattle.jsonc_ast.specs.Views.{name_at};
@@ -51,6 +53,9 @@ impl<'a, A: Allocator + Copy> Context<'a, A> {
     ghost use Rattle.jsonc_ast.specs.to_ast.Reached.{Due};
     ghost use Rattle.jsonc_ast.specs.to_ast.Context.{IsBracket};
     ghost use Rattle.jsonc_ast.specs.to_ast.Refusals.{here, after};
+    ghost use Rattle.jsonc_ast.specs.Located.{Between};
+    ghost use Rattle.jsonc_ast.specs.to_ast.Context.{token_start};
+    ghost use Rattle.jsonc_ast.specs.to_ast.Handed.{source_of, Follows, IsBehind, ReachesBehind, StaysHeld};
     ghost use Rattle.jsonc_ast.specs.to_ast.Written.{IsLentHere, IsWritten};
     ghost use Rattle.jsonc_ast.specs.to_ast.Collected.{takes_comments, is_separate, collected, CollectsLast, CollectsComment, OmitsComment, StaysLent, HasNoted, NotesComment, NotesLexeme, ShowsNoted, Collects};
 
@@ -84,9 +89,32 @@ impl<'a, A: Allocator + Copy> Context<'a, A> {
             content: TokenContent::new(),
             alloc,
             options: options.copied(),
+            decodes: true,
             tokens,
             comments_are_tokens: collect.comments == CommentCollectionStrategy::AsTokens,
             comments,
+        }
+    }
+
+    /// A parser at the start of a text, which collects nothing and decodes no strings: it takes no
+    /// memory of its own.
+    pub fn of_places(alloc: A, text: &'a str, options: &ParseOptions) -> Context<'a, A>
+        ensures text { text_in result ≡ text.now }
+        ensures options { options_in result ≡ parse_options options.now }
+        ensures start { token_end result ≡ 0 }
+        ensures tokens { tokens_asked result ≡ false }
+        ensures comments { comments_asked result ≡ false }
+        ensures passes { result.decodes ≡ false }
+    {
+        Context {
+            scanner: Scanner::with_options(alloc, text, options.copied()),
+            content: TokenContent::new(),
+            alloc,
+            options: options.copied(),
+            decodes: false,
+            tokens: None,
+            comments_are_tokens: false,
+            comments: None,
         }
     }
 
@@ -182,13 +210,14 @@ impl<'a, A: Allocator + Copy> Context<'a, A> {
     /// Collects the last token, where tokens are asked for.
     #[inline(always)]
     fn collect(&mut self, token: TokenKind) -> Result<(), ParseError>
+        requires { IsTrue (tokens_asked self.old) → token ≢ TokenKind.Passed }
         ensures scanner { self.new.scanner ≡ self.old.scanner }
         ensures content { self.new.content ≡ self.old.content }
         ensures tokens { tokens_asked self.new ≡ tokens_asked self.old }
         ensures comments { self.new.comments_are_tokens ≡ self.old.comments_are_tokens }
         ensures apart { self.new.comments ≡ self.old.comments }
-        ensures collected { OnOk result (CollectsLast self.old self.new (scanned_of (last self.old token))) }
-        ensures lent { OnOk result (IsLentHere self.old (Some (last self.old token)) → StaysLent self.old self.new) }
+        ensures collected { OnOk result (CollectsLast self.old self.new (last self.old token)) }
+        ensures lent { OnOk result (IsLentHere self.old (Some token) → StaysLent self.old self.new) }
         ensures memory { IfErr result (λ e. kind_of e ≡ ParseErrorKind.OutOfMemory) }
         ensures fault { IfErr result (IsFault (text_in self.old)) }
     {
@@ -216,7 +245,7 @@ impl<'a, A: Allocator + Copy> Context<'a, A> {
         ensures tokens { self.new.tokens ≡ self.old.tokens }
         ensures comments { self.new.comments_are_tokens ≡ self.old.comments_are_tokens }
         ensures apart { comments_asked self.new ≡ comments_asked self.old }
-        ensures noted { OnOk result (NotesComment self.old self.new (scanned_of (last self.old comment))) }
+        ensures noted { OnOk result (NotesComment self.old self.new (last self.old comment)) }
         ensures memory { IfErr result (λ e. kind_of e ≡ ParseErrorKind.OutOfMemory) }
         ensures fault { IfErr result (IsFault (text_in self.old)) }
     {
@@ -275,15 +304,16 @@ impl<'a, A: Allocator + Copy> Context<'a, A> {
     /// Passes a comment, the last token, where comments are allowed.
     #[cold]
     fn pass_comment(&mut self, comment: TokenKind) -> Result<(), ParseError>
+        requires { comment ≢ TokenKind.Passed }
         ensures scanner { self.new.scanner ≡ self.old.scanner }
         ensures content { self.new.content ≡ self.old.content }
         ensures tokens { tokens_asked self.new ≡ tokens_asked self.old }
         ensures comments { self.new.comments_are_tokens ≡ self.old.comments_are_tokens }
         ensures apart { comments_asked self.new ≡ comments_asked self.old }
-        ensures noted { OnOk result (NotesComment self.old self.new (scanned_of (last self.old comment))) }
-        ensures collected { OnOk result (CollectsComment self.old self.new (scanned_of (last self.old comment))) }
+        ensures noted { OnOk result (NotesComment self.old self.new (last self.old comment)) }
+        ensures collected { OnOk result (CollectsComment self.old self.new (last self.old comment)) }
         ensures omitted { OnOk result (OmitsComment self.old self.new) }
-        ensures lent { OnOk result (IsLentHere self.old (Some (last self.old comment)) → StaysLent self.old self.new) }
+        ensures lent { OnOk result (IsLentHere self.old (Some comment) → StaysLent self.old self.new) }
         ensures allowed { OnOk result (IsTrue (options_in self.old).comments) }
         ensures refused { IfErr result (RefusesComment self.old) }
         ensures fault { IfErr result (IsFault (text_in self.old)) }
@@ -298,26 +328,20 @@ impl<'a, A: Allocator + Copy> Context<'a, A> {
         Ok(())
     }
 
-    /// Passes a gap, and answers the kind of the token after it, or none at the end of the text.
-    pub fn scan<R: Receiver<String<A>>>(
-        &mut self,
-        to: &mut R,
-    ) -> Result<Option<TokenKind>, ParseError>
+    // Passes a gap, and answers the kind of the token after it, or none at the end of the text.
+    #[inline(always)]
+    fn find(&mut self) -> Result<Option<TokenKind>, ParseError>
         ensures kept { Keeps self.old self.new }
         ensures found { IfOk (found_by self.new result) (Finds (Gap (options_in self.old)) self.old self.new) }
         ensures lexeme { IfOk (found_by self.new result) IsNoComment }
-        ensures lent { IfOk (found_by self.new result) (IsLentHere self.new) }
+        ensures lent { IfOk result (IsLentHere self.new) }
         ensures collects { OnOk result (Collects self.old self.new) }
         ensures refused { IfErr result (OutOfMemoryOr (NoTokenAfter self.old)) }
         ensures fault { IfErr result (IsFault (text_in self.old)) }
         ensures error { IfErr result (StopsAnyhow self.old) }
     {
-        let Ok(place) = to.pass_gap(self.scanner.token_end()) else {
-            return Err(self.out_of_memory());
-        };
-        self.scanner.pass_to(place);
         loop {
-            let Some(token) = self.scanner.step(&mut self.content)? else {
+            let Some(token) = self.scanner.step(&mut self.content, self.decodes)? else {
                 return Ok(None);
             };
             if !self.is_comment(token) {
@@ -330,6 +354,57 @@ impl<'a, A: Allocator + Copy> Context<'a, A> {
             }
             self.pass_comment(token)?;
         }
+    }
+
+    // Tells a receiver of the gap behind the last token, and passes as much of it as the receiver did, where nothing
+    // is collected.
+    #[inline(always)]
+    fn pass_gap<R: Receiver<String<A>>>(&mut self, to: &mut R) -> Result<(), ParseError>
+        requires source { R.source to.old ≡ source_of self.old }
+        requires behind { IsBehind (source_of self.old) (R.reached to.old) (token_end self.old) }
+        ensures kept { Keeps self.old self.new }
+        ensures gap { OnOk result (Between (text_in self.old) (Gap (options_in self.old)) (token_end self.old) (token_end self.new)) }
+        ensures collects { OnOk result (Collects self.old self.new) }
+        ensures source { OnOk result (R.source to.new ≡ R.source to.old) }
+        ensures reached { OnOk result (ReachesBehind (source_of self.old) (R.reached to.new) (token_end self.old)) }
+        ensures passes { OnOk result (R.passes to.old to.new) }
+        ensures held { OnOk result (StaysHeld R.names R.holds_elements R.holds_properties to.old to.new) }
+        ensures memory { IfErr result (λ e. kind_of e ≡ ParseErrorKind.OutOfMemory) }
+        ensures fault { IfErr result (IsFault (text_in self.old)) }
+    {
+        let Ok(place) = to.pass_gap(self.scanner.token_end()) else {
+            return Err(self.out_of_memory());
+        };
+        if self.collects() {
+            return Ok(());
+        }
+        self.scanner.pass_to(place);
+        Ok(())
+    }
+
+    /// Passes a gap, and answers the kind of the token after it, or none at the end of the text. The receiver is told
+    /// of the gap, and has come to the token.
+    pub fn scan<R: Receiver<String<A>>>(
+        &mut self,
+        to: &mut R,
+    ) -> Result<Option<TokenKind>, ParseError>
+        requires source { R.source to.old ≡ source_of self.old }
+        requires behind { IsBehind (source_of self.old) (R.reached to.old) (token_end self.old) }
+        ensures kept { Keeps self.old self.new }
+        ensures found { IfOk (found_by self.new result) (Finds (Gap (options_in self.old)) self.old self.new) }
+        ensures lexeme { IfOk (found_by self.new result) IsNoComment }
+        ensures lent { IfOk result (IsLentHere self.new) }
+        ensures collects { OnOk result (Collects self.old self.new) }
+        ensures refused { IfErr result (OutOfMemoryOr (NoTokenAfter self.old)) }
+        ensures fault { IfErr result (IsFault (text_in self.old)) }
+        ensures error { IfErr result (StopsAnyhow self.old) }
+        ensures source { OnOk result (R.source to.new ≡ R.source to.old) }
+        ensures follows { OnOk result (Follows (source_of self.old) (R.reached to.new) (token_start self.new)) }
+        ensures passes { OnOk result (R.passes to.old to.new) }
+        ensures held { OnOk result (StaysHeld R.names R.holds_elements R.holds_properties to.old to.new) }
+    {
+        self.pass_gap(to)?;
+        self.find()
     }
 
     /// Whether an ASCII character comes next, with no gap before it, and nothing is collected.
@@ -384,16 +459,21 @@ impl<'a, A: Allocator + Copy> Context<'a, A> {
         container: Container,
         start: Option<usize>,
     ) -> Result<Option<TokenKind>, ParseError>
-        requires { IfSome start (λ i. Spans (text_in self.old) i (token_end self.old)) }
+        requires start { IfSome start (λ i. Spans (text_in self.old) i (token_end self.old)) }
+        requires source { R.source to.old ≡ source_of self.old }
+        requires reached { R.reached to.old (token_end self.old) }
         ensures kept { Keeps self.old self.new }
         ensures found { IfOk (found_by self.new result) (LeadsToFirst container self.old self.new) }
         ensures only { IfOk (found_by self.new result) (WhereSome (OnlyFirst container self.old self.new)) }
-        ensures lent { IfOk (found_by self.new result) (IsLentHere self.new) }
+        ensures lent { IfOk result (IsLentHere self.new) }
         ensures collects { OnOk result (Collects self.old self.new) }
         ensures refused { IfErr result (OutOfMemoryOr (NothingFirst container self.old)) }
         ensures fault { IfErr result (IsFault (text_in self.old)) }
         ensures error { IfErr result (StopsInside container start (Due.first container) self.old) }
         ensures stands { IfOk (found_by self.new result) (λ f. IfSome f (ClosesNone container)) }
+        ensures source { OnOk result (R.source to.new ≡ R.source to.old) }
+        ensures follows { OnOk result (Follows (source_of self.old) (R.reached to.new) (token_start self.new)) }
+        ensures held { OnOk result (StaysHeld R.names R.holds_elements R.holds_properties to.old to.new) }
     {
         let Some(first) = self.scan(to)? else {
             return Err(self.unterminated(container, start));
@@ -412,17 +492,22 @@ impl<'a, A: Allocator + Copy> Context<'a, A> {
         container: Container,
         start: Option<usize>,
     ) -> Result<Option<TokenKind>, ParseError>
-        requires { IfSome start (λ i. Spans (text_in self.old) i (token_end self.old)) }
+        requires start { IfSome start (λ i. Spans (text_in self.old) i (token_end self.old)) }
+        requires source { R.source to.old ≡ source_of self.old }
+        requires behind { IsBehind (source_of self.old) (R.reached to.old) (token_end self.old) }
         ensures kept { Keeps self.old self.new }
         ensures found { IfOk (found_by self.new result) (LeadsAfterComma container self.old self.new) }
         ensures only { IfOk (found_by self.new result) (WhereSome (OnlyAfterComma container self.old self.new)) }
-        ensures lent { IfOk (found_by self.new result) (IsLentHere self.new) }
+        ensures lent { IfOk result (IsLentHere self.new) }
         ensures collects { OnOk result (Collects self.old self.new) }
         ensures refused { IfErr result (OutOfMemoryOr (NothingAfterComma container self.old)) }
         ensures fault { IfErr result (IsFault (text_in self.old)) }
         ensures error { IfErr result (λ e. IsBracket 0x2C self.old
             → StopsInside container start (Due.further container (here self.old)) self.old e) }
         ensures stands { IfOk (found_by self.new result) (λ f. IfSome f (ClosesNone container)) }
+        ensures source { OnOk result (R.source to.new ≡ R.source to.old) }
+        ensures follows { OnOk result (Follows (source_of self.old) (R.reached to.new) (token_start self.new)) }
+        ensures held { OnOk result (StaysHeld R.names R.holds_elements R.holds_properties to.old to.new) }
     {
         let comma = self.range();
         let Some(token) = self.scan(to)? else {
@@ -442,10 +527,10 @@ impl<'a, A: Allocator + Copy> Context<'a, A> {
     fn missing_comma(&self, container: Container, token: TokenKind, end: usize) -> ParseError
         requires { Spans (text_in self.now) end (token_end self.now) }
         ensures fault { IsFault (text_in self.now) result }
-        ensures comma { IsTrue (begins container (scanned_of (last self.now token)))
+        ensures comma { IsTrue (begins container (last self.now token))
             → IsFaultOf ParseErrorKind.ExpectedComma (record { start = end; end = end }) result }
-        ensures misplaced { begins container (scanned_of (last self.now token)) ≡ false
-            → IsFaultOf (misplaced_kind container (scanned_of (last self.now token))) (token_range self.now) result }
+        ensures misplaced { begins container (last self.now token) ≡ false
+            → IsFaultOf (misplaced_kind container (last self.now token)) (token_range self.now) result }
     {
         if self.begins(container, token) {
             return self.fault(Range::from_byte_index(end), ParseErrorKind::ExpectedComma);
@@ -462,17 +547,22 @@ impl<'a, A: Allocator + Copy> Context<'a, A> {
         container: Container,
         start: Option<usize>,
     ) -> Result<Option<TokenKind>, ParseError>
-        requires { IfSome start (λ i. Spans (text_in self.old) i (token_end self.old)) }
+        requires start { IfSome start (λ i. Spans (text_in self.old) i (token_end self.old)) }
+        requires source { R.source to.old ≡ source_of self.old }
+        requires reached { R.reached to.old (token_end self.old) }
         ensures kept { Keeps self.old self.new }
         ensures found { IfOk (found_by self.new result) (LeadsToNext container self.old self.new) }
         ensures only { IfOk (found_by self.new result) (WhereSome (OnlyNext container self.old self.new)) }
-        ensures lent { IfOk (found_by self.new result) (IsLentHere self.new) }
+        ensures lent { IfOk result (IsLentHere self.new) }
         ensures collects { OnOk result (Collects self.old self.new) }
         ensures refused { IfErr result (OutOfMemoryOr (NothingNext container self.old)) }
         ensures fault { IfErr result (IsFault (text_in self.old)) }
         ensures error { IfErr result (StopsInside container start (Due.comma container (after self.old)) self.old) }
         ensures stands { IfOk (found_by self.new result) (λ f. IfSome f (ClosesNone container)) }
         ensures comes { IfOk (found_by self.new result) (λ f. IfSome f (Comes self.old self.new)) }
+        ensures source { OnOk result (R.source to.new ≡ R.source to.old) }
+        ensures follows { OnOk result (Follows (source_of self.old) (R.reached to.new) (token_start self.new)) }
+        ensures held { OnOk result (StaysHeld R.names R.holds_elements R.holds_properties to.old to.new) }
     {
         if self.has_next(b',') {
             self.pass_next_comma();
@@ -494,14 +584,16 @@ impl<'a, A: Allocator + Copy> Context<'a, A> {
         Ok(Some(token))
     }
 
-    /// The name that the last token is, where the options allow it. A string is given away.
+    /// The name that the last token is, no string that was passed, where the options allow it. A
+    /// string is given away.
     #[inline(always)]
     pub fn name(&mut self, token: TokenKind) -> Result<ObjectPropName<'a, A>, ParseError>
-        requires { IsToken self.old (last self.old token) }
+        requires token { IsToken self.old (last self.old token) }
+        requires kept { token ≢ TokenKind.Passed }
         ensures gives { GivesAway self.old self.new }
         ensures name { IfOk result (λ n. IsNameHere self.old (name_at n)) }
         ensures range { IfOk result (λ n. (name_at n).range ≡ token_range self.old) }
-        ensures written { IfOk result (λ n. IsLentHere self.old (Some (last self.old token))
+        ensures written { IfOk result (λ n. IsLentHere self.old (Some token)
             → IsWritten (options_in self.old) (text_in self.old) n) }
         ensures refused { IfErr result (λ _. NoName self.old) }
         ensures fault { IfErr result (IsFault (text_in self.old)) }
@@ -528,12 +620,17 @@ impl<'a, A: Allocator + Copy> Context<'a, A> {
     /// Passes a gap and the colon after it.
     #[inline(always)]
     pub fn pass_colon<R: Receiver<String<A>>>(&mut self, to: &mut R) -> Result<(), ParseError>
+        requires source { R.source to.old ≡ source_of self.old }
+        requires reached { R.reached to.old (token_end self.old) }
         ensures kept { Keeps self.old self.new }
         ensures found { OnOk result (PassesColon self.old self.new) }
         ensures collects { OnOk result (Collects self.old self.new) }
         ensures refused { IfErr result (OutOfMemoryOr (NoColon self.old)) }
         ensures fault { IfErr result (IsFault (text_in self.old)) }
         ensures error { IfErr result (StopsAtColon self.old) }
+        ensures source { OnOk result (R.source to.new ≡ R.source to.old) }
+        ensures behind { OnOk result (IsBehind (source_of self.old) (R.reached to.new) (token_end self.new)) }
+        ensures held { OnOk result (StaysHeld R.names R.holds_elements R.holds_properties to.old to.new) }
     {
         if self.has_next(b':') {
             self.pass_next_colon();

@@ -31,7 +31,7 @@ pub trait Receiver<S: Text> {
     ghost use Rattle.jsonc_text.specs.Text.{Spans};
     ghost use Rattle.jsonc_ast.specs.Located.{Between, Located, LocatedName, leaf_at, array_at, object_at};
     ghost use Rattle.jsonc_ast.specs.Views.{LocatedMember, items_of, members_of};
-    ghost use Rattle.jsonc_ast.specs.to_ast.Handed.{Source, chars_between, HasEscapedString, HasLooseName, HasNumber, HasPlainString, Covers, Follows, IsBehind, StaysHeld};
+    ghost use Rattle.jsonc_ast.specs.to_ast.Handed.{Source, chars_between, HasEscapedString, HasLooseName, HasNumber, HasPlainString, Covers, Follows, IsBehind, StaysHeld, value_in};
 
     type Item: Drop;
 
@@ -95,6 +95,15 @@ pub trait Receiver<S: Text> {
         ensures kept { OnOk result (source self.new ≡ source self.old) }
         ensures reached { OnOk result (reached self.new range.end) }
         ensures made { IfOk result (λ i. makes self.old self.new i (leaf_at range (string (S.chars_of value)))) };
+
+    /// A string with a backslash that was passed: its place alone is told.
+    fn passed(&mut self, range: Range) -> Result<Self::Item, AllocError>
+        requires inside { Spans (source self.old).bytes range.start range.end }
+        requires stands { HasEscapedString (source self.old) range (value_in (source self.old) range) }
+        requires follows { Follows (source self.old) (reached self.old) range.start }
+        ensures kept { OnOk result (source self.new ≡ source self.old) }
+        ensures reached { OnOk result (reached self.new range.end) }
+        ensures made { IfOk result (λ i. makes self.old self.new i (leaf_at range (string (value_in (source self.old) range)))) };
 
     /// A number.
     fn number(&mut self, range: Range) -> Result<Self::Item, AllocError>
@@ -174,6 +183,16 @@ pub trait Receiver<S: Text> {
         ensures kept { OnOk result (source self.new ≡ source self.old) }
         ensures reached { OnOk result (reached self.new range.end) }
         ensures named { IfOk result (λ p. names self.old self.new p (record { range = range; name = S.chars_of value })) };
+
+    /// A name in quotes with a backslash that was passed.
+    fn passed_name(&mut self, range: Range) -> Result<Self::Property, AllocError>
+        requires inside { Spans (source self.old).bytes range.start range.end }
+        requires stands { HasEscapedString (source self.old) range (value_in (source self.old) range) }
+        requires follows { Follows (source self.old) (reached self.old) range.start }
+        ensures kept { OnOk result (source self.new ≡ source self.old) }
+        ensures reached { OnOk result (reached self.new range.end) }
+        ensures named { IfOk result (λ p. names self.old self.new p
+            (record { range = range; name = value_in (source self.old) range })) };
 
     /// A name without quotes.
     fn word_name(&mut self, range: Range) -> Result<Self::Property, AllocError>

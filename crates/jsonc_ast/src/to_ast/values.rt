@@ -22,6 +22,7 @@ use crate::ast::{
 };
 use crate::to_ast::collect::{CollectOptions, ParseResult};
 use crate::to_ast::context::Context;
+use crate::to_ast::passed::decode_passed;
 use crate::to_ast::receiver::Receiver;
 use crate::to_ast::walk::read_document;
 use jsonc_text::common::Range;
@@ -92,6 +93,14 @@ impl<'a, A: Allocator + Copy> Receiver<String<A>> for TreeMaker<'a, A> {
         }))
     }
 
+    fn passed(&mut self, range: Range) -> Result<Value<'a, A>, AllocError> {
+        let value = decode_passed(self.alloc, self.text, range, &self.options)?;
+        Ok(Value::StringLit(StringLit {
+            range,
+            value: CowStr::Owned(value),
+        }))
+    }
+
     #[inline(always)]
     fn number(&mut self, range: Range) -> Result<Value<'a, A>, AllocError> {
         Ok(Value::NumberLit(NumberLit {
@@ -153,6 +162,14 @@ impl<'a, A: Allocator + Copy> Receiver<String<A>> for TreeMaker<'a, A> {
         range: Range,
         value: String<A>,
     ) -> Result<ObjectPropName<'a, A>, AllocError> {
+        Ok(ObjectPropName::String(StringLit {
+            range,
+            value: CowStr::Owned(value),
+        }))
+    }
+
+    fn passed_name(&mut self, range: Range) -> Result<ObjectPropName<'a, A>, AllocError> {
+        let value = decode_passed(self.alloc, self.text, range, &self.options)?;
         Ok(ObjectPropName::String(StringLit {
             range,
             value: CowStr::Owned(value),

@@ -4,7 +4,6 @@ ghost use Rattle.std.specs.Cow.{cow_str_bytes};
 ghost use Rattle.std.specs.Str.{IsUtf8};
 ghost use Rattle.jsonc_text.specs.Faults.{IsFault};
 ghost use Rattle.jsonc_text.specs.Plain.{string};
-ghost use Rattle.jsonc_text.specs.Tokens.{scanned_of};
 ghost use Rattle.jsonc_ast.specs.Located.{Located, leaf_at};
 ghost use Rattle.jsonc_ast.specs.Views.{LocatedMember, name_at};
 ghost use Rattle.jsonc_ast.specs.declared.ast.ObjectPropName.TheVariants.{String as quoted};
@@ -12,9 +11,9 @@ ghost use Rattle.jsonc_ast.specs.declared.to_ast.container.Container.TheVariants
 ghost use Rattle.jsonc_ast.specs.to_ast.Collected.{Collects};
 ghost use Rattle.jsonc_ast.specs.to_ast.Context.{text_in, options_in, token_start, token_end, token_range, Keeps, AtEnd, IsToken, IsBracket, OpensNone, GivesAway, last};
 ghost use Rattle.jsonc_ast.specs.to_ast.Faults.{ParseFault, StopsAtContainer, StopsAtItem, StopsAtValue};
-ghost use Rattle.jsonc_ast.specs.to_ast.Handed.{source_of, ElementMade, Follows, IsDocumentMade, IsUnexpectedHere, LeafMade, MadeBetweenGaps, PropertyMade, ReadsLeaf, ReadsMade};
+ghost use Rattle.jsonc_ast.specs.to_ast.Handed.{source_of, ElementMade, Follows, IsDocumentMade, IsUnexpectedHere, IsWrongNameHere, LeafMade, MadeBetweenGaps, NameMade, PropertyMade, ReadsLeaf, ReadsMade};
 ghost use Rattle.jsonc_ast.specs.to_ast.Reached.{least, per_property};
-ghost use Rattle.jsonc_ast.specs.to_ast.Refusals.{NoLiteral, NoPropertyHere, NoValueHere, OutOfMemoryOr, Refuses};
+ghost use Rattle.jsonc_ast.specs.to_ast.Refusals.{NoLiteral, NoName, NoPropertyHere, NoValueHere, OutOfMemoryOr, Refuses};
 ghost use Rattle.jsonc_ast.specs.to_ast.Scanned.{leaf_value};
 ghost use Rattle.jsonc_ast.specs.to_ast.Written.{IsLentHere, IsWritten};
 
@@ -114,6 +113,39 @@ fn hand_name<'a, A: Allocator, R: Receiver<String<A>>>(
     }
 }
 
+// The name that the last token is, where the options allow it, handed over. A string is given away.
+#[inline(always)]
+fn parse_name<'a, A: Allocator + Copy, R: Receiver<String<A>>>(
+    context: &mut Context<'a, A>,
+    to: &mut R,
+    token: TokenKind,
+) -> Result<R::Property, ParseError>
+    requires token { IsToken context.old (last context.old token) }
+    requires lent { IsLentHere context.old (Some token) }
+    requires source { R.source to.old ≡ source_of context.old }
+    requires follows { Follows (R.source to.old) (R.reached to.old) (token_start context.old) }
+    ensures source { OnOk result (R.source to.new ≡ R.source to.old) }
+    ensures reached { OnOk result (R.reached to.new (token_end context.old)) }
+    ensures gives { GivesAway context.old context.new }
+    ensures named { IfOk result (λ p. NameMade context.old (R.names to.old to.new p)) }
+    ensures refused { IfErr result (OutOfMemoryOr (NoName context.old)) }
+    ensures fault { IfErr result (IsFault (text_in context.old)) }
+    ensures error { IfErr result (IsWrongNameHere context.old (last context.old token)) }
+{
+    if let TokenKind::Passed = token {
+        let range = context.range();
+        let Ok(named) = to.passed_name(range) else {
+            return Err(context.out_of_memory());
+        };
+        return Ok(named);
+    }
+    let name = context.name(token)?;
+    let Ok(named) = hand_name(to, name) else {
+        return Err(context.out_of_memory());
+    };
+    Ok(named)
+}
+
 // What the last token is by itself, handed over. A string is given away.
 #[inline(always)]
 fn leaf<'a, A: Allocator + Copy, R: Receiver<String<A>>>(
@@ -123,7 +155,7 @@ fn leaf<'a, A: Allocator + Copy, R: Receiver<String<A>>>(
     range: Range,
 ) -> Result<Option<R::Item>, AllocError>
     requires token { IsToken context.old (last context.old token) }
-    requires lent { IsLentHere context.old (Some (last context.old token)) }
+    requires lent { IsLentHere context.old (Some token) }
     requires place { range ≡ token_range context.old }
     requires source { R.source to.old ≡ source_of context.old }
     requires follows { Follows (R.source to.old) (R.reached to.old) range.start }
@@ -132,13 +164,17 @@ fn leaf<'a, A: Allocator + Copy, R: Receiver<String<A>>>(
     ensures gives { GivesAway context.old context.new }
     ensures made { IfOk result
         (λ f. IfSome f (λ i. LeafMade range (last context.old token) (R.makes to.old to.new i))) }
-    ensures none { IfOk result (λ f. IfNone f (leaf_value (scanned_of (last context.old token)) ≡ None)) }
+    ensures none { IfOk result (λ f. IfNone f (leaf_value (last context.old token) ≡ None)) }
     ensures stays { IfOk result (λ f. IfNone f (context.new.content ≡ context.old.content)) }
 {
     match token {
         TokenKind::String => {
             let value = context.content.take_string();
             let item = hand_string(to, range, value)?;
+            Ok(Some(item))
+        }
+        TokenKind::Passed => {
+            let item = to.passed(range)?;
             Ok(Some(item))
         }
         TokenKind::Number => {
@@ -169,7 +205,7 @@ fn parse_leaf<'a, A: Allocator + Copy, R: Receiver<String<A>>>(
     token: TokenKind,
 ) -> Result<R::Item, ParseError>
     requires token { IsToken context.old (last context.old token) }
-    requires lent { IsLentHere context.old (Some (last context.old token)) }
+    requires lent { IsLentHere context.old (Some token) }
     requires source { R.source to.old ≡ source_of context.old }
     requires follows { Follows (R.source to.old) (R.reached to.old) (token_start context.old) }
     ensures source { OnOk result (R.source to.new ≡ R.source to.old) }
@@ -203,7 +239,7 @@ fn parse_value<'a, A: Allocator + Copy, R: Receiver<String<A>>>(
 ) -> Result<R::Item, ParseError>
     requires token { IsToken context.old (last context.old token) }
     requires around { count ≤ 512 }
-    requires lent { IsLentHere context.old (Some (last context.old token)) }
+    requires lent { IsLentHere context.old (Some token) }
     requires source { R.source to.old ≡ source_of context.old }
     requires follows { Follows (R.source to.old) (R.reached to.old) (token_start context.old) }
     ensures source { OnOk result (R.source to.new ≡ R.source to.old) }
@@ -243,7 +279,7 @@ fn parse_element<'a, A: Allocator + Copy, R: Receiver<String<A>>>(
     requires token { IsToken context.old (last context.old token) }
     requires around { count ≤ 512 }
     requires held { (s : R) × (i : ℕ) × (xs : List Located) × R.holds_elements s to.old elements.old i xs }
-    requires lent { IsLentHere context.old (Some (last context.old token)) }
+    requires lent { IsLentHere context.old (Some token) }
     requires source { R.source to.old ≡ source_of context.old }
     requires follows { Follows (R.source to.old) (R.reached to.old) (token_start context.old) }
     ensures source { OnOk result (R.source to.new ≡ R.source to.old) }
@@ -387,7 +423,7 @@ fn parse_property<'a, A: Allocator + Copy, R: Receiver<String<A>>>(
     requires token { IsToken context.old (last context.old token) }
     requires around { count + least R.whole ≤ 513 }
     requires held { (s : R) × (i : ℕ) × (ms : List LocatedMember) × R.holds_properties s to.old properties.old i ms }
-    requires lent { IsLentHere context.old (Some (last context.old token)) }
+    requires lent { IsLentHere context.old (Some token) }
     requires source { R.source to.old ≡ source_of context.old }
     requires follows { Follows (R.source to.old) (R.reached to.old) (token_start context.old) }
     ensures source { OnOk result (R.source to.new ≡ R.source to.old) }
@@ -402,10 +438,7 @@ fn parse_property<'a, A: Allocator + Copy, R: Receiver<String<A>>>(
     ensures error { IfErr result (StopsAtItem Object context.old (last context.old token) R.whole count) }
 {
     let start = context.scanner.token_start();
-    let name = context.name(token)?;
-    let Ok(named) = hand_name(to, name) else {
-        return Err(context.out_of_memory());
-    };
+    let named = parse_name(context, to, token)?;
     context.pass_colon(to)?;
     let found = context.scan(to)?;
     if holds_too_deep(to, count) {

@@ -3,18 +3,17 @@ use Rattle.std.proofs.Common.{ℕ, ◌+◌, ◌≡◌, ◌∙◌, sym, ap, subst
 use Rattle.std.proofs.lemmas.List.{append-nil}
 use Rattle.std.proofs.lemmas.List.Elements.{All-nil, All-cons, All-append, filter-append}
 use Rattle.std.proofs.lemmas.Str.{IsUtf8-from_is_utf8, encodes-chars}
-use Rattle.jsonc_text.specs.declared.tokens.Token.{Token}
 use Rattle.jsonc_text.specs.declared.tokens.TokenAndRange.{TokenAndRange}
 use Rattle.jsonc_text.specs.Gaps.{is_blank}
 use Rattle.jsonc_text.specs.Lexemes.{Scanned, IsScanned}
 use Rattle.jsonc_text.specs.Options.{Options}
 use Rattle.jsonc_text.specs.Places.{Placed, AreTokens, no_more, blank, one, is_comment, CommentGap, Gaps, gaps_of}
 use Rattle.jsonc_text.specs.Text.{rest, byte_length, Many, stop, step, Spans}
-use Rattle.jsonc_text.specs.Tokens.{scanned_of}
 use Rattle.jsonc_text.proofs.Cuts.{byte_length-append, many_split, place_after, chars_between}
 use Rattle.jsonc_text.proofs.CharacterSteps.{rest_end}
 use Rattle.jsonc_scan.specs.declared.scanner.Scanner.{Scanner}
-use Rattle.jsonc_scan.specs.Scanner.{text_of, start_of, end_of, PassesBlanks, StandsAt, left}
+use Rattle.jsonc_scan.specs.Scanner.{text_of, start_of, end_of, PassesBlanks, left}
+use Rattle.jsonc_scan.specs.Scanner.{IsThere}
 use Rattle.jsonc_ast.specs.declared.to_ast.comments.GapComments.{GapComments}
 use Rattle.jsonc_ast.specs.declared.to_ast.context.Context.{Context}
 use Rattle.jsonc_ast.specs.declared.to_ast.collect.CommentCollectionStrategy.{CommentCollectionStrategy}
@@ -132,61 +131,61 @@ module _ {A : Type 0} where
         let m = subst (λ b. Many is_blank (left now.scanner) (rest b (start_of s))) blanks.text blanks.blanks in
         tokens_past_blanks (text_in now) (utf8_of now) (options_in now) ts (token_end now) (start_of s) now.scanner.at_place boundary m h
 
-    past_one : (t : Token A) → StandsAt s (Some t) → (ts : List Placed) → AreTokens (options_in now) (token_end new) (rest (text_in now) (token_end new)) ts
-        → AreTokens (options_in now) (token_end now) (rest (text_in now) (token_end now)) (placed_here s (scanned_of t) ∷ ts)
+    past_one : (t : Scanned) → IsThere s (Some t) → (ts : List Placed) → AreTokens (options_in now) (token_end new) (rest (text_in now) (token_end new)) ts
+        → AreTokens (options_in now) (token_end now) (rest (text_in now) (token_end now)) (placed_here s t ∷ ts)
     past_one t at ts h =
         let here = stands (text_in now) (options_in now) s t blanks.text blanks.options at in
         let after = subst (λ x. AreTokens (options_in now) (end_of x) (rest (text_in now) (end_of x)) ts) same h in
-        past_blanks (placed_here s (scanned_of t) ∷ ts) (tokens_past_one (text_in now) (utf8_of now) (options_in now) ts (scanned_of t) (start_of s) (end_of s) here.spans here.stands after)
+        past_blanks (placed_here s t ∷ ts) (tokens_past_one (text_in now) (utf8_of now) (options_in now) ts t (start_of s) (end_of s) here.spans here.stands after)
 
-    one_passed : (t : Token A) → StandsAt s (Some t) → CollectsMore now new (taken now.comments_are_tokens (placed_here s (scanned_of t) ∷ []))
-        → StaysLent now new → NotesMore now new (placed_here s (scanned_of t) ∷ []) → IsSilent (options_in now) (placed_here s (scanned_of t) ∷ []) → Collects now new
-    one_passed t at more lent noted silent = record { passed = placed_here s (scanned_of t) ∷ []; stand = past_one t at; more = more; lent = lent; noted = noted; silent = silent }
+    one_passed : (t : Scanned) → IsThere s (Some t) → CollectsMore now new (taken now.comments_are_tokens (placed_here s t ∷ []))
+        → StaysLent now new → NotesMore now new (placed_here s t ∷ []) → IsSilent (options_in now) (placed_here s t ∷ []) → Collects now new
+    one_passed t at more lent noted silent = record { passed = placed_here s t ∷ []; stand = past_one t at; more = more; lent = lent; noted = noted; silent = silent }
 
   -- a token that is no comment, after blanks
-  pub collects_lexeme : (start now new : Context A) (s : Scanner A) (f : Option (Token A)) (t : Token A) → Keeps start now → Collects start now → PassesBlanks now.scanner s → new.scanner ≡ s → StandsAt s f → f ≡ Some t
-      → is_comment (scanned_of t) ≡ false → CollectsMore now new (placed_here s (scanned_of t) ∷ []) → StaysLent now new → NotesMore now new (placed_here s (scanned_of t) ∷ []) → Collects start new
+  pub collects_lexeme : (start now new : Context A) (s : Scanner A) (f : Option Scanned) (t : Scanned) → Keeps start now → Collects start now → PassesBlanks now.scanner s → new.scanner ≡ s → IsThere s f → f ≡ Some t
+      → is_comment t ≡ false → CollectsMore now new (placed_here s t ∷ []) → StaysLent now new → NotesMore now new (placed_here s t ∷ []) → Collects start new
   collects_lexeme start now new s f t kept so_far blanks same at is lexeme more lent noted =
-      let p = placed_here s (scanned_of t) in
+      let p = placed_here s t in
       let here = taken_lexeme now.comments_are_tokens p lexeme in
-      collects_on start now new kept so_far (one_passed now new s blanks same t (subst (StandsAt s) is at) (λ asked. more asked ∙ ap (λ l. collected now ++ l) (sym here)) lent noted (λ off. All-cons (λ p. is_comment p.what ≡ false) p [] lexeme (All-nil (λ p. is_comment p.what ≡ false))))
+      collects_on start now new kept so_far (one_passed now new s blanks same t (subst (IsThere s) is at) (λ asked. more asked ∙ ap (λ l. collected now ++ l) (sym here)) lent noted (λ off. All-cons (λ p. is_comment p.what ≡ false) p [] lexeme (All-nil (λ p. is_comment p.what ≡ false))))
 
   -- it, where nothing is collected
-  pub collects_nothing : (start now : Context A) (s : Scanner A) (f : Option (Token A)) (t : Token A) (new : Context A) → Keeps start now → Collects start now → PassesBlanks now.scanner s → new.scanner ≡ s → StandsAt s f → f ≡ Some t
-      → is_comment (scanned_of t) ≡ false → tokens_asked now ≡ false → new.tokens ≡ now.tokens → comments_asked new ≡ false → Collects start new
+  pub collects_nothing : (start now : Context A) (s : Scanner A) (f : Option Scanned) (t : Scanned) (new : Context A) → Keeps start now → Collects start now → PassesBlanks now.scanner s → new.scanner ≡ s → IsThere s f → f ≡ Some t
+      → is_comment t ≡ false → tokens_asked now ≡ false → new.tokens ≡ now.tokens → comments_asked new ≡ false → Collects start new
   collects_nothing start now s f t new kept so_far blanks same at is lexeme none tokens apart =
-      collects_lexeme start now new s f t kept so_far blanks same at is lexeme (λ asked. absurd (both (tokens_asked now) asked none)) (λ h. subst (AreLentIn (text_in now)) (sym tokens) h) (λ ts h. no_comments new.comments apart (ts ++ placed_here s (scanned_of t) ∷ []))
+      collects_lexeme start now new s f t kept so_far blanks same at is lexeme (λ asked. absurd (both (tokens_asked now) asked none)) (λ h. subst (AreLentIn (text_in now)) (sym tokens) h) (λ ts h. no_comments new.comments apart (ts ++ placed_here s t ∷ []))
     where
       no_comments : (found : Option (GapComments A)) → is_some found ≡ false → (ts : List Placed) → IfSome found (HasPassed ts)
       no_comments None e ts = tt
       no_comments (Some c) e ts = cc
 
   -- it, where its gap is ended after it is collected
-  pub collects_on_lexeme : (start now mid new : Context A) (s : Scanner A) (f : Option (Token A)) (t : Token A) → Keeps start now → Collects start now → PassesBlanks now.scanner s → mid.scanner ≡ s → StandsAt s f → f ≡ Some t
-      → is_comment (scanned_of t) ≡ false → CollectsMore now mid (placed_here s (scanned_of t) ∷ []) → (AreLentIn (text_of s) now.tokens → AreLentIn (text_of s) mid.tokens) → mid.comments ≡ now.comments → new.scanner ≡ mid.scanner → new.tokens ≡ mid.tokens → NotesLexeme mid new → Collects start new
+  pub collects_on_lexeme : (start now mid new : Context A) (s : Scanner A) (f : Option Scanned) (t : Scanned) → Keeps start now → Collects start now → PassesBlanks now.scanner s → mid.scanner ≡ s → IsThere s f → f ≡ Some t
+      → is_comment t ≡ false → CollectsMore now mid (placed_here s t ∷ []) → (AreLentIn (text_of s) now.tokens → AreLentIn (text_of s) mid.tokens) → mid.comments ≡ now.comments → new.scanner ≡ mid.scanner → new.tokens ≡ mid.tokens → NotesLexeme mid new → Collects start new
   collects_on_lexeme start now mid new s f t kept so_far blanks here at is lexeme more lent apart same tokens noted =
-      let w = scanned_of t in
+      let w = t in
       let stays = subst (λ b. AreLentIn b now.tokens → AreLentIn b new.tokens) blanks.text (subst (λ found. AreLentIn (text_of s) now.tokens → AreLentIn (text_of s) found) (sym tokens) lent) in
       collects_lexeme start now new s f t kept so_far blanks (same ∙ here) at is lexeme (λ asked. ap all_placed tokens ∙ more asked) stays
       (λ ts h. subst (λ x. HasNoted (ts ++ placed_here x w ∷ []) new) here (noted w lexeme ts (subst (λ found. IfSome found (HasPassed ts)) (sym apart) h)))
 
   -- a comment
-  pub collects_comment : (start now new : Context A) (s : Scanner A) (f : Option (Token A)) (t : Token A) → Keeps start now → Collects start now → PassesBlanks now.scanner s → new.scanner ≡ s → StandsAt s f → f ≡ Some t
-      → is_comment (scanned_of t) ≡ true → (now.comments_are_tokens ≡ true → CollectsMore now new (placed_here s (scanned_of t) ∷ [])) → (now.comments_are_tokens ≡ false → collected new ≡ collected now)
-      → (AreLentIn (text_of s) now.tokens → AreLentIn (text_of s) new.tokens) → NotesMore now new (placed_here s (scanned_of t) ∷ []) → IsTrue (options_in now).comments → Collects start new
+  pub collects_comment : (start now new : Context A) (s : Scanner A) (f : Option Scanned) (t : Scanned) → Keeps start now → Collects start now → PassesBlanks now.scanner s → new.scanner ≡ s → IsThere s f → f ≡ Some t
+      → is_comment t ≡ true → (now.comments_are_tokens ≡ true → CollectsMore now new (placed_here s t ∷ [])) → (now.comments_are_tokens ≡ false → collected new ≡ collected now)
+      → (AreLentIn (text_of s) now.tokens → AreLentIn (text_of s) new.tokens) → NotesMore now new (placed_here s t ∷ []) → IsTrue (options_in now).comments → Collects start new
   collects_comment start now new s f t kept so_far blanks same at is comment more none lent noted allowed =
-      let p = placed_here s (scanned_of t) in
-      collects_on start now new kept so_far (one_passed now new s blanks same t (subst (StandsAt s) is at) (λ asked. either now.comments_are_tokens refl asked) (subst (λ b. AreLentIn b now.tokens → AreLentIn b new.tokens) blanks.text lent) noted (λ off. absurd (both (options_in now).comments allowed off)))
+      let p = placed_here s t in
+      collects_on start now new kept so_far (one_passed now new s blanks same t (subst (IsThere s) is at) (λ asked. either now.comments_are_tokens refl asked) (subst (λ b. AreLentIn b now.tokens → AreLentIn b new.tokens) blanks.text lent) noted (λ off. absurd (both (options_in now).comments allowed off)))
     where
-      either : (b : Bool) → now.comments_are_tokens ≡ b → IsTrue (tokens_asked now) → collected new ≡ collected now ++ taken now.comments_are_tokens (placed_here s (scanned_of t) ∷ [])
-      either true e asked = more e asked ∙ ap (λ l. collected now ++ l) (sym (taken_comment now.comments_are_tokens (placed_here s (scanned_of t)) e))
-      either false e asked = none e ∙ sym (append-nil (collected now)) ∙ ap (λ l. collected now ++ l) (sym (not_taken now.comments_are_tokens (placed_here s (scanned_of t)) e comment))
+      either : (b : Bool) → now.comments_are_tokens ≡ b → IsTrue (tokens_asked now) → collected new ≡ collected now ++ taken now.comments_are_tokens (placed_here s t ∷ [])
+      either true e asked = more e asked ∙ ap (λ l. collected now ++ l) (sym (taken_comment now.comments_are_tokens (placed_here s t) e))
+      either false e asked = none e ∙ sym (append-nil (collected now)) ∙ ap (λ l. collected now ++ l) (sym (not_taken now.comments_are_tokens (placed_here s t) e comment))
 
   -- blanks up to the end of the text
-  pub collects_end : (start now new : Context A) (s : Scanner A) (f : Option (Token A)) → Keeps start now → Collects start now → PassesBlanks now.scanner s → new.scanner ≡ s → StandsAt s f → f ≡ None
+  pub collects_end : (start now new : Context A) (s : Scanner A) (f : Option Scanned) → Keeps start now → Collects start now → PassesBlanks now.scanner s → new.scanner ≡ s → IsThere s f → f ≡ None
       → collected new ≡ collected now → StaysLent now new → ((ts : List Placed) → HasNoted ts now → HasNoted ts new) → Collects start new
   collects_end start now new s f kept so_far blanks same at is none lent still_noted =
-      let here = subst (StandsAt s) is at in
+      let here = subst (IsThere s) is at in
       let e : token_end new ≡ start_of s = ap end_of same ∙ here.1 ∙ sym here.0 in
       collects_on start now new kept so_far (record {
         passed = [];
@@ -203,10 +202,10 @@ module _ {A : Type 0} where
       subst (AreLentIn bytes) (sym e) (subst (λ b. AreLentIn b end.tokens) text (h.lent (none_lent (text_in start) start.tokens empty)))
 
   -- from the start of a text to its end
-  module _ (start end : Context A) (f : Option (Token A)) (o : Options) (bytes : List ℕ) (text : text_in start ≡ bytes) (options : options_in start ≡ o) (zero : token_end start ≡ 0)
-      (kept : Keeps start end) (h : Collects start end) (at : StandsAt end.scanner f) (is : f ≡ None) where
+  module _ (start end : Context A) (f : Option Scanned) (o : Options) (bytes : List ℕ) (text : text_in start ≡ bytes) (options : options_in start ≡ o) (zero : token_end start ≡ 0)
+      (kept : Keeps start end) (h : Collects start end) (at : IsThere end.scanner f) (is : f ≡ None) where
     last : token_end end ≡ length (text_in start)
-    last = (subst (StandsAt end.scanner) is at).1 ∙ ap length kept.text
+    last = (subst (IsThere end.scanner) is at).1 ∙ ap length kept.text
 
     none_left : AreTokens (options_in start) (token_end end) (rest (text_in start) (token_end end)) []
     none_left = subst (λ t. AreTokens (options_in start) (token_end end) t []) (sym (rest_end (text_in start) (token_end end) (omega (arith, last)))) no_more

@@ -1,12 +1,11 @@
 -- What is handed to a receiver follows the place that it has come to.
+use Rattle.jsonc_text.specs.Lexemes.{Scanned}
 use Rattle.std.proofs.Common.{ℕ, ◌+◌, ◌-◌, ◌≤◌, ◌<◌, ◌≡◌, ◌∙◌, sym, ap, subst, refl, arith, List, ◌∷◌, Option, Some, None, IsTrue, IsCharBoundary}
 use Rattle.std.proofs.lemmas.Str.{IsUtf8-from_is_utf8}
-use Rattle.jsonc_text.specs.declared.tokens.Token.{Token}
 use Rattle.jsonc_text.specs.Gaps.{Gap, is_blank}
 use Rattle.jsonc_text.specs.Grammar.{Separates, comma, no_comma, Closes, plain, trailing_comma}
 use Rattle.jsonc_text.specs.Options.{Options}
 use Rattle.jsonc_text.specs.Text.{next, no, starts, rest}
-use Rattle.jsonc_text.specs.Tokens.{scanned_of}
 use Rattle.jsonc_text.proofs.UniqueTokens.{not_blank, scanned_no_blank}
 use Rattle.jsonc_ast.specs.declared.to_ast.container.Container.{Container}
 use Rattle.jsonc_ast.specs.declared.to_ast.container.Container.TheVariants.{Array, Object}
@@ -35,19 +34,19 @@ follows_at {s} {reached} e h = subst (Follows s reached) (sym e) h
 
 module _ {A : Type 0} where
   -- where a token was found, or else before the closing bracket
-  abbrev pub ItemFollows : Source → (ℕ → Type 0) → Context A → Option (Token A) → Type 0
+  abbrev pub ItemFollows : Source → (ℕ → Type 0) → Context A → Option Scanned → Type 0
   ItemFollows s reached c None = Follows s reached (token_end c - 1)
   ItemFollows s reached c (Some t) = Follows s reached (token_start c)
 
-  token_begins : (c : Context A) (t : Token A) → IsToken c t → IsTrue (no is_blank (next (rest (text_in c) (token_start c))))
-  token_begins c t at = no_blank (next (rest (text_in c) (token_start c))) (scanned_no_blank (options_in c) (scanned_of t) (rest (text_in c) (token_start c)) (rest (text_in c) (token_end c)) at.1)
+  token_begins : (c : Context A) (t : Scanned) → IsToken c t → IsTrue (no is_blank (next (rest (text_in c) (token_start c))))
+  token_begins c t at = no_blank (next (rest (text_in c) (token_start c))) (scanned_no_blank (options_in c) t (rest (text_in c) (token_start c)) (rest (text_in c) (token_end c)) at.1)
 
   -- punctuation has one byte
   mark_ends : (c : Context A) (bracket : ℕ) → bracket < 128 → IsBracket bracket c → token_start c + 1 ≡ token_end c
   mark_ends c bracket small h = one_byte (text_in c) bracket (token_start c) (token_end c) (IsUtf8-from_is_utf8 (text_in c) c.utf8) small h
 
   -- a token that stands behind what divides
-  token_follows : (reached : ℕ → Type 0) (i : ℕ) (old new : Context A) (t : Token A) → reached i → Keeps old new → Between (text_in old) (Divides (options_in old)) i (token_start new) → IsToken new t → Follows (source_of old) reached (token_start new)
+  token_follows : (reached : ℕ → Type 0) (i : ℕ) (old new : Context A) (t : Scanned) → reached i → Keeps old new → Between (text_in old) (Divides (options_in old)) i (token_start new) → IsToken new t → Follows (source_of old) reached (token_start new)
   token_follows reached i old new t came kept divides at = record {
     from = i;
     reached = came;
@@ -71,15 +70,15 @@ module _ {A : Type 0} where
           ends = subst (λ t. IsTrue (no is_blank (next t))) (sym stands) no_blank_closes;
         })
 
-    lead_follows : (found : Option (Token A)) → Leads P C bracket old new found → ItemFollows (source_of old) reached new found
+    lead_follows : (found : Option Scanned) → Leads P C bracket old new found → ItemFollows (source_of old) reached new found
     lead_follows None h = bracket_follows h.0 h.1 h.2
     lead_follows (Some t) h = token_follows reached (token_end old) old new t came kept (change (Divides (options_in old)) divides h.0) h.1
 
-  first_here : (k : Container) (old new : Context A) (reached : ℕ → Type 0) (found : Option (Token A)) → reached (token_end old) → Keeps old new → LeadsToFirst k old new found → ItemFollows (source_of old) reached new found
+  first_here : (k : Container) (old new : Context A) (reached : ℕ → Type 0) (found : Option Scanned) → reached (token_end old) → Keeps old new → LeadsToFirst k old new found → ItemFollows (source_of old) reached new found
   first_here Array old new reached found came kept h = lead_follows _ _ 0x5D (omega arith) refl old new reached came kept (λ t r. gap_alone) (λ t r. gap_alone) found h
   first_here Object old new reached found came kept h = lead_follows _ _ 0x7D (omega arith) refl old new reached came kept (λ t r. gap_alone) (λ t r. gap_alone) found h
 
-  next_here : (k : Container) (old new : Context A) (reached : ℕ → Type 0) (found : Option (Token A)) → reached (token_end old) → Keeps old new → LeadsToNext k old new found → ItemFollows (source_of old) reached new found
+  next_here : (k : Container) (old new : Context A) (reached : ℕ → Type 0) (found : Option Scanned) → reached (token_end old) → Keeps old new → LeadsToNext k old new found → ItemFollows (source_of old) reached new found
   next_here Array old new reached found came kept h = lead_follows _ _ 0x5D (omega arith) refl old new reached came kept (separates_divides (options_in old)) (closes_divides (options_in old) 0x5D) found h
   next_here Object old new reached found came kept h = lead_follows _ _ 0x7D (omega arith) refl old new reached came kept (separates_divides (options_in old)) (closes_divides (options_in old) 0x7D) found h
 
@@ -88,18 +87,18 @@ module _ {A : Type 0} where
   source_on old new s kept e = subst (λ b. s ≡ record { bytes = b; options = options_in new }) (sym kept.text) (subst (λ o. s ≡ record { bytes = text_in old; options = o }) (sym kept.options) e)
 
   -- what comes first in a container that was opened
-  pub first_follows : (k : Container) (bracket : ℕ) (old new : Context A) (s : Source) (reached : ℕ → Type 0) (i : ℕ) (found : Option (Token A)) → bracket < 128 → IsBracket bracket old → s ≡ source_of old → i ≡ token_start old → reached (i + 1) → Keeps old new
+  pub first_follows : (k : Container) (bracket : ℕ) (old new : Context A) (s : Source) (reached : ℕ → Type 0) (i : ℕ) (found : Option Scanned) → bracket < 128 → IsBracket bracket old → s ≡ source_of old → i ≡ token_start old → reached (i + 1) → Keeps old new
       → LeadsToFirst k old new found → ItemFollows s reached new found
   first_follows k bracket old new s reached i found small opens e place came kept h =
       let here : i + 1 ≡ token_end old = ap (λ j. j + 1) place ∙ mark_ends old bracket small opens in
       subst (λ x. ItemFollows x reached new found) (sym e) (first_here k old new reached found (subst reached here came) kept h)
 
   -- and behind an item
-  pub next_follows : (k : Container) (old new : Context A) (s : Source) (reached : ℕ → Type 0) (found : Option (Token A)) → s ≡ source_of old → reached (token_end old) → Keeps old new → LeadsToNext k old new found → ItemFollows s reached new found
+  pub next_follows : (k : Container) (old new : Context A) (s : Source) (reached : ℕ → Type 0) (found : Option Scanned) → s ≡ source_of old → reached (token_end old) → Keeps old new → LeadsToNext k old new found → ItemFollows s reached new found
   next_follows k old new s reached found e came kept h = subst (λ x. ItemFollows x reached new found) (sym e) (next_here k old new reached found came kept h)
 
   -- a value behind a name and a colon
-  pub colon_follows : (old mid new : Context A) (t : Token A) (s : Source) (reached : ℕ → Type 0) (i : ℕ) → s ≡ source_of old → i ≡ token_end old → reached i → Keeps old mid → Keeps mid new → PassesColon old mid → Passes (Gap (options_in mid)) mid new → IsToken new t
+  pub colon_follows : (old mid new : Context A) (t : Scanned) (s : Source) (reached : ℕ → Type 0) (i : ℕ) → s ≡ source_of old → i ≡ token_end old → reached i → Keeps old mid → Keeps mid new → PassesColon old mid → Passes (Gap (options_in mid)) mid new → IsToken new t
       → Follows s reached (token_start new)
   colon_follows old mid new t s reached i e place came kept further colon gap at =
       let o = options_in old in
@@ -108,7 +107,7 @@ module _ {A : Type 0} where
       subst (λ x. Follows x reached (token_start new)) (sym e) (token_follows reached (token_end old) old new t (subst reached place came) (kept_on old mid new kept further) divides at)
 
   -- the first value of a text
-  pub root_follows : (old new : Context A) (t : Token A) (s : Source) (reached : ℕ → Type 0) → s ≡ source_of old → token_end old ≡ 0 → reached 0 → Keeps old new → Passes (Gap (options_in old)) old new → IsToken new t → Follows s reached (token_start new)
+  pub root_follows : (old new : Context A) (t : Scanned) (s : Source) (reached : ℕ → Type 0) → s ≡ source_of old → token_end old ≡ 0 → reached 0 → Keeps old new → Passes (Gap (options_in old)) old new → IsToken new t → Follows s reached (token_start new)
   root_follows old new t s reached e zero came kept gap at =
       subst (λ x. Follows x reached (token_start new)) (sym e)
       (token_follows reached (token_end old) old new t (subst reached (sym zero) came) kept (change (Divides (options_in old)) (λ t r. gap_alone) gap) at)

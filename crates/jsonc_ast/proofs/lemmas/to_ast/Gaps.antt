@@ -1,15 +1,14 @@
 -- What a scanner passes, as gaps between places.
 use Rattle.std.proofs.Common.{ℕ, ◌≡◌, ◌∙◌, subst, inl, inr, refl, arith, true, List, IsTrue, Some, IsCharBoundary}
 use Rattle.jsonc_scan.specs.declared.scanner.Scanner.{Scanner}
-use Rattle.jsonc_text.specs.declared.tokens.Token.{Token}
 use Rattle.jsonc_text.specs.Options.{Options}
 use Rattle.jsonc_text.specs.Text.{rest, Many, Spans}
 use Rattle.jsonc_text.specs.Gaps.{Gap, none, comment, is_blank}
 use Rattle.jsonc_text.specs.Lexemes.{Scanned, lexeme, line_comment, block_comment, IsScanned}
 use Rattle.jsonc_text.specs.Places.{is_comment}
 pub use Rattle.jsonc_text.proofs.Gaps.{blanks_gap, gap_append}
-use Rattle.jsonc_scan.specs.Scanner.{text_of, start_of, end_of, options_of, PassesBlanks, StandsAt, left}
-use Rattle.jsonc_text.specs.Tokens.{scanned_of}
+use Rattle.jsonc_scan.specs.Scanner.{text_of, start_of, end_of, options_of, PassesBlanks, left}
+use Rattle.jsonc_scan.specs.Scanner.{IsThere}
 use Rattle.jsonc_ast.specs.Located.{Between}
 
 pub comment_gap : (o p : Options) (w : Scanned) (t r : List ℕ) → is_comment w ≡ true → IsTrue o.comments → IsScanned p w t r → Gap o t r
@@ -42,15 +41,15 @@ module _ {A : Type 0} where
   }
 
   -- a token that stands where a scanner of the text is
-  pub stands : (bytes : List ℕ) (o : Options) (s : Scanner A) (t : Token A) → text_of s ≡ bytes → options_of s ≡ o → StandsAt s (Some t) → Between bytes (IsScanned o (scanned_of t)) (start_of s) (end_of s)
+  pub stands : (bytes : List ℕ) (o : Options) (s : Scanner A) (t : Scanned) → text_of s ≡ bytes → options_of s ≡ o → IsThere s (Some t) → Between bytes (IsScanned o t) (start_of s) (end_of s)
   stands bytes o s t e f h =
-      subst (λ x. Between x (IsScanned o (scanned_of t)) (start_of s) (end_of s)) e
-      (subst (λ p. Between (text_of s) (IsScanned p (scanned_of t)) (start_of s) (end_of s)) f (record { spans = token_spans s; stands = h.1 }))
+      subst (λ x. Between x (IsScanned o t) (start_of s) (end_of s)) e
+      (subst (λ p. Between (text_of s) (IsScanned p t) (start_of s) (end_of s)) f (record { spans = token_spans s; stands = h.1 }))
 
   -- a comment is passed
-  pub comment_passed : (bytes : List ℕ) (o : Options) (i : ℕ) (old new : Scanner A) (t : Token A) → text_of old ≡ bytes → options_of old ≡ o → PassesBlanks old new
-      → Between bytes (Gap o) i (end_of old) → StandsAt new (Some t) → is_comment (scanned_of t) ≡ true → IsTrue o.comments → Between bytes (Gap o) i (end_of new)
+  pub comment_passed : (bytes : List ℕ) (o : Options) (i : ℕ) (old new : Scanner A) (t : Scanned) → text_of old ≡ bytes → options_of old ≡ o → PassesBlanks old new
+      → Between bytes (Gap o) i (end_of old) → IsThere new (Some t) → is_comment t ≡ true → IsTrue o.comments → Between bytes (Gap o) i (end_of new)
   comment_passed bytes o i old new t e f h before at is allowed =
       let blanks = subst (λ x. Between x (Gap o) (end_of old) (start_of new)) e (passed o old new h) in
       let here = stands bytes (options_of new) new t (h.text ∙ e) refl at in
-      join (Gap o) (λ t u r. gap_append) before (join (Gap o) (λ t u r. gap_append) blanks (change (Gap o) (λ u r c. comment_gap o (options_of new) (scanned_of t) u r is allowed c) here))
+      join (Gap o) (λ t u r. gap_append) before (join (Gap o) (λ t u r. gap_append) blanks (change (Gap o) (λ u r c. comment_gap o (options_of new) t u r is allowed c) here))

@@ -7,13 +7,12 @@ use Rattle.std.specs.declared.borrow.CowStr.{CowStr}
 use Rattle.std.specs.declared.borrow.CowStr.TheVariants as cow
 use denote.Ref.{Bor}
 use Rattle.jsonc_text.specs.declared.common.Range.{Range}
-use Rattle.jsonc_text.specs.declared.tokens.Token.TheVariants as token
+use Rattle.jsonc_text.specs.string.Escapes.{IsLentUnescaped}
 use Rattle.jsonc_text.specs.Lexemes.{Lexeme, LexemeKind, lexeme}
 use Rattle.jsonc_text.specs.Options.{Options}
-use Rattle.jsonc_text.specs.Plain.{number}
+use Rattle.jsonc_text.specs.Plain.{number, string}
 use Rattle.jsonc_text.specs.Strings.{IsQuote}
 use Rattle.jsonc_text.specs.Text.{Spans, rest, byte_length}
-use Rattle.jsonc_text.specs.Tokens.{scanned_of}
 use Rattle.jsonc_text.specs.Words.{keyword_text}
 use Rattle.jsonc_text.proofs.Basics.{or_cases, and_both, test_eq}
 use Rattle.jsonc_text.proofs.Cuts.{slice_chars, rest_past, step_place, byte_length-append, byte_length-one}
@@ -24,11 +23,12 @@ use Rattle.jsonc_ast.specs.declared.ast.ObjectPropName.TheVariants.{String}
 use Rattle.jsonc_ast.specs.declared.ast.WordLit.{WordLit}
 use Rattle.jsonc_ast.specs.Located.{Located, LocatedName, leaf_at, In}
 use Rattle.jsonc_ast.specs.declared.to_ast.context.Context.{Context}
-use Rattle.jsonc_ast.specs.to_ast.Context.{text_in, options_in, token_range, IsToken, last}
-use Rattle.jsonc_ast.specs.to_ast.Handed.{Source, source_of, chars_between, HasLexeme, HasPlainString, HasNumber, HasLooseName, LeafMade}
+use Rattle.jsonc_ast.specs.to_ast.Context.{text_in, options_in, token_range, IsNameHere, IsToken, last}
+use Rattle.jsonc_ast.specs.to_ast.Handed.{Source, source_of, chars_between, HasLexeme, HasPlainString, HasEscapedString, HasNumber, HasLooseName, LeafMade, NameMade, value_in}
 use Rattle.jsonc_ast.specs.to_ast.Scanned.{loose_text, leaf_value}
 use Rattle.jsonc_ast.specs.to_ast.Written.{IsLentHere, IsWritten}
 use Rattle.jsonc_ast.proofs.lemmas.to_ast.Gaps.{stands}
+use Rattle.jsonc_ast.proofs.lemmas.to_ast.Names.{string_name_here}
 use Rattle.jsonc_ast.proofs.lemmas.to_ast.Spelling.{string_written}
 
 some_same : (a b : List ℕ) → Some a ≡ Some b → a ≡ b
@@ -108,11 +108,12 @@ module _ {A : Type 0} where
   utf8_there c s e = subst (λ x. IsUtf8 x.bytes) (sym e) (IsUtf8-from_is_utf8 (text_in c) c.utf8)
 
   -- what the last token is, by its place in the text of a receiver
-  pub string_here : (c : Context A) (s : Source) (k : TokenKind) (v : CowStr A) (r : Range) → k ≡ kind.String → v ≡ c.content.string → s ≡ source_of c → IsToken c (last c k) → IsLentHere c (Some (last c k)) → r ≡ token_range c
+  pub string_here : (c : Context A) (s : Source) (k : TokenKind) (v : CowStr A) (r : Range) → k ≡ kind.String → v ≡ c.content.string → s ≡ source_of c → IsToken c (last c k) → IsLentHere c (Some k) → r ≡ token_range c
       → IsWritten s.options s.bytes (String (record { range = r; value = v }))
   string_here c s k v r is same e at lent place =
-      let token_is : last c k ≡ token.String v = ap (last c) is ∙ ap token.String (sym same) in
-      subst (λ x. IsWritten x.options x.bytes (String (record { range = r; value = v }))) (sym e) (string_written c (last c k) v r at token_is place lent)
+      let there : IsToken c (lexeme (LexemeKind.string (chars (cow_str_bytes c.content.string)))) = subst (IsToken c) (ap (last c) is) at in
+      let lent_there : IsLentUnescaped (text_in c) (token_range c).start (token_range c).end c.content.string = subst (λ k. IsLentHere c (Some k)) is lent in
+      subst (λ x. IsWritten x.options x.bytes (String (record { range = r; value = v }))) (sym e) (string_written c v r (subst (λ s. IsToken c (lexeme (LexemeKind.string (chars (cow_str_bytes s))))) (sym same) there) place (subst (λ s. IsLentUnescaped (text_in c) (token_range c).start (token_range c).end s) (sym same) lent_there))
 
   pub name_here : (c : Context A) (s : Source) (n : ObjectPropName A) → s ≡ source_of c → IsWritten (options_in c) (text_in c) n → IsWritten s.options s.bytes n
   name_here c s n e h = subst (λ x. IsWritten x.options x.bytes n) (sym e) h
@@ -120,7 +121,7 @@ module _ {A : Type 0} where
   number_stands : (c : Context A) (k : TokenKind) → k ≡ kind.Number → IsToken c (last c k) → In (text_in c) (Lexeme (options_in c) (LexemeKind.number (chars c.content.text.now))) (token_range c)
   number_stands c k is at =
       let found = subst (IsToken c) (ap (last c) is) at in
-      stands (text_in c) (options_in c) c.scanner (token.Number c.content.text) refl refl found
+      stands (text_in c) (options_in c) c.scanner (lexeme (LexemeKind.number (chars c.content.text.now))) refl refl found
 
   number_text : (c : Context A) (k : TokenKind) → k ≡ kind.Number → IsToken c (last c k) → chars c.content.text.now ≡ chars (slice_range (text_in c) (token_range c).start (token_range c).end)
   number_text c k is at = same_slice (options_in c) (text_in c) (LexemeKind.number (chars c.content.text.now)) (chars c.content.text.now) (token_range c) (IsUtf8-from_is_utf8 (text_in c) c.utf8) refl (number_stands c k is at)
@@ -138,9 +139,44 @@ module _ {A : Type 0} where
       → is_made (leaf_at r (number (chars_between s r.start r.end))) → LeafMade r (last c k) is_made
   number_made c s k r is_made is e at place made = record {
     leaf = leaf_at r (number (chars_between s r.start r.end));
-    is = ap (λ t. Some (leaf_at r (number t))) (sym (number_means c s k r is e at place)) ∙ sym (ap (λ k. option_map (leaf_at r) (leaf_value (scanned_of (last c k)))) is);
+    is = ap (λ t. Some (leaf_at r (number t))) (sym (number_means c s k r is e at place)) ∙ sym (ap (λ k. option_map (leaf_at r) (leaf_value (last c k))) is);
     made = made;
   }
+
+  -- a string that was passed
+  passed_stands : (c : Context A) (k : TokenKind) → k ≡ kind.Passed → IsToken c (last c k) → IsLentHere c (Some k) → HasEscapedString (source_of c) (token_range c) (value_in (source_of c) (token_range c))
+  passed_stands c k is at lent =
+      let found = subst (IsToken c) (ap (last c) is) at in record {
+        stands = stands (text_in c) (options_in c) c.scanner (lexeme (LexemeKind.string (value_in (source_of c) (token_range c)))) refl refl found;
+        escaped = subst (λ k. IsLentHere c (Some k)) is lent;
+      }
+
+  pub passed_here : (c : Context A) (s : Source) (k : TokenKind) (r : Range) → k ≡ kind.Passed → s ≡ source_of c → IsToken c (last c k) → IsLentHere c (Some k) → r ≡ token_range c → HasEscapedString s r (value_in s r)
+  passed_here c s k r is e at lent place = subst (λ x. HasEscapedString x r (value_in x r)) (sym e) (subst (λ q. HasEscapedString (source_of c) q (value_in (source_of c) q)) (sym place) (passed_stands c k is at lent))
+
+  passed_means : (c : Context A) (s : Source) (k : TokenKind) (r : Range) → k ≡ kind.Passed → s ≡ source_of c → r ≡ token_range c → last c k ≡ lexeme (LexemeKind.string (value_in s r))
+  passed_means c s k r is e place = ap (last c) is ∙ ap (λ q. lexeme (LexemeKind.string (value_in (source_of c) q))) (sym place) ∙ ap (λ x. lexeme (LexemeKind.string (value_in x r))) (sym e)
+
+  pub passed_made : (c : Context A) (s : Source) (k : TokenKind) (r : Range) (is_made : Located → Type 0) → k ≡ kind.Passed → s ≡ source_of c → r ≡ token_range c
+      → is_made (leaf_at r (string (value_in s r))) → LeafMade r (last c k) is_made
+  passed_made c s k r is_made is e place made = record {
+    leaf = leaf_at r (string (value_in s r));
+    is = ap (λ w. option_map (leaf_at r) (leaf_value w)) (sym (passed_means c s k r is e place));
+    made = made;
+  }
+
+  pub passed_name_here : (c : Context A) (k : TokenKind) → k ≡ kind.Passed → IsToken c (last c k) → IsNameHere c (record { range = token_range c; name = value_in (source_of c) (token_range c) })
+  passed_name_here c k is at = string_name_here c (last c k) at (value_in (source_of c) (token_range c)) (ap (last c) is)
+
+  pub passed_named : (c : Context A) (s : Source) (k : TokenKind) (r : Range) (is_made : LocatedName → Type 0) → k ≡ kind.Passed → s ≡ source_of c → IsToken c (last c k) → r ≡ token_range c
+      → is_made (record { range = r; name = value_in s r }) → NameMade c is_made
+  passed_named c s k r is_made is e at place made =
+      let n : LocatedName = record { range = token_range c; name = value_in (source_of c) (token_range c) } in record {
+        name = n;
+        stands = passed_name_here c k is at;
+        range = refl;
+        made = subst is_made (ap (λ q. record { range = q; name = value_in s q }) place ∙ ap (λ x. record { range = token_range c; name = value_in x (token_range c) }) e) made;
+      }
 
 -- what was given one name was given any that is the same
 pub named_alike : {I E : Type 0} (names : I → LocatedName → Type 0) (n m : LocatedName) → n ≡ m → (found : Result I E) → IfOk found (λ p. names p n) → IfOk found (λ p. names p m)

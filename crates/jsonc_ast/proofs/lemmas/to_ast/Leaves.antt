@@ -1,14 +1,12 @@
 -- Values of one token, and documents.
 use Rattle.std.proofs.Common.{ℕ, Bool, true, false, ◌≤◌, ◌≡◌, ◌∙◌, sym, ap, subst, refl, arith, List, [], ◌∷◌, ◌++◌, Option, Some, None, option_map, length}
 use Rattle.jsonc_text.specs.declared.common.Range.{Range}
-use Rattle.jsonc_text.specs.declared.tokens.Token.{Token}
 use Rattle.jsonc_text.specs.Gaps.{Gap}
 use Rattle.jsonc_text.specs.Grammar.{literal_value}
 use Rattle.jsonc_text.specs.Lexemes.{Scanned, lexeme, line_comment, block_comment, LexemeKind, IsScanned}
 use Rattle.jsonc_text.specs.Plain.{Plain}
 use Rattle.jsonc_text.specs.Words.{Keyword}
-use Rattle.jsonc_scan.specs.Scanner.{StandsAt}
-use Rattle.jsonc_text.specs.Tokens.{scanned_of}
+use Rattle.jsonc_scan.specs.Scanner.{IsThere}
 use Rattle.jsonc_ast.specs.declared.to_ast.context.Context.{Context}
 use Rattle.jsonc_ast.specs.to_ast.Context.{text_in, options_in, token_start, token_end, token_range, Keeps, Finds, GivesAway, IsToken}
 use Rattle.jsonc_ast.specs.to_ast.Handed.{ElementMade, LeafMade, ReadsLeaf}
@@ -75,15 +73,15 @@ flat whole (LexemeKind.word s) v e = no_value whole v e
 flat whole (LexemeKind.punctuation c) v e = no_value whole v e
 
 module _ {A : Type 0} where
-  leaf_stands : (c : Context A) (t : Token A) (x : Located) (r : Range) → IsToken c t → IsLeafOf (scanned_of t) x r → r ≡ token_range c → IsLocated (options_in c) (text_in c) x
+  leaf_stands : (c : Context A) (t : Scanned) (x : Located) (r : Range) → IsToken c t → IsLeafOf t x r → r ≡ token_range c → IsLocated (options_in c) (text_in c) x
   leaf_stands c t x r at h e =
       let token = subst (λ w. Between (text_in c) (IsScanned (options_in c) w) (token_start c) (token_end c)) h.is (stands (text_in c) (options_in c) c.scanner t refl refl at) in
       let leaf : In (text_in c) (IsLeaf (options_in c) h.value) (token_range c) = change (IsLeaf (options_in c) h.value) (λ u v k. (h.kind, k, h.means)) token in
       subst (λ y. IsLocated (options_in c) (text_in c) y) (sym h.leaf) (subst (λ q. In (text_in c) (IsLeaf (options_in c) h.value) q) (sym e) leaf)
 
-  pub leaf_reads : (c : Context A) (t : Token A) (is_made : Located → Type 0) (r : Range) → IsToken c t → LeafMade r t is_made → r ≡ token_range c → ReadsLeaf c is_made
+  pub leaf_reads : (c : Context A) (t : Scanned) (is_made : Located → Type 0) (r : Range) → IsToken c t → LeafMade r t is_made → r ≡ token_range c → ReadsLeaf c is_made
   leaf_reads c t is_made r at m e =
-      let leaf = leaf_of (scanned_of t) m.leaf r m.is in
+      let leaf = leaf_of t m.leaf r m.is in
       record {
         leaf = m.leaf;
         reads = record {
@@ -100,7 +98,7 @@ module _ {A : Type 0} where
   gives_nothing c = record { scanner = refl; tokens = refl; comments = refl; apart = refl }
 
   -- a literal, put behind the elements so far
-  pub element_put : (old new : Context A) (t : Token A) (r : Range) (v : Plain) (whole : Bool) (count : ℕ) (held holds_now : List Located → Type 0) → IsToken old t → leaf_value (scanned_of t) ≡ Some v → r ≡ token_range old → GivesAway old new → count ≤ 512
+  pub element_put : (old new : Context A) (t : Scanned) (r : Range) (v : Plain) (whole : Bool) (count : ℕ) (held holds_now : List Located → Type 0) → IsToken old t → leaf_value t ≡ Some v → r ≡ token_range old → GivesAway old new → count ≤ 512
       → ((xs : List Located) → held xs → holds_now (xs ++ leaf_at r v ∷ [])) → ElementMade old new whole count held holds_now
   element_put old new t r v whole count held holds_now at is place gives small put =
       let x = leaf_at r v in
@@ -114,19 +112,19 @@ module _ {A : Type 0} where
       }
 
   -- nothing but a gap
-  pub empty_document : (c d : Context A) (f : Option (Token A)) → token_end c ≡ 0 → Keeps c d → Finds (Gap (options_in c)) c d f → f ≡ None → IsLocatedDocument (options_in c) (text_in c) None
+  pub empty_document : (c d : Context A) (f : Option Scanned) → token_end c ≡ 0 → Keeps c d → Finds (Gap (options_in c)) c d f → f ≡ None → IsLocatedDocument (options_in c) (text_in c) None
   empty_document c d f zero kept found is =
-      let last : token_start d ≡ length (text_in c) = (subst (StandsAt d.scanner) is found.1).0 ∙ ap length kept.text in
+      let last : token_start d ≡ length (text_in c) = (subst (IsThere d.scanner) is found.1).0 ∙ ap length kept.text in
       subst (λ j. Between (text_in c) (Gap (options_in c)) 0 j) last (subst (λ i. Between (text_in c) (Gap (options_in c)) i (token_start d)) zero found.0)
 
   -- a value between two gaps
-  pub value_document : (c d m e : Context A) (f h : Option (Token A)) (x : Located) → token_end c ≡ 0 → Keeps c d → Finds (Gap (options_in c)) c d f → Keeps d m → Reads d m x → Keeps m e → Finds (Gap (options_in m)) m e h → h ≡ None
+  pub value_document : (c d m e : Context A) (f h : Option Scanned) (x : Located) → token_end c ≡ 0 → Keeps c d → Finds (Gap (options_in c)) c d f → Keeps d m → Reads d m x → Keeps m e → Finds (Gap (options_in m)) m e h → h ≡ None
       → IsLocatedDocument (options_in c) (text_in c) (Some x)
   value_document c d m e f h x zero kept found on read further after is =
       let o = options_in c in
       let b = text_in c in
       let all = kept_on c d m kept on in
-      let last : token_start e ≡ length b = (subst (StandsAt e.scanner) is after.1).0 ∙ ap length (further.text ∙ all.text) in
+      let last : token_start e ≡ length b = (subst (IsThere e.scanner) is after.1).0 ∙ ap length (further.text ∙ all.text) in
       let gap = moved (λ p t. Between t (Gap p) (token_end m) (token_start e)) all.options all.text after.0 in (
         subst (λ i. Between b (Gap o) i (range_at x).start) zero (subst (λ j. Between b (Gap o) (token_end c) j) (sym read.starts) found.0),
         moved (λ p t. IsLocated p t x) kept.options kept.text read.value,

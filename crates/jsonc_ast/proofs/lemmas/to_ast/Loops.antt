@@ -1,8 +1,8 @@
 -- A parser among the items of a container.
+use Rattle.jsonc_text.specs.Lexemes.{Scanned}
 use Rattle.std.proofs.Common.{ℕ, Bool, true, false, ◌+◌, ◌-◌, ◌≤◌, ◌≡◌, sym, subst, refl, arith, List, [], ◌∷◌, ◌++◌, Option, Some, None, IsUtf8, IsCharBoundary}
 use Rattle.std.proofs.lemmas.Str.{IsUtf8-from_is_utf8}
 use Rattle.jsonc_text.specs.declared.common.Range.{Range}
-use Rattle.jsonc_text.specs.declared.tokens.Token.{Token}
 use Rattle.jsonc_text.specs.Text.{Spans}
 use Rattle.jsonc_text.specs.Gaps.{Gap}
 use Rattle.jsonc_text.specs.Grammar.{Separates, Closes}
@@ -33,15 +33,15 @@ empty_size false = refl
 
 module _ {A : Type 0} where
   -- the token that an item begins with, or the closing bracket
-  abbrev pub AtHand : ℕ → Context A → Option (Token A) → Type 0
+  abbrev pub AtHand : ℕ → Context A → Option Scanned → Type 0
   AtHand bracket c None = IsBracket bracket c
   AtHand bracket c (Some t) = IsToken c t
 
-  pub leads_hand : (P C : List ℕ → List ℕ → Type 0) (bracket : ℕ) (old new : Context A) (n : Option (Token A)) → Leads P C bracket old new n → AtHand bracket new n
+  pub leads_hand : (P C : List ℕ → List ℕ → Type 0) (bracket : ℕ) (old new : Context A) (n : Option Scanned) → Leads P C bracket old new n → AtHand bracket new n
   leads_hand P C bracket old new None h = h.1
   leads_hand P C bracket old new (Some t) h = h.1
 
-  pub leads_on : (P C : List ℕ → List ℕ → Type 0) (bracket : ℕ) (old new : Context A) (n : Option (Token A)) → Leads P C bracket old new n → token_end old ≤ token_start new
+  pub leads_on : (P C : List ℕ → List ℕ → Type 0) (bracket : ℕ) (old new : Context A) (n : Option Scanned) → Leads P C bracket old new n → token_end old ≤ token_start new
   leads_on P C bracket old new None h = h.2
   leads_on P C bracket old new (Some t) h = h.0.spans.order
 
@@ -53,23 +53,23 @@ module _ {A : Type 0} where
     order = omega (arith, e, old.scanner.order, on);
   }
 
-  abbrev pub ElementsSoFar : Context A → Context A → List Located → Option (Token A) → Type 0
+  abbrev pub ElementsSoFar : Context A → Context A → List Located → Option Scanned → Type 0
   ElementsSoFar old now xs None = elements.Whole (options_in old) (text_in old) (token_end old) xs (token_end now)
   ElementsSoFar old now xs (Some t) = elements.Open (options_in old) (text_in old) (token_end old) xs (token_start now)
 
   -- an array's elements so far, inside of so many of what counts
-  pub record Elements (whole : Bool) (old now : Context A) (next : Option (Token A)) (xs : List Located) (count : ℕ) : Type 0 where
+  pub record Elements (whole : Bool) (old now : Context A) (next : Option Scanned) (xs : List Located) (count : ℕ) : Type 0 where
     pub kept : Keeps old now
     pub hand : AtHand 0x5D now next
     pub on : token_end old ≤ token_start now
     pub so_far : ElementsSoFar old now xs next
     pub within : size whole (array (items_at (items_of xs))) + count ≤ 512
 
-  start_so_far : (old now : Context A) (next : Option (Token A)) → Leads (Gap (options_in old)) (Ends (options_in old) 0x5D) 0x5D old now next → ElementsSoFar old now [] next
+  start_so_far : (old now : Context A) (next : Option Scanned) → Leads (Gap (options_in old)) (Ends (options_in old) 0x5D) 0x5D old now next → ElementsSoFar old now [] next
   start_so_far old now None h = h.0
   start_so_far old now (Some t) h = elements.first_open (options_in old) (text_in old) (token_end old) (token_start now) h.0
 
-  pub elements_start : (whole : Bool) (old now : Context A) (next : Option (Token A)) (xs : List Located) (count : ℕ) → xs ≡ [] → Keeps old now → Leads (Gap (options_in old)) (Ends (options_in old) 0x5D) 0x5D old now next → count + least whole ≤ 512 → Elements whole old now next xs count
+  pub elements_start : (whole : Bool) (old now : Context A) (next : Option Scanned) (xs : List Located) (count : ℕ) → xs ≡ [] → Keeps old now → Leads (Gap (options_in old)) (Ends (options_in old) 0x5D) 0x5D old now next → count + least whole ≤ 512 → Elements whole old now next xs count
   elements_start whole old now next xs count e kept h small = subst (λ l. Elements whole old now next l count) (sym e) (record {
     kept = kept;
     hand = leads_hand _ _ 0x5D old now next h;
@@ -82,7 +82,7 @@ module _ {A : Type 0} where
     value_old : IsLocated (options_in old) (text_in old) x
     value_old = moved (λ p b. IsLocated p b x) kept.options kept.text read.value
 
-    turn_so_far : (next : Option (Token A)) → elements.Open (options_in old) (text_in old) (token_end old) xs (token_start now)
+    turn_so_far : (next : Option Scanned) → elements.Open (options_in old) (text_in old) (token_end old) xs (token_start now)
         → Leads (Separates (options_in mid)) (Closes (options_in mid) 0x5D) 0x5D mid new next → ElementsSoFar old new (xs ++ x ∷ []) next
     turn_so_far None held h =
         let both = kept_on old now mid kept kept_mid in
@@ -94,7 +94,7 @@ module _ {A : Type 0} where
         (moved (λ p b. Between b (Separates p) (token_end mid) (token_start new)) both.options both.text h.0)
 
   -- one more element
-  pub elements_turn : (whole : Bool) (old now mid new : Context A) (n next : Option (Token A)) (t : Token A) (x : Located) (xs ys : List Located) (count : ℕ) → Elements whole old now n xs count → n ≡ Some t
+  pub elements_turn : (whole : Bool) (old now mid new : Context A) (n next : Option Scanned) (t : Scanned) (x : Located) (xs ys : List Located) (count : ℕ) → Elements whole old now n xs count → n ≡ Some t
       → Keeps now mid → Reads now mid x → Keeps mid new → Leads (Separates (options_in mid)) (Closes (options_in mid) 0x5D) 0x5D mid new next
       → ys ≡ xs ++ x ∷ [] → size whole (value_at x) + (count + 1) ≤ 512 → Elements whole old new next ys count
   elements_turn whole old now mid new n next t x xs ys count inv is kept read further h grown small =
@@ -110,7 +110,7 @@ module _ {A : Type 0} where
       })
 
   -- the whole array
-  pub elements_whole : (whole : Bool) (old now : Context A) (n : Option (Token A)) (xs : List Located) (count : ℕ) (r : Range) → Elements whole old now n xs count → n ≡ None → IsBracket 0x5B old → r.start ≡ token_start old → r.end ≡ token_end now
+  pub elements_whole : (whole : Bool) (old now : Context A) (n : Option Scanned) (xs : List Located) (count : ℕ) (r : Range) → Elements whole old now n xs count → n ≡ None → IsBracket 0x5B old → r.start ≡ token_start old → r.end ≡ token_end now
       → Reads old now (array_at r (items_of xs))
   elements_whole whole old now n xs count r inv is opening first last =
       let bytes = text_in old in

@@ -1,82 +1,117 @@
 -- A parser that has given away what its last token holds; and tokens by their kinds.
-use Rattle.std.proofs.Common.{ℕ, ◌⊎◌, ◌≡◌, ◌∙◌, sym, ap, subst, refl, arith, Bool, false, List, [], Option, None, Some, IfSome, is_some}
+use Rattle.std.proofs.Common.{ℕ, ◌⊎◌, ◌≡◌, ◌∙◌, sym, ap, subst, refl, arith, Bool, true, false, List, [], Option, None, Some, option_map, IfSome, IsTrue, is_some, not, ◌==◌, ◌≢◌}
 use Rattle.std.proofs.lemmas.List.{append-nil}
 use Rattle.std.proofs.lemmas.List.Elements.{All-nil}
-use Rattle.std.specs.declared.borrow.CowStr.{CowStr}
+use Rattle.jsonc_scan.specs.declared.scanner.Scanner.{Scanner}
+use Rattle.jsonc_scan.specs.Scanner.{scanned_seen, IsLent, IsLentSeen}
+use Rattle.jsonc_scan.specs.Found.{token_held}
+use Rattle.jsonc_text.specs.Tokens.{scanned_of}
 use Rattle.jsonc_text.specs.declared.errors.ParseError.{ParseError}
-use Rattle.jsonc_text.specs.declared.tokens.Token.TheVariants as token
+use Rattle.jsonc_text.specs.Lexemes.{lexeme, punctuation, string}
+use Rattle.jsonc_text.proofs.Basics.{clash, eq_test}
 use Rattle.jsonc_text.specs.Places.{AreTokens, is_comment}
 use Rattle.jsonc_text.specs.Text.{rest}
 use Rattle.jsonc_scan.specs.declared.found.TokenContent.{TokenContent}
 use Rattle.jsonc_scan.specs.declared.found.TokenKind.{TokenKind}
 use Rattle.jsonc_scan.specs.declared.found.TokenKind.TheVariants as kind
-use Rattle.jsonc_scan.specs.Found.{token_held, token_found}
 use Rattle.jsonc_scan.specs.Scanner.{text_of, end_of, options_of}
 use Rattle.jsonc_ast.specs.Located.{Located, Between, Ends}
 use Rattle.jsonc_ast.specs.declared.to_ast.context.Context.{Context}
 use Rattle.jsonc_ast.specs.to_ast.Collected.{all_placed, collected, HasNoted, Collects}
 use Rattle.jsonc_ast.specs.to_ast.Comments.{HasPassed}
-use Rattle.jsonc_ast.specs.to_ast.Context.{text_in, options_in, token_end, GivesAway, Keeps, PassesColon}
+use Rattle.jsonc_ast.specs.to_ast.Context.{text_in, options_in, token_end, last, GivesAway, Keeps, PassesColon}
 use Rattle.jsonc_ast.specs.to_ast.Lent.{AreLentIn}
 use Rattle.jsonc_ast.specs.to_ast.Reached.{Opened, colon, at}
 use Rattle.jsonc_ast.specs.to_ast.Reads.{Reads}
 use Rattle.jsonc_ast.specs.to_ast.Refusals.{IsAllocationFailure, NoColon}
 use Rattle.jsonc_ast.specs.to_ast.Faults.{StopsAtColon, HasFaultFrom, fault_in}
 use Rattle.jsonc_ast.proofs.lemmas.to_ast.Collecting.{collects_on}
+use Rattle.jsonc_ast.proofs.lemmas.to_ast.Refusals.{mark_same}
+
+mark_apart : (c d : ℕ) → IsTrue (not (c == d)) → lexeme (punctuation c) ≡ lexeme (punctuation d) → ⊥
+mark_apart c d n e = clash (c == d) n (eq_test c d (mark_same c d e))
+
+pub none_found : {X Y : Type 0} (f : X → Y) (q : Option X) → option_map f q ≡ None → q ≡ None
+none_found f None e = refl
+none_found f (Some x) e = cc
 
 module _ {A : Type 0} where
-  -- the kinds of tokens that tokens are
-  pub none_found : (x : TokenContent A) (f : Option TokenKind) → token_found x f ≡ None → f ≡ None
-  none_found x None e = refl
-  none_found x (Some k) e = cc
+  -- the kinds of tokens, by what they are
+  module _ (s : Scanner A) (x : TokenContent A) where
+    pub is_bracket : (k : TokenKind) → scanned_seen s x k ≡ lexeme (punctuation 0x5B) → k ≡ kind.OpenBracket
+    is_bracket kind.OpenBracket e = refl
+    is_bracket kind.OpenBrace e = absurd (mark_apart 0x7B 0x5B refl e)
+    is_bracket kind.CloseBrace e = absurd (mark_apart 0x7D 0x5B refl e)
+    is_bracket kind.CloseBracket e = absurd (mark_apart 0x5D 0x5B refl e)
+    is_bracket kind.Comma e = absurd (mark_apart 0x2C 0x5B refl e)
+    is_bracket kind.Colon e = absurd (mark_apart 0x3A 0x5B refl e)
+    is_bracket kind.String e = cc
+    is_bracket kind.Passed e = cc
+    is_bracket kind.Word e = cc
+    is_bracket kind.True e = cc
+    is_bracket kind.False e = cc
+    is_bracket kind.Number e = cc
+    is_bracket kind.Null e = cc
+    is_bracket kind.CommentLine e = cc
+    is_bracket kind.CommentBlock e = cc
 
-  pub is_bracket : (x : TokenContent A) (k : TokenKind) → token_held k x ≡ token.OpenBracket → k ≡ kind.OpenBracket
-  is_bracket x kind.OpenBracket e = refl
-  is_bracket x kind.OpenBrace e = cc
-  is_bracket x kind.CloseBrace e = cc
-  is_bracket x kind.CloseBracket e = cc
-  is_bracket x kind.Comma e = cc
-  is_bracket x kind.Colon e = cc
-  is_bracket x kind.String e = cc
-  is_bracket x kind.Word e = cc
-  is_bracket x kind.True e = cc
-  is_bracket x kind.False e = cc
-  is_bracket x kind.Number e = cc
-  is_bracket x kind.Null e = cc
-  is_bracket x kind.CommentLine e = cc
-  is_bracket x kind.CommentBlock e = cc
+    pub is_brace : (k : TokenKind) → scanned_seen s x k ≡ lexeme (punctuation 0x7B) → k ≡ kind.OpenBrace
+    is_brace kind.OpenBrace e = refl
+    is_brace kind.OpenBracket e = absurd (mark_apart 0x5B 0x7B refl e)
+    is_brace kind.CloseBrace e = absurd (mark_apart 0x7D 0x7B refl e)
+    is_brace kind.CloseBracket e = absurd (mark_apart 0x5D 0x7B refl e)
+    is_brace kind.Comma e = absurd (mark_apart 0x2C 0x7B refl e)
+    is_brace kind.Colon e = absurd (mark_apart 0x3A 0x7B refl e)
+    is_brace kind.String e = cc
+    is_brace kind.Passed e = cc
+    is_brace kind.Word e = cc
+    is_brace kind.True e = cc
+    is_brace kind.False e = cc
+    is_brace kind.Number e = cc
+    is_brace kind.Null e = cc
+    is_brace kind.CommentLine e = cc
+    is_brace kind.CommentBlock e = cc
 
-  pub is_brace : (x : TokenContent A) (k : TokenKind) → token_held k x ≡ token.OpenBrace → k ≡ kind.OpenBrace
-  is_brace x kind.OpenBrace e = refl
-  is_brace x kind.OpenBracket e = cc
-  is_brace x kind.CloseBrace e = cc
-  is_brace x kind.CloseBracket e = cc
-  is_brace x kind.Comma e = cc
-  is_brace x kind.Colon e = cc
-  is_brace x kind.String e = cc
-  is_brace x kind.Word e = cc
-  is_brace x kind.True e = cc
-  is_brace x kind.False e = cc
-  is_brace x kind.Number e = cc
-  is_brace x kind.Null e = cc
-  is_brace x kind.CommentLine e = cc
-  is_brace x kind.CommentBlock e = cc
+    pub no_string : (k : TokenKind) → k ≢ kind.String → k ≢ kind.Passed → (v : List ℕ) → scanned_seen s x k ≡ lexeme (string v) → ⊥
+    no_string kind.String n m v e = n refl
+    no_string kind.Passed n m v e = m refl
+    no_string kind.OpenBracket n m v e = cc
+    no_string kind.OpenBrace n m v e = cc
+    no_string kind.CloseBrace n m v e = cc
+    no_string kind.CloseBracket n m v e = cc
+    no_string kind.Comma n m v e = cc
+    no_string kind.Colon n m v e = cc
+    no_string kind.Word n m v e = cc
+    no_string kind.True n m v e = cc
+    no_string kind.False n m v e = cc
+    no_string kind.Number n m v e = cc
+    no_string kind.Null n m v e = cc
+    no_string kind.CommentLine n m v e = cc
+    no_string kind.CommentBlock n m v e = cc
 
-  pub is_string : (x : TokenContent A) (k : TokenKind) (s : CowStr A) → token_held k x ≡ token.String s → k ≡ kind.String
-  is_string x kind.String s e = refl
-  is_string x kind.OpenBracket s e = cc
-  is_string x kind.OpenBrace s e = cc
-  is_string x kind.CloseBrace s e = cc
-  is_string x kind.CloseBracket s e = cc
-  is_string x kind.Comma s e = cc
-  is_string x kind.Colon s e = cc
-  is_string x kind.Word s e = cc
-  is_string x kind.True s e = cc
-  is_string x kind.False s e = cc
-  is_string x kind.Number s e = cc
-  is_string x kind.Null s e = cc
-  is_string x kind.CommentLine s e = cc
-  is_string x kind.CommentBlock s e = cc
+    -- what is no string that was passed is the token that is held
+    pub seen_held : (k : TokenKind) → k ≢ kind.Passed → scanned_seen s x k ≡ scanned_of (token_held k x)
+    seen_held kind.Passed n = absurd (n refl)
+    seen_held k n = refl
+
+    pub lent_held : (k : TokenKind) → k ≢ kind.Passed → IsLentSeen s x k → IsLent s (Some (token_held k x))
+    lent_held kind.Passed n h = absurd (n refl)
+    lent_held k n h = h
+
+    -- a comment is none
+    pub comment_held : (k : TokenKind) → is_comment (scanned_seen s x k) ≡ is_comment (scanned_of (token_held k x))
+    comment_held kind.Passed = refl
+    comment_held k = refl
+
+    pub comment_kept : (k : TokenKind) → is_comment (scanned_seen s x k) ≡ true → k ≢ kind.Passed
+    comment_kept k h e = let both : false ≡ true = subst (λ k. is_comment (scanned_seen s x k) ≡ true) e h in cc
+
+  -- a token is the same where nothing has changed
+  pub seen_same : (s t : Scanner A) (x y : TokenContent A) (k : TokenKind) → t ≡ s → y ≡ x → scanned_seen t y k ≡ scanned_seen s x k
+  seen_same s t x y k e f = ap (λ s. scanned_seen s y k) e ∙ ap (λ x. scanned_seen s x k) f
+
+  pub last_same : (old new : Context A) (k : TokenKind) → new.scanner ≡ old.scanner → new.content ≡ old.content → last new k ≡ last old k
+  last_same old new k e f = seen_same old.scanner new.scanner old.content new.content k e f
 
   -- nothing is passed where something is given away
   pub kept_self : (old new : Context A) → GivesAway old new → Keeps old new

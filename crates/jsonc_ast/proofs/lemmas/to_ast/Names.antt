@@ -2,13 +2,10 @@
 use Rattle.std.proofs.Common.{ℕ, ◌≡◌, ◌∙◌, ◌++◌, sym, ap, subst, refl, true, List, Some, None, IsTrue, chars, inl, inr, Bool, codes, rules}
 use Rattle.std.proofs.lemmas.Str.{chars-IsAscii}
 use Rattle.jsonc_text.specs.Words.{Keyword, keyword_text}
-use Rattle.jsonc_text.specs.declared.tokens.Token.TheVariants.{Boolean}
-use Rattle.jsonc_text.specs.declared.tokens.Token.{Token}
 use Rattle.jsonc_text.specs.Options.{Options}
 use Rattle.jsonc_text.specs.Grammar.{IsName, IsLooseName}
 use Rattle.jsonc_text.specs.Lexemes.{Scanned, lexeme, line_comment, block_comment, LexemeKind, string, IsScanned}
 use Rattle.jsonc_scan.specs.Scanner.{start_of, end_of}
-use Rattle.jsonc_text.specs.Tokens.{scanned_of}
 use Rattle.jsonc_ast.specs.declared.to_ast.context.Context.{Context}
 use Rattle.jsonc_ast.specs.to_ast.Context.{text_in, options_in, token_range, IsToken}
 use Rattle.jsonc_ast.specs.Located.{Between, In}
@@ -30,16 +27,16 @@ loose o (lexeme (LexemeKind.punctuation c)) name t r allowed e h = absurd (none_
 loose o (line_comment s) name t r allowed e h = absurd (none_same name e)
 loose o (block_comment s) name t r allowed e h = absurd (none_same name e)
 
-module _ {A : Type 0} (c : Context A) (t : Token A) (at : IsToken c t) (name : List ℕ) where
-  here : Between (text_in c) (IsScanned (options_in c) (scanned_of t)) (start_of c.scanner) (end_of c.scanner)
+module _ {A : Type 0} (c : Context A) (t : Scanned) (at : IsToken c t) (name : List ℕ) where
+  here : Between (text_in c) (IsScanned (options_in c) t) (start_of c.scanner) (end_of c.scanner)
   here = stands (text_in c) (options_in c) c.scanner t refl refl at
 
-  pub loose_name_here : c.options.allow_loose_object_property_names ≡ true → loose_text (scanned_of t) ≡ Some name → In (text_in c) (λ t r. IsName (options_in c) t name r) (token_range c)
+  pub loose_name_here : c.options.allow_loose_object_property_names ≡ true → loose_text t ≡ Some name → In (text_in c) (λ t r. IsName (options_in c) t name r) (token_range c)
   loose_name_here allowed e =
       let may : IsTrue (options_in c).loose_names = ap (λ p. p.loose_names) (sym c.same) ∙ allowed in
-      change (λ t r. IsName (options_in c) t name r) (λ u r k. inr (loose (options_in c) (scanned_of t) name u r may e k)) here
+      change (λ t r. IsName (options_in c) t name r) (λ u r k. inr (loose (options_in c) t name u r may e k)) here
 
-  pub string_name_here : scanned_of t ≡ lexeme (string name) → In (text_in c) (λ t r. IsName (options_in c) t name r) (token_range c)
+  pub string_name_here : t ≡ lexeme (string name) → In (text_in c) (λ t r. IsName (options_in c) t name r) (token_range c)
   string_name_here e =
       change (λ t r. IsName (options_in c) t name r) (λ u r k. inl k) (subst (λ w. Between (text_in c) (IsScanned (options_in c) w) (start_of c.scanner) (end_of c.scanner)) e here)
 
@@ -51,6 +48,3 @@ false_chars = chars-IsAscii (codes "false") (search rules)
 
 pub null_chars : chars (codes "null") ≡ codes "null"
 null_chars = chars-IsAscii (codes "null") (search rules)
-
-pub boolean_name : {A : Type 0} (t : Token A) (b c : Bool) → t ≡ Boolean b → b ≡ c → loose_text (scanned_of t) ≡ Some (keyword_text (Keyword.boolean c))
-boolean_name t b c e f = ap (λ t. loose_text (scanned_of t)) e ∙ ap (λ b. Some (keyword_text (Keyword.boolean b))) f

@@ -1,16 +1,13 @@
 -- Where no value and no property stands.
 use Rattle.std.proofs.Common.{ℕ, suc, ◌+◌, ◌<◌, ◌≤◌, ◌≡◌, ◌∙◌, sym, ap, subst, refl, arith, Bool, true, false, not, ◌||◌, ◌==◌, List, [], ◌∷◌, Option, Some, None, option_map, IfSome, IsTrue, chars, inl, inr}
 use Rattle.jsonc_text.specs.declared.common.Range.{Range}
-use Rattle.jsonc_text.specs.declared.tokens.Token.{Token}
-use Rattle.jsonc_text.specs.declared.tokens.Token.TheVariants as token
 use Rattle.jsonc_text.specs.Options.{Options}
 use Rattle.jsonc_text.specs.Text.{rest, next}
 use Rattle.jsonc_text.specs.Gaps.{Gap}
 use Rattle.jsonc_text.specs.Grammar.{literal_value, IsValue, literal, empty_array, array, empty_object, object, AreElements, last_element, element, AreProperties, last_property, property, IsProperty, named, IsName, Separates, Closes}
-use Rattle.jsonc_text.specs.Lexemes.{lexeme, LexemeKind, punctuation, string, Lexeme}
+use Rattle.jsonc_text.specs.Lexemes.{Scanned, lexeme, LexemeKind, punctuation, string, Lexeme}
 use Rattle.jsonc_text.specs.Plain as plain
 use Rattle.jsonc_text.specs.Plain.{Plain, Items, item, no_items, Members, member}
-use Rattle.jsonc_text.specs.Tokens.{scanned_of}
 use Rattle.jsonc_text.proofs.Basics.{clash, eq_test, tails, apart, starts_also}
 use Rattle.jsonc_text.proofs.Begins.{begins_item}
 use Rattle.jsonc_text.proofs.UniqueGaps.{begins_gap}
@@ -190,54 +187,21 @@ pub map_none : {X Y : Type 0} (f : X → Y) (q : Option X) → option_map f q �
 map_none f None e = refl
 map_none f (Some x) e = cc
 
-mark_apart : (c d : ℕ) → IsTrue (not (c == d)) → lexeme (punctuation c) ≡ lexeme (punctuation d) → ⊥
-mark_apart c d n e = clash (c == d) n (eq_test c d (mark_same c d e))
-
 -- a document
 document_refused : (o : Options) (whole : Bool) (t : List ℕ) → (Gap o t [] → ⊥) → ((v : Plain) (u r : List ℕ) → Gap o t u → IsValue o u v r → Gap o r [] → size whole v ≤ 512 → ⊥) → NoDocument o whole t
 document_refused o whole t n m None g small = n g
 document_refused o whole t n m (Some v) (u, r, g, value, h) small = m v u r g value h small
 
 module _ {A : Type 0} where
-  pub no_literal_here : (c : Context A) (t : Token A) (f : Option Located) (r : Range) → IsToken c t → f ≡ None → f ≡ option_map (leaf_at r) (leaf_value (scanned_of t)) → NoLiteral c
+  pub no_literal_here : (c : Context A) (t : Scanned) (f : Option Located) (r : Range) → IsToken c t → f ≡ None → f ≡ option_map (leaf_at r) (leaf_value t) → NoLiteral c
   no_literal_here c t f r at none is k v x l e =
-      let leaf : leaf_value (scanned_of t) ≡ None = map_none (leaf_at r) (leaf_value (scanned_of t)) (sym is ∙ none) in
+      let leaf : leaf_value t ≡ None = map_none (leaf_at r) (leaf_value t) (sym is ∙ none) in
       let both : None ≡ Some v = sym leaf ∙ ap leaf_value (one_token c t at k x l) ∙ e in cc
 
-  pub bracket_token : (t : Token A) → (t ≡ token.OpenBracket → ⊥) → scanned_of t ≡ lexeme (punctuation 0x5B) → ⊥
-  bracket_token token.OpenBrace n e = mark_apart 0x7B 0x5B refl e
-  bracket_token token.CloseBrace n e = mark_apart 0x7D 0x5B refl e
-  bracket_token token.OpenBracket n e = n refl
-  bracket_token token.CloseBracket n e = mark_apart 0x5D 0x5B refl e
-  bracket_token token.Comma n e = mark_apart 0x2C 0x5B refl e
-  bracket_token token.Colon n e = mark_apart 0x3A 0x5B refl e
-  bracket_token (token.String s) n e = cc
-  bracket_token (token.Word s) n e = cc
-  bracket_token (token.Boolean b) n e = cc
-  bracket_token (token.Number s) n e = cc
-  bracket_token token.Null n e = cc
-  bracket_token (token.CommentLine s) n e = cc
-  bracket_token (token.CommentBlock s) n e = cc
-
-  pub brace_token : (t : Token A) → (t ≡ token.OpenBrace → ⊥) → scanned_of t ≡ lexeme (punctuation 0x7B) → ⊥
-  brace_token token.OpenBrace n e = n refl
-  brace_token token.CloseBrace n e = mark_apart 0x7D 0x7B refl e
-  brace_token token.OpenBracket n e = mark_apart 0x5B 0x7B refl e
-  brace_token token.CloseBracket n e = mark_apart 0x5D 0x7B refl e
-  brace_token token.Comma n e = mark_apart 0x2C 0x7B refl e
-  brace_token token.Colon n e = mark_apart 0x3A 0x7B refl e
-  brace_token (token.String s) n e = cc
-  brace_token (token.Word s) n e = cc
-  brace_token (token.Boolean b) n e = cc
-  brace_token (token.Number s) n e = cc
-  brace_token token.Null n e = cc
-  brace_token (token.CommentLine s) n e = cc
-  brace_token (token.CommentBlock s) n e = cc
-
   -- a token that is neither a value nor the opening of one
-  pub leaf_nowhere : (whole : Bool) (c : Context A) (t : Token A) (count : ℕ) → IsToken c t → (t ≡ token.OpenBracket → ⊥) → (t ≡ token.OpenBrace → ⊥) → NoLiteral c → NoValueHere c whole count
+  pub leaf_nowhere : (whole : Bool) (c : Context A) (t : Scanned) (count : ℕ) → IsToken c t → (t ≡ lexeme (punctuation 0x5B) → ⊥) → (t ≡ lexeme (punctuation 0x7B) → ⊥) → NoLiteral c → NoValueHere c whole count
   leaf_nowhere whole c t count at a b n =
-      leaf_refused (options_in c) whole (here c) count n (λ u e. bracket_token t a (one_token c t at (punctuation 0x5B) u (refl, e))) (λ u e. brace_token t b (one_token c t at (punctuation 0x7B) u (refl, e)))
+      leaf_refused (options_in c) whole (here c) count n (λ u e. a (one_token c t at (punctuation 0x5B) u (refl, e))) (λ u e. b (one_token c t at (punctuation 0x7B) u (refl, e)))
 
   -- a value that was read, and a property
   pub value_read : (now mid : Context A) (x : Located) → Reads now mid x → IsValue (options_in now) (here now) (value_at x) (rest (text_in now) (token_end mid))
@@ -255,22 +219,22 @@ module _ {A : Type 0} where
 
   module _ (whole : Bool) where
     -- where no elements stand from the token at hand on, the array does not either
-    abbrev pub ElementsLeft : Context A → Context A → Option (Token A) → ℕ → Type 0
+    abbrev pub ElementsLeft : Context A → Context A → Option Scanned → ℕ → Type 0
     ElementsLeft old now None count = Unit {0}
     ElementsLeft old now (Some t) count = NoElements (options_in old) whole (rest (text_in old) (token_start now)) count → NoValueHere old whole count
 
-    abbrev pub PropertiesLeft : Context A → Context A → Option (Token A) → ℕ → Type 0
+    abbrev pub PropertiesLeft : Context A → Context A → Option Scanned → ℕ → Type 0
     PropertiesLeft old now None count = Unit {0}
     PropertiesLeft old now (Some t) count = NoProperties (options_in old) whole (rest (text_in old) (token_start now)) count → NoValueHere old whole count
 
-    pub elements_left_start : (old now : Context A) (next : Option (Token A)) (count : ℕ) → IsBracket 0x5B old → Keeps old now → IfSome next (λ t. OnlyFirst Array old now) → ElementsLeft old now next count
+    pub elements_left_start : (old now : Context A) (next : Option Scanned) (count : ℕ) → IsBracket 0x5B old → Keeps old now → IfSome next (λ t. OnlyFirst Array old now) → ElementsLeft old now next count
     elements_left_start old now None count opening kept only = tt
     elements_left_start old now (Some t) count opening kept only = λ n.
         let o = options_in old in
         array_refused o whole (here old) (after old) count opening.stands only.no_close
         (λ u g vs r h small. n vs r (subst (λ x. AreElements o x vs r) (only.only u g (elements_item o h) ∙ ap (λ b. rest b (token_start now)) kept.text) h) small)
 
-    pub properties_left_start : (old now : Context A) (next : Option (Token A)) (count : ℕ) → IsBracket 0x7B old → Keeps old now → IfSome next (λ t. OnlyFirst Object old now) → PropertiesLeft old now next count
+    pub properties_left_start : (old now : Context A) (next : Option Scanned) (count : ℕ) → IsBracket 0x7B old → Keeps old now → IfSome next (λ t. OnlyFirst Object old now) → PropertiesLeft old now next count
     properties_left_start old now None count opening kept only = tt
     properties_left_start old now (Some t) count opening kept only = λ n.
         let o = options_in old in
@@ -291,7 +255,7 @@ module _ {A : Type 0} where
     pub object_deep : (old : Context A) (count : ℕ) → IsBracket 0x7B old → 512 < count + least whole → NoValueHere old whole count
     object_deep old count opening deep = object_too_deep (options_in old) whole (here old) (after old) count opening.stands deep
 
-    module _ (old now : Context A) (kept : Keeps old now) (t : Token A) (count : ℕ) where
+    module _ (old now : Context A) (kept : Keeps old now) (t : Scanned) (count : ℕ) where
       module _ (left : ElementsLeft old now (Some t) count) where
         pub element_refused : NoValueHere now whole (count + 1) → NoValueHere old whole count
         element_refused n = left (first_element (options_in old) whole (rest (text_in old) (token_start now)) count (moved (λ p b. NoValue p whole (rest b (token_start now)) (count + 1)) kept.options kept.text n))
@@ -306,7 +270,7 @@ module _ {A : Type 0} where
               let n = moved (λ p b. LeadsNowhere p (Separates p) (Closes p 0x5D) (rest b (token_end mid))) both.options both.text h in
               left (further_elements (options_in old) whole (rest (text_in old) (token_start now)) (rest (text_in old) (token_end mid)) (value_at x) count value_old n.no_close (λ u s i vs r g small. n.no_item u s i))
 
-          pub elements_left_turn : (new : Context A) (next : Option (Token A)) → Keeps mid new → IfSome next (λ t. OnlyNext Array mid new) → ElementsLeft old new next count
+          pub elements_left_turn : (new : Context A) (next : Option Scanned) → Keeps mid new → IfSome next (λ t. OnlyNext Array mid new) → ElementsLeft old new next count
           elements_left_turn new None further only = tt
           elements_left_turn new (Some u) further only = λ m.
               let o = options_in old in
@@ -330,7 +294,7 @@ module _ {A : Type 0} where
               let n = moved (λ p b. LeadsNowhere p (Separates p) (Closes p 0x7D) (rest b (token_end mid))) both.options both.text h in
               left (further_properties (options_in old) whole (rest (text_in old) (token_start now)) (rest (text_in old) (token_end mid)) x.name.name (value_at x.value) count property_old n.no_close (λ u s i ms r g small. n.no_item u s i))
 
-          pub properties_left_turn : (new : Context A) (next : Option (Token A)) → Keeps mid new → IfSome next (λ t. OnlyNext Object mid new) → PropertiesLeft old new next count
+          pub properties_left_turn : (new : Context A) (next : Option Scanned) → Keeps mid new → IfSome next (λ t. OnlyNext Object mid new) → PropertiesLeft old new next count
           properties_left_turn new None further only = tt
           properties_left_turn new (Some u) further only = λ m.
               let o = options_in old in
@@ -356,7 +320,7 @@ module _ {A : Type 0} where
       pub no_token_for_value : NoTokenAfter d → NoPropertyHere c whole count
       no_token_for_value h = value_missing (λ x g v r value small. h x g (inr (value_lexeme (options_in d) value)))
 
-      module _ (e : Context A) (f : Option (Token A)) (further : Keeps d e) (found : Finds (Gap (options_in d)) d e f) (no_comment : IsNoComment f) where
+      module _ (e : Context A) (f : Option Scanned) (further : Keeps d e) (found : Finds (Gap (options_in d)) d e f) (no_comment : IsNoComment f) where
         pub end_for_value : f ≡ None → NoPropertyHere c whole count
         end_for_value is = value_missing (λ x g v r value small. nothing_at_end d e f further found no_comment is x g (value_lexeme (options_in d) value))
 
@@ -366,7 +330,7 @@ module _ {A : Type 0} where
             h v r (subst (λ p. IsValue p (here e) v r) (sym further.options) (subst (λ y. IsValue (options_in d) y v r) same value)) small)
 
   -- too many containers and properties are around an element
-  pub nesting_refused : (old now : Context A) (t : Token A) (count : ℕ) → ElementsLeft true old now (Some t) count → 512 < count + 1 → NoValueHere old true count
+  pub nesting_refused : (old now : Context A) (t : Scanned) (count : ℕ) → ElementsLeft true old now (Some t) count → 512 < count + 1 → NoValueHere old true count
   nesting_refused old now t count left l = left (deep_elements (options_in old) (rest (text_in old) (token_start now)) count l)
 
   pub nesting_in_property : (c : Context A) (count : ℕ) → 512 < count + 1 → NoPropertyHere c true count
@@ -376,7 +340,7 @@ module _ {A : Type 0} where
     pub document_no_token : (c : Context A) → NoTokenAfter c → NoDocument (options_in c) whole (after c)
     document_no_token c n = document_refused (options_in c) whole (after c) (λ g. n [] g (inl refl)) (λ v u r g value h small. n u g (inr (value_lexeme (options_in c) value)))
 
-    module _ (c d : Context A) (f : Option (Token A)) (kept : Keeps c d) (found : Finds (Gap (options_in c)) c d f) (no_comment : IsNoComment f) (t : Token A) (is : f ≡ Some t) where
+    module _ (c d : Context A) (f : Option Scanned) (kept : Keeps c d) (found : Finds (Gap (options_in c)) c d f) (no_comment : IsNoComment f) (t : Scanned) (is : f ≡ Some t) where
       no_empty_document : Gap (options_in c) (after c) [] → ⊥
       no_empty_document g =
           let same = only_there c d f kept found no_comment [] g (inl refl) in
@@ -401,15 +365,15 @@ module _ {A : Type 0} where
         pub document_no_end : NoTokenAfter m → NoDocument (options_in c) whole (after c)
         document_no_end n = document_refused (options_in c) whole (after c) no_empty_document (λ v u r g value h small. n [] (value_followed v u r g value h) (inl refl))
 
-        token_after_value : (e : Context A) (h : Option (Token A)) (next : Token A) → Keeps m e → Finds (Gap (options_in m)) m e h → IsNoComment h → h ≡ Some next → NoDocument (options_in c) whole (after c)
+        token_after_value : (e : Context A) (h : Option Scanned) (next : Scanned) → Keeps m e → Finds (Gap (options_in m)) m e h → IsNoComment h → h ≡ Some next → NoDocument (options_in c) whole (after c)
         token_after_value e h following further after_value token_at some = document_refused (options_in c) whole (after c) no_empty_document (λ v u r g value l small.
             let same = only_there m e h further after_value token_at [] (value_followed v u r g value l) (inl refl) in
             no_lexeme_at_end (options_in m) _ (sym same) (lexeme_there m e h further after_value token_at following some))
 
-        pub document_goes_on : (e : Context A) (h : Option (Token A)) → Keeps m e → Finds (Gap (options_in m)) m e h → IsNoComment h → (h ≡ None → ⊥) → NoDocument (options_in c) whole (after c)
+        pub document_goes_on : (e : Context A) (h : Option Scanned) → Keeps m e → Finds (Gap (options_in m)) m e h → IsNoComment h → (h ≡ None → ⊥) → NoDocument (options_in c) whole (after c)
         document_goes_on e h further after_value token_at n = go h refl
           where
-            go : (q : Option (Token A)) → h ≡ q → NoDocument (options_in c) whole (after c)
+            go : (q : Option Scanned) → h ≡ q → NoDocument (options_in c) whole (after c)
             go None none = absurd (n none)
             go (Some following) some = token_after_value e h following further after_value token_at some
 

@@ -2,15 +2,13 @@
 use Rattle.std.proofs.Common.{ℕ, suc, ◌+◌, ◌<◌, ◌≤◌, ◌≡◌, ◌≢◌, ◌∙◌, sym, ap, subst, refl, Bool, true, false, List, [], ◌∷◌, length, Option, Some, None, IfSome, ◌⊎◌, inl, inr, arith, IsTrue, nat_lt}
 use Rattle.jsonc_text.specs.declared.errors.ParseError.{ParseError}
 use Rattle.jsonc_text.specs.declared.errors.ParseErrorKind.TheVariants.{NestingDepthExceeded, ExpectedObjectValue, MultipleRootJsonValues}
-use Rattle.jsonc_text.specs.declared.tokens.Token.{Token}
 use Rattle.jsonc_text.specs.Faults.{kind_of, range_of}
 use Rattle.jsonc_text.specs.Gaps.{Gap}
 use Rattle.jsonc_text.specs.Grammar.{IsValue, IsProperty, Separates}
-use Rattle.jsonc_text.specs.Lexemes.{LexemeKind, lexeme, punctuation, Lexeme, IsScanned}
+use Rattle.jsonc_text.specs.Lexemes.{Scanned, LexemeKind, lexeme, punctuation, Lexeme, IsScanned}
 use Rattle.jsonc_text.specs.Options.{Options}
 use Rattle.jsonc_text.specs.Plain.{Plain}
 use Rattle.jsonc_text.specs.Text.{rest}
-use Rattle.jsonc_text.specs.Tokens.{scanned_of}
 use Rattle.jsonc_ast.specs.Located.{LocatedName}
 use Rattle.jsonc_ast.specs.declared.to_ast.container.Container.{Container}
 use Rattle.jsonc_ast.specs.declared.to_ast.container.Container.TheVariants.{Array, Object}
@@ -20,7 +18,8 @@ use Rattle.jsonc_ast.specs.to_ast.Context.{text_in, options_in, token_start, tok
 use Rattle.jsonc_ast.specs.to_ast.Refusals.{IsAllocationFailure, after, here}
 use Rattle.jsonc_ast.specs.to_ast.Scanned.{begins_value, unexpected_kind}
 use Rattle.jsonc_ast.specs.to_ast.Reached.{Opened, container, property, Due, document, end, first, further, comma, colon, value, Place, at, first_item, further_item, without_comma, ValueMayCome, of_text, of_array, of_property, Step, opens, takes_comma, takes_name, takes_colon, ComesTo, containers, count, size, per_property, least, is_opening, is_deep}
-use Rattle.jsonc_ast.specs.to_ast.Faults.{fault, wrong_lexeme, wrong_ending, wrong, wrong_end, wrong_value, wrong_item, StopsAnyhow, is_mark, HasFaultFrom, fault_in, IsFrom, StopsAfter, StopsFrom, StopsAtItem, StopsAtValue, ItemStarts, ValueStarts, ContainerStarts, IsUnexpected, IsWrongName, ParseFault}
+use Rattle.jsonc_ast.specs.to_ast.Faults.{fault, wrong_lexeme, wrong_ending, wrong, wrong_end, wrong_value, wrong_item, StopsAnyhow, is_mark, HasFaultFrom, fault_in, IsFrom, StopsAfter, StopsFrom, StopsAtItem, StopsAtValue, ItemStarts, ValueStarts, ContainerStarts, IsUnexpected, ParseFault}
+use Rattle.jsonc_ast.specs.to_ast.Handed.{IsWrongNameHere}
 use Rattle.jsonc_ast.proofs.lemmas.to_ast.Gaps.{stands}
 use Rattle.jsonc_ast.proofs.lemmas.to_ast.ReadsValues.{leads_on, one_step, not_past, value_reads, property_reads}
 use Rattle.jsonc_ast.proofs.lemmas.to_ast.Scans.{moved, kept_on}
@@ -114,19 +113,19 @@ module _ {A : Type 0} (whole : Bool) where
   comes_before : (old now : Context A) (p n : Place) → Keeps old now → ComesTo (options_in now) whole p n → ComesTo (options_in old) whole p n
   comes_before old now p n kept x = subst (λ o. ComesTo o whole p n) kept.options x
 
-  no_close : (k : Container) (t : Token A) → ClosesNone k t → (l : LexemeKind) → scanned_of t ≡ lexeme l → is_mark (closing k) l ≡ false
+  no_close : (k : Container) (t : Scanned) → ClosesNone k t → (l : LexemeKind) → t ≡ lexeme l → is_mark (closing k) l ≡ false
   no_close k t other l mark = no_mark (closing k) l (λ e. other.2 (lexeme_same other.0 l (sym other.1 ∙ mark) ∙ e))
 
   module _ (k : Container) where
     -- reading has come to the token at hand, with which an item must begin
-    pub record Standing (old now : Context A) (t : Token A) (q : List Opened) (d : Due) (s : List ℕ) : Type 0 where
+    pub record Standing (old now : Context A) (t : Scanned) (q : List Opened) (d : Due) (s : List ℕ) : Type 0 where
       pub due : Due
       pub from : List ℕ
       pub comes : ComesTo (options_in old) whole (at q d s) (at (container k (here old) ∷ q) due from)
       pub item : ItemStarts k now t whole (container k (here old) ∷ q) due from
 
     -- it has wherever the container begins
-    abbrev pub GoesOn : Context A → Context A → Option (Token A) → ℕ → Type 0
+    abbrev pub GoesOn : Context A → Context A → Option Scanned → ℕ → Type 0
     GoesOn old now next n = (q : List Opened) (d : Due) (s : List ℕ) → count whole q ≡ n → ContainerStarts old d s → IfSome next (λ t. Standing old now t q d s)
 
     opened : (old : Context A) (n : ℕ) (q : List Opened) (d : Due) (s : List ℕ) → IsBracket (opening k) old → Room whole k n → count whole q ≡ n → ContainerStarts old d s → Step (options_in old) whole (at q d s) (at (container k (here old) ∷ q) (first k) (after old))
@@ -135,7 +134,7 @@ module _ {A : Type 0} (whole : Bool) where
     gap_moved : (old new : Context A) (t : List ℕ) → Keeps old new → Gap (options_in old) t (rest (text_in old) (token_start new)) → Gap (options_in new) t (here new)
     gap_moved old new t kept g = moved (λ o b. Gap o t (rest b (token_start new))) (sym kept.options) (sym kept.text) g
 
-    pub goes_first : (old new : Context A) (next : Option (Token A)) (n : ℕ) → IsBracket (opening k) old → Room whole k n → Keeps old new → LeadsToFirst k old new next → IfSome next (ClosesNone k) → GoesOn old new next n
+    pub goes_first : (old new : Context A) (next : Option Scanned) (n : ℕ) → IsBracket (opening k) old → Room whole k n → Keeps old new → LeadsToFirst k old new next → IfSome next (ClosesNone k) → GoesOn old new next n
     goes_first old new None n opening room kept h other q d s many starts = tt
     goes_first old new (Some t) n opening room kept h other q d s many starts = record {
       due = first k;
@@ -155,10 +154,10 @@ module _ {A : Type 0} (whole : Bool) where
     first_stops old n q d s e opening room many starts h = stops_on old _ _ e (one_step (opened old n q d s opening room many starts)) (h q)
 
     -- a fault of an item
-    pub item_stops : (old now : Context A) (t : Token A) (q : List Opened) (d : Due) (s : List ℕ) (e : ParseError) → Keeps old now → (h : Standing old now t q d s) → StopsFrom now whole (at (container k (here old) ∷ q) h.due h.from) e → StopsFrom old whole (at q d s) e
+    pub item_stops : (old now : Context A) (t : Scanned) (q : List Opened) (d : Due) (s : List ℕ) (e : ParseError) → Keeps old now → (h : Standing old now t q d s) → StopsFrom now whole (at (container k (here old) ∷ q) h.due h.from) e → StopsFrom old whole (at q d s) e
     item_stops old now t q d s e kept h told = stops_on old _ _ e h.comes (stops_before old now _ e kept told)
 
-    module _ (old now mid : Context A) (kept : Keeps old now) (kept_mid : Keeps now mid) (t : Token A) (q : List Opened) (d : Due) (s : List ℕ) (standing : Standing old now t q d s)
+    module _ (old now mid : Context A) (kept : Keeps old now) (kept_mid : Keeps now mid) (t : Scanned) (q : List Opened) (d : Due) (s : List ℕ) (standing : Standing old now t q d s)
         (read : ComesTo (options_in now) whole (at (container k (here old) ∷ q) standing.due standing.from) (at (container k (here old) ∷ q) (comma k (after mid)) (after mid))) where
       past_item : ComesTo (options_in old) whole (at q d s) (at (container k (here old) ∷ q) (comma k (after mid)) (after mid))
       past_item = leads_on standing.comes (comes_before old now _ _ kept read)
@@ -170,7 +169,7 @@ module _ {A : Type 0} (whole : Bool) where
       pub next_stops : (e : ParseError) → ((q : List Opened) → StopsAfter mid whole (container k (here old) ∷ q) (comma k (after mid)) e) → StopsFrom old whole (at q d s) e
       next_stops e h = stops_on old _ _ e past_item (stops_before old mid _ e both (h q))
 
-      module _ (new : Context A) (further_kept : Keeps mid new) (u : Token A) (other : ClosesNone k u) where
+      module _ (new : Context A) (further_kept : Keeps mid new) (u : Scanned) (other : ClosesNone k u) where
         with_comma : {w : List ℕ} → Gap (options_in mid) (after mid) (0x2C ∷ w) → Gap (options_in mid) w (rest (text_in mid) (token_start new)) → Standing old new u q d s
         with_comma {w} g h = record {
           due = further k (0x2C ∷ w);
@@ -184,7 +183,7 @@ module _ {A : Type 0} (whole : Bool) where
           };
         }
 
-        no_comma_there : IsTrue (options_in mid).missing_commas → Gap (options_in mid) (after mid) (rest (text_in mid) (token_start new)) → (scanned_of u ≢ lexeme (punctuation 0x2C)) → Standing old new u q d s
+        no_comma_there : IsTrue (options_in mid).missing_commas → Gap (options_in mid) (after mid) (rest (text_in mid) (token_start new)) → (u ≢ lexeme (punctuation 0x2C)) → Standing old new u q d s
         no_comma_there f g n =
             let on_new : IsTrue (options_in new).missing_commas = ap (λ p. p.missing_commas) further_kept.options ∙ f in record {
               due = comma k (after mid);
@@ -204,32 +203,32 @@ module _ {A : Type 0} (whole : Bool) where
         goes_turn (Separates.no_comma f g) (inr c) = no_comma_there f g c.1
 
   -- an element
-  pub element_stops : (old now : Context A) (t : Token A) (n : ℕ) (q : List Opened) (d : Due) (s : List ℕ) (e : ParseError) → Keeps old now → Standing Array old now t q d s → count whole q ≡ n → StopsAtValue now t whole (n + 1) e → StopsFrom old whole (at q d s) e
+  pub element_stops : (old now : Context A) (t : Scanned) (n : ℕ) (q : List Opened) (d : Due) (s : List ℕ) (e : ParseError) → Keeps old now → Standing Array old now t q d s → count whole q ≡ n → StopsAtValue now t whole (n + 1) e → StopsFrom old whole (at q d s) e
   element_stops old now t n q d s e kept h many told =
       let more = count_container whole Array (here old) q in
       item_stops Array old now t q d s e kept h (told (container Array (here old) ∷ q) h.due h.from (omega (arith, more, many)) (record { may = of_array h.item.may; gap = h.item.gap; lexeme_here = h.item.lexeme_here; must = h.item.must }))
 
-  pub element_comes : (old now mid : Context A) (t : Token A) (q : List Opened) (d : Due) (s : List ℕ) (v : Plain) (n : ℕ) (h : Standing Array old now t q d s) → Keeps now mid → IsValue (options_in now) (here now) v (rest (text_in now) (token_end mid)) → count whole q ≡ n → size whole v + (n + 1) ≤ 512
+  pub element_comes : (old now mid : Context A) (t : Scanned) (q : List Opened) (d : Due) (s : List ℕ) (v : Plain) (n : ℕ) (h : Standing Array old now t q d s) → Keeps now mid → IsValue (options_in now) (here now) v (rest (text_in now) (token_end mid)) → count whole q ≡ n → size whole v + (n + 1) ≤ 512
       → ComesTo (options_in now) whole (at (container Array (here old) ∷ q) h.due h.from) (at (container Array (here old) ∷ q) (comma Array (after mid)) (after mid))
   element_comes old now mid t q d s v n h kept read many small =
       let more = count_container whole Array (here old) q in
       subst (λ b. ComesTo (options_in now) whole (at (container Array (here old) ∷ q) h.due h.from) (at (container Array (here old) ∷ q) (comma Array (rest b (token_end mid))) (rest b (token_end mid)))) (sym kept.text)
       (value_reads (options_in now) whole (of_array h.item.may) h.item.gap read (omega (arith, more, many, small)))
 
-  pub elements_go_on : (old now : Context A) → Keeps old now → (t : Token A) (mid : Context A) (v : Plain) (n : ℕ) → GoesOn Array old now (Some t) n → Keeps now mid → IsValue (options_in now) (here now) v (rest (text_in now) (token_end mid)) → size whole v + (n + 1) ≤ 512
-      → (new : Context A) (next : Option (Token A)) → Keeps mid new → LeadsToNext Array mid new next → IfSome next (ClosesNone Array) → IfSome next (Comes mid new) → GoesOn Array old new next n
+  pub elements_go_on : (old now : Context A) → Keeps old now → (t : Scanned) (mid : Context A) (v : Plain) (n : ℕ) → GoesOn Array old now (Some t) n → Keeps now mid → IsValue (options_in now) (here now) v (rest (text_in now) (token_end mid)) → size whole v + (n + 1) ≤ 512
+      → (new : Context A) (next : Option Scanned) → Keeps mid new → LeadsToNext Array mid new next → IfSome next (ClosesNone Array) → IfSome next (Comes mid new) → GoesOn Array old new next n
   elements_go_on old now kept t mid v n reading kept_mid read small new None further_kept found other comes q d s many starts = tt
   elements_go_on old now kept t mid v n reading kept_mid read small new (Some u) further_kept found other comes q d s many starts =
       let h = reading q d s many starts in
       goes_turn Array old now mid kept kept_mid t q d s h (element_comes old now mid t q d s v n h kept_mid read many small) new further_kept u other found.0.stands comes
 
   -- a property
-  pub property_stops : (old now : Context A) (t : Token A) (n : ℕ) (q : List Opened) (d : Due) (s : List ℕ) (e : ParseError) → Keeps old now → Standing Object old now t q d s → count whole q ≡ n → StopsAtItem Object now t whole (n + 1) e → StopsFrom old whole (at q d s) e
+  pub property_stops : (old now : Context A) (t : Scanned) (n : ℕ) (q : List Opened) (d : Due) (s : List ℕ) (e : ParseError) → Keeps old now → Standing Object old now t q d s → count whole q ≡ n → StopsAtItem Object now t whole (n + 1) e → StopsFrom old whole (at q d s) e
   property_stops old now t n q d s e kept h many told =
       let more = count_container whole Object (here old) q in
       item_stops Object old now t q d s e kept h (told (container Object (here old) ∷ q) h.due h.from (omega (arith, more, many)) h.item)
 
-  pub property_comes : (old now mid : Context A) (t : Token A) (q : List Opened) (d : Due) (s : List ℕ) (name : List ℕ) (v : Plain) (n : ℕ) (h : Standing Object old now t q d s) → Keeps now mid → IsProperty (options_in now) (here now) name v (rest (text_in now) (token_end mid)) → count whole q ≡ n
+  pub property_comes : (old now mid : Context A) (t : Scanned) (q : List Opened) (d : Due) (s : List ℕ) (name : List ℕ) (v : Plain) (n : ℕ) (h : Standing Object old now t q d s) → Keeps now mid → IsProperty (options_in now) (here now) name v (rest (text_in now) (token_end mid)) → count whole q ≡ n
       → size whole v + (n + 1 + per_property whole) ≤ 512
       → ComesTo (options_in now) whole (at (container Object (here old) ∷ q) h.due h.from) (at (container Object (here old) ∷ q) (comma Object (after mid)) (after mid))
   property_comes old now mid t q d s name v n h kept read many small =
@@ -238,15 +237,15 @@ module _ {A : Type 0} (whole : Bool) where
       subst (λ b. ComesTo (options_in now) whole (at (container Object (here old) ∷ q) h.due h.from) (at (container Object (here old) ∷ q) (comma Object (rest b (token_end mid))) (rest b (token_end mid)))) (sym kept.text)
       (property_reads (options_in now) whole h.item.may h.item.gap read (omega (arith, one, more, many, small)))
 
-  pub properties_go_on : (old now : Context A) → Keeps old now → (t : Token A) (mid : Context A) (name : List ℕ) (v : Plain) (n : ℕ) → GoesOn Object old now (Some t) n → Keeps now mid → IsProperty (options_in now) (here now) name v (rest (text_in now) (token_end mid)) → size whole v + (n + 1 + per_property whole) ≤ 512
-      → (new : Context A) (next : Option (Token A)) → Keeps mid new → LeadsToNext Object mid new next → IfSome next (ClosesNone Object) → IfSome next (Comes mid new) → GoesOn Object old new next n
+  pub properties_go_on : (old now : Context A) → Keeps old now → (t : Scanned) (mid : Context A) (name : List ℕ) (v : Plain) (n : ℕ) → GoesOn Object old now (Some t) n → Keeps now mid → IsProperty (options_in now) (here now) name v (rest (text_in now) (token_end mid)) → size whole v + (n + 1 + per_property whole) ≤ 512
+      → (new : Context A) (next : Option Scanned) → Keeps mid new → LeadsToNext Object mid new next → IfSome next (ClosesNone Object) → IfSome next (Comes mid new) → GoesOn Object old new next n
   properties_go_on old now kept t mid name v n reading kept_mid read small new None further_kept found other comes q d s many starts = tt
   properties_go_on old now kept t mid name v n reading kept_mid read small new (Some u) further_kept found other comes q d s many starts =
       let h = reading q d s many starts in
       goes_turn Object old now mid kept kept_mid t q d s h (property_comes old now mid t q d s name v n h kept_mid read many small) new further_kept u other found.0.stands comes
 
   -- a lexeme that is no value
-  pub leaf_stops : (c : Context A) (t : Token A) (e : ParseError) (n : ℕ) → IsToken c t → n ≤ 512 → IsUnexpected c t e → StopsAtValue c t whole n e
+  pub leaf_stops : (c : Context A) (t : Scanned) (e : ParseError) (n : ℕ) → IsToken c t → n ≤ 512 → IsUnexpected c t e → StopsAtValue c t whole n e
   leaf_stops c t e n there small none q d s many h =
       let l = h.lexeme_here.0 in
       let mark = h.lexeme_here.1 in
@@ -259,9 +258,10 @@ module _ {A : Type 0} (whole : Bool) where
       )
 
   -- in a property
-  module _ (old : Context A) (t : Token A) (q : List Opened) (d : Due) (s : List ℕ) (there : IsToken old t) (starts : ItemStarts Object old t whole q d s) where
-    pub name_stops : (e : ParseError) → IsWrongName old t e → StopsFrom old whole (at q d s) e
-    name_stops e h =
+  module _ (old : Context A) (t : Scanned) (q : List Opened) (d : Due) (s : List ℕ) (there : IsToken old t) (starts : ItemStarts Object old t whole q d s) where
+    pub name_stops : (e : ParseError) → IsWrongNameHere old t e → StopsFrom old whole (at q d s) e
+    name_stops e (inl m) = inl m
+    name_stops e (inr h) =
         let l = starts.lexeme_here.0 in
         let mark = starts.lexeme_here.1 in
         inr (
@@ -289,7 +289,7 @@ module _ {A : Type 0} (whole : Bool) where
         no_token_stops e (inl m) = inl m
         no_token_stops e (inr h) = at_value e (inr (_, ComesTo.here, h whole (property (here old) ∷ q) value))
 
-        module _ (new : Context A) (f : Option (Token A)) (kept_on_new : Keeps mid new) (found : Finds (Gap (options_in mid)) mid new f) (no_comment : IsNoComment f) where
+        module _ (new : Context A) (f : Option Scanned) (kept_on_new : Keeps mid new) (found : Finds (Gap (options_in mid)) mid new f) (no_comment : IsNoComment f) where
           pub end_nothing : f ≡ None → [] ≡ rest (text_in mid) (token_end new)
           end_nothing is = sym (ap (rest (text_in mid)) (at_end mid new f kept_on_new found no_comment is).1 ∙ rest_end (text_in mid) (length (text_in mid)) (omega arith))
 
@@ -302,7 +302,7 @@ module _ {A : Type 0} (whole : Bool) where
                     (plain_end whole q (here old) small ∙ ap Some (ap (λ x. fault ExpectedObjectValue x []) (sym (rest_nothing mid new f kept_on_new found no_comment is)) ∙ ap (λ x. fault ExpectedObjectValue (rest (text_in mid) (token_start new)) x) (end_nothing is) ∙ fault_at (text_in mid) e ExpectedObjectValue (token_range new) kind range)),
               ))
 
-          pub value_told_stops : (u : Token A) → f ≡ Some u → (e : ParseError) (n : ℕ) → count whole (property (here old) ∷ q) ≡ n → StopsAtValue new u whole n e → StopsFrom old whole (at q d s) e
+          pub value_told_stops : (u : Scanned) → f ≡ Some u → (e : ParseError) (n : ℕ) → count whole (property (here old) ∷ q) ≡ n → StopsAtValue new u whole n e → StopsFrom old whole (at q d s) e
           value_told_stops u is e n many told =
               let l = lexeme_found mid new f kept_on_new found no_comment u is in
               at_value e (stops_before mid new _ e kept_on_new (told (property (here old) ∷ q) value (after mid) many (record {
@@ -313,7 +313,7 @@ module _ {A : Type 0} (whole : Bool) where
               })))
 
   -- in the text
-  module _ (c d : Context A) (f : Option (Token A)) (kept : Keeps c d) (found : Finds (Gap (options_in c)) c d f) (no_comment : IsNoComment f) (t : Token A) (is : f ≡ Some t) where
+  module _ (c d : Context A) (f : Option Scanned) (kept : Keeps c d) (found : Finds (Gap (options_in c)) c d f) (no_comment : IsNoComment f) (t : Scanned) (is : f ≡ Some t) where
     value_first : ValueStarts d t whole [] document (after c)
     value_first = record {
       may = of_text;
@@ -336,10 +336,10 @@ module _ {A : Type 0} (whole : Bool) where
       end_stops e (inl w) = inl w
       end_stops e (inr h) = at_end_of_value e (inr (_, ComesTo.here, h whole [] end))
 
-      pub second_stops : (new : Context A) (g : Option (Token A)) → Keeps m new → Finds (Gap (options_in m)) m new g → IsNoComment g → (g ≡ None → ⊥) → (e : ParseError) → kind_of e ≡ MultipleRootJsonValues → range_of e ≡ token_range new → StopsFrom c whole (at [] document (after c)) e
+      pub second_stops : (new : Context A) (g : Option Scanned) → Keeps m new → Finds (Gap (options_in m)) m new g → IsNoComment g → (g ≡ None → ⊥) → (e : ParseError) → kind_of e ≡ MultipleRootJsonValues → range_of e ≡ token_range new → StopsFrom c whole (at [] document (after c)) e
       second_stops new g kept_new found_new none some e kind range = go g refl
         where
-          go : (h : Option (Token A)) → g ≡ h → StopsFrom c whole (at [] document (after c)) e
+          go : (h : Option Scanned) → g ≡ h → StopsFrom c whole (at [] document (after c)) e
           go None was = absurd (some was)
           go (Some u) was =
               let l = lexeme_found m new g kept_new found_new none u was in
@@ -364,7 +364,7 @@ module _ {A : Type 0} where
       )
 
   -- an element that is, where all count
-  pub deep_stops : (old now : Context A) (t : Token A) (start n : ℕ) (q : List Opened) (d : Due) (s : List ℕ) (e : ParseError) → Keeps old now → IsToken now t → start ≡ token_start old → length q ≡ n → 512 < n + 1
+  pub deep_stops : (old now : Context A) (t : Scanned) (start n : ℕ) (q : List Opened) (d : Due) (s : List ℕ) (e : ParseError) → Keeps old now → IsToken now t → start ≡ token_start old → length q ≡ n → 512 < n + 1
       → kind_of e ≡ NestingDepthExceeded → range_of e ≡ record { start = start; end = token_end now } → Standing true Array old now t q d s → StopsFrom old true (at q d s) e
   deep_stops old now t start n q d s e kept there at_start many deep kind range h =
       item_stops true Array old now t q d s e kept h (inr (
@@ -377,7 +377,7 @@ module _ {A : Type 0} where
       l : LexemeKind
       l = h.item.lexeme_here.0
 
-      mark : scanned_of t ≡ lexeme l
+      mark : t ≡ lexeme l
       mark = h.item.lexeme_here.1
 
       one : Lexeme (options_in now) l (here now) (after now)
@@ -387,15 +387,15 @@ module _ {A : Type 0} where
       from_start = ap (rest (text_in old)) (sym at_start) ∙ ap (λ b. rest b start) (sym kept.text)
 
   -- a property
-  pub deep_property_stops : (old : Context A) (t : Token A) (q : List Opened) (d : Due) (s : List ℕ) (there : IsToken old t) (starts : ItemStarts Object old t true q d s) (n : LocatedName) (name : IsNameHere old n) (mid : Context A) (kept : Keeps old mid) (passed : PassesColon old mid)
-      (new : Context A) (f : Option (Token A)) (kept_on_new : Keeps mid new) (found : Finds (Gap (options_in mid)) mid new f) (no_comment : IsNoComment f)
+  pub deep_property_stops : (old : Context A) (t : Scanned) (q : List Opened) (d : Due) (s : List ℕ) (there : IsToken old t) (starts : ItemStarts Object old t true q d s) (n : LocatedName) (name : IsNameHere old n) (mid : Context A) (kept : Keeps old mid) (passed : PassesColon old mid)
+      (new : Context A) (f : Option Scanned) (kept_on_new : Keeps mid new) (found : Finds (Gap (options_in mid)) mid new f) (no_comment : IsNoComment f)
       → (e : ParseError) (start : ℕ) → start ≡ token_start old → 512 < suc (length q) → kind_of e ≡ NestingDepthExceeded → range_of e ≡ record { start = start; end = token_end new } → StopsFrom old true (at q d s) e
   deep_property_stops old t q d s there starts n name mid kept passed new f kept_on_new found no_comment e start at_start deep kind range = at_value true old t q d s there starts n name mid kept passed e (go f refl)
     where
       is_fault : fault NestingDepthExceeded (here old) (rest (text_in mid) (token_end new)) ≡ fault_in (text_in mid) e
       is_fault = ap (λ x. fault NestingDepthExceeded x (rest (text_in mid) (token_end new))) (ap (rest (text_in old)) (sym at_start) ∙ ap (λ b. rest b start) (sym kept.text)) ∙ fault_at (text_in mid) e NestingDepthExceeded (record { start = start; end = token_end new }) kind range
 
-      go : (g : Option (Token A)) → f ≡ g → StopsFrom mid true (at (property (here old) ∷ q) value (after mid)) e
+      go : (g : Option Scanned) → f ≡ g → StopsFrom mid true (at (property (here old) ∷ q) value (after mid)) e
       go None is = inr (_, ComesTo.here, wrong_ending (gap_to_end mid new f kept_on_new found no_comment is) (deep_end q (here old) deep ∙ ap Some (ap (λ x. fault NestingDepthExceeded (here old) x) (end_nothing true old t q d s there starts n name mid kept passed new f kept_on_new found no_comment is) ∙ is_fault)))
       go (Some u) is =
           let l = lexeme_found mid new f kept_on_new found no_comment u is in

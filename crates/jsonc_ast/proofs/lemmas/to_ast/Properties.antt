@@ -1,8 +1,8 @@
 -- A parser among the properties of an object.
+use Rattle.jsonc_text.specs.Lexemes.{Scanned}
 use Rattle.std.proofs.Common.{ℕ, Bool, true, false, ◌+◌, ◌≤◌, ◌≡◌, sym, subst, refl, arith, List, [], ◌∷◌, ◌++◌, Option, Some, None, IsUtf8}
 use Rattle.std.proofs.lemmas.Str.{IsUtf8-from_is_utf8}
 use Rattle.jsonc_text.specs.declared.common.Range.{Range}
-use Rattle.jsonc_text.specs.declared.tokens.Token.{Token}
 use Rattle.jsonc_text.specs.Gaps.{Gap}
 use Rattle.jsonc_text.specs.Grammar.{Separates, Closes}
 use Rattle.jsonc_text.specs.Plain.{object, no_members}
@@ -21,23 +21,23 @@ empty_size true = refl
 empty_size false = refl
 
 module _ {A : Type 0} where
-  abbrev pub PropertiesSoFar : Context A → Context A → List LocatedMember → Option (Token A) → Type 0
+  abbrev pub PropertiesSoFar : Context A → Context A → List LocatedMember → Option Scanned → Type 0
   PropertiesSoFar old now xs None = members.Whole (options_in old) (text_in old) (token_end old) xs (token_end now)
   PropertiesSoFar old now xs (Some t) = members.Open (options_in old) (text_in old) (token_end old) xs (token_start now)
 
   -- an object's properties so far, inside of so many of what counts
-  pub record Properties (whole : Bool) (old now : Context A) (next : Option (Token A)) (xs : List LocatedMember) (count : ℕ) : Type 0 where
+  pub record Properties (whole : Bool) (old now : Context A) (next : Option Scanned) (xs : List LocatedMember) (count : ℕ) : Type 0 where
     pub kept : Keeps old now
     pub hand : AtHand 0x7D now next
     pub on : token_end old ≤ token_start now
     pub so_far : PropertiesSoFar old now xs next
     pub within : size whole (object (members_at (members_of xs))) + count ≤ 512
 
-  start_properties : (old now : Context A) (next : Option (Token A)) → Leads (Gap (options_in old)) (Ends (options_in old) 0x7D) 0x7D old now next → PropertiesSoFar old now [] next
+  start_properties : (old now : Context A) (next : Option Scanned) → Leads (Gap (options_in old)) (Ends (options_in old) 0x7D) 0x7D old now next → PropertiesSoFar old now [] next
   start_properties old now None h = h.0
   start_properties old now (Some t) h = members.first_open (options_in old) (text_in old) (token_end old) (token_start now) h.0
 
-  pub properties_start : (whole : Bool) (old now : Context A) (next : Option (Token A)) (xs : List LocatedMember) (count : ℕ) → xs ≡ [] → Keeps old now → Leads (Gap (options_in old)) (Ends (options_in old) 0x7D) 0x7D old now next → count + least whole ≤ 512 → Properties whole old now next xs count
+  pub properties_start : (whole : Bool) (old now : Context A) (next : Option Scanned) (xs : List LocatedMember) (count : ℕ) → xs ≡ [] → Keeps old now → Leads (Gap (options_in old)) (Ends (options_in old) 0x7D) 0x7D old now next → count + least whole ≤ 512 → Properties whole old now next xs count
   properties_start whole old now next xs count e kept h small = subst (λ l. Properties whole old now next l count) (sym e) (record {
     kept = kept;
     hand = leads_hand _ _ 0x7D old now next h;
@@ -53,7 +53,7 @@ module _ {A : Type 0} where
       value = moved (λ p b. IsLocated p b x.value) kept.options kept.text read.value;
     }
 
-    turn_properties : (next : Option (Token A)) → members.Open (options_in old) (text_in old) (token_end old) xs (token_start now)
+    turn_properties : (next : Option Scanned) → members.Open (options_in old) (text_in old) (token_end old) xs (token_start now)
         → Leads (Separates (options_in mid)) (Closes (options_in mid) 0x7D) 0x7D mid new next → PropertiesSoFar old new (xs ++ x ∷ []) next
     turn_properties None held h =
         let both = kept_on old now mid kept kept_mid in
@@ -65,7 +65,7 @@ module _ {A : Type 0} where
         (moved (λ p b. Between b (Separates p) (token_end mid) (token_start new)) both.options both.text h.0)
 
   -- one more property
-  pub properties_turn : (whole : Bool) (old now mid new : Context A) (n next : Option (Token A)) (t : Token A) (x : LocatedMember) (xs ys : List LocatedMember) (count : ℕ) → Properties whole old now n xs count → n ≡ Some t
+  pub properties_turn : (whole : Bool) (old now mid new : Context A) (n next : Option Scanned) (t : Scanned) (x : LocatedMember) (xs ys : List LocatedMember) (count : ℕ) → Properties whole old now n xs count → n ≡ Some t
       → Keeps now mid → ReadsMember now mid x → Keeps mid new → Leads (Separates (options_in mid)) (Closes (options_in mid) 0x7D) 0x7D mid new next
       → ys ≡ xs ++ x ∷ [] → size whole (value_at x.value) + (count + 1 + per_property whole) ≤ 512 → Properties whole old new next ys count
   properties_turn whole old now mid new n next t x xs ys count inv is kept read further h grown small =
@@ -81,7 +81,7 @@ module _ {A : Type 0} where
       })
 
   -- the whole object
-  pub properties_whole : (whole : Bool) (old now : Context A) (n : Option (Token A)) (xs : List LocatedMember) (count : ℕ) (r : Range) → Properties whole old now n xs count → n ≡ None → IsBracket 0x7B old → r.start ≡ token_start old → r.end ≡ token_end now
+  pub properties_whole : (whole : Bool) (old now : Context A) (n : Option Scanned) (xs : List LocatedMember) (count : ℕ) (r : Range) → Properties whole old now n xs count → n ≡ None → IsBracket 0x7B old → r.start ≡ token_start old → r.end ≡ token_end now
       → Reads old now (object_at r (members_of xs))
   properties_whole whole old now n xs count r inv is opening first last =
       let bytes = text_in old in

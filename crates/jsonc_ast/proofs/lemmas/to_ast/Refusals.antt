@@ -5,7 +5,6 @@ use Rattle.jsonc_text.specs.declared.errors.ParseError.{ParseError}
 use Rattle.jsonc_text.specs.declared.errors.ParseErrorKind.{ParseErrorKind}
 use Rattle.jsonc_text.specs.declared.errors.ParseErrorKind.TheVariants as kind
 use Rattle.jsonc_text.specs.declared.errors.ParseErrorKind.TheVariants.{OutOfMemory, CommentsNotAllowed}
-use Rattle.jsonc_text.specs.declared.tokens.Token.{Token}
 use Rattle.jsonc_text.specs.declared.tokens.Token.TheVariants as token
 use Rattle.jsonc_text.specs.Options.{Options}
 use Rattle.jsonc_text.specs.Faults.{kind_of, range_of}
@@ -14,7 +13,6 @@ use Rattle.jsonc_text.specs.Gaps.{Gap, none, blank, comment, is_blank, IsComment
 use Rattle.jsonc_text.specs.Grammar.{Separates, comma, no_comma, Closes, plain, trailing_comma, may_name}
 use Rattle.jsonc_text.specs.Lexemes.{Scanned, lexeme, line_comment, block_comment, LexemeKind, punctuation, string, IsScanned, is_punctuation}
 use Rattle.jsonc_text.specs.Places.{is_comment}
-use Rattle.jsonc_text.specs.Tokens.{scanned_of}
 use Rattle.jsonc_text.proofs.Basics.{clash, or_cases, or_left, test_eq, eq_test, no_starts, starts_also}
 use Rattle.jsonc_text.proofs.Begins.{begins_literal, lexeme_begins}
 use Rattle.jsonc_text.proofs.BlockComments.{block_inside}
@@ -24,7 +22,8 @@ use Rattle.jsonc_text.proofs.UniqueGaps.{begins_gap, gap_unique, comment_unique,
 use Rattle.jsonc_text.proofs.UniqueLexemes.{scanned_unique}
 use Rattle.jsonc_scan.specs.Reads.{NothingAt}
 use Rattle.jsonc_scan.specs.declared.scanner.Scanner.{Scanner}
-use Rattle.jsonc_scan.specs.Scanner.{text_of, start_of, end_of, options_of, PassesBlanks, StandsAt, NothingStands, GoesOn}
+use Rattle.jsonc_scan.specs.Scanner.{text_of, start_of, end_of, options_of, PassesBlanks, NothingStands, GoesOn}
+use Rattle.jsonc_scan.specs.Scanner.{IsThere}
 use Rattle.jsonc_ast.specs.declared.to_ast.container.Container.{Container}
 use Rattle.jsonc_ast.specs.declared.to_ast.container.Container.TheVariants.{Array, Object}
 use Rattle.jsonc_ast.specs.declared.to_ast.context.Context.{Context}
@@ -192,14 +191,14 @@ module _ {A : Type 0} where
       ]
 
   -- a comment that is not allowed
-  pub comment_refused : (start now : Context A) (s : Scanner A) (f : Option (Token A)) (t : Token A) (e : ParseError) → f ≡ Some t → Passing start now → PassesBlanks now.scanner s → StandsAt s f
-      → is_comment (scanned_of t) ≡ true → (kind_of e ≡ OutOfMemory) ⊎ (((options_of s).comments ≡ false) × (kind_of e ≡ CommentsNotAllowed) × (range_of e ≡ record { start = start_of s; end = end_of s })) → IsAllocationFailure e ⊎ NoTokenAfter start
+  pub comment_refused : (start now : Context A) (s : Scanner A) (f : Option Scanned) (t : Scanned) (e : ParseError) → f ≡ Some t → Passing start now → PassesBlanks now.scanner s → IsThere s f
+      → is_comment t ≡ true → (kind_of e ≡ OutOfMemory) ⊎ (((options_of s).comments ≡ false) × (kind_of e ≡ CommentsNotAllowed) × (range_of e ≡ record { start = start_of s; end = end_of s })) → IsAllocationFailure e ⊎ NoTokenAfter start
   comment_refused start now s f t e is h blanks at found (inl m) = inl m
   comment_refused start now s f t e is h blanks at found (inr n) =
       let o = options_in start in
       let same = blanks.options ∙ h.kept.options in
-      let one = stands (text_in start) o s t (blanks.text ∙ h.kept.text) same (subst (StandsAt s) is at) in
-      let here = comment_at o (scanned_of t) _ _ found one.stands in
+      let one = stands (text_in start) o s t (blanks.text ∙ h.kept.text) same (subst (IsThere s) is at) in
+      let here = comment_at o t _ _ found one.stands in
       inr (λ u g a. no_gap_past_comment o here (ap (λ p. p.comments) (sym same) ∙ n.0) (gap_past (gap_to start now s h blanks) g (token_no_gap o u a)) a)
 
 -- the error that a `?` hands on
@@ -286,11 +285,11 @@ module _ {A : Type 0} where
   pub no_token_lexeme : (c : Context A) → NoTokenAfter c → NoLexemeAfter (options_in c) (after c)
   no_token_lexeme c n u g i = n u g (inr i)
 
-  pub found_token : (o : Options) (bytes : List ℕ) (s : Scanner A) (f : Option (Token A)) → text_of s ≡ bytes → options_of s ≡ o → StandsAt s f → IsNoComment f → AtToken o (rest bytes (start_of s))
+  pub found_token : (o : Options) (bytes : List ℕ) (s : Scanner A) (f : Option Scanned) → text_of s ≡ bytes → options_of s ≡ o → IsThere s f → IsNoComment f → AtToken o (rest bytes (start_of s))
   found_token o bytes s None t e h n = inl (rest_end bytes (start_of s) (omega (arith, h.0, ap length t)))
-  found_token o bytes s (Some x) t e h n = inr (lexeme_at o (scanned_of x) _ _ n (stands bytes o s x t e h).stands)
+  found_token o bytes s (Some x) t e h n = inr (lexeme_at o x _ _ n (stands bytes o s x t e h).stands)
 
-  module _ (old new : Context A) (f : Option (Token A)) (kept : Keeps old new) (found : Finds (Gap (options_in old)) old new f) (no_comment : IsNoComment f) where
+  module _ (old new : Context A) (f : Option Scanned) (kept : Keeps old new) (found : Finds (Gap (options_in old)) old new f) (no_comment : IsNoComment f) where
     pub only_there : (u : List ℕ) → Gap (options_in old) (after old) u → AtToken (options_in old) u → u ≡ rest (text_in old) (token_start new)
     only_there u g a = gap_unique g found.0.stands (token_no_gap (options_in old) u a) (token_no_gap (options_in old) _ (found_token (options_in old) (text_in old) new.scanner f kept.text kept.options found.1 no_comment))
 
@@ -300,44 +299,44 @@ module _ {A : Type 0} where
     -- the end was found
     pub nothing_at_end : f ≡ None → NoLexemeAfter (options_in old) (after old)
     nothing_at_end is u g i =
-        let end = subst (StandsAt new.scanner) is found.1 in
+        let end = subst (IsThere new.scanner) is found.1 in
         let none = rest_end (text_in old) (token_start new) (omega (arith, end.0, ap length kept.text)) in
         no_lexeme_at_end (options_in old) u (only_there u g (inr i) ∙ none) i
 
-    module _ (t : Token A) (is : f ≡ Some t) where
-      pub token_stands : IsScanned (options_in old) (scanned_of t) (rest (text_in old) (token_start new)) (rest (text_in old) (token_end new))
-      token_stands = (stands (text_in old) (options_in old) new.scanner t kept.text kept.options (subst (StandsAt new.scanner) is found.1)).stands
+    module _ (t : Scanned) (is : f ≡ Some t) where
+      pub token_stands : IsScanned (options_in old) t (rest (text_in old) (token_start new)) (rest (text_in old) (token_end new))
+      token_stands = (stands (text_in old) (options_in old) new.scanner t kept.text kept.options (subst (IsThere new.scanner) is found.1)).stands
 
       pub lexeme_there : AtLexeme (options_in old) (rest (text_in old) (token_start new))
-      lexeme_there = lexeme_at (options_in old) (scanned_of t) _ _ (subst IsNoComment is no_comment) token_stands
+      lexeme_there = lexeme_at (options_in old) t _ _ (subst IsNoComment is no_comment) token_stands
 
       -- it is the punctuation that a gap leads to, and the same follows it
-      only_mark : (c : ℕ) (r : List ℕ) → IsTrue (is_punctuation c) → Gap (options_in old) (after old) (c ∷ r) → (scanned_of t ≡ lexeme (punctuation c)) × (rest (text_in old) (token_end new) ≡ r)
+      only_mark : (c : ℕ) (r : List ℕ) → IsTrue (is_punctuation c) → Gap (options_in old) (after old) (c ∷ r) → (t ≡ lexeme (punctuation c)) × (rest (text_in old) (token_end new) ≡ r)
       only_mark c r m g =
           let o = options_in old in
           let e = only_there (c ∷ r) g (inr (mark_at o c r m)) in
-          scanned_unique o (scanned_of t) (lexeme (punctuation c)) (rest (text_in old) (token_start new)) (rest (text_in old) (token_end new)) r token_stands (m, sym e)
+          scanned_unique o t (lexeme (punctuation c)) (rest (text_in old) (token_start new)) (rest (text_in old) (token_end new)) r token_stands (m, sym e)
 
       -- no item begins with the punctuation that it is
-      mark_no_item : (c : ℕ) → scanned_of t ≡ lexeme (punctuation c) → IsTrue (not (may_begin_item c)) → (u : List ℕ) → Gap (options_in old) (after old) u → AtItem (options_in old) u → ⊥
+      mark_no_item : (c : ℕ) → t ≡ lexeme (punctuation c) → IsTrue (not (may_begin_item c)) → (u : List ℕ) → Gap (options_in old) (after old) u → AtItem (options_in old) u → ⊥
       mark_no_item c e n u g i =
           let one = subst (λ w. IsScanned (options_in old) w (rest (text_in old) (token_start new)) (rest (text_in old) (token_end new))) e token_stands in
           let first = only_there u g (inr i.lexeme) ∙ one.1 in
           clash (may_begin_item c) n (subst (λ x. IsTrue (starts may_begin_item (next x))) first i.first)
 
       module _ (k : Container) where
-        pub only_first : (scanned_of t ≡ lexeme (punctuation (closing k)) → ⊥) → OnlyFirst k old new
+        pub only_first : (t ≡ lexeme (punctuation (closing k)) → ⊥) → OnlyFirst k old new
         only_first n = record { no_close = λ r g. n (only_mark (closing k) r (closing_mark k) g).0; only = λ u g i. only_here u g (inr i.lexeme) }
 
-        pub only_after_comma : (scanned_of t ≡ lexeme (punctuation (closing k)) → ⊥) → OnlyAfterComma k old new
+        pub only_after_comma : (t ≡ lexeme (punctuation (closing k)) → ⊥) → OnlyAfterComma k old new
         only_after_comma n = record { no_close = λ r h. n (only_mark (closing k) r (closing_mark k) h.1).0; only = λ u g i. only_here u g (inr i.lexeme) }
 
         -- a trailing comma that is not allowed
-        pub trailing_refused : scanned_of t ≡ lexeme (punctuation (closing k)) → (options_in old).trailing_commas ≡ false → NothingAfterComma k old
+        pub trailing_refused : t ≡ lexeme (punctuation (closing k)) → (options_in old).trailing_commas ≡ false → NothingAfterComma k old
         trailing_refused e a = record { no_close = λ r h. forbidden h.0 a; no_item = λ u g i. mark_no_item (closing k) e (closing_no_item k) u g i }
 
         -- neither the closing bracket nor a comma
-        module _ (closing_no : scanned_of t ≡ lexeme (punctuation (closing k)) → ⊥) (comma_no : scanned_of t ≡ lexeme (punctuation 0x2C) → ⊥) where
+        module _ (closing_no : t ≡ lexeme (punctuation (closing k)) → ⊥) (comma_no : t ≡ lexeme (punctuation 0x2C) → ⊥) where
           no_end : (r : List ℕ) → Closes (options_in old) (closing k) (after old) r → ⊥
           no_end r = no_closes (options_in old) k (after old) r (λ r g. closing_no (only_mark (closing k) r (closing_mark k) g).0) (λ u g a h. comma_no (only_mark 0x2C u refl g).0)
 
@@ -353,7 +352,7 @@ module _ {A : Type 0} where
           only_next = record { no_close = no_end; only = only_separated }
 
         -- a comma
-        module _ (e : scanned_of t ≡ lexeme (punctuation 0x2C)) where
+        module _ (e : t ≡ lexeme (punctuation 0x2C)) where
           mark_moved : (P : Options → List ℕ → Type 0) → P (options_in new) (text_in new) → P (options_in old) (text_in old)
           mark_moved P h = moved P kept.options kept.text h
 
@@ -381,7 +380,7 @@ module _ {A : Type 0} where
               record { no_close = comma_no_end n.no_close; only = comma_only (here last) n }
 
       -- no colon
-      pub no_colon : (scanned_of t ≡ lexeme (punctuation 0x3A) → ⊥) → NoColon old
+      pub no_colon : (t ≡ lexeme (punctuation 0x3A) → ⊥) → NoColon old
       no_colon n r g = n (only_mark 0x3A r refl g).0
 
     pub no_colon_at_end : f ≡ None → NoColon old
@@ -390,9 +389,9 @@ module _ {A : Type 0} where
   pub no_token_colon : (c : Context A) → NoTokenAfter c → NoColon c
   no_token_colon c n r g = n (0x3A ∷ r) g (inr (mark_at (options_in c) 0x3A r refl))
 
-  module _ (c : Context A) (t : Token A) (at : IsToken c t) where
-    pub one_token : (k : LexemeKind) (r : List ℕ) → IsScanned (options_in c) (lexeme k) (here c) r → scanned_of t ≡ lexeme k
-    one_token k r h = (scanned_unique (options_in c) (scanned_of t) (lexeme k) (here c) (after c) r (stands (text_in c) (options_in c) c.scanner t refl refl at).stands h).0
+  module _ (c : Context A) (t : Scanned) (at : IsToken c t) where
+    pub one_token : (k : LexemeKind) (r : List ℕ) → IsScanned (options_in c) (lexeme k) (here c) r → t ≡ lexeme k
+    one_token k r h = (scanned_unique (options_in c) t (lexeme k) (here c) (after c) r (stands (text_in c) (options_in c) c.scanner t refl refl at).stands h).0
 
     no_name_text : (k : LexemeKind) → IsTrue (may_name k) → loose_text (lexeme k) ≡ None → ⊥
     no_name_text (LexemeKind.string v) m e = cc
@@ -402,26 +401,11 @@ module _ {A : Type 0} where
     no_name_text (LexemeKind.punctuation v) m e = cc
 
     -- a token that is no name
-    pub name_refused : loose_text (scanned_of t) ≡ None → ((v : List ℕ) → scanned_of t ≡ lexeme (string v) → ⊥) → NoName c
+    pub name_refused : loose_text t ≡ None → ((v : List ℕ) → t ≡ lexeme (string v) → ⊥) → NoName c
     name_refused e n name r (inl l) = n name (one_token (string name) r l)
     name_refused e n name r (inr (a, f, k, m, l)) = no_name_text k m (ap loose_text (sym (one_token k r l)) ∙ e)
 
     -- a name without quotes that is not allowed
-    pub loose_refused : (s : List ℕ) → loose_text (scanned_of t) ≡ Some s → (options_in c).loose_names ≡ false → NoName c
+    pub loose_refused : (s : List ℕ) → loose_text t ≡ Some s → (options_in c).loose_names ≡ false → NoName c
     loose_refused s e a name r (inl l) = let both : None ≡ Some s = ap loose_text (sym (one_token (string name) r l)) ∙ e in cc
     loose_refused s e a name r (inr (b, f, k, m, l)) = forbidden b a
-
-  pub string_token : (t : Token A) → ((s : _) → t ≡ token.String s → ⊥) → (v : List ℕ) → scanned_of t ≡ lexeme (string v) → ⊥
-  string_token token.OpenBrace n v e = cc
-  string_token token.CloseBrace n v e = cc
-  string_token token.OpenBracket n v e = cc
-  string_token token.CloseBracket n v e = cc
-  string_token token.Comma n v e = cc
-  string_token token.Colon n v e = cc
-  string_token (token.String s) n v e = n s refl
-  string_token (token.Word s) n v e = cc
-  string_token (token.Boolean b) n v e = cc
-  string_token (token.Number s) n v e = cc
-  string_token token.Null n v e = cc
-  string_token (token.CommentLine s) n v e = cc
-  string_token (token.CommentBlock s) n v e = cc

@@ -2,15 +2,14 @@
 use Rattle.std.proofs.Common.{ℕ, ◌≡◌, ◌≤◌, ◌<◌, ◌+◌, ◌++◌, length, ◌∙◌, sym, ap, subst, refl, arith, true, false, List, [], ◌∷◌, Option, None, Some, Result, Ok, Err, IfOk, IsTrue, IsUtf8}
 use Rattle.jsonc_text.specs.declared.errors.ParseError.{ParseError}
 use Rattle.jsonc_scan.specs.declared.scanner.Scanner.{Scanner}
-use Rattle.jsonc_text.specs.declared.tokens.Token.{Token}
 use Rattle.jsonc_text.specs.Options.{Options}
 use Rattle.jsonc_text.specs.Gaps.{Gap, none}
 use Rattle.jsonc_text.specs.Grammar.{Separates, comma, no_comma, Closes, trailing_comma}
-use Rattle.jsonc_text.specs.Lexemes.{lexeme, punctuation, IsScanned}
+use Rattle.jsonc_text.specs.Lexemes.{Scanned, lexeme, punctuation, IsScanned}
 use Rattle.jsonc_text.specs.Places.{is_comment}
-use Rattle.jsonc_scan.specs.Scanner.{text_of, start_of, end_of, options_of, PassesBlanks, StandsAt}
+use Rattle.jsonc_scan.specs.Scanner.{text_of, start_of, end_of, options_of, PassesBlanks}
+use Rattle.jsonc_scan.specs.Scanner.{IsThere}
 use Rattle.jsonc_text.specs.Text.{byte_length}
-use Rattle.jsonc_text.specs.Tokens.{scanned_of}
 use Rattle.std.proofs.lemmas.Str.{encode_ascii}
 use Rattle.jsonc_text.proofs.Cuts.{place_after}
 use Rattle.jsonc_ast.specs.declared.to_ast.context.Context.{Context}
@@ -51,13 +50,13 @@ module _ {A : Type 0} where
   passing_start c = record { kept = kept_same c; gap = nothing (text_in c) (Gap (options_in c)) (token_end c) c.scanner.at_place none; collects = collects_same c }
 
   -- the token after a gap, or the end
-  pub scan_found : (start now : Context A) (s t : Scanner A) (f g : Option (Token A)) → f ≡ g → t ≡ s → Passing start now → PassesBlanks now.scanner s → StandsAt s f
-      → Between (text_in start) (Gap (options_in start)) (token_end start) (start_of t) × StandsAt t g
+  pub scan_found : (start now : Context A) (s t : Scanner A) (f g : Option Scanned) → f ≡ g → t ≡ s → Passing start now → PassesBlanks now.scanner s → IsThere s f
+      → Between (text_in start) (Gap (options_in start)) (token_end start) (start_of t) × IsThere t g
   scan_found start now s t f g is same h blanks at =
       let here = subst (λ b. Between b (Gap (options_in start)) (token_end now) (start_of s)) h.kept.text (passed (options_in start) now.scanner s blanks) in
       let all = join (Gap (options_in start)) (λ t u r. gap_append) h.gap here in (
         subst (λ x. Between (text_in start) (Gap (options_in start)) (token_end start) (start_of x)) (sym same) all,
-        subst (λ x. StandsAt x g) (sym same) (subst (StandsAt s) is at),
+        subst (λ x. IsThere x g) (sym same) (subst (IsThere s) is at),
       )
 
   -- after a step of the scanner
@@ -72,12 +71,12 @@ module _ {A : Type 0} where
   }
 
   -- a comment after a gap
-  pub passing_on : (start now new : Context A) (s : Scanner A) (f : Option (Token A)) (t : Token A) → f ≡ Some t → new.scanner ≡ s → tokens_asked new ≡ tokens_asked now → new.comments_are_tokens ≡ now.comments_are_tokens → comments_asked new ≡ comments_asked now
-      → Passing start now → PassesBlanks now.scanner s → StandsAt s f → is_comment (scanned_of t) ≡ true → IsTrue (options_of s).comments
-      → (now.comments_are_tokens ≡ true → CollectsMore now new (placed_here s (scanned_of t) ∷ [])) → (now.comments_are_tokens ≡ false → collected new ≡ collected now) → (AreLentIn (text_of s) now.tokens → AreLentIn (text_of s) new.tokens) → NotesMore now new (placed_here s (scanned_of t) ∷ []) → Passing start new
+  pub passing_on : (start now new : Context A) (s : Scanner A) (f : Option Scanned) (t : Scanned) → f ≡ Some t → new.scanner ≡ s → tokens_asked new ≡ tokens_asked now → new.comments_are_tokens ≡ now.comments_are_tokens → comments_asked new ≡ comments_asked now
+      → Passing start now → PassesBlanks now.scanner s → IsThere s f → is_comment t ≡ true → IsTrue (options_of s).comments
+      → (now.comments_are_tokens ≡ true → CollectsMore now new (placed_here s t ∷ [])) → (now.comments_are_tokens ≡ false → collected new ≡ collected now) → (AreLentIn (text_of s) now.tokens → AreLentIn (text_of s) new.tokens) → NotesMore now new (placed_here s t ∷ []) → Passing start new
   passing_on start now new s f t is same asked strategy apart h blanks at comment allowed more none_more lent noted =
       let may : IsTrue (options_in start).comments = ap (λ p. p.comments) (sym (blanks.options ∙ h.kept.options)) ∙ allowed in
-      let gap = comment_passed (text_in start) (options_in start) (token_end start) now.scanner s t h.kept.text h.kept.options blanks h.gap (subst (StandsAt s) is at) comment may in
+      let gap = comment_passed (text_in start) (options_in start) (token_end start) now.scanner s t h.kept.text h.kept.options blanks h.gap (subst (IsThere s) is at) comment may in
       record {
         kept = kept_step start now new s h blanks same asked strategy apart;
         gap = subst (λ x. Between (text_in start) (Gap (options_in start)) (token_end start) (end_of x)) (sym same) gap;
@@ -85,21 +84,21 @@ module _ {A : Type 0} where
       }
 
   -- a token that is punctuation
-  pub token_is : (bytes : List ℕ) (o : Options) (s : Scanner A) (t : Token A) (c : ℕ) → text_of s ≡ bytes → options_of s ≡ o → StandsAt s (Some t) → scanned_of t ≡ lexeme (punctuation c)
+  pub token_is : (bytes : List ℕ) (o : Options) (s : Scanner A) (t : Scanned) (c : ℕ) → text_of s ≡ bytes → options_of s ≡ o → IsThere s (Some t) → t ≡ lexeme (punctuation c)
       → Between bytes (One c) (start_of s) (end_of s)
   token_is bytes o s t c e f at is =
       change (One c) (λ t r k. k.1) (subst (λ w. Between bytes (IsScanned o w) (start_of s) (end_of s)) is (stands bytes o s t e f at))
 
-  module _ (old new : Context A) (f : Option (Token A)) (t : Token A) (c : ℕ) (kept : Keeps old new) (found : Finds (Gap (options_in old)) old new f) (is : f ≡ Some t) where
+  module _ (old new : Context A) (f : Option Scanned) (t : Scanned) (c : ℕ) (kept : Keeps old new) (found : Finds (Gap (options_in old)) old new f) (is : f ≡ Some t) where
     pub at_token : IsToken new t
-    at_token = subst (StandsAt new.scanner) is found.1
+    at_token = subst (IsThere new.scanner) is found.1
 
     -- a gap, and punctuation
-    pub mark_passed : (Q : List ℕ → List ℕ → Type 0) → ((t r : List ℕ) → Gap (options_in old) t (c ∷ r) → Q t r) → scanned_of t ≡ lexeme (punctuation c) → Between (text_in old) Q (token_end old) (token_end new)
+    pub mark_passed : (Q : List ℕ → List ℕ → Type 0) → ((t r : List ℕ) → Gap (options_in old) t (c ∷ r) → Q t r) → t ≡ lexeme (punctuation c) → Between (text_in old) Q (token_end old) (token_end new)
     mark_passed Q h mark =
         join Q (λ t u r g e. h t r (subst (λ x. Gap (options_in old) t x) e g)) found.0 (token_is (text_in old) (options_in old) new.scanner t c kept.text kept.options at_token mark)
 
-    pub closed : (Q : List ℕ → List ℕ → Type 0) → ((t r : List ℕ) → Gap (options_in old) t (c ∷ r) → Q t r) → scanned_of t ≡ lexeme (punctuation c)
+    pub closed : (Q : List ℕ → List ℕ → Type 0) → ((t r : List ℕ) → Gap (options_in old) t (c ∷ r) → Q t r) → t ≡ lexeme (punctuation c)
         → Between (text_in old) Q (token_end old) (token_end new) × IsBracket c new × (token_end old ≤ token_start new)
     closed Q h mark = (mark_passed Q h mark, token_is (text_in new) (options_in new) new.scanner t c refl refl at_token mark, found.0.spans.order)
 
@@ -110,8 +109,8 @@ module _ {A : Type 0} where
         (change (Separates (options_in old)) (λ t r g. no_comma may g) found.0, at_token)
 
   -- what stands after a comma, with the comma
-  pub after_comma : (old mid new : Context A) (f : Option (Token A)) (t : Token A) (bracket : ℕ) (r : Result (Option (Token A)) ParseError) → Keeps old mid → Finds (Gap (options_in old)) old mid f → f ≡ Some t
-      → scanned_of t ≡ lexeme (punctuation 0x2C) → IfOk r (Leads (Gap (options_in mid)) (TrailingComma (options_in mid) bracket) bracket mid new)
+  pub after_comma : (old mid new : Context A) (f : Option Scanned) (t : Scanned) (bracket : ℕ) (r : Result (Option Scanned) ParseError) → Keeps old mid → Finds (Gap (options_in old)) old mid f → f ≡ Some t
+      → t ≡ lexeme (punctuation 0x2C) → IfOk r (Leads (Gap (options_in mid)) (TrailingComma (options_in mid) bracket) bracket mid new)
       → IfOk r (Leads (Separates (options_in old)) (Closes (options_in old) bracket) bracket old new)
   after_comma old mid new f t bracket (Err e) kept found is mark h = tt
   after_comma old mid new f t bracket (Ok None) kept found is mark h =

@@ -7,11 +7,10 @@ use Rattle.std.proofs.lemmas.List.Elements.{All-append}
 use Rattle.std.proofs.lemmas.List.Concat.{flat_map-cons}
 use Rattle.std.proofs.lemmas.Grind.{flat_map-append}
 use Rattle.jsonc_text.specs.declared.common.Range.{Range}
-use Rattle.jsonc_text.specs.declared.tokens.Token.{Token}
-use Rattle.jsonc_text.specs.declared.tokens.Token.TheVariants as token
-use Rattle.jsonc_text.specs.Lexemes.{Scanned, lexeme, line_comment, block_comment, LexemeKind, Lexeme, IsScanned}
+use Rattle.std.specs.Cow.{cow_str_bytes}
+use Rattle.jsonc_text.specs.string.Escapes.{IsLentUnescaped}
+use Rattle.jsonc_text.specs.Lexemes.{Scanned, lexeme, line_comment, block_comment, LexemeKind, string, Lexeme, IsScanned}
 use Rattle.jsonc_text.specs.Options.{Options}
-use Rattle.jsonc_text.specs.Tokens.{scanned_of}
 use Rattle.jsonc_scan.specs.Scanner.{start_of, end_of}
 use Rattle.jsonc_ast.specs.declared.ast.WordLit.{WordLit}
 use Rattle.jsonc_ast.specs.declared.ast.ObjectPropName.{ObjectPropName}
@@ -23,7 +22,7 @@ use Rattle.jsonc_ast.specs.Spelled.{spelled, spelled_in_property, spelled_in_ele
 use Rattle.jsonc_ast.specs.declared.to_ast.context.Context.{Context}
 use Rattle.jsonc_ast.specs.to_ast.Context.{text_in, options_in, token_range, IsToken}
 use Rattle.jsonc_ast.specs.to_ast.Scanned.{loose_text}
-use Rattle.jsonc_ast.specs.to_ast.Written.{IsWritten, AreWritten, IsLentHere}
+use Rattle.jsonc_ast.specs.to_ast.Written.{IsWritten, AreWritten}
 use Rattle.jsonc_ast.proofs.lemmas.to_ast.Gaps.{stands}
 
 none_same : (a : List ℕ) → None ≡ Some a → ⊥
@@ -36,20 +35,19 @@ loose_lexeme o bytes i j (line_comment s) name e h = absurd (none_same name e)
 loose_lexeme o bytes i j (block_comment s) name e h = absurd (none_same name e)
 
 module _ {A : Type 0} where
-  here : (c : Context A) (t : Token A) → IsToken c t → Between (text_in c) (IsScanned (options_in c) (scanned_of t)) (start_of c.scanner) (end_of c.scanner)
+  here : (c : Context A) (t : Scanned) → IsToken c t → Between (text_in c) (IsScanned (options_in c) t) (start_of c.scanner) (end_of c.scanner)
   here c t at = stands (text_in c) (options_in c) c.scanner t refl refl at
 
   -- the last token, kept as a name without quotes
-  pub word_written : (c : Context A) (t : Token A) (w : WordLit) → IsToken c t → loose_text (scanned_of t) ≡ Some (chars w.value.now) → w.range ≡ token_range c → IsWritten {A = A} (options_in c) (text_in c) (Word w)
+  pub word_written : (c : Context A) (t : Scanned) (w : WordLit) → IsToken c t → loose_text t ≡ Some (chars w.value.now) → w.range ≡ token_range c → IsWritten {A = A} (options_in c) (text_in c) (Word w)
   word_written c t w at e r =
-      let found = loose_lexeme (options_in c) (text_in c) (start_of c.scanner) (end_of c.scanner) (scanned_of t) (chars w.value.now) e (here c t at) in
+      let found = loose_lexeme (options_in c) (text_in c) (start_of c.scanner) (end_of c.scanner) t (chars w.value.now) e (here c t at) in
       (found.0, subst (In (text_in c) (Lexeme (options_in c) found.0)) (sym r) found.1, found.2)
 
   -- a string token, kept as a string
-  pub string_written : (c : Context A) (t : Token A) (v : CowStr A) (r : Range) → IsToken c t → t ≡ token.String v → r ≡ token_range c → IsLentHere c (Some t) → IsWritten (options_in c) (text_in c) (String (record { range = r; value = v }))
-  string_written c t v r at is e lent =
-      let written : IsWritten (options_in c) (text_in c) (String (record { range = token_range c; value = v })) =
-      (subst (λ t. Between (text_in c) (IsScanned (options_in c) (scanned_of t)) (start_of c.scanner) (end_of c.scanner)) is (here c t at), subst (λ t. IsLentHere c (Some t)) is lent) in
+  pub string_written : (c : Context A) (v : CowStr A) (r : Range) → IsToken c (lexeme (string (chars (cow_str_bytes v)))) → r ≡ token_range c → IsLentUnescaped (text_in c) (start_of c.scanner) (end_of c.scanner) v → IsWritten (options_in c) (text_in c) (String (record { range = r; value = v }))
+  string_written c v r at e lent =
+      let written : IsWritten (options_in c) (text_in c) (String (record { range = token_range c; value = v })) = (here c (lexeme (string (chars (cow_str_bytes v)))) at, lent) in
       subst (λ r. IsWritten (options_in c) (text_in c) (String (record { range = r; value = v }))) (sym e) written
 
   joined : (xs : List (List (ObjectPropName A))) (x : List (ObjectPropName A)) → flat_map (λ names. names) (xs ++ x ∷ []) ≡ flat_map (λ names. names) xs ++ x

@@ -4,18 +4,17 @@ use Rattle.jsonc_text.specs.declared.common.Range.{Range}
 use Rattle.jsonc_text.specs.declared.errors.ParseError.{ParseError}
 use Rattle.jsonc_text.specs.declared.errors.ParseErrorKind.{ParseErrorKind}
 use Rattle.jsonc_text.specs.declared.errors.ParseErrorKind.TheVariants.{OutOfMemory, CommentsNotAllowed, ExpectedColonAfterObjectKey, ExpectedComma, TrailingCommasNotAllowed, UnexpectedTokenInObject, ExpectedStringObjectProperty}
-use Rattle.jsonc_text.specs.declared.tokens.Token.{Token}
 use Rattle.jsonc_text.specs.Faults.{kind_of, range_of}
 use Rattle.jsonc_text.specs.Gaps.{Gap, IsComment}
-use Rattle.jsonc_text.specs.Lexemes.{LexemeKind, lexeme, punctuation, string}
+use Rattle.jsonc_text.specs.Lexemes.{Scanned, LexemeKind, lexeme, punctuation, string}
 use Rattle.jsonc_text.specs.Options.{Options}
 use Rattle.jsonc_text.specs.Places.{is_comment}
 use Rattle.jsonc_text.specs.Text.{rest}
-use Rattle.jsonc_text.specs.Tokens.{scanned_of}
 use Rattle.jsonc_text.proofs.CharacterSteps.{rest_end}
 use Rattle.jsonc_text.proofs.Basics.{test_eq}
 use Rattle.jsonc_scan.specs.declared.scanner.Scanner.{Scanner}
-use Rattle.jsonc_scan.specs.Scanner.{start_of, end_of, options_of, PassesBlanks, StandsAt, IsTrueThere}
+use Rattle.jsonc_scan.specs.Scanner.{start_of, end_of, options_of, PassesBlanks, IsTrueThere}
+use Rattle.jsonc_scan.specs.Scanner.{IsThere}
 use Rattle.jsonc_scan.specs.Faults.{LexemeFault}
 use Rattle.jsonc_ast.specs.Located.{Between}
 use Rattle.jsonc_ast.specs.declared.to_ast.container.Container.{Container}
@@ -81,14 +80,14 @@ module _ {A : Type 0} where
             (moved (λ p b. LexemeFault p (kind_of e) (rest b (start_of s)) (rest b (range_of e).start) (rest b (range_of e).end)) (blanks.options ∙ h.kept.options) (blanks.text ∙ h.kept.text) (told other)))
       ]
 
-  pub comment_stops : (start now : Context A) (s : Scanner A) (f : Option (Token A)) (t : Token A) (e : ParseError) → f ≡ Some t → Passing start now → PassesBlanks now.scanner s → StandsAt s f → is_comment (scanned_of t) ≡ true
+  pub comment_stops : (start now : Context A) (s : Scanner A) (f : Option Scanned) (t : Scanned) (e : ParseError) → f ≡ Some t → Passing start now → PassesBlanks now.scanner s → IsThere s f → is_comment t ≡ true
       → (kind_of e ≡ OutOfMemory) ⊎ (((options_of s).comments ≡ false) × (kind_of e ≡ CommentsNotAllowed) × (range_of e ≡ record { start = start_of s; end = end_of s })) → StopsAnyhow start e
   comment_stops start now s f t e is h blanks standing found (inl m) = inl m
   comment_stops start now s f t e is h blanks standing found (inr n) = inr (λ whole q d.
       let o = options_in start in
       let bytes = text_in start in
       let same = blanks.options ∙ h.kept.options in
-      let one = change IsComment (λ u r k. comment_at o (scanned_of t) u r found k) (stands bytes o s t (blanks.text ∙ h.kept.text) same (subst (StandsAt s) is standing)) in
+      let one = change IsComment (λ u r k. comment_at o t u r found k) (stands bytes o s t (blanks.text ∙ h.kept.text) same (subst (IsThere s) is standing)) in
       subst (Stops o whole (at q d (after start))) (fault_at bytes e CommentsNotAllowed (record { start = start_of s; end = end_of s }) n.1 n.2)
       (Stops.comment (rest bytes (end_of s)) (ap (λ p. p.comments) (sym same) ∙ n.0) (gap_to start now s h blanks) one.stands))
 
@@ -100,7 +99,7 @@ module _ {A : Type 0} where
   stops_here c whole q d e (inl m) = inl m
   stops_here c whole q d e (inr s) = inr (at q d (after c), ComesTo.here, s whole q d)
 
-  module _ (old new : Context A) (f : Option (Token A)) (kept : Keeps old new) (found : Finds (Gap (options_in old)) old new f) (no_comment : IsNoComment f) where
+  module _ (old new : Context A) (f : Option Scanned) (kept : Keeps old new) (found : Finds (Gap (options_in old)) old new f) (no_comment : IsNoComment f) where
     -- the end
     module _ (is : f ≡ None) where
       pub at_end : (token_start new ≡ length (text_in old)) × (token_end new ≡ length (text_in old))
@@ -134,26 +133,26 @@ module _ {A : Type 0} where
           end_nothing = sym (ap (rest (text_in old)) at_end.1 ∙ rest_end (text_in old) (length (text_in old)) (omega arith))
 
     -- a lexeme that is wrong there
-    pub lexeme_stops : (t : Token A) → f ≡ Some t → (l : LexemeKind) → scanned_of t ≡ lexeme l → (e : ParseError) (whole : Bool) (q : List Opened) (d : Due)
+    pub lexeme_stops : (t : Scanned) → f ≡ Some t → (l : LexemeKind) → t ≡ lexeme l → (e : ParseError) (whole : Bool) (q : List Opened) (d : Due)
         → wrong (options_in old) whole q d l (rest (text_in old) (token_start new)) (rest (text_in old) (token_end new)) ≡ Some (fault_in (text_in old) e) → StopsAfter old whole q d e
     lexeme_stops t is l mark e whole q d w =
         inr (at q d (after old), ComesTo.here, wrong_lexeme l (rest (text_in old) (token_end new)) found.0.stands (lexeme_stands old new f kept found no_comment t is l mark).stands w)
 
-    pub colon_stops : (t : Token A) → f ≡ Some t → (e : ParseError) → (scanned_of t ≡ lexeme (punctuation 0x3A) → ⊥) → kind_of e ≡ ExpectedColonAfterObjectKey → range_of e ≡ token_range new → (whole : Bool) (q : List Opened) → StopsAfter old whole q colon e
+    pub colon_stops : (t : Scanned) → f ≡ Some t → (e : ParseError) → (t ≡ lexeme (punctuation 0x3A) → ⊥) → kind_of e ≡ ExpectedColonAfterObjectKey → range_of e ≡ token_range new → (whole : Bool) (q : List Opened) → StopsAfter old whole q colon e
     colon_stops t is e n kind range whole q =
         let l = lexeme_found old new f kept found no_comment t is in
         lexeme_stops t is l.0 l.1 e whole q colon (rw (no_mark 0x3A l.0 (λ x. n (l.1 ∙ ap lexeme x))) (ap Some (fault_at (text_in old) e ExpectedColonAfterObjectKey (token_range new) kind range)))
 
     -- a trailing comma that is not allowed
-    pub trailing_stops : (t : Token A) → f ≡ Some t → (k : Container) → scanned_of t ≡ lexeme (punctuation (closing k)) → (e : ParseError) → (options_in old).trailing_commas ≡ false → kind_of e ≡ TrailingCommasNotAllowed → range_of e ≡ token_range old
+    pub trailing_stops : (t : Scanned) → f ≡ Some t → (k : Container) → t ≡ lexeme (punctuation (closing k)) → (e : ParseError) → (options_in old).trailing_commas ≡ false → kind_of e ≡ TrailingCommasNotAllowed → range_of e ≡ token_range old
         → (whole : Bool) (q : List Opened) → IsBracket 0x2C old → StopsAfter old whole q (further k (here old)) e
     trailing_stops t is k mark e off kind range whole q one =
         lexeme_stops t is (punctuation (closing k)) mark e whole q (further k (here old))
         (rw (closing_is k, off) (ap Some (ap (λ x. fault TrailingCommasNotAllowed (here old) x) (sym (past_comma one.stands)) ∙ fault_at (text_in old) e TrailingCommasNotAllowed (token_range old) kind range)))
 
     -- a comma that is missing, or what stands instead of it
-    pub missing_stops : (t : Token A) → f ≡ Some t → (k : Container) (e : ParseError) (end : ℕ) → (options_in old).missing_commas ≡ false → end ≡ token_end old → (scanned_of t ≡ lexeme (punctuation (closing k)) → ⊥) → (scanned_of t ≡ lexeme (punctuation 0x2C) → ⊥)
-        → (IsTrue (begins k (scanned_of t)) → IsFaultOf ExpectedComma (record { start = end; end = end }) e) → (begins k (scanned_of t) ≡ false → IsFaultOf (misplaced_kind k (scanned_of t)) (token_range new) e)
+    pub missing_stops : (t : Scanned) → f ≡ Some t → (k : Container) (e : ParseError) (end : ℕ) → (options_in old).missing_commas ≡ false → end ≡ token_end old → (t ≡ lexeme (punctuation (closing k)) → ⊥) → (t ≡ lexeme (punctuation 0x2C) → ⊥)
+        → (IsTrue (begins k t) → IsFaultOf ExpectedComma (record { start = end; end = end }) e) → (begins k t ≡ false → IsFaultOf (misplaced_kind k t) (token_range new) e)
         → (whole : Bool) (q : List Opened) → StopsAfter old whole q (comma k (after old)) e
     missing_stops t is k e end off same n m begun other whole q =
         let l = lexeme_found old new f kept found no_comment t is in
@@ -161,7 +160,7 @@ module _ {A : Type 0} where
         let no_comma = no_mark 0x2C l.0 (λ x. m (l.1 ∙ ap lexeme x)) in
         lexeme_stops t is l.0 l.1 e whole q (comma k (after old)) (wrong_missing (options_in old) whole q k (after old) _ _ l.0 none no_comma off ∙ ap Some (go l.0 l.1))
       where
-        go : (l : LexemeKind) → scanned_of t ≡ lexeme l → wrong_comma k (after old) l (rest (text_in old) (token_start new)) (rest (text_in old) (token_end new)) ≡ fault_in (text_in old) e
+        go : (l : LexemeKind) → t ≡ lexeme l → wrong_comma k (after old) l (rest (text_in old) (token_start new)) (rest (text_in old) (token_end new)) ≡ fault_in (text_in old) e
         go l mark = by (begins k (lexeme l)) refl
           where
             by : (b : Bool) → begins k (lexeme l) ≡ b → wrong_comma k (after old) l (rest (text_in old) (token_start new)) (rest (text_in old) (token_end new)) ≡ fault_in (text_in old) e
@@ -173,7 +172,7 @@ module _ {A : Type 0} where
                 rw is (fault_at (text_in old) e (misplaced_kind k (lexeme l)) (token_range new) (h.kind ∙ ap (misplaced_kind k) mark) h.range)
 
     -- what stops after a comma
-    pub comma_stops : (t : Token A) → f ≡ Some t → scanned_of t ≡ lexeme (punctuation 0x2C) → (k : Container) (e : ParseError) (whole : Bool) (q : List Opened) → IsBracket 0x2C new → StopsAfter new whole q (further k (here new)) e → StopsAfter old whole q (comma k (after old)) e
+    pub comma_stops : (t : Scanned) → f ≡ Some t → t ≡ lexeme (punctuation 0x2C) → (k : Container) (e : ParseError) (whole : Bool) (q : List Opened) → IsBracket 0x2C new → StopsAfter new whole q (further k (here new)) e → StopsAfter old whole q (comma k (after old)) e
     comma_stops t is mark k e whole q one (inl m) = inl m
     comma_stops t is mark k e whole q one (inr h) = inr (moved (λ p b. HasFaultFrom p whole (at q (comma k (after old)) (after old)) (fault_in b e)) kept.options kept.text (go h))
       where
@@ -184,13 +183,13 @@ module _ {A : Type 0} where
         go (n, x, s) = (n, on (takes_comma k gap) (subst (λ c. ComesTo (options_in new) whole (at q (further k c) (after new)) n) one.stands x), s)
 
   -- a token with which no value begins
-  pub is_unexpected : (c : Context A) (t : Token A) (e : ParseError) → OpensNone t → leaf_value (scanned_of t) ≡ None → kind_of e ≡ unexpected_kind (scanned_of t) → range_of e ≡ token_range c → IsUnexpected c t e
+  pub is_unexpected : (c : Context A) (t : Scanned) (e : ParseError) → OpensNone t → leaf_value t ≡ None → kind_of e ≡ unexpected_kind t → range_of e ≡ token_range c → IsUnexpected c t e
   is_unexpected c t e opens none kind range l mark =
       (begins_none l (ap leaf_value (sym mark) ∙ none) (λ f. opens.0 (mark ∙ ap lexeme f)) (λ f. opens.1 (mark ∙ ap lexeme f)), fault_at (text_in c) e (unexpected_kind (lexeme l)) (token_range c) (kind ∙ ap unexpected_kind mark) range)
 
   -- a name that is not allowed, or none
-  module _ (c : Context A) (t : Token A) (e : ParseError) where
-    pub loose_stops : (s : List ℕ) → loose_text (scanned_of t) ≡ Some s → (options_in c).loose_names ≡ false → kind_of e ≡ ExpectedStringObjectProperty → range_of e ≡ token_range c → (l : LexemeKind) → scanned_of t ≡ lexeme l → wrong_name (options_in c) l (here c) (after c) ≡ Some (fault_in (text_in c) e)
+  module _ (c : Context A) (t : Scanned) (e : ParseError) where
+    pub loose_stops : (s : List ℕ) → loose_text t ≡ Some s → (options_in c).loose_names ≡ false → kind_of e ≡ ExpectedStringObjectProperty → range_of e ≡ token_range c → (l : LexemeKind) → t ≡ lexeme l → wrong_name (options_in c) l (here c) (after c) ≡ Some (fault_in (text_in c) e)
     loose_stops s text off kind range l mark = by l (ap loose_text (sym mark) ∙ text) (ap Some (fault_at (text_in c) e ExpectedStringObjectProperty (token_range c) kind range))
       where
         by : (l : LexemeKind) → loose_text (lexeme l) ≡ Some s → Some (fault ExpectedStringObjectProperty (here c) (after c)) ≡ Some (fault_in (text_in c) e) → wrong_name (options_in c) l (here c) (after c) ≡ Some (fault_in (text_in c) e)
@@ -200,7 +199,7 @@ module _ {A : Type 0} where
         by (LexemeKind.keyword v) x y = rw off y
         by (LexemeKind.punctuation v) x y = cc
 
-    pub no_name_stops : loose_text (scanned_of t) ≡ None → ((v : List ℕ) → scanned_of t ≡ lexeme (string v) → ⊥) → kind_of e ≡ UnexpectedTokenInObject → range_of e ≡ token_range c → (l : LexemeKind) → scanned_of t ≡ lexeme l → wrong_name (options_in c) l (here c) (after c) ≡ Some (fault_in (text_in c) e)
+    pub no_name_stops : loose_text t ≡ None → ((v : List ℕ) → t ≡ lexeme (string v) → ⊥) → kind_of e ≡ UnexpectedTokenInObject → range_of e ≡ token_range c → (l : LexemeKind) → t ≡ lexeme l → wrong_name (options_in c) l (here c) (after c) ≡ Some (fault_in (text_in c) e)
     no_name_stops text n kind range l mark = by l (ap loose_text (sym mark) ∙ text) (λ v x. n v (mark ∙ ap lexeme x)) (ap Some (fault_at (text_in c) e UnexpectedTokenInObject (token_range c) kind range))
       where
         by : (l : LexemeKind) → loose_text (lexeme l) ≡ None → ((v : List ℕ) → l ≡ string v → ⊥) → Some (fault UnexpectedTokenInObject (here c) (after c)) ≡ Some (fault_in (text_in c) e) → wrong_name (options_in c) l (here c) (after c) ≡ Some (fault_in (text_in c) e)

@@ -1,8 +1,8 @@
 -- A walk among the items of a container. Nothing here knows a receiver: what is held of the items so far is any family.
+use Rattle.jsonc_text.specs.Lexemes.{Scanned}
 use Rattle.std.proofs.Common.{ℕ, Bool, true, false, ◌+◌, ◌≤◌, ◌<◌, ◌≡◌, ◌∙◌, sym, ap, subst, arith, refl, inl, inr, List, [], Option, Some, None, IfSome}
 use Rattle.jsonc_text.specs.declared.common.Range.{Range}
 use Rattle.jsonc_text.specs.declared.errors.ParseError.{ParseError}
-use Rattle.jsonc_text.specs.declared.tokens.Token.{Token}
 use Rattle.jsonc_text.specs.declared.errors.ParseErrorKind.TheVariants.{NestingDepthExceeded}
 use Rattle.jsonc_text.specs.Faults.{kind_of, range_of}
 use Rattle.jsonc_text.specs.Gaps.{Gap}
@@ -13,8 +13,9 @@ use Rattle.jsonc_ast.specs.Views.{LocatedMember}
 use Rattle.jsonc_ast.specs.declared.to_ast.container.Container.{Container}
 use Rattle.jsonc_ast.specs.declared.to_ast.container.Container.TheVariants.{Array, Object}
 use Rattle.jsonc_ast.specs.declared.to_ast.context.Context.{Context}
+use Rattle.jsonc_scan.specs.declared.found.TokenKind.{TokenKind}
 use Rattle.jsonc_ast.specs.to_ast.Collected.{Collects}
-use Rattle.jsonc_ast.specs.to_ast.Context.{text_in, options_in, token_start, token_end, token_range, Keeps, IsToken, IsBracket, IsNameHere, IsNoComment, Finds, PassesColon, Passes}
+use Rattle.jsonc_ast.specs.to_ast.Context.{text_in, options_in, token_start, token_end, token_range, Keeps, IsToken, IsBracket, IsNameHere, IsNoComment, Finds, PassesColon, Passes, found_in}
 use Rattle.jsonc_ast.specs.to_ast.Faults.{IsFrom, StopsAtContainer, StopsAtItem, StopsAtValue}
 use Rattle.jsonc_ast.specs.to_ast.Handed.{Source, source_of, IsUnexpectedHere}
 use Rattle.jsonc_ast.specs.to_ast.Containers.{opening}
@@ -31,28 +32,28 @@ use Rattle.jsonc_ast.proofs.lemmas.to_ast.Scans.{moved, kept_on}
 
 module _ {A : Type 0} where
   -- an array's elements so far, what is held of them, and what is left of it
-  pub record ElementsGoOn (source : Source) (old now : Context A) (whole : Bool) (next : Option (Token A)) (n : ℕ) (is_held : List Located → Type 0) (is_reached : ℕ → Type 0) : Type 0 where
+  pub record ElementsGoOn (source : Source) (old now : Context A) (whole : Bool) (next : Option TokenKind) (n : ℕ) (is_held : List Located → Type 0) (is_reached : ℕ → Type 0) : Type 0 where
     pub elements : List Located
     pub held : is_held elements
     pub same : source ≡ source_of old
-    pub so_far : Elements whole old now next elements n
-    pub left : ElementsLeft whole old now next n
+    pub so_far : Elements whole old now (found_in now next) elements n
+    pub left : ElementsLeft whole old now (found_in now next) n
     pub collects : Collects old now
-    pub reading : GoesOn whole Array old now next n
+    pub reading : GoesOn whole Array old now (found_in now next) n
     pub lent : IsLentHere now next
-    pub follows : ItemFollows source is_reached now next
+    pub follows : ItemFollows source is_reached now (found_in now next)
 
   -- an object's properties
-  pub record PropertiesGoOn (source : Source) (old now : Context A) (whole : Bool) (next : Option (Token A)) (n : ℕ) (is_held : List LocatedMember → Type 0) (is_reached : ℕ → Type 0) : Type 0 where
+  pub record PropertiesGoOn (source : Source) (old now : Context A) (whole : Bool) (next : Option TokenKind) (n : ℕ) (is_held : List LocatedMember → Type 0) (is_reached : ℕ → Type 0) : Type 0 where
     pub properties : List LocatedMember
     pub held : is_held properties
     pub same : source ≡ source_of old
-    pub so_far : Properties whole old now next properties n
-    pub left : PropertiesLeft whole old now next n
+    pub so_far : Properties whole old now (found_in now next) properties n
+    pub left : PropertiesLeft whole old now (found_in now next) n
     pub collects : Collects old now
-    pub reading : GoesOn whole Object old now next n
+    pub reading : GoesOn whole Object old now (found_in now next) n
     pub lent : IsLentHere now next
-    pub follows : ItemFollows source is_reached now next
+    pub follows : ItemFollows source is_reached now (found_in now next)
 
 -- where an item may stand, and what counts in it may as well
 pub item_fits : (whole : Bool) (n : ℕ) → n + per_property whole ≤ 512 → n + least whole ≤ 512 → n + 1 ≤ 512
@@ -61,7 +62,7 @@ item_fits false n h l = l
 
 module _ {A : Type 0} where
   -- a leaf's fault, or an allocation failure
-  pub leaf_told : (whole : Bool) (c : Context A) (t : Token A) (e : ParseError) (n : ℕ) → IsToken c t → n ≤ 512 → IsUnexpectedHere c t e → StopsAtValue c t whole n e
+  pub leaf_told : (whole : Bool) (c : Context A) (t : Scanned) (e : ParseError) (n : ℕ) → IsToken c t → n ≤ 512 → IsUnexpectedHere c t e → StopsAtValue c t whole n e
   leaf_told whole c t e n at small (inl w) = λ q d s many h. inl w
   leaf_told whole c t e n at small (inr u) = leaf_stops whole c t e n at small u
 
@@ -120,11 +121,11 @@ module _ {A : Type 0} (whole : Bool) where
       subst (λ w. StopsAtContainer c w n e) (sym apart) (deep_container_stops k c n e bracket past kind (range ∙ ap (λ i. record { start = i; end = token_end c }) first))
 
   -- an element, or a property's value, that too many containers and properties are around
-  pub element_deep : (old now : Context A) (t : Token A) (n : ℕ) → whole ≡ true → ElementsLeft whole old now (Some t) n → 512 < n + 1 → NoValueHere old whole n
+  pub element_deep : (old now : Context A) (t : Scanned) (n : ℕ) → whole ≡ true → ElementsLeft whole old now (Some t) n → 512 < n + 1 → NoValueHere old whole n
   element_deep old now t n is left deep =
       subst (λ w. NoValueHere old w n) (sym is) (nesting_refused old now t n (subst (λ w. ElementsLeft w old now (Some t) n) is left) deep)
 
-  pub element_deep_stops : (old now : Context A) (t : Token A) (start n : ℕ) (e : ParseError) → whole ≡ true → Keeps old now → IsToken now t → start ≡ token_start old → 512 < n + 1
+  pub element_deep_stops : (old now : Context A) (t : Scanned) (start n : ℕ) (e : ParseError) → whole ≡ true → Keeps old now → IsToken now t → start ≡ token_start old → 512 < n + 1
       → kind_of e ≡ NestingDepthExceeded → range_of e ≡ record { start = start; end = token_end now } → GoesOn whole Array old now (Some t) n → StopsAtContainer old whole n e
   element_deep_stops old now t start n e is kept there first deep kind range reading =
       subst (λ w. StopsAtContainer old w n e) (sym is)
@@ -133,8 +134,8 @@ module _ {A : Type 0} (whole : Bool) where
   pub property_deep : (c : Context A) (n : ℕ) → whole ≡ true → 512 < n + 1 → NoPropertyHere c whole n
   property_deep c n is deep = subst (λ w. NoPropertyHere c w n) (sym is) (nesting_in_property c n deep)
 
-  pub property_deep_stops : (old : Context A) (t : Token A) (there : IsToken old t) (n : LocatedName) (name : IsNameHere old n) (mid : Context A) (kept : Keeps old mid) (passed : PassesColon old mid)
-      (new : Context A) (f : Option (Token A)) (kept_on_new : Keeps mid new) (found : Finds (Gap (options_in mid)) mid new f) (no_comment : IsNoComment f)
+  pub property_deep_stops : (old : Context A) (t : Scanned) (there : IsToken old t) (n : LocatedName) (name : IsNameHere old n) (mid : Context A) (kept : Keeps old mid) (passed : PassesColon old mid)
+      (new : Context A) (f : Option Scanned) (kept_on_new : Keeps mid new) (found : Finds (Gap (options_in mid)) mid new f) (no_comment : IsNoComment f)
       → (count : ℕ) (e : ParseError) (start : ℕ) → whole ≡ true → start ≡ token_start old → 512 < count + 1 → kind_of e ≡ NestingDepthExceeded → range_of e ≡ record { start = start; end = token_end new } → StopsAtItem Object old t whole count e
   property_deep_stops old t there n name mid kept passed new f kept_on_new found no_comment count e start is first deep kind range =
       subst (λ w. StopsAtItem Object old t w count e) (sym is)

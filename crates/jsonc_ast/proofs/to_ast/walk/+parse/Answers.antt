@@ -1,6 +1,5 @@
 use Rattle.std.proofs.Common.{◌+◌, ◌≤◌, ◌∙◌, ◌++◌, ◌∷◌, [], ap, sym, subst, refl, arith, inr, Some}
 use Rattle.jsonc_text.specs.Plain.{string, number}
-use Rattle.jsonc_text.specs.Tokens.{scanned_of}
 use Rattle.jsonc_ast.specs.to_ast.Scanned.{leaf_value}
 use Rattle.jsonc_ast.proofs.lemmas.to_ast.Leaves.{element_put, gives_nothing}
 use Rattle.jsonc_ast.specs.Located.{value_at, array_at, object_at}
@@ -18,14 +17,13 @@ use Rattle.jsonc_ast.proofs.lemmas.to_ast.Loops.{AtHand, elements_start, element
 use Rattle.jsonc_ast.proofs.lemmas.to_ast.Properties.{properties_start, properties_turn, properties_whole}
 use Rattle.jsonc_ast.proofs.lemmas.to_ast.NoValues.{value_read, property_read, ElementsLeft, PropertiesLeft, elements_left_start, elements_left_turn, properties_left_start, properties_left_turn, leaf_nowhere, nothing_in_array, nothing_in_object, element_refused, array_deep, object_deep, next_element_refused, property_refused, next_property_refused, name_missing, colon_missing, no_token_for_value, end_for_value, value_refused}
 use Rattle.jsonc_ast.proofs.lemmas.to_ast.Refusals.{err_of, err_some, ok_of, still}
-use Rattle.jsonc_ast.proofs.lemmas.to_ast.Tokens.{opens_none}
 use Rattle.jsonc_ast.proofs.lemmas.to_ast.OpenContainers.{GoesOn, count_property, goes_first, elements_go_on, first_stops, next_stops, element_comes, element_stops, properties_go_on, property_comes, property_stops, name_stops, colon_missing_stops, no_token_stops, no_value_stops, value_told_stops, has_room, from_old}
 use Rattle.jsonc_ast.proofs.lemmas.to_ast.Walks.{element_deep, element_deep_stops, from_here, from_start, leaf_told, member_reads, opening_stops, property_deep, property_deep_stops}
 use Rattle.jsonc_ast.proofs.lemmas.to_ast.Handing.{name_here, number_here, number_means, string_here, utf8_there}
 use Rattle.std.specs.Cow.{cow_str_bytes}
 use Rattle.std.specs.Prelude.{chars}
 use Rattle.jsonc_ast.specs.to_ast.Handed.{chars_between}
-use Rattle.jsonc_scan.specs.Scanner.{StandsAt}
+use Rattle.jsonc_scan.specs.Scanner.{IsThere}
 use Rattle.jsonc_ast.specs.to_ast.Written.{IsLentHere}
 use Rattle.jsonc_ast.proofs.to_ast.walk.+parse.Goals as goal
 
@@ -150,18 +148,18 @@ pub parse_property-returns-clause-found : goal.parse_property-returns-clause-fou
 parse_property-returns-clause-found g t c = λ s i.
     let whole = g.R.Receiver.whole in
     let old = c.args.context.now in
-    let named = c.name.new.self in
+    let named = c.parse_name.new.context in
     let mid = c.pass_colon.new.self in
     let at = c.scan.new.self in
     let new = c.parse_value.new.context in
     let read = c.in_ok-value.ensures.found in
-    let n = name_at c.in_ok-name.name in
+    let n = c.in_ok-named.ensures.named.name in
     let found = c.in_ok-found.ensures in record {
       member = record { range = c.new-range.result; name = n; value = read.value };
-      reads = member_reads old mid at new n c.new-range.result read.value c.in_ok-name.ensures.name c.in_ok-name.ensures.range (kept_given old named mid c.name.ensures.gives c.pass_colon.ensures.kept) (colon_given old named mid c.name.ensures.gives c.in_ok-pass_colon.ensures.found) found.kept found.found.0 read.reads
+      reads = member_reads old mid at new n c.new-range.result read.value c.in_ok-named.ensures.named.stands c.in_ok-named.ensures.named.range (kept_given old named mid c.parse_name.ensures.gives c.pass_colon.ensures.kept) (colon_given old named mid c.parse_name.ensures.gives c.in_ok-pass_colon.ensures.found) found.kept found.found.0 read.reads
           (c.new-range.ensures.start ∙ c.token_start-start.ensures) (c.new-range.ensures.end ∙ c.token_end.ensures);
       within = subst (λ n. size whole (value_at read.value) + n ≤ 512) c.around_value-around.ensures read.within;
-      put = λ ms held. c.in-Ok-property.ensures.held s c.args.to.now c.hand_name.new.to i ms n read.value held c.in-Ok.ensures.named read.made (record { starts = c.new-range.ensures.start ∙ c.token_start-start.ensures ∙ ap (λ q. q.start) (sym c.in_ok-name.ensures.range); ends = c.new-range.ensures.end ∙ c.token_end.ensures ∙ sym read.reads.ends });
+      put = λ ms held. c.in-Ok.ensures.held s c.args.to.now c.parse_name.new.to i ms n read.value held c.in_ok-named.ensures.named.made read.made (record { starts = c.new-range.ensures.start ∙ c.token_start-start.ensures ∙ ap (λ q. q.start) (sym c.in_ok-named.ensures.named.range); ends = c.new-range.ensures.end ∙ c.token_end.ensures ∙ sym read.reads.ends });
     }
 
 pub parse_value-returns-in_default-clause-kept : goal.parse_value-returns-in_default-clause-kept
@@ -182,14 +180,14 @@ pub parse_value-returns-in_default-clause-refused : goal.parse_value-returns-in_
 parse_value-returns-in_default-clause-refused g t c =
     let whole = g.R.Receiver.whole in
     let old = c.args.context.now in
-    err_some c.parse_leaf.result (λ e n. still (leaf_nowhere whole old (last old c.args.token) c.args.count c.requires.token (λ e. c.in_default.not-OpenBracket (is_bracket old.content c.args.token e)) (λ e. c.in_default.not-OpenBrace (is_brace old.content c.args.token e))) n) c.parse_leaf.ensures.refused
+    err_some c.parse_leaf.result (λ e n. still (leaf_nowhere whole old (last old c.args.token) c.args.count c.requires.token (λ e. c.in_default.not-OpenBracket (is_bracket old.scanner old.content c.args.token e)) (λ e. c.in_default.not-OpenBrace (is_brace old.scanner old.content c.args.token e))) n) c.parse_leaf.ensures.refused
 
 pub parse_value-returns-in_default-clause-error : goal.parse_value-returns-in_default-clause-error
 parse_value-returns-in_default-clause-error g t c =
     let whole = g.R.Receiver.whole in
     let old = c.args.context.now in
     let t = last old c.args.token in
-    err_some c.parse_leaf.result (λ e told. leaf_told whole old t e c.args.count c.requires.token c.requires.around (told (opens_none t (λ e. c.in_default.not-OpenBracket (is_bracket old.content c.args.token e)) (λ e. c.in_default.not-OpenBrace (is_brace old.content c.args.token e))))) c.parse_leaf.ensures.error
+    err_some c.parse_leaf.result (λ e told. leaf_told whole old t e c.args.count c.requires.token c.requires.around (told ((λ e. c.in_default.not-OpenBracket (is_bracket old.scanner old.content c.args.token e)), (λ e. c.in_default.not-OpenBrace (is_brace old.scanner old.content c.args.token e))))) c.parse_leaf.ensures.error
 
 pub parse_array-returns-in_err-next-clause-refused : goal.parse_array-returns-in_err-next-clause-refused
 parse_array-returns-in_err-next-clause-refused g t c =
@@ -325,56 +323,56 @@ parse_object-returns-in_err-next-2-clause-error g t c =
     next_stops whole Object old now mid inv.so_far.kept read.kept (last c.loop-next.context c.in-Some.token) q d s h (property_comes whole old now mid (last c.loop-next.context c.in-Some.token) q d s m.name.name (value_at m.value) c.args.count h read.kept (property_read now mid m made.reads) many made.within) e
     (λ q. rw c.told_from-from.ensures.some at (c.in_err-next-2.ensures.error q _ (from_old old mid c.told_from-from.result (from_start old c.token_start-start.result c.told_from-from.result c.told_from-from.ensures.place c.token_start-start.ensures) (kept_on old now mid inv.so_far.kept read.kept)))))
 
-pub parse_property-returns-in_err-name-clause-refused : goal.parse_property-returns-in_err-name-clause-refused
-parse_property-returns-in_err-name-clause-refused g t c =
+pub parse_property-returns-in_err-named-clause-refused : goal.parse_property-returns-in_err-named-clause-refused
+parse_property-returns-in_err-named-clause-refused g t c =
     let whole = g.R.Receiver.whole in
-    err_of (OutOfMemoryOr (NoPropertyHere c.args.context.now whole c.args.count)) c.in_err-name.field-0.0 c.from_residual.result c.from_residual.ensures.1 (inr (name_missing whole c.args.context.now c.args.count c.in_err-name.ensures.refused))
+    err_of (OutOfMemoryOr (NoPropertyHere c.args.context.now whole c.args.count)) c.in_err-named.field-0.0 c.from_residual.result c.from_residual.ensures.1 (still (name_missing whole c.args.context.now c.args.count) c.in_err-named.ensures.refused)
 
 pub parse_property-returns-in_err-pass_colon-clause-refused : goal.parse_property-returns-in_err-pass_colon-clause-refused
 parse_property-returns-in_err-pass_colon-clause-refused g t c =
     let whole = g.R.Receiver.whole in
     err_of (OutOfMemoryOr (NoPropertyHere c.args.context.now whole c.args.count)) c.in_err-pass_colon.field-0.0 c.from_residual-in_err-pass_colon.result c.from_residual-in_err-pass_colon.ensures.1
-    (still (λ n. colon_missing whole c.args.context.now (name_at c.in_ok-name.name) c.args.count c.in_ok-name.ensures.name (no_colon_given c.args.context.now c.name.new.self c.name.ensures.gives n)) c.in_err-pass_colon.ensures.refused)
+    (still (λ n. colon_missing whole c.args.context.now c.in_ok-named.ensures.named.name c.args.count c.in_ok-named.ensures.named.stands (no_colon_given c.args.context.now c.parse_name.new.context c.parse_name.ensures.gives n)) c.in_err-pass_colon.ensures.refused)
 
 pub parse_property-returns-in_err-found-clause-refused : goal.parse_property-returns-in_err-found-clause-refused
 parse_property-returns-in_err-found-clause-refused g t c =
     let whole = g.R.Receiver.whole in
     let old = c.args.context.now in
     let mid = c.pass_colon.new.self in
-    let name = c.in_ok-name.ensures.name in
+    let name = c.in_ok-named.ensures.named.stands in
     let e = c.in_err-found.field-0.0 in
     err_of (OutOfMemoryOr (NoPropertyHere c.args.context.now whole c.args.count)) e c.from_residual-in_err-found.result c.from_residual-in_err-found.ensures.1
-    (still (no_token_for_value whole old mid (name_at c.in_ok-name.name) c.args.count name (kept_given c.args.context.now c.name.new.self c.pass_colon.new.self c.name.ensures.gives c.pass_colon.ensures.kept) (colon_given c.args.context.now c.name.new.self c.pass_colon.new.self c.name.ensures.gives c.in_ok-pass_colon.ensures.found)) c.in_err-found.ensures.refused)
+    (still (no_token_for_value whole old mid c.in_ok-named.ensures.named.name c.args.count name (kept_given c.args.context.now c.parse_name.new.context c.pass_colon.new.self c.parse_name.ensures.gives c.pass_colon.ensures.kept) (colon_given c.args.context.now c.parse_name.new.context c.pass_colon.new.self c.parse_name.ensures.gives c.in_ok-pass_colon.ensures.found)) c.in_err-found.ensures.refused)
 
 pub parse_property-returns-in_err-value-clause-refused : goal.parse_property-returns-in_err-value-clause-refused
 parse_property-returns-in_err-value-clause-refused g t c =
     let whole = g.R.Receiver.whole in
     let old = c.args.context.now in
     let mid = c.pass_colon.new.self in
-    let name = c.in_ok-name.ensures.name in
+    let name = c.in_ok-named.ensures.named.stands in
     let found = c.in_ok-found.ensures in
     let at = c.scan.new.self in
     let e = c.in_err-value.field-0.0 in
     err_of (OutOfMemoryOr (NoPropertyHere c.args.context.now whole c.args.count)) e c.from_residual-in_err-value.result c.from_residual-in_err-value.ensures.1
     (still
-    (value_refused whole old mid (name_at c.in_ok-name.name) c.args.count name (kept_given c.args.context.now c.name.new.self c.pass_colon.new.self c.name.ensures.gives c.pass_colon.ensures.kept) (colon_given c.args.context.now c.name.new.self c.pass_colon.new.self c.name.ensures.gives c.in_ok-pass_colon.ensures.found) at (found_in c.scan.new.self c.in_ok-found.found) found.kept found.found found.lexeme) (rw c.around_value-around.ensures at c.in_err-value.ensures.refused))
+    (value_refused whole old mid c.in_ok-named.ensures.named.name c.args.count name (kept_given c.args.context.now c.parse_name.new.context c.pass_colon.new.self c.parse_name.ensures.gives c.pass_colon.ensures.kept) (colon_given c.args.context.now c.parse_name.new.context c.pass_colon.new.self c.parse_name.ensures.gives c.in_ok-pass_colon.ensures.found) at (found_in c.scan.new.self c.in_ok-found.found) found.kept found.found found.lexeme) (rw c.around_value-around.ensures at c.in_err-value.ensures.refused))
 
 pub parse_property-returns-in_default-found-clause-refused : goal.parse_property-returns-in_default-found-clause-refused
 parse_property-returns-in_default-found-clause-refused g t c =
     let whole = g.R.Receiver.whole in
     let old = c.args.context.now in
     let mid = c.pass_colon.new.self in
-    let name = c.in_ok-name.ensures.name in
+    let name = c.in_ok-named.ensures.named.stands in
     let found = c.in_ok-found.ensures in
-    inr (end_for_value whole old mid (name_at c.in_ok-name.name) c.args.count name (kept_given c.args.context.now c.name.new.self c.pass_colon.new.self c.name.ensures.gives c.pass_colon.ensures.kept) (colon_given c.args.context.now c.name.new.self c.pass_colon.new.self c.name.ensures.gives c.in_ok-pass_colon.ensures.found) c.scan.new.self (found_in c.scan.new.self c.in_ok-found.found) found.kept found.found found.lexeme (ap (found_in c.scan.new.self) c.in_default-found.is))
+    inr (end_for_value whole old mid c.in_ok-named.ensures.named.name c.args.count name (kept_given c.args.context.now c.parse_name.new.context c.pass_colon.new.self c.parse_name.ensures.gives c.pass_colon.ensures.kept) (colon_given c.args.context.now c.parse_name.new.context c.pass_colon.new.self c.parse_name.ensures.gives c.in_ok-pass_colon.ensures.found) c.scan.new.self (found_in c.scan.new.self c.in_ok-found.found) found.kept found.found found.lexeme (ap (found_in c.scan.new.self) c.in_default-found.is))
 
-pub parse_property-returns-in_err-name-clause-error : goal.parse_property-returns-in_err-name-clause-error
-parse_property-returns-in_err-name-clause-error g t c =
+pub parse_property-returns-in_err-named-clause-error : goal.parse_property-returns-in_err-named-clause-error
+parse_property-returns-in_err-named-clause-error g t c =
     let whole = g.R.Receiver.whole in
     let old = c.args.context.now in
-    let e = c.in_err-name.field-0.0 in
+    let e = c.in_err-named.field-0.0 in
     err_of (StopsAtItem Object old (last c.args.context.now c.args.token) whole c.args.count) e c.from_residual.result c.from_residual.ensures.1
-    (λ q d s many starts. name_stops whole old (last c.args.context.now c.args.token) q d s c.requires.token starts e c.in_err-name.ensures.error)
+    (λ q d s many starts. name_stops whole old (last c.args.context.now c.args.token) q d s c.requires.token starts e c.in_err-named.ensures.error)
 
 pub parse_property-returns-in_err-pass_colon-clause-error : goal.parse_property-returns-in_err-pass_colon-clause-error
 parse_property-returns-in_err-pass_colon-clause-error g t c =
@@ -382,7 +380,7 @@ parse_property-returns-in_err-pass_colon-clause-error g t c =
     let old = c.args.context.now in
     let e = c.in_err-pass_colon.field-0.0 in
     err_of (StopsAtItem Object old (last c.args.context.now c.args.token) whole c.args.count) e c.from_residual-in_err-pass_colon.result c.from_residual-in_err-pass_colon.ensures.1
-    (λ q d s many starts. colon_missing_stops whole old (last c.args.context.now c.args.token) q d s c.requires.token starts (name_at c.in_ok-name.name) c.in_ok-name.ensures.name e (stops_given c.args.context.now c.name.new.self e c.name.ensures.gives c.in_err-pass_colon.ensures.error whole _))
+    (λ q d s many starts. colon_missing_stops whole old (last c.args.context.now c.args.token) q d s c.requires.token starts c.in_ok-named.ensures.named.name c.in_ok-named.ensures.named.stands e (stops_given c.args.context.now c.parse_name.new.context e c.parse_name.ensures.gives c.in_err-pass_colon.ensures.error whole _))
 
 pub parse_property-returns-in_err-found-clause-error : goal.parse_property-returns-in_err-found-clause-error
 parse_property-returns-in_err-found-clause-error g t c =
@@ -390,7 +388,7 @@ parse_property-returns-in_err-found-clause-error g t c =
     let old = c.args.context.now in
     let e = c.in_err-found.field-0.0 in
     err_of (StopsAtItem Object old (last c.args.context.now c.args.token) whole c.args.count) e c.from_residual-in_err-found.result c.from_residual-in_err-found.ensures.1
-    (λ q d s many starts. no_token_stops whole old (last c.args.context.now c.args.token) q d s c.requires.token starts (name_at c.in_ok-name.name) c.in_ok-name.ensures.name c.pass_colon.new.self (kept_given c.args.context.now c.name.new.self c.pass_colon.new.self c.name.ensures.gives c.pass_colon.ensures.kept) (colon_given c.args.context.now c.name.new.self c.pass_colon.new.self c.name.ensures.gives c.in_ok-pass_colon.ensures.found) e c.in_err-found.ensures.error)
+    (λ q d s many starts. no_token_stops whole old (last c.args.context.now c.args.token) q d s c.requires.token starts c.in_ok-named.ensures.named.name c.in_ok-named.ensures.named.stands c.pass_colon.new.self (kept_given c.args.context.now c.parse_name.new.context c.pass_colon.new.self c.parse_name.ensures.gives c.pass_colon.ensures.kept) (colon_given c.args.context.now c.parse_name.new.context c.pass_colon.new.self c.parse_name.ensures.gives c.in_ok-pass_colon.ensures.found) e c.in_err-found.ensures.error)
 
 pub parse_property-returns-in_err-value-clause-error : goal.parse_property-returns-in_err-value-clause-error
 parse_property-returns-in_err-value-clause-error g t c =
@@ -399,7 +397,7 @@ parse_property-returns-in_err-value-clause-error g t c =
     let found = c.in_ok-found.ensures in
     let e = c.in_err-value.field-0.0 in
     err_of (StopsAtItem Object old (last c.args.context.now c.args.token) whole c.args.count) e c.from_residual-in_err-value.result c.from_residual-in_err-value.ensures.1
-    (λ q d s many starts. value_told_stops whole old (last c.args.context.now c.args.token) q d s c.requires.token starts (name_at c.in_ok-name.name) c.in_ok-name.ensures.name c.pass_colon.new.self (kept_given c.args.context.now c.name.new.self c.pass_colon.new.self c.name.ensures.gives c.pass_colon.ensures.kept) (colon_given c.args.context.now c.name.new.self c.pass_colon.new.self c.name.ensures.gives c.in_ok-pass_colon.ensures.found) c.scan.new.self (found_in c.scan.new.self c.in_ok-found.found) found.kept found.found found.lexeme
+    (λ q d s many starts. value_told_stops whole old (last c.args.context.now c.args.token) q d s c.requires.token starts c.in_ok-named.ensures.named.name c.in_ok-named.ensures.named.stands c.pass_colon.new.self (kept_given c.args.context.now c.parse_name.new.context c.pass_colon.new.self c.parse_name.ensures.gives c.pass_colon.ensures.kept) (colon_given c.args.context.now c.parse_name.new.context c.pass_colon.new.self c.parse_name.ensures.gives c.in_ok-pass_colon.ensures.found) c.scan.new.self (found_in c.scan.new.self c.in_ok-found.found) found.kept found.found found.lexeme
     (last c.scan.new.self c.in-Some.token) (ap (found_in c.scan.new.self) c.in-Some.is) e c.around_value-around.result (let one = count_property whole (here old) q in omega (arith, one, many, c.around_value-around.ensures)) c.in_err-value.ensures.error)
 
 pub parse_property-returns-in_default-found-clause-error : goal.parse_property-returns-in_default-found-clause-error
@@ -408,7 +406,7 @@ parse_property-returns-in_default-found-clause-error g t c = λ q d s many start
     let old = c.args.context.now in
     let found = c.in_ok-found.ensures in
     let small = c.holds_too_deep.ensures.within c.if-holds_too_deep.false in
-    no_value_stops whole old (last c.args.context.now c.args.token) q d s c.requires.token starts (name_at c.in_ok-name.name) c.in_ok-name.ensures.name c.pass_colon.new.self (kept_given c.args.context.now c.name.new.self c.pass_colon.new.self c.name.ensures.gives c.pass_colon.ensures.kept) (colon_given c.args.context.now c.name.new.self c.pass_colon.new.self c.name.ensures.gives c.in_ok-pass_colon.ensures.found) c.scan.new.self (found_in c.scan.new.self c.in_ok-found.found) found.kept found.found found.lexeme
+    no_value_stops whole old (last c.args.context.now c.args.token) q d s c.requires.token starts c.in_ok-named.ensures.named.name c.in_ok-named.ensures.named.stands c.pass_colon.new.self (kept_given c.args.context.now c.parse_name.new.context c.pass_colon.new.self c.parse_name.ensures.gives c.pass_colon.ensures.kept) (colon_given c.args.context.now c.parse_name.new.context c.pass_colon.new.self c.parse_name.ensures.gives c.in_ok-pass_colon.ensures.found) c.scan.new.self (found_in c.scan.new.self c.in_ok-found.found) found.kept found.found found.lexeme
     (ap (found_in c.scan.new.self) c.in_default-found.is) c.fault_here.result (let one = count_property whole (here old) q in omega (arith, one, many, small)) c.fault_here.ensures.kind c.fault_here.ensures.range
 
 pub parse_value-returns-in-Err-clause-error : goal.parse_value-returns-in-Err-clause-error
@@ -454,11 +452,11 @@ pub parse_property-returns-then-holds_too_deep-clause-error : goal.parse_propert
 parse_property-returns-then-holds_too_deep-clause-error g t c =
     let whole = g.R.Receiver.whole in
     let old = c.args.context.now in
-    let named = c.name.new.self in
+    let named = c.parse_name.new.context in
     let mid = c.pass_colon.new.self in
     let at = c.scan.new.self in
     let found = c.in_ok-found.ensures in
-    property_deep_stops whole old (last old c.args.token) c.requires.token (name_at c.in_ok-name.name) c.in_ok-name.ensures.name mid (kept_given old named mid c.name.ensures.gives c.pass_colon.ensures.kept) (colon_given old named mid c.name.ensures.gives c.in_ok-pass_colon.ensures.found)
+    property_deep_stops whole old (last old c.args.token) c.requires.token c.in_ok-named.ensures.named.name c.in_ok-named.ensures.named.stands mid (kept_given old named mid c.parse_name.ensures.gives c.pass_colon.ensures.kept) (colon_given old named mid c.parse_name.ensures.gives c.in_ok-pass_colon.ensures.found)
     at (found_in at c.in_ok-found.found) found.kept found.found found.lexeme c.args.count c.nesting_fault.result c.token_start-start.result (c.holds_too_deep.ensures.whole c.if-holds_too_deep.true) c.token_start-start.ensures (c.holds_too_deep.ensures.deep c.if-holds_too_deep.true) c.nesting_fault.ensures.kind c.nesting_fault.ensures.range
 
 pub parse_element-hand_string-requires-clause-utf8 : goal.parse_element-hand_string-requires-clause-utf8
@@ -470,18 +468,12 @@ parse_element-hand_string-requires-clause-written g t c = string_here c.args.con
 pub parse_element-number-requires-clause-stands : goal.parse_element-number-requires-clause-stands
 parse_element-number-requires-clause-stands g t c = number_here c.args.context.now (g.R.Receiver.source c.args.to.now) c.args.token c.range-range-in-Number.result c.in-Number.is c.requires.source c.requires.token c.range-range-in-Number.ensures
 
-pub parse_property-hand_name-requires-clause-utf8 : goal.parse_property-hand_name-requires-clause-utf8
-parse_property-hand_name-requires-clause-utf8 g t c = utf8_there c.args.context.now (g.R.Receiver.source c.args.to.now) c.requires.source
-
-pub parse_property-hand_name-requires-clause-written : goal.parse_property-hand_name-requires-clause-written
-parse_property-hand_name-requires-clause-written g t c = name_here c.args.context.now (g.R.Receiver.source c.args.to.now) c.in_ok-name.name c.requires.source (c.in_ok-name.ensures.written c.requires.lent)
-
 pub parse_element-returns-in-Ok-element-clause-found : goal.parse_element-returns-in-Ok-element-clause-found
 parse_element-returns-in-Ok-element-clause-found g t c = λ s i.
     let whole = g.R.Receiver.whole in
     let old = c.args.context.now in
     element_put old _ (last old c.args.token) c.range-range.result (string (chars (cow_str_bytes c.take_string-string.result))) whole c.args.count (g.R.Receiver.holds_elements s c.args.to.now c.args.elements.now i) _
-    c.requires.token (ap (λ k. leaf_value (scanned_of (last old k))) c.in-String.is ∙ ap (λ x. Some (string (chars (cow_str_bytes x)))) (sym c.take_string-string.ensures.string)) c.range-range.ensures (record { scanner = refl; tokens = refl; comments = refl; apart = refl }) c.requires.around
+    c.requires.token (ap (λ k. leaf_value (last old k)) c.in-String.is ∙ ap (λ x. Some (string (chars (cow_str_bytes x)))) (sym c.take_string-string.ensures.string)) c.range-range.ensures (record { scanner = refl; tokens = refl; comments = refl; apart = refl }) c.requires.around
     (λ xs held. c.in-Ok-element.ensures.held s c.args.to.now i xs _ held c.in-Ok.ensures.made)
 
 pub parse_element-returns-in-Ok-element-2-clause-found : goal.parse_element-returns-in-Ok-element-2-clause-found
@@ -491,13 +483,13 @@ parse_element-returns-in-Ok-element-2-clause-found g t c = λ s i.
     let source = g.R.Receiver.source c.args.to.now in
     let r = c.range-range-in-Number.result in
     element_put old old (last old c.args.token) r (number (chars_between source r.start r.end)) whole c.args.count (g.R.Receiver.holds_elements s c.args.to.now c.args.elements.now i) _
-    c.requires.token (ap (λ k. leaf_value (scanned_of (last old k))) c.in-Number.is ∙ ap (λ x. Some (number x)) (number_means old source c.args.token r c.in-Number.is c.requires.source c.requires.token c.range-range-in-Number.ensures)) c.range-range-in-Number.ensures (gives_nothing old) c.requires.around
+    c.requires.token (ap (λ k. leaf_value (last old k)) c.in-Number.is ∙ ap (λ x. Some (number x)) (number_means old source c.args.token r c.in-Number.is c.requires.source c.requires.token c.range-range-in-Number.ensures)) c.range-range-in-Number.ensures (gives_nothing old) c.requires.around
     (λ xs held. c.in-Ok-element-2.ensures.held s c.args.to.now i xs _ held c.in-Ok-number.ensures.made)
 
 pub parse_property-returns-clause-collects : goal.parse_property-returns-clause-collects
 parse_property-returns-clause-collects g t c =
     let found = c.in_ok-found.ensures in
-    collects_turn c.args.context.now c.pass_colon.new.self c.scan.new.self c.parse_value.new.context (kept_given c.args.context.now c.name.new.self c.pass_colon.new.self c.name.ensures.gives c.pass_colon.ensures.kept) (collects_given c.args.context.now c.name.new.self c.pass_colon.new.self c.name.ensures.gives c.in_ok-pass_colon.ensures.collects) found.kept found.collects c.in_ok-value.ensures.collects
+    collects_turn c.args.context.now c.pass_colon.new.self c.scan.new.self c.parse_value.new.context (kept_given c.args.context.now c.parse_name.new.context c.pass_colon.new.self c.parse_name.ensures.gives c.pass_colon.ensures.kept) (collects_given c.args.context.now c.parse_name.new.context c.pass_colon.new.self c.parse_name.ensures.gives c.in_ok-pass_colon.ensures.collects) found.kept found.collects c.in_ok-value.ensures.collects
 
 pub parse_value-returns-in_default-clause-collects : goal.parse_value-returns-in_default-clause-collects
 parse_value-returns-in_default-clause-collects g t c = ok_is c.parse_leaf.result (collects_self c.args.context.now c.parse_leaf.new.context c.parse_leaf.ensures.gives)
@@ -511,18 +503,18 @@ parse_element-returns-in-Ok-element-2-clause-collects g t c = collects_self c.ar
 pub parse_property-parse_value-requires : goal.parse_property-parse_value-requires
 parse_property-parse_value-requires g t c κs within =
     let old = c.args.context.now in
-    let named = c.name.new.self in
+    let named = c.parse_name.new.context in
     let mid = c.pass_colon.new.self in
     let at = c.scan.new.self in
-    let to = c.hand_name.new.to in
+    let to = c.parse_name.new.to in
     let found = c.in_ok-found.ensures in
     let is = ap (found_in at) c.in-Some.is in
-    let kept = kept_given old named mid c.name.ensures.gives c.pass_colon.ensures.kept in
-    let token = subst (StandsAt at.scanner) is found.found.1 in
-    let same = c.in-Ok.ensures.source ∙ c.requires.source in
+    let kept = kept_given old named mid c.parse_name.ensures.gives c.pass_colon.ensures.kept in
+    let token = subst (IsThere at.scanner) is found.found.1 in
+    let same = c.in_ok-named.ensures.source ∙ c.requires.source in
     let small = c.holds_too_deep.ensures.within c.if-holds_too_deep.false in
-    let follows = colon_follows old mid at (last at c.in-Some.token) (g.R.Receiver.source to) (g.R.Receiver.reached to) (name_at c.in_ok-name.name).range.end same (ap (λ q. q.end) c.in_ok-name.ensures.range) c.in-Ok.ensures.reached kept found.kept
-    (colon_given old named mid c.name.ensures.gives c.in_ok-pass_colon.ensures.found) found.found.0 token in
-    let lent = subst (IsLentHere at) is found.lent in
+    let follows = colon_follows old mid at (last at c.in-Some.token) (g.R.Receiver.source to) (g.R.Receiver.reached to) c.in_ok-named.ensures.named.name.range.end same (ap (λ q. q.end) c.in_ok-named.ensures.named.range) c.in_ok-named.ensures.reached kept found.kept
+    (colon_given old named mid c.parse_name.ensures.gives c.in_ok-pass_colon.ensures.found) found.found.0 token in
+    let lent = subst (IsLentHere at) c.in-Some.is found.lent in
     let source = source_on old at (g.R.Receiver.source to) (kept_on old mid at kept found.kept) same in
     (omega (arith, c.around_value-around.ensures, small), (within.0, (within.1.0, (within.1.1.0, (within.1.1.1.0, (within.1.1.1.1.0, (within.1.1.1.1.1, (token, (omega (arith, c.around_value-around.ensures, small), (lent, (source, follows)))))))))))

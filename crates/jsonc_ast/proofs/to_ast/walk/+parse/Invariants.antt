@@ -1,5 +1,5 @@
 use Rattle.std.proofs.Common.{◌+◌, ◌-◌, ◌*◌, length}
-use Rattle.jsonc_ast.specs.to_ast.Context.{text_in, token_start, found_in}
+use Rattle.jsonc_ast.specs.to_ast.Context.{text_in, token_start}
 use Rattle.jsonc_ast.proofs.lemmas.to_ast.Walks.{ElementsGoOn, PropertiesGoOn}
 use Rattle.jsonc_ast.proofs.to_ast.walk.+parse.Given as goal
 
@@ -19,13 +19,13 @@ abbrev pub decreases-parse_property : goal.decreases-parse_property
 decreases-parse_property g l = 4 * (514 - l.count)
 
 abbrev pub invariant-parse_array-loop-next : goal.invariant-parse_array-loop-next
-invariant-parse_array-loop-next g l = ElementsGoOn (g.R.Receiver.source l.to) l.fn.context l.context g.R.Receiver.whole (found_in l.context l.next) l.count (g.R.Receiver.holds_elements l.fn.to l.to l.elements l.start) (g.R.Receiver.reached l.to)
+invariant-parse_array-loop-next g l = ElementsGoOn (g.R.Receiver.source l.to) l.fn.context l.context g.R.Receiver.whole l.next l.count (g.R.Receiver.holds_elements l.fn.to l.to l.elements l.start) (g.R.Receiver.reached l.to)
 
 abbrev pub decreases-parse_array-loop-next : goal.decreases-parse_array-loop-next
 decreases-parse_array-loop-next g l = length (text_in l.context) - token_start l.context
 
 abbrev pub invariant-parse_object-loop-next : goal.invariant-parse_object-loop-next
-invariant-parse_object-loop-next g l = PropertiesGoOn (g.R.Receiver.source l.to) l.fn.context l.context g.R.Receiver.whole (found_in l.context l.next) l.count (g.R.Receiver.holds_properties l.fn.to l.to l.properties l.start) (g.R.Receiver.reached l.to)
+invariant-parse_object-loop-next g l = PropertiesGoOn (g.R.Receiver.source l.to) l.fn.context l.context g.R.Receiver.whole l.next l.count (g.R.Receiver.holds_properties l.fn.to l.to l.properties l.start) (g.R.Receiver.reached l.to)
 
 abbrev pub decreases-parse_object-loop-next : goal.decreases-parse_object-loop-next
 decreases-parse_object-loop-next g l = length (text_in l.context) - token_start l.context

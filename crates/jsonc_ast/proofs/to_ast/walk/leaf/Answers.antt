@@ -1,4 +1,4 @@
-use Rattle.jsonc_ast.proofs.lemmas.to_ast.Handing.{number_here, number_made, string_here, utf8_there}
+use Rattle.jsonc_ast.proofs.lemmas.to_ast.Handing.{number_here, number_made, passed_here, passed_made, string_here, utf8_there}
 use Rattle.jsonc_ast.proofs.to_ast.walk.leaf.Goals as goal
 
 pub hand_string-requires-clause-utf8 : goal.hand_string-requires-clause-utf8
@@ -13,3 +13,10 @@ number-requires-clause-stands g c = number_here c.args.context.now (g.R.Receiver
 pub returns-in_ok-item-in-Number-clause-made : goal.returns-in_ok-item-in-Number-clause-made
 returns-in_ok-item-in-Number-clause-made g c =
     number_made c.args.context.now (g.R.Receiver.source c.args.to.now) c.args.token c.args.range (g.R.Receiver.makes c.args.to.now c.number.new.self c.in_ok-item-in-Number.item) c.in-Number.is c.requires.source c.requires.token c.requires.place c.in_ok-item-in-Number.ensures.made
+
+pub passed-requires-clause-stands : goal.passed-requires-clause-stands
+passed-requires-clause-stands g c = passed_here c.args.context.now (g.R.Receiver.source c.args.to.now) c.args.token c.args.range c.in-Passed.is c.requires.source c.requires.token c.requires.lent c.requires.place
+
+pub returns-in_ok-item-in-Passed-clause-made : goal.returns-in_ok-item-in-Passed-clause-made
+returns-in_ok-item-in-Passed-clause-made g c =
+    passed_made c.args.context.now (g.R.Receiver.source c.args.to.now) c.args.token c.args.range (g.R.Receiver.makes c.args.to.now c.passed.new.self c.in_ok-item-in-Passed.item) c.in-Passed.is c.requires.source c.requires.place c.in_ok-item-in-Passed.ensures.made

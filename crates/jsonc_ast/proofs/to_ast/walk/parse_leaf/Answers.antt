@@ -1,7 +1,6 @@
 use Rattle.std.proofs.Common.{ap, sym, refl, ◌∙◌, None, option_map, inr}
-use Rattle.jsonc_text.specs.Tokens.{scanned_of}
 use Rattle.jsonc_ast.specs.Located.{leaf_at}
-use Rattle.jsonc_scan.specs.Found.{token_held}
+use Rattle.jsonc_ast.proofs.lemmas.to_ast.MovedTokens.{last_same}
 use Rattle.jsonc_scan.specs.Scanner.{start_of, end_of}
 use Rattle.jsonc_ast.specs.to_ast.Context.{last}
 use Rattle.jsonc_ast.specs.to_ast.Scanned.{unexpected_kind}
@@ -24,7 +23,7 @@ returns-in_default-found-clause-error g c = λ opens.
     let none = rw c.in_default-found.is at c.in-Ok.ensures.none in
     let stays = rw c.in_default-found.is at c.in-Ok.ensures.stays in
     inr (is_unexpected old t c.fault_here.result opens none
-    (c.fault_here.ensures.kind ∙ c.unexpected-kind.ensures.kind ∙ ap (λ x. unexpected_kind (scanned_of (token_held c.args.token x))) stays)
+    (c.fault_here.ensures.kind ∙ c.unexpected-kind.ensures.kind ∙ ap unexpected_kind (last_same old c.leaf.new.context c.args.token c.leaf.ensures.gives.scanner stays))
     (c.fault_here.ensures.range ∙ ap (λ s. record { start = start_of s; end = end_of s }) c.leaf.ensures.gives.scanner))
 
 pub returns-clause-found : goal.returns-clause-found

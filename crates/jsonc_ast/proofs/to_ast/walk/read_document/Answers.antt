@@ -15,7 +15,7 @@ use Rattle.jsonc_ast.proofs.lemmas.to_ast.OpenContainers.{root_stops, end_stops,
 use Rattle.jsonc_ast.proofs.lemmas.to_ast.Stopping.{stops_here}
 use Rattle.jsonc_ast.proofs.lemmas.to_ast.Walks.{root_counts, root_fits}
 use Rattle.jsonc_ast.proofs.lemmas.to_ast.Collecting.{collects_turn}
-use Rattle.jsonc_scan.specs.Scanner.{StandsAt}
+use Rattle.jsonc_scan.specs.Scanner.{IsThere}
 use Rattle.jsonc_ast.proofs.to_ast.walk.read_document.Goals as goal
 
 pub returns-in_default-clause-found : goal.returns-in_default-clause-found
@@ -75,7 +75,7 @@ returns-in_default-2-clause-refused g c =
     let over = c.in_ok-scan.ensures in
     inr (document_from_start g.R.Receiver.whole old _ _ c.requires.start refl refl
     (document_goes_on g.R.Receiver.whole old c.scan.new.self (found_in c.scan.new.self c.in_ok-token.field-0) c.scan.ensures.kept read.found read.lexeme (last c.scan.new.self c.in-Some.token) (ap (found_in c.scan.new.self) c.in-Some.is) c.parse_value.new.context value.found.value value.kept value.found.reads
-    c.scan-2.new.self (found_in c.scan-2.new.self c.in_ok-scan.field-0) c.scan-2.ensures.kept over.found over.lexeme (λ e. c.in_default-2.not-None (none_found c.scan-2.new.self.content c.in_ok-scan.field-0 e))))
+    c.scan-2.new.self (found_in c.scan-2.new.self c.in_ok-scan.field-0) c.scan-2.ensures.kept over.found over.lexeme (λ e. c.in_default-2.not-None (none_found (last c.scan-2.new.self) c.in_ok-scan.field-0 e))))
 
 pub returns-in_err-token-clause-error : goal.returns-in_err-token-clause-error
 returns-in_err-token-clause-error g c =
@@ -115,7 +115,7 @@ returns-in_default-2-clause-error g c =
     let mid = c.parse_value.new.context in
     text_stops g.R.Receiver.whole old _ _ c.fault_here.result refl refl c.requires.start
     (second_stops g.R.Receiver.whole old c.scan.new.self (found_in c.scan.new.self c.in_ok-token.field-0) c.scan.ensures.kept read.found read.lexeme (last c.scan.new.self c.in-Some.token) (ap (found_in c.scan.new.self) c.in-Some.is) mid (value_at x) value.kept (value_read c.scan.new.self mid x value.found.reads) (root_fits g.R.Receiver.whole _ value.found.within)
-    c.scan-2.new.self (found_in c.scan-2.new.self c.in_ok-scan.field-0) c.scan-2.ensures.kept over.found over.lexeme (λ e. c.in_default-2.not-None (none_found c.scan-2.new.self.content c.in_ok-scan.field-0 e)) c.fault_here.result c.fault_here.ensures.kind c.fault_here.ensures.range)
+    c.scan-2.new.self (found_in c.scan-2.new.self c.in_ok-scan.field-0) c.scan-2.ensures.kept over.found over.lexeme (λ e. c.in_default-2.not-None (none_found (last c.scan-2.new.self) c.in_ok-scan.field-0 e)) c.fault_here.result c.fault_here.ensures.kind c.fault_here.ensures.range)
 
 pub returns-in_err-token-clause-fault : goal.returns-in_err-token-clause-fault
 returns-in_err-token-clause-fault g c = err_of (IsFault (text_in c.args.context.now)) c.in_err-token.field-0.0 c.from_residual.result c.from_residual.ensures.1 c.in_err-token.ensures.fault
@@ -137,10 +137,10 @@ returns-in_default-2-clause-fault g c =
     subst (λ b. IsFault b e) (c.scan-2.ensures.kept.text ∙ c.in_ok-value.ensures.kept.text ∙ c.scan.ensures.kept.text) c.fault_here.ensures.fault
 
 pub returns-in_default-clause-end : goal.returns-in_default-clause-end
-returns-in_default-clause-end g c = subst (StandsAt c.scan.new.self.scanner) (ap (found_in c.scan.new.self) c.in_default.is) c.in_ok-token.ensures.found.1
+returns-in_default-clause-end g c = subst (IsThere c.scan.new.self.scanner) (ap (found_in c.scan.new.self) c.in_default.is) c.in_ok-token.ensures.found.1
 
 pub returns-clause-end : goal.returns-clause-end
-returns-clause-end g c = subst (StandsAt c.scan-2.new.self.scanner) (ap (found_in c.scan-2.new.self) c.in-None.is) c.in_ok-scan.ensures.found.1
+returns-clause-end g c = subst (IsThere c.scan-2.new.self.scanner) (ap (found_in c.scan-2.new.self) c.in-None.is) c.in_ok-scan.ensures.found.1
 
 pub returns-clause-collects : goal.returns-clause-collects
 returns-clause-collects g c =
@@ -153,4 +153,4 @@ parse_value-requires-clause-follows g c =
     let now = c.scan.new.self in
     let read = c.in_ok-token.ensures in
     let is = ap (found_in now) c.in-Some.is in
-    root_follows c.args.context.now now (last now c.in-Some.token) (g.R.Receiver.source c.args.to.now) (g.R.Receiver.reached c.args.to.now) c.requires.source c.requires.start c.requires.reached read.kept read.found.0 (subst (StandsAt now.scanner) is read.found.1)
+    root_follows c.args.context.now now (last now c.in-Some.token) (g.R.Receiver.source c.args.to.now) (g.R.Receiver.reached c.args.to.now) c.requires.source c.requires.start c.requires.reached read.kept read.found.0 (subst (IsThere now.scanner) is read.found.1)

@@ -1,37 +1,36 @@
 use Rattle.jsonc_ast.specs.to_ast.Context.{last}
-use Rattle.jsonc_ast.proofs.lemmas.to_ast.MovedTokens.{is_string}
+use Rattle.jsonc_ast.proofs.lemmas.to_ast.MovedTokens.{no_string}
 use Rattle.std.proofs.Common.{refl, ◌≡◌, ◌∙◌, sym, ap, Some, None, chars}
-use Rattle.jsonc_text.specs.Tokens.{scanned_of}
 use Rattle.jsonc_ast.specs.to_ast.Scanned.{loose_text}
 use Rattle.jsonc_ast.proofs.lemmas.to_ast.Names.{loose_name_here}
-use Rattle.jsonc_ast.proofs.lemmas.to_ast.Refusals.{name_refused, loose_refused, string_token}
+use Rattle.jsonc_ast.proofs.lemmas.to_ast.Refusals.{name_refused, loose_refused}
 use Rattle.jsonc_ast.proofs.lemmas.to_ast.Stopping.{loose_stops, no_name_stops}
 use Rattle.jsonc_ast.proofs.lemmas.to_ast.Spelling.{word_written}
 use Rattle.jsonc_ast.proofs.to_ast.context.Context.name.Goals as goal
 
 pub returns-else-not-self : goal.returns-else-not-self
 returns-else-not-self g c =
-    let e : loose_text (scanned_of (last c.args.self.now c.args.token)) ≡ Some (chars c.in-Some.value.now) = cc c.in-Some.ensures in
-    record { gives = record { scanner = refl; tokens = refl; comments = refl; apart = refl }; name = loose_name_here c.args.self.now (last c.args.self.now c.args.token) c.requires (chars c.in-Some.value.now) c.if-not-self.false e; range = c.range-range.ensures; written = λ lent. word_written c.args.self.now (last c.args.self.now c.args.token) (record { range = c.range-range.result; value = c.in-Some.value }) c.requires e c.range-range.ensures; refused = tt; fault = tt; error = tt }
+    let e : loose_text (last c.args.self.now c.args.token) ≡ Some (chars c.in-Some.value.now) = cc c.in-Some.ensures in
+    record { gives = record { scanner = refl; tokens = refl; comments = refl; apart = refl }; name = loose_name_here c.args.self.now (last c.args.self.now c.args.token) c.requires.token (chars c.in-Some.value.now) c.if-not-self.false e; range = c.range-range.ensures; written = λ lent. word_written c.args.self.now (last c.args.self.now c.args.token) (record { range = c.range-range.result; value = c.in-Some.value }) c.requires.token e c.range-range.ensures; refused = tt; fault = tt; error = tt }
 
 pub returns-in_default-loose_name-clause-refused : goal.returns-in_default-loose_name-clause-refused
 returns-in_default-loose_name-clause-refused g c =
-    let e : loose_text (scanned_of (last c.args.self.now c.args.token)) ≡ None = cc c.in_default-loose_name.ensures in
-    name_refused c.args.self.now (last c.args.self.now c.args.token) c.requires e (string_token (last c.args.self.now c.args.token) (λ s e. c.in_default.not-String (is_string c.args.self.now.content c.args.token s e)))
+    let e : loose_text (last c.args.self.now c.args.token) ≡ None = cc c.in_default-loose_name.ensures in
+    name_refused c.args.self.now (last c.args.self.now c.args.token) c.requires.token e (no_string c.args.self.now.scanner c.args.self.now.content c.args.token c.in_default.not-String c.requires.kept)
 
 pub returns-then-not-self-clause-refused : goal.returns-then-not-self-clause-refused
 returns-then-not-self-clause-refused g c =
     let context = c.args.self.now in
-    let e : loose_text (scanned_of (last c.args.self.now c.args.token)) ≡ Some (chars c.in-Some.value.now) = cc c.in-Some.ensures in
-    loose_refused context (last c.args.self.now c.args.token) c.requires (chars c.in-Some.value.now) e (ap (λ p. p.loose_names) (sym context.same) ∙ c.if-not-self.true)
+    let e : loose_text (last c.args.self.now c.args.token) ≡ Some (chars c.in-Some.value.now) = cc c.in-Some.ensures in
+    loose_refused context (last c.args.self.now c.args.token) c.requires.token (chars c.in-Some.value.now) e (ap (λ p. p.loose_names) (sym context.same) ∙ c.if-not-self.true)
 
 pub returns-in_default-loose_name-clause-error : goal.returns-in_default-loose_name-clause-error
 returns-in_default-loose_name-clause-error g c =
-    let e : loose_text (scanned_of (last c.args.self.now c.args.token)) ≡ None = cc c.in_default-loose_name.ensures in
-    no_name_stops c.args.self.now (last c.args.self.now c.args.token) c.fault_here.result e (string_token (last c.args.self.now c.args.token) (λ s e. c.in_default.not-String (is_string c.args.self.now.content c.args.token s e))) c.fault_here.ensures.kind c.fault_here.ensures.range
+    let e : loose_text (last c.args.self.now c.args.token) ≡ None = cc c.in_default-loose_name.ensures in
+    no_name_stops c.args.self.now (last c.args.self.now c.args.token) c.fault_here.result e (no_string c.args.self.now.scanner c.args.self.now.content c.args.token c.in_default.not-String c.requires.kept) c.fault_here.ensures.kind c.fault_here.ensures.range
 
 pub returns-then-not-self-clause-error : goal.returns-then-not-self-clause-error
 returns-then-not-self-clause-error g c =
     let context = c.args.self.now in
-    let e : loose_text (scanned_of (last c.args.self.now c.args.token)) ≡ Some (chars c.in-Some.value.now) = cc c.in-Some.ensures in
+    let e : loose_text (last c.args.self.now c.args.token) ≡ Some (chars c.in-Some.value.now) = cc c.in-Some.ensures in
     loose_stops context (last c.args.self.now c.args.token) c.fault_here-then-not-self.result (chars c.in-Some.value.now) e (ap (λ p. p.loose_names) (sym context.same) ∙ c.if-not-self.true) c.fault_here-then-not-self.ensures.kind c.fault_here-then-not-self.ensures.range

@@ -1,6 +1,6 @@
 use Rattle.jsonc_ast.specs.to_ast.Context.{last, found_in, found_by}
 use Rattle.std.proofs.Common.{inr, sym, ap, ◌∙◌, ◌∷◌, Some, is_some, refl}
-use Rattle.jsonc_text.specs.declared.tokens.Token.TheVariants as token
+use Rattle.jsonc_text.specs.Lexemes.{lexeme, punctuation}
 use Rattle.jsonc_ast.specs.to_ast.Context.{text_in}
 use Rattle.jsonc_ast.specs.to_ast.Reached.{container, comma}
 use Rattle.jsonc_ast.specs.to_ast.Faults.{StopsInside}
@@ -135,21 +135,21 @@ returns-then-not-self-clause-error g c = λ q a from.
 pub returns-then-has_next-clause-found : goal.returns-then-has_next-clause-found
 returns-then-has_next-clause-found g c =
     let passed = c.pass_next_comma.ensures in
-    after_comma c.args.self.now c.pass_next_comma.new.self c.item_after_comma.new.self (Some token.Comma) token.Comma (closing c.args.container) (found_by c.item_after_comma.new.self c.item_after_comma.result) passed.kept passed.found refl
+    after_comma c.args.self.now c.pass_next_comma.new.self c.item_after_comma.new.self (Some (lexeme (punctuation 0x2C))) (lexeme (punctuation 0x2C)) (closing c.args.container) (found_by c.item_after_comma.new.self c.item_after_comma.result) passed.kept passed.found refl
     refl c.item_after_comma.ensures.found
 
 pub returns-then-has_next-clause-only : goal.returns-then-has_next-clause-only
 returns-then-has_next-clause-only g c =
     let passed = c.pass_next_comma.ensures in
     ok_some (found_by c.item_after_comma.new.self c.item_after_comma.result)
-    (λ t. next_after_comma c.args.self.now c.pass_next_comma.new.self (Some token.Comma) passed.kept passed.found refl token.Comma refl c.args.container refl c.item_after_comma.new.self)
+    (λ t. next_after_comma c.args.self.now c.pass_next_comma.new.self (Some (lexeme (punctuation 0x2C))) passed.kept passed.found refl (lexeme (punctuation 0x2C)) refl c.args.container refl c.item_after_comma.new.self)
     c.item_after_comma.ensures.only
 
 pub returns-then-has_next-clause-refused : goal.returns-then-has_next-clause-refused
 returns-then-has_next-clause-refused g c =
     let passed = c.pass_next_comma.ensures in
     err_some c.item_after_comma.result
-    (λ e. still (nothing_next c.args.self.now c.pass_next_comma.new.self (Some token.Comma) passed.kept passed.found refl token.Comma refl c.args.container refl))
+    (λ e. still (nothing_next c.args.self.now c.pass_next_comma.new.self (Some (lexeme (punctuation 0x2C))) passed.kept passed.found refl (lexeme (punctuation 0x2C)) refl c.args.container refl))
     c.item_after_comma.ensures.refused
 
 pub returns-then-has_next-clause-collects : goal.returns-then-has_next-clause-collects
@@ -160,7 +160,7 @@ returns-then-has_next-clause-collects g c =
 pub returns-then-has_next-clause-comes : goal.returns-then-has_next-clause-comes
 returns-then-has_next-clause-comes g c =
     let passed = c.pass_next_comma.ensures in
-    comes_after_ok c.args.self.now c.pass_next_comma.new.self (Some token.Comma) passed.kept passed.found refl token.Comma refl c.args.container c.item_after_comma.new.self (found_by c.item_after_comma.new.self c.item_after_comma.result)
+    comes_after_ok c.args.self.now c.pass_next_comma.new.self (Some (lexeme (punctuation 0x2C))) passed.kept passed.found refl (lexeme (punctuation 0x2C)) refl c.args.container c.item_after_comma.new.self (found_by c.item_after_comma.new.self c.item_after_comma.result)
     refl c.item_after_comma.ensures.found
 
 pub returns-then-has_next-clause-error : goal.returns-then-has_next-clause-error
@@ -169,9 +169,9 @@ returns-then-has_next-clause-error g c =
     let new = c.pass_next_comma.new.self in
     let passed = c.pass_next_comma.ensures in
     let kept = passed.kept in
-    let one = token_is (text_in new) (options_in new) new.scanner token.Comma 0x2C refl refl (at_token old new (Some token.Comma) token.Comma 0x2C kept passed.found refl) refl in
+    let one = token_is (text_in new) (options_in new) new.scanner (lexeme (punctuation 0x2C)) 0x2C refl refl (at_token old new (Some (lexeme (punctuation 0x2C))) (lexeme (punctuation 0x2C)) 0x2C kept passed.found refl) refl in
     err_some c.item_after_comma.result
-    (λ e told q a from. comma_stops old new (Some token.Comma) kept passed.found refl token.Comma refl refl c.args.container e (is_some c.args.start) (container c.args.container a ∷ q) one
+    (λ e told q a from. comma_stops old new (Some (lexeme (punctuation 0x2C))) kept passed.found refl (lexeme (punctuation 0x2C)) refl refl c.args.container e (is_some c.args.start) (container c.args.container a ∷ q) one
     (told one q a (from_before old new kept c.args.start a from)))
     c.item_after_comma.ensures.error
 

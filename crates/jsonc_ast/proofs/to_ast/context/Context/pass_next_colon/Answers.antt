@@ -1,6 +1,6 @@
 use Rattle.std.proofs.Common.{Some, refl, subst}
 use Rattle.jsonc_text.specs.Gaps.{Gap}
-use Rattle.jsonc_text.specs.declared.tokens.Token.TheVariants as token
+use Rattle.jsonc_text.specs.Lexemes.{lexeme, punctuation}
 use Rattle.jsonc_ast.specs.Located.{Ends}
 use Rattle.jsonc_ast.specs.to_ast.Context.{text_in, options_in}
 use Rattle.jsonc_ast.proofs.lemmas.to_ast.Collecting.{collects_same, collects_nothing}
@@ -13,10 +13,10 @@ returns-clause-found g c =
     let old = c.args.self.now in
     let blanks = c.pass_mark.ensures.blanks in
     let gap = passed (options_in old) old.scanner c.pass_mark.new.self blanks in
-    let mark = token_is (text_in old) (options_in old) c.pass_mark.new.self token.Colon 0x3A blanks.text blanks.options c.pass_mark.ensures.found refl in
+    let mark = token_is (text_in old) (options_in old) c.pass_mark.new.self (lexeme (punctuation 0x3A)) 0x3A blanks.text blanks.options c.pass_mark.ensures.found refl in
     join (Ends (options_in old) 0x3A) (λ t u r g e. subst (λ x. Gap (options_in old) t x) e g) gap mark
 
 pub returns-clause-collects : goal.returns-clause-collects
 returns-clause-collects g c =
     let old = c.args.self.now in
-    collects_nothing old old c.pass_mark.new.self (Some token.Colon) token.Colon _ (kept_same old) (collects_same old) c.pass_mark.ensures.blanks refl c.pass_mark.ensures.found refl refl c.requires.tokens refl c.requires.comments
+    collects_nothing old old c.pass_mark.new.self (Some (lexeme (punctuation 0x3A))) (lexeme (punctuation 0x3A)) _ (kept_same old) (collects_same old) c.pass_mark.ensures.blanks refl c.pass_mark.ensures.found refl refl c.requires.tokens refl c.requires.comments

@@ -1,5 +1,5 @@
 use Rattle.std.proofs.Common.{Some, refl}
-use Rattle.jsonc_text.specs.declared.tokens.Token.TheVariants as token
+use Rattle.jsonc_text.specs.Lexemes.{lexeme, punctuation}
 use Rattle.jsonc_ast.specs.to_ast.Context.{options_in}
 use Rattle.jsonc_ast.proofs.lemmas.to_ast.Collecting.{collects_same, collects_nothing}
 use Rattle.jsonc_ast.proofs.lemmas.to_ast.Gaps.{passed}
@@ -14,4 +14,4 @@ returns-clause-found g c =
 pub returns-clause-collects : goal.returns-clause-collects
 returns-clause-collects g c =
     let old = c.args.self.now in
-    collects_nothing old old c.pass_mark.new.self (Some token.Comma) token.Comma _ (kept_same old) (collects_same old) c.pass_mark.ensures.blanks refl c.pass_mark.ensures.found refl refl c.requires.tokens refl c.requires.comments
+    collects_nothing old old c.pass_mark.new.self (Some (lexeme (punctuation 0x2C))) (lexeme (punctuation 0x2C)) _ (kept_same old) (collects_same old) c.pass_mark.ensures.blanks refl c.pass_mark.ensures.found refl refl c.requires.tokens refl c.requires.comments

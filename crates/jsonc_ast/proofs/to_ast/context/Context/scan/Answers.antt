@@ -1,10 +1,10 @@
 use Rattle.jsonc_text.specs.Places.{is_comment}
-use Rattle.jsonc_text.specs.Tokens.{scanned_of}
-use Rattle.jsonc_scan.specs.Found.{token_held, token_found}
-use Rattle.std.proofs.Common.{◌≡◌, false, sym, ap, ◌∙◌, refl, subst, Some, is_some}
+use Rattle.std.proofs.Common.{◌≡◌, false, sym, ap, ◌∙◌, refl, subst, Some, is_some, option_map, IfSome}
 use Rattle.jsonc_text.specs.Faults.{IsFault}
-use Rattle.jsonc_scan.specs.Scanner.{IsLent, text_of}
+use Rattle.jsonc_scan.specs.Scanner.{text_of}
 use Rattle.jsonc_ast.specs.to_ast.Context.{text_in}
+use Rattle.jsonc_scan.specs.Scanner.{scanned_seen, IsLentSeen}
+use Rattle.jsonc_ast.proofs.lemmas.to_ast.MovedTokens.{seen_same}
 use Rattle.jsonc_ast.proofs.lemmas.to_ast.Scans.{passing_start, scan_found, kept_step, passing_on}
 use Rattle.jsonc_ast.proofs.lemmas.to_ast.Collecting.{collects_end, collects_nothing, collects_on_lexeme}
 use Rattle.jsonc_ast.proofs.lemmas.to_ast.Refusals.{err_of, scan_refused, comment_refused}
@@ -17,19 +17,19 @@ loop-token-init g c = passing_start c.args.self.now
 
 pub returns-in_default-clause-found : goal.returns-in_default-clause-found
 returns-in_default-clause-found g c =
-    scan_found c.args.self.now c.loop-token.self c.step.new.self c.step.new.self (token_found c.step.new.content c.in_ok-token.field-0) _ (ap (token_found c.step.new.content) c.in_default.is) refl c.loop-token.invariant c.step.ensures.blanks c.in_ok-token.ensures.found
+    scan_found c.args.self.now c.loop-token.self c.step.new.self c.step.new.self (option_map (scanned_seen c.step.new.self c.step.new.content) c.in_ok-token.field-0) _ (ap (option_map (scanned_seen c.step.new.self c.step.new.content)) c.in_default.is) refl c.loop-token.invariant c.step.ensures.blanks c.in_ok-token.ensures.found
 
 pub returns-then-not-is_comment-clause-found : goal.returns-then-not-is_comment-clause-found
 returns-then-not-is_comment-clause-found g c =
     let held = c.end_gap.ensures.content ∙ c.collect.ensures.content in
-    scan_found c.args.self.now c.loop-token.self c.step.new.self c.end_gap.new.self.scanner (token_found c.step.new.content c.in_ok-token.field-0) _ (ap (token_found c.step.new.content) c.in-Some.is ∙ ap (λ x. Some (token_held c.in-Some.token x)) (sym held))
+    scan_found c.args.self.now c.loop-token.self c.step.new.self c.end_gap.new.self.scanner (option_map (scanned_seen c.step.new.self c.step.new.content) c.in_ok-token.field-0) _ (ap (option_map (scanned_seen c.step.new.self c.step.new.content)) c.in-Some.is ∙ ap Some (sym (seen_same c.step.new.self c.end_gap.new.self.scanner c.step.new.content c.end_gap.new.self.content c.in-Some.token (c.end_gap.ensures.scanner ∙ c.collect.ensures.scanner) held)))
     (c.end_gap.ensures.scanner ∙ c.collect.ensures.scanner) c.loop-token.invariant c.step.ensures.blanks c.in_ok-token.ensures.found
 
 pub loop-token-preserved : goal.loop-token-preserved
 loop-token-preserved g c =
-    passing_on c.args.self.now c.loop-token.self c.pass_comment.new.self c.step.new.self (token_found c.step.new.content c.in_ok-token.field-0) (token_held c.in-Some.token c.step.new.content) (ap (token_found c.step.new.content) c.in-Some.is) c.pass_comment.ensures.scanner c.pass_comment.ensures.tokens c.pass_comment.ensures.comments c.pass_comment.ensures.apart
+    passing_on c.args.self.now c.loop-token.self c.pass_comment.new.self c.step.new.self (option_map (scanned_seen c.step.new.self c.step.new.content) c.in_ok-token.field-0) (scanned_seen c.step.new.self c.step.new.content c.in-Some.token) (ap (option_map (scanned_seen c.step.new.self c.step.new.content)) c.in-Some.is) c.pass_comment.ensures.scanner c.pass_comment.ensures.tokens c.pass_comment.ensures.comments c.pass_comment.ensures.apart
     c.loop-token.invariant c.step.ensures.blanks c.in_ok-token.ensures.found (sym c.is_comment.ensures ∙ c.if-not-is_comment.false) c.in_ok-pass_comment.ensures.allowed c.in_ok-pass_comment.ensures.collected c.in_ok-pass_comment.ensures.omitted
-    (c.in_ok-pass_comment.ensures.lent (subst (IsLent c.step.new.self) (ap (token_found c.step.new.content) c.in-Some.is) c.in_ok-token.ensures.lent))
+    (c.in_ok-pass_comment.ensures.lent (subst (λ f. IfSome f (IsLentSeen c.step.new.self c.step.new.content)) c.in-Some.is c.in_ok-token.ensures.lent))
     (c.in_ok-pass_comment.ensures.noted (sym c.is_comment.ensures ∙ c.if-not-is_comment.false))
 
 pub returns-in_err-token-clause-refused : goal.returns-in_err-token-clause-refused
@@ -42,29 +42,29 @@ pub returns-in_err-pass_comment-clause-refused : goal.returns-in_err-pass_commen
 returns-in_err-pass_comment-clause-refused g c =
     let e = c.in_err-pass_comment.field-0.0 in
     err_of _ e c.from_residual-in_err-pass_comment.result c.from_residual-in_err-pass_comment.ensures.1
-    (comment_refused c.args.self.now c.loop-token.self c.step.new.self (token_found c.step.new.content c.in_ok-token.field-0) (token_held c.in-Some.token c.step.new.content) e (ap (token_found c.step.new.content) c.in-Some.is) c.loop-token.invariant c.step.ensures.blanks c.in_ok-token.ensures.found
+    (comment_refused c.args.self.now c.loop-token.self c.step.new.self (option_map (scanned_seen c.step.new.self c.step.new.content) c.in_ok-token.field-0) (scanned_seen c.step.new.self c.step.new.content c.in-Some.token) e (ap (option_map (scanned_seen c.step.new.self c.step.new.content)) c.in-Some.is) c.loop-token.invariant c.step.ensures.blanks c.in_ok-token.ensures.found
     (sym c.is_comment.ensures ∙ c.if-not-is_comment.false) c.in_err-pass_comment.ensures.refused)
 
 pub returns-in_default-clause-collects : goal.returns-in_default-clause-collects
 returns-in_default-clause-collects g c =
     let so_far = c.loop-token.invariant in
-    collects_end c.args.self.now c.loop-token.self _ c.step.new.self (token_found c.step.new.content c.in_ok-token.field-0) so_far.kept so_far.collects c.step.ensures.blanks refl c.in_ok-token.ensures.found (ap (token_found c.step.new.content) c.in_default.is) refl (λ h. h) (λ ts h. h)
+    collects_end c.args.self.now c.loop-token.self _ c.step.new.self (option_map (scanned_seen c.step.new.self c.step.new.content) c.in_ok-token.field-0) so_far.kept so_far.collects c.step.ensures.blanks refl c.in_ok-token.ensures.found (ap (option_map (scanned_seen c.step.new.self c.step.new.content)) c.in_default.is) refl (λ h. h) (λ ts h. h)
 
 pub returns-then-not-is_comment-clause-collects : goal.returns-then-not-is_comment-clause-collects
 returns-then-not-is_comment-clause-collects g c =
     let so_far = c.loop-token.invariant in
-    collects_on_lexeme c.args.self.now c.loop-token.self c.collect.new.self c.end_gap.new.self c.step.new.self (token_found c.step.new.content c.in_ok-token.field-0) (token_held c.in-Some.token c.step.new.content) so_far.kept so_far.collects c.step.ensures.blanks c.collect.ensures.scanner c.in_ok-token.ensures.found (ap (token_found c.step.new.content) c.in-Some.is)
-    (sym c.is_comment.ensures ∙ c.if-not-is_comment.true) c.in_ok-collect.ensures.collected (c.in_ok-collect.ensures.lent (subst (IsLent c.step.new.self) (ap (token_found c.step.new.content) c.in-Some.is) c.in_ok-token.ensures.lent))
+    collects_on_lexeme c.args.self.now c.loop-token.self c.collect.new.self c.end_gap.new.self c.step.new.self (option_map (scanned_seen c.step.new.self c.step.new.content) c.in_ok-token.field-0) (scanned_seen c.step.new.self c.step.new.content c.in-Some.token) so_far.kept so_far.collects c.step.ensures.blanks c.collect.ensures.scanner c.in_ok-token.ensures.found (ap (option_map (scanned_seen c.step.new.self c.step.new.content)) c.in-Some.is)
+    (sym c.is_comment.ensures ∙ c.if-not-is_comment.true) c.in_ok-collect.ensures.collected (c.in_ok-collect.ensures.lent (subst (λ f. IfSome f (IsLentSeen c.step.new.self c.step.new.content)) c.in-Some.is c.in_ok-token.ensures.lent))
     c.collect.ensures.apart c.end_gap.ensures.scanner c.end_gap.ensures.tokens c.in_ok-end_gap.ensures.noted
 
 pub returns-then-not-collects-clause-found : goal.returns-then-not-collects-clause-found
 returns-then-not-collects-clause-found g c =
-    scan_found c.args.self.now c.loop-token.self c.step.new.self c.step.new.self (token_found c.step.new.content c.in_ok-token.field-0) _ (ap (token_found c.step.new.content) c.in-Some.is) refl c.loop-token.invariant c.step.ensures.blanks c.in_ok-token.ensures.found
+    scan_found c.args.self.now c.loop-token.self c.step.new.self c.step.new.self (option_map (scanned_seen c.step.new.self c.step.new.content) c.in_ok-token.field-0) _ (ap (option_map (scanned_seen c.step.new.self c.step.new.content)) c.in-Some.is) refl c.loop-token.invariant c.step.ensures.blanks c.in_ok-token.ensures.found
 
 pub returns-then-not-collects-clause-collects : goal.returns-then-not-collects-clause-collects
 returns-then-not-collects-clause-collects g c =
     let so_far = c.loop-token.invariant in
-    collects_nothing c.args.self.now c.loop-token.self c.step.new.self (token_found c.step.new.content c.in_ok-token.field-0) (token_held c.in-Some.token c.step.new.content) _ so_far.kept so_far.collects c.step.ensures.blanks refl c.in_ok-token.ensures.found (ap (token_found c.step.new.content) c.in-Some.is)
+    collects_nothing c.args.self.now c.loop-token.self c.step.new.self (option_map (scanned_seen c.step.new.self c.step.new.content) c.in_ok-token.field-0) (scanned_seen c.step.new.self c.step.new.content c.in-Some.token) _ so_far.kept so_far.collects c.step.ensures.blanks refl c.in_ok-token.ensures.found (ap (option_map (scanned_seen c.step.new.self c.step.new.content)) c.in-Some.is)
     (sym c.is_comment.ensures ∙ c.if-not-is_comment.true) (c.collects.ensures.tokens c.if-not-collects.true) refl (c.collects.ensures.comments c.if-not-collects.true)
 
 pub returns-in_err-token-clause-error : goal.returns-in_err-token-clause-error
@@ -76,7 +76,7 @@ pub returns-in_err-pass_comment-clause-error : goal.returns-in_err-pass_comment-
 returns-in_err-pass_comment-clause-error g c =
     let e = c.in_err-pass_comment.field-0.0 in
     err_of (StopsAnyhow c.args.self.now) e c.from_residual-in_err-pass_comment.result c.from_residual-in_err-pass_comment.ensures.1
-    (comment_stops c.args.self.now c.loop-token.self c.step.new.self (token_found c.step.new.content c.in_ok-token.field-0) (token_held c.in-Some.token c.step.new.content) e (ap (token_found c.step.new.content) c.in-Some.is) c.loop-token.invariant c.step.ensures.blanks c.in_ok-token.ensures.found
+    (comment_stops c.args.self.now c.loop-token.self c.step.new.self (option_map (scanned_seen c.step.new.self c.step.new.content) c.in_ok-token.field-0) (scanned_seen c.step.new.self c.step.new.content c.in-Some.token) e (ap (option_map (scanned_seen c.step.new.self c.step.new.content)) c.in-Some.is) c.loop-token.invariant c.step.ensures.blanks c.in_ok-token.ensures.found
     (sym c.is_comment.ensures ∙ c.if-not-is_comment.false) c.in_err-pass_comment.ensures.refused)
 
 pub returns-in_err-token-clause-kept : goal.returns-in_err-token-clause-kept
@@ -134,13 +134,13 @@ returns-in_err-pass_comment-clause-fault g c =
     (subst (λ b. IsFault b e) (c.step.ensures.blanks.text ∙ c.loop-token.invariant.kept.text) c.in_err-pass_comment.ensures.fault)
 
 pub returns-then-not-collects-clause-lent : goal.returns-then-not-collects-clause-lent
-returns-then-not-collects-clause-lent g c = subst (IsLent c.step.new.self) (ap (token_found c.step.new.content) c.in-Some.is) c.in_ok-token.ensures.lent
+returns-then-not-collects-clause-lent g c = subst (λ f. IfSome f (IsLentSeen c.step.new.self c.step.new.content)) c.in-Some.is c.in_ok-token.ensures.lent
 
 pub returns-then-not-is_comment-clause-lent : goal.returns-then-not-is_comment-clause-lent
 returns-then-not-is_comment-clause-lent g c =
     let held = c.end_gap.ensures.content ∙ c.collect.ensures.content in
-    subst (λ x. IsLent c.end_gap.new.self.scanner (Some (token_held c.in-Some.token x))) (sym held)
-    (subst (λ s. IsLent s (Some (token_held c.in-Some.token c.step.new.content))) (sym (c.end_gap.ensures.scanner ∙ c.collect.ensures.scanner)) (subst (IsLent c.step.new.self) (ap (token_found c.step.new.content) c.in-Some.is) c.in_ok-token.ensures.lent))
+    subst (λ x. IsLentSeen c.end_gap.new.self.scanner x c.in-Some.token) (sym held)
+    (subst (λ s. IsLentSeen s c.step.new.content c.in-Some.token) (sym (c.end_gap.ensures.scanner ∙ c.collect.ensures.scanner)) (subst (λ f. IfSome f (IsLentSeen c.step.new.self c.step.new.content)) c.in-Some.is c.in_ok-token.ensures.lent))
 
 pub returns-then-not-collects-clause-lexeme : goal.returns-then-not-collects-clause-lexeme
 returns-then-not-collects-clause-lexeme g c = sym c.is_comment.ensures ∙ c.if-not-is_comment.true
@@ -148,4 +148,4 @@ returns-then-not-collects-clause-lexeme g c = sym c.is_comment.ensures ∙ c.if-
 pub returns-then-not-is_comment-clause-lexeme : goal.returns-then-not-is_comment-clause-lexeme
 returns-then-not-is_comment-clause-lexeme g c =
     let held = c.end_gap.ensures.content ∙ c.collect.ensures.content in
-    subst (λ x. is_comment (scanned_of (token_held c.in-Some.token x)) ≡ false) (sym held) (sym c.is_comment.ensures ∙ c.if-not-is_comment.true)
+    subst (λ w. is_comment w ≡ false) (sym (seen_same c.step.new.self c.end_gap.new.self.scanner c.step.new.content c.end_gap.new.self.content c.in-Some.token (c.end_gap.ensures.scanner ∙ c.collect.ensures.scanner) held)) (sym c.is_comment.ensures ∙ c.if-not-is_comment.true)
