@@ -30,4 +30,5 @@ pub mod Ranges
 pub mod Handing
 pub mod Walks
 pub mod MadeTrees
+pub mod PassedGaps
 pub mod Following

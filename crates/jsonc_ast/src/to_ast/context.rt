@@ -53,7 +53,7 @@ impl<'a, A: Allocator + Copy> Context<'a, A> {
     ghost use Rattle.jsonc_ast.specs.to_ast.Reached.{Due};
     ghost use Rattle.jsonc_ast.specs.to_ast.Context.{IsBracket};
     ghost use Rattle.jsonc_ast.specs.to_ast.Refusals.{here, after};
-    ghost use Rattle.jsonc_ast.specs.Located.{Between};
+    ghost use Rattle.jsonc_ast.specs.Located.{Between, One};
     ghost use Rattle.jsonc_ast.specs.to_ast.Context.{token_start};
     ghost use Rattle.jsonc_ast.specs.to_ast.Handed.{source_of, Follows, IsBehind, ReachesBehind, StaysHeld};
     ghost use Rattle.jsonc_ast.specs.to_ast.Written.{IsLentHere, IsWritten};
@@ -429,6 +429,7 @@ impl<'a, A: Allocator + Copy> Context<'a, A> {
         requires next { ComesNext self.old.scanner 0x2C }
         requires tokens { tokens_asked self.old ≡ false }
         requires comments { comments_asked self.old ≡ false }
+        ensures next { Between (text_in self.old) (One 0x2C) (token_end self.old) (token_end self.new) }
         ensures kept { Keeps self.old self.new }
         ensures found { Finds (Gap (options_in self.old)) self.old self.new (Some (last self.new TokenKind.Comma)) }
         ensures collects { Collects self.old self.new }
@@ -442,6 +443,7 @@ impl<'a, A: Allocator + Copy> Context<'a, A> {
         requires next { ComesNext self.old.scanner 0x3A }
         requires tokens { tokens_asked self.old ≡ false }
         requires comments { comments_asked self.old ≡ false }
+        ensures next { Between (text_in self.old) (One 0x3A) (token_end self.old) (token_end self.new) }
         ensures kept { Keeps self.old self.new }
         ensures found { PassesColon self.old self.new }
         ensures collects { Collects self.old self.new }

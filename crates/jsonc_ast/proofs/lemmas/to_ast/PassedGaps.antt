@@ -1,28 +1,33 @@
 -- A gap that was passed before a scanner goes on.
-use Rattle.std.proofs.Common.{ℕ, ◌+◌, ◌≡◌, ◌∙◌, sym, ap, subst, refl, arith, Bool, true, false, List, [], ◌∷◌, ◌++◌, Option, None, Some, is_some, IfSome, IsTrue, IsUtf8, ◌⊎◌, inl, inr, Vec}
+use Rattle.std.proofs.Common.{ℕ, ◌+◌, ◌≡◌, ◌∙◌, sym, ap, subst, refl, arith, Bool, true, false, List, [], ◌∷◌, ◌++◌, Option, None, Some, Result, Ok, Err, IfOk, OnOk, is_some, IfSome, IsTrue, IsUtf8, ◌⊎◌, inl, inr, Vec}
 use Rattle.std.proofs.lemmas.List.{append_assoc}
 use Rattle.std.proofs.lemmas.List.Elements.{All-nil}
+use Rattle.std.proofs.lemmas.Str.{IsUtf8-from_is_utf8}
 use Rattle.jsonc_text.specs.declared.errors.ParseError.{ParseError}
-use Rattle.jsonc_text.specs.Gaps.{Gap, none, blank, comment, line, block, IsComment}
+use Rattle.jsonc_text.specs.Gaps.{Gap, is_blank, none, blank, comment, line, block, IsComment}
 use Rattle.jsonc_text.specs.Lexemes.{Scanned, IsScanned, line_comment, block_comment}
 use Rattle.jsonc_text.specs.Options.{Options}
 use Rattle.jsonc_text.specs.Places as places
 use Rattle.jsonc_text.specs.Places.{Placed, placed_at, AreTokens, is_comment}
-use Rattle.jsonc_text.specs.Text.{rest, byte_length}
+use Rattle.jsonc_text.specs.Text.{rest, byte_length, Many, stop, step}
 use Rattle.jsonc_text.proofs.BlockComments.{block_inside}
-use Rattle.jsonc_text.proofs.Cuts.{byte_length-append, many_split, place_after, spans}
+use Rattle.jsonc_text.proofs.Cuts.{byte_length-append, many_split, place_after, same_place, spans}
 use Rattle.jsonc_ast.specs.declared.to_ast.comments.GapComments.{GapComments}
 use Rattle.jsonc_ast.specs.declared.to_ast.context.Context.{Context}
-use Rattle.jsonc_ast.specs.Located.{Between}
+use Rattle.jsonc_scan.specs.declared.found.TokenKind.{TokenKind}
+use Rattle.jsonc_scan.specs.declared.scanner.Scanner.{Scanner}
+use Rattle.jsonc_scan.specs.Scanner.{start_of, end_of, left, ComesNext, PassesBlanks}
+use Rattle.jsonc_ast.specs.Located.{Between, One}
 use Rattle.jsonc_ast.specs.to_ast.Collected.{CollectsMore, HasNoted, IsSilent, Collects}
 use Rattle.jsonc_ast.specs.to_ast.Comments.{HasPassed}
-use Rattle.jsonc_ast.specs.to_ast.Context.{text_in, options_in, token_end, tokens_asked, comments_asked}
+use Rattle.jsonc_ast.specs.to_ast.Context.{text_in, options_in, token_start, token_end, tokens_asked, comments_asked, Finds, IsNoComment, Keeps, found_by, found_in}
 use Rattle.jsonc_ast.specs.to_ast.Faults.{Fault, Stops, no_lexeme, wrong_lexeme, wrong_ending, fault_in, StopsAnyhow}
+use Rattle.jsonc_ast.specs.to_ast.Handed.{Source, source_of, Follows, ReachesBehind}
 use Rattle.jsonc_ast.specs.to_ast.Lent.{AreLentIn}
 use Rattle.jsonc_ast.specs.to_ast.Reached.{Opened, Due, at}
-use Rattle.jsonc_ast.specs.to_ast.Refusals.{AtToken}
-use Rattle.jsonc_ast.proofs.lemmas.to_ast.Gaps.{gap_append}
-use Rattle.jsonc_ast.proofs.lemmas.to_ast.Refusals.{gap_past, token_no_gap}
+use Rattle.jsonc_ast.specs.to_ast.Refusals.{AtToken, NoTokenAfter}
+use Rattle.jsonc_ast.proofs.lemmas.to_ast.Gaps.{gap_append, join}
+use Rattle.jsonc_ast.proofs.lemmas.to_ast.Refusals.{found_token, gap_past, token_no_gap}
 use Rattle.jsonc_ast.proofs.lemmas.to_ast.Scans.{moved}
 
 -- a comment as a scanner answers it
@@ -101,6 +106,11 @@ gap_rest o bytes i p j u g h at =
     let part = gap_tokens o p left in
     record { spans = spans bytes part.text p j u g.spans.to h.spans.to part.split; stands = left }
 
+-- no blank is passed where none stands
+nothing_passed : {c : ℕ} {t u r : List ℕ} → t ≡ c ∷ u → is_blank c ≡ false → Many is_blank t r → t ≡ r
+nothing_passed e no stop = refl
+nothing_passed {c} e no (step {c = d} h m) = let same : d ≡ c = cc in let wrong : true ≡ false = sym h ∙ ap is_blank same ∙ no in cc
+
 module _ {A : Type 0} (old new : Context A) where
   -- where nothing is collected, a gap is passed
   pub gap_collects : IsUtf8 (text_in old) → Between (text_in old) (Gap (options_in old)) (token_end old) (token_end new) → tokens_asked old ≡ false → new.tokens ≡ old.tokens → comments_asked new ≡ false → Collects old new
@@ -125,3 +135,42 @@ module _ {A : Type 0} (old new : Context A) where
   pub stops_old : (options_in new ≡ options_in old) → (text_in new ≡ text_in old) → Between (text_in old) (Gap (options_in old)) (token_end old) (token_end new) → (e : ParseError) → StopsAnyhow new e → StopsAnyhow old e
   stops_old options text g e (inl m) = inl m
   stops_old options text g e (inr s) = inr (λ whole q d. stops_before g.stands (moved (λ p b. Stops p whole (at q d (rest b (token_end new))) (fault_in b e)) options text (s whole q d)))
+
+  -- what is found behind the rest of a gap is found behind all of it
+  pub found_old : (options_in new ≡ options_in old) → (text_in new ≡ text_in old) → Between (text_in old) (Gap (options_in old)) (token_end old) (token_end new) → (end : Context A) (f : Option Scanned) → Finds (Gap (options_in new)) new end f → Finds (Gap (options_in old)) old end f
+  found_old options text g end f found =
+      (join (Gap (options_in old)) (λ t u r. gap_append) g (moved (λ p b. Between b (Gap p) (token_end new) (token_start end)) options text found.0), found.1)
+
+  pub refused_old : (options_in new ≡ options_in old) → (text_in new ≡ text_in old) → Between (text_in old) (Gap (options_in old)) (token_end old) (token_end new) → NoTokenAfter new → NoTokenAfter old
+  refused_old options text g n = none_before g.stands (moved (λ p b. (u : List ℕ) → Gap p (rest b (token_end new)) u → AtToken p u → ⊥) options text n)
+
+  -- a receiver that was told of the gap has come to the token behind it
+  pub reaches_token : (reached : ℕ → Type 0) (f : Option Scanned) → Keeps old new → ReachesBehind (source_of old) reached (token_end old) → Finds (Gap (options_in old)) old new f → IsNoComment f → Follows (source_of old) reached (token_start new)
+  reaches_token reached f kept (p, g, all) found no_comment =
+      let o = options_in old in
+      let b = text_in old in
+      let there = found_token o b new.scanner f kept.text kept.options found.1 no_comment in
+      record {
+        reached = all (token_start new) (gap_rest o b (token_end old) p (token_start new) (IsUtf8-from_is_utf8 b old.utf8) g found.0 there);
+        boundary = found.0.spans.to;
+      }
+
+-- what an answer says of what was found, where the call went well
+pub ok_found : {A E R : Type 0} {P Q : Option Scanned → Type 0} (c : Context A) (r : Result (Option TokenKind) E) → ((f : Option Scanned) → P f → Q f → R) → IfOk (found_by c r) P → IfOk (found_by c r) Q → OnOk r R
+ok_found c (Ok f) h p q = h (found_in c f) p q
+ok_found c (Err e) h p q = tt
+
+-- a receiver that was told of the gap at an equal place of an equal source
+pub told_gap : {s t : Source} {i j p : ℕ} {reached : ℕ → Type 0} → s ≡ t → i ≡ j → Between s.bytes (Gap s.options) i p → ((k : ℕ) → Between s.bytes (Gap s.options) p k → reached k) → ReachesBehind t reached j
+told_gap {s} {t} {i} {j} {p} {reached} e f gap all = subst (λ x. ReachesBehind x reached j) e (subst (ReachesBehind s reached) f (p, gap, all))
+
+pub gap_told : {s t : Source} {i j p : ℕ} → s ≡ t → i ≡ j → Between s.bytes (Gap s.options) i p → Between t.bytes (Gap t.options) j p
+gap_told {s} {t} {i} {j} {p} e f gap = subst (λ x. Between x.bytes (Gap x.options) j p) e (subst (λ k. Between s.bytes (Gap s.options) k p) f gap)
+
+module _ {A : Type 0} where
+  -- a mark that comes next
+  pub next_mark : (old : Context A) (s : Scanner A) (c : ℕ) → is_blank c ≡ false → ComesNext old.scanner c → PassesBlanks old.scanner s → Between (text_in old) (One c) (start_of s) (end_of s) → Between (text_in old) (One c) (token_end old) (end_of s)
+  next_mark old s c no comes blanks here =
+      let many = subst (λ b. Many is_blank (left old.scanner) (rest b (start_of s))) blanks.text blanks.blanks in
+      let same = same_place (text_in old) (token_end old) (start_of s) (IsUtf8-from_is_utf8 (text_in old) old.utf8) old.scanner.at_place here.spans.from (nothing_passed comes.0 no many) in
+      subst (λ i. Between (text_in old) (One c) i (end_of s)) (sym same) here
