@@ -278,6 +278,11 @@ impl<'a, A: Allocator + Copy> Receiver<String<A>> for DocumentMaker<'a, A> {
         self.leaf(range, Kind::StringPart(text))
     }
 
+    fn passed(&mut self, range: Range) -> Result<(), AllocError> {
+        let text = self.written(range)?;
+        self.leaf(range, Kind::StringPart(text))
+    }
+
     fn number(&mut self, range: Range) -> Result<(), AllocError> {
         let text = self.written(range)?;
         self.leaf(range, Kind::NumberPart(text))
@@ -313,6 +318,10 @@ impl<'a, A: Allocator + Copy> Receiver<String<A>> for DocumentMaker<'a, A> {
     }
 
     fn decoded_name(&mut self, range: Range, _value: String<A>) -> Result<usize, AllocError> {
+        self.name(range)
+    }
+
+    fn passed_name(&mut self, range: Range) -> Result<usize, AllocError> {
         self.name(range)
     }
 

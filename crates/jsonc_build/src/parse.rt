@@ -14,7 +14,6 @@ ghost use Rattle.jsonc_sound.specs.Shape.{DocumentShaped};
 ghost use Rattle.jsonc_build.specs.Laid.{LiesIn};
 
 use crate::maker::DocumentMaker;
-use jsonc_ast::to_ast::collect::CollectOptions;
 use jsonc_ast::to_ast::context::Context;
 use jsonc_ast::to_ast::walk::read_document;
 use jsonc_text::errors::ParseError;
@@ -45,7 +44,7 @@ pub fn parse_tree<A: Allocator + Copy>(
     ensures fault { IfErr result (IsFault text.now) }
     ensures error { IfErr result (ParseFault (parse_options options.now) text.now true) }
 {
-    let mut context = Context::new(alloc, text, &CollectOptions::default(), options);
+    let mut context = Context::of_places(alloc, text, options);
     let Ok(mut to) = DocumentMaker::new(alloc, text, options) else {
         return Err(context.out_of_memory());
     };

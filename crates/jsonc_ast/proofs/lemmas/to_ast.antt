@@ -32,3 +32,4 @@ pub mod Walks
 pub mod MadeTrees
 pub mod PassedGaps
 pub mod Following
+pub mod PassedStrings

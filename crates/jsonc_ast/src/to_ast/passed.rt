@@ -1,7 +1,8 @@
 //! What a string that was passed stands for.
-ghost use Rattle.std.specs.Prelude.{◌≡◌, IfOk, chars, string_bytes};
+ghost use Rattle.std.specs.Prelude.{◌≡◌, IfOk, IsCharBoundary, chars, string_bytes};
 ghost use Rattle.jsonc_text.specs.OptionsOf.{parse_options};
 ghost use Rattle.jsonc_text.specs.StringValue.{string_value};
+ghost use Rattle.jsonc_text.specs.string.Quotes.{OpensNoString, OpensString};
 ghost use Rattle.jsonc_ast.specs.to_ast.Handed.{HasEscapedString};
 
 use jsonc_text::chars::has_byte;
@@ -11,6 +12,21 @@ use jsonc_text::options::ParseOptions;
 use jsonc_text::string::decode::decode_string;
 use jsonc_text::string::escape::Literal;
 use std::alloc::{AllocError, Allocator};
+
+// The quote that opens the string at a place.
+fn opening_quote(text: &str, start: usize, options: &ParseOptions) -> u8
+    requires boundary { IsCharBoundary text.now start }
+    requires opens { OpensNoString (parse_options options.now) text.now start → ⊥ }
+    ensures { OpensString (parse_options options.now) text.now start result }
+{
+    if has_byte(text, start, b'"') {
+        return b'"';
+    }
+    if options.allow_single_quoted_strings && has_byte(text, start, b'\'') {
+        return b'\'';
+    }
+    unreachable!()
+}
 
 /// The characters that the string in a range stands for, for a receiver that keeps them.
 #[cold]
@@ -25,10 +41,9 @@ pub fn decode_passed<A: Allocator + Copy>(
         (string_value text.now range.start range.end) }
     ensures { IfOk result (λ s. chars (string_bytes s) ≡ string_value text.now range.start range.end) }
 {
-    let quote = if has_byte(text, range.start, b'"') { b'"' } else { b'\'' };
     let literal = Literal {
         start: range.start,
-        quote,
+        quote: opening_quote(text, range.start, options),
         extended: options.allow_extended_string_escapes,
     };
     match decode_string(alloc, text, literal) {

@@ -13,6 +13,7 @@ ghost use Rattle.jsonc_text.specs.Plain.{array, object};
 use crate::{JsonArray, JsonObject, JsonValue, Map};
 use jsonc_ast::to_ast::collect::CollectOptions;
 use jsonc_ast::to_ast::context::Context;
+use jsonc_ast::to_ast::passed::decode_passed;
 use jsonc_ast::to_ast::receiver::Receiver;
 use jsonc_ast::to_ast::walk::read_document;
 use jsonc_text::common::Range;
@@ -129,6 +130,12 @@ impl<'a, A: Allocator + Copy> Receiver<String<A>> for ValueMaker<'a, A> {
         Ok(JsonValue::String(CowStr::Owned(value)))
     }
 
+    fn passed(&mut self, range: Range) -> Result<JsonValue<'a, A>, AllocError> {
+        let alloc = *self.elements.allocator();
+        let value = decode_passed(alloc, self.text, range, &self.options)?;
+        Ok(JsonValue::String(CowStr::Owned(value)))
+    }
+
     #[inline(always)]
     fn number(&mut self, range: Range) -> Result<JsonValue<'a, A>, AllocError> {
         Ok(JsonValue::Number(&self.text[range.start..range.end]))
@@ -177,6 +184,12 @@ impl<'a, A: Allocator + Copy> Receiver<String<A>> for ValueMaker<'a, A> {
         _range: Range,
         value: String<A>,
     ) -> Result<CowStr<'a, A>, AllocError> {
+        Ok(CowStr::Owned(value))
+    }
+
+    fn passed_name(&mut self, range: Range) -> Result<CowStr<'a, A>, AllocError> {
+        let alloc = *self.elements.allocator();
+        let value = decode_passed(alloc, self.text, range, &self.options)?;
         Ok(CowStr::Owned(value))
     }
 

@@ -102,6 +102,9 @@ plain_end : (whole : Bool) (q : List Opened) (a : List ℕ) → count whole (pro
 plain_end true q a h = rw (not_past 512 (suc (length q)) h) refl
 plain_end false q a h = refl
 
+no_close : (k : Container) (t : Scanned) → ClosesNone k t → (l : LexemeKind) → t ≡ lexeme l → is_mark (closing k) l ≡ false
+no_close k t other l mark = no_mark (closing k) l (λ e. other.2 (lexeme_same other.0 l (sym other.1 ∙ mark) ∙ e))
+
 module _ {A : Type 0} (whole : Bool) where
   stops_on : (c : Context A) (p n : Place) (e : ParseError) → ComesTo (options_in c) whole p n → StopsFrom c whole n e → StopsFrom c whole p e
   stops_on c p n e x (inl m) = inl m
@@ -112,9 +115,6 @@ module _ {A : Type 0} (whole : Bool) where
 
   comes_before : (old now : Context A) (p n : Place) → Keeps old now → ComesTo (options_in now) whole p n → ComesTo (options_in old) whole p n
   comes_before old now p n kept x = subst (λ o. ComesTo o whole p n) kept.options x
-
-  no_close : (k : Container) (t : Scanned) → ClosesNone k t → (l : LexemeKind) → t ≡ lexeme l → is_mark (closing k) l ≡ false
-  no_close k t other l mark = no_mark (closing k) l (λ e. other.2 (lexeme_same other.0 l (sym other.1 ∙ mark) ∙ e))
 
   module _ (k : Container) where
     -- reading has come to the token at hand, with which an item must begin

@@ -4,7 +4,7 @@ use Rattle.jsonc_ast.specs.to_ast.Scanned.{leaf_value}
 use Rattle.jsonc_ast.proofs.lemmas.to_ast.Leaves.{element_put, gives_nothing}
 use Rattle.jsonc_ast.specs.Located.{value_at, array_at, object_at}
 use Rattle.jsonc_ast.specs.Views.{items_of, members_of, name_at}
-use Rattle.jsonc_ast.specs.to_ast.Context.{last, found_in}
+use Rattle.jsonc_ast.specs.to_ast.Context.{last, found_in, token_end}
 use Rattle.jsonc_ast.specs.to_ast.Reached.{size}
 use Rattle.jsonc_ast.specs.to_ast.Refusals.{here, NoPropertyHere, NoValueHere, OutOfMemoryOr}
 use Rattle.jsonc_ast.specs.to_ast.Faults.{StopsAtContainer, StopsAtItem}
@@ -357,14 +357,14 @@ parse_property-returns-in_err-value-clause-refused g t c =
     (still
     (value_refused whole old mid c.in_ok-named.ensures.named.name c.args.count name (kept_given c.args.context.now c.parse_name.new.context c.pass_colon.new.self c.parse_name.ensures.gives c.pass_colon.ensures.kept) (colon_given c.args.context.now c.parse_name.new.context c.pass_colon.new.self c.parse_name.ensures.gives c.in_ok-pass_colon.ensures.found) at (found_in c.scan.new.self c.in_ok-found.found) found.kept found.found found.lexeme) (rw c.around_value-around.ensures at c.in_err-value.ensures.refused))
 
-pub parse_property-returns-in_default-found-clause-refused : goal.parse_property-returns-in_default-found-clause-refused
-parse_property-returns-in_default-found-clause-refused g t c =
+pub parse_property-returns-in_default-clause-refused : goal.parse_property-returns-in_default-clause-refused
+parse_property-returns-in_default-clause-refused g t c =
     let whole = g.R.Receiver.whole in
     let old = c.args.context.now in
     let mid = c.pass_colon.new.self in
     let name = c.in_ok-named.ensures.named.stands in
     let found = c.in_ok-found.ensures in
-    inr (end_for_value whole old mid c.in_ok-named.ensures.named.name c.args.count name (kept_given c.args.context.now c.parse_name.new.context c.pass_colon.new.self c.parse_name.ensures.gives c.pass_colon.ensures.kept) (colon_given c.args.context.now c.parse_name.new.context c.pass_colon.new.self c.parse_name.ensures.gives c.in_ok-pass_colon.ensures.found) c.scan.new.self (found_in c.scan.new.self c.in_ok-found.found) found.kept found.found found.lexeme (ap (found_in c.scan.new.self) c.in_default-found.is))
+    inr (end_for_value whole old mid c.in_ok-named.ensures.named.name c.args.count name (kept_given c.args.context.now c.parse_name.new.context c.pass_colon.new.self c.parse_name.ensures.gives c.pass_colon.ensures.kept) (colon_given c.args.context.now c.parse_name.new.context c.pass_colon.new.self c.parse_name.ensures.gives c.in_ok-pass_colon.ensures.found) c.scan.new.self (found_in c.scan.new.self c.in_ok-found.found) found.kept found.found found.lexeme (ap (found_in c.scan.new.self) c.in_default.is))
 
 pub parse_property-returns-in_err-named-clause-error : goal.parse_property-returns-in_err-named-clause-error
 parse_property-returns-in_err-named-clause-error g t c =
@@ -400,14 +400,14 @@ parse_property-returns-in_err-value-clause-error g t c =
     (λ q d s many starts. value_told_stops whole old (last c.args.context.now c.args.token) q d s c.requires.token starts c.in_ok-named.ensures.named.name c.in_ok-named.ensures.named.stands c.pass_colon.new.self (kept_given c.args.context.now c.parse_name.new.context c.pass_colon.new.self c.parse_name.ensures.gives c.pass_colon.ensures.kept) (colon_given c.args.context.now c.parse_name.new.context c.pass_colon.new.self c.parse_name.ensures.gives c.in_ok-pass_colon.ensures.found) c.scan.new.self (found_in c.scan.new.self c.in_ok-found.found) found.kept found.found found.lexeme
     (last c.scan.new.self c.in-Some.token) (ap (found_in c.scan.new.self) c.in-Some.is) e c.around_value-around.result (let one = count_property whole (here old) q in omega (arith, one, many, c.around_value-around.ensures)) c.in_err-value.ensures.error)
 
-pub parse_property-returns-in_default-found-clause-error : goal.parse_property-returns-in_default-found-clause-error
-parse_property-returns-in_default-found-clause-error g t c = λ q d s many starts.
+pub parse_property-returns-in_default-clause-error : goal.parse_property-returns-in_default-clause-error
+parse_property-returns-in_default-clause-error g t c = λ q d s many starts.
     let whole = g.R.Receiver.whole in
     let old = c.args.context.now in
     let found = c.in_ok-found.ensures in
     let small = c.holds_too_deep.ensures.within c.if-holds_too_deep.false in
     no_value_stops whole old (last c.args.context.now c.args.token) q d s c.requires.token starts c.in_ok-named.ensures.named.name c.in_ok-named.ensures.named.stands c.pass_colon.new.self (kept_given c.args.context.now c.parse_name.new.context c.pass_colon.new.self c.parse_name.ensures.gives c.pass_colon.ensures.kept) (colon_given c.args.context.now c.parse_name.new.context c.pass_colon.new.self c.parse_name.ensures.gives c.in_ok-pass_colon.ensures.found) c.scan.new.self (found_in c.scan.new.self c.in_ok-found.found) found.kept found.found found.lexeme
-    (ap (found_in c.scan.new.self) c.in_default-found.is) c.fault_here.result (let one = count_property whole (here old) q in omega (arith, one, many, small)) c.fault_here.ensures.kind c.fault_here.ensures.range
+    (ap (found_in c.scan.new.self) c.in_default.is) c.fault_here.result (let one = count_property whole (here old) q in omega (arith, one, many, small)) c.fault_here.ensures.kind c.fault_here.ensures.range
 
 pub parse_value-returns-in-Err-clause-error : goal.parse_value-returns-in-Err-clause-error
 parse_value-returns-in-Err-clause-error g t c = λ q d s many starts. c.in-Err.ensures.error q d s many (starts.may, starts.gap)
