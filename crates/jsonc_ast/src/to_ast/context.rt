@@ -16,7 +16,7 @@ use jsonc_text::common::Range;
 use jsonc_text::errors::{ParseError, ParseErrorKind};
 use jsonc_text::options::ParseOptions;
 use jsonc_text::tokens::TokenAndRange;
-use std::alloc::Allocator;
+use std::alloc::{AllocError, Allocator};
 
 /// How many containers, or containers and properties, may be around a value.
 pub const MAXIMUM_NESTING: usize = 512;
@@ -359,7 +359,7 @@ impl<'a, A: Allocator + Copy> Context<'a, A> {
     // Tells a receiver of the gap behind the last token, and passes as much of it as the receiver did, where nothing
     // is collected.
     #[inline(always)]
-    fn pass_gap<R: Receiver<String<A>>>(&mut self, to: &mut R) -> Result<(), ParseError>
+    fn pass_gap<R: Receiver<String<A>>>(&mut self, to: &mut R) -> Result<(), AllocError>
         requires source { R.source to.old ≡ source_of self.old }
         requires behind { IsBehind (source_of self.old) (R.reached to.old) (token_end self.old) }
         ensures kept { Keeps self.old self.new }
@@ -369,16 +369,12 @@ impl<'a, A: Allocator + Copy> Context<'a, A> {
         ensures reached { OnOk result (ReachesBehind (source_of self.old) (R.reached to.new) (token_end self.old)) }
         ensures passes { OnOk result (R.passes to.old to.new) }
         ensures held { OnOk result (StaysHeld R.names R.holds_elements R.holds_properties to.old to.new) }
-        ensures memory { IfErr result (λ e. kind_of e ≡ ParseErrorKind.OutOfMemory) }
-        ensures fault { IfErr result (IsFault (text_in self.old)) }
     {
-        let Ok(place) = to.pass_gap(self.scanner.token_end()) else {
-            return Err(self.out_of_memory());
-        };
-        if self.collects() {
-            return Ok(());
+        let from = self.scanner.token_end();
+        let place = to.pass_gap(from)?;
+        if !self.collects() {
+            self.scanner.pass_to(place);
         }
-        self.scanner.pass_to(place);
         Ok(())
     }
 
@@ -403,7 +399,9 @@ impl<'a, A: Allocator + Copy> Context<'a, A> {
         ensures passes { OnOk result (R.passes to.old to.new) }
         ensures held { OnOk result (StaysHeld R.names R.holds_elements R.holds_properties to.old to.new) }
     {
-        self.pass_gap(to)?;
+        let Ok(()) = self.pass_gap(to) else {
+            return Err(self.out_of_memory());
+        };
         self.find()
     }
 
