@@ -372,9 +372,10 @@ impl<'a, A: Allocator + Copy> Context<'a, A> {
     {
         let from = self.scanner.token_end();
         let place = to.pass_gap(from)?;
-        if !self.collects() {
-            self.scanner.pass_to(place);
+        if self.collects() {
+            return Ok(());
         }
+        self.scanner.pass_to(place);
         Ok(())
     }
 
