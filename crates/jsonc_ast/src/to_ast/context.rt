@@ -328,34 +328,6 @@ impl<'a, A: Allocator + Copy> Context<'a, A> {
         Ok(())
     }
 
-    // Passes a gap, and answers the kind of the token after it, or none at the end of the text.
-    #[inline(always)]
-    fn find(&mut self) -> Result<Option<TokenKind>, ParseError>
-        ensures kept { Keeps self.old self.new }
-        ensures found { IfOk (found_by self.new result) (Finds (Gap (options_in self.old)) self.old self.new) }
-        ensures lexeme { IfOk (found_by self.new result) IsNoComment }
-        ensures lent { IfOk result (IsLentHere self.new) }
-        ensures collects { OnOk result (Collects self.old self.new) }
-        ensures refused { IfErr result (OutOfMemoryOr (NoTokenAfter self.old)) }
-        ensures fault { IfErr result (IsFault (text_in self.old)) }
-        ensures error { IfErr result (StopsAnyhow self.old) }
-    {
-        loop {
-            let Some(token) = self.scanner.step(&mut self.content, self.decodes)? else {
-                return Ok(None);
-            };
-            if !self.is_comment(token) {
-                if !self.collects() {
-                    return Ok(Some(token));
-                }
-                self.collect(token)?;
-                self.end_gap()?;
-                return Ok(Some(token));
-            }
-            self.pass_comment(token)?;
-        }
-    }
-
     // Tells a receiver of the gap behind the last token, and passes as much of it as the receiver did, where nothing
     // is collected.
     #[inline(always)]
@@ -403,7 +375,20 @@ impl<'a, A: Allocator + Copy> Context<'a, A> {
         let Ok(()) = self.pass_gap(to) else {
             return Err(self.out_of_memory());
         };
-        self.find()
+        loop {
+            let Some(token) = self.scanner.step(&mut self.content, self.decodes)? else {
+                return Ok(None);
+            };
+            if !self.is_comment(token) {
+                if !self.collects() {
+                    return Ok(Some(token));
+                }
+                self.collect(token)?;
+                self.end_gap()?;
+                return Ok(Some(token));
+            }
+            self.pass_comment(token)?;
+        }
     }
 
     /// Whether an ASCII character comes next, with no gap before it, and nothing is collected.

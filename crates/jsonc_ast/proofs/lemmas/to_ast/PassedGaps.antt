@@ -88,17 +88,6 @@ gap_tokens o place {r = r} (comment a k g) =
       silent = λ off. absurd (both o.comments a off);
     }
 
--- where reading stops behind a gap, it stops before it
-pub stops_before : {o : Options} {whole : Bool} {q : List Opened} {d : Due} {f : Fault} {t u : List ℕ} → Gap o t u → Stops o whole (at q d u) f → Stops o whole (at q d t) f
-stops_before g (no_lexeme h l) = no_lexeme (gap_append g h) l
-stops_before g (Stops.comment r off h k) = Stops.comment r off (gap_append g h) k
-stops_before g (wrong_lexeme l r h k e) = wrong_lexeme l r (gap_append g h) k e
-stops_before g (wrong_ending h e) = wrong_ending (gap_append g h) e
-
--- no token stands behind a gap, and so none behind all of it
-pub none_before : {o : Options} {t p : List ℕ} → Gap o t p → ((u : List ℕ) → Gap o p u → AtToken o u → ⊥) → (u : List ℕ) → Gap o t u → AtToken o u → ⊥
-none_before {o} g n u h at = n u (gap_past g h (token_no_gap o u at)) at
-
 -- what is left of a gap behind a part of it
 pub gap_rest : (o : Options) (bytes : List ℕ) (i p j : ℕ) → IsUtf8 bytes → Between bytes (Gap o) i p → Between bytes (Gap o) i j → AtToken o (rest bytes j) → Between bytes (Gap o) p j
 gap_rest o bytes i p j u g h at =
@@ -132,17 +121,6 @@ module _ {A : Type 0} (old new : Context A) where
       no_comments None e ts = tt
       no_comments (Some c) e ts = cc
 
-  pub stops_old : (options_in new ≡ options_in old) → (text_in new ≡ text_in old) → Between (text_in old) (Gap (options_in old)) (token_end old) (token_end new) → (e : ParseError) → StopsAnyhow new e → StopsAnyhow old e
-  stops_old options text g e (inl m) = inl m
-  stops_old options text g e (inr s) = inr (λ whole q d. stops_before g.stands (moved (λ p b. Stops p whole (at q d (rest b (token_end new))) (fault_in b e)) options text (s whole q d)))
-
-  -- what is found behind the rest of a gap is found behind all of it
-  pub found_old : (options_in new ≡ options_in old) → (text_in new ≡ text_in old) → Between (text_in old) (Gap (options_in old)) (token_end old) (token_end new) → (end : Context A) (f : Option Scanned) → Finds (Gap (options_in new)) new end f → Finds (Gap (options_in old)) old end f
-  found_old options text g end f found =
-      (join (Gap (options_in old)) (λ t u r. gap_append) g (moved (λ p b. Between b (Gap p) (token_end new) (token_start end)) options text found.0), found.1)
-
-  pub refused_old : (options_in new ≡ options_in old) → (text_in new ≡ text_in old) → Between (text_in old) (Gap (options_in old)) (token_end old) (token_end new) → NoTokenAfter new → NoTokenAfter old
-  refused_old options text g n = none_before g.stands (moved (λ p b. (u : List ℕ) → Gap p (rest b (token_end new)) u → AtToken p u → ⊥) options text n)
 
   -- a receiver that was told of the gap has come to the token behind it
   pub reaches_token : (reached : ℕ → Type 0) (f : Option Scanned) → Keeps old new → ReachesBehind (source_of old) reached (token_end old) → Finds (Gap (options_in old)) old new f → IsNoComment f → Follows (source_of old) reached (token_start new)
@@ -154,11 +132,6 @@ module _ {A : Type 0} (old new : Context A) where
         reached = all (token_start new) (gap_rest o b (token_end old) p (token_start new) (IsUtf8-from_is_utf8 b old.utf8) g found.0 there);
         boundary = found.0.spans.to;
       }
-
--- what an answer says of what was found, where the call went well
-pub ok_found : {A E R : Type 0} {P Q : Option Scanned → Type 0} (c : Context A) (r : Result (Option TokenKind) E) → ((f : Option Scanned) → P f → Q f → R) → IfOk (found_by c r) P → IfOk (found_by c r) Q → OnOk r R
-ok_found c (Ok f) h p q = h (found_in c f) p q
-ok_found c (Err e) h p q = tt
 
 -- a receiver that was told of the gap at an equal place of an equal source
 pub told_gap : {s t : Source} {i j p : ℕ} {reached : ℕ → Type 0} → s ≡ t → i ≡ j → Between s.bytes (Gap s.options) i p → ((k : ℕ) → Between s.bytes (Gap s.options) p k → reached k) → ReachesBehind t reached j
