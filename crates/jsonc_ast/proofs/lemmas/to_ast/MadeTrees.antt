@@ -65,12 +65,12 @@ module _ {A : Type 0} where
 
   pub tree_located : (old new : TreeMaker A) (s : Source) (found : Option (Value A)) → DocumentTree old new s found → IsLocatedDocument s.options s.bytes (option_map located found)
   tree_located old new s None h = h
-  tree_located old new s (Some v) (x, document, small, m, n, before, made, after) = subst (λ y. IsLocatedDocument s.options s.bytes (Some y)) (sym made.located) document
+  tree_located old new s (Some v) (x, document, small, (m, n, before, made, after)) = subst (λ y. IsLocatedDocument s.options s.bytes (Some y)) (sym made.located) document
 
   pub tree_written : (old new : TreeMaker A) (s : Source) (found : Option (Value A)) → source_in old ≡ s → DocumentTree old new s found → IfSome found (λ v. AreWritten s.options s.bytes (spelled v))
   tree_written old new s None e h = tt
-  tree_written old new s (Some v) e (x, document, small, m, n, before, made, after) = moved_written s (source_in m) (spelled v) (ap source_in before ∙ e) made.written
+  tree_written old new s (Some v) e (x, document, small, (m, n, before, made, after)) = moved_written s (source_in m) (spelled v) (ap source_in before ∙ e) made.written
 
   pub tree_within : (old new : TreeMaker A) (s : Source) (found : Option (Value A)) → DocumentTree old new s found → IfSome found (λ v. size true (value_at (located v)) ≤ 512)
   tree_within old new s None h = tt
-  tree_within old new s (Some v) (x, document, small, m, n, before, made, after) = subst (λ y. size true (value_at y) ≤ 512) (sym made.located) small
+  tree_within old new s (Some v) (x, document, small, (m, n, before, made, after)) = subst (λ y. size true (value_at y) ≤ 512) (sym made.located) small

@@ -103,7 +103,7 @@ nothing_passed {c} e no (step {c = d} h m) = let same : d ≡ c = cc in let wron
 module _ {A : Type 0} (old new : Context A) where
   -- where nothing is collected, a gap is passed
   pub gap_collects : IsUtf8 (text_in old) → Between (text_in old) (Gap (options_in old)) (token_end old) (token_end new) → tokens_asked old ≡ false → new.tokens ≡ old.tokens → comments_asked new ≡ false → Collects old new
-  gap_collects u g none tokens apart =
+  gap_collects u g unasked tokens apart =
       let o = options_in old in
       let b = text_in old in
       let part = gap_tokens o (token_end old) g.stands in record {
@@ -111,7 +111,7 @@ module _ {A : Type 0} (old new : Context A) where
         stand = λ ts h.
             let P : ℕ → Type 0 = λ i. AreTokens o i (rest b (token_end new)) ts in
             part.stand ts (subst P (place_after b part.text (token_end old) (token_end new) u g.spans.from g.spans.to part.split) h);
-        more = λ asked. absurd (both (tokens_asked old) asked none);
+        more = λ asked. absurd (both (tokens_asked old) asked unasked);
         lent = λ h. subst (λ ts. AreLentIn b ts) (sym tokens) h;
         noted = λ ts h. no_comments new.comments apart (ts ++ part.comments);
         silent = part.silent;
