@@ -90,15 +90,15 @@ gap_tokens o place {r = r} (comment a k g) =
 
 -- what is left of a gap behind a part of it
 pub gap_rest : (o : Options) (bytes : List ℕ) (i p j : ℕ) → IsUtf8 bytes → Between bytes (Gap o) i p → Between bytes (Gap o) i j → AtToken o (rest bytes j) → Between bytes (Gap o) p j
-gap_rest o bytes i p j u g h at =
-    let left = gap_past g.stands h.stands (token_no_gap o (rest bytes j) at) in
+gap_rest o bytes i p j u g h there =
+    let left = gap_past g.stands h.stands (token_no_gap o (rest bytes j) there) in
     let part = gap_tokens o p left in
     record { spans = spans bytes part.text p j u g.spans.to h.spans.to part.split; stands = left }
 
 -- no blank is passed where none stands
 nothing_passed : {c : ℕ} {t u r : List ℕ} → t ≡ c ∷ u → is_blank c ≡ false → Many is_blank t r → t ≡ r
-nothing_passed e no stop = refl
-nothing_passed {c} e no (step {c = d} h m) = let same : d ≡ c = cc in let wrong : true ≡ false = sym h ∙ ap is_blank same ∙ no in cc
+nothing_passed e bare stop = refl
+nothing_passed {c} e bare (step {c = d} h m) = let same : d ≡ c = cc in let wrong : true ≡ false = sym h ∙ ap is_blank same ∙ bare in cc
 
 module _ {A : Type 0} (old new : Context A) where
   -- where nothing is collected, a gap is passed
@@ -121,7 +121,6 @@ module _ {A : Type 0} (old new : Context A) where
       no_comments None e ts = tt
       no_comments (Some c) e ts = cc
 
-
   -- a receiver that was told of the gap has come to the token behind it
   pub reaches_token : (reached : ℕ → Type 0) (f : Option Scanned) → Keeps old new → ReachesBehind (source_of old) reached (token_end old) → Finds (Gap (options_in old)) old new f → IsNoComment f → Follows (source_of old) reached (token_start new)
   reaches_token reached f kept (p, g, all) found no_comment =
@@ -143,7 +142,7 @@ gap_told {s} {t} {i} {j} {p} e f gap = subst (λ x. Between x.bytes (Gap x.optio
 module _ {A : Type 0} where
   -- a mark that comes next
   pub next_mark : (old : Context A) (s : Scanner A) (c : ℕ) → is_blank c ≡ false → ComesNext old.scanner c → PassesBlanks old.scanner s → Between (text_in old) (One c) (start_of s) (end_of s) → Between (text_in old) (One c) (token_end old) (end_of s)
-  next_mark old s c no comes blanks here =
+  next_mark old s c bare comes blanks here =
       let many = subst (λ b. Many is_blank (left old.scanner) (rest b (start_of s))) blanks.text blanks.blanks in
-      let same = same_place (text_in old) (token_end old) (start_of s) (IsUtf8-from_is_utf8 (text_in old) old.utf8) old.scanner.at_place here.spans.from (nothing_passed comes.0 no many) in
+      let same = same_place (text_in old) (token_end old) (start_of s) (IsUtf8-from_is_utf8 (text_in old) old.utf8) old.scanner.at_place here.spans.from (nothing_passed comes.0 bare many) in
       subst (λ i. Between (text_in old) (One c) i (end_of s)) (sym same) here

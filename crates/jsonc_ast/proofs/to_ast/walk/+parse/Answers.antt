@@ -555,3 +555,12 @@ parse_property-scan-requires-clause-source g t c =
 
 pub parse_property-scan-requires-clause-behind : goal.parse_property-scan-requires-clause-behind
 parse_property-scan-requires-clause-behind g t c = behind_in (sym (source_later c.parse_name.new.context c.pass_colon.new.self c.pass_colon.ensures.kept)) c.in_ok-pass_colon.ensures.behind
+
+pub parse_property-property-requires : goal.parse_property-property-requires
+parse_property-property-requires g t c =
+    let (s, i, ms, held) = c.requires.held in
+    let n = c.in_ok-named.ensures.named.name in
+    let read = c.in_ok-value.ensures.found in
+    let named = c.in_ok-found.ensures.held.named c.args.to.now _ n (c.in_ok-pass_colon.ensures.held.named c.args.to.now _ n c.in_ok-named.ensures.named.made) in
+    let covers = record { starts = c.new-range.ensures.start ∙ c.token_start-start.ensures ∙ ap (λ q. q.start) (sym c.in_ok-named.ensures.named.range); ends = c.new-range.ensures.end ∙ c.token_end.ensures ∙ sym read.reads.ends } in
+    record { held = (s, c.args.to.now, c.scan.new.to, i, ms, n, read.value, held, named, read.made, covers) }

@@ -1,5 +1,5 @@
 use Rattle.jsonc_text.specs.Places.{is_comment}
-use Rattle.std.proofs.Common.{◌≡◌, false, sym, ap, ◌∙◌, refl, subst, Some, is_some, option_map, IfSome}
+use Rattle.std.proofs.Common.{◌≡◌, false, sym, ap, ◌∙◌, refl, subst, None, Some, is_some, option_map, IfSome}
 use Rattle.jsonc_text.specs.Faults.{IsFault}
 use Rattle.jsonc_scan.specs.Scanner.{text_of}
 use Rattle.jsonc_ast.specs.to_ast.Context.{text_in}
@@ -153,12 +153,12 @@ returns-then-not-is_comment-clause-lexeme g c =
 
 pub returns-in_default-2-clause-follows : goal.returns-in_default-2-clause-follows
 returns-in_default-2-clause-follows g c =
-    reaches_token c.args.self.now _ (g.R.Receiver.reached c.pass_gap.new.to) _ (returns-in_default-2-clause-kept g c) c.in-Ok.ensures.reached (returns-in_default-2-clause-found g c) tt
+    reaches_token c.args.self.now _ (g.R.Receiver.reached c.pass_gap.new.to) None (returns-in_default-2-clause-kept g c) c.in-Ok.ensures.reached (returns-in_default-2-clause-found g c) tt
 
 pub returns-then-not-collects-clause-follows : goal.returns-then-not-collects-clause-follows
 returns-then-not-collects-clause-follows g c =
-    reaches_token c.args.self.now _ (g.R.Receiver.reached c.pass_gap.new.to) _ (returns-then-not-collects-clause-kept g c) c.in-Ok.ensures.reached (returns-then-not-collects-clause-found g c) (returns-then-not-collects-clause-lexeme g c)
+    reaches_token c.args.self.now _ (g.R.Receiver.reached c.pass_gap.new.to) (Some (scanned_seen c.step.new.self c.step.new.content c.in-Some.token)) (returns-then-not-collects-clause-kept g c) c.in-Ok.ensures.reached (returns-then-not-collects-clause-found g c) (returns-then-not-collects-clause-lexeme g c)
 
 pub returns-then-not-is_comment-clause-follows : goal.returns-then-not-is_comment-clause-follows
 returns-then-not-is_comment-clause-follows g c =
-    reaches_token c.args.self.now _ (g.R.Receiver.reached c.pass_gap.new.to) _ (returns-then-not-is_comment-clause-kept g c) c.in-Ok.ensures.reached (returns-then-not-is_comment-clause-found g c) (returns-then-not-is_comment-clause-lexeme g c)
+    reaches_token c.args.self.now _ (g.R.Receiver.reached c.pass_gap.new.to) (Some (scanned_seen c.end_gap.new.self.scanner c.end_gap.new.self.content c.in-Some.token)) (returns-then-not-is_comment-clause-kept g c) c.in-Ok.ensures.reached (returns-then-not-is_comment-clause-found g c) (returns-then-not-is_comment-clause-lexeme g c)
