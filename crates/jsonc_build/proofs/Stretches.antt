@@ -81,3 +81,11 @@ refused_slash o c e blank refused = no_gap_here o c e blank (λ allowed r k. nei
     neither true true h f g = cc
     neither true false h f g = cc
     neither false b h f g = cc
+
+pub allowed_slash : (c : ℕ) (o : Options) → (not (c == 0x2F) || not o.comments) ≡ false → IsTrue o.comments
+allowed_slash c o h = second (c == 0x2F) o.comments h
+  where
+    second : (a b : Bool) → (not a || not b) ≡ false → IsTrue b
+    second true true h = refl
+    second true false h = cc
+    second false b h = cc
