@@ -44,7 +44,7 @@ module _ {A : Type 0} where
   pub stays_on : (a b d : DocumentMaker A) → Stays a b → Stays b d → Stays a d
   stays_on a b d h k = record { source = k.source ∙ h.source; whole = k.whole; before = h.before; growing = k.growing }
 
-  text_same : (a b : DocumentMaker A) → Stays a b → b.text.now ≡ a.text.now
+  pub text_same : (a b : DocumentMaker A) → Stays a b → b.text.now ≡ a.text.now
   text_same a b h = ap (λ s. s.bytes) h.source
 
   -- the tree alone has changed
@@ -315,7 +315,7 @@ module _ {A : Type 0} where
     name = h.name;
     behind = followed_by h.behind p.fill;
     has = subst (λ c. Grows h.opens.pushed (nodes_in new) c (more h.name none (followed_by h.behind p.fill))) (sym p.same) (grows_append (pushed_there (container_in old) h.same h.opens.pushes) h.has p.grows);
-    leads = leads_further h.leads (subst (λ t. FillsBetween t old.place new.place p.fill) (text_same m old h.opens.stays) p.fills);
+    leads = leads_further h.behind h.leads (subst (λ t. FillsBetween t old.place new.place p.fill) (text_same m old h.opens.stays) p.fills);
     spans = h.spans;
     laid = h.laid;
   }
@@ -342,3 +342,7 @@ module _ {A : Type 0} where
 pub ok_of : {T E P : Type 0} {Q : T → Type 0} (r : Result T E) → (P → (x : T) → Q x) → OnOk r P → IfOk r Q
 ok_of (Ok x) f h = f h x
 ok_of (Err e) f h = tt
+
+pub ok_both : {T E Q : Type 0} {P R : T → Type 0} (r : Result T E) → ((x : T) → P x → Q → R x) → IfOk r P → OnOk r Q → IfOk r R
+ok_both (Ok x) f h k = f x h k
+ok_both (Err e) f h k = tt

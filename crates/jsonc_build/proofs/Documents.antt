@@ -35,7 +35,7 @@ module _ {A : Type 0} (old new : DocumentMaker A) (at : IsAt old 0) (end : IsAt 
   }
 
   ended_some : (i : Unit {0}) → IsDocumentMade (source_in old) true (AddsBetween old new) (Some i) → Ends (source_in old).options old new
-  ended_some i (x, located, fits, m, n, p, made, q) =
+  ended_some i (x, located, fits, (m, n, p, made, q)) =
       let text = old.text.now in
       let to_m : m.text.now ≡ text = text_same old m p.stays in
       let to_n : n.text.now ≡ text = text_same m n made.stays ∙ to_m in

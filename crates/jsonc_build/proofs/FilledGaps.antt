@@ -36,8 +36,8 @@ members_behind {bytes} {i} {k = k} {fill = fill} {ms = ms} f (a_property {row = 
 pub leads_start : {text : List ℕ} {i j : ℕ} → j ≡ i → LeadsOn text i j none
 leads_start {text} e k next f = subst (λ p. FillsBetween text p k next) e f
 
-pub leads_further : {text : List ℕ} {i j k : ℕ} {row fill : OrderedTree} → LeadsOn text i j row → FillsBetween text j k fill → LeadsOn text i k (followed_by row fill)
-leads_further {text} {i} {row = row} {fill = fill} leads f l next g = subst (FillsBetween text i l) (sym (followed_assoc row fill next)) (leads l (followed_by fill next) (fills_join f g))
+pub leads_further : {text : List ℕ} {i j k : ℕ} {fill : OrderedTree} (row : OrderedTree) → LeadsOn text i j row → FillsBetween text j k fill → LeadsOn text i k (followed_by row fill)
+leads_further {text} {i} {fill = fill} row leads f l next g = subst (FillsBetween text i l) (sym (followed_assoc row fill next)) (leads l (followed_by fill next) (fills_join f g))
 
 -- a comma or colon that stands between two places
 pub marked : (bytes : List ℕ) (i j c d : ℕ) → Between bytes (One c) i j → IsTrue (starts (λ e. e == d) (next (rest bytes i))) → IsTrue (is_separator d) → FillsBetween bytes i j (more (token d) none none)

@@ -61,7 +61,7 @@ blanks_at bytes i c w j s u b one inner order boundary run all same =
     }
 
 -- a comma or colon at a place is a leaf
-pub mark_fills : {bytes : List ℕ} {c : ℕ} {t r : List ℕ} → t ≡ c ∷ r → IsTrue (is_separator c) → Fills t (ordered.more (token c) ordered.none ordered.none) r
+pub mark_fills : {c : ℕ} {t r : List ℕ} → t ≡ c ∷ r → IsTrue (is_separator c) → Fills t (ordered.more (token c) ordered.none ordered.none) r
 mark_fills {c = c} {r = r} e h = subst (λ x. Fills x (ordered.more (token c) ordered.none ordered.none) r) (sym e) (leaf (mark h) end)
 
 -- a leaf's text is the characters that it stands for

@@ -1,5 +1,5 @@
 -- What stands between values, leaf by leaf.
-use Rattle.std.proofs.Common.{ℕ, ◌+◌, ◌≡◌, ◌≢◌, ◌∙◌, sym, ap, subst, refl, Bool, true, false, not, ◌&&◌, ◌||◌, ◌==◌, List, [], ◌∷◌, IsTrue, IsCharBoundary, IsUtf8}
+use Rattle.std.proofs.Common.{ℕ, ◌+◌, ◌≡◌, ◌≢◌, ◌∙◌, sym, ap, subst, refl, Bool, true, false, not, ◌&&◌, ◌||◌, ◌==◌, List, [], ◌∷◌, None, IsTrue, IsCharBoundary, IsUtf8}
 use Rattle.std.proofs.lemmas.Bool.{ne_eqb}
 use Rattle.std.specs.Char.{len_utf8}
 use Rattle.jsonc_text.specs.Chars.{Steps}
@@ -44,16 +44,12 @@ no_gap_at o bytes i u n j b = same_place bytes i j u b.spans.from b.spans.to (n 
 pub no_gap_at_end : (o : Options) {t : List ℕ} → t ≡ [] → NoGap o t
 no_gap_at_end o e r gaps.none = refl
 no_gap_at_end o e r (gaps.blank h g) = cc
-no_gap_at_end o e r (gaps.comment a k g) = absurd (no_starts (λ c. c == 0x2F) _ refl (subst (λ x. IsTrue (starts (λ c. c == 0x2F) (next x))) e (comment_begins k)))
+no_gap_at_end o e r (gaps.comment a k g) = absurd (no_starts (λ c. c == 0x2F) None refl (subst (λ x. IsTrue (starts (λ c. c == 0x2F) (next x))) e (comment_begins k)))
 
 pub no_gap_here : (o : Options) {t u : List ℕ} (c : ℕ) → t ≡ c ∷ u → is_blank c ≡ false → (IsTrue o.comments → (r : List ℕ) → IsComment t r → ⊥) → NoGap o t
 no_gap_here o c e b n r gaps.none = refl
 no_gap_here o c e b n r (gaps.blank {c = d} h g) = let same : d ≡ c = cc in let wrong : true ≡ false = sym h ∙ ap is_blank same ∙ b in cc
 no_gap_here o c e b n r (gaps.comment {u = u} a k g) = absurd (n a u k)
-
--- a comment begins with a slash
-pub no_slash_no_comment : {t u r : List ℕ} (c : ℕ) → t ≡ c ∷ u → (c ≡ 0x2F → ⊥) → IsComment t r → ⊥
-no_slash_no_comment c e slash k = slash (test_eq c 0x2F (subst (λ x. IsTrue (starts (λ d. d == 0x2F) (next x))) e (comment_begins k)))
 
 -- a blank that ends no line
 pub inner_of : (c : ℕ) → IsTrue (is_blank c) → c ≢ 10 → c ≢ 13 → IsTrue (is_inner_blank c)
@@ -76,3 +72,20 @@ module _ (bytes : List ℕ) (i c : ℕ) (stands : Steps bytes i c (i + len_utf8 
 
   pub return_many : {k : CstNewlineKind} (j : ℕ) → c ≡ 13 → GapLeaf (newline k) (13 ∷ rest bytes (i + 1)) (rest bytes j) → Many is_blank (rest bytes i) (rest bytes j)
   return_many j e one = subst (λ t. Many is_blank t (rest bytes j)) (sym (stands.0 ∙ ap (λ d. d ∷ rest bytes (i + len_utf8 c)) e ∙ ap (λ n. 13 ∷ rest bytes (i + n)) (ap len_utf8 e))) (newline_many one)
+
+-- a slash that begins no comment, or none that is allowed
+pub refused_slash : (o : Options) {t u : List ℕ} (c : ℕ) → t ≡ c ∷ u → is_blank c ≡ false → IsTrue (not (c == 0x2F) || not o.comments) → NoGap o t
+refused_slash o c e blank refused = no_gap_here o c e blank (λ allowed r k. neither (c == 0x2F) o.comments refused (subst (λ x. IsTrue (starts (λ d. d == 0x2F) (next x))) e (comment_begins k)) allowed)
+  where
+    neither : (a b : Bool) → IsTrue (not a || not b) → IsTrue a → IsTrue b → ⊥
+    neither true true h f g = cc
+    neither true false h f g = cc
+    neither false b h f g = cc
+
+pub allowed_slash : (c : ℕ) (o : Options) → (not (c == 0x2F) || not o.comments) ≡ false → IsTrue o.comments
+allowed_slash c o h = second (c == 0x2F) o.comments h
+  where
+    second : (a b : Bool) → (not a || not b) ≡ false → IsTrue b
+    second true true h = refl
+    second true false h = cc
+    second false b h = cc

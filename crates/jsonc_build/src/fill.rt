@@ -180,38 +180,6 @@ fn push_blank<A: Allocator>(
     Ok(end)
 }
 
-// Adds the leaf of a gap that begins at a place, and answers where it ends, or none where no gap begins.
-#[inline(always)]
-fn push_leaf<A: Allocator>(
-    tree: &mut Growing<A>,
-    whole: &RcStr<A>,
-    text: &str,
-    place: usize,
-    options: &ParseOptions,
-) -> Result<Option<usize>, AllocError>
-    requires whole { rc_str_bytes whole.now ≡ text.now }
-    requires growing { IsGrowing tree.old }
-    requires place { IsCharBoundary text.now place }
-    ensures added { IfOk result (λ f. IfSome f (AddsLeaf (nodes_so_far tree.old) (nodes_so_far tree.new) (container_of tree.old) text.now place)) }
-    ensures gap { IfOk result (λ f. IfSome f (λ e. Gap (parse_options options.now) (rest text.now place) (rest text.now e))) }
-    ensures same { IfOk result (λ f. IfNone f (nodes_so_far tree.new ≡ nodes_so_far tree.old)) }
-    ensures none { IfOk result (λ f. IfNone f (EndsGap (parse_options options.now) text.now place)) }
-    ensures container { OnOk result (container_of tree.new ≡ container_of tree.old) }
-    ensures growing { OnOk result (IsGrowing tree.new) }
-{
-    let Some(c) = char_at(text, place) else {
-        return Ok(None);
-    };
-    if c.is_whitespace() {
-        let end = push_blank(tree, whole, text, place, c)?;
-        return Ok(Some(end));
-    }
-    if c == '/' && options.allow_comments {
-        return push_comment(tree, whole, text, place);
-    }
-    Ok(None)
-}
-
 // Adds the leaves of the gap at a place to the end of the container at hand, and answers where it ends.
 pub(crate) fn fill_gap<A: Allocator>(
     tree: &mut Growing<A>,
@@ -230,10 +198,20 @@ pub(crate) fn fill_gap<A: Allocator>(
     ensures growing { OnOk result (IsGrowing tree.new) }
 {
     let mut place = from;
-    loop {
-        let Some(end) = push_leaf(tree, whole, text, place, options)? else {
+    'leaves: loop {
+        let Some(c) = char_at(text, place) else {
             return Ok(place);
         };
-        place = end;
+        if c.is_whitespace() {
+            place = push_blank(tree, whole, text, place, c)?;
+        } else {
+            if (c != '/') | !options.allow_comments {
+                return Ok(place);
+            }
+            let Some(end) = push_comment(tree, whole, text, place)? else {
+                return Ok(place);
+            };
+            place = end;
+        }
     }
 }

@@ -17,8 +17,8 @@ returns-then-c-eq10-clause-added g c = record {
 pub returns-then-c-eq10-clause-blanks : goal.returns-then-c-eq10-clause-blanks
 returns-then-c-eq10-clause-blanks g c = newline_step c.args.text.now c.args.place c.args.c c.requires.stands c.requires.blank c.if-c-eq10.true
 
-pub carriage_return-requires-newline : goal.carriage_return-requires-newline
-carriage_return-requires-newline g c = after_return c.args.text.now c.args.place c.args.c c.requires.stands c.if-c-eq13.true
+pub carriage_return-newline-requires : goal.carriage_return-newline-requires
+carriage_return-newline-requires g c = after_return c.args.text.now c.args.place c.args.c c.requires.stands c.if-c-eq13.true
 
 pub returns-then-c-eq13-clause-added : goal.returns-then-c-eq13-clause-added
 returns-then-c-eq13-clause-added g c =
