@@ -22,7 +22,7 @@ use Rattle.jsonc_ast.proofs.lemmas.to_ast.Walks.{element_deep, element_deep_stop
 use Rattle.jsonc_ast.proofs.lemmas.to_ast.Handing.{name_here, number_here, number_means, string_here, utf8_there}
 use Rattle.std.specs.Cow.{cow_str_bytes}
 use Rattle.std.specs.Prelude.{chars}
-use Rattle.jsonc_ast.specs.to_ast.Handed.{chars_between}
+use Rattle.jsonc_ast.specs.to_ast.Handed.{chars_between, Covers}
 use Rattle.jsonc_scan.specs.Scanner.{IsThere, end_of}
 use Rattle.jsonc_ast.specs.to_ast.Written.{IsLentHere}
 use Rattle.jsonc_ast.proofs.to_ast.walk.+parse.Goals as goal
@@ -562,5 +562,5 @@ parse_property-property-requires g t c =
     let n = c.in_ok-named.ensures.named.name in
     let read = c.in_ok-value.ensures.found in
     let named = c.in_ok-found.ensures.held.named c.args.to.now _ n (c.in_ok-pass_colon.ensures.held.named c.args.to.now _ n c.in_ok-named.ensures.named.made) in
-    let covers = record { starts = c.new-range.ensures.start ∙ c.token_start-start.ensures ∙ ap (λ q. q.start) (sym c.in_ok-named.ensures.named.range); ends = c.new-range.ensures.end ∙ c.token_end.ensures ∙ sym read.reads.ends } in
+    let covers : Covers c.new-range.result n read.value = record { starts = c.new-range.ensures.start ∙ c.token_start-start.ensures ∙ ap (λ q. q.start) (sym c.in_ok-named.ensures.named.range); ends = c.new-range.ensures.end ∙ c.token_end.ensures ∙ sym read.reads.ends } in
     record { held = (s, c.args.to.now, c.scan.new.to, i, ms, n, read.value, held, named, read.made, covers) }

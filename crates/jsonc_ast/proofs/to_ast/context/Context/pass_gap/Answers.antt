@@ -11,11 +11,11 @@ use Rattle.jsonc_ast.proofs.lemmas.to_ast.PassedGaps.{gap_collects, gap_told, to
 use Rattle.jsonc_ast.proofs.lemmas.to_ast.Scans.{kept_same}
 use Rattle.jsonc_ast.proofs.to_ast.context.Context.pass_gap.Goals as goal
 
-pub pass_gap-requires-clause-behind : goal.pass_gap-place-requires-clause-behind
+pub pass_gap-requires-clause-behind : goal.pass_gap-requires-clause-behind
 pass_gap-requires-clause-behind g c =
     behind_in c.requires.source (subst (IsBehind (source_of c.args.self.now) (g.R.Receiver.reached c.args.to.now)) (sym c.token_end-from.ensures) c.requires.behind)
 
-pub pass_gap-requires-clause-boundary : goal.pass_gap-place-requires-clause-boundary
+pub pass_gap-requires-clause-boundary : goal.pass_gap-requires-clause-boundary
 pass_gap-requires-clause-boundary g c =
     let old = c.args.self.now in
     subst (λ s. IsCharBoundary s.bytes c.token_end-from.result) (sym c.requires.source) (subst (IsCharBoundary (text_in old)) (sym c.token_end-from.ensures) old.scanner.at_place)
