@@ -8,7 +8,8 @@ use Rattle.jsonc_tree.specs.OrderedTree as ordered
 use Rattle.jsonc_tree.specs.OrderedTree.{OrderedTree, followed_by, ordered_tree, Shows, shows_none, shows_more}
 use Rattle.jsonc_tree.proofs.OrderedTrees.{Shows-ordered_tree, Shows-unique}
 use Rattle.jsonc_tree.specs.Changes.{Pushes}
-use Rattle.jsonc_build.specs.Growth.{AreFrom, none_from, one_from, Grows}
+use Rattle.jsonc_sound.specs.Leaves.{LeafAt}
+use Rattle.jsonc_build.specs.Growth.{AddsLeaf, AreFrom, none_from, one_from, Grows}
 
 from_append : {first end : ℕ} {xs ys : List ℕ} → AreFrom first end xs → AreFrom first end ys → AreFrom first end (xs ++ ys)
 from_append none_from h = h
@@ -103,3 +104,11 @@ grown_root old new row one bare tree grown =
     let shown : Shows new (0 ∷ []) (ordered.more (content_at new 0) row ordered.none) = shows_more (subst (λ ks. Shows new ks row) (sym kids) grown.shows) shows_none in
     Shows-unique new (0 ∷ []) (ordered_tree new 0) (ordered.more (content_at new 0) row ordered.none) (Shows-ordered_tree new tree 0 there) shown
     ∙ ap (λ c. ordered.more c row ordered.none) tree.root_first
+
+-- a node that is added where there was made room before
+pub pushes_from : {old mid new : List Node} {c d : ℕ} {content : Content} → mid ≡ old → d ≡ c → Pushes mid new d content → Pushes old new c content
+pushes_from {mid = mid} {new = new} {c = c} {content = content} nodes same push = subst (λ ns. Pushes ns new c content) nodes (subst (λ k. Pushes mid new k content) same push)
+
+-- a leaf of a text that is added where there was made room before
+pub leaf_added_to : {old mid new : List Node} {c d : ℕ} {text : List ℕ} {content : Content} {i j : ℕ} → mid ≡ old → d ≡ c → Pushes mid new d content → LeafAt text content i j → AddsLeaf old new c text i j
+leaf_added_to {content = content} nodes same push leaf = record { content = content; leaf = leaf; pushes = pushes_from nodes same push }

@@ -1,5 +1,5 @@
 -- Nodes that are added to a container, and what they are made of.
-use Rattle.std.proofs.Common.{ℕ, ◌+◌, ◌-◌, ◌<◌, ◌≡◌, ◌∙◌, sym, ap, subst, refl, List, [], ◌∷◌, ◌++◌, length, arith, IsTrue, Result, Ok, Err, OnOk, IfOk}
+use Rattle.std.proofs.Common.{ℕ, ◌+◌, ◌-◌, ◌<◌, ◌≡◌, ◌∙◌, sym, ap, subst, refl, List, [], ◌∷◌, ◌++◌, length, arith, IsCharBoundary, IsTrue, Result, Ok, Err, OnOk, IfOk}
 use Rattle.std.proofs.lemmas.List.{append_assoc, append-nil}
 use Rattle.std.specs.Rc.{rc_str_bytes}
 use Rattle.jsonc_text.specs.declared.common.Range.{Range}
@@ -10,14 +10,16 @@ use Rattle.jsonc_tree.specs.OrderedTree.{OrderedTree, none, more, followed_by}
 use Rattle.jsonc_tree.specs.Tree.{Node, is_container_at}
 use Rattle.jsonc_tree.specs.Growing.{IsGrowing, container_of, nodes_so_far}
 use Rattle.jsonc_tree.specs.declared.growing.Growing.{Growing}
-use Rattle.jsonc_ast.specs.Located.{Located, LocatedName, array_at, object_at, item_at, member_at, range_at}
+use Rattle.jsonc_ast.specs.Located.{Between, Located, LocatedName, One, array_at, object_at, item_at, member_at, range_at}
 use Rattle.jsonc_ast.specs.Views.{LocatedMember, items_of, members_of}
-use Rattle.jsonc_ast.specs.to_ast.Handed.{Covers}
+use Rattle.jsonc_ast.specs.to_ast.Handed.{Source, Covers, IsBehind, at_place, behind_mark}
+use Rattle.jsonc_sound.specs.Filling.{is_separator}
 use Rattle.jsonc_build.specs.declared.maker.DocumentMaker.{DocumentMaker}
 use Rattle.jsonc_build.specs.Growth.{Grows}
-use Rattle.jsonc_build.specs.Laid.{FillsBetween, ItemsLaid, MembersLaid, Laid, NameLaid, a_property, an_element, array_node, bracketed, name_and_value, no_element, no_property, object_node}
-use Rattle.jsonc_build.specs.Making.{container_in, source_in, nodes_in, Adds, Closes, HasElements, HasProperties, Holds, HoldsElements, HoldsProperties, IsAt, Names, Opens, Puts, PutsLeaf, Stays}
+use Rattle.jsonc_build.specs.Laid.{FillsBetween, FillsGap, ItemsLaid, MembersLaid, Laid, NameLaid, PropertyLaid, a_property, an_element, array_node, bracketed, name_and_value, no_element, no_property, object_node}
+use Rattle.jsonc_build.specs.Making.{container_in, source_in, nodes_in, Adds, Closes, HasElements, HasProperties, Holds, HoldsElements, HoldsProperties, IsAt, Names, Opens, Passes, Puts, PutsLeaf, Stays}
 use Rattle.jsonc_build.proofs.AddedChildren.{grows_none, grows_append, grows_below, grows_leaf, container_kept}
+use Rattle.jsonc_build.proofs.FilledGaps.{fills_join, fills_none, items_behind, leads_further, leads_start, members_behind}
 use Rattle.jsonc_build.proofs.Rows.{followed_assoc}
 
 -- the leaves before a node, the node, and the row below it
@@ -42,7 +44,7 @@ module _ {A : Type 0} where
   pub stays_on : (a b d : DocumentMaker A) → Stays a b → Stays b d → Stays a d
   stays_on a b d h k = record { source = k.source ∙ h.source; whole = k.whole; before = h.before; growing = k.growing }
 
-  text_same : (a b : DocumentMaker A) → Stays a b → b.text.now ≡ a.text.now
+  pub text_same : (a b : DocumentMaker A) → Stays a b → b.text.now ≡ a.text.now
   text_same a b h = ap (λ s. s.bytes) h.source
 
   -- the tree alone has changed
@@ -96,8 +98,9 @@ module _ {A : Type 0} where
     opens = opens_put old mid _ r.start n property (mid_stays old mid i after at rest growing r.end) h;
     is = outer;
     same = same ∙ is ∙ h.number;
-    place = refl;
     name = name;
+    behind = none;
+    leads = leads_start refl;
     has = grows_leaf (pushed_there (container_of after) (same ∙ is ∙ h.number) h.pushes) (entered mid at_node after n name nodes is same push);
     spans = spans;
     laid = laid;
@@ -128,6 +131,18 @@ module _ {A : Type 0} where
 
   pub leaf_added : (old new : DocumentMaker A) (x : Located) (content : Content) → PutsLeaf old new (range_at x) content → Laid old.text.now x content none → Adds old new x
   leaf_added old new x content h laid = record { stays = h.stays; same = h.same; place = h.place; fill = h.fill; content = content; below = none; grows = h.grows; fills = h.fills; laid = laid }
+
+  -- a node that is put where the tree ends
+  pub put_here : (old : DocumentMaker A) (new : List Node) (start n : ℕ) (content : Content) → IsAt old start → IsCharBoundary old.text.now start → Pushes (nodes_in old) new (container_in old) content → n ≡ length (nodes_in old)
+      → Puts (nodes_in old) new (container_in old) old.text.now old.place start content n
+  put_here old new start n content at boundary pushes number = record {
+    filled = nodes_in old;
+    fill = none;
+    grows = grows_none (nodes_in old) (container_in old);
+    fills = fills_none old.text.now old.place start at.place boundary;
+    pushes = pushes;
+    number = number;
+  }
 
   -- what an open container has grown
   within : (old new : DocumentMaker A) (around start : ℕ) (content : Content) (bracket : ℕ) (row : OrderedTree) (h : Holds old new around start content bracket row) → (container_in new) < length h.opened
@@ -225,10 +240,10 @@ module _ {A : Type 0} where
 
   -- a property that has its name and its value
   property_grows : (m k t : DocumentMaker A) (around : ℕ) (n : LocatedName) (x : Located) (h : Names m k around n) (v : Adds k t x)
-      → Grows (nodes_in m) (nodes_in t) (container_in m) (followed_by h.opens.fill (more property (more h.name none (followed_by v.fill (more v.content v.below none))) none))
+      → Grows (nodes_in m) (nodes_in t) (container_in m) (followed_by h.opens.fill (more property (more h.name none (followed_by h.behind (followed_by v.fill (more v.content v.below none)))) none))
   property_grows m k t around n x h v =
       let there : (container_in k) < length h.opens.pushed = pushed_there (container_in k) h.same h.opens.pushes in
-      put_grown h.opens.stays.before.in_tree h.opens.grows h.opens.pushes (subst (λ c. Grows h.opens.pushed (nodes_in t) c (more h.name none (followed_by v.fill (more v.content v.below none)))) h.same (grows_append there h.has v.grows))
+      put_grown h.opens.stays.before.in_tree h.opens.grows h.opens.pushes (subst (λ c. Grows h.opens.pushed (nodes_in t) c (more h.name none (followed_by h.behind (followed_by v.fill (more v.content v.below none))))) h.same (grows_append there h.has v.grows))
 
   pub property_there : (m k t : DocumentMaker A) (around : ℕ) (n : LocatedName) (x : Located) → Names m k around n → Adds k t x → around < length (nodes_in t)
   property_there m k t around n x h v = omega (arith, h.is, h.opens.stays.before.in_tree, (property_grows m k t around n x h v).len)
@@ -244,13 +259,14 @@ module _ {A : Type 0} where
       let to_m : m.text.now ≡ text = text_same s m h.opens.stays in
       let to_k : k.text.now ≡ text = text_same m k named.opens.stays ∙ to_m in
       let fill = named.opens.fill in
-      let below = more named.name none (followed_by v.fill (more v.content v.below none)) in
+      let below = more named.name none (followed_by named.behind (followed_by v.fill (more v.content v.below none))) in
       let stays = stays_on m k t named.opens.stays v.stays in
       let fills = subst (λ p. FillsBetween text m.place p fill) (sym covers.starts) (subst (λ t. FillsBetween t m.place n.range.start fill) to_m named.opens.fills) in
       let spans = subst (λ t. Spans t n.range.start n.range.end) to_m named.spans in
       let name = subst (λ t. NameLaid t n.range named.name) to_m named.laid in
-      let between = subst (λ p. FillsBetween text p (range_at x).start v.fill) named.place (subst (λ t. FillsBetween t k.place (range_at x).start v.fill) to_k v.fills) in
-      let laid = subst (λ t. Laid t x v.content v.below) to_k v.laid in (
+      let between = subst (λ t. FillsBetween t n.range.end (range_at x).start (followed_by named.behind v.fill)) to_m (named.leads (range_at x).start v.fill (subst (λ t. FillsBetween t k.place (range_at x).start v.fill) (text_same m k named.opens.stays) v.fills)) in
+      let laid = subst (λ t. Laid t x v.content v.below) to_k v.laid in
+      let property_laid = subst (λ u. PropertyLaid text n x (more named.name none u)) (followed_assoc named.behind v.fill (more v.content v.below none)) (name_and_value spans name between laid) in (
         followed_by row (followed_by fill (more property below none)),
         holds_on s m (record t { tree = tree }) outer i object 0x7B row (followed_by fill (more property below none)) h
             (record { source = stays.source; whole = stays.whole; before = stays.before; growing = growing }) (is ∙ named.is)
@@ -258,10 +274,75 @@ module _ {A : Type 0} where
         λ ys j rest after.
             subst (λ zs. MembersLaid text (i + 1) (members_of zs) j (followed_by (followed_by row (followed_by fill (more property below none))) rest)) (once_more ms (record { range = r; name = n; value = x }) ys)
             (subst (MembersLaid text (i + 1) (members_of (ms ++ record { range = r; name = n; value = x } ∷ ys)) j) (regroup row fill property below rest)
-            (all (record { range = r; name = n; value = x } ∷ ys) j (followed_by fill (more property below rest)) (a_property fills (name_and_value spans name between laid) (subst (λ p. MembersLaid text p (members_of ys) j rest) (v.place ∙ sym covers.ends) after)))),
+            (all (record { range = r; name = n; value = x } ∷ ys) j (followed_by fill (more property below rest)) (a_property fills property_laid (subst (λ p. MembersLaid text p (members_of ys) j rest) (v.place ∙ sym covers.ends) after)))),
+      )
+
+  -- a maker behind a mark or nothing
+  pub at_before : {s : Source} {j : ℕ} (m : DocumentMaker A) → IsBehind s (IsAt m) j → (i : ℕ) × IsAt m i
+  at_before m (at_place {i = i} at) = (i, at)
+  at_before m (behind_mark {i = i} mark at stands) = (i, at)
+
+  pub mark_before : {s : Source} {j : ℕ} (m : DocumentMaker A) → IsBehind s (IsAt m) j → (m.place ≡ j → ⊥) → (c : ℕ) × IsTrue (is_separator c) × Between s.bytes (One c) m.place j
+  mark_before m (at_place at) apart = absurd (apart at.place)
+  mark_before {s} {j} m (behind_mark {c = c} mark at stands) apart = (c, mark, subst (λ k. Between s.bytes (One c) k j) (sym at.place) stands)
+
+  -- the leaves of a gap, behind a mark or nothing
+  pub gap_passed : (old mid : DocumentMaker A) (tree : Growing A) (from end i : ℕ) → IsAt old i → mid ≡ record old { tree = mid.tree } → container_in mid ≡ container_in old → IsGrowing tree → container_of tree ≡ container_in mid
+      → FillsGap (nodes_in old) (nodes_in mid) (container_in old) old.text.now old.place from → FillsGap (nodes_in mid) (nodes_so_far tree) (container_in mid) mid.text.now from end → Passes old (record mid { tree = tree; place = end })
+  gap_passed old mid tree from end i at rest same growing held (mark, marked, first) (row, grown, then) =
+      let text : mid.text.now ≡ old.text.now = ap (λ m. m.text.now) rest in record {
+        stays = mid_stays old mid i tree at rest growing end;
+        same = held ∙ same;
+        fill = followed_by mark row;
+        grows = grows_append at.growing.in_tree marked (subst (λ c. Grows (nodes_in mid) (nodes_so_far tree) c row) same grown);
+        fills = fills_join first (subst (λ t. FillsBetween t from end row) text then);
+      }
+
+  -- what is named or held stays so behind a gap
+  pub named_behind : (m old new : DocumentMaker A) → Passes old new → (around : ℕ) (n : LocatedName) → Names m old around n → Names m new around n
+  named_behind m old new p around n h = record {
+    opens = record {
+      stays = stays_on m old new h.opens.stays p.stays;
+      filled = h.opens.filled;
+      pushed = h.opens.pushed;
+      fill = h.opens.fill;
+      grows = h.opens.grows;
+      fills = h.opens.fills;
+      pushes = h.opens.pushes;
+    };
+    is = h.is;
+    same = p.same ∙ h.same;
+    name = h.name;
+    behind = followed_by h.behind p.fill;
+    has = subst (λ c. Grows h.opens.pushed (nodes_in new) c (more h.name none (followed_by h.behind p.fill))) (sym p.same) (grows_append (pushed_there (container_in old) h.same h.opens.pushes) h.has p.grows);
+    leads = leads_further h.behind h.leads (subst (λ t. FillsBetween t old.place new.place p.fill) (text_same m old h.opens.stays) p.fills);
+    spans = h.spans;
+    laid = h.laid;
+  }
+
+  pub elements_behind : (m old new : DocumentMaker A) → Passes old new → (around i : ℕ) (xs : List Located) → HoldsElements m old around i xs → HoldsElements m new around i xs
+  elements_behind m old new p around i xs (row, h, all) =
+      let text = m.text.now in
+      let fills = subst (λ t. FillsBetween t old.place new.place p.fill) (text_same m old h.opens.stays) p.fills in (
+        followed_by row p.fill,
+        holds_on m old new around i array 0x5B row p.fill h p.stays p.same p.grows,
+        λ ys k rest after. subst (ItemsLaid text (i + 1) (items_of (xs ++ ys)) k) (sym (followed_assoc row p.fill rest)) (all ys k (followed_by p.fill rest) (items_behind fills after)),
+      )
+
+  pub properties_behind : (m old new : DocumentMaker A) → Passes old new → (around i : ℕ) (ms : List LocatedMember) → HoldsProperties m old around i ms → HoldsProperties m new around i ms
+  properties_behind m old new p around i ms (row, h, all) =
+      let text = m.text.now in
+      let fills = subst (λ t. FillsBetween t old.place new.place p.fill) (text_same m old h.opens.stays) p.fills in (
+        followed_by row p.fill,
+        holds_on m old new around i object 0x7B row p.fill h p.stays p.same p.grows,
+        λ ns k rest after. subst (MembersLaid text (i + 1) (members_of (ms ++ ns)) k) (sym (followed_assoc row p.fill rest)) (all ns k (followed_by p.fill rest) (members_behind fills after)),
       )
 
 -- what an answer says where the call went well
 pub ok_of : {T E P : Type 0} {Q : T → Type 0} (r : Result T E) → (P → (x : T) → Q x) → OnOk r P → IfOk r Q
 ok_of (Ok x) f h = f h x
 ok_of (Err e) f h = tt
+
+pub ok_both : {T E Q : Type 0} {P R : T → Type 0} (r : Result T E) → ((x : T) → P x → Q → R x) → IfOk r P → OnOk r Q → IfOk r R
+ok_both (Ok x) f h k = f x h k
+ok_both (Err e) f h k = tt

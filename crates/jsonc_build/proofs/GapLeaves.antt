@@ -5,7 +5,7 @@ use Rattle.std.proofs.lemmas.Bool.{ne_eqb}
 use Rattle.std.proofs.lemmas.Str.{encodes-chars, IsUtf8-between, len_utf8_bounds}
 use Rattle.std.specs.Char.{len_utf8}
 use lib.Utf8.{encode}
-use Rattle.jsonc_text.proofs.Basics.{test_eq}
+use Rattle.jsonc_text.proofs.Basics.{clash}
 use Rattle.jsonc_text.specs.Text.{rest, next, no, starts, Many, all_of, Spans}
 use Rattle.jsonc_text.specs.Gaps.{is_blank, IsComment}
 use Rattle.jsonc_tree.specs.Content.{Content, text_of, token, whitespace, newline, comment}
@@ -15,9 +15,9 @@ use Rattle.jsonc_tree.proofs.OrderedTrees.{printed-more}
 use Rattle.jsonc_tree.specs.declared.node.CstNewlineKind.TheVariants.{LineFeed, CarriageReturnLineFeed, CarriageReturn}
 use Rattle.jsonc_text.specs.Chars.{Steps}
 use Rattle.jsonc_sound.specs.Leaves.{GapLeaf, line_feed, cr_lf, cr, blanks, a_comment, mark, Fills, end, leaf, LeafAt, is_inner_blank}
-use Rattle.jsonc_sound.specs.Filling.{BeginsComment, is_filling, is_separator}
+use Rattle.jsonc_sound.specs.Filling.{is_separator}
 use Rattle.jsonc_text.proofs.Cuts.{chars_between, slice_encodes}
-use Rattle.jsonc_text.proofs.UniqueGaps.{comment_begins}
+use Rattle.jsonc_build.proofs.Stretches.{from_first}
 
 pub cr_lf_at : (bytes : List ℕ) (i c : ℕ) → Steps bytes i c (i + len_utf8 c) → c ≡ 10 → GapLeaf (newline CarriageReturnLineFeed) (13 ∷ rest bytes i) (rest bytes (i + 1))
 cr_lf_at bytes i c s e =
@@ -30,9 +30,6 @@ cr_at_end bytes i e = cr (rw e refl)
 pub cr_before : (bytes : List ℕ) (i c j : ℕ) → Steps bytes i c j → c ≢ 10 → GapLeaf (newline CarriageReturn) (13 ∷ rest bytes i) (rest bytes i)
 cr_before bytes i c j s e = cr (rw s.0 (ap not (ne_eqb c 10 e)))
 
-pub mark_at : (bytes : List ℕ) (i c w : ℕ) → Steps bytes i c (i + len_utf8 c) → w ≡ len_utf8 c → IsTrue (is_separator c) → LeafAt bytes (token c) i (i + w)
-mark_at bytes i c w s e h = rw e (record { order = omega (arith, len_utf8_bounds c); boundary = s.1; leaf = rw s.0 (mark h) })
-
 pub feed_at : (bytes : List ℕ) (i c w : ℕ) → Steps bytes i c (i + len_utf8 c) → w ≡ len_utf8 c → c ≡ 10 → LeafAt bytes (newline LineFeed) i (i + w)
 feed_at bytes i c w s e h =
     let stands : rest bytes i ≡ 10 ∷ rest bytes (i + len_utf8 c) = s.0 ∙ ap (λ d. d ∷ rest bytes (i + len_utf8 c)) h in
@@ -43,22 +40,6 @@ return_at bytes i c w j content s e h le boundary one =
     let stands : rest bytes i ≡ 13 ∷ rest bytes (i + w) = s.0 ∙ ap (λ d. d ∷ rest bytes (i + len_utf8 c)) h ∙ ap (λ x. 13 ∷ rest bytes (i + x)) (sym e) in
     record { order = omega (arith, len_utf8_bounds c); boundary = boundary; leaf = rw stands one }
 
-inner_from : (a b x y : Bool) → (a || b) ≡ true → b ≡ false → x ≡ false → y ≡ false → (a && not (x || y)) ≡ true
-inner_from true b false false h k e f = refl
-inner_from true b true y h k e f = cc
-inner_from true b false true h k e f = cc
-inner_from false true x y h k e f = cc
-inner_from false false x y h k e f = h
-
--- a comment begins with a slash
-no_comment : {t u : List ℕ} (c : ℕ) → IsTrue (is_filling c) ⊎ BeginsComment t → t ≡ c ∷ u → c ≢ 47 → IsTrue (is_filling c)
-no_comment c (inl h) e slash = h
-no_comment c (inr k) e slash = absurd (slash (test_eq c 47 (subst (λ x. IsTrue (starts (λ d. d == 47) (next x))) e (comment_begins k.1))))
-
-pub comment_begins_at : {t : List ℕ} (c : ℕ) → IsTrue (is_filling c) ⊎ BeginsComment t → c ≡ 47 → BeginsComment t
-comment_begins_at c (inl h) e = absurd (let wrong : false ≡ true = sym (ap is_filling e) ∙ h in cc)
-comment_begins_at c (inr k) e = k
-
 pub comment_at : (bytes : List ℕ) (i j : ℕ) (s : List ℕ) → IsUtf8 bytes → IsCharBoundary bytes i → IsCharBoundary bytes j → i < j → IsComment (rest bytes i) (rest bytes j) → s ≡ slice_range bytes i j → LeafAt bytes (comment s) i j
 comment_at bytes i j s u b boundary order stands same =
     let spans : Spans bytes i j = record { from = b; to = boundary; order = omega arith } in
@@ -68,20 +49,20 @@ comment_at bytes i j s u b boundary order stands same =
       leaf = a_comment (chars (slice_range bytes i j)) (same ∙ sym (encodes-chars (slice_range bytes i j) (IsUtf8-between bytes i j u spans.order b boundary))) stands (chars_between bytes i j u spans);
     }
 
-pub blanks_at : (bytes : List ℕ) (i c w j : ℕ) (s : List ℕ) → IsUtf8 bytes → IsCharBoundary bytes i → Steps bytes i c (i + len_utf8 c) → w ≡ len_utf8 c
-    → IsTrue (is_filling c) ⊎ BeginsComment (rest bytes i) → c ≢ 47 → is_separator c ≡ false → c ≢ 10 → c ≢ 13
-    → i + w ≤ j → IsCharBoundary bytes j → Many is_inner_blank (rest bytes (i + w)) (rest bytes j) → IsTrue (no is_inner_blank (next (rest bytes j)))
-    → s ≡ slice_range bytes i j → LeafAt bytes (whitespace s) i j
-blanks_at bytes i c w j s u b one e begins slash marks feed return le boundary run all same =
-    let long : i ≤ j = omega (arith, len_utf8_bounds c) in
-    let spans : Spans bytes i j = record { from = b; to = boundary; order = long } in
-    let inner : IsTrue (is_inner_blank c) = inner_from (is_blank c) (is_separator c) (c == 10) (c == 13) (no_comment c begins one.0 slash) marks (ne_eqb c 10 feed) (ne_eqb c 13 return) in
-    let stands : rest bytes i ≡ c ∷ rest bytes (i + w) = one.0 ∙ ap (λ x. c ∷ rest bytes (i + x)) (sym e) in
+pub blanks_at : (bytes : List ℕ) (i c w j : ℕ) (s : List ℕ) → IsUtf8 bytes → IsCharBoundary bytes i → Steps bytes i c w → IsTrue (is_inner_blank c) → i ≤ j → IsCharBoundary bytes j
+    → Many is_inner_blank (rest bytes i) (rest bytes j) → IsTrue (no is_inner_blank (next (rest bytes j))) → s ≡ slice_range bytes i j → LeafAt bytes (whitespace s) i j
+blanks_at bytes i c w j s u b one inner order boundary run all same =
+    let spans : Spans bytes i j = record { from = b; to = boundary; order = order } in
+    let apart : i ≢ j = λ e. clash (is_inner_blank c) (subst (λ t. IsTrue (no is_inner_blank (next t))) (ap (rest bytes) (sym e) ∙ one.0) all) inner in
     record {
-      order = omega (arith, len_utf8_bounds c);
+      order = omega (arith, order, apart);
       boundary = boundary;
-      leaf = blanks (chars (slice_range bytes i j)) (same ∙ sym (encodes-chars (slice_range bytes i j) (IsUtf8-between bytes i j u long b boundary))) (rw stands (all_of inner run all)) (chars_between bytes i j u spans);
+      leaf = blanks (chars (slice_range bytes i j)) (same ∙ sym (encodes-chars (slice_range bytes i j) (IsUtf8-between bytes i j u order b boundary))) (from_first one.0 inner run all) (chars_between bytes i j u spans);
     }
+
+-- a comma or colon at a place is a leaf
+pub mark_fills : {c : ℕ} {t r : List ℕ} → t ≡ c ∷ r → IsTrue (is_separator c) → Fills t (ordered.more (token c) ordered.none ordered.none) r
+mark_fills {c = c} {r = r} e h = subst (λ x. Fills x (ordered.more (token c) ordered.none ordered.none) r) (sym e) (leaf (mark h) end)
 
 -- a leaf's text is the characters that it stands for
 pub leaf_text : {content : Content} {t r : List ℕ} → GapLeaf content t r → (s : List ℕ) × (t ≡ s ++ r) × (text_of content ≡ encode_utf8_all s)
@@ -96,6 +77,10 @@ leaf_text (mark {c = c} h) = (c ∷ [], refl, sym (append-nil (encode_utf8 c)))
 pub fills_snoc : {content : Content} {t u r : List ℕ} {row : OrderedTree} → Fills t row u → GapLeaf content u r → Fills t (followed_by row (ordered.more content ordered.none ordered.none)) r
 fills_snoc end one = leaf one end
 fills_snoc (leaf first more) one = leaf first (fills_snoc more one)
+
+pub fills_append : {t u r : List ℕ} {row more : OrderedTree} → Fills t row u → Fills u more r → Fills t (followed_by row more) r
+fills_append end g = g
+fills_append (leaf first f) g = leaf first (fills_append f g)
 
 encodes_append : (s t : List ℕ) → encode_utf8_all (s ++ t) ≡ encode_utf8_all s ++ encode_utf8_all t
 encodes_append [] t = refl

@@ -15,4 +15,5 @@ pub mod LeafShapes
 pub mod Shapes
 pub mod Building
 pub mod Parts
+pub mod FilledTo
 pub mod Documents

@@ -1,76 +1,91 @@
 -- What stands between values, leaf by leaf.
-use Rattle.std.proofs.Common.{ℕ, ◌<◌, ◌≤◌, ◌≡◌, ◌∙◌, sym, ap, subst, refl, true, false, ◌==◌, ◌⊎◌, inl, inr, List, [], ◌∷◌, ◌++◌, arith, IsTrue, IsUtf8, IsCharBoundary}
-use Rattle.std.proofs.lemmas.List.{append_assoc}
-use Rattle.jsonc_text.specs.Text.{rest, next, no, Many, stop, step, all_of}
-use Rattle.jsonc_text.specs.Gaps.{is_blank, IsComment}
-use Rattle.jsonc_text.proofs.Basics.{clash, and_both, test_eq, heads}
-use Rattle.jsonc_text.proofs.Cuts.{spans, same_place}
-use Rattle.jsonc_text.proofs.UniqueGaps.{comment_begins, comment_unique}
-use Rattle.jsonc_tree.specs.Content.{Content}
-use Rattle.jsonc_sound.specs.Filling.{Filling, nothing, character, comment, BeginsComment, is_filling, is_separator}
-use Rattle.jsonc_sound.specs.Leaves.{GapLeaf, line_feed, cr_lf, cr, blanks, a_comment, mark, is_inner_blank}
-use Rattle.jsonc_build.proofs.Comments.{comment_text}
-
-pub filling_append : {t u r : List ℕ} → Filling t u → Filling u r → Filling t r
-filling_append nothing g = g
-filling_append (character h f) g = character h (filling_append f g)
-filling_append (comment k f) g = comment k (filling_append f g)
-
-filling_text : {t r : List ℕ} → Filling t r → (s : List ℕ) × (t ≡ s ++ r)
-filling_text nothing = ([], refl)
-filling_text (character {c = c} h g) = let more = filling_text g in (c ∷ more.0, ap (λ x. c ∷ x) more.1)
-filling_text {r = r} (comment k g) =
-    let first = comment_text k in
-    let more = filling_text g in
-    (first.0 ++ more.0, first.1 ∙ ap (λ x. first.0 ++ x) more.1 ∙ sym (append_assoc first.0 more.0 r))
-
-pub filling_order : (bytes : List ℕ) (i j : ℕ) → IsUtf8 bytes → IsCharBoundary bytes i → IsCharBoundary bytes j → Filling (rest bytes i) (rest bytes j) → i ≤ j
-filling_order bytes i j u b d f = let text = filling_text f in (spans bytes text.0 i j u b d text.1).order
-
-pub apart_places : (bytes : List ℕ) (i j : ℕ) → IsUtf8 bytes → IsCharBoundary bytes i → IsCharBoundary bytes j → i < j → rest bytes i ≡ rest bytes j → ⊥
-apart_places bytes i j u b d h e = let same = same_place bytes i j u b d e in omega (arith, same, h)
-
--- no slash is a blank, a comma or a colon
-filling_no_slash : (c : ℕ) → IsTrue (is_filling c) → IsTrue (c == 0x2F) → ⊥
-filling_no_slash c h s = let wrong : false ≡ true = sym (ap is_filling (test_eq c 0x2F s)) ∙ h in cc
-
--- what stands first
-pub begins_leaf : {t r u : List ℕ} (c : ℕ) → Filling t r → (t ≡ r → ⊥) → t ≡ c ∷ u → IsTrue (is_filling c) ⊎ BeginsComment t
-begins_leaf c nothing apart e = absurd (apart refl)
-begins_leaf c (character {c = d} h g) apart e = inl (subst (λ x. IsTrue (is_filling x)) (heads e) h)
-begins_leaf c (comment {u = u} k g) apart e = inr (u, k)
-
-past_one : {c : ℕ} {v r : List ℕ} → Filling (c ∷ v) r → (c ∷ v ≡ r → ⊥) → (IsTrue (c == 0x2F) → ⊥) → Filling v r
-past_one nothing apart slash = absurd (apart refl)
-past_one (character h g) apart slash = g
-past_one (comment k g) apart slash = absurd (slash (comment_begins k))
-
-past_comment : {t u r : List ℕ} → IsComment t u → Filling t r → (t ≡ r → ⊥) → Filling u r
-past_comment k nothing apart = absurd (apart refl)
-past_comment k (character {c = c} h g) apart = absurd (filling_no_slash c h (comment_begins k))
-past_comment {r = r} k (comment l g) apart = subst (λ x. Filling x r) (comment_unique l k) g
-
-blank_apart : {c : ℕ} {v r : List ℕ} → IsTrue (is_blank c) → IsTrue (no is_blank (next r)) → c ∷ v ≡ r → ⊥
-blank_apart {c} {v} b n e = clash (is_blank c) (subst (λ x. IsTrue (no is_blank (next x))) (sym e) n) b
-
-blank_no_slash : (c : ℕ) → IsTrue (is_blank c) → IsTrue (c == 0x2F) → ⊥
-blank_no_slash c b s = let wrong : false ≡ true = sym (ap is_blank (test_eq c 0x2F s)) ∙ b in cc
-
-past_blank : {c : ℕ} {v r : List ℕ} → IsTrue (is_blank c) → IsTrue (no is_blank (next r)) → Filling (c ∷ v) r → Filling v r
-past_blank {c} b n f = past_one f (blank_apart b n) (blank_no_slash c b)
-
-past_blanks : {t u r : List ℕ} → Many is_inner_blank t u → IsTrue (no is_blank (next r)) → Filling t r → Filling u r
-past_blanks stop n f = f
-past_blanks (step {c = c} h g) n f = past_blanks g n (past_blank (and_both (is_blank c) _ h).0 n f)
+use Rattle.std.proofs.Common.{ℕ, ◌+◌, ◌≡◌, ◌≢◌, ◌∙◌, sym, ap, subst, refl, Bool, true, false, not, ◌&&◌, ◌||◌, ◌==◌, List, [], ◌∷◌, None, IsTrue, IsCharBoundary, IsUtf8}
+use Rattle.std.proofs.lemmas.Bool.{ne_eqb}
+use Rattle.std.specs.Char.{len_utf8}
+use Rattle.jsonc_text.specs.Chars.{Steps}
+use Rattle.jsonc_text.specs.Options.{Options}
+use Rattle.jsonc_text.specs.Text.{rest, next, no, starts, Many, stop, step, AllOf, all_of}
+use Rattle.jsonc_text.specs.Gaps as gaps
+use Rattle.jsonc_text.specs.Gaps.{Gap, is_blank, IsComment}
+use Rattle.jsonc_text.proofs.Basics.{clash, and_both, test_eq, no_starts}
+use Rattle.jsonc_text.proofs.Cuts.{same_place}
+use Rattle.jsonc_text.proofs.UniqueGaps.{comment_begins}
+use Rattle.jsonc_tree.specs.Content.{newline}
+use Rattle.jsonc_tree.specs.declared.node.CstNewlineKind.{CstNewlineKind}
+use Rattle.jsonc_sound.specs.Filling.{is_separator}
+use Rattle.jsonc_sound.specs.Leaves.{GapLeaf, line_feed, cr_lf, cr, is_inner_blank}
+use Rattle.jsonc_build.specs.Laid.{EndsGap}
 
 pub separator_no_slash : (c : ℕ) → IsTrue (is_separator c) → IsTrue (c == 0x2F) → ⊥
 separator_no_slash c h s = let wrong : false ≡ true = sym (ap is_separator (test_eq c 0x2F s)) ∙ h in cc
 
--- what is left after a leaf
-pub past_leaf : {content : Content} {t u r : List ℕ} → GapLeaf content t u → Filling t r → (t ≡ r → ⊥) → IsTrue (no is_blank (next r)) → Filling u r
-past_leaf line_feed f apart n = past_blank refl n f
-past_leaf cr_lf f apart n = past_blank refl n (past_blank refl n f)
-past_leaf (cr h) f apart n = past_blank refl n f
-past_leaf (blanks s e (all_of h m last) split) f apart n = past_blanks (step h m) n f
-past_leaf (a_comment s e k split) f apart n = past_comment k f apart
-past_leaf (mark {c = c} h) f apart n = past_one f apart (separator_no_slash c h)
+-- blanks within a line are blanks, and so is a line end
+pub inner_many : {t r : List ℕ} → Many is_inner_blank t r → Many is_blank t r
+inner_many stop = stop
+inner_many (step {c = c} h m) = step (and_both (is_blank c) _ h).0 (inner_many m)
+
+pub newline_many : {k : CstNewlineKind} {t r : List ℕ} → GapLeaf (newline k) t r → Many is_blank t r
+newline_many line_feed = step refl stop
+newline_many cr_lf = step refl (step refl stop)
+newline_many (cr h) = step refl stop
+
+-- blanks up to where none stands, the first of which stands there
+pub from_first : {p : ℕ → Bool} {c : ℕ} {u t r : List ℕ} → t ≡ c ∷ u → IsTrue (p c) → Many p t r → IsTrue (no p (next r)) → AllOf p t r
+from_first {p} {c} e h stop n = absurd (clash (p c) (subst (λ x. IsTrue (no p (next x))) e n) h)
+from_first e h (step k m) n = all_of k m n
+
+-- no gap begins the text t
+abbrev pub NoGap : Options → List ℕ → Type 0
+NoGap o t = (r : List ℕ) → Gap o t r → t ≡ r
+
+pub no_gap_at : (o : Options) (bytes : List ℕ) (i : ℕ) → IsUtf8 bytes → NoGap o (rest bytes i) → EndsGap o bytes i
+no_gap_at o bytes i u n j b = same_place bytes i j u b.spans.from b.spans.to (n (rest bytes j) b.stands)
+
+pub no_gap_at_end : (o : Options) {t : List ℕ} → t ≡ [] → NoGap o t
+no_gap_at_end o e r gaps.none = refl
+no_gap_at_end o e r (gaps.blank h g) = cc
+no_gap_at_end o e r (gaps.comment a k g) = absurd (no_starts (λ c. c == 0x2F) None refl (subst (λ x. IsTrue (starts (λ c. c == 0x2F) (next x))) e (comment_begins k)))
+
+pub no_gap_here : (o : Options) {t u : List ℕ} (c : ℕ) → t ≡ c ∷ u → is_blank c ≡ false → (IsTrue o.comments → (r : List ℕ) → IsComment t r → ⊥) → NoGap o t
+no_gap_here o c e b n r gaps.none = refl
+no_gap_here o c e b n r (gaps.blank {c = d} h g) = let same : d ≡ c = cc in let wrong : true ≡ false = sym h ∙ ap is_blank same ∙ b in cc
+no_gap_here o c e b n r (gaps.comment {u = u} a k g) = absurd (n a u k)
+
+-- a blank that ends no line
+pub inner_of : (c : ℕ) → IsTrue (is_blank c) → c ≢ 10 → c ≢ 13 → IsTrue (is_inner_blank c)
+inner_of c b feed return = both (is_blank c) (c == 10) (c == 13) b (ne_eqb c 10 feed) (ne_eqb c 13 return)
+  where
+    both : (x y z : Bool) → x ≡ true → y ≡ false → z ≡ false → (x && not (y || z)) ≡ true
+    both true false false h k l = refl
+    both true true z h k l = cc
+    both true false true h k l = cc
+    both false y z h k l = cc
+
+module _ (bytes : List ℕ) (i c : ℕ) (stands : Steps bytes i c (i + len_utf8 c)) where
+  -- a line feed is a blank
+  pub newline_step : IsTrue (is_blank c) → c ≡ 10 → Many is_blank (rest bytes i) (rest bytes (i + 1))
+  newline_step b e = rw (stands.0 ∙ ap (λ n. c ∷ rest bytes (i + n)) (ap len_utf8 e)) (step b stop)
+
+  -- what stands after a carriage return
+  pub after_return : c ≡ 13 → IsCharBoundary bytes (i + 1)
+  after_return e = subst (λ n. IsCharBoundary bytes (i + n)) (ap len_utf8 e) stands.1
+
+  pub return_many : {k : CstNewlineKind} (j : ℕ) → c ≡ 13 → GapLeaf (newline k) (13 ∷ rest bytes (i + 1)) (rest bytes j) → Many is_blank (rest bytes i) (rest bytes j)
+  return_many j e one = subst (λ t. Many is_blank t (rest bytes j)) (sym (stands.0 ∙ ap (λ d. d ∷ rest bytes (i + len_utf8 c)) e ∙ ap (λ n. 13 ∷ rest bytes (i + n)) (ap len_utf8 e))) (newline_many one)
+
+-- a slash that begins no comment, or none that is allowed
+pub refused_slash : (o : Options) {t u : List ℕ} (c : ℕ) → t ≡ c ∷ u → is_blank c ≡ false → IsTrue (not (c == 0x2F) || not o.comments) → NoGap o t
+refused_slash o c e blank refused = no_gap_here o c e blank (λ allowed r k. neither (c == 0x2F) o.comments refused (subst (λ x. IsTrue (starts (λ d. d == 0x2F) (next x))) e (comment_begins k)) allowed)
+  where
+    neither : (a b : Bool) → IsTrue (not a || not b) → IsTrue a → IsTrue b → ⊥
+    neither true true h f g = cc
+    neither true false h f g = cc
+    neither false b h f g = cc
+
+pub allowed_slash : (c : ℕ) (o : Options) → (not (c == 0x2F) || not o.comments) ≡ false → IsTrue o.comments
+allowed_slash c o h = second (c == 0x2F) o.comments h
+  where
+    second : (a b : Bool) → (not a || not b) ≡ false → IsTrue b
+    second true true h = refl
+    second true false h = cc
+    second false b h = cc

@@ -2,12 +2,13 @@
 -- container, and what stands between them is leaves of its own.
 use Rattle.std.specs.Prelude.{ℕ, ◌+◌, ◌-◌, ◌≡◌, Bool, true, false, ◌||◌, ◌==◌, List, Option, Some, None, length, slice_range}
 use Rattle.jsonc_text.specs.declared.common.Range.{Range}
+use Rattle.jsonc_text.specs.Gaps.{Gap}
 use Rattle.jsonc_text.specs.Options.{Options}
 use Rattle.jsonc_text.specs.Text.{next, starts, rest, Spans}
 use Rattle.jsonc_text.specs.Plain.{Plain}
 use Rattle.jsonc_tree.specs.Content.{Content, token}
 use Rattle.jsonc_tree.specs.OrderedTree.{OrderedTree, none, more, followed_by}
-use Rattle.jsonc_ast.specs.Located.{Located, LocatedItems, LocatedMembers, LocatedName, leaf_at, array_at, object_at, no_items_at, item_at, no_members_at, member_at, range_at, IsLocatedDocument}
+use Rattle.jsonc_ast.specs.Located.{Located, LocatedItems, LocatedMembers, LocatedName, leaf_at, array_at, object_at, no_items_at, item_at, no_members_at, member_at, range_at, Between, IsLocatedDocument}
 use Rattle.jsonc_tree.specs.Tree.{Node}
 use Rattle.jsonc_build.specs.Growth.{Grows}
 use Rattle.jsonc_sound.specs.Leaves.{Fills}
@@ -20,6 +21,10 @@ bytes_in bytes r = slice_range bytes r.start r.end
 pub record FillsBetween (bytes : List ℕ) (i j : ℕ) (row : OrderedTree) : Type 0 where
   pub spans : Spans bytes i j
   pub fills : Fills (rest bytes i) row (rest bytes j)
+
+-- no blank stands at the place, nor a comment where o allows them
+abbrev pub EndsGap : Options → List ℕ → ℕ → Type 0
+EndsGap o bytes i = (j : ℕ) → Between bytes (Gap o) i j → i ≡ j
 
 -- a container has got the leaves of the text from the place i up to the place j
 abbrev pub FillsGap : List Node → List Node → ℕ → List ℕ → ℕ → ℕ → Type 0

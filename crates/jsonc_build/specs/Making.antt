@@ -14,7 +14,6 @@ use Rattle.jsonc_ast.specs.Located.{Located, LocatedName, range_at, value_at, Is
 use Rattle.jsonc_ast.specs.Views.{LocatedMember, items_of, members_of}
 use Rattle.jsonc_ast.specs.to_ast.Handed.{Source}
 use Rattle.jsonc_ast.specs.to_ast.Reached.{FitsIn}
-use Rattle.jsonc_sound.specs.Filling.{IsFillable}
 use Rattle.jsonc_build.specs.declared.maker.DocumentMaker.{DocumentMaker}
 use Rattle.jsonc_build.specs.Growth.{Grows}
 use Rattle.jsonc_build.specs.Laid.{FillsBetween, ItemsLaid, Laid, MembersLaid, NameLaid, RootLaid}
@@ -27,6 +26,10 @@ pub record Puts (old new : List Node) (c : ℕ) (text : List ℕ) (i j : ℕ) (c
   pub fills : FillsBetween text i j fill
   pub pushes : Pushes filled new c content
   pub number : n ≡ length filled
+
+-- leaves that go on from the place j go on from the place i, where the row stands before them
+abbrev pub LeadsOn : List ℕ → ℕ → ℕ → OrderedTree → Type 0
+LeadsOn text i j row = (k : ℕ) (next : OrderedTree) → FillsBetween text j k next → FillsBetween text i k (followed_by row next)
 
 -- the row is these elements, and the leaves before each: with those that follow in another one it is all of them
 abbrev pub HasElements : List ℕ → ℕ → List Located → ℕ → OrderedTree → Type 0
@@ -59,6 +62,14 @@ module _ {A : Type 0} where
     pub before : IsGrowing old.tree
     pub growing : IsGrowing new.tree
 
+  -- the leaves of a gap have been added, and the mark before it
+  pub record Passes (old new : DocumentMaker A) : Type 0 where
+    pub stays : Stays old new
+    pub same : container_in new ≡ container_in old
+    pub fill : OrderedTree
+    pub grows : Grows (nodes_in old) (nodes_in new) (container_in old) fill
+    pub fills : FillsBetween old.text.now old.place new.place fill
+
   -- a value that is a leaf has been added, and the leaves before it
   pub record PutsLeaf (old new : DocumentMaker A) (r : Range) (content : Content) : Type 0 where
     pub stays : Stays old new
@@ -90,14 +101,15 @@ module _ {A : Type 0} where
     pub fills : FillsBetween old.text.now old.place (range_at x).start fill
     pub laid : Laid old.text.now x content below
 
-  -- a property is open, and has its name; the container around it is this one
+  -- a property is open, and has its name and the leaves behind that; the container around it is this one
   pub record Names (old new : DocumentMaker A) (around : ℕ) (n : LocatedName) : Type 0 where
     pub opens : Opens old new n.range.start property
     pub is : around ≡ container_in old
     pub same : container_in new ≡ length opens.filled
-    pub place : new.place ≡ n.range.end
     pub name : Content
-    pub has : Grows opens.pushed (nodes_in new) (container_in new) (more name none none)
+    pub behind : OrderedTree
+    pub has : Grows opens.pushed (nodes_in new) (container_in new) (more name none behind)
+    pub leads : LeadsOn old.text.now n.range.end new.place behind
     pub spans : Spans old.text.now n.range.start n.range.end
     pub laid : NameLaid old.text.now n.range name
 
@@ -128,13 +140,11 @@ module _ {A : Type 0} where
   abbrev pub HoldsProperties : DocumentMaker A → DocumentMaker A → ℕ → ℕ → List LocatedMember → Type 0
   HoldsProperties old new around start ms = (row : OrderedTree) × Holds old new around start object 0x7B row × HasProperties old.text.now (start + 1) ms new.place row
 
-  -- all is made but what stands after the text's value
+  -- all is made of the text
   pub record Ends (o : Options) (old new : DocumentMaker A) : Type 0 where
     pub value : Option Located
     pub located : IsLocatedDocument o old.text.now value
     pub fits : FitsIn true (option_map value_at value)
-    pub at : IsAt new new.place
-    pub same : container_in new ≡ container_in old
-    pub left : IsFillable new.text.now new.place (length new.text.now)
-    pub whole : (tree : List Node) (after : OrderedTree) → Grows (nodes_in new) tree (container_in new) after → FillsBetween new.text.now new.place (length new.text.now) after
-        → (row : OrderedTree) × Grows (nodes_in old) tree (container_in old) row × RootLaid old.text.now value row
+    pub row : OrderedTree
+    pub grows : Grows (nodes_in old) (nodes_in new) (container_in old) row
+    pub laid : RootLaid old.text.now value row

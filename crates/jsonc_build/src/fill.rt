@@ -1,20 +1,22 @@
-//! The leaves between values: commas and colons, comments, line ends and blanks.
-ghost use Rattle.std.specs.Prelude.{◌≡◌, ◌+◌, ◌<◌, ◌≤◌, ◌⊎◌, ℕ, [], ◌∷◌, List, ◌==◌, IfNone, IfOk, IfSome, IsCharBoundary, IsTrue, OnOk};
+//! The leaves of a gap: comments, line ends and blanks.
+ghost use Rattle.std.specs.Prelude.{◌≡◌, ◌+◌, ◌<◌, ◌≤◌, ℕ, ◌∷◌, IfNone, IfOk, IfSome, IsCharBoundary, IsTrue, OnOk};
 ghost use Rattle.std.specs.Char.{len_utf8};
 ghost use Rattle.std.specs.Rc.{rc_str_bytes};
-ghost use Rattle.jsonc_text.specs.Text.{Many, next, no, rest, starts};
+ghost use Rattle.jsonc_text.specs.OptionsOf.{parse_options};
+ghost use Rattle.jsonc_text.specs.Text.{Many, next, no, rest};
+ghost use Rattle.jsonc_text.specs.string.Between.{Between, NoneFrom};
 ghost use Rattle.jsonc_text.specs.Chars.{Steps};
-ghost use Rattle.jsonc_text.specs.Gaps.{IsComment, UpToBlockEnd};
+ghost use Rattle.jsonc_text.specs.Gaps.{Gap, IsComment, is_blank};
 ghost use Rattle.jsonc_tree.specs.Content.{newline};
 ghost use Rattle.jsonc_tree.specs.Growing.{IsGrowing, container_of, nodes_so_far};
-ghost use Rattle.jsonc_sound.specs.Filling.{BeginsComment, IsFillable, is_filling, is_separator};
-ghost use Rattle.jsonc_build.specs.Growth.{AddsLeaf};
-ghost use Rattle.jsonc_build.specs.Laid.{FillsGap};
 ghost use Rattle.jsonc_sound.specs.Leaves.{GapLeaf, is_inner_blank};
+ghost use Rattle.jsonc_build.specs.Growth.{AddsLeaf};
+ghost use Rattle.jsonc_build.specs.Laid.{EndsGap, FillsGap};
 
 use crate::room::make_room;
-use jsonc_text::chars::char_at;
+use jsonc_text::chars::{char_at, has_byte};
 use jsonc_text::comment::block_close;
+use jsonc_text::options::ParseOptions;
 use jsonc_text::string::stops::stop_place;
 use jsonc_tree::{CstNewlineKind, Growing, Kind, Part};
 use std::alloc::{AllocError, Allocator};
@@ -24,23 +26,6 @@ fn is_inner_blank(c: char) -> bool
     ensures { result ≡ is_inner_blank c }
 {
     c.is_whitespace() && !((c == '\n') | (c == '\r'))
-}
-
-fn is_separator(c: char) -> bool
-    ensures { result ≡ is_separator c }
-{
-    (c == ',') | (c == ':')
-}
-
-// Whether a character stands at a place.
-fn has_char(text: &str, place: usize, wanted: char) -> bool
-    requires { IsCharBoundary text.now place }
-    ensures { result ≡ starts (λ c. c == wanted) (next (rest text.now place)) }
-{
-    match char_at(text, place) {
-        Some(c) => c == wanted,
-        None => false,
-    }
 }
 
 // The length of the blank at a place that ends no line, or 0 where none stands.
@@ -115,59 +100,55 @@ fn carriage_return(text: &str, place: usize) -> (CstNewlineKind, usize)
     (CstNewlineKind::CarriageReturn, place)
 }
 
-// The place after the first `*/` from `start` on.
-fn block_end(text: &str, start: usize) -> usize
-    requires start { IsCharBoundary text.now start }
-    requires closed { (r : List ℕ) × UpToBlockEnd (rest text.now start) r }
-    ensures place { IsCharBoundary text.now result }
-    ensures order { start ≤ result }
-    ensures block { UpToBlockEnd (rest text.now start) (rest text.now result) }
+// The place after the comment at a place, or none where no comment stands that is closed.
+fn comment_end(text: &str, place: usize) -> Option<usize>
+    requires { Steps text.now place 0x2F (place + 1) }
+    ensures found { IfSome result (Between IsComment text.now place) }
+    ensures none { IfNone result (NoneFrom IsComment text.now place) }
 {
-    let Some(close) = block_close(text, start) else {
-        unreachable!()
-    };
-    close + 2
-}
-
-// The place after the comment at a place.
-fn comment_end(text: &str, place: usize) -> usize
-    requires place { IsCharBoundary text.now place }
-    requires comment { BeginsComment (rest text.now place) }
-    ensures place { IsCharBoundary text.now result }
-    ensures order { place < result }
-    ensures comment { IsComment (rest text.now place) (rest text.now result) }
-{
-    if has_char(text, place + 1, '/') {
-        return stop_place(text, place + 2, b'\n', b'\r');
+    if has_byte(text, place + 1, b'/') {
+        return Some(stop_place(text, place + 2, b'\n', b'\r'));
     }
-    block_end(text, place + 2)
+    if !has_byte(text, place + 1, b'*') {
+        return None;
+    }
+    let Some(close) = block_close(text, place + 2) else {
+        return None;
+    };
+    Some(close + 2)
 }
 
-// Adds the comment at a place, and answers where it ends.
+// Adds the comment at a place, and answers where it ends, or none where no comment stands that is closed.
 #[inline(never)]
 fn push_comment<A: Allocator>(
     tree: &mut Growing<A>,
     whole: &RcStr<A>,
     text: &str,
     place: usize,
-) -> Result<usize, AllocError>
+) -> Result<Option<usize>, AllocError>
     requires whole { rc_str_bytes whole.now ≡ text.now }
     requires growing { IsGrowing tree.old }
     requires place { IsCharBoundary text.now place }
-    requires comment { BeginsComment (rest text.now place) }
-    ensures added { IfOk result (AddsLeaf (nodes_so_far tree.old) (nodes_so_far tree.new) (container_of tree.old) text.now place) }
+    requires slash { Steps text.now place 0x2F (place + 1) }
+    ensures added { IfOk result (λ f. IfSome f (AddsLeaf (nodes_so_far tree.old) (nodes_so_far tree.new) (container_of tree.old) text.now place)) }
+    ensures comment { IfOk result (λ f. IfSome f (λ e. IsComment (rest text.now place) (rest text.now e))) }
+    ensures same { IfOk result (λ f. IfNone f (nodes_so_far tree.new ≡ nodes_so_far tree.old)) }
+    ensures none { IfOk result (λ f. IfNone f (NoneFrom IsComment text.now place)) }
     ensures container { OnOk result (container_of tree.new ≡ container_of tree.old) }
     ensures growing { OnOk result (IsGrowing tree.new) }
 {
-    let end = comment_end(text, place);
+    let Some(end) = comment_end(text, place) else {
+        return Ok(None);
+    };
+    make_room(tree, place, text.len())?;
     let comment = Part::new(whole, place, end)?;
     tree.push(Kind::CommentPart(comment))?;
-    Ok(end)
+    Ok(Some(end))
 }
 
-// Adds the leaf that begins at a place with the character `c`, and answers where it ends.
+// Adds the leaf that begins at a place with the blank `c`, and answers where it ends.
 #[inline(always)]
-fn push_leaf<A: Allocator>(
+fn push_blank<A: Allocator>(
     tree: &mut Growing<A>,
     whole: &RcStr<A>,
     text: &str,
@@ -178,56 +159,59 @@ fn push_leaf<A: Allocator>(
     requires growing { IsGrowing tree.old }
     requires place { IsCharBoundary text.now place }
     requires stands { Steps text.now place c (place + len_utf8 c) }
-    requires filling { IsTrue (is_filling c) ⊎ BeginsComment (rest text.now place) }
+    requires blank { IsTrue (is_blank c) }
     ensures added { IfOk result (AddsLeaf (nodes_so_far tree.old) (nodes_so_far tree.new) (container_of tree.old) text.now place) }
+    ensures blanks { IfOk result (λ e. Many is_blank (rest text.now place) (rest text.now e)) }
     ensures container { OnOk result (container_of tree.new ≡ container_of tree.old) }
     ensures growing { OnOk result (IsGrowing tree.new) }
 {
-    if c == '/' {
-        return push_comment(tree, whole, text, place);
-    }
-    let after = place + c.len_utf8();
-    if is_separator(c) {
-        tree.push(Kind::token(c))?;
-        return Ok(after);
-    }
     if c == '\n' {
         tree.push(Kind::Newline(CstNewlineKind::LineFeed))?;
-        return Ok(after);
+        return Ok(place + 1);
     }
     if c == '\r' {
-        let (newline, end) = carriage_return(text, after);
+        let (newline, end) = carriage_return(text, place + 1);
         tree.push(Kind::Newline(newline))?;
         return Ok(end);
     }
-    let end = blanks_end(text, after);
+    let end = blanks_end(text, place);
     let blanks = Part::new(whole, place, end)?;
     tree.push(Kind::WhitespacePart(blanks))?;
     Ok(end)
 }
 
-// Makes room for nodes, and adds the leaves between two places to the end of the container at hand.
+// Adds the leaves of the gap at a place to the end of the container at hand, and answers where it ends.
 pub(crate) fn fill_gap<A: Allocator>(
     tree: &mut Growing<A>,
     whole: &RcStr<A>,
     text: &str,
     from: usize,
-    to: usize,
-) -> Result<(), AllocError>
+    options: &ParseOptions,
+) -> Result<usize, AllocError>
     requires whole { rc_str_bytes whole.now ≡ text.now }
     requires growing { IsGrowing tree.old }
-    requires fillable { IsFillable text.now from to }
-    ensures filled { OnOk result (FillsGap (nodes_so_far tree.old) (nodes_so_far tree.new) (container_of tree.old) text.now from to) }
+    requires place { IsCharBoundary text.now from }
+    ensures filled { IfOk result (FillsGap (nodes_so_far tree.old) (nodes_so_far tree.new) (container_of tree.old) text.now from) }
+    ensures gap { IfOk result (λ e. Gap (parse_options options.now) (rest text.now from) (rest text.now e)) }
+    ensures ends { IfOk result (EndsGap (parse_options options.now) text.now) }
     ensures container { OnOk result (container_of tree.new ≡ container_of tree.old) }
     ensures growing { OnOk result (IsGrowing tree.new) }
 {
-    make_room(tree, from, text.len())?;
     let mut place = from;
-    'leaves: while place < to {
+    'leaves: loop {
         let Some(c) = char_at(text, place) else {
-            unreachable!()
+            return Ok(place);
         };
-        place = push_leaf(tree, whole, text, place, c)?;
+        if c.is_whitespace() {
+            place = push_blank(tree, whole, text, place, c)?;
+        } else {
+            if (c != '/') | !options.allow_comments {
+                return Ok(place);
+            }
+            let Some(end) = push_comment(tree, whole, text, place)? else {
+                return Ok(place);
+            };
+            place = end;
+        }
     }
-    Ok(())
 }

@@ -1,21 +1,24 @@
 //! What makes the tree of a document as its text is read.
-ghost use Rattle.std.specs.Prelude.{ℕ, List, [], ◌≡◌, ◌+◌, ◌-◌, ◌<◌, true, IfOk, OnOk, IsCharBoundary, IsTrue, length, slice_range};
+ghost use Rattle.std.specs.Prelude.{ℕ, List, [], ◌≡◌, ◌+◌, ◌-◌, ◌<◌, ◌==◌, true, IfOk, OnOk, IsCharBoundary, IsTrue, length, slice_range};
 ghost use Rattle.std.specs.Rc.{rc_str_bytes};
 ghost use Rattle.jsonc_text.specs.OptionsOf.{parse_options};
-ghost use Rattle.jsonc_text.specs.Text.{Spans};
+ghost use Rattle.jsonc_text.specs.Text.{Spans, next, rest, starts};
 ghost use Rattle.jsonc_tree.specs.Content.{Content, array, is_container, object, property, token};
 ghost use Rattle.jsonc_tree.specs.Growing.{IsGrowing};
 ghost use Rattle.jsonc_tree.specs.OrderedTree.{OrderedTree, none};
 ghost use Rattle.jsonc_tree.specs.Stored.{content_of};
 ghost use Rattle.jsonc_tree.specs.Tree.{children_at, is_container_at};
-ghost use Rattle.jsonc_ast.specs.to_ast.Handed.{Follows};
-ghost use Rattle.jsonc_sound.specs.Filling.{IsFillable};
-ghost use Rattle.jsonc_build.specs.Laid.{FillsGap, NameLaid, is_quote_at};
-ghost use Rattle.jsonc_build.specs.Making.{container_in, source_in, nodes_in, Closes, Holds, IsAt, Names, Opens, Puts, PutsLeaf};
+ghost use Rattle.jsonc_text.specs.Gaps.{Gap};
+ghost use Rattle.jsonc_ast.specs.Located.{Between};
+ghost use Rattle.jsonc_ast.specs.to_ast.Handed.{Follows, IsBehind};
+ghost use Rattle.jsonc_sound.specs.Filling.{is_separator};
+ghost use Rattle.jsonc_build.specs.Laid.{EndsGap, FillsGap, NameLaid, is_quote_at};
+ghost use Rattle.jsonc_build.specs.Making.{container_in, source_in, nodes_in, Closes, Holds, IsAt, Names, Opens, Passes, Puts, PutsLeaf};
 
 use crate::fill::fill_gap;
+use crate::room::make_room;
 use jsonc_ast::to_ast::receiver::Receiver;
-use jsonc_text::chars::char_at;
+use jsonc_text::chars::{char_at, has_byte};
 use jsonc_text::common::Range;
 use jsonc_text::options::ParseOptions;
 use jsonc_tree::{Ends, Growing, Kind, Part, Tree};
@@ -45,6 +48,21 @@ fn is_quote_at(text: &str, place: usize) -> bool
     }
 }
 
+// The comma or colon at a place.
+#[inline(always)]
+fn mark_at(text: &str, place: usize) -> char
+    requires boundary { IsCharBoundary text.now place }
+    requires stands { IsTrue (starts is_separator (next (rest text.now place))) }
+    ensures here { IsTrue (starts (λ c. c == result) (next (rest text.now place))) }
+    ensures mark { IsTrue (is_separator result) }
+{
+    if has_byte(text, place, b',') {
+        ','
+    } else {
+        ':'
+    }
+}
+
 impl<'a, A: Allocator + Copy> DocumentMaker<'a, A> {
     /// A document whose text is still to be read.
     pub(crate) fn new(
@@ -67,22 +85,13 @@ impl<'a, A: Allocator + Copy> DocumentMaker<'a, A> {
         })
     }
 
-    /// The tree, with the leaves that stand after the text's value.
-    pub(crate) fn finish(self) -> Result<Tree<A>, AllocError>
-        requires reached { IsAt self self.place }
-        requires left { IsFillable self.text.now self.place (length self.text.now) }
-        ensures { IfOk result (λ t. FillsGap (nodes_in self.entry) t.nodes (container_in self.entry)
-            self.entry.text.now self.entry.place (length self.entry.text.now)) }
+    /// The tree.
+    pub(crate) fn finish(self) -> Tree<A>
+        requires { IsAt self self.place }
+        ensures { result.nodes ≡ nodes_in self.entry }
     {
-        let DocumentMaker {
-            mut tree,
-            text,
-            whole,
-            place,
-            ..
-        } = self;
-        fill_gap(&mut tree, &whole, text, place, text.len())?;
-        Ok(tree.finish())
+        let DocumentMaker { tree, .. } = self;
+        tree.finish()
     }
 
     // The text in a range, as written.
@@ -107,7 +116,42 @@ impl<'a, A: Allocator + Copy> DocumentMaker<'a, A> {
         Ok(Kind::WordPart(name))
     }
 
-    // Adds the leaves up to a place, and a node behind them.
+    // Adds the comma or colon that stands before a place, if one does.
+    #[inline(always)]
+    fn mark(&mut self, from: usize) -> Result<(), AllocError>
+        requires behind { IsBehind (source_in self.old) (IsAt self.old) from }
+        requires boundary { IsCharBoundary self.old.text.now from }
+        ensures rest { OnOk result (self.new ≡ record self.old { tree = self.new.tree }) }
+        ensures container { OnOk result (container_in self.new ≡ container_in self.old) }
+        ensures growing { OnOk result (IsGrowing self.new.tree) }
+        ensures filled { OnOk result (FillsGap (nodes_in self.old) (nodes_in self.new) (container_in self.old)
+            self.old.text.now self.old.place from) }
+    {
+        if self.place == from {
+            return Ok(());
+        }
+        let mark = mark_at(self.text, self.place);
+        self.tree.push(Kind::token(mark))?;
+        Ok(())
+    }
+
+    // Adds it, and the leaves of the gap at the place, and answers where that ends.
+    #[inline(always)]
+    fn pass(&mut self, from: usize) -> Result<usize, AllocError>
+        requires behind { IsBehind (source_in self.old) (IsAt self.old) from }
+        requires boundary { IsCharBoundary self.old.text.now from }
+        ensures passes { OnOk result (Passes self.old self.new) }
+        ensures at { IfOk result (IsAt self.new) }
+        ensures gap { IfOk result (Between self.old.text.now (Gap (source_in self.old).options) from) }
+        ensures ends { IfOk result (EndsGap (source_in self.old).options self.old.text.now) }
+    {
+        self.mark(from)?;
+        let end = fill_gap(&mut self.tree, &self.whole, self.text, from, &self.options)?;
+        self.place = end;
+        Ok(end)
+    }
+
+    // Adds a node.
     #[inline(always)]
     fn put(&mut self, start: usize, kind: Kind<A>) -> Result<usize, AllocError>
         requires { Follows (source_in self.old) (IsAt self.old) start }
@@ -117,11 +161,11 @@ impl<'a, A: Allocator + Copy> DocumentMaker<'a, A> {
         ensures put { IfOk result (Puts (nodes_in self.old) (nodes_in self.new) (container_in self.old)
             self.old.text.now self.old.place start (content_of kind)) }
     {
-        fill_gap(&mut self.tree, &self.whole, self.text, self.place, start)?;
+        make_room(&mut self.tree, start, self.text.len())?;
         self.tree.push(kind)
     }
 
-    // Adds the leaves before a value that is a leaf, and the value.
+    // Adds a value that is a leaf.
     #[inline(always)]
     fn leaf(&mut self, range: Range, kind: Kind<A>) -> Result<(), AllocError>
         requires { Follows (source_in self.old) (IsAt self.old) range.start }
@@ -186,7 +230,7 @@ impl<'a, A: Allocator + Copy> DocumentMaker<'a, A> {
 
 impl<'a, A: Allocator + Copy> Receiver<String<A>> for DocumentMaker<'a, A> {
     ghost use Rattle.std.specs.Prelude.{true};
-    ghost use Rattle.jsonc_build.specs.Making.{source_in, Adds, HoldsElements, HoldsProperties, IsAt, Names};
+    ghost use Rattle.jsonc_build.specs.Making.{source_in, Adds, HoldsElements, HoldsProperties, IsAt, Names, Passes};
 
     type Item = ();
 
@@ -211,9 +255,17 @@ impl<'a, A: Allocator + Copy> Receiver<String<A>> for DocumentMaker<'a, A> {
 
     ghost reached = { IsAt };
 
+    ghost passes = { Passes };
+
     #[inline(always)]
     fn is_whole(&self) -> bool {
         true
+    }
+
+    #[inline(always)]
+    fn pass_gap(&mut self, from: usize) -> Result<usize, AllocError> {
+        let end = self.pass(from)?;
+        Ok(end)
     }
 
     fn string(&mut self, range: Range) -> Result<(), AllocError> {

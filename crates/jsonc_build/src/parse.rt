@@ -49,8 +49,5 @@ pub fn parse_tree<A: Allocator + Copy>(
         return Err(context.out_of_memory());
     };
     read_document(&mut context, &mut to)?;
-    let Ok(tree) = to.finish() else {
-        return Err(context.out_of_memory());
-    };
-    Ok(tree)
+    Ok(to.finish())
 }

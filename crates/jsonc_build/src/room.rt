@@ -28,7 +28,7 @@ pub(crate) fn make_room<A: Allocator>(
     ensures container { container_of tree.new ≡ container_of tree.old }
     ensures growing { IsGrowing tree.old → IsGrowing tree.new }
 {
-    if tree.spare() >= 8 {
+    if tree.spare() >= 16 {
         return Ok(());
     }
     tree.reserve_nodes(nodes_to_come(tree.len(), place, len))

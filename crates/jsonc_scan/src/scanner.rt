@@ -97,6 +97,7 @@ impl<'a, A: Allocator + Copy> Scanner<'a, A> {
     ghost use Rattle.jsonc_scan.specs.Found.{token_found, LeavesOthers};
     ghost use Rattle.jsonc_text.specs.string.Between.{LacksAt};
     ghost use Rattle.jsonc_text.specs.Lexemes.{is_punctuation};
+    ghost use Rattle.jsonc_text.specs.Text.{Spans};
     ghost use Rattle.jsonc_text.specs.string.Quotes.{OpensString};
     ghost use Rattle.jsonc_text.specs.Tokens.{IsOwned, scanned_of};
 
@@ -123,6 +124,20 @@ impl<'a, A: Allocator + Copy> Scanner<'a, A> {
     {
         self.token_start = self.byte_index;
         self.byte_index += 1;
+    }
+
+    /// Goes on from a place behind the last token, up to which only a gap stands.
+    #[doc(hidden)]
+    #[inline(always)]
+    pub fn pass_to(&mut self, place: usize)
+        requires { Spans (text_of self.old) (end_of self.old) place }
+        ensures text { text_of self.new ≡ text_of self.old }
+        ensures options { options_of self.new ≡ options_of self.old }
+        ensures start { start_of self.new ≡ start_of self.old }
+        ensures end { end_of self.new ≡ place }
+        ensures keeps { last_token self.new ≡ last_token self.old }
+    {
+        self.byte_index = place;
     }
 
     /// Moves to the next token, and answers its kind, if there is one.

@@ -30,5 +30,6 @@ pub mod Ranges
 pub mod Handing
 pub mod Walks
 pub mod MadeTrees
+pub mod PassedGaps
 pub mod Following
 pub mod PassedStrings

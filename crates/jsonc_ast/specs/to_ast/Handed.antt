@@ -1,14 +1,13 @@
 -- What a walk over a text hands to a receiver, and what is made of it.
-use Rattle.std.specs.Prelude.{ℕ, ◌+◌, ◌-◌, ◌≤◌, ◌≡◌, ◌⊎◌, ◌||◌, ◌==◌, IsTrue, Bool, List, [], ◌∷◌, ◌++◌, Option, Some, None, option_map, chars, slice_range}
+use Rattle.std.specs.Prelude.{ℕ, ◌+◌, ◌-◌, ◌≤◌, ◌≡◌, ◌⊎◌, ◌||◌, ◌==◌, IsCharBoundary, IsTrue, Bool, List, [], ◌∷◌, ◌++◌, Option, Some, None, option_map, chars, slice_range}
 use Rattle.jsonc_text.specs.declared.common.Range.{Range}
 use Rattle.jsonc_text.specs.declared.errors.ParseError.{ParseError}
-use Rattle.jsonc_text.specs.Gaps.{Gap, is_blank}
-use Rattle.jsonc_text.specs.Text.{next, no, rest}
 use Rattle.jsonc_text.specs.Lexemes.{Scanned, LexemeKind, Lexeme, lexeme, string, number}
+use Rattle.jsonc_text.specs.Gaps.{Gap}
 use Rattle.jsonc_text.specs.Options.{Options}
 use Rattle.jsonc_text.specs.StringValue.{string_value}
 use Rattle.jsonc_text.specs.string.Escapes.{HoldsBackslash}
-use Rattle.jsonc_ast.specs.Located.{Located, LocatedName, leaf_at, range_at, value_at, Between, In, IsLocatedDocument}
+use Rattle.jsonc_ast.specs.Located.{Located, LocatedName, leaf_at, range_at, value_at, Between, In, IsLocatedDocument, One}
 use Rattle.jsonc_ast.specs.Views.{LocatedMember}
 use Rattle.jsonc_ast.specs.declared.to_ast.context.Context.{Context}
 use Rattle.jsonc_ast.specs.to_ast.Context.{text_in, options_in, token_range, IsNameHere}
@@ -55,17 +54,29 @@ pub record HasLooseName (s : Source) (r : Range) : Type 0 where
   pub stands : HasLexeme s kind r
   pub text : loose_text (lexeme kind) ≡ Some (chars_between s r.start r.end)
 
--- t is a gap, in which a comma or a colon may stand, and then r
-pub data Divides (o : Options) : List ℕ → List ℕ → Type 0 where
-  gap_alone : {t r : List ℕ} → Gap o t r → Divides o t r
-  with_mark : {c : ℕ} {t u r : List ℕ} → IsTrue (c == 0x2C || c == 0x3A) → Gap o t (c ∷ u) → Gap o u r → Divides o t r
-
--- from a place that was reached that alone stands up to the place i, where no blank does
+-- the place was reached, between two characters
 pub record Follows (s : Source) (is_reached : ℕ → Type 0) (i : ℕ) : Type 0 where
-  pub from : ℕ
-  pub reached : is_reached from
-  pub divides : Between s.bytes (Divides s.options) from i
-  pub ends : IsTrue (no is_blank (next (rest s.bytes i)))
+  pub reached : is_reached i
+  pub boundary : IsCharBoundary s.bytes i
+
+-- the place was reached, or a comma or a colon alone stands between it and one that was
+pub data IsBehind (s : Source) (is_reached : ℕ → Type 0) : ℕ → Type 0 where
+  at_place : {i : ℕ} → is_reached i → IsBehind s is_reached i
+  behind_mark : {c i j : ℕ} → IsTrue (c == 0x2C || c == 0x3A) → is_reached i → Between s.bytes (One c) i j → IsBehind s is_reached j
+
+-- a gap leads from the place to one from which each gap leads to a place that was reached
+abbrev pub ReachesBehind : Source → (ℕ → Type 0) → ℕ → Type 0
+ReachesBehind s is_reached i = (p : ℕ) × Between s.bytes (Gap s.options) i p × ((k : ℕ) → Between s.bytes (Gap s.options) p k → is_reached k)
+
+-- what is named or held at the one state is so at the other
+pub record StaysHeld {S P E O : Type 0} (names : S → S → P → LocatedName → Type 0) (holds_elements : S → S → E → ℕ → List Located → Type 0) (holds_properties : S → S → O → ℕ → List LocatedMember → Type 0) (old new : S) : Type 0 where
+  pub named : (s : S) (p : P) (n : LocatedName) → names s old p n → names s new p n
+  pub elements : (s : S) (a : E) (i : ℕ) (xs : List Located) → holds_elements s old a i xs → holds_elements s new a i xs
+  pub properties : (s : S) (o : O) (i : ℕ) (ms : List LocatedMember) → holds_properties s old o i ms → holds_properties s new o i ms
+
+-- something is made of a value between two states, and gaps are passed before and after
+abbrev pub MadeBetweenGaps : {S I : Type 0} → (S → S → Type 0) → (S → S → I → Located → Type 0) → S → S → I → Located → Type 0
+MadeBetweenGaps {S} passes makes old new i x = (m : S) × (n : S) × passes old m × makes m n i x × passes n new
 
 -- a property's range is from its name through its value
 pub record Covers (r : Range) (n : LocatedName) (x : Located) : Type 0 where

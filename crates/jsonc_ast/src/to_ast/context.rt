@@ -8,6 +8,7 @@ use crate::ast::{ObjectPropName, StringLit, WordLit};
 use crate::to_ast::collect::{CollectOptions, CommentCollectionStrategy, CommentMap};
 use crate::to_ast::comments::{GapComments, comment_of};
 use crate::to_ast::container::Container;
+use crate::to_ast::receiver::Receiver;
 use crate::to_ast::room::make_room;
 use jsonc_scan::found::{TokenContent, TokenKind};
 use jsonc_scan::scanner::Scanner;
@@ -15,7 +16,7 @@ use jsonc_text::common::Range;
 use jsonc_text::errors::{ParseError, ParseErrorKind};
 use jsonc_text::options::ParseOptions;
 use jsonc_text::tokens::TokenAndRange;
-use std::alloc::Allocator;
+use std::alloc::{AllocError, Allocator};
 
 /// How many containers, or containers and properties, may be around a value.
 pub const MAXIMUM_NESTING: usize = 512;
@@ -52,6 +53,9 @@ impl<'a, A: Allocator + Copy> Context<'a, A> {
     ghost use Rattle.jsonc_ast.specs.to_ast.Reached.{Due};
     ghost use Rattle.jsonc_ast.specs.to_ast.Context.{IsBracket};
     ghost use Rattle.jsonc_ast.specs.to_ast.Refusals.{here, after};
+    ghost use Rattle.jsonc_ast.specs.Located.{Between, One};
+    ghost use Rattle.jsonc_ast.specs.to_ast.Context.{token_start};
+    ghost use Rattle.jsonc_ast.specs.to_ast.Handed.{source_of, Follows, IsBehind, ReachesBehind, StaysHeld};
     ghost use Rattle.jsonc_ast.specs.to_ast.Written.{IsLentHere, IsWritten};
     ghost use Rattle.jsonc_ast.specs.to_ast.Collected.{takes_comments, is_separate, collected, CollectsLast, CollectsComment, OmitsComment, StaysLent, HasNoted, NotesComment, NotesLexeme, ShowsNoted, Collects};
 
@@ -324,8 +328,37 @@ impl<'a, A: Allocator + Copy> Context<'a, A> {
         Ok(())
     }
 
-    /// Passes a gap, and answers the kind of the token after it, or none at the end of the text.
-    pub fn scan(&mut self) -> Result<Option<TokenKind>, ParseError>
+    // Tells a receiver of the gap behind the last token, and passes as much of it as the receiver did, where nothing
+    // is collected.
+    #[inline(always)]
+    fn pass_gap<R: Receiver<String<A>>>(&mut self, to: &mut R) -> Result<(), AllocError>
+        requires source { R.source to.old ≡ source_of self.old }
+        requires behind { IsBehind (source_of self.old) (R.reached to.old) (token_end self.old) }
+        ensures kept { Keeps self.old self.new }
+        ensures gap { OnOk result (Between (text_in self.old) (Gap (options_in self.old)) (token_end self.old) (token_end self.new)) }
+        ensures collects { OnOk result (Collects self.old self.new) }
+        ensures source { OnOk result (R.source to.new ≡ R.source to.old) }
+        ensures reached { OnOk result (ReachesBehind (source_of self.old) (R.reached to.new) (token_end self.old)) }
+        ensures passes { OnOk result (R.passes to.old to.new) }
+        ensures held { OnOk result (StaysHeld R.names R.holds_elements R.holds_properties to.old to.new) }
+    {
+        let from = self.scanner.token_end();
+        let place = to.pass_gap(from)?;
+        if self.collects() {
+            return Ok(());
+        }
+        self.scanner.pass_to(place);
+        Ok(())
+    }
+
+    /// Passes a gap, and answers the kind of the token after it, or none at the end of the text. The receiver is told
+    /// of the gap, and has come to the token.
+    pub fn scan<R: Receiver<String<A>>>(
+        &mut self,
+        to: &mut R,
+    ) -> Result<Option<TokenKind>, ParseError>
+        requires source { R.source to.old ≡ source_of self.old }
+        requires behind { IsBehind (source_of self.old) (R.reached to.old) (token_end self.old) }
         ensures kept { Keeps self.old self.new }
         ensures found { IfOk (found_by self.new result) (Finds (Gap (options_in self.old)) self.old self.new) }
         ensures lexeme { IfOk (found_by self.new result) IsNoComment }
@@ -334,7 +367,14 @@ impl<'a, A: Allocator + Copy> Context<'a, A> {
         ensures refused { IfErr result (OutOfMemoryOr (NoTokenAfter self.old)) }
         ensures fault { IfErr result (IsFault (text_in self.old)) }
         ensures error { IfErr result (StopsAnyhow self.old) }
+        ensures source { OnOk result (R.source to.new ≡ R.source to.old) }
+        ensures follows { OnOk result (Follows (source_of self.old) (R.reached to.new) (token_start self.new)) }
+        ensures passes { OnOk result (R.passes to.old to.new) }
+        ensures held { OnOk result (StaysHeld R.names R.holds_elements R.holds_properties to.old to.new) }
     {
+        let Ok(()) = self.pass_gap(to) else {
+            return Err(self.out_of_memory());
+        };
         loop {
             let Some(token) = self.scanner.step(&mut self.content, self.decodes)? else {
                 return Ok(None);
@@ -373,6 +413,7 @@ impl<'a, A: Allocator + Copy> Context<'a, A> {
         requires next { ComesNext self.old.scanner 0x2C }
         requires tokens { tokens_asked self.old ≡ false }
         requires comments { comments_asked self.old ≡ false }
+        ensures next { Between (text_in self.old) (One 0x2C) (token_end self.old) (token_end self.new) }
         ensures kept { Keeps self.old self.new }
         ensures found { Finds (Gap (options_in self.old)) self.old self.new (Some (last self.new TokenKind.Comma)) }
         ensures collects { Collects self.old self.new }
@@ -386,6 +427,7 @@ impl<'a, A: Allocator + Copy> Context<'a, A> {
         requires next { ComesNext self.old.scanner 0x3A }
         requires tokens { tokens_asked self.old ≡ false }
         requires comments { comments_asked self.old ≡ false }
+        ensures next { Between (text_in self.old) (One 0x3A) (token_end self.old) (token_end self.new) }
         ensures kept { Keeps self.old self.new }
         ensures found { PassesColon self.old self.new }
         ensures collects { Collects self.old self.new }
@@ -397,12 +439,15 @@ impl<'a, A: Allocator + Copy> Context<'a, A> {
     /// property begins with, or none past the closing bracket. Where the text ends in the
     /// container, the fault is told from the place where that began, if one is given.
     #[inline(always)]
-    pub fn first_item(
+    pub fn first_item<R: Receiver<String<A>>>(
         &mut self,
+        to: &mut R,
         container: Container,
         start: Option<usize>,
     ) -> Result<Option<TokenKind>, ParseError>
-        requires { IfSome start (λ i. Spans (text_in self.old) i (token_end self.old)) }
+        requires start { IfSome start (λ i. Spans (text_in self.old) i (token_end self.old)) }
+        requires source { R.source to.old ≡ source_of self.old }
+        requires reached { R.reached to.old (token_end self.old) }
         ensures kept { Keeps self.old self.new }
         ensures found { IfOk (found_by self.new result) (LeadsToFirst container self.old self.new) }
         ensures only { IfOk (found_by self.new result) (WhereSome (OnlyFirst container self.old self.new)) }
@@ -412,8 +457,11 @@ impl<'a, A: Allocator + Copy> Context<'a, A> {
         ensures fault { IfErr result (IsFault (text_in self.old)) }
         ensures error { IfErr result (StopsInside container start (Due.first container) self.old) }
         ensures stands { IfOk (found_by self.new result) (λ f. IfSome f (ClosesNone container)) }
+        ensures source { OnOk result (R.source to.new ≡ R.source to.old) }
+        ensures follows { OnOk result (Follows (source_of self.old) (R.reached to.new) (token_start self.new)) }
+        ensures held { OnOk result (StaysHeld R.names R.holds_elements R.holds_properties to.old to.new) }
     {
-        let Some(first) = self.scan()? else {
+        let Some(first) = self.scan(to)? else {
             return Err(self.unterminated(container, start));
         };
         if self.closes(container, first) {
@@ -424,12 +472,15 @@ impl<'a, A: Allocator + Copy> Context<'a, A> {
 
     /// Passes what stands after a comma, the last token, as `first_item` does.
     #[inline(always)]
-    fn item_after_comma(
+    fn item_after_comma<R: Receiver<String<A>>>(
         &mut self,
+        to: &mut R,
         container: Container,
         start: Option<usize>,
     ) -> Result<Option<TokenKind>, ParseError>
-        requires { IfSome start (λ i. Spans (text_in self.old) i (token_end self.old)) }
+        requires start { IfSome start (λ i. Spans (text_in self.old) i (token_end self.old)) }
+        requires source { R.source to.old ≡ source_of self.old }
+        requires behind { IsBehind (source_of self.old) (R.reached to.old) (token_end self.old) }
         ensures kept { Keeps self.old self.new }
         ensures found { IfOk (found_by self.new result) (LeadsAfterComma container self.old self.new) }
         ensures only { IfOk (found_by self.new result) (WhereSome (OnlyAfterComma container self.old self.new)) }
@@ -440,9 +491,12 @@ impl<'a, A: Allocator + Copy> Context<'a, A> {
         ensures error { IfErr result (λ e. IsBracket 0x2C self.old
             → StopsInside container start (Due.further container (here self.old)) self.old e) }
         ensures stands { IfOk (found_by self.new result) (λ f. IfSome f (ClosesNone container)) }
+        ensures source { OnOk result (R.source to.new ≡ R.source to.old) }
+        ensures follows { OnOk result (Follows (source_of self.old) (R.reached to.new) (token_start self.new)) }
+        ensures held { OnOk result (StaysHeld R.names R.holds_elements R.holds_properties to.old to.new) }
     {
         let comma = self.range();
-        let Some(token) = self.scan()? else {
+        let Some(token) = self.scan(to)? else {
             return Err(self.unterminated(container, start));
         };
         if !self.closes(container, token) {
@@ -473,12 +527,15 @@ impl<'a, A: Allocator + Copy> Context<'a, A> {
     /// Passes what stands after an element or a property: answers the kind of the token that the
     /// next one begins with, or none past the closing bracket.
     #[inline(always)]
-    pub fn next_item(
+    pub fn next_item<R: Receiver<String<A>>>(
         &mut self,
+        to: &mut R,
         container: Container,
         start: Option<usize>,
     ) -> Result<Option<TokenKind>, ParseError>
-        requires { IfSome start (λ i. Spans (text_in self.old) i (token_end self.old)) }
+        requires start { IfSome start (λ i. Spans (text_in self.old) i (token_end self.old)) }
+        requires source { R.source to.old ≡ source_of self.old }
+        requires reached { R.reached to.old (token_end self.old) }
         ensures kept { Keeps self.old self.new }
         ensures found { IfOk (found_by self.new result) (LeadsToNext container self.old self.new) }
         ensures only { IfOk (found_by self.new result) (WhereSome (OnlyNext container self.old self.new)) }
@@ -489,20 +546,23 @@ impl<'a, A: Allocator + Copy> Context<'a, A> {
         ensures error { IfErr result (StopsInside container start (Due.comma container (after self.old)) self.old) }
         ensures stands { IfOk (found_by self.new result) (λ f. IfSome f (ClosesNone container)) }
         ensures comes { IfOk (found_by self.new result) (λ f. IfSome f (Comes self.old self.new)) }
+        ensures source { OnOk result (R.source to.new ≡ R.source to.old) }
+        ensures follows { OnOk result (Follows (source_of self.old) (R.reached to.new) (token_start self.new)) }
+        ensures held { OnOk result (StaysHeld R.names R.holds_elements R.holds_properties to.old to.new) }
     {
         if self.has_next(b',') {
             self.pass_next_comma();
-            return self.item_after_comma(container, start);
+            return self.item_after_comma(to, container, start);
         }
         let end = self.scanner.token_end();
-        let Some(token) = self.scan()? else {
+        let Some(token) = self.scan(to)? else {
             return Err(self.unterminated(container, start));
         };
         if self.closes(container, token) {
             return Ok(None);
         }
         if self.is_comma(token) {
-            return self.item_after_comma(container, start);
+            return self.item_after_comma(to, container, start);
         }
         if !self.options.allow_missing_commas {
             return Err(self.missing_comma(container, token, end));
@@ -545,19 +605,24 @@ impl<'a, A: Allocator + Copy> Context<'a, A> {
 
     /// Passes a gap and the colon after it.
     #[inline(always)]
-    pub fn pass_colon(&mut self) -> Result<(), ParseError>
+    pub fn pass_colon<R: Receiver<String<A>>>(&mut self, to: &mut R) -> Result<(), ParseError>
+        requires source { R.source to.old ≡ source_of self.old }
+        requires reached { R.reached to.old (token_end self.old) }
         ensures kept { Keeps self.old self.new }
         ensures found { OnOk result (PassesColon self.old self.new) }
         ensures collects { OnOk result (Collects self.old self.new) }
         ensures refused { IfErr result (OutOfMemoryOr (NoColon self.old)) }
         ensures fault { IfErr result (IsFault (text_in self.old)) }
         ensures error { IfErr result (StopsAtColon self.old) }
+        ensures source { OnOk result (R.source to.new ≡ R.source to.old) }
+        ensures behind { OnOk result (IsBehind (source_of self.old) (R.reached to.new) (token_end self.new)) }
+        ensures held { OnOk result (StaysHeld R.names R.holds_elements R.holds_properties to.old to.new) }
     {
         if self.has_next(b':') {
             self.pass_next_colon();
             return Ok(());
         }
-        let Some(token) = self.scan()? else {
+        let Some(token) = self.scan(to)? else {
             return Err(self.fault_here(ParseErrorKind::ExpectedColonAfterObjectKey));
         };
         if !self.is_colon(token) {

@@ -21,15 +21,17 @@ impl<A: Allocator> Text for String<A> {
 /// Between two of its states an item is made of a value, and a property is named. An array or an object
 /// that was opened at one state holds elements or properties at a later one. It fails for want of memory alone.
 ///
-/// At each state it has come to a place of the text. What is handed next begins there, or behind a gap in which
-/// a comma or a colon may stand.
+/// At each state it has come to a place of the text. What is handed next begins there. Gaps are passed between what
+/// is handed, and with them the comma or colon before each.
 pub trait Receiver<S: Text> {
     ghost use Rattle.std.specs.Prelude.{ℕ, ◌+◌, ◌-◌, ◌<◌, ◌≡◌, Bool, List, [], ◌∷◌, ◌++◌, IfOk, OnOk};
     ghost use Rattle.jsonc_text.specs.Plain.{string, number, boolean, null};
+    ghost use Rattle.std.specs.Prelude.{IsCharBoundary};
+    ghost use Rattle.jsonc_text.specs.Gaps.{Gap};
     ghost use Rattle.jsonc_text.specs.Text.{Spans};
-    ghost use Rattle.jsonc_ast.specs.Located.{Located, LocatedName, leaf_at, array_at, object_at};
+    ghost use Rattle.jsonc_ast.specs.Located.{Between, Located, LocatedName, leaf_at, array_at, object_at};
     ghost use Rattle.jsonc_ast.specs.Views.{LocatedMember, items_of, members_of};
-    ghost use Rattle.jsonc_ast.specs.to_ast.Handed.{Source, chars_between, HasEscapedString, HasLooseName, HasNumber, HasPlainString, Covers, Follows, value_in};
+    ghost use Rattle.jsonc_ast.specs.to_ast.Handed.{Source, chars_between, HasEscapedString, HasLooseName, HasNumber, HasPlainString, Covers, Follows, IsBehind, StaysHeld, value_in};
 
     type Item: Drop;
 
@@ -56,10 +58,25 @@ pub trait Receiver<S: Text> {
     /// The place that it has come to.
     ghost reached: { Self → ℕ → Type 0 };
 
+    /// Between two states a gap was passed, and nothing else.
+    ghost passes: { Self → Self → Type 0 };
+
     /// Whether properties count towards the depth beside containers. If so, faults of a container
     /// are told from where it begins.
     fn is_whole(&self) -> bool
         ensures { result ≡ whole };
+
+    /// Passes as much as it likes of the gap at a place that it has come to, or that stands behind a comma or a colon
+    /// there. Answers up to where. It has come to whatever place the rest of the gap leads to.
+    fn pass_gap(&mut self, from: usize) -> Result<usize, AllocError>
+        requires behind { IsBehind (source self.old) (reached self.old) from }
+        requires boundary { IsCharBoundary (source self.old).bytes from }
+        ensures kept { OnOk result (source self.new ≡ source self.old) }
+        ensures gap { IfOk result (Between (source self.old).bytes (Gap (source self.old).options) from) }
+        ensures reached { IfOk result
+            (λ p. (i : ℕ) → Between (source self.old).bytes (Gap (source self.old).options) p i → reached self.new i) }
+        ensures passes { OnOk result (passes self.old self.new) }
+        ensures held { OnOk result (StaysHeld names holds_elements holds_properties self.old self.new) };
 
     /// A string without a backslash: it means what stands between its quotes.
     fn string(&mut self, range: Range) -> Result<Self::Item, AllocError>

@@ -65,9 +65,16 @@ impl<'a, A: Allocator + Copy> Receiver<String<A>> for TreeMaker<'a, A> {
 
     ghost reached = { λ s i. Unit {0} };
 
+    ghost passes = { λ s t. t ≡ s };
+
     #[inline(always)]
     fn is_whole(&self) -> bool {
         true
+    }
+
+    #[inline(always)]
+    fn pass_gap(&mut self, from: usize) -> Result<usize, AllocError> {
+        Ok(from)
     }
 
     #[inline(always)]

@@ -11,7 +11,7 @@ ghost use Rattle.jsonc_ast.specs.declared.to_ast.container.Container.TheVariants
 ghost use Rattle.jsonc_ast.specs.to_ast.Collected.{Collects};
 ghost use Rattle.jsonc_ast.specs.to_ast.Context.{text_in, options_in, token_start, token_end, token_range, Keeps, AtEnd, IsToken, IsBracket, OpensNone, GivesAway, last};
 ghost use Rattle.jsonc_ast.specs.to_ast.Faults.{ParseFault, StopsAtContainer, StopsAtItem, StopsAtValue};
-ghost use Rattle.jsonc_ast.specs.to_ast.Handed.{source_of, ElementMade, Follows, IsDocumentMade, IsUnexpectedHere, IsWrongNameHere, LeafMade, NameMade, PropertyMade, ReadsLeaf, ReadsMade};
+ghost use Rattle.jsonc_ast.specs.to_ast.Handed.{source_of, ElementMade, Follows, IsDocumentMade, IsUnexpectedHere, IsWrongNameHere, LeafMade, MadeBetweenGaps, NameMade, PropertyMade, ReadsLeaf, ReadsMade};
 ghost use Rattle.jsonc_ast.specs.to_ast.Reached.{least, per_property};
 ghost use Rattle.jsonc_ast.specs.to_ast.Refusals.{NoLiteral, NoName, NoPropertyHere, NoValueHere, OutOfMemoryOr, Refuses};
 ghost use Rattle.jsonc_ast.specs.to_ast.Scanned.{leaf_value};
@@ -354,13 +354,13 @@ fn parse_array<'a, A: Allocator + Copy, R: Receiver<String<A>>>(
     let Ok(mut elements) = to.open_array(start) else {
         return Err(context.out_of_memory());
     };
-    let mut next = context.first_item(Container::Array, from)?;
+    let mut next = context.first_item(to, Container::Array, from)?;
     while let Some(token) = next {
         if holds_too_deep(to, count) {
             return Err(context.nesting_fault(start));
         }
         parse_element(context, to, &mut elements, token, count + 1)?;
-        next = context.next_item(Container::Array, from)?;
+        next = context.next_item(to, Container::Array, from)?;
     }
     let range = Range::new(start, context.scanner.token_end());
     let Ok(array) = to.close_array(elements, range) else {
@@ -398,10 +398,10 @@ fn parse_object<'a, A: Allocator + Copy, R: Receiver<String<A>>>(
     let Ok(mut properties) = to.open_object(start) else {
         return Err(context.out_of_memory());
     };
-    let mut next = context.first_item(Container::Object, from)?;
+    let mut next = context.first_item(to, Container::Object, from)?;
     while let Some(token) = next {
         parse_property(context, to, &mut properties, token, count + 1)?;
-        next = context.next_item(Container::Object, from)?;
+        next = context.next_item(to, Container::Object, from)?;
     }
     let range = Range::new(start, context.scanner.token_end());
     let Ok(object) = to.close_object(properties, range) else {
@@ -439,8 +439,8 @@ fn parse_property<'a, A: Allocator + Copy, R: Receiver<String<A>>>(
 {
     let start = context.scanner.token_start();
     let named = parse_name(context, to, token)?;
-    context.pass_colon()?;
-    let found = context.scan()?;
+    context.pass_colon(to)?;
+    let found = context.scan(to)?;
     if holds_too_deep(to, count) {
         return Err(context.nesting_fault(start));
     }
@@ -467,17 +467,19 @@ pub fn read_document<'a, A: Allocator + Copy, R: Receiver<String<A>>>(
     ensures kept { OnOk result (Keeps context.old context.new) }
     ensures collects { OnOk result (Collects context.old context.new) }
     ensures end { OnOk result (AtEnd context.new) }
-    ensures found { IfOk result (IsDocumentMade (source_of context.old) R.whole (R.makes to.old to.new)) }
-    ensures none { IfOk result (λ f. IfNone f (to.new ≡ to.old)) }
+    ensures reached { OnOk result (R.reached to.new (token_end context.new)) }
+    ensures found { IfOk result
+        (IsDocumentMade (source_of context.old) R.whole (MadeBetweenGaps R.passes R.makes to.old to.new)) }
+    ensures none { IfOk result (λ f. IfNone f (R.passes to.old to.new)) }
     ensures refused { IfErr result (Refuses (options_in context.old) R.whole (text_in context.old)) }
     ensures fault { IfErr result (IsFault (text_in context.old)) }
     ensures error { IfErr result (ParseFault (options_in context.old) (text_in context.old) R.whole) }
 {
-    let Some(token) = context.scan()? else {
+    let Some(token) = context.scan(to)? else {
         return Ok(None);
     };
     let value = parse_value(context, to, token, 0)?;
-    let None = context.scan()? else {
+    let None = context.scan(to)? else {
         return Err(context.fault_here(ParseErrorKind::MultipleRootJsonValues));
     };
     Ok(Some(value))

@@ -108,9 +108,16 @@ impl<'a, A: Allocator + Copy> Receiver<String<A>> for ValueMaker<'a, A> {
 
     ghost reached = { λ s i. Unit {0} };
 
+    ghost passes = { λ s t. t ≡ s };
+
     #[inline(always)]
     fn is_whole(&self) -> bool {
         false
+    }
+
+    #[inline(always)]
+    fn pass_gap(&mut self, from: usize) -> Result<usize, AllocError> {
+        Ok(from)
     }
 
     #[inline(always)]

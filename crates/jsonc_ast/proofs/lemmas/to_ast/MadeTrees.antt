@@ -1,5 +1,5 @@
 -- Syntax trees that a receiver makes, one item more at a time.
-use Rattle.std.proofs.Common.{◌≡◌, ◌∙◌, ◌++◌, ◌∷◌, [], sym, ap, subst, List, map}
+use Rattle.std.proofs.Common.{◌≡◌, ◌≤◌, ◌∙◌, ◌++◌, ◌∷◌, [], sym, ap, subst, true, IfSome, List, Option, None, Some, map, option_map}
 use Rattle.std.proofs.lemmas.List.{map_push}
 use Rattle.std.proofs.lemmas.List.Elements.{All-cons}
 use Rattle.jsonc_text.specs.declared.common.Range.{Range}
@@ -7,10 +7,11 @@ use Rattle.jsonc_ast.specs.declared.ast.ObjectProp.{ObjectProp}
 use Rattle.jsonc_ast.specs.declared.ast.ObjectPropName.{ObjectPropName}
 use Rattle.jsonc_ast.specs.declared.ast.Value.{Value}
 use Rattle.jsonc_ast.specs.declared.to_ast.values.TreeMaker.{TreeMaker}
-use Rattle.jsonc_ast.specs.Located.{Located, LocatedName, array_at, object_at}
+use Rattle.jsonc_ast.specs.Located.{Located, LocatedName, IsLocatedDocument, array_at, object_at, value_at}
 use Rattle.jsonc_ast.specs.Spelled.{spelled, spelled_in_property, spelled_in_elements, spelled_in_properties}
 use Rattle.jsonc_ast.specs.Views.{LocatedMember, located, member_of, name_at, items_of, members_of, items_located, members_located}
-use Rattle.jsonc_ast.specs.to_ast.Handed.{Source}
+use Rattle.jsonc_ast.specs.to_ast.Handed.{Source, IsDocumentMade, MadeBetweenGaps}
+use Rattle.jsonc_ast.specs.to_ast.Reached.{size}
 use Rattle.jsonc_ast.specs.to_ast.Trees.{source_in, AreProperties, AreTrees, IsName, IsTree}
 use Rattle.jsonc_ast.specs.to_ast.Written.{AreWritten, IsWritten}
 use Rattle.jsonc_ast.proofs.lemmas.to_ast.Spelling.{element_written, property_written}
@@ -57,3 +58,19 @@ module _ {A : Type 0} where
     located = at ∙ ap (λ l. object_at r (members_of l)) held.located;
     written = subst (AreWritten (source_in s).options (source_in s).bytes) (sym spells) held.written;
   }
+
+  -- the value of a document, and gaps around it
+  abbrev pub DocumentTree : TreeMaker A → TreeMaker A → Source → Option (Value A) → Type 0
+  DocumentTree old new s found = IsDocumentMade s true (MadeBetweenGaps (λ s t. t ≡ s) IsTree old new) found
+
+  pub tree_located : (old new : TreeMaker A) (s : Source) (found : Option (Value A)) → DocumentTree old new s found → IsLocatedDocument s.options s.bytes (option_map located found)
+  tree_located old new s None h = h
+  tree_located old new s (Some v) (x, document, small, (m, n, before, made, after)) = subst (λ y. IsLocatedDocument s.options s.bytes (Some y)) (sym made.located) document
+
+  pub tree_written : (old new : TreeMaker A) (s : Source) (found : Option (Value A)) → source_in old ≡ s → DocumentTree old new s found → IfSome found (λ v. AreWritten s.options s.bytes (spelled v))
+  tree_written old new s None e h = tt
+  tree_written old new s (Some v) e (x, document, small, (m, n, before, made, after)) = moved_written s (source_in m) (spelled v) (ap source_in before ∙ e) made.written
+
+  pub tree_within : (old new : TreeMaker A) (s : Source) (found : Option (Value A)) → DocumentTree old new s found → IfSome found (λ v. size true (value_at (located v)) ≤ 512)
+  tree_within old new s None h = tt
+  tree_within old new s (Some v) (x, document, small, (m, n, before, made, after)) = subst (λ y. size true (value_at y) ≤ 512) (sym made.located) small

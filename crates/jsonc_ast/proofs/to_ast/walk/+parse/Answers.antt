@@ -10,7 +10,7 @@ use Rattle.jsonc_ast.specs.to_ast.Refusals.{here, NoPropertyHere, NoValueHere, O
 use Rattle.jsonc_ast.specs.to_ast.Faults.{StopsAtContainer, StopsAtItem}
 use Rattle.jsonc_ast.specs.declared.to_ast.container.Container.TheVariants.{Array, Object}
 use Rattle.jsonc_ast.proofs.lemmas.to_ast.MovedTokens.{is_bracket, is_brace, kept_self, collects_self, collects_given, reads_self, kept_given, colon_given, no_colon_given, stops_given}
-use Rattle.jsonc_ast.proofs.lemmas.to_ast.Following.{colon_follows, first_follows, next_follows, source_on}
+use Rattle.jsonc_ast.proofs.lemmas.to_ast.Following.{behind_in, first_follows, follows_in, next_follows, opened_reached, source_later, source_on}
 use Rattle.jsonc_ast.proofs.lemmas.to_ast.Scans.{kept_on}
 use Rattle.jsonc_ast.proofs.lemmas.to_ast.Collecting.{ok_is, collects_turn}
 use Rattle.jsonc_ast.proofs.lemmas.to_ast.Loops.{AtHand, elements_start, elements_turn, elements_whole}
@@ -22,8 +22,8 @@ use Rattle.jsonc_ast.proofs.lemmas.to_ast.Walks.{element_deep, element_deep_stop
 use Rattle.jsonc_ast.proofs.lemmas.to_ast.Handing.{name_here, number_here, number_means, string_here, utf8_there}
 use Rattle.std.specs.Cow.{cow_str_bytes}
 use Rattle.std.specs.Prelude.{chars}
-use Rattle.jsonc_ast.specs.to_ast.Handed.{chars_between}
-use Rattle.jsonc_scan.specs.Scanner.{IsThere}
+use Rattle.jsonc_ast.specs.to_ast.Handed.{chars_between, Covers}
+use Rattle.jsonc_scan.specs.Scanner.{IsThere, end_of}
 use Rattle.jsonc_ast.specs.to_ast.Written.{IsLentHere}
 use Rattle.jsonc_ast.proofs.to_ast.walk.+parse.Goals as goal
 
@@ -35,11 +35,11 @@ parse_array-loop-next-init g t c =
     let found = found_in now c.in_ok-next.next in
     let read = c.in_ok-next.ensures in record {
       elements = [];
-      held = c.in-Ok.ensures.held;
+      held = read.held.elements c.args.to.now _ c.token_start-start.result [] c.in-Ok.ensures.held;
       lent = read.lent;
       collects = read.collects;
-      same = c.in-Ok.ensures.kept ∙ c.requires.source;
-      follows = first_follows Array 0x5B old now (g.R.Receiver.source c.open_array.new.self) (g.R.Receiver.reached c.open_array.new.self) c.token_start-start.result found (omega arith) c.requires.token (c.in-Ok.ensures.kept ∙ c.requires.source) c.token_start-start.ensures c.in-Ok.ensures.reached c.first_item.ensures.kept read.found;
+      same = read.source ∙ c.in-Ok.ensures.kept ∙ c.requires.source;
+      follows = first_follows Array old now (g.R.Receiver.source c.first_item.new.to) (g.R.Receiver.reached c.first_item.new.to) found read.found (follows_in (read.source ∙ c.in-Ok.ensures.kept ∙ c.requires.source) refl read.follows);
       so_far = elements_start whole old now found [] c.args.count refl c.first_item.ensures.kept read.found (c.opens_too_deep.ensures.within c.if-opens_too_deep.false);
       left = elements_left_start whole old now found c.args.count c.requires.token c.first_item.ensures.kept read.only;
       reading = goes_first whole Array old now found c.args.count c.requires.token (has_room whole Array c.args.count (c.opens_too_deep.ensures.within c.if-opens_too_deep.false)) c.first_item.ensures.kept read.found read.stands;
@@ -53,11 +53,11 @@ parse_object-loop-next-init g t c =
     let found = found_in now c.in_ok-next.next in
     let read = c.in_ok-next.ensures in record {
       properties = [];
-      held = c.in-Ok.ensures.held;
+      held = read.held.properties c.args.to.now _ c.token_start-start.result [] c.in-Ok.ensures.held;
       lent = read.lent;
       collects = read.collects;
-      same = c.in-Ok.ensures.kept ∙ c.requires.source;
-      follows = first_follows Object 0x7B old now (g.R.Receiver.source c.open_object.new.self) (g.R.Receiver.reached c.open_object.new.self) c.token_start-start.result found (omega arith) c.requires.token (c.in-Ok.ensures.kept ∙ c.requires.source) c.token_start-start.ensures c.in-Ok.ensures.reached c.first_item.ensures.kept read.found;
+      same = read.source ∙ c.in-Ok.ensures.kept ∙ c.requires.source;
+      follows = first_follows Object old now (g.R.Receiver.source c.first_item.new.to) (g.R.Receiver.reached c.first_item.new.to) found read.found (follows_in (read.source ∙ c.in-Ok.ensures.kept ∙ c.requires.source) refl read.follows);
       so_far = properties_start whole old now found [] c.args.count refl c.first_item.ensures.kept read.found (c.opens_too_deep.ensures.within c.if-opens_too_deep.false);
       left = properties_left_start whole old now found c.args.count c.requires.token c.first_item.ensures.kept read.only;
       reading = goes_first whole Object old now found c.args.count c.requires.token (has_room whole Object c.args.count (c.opens_too_deep.ensures.within c.if-opens_too_deep.false)) c.first_item.ensures.kept read.found read.stands;
@@ -78,11 +78,11 @@ parse_array-loop-next-preserved g t c =
     let further = c.in_ok-next-2.ensures in
     let inv = c.loop-next.invariant in record {
       elements = inv.elements ++ read.element ∷ [];
-      held = read.put inv.elements inv.held;
+      held = further.held.elements c.args.to.now c.parse_element.new.elements c.token_start-start.result (inv.elements ++ read.element ∷ []) (read.put inv.elements inv.held);
       lent = further.lent;
       collects = collects_turn old now mid new inv.so_far.kept inv.collects kept c.in_ok-parse_element.ensures.collects further.collects;
-      same = c.in_ok-parse_element.ensures.source ∙ inv.same;
-      follows = next_follows Array mid new (g.R.Receiver.source c.parse_element.new.to) (g.R.Receiver.reached c.parse_element.new.to) next (source_on old mid _ (kept_on old now mid inv.so_far.kept kept) (c.in_ok-parse_element.ensures.source ∙ inv.same)) c.in_ok-parse_element.ensures.reached c.next_item.ensures.kept further.found;
+      same = further.source ∙ c.in_ok-parse_element.ensures.source ∙ inv.same;
+      follows = next_follows Array mid new (g.R.Receiver.source c.next_item.new.to) (g.R.Receiver.reached c.next_item.new.to) next further.found (follows_in (further.source ∙ source_on old mid _ (kept_on old now mid inv.so_far.kept kept) (c.in_ok-parse_element.ensures.source ∙ inv.same)) refl further.follows);
       so_far = elements_turn whole old now mid new (found_in now c.loop-next.next) next t read.element inv.elements (inv.elements ++ read.element ∷ []) c.args.count inv.so_far is kept read.reads c.next_item.ensures.kept further.found refl read.within;
       left = elements_left_turn whole old now inv.so_far.kept t c.args.count (subst (λ n. ElementsLeft whole old now n c.args.count) is inv.left) mid read.element kept read.reads new next c.next_item.ensures.kept further.only;
       reading = elements_go_on whole old now inv.so_far.kept t mid (value_at read.element) c.args.count (subst (λ n. GoesOn whole Array old now n c.args.count) is inv.reading) kept (value_read now mid read.element read.reads) read.within
@@ -105,11 +105,11 @@ parse_object-loop-next-preserved g t c =
     let further = c.in_ok-next-2.ensures in
     let inv = c.loop-next.invariant in record {
       properties = inv.properties ++ m ∷ [];
-      held = read.put inv.properties inv.held;
+      held = further.held.properties c.args.to.now c.parse_property.new.properties c.token_start-start.result (inv.properties ++ m ∷ []) (read.put inv.properties inv.held);
       lent = further.lent;
       collects = collects_turn old now mid new inv.so_far.kept inv.collects kept c.in_ok-parse_property.ensures.collects further.collects;
-      same = c.in_ok-parse_property.ensures.source ∙ inv.same;
-      follows = next_follows Object mid new (g.R.Receiver.source c.parse_property.new.to) (g.R.Receiver.reached c.parse_property.new.to) next (source_on old mid _ (kept_on old now mid inv.so_far.kept kept) (c.in_ok-parse_property.ensures.source ∙ inv.same)) c.in_ok-parse_property.ensures.reached c.next_item.ensures.kept further.found;
+      same = further.source ∙ c.in_ok-parse_property.ensures.source ∙ inv.same;
+      follows = next_follows Object mid new (g.R.Receiver.source c.next_item.new.to) (g.R.Receiver.reached c.next_item.new.to) next further.found (follows_in (further.source ∙ source_on old mid _ (kept_on old now mid inv.so_far.kept kept) (c.in_ok-parse_property.ensures.source ∙ inv.same)) refl further.follows);
       so_far = properties_turn whole old now mid new (found_in now c.loop-next.next) next t m inv.properties (inv.properties ++ m ∷ []) c.args.count inv.so_far is kept read.reads c.next_item.ensures.kept further.found refl read.within;
       left = properties_left_turn whole old now inv.so_far.kept t c.args.count (subst (λ n. PropertiesLeft whole old now n c.args.count) is inv.left) mid m kept read.reads new next c.next_item.ensures.kept further.only;
       reading = properties_go_on whole old now inv.so_far.kept t mid m.name.name (value_at m.value) c.args.count (subst (λ n. GoesOn whole Object old now n c.args.count) is inv.reading) kept (property_read now mid m read.reads) read.within
@@ -159,7 +159,7 @@ parse_property-returns-clause-found g t c = λ s i.
       reads = member_reads old mid at new n c.new-range.result read.value c.in_ok-named.ensures.named.stands c.in_ok-named.ensures.named.range (kept_given old named mid c.parse_name.ensures.gives c.pass_colon.ensures.kept) (colon_given old named mid c.parse_name.ensures.gives c.in_ok-pass_colon.ensures.found) found.kept found.found.0 read.reads
           (c.new-range.ensures.start ∙ c.token_start-start.ensures) (c.new-range.ensures.end ∙ c.token_end.ensures);
       within = subst (λ n. size whole (value_at read.value) + n ≤ 512) c.around_value-around.ensures read.within;
-      put = λ ms held. c.in-Ok.ensures.held s c.args.to.now c.parse_name.new.to i ms n read.value held c.in_ok-named.ensures.named.made read.made (record { starts = c.new-range.ensures.start ∙ c.token_start-start.ensures ∙ ap (λ q. q.start) (sym c.in_ok-named.ensures.named.range); ends = c.new-range.ensures.end ∙ c.token_end.ensures ∙ sym read.reads.ends });
+      put = λ ms held. c.in-Ok.ensures.held s c.args.to.now c.scan.new.to i ms n read.value held (found.held.named c.args.to.now _ n (c.in_ok-pass_colon.ensures.held.named c.args.to.now _ n c.in_ok-named.ensures.named.made)) read.made (record { starts = c.new-range.ensures.start ∙ c.token_start-start.ensures ∙ ap (λ q. q.start) (sym c.in_ok-named.ensures.named.range); ends = c.new-range.ensures.end ∙ c.token_end.ensures ∙ sym read.reads.ends });
     }
 
 pub parse_value-returns-in_default-clause-kept : goal.parse_value-returns-in_default-clause-kept
@@ -506,15 +506,61 @@ parse_property-parse_value-requires g t c κs within =
     let named = c.parse_name.new.context in
     let mid = c.pass_colon.new.self in
     let at = c.scan.new.self in
-    let to = c.parse_name.new.to in
     let found = c.in_ok-found.ensures in
     let is = ap (found_in at) c.in-Some.is in
     let kept = kept_given old named mid c.parse_name.ensures.gives c.pass_colon.ensures.kept in
     let token = subst (IsThere at.scanner) is found.found.1 in
     let same = c.in_ok-named.ensures.source ∙ c.requires.source in
     let small = c.holds_too_deep.ensures.within c.if-holds_too_deep.false in
-    let follows = colon_follows old mid at (last at c.in-Some.token) (g.R.Receiver.source to) (g.R.Receiver.reached to) (token_end old) same refl c.in_ok-named.ensures.reached kept found.kept
-    (colon_given old named mid c.parse_name.ensures.gives c.in_ok-pass_colon.ensures.found) found.found.0 token in
+    let source = found.source ∙ c.in_ok-pass_colon.ensures.source ∙ same in
+    let at_old = source_on old at (g.R.Receiver.source c.scan.new.to) (kept_on old mid at kept found.kept) source in
+    let follows = follows_in (found.source ∙ c.in_ok-pass_colon.ensures.source ∙ same ∙ source_later old mid kept) refl found.follows in
     let lent = subst (IsLentHere at) c.in-Some.is found.lent in
-    let source = source_on old at (g.R.Receiver.source to) (kept_on old mid at kept found.kept) same in
-    (omega (arith, c.around_value-around.ensures, small), (within.0, (within.1.0, (within.1.1.0, (within.1.1.1.0, (within.1.1.1.1.0, (within.1.1.1.1.1, (token, (omega (arith, c.around_value-around.ensures, small), (lent, (source, follows)))))))))))
+    (omega (arith, c.around_value-around.ensures, small), (within.0, (within.1.0, (within.1.1.0, (within.1.1.1.0, (within.1.1.1.1.0, (within.1.1.1.1.1, (token, (omega (arith, c.around_value-around.ensures, small), (lent, (at_old, follows)))))))))))
+
+pub parse_array-first_item-requires-clause-source : goal.parse_array-first_item-requires-clause-source
+parse_array-first_item-requires-clause-source g t c = c.in-Ok.ensures.kept ∙ c.requires.source
+
+pub parse_array-first_item-requires-clause-reached : goal.parse_array-first_item-requires-clause-reached
+parse_array-first_item-requires-clause-reached g t c = opened_reached c.args.context.now 0x5B (g.R.Receiver.reached c.open_array.new.self) c.token_start-start.result (omega arith) c.requires.token c.token_start-start.ensures c.in-Ok.ensures.reached
+
+pub parse_object-first_item-requires-clause-source : goal.parse_object-first_item-requires-clause-source
+parse_object-first_item-requires-clause-source g t c = c.in-Ok.ensures.kept ∙ c.requires.source
+
+pub parse_object-first_item-requires-clause-reached : goal.parse_object-first_item-requires-clause-reached
+parse_object-first_item-requires-clause-reached g t c = opened_reached c.args.context.now 0x7B (g.R.Receiver.reached c.open_object.new.self) c.token_start-start.result (omega arith) c.requires.token c.token_start-start.ensures c.in-Ok.ensures.reached
+
+pub parse_array-next_item-requires-clause-source : goal.parse_array-next_item-requires-clause-source
+parse_array-next_item-requires-clause-source g t c =
+    let inv = c.loop-next.invariant in
+    source_on c.args.context.now c.parse_element.new.context _ (kept_on c.args.context.now c.loop-next.context c.parse_element.new.context inv.so_far.kept c.in_ok-parse_element.ensures.kept) (c.in_ok-parse_element.ensures.source ∙ inv.same)
+
+pub parse_object-next_item-requires-clause-source : goal.parse_object-next_item-requires-clause-source
+parse_object-next_item-requires-clause-source g t c =
+    let inv = c.loop-next.invariant in
+    source_on c.args.context.now c.parse_property.new.context _ (kept_on c.args.context.now c.loop-next.context c.parse_property.new.context inv.so_far.kept c.in_ok-parse_property.ensures.kept) (c.in_ok-parse_property.ensures.source ∙ inv.same)
+
+pub parse_property-pass_colon-requires-clause-source : goal.parse_property-pass_colon-requires-clause-source
+parse_property-pass_colon-requires-clause-source g t c =
+    source_on c.args.context.now c.parse_name.new.context _ (kept_self c.args.context.now c.parse_name.new.context c.parse_name.ensures.gives) (c.in_ok-named.ensures.source ∙ c.requires.source)
+
+pub parse_property-pass_colon-requires-clause-reached : goal.parse_property-pass_colon-requires-clause-reached
+parse_property-pass_colon-requires-clause-reached g t c = subst (g.R.Receiver.reached c.parse_name.new.to) (ap end_of (sym c.parse_name.ensures.gives.scanner)) c.in_ok-named.ensures.reached
+
+pub parse_property-scan-requires-clause-source : goal.parse_property-scan-requires-clause-source
+parse_property-scan-requires-clause-source g t c =
+    let old = c.args.context.now in
+    let mid = c.pass_colon.new.self in
+    source_on old mid _ (kept_given old c.parse_name.new.context mid c.parse_name.ensures.gives c.pass_colon.ensures.kept) (c.in_ok-pass_colon.ensures.source ∙ c.in_ok-named.ensures.source ∙ c.requires.source)
+
+pub parse_property-scan-requires-clause-behind : goal.parse_property-scan-requires-clause-behind
+parse_property-scan-requires-clause-behind g t c = behind_in (sym (source_later c.parse_name.new.context c.pass_colon.new.self c.pass_colon.ensures.kept)) c.in_ok-pass_colon.ensures.behind
+
+pub parse_property-property-requires : goal.parse_property-property-requires
+parse_property-property-requires g t c =
+    let (s, i, ms, held) = c.requires.held in
+    let n = c.in_ok-named.ensures.named.name in
+    let read = c.in_ok-value.ensures.found in
+    let named = c.in_ok-found.ensures.held.named c.args.to.now _ n (c.in_ok-pass_colon.ensures.held.named c.args.to.now _ n c.in_ok-named.ensures.named.made) in
+    let covers : Covers c.new-range.result n read.value = record { starts = c.new-range.ensures.start ∙ c.token_start-start.ensures ∙ ap (λ q. q.start) (sym c.in_ok-named.ensures.named.range); ends = c.new-range.ensures.end ∙ c.token_end.ensures ∙ sym read.reads.ends } in
+    record { held = (s, c.args.to.now, c.scan.new.to, i, ms, n, read.value, held, named, read.made, covers) }

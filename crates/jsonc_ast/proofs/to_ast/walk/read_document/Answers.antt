@@ -1,4 +1,5 @@
-use Rattle.std.proofs.Common.{◌∙◌, [], ap, inr, refl, subst, arith}
+use Rattle.std.proofs.Common.{◌∙◌, [], ap, inr, refl, subst, sym, arith}
+use Rattle.jsonc_ast.specs.to_ast.Handed.{at_place}
 use Rattle.jsonc_text.specs.Faults.{IsFault}
 use Rattle.jsonc_ast.specs.Located.{value_at}
 use Rattle.jsonc_ast.specs.to_ast.Context.{last, found_in, text_in, options_in}
@@ -9,7 +10,7 @@ use Rattle.jsonc_ast.proofs.lemmas.to_ast.MovedTokens.{none_found}
 use Rattle.jsonc_ast.proofs.lemmas.to_ast.Leaves.{empty_document, value_document}
 use Rattle.jsonc_ast.proofs.lemmas.to_ast.NoValues.{value_read, document_no_token, document_no_value, document_no_end, document_goes_on, document_from_start}
 use Rattle.jsonc_ast.proofs.lemmas.to_ast.Refusals.{err_of, still}
-use Rattle.jsonc_ast.proofs.lemmas.to_ast.Following.{root_follows}
+use Rattle.jsonc_ast.proofs.lemmas.to_ast.Following.{follows_in, source_on}
 use Rattle.jsonc_ast.proofs.lemmas.to_ast.Scans.{kept_on}
 use Rattle.jsonc_ast.proofs.lemmas.to_ast.OpenContainers.{root_stops, end_stops, second_stops, text_stops}
 use Rattle.jsonc_ast.proofs.lemmas.to_ast.Stopping.{stops_here}
@@ -32,7 +33,7 @@ returns-clause-found g c =
       value_document old now mid end (found_in now c.in_ok-token.field-0) (found_in end c.in_ok-scan.field-0) read.value c.requires.start
           c.scan.ensures.kept c.in_ok-token.ensures.found c.in_ok-value.ensures.kept read.reads c.scan-2.ensures.kept c.in_ok-scan.ensures.found (ap (found_in end) c.in-None.is),
       omega (arith, read.within),
-      read.made,
+      (c.scan.new.to, c.parse_value.new.to, c.in_ok-token.ensures.passes, read.made, c.in_ok-scan.ensures.passes),
     )
 
 pub returns-clause-kept : goal.returns-clause-kept
@@ -148,9 +149,32 @@ returns-clause-collects g c =
     let value = c.in_ok-value.ensures in
     collects_turn c.args.context.now c.scan.new.self c.parse_value.new.context c.scan-2.new.self read.kept read.collects value.kept value.collects c.in_ok-scan.ensures.collects
 
+pub scan-requires-clause-behind : goal.scan-requires-clause-behind
+scan-requires-clause-behind g c = at_place (subst (g.R.Receiver.reached c.args.to.now) (sym c.requires.start) c.requires.reached)
+
+pub parse_value-requires-clause-source : goal.parse_value-requires-clause-source
+parse_value-requires-clause-source g c = source_on c.args.context.now c.scan.new.self _ c.in_ok-token.ensures.kept (c.in_ok-token.ensures.source ∙ c.requires.source)
+
 pub parse_value-requires-clause-follows : goal.parse_value-requires-clause-follows
-parse_value-requires-clause-follows g c =
+parse_value-requires-clause-follows g c = follows_in (c.in_ok-token.ensures.source ∙ c.requires.source) refl c.in_ok-token.ensures.follows
+
+pub scan-requires-2-clause-source : goal.scan-requires-2-clause-source
+scan-requires-2-clause-source g c =
+    let old = c.args.context.now in
     let now = c.scan.new.self in
-    let read = c.in_ok-token.ensures in
-    let is = ap (found_in now) c.in-Some.is in
-    root_follows c.args.context.now now (last now c.in-Some.token) (g.R.Receiver.source c.args.to.now) (g.R.Receiver.reached c.args.to.now) c.requires.source c.requires.start c.requires.reached read.kept read.found.0 (subst (IsThere now.scanner) is read.found.1)
+    let mid = c.parse_value.new.context in
+    source_on old mid _ (kept_on old now mid c.scan.ensures.kept c.in_ok-value.ensures.kept) (c.in_ok-value.ensures.source ∙ c.in_ok-token.ensures.source ∙ c.requires.source)
+
+pub scan-requires-2-clause-behind : goal.scan-requires-2-clause-behind
+scan-requires-2-clause-behind g c = at_place c.in_ok-value.ensures.reached
+
+-- at the end of the text a token is where it begins
+pub returns-in_default-clause-reached : goal.returns-in_default-clause-reached
+returns-in_default-clause-reached g c =
+    let end = subst (IsThere c.scan.new.self.scanner) (ap (found_in c.scan.new.self) c.in_default.is) c.in_ok-token.ensures.found.1 in
+    subst (g.R.Receiver.reached c.scan.new.to) (end.0 ∙ sym end.1) c.in_ok-token.ensures.follows.reached
+
+pub returns-clause-reached : goal.returns-clause-reached
+returns-clause-reached g c =
+    let end = subst (IsThere c.scan-2.new.self.scanner) (ap (found_in c.scan-2.new.self) c.in-None.is) c.in_ok-scan.ensures.found.1 in
+    subst (g.R.Receiver.reached c.scan-2.new.to) (end.0 ∙ sym end.1) c.in_ok-scan.ensures.follows.reached

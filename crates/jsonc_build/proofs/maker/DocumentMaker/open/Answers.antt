@@ -8,5 +8,5 @@ pub returns-clause-held : goal.returns-clause-held
 returns-clause-held g c =
     let node = c.in_ok-node.ensures in
     let push = c.in_ok-push.ensures in
-    container_opened c.args.self.now c.put.new.self c.enter.new.self c.push.new.self c.args.start c.requires.follows.from c.in_ok-node.node (content_of c.args.kind) c.args.bracket c.requires.follows.reached node.rest node.put
+    container_opened c.args.self.now c.put.new.self c.enter.new.self c.push.new.self c.args.start c.args.start c.in_ok-node.node (content_of c.args.kind) c.args.bracket c.requires.follows.reached node.rest node.put
     c.enter.ensures.nodes c.enter.ensures.container push.container (pushes_same (ap content_of c.token.ensures) push.pushes) push.growing c.container-around.result c.container-around.ensures

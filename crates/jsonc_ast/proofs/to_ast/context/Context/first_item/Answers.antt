@@ -10,6 +10,7 @@ use Rattle.jsonc_ast.proofs.lemmas.to_ast.Refusals.{err_of, still, refuted, no_t
 use Rattle.jsonc_ast.proofs.lemmas.to_ast.Tokens.{open_before, end_here, closes_none}
 use Rattle.jsonc_text.specs.Faults.{IsFault}
 use Rattle.std.proofs.Common.{subst}
+use Rattle.jsonc_ast.specs.to_ast.Handed.{at_place}
 use Rattle.jsonc_ast.proofs.to_ast.context.Context.first_item.Goals as goal
 
 pub returns-in_err-first-clause-refused : goal.returns-in_err-first-clause-refused
@@ -52,3 +53,6 @@ returns-in_default-clause-error g c =
 
 pub returns-in_default-clause-fault : goal.returns-in_default-clause-fault
 returns-in_default-clause-fault g c = subst (λ b. IsFault b c.unterminated.result) c.scan.ensures.kept.text c.unterminated.ensures.fault
+
+pub scan-requires-clause-behind : goal.scan-requires-clause-behind
+scan-requires-clause-behind g c = at_place c.requires.reached

@@ -17,6 +17,8 @@ use Rattle.jsonc_ast.proofs.lemmas.to_ast.Tokens.{open_before, end_here, closes_
 use Rattle.jsonc_text.specs.Faults.{IsFault}
 use Rattle.std.proofs.Common.{subst, IfErr}
 use Rattle.jsonc_ast.proofs.lemmas.to_ast.Scans.{kept_on}
+use Rattle.jsonc_ast.specs.to_ast.Handed.{at_place}
+use Rattle.jsonc_ast.proofs.lemmas.to_ast.Following.{follows_in, held_on, mark_behind, source_later, source_on}
 use Rattle.jsonc_ast.proofs.to_ast.context.Context.next_item.Goals as goal
 
 pub returns-then-closes-clause-found : goal.returns-then-closes-clause-found
@@ -192,3 +194,39 @@ returns-then-has_next-clause-kept g c = kept_on c.args.self.now c.pass_next_comm
 
 pub returns-then-has_next-clause-fault : goal.returns-then-has_next-clause-fault
 returns-then-has_next-clause-fault g c = subst (λ b. IfErr c.item_after_comma.result (IsFault b)) c.pass_next_comma.ensures.kept.text c.item_after_comma.ensures.fault
+
+pub scan-requires-clause-behind : goal.scan-requires-clause-behind
+scan-requires-clause-behind g c = at_place c.requires.reached
+
+pub item_after_comma-requires-clause-source : goal.item_after_comma-requires-clause-source
+item_after_comma-requires-clause-source g c = source_on c.args.self.now c.pass_next_comma.new.self _ c.pass_next_comma.ensures.kept c.requires.source
+
+pub item_after_comma-requires-clause-behind : goal.item_after_comma-requires-clause-behind
+item_after_comma-requires-clause-behind g c =
+    mark_behind c.args.self.now c.pass_next_comma.new.self (g.R.Receiver.reached c.args.to.now) 0x2C _ refl c.pass_next_comma.ensures.kept c.requires.reached c.pass_next_comma.ensures.next
+
+pub returns-then-has_next-clause-follows : goal.returns-then-has_next-clause-follows
+returns-then-has_next-clause-follows g c = ok_collects c.item_after_comma.result (follows_in (source_later c.args.self.now c.pass_next_comma.new.self c.pass_next_comma.ensures.kept) refl) c.item_after_comma.ensures.follows
+
+pub item_after_comma-requires-then-is_comma-clause-source : goal.item_after_comma-requires-then-is_comma-clause-source
+item_after_comma-requires-then-is_comma-clause-source g c = source_on c.args.self.now c.scan.new.self _ c.scan.ensures.kept (c.in_ok-token.ensures.source ∙ c.requires.source)
+
+pub item_after_comma-requires-then-is_comma-clause-behind : goal.item_after_comma-requires-then-is_comma-clause-behind
+item_after_comma-requires-then-is_comma-clause-behind g c =
+    let old = c.args.self.now in
+    let new = c.scan.new.self in
+    let kept = c.scan.ensures.kept in
+    let read = c.in_ok-token.ensures in
+    let f = found_in new c.in_ok-token.field-0 in
+    let t = last new c.in-Some.token in
+    mark_behind old new (g.R.Receiver.reached c.scan.new.to) 0x2C _ refl kept read.follows.reached
+    (token_is (text_in old) (options_in old) new.scanner t 0x2C kept.text kept.options (at_token old new f t 0x2C kept read.found (ap (found_in new) c.in-Some.is)) (c.is_comma.ensures.0 c.if-is_comma.true))
+
+pub returns-then-is_comma-clause-source : goal.returns-then-is_comma-clause-source
+returns-then-is_comma-clause-source g c = ok_collects c.item_after_comma-then-is_comma.result (λ e. e ∙ c.in_ok-token.ensures.source) c.item_after_comma-then-is_comma.ensures.source
+
+pub returns-then-is_comma-clause-follows : goal.returns-then-is_comma-clause-follows
+returns-then-is_comma-clause-follows g c = ok_collects c.item_after_comma-then-is_comma.result (follows_in (source_later c.args.self.now c.scan.new.self c.scan.ensures.kept) refl) c.item_after_comma-then-is_comma.ensures.follows
+
+pub returns-then-is_comma-clause-held : goal.returns-then-is_comma-clause-held
+returns-then-is_comma-clause-held g c = ok_collects c.item_after_comma-then-is_comma.result (held_on c.in_ok-token.ensures.held) c.item_after_comma-then-is_comma.ensures.held

@@ -7,6 +7,11 @@ use Rattle.jsonc_ast.proofs.lemmas.to_ast.Stopping.{stops_here, colon_end_stops,
 use Rattle.jsonc_ast.proofs.lemmas.to_ast.Refusals.{err_of, still, refuted, no_token_colon, no_colon_at_end, no_colon}
 use Rattle.jsonc_text.specs.Faults.{IsFault}
 use Rattle.std.proofs.Common.{subst}
+use Rattle.std.proofs.Common.{refl}
+use Rattle.jsonc_ast.specs.to_ast.Context.{text_in, options_in}
+use Rattle.jsonc_ast.specs.to_ast.Handed.{at_place, behind_mark}
+use Rattle.jsonc_ast.proofs.lemmas.to_ast.Following.{held_same}
+use Rattle.jsonc_ast.proofs.lemmas.to_ast.Scans.{at_token, token_is}
 use Rattle.jsonc_ast.proofs.to_ast.context.Context.pass_colon.Goals as goal
 
 pub returns-in_err-token-clause-refused : goal.returns-in_err-token-clause-refused
@@ -46,3 +51,23 @@ returns-in_default-clause-fault g c = subst (λ b. IsFault b c.fault_here.result
 
 pub returns-then-not-is_colon-clause-fault : goal.returns-then-not-is_colon-clause-fault
 returns-then-not-is_colon-clause-fault g c = subst (λ b. IsFault b c.fault_here-then-not-is_colon.result) c.scan.ensures.kept.text c.fault_here-then-not-is_colon.ensures.fault
+
+pub scan-requires-clause-behind : goal.scan-requires-clause-behind
+scan-requires-clause-behind g c = at_place c.requires.reached
+
+pub returns-then-has_next-clause-behind : goal.returns-then-has_next-clause-behind
+returns-then-has_next-clause-behind g c = behind_mark refl c.requires.reached c.pass_next_colon.ensures.next
+
+pub returns-then-has_next-clause-held : goal.returns-then-has_next-clause-held
+returns-then-has_next-clause-held g c = held_same c.args.to.now
+
+pub returns-clause-behind : goal.returns-clause-behind
+returns-clause-behind g c =
+    let old = c.args.self.now in
+    let new = c.scan.new.self in
+    let kept = c.scan.ensures.kept in
+    let read = c.in_ok-token.ensures in
+    let f = found_in new c.in_ok-token.field-0 in
+    let t = last new c.in-Some.token in
+    behind_mark refl read.follows.reached
+    (token_is (text_in old) (options_in old) new.scanner t 0x3A kept.text kept.options (at_token old new f t 0x3A kept read.found (ap (found_in new) c.in-Some.is)) (c.is_colon.ensures.0 c.if-not-is_colon.false))

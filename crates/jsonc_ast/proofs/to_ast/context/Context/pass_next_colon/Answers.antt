@@ -6,6 +6,7 @@ use Rattle.jsonc_ast.specs.to_ast.Context.{text_in, options_in}
 use Rattle.jsonc_ast.proofs.lemmas.to_ast.Collecting.{collects_same, collects_nothing}
 use Rattle.jsonc_ast.proofs.lemmas.to_ast.Gaps.{join, passed}
 use Rattle.jsonc_ast.proofs.lemmas.to_ast.Scans.{token_is, kept_same}
+use Rattle.jsonc_ast.proofs.lemmas.to_ast.PassedGaps.{next_mark}
 use Rattle.jsonc_ast.proofs.to_ast.context.Context.pass_next_colon.Goals as goal
 
 pub returns-clause-found : goal.returns-clause-found
@@ -20,3 +21,9 @@ pub returns-clause-collects : goal.returns-clause-collects
 returns-clause-collects g c =
     let old = c.args.self.now in
     collects_nothing old old c.pass_mark.new.self (Some (lexeme (punctuation 0x3A))) (lexeme (punctuation 0x3A)) _ (kept_same old) (collects_same old) c.pass_mark.ensures.blanks refl c.pass_mark.ensures.found refl refl c.requires.tokens refl c.requires.comments
+
+pub returns-clause-next : goal.returns-clause-next
+returns-clause-next g c =
+    let old = c.args.self.now in
+    let blanks = c.pass_mark.ensures.blanks in
+    next_mark old c.pass_mark.new.self 0x3A refl c.requires.next blanks (token_is (text_in old) (options_in old) c.pass_mark.new.self (lexeme (punctuation 0x3A)) 0x3A blanks.text blanks.options c.pass_mark.ensures.found refl)

@@ -1,9 +1,10 @@
 use Rattle.std.proofs.Common.{Some, refl}
 use Rattle.jsonc_text.specs.Lexemes.{lexeme, punctuation}
-use Rattle.jsonc_ast.specs.to_ast.Context.{options_in}
+use Rattle.jsonc_ast.specs.to_ast.Context.{text_in, options_in}
 use Rattle.jsonc_ast.proofs.lemmas.to_ast.Collecting.{collects_same, collects_nothing}
 use Rattle.jsonc_ast.proofs.lemmas.to_ast.Gaps.{passed}
-use Rattle.jsonc_ast.proofs.lemmas.to_ast.Scans.{kept_same}
+use Rattle.jsonc_ast.proofs.lemmas.to_ast.Scans.{token_is, kept_same}
+use Rattle.jsonc_ast.proofs.lemmas.to_ast.PassedGaps.{next_mark}
 use Rattle.jsonc_ast.proofs.to_ast.context.Context.pass_next_comma.Goals as goal
 
 pub returns-clause-found : goal.returns-clause-found
@@ -15,3 +16,9 @@ pub returns-clause-collects : goal.returns-clause-collects
 returns-clause-collects g c =
     let old = c.args.self.now in
     collects_nothing old old c.pass_mark.new.self (Some (lexeme (punctuation 0x2C))) (lexeme (punctuation 0x2C)) _ (kept_same old) (collects_same old) c.pass_mark.ensures.blanks refl c.pass_mark.ensures.found refl refl c.requires.tokens refl c.requires.comments
+
+pub returns-clause-next : goal.returns-clause-next
+returns-clause-next g c =
+    let old = c.args.self.now in
+    let blanks = c.pass_mark.ensures.blanks in
+    next_mark old c.pass_mark.new.self 0x2C refl c.requires.next blanks (token_is (text_in old) (options_in old) c.pass_mark.new.self (lexeme (punctuation 0x2C)) 0x2C blanks.text blanks.options c.pass_mark.ensures.found refl)

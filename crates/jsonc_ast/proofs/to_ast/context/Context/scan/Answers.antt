@@ -1,23 +1,24 @@
 use Rattle.jsonc_text.specs.Places.{is_comment}
-use Rattle.std.proofs.Common.{◌≡◌, false, sym, ap, ◌∙◌, refl, subst, Some, is_some, option_map, IfSome}
+use Rattle.std.proofs.Common.{◌≡◌, false, sym, ap, ◌∙◌, refl, subst, None, Some, is_some, option_map, IfSome}
 use Rattle.jsonc_text.specs.Faults.{IsFault}
 use Rattle.jsonc_scan.specs.Scanner.{text_of}
 use Rattle.jsonc_ast.specs.to_ast.Context.{text_in}
 use Rattle.jsonc_scan.specs.Scanner.{scanned_seen, IsLentSeen}
 use Rattle.jsonc_ast.proofs.lemmas.to_ast.MovedTokens.{seen_same}
-use Rattle.jsonc_ast.proofs.lemmas.to_ast.Scans.{passing_start, scan_found, kept_step, passing_on}
+use Rattle.jsonc_ast.proofs.lemmas.to_ast.Scans.{scan_found, kept_step, passing_on}
 use Rattle.jsonc_ast.proofs.lemmas.to_ast.Collecting.{collects_end, collects_nothing, collects_on_lexeme}
 use Rattle.jsonc_ast.proofs.lemmas.to_ast.Refusals.{err_of, scan_refused, comment_refused}
 use Rattle.jsonc_ast.specs.to_ast.Faults.{StopsAnyhow}
 use Rattle.jsonc_ast.proofs.lemmas.to_ast.Stopping.{scan_stops, comment_stops}
+use Rattle.jsonc_ast.proofs.lemmas.to_ast.PassedGaps.{reaches_token}
 use Rattle.jsonc_ast.proofs.to_ast.context.Context.scan.Goals as goal
 
 pub loop-token-init : goal.loop-token-init
-loop-token-init g c = passing_start c.args.self.now
+loop-token-init g c = record { kept = c.pass_gap.ensures.kept; gap = c.in-Ok.ensures.gap; collects = c.in-Ok.ensures.collects }
 
-pub returns-in_default-clause-found : goal.returns-in_default-clause-found
-returns-in_default-clause-found g c =
-    scan_found c.args.self.now c.loop-token.self c.step.new.self c.step.new.self (option_map (scanned_seen c.step.new.self c.step.new.content) c.in_ok-token.field-0) _ (ap (option_map (scanned_seen c.step.new.self c.step.new.content)) c.in_default.is) refl c.loop-token.invariant c.step.ensures.blanks c.in_ok-token.ensures.found
+pub returns-in_default-2-clause-found : goal.returns-in_default-2-clause-found
+returns-in_default-2-clause-found g c =
+    scan_found c.args.self.now c.loop-token.self c.step.new.self c.step.new.self (option_map (scanned_seen c.step.new.self c.step.new.content) c.in_ok-token.field-0) _ (ap (option_map (scanned_seen c.step.new.self c.step.new.content)) c.in_default-2.is) refl c.loop-token.invariant c.step.ensures.blanks c.in_ok-token.ensures.found
 
 pub returns-then-not-is_comment-clause-found : goal.returns-then-not-is_comment-clause-found
 returns-then-not-is_comment-clause-found g c =
@@ -45,10 +46,10 @@ returns-in_err-pass_comment-clause-refused g c =
     (comment_refused c.args.self.now c.loop-token.self c.step.new.self (option_map (scanned_seen c.step.new.self c.step.new.content) c.in_ok-token.field-0) (scanned_seen c.step.new.self c.step.new.content c.in-Some.token) e (ap (option_map (scanned_seen c.step.new.self c.step.new.content)) c.in-Some.is) c.loop-token.invariant c.step.ensures.blanks c.in_ok-token.ensures.found
     (sym c.is_comment.ensures ∙ c.if-not-is_comment.false) c.in_err-pass_comment.ensures.refused)
 
-pub returns-in_default-clause-collects : goal.returns-in_default-clause-collects
-returns-in_default-clause-collects g c =
+pub returns-in_default-2-clause-collects : goal.returns-in_default-2-clause-collects
+returns-in_default-2-clause-collects g c =
     let so_far = c.loop-token.invariant in
-    collects_end c.args.self.now c.loop-token.self _ c.step.new.self (option_map (scanned_seen c.step.new.self c.step.new.content) c.in_ok-token.field-0) so_far.kept so_far.collects c.step.ensures.blanks refl c.in_ok-token.ensures.found (ap (option_map (scanned_seen c.step.new.self c.step.new.content)) c.in_default.is) refl (λ h. h) (λ ts h. h)
+    collects_end c.args.self.now c.loop-token.self _ c.step.new.self (option_map (scanned_seen c.step.new.self c.step.new.content) c.in_ok-token.field-0) so_far.kept so_far.collects c.step.ensures.blanks refl c.in_ok-token.ensures.found (ap (option_map (scanned_seen c.step.new.self c.step.new.content)) c.in_default-2.is) refl (λ h. h) (λ ts h. h)
 
 pub returns-then-not-is_comment-clause-collects : goal.returns-then-not-is_comment-clause-collects
 returns-then-not-is_comment-clause-collects g c =
@@ -82,8 +83,8 @@ returns-in_err-pass_comment-clause-error g c =
 pub returns-in_err-token-clause-kept : goal.returns-in_err-token-clause-kept
 returns-in_err-token-clause-kept g c = kept_step c.args.self.now c.loop-token.self _ c.step.new.self c.loop-token.invariant c.step.ensures.blanks refl refl refl refl
 
-pub returns-in_default-clause-kept : goal.returns-in_default-clause-kept
-returns-in_default-clause-kept g c = kept_step c.args.self.now c.loop-token.self _ c.step.new.self c.loop-token.invariant c.step.ensures.blanks refl refl refl refl
+pub returns-in_default-2-clause-kept : goal.returns-in_default-2-clause-kept
+returns-in_default-2-clause-kept g c = kept_step c.args.self.now c.loop-token.self _ c.step.new.self c.loop-token.invariant c.step.ensures.blanks refl refl refl refl
 
 pub returns-then-not-collects-clause-kept : goal.returns-then-not-collects-clause-kept
 returns-then-not-collects-clause-kept g c = kept_step c.args.self.now c.loop-token.self _ c.step.new.self c.loop-token.invariant c.step.ensures.blanks refl refl refl refl
@@ -149,3 +150,15 @@ pub returns-then-not-is_comment-clause-lexeme : goal.returns-then-not-is_comment
 returns-then-not-is_comment-clause-lexeme g c =
     let held = c.end_gap.ensures.content ∙ c.collect.ensures.content in
     subst (λ w. is_comment w ≡ false) (sym (seen_same c.step.new.self c.end_gap.new.self.scanner c.step.new.content c.end_gap.new.self.content c.in-Some.token (c.end_gap.ensures.scanner ∙ c.collect.ensures.scanner) held)) (sym c.is_comment.ensures ∙ c.if-not-is_comment.true)
+
+pub returns-in_default-2-clause-follows : goal.returns-in_default-2-clause-follows
+returns-in_default-2-clause-follows g c =
+    reaches_token c.args.self.now _ (g.R.Receiver.reached c.pass_gap.new.to) None (returns-in_default-2-clause-kept g c) c.in-Ok.ensures.reached (returns-in_default-2-clause-found g c) tt
+
+pub returns-then-not-collects-clause-follows : goal.returns-then-not-collects-clause-follows
+returns-then-not-collects-clause-follows g c =
+    reaches_token c.args.self.now _ (g.R.Receiver.reached c.pass_gap.new.to) (Some (scanned_seen c.step.new.self c.step.new.content c.in-Some.token)) (returns-then-not-collects-clause-kept g c) c.in-Ok.ensures.reached (returns-then-not-collects-clause-found g c) (returns-then-not-collects-clause-lexeme g c)
+
+pub returns-then-not-is_comment-clause-follows : goal.returns-then-not-is_comment-clause-follows
+returns-then-not-is_comment-clause-follows g c =
+    reaches_token c.args.self.now _ (g.R.Receiver.reached c.pass_gap.new.to) (Some (scanned_seen c.end_gap.new.self.scanner c.end_gap.new.self.content c.in-Some.token)) (returns-then-not-is_comment-clause-kept g c) c.in-Ok.ensures.reached (returns-then-not-is_comment-clause-found g c) (returns-then-not-is_comment-clause-lexeme g c)
