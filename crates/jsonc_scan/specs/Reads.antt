@@ -1,11 +1,13 @@
 -- What a lexeme stands for, and where it was read.
-use Rattle.std.specs.Prelude.{ℕ, ◌+◌, ◌≡◌, Bool, true, false, List, [], ◌∷◌, chars, codes, IsTrue, ◌==◌, ◌||◌, ◌&&◌}
+use Rattle.std.specs.Prelude.{ℕ, ◌+◌, ◌-◌, ◌≡◌, ◌↔◌, slice_range, Bool, true, false, List, [], ◌∷◌, chars, codes, IsTrue, ◌==◌, ◌||◌, ◌&&◌}
 use Rattle.jsonc_scan.specs.declared.lexeme.Lexeme.{Lexeme}
 use Rattle.jsonc_scan.specs.declared.lexeme.Lexeme.TheVariants.{Word, Boolean, Number, Null, CommentLine, CommentBlock}
 use Rattle.jsonc_scan.specs.declared.lexeme.Read.{Read}
 use Rattle.jsonc_scan.specs.declared.lexeme.Mark.{Mark}
 use Rattle.jsonc_scan.specs.declared.plain.PlainNumber.{PlainNumber}
-use Rattle.jsonc_text.specs.string.Escapes.{IsLentUnescaped, StringHoldsBackslash}
+use Rattle.jsonc_text.specs.string.Escapes.{HoldsBackslash, IsLentUnescaped, StringHoldsBackslash}
+use Rattle.jsonc_text.specs.declared.string.pass.PassedString.{PassedString}
+use Rattle.jsonc_text.specs.StringValue.{string_value}
 use Rattle.jsonc_text.specs.declared.string.decode.Decoded.{Decoded}
 use Rattle.std.specs.Cow.{cow_str_bytes, IsOwnedStr}
 use Rattle.jsonc_text.specs.Options.{Options}
@@ -15,7 +17,7 @@ use Rattle.jsonc_text.specs.string.Between.{Between, Reaches, NoneFrom, LacksAt}
 use Rattle.jsonc_scan.specs.Between.{HasAt, IsWhole, IsAlone}
 use Rattle.jsonc_text.specs.Chars.{Steps}
 use Rattle.jsonc_text.specs.Numbers.{Fraction, Unsigned, is_x, Number as IsNumber}
-use Rattle.jsonc_text.specs.Text.{rest, next, starts, is_digit}
+use Rattle.jsonc_text.specs.Text.{rest, next, starts, is_digit, Spans}
 
 -- the token that a lexeme is
 abbrev pub what_of : Lexeme → Scanned
@@ -135,6 +137,13 @@ NoNameOrWord o bytes start = NoName o bytes start × NoWord o bytes start
 -- no lexeme and no comment stands at a place
 abbrev pub NothingAt : Options → List ℕ → ℕ → Type 0
 NothingAt o bytes start = (what : Scanned) → NoneFrom (IsScanned o what) bytes start
+
+-- the string that was passed stands at a place and ends where it was read to; where no backslash is in it, it is what stands between its quotes
+pub record IsStringPassed (o : Options) (bytes : List ℕ) (start : ℕ) (passed : PassedString) : Type 0 where
+  pub stands : Between (IsScanned o (lexeme (string (string_value bytes start passed.end)))) bytes start passed.end
+  pub escaped : passed.escaped ≡ true ↔ HoldsBackslash bytes start passed.end
+  pub plain : passed.escaped ≡ false → string_value bytes start passed.end ≡ chars (slice_range bytes (start + 1) (passed.end - 1))
+  pub inside : Spans bytes (start + 1) (passed.end - 1)
 
 module _ {A : Type 0} where
   -- the string stands at a place and ends where it was read to; it is lent by the text exactly where no backslash is in it

@@ -1,6 +1,10 @@
 -- What a scanner has before it.
 use Rattle.std.specs.Prelude.{ℕ, ◌+◌, ◌≡◌, ◌≤◌, ◌<◌, List, Option, Some, None, option_map, length, IsTrue}
 use Rattle.jsonc_scan.specs.declared.scanner.Scanner.{Scanner}
+use Rattle.jsonc_scan.specs.declared.found.TokenContent.{TokenContent}
+use Rattle.jsonc_scan.specs.declared.found.TokenKind.{TokenKind}
+use Rattle.jsonc_scan.specs.declared.found.TokenKind.TheVariants as kind
+use Rattle.jsonc_scan.specs.Found.{token_held}
 use Rattle.jsonc_text.specs.declared.errors.ParseError.{ParseError}
 use Rattle.jsonc_text.specs.declared.tokens.Token.{Token}
 use Rattle.jsonc_text.specs.Options.{Options}
@@ -8,11 +12,12 @@ use Rattle.jsonc_text.specs.OptionsOf.{parse_options}
 use Rattle.jsonc_text.specs.Text.{rest, next, no, Many}
 use Rattle.jsonc_text.specs.Gaps.{is_blank}
 use Rattle.jsonc_text.specs.Chars.{Steps}
-use Rattle.jsonc_text.specs.Lexemes.{Scanned, IsScanned, lexeme, punctuation}
+use Rattle.jsonc_text.specs.Lexemes.{Scanned, IsScanned, lexeme, punctuation, string}
+use Rattle.jsonc_text.specs.StringValue.{string_value}
 use Rattle.jsonc_text.specs.Tokens.{scanned_of}
 use Rattle.jsonc_scan.specs.Reads.{NothingAt}
 use Rattle.jsonc_scan.specs.Faults.{IsTrueOf}
-use Rattle.jsonc_text.specs.string.Escapes.{IsLentUnescaped, StringHoldsBackslash}
+use Rattle.jsonc_text.specs.string.Escapes.{HoldsBackslash, IsLentUnescaped, StringHoldsBackslash}
 use Rattle.jsonc_text.specs.declared.tokens.Token.TheVariants.{String}
 
 module _ {A : Type 0} where
@@ -50,10 +55,23 @@ module _ {A : Type 0} where
     pub blanks : Many is_blank (left old) (rest (text_of new) (start_of new))
     pub order : (end_of old ≤ start_of new) × (start_of new ≤ end_of new)
 
-  -- this token stands where the scanner's token begins, and ends where the scanner is
+  -- this lexeme or comment stands where the scanner's token begins, and ends where the scanner is; or there is none, at the end of the text
+  abbrev pub IsThere : Scanner A → Option Scanned → Type 0
+  IsThere s None = (start_of s ≡ length (text_of s)) × (end_of s ≡ length (text_of s))
+  IsThere s (Some what) = (start_of s < end_of s) × IsScanned (options_of s) what (rest (text_of s) (start_of s)) (left s)
+
+  -- and so does this token
   abbrev pub StandsAt : Scanner A → Option (Token A) → Type 0
-  StandsAt s None = (start_of s ≡ length (text_of s)) × (end_of s ≡ length (text_of s))
-  StandsAt s (Some t) = (start_of s < end_of s) × IsScanned (options_of s) (scanned_of t) (rest (text_of s) (start_of s)) (left s)
+  StandsAt s t = IsThere s (option_map scanned_of t)
+
+  -- what a token of this kind is: a string that was passed is what its literal stands for
+  abbrev pub scanned_seen : Scanner A → TokenContent A → TokenKind → Scanned
+  scanned_seen s x kind.Passed = lexeme (string (string_value (text_of s) (start_of s) (end_of s)))
+  scanned_seen s x k = scanned_of (token_held k x)
+
+  -- what was found, or none
+  abbrev pub seen : Scanner A → TokenContent A → Option TokenKind → Option Scanned
+  seen s x = option_map (scanned_seen s x)
 
   -- no token stands where the scanner's token would begin
   abbrev pub NothingStands : Scanner A → Type 0
@@ -67,6 +85,11 @@ module _ {A : Type 0} where
   abbrev pub IsLent : Scanner A → Option (Token A) → Type 0
   IsLent s (Some (String v)) = IsLentUnescaped (text_of s) (start_of s) (end_of s) v
   IsLent s _ = Unit {0}
+
+  -- and a string was passed only where its literal holds one
+  abbrev pub IsLentSeen : Scanner A → TokenContent A → TokenKind → Type 0
+  IsLentSeen s x kind.Passed = HoldsBackslash (text_of s) (start_of s) (end_of s)
+  IsLentSeen s x k = IsLent s (Some (token_held k x))
 
   -- and so is the last token that the scanner keeps, where it is that string
   abbrev pub KeepsLent : Scanner A → Type 0

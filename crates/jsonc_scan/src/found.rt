@@ -1,5 +1,5 @@
 //! What a scanner came to, for a parser: the kind of its token, and beside it what the token holds.
-ghost use Rattle.std.specs.Prelude.{◌≡◌, [], Some, IfOk, OnErr};
+ghost use Rattle.std.specs.Prelude.{◌≡◌, ◌≢◌, [], Some, IfOk, OnErr};
 ghost use Rattle.std.specs.Cow.{cow_str_bytes};
 ghost use Rattle.jsonc_text.specs.Tokens.{scanned_of, IsOwned, lent_bytes};
 ghost use Rattle.jsonc_scan.specs.Found.{token_held, LeavesOthers};
@@ -21,6 +21,8 @@ pub enum TokenKind {
     Comma,
     Colon,
     String,
+    /// A string with a backslash in it that was passed: what it stands for is not kept.
+    Passed,
     Word,
     True,
     False,
@@ -64,6 +66,7 @@ impl<'a, A: Allocator> TokenContent<'a, A> {
     #[inline(always)]
     pub(crate) fn mark_kind(&self, mark: Mark) -> TokenKind
         ensures held { scanned_of (token_held result self.now) ≡ mark_of mark }
+        ensures kept { result ≢ TokenKind.Passed }
         ensures others { LeavesOthers self.now self.now (Some result) }
     {
         match mark {
@@ -80,6 +83,7 @@ impl<'a, A: Allocator> TokenContent<'a, A> {
     #[inline(always)]
     pub(crate) fn hold(&mut self, lexeme: Lexeme<'a>) -> TokenKind
         ensures held { scanned_of (token_held result self.new) ≡ what_of lexeme.entry }
+        ensures kept { result ≢ TokenKind.Passed }
         ensures others { LeavesOthers self.old self.new (Some result) }
     {
         match lexeme {
@@ -118,6 +122,7 @@ impl<'a, A: Allocator> TokenContent<'a, A> {
             TokenKind::Comma => Token::Comma,
             TokenKind::Colon => Token::Colon,
             TokenKind::String => Token::String(self.string),
+            TokenKind::Passed => Token::Null,
             TokenKind::Word => Token::Word(self.text),
             TokenKind::True => Token::Boolean(true),
             TokenKind::False => Token::Boolean(false),

@@ -1,16 +1,17 @@
 //! Turning a text into tokens.
-ghost use Rattle.std.specs.Prelude.{◌≡◌, ◌≢◌, ◌≤◌, ◌<◌, ◌↔◌, IsCharBoundary, IsTrue, IfOk, IfErr, IfSome, OnOk, OnErr, None, option_map, option_copied};
+ghost use Rattle.std.specs.Prelude.{◌≡◌, ◌≢◌, ◌≤◌, ◌<◌, ◌↔◌, IsCharBoundary, IsTrue, IfOk, IfErr, IfSome, OnOk, OnErr, None, Some, true, false, option_map, option_copied};
 
 use crate::faults::out_of_memory;
 use crate::found::{TokenContent, TokenKind};
 use crate::plain::plain_number;
 use crate::reads::{quote_at, read_lexeme, read_punctuation};
-use crate::string::{plain_string, read_string};
+use crate::string::{pass_string_at, plain_string, read_string};
 use jsonc_text::chars::{blanks_end, has_byte};
 use jsonc_text::errors::{ParseError, ParseErrorKind};
 use jsonc_text::options::{ParseOptions, ScannerOptions};
 use jsonc_text::tokens::Token;
 use std::alloc::Allocator;
+use std::borrow::CowStr;
 
 /// Reads a text one token after another.
 #[derive(Drop)]
@@ -91,10 +92,11 @@ impl<'a, A: Allocator> Scanner<'a, A> {
 
 impl<'a, A: Allocator + Copy> Scanner<'a, A> {
     ghost use Rattle.jsonc_text.specs.Faults.{IsFault, kind_of};
-    ghost use Rattle.jsonc_scan.specs.Scanner.{text_of, start_of, end_of, options_of, token_of, last_token, KeepsLent, PassesBlanks, StandsAt, NothingStands, GoesOn, IsLent, HoldsEscape, IsTrueThere, ComesNext, IsMarkHere};
+    ghost use Rattle.jsonc_scan.specs.Scanner.{text_of, start_of, end_of, options_of, token_of, last_token, KeepsLent, PassesBlanks, StandsAt, IsThere, seen, NothingStands, GoesOn, IsLent, IsLentSeen, HoldsEscape, IsTrueThere, ComesNext, IsMarkHere};
     ghost use Rattle.jsonc_scan.specs.Found.{token_found, LeavesOthers};
     ghost use Rattle.jsonc_text.specs.string.Between.{LacksAt};
     ghost use Rattle.jsonc_text.specs.Lexemes.{is_punctuation};
+    ghost use Rattle.jsonc_text.specs.string.Quotes.{OpensString};
     ghost use Rattle.jsonc_text.specs.Tokens.{IsOwned, scanned_of};
 
     /// Whether an ASCII character comes next, with no blank before it.
@@ -124,7 +126,8 @@ impl<'a, A: Allocator + Copy> Scanner<'a, A> {
 
     /// Moves to the next token, and answers its kind, if there is one.
     ///
-    /// None at the end of the text. What the token holds is put into `content`. The last token that
+    /// None at the end of the text. What the token holds is put into `content`. Where strings are
+    /// not decoded, one with a backslash is `Passed`, which takes no memory. The last token that
     /// the scanner keeps stays what it was. After an error the scanner stands where the faulty
     /// token begins.
     #[doc(hidden)]
@@ -132,10 +135,12 @@ impl<'a, A: Allocator + Copy> Scanner<'a, A> {
     pub fn step(
         &mut self,
         content: &mut TokenContent<'a, A>,
+        decodes: bool,
     ) -> Result<Option<TokenKind>, ParseError>
         ensures blanks { PassesBlanks self.old self.new }
-        ensures found { IfOk result (λ f. StandsAt self.new (token_found content.new f)) }
-        ensures lent { IfOk result (λ f. IsLent self.new (token_found content.new f)) }
+        ensures found { IfOk result (λ f. IsThere self.new (seen self.new content.new f)) }
+        ensures lent { IfOk result (λ f. IfSome f (IsLentSeen self.new content.new)) }
+        ensures passed { IfOk result (λ f. f ≡ Some TokenKind.Passed → decodes ≡ false) }
         ensures escaped { IfOk result (λ f. IfSome (token_found content.new f) (λ t. IsOwned t → HoldsEscape self.new)) }
         ensures others { IfOk result (LeavesOthers content.old content.new) }
         ensures nothing { IfErr result (λ e. kind_of e ≢ ParseErrorKind.OutOfMemory → NothingStands self.new) }
@@ -143,6 +148,7 @@ impl<'a, A: Allocator + Copy> Scanner<'a, A> {
         ensures fault { IfErr result (IsFault (text_of self.new)) }
         ensures error { IfErr result (λ e. kind_of e ≢ ParseErrorKind.OutOfMemory → IsTrueThere self.new e) }
         ensures memory { IfErr result (λ e. kind_of e ≡ ParseErrorKind.OutOfMemory → HoldsEscape self.new) }
+        ensures wanted { IfErr result (λ e. kind_of e ≡ ParseErrorKind.OutOfMemory → decodes ≡ true) }
         ensures keeps { last_token self.new ≡ last_token self.old }
         ensures stays { OnErr result (end_of self.new ≡ start_of self.new) }
     {
@@ -166,7 +172,7 @@ impl<'a, A: Allocator + Copy> Scanner<'a, A> {
             content.text = number.text;
             return Ok(Some(TokenKind::Number));
         }
-        self.step_other(content)
+        self.step_other(content, decodes)
     }
 
     /// The same where the scanner stands, at no punctuation.
@@ -174,6 +180,7 @@ impl<'a, A: Allocator + Copy> Scanner<'a, A> {
     fn step_other(
         &mut self,
         content: &mut TokenContent<'a, A>,
+        decodes: bool,
     ) -> Result<Option<TokenKind>, ParseError>
         requires begins { GoesOn self.old }
         requires here { end_of self.old ≡ start_of self.old }
@@ -181,27 +188,68 @@ impl<'a, A: Allocator + Copy> Scanner<'a, A> {
         ensures text { text_of self.new ≡ text_of self.old }
         ensures options { options_of self.new ≡ options_of self.old }
         ensures start { start_of self.new ≡ start_of self.old }
-        ensures found { IfOk result (λ f. StandsAt self.new (token_found content.new f)) }
-        ensures lent { IfOk result (λ f. IsLent self.new (token_found content.new f)) }
+        ensures found { IfOk result (λ f. IsThere self.new (seen self.new content.new f)) }
+        ensures lent { IfOk result (λ f. IfSome f (IsLentSeen self.new content.new)) }
+        ensures passed { IfOk result (λ f. f ≡ Some TokenKind.Passed → decodes ≡ false) }
         ensures escaped { IfOk result (λ f. IfSome (token_found content.new f) (λ t. IsOwned t → HoldsEscape self.new)) }
         ensures others { IfOk result (LeavesOthers content.old content.new) }
         ensures nothing { IfErr result (λ e. kind_of e ≢ ParseErrorKind.OutOfMemory → NothingStands self.new) }
         ensures fault { IfErr result (IsFault (text_of self.new)) }
         ensures error { IfErr result (λ e. kind_of e ≢ ParseErrorKind.OutOfMemory → IsTrueThere self.new e) }
         ensures memory { IfErr result (λ e. kind_of e ≡ ParseErrorKind.OutOfMemory → HoldsEscape self.new) }
+        ensures wanted { IfErr result (λ e. kind_of e ≡ ParseErrorKind.OutOfMemory → decodes ≡ true) }
         ensures keeps { last_token self.new ≡ last_token self.old }
         ensures stays { OnErr result (end_of self.new ≡ start_of self.new) }
     {
         let start = self.token_start;
         if let Some(quote) = quote_at(self.file_text, start, &self.options) {
+            return self.step_string(content, quote, decodes);
+        }
+        let read = read_lexeme(self.file_text, start, &self.options)?;
+        self.byte_index = read.end;
+        Ok(Some(content.hold(read.lexeme)))
+    }
+
+    /// The same at the quote that opens a string.
+    #[inline(always)]
+    fn step_string(
+        &mut self,
+        content: &mut TokenContent<'a, A>,
+        quote: u8,
+        decodes: bool,
+    ) -> Result<Option<TokenKind>, ParseError>
+        requires quote { OpensString (options_of self.old) (text_of self.old) (start_of self.old) quote }
+        requires here { end_of self.old ≡ start_of self.old }
+        ensures text { text_of self.new ≡ text_of self.old }
+        ensures options { options_of self.new ≡ options_of self.old }
+        ensures start { start_of self.new ≡ start_of self.old }
+        ensures found { IfOk result (λ f. IsThere self.new (seen self.new content.new f)) }
+        ensures lent { IfOk result (λ f. IfSome f (IsLentSeen self.new content.new)) }
+        ensures passed { IfOk result (λ f. f ≡ Some TokenKind.Passed → decodes ≡ false) }
+        ensures escaped { IfOk result (λ f. IfSome (token_found content.new f) (λ t. IsOwned t → HoldsEscape self.new)) }
+        ensures others { IfOk result (LeavesOthers content.old content.new) }
+        ensures nothing { IfErr result (λ e. kind_of e ≢ ParseErrorKind.OutOfMemory → NothingStands self.new) }
+        ensures fault { IfErr result (IsFault (text_of self.new)) }
+        ensures error { IfErr result (λ e. kind_of e ≢ ParseErrorKind.OutOfMemory → IsTrueThere self.new e) }
+        ensures memory { IfErr result (λ e. kind_of e ≡ ParseErrorKind.OutOfMemory → HoldsEscape self.new) }
+        ensures wanted { IfErr result (λ e. kind_of e ≡ ParseErrorKind.OutOfMemory → decodes ≡ true) }
+        ensures keeps { last_token self.new ≡ last_token self.old }
+        ensures stays { OnErr result (end_of self.new ≡ start_of self.new) }
+    {
+        let start = self.token_start;
+        if decodes {
             let read = read_string(self.alloc, self.file_text, start, quote, &self.options)?;
             self.byte_index = read.end;
             content.string = read.string;
             return Ok(Some(TokenKind::String));
         }
-        let read = read_lexeme(self.file_text, start, &self.options)?;
-        self.byte_index = read.end;
-        Ok(Some(content.hold(read.lexeme)))
+        let passed = pass_string_at(self.file_text, start, quote, &self.options)?;
+        self.byte_index = passed.end;
+        if passed.escaped {
+            return Ok(Some(TokenKind::Passed));
+        }
+        content.string = CowStr::Borrowed(&self.file_text[start + 1..passed.end - 1]);
+        Ok(Some(TokenKind::String))
     }
 
     /// Moves to the next token, and answers it, if there is one.
@@ -224,7 +272,7 @@ impl<'a, A: Allocator + Copy> Scanner<'a, A> {
         ensures stays { OnErr result (end_of self.new ≡ start_of self.new) }
     {
         let mut content = TokenContent::new();
-        let Some(kind) = self.step(&mut content)? else {
+        let Some(kind) = self.step(&mut content, true)? else {
             self.current_token = None;
             return Ok(None);
         };

@@ -4,8 +4,9 @@ ghost use Rattle.jsonc_text.specs.Faults.{IsFault, kind_of};
 ghost use Rattle.jsonc_text.specs.OptionsOf.{parse_options};
 ghost use Rattle.jsonc_text.specs.Text.{Spans};
 ghost use Rattle.jsonc_text.specs.string.Escapes.{StringHoldsBackslash};
-ghost use Rattle.jsonc_scan.specs.Reads.{IsStringAnyhow, IsStringRead, NothingAt};
-ghost use Rattle.jsonc_scan.specs.Refusals.{IsFaultOfString, IsFaultOfStringToken};
+ghost use Rattle.jsonc_scan.specs.Reads.{IsStringAnyhow, IsStringPassed, IsStringRead, NothingAt};
+ghost use Rattle.jsonc_scan.specs.Refusals.{IsFaultOfString, IsFaultOfStringToken, IsTextFault};
+ghost use Rattle.jsonc_scan.specs.Faults.{IsTrueOf};
 ghost use Rattle.jsonc_text.specs.string.Quotes.{OpensString};
 
 use crate::faults::out_of_memory;
@@ -14,6 +15,7 @@ use jsonc_text::errors::{ParseError, ParseErrorKind, ParseStringErrorKind};
 use jsonc_text::options::ParseOptions;
 use jsonc_text::string::decode::{Decoded, decode_string};
 use jsonc_text::string::escape::{Literal, StringFault};
+use jsonc_text::string::pass::{PassedString, pass_string};
 use jsonc_text::string::stops::stop_place;
 use std::alloc::Allocator;
 use std::borrow::CowStr;
@@ -61,6 +63,31 @@ pub(crate) fn read_string<'a, A: Allocator + Copy>(
     };
     match decode_string(alloc, text, literal) {
         Ok(decoded) => Ok(decoded),
+        Err(fault) => Err(string_error(text, fault)),
+    }
+}
+
+/// The string at a place, where its quote stands, passed without decoding it.
+pub(crate) fn pass_string_at(
+    text: &str,
+    start: usize,
+    quote: u8,
+    options: &ParseOptions,
+) -> Result<PassedString, ParseError>
+    requires boundary { IsCharBoundary text.now start }
+    requires quote { OpensString (parse_options options.now) text.now start quote }
+    ensures found { IfOk result (IsStringPassed (parse_options options.now) text.now start) }
+    ensures none { IfErr result (λ _. NothingAt (parse_options options.now) text.now start) }
+    ensures fault { IfErr result (IsTextFault text.now) }
+    ensures error { IfErr result (IsTrueOf (parse_options options.now) text.now start) }
+{
+    let literal = Literal {
+        start,
+        quote,
+        extended: options.allow_extended_string_escapes,
+    };
+    match pass_string(text, literal) {
+        Ok(passed) => Ok(passed),
         Err(fault) => Err(string_error(text, fault)),
     }
 }

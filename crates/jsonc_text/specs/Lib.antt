@@ -8,6 +8,7 @@ pub mod Letters
 pub mod Words
 pub mod Numbers
 pub mod Strings
+pub mod StringValue
 pub mod Lexemes
 pub mod Plain
 pub mod Grammar

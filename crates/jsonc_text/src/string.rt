@@ -5,5 +5,6 @@
 pub mod decode;
 pub mod escape;
 pub mod laws;
+pub mod pass;
 pub mod provider;
 pub mod stops;

@@ -5,3 +5,5 @@ pub mod Faults
 pub mod OneFault
 pub mod Providers
 pub mod QuotedStrings
+pub mod Values
+pub mod Passing
