@@ -1,5 +1,5 @@
 -- Characters that are no blanks, by their bytes.
-use Rattle.std.proofs.Common.{ℕ, ◌≡◌, ◌∙◌, ◌<◌, ◌%◌, ◌^◌, refl, ap, ap₂, sym, List, [], ◌∷◌, length, map, replicate, get_or, arith, IsUtf8, IsTrue, Bool, true, false, not, cond, eqb, nat_lt, ◌&&◌, ◌||◌, bit_or, bit_and}
+use Rattle.std.proofs.Common.{ℕ, ◌≡◌, ◌∙◌, ◌<◌, ◌%◌, ◌^◌, refl, ap, ap₂, List, [], ◌∷◌, length, map, replicate, get_or, arith, IsUtf8, IsTrue, Bool, true, false, not, cond, eqb, nat_lt, ◌&&◌, ◌||◌, bit_or, bit_and}
 use Rattle.std.proofs.lemmas.List.{length-map}
 use Rattle.std.proofs.lemmas.Simd.{zip2_splat, zip2_splat_left, mask_l-mod}
 use lib.Dec.{ltb}

@@ -71,7 +71,7 @@ fn has_visible(text: &str, place: usize) -> bool
     }
 }
 
-/// The same as [`gap_end`], by whatever blanks.
+/// The same as [`gap_end`], sixteen bytes at a time.
 #[inline(never)]
 fn long_gap_end(text: &str, start: usize) -> usize
     requires { IsCharBoundary text.now start }

@@ -1,4 +1,3 @@
-use Rattle.std.proofs.Common.{arith}
 use Rattle.jsonc_text.proofs.CharacterSteps.{many_append}
 use Rattle.jsonc_text.proofs.CharRuns.{small_run}
 use Rattle.jsonc_scan.specs.Blanks.{is_ascii_blank}
