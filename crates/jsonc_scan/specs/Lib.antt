@@ -1,4 +1,3 @@
-pub mod Blanks
 pub mod Between
 pub mod Found
 pub mod Laws

@@ -1,5 +1,0 @@
-use Rattle.jsonc_scan.proofs.Blanks.{no_blank_mask}
-use Rattle.jsonc_scan.proofs.gap.others_in.Goals as goal
-
-pub returns : goal.returns
-returns c = no_blank_mask c.args.bytes c.fits-bytes.0
