@@ -1,4 +1,3 @@
-pub mod Blanks
 pub mod NumberParts
 pub mod NoLexemes
 pub mod NoNumbers

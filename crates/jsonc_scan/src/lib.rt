@@ -7,7 +7,6 @@
 mod comment;
 mod faults;
 pub mod found;
-mod gap;
 pub mod laws;
 mod lexeme;
 mod number;
