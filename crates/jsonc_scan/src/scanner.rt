@@ -3,11 +3,10 @@ ghost use Rattle.std.specs.Prelude.{◌≡◌, ◌≢◌, ◌≤◌, ◌<◌, �
 
 use crate::faults::out_of_memory;
 use crate::found::{TokenContent, TokenKind};
-use crate::gap::gap_end;
 use crate::plain::plain_number;
 use crate::reads::{quote_at, read_lexeme, read_punctuation};
 use crate::string::{pass_string_at, plain_string, read_string};
-use jsonc_text::chars::has_byte;
+use jsonc_text::chars::{blanks_end, has_byte};
 use jsonc_text::errors::{ParseError, ParseErrorKind};
 use jsonc_text::options::{ParseOptions, ScannerOptions};
 use jsonc_text::tokens::Token;
@@ -168,7 +167,7 @@ impl<'a, A: Allocator + Copy> Scanner<'a, A> {
         ensures keeps { last_token self.new ≡ last_token self.old }
         ensures stays { OnErr result (end_of self.new ≡ start_of self.new) }
     {
-        let start = gap_end(self.file_text, self.byte_index);
+        let start = blanks_end(self.file_text, self.byte_index);
         self.byte_index = start;
         self.token_start = start;
         if start == self.file_text.len() {
