@@ -88,9 +88,16 @@ impl<'a, A: Allocator, D: Depth> Receiver<String<A>> for Checker<'a, D> {
 
     ghost reached = { λ s i. Unit {0} };
 
+    ghost passes = { λ s t. Unit {0} };
+
     #[inline(always)]
     fn is_whole(&self) -> bool {
         self.depth.is_whole()
+    }
+
+    #[inline(always)]
+    fn pass_gap(&mut self, from: usize) -> Result<usize, AllocError> {
+        Ok(from)
     }
 
     #[inline(always)]
