@@ -60,11 +60,11 @@ module _ {A : Type 0} where
   abbrev pub comments_asked : Context A → Bool
   comments_asked c = is_some c.comments
 
-  -- the last token, if it is of this kind
+  -- what the last token is, if it is of this kind
   abbrev pub last : Context A → TokenKind → Scanned
   last c k = scanned_seen c.scanner c.content k
 
-  -- what was found: the last token, or none
+  -- what was found: what the last token is, or none
   abbrev pub found_in : Context A → Option TokenKind → Option Scanned
   found_in c = option_map (last c)
 

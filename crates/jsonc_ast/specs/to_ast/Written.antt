@@ -2,7 +2,7 @@
 use Rattle.std.specs.Prelude.{ℕ, ◌≡◌, List, Option, Some, IfSome, chars}
 use Rattle.std.specs.List.{All}
 use Rattle.std.specs.Cow.{cow_str_bytes}
-use Rattle.jsonc_text.specs.Lexemes.{Scanned, LexemeKind, Lexeme, lexeme, string}
+use Rattle.jsonc_text.specs.Lexemes.{LexemeKind, Lexeme, lexeme, string}
 use Rattle.jsonc_text.specs.Options.{Options}
 use Rattle.jsonc_text.specs.string.Escapes.{IsLentUnescaped}
 use Rattle.jsonc_scan.specs.declared.found.TokenKind.{TokenKind}

@@ -28,7 +28,8 @@ pub struct Context<'a, A: Allocator> {
     pub content: TokenContent<'a, A>,
     pub alloc: A,
     pub options: ParseOptions,
-    /// Whether strings are decoded. Where they are not, those with a backslash are passed, and no tokens are collected.
+    /// Whether strings are decoded. Where they are not, those with a backslash are passed, and no
+    /// tokens are collected.
     pub decodes: bool,
     pub tokens: Option<Vec<TokenAndRange<'a, A>, A>>,
     pub comments_are_tokens: bool,
@@ -96,8 +97,8 @@ impl<'a, A: Allocator + Copy> Context<'a, A> {
         }
     }
 
-    /// A parser at the start of a text, which collects nothing and decodes no strings: it takes no
-    /// memory of its own.
+    /// A parser at the start of a text that collects nothing and decodes no strings. It asks for no
+    /// memory.
     pub fn of_places(alloc: A, text: &'a str, options: &ParseOptions) -> Context<'a, A>
         ensures text { text_in result ≡ text.now }
         ensures options { options_in result ≡ parse_options options.now }

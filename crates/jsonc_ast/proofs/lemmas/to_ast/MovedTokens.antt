@@ -99,10 +99,6 @@ module _ {A : Type 0} where
     lent_held k n h = h
 
     -- a comment is none
-    pub comment_held : (k : TokenKind) → is_comment (scanned_seen s x k) ≡ is_comment (scanned_of (token_held k x))
-    comment_held kind.Passed = refl
-    comment_held k = refl
-
     pub comment_kept : (k : TokenKind) → is_comment (scanned_seen s x k) ≡ true → k ≢ kind.Passed
     comment_kept k h e = let both : false ≡ true = subst (λ k. is_comment (scanned_seen s x k) ≡ true) e h in cc
 

@@ -1,7 +1,6 @@
 -- Names without quotes.
-use Rattle.std.proofs.Common.{ℕ, ◌≡◌, ◌∙◌, ◌++◌, sym, ap, subst, refl, true, List, Some, None, IsTrue, chars, inl, inr, Bool, codes, rules}
+use Rattle.std.proofs.Common.{ℕ, ◌≡◌, ◌∙◌, ◌++◌, sym, ap, subst, refl, true, List, Some, None, IsTrue, chars, inl, inr, codes, rules}
 use Rattle.std.proofs.lemmas.Str.{chars-IsAscii}
-use Rattle.jsonc_text.specs.Words.{Keyword, keyword_text}
 use Rattle.jsonc_text.specs.Options.{Options}
 use Rattle.jsonc_text.specs.Grammar.{IsName, IsLooseName}
 use Rattle.jsonc_text.specs.Lexemes.{Scanned, lexeme, line_comment, block_comment, LexemeKind, string, IsScanned}

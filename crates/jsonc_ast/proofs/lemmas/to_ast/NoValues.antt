@@ -8,7 +8,7 @@ use Rattle.jsonc_text.specs.Grammar.{literal_value, IsValue, literal, empty_arra
 use Rattle.jsonc_text.specs.Lexemes.{Scanned, lexeme, LexemeKind, punctuation, string, Lexeme}
 use Rattle.jsonc_text.specs.Plain as plain
 use Rattle.jsonc_text.specs.Plain.{Plain, Items, item, no_items, Members, member}
-use Rattle.jsonc_text.proofs.Basics.{clash, eq_test, tails, apart, starts_also}
+use Rattle.jsonc_text.proofs.Basics.{tails, apart, starts_also}
 use Rattle.jsonc_text.proofs.Begins.{begins_item}
 use Rattle.jsonc_text.proofs.UniqueGaps.{begins_gap}
 use Rattle.jsonc_text.proofs.UniqueLexemes.{lexeme_unique}
@@ -23,7 +23,7 @@ use Rattle.jsonc_ast.specs.to_ast.Refusals.{AtLexeme, AtItem, may_begin_item, Le
 use Rattle.jsonc_ast.specs.to_ast.Scanned.{leaf_value}
 use Rattle.jsonc_ast.specs.Views.{LocatedMember}
 use Rattle.jsonc_ast.proofs.lemmas.to_ast.Grammar.{located_value, is_property}
-use Rattle.jsonc_ast.proofs.lemmas.to_ast.Refusals.{mark_same, one_token, only_there, only_here, nothing_at_end, no_lexeme_at_end, lexeme_there}
+use Rattle.jsonc_ast.proofs.lemmas.to_ast.Refusals.{one_token, only_there, only_here, nothing_at_end, no_lexeme_at_end, lexeme_there}
 use Rattle.jsonc_ast.proofs.lemmas.to_ast.Scans.{moved, kept_on}
 
 -- what an item begins with

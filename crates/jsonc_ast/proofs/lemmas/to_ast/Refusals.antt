@@ -5,7 +5,6 @@ use Rattle.jsonc_text.specs.declared.errors.ParseError.{ParseError}
 use Rattle.jsonc_text.specs.declared.errors.ParseErrorKind.{ParseErrorKind}
 use Rattle.jsonc_text.specs.declared.errors.ParseErrorKind.TheVariants as kind
 use Rattle.jsonc_text.specs.declared.errors.ParseErrorKind.TheVariants.{OutOfMemory, CommentsNotAllowed}
-use Rattle.jsonc_text.specs.declared.tokens.Token.TheVariants as token
 use Rattle.jsonc_text.specs.Options.{Options}
 use Rattle.jsonc_text.specs.Faults.{kind_of, range_of}
 use Rattle.jsonc_text.specs.Text.{rest, next, no, starts}

@@ -11,7 +11,7 @@ use Rattle.jsonc_ast.specs.Located.{Between, Ends}
 use Rattle.jsonc_ast.specs.declared.to_ast.container.Container.{Container}
 use Rattle.jsonc_ast.specs.declared.to_ast.context.Context.{Context}
 use Rattle.jsonc_ast.specs.to_ast.Containers.{closing}
-use Rattle.jsonc_ast.specs.to_ast.Context.{text_in, options_in, LeadsAfterComma, token_start, token_end, Keeps, Finds, IsNoComment, AtEnd, AfterComma, ClosesNone, Comes, OpensNone}
+use Rattle.jsonc_ast.specs.to_ast.Context.{text_in, options_in, LeadsAfterComma, token_start, token_end, Keeps, Finds, IsNoComment, AtEnd, AfterComma, ClosesNone, Comes}
 use Rattle.jsonc_ast.specs.to_ast.Refusals.{IsOpen}
 use Rattle.jsonc_ast.specs.to_ast.Scanned.{begins_value, leaf_value}
 use Rattle.jsonc_ast.proofs.lemmas.to_ast.Gaps.{join, stands}

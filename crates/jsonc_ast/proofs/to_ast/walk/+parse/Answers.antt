@@ -3,7 +3,7 @@ use Rattle.jsonc_text.specs.Plain.{string, number}
 use Rattle.jsonc_ast.specs.to_ast.Scanned.{leaf_value}
 use Rattle.jsonc_ast.proofs.lemmas.to_ast.Leaves.{element_put, gives_nothing}
 use Rattle.jsonc_ast.specs.Located.{value_at, array_at, object_at}
-use Rattle.jsonc_ast.specs.Views.{items_of, members_of, name_at}
+use Rattle.jsonc_ast.specs.Views.{items_of, members_of}
 use Rattle.jsonc_ast.specs.to_ast.Context.{last, found_in, token_end}
 use Rattle.jsonc_ast.specs.to_ast.Reached.{size}
 use Rattle.jsonc_ast.specs.to_ast.Refusals.{here, NoPropertyHere, NoValueHere, OutOfMemoryOr}
@@ -19,7 +19,7 @@ use Rattle.jsonc_ast.proofs.lemmas.to_ast.NoValues.{value_read, property_read, E
 use Rattle.jsonc_ast.proofs.lemmas.to_ast.Refusals.{err_of, err_some, ok_of, still}
 use Rattle.jsonc_ast.proofs.lemmas.to_ast.OpenContainers.{GoesOn, count_property, goes_first, elements_go_on, first_stops, next_stops, element_comes, element_stops, properties_go_on, property_comes, property_stops, name_stops, colon_missing_stops, no_token_stops, no_value_stops, value_told_stops, has_room, from_old}
 use Rattle.jsonc_ast.proofs.lemmas.to_ast.Walks.{element_deep, element_deep_stops, from_here, from_start, leaf_told, member_reads, opening_stops, property_deep, property_deep_stops}
-use Rattle.jsonc_ast.proofs.lemmas.to_ast.Handing.{name_here, number_here, number_means, string_here, utf8_there}
+use Rattle.jsonc_ast.proofs.lemmas.to_ast.Handing.{number_here, number_means, string_here, utf8_there}
 use Rattle.std.specs.Cow.{cow_str_bytes}
 use Rattle.std.specs.Prelude.{chars}
 use Rattle.jsonc_ast.specs.to_ast.Handed.{chars_between, Covers}

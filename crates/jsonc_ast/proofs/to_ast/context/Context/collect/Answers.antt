@@ -1,4 +1,4 @@
-use Rattle.std.proofs.Common.{sym, ap, refl, IsTrue, is_some}
+use Rattle.std.proofs.Common.{sym, ap, is_some}
 use Rattle.jsonc_scan.specs.Found.{token_held}
 use Rattle.jsonc_ast.proofs.lemmas.to_ast.LentStrings.{copy_collected}
 use Rattle.jsonc_ast.proofs.lemmas.to_ast.MovedTokens.{lent_held}
