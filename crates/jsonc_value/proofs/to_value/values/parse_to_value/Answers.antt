@@ -11,7 +11,7 @@ use Rattle.jsonc_value.proofs.to_value.values.parse_to_value.Goals as goal
 pub returns-clause-accepted : goal.returns-clause-accepted
 returns-clause-accepted g c =
     let start = c.new-context.ensures in
-    ok_of c.read_document.result (λ f made. moved (λ o b. IsValueOf o (chars b) f) start.options start.text (document_made _ _ f _ _ _ _ made)) c.read_document.ensures.found
+    ok_of c.read_document.result (λ f made. moved (λ o b. IsValueOf o (chars b) f) start.options start.text (document_made _ _ f (λ v x h. h.3.0) made)) c.read_document.ensures.found
 
 pub returns-clause-refused : goal.returns-clause-refused
 returns-clause-refused g c =
