@@ -52,7 +52,7 @@ returns-clause-laid g c =
     let start = c.of_places-context.ensures in
     let read = c.in_ok-read_document.ensures in
     let h : HasRead o c.args.text.now (ordered_tree c.finish.result.nodes 0) = has_read o c.args.text.now (source_of c.of_places-context.result) c.in-Ok.to c.read_document.new.to to.source (same_source (source_of c.of_places-context.result) o c.args.text.now (source_in c.in-Ok.to) start.text start.options to.source) to.reached
-        (at_end c.in-Ok.to c.read_document.new.to c.args.text.now o to.source (read.end.1 ∙ ap length (read.kept.text ∙ start.text)) read.reached) c.in_ok-read_document.field-0 read.found read.none c.finish.result.nodes to.root to.one to.bare c.finish.result.tree c.finish.ensures in
+    (at_end c.in-Ok.to c.read_document.new.to c.args.text.now o to.source (read.end.1 ∙ ap length (read.kept.text ∙ start.text)) read.reached) c.in_ok-read_document.field-0 read.found read.none c.finish.result.nodes to.root to.one to.bare c.finish.result.tree c.finish.ensures in
     (h.value, h.located, h.laid)
 
 pub returns-clause-printed : goal.returns-clause-printed
@@ -62,7 +62,7 @@ returns-clause-printed g c =
     let start = c.of_places-context.ensures in
     let read = c.in_ok-read_document.ensures in
     let h : HasRead o c.args.text.now (ordered_tree c.finish.result.nodes 0) = has_read o c.args.text.now (source_of c.of_places-context.result) c.in-Ok.to c.read_document.new.to to.source (same_source (source_of c.of_places-context.result) o c.args.text.now (source_in c.in-Ok.to) start.text start.options to.source) to.reached
-        (at_end c.in-Ok.to c.read_document.new.to c.args.text.now o to.source (read.end.1 ∙ ap length (read.kept.text ∙ start.text)) read.reached) c.in_ok-read_document.field-0 read.found read.none c.finish.result.nodes to.root to.one to.bare c.finish.result.tree c.finish.ensures in
+    (at_end c.in-Ok.to c.read_document.new.to c.args.text.now o to.source (read.end.1 ∙ ap length (read.kept.text ∙ start.text)) read.reached) c.in_ok-read_document.field-0 read.found read.none c.finish.result.nodes to.root to.one to.bare c.finish.result.tree c.finish.ensures in
     document_prints o c.args.text.now c.utf8.text h.value (ordered_tree c.finish.result.nodes 0) h.laid h.located
 
 pub returns-clause-value : goal.returns-clause-value
@@ -72,7 +72,7 @@ returns-clause-value g c =
     let start = c.of_places-context.ensures in
     let read = c.in_ok-read_document.ensures in
     let h : HasRead o c.args.text.now (ordered_tree c.finish.result.nodes 0) = has_read o c.args.text.now (source_of c.of_places-context.result) c.in-Ok.to c.read_document.new.to to.source (same_source (source_of c.of_places-context.result) o c.args.text.now (source_in c.in-Ok.to) start.text start.options to.source) to.reached
-        (at_end c.in-Ok.to c.read_document.new.to c.args.text.now o to.source (read.end.1 ∙ ap length (read.kept.text ∙ start.text)) read.reached) c.in_ok-read_document.field-0 read.found read.none c.finish.result.nodes to.root to.one to.bare c.finish.result.tree c.finish.ensures in
+    (at_end c.in-Ok.to c.read_document.new.to c.args.text.now o to.source (read.end.1 ∙ ap length (read.kept.text ∙ start.text)) read.reached) c.in_ok-read_document.field-0 read.found read.none c.finish.result.nodes to.root to.one to.bare c.finish.result.tree c.finish.ensures in
     (option_map value_at h.value, located_document o c.args.text.now h.value h.located, h.fits, document_value o c.args.text.now c.utf8.text h.value (ordered_tree c.finish.result.nodes 0) h.laid h.located)
 
 pub returns-clause-shaped : goal.returns-clause-shaped
@@ -82,7 +82,7 @@ returns-clause-shaped g c =
     let start = c.of_places-context.ensures in
     let read = c.in_ok-read_document.ensures in
     let h : HasRead o c.args.text.now (ordered_tree c.finish.result.nodes 0) = has_read o c.args.text.now (source_of c.of_places-context.result) c.in-Ok.to c.read_document.new.to to.source (same_source (source_of c.of_places-context.result) o c.args.text.now (source_in c.in-Ok.to) start.text start.options to.source) to.reached
-        (at_end c.in-Ok.to c.read_document.new.to c.args.text.now o to.source (read.end.1 ∙ ap length (read.kept.text ∙ start.text)) read.reached) c.in_ok-read_document.field-0 read.found read.none c.finish.result.nodes to.root to.one to.bare c.finish.result.tree c.finish.ensures in
+    (at_end c.in-Ok.to c.read_document.new.to c.args.text.now o to.source (read.end.1 ∙ ap length (read.kept.text ∙ start.text)) read.reached) c.in_ok-read_document.field-0 read.found read.none c.finish.result.nodes to.root to.one to.bare c.finish.result.tree c.finish.ensures in
     document_shaped o c.args.text.now c.utf8.text h.value (ordered_tree c.finish.result.nodes 0) h.laid h.located
 
 pub returns-clause-lines : goal.returns-clause-lines
@@ -92,5 +92,5 @@ returns-clause-lines g c =
     let start = c.of_places-context.ensures in
     let read = c.in_ok-read_document.ensures in
     let h : HasRead o c.args.text.now (ordered_tree c.finish.result.nodes 0) = has_read o c.args.text.now (source_of c.of_places-context.result) c.in-Ok.to c.read_document.new.to to.source (same_source (source_of c.of_places-context.result) o c.args.text.now (source_in c.in-Ok.to) start.text start.options to.source) to.reached
-        (at_end c.in-Ok.to c.read_document.new.to c.args.text.now o to.source (read.end.1 ∙ ap length (read.kept.text ∙ start.text)) read.reached) c.in_ok-read_document.field-0 read.found read.none c.finish.result.nodes to.root to.one to.bare c.finish.result.tree c.finish.ensures in
+    (at_end c.in-Ok.to c.read_document.new.to c.args.text.now o to.source (read.end.1 ∙ ap length (read.kept.text ∙ start.text)) read.reached) c.in_ok-read_document.field-0 read.found read.none c.finish.result.nodes to.root to.one to.bare c.finish.result.tree c.finish.ensures in
     document_lines o c.args.text.now h.value (ordered_tree c.finish.result.nodes 0) h.laid h.located

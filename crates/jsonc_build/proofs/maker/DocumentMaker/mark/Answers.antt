@@ -33,8 +33,7 @@ returns-clause-filled g c =
     let old = c.args.self.now in
     let before = mark_before old c.requires.behind c.if-self-from.false in
     let growing = (at_before old c.requires.behind).1.growing in
-    let mark = c.mark_at-mark in
-    (
+    let mark = c.mark_at-mark in (
       more (token mark.result) none none,
       grows_leaf growing.in_tree (pushes_same (ap content_of c.token.ensures) c.in_ok-push.ensures.pushes),
       marked old.text.now old.place c.args.from before.0 mark.result before.2 mark.ensures.here mark.ensures.mark,
