@@ -10,14 +10,14 @@ use Rattle.jsonc_tree.specs.OrderedTree.{OrderedTree, none, more, followed_by}
 use Rattle.jsonc_tree.specs.Tree.{Node, is_container_at}
 use Rattle.jsonc_tree.specs.Growing.{IsGrowing, container_of, nodes_so_far}
 use Rattle.jsonc_tree.specs.declared.growing.Growing.{Growing}
-use Rattle.jsonc_ast.specs.Located.{Between, Located, LocatedName, One, array_at, object_at, item_at, member_at, range_at}
+use Rattle.jsonc_ast.specs.Located.{Between, Located, LocatedName, One, array_at, object_at, range_at}
 use Rattle.jsonc_ast.specs.Views.{LocatedMember, items_of, members_of}
 use Rattle.jsonc_ast.specs.to_ast.Handed.{Source, Covers, IsBehind, at_place, behind_mark}
 use Rattle.jsonc_sound.specs.Filling.{is_separator}
 use Rattle.jsonc_build.specs.declared.maker.DocumentMaker.{DocumentMaker}
 use Rattle.jsonc_build.specs.Growth.{Grows}
 use Rattle.jsonc_build.specs.Laid.{FillsBetween, FillsGap, ItemsLaid, MembersLaid, Laid, NameLaid, PropertyLaid, a_property, an_element, array_node, bracketed, name_and_value, no_element, no_property, object_node}
-use Rattle.jsonc_build.specs.Making.{container_in, source_in, nodes_in, Adds, Closes, HasElements, HasProperties, Holds, HoldsElements, HoldsProperties, IsAt, Names, Opens, Passes, Puts, PutsLeaf, Stays}
+use Rattle.jsonc_build.specs.Making.{container_in, source_in, nodes_in, Adds, Closes, Holds, HoldsElements, HoldsProperties, IsAt, Names, Opens, Passes, Puts, PutsLeaf, Stays}
 use Rattle.jsonc_build.proofs.AddedChildren.{grows_none, grows_append, grows_below, grows_leaf, container_kept}
 use Rattle.jsonc_build.proofs.FilledGaps.{fills_join, fills_none, items_behind, leads_further, leads_start, members_behind}
 use Rattle.jsonc_build.proofs.Rows.{followed_assoc}

@@ -1,5 +1,5 @@
 -- Comments between values: their marks and their end.
-use Rattle.std.proofs.Common.{ℕ, ◌+◌, ◌≡◌, ◌∙◌, ap, refl, inl, inr, List, ◌∷◌, ◌++◌, ◌==◌, arith, IsTrue, IsUtf8, IsCharBoundary, chars, slice_range}
+use Rattle.std.proofs.Common.{ℕ, ◌+◌, ◌≡◌, ◌∙◌, ap, inl, inr, List, ◌∷◌, ◌++◌, arith, IsUtf8, IsCharBoundary, chars, slice_range}
 use Rattle.jsonc_text.specs.Text.{rest, Many, Spans}
 use Rattle.jsonc_text.specs.Chars.{Steps}
 use Rattle.jsonc_text.specs.Comments.{HoldsBlock}

@@ -1,5 +1,5 @@
 -- What has been made of a whole text.
-use Rattle.std.proofs.Common.{ℕ, ◌+◌, ◌<◌, ◌≡◌, ◌∙◌, sym, ap, subst, refl, List, length, arith, true, IsTrue, Option, Some, None, IfNone, [], option_map}
+use Rattle.std.proofs.Common.{ℕ, ◌≡◌, ◌∙◌, sym, ap, subst, refl, List, length, true, Option, Some, None, IfNone, [], option_map}
 use Rattle.jsonc_text.specs.Options.{Options}
 use Rattle.jsonc_tree.specs.OrderedTree.{OrderedTree, none, more, followed_by, ordered_tree}
 use Rattle.jsonc_tree.specs.Tree.{Node, children_at, IsTree}
@@ -9,7 +9,7 @@ use Rattle.jsonc_ast.specs.to_ast.Reached.{FitsIn}
 use Rattle.jsonc_build.specs.declared.maker.DocumentMaker.{DocumentMaker}
 use Rattle.jsonc_build.specs.Growth.{Grows}
 use Rattle.jsonc_build.specs.Laid.{DocumentLaid, FillsBetween, Laid, RootLaid}
-use Rattle.jsonc_build.specs.Making.{container_in, source_in, nodes_in, Adds, Ends, IsAt, Passes, Stays}
+use Rattle.jsonc_build.specs.Making.{container_in, source_in, nodes_in, Adds, Ends, IsAt, Passes}
 use Rattle.jsonc_build.proofs.AddedChildren.{grows_append, grown_root}
 use Rattle.jsonc_build.proofs.Building.{text_same}
 use Rattle.jsonc_build.proofs.FilledGaps.{fills_join}

@@ -1,13 +1,13 @@
 -- Leaves between values, and the text that they print.
-use Rattle.std.proofs.Common.{ℕ, ◌+◌, ◌<◌, ◌≤◌, ◌≡◌, ◌≢◌, ◌∙◌, sym, ap, subst, refl, Bool, true, false, not, ◌&&◌, ◌||◌, ◌==◌, ◌⊎◌, inl, inr, List, [], ◌∷◌, ◌++◌, arith, IsTrue, IsUtf8, IsCharBoundary, chars, encode_utf8, encode_utf8_all, slice_range}
+use Rattle.std.proofs.Common.{ℕ, ◌+◌, ◌<◌, ◌≤◌, ◌≡◌, ◌≢◌, ◌∙◌, sym, ap, subst, refl, not, List, [], ◌∷◌, ◌++◌, arith, IsTrue, IsUtf8, IsCharBoundary, chars, encode_utf8, encode_utf8_all, slice_range}
 use Rattle.std.proofs.lemmas.List.{append_assoc, append-nil}
 use Rattle.std.proofs.lemmas.Bool.{ne_eqb}
 use Rattle.std.proofs.lemmas.Str.{encodes-chars, IsUtf8-between, len_utf8_bounds}
 use Rattle.std.specs.Char.{len_utf8}
 use lib.Utf8.{encode}
 use Rattle.jsonc_text.proofs.Basics.{clash}
-use Rattle.jsonc_text.specs.Text.{rest, next, no, starts, Many, all_of, Spans}
-use Rattle.jsonc_text.specs.Gaps.{is_blank, IsComment}
+use Rattle.jsonc_text.specs.Text.{rest, next, no, Many, Spans}
+use Rattle.jsonc_text.specs.Gaps.{IsComment}
 use Rattle.jsonc_tree.specs.Content.{Content, text_of, token, whitespace, newline, comment}
 use Rattle.jsonc_tree.specs.OrderedTree as ordered
 use Rattle.jsonc_tree.specs.OrderedTree.{OrderedTree, followed_by, printed}

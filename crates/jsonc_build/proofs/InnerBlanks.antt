@@ -1,5 +1,5 @@
 -- The blanks of ASCII that end no line, by their bytes.
-use Rattle.std.proofs.Common.{ℕ, ◌+◌, ◌<◌, ◌≡◌, ◌∙◌, refl, sym, ap, Bool, false, not, ◌&&◌, ◌||◌, ◌==◌, nat_lt, List, length, get_or, arith, IsTrue, IsUtf8}
+use Rattle.std.proofs.Common.{ℕ, ◌+◌, ◌<◌, ◌≡◌, ◌∙◌, refl, sym, ap, Bool, false, not, ◌||◌, ◌==◌, List, length, get_or, arith, IsTrue, IsUtf8}
 use Rattle.std.proofs.lemmas.Bool.{agree_below_at}
 use Rattle.jsonc_text.specs.Text.{rest, next, no}
 use Rattle.jsonc_text.specs.Chars.{Steps}

@@ -1,19 +1,15 @@
 -- What is handed to a receiver begins at the place that it has come to.
-use Rattle.std.proofs.Common.{ℕ, ◌+◌, ◌-◌, ◌≡◌, ◌∙◌, ◌<◌, ◌≤◌, ◌==◌, ◌||◌, sym, ap, subst, refl, arith, List, [], ◌∷◌, Option, Some, None, Result, Ok, Err, OnOk, IfOk, IsTrue, IsUtf8, ◌⊎◌, inl, inr, length}
+use Rattle.std.proofs.Common.{ℕ, ◌+◌, ◌-◌, ◌≡◌, ◌∙◌, ◌<◌, ◌==◌, ◌||◌, sym, ap, subst, refl, arith, List, Option, Some, None, IsTrue}
 use Rattle.std.proofs.lemmas.Str.{IsUtf8-from_is_utf8}
-use Rattle.jsonc_text.specs.declared.errors.ParseError.{ParseError}
-use Rattle.jsonc_text.specs.Gaps.{Gap}
-use Rattle.jsonc_text.specs.Lexemes.{Scanned, lexeme, punctuation}
-use Rattle.jsonc_text.specs.Options.{Options}
-use Rattle.jsonc_text.specs.Text.{rest}
+use Rattle.jsonc_text.specs.Lexemes.{Scanned}
 use Rattle.jsonc_ast.specs.declared.to_ast.container.Container.{Container}
 use Rattle.jsonc_ast.specs.declared.to_ast.container.Container.TheVariants.{Array, Object}
 use Rattle.jsonc_ast.specs.declared.to_ast.context.Context.{Context}
 use Rattle.jsonc_ast.specs.Located.{Located, LocatedName, Between, One}
 use Rattle.jsonc_ast.specs.Views.{LocatedMember}
 use Rattle.jsonc_ast.specs.to_ast.Containers.{closing}
-use Rattle.jsonc_ast.specs.to_ast.Context.{text_in, options_in, token_start, token_end, Keeps, IsToken, IsBracket, LeadsToFirst, LeadsToNext, Passes, Finds}
-use Rattle.jsonc_ast.specs.to_ast.Handed.{Source, source_of, Follows, IsBehind, at_place, behind_mark, ReachesBehind, StaysHeld}
+use Rattle.jsonc_ast.specs.to_ast.Context.{text_in, options_in, token_start, token_end, Keeps, IsBracket, LeadsToFirst, LeadsToNext}
+use Rattle.jsonc_ast.specs.to_ast.Handed.{Source, source_of, Follows, IsBehind, behind_mark, StaysHeld}
 use Rattle.jsonc_ast.proofs.lemmas.to_ast.Scans.{one_byte}
 
 -- what stays held stays so further on

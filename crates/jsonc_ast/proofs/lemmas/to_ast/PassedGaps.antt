@@ -1,9 +1,8 @@
 -- A gap that was passed before a scanner goes on.
-use Rattle.std.proofs.Common.{ℕ, ◌+◌, ◌≡◌, ◌∙◌, sym, ap, subst, refl, arith, Bool, true, false, List, [], ◌∷◌, ◌++◌, Option, None, Some, Result, Ok, Err, IfOk, OnOk, is_some, IfSome, IsTrue, IsUtf8, ◌⊎◌, inl, inr, Vec}
+use Rattle.std.proofs.Common.{ℕ, ◌+◌, ◌≡◌, ◌∙◌, sym, ap, subst, refl, arith, Bool, true, false, List, [], ◌∷◌, ◌++◌, Option, None, Some, is_some, IfSome, IsTrue, IsUtf8, inl, inr}
 use Rattle.std.proofs.lemmas.List.{append_assoc}
 use Rattle.std.proofs.lemmas.List.Elements.{All-nil}
 use Rattle.std.proofs.lemmas.Str.{IsUtf8-from_is_utf8}
-use Rattle.jsonc_text.specs.declared.errors.ParseError.{ParseError}
 use Rattle.jsonc_text.specs.Gaps.{Gap, is_blank, none, blank, comment, line, block, IsComment}
 use Rattle.jsonc_text.specs.Lexemes.{Scanned, IsScanned, line_comment, block_comment}
 use Rattle.jsonc_text.specs.Options.{Options}
@@ -14,21 +13,16 @@ use Rattle.jsonc_text.proofs.BlockComments.{block_inside}
 use Rattle.jsonc_text.proofs.Cuts.{byte_length-append, many_split, place_after, same_place, spans}
 use Rattle.jsonc_ast.specs.declared.to_ast.comments.GapComments.{GapComments}
 use Rattle.jsonc_ast.specs.declared.to_ast.context.Context.{Context}
-use Rattle.jsonc_scan.specs.declared.found.TokenKind.{TokenKind}
 use Rattle.jsonc_scan.specs.declared.scanner.Scanner.{Scanner}
 use Rattle.jsonc_scan.specs.Scanner.{start_of, end_of, left, ComesNext, PassesBlanks}
 use Rattle.jsonc_ast.specs.Located.{Between, One}
-use Rattle.jsonc_ast.specs.to_ast.Collected.{CollectsMore, HasNoted, IsSilent, Collects}
+use Rattle.jsonc_ast.specs.to_ast.Collected.{IsSilent, Collects}
 use Rattle.jsonc_ast.specs.to_ast.Comments.{HasPassed}
-use Rattle.jsonc_ast.specs.to_ast.Context.{text_in, options_in, token_start, token_end, tokens_asked, comments_asked, Finds, IsNoComment, Keeps, found_by, found_in}
-use Rattle.jsonc_ast.specs.to_ast.Faults.{Fault, Stops, no_lexeme, wrong_lexeme, wrong_ending, fault_in, StopsAnyhow}
+use Rattle.jsonc_ast.specs.to_ast.Context.{text_in, options_in, token_start, token_end, tokens_asked, comments_asked, Finds, IsNoComment, Keeps}
 use Rattle.jsonc_ast.specs.to_ast.Handed.{Source, source_of, Follows, ReachesBehind}
 use Rattle.jsonc_ast.specs.to_ast.Lent.{AreLentIn}
-use Rattle.jsonc_ast.specs.to_ast.Reached.{Opened, Due, at}
-use Rattle.jsonc_ast.specs.to_ast.Refusals.{AtToken, NoTokenAfter}
-use Rattle.jsonc_ast.proofs.lemmas.to_ast.Gaps.{gap_append, join}
+use Rattle.jsonc_ast.specs.to_ast.Refusals.{AtToken}
 use Rattle.jsonc_ast.proofs.lemmas.to_ast.Refusals.{found_token, gap_past, token_no_gap}
-use Rattle.jsonc_ast.proofs.lemmas.to_ast.Scans.{moved}
 
 -- a comment as a scanner answers it
 record ScannedComment (o : Options) (t r : List ℕ) : Type 0 where

@@ -1,6 +1,5 @@
-use Rattle.std.proofs.Common.{sym, ap, ◌∙◌, refl}
+use Rattle.std.proofs.Common.{sym, ap}
 use Rattle.std.specs.Char.{len_utf8}
-use Rattle.jsonc_text.specs.Text.{stop, step}
 use Rattle.jsonc_tree.specs.Content.{newline}
 use Rattle.jsonc_build.proofs.GapLeaves.{feed_at, return_at, blanks_at}
 use Rattle.jsonc_build.proofs.Parts.{part_of_same}

@@ -4,7 +4,7 @@ use Rattle.jsonc_ast.specs.to_ast.Scanned.{leaf_value}
 use Rattle.jsonc_ast.proofs.lemmas.to_ast.Leaves.{element_put, gives_nothing}
 use Rattle.jsonc_ast.specs.Located.{value_at, array_at, object_at}
 use Rattle.jsonc_ast.specs.Views.{items_of, members_of}
-use Rattle.jsonc_ast.specs.to_ast.Context.{last, found_in, token_end}
+use Rattle.jsonc_ast.specs.to_ast.Context.{last, found_in}
 use Rattle.jsonc_ast.specs.to_ast.Reached.{size}
 use Rattle.jsonc_ast.specs.to_ast.Refusals.{here, NoPropertyHere, NoValueHere, OutOfMemoryOr}
 use Rattle.jsonc_ast.specs.to_ast.Faults.{StopsAtContainer, StopsAtItem}

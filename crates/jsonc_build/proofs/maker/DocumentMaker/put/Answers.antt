@@ -1,4 +1,4 @@
-use Rattle.std.proofs.Common.{◌∙◌, ap, sym, length}
+use Rattle.std.proofs.Common.{◌∙◌, ap, length}
 use Rattle.jsonc_tree.specs.Growing.{nodes_so_far}
 use Rattle.jsonc_tree.specs.Stored.{content_of}
 use Rattle.jsonc_build.proofs.AddedChildren.{pushes_from}

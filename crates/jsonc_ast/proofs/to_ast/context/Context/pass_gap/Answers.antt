@@ -1,4 +1,4 @@
-use Rattle.std.proofs.Common.{sym, ap, ◌∙◌, refl, subst, IsCharBoundary}
+use Rattle.std.proofs.Common.{sym, refl, subst, IsCharBoundary}
 use Rattle.std.proofs.lemmas.Str.{IsUtf8-from_is_utf8}
 use Rattle.jsonc_text.specs.Gaps.{Gap, none}
 use Rattle.jsonc_ast.specs.Located.{Between}
@@ -8,7 +8,6 @@ use Rattle.jsonc_ast.proofs.lemmas.to_ast.Collecting.{collects_same}
 use Rattle.jsonc_ast.proofs.lemmas.to_ast.Following.{behind_in}
 use Rattle.jsonc_ast.proofs.lemmas.to_ast.Gaps.{nothing}
 use Rattle.jsonc_ast.proofs.lemmas.to_ast.PassedGaps.{gap_collects, gap_told, told_gap}
-use Rattle.jsonc_ast.proofs.lemmas.to_ast.Scans.{kept_same}
 use Rattle.jsonc_ast.proofs.to_ast.context.Context.pass_gap.Goals as goal
 
 pub pass_gap-requires-clause-behind : goal.pass_gap-requires-clause-behind
