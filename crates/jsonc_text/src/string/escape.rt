@@ -378,7 +378,6 @@ fn refusal(c: char) -> ParseStringErrorKind
 }
 
 /// The escape whose backslash stands at a place.
-#[inline(always)]
 pub(crate) fn read_escape(text: &str, place: usize, literal: Literal) -> Result<Escape, StringFault>
     requires spans { Spans text.now literal.start place }
     requires backslash { Steps text.now place 0x5C (place + 1) }
