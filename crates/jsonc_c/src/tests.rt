@@ -113,8 +113,13 @@ fn paths(rt: HostRuntime) -> Result<(), Fail> {
     Ok(())
 }
 
+/// The first bytes of a buffer are these.
+fn is_written(room: &[u8], len: usize, text: &[u8]) -> bool {
+    room.get(0..len) == Some(text)
+}
+
 #[test]
-fn buffers(rt: HostRuntime) -> Result<(), Fail> {
+fn documents_into_buffers(rt: HostRuntime) -> Result<(), Fail> {
     let alloc = rt.alloc();
     let mut fault = no_fault();
     let mut room = [0u8; 16];
@@ -130,7 +135,7 @@ fn buffers(rt: HostRuntime) -> Result<(), Fail> {
         ),
         0
     );
-    assert_eq!(rt; room.as_slice().get(0..len), Some(b"[1]".as_slice()));
+    assert!(rt; is_written(room.as_slice(), len, b"[1]"));
     assert_eq!(rt;
         jsonc_set_into(
             alloc,
@@ -144,7 +149,16 @@ fn buffers(rt: HostRuntime) -> Result<(), Fail> {
         ),
         0
     );
-    assert_eq!(rt; room.as_slice().get(0..len), Some(b"{\"a\":2}".as_slice()));
+    assert!(rt; is_written(room.as_slice(), len, b"{\"a\":2}"));
+    Ok(())
+}
+
+#[test]
+fn entries_into_buffers(rt: HostRuntime) -> Result<(), Fail> {
+    let alloc = rt.alloc();
+    let mut fault = no_fault();
+    let mut room = [0u8; 16];
+    let mut len = 0usize;
     assert_eq!(rt;
         jsonc_append_into(
             alloc,
@@ -157,7 +171,7 @@ fn buffers(rt: HostRuntime) -> Result<(), Fail> {
         ),
         0
     );
-    assert_eq!(rt; room.as_slice().get(0..len), Some(b"[1, 2]".as_slice()));
+    assert!(rt; is_written(room.as_slice(), len, b"[1, 2]"));
     assert_eq!(rt;
         jsonc_remove_into(
             alloc,
@@ -170,10 +184,16 @@ fn buffers(rt: HostRuntime) -> Result<(), Fail> {
         ),
         0
     );
-    assert_eq!(rt;
-        room.as_slice().get(0..len),
-        Some(b"{ \"a\": 1 }".as_slice())
-    );
+    assert!(rt; is_written(room.as_slice(), len, b"{ \"a\": 1 }"));
+    Ok(())
+}
+
+#[test]
+fn sorts_into_buffers(rt: HostRuntime) -> Result<(), Fail> {
+    let alloc = rt.alloc();
+    let mut fault = no_fault();
+    let mut room = [0u8; 16];
+    let mut len = 0usize;
     assert_eq!(rt;
         jsonc_sort_into(
             alloc,
@@ -185,10 +205,7 @@ fn buffers(rt: HostRuntime) -> Result<(), Fail> {
         ),
         0
     );
-    assert_eq!(rt;
-        room.as_slice().get(0..len),
-        Some(b"{\"a\":2,\"b\":1}".as_slice())
-    );
+    assert!(rt; is_written(room.as_slice(), len, b"{\"a\":2,\"b\":1}"));
     assert_eq!(rt;
         jsonc_put_into(
             alloc,
@@ -202,7 +219,16 @@ fn buffers(rt: HostRuntime) -> Result<(), Fail> {
         ),
         0
     );
-    assert_eq!(rt; room.as_slice().get(0..len), Some(b"{\"a\":2}".as_slice()));
+    assert!(rt; is_written(room.as_slice(), len, b"{\"a\":2}"));
+    Ok(())
+}
+
+#[test]
+fn drops_into_buffers(rt: HostRuntime) -> Result<(), Fail> {
+    let alloc = rt.alloc();
+    let mut fault = no_fault();
+    let mut room = [0u8; 16];
+    let mut len = 0usize;
     assert_eq!(rt;
         jsonc_drop_into(
             alloc,
@@ -215,10 +241,7 @@ fn buffers(rt: HostRuntime) -> Result<(), Fail> {
         ),
         0
     );
-    assert_eq!(rt;
-        room.as_slice().get(0..len),
-        Some(b"{ \"a\": 1 }".as_slice())
-    );
+    assert!(rt; is_written(room.as_slice(), len, b"{ \"a\": 1 }"));
     Ok(())
 }
 
