@@ -8,6 +8,7 @@ pub mod laws;
 pub mod passed;
 pub mod receiver;
 mod room;
+pub mod stack;
 mod values;
 pub mod walk;
 

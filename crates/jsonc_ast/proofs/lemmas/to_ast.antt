@@ -30,6 +30,7 @@ pub mod Ranges
 pub mod Handing
 pub mod Walks
 pub mod MadeTrees
+pub mod Stacked
 pub mod PassedGaps
 pub mod Following
 pub mod PassedStrings

@@ -1,5 +1,5 @@
 -- What a receiver has made of a text, where that is a syntax tree.
-use Rattle.std.specs.Prelude.{◌≡◌, List, map}
+use Rattle.std.specs.Prelude.{◌≡◌, ◌++◌, ℕ, List, length, map}
 use Rattle.jsonc_text.specs.OptionsOf.{parse_options}
 use Rattle.jsonc_ast.specs.declared.ast.ObjectProp.{ObjectProp}
 use Rattle.jsonc_ast.specs.declared.ast.ObjectPropName.{ObjectPropName}
@@ -15,14 +15,20 @@ module _ {A : Type 0} where
   abbrev pub source_in : TreeMaker A → Source
   source_in m = record { bytes = m.text.now; options = parse_options m.options }
 
-  -- from the one state to the other the text stays, and the value is located so, its strings and names written as they are in the text
+  -- from the one state to the other the same elements and properties of containers that have not ended
+  abbrev pub SameOpen : TreeMaker A → TreeMaker A → Type 0
+  SameOpen old new = (new.elements.items ≡ old.elements.items) × (new.properties.items ≡ old.properties.items)
+
+  -- from the one state to the other the text and the open containers stay, and the value is located so, its strings and names written as they are in the text
   pub record IsTree (old new : TreeMaker A) (v : Value A) (x : Located) : Type 0 where
     pub same : source_in new ≡ source_in old
+    pub stacks : SameOpen old new
     pub located : located v ≡ x
     pub written : AreWritten (source_in old).options (source_in old).bytes (spelled v)
 
   pub record IsName (old new : TreeMaker A) (n : ObjectPropName A) (x : LocatedName) : Type 0 where
     pub same : source_in new ≡ source_in old
+    pub stacks : SameOpen old new
     pub located : name_at n ≡ x
     pub written : IsWritten (source_in old).options (source_in old).bytes n
 
@@ -36,3 +42,19 @@ module _ {A : Type 0} where
     pub same : source_in new ≡ source_in old
     pub located : map member_of ps ≡ ms
     pub written : AreWritten (source_in old).options (source_in old).bytes (spelled_in_properties ps)
+
+  -- behind the elements that old has, new has those of an array that begins there
+  pub record HoldsElements (old new : TreeMaker A) (start : ℕ) (xs : List Located) : Type 0 where
+    pub elements : List (Value A)
+    pub begins : start ≡ length old.elements.items
+    pub stacked : new.elements.items ≡ old.elements.items ++ elements
+    pub same : new.properties.items ≡ old.properties.items
+    pub are : AreTrees old new elements xs
+
+  -- behind the properties that old has, new has those of an object that begins there
+  pub record HoldsProperties (old new : TreeMaker A) (start : ℕ) (ms : List LocatedMember) : Type 0 where
+    pub properties : List (ObjectProp A)
+    pub begins : start ≡ length old.properties.items
+    pub stacked : new.properties.items ≡ old.properties.items ++ properties
+    pub same : new.elements.items ≡ old.elements.items
+    pub are : AreProperties old new properties ms

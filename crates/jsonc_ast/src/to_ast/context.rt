@@ -230,10 +230,11 @@ impl<'a, A: Allocator + Copy> Context<'a, A> {
         let Ok(token) = self.content.token(token) else {
             return Err(self.out_of_memory());
         };
-        let Ok(()) = make_room(tokens, range.start, len) else {
+        let next = TokenAndRange { range, token };
+        let Ok(()) = make_room(tokens, &next, len) else {
             return Err(self.out_of_memory());
         };
-        let Ok(()) = tokens.push(TokenAndRange { range, token }) else {
+        let Ok(()) = tokens.push(next) else {
             return Err(self.out_of_memory());
         };
         Ok(())

@@ -24,6 +24,8 @@ use crate::to_ast::collect::{CollectOptions, ParseResult};
 use crate::to_ast::context::Context;
 use crate::to_ast::passed::decode_passed;
 use crate::to_ast::receiver::Receiver;
+use crate::to_ast::room::make_room;
+use crate::to_ast::stack::taken_from;
 use crate::to_ast::walk::read_document;
 use jsonc_text::common::Range;
 use jsonc_text::errors::{ParseError, ParseErrorKind};
@@ -37,17 +39,23 @@ pub(crate) struct TreeMaker<'a, A: Allocator> {
     alloc: A,
     text: &'a str,
     options: ParseOptions,
+    // The elements of the arrays that have not ended, those of the outer ones first.
+    elements: Vec<Value<'a, A>, A>,
+    // The properties of the objects that have not ended.
+    properties: Vec<ObjectProp<'a, A>, A>,
 }
 
 impl<'a, A: Allocator + Copy> Receiver<String<A>> for TreeMaker<'a, A> {
     ghost use Rattle.std.specs.Prelude.{true};
-    ghost use Rattle.jsonc_ast.specs.to_ast.Trees.{source_in, AreProperties, AreTrees, IsName, IsTree};
+    ghost use Rattle.jsonc_ast.specs.to_ast.Trees.{source_in, HoldsElements, HoldsProperties, IsName, IsTree};
 
     type Item = Value<'a, A>;
 
-    type Array = Vec<Value<'a, A>, A>;
+    // Where its elements begin among those of the arrays that have not ended.
+    type Array = usize;
 
-    type Object = Vec<ObjectProp<'a, A>, A>;
+    // The same of its properties.
+    type Object = usize;
 
     type Property = ObjectPropName<'a, A>;
 
@@ -59,9 +67,9 @@ impl<'a, A: Allocator + Copy> Receiver<String<A>> for TreeMaker<'a, A> {
 
     ghost names = { IsName };
 
-    ghost holds_elements = { λ s t a i xs. AreTrees s t a.items xs };
+    ghost holds_elements = { λ s t a i xs. HoldsElements s t a xs };
 
-    ghost holds_properties = { λ s t o i ms. AreProperties s t o.items ms };
+    ghost holds_properties = { λ s t o i ms. HoldsProperties s t o ms };
 
     ghost reached = { λ s i. Unit {0} };
 
@@ -120,32 +128,26 @@ impl<'a, A: Allocator + Copy> Receiver<String<A>> for TreeMaker<'a, A> {
     }
 
     #[inline(always)]
-    fn open_array(&mut self, _start: usize) -> Result<Vec<Value<'a, A>, A>, AllocError> {
-        Ok(Vec::new(self.alloc))
+    fn open_array(&mut self, _start: usize) -> Result<usize, AllocError> {
+        Ok(self.elements.len())
     }
 
     #[inline(always)]
-    fn element(
-        &mut self,
-        array: &mut Vec<Value<'a, A>, A>,
-        item: Value<'a, A>,
-    ) -> Result<(), AllocError> {
-        push_value(array, item)?;
+    fn element(&mut self, _array: &mut usize, item: Value<'a, A>) -> Result<(), AllocError> {
+        make_room(&mut self.elements, &item, self.text.len())?;
+        push_value(&mut self.elements, item)?;
         Ok(())
     }
 
     #[inline(always)]
-    fn close_array(
-        &mut self,
-        array: Vec<Value<'a, A>, A>,
-        range: Range,
-    ) -> Result<Value<'a, A>, AllocError> {
-        Ok(array_of(range, array))
+    fn close_array(&mut self, array: usize, range: Range) -> Result<Value<'a, A>, AllocError> {
+        let elements = taken_from(&mut self.elements, array)?;
+        Ok(array_of(range, elements))
     }
 
     #[inline(always)]
-    fn open_object(&mut self, _start: usize) -> Result<Vec<ObjectProp<'a, A>, A>, AllocError> {
-        Ok(Vec::new(self.alloc))
+    fn open_object(&mut self, _start: usize) -> Result<usize, AllocError> {
+        Ok(self.properties.len())
     }
 
     #[inline(always)]
@@ -187,22 +189,19 @@ impl<'a, A: Allocator + Copy> Receiver<String<A>> for TreeMaker<'a, A> {
     #[inline(always)]
     fn property(
         &mut self,
-        object: &mut Vec<ObjectProp<'a, A>, A>,
+        _object: &mut usize,
         property: ObjectPropName<'a, A>,
         item: Value<'a, A>,
         range: Range,
     ) -> Result<(), AllocError> {
-        push_property(object, property_of(range, property, item))?;
+        push_property(&mut self.properties, property_of(range, property, item))?;
         Ok(())
     }
 
     #[inline(always)]
-    fn close_object(
-        &mut self,
-        object: Vec<ObjectProp<'a, A>, A>,
-        range: Range,
-    ) -> Result<Value<'a, A>, AllocError> {
-        Ok(object_of(range, object))
+    fn close_object(&mut self, object: usize, range: Range) -> Result<Value<'a, A>, AllocError> {
+        let properties = taken_from(&mut self.properties, object)?;
+        Ok(object_of(range, properties))
     }
 }
 
@@ -227,6 +226,8 @@ fn parse_whole<'a, A: Allocator + Copy>(
         alloc: context.alloc,
         text: context.scanner.file_text(),
         options: context.options.copied(),
+        elements: Vec::new(context.alloc),
+        properties: Vec::new(context.alloc),
     };
     read_document(context, &mut to)
 }

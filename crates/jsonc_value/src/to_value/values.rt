@@ -15,13 +15,13 @@ use jsonc_ast::to_ast::collect::CollectOptions;
 use jsonc_ast::to_ast::context::Context;
 use jsonc_ast::to_ast::passed::decode_passed;
 use jsonc_ast::to_ast::receiver::Receiver;
+use jsonc_ast::to_ast::stack::taken_from;
 use jsonc_ast::to_ast::walk::read_document;
 use jsonc_text::common::Range;
 use jsonc_text::errors::ParseError;
 use jsonc_text::options::ParseOptions;
 use std::alloc::{AllocError, Allocator};
 use std::borrow::CowStr;
-use std::mem;
 
 /// A name that the text lends.
 #[inline(always)]
@@ -48,25 +48,6 @@ fn object_of<'a, A: Allocator>(
     ensures { plain result ≡ object (members_plain properties.entry) }
 {
     JsonValue::Object(JsonObject::new(properties))
-}
-
-/// So many items at least are taken with the room of their stack, if they are all that it has.
-const LONG: usize = 1024;
-
-/// Takes the items from this place on, in a vector of their own.
-fn taken_from<T, A: Allocator + Copy>(
-    stack: &mut Vec<T, A>,
-    start: usize,
-) -> Result<Vec<T, A>, AllocError>
-    requires { start ≤ length stack.old.items }
-    ensures left { OnOk result (stack.new.items ≡ take start stack.old.items) }
-    ensures taken { IfOk result (λ v. v.items ≡ drop start stack.old.items) }
-{
-    if start == 0 && stack.len() >= LONG {
-        let alloc = *stack.allocator();
-        return Ok(mem::replace(stack, Vec::new(alloc)));
-    }
-    stack.split_off(start)
 }
 
 /// What makes a value of a text as it is read.

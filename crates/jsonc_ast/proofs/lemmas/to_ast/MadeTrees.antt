@@ -12,7 +12,7 @@ use Rattle.jsonc_ast.specs.Spelled.{spelled, spelled_in_property, spelled_in_ele
 use Rattle.jsonc_ast.specs.Views.{LocatedMember, located, member_of, name_at, items_of, members_of, items_located, members_located}
 use Rattle.jsonc_ast.specs.to_ast.Handed.{Source, IsDocumentMade, MadeBetweenGaps}
 use Rattle.jsonc_ast.specs.to_ast.Reached.{size}
-use Rattle.jsonc_ast.specs.to_ast.Trees.{source_in, AreProperties, AreTrees, IsName, IsTree}
+use Rattle.jsonc_ast.specs.to_ast.Trees.{source_in, AreProperties, AreTrees, IsName, IsTree, SameOpen}
 use Rattle.jsonc_ast.specs.to_ast.Written.{AreWritten, IsWritten}
 use Rattle.jsonc_ast.proofs.lemmas.to_ast.Spelling.{element_written, property_written}
 
@@ -30,9 +30,10 @@ module _ {A : Type 0} where
     written = element_written (source_in s).options (source_in s).bytes xs ys v held.written (moved_written (source_in s) (source_in m) (spelled v) held.same made.written) grown;
   }
 
-  pub array_made : (s old new : TreeMaker A) (vs : List (Value A)) (v : Value A) (r : Range) (xs : List Located) → AreTrees s old vs xs → source_in new ≡ source_in old → located v ≡ array_at r (items_located vs) → spelled v ≡ spelled_in_elements vs → IsTree s new v (array_at r (items_of xs))
-  array_made s old new vs v r xs held stays at spells = record {
+  pub array_made : (s old new : TreeMaker A) (vs : List (Value A)) (v : Value A) (r : Range) (xs : List Located) → AreTrees s old vs xs → source_in new ≡ source_in old → SameOpen s new → located v ≡ array_at r (items_located vs) → spelled v ≡ spelled_in_elements vs → IsTree s new v (array_at r (items_of xs))
+  array_made s old new vs v r xs held stays stacks at spells = record {
     same = stays ∙ held.same;
+    stacks = stacks;
     located = at ∙ ap (λ l. array_at r (items_of l)) held.located;
     written = subst (AreWritten (source_in s).options (source_in s).bytes) (sym spells) held.written;
   }
@@ -52,9 +53,10 @@ module _ {A : Type 0} where
         written = property_written o b ps qs p held.written (subst (AreWritten o b) (sym spells) (All-cons (IsWritten o b) name (spelled v) key value)) grown;
       }
 
-  pub object_made : (s old new : TreeMaker A) (ps : List (ObjectProp A)) (v : Value A) (r : Range) (ms : List LocatedMember) → AreProperties s old ps ms → source_in new ≡ source_in old → located v ≡ object_at r (members_located ps) → spelled v ≡ spelled_in_properties ps → IsTree s new v (object_at r (members_of ms))
-  object_made s old new ps v r ms held stays at spells = record {
+  pub object_made : (s old new : TreeMaker A) (ps : List (ObjectProp A)) (v : Value A) (r : Range) (ms : List LocatedMember) → AreProperties s old ps ms → source_in new ≡ source_in old → SameOpen s new → located v ≡ object_at r (members_located ps) → spelled v ≡ spelled_in_properties ps → IsTree s new v (object_at r (members_of ms))
+  object_made s old new ps v r ms held stays stacks at spells = record {
     same = stays ∙ held.same;
+    stacks = stacks;
     located = at ∙ ap (λ l. object_at r (members_of l)) held.located;
     written = subst (AreWritten (source_in s).options (source_in s).bytes) (sym spells) held.written;
   }

@@ -1,7 +1,7 @@
 use Rattle.std.proofs.Common.{ap, ◌∙◌}
 use Rattle.jsonc_text.specs.Plain.{array}
 use Rattle.jsonc_value.specs.to_value.Views.{items_plain}
-use Rattle.jsonc_value.proofs.lemmas.to_value.Stacked.{Parted, parted}
+use Rattle.jsonc_ast.proofs.lemmas.to_ast.Stacked.{Parted, parted}
 use Rattle.jsonc_value.proofs.to_value.values.ValueMakerReceiverString.close_array.Goals as goal
 
 pub taken_from-requires : goal.taken_from-requires

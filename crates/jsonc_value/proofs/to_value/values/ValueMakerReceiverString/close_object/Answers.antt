@@ -2,7 +2,7 @@ use Rattle.std.proofs.Common.{[], ap, ◌∙◌}
 use Rattle.indexmap.specs.IndexMap.{insert_all}
 use Rattle.jsonc_text.specs.Plain.{object}
 use Rattle.jsonc_value.specs.to_value.Views.{same_name, members_plain}
-use Rattle.jsonc_value.proofs.lemmas.to_value.Stacked.{Parted, parted}
+use Rattle.jsonc_ast.proofs.lemmas.to_ast.Stacked.{Parted, parted}
 use Rattle.jsonc_value.proofs.to_value.values.ValueMakerReceiverString.close_object.Goals as goal
 
 pub taken_from-requires : goal.taken_from-requires
