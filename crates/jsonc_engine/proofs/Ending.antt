@@ -1,11 +1,12 @@
 -- What a run has written, of the input that was read.
-use Rattle.std.proofs.Common.{◌≡◌, ℕ, ◌==◌, if◌then◌else◌, List, [], ◌∷◌, Option, Result, Ok, Err, IfErr, IfSome, OnErr, OnOk, IsTrue, refl, sym, ap, subst, ◌∙◌}
+use Rattle.std.proofs.Common.{◌≡◌, ℕ, ◌==◌, if◌then◌else◌, List, [], ◌∷◌, Option, Result, Ok, Err, IfErr, IfSome, OnErr, OnOk, IsTrue, true, false, refl, sym, ap, subst, ◌∙◌}
 use Rattle.std.specs.Io.KnownBytes.{Appends}
 use Rattle.jsonc_text.specs.Options.{Options, all_on}
 use Rattle.std.specs.Prelude.{IsErrOf}
 use Rattle.jsonc_text.specs.declared.edit.EditError.TheVariants.{OutOfMemory}
 use Rattle.jsonc_engine.specs.declared.fault.Fault.{Fault}
-use Rattle.jsonc_engine.specs.declared.fault.Fault.TheVariants.{Edit, Write}
+use Rattle.jsonc_engine.specs.declared.fault.Fault.TheVariants.{Edit, Input, NotUtf8, Write}
+use Rattle.jsonc_engine.specs.Parser.{ParseError}
 use Rattle.jsonc_engine.specs.Command.{Request, check, print, set, append, remove, sort, get, put, drop, words_of, writes}
 use Rattle.jsonc_engine.specs.Fault.{IsFaultOn, IsForMemory, TellsOfInput}
 use Rattle.jsonc_engine.specs.Input.{IsInput, IsInputOf}
@@ -52,11 +53,11 @@ module _ (known : Option (List ℕ)) (read input : List ℕ) (o : Options) (all 
   pub input_known : IsInputOf o input → IfSome known IsInput
   input_known h = of_input known read IsInput bytes (subst (λ (b : List ℕ). IsInput b) value (subst (λ (p : Options). IsInputOf p input) all h))
 
-  pub puts_known : (r q : Request) → words_of r ≡ words_of q → (a b : Option (List ℕ)) (text : List ℕ) → IsLeft o r input text → (IsTrue (writes r) → Appends a b text) → IsTrue (writes q) → IfSome known (Puts q a b)
-  puts_known r q e a b text left appends writing =
+  pub puts_known : (r q : Request) → words_of r ≡ words_of q → (a b : Option (List ℕ)) (text : List ℕ) → IsLeft o r input text → Appends a b text → IfSome known (Puts q a b)
+  puts_known r q e a b text left appends =
       let there : IsLeft all_on r read text = subst (λ (i : List ℕ). IsLeft all_on r i text) value (subst (λ (p : Options). IsLeft p r input text) all left) in
       let same = same_request r q e in
-      of_input known read (Puts q a b) bytes (text, subst (λ (p : Request). IsLeft all_on p read text) same there, appends (subst (λ (p : Request). IsTrue (writes p)) (sym same) writing))
+      of_input known read (Puts q a b) bytes (text, subst (λ (p : Request). IsLeft all_on p read text) same there, appends)
 
   pub tells_known : (r q : Request) → words_of r ≡ words_of q → (fault : Fault) → IsFaultOn o r input fault → IfSome known (λ i. TellsOfInput q i fault)
   tells_known r q e fault h =
@@ -82,3 +83,35 @@ err_always (Err fault) h = h fault
 pub ok_always : {T P : Type 0} (r : Result T Fault) → P → OnOk r P
 ok_always (Ok x) h = h
 ok_always (Err e) h = tt
+
+-- what is true of all faults that are true of something
+pub err_each : {T : Type 0} {P Q : Fault → Type 0} (r : Result T Fault) → ((fault : Fault) → P fault → Q fault) → IfErr r P → IfErr r Q
+err_each (Ok x) f h = tt
+err_each (Err fault) f h = f fault h
+
+-- an input that is only checked has two faults: of its text, or that it is none
+pub of_check : (P : Fault → Type 0) (o : Options) (input : List ℕ) → ((e : ParseError) → P (Input e)) → P NotUtf8 → (fault : Fault) → IsFaultOn o check input fault → P fault
+of_check P o input of_text no_text (Input e) h = of_text e
+of_check P o input of_text no_text NotUtf8 h = no_text
+of_check P o input of_text no_text (Edit OutOfMemory) h = absurd h
+of_check P o input of_text no_text _ h = absurd h
+
+-- and no other
+pub never_checked : {T P : Type 0} (o : Options) (input : List ℕ) (x : Fault) → ((e : ParseError) → Input e ≡ x → ⊥) → (NotUtf8 ≡ x → ⊥) → (r : Result T Fault) → IfErr r (IsFaultOn o check input)
+    → IsErrOf r x → P
+never_checked o input x of_text no_text (Ok y) h e = cc
+never_checked o input x of_text no_text (Err fault) h e =
+    let is : fault ≡ x = cc in
+    absurd (of_check (λ f. f ≡ x → ⊥) o input of_text no_text fault h is)
+
+-- words that name a command which does not write name none that does
+pub no_writing : {P : Type 0} (asked request : Request) → words_of asked ≡ words_of request → false ≡ writes asked → IsTrue (writes request) → P
+no_writing asked request e off writing =
+    let is : false ≡ writes request = off ∙ ap writes (same_request asked request e) in
+    cc
+
+-- and the other way round
+pub still_writing : {P : Type 0} (asked request : Request) → words_of asked ≡ words_of request → true ≡ writes asked → writes request ≡ false → P
+still_writing asked request e on none =
+    let is : true ≡ false = on ∙ ap writes (same_request asked request e) ∙ none in
+    cc

@@ -21,8 +21,8 @@ use crate::edit::make;
 use crate::fault::Fault;
 use crate::output::Output;
 use crate::settings::get_setting;
-use jsonc_parser::ParseOptions;
 use jsonc_parser::cst::{CstRootNode, EditError};
+use jsonc_parser::{ParseOptions, check_document};
 use std::alloc::{AllocError, Allocator};
 
 const BUFFER_LEN: usize = 65536;
@@ -168,26 +168,6 @@ fn write_output<A: Allocator, K: Sink>(sink: &mut K, output: &Output<A>) -> Resu
     }
 }
 
-/// Writes what is to be written, where the command writes.
-fn write_for<A: Allocator, K: Sink>(
-    sink: &mut K,
-    command: Command,
-    output: &Output<A>,
-) -> Result<(), Fault>
-    ensures written { OnOk result (IsTrue (writes (request_of command.entry))
-        → Appends (K.contents sink.old) (K.contents sink.new) (output_bytes output.now)) }
-    ensures flushed { OnOk result (IsTrue (writes (request_of command.entry)) → K.is_flushed sink.new) }
-    ensures unwritten { writes (request_of command.entry) ≡ false → sink.new ≡ sink.old }
-    ensures kept { OnOk result (K.failed_writes sink.new ≡ K.failed_writes sink.old) }
-    ensures cause { OnErr result (IsErrOf result Fault.Write) }
-    ensures failed { OnErr result (K.failed_writes sink.new ≡ one_more (K.failed_writes sink.old)) }
-{
-    if command.writes() {
-        return write_output(sink, output);
-    }
-    Ok(())
-}
-
 /// The document with a change made, to be written. To get a value is none.
 ///
 /// The change may be refused as its page says.
@@ -259,6 +239,23 @@ fn output_of<A: Allocator + Copy>(
     }
 }
 
+/// Checks the input's bytes, and keeps nothing of them: it asks for no memory.
+///
+/// They are refused as the bytes of a document are, as `Fault::NotUtf8` or `Fault::Input`.
+fn checked<A: Allocator + Copy>(alloc: A, options: &ParseOptions, input: &[u8]) -> Result<(), Fault>
+    ensures accepted { OnOk result (IsInputOf (parse_options options.now) input.now) }
+    ensures not_utf8 { ¬ (IsUtf8 input.now) → IfErr result (λ fault. fault ≡ Fault.NotUtf8) }
+    ensures refused { (request : Request) → IfErr result (IsFaultOn (parse_options options.now) request input.now) }
+{
+    let Ok(text) = str::from_utf8(input) else {
+        return Err(Fault::NotUtf8);
+    };
+    let Err(error) = check_document(alloc, text, options) else {
+        return Ok(());
+    };
+    Err(Fault::Input(error))
+}
+
 /// What the command writes, given the bytes of the input and what their text may hold beyond JSON, or `None` where
 /// it writes nothing. The command's own path and JSON text may hold all that can be allowed.
 ///
@@ -281,13 +278,16 @@ pub fn run_with<A: Allocator + Copy>(
         Ok(change) => change,
         Err(fault) => return Err(fault),
     };
+    if !command.writes() {
+        let Err(fault) = checked(alloc, options, input) else {
+            return Ok(None);
+        };
+        return Err(fault);
+    }
     let output = match output_of(alloc, options, change, input) {
         Ok(output) => output,
         Err(fault) => return Err(fault),
     };
-    if !command.writes() {
-        return Ok(None);
-    }
     text_of(output)
 }
 
@@ -372,9 +372,12 @@ pub fn engine<A: Allocator + Copy, S: Source, K: Sink>(
         Err(fault) => return Err(fault),
     };
     let options = ParseOptions::default();
+    if !command.writes() {
+        return checked(alloc, &options, input.as_slice());
+    }
     let output = match output_of(alloc, &options, change, input.as_slice()) {
         Ok(output) => output,
         Err(fault) => return Err(fault),
     };
-    write_for(sink, command, &output)
+    write_output(sink, &output)
 }

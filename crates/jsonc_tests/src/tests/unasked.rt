@@ -2,11 +2,14 @@
 
 use failing_alloc::Refusing;
 use failing_alloc::awaited::prints;
+use jsonc_engine::command::Command;
+use jsonc_engine::engine::run_on;
+use jsonc_engine::fault::Fault;
 use jsonc_parser::common::{Range, Ranged};
 use jsonc_parser::cst::CstRootNode;
 use jsonc_parser::errors::{ParseError, ParseErrorKind};
 use jsonc_parser::tokens::Token;
-use jsonc_parser::{ParseOptions, Scanner, ScannerOptions, check};
+use jsonc_parser::{ParseOptions, Scanner, ScannerOptions, check, check_document};
 use std::alloc::{Allocator, Global};
 use std::default::Default;
 
@@ -87,23 +90,40 @@ const TEXT: &str = " {\"a\": [1, [\"\\b\", {}], null], // c\r\n \"d\": /* e */ f
 /// A text with names in single quotes and without quotes, and with escapes.
 const NAMES: &str = "{'\\t': [1, ['\\u0062', {}], null], // c\r\n d: /* e */ false, 0x1F: true,}\n";
 
-/// A check of a text accepts it, or tells this fault of these bytes.
-fn is_checked(heap: &Refusing<Global>, text: &str, fault: Option<(ParseErrorKind, Range)>) -> bool {
-    match (check(heap, text, &ParseOptions::default()), fault) {
+/// A text is accepted, or this fault is told of these bytes.
+fn is_answer(answer: &Result<(), ParseError>, fault: &Option<(ParseErrorKind, Range)>) -> bool {
+    match (answer, fault) {
         (Ok(()), None) => true,
-        (Err(error), Some((kind, range))) => *error.kind() == kind && error.range() == range,
+        (Err(error), Some((kind, range))) => error.kind() == kind && error.range() == *range,
         _ => false,
     }
+}
+
+/// A check of a text, of a document and by the program accept it, or tell this fault of these bytes.
+fn is_checked(
+    heap: &Refusing<Global>,
+    text: &str,
+    fault: &Option<(ParseErrorKind, Range)>,
+) -> bool {
+    let options = ParseOptions::default();
+    let run = match run_on(heap, Command::Check, text.as_bytes()) {
+        Ok(None) => Ok(()),
+        Err(Fault::Input(error)) => Err(error),
+        _ => return false,
+    };
+    is_answer(&check(heap, text, &options), fault)
+        && is_answer(&check_document(heap, text, &options), fault)
+        && is_answer(&run, fault)
 }
 
 #[test]
 fn checking_takes_no_memory(rt: HostRuntime) {
     let heap = Refusing::always(rt.alloc());
-    assert!(rt; is_checked(&heap, TEXT, None));
-    assert!(rt; is_checked(&heap, NAMES, None));
-    assert!(rt; is_checked(&heap, " // one", None));
+    assert!(rt; is_checked(&heap, TEXT, &None));
+    assert!(rt; is_checked(&heap, NAMES, &None));
+    assert!(rt; is_checked(&heap, " // one", &None));
     let wrong = (ParseErrorKind::UnexpectedToken, Range::new(53, 54));
-    assert!(rt; is_checked(&heap, TOKENS, Some(wrong)));
+    assert!(rt; is_checked(&heap, TOKENS, &Some(wrong)));
     assert!(rt; heap.asked() == 0);
 }
 

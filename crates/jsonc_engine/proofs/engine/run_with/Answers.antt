@@ -25,3 +25,8 @@ returns-clause-refused g c =
     let asked = request_of c.args.command in
     memory_told (parse_options c.args.options.now) asked c.args.input.now (output_bytes c.in-Ok-output_of.output) (is_ready asked c.in-Ok.change c.in-Ok.ensures.change)
     (c.in-Ok-output_of.ensures.left asked c.in-Ok.ensures.change) c.text_of.result c.text_of.ensures.memory
+
+pub returns-then-not-writes-clause-refused : goal.returns-then-not-writes-clause-refused
+returns-then-not-writes-clause-refused g c =
+    let asked = request_of c.args.command in
+    inr (is_ready asked c.in-Ok.change c.in-Ok.ensures.change, inl (c.in-Err-checked.ensures.refused asked))
