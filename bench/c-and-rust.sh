@@ -20,6 +20,13 @@ top = os.getcwd()
 page = subprocess.run(["rt", "doc"], capture_output=True, text=True, check=True).stdout.strip()
 sys.path.insert(0, f"{os.path.dirname(page)}/bin")
 import rtlib
+# (some kits ask a library anew on each way down to it, of which there are many)
+stamp, known = rtlib.Crate.stamp, {}
+def stamp_once(crate):
+    if crate.folder not in known:
+        known[crate.folder] = stamp(crate)
+    return known[crate.folder]
+rtlib.Crate.stamp = stamp_once
 os.chdir("crates/jsonc_c")
 for crate in rtlib.crates_below(os.getcwd()):
     if os.path.isdir(crate.rlib) and crate.folder.startswith(top):
