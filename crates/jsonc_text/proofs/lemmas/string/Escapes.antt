@@ -321,6 +321,10 @@ not_taken false y h = (refl, h)
 pub taken_extended : (m : Meaning) (y : Bool) → IsTrue (is_plain m || y) → is_plain m ≡ false → IsTrue y
 taken_extended m y h e = rw e at h
 
+pub where_taken : (taken : Bool) (P : Bool → Type 0) → IsTrue taken → P true → P taken
+where_taken true P h p = p
+where_taken false P h p = cc
+
 pub no_taken : (taken : Bool) (bytes : List ℕ) (q i c j : ℕ) (m : Meaning) → (is_plain m || taken) ≡ false → m ≡ meaning q c → Steps bytes i 0x5C (i + 1) → Steps bytes (i + 1) c j → NoPiece taken q bytes i
 no_taken taken bytes q i c j m h e s u =
     let both = not_taken (is_plain m) taken h in

@@ -1,8 +1,8 @@
 use Rattle.std.proofs.Common.{arith, sym, ap}
-use Rattle.std.proofs.lemmas.Result.{IfErr-weaker}
+use Rattle.std.proofs.lemmas.Result.{IfErr-weaker, IfOk-weaker}
 use Rattle.jsonc_text.specs.declared.string.escape.Meaning.{Meaning}
-use Rattle.jsonc_text.specs.string.Escapes.{is_plain, meaning_of}
-use Rattle.jsonc_text.proofs.lemmas.string.Escapes.{given_found, other_found, line_found, no_refused, no_taken, counted, taken_extended}
+use Rattle.jsonc_text.specs.string.Escapes.{is_plain, meaning_of, IsEscape, NoPiece}
+use Rattle.jsonc_text.proofs.lemmas.string.Escapes.{given_found, other_found, line_found, no_refused, no_taken, counted, taken_extended, where_taken}
 use Rattle.jsonc_text.proofs.lemmas.string.Faults.{ends_within, end_taken, told_after, told_decimal, told_end, told_not_taken, told_taken}
 use Rattle.jsonc_text.proofs.string.escape.read_escape.Goals as goal
 
@@ -63,3 +63,57 @@ returns-in-Refused-clause-error c =
     let read = c.string_fault-in-Refused.ensures in
     let taken = taken_extended _ _ (sym c.if-not-is_taken.ensures) (ap (λ (m : Meaning). is_plain (meaning_of m)) c.in-Refused.is) in
     told_after _ _ _ _ _ _ (told_decimal _ _ _ _ _ _ _ read.start read.end read.kind taken c.in-Refused.ensures.meaning c.requires.backslash c.in-Some.ensures.some)
+
+pub returns-in-CodeUnit-clause-found : goal.returns-in-CodeUnit-clause-found
+returns-in-CodeUnit-clause-found c =
+    let literal = c.args.literal in
+    IfOk-weaker c.read_code_unit.result _ _ (λ e h. h literal.extended literal.quote) c.read_code_unit.ensures.found
+
+pub returns-in-CodeUnit-clause-none : goal.returns-in-CodeUnit-clause-none
+returns-in-CodeUnit-clause-none c =
+    let literal = c.args.literal in
+    IfErr-weaker c.read_code_unit.result _ _ (λ f h. h literal.extended literal.quote) c.read_code_unit.ensures.none
+
+pub returns-in-CodeUnit-clause-fault : goal.returns-in-CodeUnit-clause-fault
+returns-in-CodeUnit-clause-fault c =
+    IfErr-weaker c.read_code_unit.result _ _ (λ f h. record { spans = h.spans; order = omega (arith, h.order, c.requires.spans.order); kind = h.kind }) c.read_code_unit.ensures.fault
+
+pub returns-in-CodeByte-clause-fault : goal.returns-in-CodeByte-clause-fault
+returns-in-CodeByte-clause-fault c =
+    IfErr-weaker c.read_code_byte.result _ _ (λ f h. record { spans = h.spans; order = omega (arith, h.order, c.requires.spans.order); kind = h.kind }) c.read_code_byte.ensures.fault
+
+pub returns-in-CodeByte-clause-found : goal.returns-in-CodeByte-clause-found
+returns-in-CodeByte-clause-found c =
+    let literal = c.args.literal in
+    let taken = taken_extended _ _ (sym c.if-not-is_taken.ensures) (ap (λ (m : Meaning). is_plain (meaning_of m)) c.in-CodeByte.is) in
+    IfOk-weaker c.read_code_byte.result _ _ (λ f h. where_taken literal.extended (λ t. IsEscape t literal.quote c.args.text.now c.args.place f) taken (h literal.quote)) c.read_code_byte.ensures.found
+
+pub returns-in-CodeByte-clause-none : goal.returns-in-CodeByte-clause-none
+returns-in-CodeByte-clause-none c =
+    let literal = c.args.literal in
+    let taken = taken_extended _ _ (sym c.if-not-is_taken.ensures) (ap (λ (m : Meaning). is_plain (meaning_of m)) c.in-CodeByte.is) in
+    IfErr-weaker c.read_code_byte.result _ _ (λ f h. where_taken literal.extended (λ t. NoPiece t literal.quote c.args.text.now c.args.place) taken (h literal.quote)) c.read_code_byte.ensures.none
+
+pub returns-in-Nul-clause-found : goal.returns-in-Nul-clause-found
+returns-in-Nul-clause-found c =
+    let literal = c.args.literal in
+    let taken = taken_extended _ _ (sym c.if-not-is_taken.ensures) (ap (λ (m : Meaning). is_plain (meaning_of m)) c.in-Nul.is) in
+    IfOk-weaker c.read_nul.result _ _ (λ f h. where_taken literal.extended (λ t. IsEscape t literal.quote c.args.text.now c.args.place f) taken (h literal.quote)) c.read_nul.ensures.found
+
+pub returns-in-Nul-clause-none : goal.returns-in-Nul-clause-none
+returns-in-Nul-clause-none c =
+    let literal = c.args.literal in
+    let taken = taken_extended _ _ (sym c.if-not-is_taken.ensures) (ap (λ (m : Meaning). is_plain (meaning_of m)) c.in-Nul.is) in
+    IfErr-weaker c.read_nul.result _ _ (λ f h. where_taken literal.extended (λ t. NoPiece t literal.quote c.args.text.now c.args.place) taken (h literal.quote)) c.read_nul.ensures.none
+
+pub returns-in-CarriageReturn-clause-found : goal.returns-in-CarriageReturn-clause-found
+returns-in-CarriageReturn-clause-found c =
+    let literal = c.args.literal in
+    let taken = taken_extended _ _ (sym c.if-not-is_taken.ensures) (ap (λ (m : Meaning). is_plain (meaning_of m)) c.in-CarriageReturn.is) in
+    IfOk-weaker c.read_line_end.result _ _ (λ f h. where_taken literal.extended (λ t. IsEscape t literal.quote c.args.text.now c.args.place f) taken (h literal.quote)) c.read_line_end.ensures.found
+
+pub returns-in-CarriageReturn-clause-none : goal.returns-in-CarriageReturn-clause-none
+returns-in-CarriageReturn-clause-none c =
+    let literal = c.args.literal in
+    let taken = taken_extended _ _ (sym c.if-not-is_taken.ensures) (ap (λ (m : Meaning). is_plain (meaning_of m)) c.in-CarriageReturn.is) in
+    IfErr-weaker c.read_line_end.result _ _ (λ f h. where_taken literal.extended (λ t. NoPiece t literal.quote c.args.text.now c.args.place) taken (h literal.quote)) c.read_line_end.ensures.none
