@@ -3,6 +3,7 @@ use Rattle.std.proofs.Common.{ℕ, ◌≡◌, ◌≤◌, ◌<◌, ◌+◌, ◌++
 use Rattle.jsonc_text.specs.declared.errors.ParseError.{ParseError}
 use Rattle.jsonc_scan.specs.declared.scanner.Scanner.{Scanner}
 use Rattle.jsonc_text.specs.Options.{Options}
+use Rattle.jsonc_text.specs.Faults.{IsFault}
 use Rattle.jsonc_text.specs.Gaps.{Gap, none}
 use Rattle.jsonc_text.specs.Grammar.{Separates, comma, no_comma, Closes, trailing_comma}
 use Rattle.jsonc_text.specs.Lexemes.{Scanned, lexeme, punctuation, IsScanned}
@@ -45,6 +46,10 @@ module _ {A : Type 0} where
 
   pub kept_on : (a b c : Context A) → Keeps a b → Keeps b c → Keeps a c
   kept_on a b c h k = record { text = k.text ∙ h.text; options = k.options ∙ h.options; tokens = k.tokens ∙ h.tokens; comments = k.comments ∙ h.comments; apart = k.apart ∙ h.apart }
+
+  -- a fault of the text, which stays the same
+  pub fault_before : (old new : Context A) (e : ParseError) → Keeps old new → IsFault (text_in new) e → IsFault (text_in old) e
+  fault_before old new e kept h = subst (λ b. IsFault b e) kept.text h
 
   pub passing_start : (c : Context A) → Passing c c
   passing_start c = record { kept = kept_same c; gap = nothing (text_in c) (Gap (options_in c)) (token_end c) c.scanner.at_place none; collects = collects_same c }

@@ -11,7 +11,7 @@ use Rattle.jsonc_ast.specs.to_ast.Faults.{StopsAtContainer, StopsAtItem}
 use Rattle.jsonc_ast.specs.declared.to_ast.container.Container.TheVariants.{Array, Object}
 use Rattle.jsonc_ast.proofs.lemmas.to_ast.MovedTokens.{is_bracket, is_brace, kept_self, collects_self, collects_given, reads_self, kept_given, colon_given, no_colon_given, stops_given}
 use Rattle.jsonc_ast.proofs.lemmas.to_ast.Following.{behind_in, first_follows, follows_in, next_follows, opened_reached, source_later, source_on}
-use Rattle.jsonc_ast.proofs.lemmas.to_ast.Scans.{kept_on}
+use Rattle.jsonc_ast.proofs.lemmas.to_ast.Scans.{fault_before, kept_on}
 use Rattle.jsonc_ast.proofs.lemmas.to_ast.Collecting.{ok_is, collects_turn}
 use Rattle.jsonc_ast.proofs.lemmas.to_ast.Loops.{AtHand, elements_start, elements_turn, elements_whole}
 use Rattle.jsonc_ast.proofs.lemmas.to_ast.Properties.{properties_start, properties_turn, properties_whole}
@@ -564,3 +564,114 @@ parse_property-property-requires g t c =
     let named = c.in_ok-found.ensures.held.named c.args.to.now _ n (c.in_ok-pass_colon.ensures.held.named c.args.to.now _ n c.in_ok-named.ensures.named.made) in
     let covers : Covers c.new-range.result n read.value = record { starts = c.new-range.ensures.start ∙ c.token_start-start.ensures ∙ ap (λ q. q.start) (sym c.in_ok-named.ensures.named.range); ends = c.new-range.ensures.end ∙ c.token_end.ensures ∙ sym read.reads.ends } in
     record { held = (s, c.args.to.now, c.scan.new.to, i, ms, n, read.value, held, named, read.made, covers) }
+
+pub parse_array-returns-in_err-next-clause-fault : goal.parse_array-returns-in_err-next-clause-fault
+parse_array-returns-in_err-next-clause-fault g t c =
+    err_of _ _ _ c.from_residual.ensures.1 c.in_err-next.ensures.fault
+
+pub parse_array-returns-in_err-parse_element-clause-fault : goal.parse_array-returns-in_err-parse_element-clause-fault
+parse_array-returns-in_err-parse_element-clause-fault g t c =
+    err_of _ _ _ c.from_residual-in_err-parse_element.ensures.1 (fault_before c.args.context.now c.loop-next.context _ c.loop-next.invariant.so_far.kept c.in_err-parse_element.ensures.fault)
+
+pub parse_array-returns-in_err-next-2-clause-fault : goal.parse_array-returns-in_err-next-2-clause-fault
+parse_array-returns-in_err-next-2-clause-fault g t c =
+    let kept = kept_on c.args.context.now c.loop-next.context c.parse_element.new.context c.loop-next.invariant.so_far.kept c.in_ok-parse_element.ensures.kept in
+    err_of _ _ _ c.from_residual-in_err-next-2.ensures.1 (fault_before c.args.context.now c.parse_element.new.context _ kept c.in_err-next-2.ensures.fault)
+
+pub parse_array-returns-clause-kept : goal.parse_array-returns-clause-kept
+parse_array-returns-clause-kept g t c =
+    c.loop-next.invariant.so_far.kept
+
+pub parse_array-returns-clause-collects : goal.parse_array-returns-clause-collects
+parse_array-returns-clause-collects g t c =
+    c.loop-next.invariant.collects
+
+pub parse_array-returns-clause-source : goal.parse_array-returns-clause-source
+parse_array-returns-clause-source g t c =
+    c.in-Ok-close_array.ensures.kept ∙ c.loop-next.invariant.same ∙ sym c.requires.source
+
+pub parse_array-returns-clause-reached : goal.parse_array-returns-clause-reached
+parse_array-returns-clause-reached g t c =
+    subst (g.R.Receiver.reached c.close_array.new.self) (c.new-range.ensures.end ∙ c.token_end.ensures) c.in-Ok-close_array.ensures.reached
+
+pub parse_object-returns-in_err-next-clause-fault : goal.parse_object-returns-in_err-next-clause-fault
+parse_object-returns-in_err-next-clause-fault g t c =
+    err_of _ _ _ c.from_residual.ensures.1 c.in_err-next.ensures.fault
+
+pub parse_object-returns-in_err-parse_property-clause-fault : goal.parse_object-returns-in_err-parse_property-clause-fault
+parse_object-returns-in_err-parse_property-clause-fault g t c =
+    err_of _ _ _ c.from_residual-in_err-parse_property.ensures.1 (fault_before c.args.context.now c.loop-next.context _ c.loop-next.invariant.so_far.kept c.in_err-parse_property.ensures.fault)
+
+pub parse_object-returns-in_err-next-2-clause-fault : goal.parse_object-returns-in_err-next-2-clause-fault
+parse_object-returns-in_err-next-2-clause-fault g t c =
+    let kept = kept_on c.args.context.now c.loop-next.context c.parse_property.new.context c.loop-next.invariant.so_far.kept c.in_ok-parse_property.ensures.kept in
+    err_of _ _ _ c.from_residual-in_err-next-2.ensures.1 (fault_before c.args.context.now c.parse_property.new.context _ kept c.in_err-next-2.ensures.fault)
+
+pub parse_object-returns-clause-kept : goal.parse_object-returns-clause-kept
+parse_object-returns-clause-kept g t c =
+    c.loop-next.invariant.so_far.kept
+
+pub parse_object-returns-clause-collects : goal.parse_object-returns-clause-collects
+parse_object-returns-clause-collects g t c =
+    c.loop-next.invariant.collects
+
+pub parse_object-returns-clause-source : goal.parse_object-returns-clause-source
+parse_object-returns-clause-source g t c =
+    c.in-Ok-close_object.ensures.kept ∙ c.loop-next.invariant.same ∙ sym c.requires.source
+
+pub parse_object-returns-clause-reached : goal.parse_object-returns-clause-reached
+parse_object-returns-clause-reached g t c =
+    subst (g.R.Receiver.reached c.close_object.new.self) (c.new-range.ensures.end ∙ c.token_end.ensures) c.in-Ok-close_object.ensures.reached
+
+pub parse_array-returns-then-holds_too_deep-clause-fault : goal.parse_array-returns-then-holds_too_deep-clause-fault
+parse_array-returns-then-holds_too_deep-clause-fault g t c =
+    fault_before c.args.context.now c.loop-next.context _ c.loop-next.invariant.so_far.kept c.nesting_fault-then-holds_too_deep.ensures.fault
+
+pub parse_property-returns-in_err-named-clause-fault : goal.parse_property-returns-in_err-named-clause-fault
+parse_property-returns-in_err-named-clause-fault g t c =
+    err_of _ _ _ c.from_residual.ensures.1 c.in_err-named.ensures.fault
+
+pub parse_property-returns-in_err-pass_colon-clause-fault : goal.parse_property-returns-in_err-pass_colon-clause-fault
+parse_property-returns-in_err-pass_colon-clause-fault g t c =
+    err_of _ _ _ c.from_residual-in_err-pass_colon.ensures.1 (fault_before c.args.context.now c.parse_name.new.context _ (kept_self c.args.context.now c.parse_name.new.context c.parse_name.ensures.gives) c.in_err-pass_colon.ensures.fault)
+
+pub parse_property-returns-in_err-found-clause-fault : goal.parse_property-returns-in_err-found-clause-fault
+parse_property-returns-in_err-found-clause-fault g t c =
+    let mid = kept_given c.args.context.now c.parse_name.new.context c.pass_colon.new.self c.parse_name.ensures.gives c.pass_colon.ensures.kept in
+    err_of _ _ _ c.from_residual-in_err-found.ensures.1 (fault_before c.args.context.now c.pass_colon.new.self _ mid c.in_err-found.ensures.fault)
+
+pub parse_property-returns-in_err-value-clause-fault : goal.parse_property-returns-in_err-value-clause-fault
+parse_property-returns-in_err-value-clause-fault g t c =
+    let mid = kept_given c.args.context.now c.parse_name.new.context c.pass_colon.new.self c.parse_name.ensures.gives c.pass_colon.ensures.kept in
+    let at = kept_on c.args.context.now c.pass_colon.new.self c.scan.new.self mid c.scan.ensures.kept in
+    err_of _ _ _ c.from_residual-in_err-value.ensures.1 (fault_before c.args.context.now c.scan.new.self _ at c.in_err-value.ensures.fault)
+
+pub parse_property-returns-then-holds_too_deep-clause-fault : goal.parse_property-returns-then-holds_too_deep-clause-fault
+parse_property-returns-then-holds_too_deep-clause-fault g t c =
+    let mid = kept_given c.args.context.now c.parse_name.new.context c.pass_colon.new.self c.parse_name.ensures.gives c.pass_colon.ensures.kept in
+    let at = kept_on c.args.context.now c.pass_colon.new.self c.scan.new.self mid c.scan.ensures.kept in
+    fault_before c.args.context.now c.scan.new.self _ at c.nesting_fault.ensures.fault
+
+pub parse_property-returns-in_default-clause-fault : goal.parse_property-returns-in_default-clause-fault
+parse_property-returns-in_default-clause-fault g t c =
+    let mid = kept_given c.args.context.now c.parse_name.new.context c.pass_colon.new.self c.parse_name.ensures.gives c.pass_colon.ensures.kept in
+    let at = kept_on c.args.context.now c.pass_colon.new.self c.scan.new.self mid c.scan.ensures.kept in
+    fault_before c.args.context.now c.scan.new.self _ at c.fault_here.ensures.fault
+
+pub parse_property-returns-clause-kept : goal.parse_property-returns-clause-kept
+parse_property-returns-clause-kept g t c =
+    let mid = kept_given c.args.context.now c.parse_name.new.context c.pass_colon.new.self c.parse_name.ensures.gives c.pass_colon.ensures.kept in
+    let at = kept_on c.args.context.now c.pass_colon.new.self c.scan.new.self mid c.scan.ensures.kept in
+    kept_on c.args.context.now c.scan.new.self c.parse_value.new.context at c.in_ok-value.ensures.kept
+
+pub parse_element-returns-in_err-value-in_default-clause-refused : goal.parse_element-returns-in_err-value-in_default-clause-refused
+parse_element-returns-in_err-value-in_default-clause-refused g t c =
+    err_of _ _ _ c.from_residual.ensures.1 c.in_err-value-in_default.ensures.refused
+
+pub parse_element-returns-in_err-value-in_default-clause-fault : goal.parse_element-returns-in_err-value-in_default-clause-fault
+parse_element-returns-in_err-value-in_default-clause-fault g t c =
+    err_of _ _ _ c.from_residual.ensures.1 c.in_err-value-in_default.ensures.fault
+
+pub parse_element-returns-in_err-value-in_default-clause-error : goal.parse_element-returns-in_err-value-in_default-clause-error
+parse_element-returns-in_err-value-in_default-clause-error g t c =
+    err_of _ _ _ c.from_residual.ensures.1 c.in_err-value-in_default.ensures.error

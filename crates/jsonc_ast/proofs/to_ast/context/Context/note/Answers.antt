@@ -1,4 +1,4 @@
-use Rattle.std.proofs.Common.{◌≡◌, sym, ◌∙◌, ◌++◌, ◌∷◌, [], ap, subst, IfSome}
+use Rattle.std.proofs.Common.{◌≡◌, sym, ◌∙◌, ◌++◌, ◌∷◌, [], ap, subst, is_some, IfSome}
 use Rattle.jsonc_ast.specs.to_ast.Comments.{HasPassed, placed_from}
 use Rattle.jsonc_ast.specs.to_ast.Context.{last}
 use Rattle.jsonc_ast.specs.to_ast.Collected.{last_placed}
@@ -14,3 +14,19 @@ returns-clause-noted g c = λ comment ts h.
     let same : last self c.args.comment ≡ held = seen_held self.scanner self.content c.args.comment (comment_kept self.scanner self.content c.args.comment comment) in
     subst (λ p. HasPassed (ts ++ p ∷ []) c.pass_comment.new.self) (c.in-Some.ensures.some ∙ ap (placed_from held) c.range.ensures ∙ ap (λ w. last_placed self w) (sym same))
     (c.in-Ok.ensures ts (subst (λ f. IfSome f (HasPassed ts)) c.in-Some-comments.is h))
+
+pub invariant_of-self : goal.invariant_of-self
+invariant_of-self g c =
+    let self = c.args.self.now in
+    record { same = self.same; utf8 = self.utf8; by_place = self.by_place }
+
+pub invariant_of-self-2 : goal.invariant_of-self-2
+invariant_of-self-2 g c =
+    let self = c.args.self.now in
+    record { same = self.same; utf8 = self.utf8; by_place = self.by_place }
+
+pub returns-in_default-pass_comment-clause-apart : goal.returns-in_default-pass_comment-clause-apart
+returns-in_default-pass_comment-clause-apart g c = ap is_some (sym c.in-Some-comments.is)
+
+pub returns-clause-apart : goal.returns-clause-apart
+returns-clause-apart g c = ap is_some (sym c.in-Some-comments.is)
