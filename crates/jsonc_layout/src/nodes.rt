@@ -24,6 +24,7 @@ pub use siblings::{
     LineBefore, child_at_index, children_from, line_before, next_sibling, next_siblings,
     previous_sibling, previous_siblings, root_node,
 };
+pub(crate) use within::first_element_back;
 pub use within::{
     children, element_at, element_index, elements, next_element, previous_element, push_children,
 };

@@ -47,9 +47,12 @@ pub fn line_length<A: Allocator>(tree: &Tree<A>, row: &[usize]) -> usize
     ensures place { result ≡ position_or_len (is_newline_at tree.now.nodes) row.now }
     ensures within { result ≤ length row.now }
 {
-    row.iter()
-        .take_while(|node| !is_newline(tree, **node))
-        .count()
+    for (place, node) in row.iter().enumerate() {
+        if is_newline(tree, *node) {
+            return place;
+        }
+    }
+    row.len()
 }
 
 /// How many nodes at the front of a row are whitespace or ends of lines.
@@ -57,7 +60,12 @@ pub fn blanks<A: Allocator>(tree: &Tree<A>, row: &[usize]) -> usize
     ensures count { result ≡ length (take_while (is_blank_at tree.now.nodes) row.now) }
     ensures within { result ≤ length row.now }
 {
-    row.iter().take_while(|node| is_blank(tree, **node)).count()
+    for (place, node) in row.iter().enumerate() {
+        if !is_blank(tree, *node) {
+            return place;
+        }
+    }
+    row.len()
 }
 
 /// The same at its end.
@@ -65,10 +73,14 @@ pub fn last_blanks<A: Allocator>(tree: &Tree<A>, row: &[usize]) -> usize
     ensures count { result ≡ length (take_while (is_blank_at tree.now.nodes) (reverse row.now)) }
     ensures within { result ≤ length row.now }
 {
-    row.iter()
-        .rev()
-        .take_while(|node| is_blank(tree, **node))
-        .count()
+    let mut end = row.len();
+    while end > 0 {
+        if !is_blank(tree, row[end - 1]) {
+            return row.len() - end;
+        }
+        end -= 1;
+    }
+    row.len()
 }
 
 /// How many nodes at the front of a row are whitespace.
@@ -77,9 +89,12 @@ pub fn spaces<A: Allocator>(tree: &Tree<A>, row: &[usize]) -> usize
     ensures prefix { result ≡ prefix_len (is_whitespace_at tree.now.nodes) row.now }
     ensures within { result ≤ length row.now }
 {
-    row.iter()
-        .take_while(|node| is_whitespace(tree, **node))
-        .count()
+    for (place, node) in row.iter().enumerate() {
+        if !is_whitespace(tree, *node) {
+            return place;
+        }
+    }
+    row.len()
 }
 
 /// The same at its end.
@@ -88,8 +103,12 @@ pub fn last_spaces<A: Allocator>(tree: &Tree<A>, row: &[usize]) -> usize
     ensures suffix { result ≡ suffix_len (is_whitespace_at tree.now.nodes) row.now }
     ensures within { result ≤ length row.now }
 {
-    row.iter()
-        .rev()
-        .take_while(|node| is_whitespace(tree, **node))
-        .count()
+    let mut end = row.len();
+    while end > 0 {
+        if !is_whitespace(tree, row[end - 1]) {
+            return row.len() - end;
+        }
+        end -= 1;
+    }
+    row.len()
 }

@@ -1,3 +1,4 @@
 pub mod SiblingSteps
 pub mod Levels
 pub mod NodesAbove
+pub mod Told

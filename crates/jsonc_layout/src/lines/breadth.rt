@@ -9,7 +9,7 @@ ghost use Rattle.jsonc_layout.specs.lines.Breadth.{stays_in, uses_trailing_comma
 use crate::lines::kinds::is_array_or_object;
 use crate::lines::siblings::trailing_comma;
 use crate::nodes::{
-    children_from, is_element, is_newline, is_whitespace, push_children, root_node,
+    children_from, first_element_back, is_newline, is_whitespace, push_children, root_node,
 };
 use jsonc_tree::{CstNewlineKind, Kind, Tree};
 use std::alloc::{AllocError, Allocator};
@@ -35,8 +35,7 @@ pub fn last_child_element<A: Allocator>(tree: &Tree<A>, node: usize) -> Option<u
     ensures last { result ≡ last_element tree.now.nodes (children_at tree.now.nodes node) }
     ensures in_tree { IfSome result (λ m. m < length tree.now.nodes) }
 {
-    tree.children_reversed(node)
-        .find(|child| is_element(tree, *child))
+    first_element_back(tree, tree.children_reversed(node))
 }
 
 // Whether a node is an array or object with whitespace and an element.

@@ -40,10 +40,16 @@ fn comments_after<A: Allocator, B: Allocator>(
     ensures comments { IfOk result (λ v. v.items ≡ comments_after tree.now.nodes node) }
     ensures in_tree { IfOk result (λ v. AreThere tree.now.nodes v.items) }
 {
-    next_siblings(tree, node)
-        .take_while(|sibling| is_inline_trivia(tree, *sibling))
-        .filter(|sibling| is_comment(tree, *sibling))
-        .collect(alloc)
+    let mut comments = Vec::new(alloc);
+    for sibling in next_siblings(tree, node) {
+        if !is_inline_trivia(tree, sibling) {
+            return Ok(comments);
+        }
+        if is_comment(tree, sibling) {
+            comments.push(sibling)?;
+        }
+    }
+    Ok(comments)
 }
 
 /// The comments directly before a node on its line, nearest first.
@@ -56,10 +62,16 @@ pub fn leading_comments_same_line<A: Allocator, B: Allocator>(
     ensures comments { IfOk result (λ v. v.items ≡ leading_comments tree.now.nodes node) }
     ensures in_tree { IfOk result (λ v. AreThere tree.now.nodes v.items) }
 {
-    previous_siblings(tree, node)
-        .take_while(|sibling| is_inline_trivia(tree, *sibling))
-        .filter(|sibling| is_comment(tree, *sibling))
-        .collect(alloc)
+    let mut comments = Vec::new(alloc);
+    for sibling in previous_siblings(tree, node) {
+        if !is_inline_trivia(tree, sibling) {
+            return Ok(comments);
+        }
+        if is_comment(tree, sibling) {
+            comments.push(sibling)?;
+        }
+    }
+    Ok(comments)
 }
 
 /// The comments after a node on its line, if nothing but whitespace and comments stands between the

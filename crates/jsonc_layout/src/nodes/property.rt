@@ -6,8 +6,9 @@ ghost use Rattle.jsonc_layout.specs.nodes.Properties.{lacks_name_at, name_at, va
 ghost use Rattle.jsonc_layout.specs.nodes.Siblings.{AreThere, IsThere};
 ghost use Rattle.jsonc_tree.specs.Content.{property};
 
-use crate::nodes::kinds::{is_colon, is_element, is_name};
+use crate::nodes::kinds::{is_colon, is_name};
 use crate::nodes::siblings::children_from;
+use crate::nodes::within::first_element;
 use jsonc_tree::{Children, Kind, Tree};
 use std::alloc::Allocator;
 
@@ -17,7 +18,7 @@ pub fn first_element_from<A: Allocator>(tree: &Tree<A>, node: usize, place: usiz
     ensures element { result ≡ element_from tree.now.nodes node place }
     ensures in_tree { IsThere tree.now.nodes result }
 {
-    children_from(tree, node, place).find(|child| is_element(tree, *child))
+    first_element(tree, children_from(tree, node, place))
 }
 
 /// The name of a property: the first string or word among its children.
@@ -65,7 +66,7 @@ fn after_colon<A: Allocator>(tree: &Tree<A>, node: usize) -> Option<usize>
     ensures element { result ≡ value_by property tree.now.nodes node }
     ensures in_tree { IsThere tree.now.nodes result }
 {
-    behind_colon(tree, node).find(|child| is_element(tree, *child))
+    first_element(tree, behind_colon(tree, node))
 }
 
 /// The value of the root, which is its first element, or of a property: the first element behind a

@@ -89,9 +89,14 @@ fn count_on_line<A: Allocator>(tree: &Tree<A>, node: usize) -> usize
     requires { node < length tree.now.nodes }
     ensures { result ≡ length (line_before tree.now.nodes node) }
 {
-    previous_siblings(tree, node)
-        .take_while(|sibling| !is_newline(tree, *sibling))
-        .count()
+    let mut count = 0;
+    for sibling in previous_siblings(tree, node) {
+        if is_newline(tree, sibling) {
+            return count;
+        }
+        count += 1;
+    }
+    count
 }
 
 // The line's end nearest before a node.

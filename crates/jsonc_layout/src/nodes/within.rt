@@ -1,14 +1,15 @@
 //! The elements of a container: its children but trivia and tokens.
 
-ghost use Rattle.std.specs.Prelude.{◌≡◌, ◌<◌, ◌++◌, length, IfOk, OnOk};
-ghost use Rattle.std.specs.List.{slice_get};
+ghost use Rattle.std.specs.Prelude.{◌≡◌, ◌<◌, ◌++◌, filter, length, IfOk, OnOk};
+ghost use Rattle.std.specs.List.{find, slice_get};
 ghost use Rattle.jsonc_tree.specs.Tree.{children_at};
+ghost use Rattle.jsonc_layout.specs.nodes.Kinds.{is_element_at};
 ghost use Rattle.jsonc_layout.specs.nodes.Siblings.{AreThere, IsThere, element_index_at, elements_at};
-ghost use Rattle.jsonc_layout.specs.nodes.Siblings.{next_element_at, previous_element_at};
+ghost use Rattle.jsonc_layout.specs.nodes.Siblings.{next_element_at, previous_element_at, siblings_before};
 
 use crate::nodes::kinds::is_element;
-use crate::nodes::siblings::{children_from, next_siblings, previous_siblings};
-use jsonc_tree::Tree;
+use crate::nodes::siblings::{next_siblings, previous_siblings};
+use jsonc_tree::{Children, PreviousSiblings, Tree};
 use std::alloc::{AllocError, Allocator};
 
 /// Adds the children of a node to a list, in order.
@@ -66,9 +67,31 @@ pub fn element_at<A: Allocator>(tree: &Tree<A>, node: usize, place: usize) -> Op
     ensures element { result ≡ slice_get (elements_at tree.now.nodes node) place }
     ensures in_tree { IsThere tree.now.nodes result }
 {
-    children_from(tree, node, 0)
-        .filter(|candidate| is_element(tree, *candidate))
-        .nth(place)
+    let mut left = place;
+    for candidate in tree.children(node) {
+        if !is_element(tree, candidate) {
+            continue;
+        }
+        if left == 0 {
+            return Some(candidate);
+        }
+        left -= 1;
+    }
+    None
+}
+
+// How many elements stand before a node among its siblings.
+fn elements_before<A: Allocator>(tree: &Tree<A>, node: usize) -> usize
+    requires { node < length tree.now.nodes }
+    ensures { result ≡ length (filter (is_element_at tree.now.nodes) (siblings_before tree.now.nodes node)) }
+{
+    let mut count = 0;
+    for sibling in previous_siblings(tree, node) {
+        if is_element(tree, sibling) {
+            count += 1;
+        }
+    }
+    count
 }
 
 /// How many elements of its parent stand before a node, or none where it has no parent.
@@ -78,12 +101,37 @@ pub fn element_index<A: Allocator>(tree: &Tree<A>, node: usize) -> Option<usize>
     requires { node < length tree.now.nodes }
     ensures index { result ≡ element_index_at tree.now.nodes node }
 {
-    tree.parent(node)?;
-    Some(
-        previous_siblings(tree, node)
-            .filter(|sibling| is_element(tree, *sibling))
-            .count(),
-    )
+    match tree.parent(node) {
+        Some(_) => Some(elements_before(tree, node)),
+        None => None,
+    }
+}
+
+// The first element of a row.
+pub(crate) fn first_element<A: Allocator>(tree: &Tree<A>, row: Children<'_, A>) -> Option<usize>
+    ensures { result ≡ find (is_element_at tree.now.nodes) row.entry }
+{
+    for node in row {
+        if is_element(tree, node) {
+            return Some(node);
+        }
+    }
+    None
+}
+
+// The same of a row that is read backward.
+pub(crate) fn first_element_back<A: Allocator>(
+    tree: &Tree<A>,
+    row: PreviousSiblings<'_, A>,
+) -> Option<usize>
+    ensures { result ≡ find (is_element_at tree.now.nodes) row.entry }
+{
+    for node in row {
+        if is_element(tree, node) {
+            return Some(node);
+        }
+    }
+    None
 }
 
 /// The nearest element after a node, among its siblings.
@@ -92,7 +140,7 @@ pub fn next_element<A: Allocator>(tree: &Tree<A>, node: usize) -> Option<usize>
     ensures element { result ≡ next_element_at tree.now.nodes node }
     ensures in_tree { IsThere tree.now.nodes result }
 {
-    next_siblings(tree, node).find(|sibling| is_element(tree, *sibling))
+    first_element(tree, next_siblings(tree, node))
 }
 
 /// The nearest element before a node, among its siblings.
@@ -101,5 +149,5 @@ pub fn previous_element<A: Allocator>(tree: &Tree<A>, node: usize) -> Option<usi
     ensures element { result ≡ previous_element_at tree.now.nodes node }
     ensures in_tree { IsThere tree.now.nodes result }
 {
-    previous_siblings(tree, node).find(|sibling| is_element(tree, *sibling))
+    first_element_back(tree, previous_siblings(tree, node))
 }

@@ -4,9 +4,10 @@ use denote.Param.Weighed.{most, at_most}
 use Rattle.std.proofs.lemmas.List.{map_push, take_more, take_all}
 use Rattle.std.specs.declared.string.String.{String}
 use Rattle.std.specs.declared.vec.Vec.{Vec}
-use Rattle.jsonc_text.specs.Plain.{object, number, member}
-use Rattle.jsonc_layout.specs.input.Views.{plain, members_plain, named, chars_of}
+use Rattle.jsonc_text.specs.Plain.{array, object, number, member, string}
+use Rattle.jsonc_layout.specs.input.Views.{plain, items_plain, members_plain, named, chars_of}
 use Rattle.jsonc_layout.specs.declared.input.value.CstInputValue.{CstInputValue, Object, Number, the_lemmas}
+use Rattle.jsonc_layout.specs.declared.input.value.CstInputValue as value
 
 module _ {A : Type 0} where
   pub plain-Object : (ps : Vec (String A × CstInputValue A) A) → plain (Object ps) ≡ object (members_plain ps.items)
@@ -14,6 +15,12 @@ module _ {A : Type 0} where
 
   pub plain-Number : (s : String A) → plain (Number s) ≡ number (chars_of s)
   plain-Number s = search (rules, the_lemmas)
+
+  pub plain-String : (s : String A) → plain (value.String s) ≡ string (chars_of s)
+  plain-String s = search (rules, the_lemmas)
+
+  pub plain-Array : (vs : Vec (CstInputValue A) A) → plain (value.Array vs) ≡ array (items_plain vs.items)
+  plain-Array vs = search (rules, the_lemmas)
 
   -- properties of the same names and values are the same
   pub same_members : (ps qs : List (String A × CstInputValue A)) → map named ps ≡ map named qs → members_plain ps ≡ members_plain qs

@@ -1,17 +1,18 @@
 use Rattle.std.proofs.Common.{◌∙◌, ap, sym, subst, refl, chars, arith}
-use Rattle.jsonc_text.specs.Plain.{array, object}
+use Rattle.jsonc_text.specs.Plain.{array, number, object, string}
 use Rattle.jsonc_tree.specs.OrderedTree.{none}
 use Rattle.jsonc_tree.specs.Building.{Builds}
 use Rattle.jsonc_tree.specs.Stored.{content_of}
 use Rattle.jsonc_tree.specs.Content as content
+use Rattle.jsonc_tree.proofs.Builder.{Keeps-same}
 use Rattle.jsonc_layout.specs.input.Views.{plain, items_plain, members_plain}
 use Rattle.jsonc_layout.specs.from_input.Layout.{layout_of}
 use Rattle.jsonc_layout.specs.from_input.Extending.{Extends, IsUnfinished}
 use Rattle.jsonc_layout.specs.from_input.Laid.{laid, laid_items, laid_members, laid_property, leaf_then, node_then, on_lines, closed}
-use Rattle.jsonc_layout.proofs.lemmas.from_input.Extending.{on_ok, begun_same, built_on, can_append, extends_appends, extends_none, extends_same, extends_then, keeps_both, keeps_old}
+use Rattle.jsonc_layout.proofs.lemmas.from_input.Extending.{on_ok, begun_same, built_on, can_append, extends_appends, extends_none, extends_same, extends_then, keeps_apart, keeps_attached, keeps_both, keeps_old}
 use Rattle.jsonc_layout.proofs.lemmas.from_input.Leaves.{leaf_built, built_as}
-use Rattle.jsonc_layout.proofs.lemmas.from_input.Rows.{lines_at, line_at, properties_at, lines_none, line_none, properties_past, line_written, among_written, written_start, written_end, pair_laid, elements_then, properties_then, elements_spread, properties_spread, properties_none}
-use Rattle.jsonc_layout.proofs.lemmas.from_input.ValueLevels.{plain-Array, plain-Object, plain-Null, plain-Bool, length_none, length_some, part_smaller}
+use Rattle.jsonc_layout.proofs.lemmas.from_input.Rows.{lines_at, line_at, properties_at, lines_none, line_none, properties_past, line_written, among_written, written_start, written_end, pair_laid, elements_then, properties_then, elements_flat, elements_spread, properties_spread, properties_none}
+use Rattle.jsonc_layout.proofs.lemmas.from_input.ValueLevels.{plain-Array, plain-Object, plain-Null, plain-Bool, plain-Number, plain-String, length_none, length_some, part_smaller}
 use Rattle.jsonc_layout.proofs.from_input.values.+lay_out.Goals as goal
 
 pub lay_out-returns-in-Null-clause-built : goal.lay_out-returns-in-Null-clause-built
@@ -188,3 +189,66 @@ lay_out_object-returns-in_err-push_properties-clause-kept g t c = keeps_old c.in
 
 pub lay_out_object-returns-in_err-push_leaf-clause-kept : goal.lay_out_object-returns-in_err-push_leaf-clause-kept
 lay_out_object-returns-in_err-push_leaf-clause-kept g t c = keeps_old c.in_ok-object.ensures.built (keeps_both c.in_ok-push_properties.ensures.kept c.in_err-push_leaf.ensures.kept)
+
+pub lay_out-returns-in-Number-clause-built : goal.lay_out-returns-in-Number-clause-built
+lay_out-returns-in-Number-clause-built g t c =
+    built_as _ _ (layout_of c.args.layout.now) c.add_number.result
+    (ap (λ s. number (chars s)) c.as_str.ensures.value ∙ sym (ap plain c.in-Number.is ∙ plain-Number c.in-Number.text)) c.add_number.ensures.built
+
+pub lay_out-returns-in-String-clause-built : goal.lay_out-returns-in-String-clause-built
+lay_out-returns-in-String-clause-built g t c =
+    built_as _ _ (layout_of c.args.layout.now) c.add_string.result
+    (ap (λ s. string (chars s)) c.as_str-in-String.ensures.value ∙ sym (ap plain c.in-String.is ∙ plain-String c.in-String.text)) c.add_string.ensures.built
+
+pub lay_out_array-returns-in_err-push_elements-clause-kept : goal.lay_out_array-returns-in_err-push_elements-clause-kept
+lay_out_array-returns-in_err-push_elements-clause-kept g t c = keeps_old c.in_ok-array.ensures.built c.in_err-push_elements.ensures.kept
+
+pub lay_out_property-returns-in_err-push_spaced-clause-kept : goal.lay_out_property-returns-in_err-push_spaced-clause-kept
+lay_out_property-returns-in_err-push_spaced-clause-kept g t c = keeps_old c.in_ok-property.ensures.built c.in_err-push_spaced.ensures.kept
+
+pub lay_out_property-returns-in_err-push_value-clause-kept : goal.lay_out_property-returns-in_err-push_value-clause-kept
+lay_out_property-returns-in_err-push_value-clause-kept g t c = keeps_old c.in_ok-property.ensures.built (keeps_both c.in_ok-push_spaced.ensures.kept c.in_err-push_value.ensures.kept)
+
+pub lay_out_property-returns-clause-kept : goal.lay_out_property-returns-clause-kept
+lay_out_property-returns-clause-kept g t c = keeps_old c.in_ok-property.ensures.built (keeps_both c.in_ok-push_spaced.ensures.kept c.in_ok-push_value.ensures.kept)
+
+pub push_value-returns-clause-kept : goal.push_value-returns-clause-kept
+push_value-returns-clause-kept g t c = keeps_attached c.attach.result c.requires c.in_ok-node.ensures.built c.attach.ensures.appends c.attach.ensures.err
+
+pub push_value-returns-in_err-node-clause-kept : goal.push_value-returns-in_err-node-clause-kept
+push_value-returns-in_err-node-clause-kept g t c = keeps_apart c.requires c.in_err-node.ensures.kept
+
+pub push_property-returns-clause-kept : goal.push_property-returns-clause-kept
+push_property-returns-clause-kept g t c =
+    let unfinished : IsUnfinished c.args.tree.now.nodes c.args.object = assumption c.requires in
+    keeps_attached c.attach.result unfinished c.in_ok-node.ensures.built c.attach.ensures.appends c.attach.ensures.err
+
+pub push_property-returns-in_err-node-clause-kept : goal.push_property-returns-in_err-node-clause-kept
+push_property-returns-in_err-node-clause-kept g t c =
+    let unfinished : IsUnfinished c.args.tree.now.nodes c.args.object = assumption c.requires in
+    keeps_apart unfinished c.in_err-node.ensures.kept
+
+pub push_elements-returns-then-not-holds_filled-clause-added : goal.push_elements-returns-then-not-holds_filled-clause-added
+push_elements-returns-then-not-holds_filled-clause-added g t c =
+    let layout = layout_of c.args.layout.now in
+    let old = c.args.tree.now.nodes in
+    on_ok c.push_elements_on_one_line.result
+    (λ line. subst (Extends old c.push_elements_on_one_line.new.tree.nodes c.args.array) (elements_flat layout (items_plain c.args.elements.now) (sym c.holds_filled.ensures ∙ c.if-not-holds_filled.true)) line)
+    c.push_elements_on_one_line.ensures.added
+
+pub push_elements-returns-in_err-deeper-clause-kept : goal.push_elements-returns-in_err-deeper-clause-kept
+push_elements-returns-in_err-deeper-clause-kept g t c = Keeps-same c.args.array c.args.tree.now.nodes
+
+pub push_properties-returns-in_err-deeper-clause-kept : goal.push_properties-returns-in_err-deeper-clause-kept
+push_properties-returns-in_err-deeper-clause-kept g t c = Keeps-same c.args.object c.args.tree.now.nodes
+
+pub push_properties-returns-then-is_empty-clause-kept : goal.push_properties-returns-then-is_empty-clause-kept
+push_properties-returns-then-is_empty-clause-kept g t c = Keeps-same c.args.object c.args.tree.now.nodes
+
+pub push_elements_on_lines-push_value-requires : goal.push_elements_on_lines-push_value-requires
+push_elements_on_lines-push_value-requires g t c κs within =
+    (part_smaller _ c.args.elements.now c.loop-place.place c.index-elements-place.result _ t _ _ c.decreases c.loop-place-test.true c.index-elements-place.is (omega arith), (within, c.in_ok-begin_line.ensures.added.unfinished))
+
+pub push_elements_on_one_line-push_value-requires : goal.push_elements_on_one_line-push_value-requires
+push_elements_on_one_line-push_value-requires g t c κs within =
+    (part_smaller _ c.args.elements.now c.loop-place.place c.index-elements-place.result _ t _ _ c.decreases c.loop-place-test.true c.index-elements-place.is (omega arith), (within, c.loop-place.invariant.extends.unfinished))

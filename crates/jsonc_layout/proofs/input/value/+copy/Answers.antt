@@ -1,7 +1,7 @@
 use Rattle.std.proofs.Common.{arith, chars, ◌∙◌, sym, ap, map}
-use Rattle.jsonc_text.specs.Plain.{object}
-use Rattle.jsonc_layout.specs.input.Views.{plain, named}
-use Rattle.jsonc_layout.proofs.lemmas.input.ValueLevels.{plain-Object, same_members, part_smaller, one_copied, all_copied}
+use Rattle.jsonc_text.specs.Plain.{array, number, object, string}
+use Rattle.jsonc_layout.specs.input.Views.{plain, named, items_of}
+use Rattle.jsonc_layout.proofs.lemmas.input.ValueLevels.{plain-Array, plain-Number, plain-Object, plain-String, same_members, part_smaller, one_copied, all_copied}
 use Rattle.jsonc_layout.proofs.input.value.+copy.Goals as goal
 
 pub CstInputValue::try_clone-returns-in_ok-copy_properties-in-Object :
@@ -30,3 +30,27 @@ copies::copy_properties-loop-property-preserved g t c =
 
 pub copies::copy_properties-returns : goal.copies::copy_properties-returns
 copies::copy_properties-returns g t c = all_copied named c.args.properties.now c.loop-property.copies.items c.loop-property.property-index c.loop-property.invariant c.loop-property-test.false
+
+pub CstInputValue::try_clone-returns-in-Null : goal.CstInputValue::try_clone-returns-in-Null
+CstInputValue::try_clone-returns-in-Null g t c = ap plain (sym c.in-Null.is)
+
+pub CstInputValue::try_clone-returns-in-Bool : goal.CstInputValue::try_clone-returns-in-Bool
+CstInputValue::try_clone-returns-in-Bool g t c = ap plain (sym c.in-Bool.is)
+
+pub CstInputValue::try_clone-returns-in_ok-clone-in-Number : goal.CstInputValue::try_clone-returns-in_ok-clone-in-Number
+CstInputValue::try_clone-returns-in_ok-clone-in-Number g t c = plain-Number c.in_ok-clone-in-Number.field-0 ∙ ap (λ s. number (chars s)) c.in_ok-clone-in-Number.ensures.cases ∙ sym (plain-Number c.in-Number.text) ∙ ap plain (sym c.in-Number.is)
+
+pub CstInputValue::try_clone-returns-in_ok-clone-in-String : goal.CstInputValue::try_clone-returns-in_ok-clone-in-String
+CstInputValue::try_clone-returns-in_ok-clone-in-String g t c = plain-String c.in_ok-clone-in-String.field-0 ∙ ap (λ s. string (chars s)) c.in_ok-clone-in-String.ensures.cases ∙ sym (plain-String c.in-String.text) ∙ ap plain (sym c.in-String.is)
+
+pub CstInputValue::try_clone-returns-in_ok-copy_elements-in-Array : goal.CstInputValue::try_clone-returns-in_ok-copy_elements-in-Array
+CstInputValue::try_clone-returns-in_ok-copy_elements-in-Array g t c =
+    let same = c.in_ok-copy_elements-in-Array.ensures ∙ ap (map plain) c.as_slice.ensures.value in
+    plain-Array c.in_ok-copy_elements-in-Array.field-0 ∙ ap (λ vs. array (items_of vs)) same ∙ sym (plain-Array c.in-Array.elements) ∙ ap plain (sym c.in-Array.is)
+
+pub copies::copy_elements-try_clone-requires : goal.copies::copy_elements-try_clone-requires
+copies::copy_elements-try_clone-requires g t c κs within =
+    (part_smaller _ _ c.loop-element.element-index c.element-item.result _ t c.decreases c.loop-element-test.true c.element-item.is (omega arith), within)
+
+pub copies::copy_elements-returns : goal.copies::copy_elements-returns
+copies::copy_elements-returns g t c = all_copied plain c.args.elements.now c.loop-element.copies.items c.loop-element.element-index c.loop-element.invariant c.loop-element-test.false
