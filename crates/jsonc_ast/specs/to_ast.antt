@@ -13,4 +13,5 @@ pub mod Laws
 pub mod Written
 pub mod Ranges
 pub mod Handed
+pub mod Walked
 pub mod Trees

@@ -15,6 +15,7 @@ ghost use Rattle.jsonc_ast.specs.to_ast.Handed.{source_of, ElementMade, Follows,
 ghost use Rattle.jsonc_ast.specs.to_ast.Reached.{least, per_property};
 ghost use Rattle.jsonc_ast.specs.to_ast.Refusals.{NoLiteral, NoName, NoPropertyHere, NoValueHere, OutOfMemoryOr, Refuses};
 ghost use Rattle.jsonc_ast.specs.to_ast.Scanned.{leaf_value};
+ghost use Rattle.jsonc_ast.specs.to_ast.Walked.{IsRead, IsRefused};
 ghost use Rattle.jsonc_ast.specs.to_ast.Written.{IsLentHere, IsWritten};
 
 use crate::ast::{ObjectPropName, StringLit};
@@ -242,14 +243,10 @@ fn parse_value<'a, A: Allocator + Copy, R: Receiver<String<A>>>(
     requires lent { IsLentHere context.old (Some token) }
     requires source { R.source to.old ≡ source_of context.old }
     requires follows { Follows (R.source to.old) (R.reached to.old) (token_start context.old) }
-    ensures source { OnOk result (R.source to.new ≡ R.source to.old) }
-    ensures reached { OnOk result (R.reached to.new (token_end context.new)) }
-    ensures kept { OnOk result (Keeps context.old context.new) }
-    ensures collects { OnOk result (Collects context.old context.new) }
-    ensures found { IfOk result (λ i. ReadsMade context.old context.new R.whole count (R.makes to.old to.new i)) }
-    ensures refused { IfErr result (OutOfMemoryOr (NoValueHere context.old R.whole count)) }
-    ensures fault { IfErr result (IsFault (text_in context.old)) }
-    ensures error { IfErr result (StopsAtValue context.old (last context.old token) R.whole count) }
+    ensures read { IfOk result (λ i. IsRead context.old context.new (R.source to.old) (R.source to.new) (R.reached to.new)
+        (ReadsMade context.old context.new R.whole count (R.makes to.old to.new i))) }
+    ensures refused { IfErr result (IsRefused context.old (NoValueHere context.old R.whole count)
+        (StopsAtValue context.old (last context.old token) R.whole count)) }
 {
     // The results of the two calls are taken apart, so that those of literals can stay in registers.
     match token {
@@ -282,16 +279,11 @@ fn parse_element<'a, A: Allocator + Copy, R: Receiver<String<A>>>(
     requires lent { IsLentHere context.old (Some token) }
     requires source { R.source to.old ≡ source_of context.old }
     requires follows { Follows (R.source to.old) (R.reached to.old) (token_start context.old) }
-    ensures source { OnOk result (R.source to.new ≡ R.source to.old) }
-    ensures reached { OnOk result (R.reached to.new (token_end context.new)) }
-    ensures kept { OnOk result (Keeps context.old context.new) }
-    ensures collects { OnOk result (Collects context.old context.new) }
-    ensures found { OnOk result
+    ensures read { OnOk result (IsRead context.old context.new (R.source to.old) (R.source to.new) (R.reached to.new)
         ((s : R) (i : ℕ) → ElementMade context.old context.new R.whole count (R.holds_elements s to.old elements.old i)
-        (R.holds_elements s to.new elements.new i)) }
-    ensures refused { IfErr result (OutOfMemoryOr (NoValueHere context.old R.whole count)) }
-    ensures fault { IfErr result (IsFault (text_in context.old)) }
-    ensures error { IfErr result (StopsAtValue context.old (last context.old token) R.whole count) }
+        (R.holds_elements s to.new elements.new i))) }
+    ensures refused { IfErr result (IsRefused context.old (NoValueHere context.old R.whole count)
+        (StopsAtValue context.old (last context.old token) R.whole count)) }
 {
     match token {
         TokenKind::String => {
@@ -337,14 +329,10 @@ fn parse_array<'a, A: Allocator + Copy, R: Receiver<String<A>>>(
     requires around { count ≤ 512 }
     requires source { R.source to.old ≡ source_of context.old }
     requires follows { Follows (R.source to.old) (R.reached to.old) (token_start context.old) }
-    ensures source { OnOk result (R.source to.new ≡ R.source to.old) }
-    ensures reached { OnOk result (R.reached to.new (token_end context.new)) }
-    ensures kept { OnOk result (Keeps context.old context.new) }
-    ensures collects { OnOk result (Collects context.old context.new) }
-    ensures found { IfOk result (λ i. ReadsMade context.old context.new R.whole count (R.makes to.old to.new i)) }
-    ensures refused { IfErr result (OutOfMemoryOr (NoValueHere context.old R.whole count)) }
-    ensures fault { IfErr result (IsFault (text_in context.old)) }
-    ensures error { IfErr result (StopsAtContainer context.old R.whole count) }
+    ensures read { IfOk result (λ i. IsRead context.old context.new (R.source to.old) (R.source to.new) (R.reached to.new)
+        (ReadsMade context.old context.new R.whole count (R.makes to.old to.new i))) }
+    ensures refused { IfErr result (IsRefused context.old (NoValueHere context.old R.whole count)
+        (StopsAtContainer context.old R.whole count)) }
 {
     let start = context.scanner.token_start();
     if opens_too_deep(to, count) {
@@ -381,14 +369,10 @@ fn parse_object<'a, A: Allocator + Copy, R: Receiver<String<A>>>(
     requires around { count ≤ 512 }
     requires source { R.source to.old ≡ source_of context.old }
     requires follows { Follows (R.source to.old) (R.reached to.old) (token_start context.old) }
-    ensures source { OnOk result (R.source to.new ≡ R.source to.old) }
-    ensures reached { OnOk result (R.reached to.new (token_end context.new)) }
-    ensures kept { OnOk result (Keeps context.old context.new) }
-    ensures collects { OnOk result (Collects context.old context.new) }
-    ensures found { IfOk result (λ i. ReadsMade context.old context.new R.whole count (R.makes to.old to.new i)) }
-    ensures refused { IfErr result (OutOfMemoryOr (NoValueHere context.old R.whole count)) }
-    ensures fault { IfErr result (IsFault (text_in context.old)) }
-    ensures error { IfErr result (StopsAtContainer context.old R.whole count) }
+    ensures read { IfOk result (λ i. IsRead context.old context.new (R.source to.old) (R.source to.new) (R.reached to.new)
+        (ReadsMade context.old context.new R.whole count (R.makes to.old to.new i))) }
+    ensures refused { IfErr result (IsRefused context.old (NoValueHere context.old R.whole count)
+        (StopsAtContainer context.old R.whole count)) }
 {
     let start = context.scanner.token_start();
     if opens_too_deep(to, count) {
@@ -426,16 +410,11 @@ fn parse_property<'a, A: Allocator + Copy, R: Receiver<String<A>>>(
     requires lent { IsLentHere context.old (Some token) }
     requires source { R.source to.old ≡ source_of context.old }
     requires follows { Follows (R.source to.old) (R.reached to.old) (token_start context.old) }
-    ensures source { OnOk result (R.source to.new ≡ R.source to.old) }
-    ensures reached { OnOk result (R.reached to.new (token_end context.new)) }
-    ensures kept { OnOk result (Keeps context.old context.new) }
-    ensures collects { OnOk result (Collects context.old context.new) }
-    ensures found { OnOk result
+    ensures read { OnOk result (IsRead context.old context.new (R.source to.old) (R.source to.new) (R.reached to.new)
         ((s : R) (i : ℕ) → PropertyMade context.old context.new R.whole count (R.holds_properties s to.old properties.old i)
-        (R.holds_properties s to.new properties.new i)) }
-    ensures refused { IfErr result (OutOfMemoryOr (NoPropertyHere context.old R.whole count)) }
-    ensures fault { IfErr result (IsFault (text_in context.old)) }
-    ensures error { IfErr result (StopsAtItem Object context.old (last context.old token) R.whole count) }
+        (R.holds_properties s to.new properties.new i))) }
+    ensures refused { IfErr result (IsRefused context.old (NoPropertyHere context.old R.whole count)
+        (StopsAtItem Object context.old (last context.old token) R.whole count)) }
 {
     let start = context.scanner.token_start();
     let named = parse_name(context, to, token)?;

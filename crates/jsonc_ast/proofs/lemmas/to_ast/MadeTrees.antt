@@ -1,16 +1,26 @@
 -- Syntax trees that a receiver makes, one item more at a time.
-use Rattle.std.proofs.Common.{◌≡◌, ◌≤◌, ◌∙◌, ◌++◌, ◌∷◌, [], sym, ap, subst, true, IfSome, List, Option, None, Some, map, option_map}
+use Rattle.std.proofs.Common.{ℕ, ◌+◌, ◌-◌, ◌≡◌, ◌≤◌, ◌∙◌, ◌++◌, ◌∷◌, [], sym, ap, subst, true, IfSome, List, Option, None, Some, map, option_map, chars, slice_range, refl, rules}
+use denote.Bor.{Bor}
+use Rattle.std.specs.declared.borrow.CowStr.TheVariants.{Borrowed}
+use Rattle.std.specs.Cow.{cow_str_bytes}
+use Rattle.jsonc_text.specs.Lexemes.{Lexeme}
+use Rattle.jsonc_text.specs.Lexemes.{string as lexeme_kind}
+use Rattle.jsonc_text.specs.Plain.{string}
+use Rattle.jsonc_text.specs.string.Escapes.{IsLentUnescaped}
 use Rattle.std.proofs.lemmas.List.{map_push}
-use Rattle.std.proofs.lemmas.List.Elements.{All-cons}
+use Rattle.std.proofs.lemmas.List.Elements.{All-cons, All-nil}
 use Rattle.jsonc_text.specs.declared.common.Range.{Range}
 use Rattle.jsonc_ast.specs.declared.ast.ObjectProp.{ObjectProp}
 use Rattle.jsonc_ast.specs.declared.ast.ObjectPropName.{ObjectPropName}
-use Rattle.jsonc_ast.specs.declared.ast.Value.{Value}
+use Rattle.jsonc_ast.specs.declared.ast.ObjectPropName.TheVariants.{String}
+use Rattle.jsonc_ast.specs.declared.ast.StringLit.{StringLit}
+use Rattle.jsonc_ast.specs.declared.ast.Value.{Value, the_lemmas}
+use Rattle.jsonc_ast.specs.declared.ast.Value as value
 use Rattle.jsonc_ast.specs.declared.to_ast.values.TreeMaker.{TreeMaker}
-use Rattle.jsonc_ast.specs.Located.{Located, LocatedName, IsLocatedDocument, array_at, object_at, value_at}
+use Rattle.jsonc_ast.specs.Located.{In, Located, LocatedName, IsLocatedDocument, leaf_at, array_at, object_at, value_at}
 use Rattle.jsonc_ast.specs.Spelled.{spelled, spelled_in_property, spelled_in_elements, spelled_in_properties}
 use Rattle.jsonc_ast.specs.Views.{LocatedMember, located, member_of, name_at, items_of, members_of, items_located, members_located}
-use Rattle.jsonc_ast.specs.to_ast.Handed.{Source, IsDocumentMade, MadeBetweenGaps}
+use Rattle.jsonc_ast.specs.to_ast.Handed.{Source, HasPlainString, chars_between, IsDocumentMade, MadeBetweenGaps}
 use Rattle.jsonc_ast.specs.to_ast.Reached.{size}
 use Rattle.jsonc_ast.specs.to_ast.Trees.{source_in, AreProperties, AreTrees, IsName, IsTree, SameOpen}
 use Rattle.jsonc_ast.specs.to_ast.Written.{AreWritten, IsWritten}
@@ -76,3 +86,24 @@ module _ {A : Type 0} where
   pub tree_within : (old new : TreeMaker A) (s : Source) (found : Option (Value A)) → DocumentTree old new s found → IfSome found (λ v. size true (value_at (located v)) ≤ 512)
   tree_within old new s None h = tt
   tree_within old new s (Some v) (x, document, small, (m, n, before, made, after)) = subst (λ y. size true (value_at y) ≤ 512) (sym made.located) small
+
+  spelled_string : (q : StringLit A) → spelled (value.StringLit q) ≡ String q ∷ []
+  spelled_string q = search (rules, the_lemmas)
+
+  located_string : (q : StringLit A) → located (value.StringLit q) ≡ leaf_at q.range (string (chars (cow_str_bytes q.value)))
+  located_string q = search (rules, the_lemmas)
+
+  -- a string that has no backslash, lent by the text
+  pub plain_string_made : (old : TreeMaker A) (r : Range) (b : Bor (List ℕ)) → HasPlainString (source_in old) r → b.now ≡ slice_range old.text.now (r.start + 1) (r.end - 1)
+      → IsTree old old (value.StringLit (record { range = r; value = Borrowed b })) (leaf_at r (string (chars_between (source_in old) (r.start + 1) (r.end - 1))))
+  plain_string_made old r b h e =
+      let s = source_in old in
+      let q : StringLit A = record { range = r; value = Borrowed b } in
+      let stands : In s.bytes (Lexeme s.options (lexeme_kind (chars b.now))) r = subst (λ w. In s.bytes (Lexeme s.options (lexeme_kind (chars w))) r) (sym e) h.stands in
+      let lent : IsLentUnescaped {A = A} s.bytes r.start r.end (Borrowed b) = record { copied = ((λ x. absurd x), λ x. absurd (h.plain x)); slice = λ x. e } in
+      record {
+        same = refl;
+        stacks = (refl, refl);
+        located = located_string q ∙ ap (λ w. leaf_at r (string (chars w))) e;
+        written = subst (AreWritten s.options s.bytes) (sym (spelled_string q)) (All-cons (IsWritten s.options s.bytes) (String q) [] (stands, lent) (All-nil (IsWritten s.options s.bytes)));
+      }

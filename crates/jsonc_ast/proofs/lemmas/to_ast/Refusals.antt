@@ -1,5 +1,5 @@
 -- What a parser that refuses has seen.
-use Rattle.std.proofs.Common.{ℕ, ◌<◌, ◌≡◌, ◌≢◌, ◌∙◌, sym, ap, subst, refl, arith, Bool, true, false, not, ◌||◌, ◌==◌, List, [], ◌∷◌, length, Option, Some, None, Result, Ok, Err, IfOk, IfErr, IfSome, IsTrue, IsUtf8, IsCharBoundary, ◌⊎◌, inl, inr}
+use Rattle.std.proofs.Common.{ℕ, ◌<◌, ◌≡◌, ◌≢◌, ◌∙◌, sym, ap, subst, refl, arith, Bool, true, false, not, ◌||◌, ◌==◌, List, [], ◌∷◌, length, Option, Some, None, Result, Ok, Err, IfOk, IfErr, IfSome, OnOk, IsTrue, IsUtf8, IsCharBoundary, ◌⊎◌, inl, inr}
 use Rattle.std.proofs.lemmas.Str.{IsUtf8-from_is_utf8}
 use Rattle.jsonc_text.specs.declared.errors.ParseError.{ParseError}
 use Rattle.jsonc_text.specs.declared.errors.ParseErrorKind.{ParseErrorKind}
@@ -217,6 +217,15 @@ ok_of (Err e) f h = tt
 pub err_some : {X E : Type 0} {P Q : E → Type 0} (r : Result X E) → ((e : E) → P e → Q e) → IfErr r P → IfErr r Q
 err_some (Ok x) f h = tt
 err_some (Err e) f h = f e h
+
+-- what is said of a result, taken together
+pub ok_all : {X E F G : Type 0} {P Q : X → Type 0} (r : Result X E) → OnOk r F → OnOk r G → IfOk r P → ((x : X) → F → G → P x → Q x) → IfOk r Q
+ok_all (Ok x) f g p h = h x f g p
+ok_all (Err e) f g p h = tt
+
+pub err_all : {X E : Type 0} {P Q S T : E → Type 0} (r : Result X E) → IfErr r P → IfErr r Q → IfErr r S → ((e : E) → P e → Q e → S e → T e) → IfErr r T
+err_all (Ok x) p q s h = tt
+err_all (Err e) p q s h = h e p q s
 
 -- what a test has refuted
 pub refuted : {b : Bool} {X : Type 0} → (X → IsTrue b) → b ≡ false → X → ⊥

@@ -1,10 +1,10 @@
 -- A walk among the items of a container. Nothing here knows a receiver: what is held of the items so far is any family.
 use Rattle.jsonc_text.specs.Lexemes.{Scanned}
-use Rattle.std.proofs.Common.{ℕ, Bool, true, false, ◌+◌, ◌≤◌, ◌<◌, ◌≡◌, ◌∙◌, sym, ap, subst, arith, refl, inl, inr, List, [], Option, Some, None, IfSome}
+use Rattle.std.proofs.Common.{ℕ, Bool, true, false, ◌+◌, ◌-◌, ◌≤◌, ◌<◌, ◌≡◌, ◌∙◌, sym, ap, subst, arith, refl, inl, inr, List, [], Option, Some, None, IfSome, length}
 use Rattle.jsonc_text.specs.declared.common.Range.{Range}
 use Rattle.jsonc_text.specs.declared.errors.ParseError.{ParseError}
 use Rattle.jsonc_text.specs.declared.errors.ParseErrorKind.TheVariants.{NestingDepthExceeded}
-use Rattle.jsonc_text.specs.Faults.{kind_of, range_of}
+use Rattle.jsonc_text.specs.Faults.{kind_of, range_of, IsFault, IsOutOfMemory}
 use Rattle.jsonc_text.specs.Gaps.{Gap}
 use Rattle.jsonc_text.specs.Grammar.{IsName}
 use Rattle.jsonc_text.specs.Text.{rest, Spans}
@@ -19,9 +19,10 @@ use Rattle.jsonc_ast.specs.to_ast.Context.{text_in, options_in, token_start, tok
 use Rattle.jsonc_ast.specs.to_ast.Faults.{IsFrom, StopsAtContainer, StopsAtItem, StopsAtValue}
 use Rattle.jsonc_ast.specs.to_ast.Handed.{Source, source_of, IsUnexpectedHere}
 use Rattle.jsonc_ast.specs.to_ast.Containers.{opening}
-use Rattle.jsonc_ast.specs.to_ast.Refusals.{here, NoPropertyHere, NoValueHere}
+use Rattle.jsonc_ast.specs.to_ast.Refusals.{here, NoPropertyHere, NoValueHere, IsAllocationFailure}
 use Rattle.jsonc_ast.specs.to_ast.Reached.{count, per_property, least}
 use Rattle.jsonc_ast.specs.to_ast.Reads.{Reads, ReadsMember}
+use Rattle.jsonc_ast.specs.to_ast.Walked.{IsRefused}
 use Rattle.jsonc_ast.specs.to_ast.Written.{IsLentHere}
 use Rattle.jsonc_ast.proofs.lemmas.to_ast.Following.{ItemFollows}
 use Rattle.jsonc_ast.proofs.lemmas.to_ast.Loops.{Elements, start_spans}
@@ -70,6 +71,16 @@ module _ {A : Type 0} where
   pub from_spans : (old now : Context A) (start : ℕ) (from : Option ℕ) → IfSome from (λ i. i ≡ start) → start ≡ token_start old → Keeps old now → token_end old ≤ token_end now → IfSome from (λ i. Spans (text_in now) i (token_end now))
   from_spans old now start None is first kept on = tt
   from_spans old now start (Some i) is first kept on = start_spans old now i (is ∙ first) kept on
+
+  -- allocation failed, which is told alike wherever
+  pub no_memory : {X : Type 0} {tells : ParseError → Type 0} (old now : Context A) (e : ParseError) → Keeps old now → IsFault (text_in now) e → IsOutOfMemory e → (IsAllocationFailure e → tells e) → IsRefused old X tells e
+  no_memory old now e kept fault memory tell = record { refused = inl memory.kind; fault = subst (λ b. IsFault b e) kept.text fault; error = tell memory.kind }
+
+  -- behind an item less of the text is left
+  pub less_left : (now mid new : Context A) (t : Scanned) → IsToken now t → Keeps now mid → token_end now ≤ token_end mid → Keeps mid new → token_end mid ≤ token_start new → length (text_in new) - token_start new < length (text_in now) - token_start now
+  less_left now mid new t here kept on kept_on later =
+      let same = ap length (kept_on.text ∙ kept.text) in
+      omega (arith, same, here.0, on, later, new.scanner.starts_at_place.0)
 
   pub from_here : (old : Context A) (start : ℕ) (from : Option ℕ) → IfSome from (λ i. i ≡ start) → start ≡ token_start old → IsFrom (text_in old) from (here old)
   from_here old start None is first = tt

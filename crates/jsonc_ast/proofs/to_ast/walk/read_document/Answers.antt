@@ -28,10 +28,10 @@ returns-clause-found g c =
     let now = c.scan.new.self in
     let mid = c.parse_value.new.context in
     let end = c.scan-2.new.self in
-    let read = c.in_ok-value.ensures.found in (
+    let read = c.in_ok-value.ensures.read.found in (
       read.value,
       value_document old now mid end (found_in now c.in_ok-token.field-0) (found_in end c.in_ok-scan.field-0) read.value c.requires.start
-          c.scan.ensures.kept c.in_ok-token.ensures.found c.in_ok-value.ensures.kept read.reads c.scan-2.ensures.kept c.in_ok-scan.ensures.found (ap (found_in end) c.in-None.is),
+          c.scan.ensures.kept c.in_ok-token.ensures.found c.in_ok-value.ensures.read.kept read.reads c.scan-2.ensures.kept c.in_ok-scan.ensures.found (ap (found_in end) c.in-None.is),
       omega (arith, read.within),
       (c.scan.new.to, c.parse_value.new.to, c.in_ok-token.ensures.passes, read.made, c.in_ok-scan.ensures.passes),
     )
@@ -39,7 +39,7 @@ returns-clause-found g c =
 pub returns-clause-kept : goal.returns-clause-kept
 returns-clause-kept g c =
     let mid = c.parse_value.new.context in
-    kept_on c.args.context.now c.scan.new.self c.scan-2.new.self c.scan.ensures.kept (kept_on c.scan.new.self mid c.scan-2.new.self c.in_ok-value.ensures.kept c.scan-2.ensures.kept)
+    kept_on c.args.context.now c.scan.new.self c.scan-2.new.self c.scan.ensures.kept (kept_on c.scan.new.self mid c.scan-2.new.self c.in_ok-value.ensures.read.kept c.scan-2.ensures.kept)
 
 pub returns-in_err-token-clause-refused : goal.returns-in_err-token-clause-refused
 returns-in_err-token-clause-refused g c =
@@ -55,14 +55,14 @@ returns-in_err-value-clause-refused g c =
     let read = c.in_ok-token.ensures in
     let e = c.in_err-value.field-0.0 in
     err_of (Refuses (options_in old) g.R.Receiver.whole (text_in old)) e c.from_residual-in_err-value.result c.from_residual-in_err-value.ensures.1
-    (still (λ n. document_from_start g.R.Receiver.whole old _ _ c.requires.start refl refl (document_no_value g.R.Receiver.whole old now (found_in c.scan.new.self c.in_ok-token.field-0) c.scan.ensures.kept read.found read.lexeme (last c.scan.new.self c.in-Some.token) (ap (found_in c.scan.new.self) c.in-Some.is) n)) c.in_err-value.ensures.refused)
+    (still (λ n. document_from_start g.R.Receiver.whole old _ _ c.requires.start refl refl (document_no_value g.R.Receiver.whole old now (found_in c.scan.new.self c.in_ok-token.field-0) c.scan.ensures.kept read.found read.lexeme (last c.scan.new.self c.in-Some.token) (ap (found_in c.scan.new.self) c.in-Some.is) n)) c.in_err-value.ensures.refused.refused)
 
 pub returns-in_err-scan-clause-refused : goal.returns-in_err-scan-clause-refused
 returns-in_err-scan-clause-refused g c =
     let old = c.args.context.now in
     let now = c.scan.new.self in
     let read = c.in_ok-token.ensures in
-    let value = c.in_ok-value.ensures in
+    let value = c.in_ok-value.ensures.read in
     let e = c.in_err-scan.field-0.0 in
     err_of (Refuses (options_in old) g.R.Receiver.whole (text_in old)) e c.from_residual-in_err-scan.result c.from_residual-in_err-scan.ensures.1
     (still
@@ -72,7 +72,7 @@ pub returns-in_default-2-clause-refused : goal.returns-in_default-2-clause-refus
 returns-in_default-2-clause-refused g c =
     let old = c.args.context.now in
     let read = c.in_ok-token.ensures in
-    let value = c.in_ok-value.ensures in
+    let value = c.in_ok-value.ensures.read in
     let over = c.in_ok-scan.ensures in
     inr (document_from_start g.R.Receiver.whole old _ _ c.requires.start refl refl
     (document_goes_on g.R.Receiver.whole old c.scan.new.self (found_in c.scan.new.self c.in_ok-token.field-0) c.scan.ensures.kept read.found read.lexeme (last c.scan.new.self c.in-Some.token) (ap (found_in c.scan.new.self) c.in-Some.is) c.parse_value.new.context value.found.value value.kept value.found.reads
@@ -92,13 +92,13 @@ returns-in_err-value-clause-error g c =
     let e = c.in_err-value.field-0.0 in
     err_of (ParseFault (options_in old) (text_in old) g.R.Receiver.whole) e c.from_residual-in_err-value.result c.from_residual-in_err-value.ensures.1
     (text_stops g.R.Receiver.whole old _ _ e refl refl c.requires.start
-    (root_stops g.R.Receiver.whole old c.scan.new.self (found_in c.scan.new.self c.in_ok-token.field-0) c.scan.ensures.kept read.found read.lexeme (last c.scan.new.self c.in-Some.token) (ap (found_in c.scan.new.self) c.in-Some.is) e (root_counts g.R.Receiver.whole) c.in_err-value.ensures.error))
+    (root_stops g.R.Receiver.whole old c.scan.new.self (found_in c.scan.new.self c.in_ok-token.field-0) c.scan.ensures.kept read.found read.lexeme (last c.scan.new.self c.in-Some.token) (ap (found_in c.scan.new.self) c.in-Some.is) e (root_counts g.R.Receiver.whole) c.in_err-value.ensures.refused.error))
 
 pub returns-in_err-scan-clause-error : goal.returns-in_err-scan-clause-error
 returns-in_err-scan-clause-error g c =
     let old = c.args.context.now in
     let read = c.in_ok-token.ensures in
-    let value = c.in_ok-value.ensures in
+    let value = c.in_ok-value.ensures.read in
     let e = c.in_err-scan.field-0.0 in
     let x = value.found.value in
     let mid = c.parse_value.new.context in
@@ -110,7 +110,7 @@ pub returns-in_default-2-clause-error : goal.returns-in_default-2-clause-error
 returns-in_default-2-clause-error g c =
     let old = c.args.context.now in
     let read = c.in_ok-token.ensures in
-    let value = c.in_ok-value.ensures in
+    let value = c.in_ok-value.ensures.read in
     let over = c.in_ok-scan.ensures in
     let x = value.found.value in
     let mid = c.parse_value.new.context in
@@ -124,18 +124,18 @@ returns-in_err-token-clause-fault g c = err_of (IsFault (text_in c.args.context.
 pub returns-in_err-value-clause-fault : goal.returns-in_err-value-clause-fault
 returns-in_err-value-clause-fault g c =
     let e = c.in_err-value.field-0.0 in
-    err_of (IsFault (text_in c.args.context.now)) e c.from_residual-in_err-value.result c.from_residual-in_err-value.ensures.1 (subst (λ b. IsFault b e) c.scan.ensures.kept.text c.in_err-value.ensures.fault)
+    err_of (IsFault (text_in c.args.context.now)) e c.from_residual-in_err-value.result c.from_residual-in_err-value.ensures.1 (subst (λ b. IsFault b e) c.scan.ensures.kept.text c.in_err-value.ensures.refused.fault)
 
 pub returns-in_err-scan-clause-fault : goal.returns-in_err-scan-clause-fault
 returns-in_err-scan-clause-fault g c =
     let e = c.in_err-scan.field-0.0 in
     err_of (IsFault (text_in c.args.context.now)) e c.from_residual-in_err-scan.result c.from_residual-in_err-scan.ensures.1
-    (subst (λ b. IsFault b e) (c.in_ok-value.ensures.kept.text ∙ c.scan.ensures.kept.text) c.in_err-scan.ensures.fault)
+    (subst (λ b. IsFault b e) (c.in_ok-value.ensures.read.kept.text ∙ c.scan.ensures.kept.text) c.in_err-scan.ensures.fault)
 
 pub returns-in_default-2-clause-fault : goal.returns-in_default-2-clause-fault
 returns-in_default-2-clause-fault g c =
     let e = c.fault_here.result in
-    subst (λ b. IsFault b e) (c.scan-2.ensures.kept.text ∙ c.in_ok-value.ensures.kept.text ∙ c.scan.ensures.kept.text) c.fault_here.ensures.fault
+    subst (λ b. IsFault b e) (c.scan-2.ensures.kept.text ∙ c.in_ok-value.ensures.read.kept.text ∙ c.scan.ensures.kept.text) c.fault_here.ensures.fault
 
 pub returns-in_default-clause-end : goal.returns-in_default-clause-end
 returns-in_default-clause-end g c = subst (IsThere c.scan.new.self.scanner) (ap (found_in c.scan.new.self) c.in_default.is) c.in_ok-token.ensures.found.1
@@ -146,7 +146,7 @@ returns-clause-end g c = subst (IsThere c.scan-2.new.self.scanner) (ap (found_in
 pub returns-clause-collects : goal.returns-clause-collects
 returns-clause-collects g c =
     let read = c.in_ok-token.ensures in
-    let value = c.in_ok-value.ensures in
+    let value = c.in_ok-value.ensures.read in
     collects_turn c.args.context.now c.scan.new.self c.parse_value.new.context c.scan-2.new.self read.kept read.collects value.kept value.collects c.in_ok-scan.ensures.collects
 
 pub scan-requires-clause-behind : goal.scan-requires-clause-behind
@@ -163,10 +163,10 @@ scan-requires-2-clause-source g c =
     let old = c.args.context.now in
     let now = c.scan.new.self in
     let mid = c.parse_value.new.context in
-    source_on old mid _ (kept_on old now mid c.scan.ensures.kept c.in_ok-value.ensures.kept) (c.in_ok-value.ensures.source ∙ c.in_ok-token.ensures.source ∙ c.requires.source)
+    source_on old mid _ (kept_on old now mid c.scan.ensures.kept c.in_ok-value.ensures.read.kept) (c.in_ok-value.ensures.read.source ∙ c.in_ok-token.ensures.source ∙ c.requires.source)
 
 pub scan-requires-2-clause-behind : goal.scan-requires-2-clause-behind
-scan-requires-2-clause-behind g c = at_place c.in_ok-value.ensures.reached
+scan-requires-2-clause-behind g c = at_place c.in_ok-value.ensures.read.reached
 
 -- at the end of the text a token is where it begins
 pub returns-in_default-clause-reached : goal.returns-in_default-clause-reached
