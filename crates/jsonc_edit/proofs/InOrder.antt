@@ -1,5 +1,5 @@
 -- The nodes of a document in order: its leaves, and what stands before and behind a node, or a row, of it.
-use Rattle.std.proofs.Common.{◌≡◌, ◌≢◌, ℕ, zero, suc, ◌+◌, ◌<◌, ◌≤◌, Bool, true, false, cond, List, [], ◌∷◌, ◌++◌, length, filter, get_or, take, drop, slice_index, slice_range, Option, Some, None, IfSome, inl, inr, refl, sym, ap, subst, ◌∙◌, arith, length-append, length-take, length-drop, get_or-take, get_or-drop}
+use Rattle.std.proofs.Common.{◌≡◌, ◌≢◌, ℕ, zero, suc, ◌+◌, ◌<◌, ◌≤◌, Bool, List, [], ◌∷◌, ◌++◌, length, filter, get_or, take, drop, slice_range, Option, Some, None, IfSome, inl, inr, refl, sym, ap, subst, ◌∙◌, arith, length-append, length-take, length-drop, get_or-take, get_or-drop}
 use Rattle.std.proofs.lemmas.Bool.{cases_lt}
 use Rattle.std.proofs.lemmas.List.{append-nil, append_assoc, take-append-drop, drop_more}
 use Rattle.std.proofs.lemmas.List.Concat.{flat_map-append}
@@ -99,7 +99,7 @@ module _ (old new : List Node) (tree : IsTree old) (after : IsTree new) (c i j :
   below_kept : (d m : ℕ) → (IsOver old m c → ⊥) → below d new m ≡ below d old m
   below_kept zero m out = refl
   below_kept (suc d) m out =
-      let same : children_at new m ≡ children_at old m = (s.others m (λ e. out (subst (λ k. IsOver old k c) (sym e) itself))).0 in
+      let same : children_at new m ≡ children_at old m = (s.others m (λ e. out (subst (λ k. IsOver old k c) (sym e) itself))) in
       ap (λ l. m ∷ flat_map (below d new) l) same
       ∙ ap (λ l. m ∷ l) (flat_map_same (below d new) (below d old) (children_at old m) (λ k h.
       below_kept d (get_or (children_at old m) k 0) (λ over. out (over_up old (get_or (children_at old m) k 0) m c (tree.named m k h) over))))
@@ -129,7 +129,7 @@ module _ (old new : List Node) (tree : IsTree old) (after : IsTree new) (c i j :
       let rest : List ℕ = drop (k + 1) kids in
       let split : kids ≡ ahead ++ p ∷ rest = sym (take-append-drop k kids) ∙ ap (λ l. ahead ++ l) (drop_more kids k 0 low) ∙ ap (λ m. ahead ++ m ∷ rest) (tree.found p q said) in
       let apart : q ≢ c = λ e. not_over_parent old tree p q said (subst (IsOver old p) (sym e) down) in
-      let same : children_at new q ≡ kids = (s.others q apart).0 in
+      let same : children_at new q ≡ kids = (s.others q apart) in
       let there : q < length old = (parent_there old tree p q said).1 in
       let kept_ahead : flat_map (in_order new) ahead ≡ flat_map (in_order old) ahead =
       flat_map_same (in_order new) (in_order old) ahead (λ m h.

@@ -111,7 +111,7 @@ module _ (old new : List Node) (n space : ℕ) (tree : IsTree old) (r : StandsBe
 
   -- and its children, but the container's, among which the space stands before n
   pub children_kept : (k : ℕ) → k ≢ c → children_at new k ≡ children_at old k
-  children_kept k ne = (r.put.others k ne).0
+  children_kept k ne = (r.put.others k ne)
 
   pub container_row : children_at new c ≡ take place row ++ space ∷ drop place row
   container_row = r.put.children

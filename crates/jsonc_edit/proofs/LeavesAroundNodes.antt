@@ -153,7 +153,7 @@ module _ (old new : List Node) (x leaf : ℕ) (tree : IsTree old) (r : StandsBef
   inn = place_within old new x leaf tree r
 
   changed : ChangedIn old new c
-  changed = record { tree = tree; content = λ n ne. r.put.content n; children = λ n ne. (r.put.others n ne).0 }
+  changed = record { tree = tree; content = λ n ne. r.put.content n; children = λ n ne. (r.put.others n ne) }
 
   child_stays : (k p : ℕ) → parent_at old k ≡ Some p → parent_at new k ≡ Some p
   child_stays k p said = parent_kept old new x leaf tree r k (λ e. none_some (sym r.was.alone ∙ ap (parent_at old) (sym e) ∙ said)) ∙ said
@@ -170,7 +170,7 @@ module _ (old new : List Node) (x leaf : ℕ) (tree : IsTree old) (r : StandsBef
   shows_space : (xs : List ℕ) (t : OrderedTree) → Shows new xs t → Shows new (leaf ∷ xs) (space_then t)
   shows_space xs t shows =
       let ne : leaf ≢ c = λ e. omega (arith, inn, ap length (sym (ap (children_at old) e) ∙ space_bare old new x leaf tree r)) in
-      let kids : children_at new leaf ≡ [] = (r.put.others leaf ne).0 ∙ space_bare old new x leaf tree r in
+      let kids : children_at new leaf ≡ [] = (r.put.others leaf ne) ∙ space_bare old new x leaf tree r in
       subst (λ (w : Content). Shows new (leaf ∷ xs) (more w none t)) (contents_kept old new x leaf tree r leaf ∙ r.was.is)
       (shows_more (subst (λ (l : List ℕ). Shows new l none) (sym kids) shows_none) shows)
 

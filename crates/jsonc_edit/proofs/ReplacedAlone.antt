@@ -353,7 +353,7 @@ module _ (o : Options) (old new : List Node) (path : List ℕ) (n m : ℕ) (tree
         let rest : Shows new (h ∷ drop (k + 1) members) (more (content_at new h) (row_below new h) behind) = shows_more {after = behind} (Shows-row_below new r.after h h_there) behind_kept in
         let whole : Shows new (take k members ++ h ∷ drop (k + 1) members) (row_around before (top_at new h) behind) =
         Shows-append new (take k members) (h ∷ drop (k + 1) members) before (more (content_at new h) (row_below new h) behind) before_kept rest in
-        let here : Shows new (children_at new p) (row_around before (top_at new h) behind) = subst (λ (l : List ℕ). Shows new l (row_around before (top_at new h) behind)) (sym ((r.spliced.others p p_apart).0 ∙ members_are)) whole in
+        let here : Shows new (children_at new p) (row_around before (top_at new h) behind) = subst (λ (l : List ℕ). Shows new l (row_around before (top_at new h) behind)) (sym ((r.spliced.others p p_apart) ∙ members_are)) whole in
         Shows-unique new (children_at new p) (row_below new p) (row_around before (top_at new h) behind) (Shows-row_below new r.after p (omega (arith, p_there, r.spliced.len))) here
 
     object_value : ValueAlone o (content_at old p) (row_below old p)

@@ -116,7 +116,7 @@ in_place old new n m now t =
       changed = λ path at. subst (λ (w : Top). DocumentChanged (top_at old n) w path (ordered_tree old 0) (ordered_tree new 0)) t.is (replaced_at_path old new n m r path at);
       put = joined_top old new n m r ∙ t.is;
       contents = λ k. r.spliced.content k;
-      children = λ k ne. (r.spliced.others k (λ e. ne (r.parent ∙ ap Some (sym e)))).0;
+      children = λ k ne. (r.spliced.others k (λ e. ne (r.parent ∙ ap Some (sym e))));
       row = λ k e.
           let same : k ≡ r.container = Some_same k r.container (sym e ∙ r.parent) in
           ap (children_at new) same ∙ r.spliced.children ∙ ap (λ z. splice (children_at old z) (place_at old n) (place_at old n + 1) (m ∷ [])) (sym same);

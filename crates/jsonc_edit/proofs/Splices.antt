@@ -1,5 +1,5 @@
 -- What a change of one node makes of a document.
-use Rattle.std.proofs.Common.{◌≡◌, ◌≢◌, ℕ, ◌+◌, ◌<◌, List, [], ◌∷◌, length, slice_index, Some, refl, sym, ap, subst, ◌∙◌, arith}
+use Rattle.std.proofs.Common.{◌≡◌, ◌≢◌, ℕ, ◌+◌, ◌<◌, List, [], ◌∷◌, length, slice_index, Some, sym, ap, subst, ◌∙◌, arith}
 use Rattle.std.specs.List.{splice}
 use Rattle.jsonc_tree.specs.Content.{Content}
 use Rattle.jsonc_tree.specs.Tree.{Node, content_at, parent_at, children_at, place_at, IsTree, IsOver}
@@ -22,7 +22,7 @@ pub spliced_in : (old new : List Node) (c i j : ℕ) (xs : List ℕ) → IsTree 
 spliced_in old new c i j xs tree spliced = record {
   tree = tree;
   content = λ n ne. spliced.content n;
-  children = λ n ne. (spliced.others n ne).0;
+  children = λ n ne. (spliced.others n ne);
 }
 
 module _ (old new : List Node) (n m : ℕ) (r : Replaces old new n m) where

@@ -1,9 +1,9 @@
 -- What leaves a row with one of its elements, and where spaces come in its place.
-use Rattle.std.specs.Prelude.{◌≡◌, ℕ, ◌+◌, true, List, ◌++◌}
+use Rattle.std.specs.Prelude.{◌≡◌, ℕ, ◌+◌, true, not, List, ◌++◌, IsTrue}
 use Rattle.jsonc_tree.specs.Content.{Content}
 use Rattle.jsonc_tree.specs.OrderedTree.{OrderedTree, leaves, followed_by, Top}
 use Rattle.jsonc_sound.specs.Shape.{token_then}
-use Rattle.jsonc_sound.specs.Leaving.{AreInlineTrivia, ClosesUp, IsRestOfLine, LeavesBehind, among, element_count}
+use Rattle.jsonc_sound.specs.Leaving.{AreInlineTrivia, ClosesUp, IsRestOfLine, LeavesBehind, among, comma_comes, element_count, has_no_comma}
 use Rattle.jsonc_sound.specs.Rows.{RowKind, container_of}
 use Rattle.jsonc_sound.specs.Adjacent.{last_printed}
 use Rattle.jsonc_sound.specs.Spaces.{first_printed, is_bare_leaf, space_then}
@@ -20,15 +20,17 @@ pub data SpaceFirst (ahead : List Content) : OrderedTree → OrderedTree → Typ
       → SpaceFirst ahead (followed_by quiet rest) (followed_by quiet (space_then rest))
 
 -- The second row is the first without its element of this number, `top`, and what goes with it (`ElementLeaves`), but that where the comma before it stood a
--- space has come, or none, and so where the element stood.
+-- space has come, or none, and so where the element stood. The comma is the one behind the element, or where none comes there the nearest before it, if one is.
 pub data RemovedWithSeams (top : Top) : ℕ → OrderedTree → OrderedTree → Type 0 where
   comma_behind : (front back given : OrderedTree) (before between line : List Content) → AreInlineTrivia before → LeavesBehind between line → SpaceFirst (leaves front) back given
       → RemovedWithSeams top (element_count front) (followed_by front (among before top between (token_then 0x2C (leaves_then line back)))) (followed_by front given)
-  comma_before : (front mid back given_mid given : OrderedTree) (before line : List Content) → AreInlineTrivia before → IsRestOfLine line → SpaceFirst (leaves front) mid given_mid
+  comma_before : (front mid back given_mid given : OrderedTree) (before line : List Content) → AreInlineTrivia before → IsRestOfLine line → IsTrue (has_no_comma mid)
+      → IsTrue (not (comma_comes back)) → SpaceFirst (leaves front) mid given_mid
       → SpaceFirst (leaves front ++ leaves given_mid) back given
       → RemovedWithSeams top (element_count front + element_count mid) (followed_by front (token_then 0x2C (followed_by mid (among before top line back))))
       (followed_by front (followed_by given_mid given))
-  no_comma : (front back given : OrderedTree) (before line : List Content) → AreInlineTrivia before → IsRestOfLine line → SpaceFirst (leaves front) back given
+  no_comma : (front back given : OrderedTree) (before line : List Content) → AreInlineTrivia before → IsRestOfLine line → IsTrue (has_no_comma front)
+      → IsTrue (not (comma_comes back)) → SpaceFirst (leaves front) back given
       → RemovedWithSeams top (element_count front) (followed_by front (among before top line back)) (followed_by front given)
 
 -- The entry of this number has left the container at the path, which has closed up if it may, with what goes with it; and nothing else has changed but that

@@ -5,7 +5,7 @@ use Rattle.jsonc_tree.specs.Tree.{Node}
 
 -- a node of this content under a parent, with these children
 abbrev pub node : Content → Option ℕ → List ℕ → Node
-node content parent children = record { content = content; parent = parent; children = children; room = 0 }
+node content parent children = record { content = content; parent = parent; children = children }
 
 -- the array `[1,2]`, which is node 6, and its leaves
 abbrev pub array_nodes : List Node

@@ -89,6 +89,7 @@ fn first_removed<A: Allocator>(tree: &Tree<A>, container: usize, comment: usize)
     requires { parent_at tree.now.nodes comment ≡ Some container }
     ensures first { result
         ≡ slice_index (children_at tree.now.nodes container) (removed_from tree.now.nodes container comment) }
+    ensures before { removed_from tree.now.nodes container comment ≤ place_at tree.now.nodes comment }
     ensures in_tree { result < length tree.now.nodes }
 {
     let from = removed_from(tree, container, comment);
@@ -100,11 +101,8 @@ fn take_out<A: Allocator>(tree: &mut Tree<A>, container: usize, comment: usize)
     requires { parent_at tree.old.nodes comment ≡ Some container }
     ensures removed { IsRemoved tree.old.nodes tree.new.nodes comment }
 {
-    // A place is below the count of the children, so one more than it is a number too.
-    let _ = tree.child_count(container);
-    let from = removed_from(tree, container, comment);
-    let place = tree.child_index(comment);
-    tree.splice(container, from, place + 1, &[]);
+    let first = first_removed(tree, container, comment);
+    tree.remove_between(container, first, comment);
 }
 
 /// Takes a comment out of the document.

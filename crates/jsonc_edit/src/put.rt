@@ -81,7 +81,7 @@ fn put_before<A: Allocator>(tree: &mut Tree<A>, space: Space, container: usize)
     ensures put { StandsBefore tree.old.nodes tree.new.nodes space.node space.leaf }
 {
     let before = tree.previous_sibling(space.node);
-    tree.insert_between(container, before, Some(space.node), space.leaf);
+    tree.insert_between(container, before, Some(space.node), &[space.leaf]);
 }
 
 // Puts a space in, if there is one.

@@ -33,10 +33,7 @@ pub fn put_in_place<A: Allocator>(tree: &mut Tree<A>, container: usize, node: us
     ensures put { Splices tree.old.nodes tree.new.nodes container (place_at tree.old.nodes node)
         (place_at tree.old.nodes node + 1) (new ∷ []) }
 {
-    // A place is below the count of the children, so one more than it is a number too.
-    let _ = tree.child_count(container);
-    let place = tree.child_index(node);
-    tree.splice(container, place, place + 1, &[new]);
+    tree.replace(node, &[new]);
 }
 
 /// Makes the spaces that are due before a new node and behind it, if it is a literal without quotes. No

@@ -13,6 +13,7 @@ use Rattle.jsonc_sound.specs.Lines.{DocumentLinesEnd}
 use Rattle.jsonc_sound.specs.Shape.{DocumentShaped}
 use Rattle.jsonc_sound.proofs.LooseLines.{document_loosens}
 use Rattle.jsonc_sound.specs.SoundTrees.{SoundTree}
+use Rattle.jsonc_engine.specs.Parser.{LiesIn}
 use Rattle.jsonc_text.specs.declared.edit.EditError.TheVariants.{OutOfMemory}
 use Rattle.jsonc_parser.specs.paths.Found.{names_of}
 use Rattle.jsonc_engine.specs.declared.argument.Change.{Change}
@@ -191,17 +192,17 @@ module _ {A : Type 0} (o : Options) (change : Change A) (other : GetsNothing cha
   no_get : (path : List ℕ) (x : Change A) → x ≡ change → IsChangeFor (get path) x → ⊥
   no_get _ _ same (for_get path names is) = other names (sym same)
 
-  pub left_by : (request : Request) (input : List ℕ) (old new : List Node) → IsChangeFor request change → printed (ordered_tree old 0) ≡ input → SoundTree o (ordered_tree old 0)
+  pub left_by : (request : Request) (input : List ℕ) (old new : List Node) → IsChangeFor request change → printed (ordered_tree old 0) ≡ input → SoundTree o (ordered_tree old 0) → LiesIn o input (ordered_tree old 0)
       → MakesIfSound o request old new → IsLeft o request input (printed (ordered_tree new 0))
-  left_by check input old new is reads sound makes = ap (λ (ns : List Node). printed (ordered_tree ns 0)) (makes sound) ∙ reads
-  left_by print input old new is reads sound makes = ap (λ (ns : List Node). printed (ordered_tree ns 0)) (makes sound) ∙ reads
-  left_by (get path) input old new is reads sound makes = absurd (no_get path change refl is)
-  left_by (set name json) input old new is reads sound makes = record { old = old; new = new; reads = reads; sound = sound; makes = makes sound; prints = refl }
-  left_by (append json) input old new is reads sound makes = record { old = old; new = new; reads = reads; sound = sound; makes = makes sound; prints = refl }
-  left_by (remove name) input old new is reads sound makes = record { old = old; new = new; reads = reads; sound = sound; makes = makes sound; prints = refl }
-  left_by sort input old new is reads sound makes = record { old = old; new = new; reads = reads; sound = sound; makes = makes sound; prints = refl }
-  left_by (put path json) input old new is reads sound makes = record { old = old; new = new; reads = reads; sound = sound; makes = makes sound; prints = refl }
-  left_by (drop path) input old new is reads sound makes = record { old = old; new = new; reads = reads; sound = sound; makes = makes sound; prints = refl }
+  left_by check input old new is reads sound laid makes = ap (λ (ns : List Node). printed (ordered_tree ns 0)) (makes sound) ∙ reads
+  left_by print input old new is reads sound laid makes = ap (λ (ns : List Node). printed (ordered_tree ns 0)) (makes sound) ∙ reads
+  left_by (get path) input old new is reads sound laid makes = absurd (no_get path change refl is)
+  left_by (set name json) input old new is reads sound laid makes = record { old = old; new = new; reads = reads; laid = laid; sound = sound; makes = makes sound; prints = refl }
+  left_by (append json) input old new is reads sound laid makes = record { old = old; new = new; reads = reads; laid = laid; sound = sound; makes = makes sound; prints = refl }
+  left_by (remove name) input old new is reads sound laid makes = record { old = old; new = new; reads = reads; laid = laid; sound = sound; makes = makes sound; prints = refl }
+  left_by sort input old new is reads sound laid makes = record { old = old; new = new; reads = reads; laid = laid; sound = sound; makes = makes sound; prints = refl }
+  left_by (put path json) input old new is reads sound laid makes = record { old = old; new = new; reads = reads; laid = laid; sound = sound; makes = makes sound; prints = refl }
+  left_by (drop path) input old new is reads sound laid makes = record { old = old; new = new; reads = reads; laid = laid; sound = sound; makes = makes sound; prints = refl }
 
 -- what was read is the input, where that is known
 pub of_input : (known : Option (List ℕ)) (read : List ℕ) (P : List ℕ → Type 0) → IfSome known (λ input. read ≡ input) → P read → IfSome known P

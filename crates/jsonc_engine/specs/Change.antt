@@ -8,6 +8,7 @@ use Rattle.jsonc_layout.specs.declared.input.value.CstInputValue.{CstInputValue}
 use Rattle.jsonc_tree.specs.OrderedTree.{ordered_tree, printed}
 use Rattle.jsonc_tree.specs.Tree.{Node}
 use Rattle.jsonc_sound.specs.SoundTrees.{SoundTree}
+use Rattle.jsonc_engine.specs.Parser.{LiesIn}
 use Rattle.jsonc_parser.specs.paths.Found.{names_of}
 use Rattle.jsonc_engine.specs.declared.argument.Change.{Change}
 use Rattle.jsonc_engine.specs.declared.argument.Change.TheVariants.{Append, Drop, Get, Put, Remove, Set, Sort, Stay}
@@ -53,11 +54,12 @@ Makes o (drop path) old new = (names : List (List ℕ)) × IsPath path names × 
 abbrev pub MakesIfSound : Options → Request → List Node → List Node → Type 0
 MakesIfSound o request old new = SoundTree o (ordered_tree old 0) → Makes o request old new
 
--- the input is a document of the options, and the output what it prints when the command is done
+-- the input is a document of the options, whose nodes are those that it is parsed into, and the output what it prints when the command is done
 pub record IsMadeOf (o : Options) (request : Request) (input output : List ℕ) : Type 0 where
   pub old : List Node
   pub new : List Node
   pub reads : printed (ordered_tree old 0) ≡ input
+  pub laid : LiesIn o input (ordered_tree old 0)
   pub sound : SoundTree o (ordered_tree old 0)
   pub makes : Makes o request old new
   pub prints : printed (ordered_tree new 0) ≡ output

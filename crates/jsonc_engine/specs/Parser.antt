@@ -1,5 +1,5 @@
 -- The words of the parser's contracts that the contracts of this crate use.
-pub use Rattle.jsonc_cst.specs.Document.{RefusesText, EditError, OutOfMemory, edit_error_text, printed_of}
+pub use Rattle.jsonc_cst.specs.Document.{RefusesText, EditError, LiesIn, OutOfMemory, edit_error_text, printed_of}
 pub use Rattle.jsonc_text.specs.Faults.{IsFault}
 pub use Rattle.jsonc_text.specs.Grammar.{IsDocument}
 pub use Rattle.jsonc_text.specs.Messages.{error_text}

@@ -12,7 +12,7 @@ ghost use Rattle.jsonc_engine.specs.Fault.{EndsBehindInput, EndsRun, EndsUnread,
 ghost use Rattle.jsonc_engine.specs.Fault.{IsNoText, TellsOfArgument, TellsOfInput};
 ghost use Rattle.jsonc_engine.specs.Input.{IsInput, IsInputOf};
 ghost use Rattle.jsonc_engine.specs.Output.{IsLeft, IsOutput, IsWritten, Puts, output_bytes};
-ghost use Rattle.jsonc_engine.specs.Parser.{all_on, parse_options, printed_of};
+ghost use Rattle.jsonc_engine.specs.Parser.{all_on, parse_options, printed_of, LiesIn};
 
 use crate::argument::{Change, change_of};
 use crate::calls::{Sink, Source};
@@ -177,7 +177,7 @@ fn changed<A: Allocator + Copy>(
 ) -> Result<Output<A>, Fault>
     ensures left { (o : Options) (request : Request)
         → IsChangeFor request change.entry → GetsNothing change.entry
-        → SoundTree o (tree_of document)
+        → SoundTree o (tree_of document) → LiesIn o (printed_of document) (tree_of document)
         → IfOk result (λ output. IsLeft o request (printed_of document) (output_bytes output)) }
     ensures refused { (o : Options) (request : Request)
         → IsChangeFor request change.entry
@@ -198,7 +198,7 @@ fn outcome_of<A: Allocator + Copy>(
 ) -> Result<Output<A>, Fault>
     ensures left { (o : Options) (request : Request)
         → IsChangeFor request change.entry
-        → SoundTree o (tree_of document)
+        → SoundTree o (tree_of document) → LiesIn o (printed_of document) (tree_of document)
         → IfOk result (λ output. IsLeft o request (printed_of document) (output_bytes output)) }
     ensures refused { (o : Options) (request : Request)
         → IsChangeFor request change.entry

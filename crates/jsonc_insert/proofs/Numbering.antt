@@ -151,7 +151,7 @@ module _ (old new : List Node) (c i : ℕ) (v : Plain) (m : ℕ) (tree : IsTree 
   elsewhere = record {
     len = omega (arith, e.prepared.keeps.len, e.put.len);
     content = λ n h. e.put.content n ∙ e.prepared.keeps.content n h;
-    children = λ n h ne. (e.put.others n ne).0 ∙ e.prepared.keeps.children n h;
+    children = λ n h ne. e.put.others n ne ∙ e.prepared.keeps.children n h;
     parent = λ n h ne.
         e.put.parents n
         ∙ ap (λ b. cond b (Some c) (cond (is_in n (slice_range (children_at e.ready c) 0 (length (children_at old c)))) None (parent_at e.ready n))) (not_in_row n h ne)

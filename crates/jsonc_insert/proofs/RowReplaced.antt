@@ -3,21 +3,17 @@ use Rattle.std.proofs.Common.{◌≡◌, ◌≢◌, ◌<◌, ◌≤◌, ◌-◌,
 use Rattle.std.proofs.lemmas.List.{take_all}
 use Rattle.std.proofs.lemmas.List.Elements.{All-from_get_or}
 use Rattle.jsonc_text.specs.Plain.{Plain}
-use Rattle.jsonc_tree.specs.Changes.{CanJoin, EachOnce, IsFree, MakesRoom, Splices}
+use Rattle.jsonc_tree.specs.Changes.{CanJoin, EachOnce, IsFree, Splices}
 use Rattle.jsonc_tree.specs.Tree.{Node, parent_at, children_at, place_at, is_in, IsTree, IsOver}
-use Rattle.jsonc_tree.specs.Building.{Keeps}
-use Rattle.jsonc_tree.proofs.Builder.{Keeps-room}
 use Rattle.jsonc_tree.proofs.Order.{not_over_parent, parent_there}
 use Rattle.jsonc_tree.proofs.Splicing.{in_at}
 use Rattle.jsonc_edit.specs.Put.{Extends}
 use Rattle.jsonc_edit.proofs.NodesKept.{over_no_old}
-use Rattle.jsonc_insert.specs.Inserted.{outer_indent, plan_of, put_by, with_comma, ElementPut, RowMade}
+use Rattle.jsonc_insert.specs.Inserted.{plan_of, put_by, with_comma, ElementPut, RowMade}
 use Rattle.jsonc_insert.specs.Made.{AreFresh, IsFresh}
 use Rattle.jsonc_insert.specs.Planned.{has_brackets}
-use Rattle.jsonc_insert.specs.Settings.{layout_inside}
 use Rattle.jsonc_insert.specs.Trimmed.{trimmed, with_at}
 use Rattle.jsonc_insert.proofs.NoDuplicates.{all_parts, all_with_at, once_left, once_right, once_with_at, parts_apart}
-use Rattle.jsonc_insert.proofs.MadeLeaves.{keeps_then, made_later}
 use Rattle.jsonc_insert.proofs.TrimmedRows.{has_two, trimmed_all, trimmed_once}
 
 module _ (old ready : List Node) (tree : IsTree old) (p : Extends old ready) (c : ℕ) (there : c < length old) where
@@ -123,40 +119,25 @@ module _ (old ready : List Node) (tree : IsTree old) (p : Extends old ready) (c 
       let plan = plan_of old c i v in
       subst (All Stands) (sym r.is) (with_comma_all two plan.place r.comma (r.before ++ m ∷ r.behind) r.made.fresh plan.comma)
 
--- all that was made stays ready while there is more room, and then takes its place
-module _ (old made ready : List Node) (tree : IsTree old) (p : Extends old made) (room : MakesRoom made ready) (after : IsTree ready) (c i : ℕ) (v : Plain) (m : ℕ) (row : List ℕ) (there : c < length old) (brackets : has_brackets old (children_at old c) ≡ true) (r : RowMade old made c i v m row)
+-- all that was made takes its place
+module _ (old made : List Node) (tree : IsTree old) (p : Extends old made) (c i : ℕ) (v : Plain) (m : ℕ) (row : List ℕ) (there : c < length old) (brackets : has_brackets old (children_at old c) ≡ true) (r : RowMade old made c i v m row)
     (count : ℕ) (all : count ≡ length (children_at old c)) (given : List ℕ) (same : given ≡ row) where
-  keeps : Keeps (length made) made ready
-  keeps = Keeps-room (length made) made ready room
+  joins : CanJoin made c 0 (length (children_at old c)) row
+  joins = made_joins old made tree p c there (has_two old (children_at old c) brackets) i v m row r
 
-  pub prepared : Extends old ready
-  prepared = record { keeps = keeps_then old made ready p.keeps keeps; tree = after }
+  pub within : count ≤ length (children_at made c)
+  within = omega (arith, all, ap length (p.keeps.children c there))
 
-  row_made : RowMade old ready c i v m row
-  row_made = record {
-    comma = r.comma;
-    before = r.before;
-    behind = r.behind;
-    made = made_later old made ready (layout_inside old c) (outer_indent old c) (plan_of old c i v) v m r.comma r.before r.behind p.tree keeps after r.made;
-    is = r.is;
-  }
+  pub can_join : CanJoin made c 0 count given
+  can_join = subst (λ k. CanJoin made c 0 k given) (sym all) (subst (CanJoin made c 0 (length (children_at old c))) (sym same) joins)
 
-  joins : CanJoin ready c 0 (length (children_at old c)) row
-  joins = made_joins old ready tree prepared c there (has_two old (children_at old c) brackets) i v m row row_made
-
-  pub within : count ≤ length (children_at ready c)
-  within = omega (arith, all, ap length (prepared.keeps.children c there))
-
-  pub can_join : CanJoin ready c 0 count given
-  can_join = subst (λ k. CanJoin ready c 0 k given) (sym all) (subst (CanJoin ready c 0 (length (children_at old c))) (sym same) joins)
-
-  pub put_so : (new : List Node) → IsTree new → Splices ready new c 0 count given → ElementPut old new c i v m
+  pub put_so : (new : List Node) → IsTree new → Splices made new c 0 count given → ElementPut old new c i v m
   put_so new done put = record {
-    ready = ready;
+    ready = made;
     row = row;
-    prepared = prepared;
-    made = row_made;
+    prepared = p;
+    made = r;
     join = joins;
-    put = subst (λ k. Splices ready new c 0 k row) all (subst (Splices ready new c 0 count) same put);
+    put = subst (λ k. Splices made new c 0 k row) all (subst (Splices made new c 0 count) same put);
     tree = done;
   }

@@ -23,12 +23,12 @@ numbers n (content ∷ rest) = n ∷ numbers (suc n) rest
 
 -- a document whose value is an array with these children, all leaves: its nodes, of which the array is number 1
 abbrev pub leaf_node : Content → Node
-leaf_node content = record { content = content; parent = Some 1; children = []; room = 0 }
+leaf_node content = record { content = content; parent = Some 1; children = [] }
 
 abbrev pub array_of : List Content → List Node
 array_of row =
-    record { content = root; parent = None; children = 1 ∷ []; room = 0 }
-    ∷ record { content = content.array; parent = Some 0; children = numbers 2 row; room = 0 } ∷ map leaf_node row
+    record { content = root; parent = None; children = 1 ∷ [] }
+    ∷ record { content = content.array; parent = Some 0; children = numbers 2 row } ∷ map leaf_node row
 
 -- what its row prints with this value as element number i
 abbrev pub leaf_top : Content → Top

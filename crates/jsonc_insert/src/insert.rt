@@ -195,7 +195,6 @@ pub fn insert_element<A: Allocator + Copy>(
     }
     let count = tree.child_count(array);
     let made = make_row(alloc, tree, array, index, value)?;
-    tree.reserve(array, made.row.len())?;
     tree.splice(array, 0, count, &made.row);
     Ok(made.element)
 }

@@ -16,9 +16,7 @@ use Rattle.jsonc_run.specs.Edits.{Operation, Sorting, is_sort, operation_of, rea
 use Rattle.jsonc_run.specs.Steps.{Fits, IsOfCharacters, NumbersFit}
 use Rattle.jsonc_run.specs.Refusals.{IsLeft, FailsWith}
 use Rattle.jsonc_run.proofs.SoundChain.{of_characters, fits_alike}
-use Rattle.jsonc_run.specs.promise.Asked.{Ask, none_asked, one_asked}
-use Rattle.jsonc_run.specs.promise.Words.{all_in_texts, in_texts}
-use Rattle.jsonc_run.proofs.lemmas.promise.Asked.{asks_so, stops_so}
+use Rattle.jsonc_run.proofs.lemmas.promise.Asked.{Ask, edits_to, none_asks, one_asks, stops_so}
 use Rattle.jsonc_run.proofs.lemmas.promise.Leads.{edits_lead}
 use Rattle.jsonc_cst.specs.declared.cst.CstRootNode.{CstRootNode}
 use Rattle.jsonc_cst.specs.declared.cst.node.CstNode.{CstNode}
@@ -170,11 +168,10 @@ module _ {C D A : Type 0} (call : Shared C (Bor D × (CstNode × (CstNode × Uni
   )
 
   -- they ask for their operations
-  asked_for : {old new : CstRootNode A} {es : List (Edit A)} {ops : List Operation} → RunSteps call compare same old es ops new → Ask es (all_in_texts ops)
-  asked_for none_made = none_asked
+  asked_for : {old new : CstRootNode A} {es : List (Edit A)} {ops : List Operation} → RunSteps call compare same old es ops new → Ask es ops
+  asked_for none_made = none_asks
   asked_for (first_made {e = e} {es = es} {operations = ops} is after rest) =
-      let s : Sorting = is.sorting in
-      subst (λ op. Ask (e ∷ es) (op ∷ all_in_texts ops)) (asks_so s e ∙ ap in_texts (sym is.is)) (one_asked s.order (asked_for rest))
+      subst (λ (op : Operation). Ask (e ∷ es) (op ∷ ops)) (sym is.is) (one_asks is.sorting (asked_for rest))
 
   -- all of them
   pub have_been_made : (old new : CstRootNode A) (es : List (Edit A)) (ops : List Operation) → IsTree (nodes_of old) → RunSteps call compare same old es ops new → RunOk call compare same old es new
@@ -183,7 +180,7 @@ module _ {C D A : Type 0} (call : Shared C (Bor D × (CstNode × (CstNode × Uni
     made = made;
     edited = λ d shown fit.
         let lead = edits_lead (nodes_of old) (nodes_of new) ops tree (as_nodes made) (are_characters made) d shown (numbers_fit d.options made fit) in
-        (lead.0, lead.1, (all_in_texts ops, asked_for made, lead.2));
+        (lead.0, lead.1, edits_to (asked_for made) lead.3);
   }
 
   -- the first of them, and why the next was not

@@ -1,5 +1,5 @@
 -- What becomes of a document where the truth value at a path is set.
-use Rattle.std.proofs.Common.{◌≡◌, ℕ, Bool, List, Some, OnOk, OnErr, IfErr, Result, Ok, Err, refl, sym, ap, subst, ◌∙◌}
+use Rattle.std.proofs.Common.{◌≡◌, ℕ, Bool, true, false, List, Some, OnOk, OnErr, IfErr, Result, Ok, Err, refl, sym, ap, subst, ◌∙◌}
 use Rattle.jsonc_text.specs.Options.{Options}
 use Rattle.jsonc_text.specs.Plain.{Plain}
 use Rattle.jsonc_text.specs.Grammar.{IsDocument}
@@ -37,10 +37,10 @@ module _ (ns : List Node) (path : List ℕ) (n : ℕ) (b : Bool) (at : IsBoolean
 
 -- the old one has been replaced at the path
 pub boolean_given : (old new : List Node) (path : List ℕ) (n : ℕ) (b : Bool) → IsTree old → IsBooleanAt old path n → BooleanSet old new n b
-    → (was : Bool) × (given : ReplacesValue path (Plain.boolean b) (ordered_tree old 0) (ordered_tree new 0)) × (given.was ≡ boolean_leaf was)
+    → (was : Bool) × (given : ReplacesValue path (Plain.boolean b) (ordered_tree old 0) (ordered_tree new 0)) × (given.was ≡ boolean_leaf was) × (given.seams.behind ≡ false) × (b ≡ true → given.seams.before ≡ false)
 boolean_given old new path n b tree at set =
     let g = boolean_gives_way old new path n b tree at.0 at.1 set in
-    (g.0, record { was = boolean_leaf g.0; layout = layout_for old 0 n; spaced = g.1; spaces = g.2; changed = g.3; around = document_differs g.3; seams = g.4 }, refl)
+    (g.0, record { was = boolean_leaf g.0; layout = layout_for old 0 n; spaced = g.1; spaces = g.2; changed = g.3; around = document_differs g.3; seams = g.4 }, refl, g.5, g.6)
 
 -- a truth value's node has it as its value
 pub boolean_value : {o : Options} {content : Content} {below : OrderedTree} {v : Plain} (a : Bool) → content ≡ Content.boolean a → ValueOf o content below v → v ≡ Plain.boolean a

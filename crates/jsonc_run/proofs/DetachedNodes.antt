@@ -84,7 +84,7 @@ module _ (old : List Node) (tree : IsTree old) where
   same_kept a k = record { content = λ m over. k.content m (there m over); children = λ m over. k.children m (there m over) }
 
   same_spliced : (a b : List Node) (c i j : ℕ) (xs : List ℕ) → Splices a b c i j xs → Out c → Same a b
-  same_spliced a b c i j xs s out = record { content = λ m over. s.content m; children = λ m over. (s.others m (λ e. out (subst (IsOver old 0) e over))).0 }
+  same_spliced a b c i j xs s out = record { content = λ m over. s.content m; children = λ m over. s.others m (λ e. out (subst (IsOver old 0) e over)) }
 
   same_leaf : (a b : List Node) (n : ℕ) (what : Content) → LeafBecomes a b n what → Out n → Same a b
   same_leaf a b n what l out = record { content = λ m over. l.others m (λ e. out (subst (IsOver old 0) e over)); children = λ m over. l.children m }

@@ -1,5 +1,5 @@
 -- What edits that were made in order make of a sound document: one chain of sound documents, one after each edit.
-use Rattle.std.specs.Prelude.{◌≡◌, ◌≤◌, ℕ, Bool, List, [], ◌∷◌, Option}
+use Rattle.std.specs.Prelude.{◌≡◌, ◌≤◌, ℕ, Bool, true, false, List, [], ◌∷◌, Option}
 use Rattle.std.specs.List.{All}
 use Rattle.jsonc_text.specs.Options.{Options}
 use Rattle.jsonc_text.specs.Plain.{Plain, boolean}
@@ -74,7 +74,7 @@ MadeIn o t (replace_property path name v) u = ReplacesProperty name v t u path
 MadeIn o t (ensure_root shape how) u = RootValueEnsured shape t u how
 MadeIn o t (set_value path v) u = ReplacesValue path v t u
 MadeIn o t (ensure_value path shape) u = ValueEnsured path shape t u
-MadeIn o t (set_boolean path b) u = (was : Bool) × (given : ReplacesValue path (boolean b) t u) × (given.was ≡ boolean_leaf was)
+MadeIn o t (set_boolean path b) u = (was : Bool) × (given : ReplacesValue path (boolean b) t u) × (given.was ≡ boolean_leaf was) × (given.seams.behind ≡ false) × (b ≡ true → given.seams.before ≡ false)
 MadeIn o t (ensure_multiline path) u = SpreadAt path t u
 MadeIn o t (insert_element path i v) u = ElementInsertedAt o path i v t u
 MadeIn o t (append_element path v) u = (n : ℕ) × ((i : ℕ) → n ≤ i → ElementInsertedAt o path i v t u)

@@ -1,5 +1,5 @@
 //! Turning a text into tokens.
-ghost use Rattle.std.specs.Prelude.{◌≡◌, ◌≢◌, ◌≤◌, ◌<◌, ◌↔◌, IsCharBoundary, IsTrue, IfOk, IfErr, IfSome, OnOk, OnErr, None, Some, true, false, option_map, option_copied};
+ghost use Rattle.std.specs.Prelude.{◌≡◌, ◌≢◌, ◌≤◌, ◌<◌, ◌↔◌, IsCharBoundary, IsTrue, IfOk, IfErr, IfSome, IfNone, OnOk, OnErr, None, Some, true, false, option_map, option_copied};
 
 use crate::faults::out_of_memory;
 use crate::found::{TokenContent, TokenKind};
@@ -99,6 +99,8 @@ impl<'a, A: Allocator + Copy> Scanner<'a, A> {
     ghost use Rattle.jsonc_text.specs.Text.{Spans};
     ghost use Rattle.jsonc_text.specs.string.Quotes.{OpensString};
     ghost use Rattle.jsonc_text.specs.Tokens.{IsOwned, scanned_of};
+    ghost use Rattle.jsonc_text.specs.Places.{is_comment};
+    ghost use Rattle.jsonc_scan.specs.Scanner.{scanned_seen};
 
     /// Whether an ASCII character comes next, with no blank before it.
     #[doc(hidden)]
@@ -188,6 +190,38 @@ impl<'a, A: Allocator + Copy> Scanner<'a, A> {
             return Ok(Some(TokenKind::Number));
         }
         self.step_other(content, decodes)
+    }
+
+    /// Moves to the next token, where that is punctuation, or a string or a number that is read by its lanes, and
+    /// answers its kind. Else nothing changes.
+    #[doc(hidden)]
+    #[inline(always)]
+    pub fn step_plain(&mut self, content: &mut TokenContent<'a, A>) -> Option<TokenKind>
+        ensures blanks { IfSome result (λ _. PassesBlanks self.old self.new) }
+        ensures found { IfSome result (λ k. IsThere self.new (seen self.new content.new (Some k))) }
+        ensures lent { IfSome result (IsLentSeen self.new content.new) }
+        ensures lexeme { IfSome result (λ k. is_comment (scanned_seen self.new content.new k) ≡ false) }
+        ensures none { IfNone result (self.new ≡ self.old) }
+    {
+        let start = blanks_end(self.file_text, self.byte_index);
+        if let Some(plain) = plain_string(self.file_text, start) {
+            self.token_start = start;
+            self.byte_index = plain.end;
+            content.string = plain.string;
+            return Some(TokenKind::String);
+        }
+        if let Some(mark) = read_punctuation(self.file_text, start) {
+            self.token_start = start;
+            self.byte_index = start + 1;
+            return Some(content.mark_kind(mark));
+        }
+        if let Some(number) = plain_number(self.file_text, start) {
+            self.token_start = start;
+            self.byte_index = number.end;
+            content.text = number.text;
+            return Some(TokenKind::Number);
+        }
+        None
     }
 
     /// The same where the scanner stands, at no punctuation.

@@ -146,7 +146,7 @@ module _ (old new : List Node) (tree : IsTree old) (after : IsTree new) (c : ℕ
         let low = parent_there old tree n c said in
         let once : times n (children_at new c) ≡ 1 = as_often n low.0 low.1 solid brackets t ∙ once_there n said in
         (child_of n once, once);
-    others = λ k low other. (t.put.others k other).0 ∙ t.prepared.keeps.children k low;
+    others = λ k low other. t.put.others k other ∙ t.prepared.keeps.children k low;
     contents = λ k low. t.put.content k ∙ t.prepared.keeps.content k low;
   }
 

@@ -5,7 +5,7 @@ use Rattle.std.specs.List.{range_with_len}
 use Rattle.std.proofs.lemmas.Bool.{cases_eq, cases_lt, eq-eqb, ne_eqb}
 use Rattle.std.proofs.lemmas.List.{drop_more, drop_all, length-map, reverse-append, take-append-drop}
 use Rattle.std.proofs.lemmas.List.Elements.{All-from_get_or, filter-append}
-use Rattle.jsonc_tree.specs.Changes.{EachOnce, MakesRoom, Splices}
+use Rattle.jsonc_tree.specs.Changes.{EachOnce, Splices}
 use Rattle.jsonc_tree.specs.Content.{Content, newline}
 use Rattle.jsonc_tree.specs.Siblings.{first}
 use Rattle.jsonc_tree.specs.Tree.{Node, content_at, parent_at, children_at, place_at, IsTree}
@@ -18,7 +18,7 @@ use Rattle.jsonc_edit.specs.remove.Removed.{has_brackets, has_two, is_token_at}
 use Rattle.jsonc_edit.specs.multiline.Lines.{between}
 use Rattle.jsonc_edit.specs.multiline.Plans.{IsFrom}
 use Rattle.jsonc_edit.specs.multiline.Slots.{AreFilled, no_more, stayed, came}
-use Rattle.jsonc_edit.proofs.lemmas.multiline.WholeRow.{kept_through, takes_row, two_there}
+use Rattle.jsonc_edit.proofs.lemmas.multiline.WholeRow.{takes_row, two_there}
 use Rattle.jsonc_sort.specs.Slots.{Slot, comes, all_stay}
 use Rattle.jsonc_sort.specs.Sorting.{Headers, entries, goes_on, is_unchanged, lines_ended, rearranged, row_end, slot_content, sorted}
 use Rattle.jsonc_sort.specs.Places.{AreEntries, entry_of}
@@ -217,10 +217,10 @@ moving false b e = cc
 pub has_both : (old : List Node) (c : ℕ) (order : List ℕ) → IsTrue (moves old c order) → IsTrue (has_brackets old c) × (is_unchanged order ≡ false)
 has_both old c order h = moving (has_brackets old c) (is_unchanged order) h
 
-pub all_moves : (old now ready new : List Node) (c : ℕ) (h : Headers) (order row : List ℕ) → IsTree old → c < length old → PlansSort old now c h order row → MakesRoom now ready → IsTree ready → IsTree new
-    → (count : ℕ) → count ≡ length (children_at ready c) → (xs : List ℕ) → xs ≡ row → Splices ready new c 1 (count - 1) xs → moves old c order ≡ true → Rearranged old new c h order
-all_moves old now ready new c h order row tree there p room after done count counted xs e put f = record {
+pub all_moves : (old now new : List Node) (c : ℕ) (h : Headers) (order row : List ℕ) → IsTree old → c < length old → PlansSort old now c h order row → IsTree now → IsTree new
+    → (count : ℕ) → count ≡ length (children_at now c) → (xs : List ℕ) → xs ≡ row → Splices now new c 1 (count - 1) xs → moves old c order ≡ true → Rearranged old new c h order
+all_moves old now new c h order row tree there p after done count counted xs e put f = record {
   was = λ g. absurd (let wrong : true ≡ false = sym f ∙ g in cc);
-  is = λ g. takes_row old now ready new c (row_sorted old c h order) row tree there p room after done
-      (subst (λ k. Splices ready new c 1 (k - 1) row) (counted ∙ ap length ((kept_through old now ready p.keeps room).children c there)) (subst (λ l. Splices ready new c 1 (count - 1) l) e put));
+  is = λ g. takes_row old now new c (row_sorted old c h order) row tree there p after done
+      (subst (λ k. Splices now new c 1 (k - 1) row) (counted ∙ ap length (p.keeps.children c there)) (subst (λ l. Splices now new c 1 (count - 1) l) e put));
 }

@@ -90,7 +90,6 @@ pub fn rearrange<A: Allocator + Copy>(
         return Ok(());
     }
     let row = sorted_row(alloc, tree, container, pinned, groups, order)?;
-    tree.reserve(container, row.len())?;
     let count = tree.child_count(container);
     tree.splice(container, 1, count - 1, &row);
     Ok(())

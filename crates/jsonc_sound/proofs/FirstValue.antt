@@ -21,7 +21,7 @@ use Rattle.jsonc_sound.proofs.FirstNodes.{no_element, line_comment_over}
 use Rattle.jsonc_sound.proofs.TriviaLeaves.{front_leaves}
 use Rattle.jsonc_sound.specs.Adjacent.{first_char, or_else, follower, LeavesEnd, last_printed}
 use Rattle.jsonc_sound.specs.Alone as alone
-use Rattle.jsonc_sound.specs.Alone.{ValueAlone, RootAlone}
+use Rattle.jsonc_sound.specs.Alone.{RootAlone}
 use Rattle.jsonc_sound.specs.Lines.{ends_loosely, LinesEndLoosely}
 use Rattle.jsonc_sound.specs.SoundTrees.{SoundTree}
 use Rattle.jsonc_sound.proofs.NodesAlone.{value_alone, value_leaves}
@@ -31,7 +31,7 @@ use Rattle.jsonc_sound.specs.MarkChanges.{AreBlanks, marks_under}
 use Rattle.jsonc_sound.specs.Marks.{marks, marks_of}
 use Rattle.jsonc_sound.proofs.ReplacedStretches.{marks_join, blanks_unmarked}
 use Rattle.jsonc_sound.specs.Coming as coming
-use Rattle.jsonc_sound.specs.Coming.{AreLineEnds, ends_in_comment, begins_in_line_end, ValueInserted}
+use Rattle.jsonc_sound.specs.Coming.{AreLineEnds, ends_in_comment, begins_in_line_end}
 use Rattle.jsonc_sound.specs.EntryLaws.{root_with, SoundWithFirstValue, HasFirstValue, MarksWithFirstValue}
 use Rattle.jsonc_sound.proofs.RootRows.{trivia_passed, line_ends_trivia, joined_trivia, leaves_then_joined, lines_behind, root_lines, root_marks, loosened, root_alone, root_sound, behind_trivia, trivia_of, trivia_before, line_ends_of, leaves_led}
 
@@ -124,7 +124,7 @@ module _ (o : Options) where
       subst (LinesEndLoosely false true) (sym (leaves_then_joined behind back none)) (newlines_led behind (leaves_then back none) h (lines_behind false true front (leaves_then back none) l))
 
   pub sound_with_first : (top : Top) (v : Plain) (row new : OrderedTree) → SoundWithFirstValue o top v row new
-  sound_with_first top v row new s n p (coming.value_comes front back before behind ht hb nb nh led starts) =
+  sound_with_first top v row new s n p (coming.value_comes front back before behind ht hb nb nh led starts leads ends) =
       let old = old_row front back ht hb s in
       let tail : OrderedTree = leaves_then (behind ++ back) none in
       let node : OrderedTree = more top.content top.below tail in
@@ -144,7 +144,7 @@ module _ (o : Options) where
   held_led (c ∷ cs) rest x h k = values.pass_to_value (trivia_passed c h.0) (held_led cs rest x h.1 k)
 
   pub has_first : (top : Top) (v : Plain) (row new : OrderedTree) → HasFirstValue o top v row new
-  has_first top v row new w p (coming.value_comes front back before behind ht hb nb nh led starts) =
+  has_first top v row new w p (coming.value_comes front back before behind ht hb nb nh led starts leads ends) =
       let tail : OrderedTree = leaves_then (behind ++ back) none in
       let tail_none : HasNoValue tail = no_value_led (behind ++ back) none (joined_trivia behind back (line_ends_trivia behind nh) hb) values.end in
       let node : OrderedTree = more top.content top.below tail in (
@@ -174,7 +174,7 @@ marks_around first last top h k =
     ∙ ap (λ m. marks_of first ++ m) (marks_join (leaves_of top) (leaves (leaves_then last none)) ∙ ap (λ m. marks_under top ++ m) (row_marks last k))
 
 pub marks_with_first : (top : Top) (row new : OrderedTree) → MarksWithFirstValue top row new
-marks_with_first top row new (coming.value_comes front back before behind ht hb nb nh led starts) =
+marks_with_first top row new (coming.value_comes front back before behind ht hb nb nh led starts leads ends) =
     let first = joined_trivia front before ht (line_ends_trivia before nb) in
     let last = joined_trivia behind back (line_ends_trivia behind nh) hb in
     let tail : OrderedTree = leaves_then (behind ++ back) none in

@@ -107,7 +107,7 @@ module _ (o : Options) where
   elements_begin (last_element v g) = value_begins v
   elements_begin (element v s e) = value_begins v
 
-  name_begins : {name t r : List ℕ} → IsName o t name r → IsTrue (starts begins_item (next t))
+  pub name_begins : {name t r : List ℕ} → IsName o t name r → IsTrue (starts begins_item (next t))
   name_begins {name} {t} {r} (inl l) = item_begins t (lexeme_begins o (LexemeKind.string name) t r tt l)
   name_begins {name} {t} {r} (inr l) = item_begins t (lexeme_begins o l.2 t r (name_is_literal l.2 l.3) l.4)
 

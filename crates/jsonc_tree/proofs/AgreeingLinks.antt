@@ -6,9 +6,9 @@ use Rattle.std.proofs.lemmas.List.{get_or-map, get_or_past, length-map, drop_mor
 use Rattle.std.proofs.lemmas.Map.Steps.{length-le_from_distinct_below}
 use Rattle.std.proofs.lemmas.Map.Keys.{IsDistinct-from_apart}
 use Rattle.jsonc_tree.specs.Tree as tree
-use Rattle.jsonc_tree.specs.Tree.{children_at, parent_at, content_at, room_at, node_at, IsTree, place_at}
+use Rattle.jsonc_tree.specs.Tree.{children_at, parent_at, content_at, node_at, IsTree, place_at}
 use Rattle.jsonc_tree.proofs.Splicing.{in_where}
-use Rattle.jsonc_tree.specs.Stored.{LinkedNode, nowhere, link_at, chain, shown, nodes_of, room_over, ahead_at, IsLinked, IsStored}
+use Rattle.jsonc_tree.specs.Stored.{LinkedNode, nowhere, link_at, chain, shown, nodes_of, ahead_at, IsLinked, IsStored}
 
 -- a row of a tree is no longer than there are nodes
 pub row_short : (ns : List tree.Node) → IsTree ns → (c : ℕ) → length (children_at ns c) ≤ length ns
@@ -28,19 +28,17 @@ list_same d (x ∷ xs) (y ∷ ys) e h =
     let rest : xs ≡ ys = list_same d xs ys (omega arith) (λ k l. h (suc k) (omega arith)) in
     cc
 
-node_same : (m n : tree.Node) → m.content ≡ n.content → m.parent ≡ n.parent → m.children ≡ n.children → m.room ≡ n.room → m ≡ n
-node_same m n a b c d =
+pub node_same : (m n : tree.Node) → m.content ≡ n.content → m.parent ≡ n.parent → m.children ≡ n.children → m ≡ n
+node_same m n a b c =
     ap (λ x. record m { content = x }) a
     ∙ ap (λ x. record m { content = n.content; parent = x }) b
-    ∙ ap (λ x. record m { content = n.content; parent = n.parent; children = x }) c
-    ∙ ap (λ x. record n { room = x }) d
+    ∙ ap (λ x. record n { children = x }) c
 
 -- the links say of each node what the list of nodes does
 pub record Agrees (ls : List LinkedNode) (ns : List tree.Node) : Type 0 where
   pub len : length ls ≡ length ns
   pub content : (n : ℕ) → n < length ns → (link_at ls n).content ≡ content_at ns n
   pub parent : (n : ℕ) → (link_at ls n).parent ≡ parent_at ns n
-  pub room : (n : ℕ) → n < length ns → room_at ns n ≡ room_over (children_at ns n)
   pub linked : IsLinked ls ns
 
 module _ (ls : List LinkedNode) (ns : List tree.Node) (t : IsTree ns) (same : Agrees ls ns) where
@@ -66,7 +64,7 @@ module _ (ls : List LinkedNode) (ns : List tree.Node) (t : IsTree ns) (same : Ag
   node_is : (n : ℕ) → n < length ns → node_at (nodes_of ls) n ≡ node_at ns n
   node_is n h =
       get_or-map (shown ls) ls n nowhere tree.nowhere (omega (arith, same.len))
-      ∙ node_same (shown ls (link_at ls n)) (node_at ns n) (same.content n h) (same.parent n) (row_is n) (ap room_over (row_is n) ∙ sym (same.room n h))
+      ∙ node_same (shown ls (link_at ls n)) (node_at ns n) (same.content n h) (same.parent n) (row_is n)
 
   pub shown_is : nodes_of ls ≡ ns
   shown_is = list_same tree.nowhere (nodes_of ls) ns (length-map ls (shown ls) ∙ same.len) node_is
@@ -103,8 +101,5 @@ module _ (ls : List LinkedNode) where
     len = sym length_shown;
     content = λ n h. content_shown n (omega (arith, length_shown));
     parent = parent_shown;
-    room = λ n h.
-        let is = node_shown n (omega (arith, length_shown)) in
-        ap (λ (x : tree.Node). x.room) is ∙ ap (λ (x : tree.Node). room_over x.children) (sym is);
     linked = stored.linked;
   }

@@ -6,7 +6,7 @@ use Rattle.std.proofs.lemmas.List.Edits.{length-between}
 use Rattle.std.specs.List.{splice}
 use Rattle.jsonc_tree.specs.Content.{Content, is_container}
 use Rattle.jsonc_tree.specs.Tree.{is_container_at, Node, children_at, parent_at, is_in, IsTree, IsOver, itself, above}
-use Rattle.jsonc_tree.specs.Changes.{CanAppend, CanJoin, Splices, Appends, Adds, MakesRoom}
+use Rattle.jsonc_tree.specs.Changes.{CanAppend, CanJoin, Splices, Appends, Adds}
 
 -- a node is not over another that has no parent
 pub not_over_alone : (ns : List Node) (n c : ℕ) → parent_at ns c ≡ None → n ≢ c → IsOver ns n c → ⊥
@@ -47,29 +47,12 @@ Appends-splice old new c k n e splices =
       len = splices.len;
       content = splices.content;
       children = splices.children ∙ splice_end (children_at old c) k n e;
-      others = λ m ne. (splices.others m ne).0;
+      others = splices.others;
       parent = splices.parents n ∙ ap (λ b. cond (b || false) (Some c) (cond (is_in n (slice_range (children_at old c) k k)) None (parent_at old n))) (eq-eqb n n refl);
       parents = λ m ne. splices.parents m
           ∙ ap (λ b. cond (b || false) (Some c) (cond (is_in m (slice_range (children_at old c) k k)) None (parent_at old m))) (ne_eqb m n ne)
           ∙ ap (λ l. cond (is_in m l) None (parent_at old m)) gone;
-      room = omega (arith, splices.room);
     }
-
--- more room puts no node over another
-IsOver-room : (a b : List Node) (n c : ℕ) → MakesRoom a b → IsOver b n c → IsOver a n c
-IsOver-room a b n _ room itself = itself
-IsOver-room a b n c room (above {c = p} said r) = above (sym (room.parent c) ∙ said) (IsOver-room a b n p room r)
-
--- what can be appended still can where there is more room
-pub CanAppend-room : (a b : List Node) (c n : ℕ) → MakesRoom a b → CanAppend a c n → CanAppend b c n
-CanAppend-room a b c n room can = record {
-  container = omega (arith, can.container, room.len);
-  holds = ap is_container (room.content c) ∙ can.holds;
-  node = omega (arith, can.node, room.len);
-  not_root = can.not_root;
-  alone = room.parent n ∙ can.alone;
-  not_over = λ over. can.not_over (IsOver-room a b n c room over);
-}
 
 -- a node that was just added can be appended to any container
 pub CanAppend-adds : (a b : List Node) (content : Content) (c : ℕ) → IsTree b → c < length a → is_container_at a c ≡ true → Adds a b content → CanAppend b c (length a)

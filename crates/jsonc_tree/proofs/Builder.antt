@@ -1,8 +1,8 @@
 -- How a builder knows the ordered tree that it has built.
-use Rattle.std.proofs.Common.{true, ◌≡◌, ◌≢◌, ℕ, ◌<◌, ◌≤◌, List, [], ◌∷◌, ◌++◌, length, get_or, None, Some, refl, sym, ap, subst, ◌∙◌, arith}
+use Rattle.std.proofs.Common.{true, ◌≡◌, ◌≢◌, ℕ, ◌<◌, ◌≤◌, List, [], ◌∷◌, length, get_or, None, Some, refl, sym, ap, subst, ◌∙◌, arith}
 use Rattle.jsonc_tree.specs.Content.{Content, root, is_container}
 use Rattle.jsonc_tree.specs.Tree.{Node, content_at, children_at, parent_at, IsTree, IsOver, itself}
-use Rattle.jsonc_tree.specs.Changes.{Appends, CanAppend, Adds, MakesRoom, Pushes}
+use Rattle.jsonc_tree.specs.Changes.{Appends, CanAppend, Adds, Pushes}
 use Rattle.jsonc_tree.specs.OrderedTree.{OrderedTree, none, more, followed_by, Shows, shows_none, shows_more, ordered_tree}
 use Rattle.jsonc_tree.specs.Building.{Keeps, Builds}
 use Rattle.jsonc_tree.proofs.Order.{not_over_parent}
@@ -43,14 +43,6 @@ Keeps-adds a b content adds = record {
   children = λ n h. ap (λ (m : Node). m.children) (adds.rest n h);
 }
 
-pub Keeps-room : (count : ℕ) (a b : List Node) → MakesRoom a b → Keeps count a b
-Keeps-room count a b room = record {
-  len = omega (arith, room.len);
-  content = λ n h. room.content n;
-  parent = λ n h. room.parent n;
-  children = λ n h. room.children n;
-}
-
 pub Keeps-appends : (count : ℕ) (a b : List Node) (c n : ℕ) → count ≤ c → count ≤ n → Appends a b c n → Keeps count a b
 Keeps-appends count a b c n above later appends = record {
   len = omega (arith, appends.len);
@@ -65,18 +57,6 @@ Keeps-pushes count a b c content above le pushes = record {
   content = λ m h. pushes.contents m (omega arith);
   parent = λ m h. pushes.parents m (omega arith);
   children = λ m h. pushes.others m (omega arith) (λ e. omega arith);
-}
-
--- room and then an append are an append
-pub Appends-room : (a b d : List Node) (c n : ℕ) → MakesRoom a b → Appends b d c n → Appends a d c n
-Appends-room a b d c n room appends = record {
-  len = appends.len ∙ room.len;
-  content = λ m. appends.content m ∙ room.content m;
-  children = appends.children ∙ ap (λ l. l ++ n ∷ []) (room.children c);
-  others = λ m ne. appends.others m ne ∙ room.children m;
-  parent = appends.parent;
-  parents = λ m ne. appends.parents m ne ∙ room.parent m;
-  room = omega (arith, appends.room, room.room c);
 }
 
 -- nodes that are there stand for the same trees after a change that keeps every old node
@@ -166,18 +146,6 @@ Builds-pushes a b c n content other below built pushes tree =
       is = pushes.contents n built.in_tree ∙ built.is;
       shows = subst (λ (l : List ℕ). Shows c l (followed_by below (more other none none))) (sym pushes.children) (Shows-append c (children_at b n) (length b ∷ []) below (more other none none) old new);
     }
-
--- more room changes nothing
-pub Builds-room : (a b c : List Node) (n : ℕ) (content : Content) (below : OrderedTree) → Builds a b n content below → MakesRoom b c → IsTree c → Builds a c n content below
-Builds-room a b c n content below built room tree = record {
-  tree = tree;
-  keeps = Keeps-then (length a) a b c built.keeps (Keeps-room (length a) b c room);
-  later = built.later;
-  in_tree = omega (arith, built.in_tree, room.len);
-  alone = room.parent n ∙ built.alone;
-  is = room.content n ∙ built.is;
-  shows = subst (λ (l : List ℕ). Shows c l below) (sym (room.children n)) (Shows-keeps b c built.tree (Keeps-room (length b) b c room) (children_at b n) below (λ k h. built.tree.in_tree n k h) built.shows);
-}
 
 -- in the end the node stands for the tree that was built
 pub Builds-ordered_tree : (a b : List Node) (n : ℕ) (content : Content) (below : OrderedTree) → Builds a b n content below → ordered_tree b n ≡ more content below none

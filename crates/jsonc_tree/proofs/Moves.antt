@@ -1,22 +1,21 @@
 -- What one node's coming or going does to the stored nodes and to what they show.
-use Rattle.std.proofs.Common.{◌≡◌, ◌≢◌, ◌||◌, ◌^◌, ℕ, suc, ◌+◌, ◌-◌, ◌<◌, ◌≤◌, List, [], ◌∷◌, length, get_or, map, cond, true, Option, None, Some, IfSome, inl, inr, slice_get, slice_range, refl, sym, ap, subst, ◌∙◌, arith, eq-eqb}
-use Rattle.std.specs.List.{splice, range_with_len}
-use Rattle.std.proofs.lemmas.Bool.{cases_lt, cases_eq, cases_Bool, ne_eqb}
+use Rattle.std.proofs.Common.{◌≡◌, ◌≢◌, ◌||◌, ◌^◌, ℕ, suc, ◌-◌, ◌<◌, ◌≤◌, List, [], ◌∷◌, length, get_or, map, cond, true, Option, None, Some, IfSome, inl, inr, slice_get, slice_range, refl, sym, ap, subst, ◌∙◌, arith, eq-eqb}
+use Rattle.std.specs.List.{range_with_len}
+use Rattle.std.proofs.lemmas.Bool.{cases_lt, cases_Bool, ne_eqb}
 use Rattle.std.proofs.lemmas.Option.{slice_get-get_or, slice_get_within}
 use Rattle.std.proofs.lemmas.List.{get_or_past, length-map, nil_from_length}
 use Rattle.std.proofs.lemmas.List.FromFn.{get_or-map-range_with_len, length-range_with_len}
 use Rattle.std.proofs.lemmas.List.Edits.{length-between, get_or-between}
 use Rattle.jsonc_tree.specs.Tree as tree
-use Rattle.jsonc_tree.specs.Tree.{Node, children_at, parent_at, content_at, room_at, is_in, is_container_at, IsTreeBy, IsTree, place_at, place_under, IsOver}
+use Rattle.jsonc_tree.specs.Tree.{Node, children_at, parent_at, content_at, is_in, is_container_at, IsTreeBy, IsTree, place_at, place_under, IsOver}
 use Rattle.jsonc_tree.specs.Changes.{Splices, CanJoin, CanAppend}
 use Rattle.jsonc_tree.proofs.SameLinks.{IsTreeBy-same, IsTree-from}
-use Rattle.jsonc_tree.proofs.Splicing.{spliced_nodes, spliced_places, spliced_tree, spliced_facts, spliced-container, in_at, out_from}
+use Rattle.jsonc_tree.proofs.Splicing.{spliced_nodes, spliced_places, spliced_tree, spliced_facts, in_at, out_from}
 use Rattle.jsonc_tree.proofs.Appending.{CanJoin-one}
-use Rattle.jsonc_tree.specs.Stored.{link_at, nodes_of, room_over, ahead_at, back_at, ahead_set, back_set, place_set, IsStored, LinkedNode}
+use Rattle.jsonc_tree.specs.Stored.{link_at, nodes_of, ahead_at, back_at, ahead_set, back_set, place_set, IsStored, LinkedNode}
 use Rattle.jsonc_tree.specs.Siblings.{before, IsGap}
-use Rattle.jsonc_tree.proofs.Gaps.{length_came, length_went}
 use Rattle.jsonc_tree.proofs.Written.{relinked}
-use Rattle.jsonc_tree.proofs.AgreeingLinks.{Agrees, agrees, shown_is, stored_by, length_shown, row_short}
+use Rattle.jsonc_tree.proofs.AgreeingLinks.{Agrees, agrees, shown_is, stored_by, length_shown}
 use Rattle.jsonc_tree.proofs.Relinking.{came_agrees, went_agrees, before_there, place_there}
 
 -- the places of the nodes as a list
@@ -37,14 +36,13 @@ places_are ns n =
           ∙ sym (ap (place_under ns n) (ap (λ (x : Node). x.parent) (get_or_past ns n tree.nowhere h)))
     ]
 
--- there is a tree that a splice makes, with this room
-pub spliced : (ns : List Node) (c i j more : ℕ) (xs : List ℕ) → IsTree ns → c < length ns → is_container_at ns c ≡ true → i ≤ j → j ≤ length (children_at ns c) → CanJoin ns c i j xs → room_at ns c + (j - i) ≤ more + length xs → (new : List Node) × Splices ns new c i j xs × IsTree new × (room_at new c ≡ more)
-spliced ns c i j more xs t at holds order inside join room =
+-- there is a tree that a splice makes
+pub spliced : (ns : List Node) (c i j : ℕ) (xs : List ℕ) → IsTree ns → c < length ns → is_container_at ns c ≡ true → i ≤ j → j ≤ length (children_at ns c) → CanJoin ns c i j xs → (new : List Node) × Splices ns new c i j xs × IsTree new
+spliced ns c i j xs t at holds order inside join =
     let stored : IsTreeBy ns (λ n. get_or (places_in ns) n 0) = IsTreeBy-same ns ns (place_at ns) (λ n. get_or (places_in ns) n 0) (omega arith) (λ k. refl) (λ k. refl) (places_are ns) t.root_first t.leaf t in (
-      spliced_nodes ns c i j xs more,
-      spliced_facts ns (places_in ns) c i j more xs stored (length-places ns) at order inside join room,
-      IsTree-from (spliced_nodes ns c i j xs more) (λ n. get_or (spliced_places ns (places_in ns) c i j xs) n 0) (spliced_tree ns (places_in ns) c i j more xs stored (length-places ns) at order inside join holds),
-      ap (λ (n : Node). n.room) (spliced-container ns (places_in ns) c i j more xs stored (length-places ns) at order inside join).1,
+      spliced_nodes ns c i j xs,
+      spliced_facts ns (places_in ns) c i j xs stored (length-places ns) at order inside join,
+      IsTree-from (spliced_nodes ns c i j xs) (λ n. get_or (spliced_places ns (places_in ns) c i j xs) n 0) (spliced_tree ns (places_in ns) c i j xs stored (length-places ns) at order inside join holds),
     )
 
 -- an empty splice asks nothing
@@ -81,14 +79,6 @@ parent_went ns new c g x stood splices =
           let first : m ≡ 0 = omega arith in
           ne (sym e ∙ ap (λ k. get_or (slice_range (children_at ns c) g (suc g)) k 0) first ∙ at_zero ∙ is))),
     )
-
--- rooms of a tree that a splice made, where each row had as many
-rooms_after : (ns new : List Node) (c i j : ℕ) (xs : List ℕ) → ((n : ℕ) → n < length ns → room_at ns n ≡ room_over (children_at ns n)) → Splices ns new c i j xs → room_at new c ≡ room_over (splice (children_at ns c) i j xs) → (n : ℕ) → n < length new → room_at new n ≡ room_over (children_at new n)
-rooms_after ns new c i j xs rooms splices at_c n h =
-    elim (cases_eq n c) [
-      | inl is ↦ ap (room_at new) is ∙ at_c ∙ ap room_over (sym splices.children) ∙ ap (λ m. room_over (children_at new m)) (sym is)
-      | inr ne ↦ (splices.others n ne).1 ∙ rooms n (omega (arith, splices.len)) ∙ ap room_over (sym (splices.others n ne).0)
-    ]
 
 -- what is there has a number that a link can say
 pub in_memory : (o : Option ℕ) (size : ℕ) → IfSome o (λ n. n < size) → size ≤ 2 ^ 32 - 1 → IfSome o (λ n. n < 2 ^ 32 - 1)
@@ -140,12 +130,10 @@ module _ (ls : List LinkedNode) (ok : IsStored ls) where
       let row : List ℕ = children_at ns c in
       let same = agrees ls ok in
       let join = CanJoin-one ns x c g g can.node can.not_root can.alone can.not_over in
-      let room = same.room c can.container in
-      let made = spliced ns c g g (room_over (splice row g g (x ∷ []))) (x ∷ []) ok.tree can.container can.holds (omega arith) gap.inside join (omega (arith, room, length_came x row g gap.inside)) in
+      let made = spliced ns c g g (x ∷ []) ok.tree can.container can.holds (omega arith) gap.inside join in
       let new : List Node = made.0 in
       let moved = parent_came ns new c g x gap.inside made.1 in
-      let rooms = rooms_after ns new c g g (x ∷ []) same.room made.1 made.3 in
-      let fits : Agrees (relinked ls c (before row g) (slice_get row g) (Some x) (Some x) x (Some c) (before row g) (slice_get row g)) new = came_agrees ls ns new ok.tree same c g x can.container can.node made.1.len made.1.content (λ n ne. (made.1.others n ne).0) moved.1 rooms gap.inside can.alone made.1.children moved.0 in
+      let fits : Agrees (relinked ls c (before row g) (slice_get row g) (Some x) (Some x) x (Some c) (before row g) (slice_get row g)) new = came_agrees ls ns new ok.tree same c g x can.container can.node made.1.len made.1.content made.1.others moved.1 gap.inside can.alone made.1.children moved.0 in
       let here : Agrees (relinked ls c b a (Some x) (Some x) x (Some c) b a) new = rw (gap.front, gap.back) fits in (
         subst (λ (l : List Node). Splices ns l c g g (x ∷ [])) (sym (shown_is _ new made.2 here)) made.1,
         stored_by _ new made.2 here (omega (arith, ok.few, here.len, made.1.len, length_shown ls)),
@@ -159,12 +147,10 @@ module _ (ls : List LinkedNode) (ok : IsStored ls) where
       let same = agrees ls ok in
       let inside = slice_get_within row g x stood in
       let there : x < length ns = omega (arith, ok.tree.in_tree c g inside, let both : Some (get_or row g 0) ≡ Some x = sym (slice_get-get_or row g 0 inside) ∙ stood in let is : get_or row g 0 ≡ x = cc in is) in
-      let room = same.room c at in
-      let made = spliced ns c g (suc g) (room_over (splice row g (suc g) [])) [] ok.tree at holds (omega arith) (omega arith) (CanJoin-none ns c g (suc g)) (omega (arith, room, length_went row g inside, row_short ns ok.tree c, length_shown ls, ok.few)) in
+      let made = spliced ns c g (suc g) [] ok.tree at holds (omega arith) (omega arith) (CanJoin-none ns c g (suc g)) in
       let new : List Node = made.0 in
       let moved = parent_went ns new c g x stood made.1 in
-      let rooms = rooms_after ns new c g (suc g) [] same.room made.1 made.3 in
-      let fits : Agrees (relinked ls c (before row g) (slice_get row (suc g)) (slice_get row (suc g)) (before row g) x None None None) new = went_agrees ls ns new ok.tree same c g x at there made.1.len made.1.content (λ n ne. (made.1.others n ne).0) moved.1 rooms inside stood made.1.children moved.0 in
+      let fits : Agrees (relinked ls c (before row g) (slice_get row (suc g)) (slice_get row (suc g)) (before row g) x None None None) new = went_agrees ls ns new ok.tree same c g x at there made.1.len made.1.content made.1.others moved.1 inside stood made.1.children moved.0 in
       let here : Agrees (relinked ls c b a a b x None None None) new = rw (front, back) fits in (
         subst (λ (l : List Node). Splices ns l c g (suc g) []) (sym (shown_is _ new made.2 here)) made.1,
         stored_by _ new made.2 here (omega (arith, ok.few, here.len, made.1.len, length_shown ls)),

@@ -3,8 +3,8 @@ use Rattle.std.proofs.Common.{◌≡◌, ◌≢◌, ℕ, zero, suc, ◌+◌, ◌
 use Rattle.std.specs.List.{splice}
 use Rattle.std.proofs.lemmas.Bool.{cases_lt, cases_eq}
 use Rattle.jsonc_tree.specs.Tree as tree
-use Rattle.jsonc_tree.specs.Tree.{children_at, parent_at, content_at, room_at, IsTree, place_at}
-use Rattle.jsonc_tree.specs.Stored.{LinkedNode, link_at, room_over, ahead_at, back_at, IsLinked}
+use Rattle.jsonc_tree.specs.Tree.{children_at, parent_at, content_at, IsTree, place_at}
+use Rattle.jsonc_tree.specs.Stored.{LinkedNode, link_at, ahead_at, back_at, IsLinked}
 use Rattle.jsonc_tree.specs.Siblings.{before}
 use Rattle.jsonc_tree.proofs.Gaps.{came_low, came_here, came_high, length_came, went_low, went_high, length_went, before_same, at_named, at_there, at_once, before_named, before_once}
 use Rattle.jsonc_tree.proofs.Written.{Apart, relinked, length-relinked, content_kept, parent_here, parent_kept, next_here, previous_here, ahead_hit, back_hit, ahead_miss, back_miss}
@@ -41,7 +41,7 @@ module _ (ns : List tree.Node) (t : IsTree ns) where
       apart_from d c (slice_get (children_at ns d) k) (slice_get (children_at ns c) g) ne (λ n e f.
       let both : Some d ≡ Some c = sym (at_named ns t d k n e) ∙ at_named ns t c g n f in ne (cc))
 
-module _ (ls : List LinkedNode) (ns new : List tree.Node) (t : IsTree ns) (same : Agrees ls ns) (c g x : ℕ) (at : c < length ns) (there : x < length ns) (len : length new ≡ length ns) (contents : (n : ℕ) → content_at new n ≡ content_at ns n) (others : (n : ℕ) → n ≢ c → children_at new n ≡ children_at ns n) (parents : (n : ℕ) → n ≢ x → parent_at new n ≡ parent_at ns n) (rooms : (n : ℕ) → n < length new → room_at new n ≡ room_over (children_at new n)) where
+module _ (ls : List LinkedNode) (ns new : List tree.Node) (t : IsTree ns) (same : Agrees ls ns) (c g x : ℕ) (at : c < length ns) (there : x < length ns) (len : length new ≡ length ns) (contents : (n : ℕ) → content_at new n ≡ content_at ns n) (others : (n : ℕ) → n ≢ c → children_at new n ≡ children_at ns n) (parents : (n : ℕ) → n ≢ x → parent_at new n ≡ parent_at ns n) where
   module _ (inside : g ≤ length (children_at ns c)) (alone : parent_at ns x ≡ None) (row : children_at new c ≡ splice (children_at ns c) g g (x ∷ [])) (parent : parent_at new x ≡ Some c) where
     abbrev came : List LinkedNode
     came = relinked ls c (before (children_at ns c) g) (slice_get (children_at ns c) g) (Some x) (Some x) x (Some c) (before (children_at ns c) g) (slice_get (children_at ns c) g)
@@ -209,7 +209,6 @@ module _ (ls : List LinkedNode) (ns new : List tree.Node) (t : IsTree ns) (same 
       len = length-relinked ls c (before (children_at ns c) g) (slice_get (children_at ns c) g) (Some x) (Some x) x (Some c) (before (children_at ns c) g) (slice_get (children_at ns c) g) (omega (arith, same.len)) (omega (arith, same.len)) b_there a_there ∙ same.len ∙ sym len;
       content = λ n h. content_kept ls c (before (children_at ns c) g) (slice_get (children_at ns c) g) (Some x) (Some x) x (Some c) (before (children_at ns c) g) (slice_get (children_at ns c) g) (omega (arith, same.len)) (omega (arith, same.len)) b_there a_there n ∙ same.content n (omega (arith, len)) ∙ sym (contents n);
       parent = came_parent;
-      room = rooms;
       linked = came_linked;
     }
 
@@ -358,6 +357,5 @@ module _ (ls : List LinkedNode) (ns new : List tree.Node) (t : IsTree ns) (same 
       len = length-relinked ls c (before (children_at ns c) g) (slice_get (children_at ns c) (suc g)) (slice_get (children_at ns c) (suc g)) (before (children_at ns c) g) x None None None (omega (arith, same.len)) (omega (arith, same.len)) wb_there wa_there ∙ same.len ∙ sym len;
       content = λ n h. content_kept ls c (before (children_at ns c) g) (slice_get (children_at ns c) (suc g)) (slice_get (children_at ns c) (suc g)) (before (children_at ns c) g) x None None None (omega (arith, same.len)) (omega (arith, same.len)) wb_there wa_there n ∙ same.content n (omega (arith, len)) ∙ sym (contents n);
       parent = went_parent;
-      room = rooms;
       linked = went_linked;
     }

@@ -4,7 +4,7 @@ use Rattle.std.proofs.lemmas.Bool.{cases_eq, ne_eqb}
 use Rattle.std.proofs.lemmas.List.{get_or-set_same, get_or-set_other}
 use Rattle.jsonc_tree.specs.Content.{Content, root}
 use Rattle.jsonc_tree.specs.Tree as tree
-use Rattle.jsonc_tree.specs.Tree.{room_at, node_at, nowhere, children_at, parent_at, content_at, is_container_at, IsTreeBy, Rooted, top, under, place_among, place_under, place_at, IsTree}
+use Rattle.jsonc_tree.specs.Tree.{node_at, nowhere, children_at, parent_at, content_at, is_container_at, IsTreeBy, Rooted, top, under, place_among, place_under, place_at, IsTree}
 use Rattle.jsonc_tree.specs.Changes.{LeafBecomes}
 
 module _ (ns ms : List tree.Node) (place other : ℕ → ℕ) (more : length ns ≤ length ms) (kids : (k : ℕ) → children_at ms k ≡ children_at ns k) (parents : (k : ℕ) → parent_at ms k ≡ parent_at ns k) (places : (k : ℕ) → other k ≡ place k) where
@@ -68,5 +68,4 @@ LeafBecomes-set old new n content h e =
       others = λ k ne. ap (λ l. content_at l k) e ∙ ap (λ (m : tree.Node). m.content) (get_or-set_other old n k x nowhere ne);
       parent = λ k. ap (λ l. parent_at l k) e ∙ kept_kids (λ m. m.parent) old n k x h refl;
       children = λ k. ap (λ l. children_at l k) e ∙ kept_kids (λ m. m.children) old n k x h refl;
-      room = λ k. omega (arith, ap (λ l. room_at l k) e, kept_kids (λ m. m.room) old n k x h refl);
     }

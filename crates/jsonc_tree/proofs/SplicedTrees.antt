@@ -53,7 +53,7 @@ first_of_row ns n rest _ (shows_more {below = b} {after = a} p r) = (b, a, p, r)
 module _ (old new : List Node) (tree : IsTree old) (after : IsTree new) (c i j : ℕ) (xs : List ℕ) (spliced : Splices old new c i j xs) where
   apart_kept : (ys : List ℕ) (t : OrderedTree) → ((k : ℕ) → k < length ys → IsOver old (get_or ys k 0) c → ⊥) → Shows old ys t → Shows new ys t
   apart_kept ys t apart shows =
-      Shows-kept old new (λ m. IsOver old m c → ⊥) (λ m k out h over. out (over_up old (get_or (children_at old m) k 0) m c (tree.named m k h) over)) (λ m out. spliced.content m) (λ m out. (spliced.others m (λ e. out (subst (λ k. IsOver old k c) (sym e) itself))).0) ys t apart shows
+      Shows-kept old new (λ m. IsOver old m c → ⊥) (λ m k out h over. out (over_up old (get_or (children_at old m) k 0) m c (tree.named m k h) over)) (λ m out. spliced.content m) (λ m out. spliced.others m (λ e. out (subst (λ k. IsOver old k c) (sym e) itself))) ys t apart shows
 
   -- the ordered tree of a node that isn't over the container stays
   pub ordered_tree-kept : (n : ℕ) → n < length old → (IsOver old n c → ⊥) → ordered_tree new n ≡ ordered_tree old n
@@ -103,7 +103,7 @@ module _ (old new : List Node) (tree : IsTree old) (after : IsTree new) (c i j :
         followed_by two.0 (more w rows.0 one.1),
         followed_by two.0 (more w rows.1 one.1),
         subst (λ (l : List ℕ). Shows old l (followed_by two.0 (more w rows.0 one.1))) (sym parts) (Shows-append old (take k cs) (q ∷ drop (k + 1) cs) two.0 (more w rows.0 one.1) two.3 (shows_more rows.2 one.3)),
-        subst (λ (l : List ℕ). Shows new l (followed_by two.0 (more w rows.1 one.1))) (sym ((spliced.others p ne).0 ∙ parts)) (Shows-append new (take k cs) (q ∷ drop (k + 1) cs) two.0 (more w rows.1 one.1) front middle),
+        subst (λ (l : List ℕ). Shows new l (followed_by two.0 (more w rows.1 one.1))) (sym (spliced.others p ne ∙ parts)) (Shows-append new (take k cs) (q ∷ drop (k + 1) cs) two.0 (more w rows.1 one.1) front middle),
         deeper (Replaced-before was now two.0 (more w rows.0 one.1) (more w rows.1 one.1) (Replaced-more was now w w rows.0 rows.1 one.1 rows.4)),
       )
 

@@ -64,8 +64,7 @@ Splices-gone old cur new c i m le lt a b =
       len = b.len ∙ a.len;
       content = λ n. b.content n ∙ a.content n;
       children = b.children ∙ ap (λ l. splice l i (suc i) []) a.children ∙ gone_more row i m le lt;
-      room = omega (arith, a.room, b.room);
-      others = λ n ne. ((b.others n ne).0 ∙ (a.others n ne).0, (b.others n ne).1 ∙ (a.others n ne).1);
+      others = λ n ne. b.others n ne ∙ a.others n ne;
       parents = λ n.
           b.parents n
           ∙ ap (λ l. cond (is_in n l) None (parent_at cur n)) seen
@@ -81,7 +80,7 @@ splice_at [] bs ys (suc k) e = absurd (omega arith)
 splice_at (a ∷ ls) bs ys zero e = absurd (omega arith)
 splice_at (a ∷ ls) bs ys (suc k) e = ap (λ l. a ∷ l) (splice_at ls bs ys k (omega arith))
 
-row_more : (row xs ys : List ℕ) (i j : ℕ) → i ≤ length row → splice (splice row i j xs) (i + length xs) (i + length xs) ys ≡ splice row i j (xs ++ ys)
+pub row_more : (row xs ys : List ℕ) (i j : ℕ) → i ≤ length row → splice (splice row i j xs) (i + length xs) (i + length xs) ys ≡ splice row i j (xs ++ ys)
 row_more row xs ys i j h =
     let front : i + length xs ≡ length (take i row ++ xs) = simp (length-append, length-take) (omega arith) in
     ap (λ l. splice l (i + length xs) (i + length xs) ys) (sym (append_assoc (take i row) xs (drop j row)))
@@ -99,8 +98,7 @@ Splices-more old cur new c i j k xs ys le h at a b =
       len = b.len ∙ a.len;
       content = λ n. b.content n ∙ a.content n;
       children = b.children ∙ ap (λ l. splice l k k ys) a.children ∙ ap (λ m. splice (splice row i j xs) m m ys) at ∙ row_more row xs ys i j (omega arith);
-      room = omega (arith, a.room, b.room, length-append xs ys);
-      others = λ n ne. ((b.others n ne).0 ∙ (a.others n ne).0, (b.others n ne).1 ∙ (a.others n ne).1);
+      others = λ n ne. b.others n ne ∙ a.others n ne;
       parents = λ n.
           b.parents n
           ∙ ap (λ l. cond (is_in n ys) (Some c) (cond (is_in n l) None (parent_at cur n))) none
@@ -121,8 +119,7 @@ Splices-none ns c i h = record {
   len = refl;
   content = λ n. refl;
   children = sym (splice_none (children_at ns c) i);
-  room = omega arith;
-  others = λ n ne. (refl, refl);
+  others = λ n ne. refl;
   parents = λ n. ap (λ l. cond (is_in n l) None (parent_at ns n)) (sym (nothing_between (children_at ns c) i h));
 }
 

@@ -1,18 +1,18 @@
 -- Changes that leave every row as it is: a new node, a leaf that becomes another.
 use Rattle.std.specs.Prelude.{if◌then◌else◌}
-use Rattle.std.proofs.Common.{◌≡◌, ◌^◌, ℕ, Bool, true, false, zero, suc, ◌<◌, ◌≤◌, List, [], ◌∷◌, ◌++◌, length, get_or, set, Option, None, Some, inl, inr, slice_get, refl, sym, ap, subst, ◌∙◌, arith, length-set, ◌-◌}
+use Rattle.std.proofs.Common.{◌≡◌, ◌^◌, ℕ, Bool, true, false, zero, suc, ◌<◌, List, [], ◌∷◌, ◌++◌, length, get_or, set, Option, None, Some, inl, inr, slice_get, refl, sym, ap, subst, ◌∙◌, arith, length-set, ◌-◌}
 use Rattle.std.proofs.lemmas.Bool.{cases_lt, cases_eq, false≢true}
 use Rattle.std.proofs.lemmas.List.{get_or_append_left, get_or_past, get_or_push, length_push, get_or-set_same, get_or-set_other}
 use Rattle.std.proofs.lemmas.Option.{slice_get_past}
 use Rattle.jsonc_tree.specs.Content.{Content, root, is_container}
 use Rattle.jsonc_tree.specs.Tree as tree
-use Rattle.jsonc_tree.specs.Tree.{children_at, parent_at, content_at, node_at, room_at, place_at, is_container_at, IsTree, IsTreeBy, top}
+use Rattle.jsonc_tree.specs.Tree.{children_at, parent_at, content_at, node_at, place_at, is_container_at, IsTree, IsTreeBy, top}
 use Rattle.jsonc_tree.specs.Changes.{Adds, LeafBecomes}
 use Rattle.jsonc_tree.proofs.SameLinks.{content_set, IsTreeBy-same, IsTree-from, LeafBecomes-set}
-use Rattle.jsonc_tree.specs.Stored.{LinkedNode, bare, nowhere, link_at, nodes_of, room_over, ahead_at, back_at, IsStored}
+use Rattle.jsonc_tree.specs.Stored.{LinkedNode, bare, nowhere, link_at, nodes_of, ahead_at, back_at, IsStored}
 use Rattle.jsonc_tree.specs.Siblings.{IsGap}
 use Rattle.jsonc_tree.proofs.Written.{kept}
-use Rattle.jsonc_tree.proofs.AgreeingLinks.{Agrees, agrees, shown_is, stored_by, length_shown, row_short}
+use Rattle.jsonc_tree.proofs.AgreeingLinks.{Agrees, agrees, shown_is, stored_by, length_shown}
 
 -- an element at the end that says what a missing one says changes no answer
 push_same : {X Y : Type 0} (f : X → Y) (xs : List X) (x d : X) (k : ℕ) → f x ≡ f d → f (get_or (xs ++ x ∷ []) k d) ≡ f (get_or xs k d)
@@ -23,7 +23,7 @@ push_same f (y ∷ xs) x d (suc k) e = push_same f xs x d k e
 
 -- a new node as it is shown
 abbrev pub shown_bare : Content → tree.Node
-shown_bare content = record { content = content; parent = None; children = []; room = room_over [] }
+shown_bare content = record { content = content; parent = None; children = [] }
 
 module _ (ns : List tree.Node) (content : Content) where
   abbrev pushed : List tree.Node
@@ -85,18 +85,6 @@ module _ (ls : List LinkedNode) (content : Content) (ok : IsStored ls) where
             ∙ sym (ap (λ (x : tree.Node). x.content) (get_or_push (nodes_of ls) (shown_bare content) tree.nowhere n (sym (is ∙ same.len))))
       ]
 
-  room_pushed : (n : ℕ) → n < length (nodes_of ls ++ shown_bare content ∷ []) → room_at (nodes_of ls ++ shown_bare content ∷ []) n ≡ room_over (children_at (nodes_of ls ++ shown_bare content ∷ []) n)
-  room_pushed n h =
-      let same = agrees ls ok in
-      elim (cases_lt n (length (nodes_of ls))) [
-        | inl l ↦
-            let is = node_pushed (nodes_of ls) content n l in
-            ap (λ (x : tree.Node). x.room) is ∙ same.room n l ∙ ap (λ (x : tree.Node). room_over x.children) (sym is)
-        | inr g ↦
-            let is = get_or_push (nodes_of ls) (shown_bare content) tree.nowhere n (omega (arith, length_push (nodes_of ls) (shown_bare content))) in
-            ap (λ (x : tree.Node). x.room) is ∙ ap (λ (x : tree.Node). room_over x.children) (sym is)
-      ]
-
   pushed_agrees : Agrees (ls ++ bare content ∷ []) (nodes_of ls ++ shown_bare content ∷ [])
   pushed_agrees =
       let same = agrees ls ok in
@@ -104,7 +92,6 @@ module _ (ls : List LinkedNode) (content : Content) (ok : IsStored ls) where
         len = omega (arith, length_push (nodes_of ls) (shown_bare content), length_push ls (bare content), same.len);
         content = content_pushed;
         parent = λ n. push_same (λ x. x.parent) ls (bare content) nowhere n refl ∙ same.parent n ∙ sym (parent_pushed (nodes_of ls) content n);
-        room = room_pushed;
         linked = record {
           ahead = λ c k h. let r = children_pushed (nodes_of ls) content c in rw r (ahead_pushed c _ ∙ same.linked.ahead c k (omega (arith, h, ap length r)));
           back = λ c k h. let r = children_pushed (nodes_of ls) content c in rw r (back_pushed c _ ∙ same.linked.back c k (omega (arith, h, ap length r)));
@@ -169,13 +156,6 @@ module _ (ls : List LinkedNode) (ok : IsStored ls) (n : ℕ) (e : LinkedNode) (c
   becomes : LeafBecomes (nodes_of ls) leaf_set n content
   becomes = LeafBecomes-set (nodes_of ls) leaf_set n content (omega (arith, length_shown ls)) refl
 
-  room_same : (k : ℕ) → room_at leaf_set k ≡ room_at (nodes_of ls) k
-  room_same k =
-      elim (cases_eq k n) [
-        | inl is ↦ ap (room_at leaf_set) is ∙ ap (λ (x : tree.Node). x.room) (get_or-set_same (nodes_of ls) n _ tree.nowhere (omega (arith, length_shown ls))) ∙ ap (room_at (nodes_of ls)) (sym is)
-        | inr ne ↦ ap (λ (x : tree.Node). x.room) (get_or-set_other (nodes_of ls) n k _ tree.nowhere ne)
-      ]
-
   leaf_set_tree : IsTree leaf_set
   leaf_set_tree =
       IsTree-from leaf_set (place_at (nodes_of ls))
@@ -217,7 +197,6 @@ module _ (ls : List LinkedNode) (ok : IsStored ls) (n : ℕ) (e : LinkedNode) (c
               ∙ same.content k (omega (arith, becomes.len)) ∙ sym (becomes.others k ne)
         ];
         parent = λ k. field_kept (λ x. x.parent) k refl ∙ same.parent k ∙ sym (becomes.parent k);
-        room = λ k h. room_same k ∙ same.room k (omega (arith, becomes.len)) ∙ ap room_over (sym (becomes.children k));
         linked = record {
           ahead = λ c k h. let r = becomes.children c in rw r (ahead_kept c _ ∙ same.linked.ahead c k (omega (arith, h, ap length r)));
           back = λ c k h. let r = becomes.children c in rw r (back_kept c _ ∙ same.linked.back c k (omega (arith, h, ap length r)));
@@ -244,10 +223,6 @@ module _ (ls : List LinkedNode) (ok : IsStored ls) where
         front = is ∙ ap (back_at ls c) (sym past) ∙ ok.linked.back c (length row) (omega arith);
         back = sym past;
       }
-
-  -- there is room for more children than a number in memory can say
-  pub room_wide : (c : ℕ) → c < length (nodes_of ls) → 2 ^ 64 ≤ room_at (nodes_of ls) c
-  room_wide c h = omega (arith, (agrees ls ok).room c h, row_short (nodes_of ls) ok.tree c, length_shown ls, ok.few)
 
 -- what holds of a list and of another holds of either
 pub either_stored : (b : Bool) (ls ms : List LinkedNode) → IsStored ls → IsStored ms → IsStored (if b then ls else ms)

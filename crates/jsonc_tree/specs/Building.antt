@@ -4,7 +4,7 @@ use Rattle.jsonc_tree.specs.Content.{Content}
 use Rattle.jsonc_tree.specs.Tree.{Node, content_at, parent_at, children_at, IsTree}
 use Rattle.jsonc_tree.specs.OrderedTree.{OrderedTree, Shows}
 
--- the first `count` nodes are as they were, but for their room; there may be new ones
+-- the first `count` nodes are as they were; there may be new ones
 pub record Keeps (count : ℕ) (old new : List Node) : Type 0 where
   pub len : length old ≤ length new
   pub content : (n : ℕ) → n < count → content_at new n ≡ content_at old n

@@ -1,8 +1,8 @@
 -- What the changes of a tree do to its nodes.
-use Rattle.std.specs.Prelude.{◌≡◌, ◌≢◌, ℕ, ◌+◌, ◌-◌, ◌≤◌, ◌<◌, ◌⊎◌, true, List, [], ◌∷◌, ◌++◌, length, Option, Some, None, slice_index, slice_range, if◌then◌else◌}
+use Rattle.std.specs.Prelude.{◌≡◌, ◌≢◌, ℕ, ◌+◌, ◌<◌, ◌⊎◌, true, List, [], ◌∷◌, ◌++◌, length, Option, Some, None, slice_index, slice_range, if◌then◌else◌}
 use Rattle.std.specs.List.{splice}
 use Rattle.jsonc_tree.specs.Content.{Content}
-use Rattle.jsonc_tree.specs.Tree.{Node, node_at, content_at, parent_at, children_at, room_at, is_container_at, is_in, IsOver}
+use Rattle.jsonc_tree.specs.Tree.{Node, node_at, content_at, parent_at, children_at, is_container_at, is_in, IsOver}
 
 -- no number stands twice in the list
 abbrev pub EachOnce : List ℕ → Type 0
@@ -18,8 +18,7 @@ pub record Splices (old new : List Node) (c i j : ℕ) (xs : List ℕ) : Type 0 
   pub len : length new ≡ length old
   pub content : (n : ℕ) → content_at new n ≡ content_at old n
   pub children : children_at new c ≡ splice (children_at old c) i j xs
-  pub room : room_at old c + (j - i) ≤ room_at new c + length xs
-  pub others : (n : ℕ) → n ≢ c → (children_at new n ≡ children_at old n) × (room_at new n ≡ room_at old n)
+  pub others : (n : ℕ) → n ≢ c → children_at new n ≡ children_at old n
   pub parents : (n : ℕ) → parent_at new n ≡ parent_after old c i j xs n
 
 -- the node has no parent, or is among the children that give way
@@ -53,7 +52,6 @@ pub record Appends (old new : List Node) (c n : ℕ) : Type 0 where
   pub others : (m : ℕ) → m ≢ c → children_at new m ≡ children_at old m
   pub parent : parent_at new n ≡ Some c
   pub parents : (m : ℕ) → m ≢ n → parent_at new m ≡ parent_at old m
-  pub room : room_at old c ≤ room_at new c + 1
 
 -- there is one more node, without parent and children
 pub record Adds (old new : List Node) (content : Content) : Type 0 where
@@ -69,15 +67,6 @@ pub record LeafBecomes (old new : List Node) (leaf : ℕ) (now : Content) : Type
   pub others : (n : ℕ) → n ≢ leaf → content_at new n ≡ content_at old n
   pub parent : (n : ℕ) → parent_at new n ≡ parent_at old n
   pub children : (n : ℕ) → children_at new n ≡ children_at old n
-  pub room : (n : ℕ) → room_at old n ≤ room_at new n
-
--- the nodes are as they were, but that some may have more room
-pub record MakesRoom (old new : List Node) : Type 0 where
-  pub len : length new ≡ length old
-  pub content : (n : ℕ) → content_at new n ≡ content_at old n
-  pub parent : (n : ℕ) → parent_at new n ≡ parent_at old n
-  pub children : (n : ℕ) → children_at new n ≡ children_at old n
-  pub room : (n : ℕ) → room_at old n ≤ room_at new n
 
 -- there is one more node, the container's last child, without children
 pub record Pushes (old new : List Node) (c : ℕ) (content : Content) : Type 0 where

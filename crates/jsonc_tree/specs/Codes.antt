@@ -73,10 +73,10 @@ content_code = code_by (ℕ × List ℕ) (coded× coded_ℕ (coded_list coded_�
 
 abbrev pub node_code : Coded Node
 node_code =
-    code_by (Content × (Option ℕ × (List ℕ × ℕ)))
-    (coded× content_code (coded× (coded_option coded_ℕ) (coded× (coded_list coded_ℕ) coded_ℕ)))
-    (λ n. (n.content, (n.parent, (n.children, n.room))))
-    (λ p. record { content = p.0; parent = p.1.0; children = p.1.1.0; room = p.1.1.1 })
+    code_by (Content × (Option ℕ × List ℕ))
+    (coded× content_code (coded× (coded_option coded_ℕ) (coded_list coded_ℕ)))
+    (λ n. (n.content, (n.parent, n.children)))
+    (λ p. record { content = p.0; parent = p.1.0; children = p.1.1 })
     (λ _. refl)
 
 -- two facts of one equation are one
@@ -123,15 +123,13 @@ IsTreeBy-prop ns place s t = λ i. record {
 pub IsTree-prop : (ns : List Node) → IsProp (IsTree ns)
 IsTree-prop ns = IsTreeBy-prop ns (place_at ns)
 
--- trees of the same nodes and the same room are the same
-pub tree_same : (s t : Tree) → s.nodes ≡ t.nodes → s.room ≡ t.room → s ≡ t
-tree_same s t e f = λ i. record {
+-- trees of the same nodes are the same
+pub tree_same : (s t : Tree) → s.nodes ≡ t.nodes → s ≡ t
+tree_same s t e = λ i. record {
   nodes = e i;
-  room = f i;
   tree = is_prop→PathP (λ j. IsTree (e j)) (λ j. IsTree-prop (e j)) s.tree t.tree i;
 }
 
 abbrev pub tree_code : Coded Tree
 tree_code =
-    coded_via (coded× (coded_list node_code) coded_ℕ) (λ t. (t.nodes, t.room))
-    (λ s t e. tree_same s t (ap (λ p. p.0) e) (ap (λ p. p.1) e))
+    coded_via (coded_list node_code) (λ t. t.nodes) tree_same

@@ -1,5 +1,5 @@
 -- Who stands beside a node, and where a node can come between two others.
-use Rattle.std.specs.Prelude.{◌≡◌, ◌≤◌, ◌+◌, ℕ, zero, suc, List, [], drop, length, reverse, slice_get, take, Option, None}
+use Rattle.std.specs.Prelude.{◌≡◌, ◌≤◌, ◌+◌, ℕ, zero, suc, List, [], drop, length, reverse, slice_get, take, Option, None, Some}
 use Rattle.jsonc_tree.specs.Tree.{Node, children_at, parent_at, place_at}
 use Rattle.jsonc_tree.specs.Order.{with_parent}
 use Rattle.jsonc_tree.specs.Changes.{CanJoin, Splices}
@@ -46,3 +46,21 @@ CanFill ns c ahead_of behind xs = (g : ℕ) × IsGap ns c g ahead_of behind × C
 -- the new nodes are the old ones, but that this child of the container is none any more
 abbrev pub TakesOut : List Node → List Node → ℕ → ℕ → Type 0
 TakesOut old new c n = Splices old new c (place_at old n) (suc (place_at old n)) []
+
+-- these may take the place of this child
+abbrev pub CanReplace : List Node → ℕ → List ℕ → Type 0
+CanReplace ns n xs = (c : ℕ) × (parent_at ns n ≡ Some c) × CanJoin ns c (place_at ns n) (place_at ns n + 1) xs
+
+-- the new nodes are the old ones, but that these are in the place of this child
+abbrev pub Replaces : List Node → List Node → ℕ → List ℕ → Type 0
+Replaces old new n xs = (c : ℕ) → parent_at old n ≡ Some c → Splices old new c (place_at old n) (place_at old n + 1) xs
+
+-- both are children of the container, and the last is the first or behind it
+pub record IsStretch (ns : List Node) (c first last : ℕ) : Type 0 where
+  pub front : parent_at ns first ≡ Some c
+  pub back : parent_at ns last ≡ Some c
+  pub order : place_at ns first ≤ place_at ns last
+
+-- the new nodes are the old ones, but that the container's children from the first to the last are none any more
+abbrev pub TakesStretch : List Node → List Node → ℕ → ℕ → ℕ → Type 0
+TakesStretch old new c first last = Splices old new c (place_at old first) (place_at old last + 1) []

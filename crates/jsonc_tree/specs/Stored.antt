@@ -9,10 +9,6 @@ use Rattle.jsonc_tree.specs.declared.node.Ends.{Ends}
 use Rattle.jsonc_tree.specs.declared.node.Kind.{Kind}
 use Rattle.jsonc_tree.specs.declared.node.Kind.TheVariants.{Root, Object, Array, Property, String, Word, Number, Boolean, Null, Token, Whitespace, Newline, Comment, StringPart, WordPart, NumberPart, WhitespacePart, CommentPart}
 
--- how many more children a row takes: more than any number in memory
-abbrev pub room_over : List ℕ → ℕ
-room_over row = 2 ^ 65 - length row
-
 module _ {A : Type 0} where
   -- what a node of this kind is
   abbrev pub content_of : Kind A → Content
@@ -82,7 +78,7 @@ chain (suc steps) ls (Some n) = n ∷ chain steps ls (link_at ls n).next
 
 -- a node as it is shown
 abbrev pub shown : List LinkedNode → LinkedNode → tree.Node
-shown ls n = record { content = n.content; parent = n.parent; children = chain (length ls) ls n.first; room = room_over (chain (length ls) ls n.first) }
+shown ls n = record { content = n.content; parent = n.parent; children = chain (length ls) ls n.first }
 
 abbrev pub nodes_of : List LinkedNode → List tree.Node
 nodes_of ls = map (shown ls) ls

@@ -1,6 +1,6 @@
 //! The links of a row: how they are read and written, one at a time.
 
-ghost use Rattle.std.specs.Prelude.{◌≡◌, ◌<◌, ◌≤◌, ◌-◌, ◌^◌, true, vec_len, vec_capacity};
+ghost use Rattle.std.specs.Prelude.{◌≡◌, ◌<◌, ◌≤◌, ◌-◌, ◌^◌, true, vec_len};
 ghost use Rattle.std.specs.Prelude.{IfOk, IfSome, OnErr, OnOk};
 ghost use Rattle.jsonc_tree.specs.Content.{is_container};
 ghost use Rattle.jsonc_tree.specs.Stored.{link_at, ahead_set, back_set, back_at, place_set};
@@ -36,7 +36,6 @@ pub(crate) fn set_ahead<A: Allocator>(
     requires to { IfSome to (λ n. n < 2 ^ 32 - 1) }
     ensures nodes { nodes.new.items ≡ ahead_set nodes.old.items c before to }
     ensures len { vec_len nodes.new ≡ vec_len nodes.old }
-    ensures capacity { vec_capacity nodes.new ≡ vec_capacity nodes.old }
 {
     match before {
         None => {
@@ -63,7 +62,6 @@ pub(crate) fn set_back<A: Allocator>(
     requires to { IfSome to (λ n. n < 2 ^ 32 - 1) }
     ensures nodes { nodes.new.items ≡ back_set nodes.old.items c behind to }
     ensures len { vec_len nodes.new ≡ vec_len nodes.old }
-    ensures capacity { vec_capacity nodes.new ≡ vec_capacity nodes.old }
 {
     match behind {
         None => {
@@ -91,7 +89,6 @@ pub(crate) fn set_place<A: Allocator>(
     requires next { IfSome next (λ n. n < 2 ^ 32 - 1) }
     ensures nodes { nodes.new.items ≡ place_set nodes.old.items n parent previous next }
     ensures len { vec_len nodes.new ≡ vec_len nodes.old }
-    ensures capacity { vec_capacity nodes.new ≡ vec_capacity nodes.old }
 {
     let node = &mut nodes[n];
     node.set_place(parent, previous, next);

@@ -1,13 +1,16 @@
 //! Nodes that come into a row and go out of one.
 
-ghost use Rattle.std.specs.Prelude.{◌≡◌, IsTrue, ◌<◌, ◌≤◌, [], ◌∷◌, length, Some};
-ghost use Rattle.std.specs.Prelude.{slice_get, vec_len, vec_capacity};
+ghost use Rattle.std.specs.Prelude.{◌≡◌, IsTrue, ◌<◌, ◌≤◌, ◌+◌, [], ◌∷◌, length, Some};
+ghost use Rattle.std.specs.Prelude.{slice_get, vec_len};
 ghost use Rattle.jsonc_tree.specs.Tree.{children_at, parent_at, is_container_at};
 ghost use Rattle.jsonc_tree.specs.Changes.{Appends, CanAppend, CanJoin, Splices};
-ghost use Rattle.jsonc_tree.specs.Siblings.{CanFill, Fills, HasGap, TakesOut};
+ghost use Rattle.jsonc_tree.specs.Siblings.{CanFill, CanReplace, Fills, HasGap, IsStretch, Replaces};
+ghost use Rattle.jsonc_tree.specs.Siblings.{TakesOut, TakesStretch};
 ghost use Rattle.jsonc_tree.specs.Stored.{nodes_in, IsStored};
 
-use crate::links::{before_of, last_of, next_of, previous_of, set_ahead, set_back, set_place};
+use crate::links::{
+    before_of, last_of, next_of, parent_of, previous_of, set_ahead, set_back, set_place,
+};
 use crate::node::Node;
 use crate::walk::child_from;
 use std::alloc::Allocator;
@@ -26,7 +29,6 @@ pub(crate) fn put_between<A: Allocator>(
     ensures fills { Fills (nodes_in nodes.old) (nodes_in nodes.new) c before behind (x ∷ []) }
     ensures stored { IsStored nodes.new.items }
     ensures len { vec_len nodes.new ≡ vec_len nodes.old }
-    ensures capacity { vec_capacity nodes.new ≡ vec_capacity nodes.old }
 {
     set_ahead(nodes, c, before, Some(x));
     set_back(nodes, c, behind, Some(x));
@@ -41,7 +43,6 @@ fn take_out<A: Allocator>(nodes: &mut Vec<Node<A>, A>, c: usize, x: usize)
     ensures gone { TakesOut (nodes_in nodes.old) (nodes_in nodes.new) c x }
     ensures stored { IsStored nodes.new.items }
     ensures len { vec_len nodes.new ≡ vec_len nodes.old }
-    ensures capacity { vec_capacity nodes.new ≡ vec_capacity nodes.old }
 {
     let before = previous_of(nodes, x);
     let behind = next_of(nodes, x);
@@ -65,7 +66,6 @@ fn take_stretch<A: Allocator>(
     ensures behind { result ≡ slice_get (children_at (nodes_in nodes.new) c) from }
     ensures stored { IsStored nodes.new.items }
     ensures len { vec_len nodes.new ≡ vec_len nodes.old }
-    ensures capacity { vec_capacity nodes.new ≡ vec_capacity nodes.old }
 {
     let mut behind = child_from(nodes, c, from);
     for _i in from..to {
@@ -76,8 +76,32 @@ fn take_stretch<A: Allocator>(
     behind
 }
 
+// Takes the children from one to another out of a row.
+pub(crate) fn take_between<A: Allocator>(
+    nodes: &mut Vec<Node<A>, A>,
+    c: usize,
+    first: usize,
+    last: usize,
+)
+    requires stored { IsStored nodes.old.items }
+    requires stretch { IsStretch (nodes_in nodes.old) c first last }
+    ensures gone { TakesStretch (nodes_in nodes.old) (nodes_in nodes.new) c first last }
+    ensures stored { IsStored nodes.new.items }
+    ensures len { vec_len nodes.new ≡ vec_len nodes.old }
+{
+    let mut at = first;
+    while at != last {
+        let Some(next) = next_of(nodes, at) else {
+            unreachable!()
+        };
+        take_out(nodes, c, at);
+        at = next;
+    }
+    take_out(nodes, c, at);
+}
+
 // Puts nodes that stand alone into a gap of a row, one behind the other.
-fn put_row<A: Allocator>(
+pub(crate) fn put_row<A: Allocator>(
     nodes: &mut Vec<Node<A>, A>,
     c: usize,
     before: Option<usize>,
@@ -91,7 +115,6 @@ fn put_row<A: Allocator>(
     ensures fills { Fills (nodes_in nodes.old) (nodes_in nodes.new) c before behind new.now }
     ensures stored { IsStored nodes.new.items }
     ensures len { vec_len nodes.new ≡ vec_len nodes.old }
-    ensures capacity { vec_capacity nodes.new ≡ vec_capacity nodes.old }
 {
     let mut last = before;
     for i in 0..new.len() {
@@ -118,10 +141,27 @@ pub(crate) fn splice_nodes<A: Allocator>(
     ensures splices { Splices (nodes_in nodes.old) (nodes_in nodes.new) c from to new.now }
     ensures stored { IsStored nodes.new.items }
     ensures len { vec_len nodes.new ≡ vec_len nodes.old }
-    ensures capacity { vec_capacity nodes.new ≡ vec_capacity nodes.old }
 {
     let behind = take_stretch(nodes, c, from, to);
     let before = before_of(nodes, c, behind);
+    put_row(nodes, c, before, behind, new);
+}
+
+// Puts nodes in the place of a child.
+pub(crate) fn replace_child<A: Allocator>(nodes: &mut Vec<Node<A>, A>, x: usize, new: &[usize])
+    requires stored { IsStored nodes.old.items }
+    requires in_tree { x < vec_len nodes.old }
+    requires can { CanReplace (nodes_in nodes.old) x new.now }
+    ensures replaces { Replaces (nodes_in nodes.old) (nodes_in nodes.new) x new.now }
+    ensures stored { IsStored nodes.new.items }
+    ensures len { vec_len nodes.new ≡ vec_len nodes.old }
+{
+    let Some(c) = parent_of(nodes, x) else {
+        unreachable!()
+    };
+    let before = previous_of(nodes, x);
+    let behind = next_of(nodes, x);
+    take_out(nodes, c, x);
     put_row(nodes, c, before, behind, new);
 }
 
@@ -132,7 +172,6 @@ pub(crate) fn append_node<A: Allocator>(nodes: &mut Vec<Node<A>, A>, c: usize, x
     ensures appends { Appends (nodes_in nodes.old) (nodes_in nodes.new) c x }
     ensures stored { IsStored nodes.new.items }
     ensures len { vec_len nodes.new ≡ vec_len nodes.old }
-    ensures capacity { vec_capacity nodes.new ≡ vec_capacity nodes.old }
 {
     let last = last_of(nodes, c);
     put_between(nodes, c, last, None, x);

@@ -1,18 +1,19 @@
 //! The nodes of a document, and their changes.
 
-ghost use Rattle.std.specs.Prelude.{◌≡◌, ℕ, false, IsTrue, ◌+◌, ◌-◌, ◌^◌, ◌<◌, ◌≤◌, [], ◌∷◌};
-ghost use Rattle.std.specs.Prelude.{length, vec_capacity, vec_len, IfOk, OnErr, OnOk};
+ghost use Rattle.std.specs.Prelude.{◌≡◌, false, IsTrue, ◌<◌, ◌≤◌, []};
+ghost use Rattle.std.specs.Prelude.{length, vec_len, IfOk, OnErr, OnOk};
 ghost use Rattle.jsonc_tree.specs.Content.{is_container};
-ghost use Rattle.jsonc_tree.specs.Tree.{children_at, is_container_at, room_at};
+ghost use Rattle.jsonc_tree.specs.Tree.{children_at, is_container_at};
 ghost use Rattle.jsonc_tree.specs.Changes.{Adds, Appends, CanAppend, CanJoin};
-ghost use Rattle.jsonc_tree.specs.Changes.{LeafBecomes, MakesRoom, Pushes, Splices};
-ghost use Rattle.jsonc_tree.specs.Siblings.{Fills, HasGap};
+ghost use Rattle.jsonc_tree.specs.Changes.{LeafBecomes, Pushes, Splices};
+ghost use Rattle.jsonc_tree.specs.Siblings.{CanFill, CanReplace, Fills, IsStretch, Replaces};
+ghost use Rattle.jsonc_tree.specs.Siblings.{TakesStretch};
 ghost use Rattle.jsonc_tree.specs.Stored.{content_of, nodes_in, IsStored};
 ghost use Rattle.jsonc_tree.specs.StoredOnce.{IsStored-prop};
 
-use crate::links::{first_of, next_number};
+use crate::links::next_number;
 use crate::node::{Ends, Kind, Node, bare_node};
-use crate::splice::{append_node, put_between, splice_nodes};
+use crate::splice::{append_node, put_row, replace_child, splice_nodes, take_between};
 use std::alloc::{AllocError, Allocator};
 use std::marker::Model;
 
@@ -26,7 +27,6 @@ pub struct Tree<A: Allocator> {
 }
 
 impl<A: Allocator> Model for Tree<A> {
-    ghost use Rattle.std.specs.Prelude.{vec_capacity, vec_len, ◌-◌};
     ghost use Rattle.jsonc_tree.specs.Tree.{Tree as Nodes};
     ghost use Rattle.jsonc_tree.specs.Codes.{tree_code};
 
@@ -38,7 +38,6 @@ impl<A: Allocator> Model for Tree<A> {
 
     ghost view = { λ t. record {
       nodes = nodes_of t.nodes.items;
-      room = vec_capacity t.nodes - vec_len t.nodes;
       tree = t.stored.tree;
     } };
 }
@@ -52,19 +51,9 @@ fn set_leaf_at<A: Allocator>(nodes: &mut Vec<Node<A>, A>, leaf: usize, kind: Kin
     ensures becomes { LeafBecomes (nodes_in nodes.old) (nodes_in nodes.new) leaf (content_of kind) }
     ensures stored { IsStored nodes.new.items }
     ensures len { vec_len nodes.new ≡ vec_len nodes.old }
-    ensures capacity { vec_capacity nodes.new ≡ vec_capacity nodes.old }
 {
     let node = &mut nodes[leaf];
     node.set_leaf(kind);
-}
-
-// There is room for any number of children.
-fn has_room<A: Allocator>(nodes: &Vec<Node<A>, A>, c: usize)
-    requires stored { IsStored nodes.now.items }
-    requires in_tree { c < vec_len nodes.now }
-    ensures { 2 ^ 64 ≤ room_at (nodes_in nodes.now) c }
-{
-    let _ = first_of(nodes, c);
 }
 
 impl<A: Allocator> Tree<A> {
@@ -73,19 +62,6 @@ impl<A: Allocator> Tree<A> {
         ensures len { result ≡ length self.now.nodes }
     {
         self.nodes.len()
-    }
-
-    /// Makes room for so many more children, so that a splice that adds as many needs no memory.
-    ///
-    /// On an error the tree stays as it was.
-    pub fn reserve(&mut self, container: usize, additional: usize) -> Result<(), AllocError>
-        requires { container < length self.old.nodes }
-        ensures room { OnOk result (additional ≤ room_at self.new.nodes container) }
-        ensures kept { MakesRoom self.old.nodes self.new.nodes }
-        ensures spare { self.old.room ≤ self.new.room }
-    {
-        has_room(&self.nodes, container);
-        Ok(())
     }
 
     /// Puts nodes in the place of the container's children from `from` up to `to`.
@@ -97,52 +73,56 @@ impl<A: Allocator> Tree<A> {
         requires container { IsTrue (is_container_at self.old.nodes container) }
         requires order { from ≤ to }
         requires within { to ≤ length (children_at self.old.nodes container) }
-        requires room { length new.now ≤ room_at self.old.nodes container + (to - from) }
         requires join { CanJoin self.old.nodes container from to new.now }
         ensures splices { Splices self.old.nodes self.new.nodes container from to new.now }
-        ensures spare { self.old.room ≤ self.new.room }
     {
         splice_nodes(&mut self.nodes, container, from, to, new);
     }
 
-    /// Puts a node without a parent between two neighbours, or at an end of the container's row, in
-    /// constant time.
+    /// Puts nodes in the place of a child, in the time that they take.
+    ///
+    /// The child is left without a parent. The nodes that are put in have none before, or are the child.
+    pub fn replace(&mut self, node: usize, new: &[usize])
+        requires in_tree { node < length self.old.nodes }
+        requires can { CanReplace self.old.nodes node new.now }
+        ensures replaces { Replaces self.old.nodes self.new.nodes node new.now }
+    {
+        replace_child(&mut self.nodes, node, new);
+    }
+
+    /// Takes the container's children from one to another out, in the time that they take.
+    ///
+    /// Each is left without a parent.
+    pub fn remove_between(&mut self, container: usize, first: usize, last: usize)
+        requires { IsStretch self.old.nodes container first last }
+        ensures { TakesStretch self.old.nodes self.new.nodes container first last }
+    {
+        take_between(&mut self.nodes, container, first, last);
+    }
+
+    /// Puts nodes without a parent between two neighbours, or at an end of the container's row, in the
+    /// time that they take.
     pub fn insert_between(
         &mut self,
         container: usize,
         before: Option<usize>,
         behind: Option<usize>,
-        node: usize,
+        new: &[usize],
     )
-        requires can { CanAppend self.old.nodes container node }
-        requires gap { HasGap self.old.nodes container before behind }
-        ensures fills { Fills self.old.nodes self.new.nodes container before behind (node ∷ []) }
-        ensures spare { self.old.room ≤ self.new.room }
+        requires in_tree { container < length self.old.nodes }
+        requires container { IsTrue (is_container_at self.old.nodes container) }
+        requires can { CanFill self.old.nodes container before behind new.now }
+        ensures fills { Fills self.old.nodes self.new.nodes container before behind new.now }
     {
-        put_between(&mut self.nodes, container, before, behind, node);
-    }
-
-    /// Makes a node without a parent the last child of a container that has room for it.
-    pub fn append(&mut self, container: usize, node: usize)
-        requires can { CanAppend self.old.nodes container node }
-        requires room { 1 ≤ room_at self.old.nodes container }
-        ensures appends { Appends self.old.nodes self.new.nodes container node }
-        ensures spare { self.old.room ≤ self.new.room }
-    {
-        append_node(&mut self.nodes, container, node);
+        put_row(&mut self.nodes, container, before, behind, new);
     }
 
     /// Makes a node without a parent the last child of a container.
-    ///
-    /// On an error every node stays as it was, though the container may have more room.
-    pub fn attach(&mut self, container: usize, node: usize) -> Result<(), AllocError>
+    pub fn append(&mut self, container: usize, node: usize)
         requires { CanAppend self.old.nodes container node }
-        ensures appends { OnOk result (Appends self.old.nodes self.new.nodes container node) }
-        ensures err { OnErr result (MakesRoom self.old.nodes self.new.nodes) }
+        ensures { Appends self.old.nodes self.new.nodes container node }
     {
-        self.reserve(container, 1)?;
-        self.append(container, node);
-        Ok(())
+        append_node(&mut self.nodes, container, node);
     }
 
     /// Lets a leaf become another one, which may be of another kind, in its place.
@@ -151,7 +131,6 @@ impl<A: Allocator> Tree<A> {
         requires leaf { is_container_at self.old.nodes leaf ≡ false }
         requires stays { is_container (content_of kind) ≡ false }
         ensures becomes { LeafBecomes self.old.nodes self.new.nodes leaf (content_of kind) }
-        ensures spare { self.old.room ≤ self.new.room }
     {
         set_leaf_at(&mut self.nodes, leaf, kind);
     }
@@ -184,16 +163,15 @@ impl<A: Allocator> Tree<A> {
 
     /// Adds a node as a container's last child, and answers its number.
     ///
-    /// A tree has at most 2^32 - 1 nodes: one more is refused as out of memory. On an error every node
-    /// stays as it was, though the container may have more room.
+    /// A tree has at most 2^32 - 1 nodes: one more is refused as out of memory. On an error the tree
+    /// stays as it was.
     pub fn push_child(&mut self, container: usize, kind: Kind<A>) -> Result<usize, AllocError>
         requires in_tree { container < length self.old.nodes }
         requires container { IsTrue (is_container_at self.old.nodes container) }
         ensures number { IfOk result (λ n. n ≡ length self.old.nodes) }
         ensures pushes { OnOk result (Pushes self.old.nodes self.new.nodes container (content_of kind)) }
-        ensures err { OnErr result (MakesRoom self.old.nodes self.new.nodes) }
+        ensures err { OnErr result (self.new.nodes ≡ self.old.nodes) }
     {
-        self.reserve(container, 1)?;
         let child = self.add(kind)?;
         self.append(container, child);
         Ok(child)

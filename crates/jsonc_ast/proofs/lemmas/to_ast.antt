@@ -22,6 +22,7 @@ pub mod EndsOfGaps
 pub mod ReadLexemes
 pub mod Unique
 pub mod Order
+pub mod Plains
 pub mod Documents
 pub mod Rows
 pub mod Spelling

@@ -17,9 +17,14 @@ use jsonc_text::errors::{ParseError, ParseErrorKind};
 use jsonc_text::options::ParseOptions;
 use jsonc_text::tokens::TokenAndRange;
 use std::alloc::{AllocError, Allocator};
+use std::mem::replace;
 
 /// How many containers, or containers and properties, may be around a value.
 pub const MAXIMUM_NESTING: usize = 512;
+
+/// Reading has stopped, with the fault that the context keeps. So what is read on the way to there has no room for one.
+#[derive(Clone, Copy)]
+pub struct Stopped;
 
 #[derive(Drop)]
 pub struct Context<'a, A: Allocator> {
@@ -34,13 +39,15 @@ pub struct Context<'a, A: Allocator> {
     pub tokens: Option<Vec<TokenAndRange<'a, A>, A>>,
     pub comments_are_tokens: bool,
     pub comments: Option<GapComments<'a, A>>,
+    /// What is told where reading has stopped.
+    pub fault: ParseError,
     pub ghost same: { parse_options options ≡ options_of scanner },
     pub ghost utf8: { is_utf8 scanner.file_text.now ≡ true },
     pub ghost by_place: { decodes ≡ false → is_some tokens ≡ false },
 }
 
 impl<'a, A: Allocator + Copy> Context<'a, A> {
-    ghost use Rattle.std.specs.Prelude.{◌≡◌, ◌≢◌, ◌≤◌, ◌<◌, ◌⊎◌, ◌||◌, [], true, false, is_some, IfOk, IfErr, IfSome, OnOk, IsTrue};
+    ghost use Rattle.std.specs.Prelude.{◌≡◌, ◌≢◌, ◌≤◌, ◌<◌, ◌⊎◌, ◌||◌, [], true, false, is_some, IfOk, IfErr, IfSome, IfNone, OnOk, OnErr, IsTrue, Some};
     ghost use Rattle.jsonc_ast.specs.to_ast.Refusals.{IsFaultOf, IsOpen, OutOfMemoryOr, IsAllocationFailure, WhereSome, RefusesComment, NoTokenAfter, NothingFirst, NothingAfterComma, NothingNext, OnlyFirst, OnlyAfterComma, OnlyNext, NoColon, NoName};
     ghost use Rattle.jsonc_text.specs.Faults.{IsFault, IsOutOfMemory, range_of, kind_of};
     ghost use Rattle.jsonc_text.specs.Gaps.{Gap};
@@ -94,6 +101,7 @@ impl<'a, A: Allocator + Copy> Context<'a, A> {
             tokens,
             comments_are_tokens: collect.comments == CommentCollectionStrategy::AsTokens,
             comments,
+            fault: ParseError::out_of_memory(),
         }
     }
 
@@ -116,6 +124,7 @@ impl<'a, A: Allocator + Copy> Context<'a, A> {
             tokens: None,
             comments_are_tokens: false,
             comments: None,
+            fault: ParseError::out_of_memory(),
         }
     }
 
@@ -126,51 +135,71 @@ impl<'a, A: Allocator + Copy> Context<'a, A> {
         Range::new(self.scanner.token_start(), self.scanner.token_end())
     }
 
-    /// A fault told of these bytes.
+    /// Reading stops with this fault.
     #[cold]
-    pub(crate) fn fault(&self, range: Range, kind: ParseErrorKind) -> ParseError
-        requires range { Spans (text_in self.now) range.start range.end }
-        requires kind { kind ≢ ParseErrorKind.OutOfMemory }
-        ensures fault { IsFault (text_in self.now) result }
-        ensures range { range_of result ≡ range }
-        ensures kind { kind_of result ≡ kind }
+    fn stop(&mut self, fault: ParseError) -> Stopped
+        ensures { self.new.fault ≡ fault }
     {
-        ParseError::new(range, kind, self.scanner.file_text())
+        self.fault = fault;
+        Stopped
     }
 
-    /// A fault told of the last token.
+    /// The fault that reading stopped with.
+    pub(crate) fn taken_fault(&mut self) -> ParseError
+        ensures { result ≡ self.old.fault }
+    {
+        replace(&mut self.fault, ParseError::out_of_memory())
+    }
+
+    /// Reading stops with a fault told of these bytes.
     #[cold]
-    pub fn fault_here(&self, kind: ParseErrorKind) -> ParseError
+    fn stop_at(&mut self, range: Range, kind: ParseErrorKind) -> Stopped
+        requires range { Spans (text_in self.old) range.start range.end }
+        requires kind { kind ≢ ParseErrorKind.OutOfMemory }
+        ensures fault { IsFault (text_in self.old) self.new.fault }
+        ensures range { range_of self.new.fault ≡ range }
+        ensures kind { kind_of self.new.fault ≡ kind }
+    {
+        let fault = ParseError::new(range, kind, self.scanner.file_text());
+        self.stop(fault)
+    }
+
+    /// The same, told of the last token.
+    #[cold]
+    pub(crate) fn stop_here(&mut self, kind: ParseErrorKind) -> Stopped
         requires { kind ≢ ParseErrorKind.OutOfMemory }
-        ensures fault { IsFault (text_in self.now) result }
-        ensures range { range_of result ≡ token_range self.now }
-        ensures kind { kind_of result ≡ kind }
+        ensures fault { IsFault (text_in self.old) self.new.fault }
+        ensures range { range_of self.new.fault ≡ token_range self.old }
+        ensures kind { kind_of self.new.fault ≡ kind }
     {
-        self.fault(self.range(), kind)
+        let here = self.range();
+        self.stop_at(here, kind)
     }
 
-    /// A fault told of the bytes from a place through the last token.
+    /// The same, told of the bytes from a place through the last token.
     #[cold]
-    pub(crate) fn fault_from(&self, start: usize, kind: ParseErrorKind) -> ParseError
-        requires start { Spans (text_in self.now) start (token_end self.now) }
+    fn stop_from(&mut self, start: usize, kind: ParseErrorKind) -> Stopped
+        requires start { Spans (text_in self.old) start (token_end self.old) }
         requires kind { kind ≢ ParseErrorKind.OutOfMemory }
-        ensures fault { IsFault (text_in self.now) result }
-        ensures range { range_of result ≡ record { start = start; end = token_end self.now } }
-        ensures kind { kind_of result ≡ kind }
+        ensures fault { IsFault (text_in self.old) self.new.fault }
+        ensures range { range_of self.new.fault ≡ record { start = start; end = token_end self.old } }
+        ensures kind { kind_of self.new.fault ≡ kind }
     {
-        self.fault(Range::new(start, self.scanner.token_end()), kind)
+        let range = Range::new(start, self.scanner.token_end());
+        self.stop_at(range, kind)
     }
 
-    /// A fault of a container that the text ends in, told of the bytes from where the container
+    /// Reading stops where the text ends in a container, with a fault told of the bytes from where the container
     /// began, or else of the end.
-    fn unterminated(&self, container: Container, start: Option<usize>) -> ParseError
-        requires { IfSome start (λ i. Spans (text_in self.now) i (token_end self.now)) }
-        ensures fault { IsFault (text_in self.now) result }
-        ensures error { AtEnd self.now → IsOpen container (text_in self.now) start result }
+    #[cold]
+    fn stop_in(&mut self, container: Container, start: Option<usize>) -> Stopped
+        requires { IfSome start (λ i. Spans (text_in self.old) i (token_end self.old)) }
+        ensures fault { IsFault (text_in self.old) self.new.fault }
+        ensures error { AtEnd self.old → IsOpen container (text_in self.old) start self.new.fault }
     {
         match start {
-            Some(start) => self.fault_from(start, container.unterminated()),
-            None => self.fault_here(container.unterminated()),
+            Some(start) => self.stop_from(start, container.unterminated()),
+            None => self.stop_here(container.unterminated()),
         }
     }
 
@@ -183,16 +212,26 @@ impl<'a, A: Allocator + Copy> Context<'a, A> {
         ParseError::out_of_memory()
     }
 
-    /// The fault of a value that too many containers and properties are around. The innermost of
+    /// Reading stops as no memory is left.
+    #[cold]
+    pub(crate) fn stop_for_memory(&mut self) -> Stopped
+        ensures fault { IsFault (text_in self.old) self.new.fault }
+        ensures memory { IsOutOfMemory self.new.fault }
+    {
+        let fault = self.out_of_memory();
+        self.stop(fault)
+    }
+
+    /// Reading stops at a value that too many containers and properties are around. The innermost of
     /// them begins at the place.
     #[cold]
-    pub(crate) fn nesting_fault(&self, start: usize) -> ParseError
-        requires { Spans (text_in self.now) start (token_end self.now) }
-        ensures fault { IsFault (text_in self.now) result }
-        ensures kind { kind_of result ≡ ParseErrorKind.NestingDepthExceeded }
-        ensures range { range_of result ≡ record { start = start; end = token_end self.now } }
+    pub(crate) fn stop_too_deep(&mut self, start: usize) -> Stopped
+        requires { Spans (text_in self.old) start (token_end self.old) }
+        ensures fault { IsFault (text_in self.old) self.new.fault }
+        ensures kind { kind_of self.new.fault ≡ ParseErrorKind.NestingDepthExceeded }
+        ensures range { range_of self.new.fault ≡ record { start = start; end = token_end self.old } }
     {
-        self.fault_from(start, ParseErrorKind::NestingDepthExceeded)
+        self.stop_from(start, ParseErrorKind::NestingDepthExceeded)
     }
 
     /// Whether anything is collected.
@@ -210,7 +249,7 @@ impl<'a, A: Allocator + Copy> Context<'a, A> {
 
     /// Collects the last token, where tokens are asked for.
     #[inline(always)]
-    fn collect(&mut self, token: TokenKind) -> Result<(), ParseError>
+    fn collect(&mut self, token: TokenKind) -> Result<(), AllocError>
         requires { IsTrue (tokens_asked self.old) → token ≢ TokenKind.Passed }
         ensures scanner { self.new.scanner ≡ self.old.scanner }
         ensures content { self.new.content ≡ self.old.content }
@@ -219,8 +258,6 @@ impl<'a, A: Allocator + Copy> Context<'a, A> {
         ensures apart { self.new.comments ≡ self.old.comments }
         ensures collected { OnOk result (CollectsLast self.old self.new (last self.old token)) }
         ensures lent { OnOk result (IsLentHere self.old (Some token) → StaysLent self.old self.new) }
-        ensures memory { IfErr result (λ e. kind_of e ≡ ParseErrorKind.OutOfMemory) }
-        ensures fault { IfErr result (IsFault (text_in self.old)) }
     {
         let range = self.range();
         let len = self.scanner.file_text().len();
@@ -228,28 +265,26 @@ impl<'a, A: Allocator + Copy> Context<'a, A> {
             return Ok(());
         };
         let Ok(token) = self.content.token(token) else {
-            return Err(self.out_of_memory());
+            return Err(AllocError);
         };
         let next = TokenAndRange { range, token };
         let Ok(()) = make_room(tokens, &next, len) else {
-            return Err(self.out_of_memory());
+            return Err(AllocError);
         };
         let Ok(()) = tokens.push(next) else {
-            return Err(self.out_of_memory());
+            return Err(AllocError);
         };
         Ok(())
     }
 
     /// Notes a comment, the last token, where comments are asked for apart.
-    fn note(&mut self, comment: TokenKind) -> Result<(), ParseError>
+    fn note(&mut self, comment: TokenKind) -> Result<(), AllocError>
         ensures scanner { self.new.scanner ≡ self.old.scanner }
         ensures content { self.new.content ≡ self.old.content }
         ensures tokens { self.new.tokens ≡ self.old.tokens }
         ensures comments { self.new.comments_are_tokens ≡ self.old.comments_are_tokens }
         ensures apart { comments_asked self.new ≡ comments_asked self.old }
         ensures noted { OnOk result (NotesComment self.old self.new (last self.old comment)) }
-        ensures memory { IfErr result (λ e. kind_of e ≡ ParseErrorKind.OutOfMemory) }
-        ensures fault { IfErr result (IsFault (text_in self.old)) }
     {
         let Some(comment) = comment_of(comment, &self.content, self.range()) else {
             return Ok(());
@@ -258,7 +293,7 @@ impl<'a, A: Allocator + Copy> Context<'a, A> {
             return Ok(());
         };
         let Ok(()) = comments.pass_comment(comment) else {
-            return Err(self.out_of_memory());
+            return Err(AllocError);
         };
         Ok(())
     }
@@ -266,22 +301,20 @@ impl<'a, A: Allocator + Copy> Context<'a, A> {
     /// Notes that the gap before a lexeme, the last token, has ended, where comments are asked for
     /// apart.
     #[inline(always)]
-    fn end_gap(&mut self) -> Result<(), ParseError>
+    fn end_gap(&mut self) -> Result<(), AllocError>
         ensures scanner { self.new.scanner ≡ self.old.scanner }
         ensures content { self.new.content ≡ self.old.content }
         ensures tokens { self.new.tokens ≡ self.old.tokens }
         ensures comments { self.new.comments_are_tokens ≡ self.old.comments_are_tokens }
         ensures apart { comments_asked self.new ≡ comments_asked self.old }
         ensures noted { OnOk result (NotesLexeme self.old self.new) }
-        ensures memory { IfErr result (λ e. kind_of e ≡ ParseErrorKind.OutOfMemory) }
-        ensures fault { IfErr result (IsFault (text_in self.old)) }
     {
         let range = self.range();
         let Some(comments) = &mut self.comments else {
             return Ok(());
         };
         let Ok(()) = comments.pass_lexeme(range) else {
-            return Err(self.out_of_memory());
+            return Err(AllocError);
         };
         Ok(())
     }
@@ -305,27 +338,31 @@ impl<'a, A: Allocator + Copy> Context<'a, A> {
 
     /// Passes a comment, the last token, where comments are allowed.
     #[cold]
-    fn pass_comment(&mut self, comment: TokenKind) -> Result<(), ParseError>
+    fn pass_comment(&mut self, comment: TokenKind) -> Result<(), Stopped>
         requires { comment ≢ TokenKind.Passed }
-        ensures scanner { self.new.scanner ≡ self.old.scanner }
-        ensures content { self.new.content ≡ self.old.content }
-        ensures tokens { tokens_asked self.new ≡ tokens_asked self.old }
-        ensures comments { self.new.comments_are_tokens ≡ self.old.comments_are_tokens }
-        ensures apart { comments_asked self.new ≡ comments_asked self.old }
+        ensures scanner { OnOk result (self.new.scanner ≡ self.old.scanner) }
+        ensures content { OnOk result (self.new.content ≡ self.old.content) }
+        ensures tokens { OnOk result (tokens_asked self.new ≡ tokens_asked self.old) }
+        ensures comments { OnOk result (self.new.comments_are_tokens ≡ self.old.comments_are_tokens) }
+        ensures apart { OnOk result (comments_asked self.new ≡ comments_asked self.old) }
         ensures noted { OnOk result (NotesComment self.old self.new (last self.old comment)) }
         ensures collected { OnOk result (CollectsComment self.old self.new (last self.old comment)) }
         ensures omitted { OnOk result (OmitsComment self.old self.new) }
         ensures lent { OnOk result (IsLentHere self.old (Some comment) → StaysLent self.old self.new) }
         ensures allowed { OnOk result (IsTrue (options_in self.old).comments) }
-        ensures refused { IfErr result (RefusesComment self.old) }
-        ensures fault { IfErr result (IsFault (text_in self.old)) }
+        ensures refused { OnErr result (RefusesComment self.old self.new.fault) }
+        ensures fault { OnErr result (IsFault (text_in self.old) self.new.fault) }
     {
         if !self.options.allow_comments {
-            return Err(self.fault_here(ParseErrorKind::CommentsNotAllowed));
+            return Err(self.stop_here(ParseErrorKind::CommentsNotAllowed));
         }
-        self.note(comment)?;
+        let Ok(()) = self.note(comment) else {
+            return Err(self.stop_for_memory());
+        };
         if self.comments_are_tokens {
-            self.collect(comment)?;
+            let Ok(()) = self.collect(comment) else {
+                return Err(self.stop_for_memory());
+            };
         }
         Ok(())
     }
@@ -353,43 +390,84 @@ impl<'a, A: Allocator + Copy> Context<'a, A> {
         Ok(())
     }
 
-    /// Passes a gap, and answers the kind of the token after it, or none at the end of the text. The receiver is told
-    /// of the gap, and has come to the token.
-    pub fn scan<R: Receiver<String<A>>>(
-        &mut self,
-        to: &mut R,
-    ) -> Result<Option<TokenKind>, ParseError>
-        requires source { R.source to.old ≡ source_of self.old }
-        requires behind { IsBehind (source_of self.old) (R.reached to.old) (token_end self.old) }
-        ensures kept { Keeps self.old self.new }
+    // Passes a gap of which the receiver knows and a token that is read at once, and answers its kind. Else nothing
+    // changes.
+    #[inline(always)]
+    fn pass_plain(&mut self) -> Option<TokenKind>
+        ensures kept { IfSome result (λ _. Keeps self.old self.new) }
+        ensures found { IfSome result (λ k. Finds (Gap (options_in self.old)) self.old self.new (Some (last self.new k))) }
+        ensures lexeme { IfSome result (λ k. is_a_comment (last self.new k) ≡ false) }
+        ensures lent { IfSome result (λ k. IsLentHere self.new (Some k)) }
+        ensures collects { IfSome result (λ _. Collects self.old self.new) }
+        ensures none { IfNone result (GivesAway self.old self.new) }
+    {
+        if self.collects() {
+            return None;
+        }
+        self.scanner.step_plain(&mut self.content)
+    }
+
+    // Passes a gap of which the receiver knows, and answers the kind of the token after it, or none at the end of the text.
+    #[inline(never)]
+    fn scan_on(&mut self) -> Result<Option<TokenKind>, Stopped>
+        ensures kept { OnOk result (Keeps self.old self.new) }
         ensures found { IfOk (found_by self.new result) (Finds (Gap (options_in self.old)) self.old self.new) }
         ensures lexeme { IfOk (found_by self.new result) IsNoComment }
         ensures lent { IfOk result (IsLentHere self.new) }
         ensures collects { OnOk result (Collects self.old self.new) }
-        ensures refused { IfErr result (OutOfMemoryOr (NoTokenAfter self.old)) }
-        ensures fault { IfErr result (IsFault (text_in self.old)) }
-        ensures error { IfErr result (StopsAnyhow self.old) }
-        ensures source { OnOk result (R.source to.new ≡ R.source to.old) }
-        ensures follows { OnOk result (Follows (source_of self.old) (R.reached to.new) (token_start self.new)) }
-        ensures passes { OnOk result (R.passes to.old to.new) }
-        ensures held { OnOk result (StaysHeld R.names R.holds_elements R.holds_properties to.old to.new) }
+        ensures refused { OnErr result (OutOfMemoryOr (NoTokenAfter self.old) self.new.fault) }
+        ensures fault { OnErr result (IsFault (text_in self.old) self.new.fault) }
+        ensures error { OnErr result (StopsAnyhow self.old self.new.fault) }
     {
-        let Ok(()) = self.pass_gap(to) else {
-            return Err(self.out_of_memory());
-        };
         loop {
-            let Some(token) = self.scanner.step(&mut self.content, self.decodes)? else {
+            let found = match self.scanner.step(&mut self.content, self.decodes) {
+                Ok(found) => found,
+                Err(fault) => return Err(self.stop(fault)),
+            };
+            let Some(token) = found else {
                 return Ok(None);
             };
             if !self.is_comment(token) {
                 if !self.collects() {
                     return Ok(Some(token));
                 }
-                self.collect(token)?;
-                self.end_gap()?;
+                let Ok(()) = self.collect(token) else {
+                    return Err(self.stop_for_memory());
+                };
+                let Ok(()) = self.end_gap() else {
+                    return Err(self.stop_for_memory());
+                };
                 return Ok(Some(token));
             }
             self.pass_comment(token)?;
+        }
+    }
+
+    /// Passes a gap, and answers the kind of the token after it, or none at the end of the text. The receiver is told
+    /// of the gap, and has come to the token.
+    #[inline(always)]
+    pub fn scan<R: Receiver<String<A>>>(&mut self, to: &mut R) -> Result<Option<TokenKind>, Stopped>
+        requires source { R.source to.old ≡ source_of self.old }
+        requires behind { IsBehind (source_of self.old) (R.reached to.old) (token_end self.old) }
+        ensures kept { OnOk result (Keeps self.old self.new) }
+        ensures found { IfOk (found_by self.new result) (Finds (Gap (options_in self.old)) self.old self.new) }
+        ensures lexeme { IfOk (found_by self.new result) IsNoComment }
+        ensures lent { IfOk result (IsLentHere self.new) }
+        ensures collects { OnOk result (Collects self.old self.new) }
+        ensures refused { OnErr result (OutOfMemoryOr (NoTokenAfter self.old) self.new.fault) }
+        ensures fault { OnErr result (IsFault (text_in self.old) self.new.fault) }
+        ensures error { OnErr result (StopsAnyhow self.old self.new.fault) }
+        ensures source { OnOk result (R.source to.new ≡ R.source to.old) }
+        ensures follows { OnOk result (Follows (source_of self.old) (R.reached to.new) (token_start self.new)) }
+        ensures passes { OnOk result (R.passes to.old to.new) }
+        ensures held { OnOk result (StaysHeld R.names R.holds_elements R.holds_properties to.old to.new) }
+    {
+        let Ok(()) = self.pass_gap(to) else {
+            return Err(self.stop_for_memory());
+        };
+        match self.pass_plain() {
+            Some(token) => Ok(Some(token)),
+            None => self.scan_on(),
         }
     }
 
@@ -446,25 +524,25 @@ impl<'a, A: Allocator + Copy> Context<'a, A> {
         to: &mut R,
         container: Container,
         start: Option<usize>,
-    ) -> Result<Option<TokenKind>, ParseError>
+    ) -> Result<Option<TokenKind>, Stopped>
         requires start { IfSome start (λ i. Spans (text_in self.old) i (token_end self.old)) }
         requires source { R.source to.old ≡ source_of self.old }
         requires reached { R.reached to.old (token_end self.old) }
-        ensures kept { Keeps self.old self.new }
+        ensures kept { OnOk result (Keeps self.old self.new) }
         ensures found { IfOk (found_by self.new result) (LeadsToFirst container self.old self.new) }
         ensures only { IfOk (found_by self.new result) (WhereSome (OnlyFirst container self.old self.new)) }
         ensures lent { IfOk result (IsLentHere self.new) }
         ensures collects { OnOk result (Collects self.old self.new) }
-        ensures refused { IfErr result (OutOfMemoryOr (NothingFirst container self.old)) }
-        ensures fault { IfErr result (IsFault (text_in self.old)) }
-        ensures error { IfErr result (StopsInside container start (Due.first container) self.old) }
+        ensures refused { OnErr result (OutOfMemoryOr (NothingFirst container self.old) self.new.fault) }
+        ensures fault { OnErr result (IsFault (text_in self.old) self.new.fault) }
+        ensures error { OnErr result (StopsInside container start (Due.first container) self.old self.new.fault) }
         ensures stands { IfOk (found_by self.new result) (λ f. IfSome f (ClosesNone container)) }
         ensures source { OnOk result (R.source to.new ≡ R.source to.old) }
         ensures follows { OnOk result (Follows (source_of self.old) (R.reached to.new) (token_start self.new)) }
         ensures held { OnOk result (StaysHeld R.names R.holds_elements R.holds_properties to.old to.new) }
     {
         let Some(first) = self.scan(to)? else {
-            return Err(self.unterminated(container, start));
+            return Err(self.stop_in(container, start));
         };
         if self.closes(container, first) {
             return Ok(None);
@@ -479,19 +557,19 @@ impl<'a, A: Allocator + Copy> Context<'a, A> {
         to: &mut R,
         container: Container,
         start: Option<usize>,
-    ) -> Result<Option<TokenKind>, ParseError>
+    ) -> Result<Option<TokenKind>, Stopped>
         requires start { IfSome start (λ i. Spans (text_in self.old) i (token_end self.old)) }
         requires source { R.source to.old ≡ source_of self.old }
         requires behind { IsBehind (source_of self.old) (R.reached to.old) (token_end self.old) }
-        ensures kept { Keeps self.old self.new }
+        ensures kept { OnOk result (Keeps self.old self.new) }
         ensures found { IfOk (found_by self.new result) (LeadsAfterComma container self.old self.new) }
         ensures only { IfOk (found_by self.new result) (WhereSome (OnlyAfterComma container self.old self.new)) }
         ensures lent { IfOk result (IsLentHere self.new) }
         ensures collects { OnOk result (Collects self.old self.new) }
-        ensures refused { IfErr result (OutOfMemoryOr (NothingAfterComma container self.old)) }
-        ensures fault { IfErr result (IsFault (text_in self.old)) }
-        ensures error { IfErr result (λ e. IsBracket 0x2C self.old
-            → StopsInside container start (Due.further container (here self.old)) self.old e) }
+        ensures refused { OnErr result (OutOfMemoryOr (NothingAfterComma container self.old) self.new.fault) }
+        ensures fault { OnErr result (IsFault (text_in self.old) self.new.fault) }
+        ensures error { OnErr result (IsBracket 0x2C self.old
+            → StopsInside container start (Due.further container (here self.old)) self.old self.new.fault) }
         ensures stands { IfOk (found_by self.new result) (λ f. IfSome f (ClosesNone container)) }
         ensures source { OnOk result (R.source to.new ≡ R.source to.old) }
         ensures follows { OnOk result (Follows (source_of self.old) (R.reached to.new) (token_start self.new)) }
@@ -499,31 +577,32 @@ impl<'a, A: Allocator + Copy> Context<'a, A> {
     {
         let comma = self.range();
         let Some(token) = self.scan(to)? else {
-            return Err(self.unterminated(container, start));
+            return Err(self.stop_in(container, start));
         };
         if !self.closes(container, token) {
             return Ok(Some(token));
         }
         if !self.options.allow_trailing_commas {
-            return Err(self.fault(comma, ParseErrorKind::TrailingCommasNotAllowed));
+            return Err(self.stop_at(comma, ParseErrorKind::TrailingCommasNotAllowed));
         }
         Ok(None)
     }
 
-    /// What is wrong with the last token where a comma must stand, after what ended at a place.
+    /// Reading stops at the last token, where a comma must stand, after what ended at a place.
     #[cold]
-    fn missing_comma(&self, container: Container, token: TokenKind, end: usize) -> ParseError
-        requires { Spans (text_in self.now) end (token_end self.now) }
-        ensures fault { IsFault (text_in self.now) result }
-        ensures comma { IsTrue (begins container (last self.now token))
-            → IsFaultOf ParseErrorKind.ExpectedComma (record { start = end; end = end }) result }
-        ensures misplaced { begins container (last self.now token) ≡ false
-            → IsFaultOf (misplaced_kind container (last self.now token)) (token_range self.now) result }
+    fn stop_for_comma(&mut self, container: Container, token: TokenKind, end: usize) -> Stopped
+        requires { Spans (text_in self.old) end (token_end self.old) }
+        ensures fault { IsFault (text_in self.old) self.new.fault }
+        ensures comma { IsTrue (begins container (last self.old token))
+            → IsFaultOf ParseErrorKind.ExpectedComma (record { start = end; end = end }) self.new.fault }
+        ensures misplaced { begins container (last self.old token) ≡ false
+            → IsFaultOf (misplaced_kind container (last self.old token)) (token_range self.old) self.new.fault }
     {
         if self.begins(container, token) {
-            return self.fault(Range::from_byte_index(end), ParseErrorKind::ExpectedComma);
+            return self.stop_at(Range::from_byte_index(end), ParseErrorKind::ExpectedComma);
         }
-        self.fault_here(self.misplaced(container, token))
+        let kind = self.misplaced(container, token);
+        self.stop_here(kind)
     }
 
     /// Passes what stands after an element or a property: answers the kind of the token that the
@@ -534,18 +613,18 @@ impl<'a, A: Allocator + Copy> Context<'a, A> {
         to: &mut R,
         container: Container,
         start: Option<usize>,
-    ) -> Result<Option<TokenKind>, ParseError>
+    ) -> Result<Option<TokenKind>, Stopped>
         requires start { IfSome start (λ i. Spans (text_in self.old) i (token_end self.old)) }
         requires source { R.source to.old ≡ source_of self.old }
         requires reached { R.reached to.old (token_end self.old) }
-        ensures kept { Keeps self.old self.new }
+        ensures kept { OnOk result (Keeps self.old self.new) }
         ensures found { IfOk (found_by self.new result) (LeadsToNext container self.old self.new) }
         ensures only { IfOk (found_by self.new result) (WhereSome (OnlyNext container self.old self.new)) }
         ensures lent { IfOk result (IsLentHere self.new) }
         ensures collects { OnOk result (Collects self.old self.new) }
-        ensures refused { IfErr result (OutOfMemoryOr (NothingNext container self.old)) }
-        ensures fault { IfErr result (IsFault (text_in self.old)) }
-        ensures error { IfErr result (StopsInside container start (Due.comma container (after self.old)) self.old) }
+        ensures refused { OnErr result (OutOfMemoryOr (NothingNext container self.old) self.new.fault) }
+        ensures fault { OnErr result (IsFault (text_in self.old) self.new.fault) }
+        ensures error { OnErr result (StopsInside container start (Due.comma container (after self.old)) self.old self.new.fault) }
         ensures stands { IfOk (found_by self.new result) (λ f. IfSome f (ClosesNone container)) }
         ensures comes { IfOk (found_by self.new result) (λ f. IfSome f (Comes self.old self.new)) }
         ensures source { OnOk result (R.source to.new ≡ R.source to.old) }
@@ -558,7 +637,7 @@ impl<'a, A: Allocator + Copy> Context<'a, A> {
         }
         let end = self.scanner.token_end();
         let Some(token) = self.scan(to)? else {
-            return Err(self.unterminated(container, start));
+            return Err(self.stop_in(container, start));
         };
         if self.closes(container, token) {
             return Ok(None);
@@ -567,7 +646,7 @@ impl<'a, A: Allocator + Copy> Context<'a, A> {
             return self.item_after_comma(to, container, start);
         }
         if !self.options.allow_missing_commas {
-            return Err(self.missing_comma(container, token, end));
+            return Err(self.stop_for_comma(container, token, end));
         }
         Ok(Some(token))
     }
@@ -575,17 +654,17 @@ impl<'a, A: Allocator + Copy> Context<'a, A> {
     /// The name that the last token is, no string that was passed, where the options allow it. A
     /// string is given away.
     #[inline(always)]
-    pub fn name(&mut self, token: TokenKind) -> Result<ObjectPropName<'a, A>, ParseError>
+    pub fn name(&mut self, token: TokenKind) -> Result<ObjectPropName<'a, A>, Stopped>
         requires token { IsToken self.old (last self.old token) }
         requires kept { token ≢ TokenKind.Passed }
-        ensures gives { GivesAway self.old self.new }
+        ensures gives { OnOk result (GivesAway self.old self.new) }
         ensures name { IfOk result (λ n. IsNameHere self.old (name_at n)) }
         ensures range { IfOk result (λ n. (name_at n).range ≡ token_range self.old) }
         ensures written { IfOk result (λ n. IsLentHere self.old (Some token)
             → IsWritten (options_in self.old) (text_in self.old) n) }
-        ensures refused { IfErr result (λ _. NoName self.old) }
-        ensures fault { IfErr result (IsFault (text_in self.old)) }
-        ensures error { IfErr result (IsWrongName self.old (last self.old token)) }
+        ensures refused { OnErr result (NoName self.old) }
+        ensures fault { OnErr result (IsFault (text_in self.old) self.new.fault) }
+        ensures error { OnErr result (IsWrongName self.old (last self.old token) self.new.fault) }
     {
         let range = self.range();
         match token {
@@ -595,10 +674,10 @@ impl<'a, A: Allocator + Copy> Context<'a, A> {
             }
             token => {
                 let Some(value) = self.loose_name(token) else {
-                    return Err(self.fault_here(ParseErrorKind::UnexpectedTokenInObject));
+                    return Err(self.stop_here(ParseErrorKind::UnexpectedTokenInObject));
                 };
                 if !self.options.allow_loose_object_property_names {
-                    return Err(self.fault_here(ParseErrorKind::ExpectedStringObjectProperty));
+                    return Err(self.stop_here(ParseErrorKind::ExpectedStringObjectProperty));
                 }
                 Ok(ObjectPropName::Word(WordLit { range, value }))
             }
@@ -607,15 +686,15 @@ impl<'a, A: Allocator + Copy> Context<'a, A> {
 
     /// Passes a gap and the colon after it.
     #[inline(always)]
-    pub fn pass_colon<R: Receiver<String<A>>>(&mut self, to: &mut R) -> Result<(), ParseError>
+    pub fn pass_colon<R: Receiver<String<A>>>(&mut self, to: &mut R) -> Result<(), Stopped>
         requires source { R.source to.old ≡ source_of self.old }
         requires reached { R.reached to.old (token_end self.old) }
-        ensures kept { Keeps self.old self.new }
+        ensures kept { OnOk result (Keeps self.old self.new) }
         ensures found { OnOk result (PassesColon self.old self.new) }
         ensures collects { OnOk result (Collects self.old self.new) }
-        ensures refused { IfErr result (OutOfMemoryOr (NoColon self.old)) }
-        ensures fault { IfErr result (IsFault (text_in self.old)) }
-        ensures error { IfErr result (StopsAtColon self.old) }
+        ensures refused { OnErr result (OutOfMemoryOr (NoColon self.old) self.new.fault) }
+        ensures fault { OnErr result (IsFault (text_in self.old) self.new.fault) }
+        ensures error { OnErr result (StopsAtColon self.old self.new.fault) }
         ensures source { OnOk result (R.source to.new ≡ R.source to.old) }
         ensures behind { OnOk result (IsBehind (source_of self.old) (R.reached to.new) (token_end self.new)) }
         ensures held { OnOk result (StaysHeld R.names R.holds_elements R.holds_properties to.old to.new) }
@@ -625,10 +704,10 @@ impl<'a, A: Allocator + Copy> Context<'a, A> {
             return Ok(());
         }
         let Some(token) = self.scan(to)? else {
-            return Err(self.fault_here(ParseErrorKind::ExpectedColonAfterObjectKey));
+            return Err(self.stop_here(ParseErrorKind::ExpectedColonAfterObjectKey));
         };
         if !self.is_colon(token) {
-            return Err(self.fault_here(ParseErrorKind::ExpectedColonAfterObjectKey));
+            return Err(self.stop_here(ParseErrorKind::ExpectedColonAfterObjectKey));
         }
         Ok(())
     }

@@ -1,5 +1,5 @@
 //! The walk over a text, by recursive descent, whatever is made of it.
-ghost use Rattle.std.specs.Prelude.{ℕ, List, ◌≡◌, ◌+◌, ◌≤◌, ◌<◌, IfOk, IfErr, OnOk, IfSome, IfNone, IsTrue, true, false, chars, is_some};
+ghost use Rattle.std.specs.Prelude.{ℕ, List, ◌≡◌, ◌+◌, ◌≤◌, ◌<◌, IfOk, IfErr, OnOk, OnErr, IfSome, IfNone, IsTrue, true, false, chars, is_some};
 ghost use Rattle.std.specs.Cow.{cow_str_bytes};
 ghost use Rattle.std.specs.Str.{IsUtf8};
 ghost use Rattle.jsonc_text.specs.Faults.{IsFault};
@@ -20,7 +20,7 @@ ghost use Rattle.jsonc_ast.specs.to_ast.Written.{IsLentHere, IsWritten};
 
 use crate::ast::{ObjectPropName, StringLit};
 use crate::to_ast::container::Container;
-use crate::to_ast::context::{Context, MAXIMUM_NESTING};
+use crate::to_ast::context::{Context, MAXIMUM_NESTING, Stopped};
 use crate::to_ast::receiver::Receiver;
 use jsonc_scan::found::TokenKind;
 use jsonc_text::common::Range;
@@ -120,29 +120,29 @@ fn parse_name<'a, A: Allocator + Copy, R: Receiver<String<A>>>(
     context: &mut Context<'a, A>,
     to: &mut R,
     token: TokenKind,
-) -> Result<R::Property, ParseError>
+) -> Result<R::Property, Stopped>
     requires token { IsToken context.old (last context.old token) }
     requires lent { IsLentHere context.old (Some token) }
     requires source { R.source to.old ≡ source_of context.old }
     requires follows { Follows (R.source to.old) (R.reached to.old) (token_start context.old) }
     ensures source { OnOk result (R.source to.new ≡ R.source to.old) }
     ensures reached { OnOk result (R.reached to.new (token_end context.old)) }
-    ensures gives { GivesAway context.old context.new }
+    ensures gives { OnOk result (GivesAway context.old context.new) }
     ensures named { IfOk result (λ p. NameMade context.old (R.names to.old to.new p)) }
-    ensures refused { IfErr result (OutOfMemoryOr (NoName context.old)) }
-    ensures fault { IfErr result (IsFault (text_in context.old)) }
-    ensures error { IfErr result (IsWrongNameHere context.old (last context.old token)) }
+    ensures refused { OnErr result (OutOfMemoryOr (NoName context.old) context.new.fault) }
+    ensures fault { OnErr result (IsFault (text_in context.old) context.new.fault) }
+    ensures error { OnErr result (IsWrongNameHere context.old (last context.old token) context.new.fault) }
 {
     if let TokenKind::Passed = token {
         let range = context.range();
         let Ok(named) = to.passed_name(range) else {
-            return Err(context.out_of_memory());
+            return Err(context.stop_for_memory());
         };
         return Ok(named);
     }
     let name = context.name(token)?;
     let Ok(named) = hand_name(to, name) else {
-        return Err(context.out_of_memory());
+        return Err(context.stop_for_memory());
     };
     Ok(named)
 }
@@ -204,27 +204,27 @@ fn parse_leaf<'a, A: Allocator + Copy, R: Receiver<String<A>>>(
     context: &mut Context<'a, A>,
     to: &mut R,
     token: TokenKind,
-) -> Result<R::Item, ParseError>
+) -> Result<R::Item, Stopped>
     requires token { IsToken context.old (last context.old token) }
     requires lent { IsLentHere context.old (Some token) }
     requires source { R.source to.old ≡ source_of context.old }
     requires follows { Follows (R.source to.old) (R.reached to.old) (token_start context.old) }
     ensures source { OnOk result (R.source to.new ≡ R.source to.old) }
     ensures reached { OnOk result (R.reached to.new (token_end context.new)) }
-    ensures gives { GivesAway context.old context.new }
+    ensures gives { OnOk result (GivesAway context.old context.new) }
     ensures found { IfOk result (λ i. ReadsLeaf context.old (R.makes to.old to.new i)) }
-    ensures refused { IfErr result (OutOfMemoryOr (NoLiteral context.old)) }
-    ensures fault { IfErr result (IsFault (text_in context.old)) }
-    ensures error { IfErr result (λ e. OpensNone (last context.old token)
-        → IsUnexpectedHere context.old (last context.old token) e) }
+    ensures refused { OnErr result (OutOfMemoryOr (NoLiteral context.old) context.new.fault) }
+    ensures fault { OnErr result (IsFault (text_in context.old) context.new.fault) }
+    ensures error { OnErr result (OpensNone (last context.old token)
+        → IsUnexpectedHere context.old (last context.old token) context.new.fault) }
 {
     let range = context.range();
     let Ok(found) = leaf(context, to, token, range) else {
-        return Err(context.out_of_memory());
+        return Err(context.stop_for_memory());
     };
     let Some(value) = found else {
         let kind = context.unexpected(token);
-        return Err(context.fault_here(kind));
+        return Err(context.stop_here(kind));
     };
     Ok(value)
 }
@@ -237,7 +237,7 @@ fn parse_value<'a, A: Allocator + Copy, R: Receiver<String<A>>>(
     to: &mut R,
     token: TokenKind,
     count: usize,
-) -> Result<R::Item, ParseError>
+) -> Result<R::Item, Stopped>
     requires token { IsToken context.old (last context.old token) }
     requires around { count ≤ 512 }
     requires lent { IsLentHere context.old (Some token) }
@@ -245,8 +245,8 @@ fn parse_value<'a, A: Allocator + Copy, R: Receiver<String<A>>>(
     requires follows { Follows (R.source to.old) (R.reached to.old) (token_start context.old) }
     ensures read { IfOk result (λ i. IsRead context.old context.new (R.source to.old) (R.source to.new) (R.reached to.new)
         (ReadsMade context.old context.new R.whole count (R.makes to.old to.new i))) }
-    ensures refused { IfErr result (IsRefused context.old (NoValueHere context.old R.whole count)
-        (StopsAtValue context.old (last context.old token) R.whole count)) }
+    ensures refused { OnErr result (IsRefused context.old (NoValueHere context.old R.whole count)
+        (StopsAtValue context.old (last context.old token) R.whole count) context.new.fault) }
 {
     // The results of the two calls are taken apart, so that those of literals can stay in registers.
     match token {
@@ -272,7 +272,7 @@ fn parse_element<'a, A: Allocator + Copy, R: Receiver<String<A>>>(
     elements: &mut R::Array,
     token: TokenKind,
     count: usize,
-) -> Result<(), ParseError>
+) -> Result<(), Stopped>
     requires token { IsToken context.old (last context.old token) }
     requires around { count ≤ 512 }
     requires held { (s : R) × (i : ℕ) × (xs : List Located) × R.holds_elements s to.old elements.old i xs }
@@ -282,35 +282,35 @@ fn parse_element<'a, A: Allocator + Copy, R: Receiver<String<A>>>(
     ensures read { OnOk result (IsRead context.old context.new (R.source to.old) (R.source to.new) (R.reached to.new)
         ((s : R) (i : ℕ) → ElementMade context.old context.new R.whole count (R.holds_elements s to.old elements.old i)
         (R.holds_elements s to.new elements.new i))) }
-    ensures refused { IfErr result (IsRefused context.old (NoValueHere context.old R.whole count)
-        (StopsAtValue context.old (last context.old token) R.whole count)) }
+    ensures refused { OnErr result (IsRefused context.old (NoValueHere context.old R.whole count)
+        (StopsAtValue context.old (last context.old token) R.whole count) context.new.fault) }
 {
     match token {
         TokenKind::String => {
             let range = context.range();
             let string = context.content.take_string();
             let Ok(item) = hand_string(to, range, string) else {
-                return Err(context.out_of_memory());
+                return Err(context.stop_for_memory());
             };
             let Ok(()) = to.element(elements, item) else {
-                return Err(context.out_of_memory());
+                return Err(context.stop_for_memory());
             };
             Ok(())
         }
         TokenKind::Number => {
             let range = context.range();
             let Ok(item) = to.number(range) else {
-                return Err(context.out_of_memory());
+                return Err(context.stop_for_memory());
             };
             let Ok(()) = to.element(elements, item) else {
-                return Err(context.out_of_memory());
+                return Err(context.stop_for_memory());
             };
             Ok(())
         }
         token => {
             let value = parse_value(context, to, token, count)?;
             let Ok(()) = to.element(elements, value) else {
-                return Err(context.out_of_memory());
+                return Err(context.stop_for_memory());
             };
             Ok(())
         }
@@ -324,35 +324,35 @@ fn parse_array<'a, A: Allocator + Copy, R: Receiver<String<A>>>(
     context: &mut Context<'a, A>,
     to: &mut R,
     count: usize,
-) -> Result<R::Item, ParseError>
+) -> Result<R::Item, Stopped>
     requires token { IsBracket 0x5B context.old }
     requires around { count ≤ 512 }
     requires source { R.source to.old ≡ source_of context.old }
     requires follows { Follows (R.source to.old) (R.reached to.old) (token_start context.old) }
     ensures read { IfOk result (λ i. IsRead context.old context.new (R.source to.old) (R.source to.new) (R.reached to.new)
         (ReadsMade context.old context.new R.whole count (R.makes to.old to.new i))) }
-    ensures refused { IfErr result (IsRefused context.old (NoValueHere context.old R.whole count)
-        (StopsAtContainer context.old R.whole count)) }
+    ensures refused { OnErr result (IsRefused context.old (NoValueHere context.old R.whole count)
+        (StopsAtContainer context.old R.whole count) context.new.fault) }
 {
     let start = context.scanner.token_start();
     if opens_too_deep(to, count) {
-        return Err(context.nesting_fault(start));
+        return Err(context.stop_too_deep(start));
     }
     let from = told_from(to, start);
     let Ok(mut elements) = to.open_array(start) else {
-        return Err(context.out_of_memory());
+        return Err(context.stop_for_memory());
     };
     let mut next = context.first_item(to, Container::Array, from)?;
     while let Some(token) = next {
         if holds_too_deep(to, count) {
-            return Err(context.nesting_fault(start));
+            return Err(context.stop_too_deep(start));
         }
         parse_element(context, to, &mut elements, token, count + 1)?;
         next = context.next_item(to, Container::Array, from)?;
     }
     let range = Range::new(start, context.scanner.token_end());
     let Ok(array) = to.close_array(elements, range) else {
-        return Err(context.out_of_memory());
+        return Err(context.stop_for_memory());
     };
     Ok(array)
 }
@@ -364,23 +364,23 @@ fn parse_object<'a, A: Allocator + Copy, R: Receiver<String<A>>>(
     context: &mut Context<'a, A>,
     to: &mut R,
     count: usize,
-) -> Result<R::Item, ParseError>
+) -> Result<R::Item, Stopped>
     requires token { IsBracket 0x7B context.old }
     requires around { count ≤ 512 }
     requires source { R.source to.old ≡ source_of context.old }
     requires follows { Follows (R.source to.old) (R.reached to.old) (token_start context.old) }
     ensures read { IfOk result (λ i. IsRead context.old context.new (R.source to.old) (R.source to.new) (R.reached to.new)
         (ReadsMade context.old context.new R.whole count (R.makes to.old to.new i))) }
-    ensures refused { IfErr result (IsRefused context.old (NoValueHere context.old R.whole count)
-        (StopsAtContainer context.old R.whole count)) }
+    ensures refused { OnErr result (IsRefused context.old (NoValueHere context.old R.whole count)
+        (StopsAtContainer context.old R.whole count) context.new.fault) }
 {
     let start = context.scanner.token_start();
     if opens_too_deep(to, count) {
-        return Err(context.nesting_fault(start));
+        return Err(context.stop_too_deep(start));
     }
     let from = told_from(to, start);
     let Ok(mut properties) = to.open_object(start) else {
-        return Err(context.out_of_memory());
+        return Err(context.stop_for_memory());
     };
     let mut next = context.first_item(to, Container::Object, from)?;
     while let Some(token) = next {
@@ -389,7 +389,7 @@ fn parse_object<'a, A: Allocator + Copy, R: Receiver<String<A>>>(
     }
     let range = Range::new(start, context.scanner.token_end());
     let Ok(object) = to.close_object(properties, range) else {
-        return Err(context.out_of_memory());
+        return Err(context.stop_for_memory());
     };
     Ok(object)
 }
@@ -403,7 +403,7 @@ fn parse_property<'a, A: Allocator + Copy, R: Receiver<String<A>>>(
     properties: &mut R::Object,
     token: TokenKind,
     count: usize,
-) -> Result<(), ParseError>
+) -> Result<(), Stopped>
     requires token { IsToken context.old (last context.old token) }
     requires around { count + least R.whole ≤ 513 }
     requires held { (s : R) × (i : ℕ) × (ms : List LocatedMember) × R.holds_properties s to.old properties.old i ms }
@@ -413,26 +413,55 @@ fn parse_property<'a, A: Allocator + Copy, R: Receiver<String<A>>>(
     ensures read { OnOk result (IsRead context.old context.new (R.source to.old) (R.source to.new) (R.reached to.new)
         ((s : R) (i : ℕ) → PropertyMade context.old context.new R.whole count (R.holds_properties s to.old properties.old i)
         (R.holds_properties s to.new properties.new i))) }
-    ensures refused { IfErr result (IsRefused context.old (NoPropertyHere context.old R.whole count)
-        (StopsAtItem Object context.old (last context.old token) R.whole count)) }
+    ensures refused { OnErr result (IsRefused context.old (NoPropertyHere context.old R.whole count)
+        (StopsAtItem Object context.old (last context.old token) R.whole count) context.new.fault) }
 {
     let start = context.scanner.token_start();
     let named = parse_name(context, to, token)?;
     context.pass_colon(to)?;
     let found = context.scan(to)?;
     if holds_too_deep(to, count) {
-        return Err(context.nesting_fault(start));
+        return Err(context.stop_too_deep(start));
     }
     let Some(token) = found else {
-        return Err(context.fault_here(ParseErrorKind::ExpectedObjectValue));
+        return Err(context.stop_here(ParseErrorKind::ExpectedObjectValue));
     };
     let around = around_value(to, count);
     let value = parse_value(context, to, token, around)?;
     let range = Range::new(start, context.scanner.token_end());
     let Ok(()) = to.property(properties, named, value, range) else {
-        return Err(context.out_of_memory());
+        return Err(context.stop_for_memory());
     };
     Ok(())
+}
+
+// Reads the whole text, and answers what was made of its value, or none where it holds blanks and comments alone.
+fn read_text<'a, A: Allocator + Copy, R: Receiver<String<A>>>(
+    context: &mut Context<'a, A>,
+    to: &mut R,
+) -> Result<Option<R::Item>, Stopped>
+    requires start { token_end context.old ≡ 0 }
+    requires source { R.source to.old ≡ source_of context.old }
+    requires reached { R.reached to.old 0 }
+    ensures kept { OnOk result (Keeps context.old context.new) }
+    ensures collects { OnOk result (Collects context.old context.new) }
+    ensures end { OnOk result (AtEnd context.new) }
+    ensures reached { OnOk result (R.reached to.new (token_end context.new)) }
+    ensures found { IfOk result
+        (IsDocumentMade (source_of context.old) R.whole (MadeBetweenGaps R.passes R.makes to.old to.new)) }
+    ensures none { IfOk result (λ f. IfNone f (R.passes to.old to.new)) }
+    ensures refused { OnErr result (Refuses (options_in context.old) R.whole (text_in context.old) context.new.fault) }
+    ensures fault { OnErr result (IsFault (text_in context.old) context.new.fault) }
+    ensures error { OnErr result (ParseFault (options_in context.old) (text_in context.old) R.whole context.new.fault) }
+{
+    let Some(token) = context.scan(to)? else {
+        return Ok(None);
+    };
+    let value = parse_value(context, to, token, 0)?;
+    let None = context.scan(to)? else {
+        return Err(context.stop_here(ParseErrorKind::MultipleRootJsonValues));
+    };
+    Ok(Some(value))
 }
 
 /// Reads the whole text, and answers what was made of its value, or none where it holds blanks and comments alone.
@@ -454,12 +483,8 @@ pub fn read_document<'a, A: Allocator + Copy, R: Receiver<String<A>>>(
     ensures fault { IfErr result (IsFault (text_in context.old)) }
     ensures error { IfErr result (ParseFault (options_in context.old) (text_in context.old) R.whole) }
 {
-    let Some(token) = context.scan(to)? else {
-        return Ok(None);
-    };
-    let value = parse_value(context, to, token, 0)?;
-    let None = context.scan(to)? else {
-        return Err(context.fault_here(ParseErrorKind::MultipleRootJsonValues));
-    };
-    Ok(Some(value))
+    match read_text(context, to) {
+        Ok(item) => Ok(item),
+        Err(_) => Err(context.taken_fault()),
+    }
 }

@@ -55,10 +55,7 @@ fn remove_alone<A: Allocator>(tree: &mut Tree<A>, number: usize)
     let Some(container) = tree.parent(number) else {
         return;
     };
-    // A place is below the count of the children, so one more than it is a number too.
-    let _ = tree.child_count(container);
-    let place = tree.child_index(number);
-    tree.splice(container, place, place + 1, &[]);
+    tree.remove_between(container, number, number);
 }
 
 // Takes a node out of the document, with what leaves with it.

@@ -38,7 +38,7 @@ fn attach<A: Allocator + Copy>(
         return Err(Outcome::Other);
     }
     let node = tree.add(kind)?;
-    tree.attach(container, node)?;
+    tree.append(container, node);
     Ok(())
 }
 
@@ -54,7 +54,6 @@ fn put<A: Allocator + Copy>(
         return Err(Outcome::Other);
     }
     let node = tree.add(kind)?;
-    tree.reserve(container, 1)?;
     if from > to || to > tree.child_count(container) {
         return Err(Outcome::Other);
     }

@@ -1,5 +1,5 @@
 -- Laws of trailing commas that are set: what becomes of the document.
-use Rattle.std.specs.Prelude.{◌≡◌, ◌<◌, ◌⊎◌, ℕ, true, List, length, Option, None, Some, IsTrue}
+use Rattle.std.specs.Prelude.{◌≡◌, ◌<◌, ◌⊎◌, ◌&&◌, ◌||◌, ℕ, Bool, true, false, not, List, length, Option, None, Some, IsTrue}
 use Rattle.std.specs.List.{All}
 use Rattle.jsonc_text.specs.Options.{Options}
 use Rattle.jsonc_text.specs.Plain.{Plain}
@@ -8,6 +8,7 @@ use Rattle.jsonc_tree.specs.Content.{Content, token}
 use Rattle.jsonc_tree.specs.OrderedTree.{OrderedTree, none, more, ordered_tree}
 use Rattle.jsonc_tree.specs.Tree.{Node, IsTree, IsOver}
 use Rattle.jsonc_layout.specs.lines.Siblings.{trailing_comma_at}
+use Rattle.jsonc_layout.specs.nodes.Kinds.{is_comma, is_token, is_trivia}
 use Rattle.jsonc_sound.specs.Shape.{printed_text}
 use Rattle.jsonc_sound.specs.Marks.{marks}
 use Rattle.jsonc_sound.specs.SoundTrees.{SoundTree}
@@ -24,12 +25,19 @@ abbrev pub IsSet : TrailingCommaMode → List Node → ℕ → Type 0
 IsSet Never ns c = comma_gone ns c ≡ None
 IsSet IfMultiline ns c = comma_wanted_behind ns c ≡ None
 
--- the second row is the first, but that commas have left it, or rows below it
+-- past trivia, and commas, the row comes to its last bracket
+abbrev pub closes_next : OrderedTree → Bool
+closes_next none = false
+closes_next (more content below none) = is_token content && not (is_comma content)
+closes_next (more content below (more next under after)) = (is_trivia content || is_comma content) && closes_next (more next under after)
+
+-- the second row is the first, but that trailing commas have left it, or rows below it
 pub data LosesCommas : OrderedTree → OrderedTree → Type 0 where
   ended : LosesCommas none none
   stayed : {content : Content} {below under after rest : OrderedTree} → LosesCommas below under → LosesCommas after rest
       → LosesCommas (more content below after) (more content under rest)
-  left : {below after rest : OrderedTree} → LosesCommas below none → LosesCommas after rest → LosesCommas (more (token 0x2C) below after) rest
+  left : {below after rest : OrderedTree} → LosesCommas below none → IsTrue (closes_next after) → LosesCommas after rest
+      → LosesCommas (more (token 0x2C) below after) rest
 
 -- commas have left, or come, and nothing else has
 abbrev pub OnlyCommas : TrailingCommaMode → OrderedTree → OrderedTree → Type 0

@@ -49,10 +49,7 @@ fn take_out<A: Allocator>(tree: &mut Tree<A>, container: usize, child: usize)
     requires { parent_at tree.old.nodes child ≡ Some container }
     ensures taken { TakesOut tree.old.nodes tree.new.nodes container child }
 {
-    // A place is below the count of the children, so one more than it is a number too.
-    let _ = tree.child_count(container);
-    let place = tree.child_index(child);
-    tree.splice(container, place, place + 1, &[]);
+    tree.remove_between(container, child, child);
 }
 
 // Takes a container's trailing comma away.
@@ -77,7 +74,7 @@ fn put_comma<A: Allocator>(
 {
     let comma = tree.add(Kind::token(','))?;
     let behind = tree.next_sibling(node);
-    tree.insert_between(container, Some(node), behind, comma);
+    tree.insert_between(container, Some(node), behind, &[comma]);
     Ok(())
 }
 

@@ -49,7 +49,6 @@ pub fn ensure_multiline<A: Allocator + Copy>(
     }
     let lines = lines_for(alloc, tree, container)?;
     let row = plan_lines(alloc, tree, container, &lines)?;
-    tree.reserve(container, row.len())?;
     let count = tree.child_count(container);
     tree.splice(container, 1, count - 1, &row);
     Ok(())

@@ -108,11 +108,7 @@ fn take_stretch<A: Allocator>(tree: &mut Tree<A>, container: usize, first: usize
     ensures taken { Splices tree.old.nodes tree.new.nodes container (place_at tree.old.nodes first)
         (place_at tree.old.nodes last + 1) [] }
 {
-    // A place is below the count of the children, so one more than it is a number too.
-    let _ = tree.child_count(container);
-    let from = tree.child_index(first);
-    let to = tree.child_index(last);
-    tree.splice(container, from, to + 1, &[]);
+    tree.remove_between(container, first, last);
 }
 
 // Takes one child out, if there is one.

@@ -4,7 +4,7 @@ ghost use Rattle.std.specs.Prelude.{◌≡◌, ◌≤◌, ◌++◌, ◌∷◌, I
 ghost use Rattle.jsonc_tree.specs.Building.{Keeps};
 ghost use Rattle.jsonc_tree.specs.Changes.{CanJoin, Splices};
 ghost use Rattle.jsonc_tree.specs.OrderedTree.{ordered_tree};
-ghost use Rattle.jsonc_tree.specs.Tree.{children_at, room_at};
+ghost use Rattle.jsonc_tree.specs.Tree.{children_at};
 ghost use Rattle.jsonc_layout.specs.input.Views.{plain};
 ghost use Rattle.jsonc_edit.specs.Due.{listed};
 ghost use Rattle.jsonc_edit.specs.Put.{Extends};
@@ -53,7 +53,6 @@ fn put_first<A: Allocator>(
     behind: Option<usize>,
 )
     requires within { place ≤ length (children_at tree.old.nodes 0) }
-    requires room { 3 ≤ room_at tree.old.nodes 0 }
     requires join { CanJoin tree.old.nodes 0 place place (listed before ++ value ∷ listed behind) }
     ensures put { Splices tree.old.nodes tree.new.nodes 0 place place (listed before ++ value ∷ listed behind) }
 {
@@ -83,7 +82,6 @@ pub(crate) fn set_first<A: Allocator + Copy>(
     let before = make_line_end(tree, follows_comment(tree, place), layout.newline)?;
     let new = lay_out(alloc, tree, value, &layout)?;
     let behind = make_line_end(tree, place == count, layout.newline)?;
-    tree.reserve(0, 3)?;
     put_first(tree, place, before, new, behind);
     Ok(new)
 }

@@ -43,7 +43,6 @@ fn put_last<A: Allocator + Copy>(
     let before = space_needed_last(tree, property, new);
     let behind = space_needed_past(tree, property);
     let spaces = spaces_for(alloc, tree, new, before, behind)?;
-    tree.reserve(property, 1)?;
     tree.append(property, new);
     put_spaces(tree, spaces);
     Ok(new)

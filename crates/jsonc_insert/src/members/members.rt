@@ -148,7 +148,6 @@ pub fn insert_property<A: Allocator + Copy>(
     let count = tree.child_count(object);
     let before = row_before(alloc, tree, object)?;
     let made = make_row(alloc, tree, object, &before, index, name, value)?;
-    tree.reserve(object, made.row.len())?;
     tree.splice(object, 0, count, &made.row);
     Ok(made.property)
 }

@@ -2,3 +2,4 @@ pub mod SiblingSteps
 pub mod Levels
 pub mod NodesAbove
 pub mod Told
+pub mod LineBegins

@@ -186,7 +186,8 @@ fn push_value<A: Allocator + Copy>(
     ensures kept { KeepsBefore container tree.old tree.new }
 {
     let node = lay_out(alloc, tree, value, layout)?;
-    tree.attach(container, node)
+    tree.append(container, node);
+    Ok(())
 }
 
 // Makes a property the last child of an object that is being built.
@@ -205,7 +206,8 @@ fn push_property<A: Allocator + Copy>(
     ensures kept { KeepsBefore object tree.old tree.new }
 {
     let node = lay_out_property(alloc, tree, name, value, layout)?;
-    tree.attach(object, node)
+    tree.append(object, node);
+    Ok(())
 }
 
 // Adds the elements of an array, on one line or on several.

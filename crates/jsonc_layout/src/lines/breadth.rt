@@ -1,5 +1,5 @@
 //! What a walk over the levels of a document tells of its layout.
-ghost use Rattle.std.specs.Prelude.{◌≡◌, ◌<◌, All, IfOk, IfSome, length};
+ghost use Rattle.std.specs.Prelude.{◌≡◌, ◌<◌, ◌++◌, [], All, IfOk, IfSome, None, length};
 ghost use Rattle.std.specs.List.{find};
 ghost use Rattle.jsonc_tree.specs.Tree.{children_at, is_in};
 ghost use Rattle.jsonc_layout.specs.lines.Breadth.{first_sought, has_whitespace, is_child, is_sought, is_spaced};
@@ -8,9 +8,7 @@ ghost use Rattle.jsonc_layout.specs.lines.Breadth.{stays_in, uses_trailing_comma
 
 use crate::lines::kinds::is_array_or_object;
 use crate::lines::siblings::trailing_comma;
-use crate::nodes::{
-    children_from, first_element_back, is_newline, is_whitespace, push_children, root_node,
-};
+use crate::nodes::{children_from, first_element_back, is_newline, is_whitespace, root_node};
 use jsonc_tree::{CstNewlineKind, Kind, Tree};
 use std::alloc::{AllocError, Allocator};
 
@@ -122,20 +120,52 @@ fn first_in<A: Allocator>(
     None
 }
 
-// The children of these nodes, in order.
-fn level_below<A: Allocator>(
-    alloc: A,
+// The first child of a node that is what is looked for; where there is none, the children are put behind others.
+fn first_child_in<A: Allocator>(
     tree: &Tree<A>,
-    level: &[usize],
-) -> Result<Vec<usize, A>, AllocError>
-    requires in_tree { All (λ m. m < length tree.now.nodes) level.now }
-    ensures below { IfOk result (λ v. v.items ≡ level_below tree.now.nodes level.now) }
+    changed: Option<usize>,
+    row: &[usize],
+    sought: Sought,
+    node: usize,
+    below: &mut Vec<usize, A>,
+) -> Result<Option<usize>, AllocError>
+    requires in_tree { node < length tree.now.nodes }
+    ensures first { IfOk result
+        (λ o. o ≡ find (is_sought tree.now.nodes changed row.now sought) (children_at tree.now.nodes node)) }
+    ensures below { IfOk result
+        (λ o. o ≡ None → below.new.items ≡ below.old.items ++ children_at tree.now.nodes node) }
 {
-    let mut below = Vec::new(alloc);
-    for node in level {
-        push_children(&mut below, tree, *node)?;
+    for child in tree.children(node) {
+        if is_sought(tree, changed, row, sought, child) {
+            return Ok(Some(child));
+        }
+        below.push(child)?;
     }
-    Ok(below)
+    Ok(None)
+}
+
+// The first child of these nodes that is what is looked for; where there is none, a list has all of them.
+fn first_below<A: Allocator>(
+    tree: &Tree<A>,
+    changed: Option<usize>,
+    row: &[usize],
+    sought: Sought,
+    level: &[usize],
+    below: &mut Vec<usize, A>,
+) -> Result<Option<usize>, AllocError>
+    requires in_tree { All (λ m. m < length tree.now.nodes) level.now }
+    requires empty { below.old.items ≡ [] }
+    ensures first { IfOk result
+        (λ o. o ≡ find (is_sought tree.now.nodes changed row.now sought) (level_below tree.now.nodes level.now)) }
+    ensures below { IfOk result (λ o. o ≡ None → below.new.items ≡ level_below tree.now.nodes level.now) }
+{
+    for node in level {
+        let found = first_child_in(tree, changed, row, sought, *node, below)?;
+        if found.is_some() {
+            return Ok(found);
+        }
+    }
+    Ok(None)
 }
 
 /// The first node that is what is looked for, level after level from these nodes down, where the children of a
@@ -152,15 +182,20 @@ pub fn first_sought<A: Allocator + Copy>(
     ensures first { IfOk result (λ o. o ≡ first_sought tree.now.nodes changed row.now sought start.now) }
     ensures in_tree { IfOk result (λ o. IfSome o (λ m. m < length tree.now.nodes)) }
 {
+    if let Some(node) = first_in(tree, changed, row, sought, start) {
+        return Ok(Some(node));
+    }
     let mut level = Vec::from_slice(alloc, start)?;
-    for _depth in 0..tree.len() {
+    for _depth in 1..tree.len() {
         if level.is_empty() {
             return Ok(None);
         }
-        if let Some(node) = first_in(tree, changed, row, sought, &level) {
-            return Ok(Some(node));
+        let mut below = Vec::new(alloc);
+        let found = first_below(tree, changed, row, sought, &level, &mut below)?;
+        if found.is_some() {
+            return Ok(found);
         }
-        level = level_below(alloc, tree, &level)?;
+        level = below;
     }
     Ok(None)
 }

@@ -14,7 +14,15 @@ fn begins_line<A: Allocator>(tree: &Tree<A>, node: usize) -> bool
     requires { node < length tree.now.nodes }
     ensures { result ≡ begins_line tree.now.nodes node }
 {
-    line_before(tree, node).all(|sibling| is_trivia(tree, sibling))
+    for sibling in previous_siblings(tree, node) {
+        if is_newline(tree, sibling) {
+            return true;
+        }
+        if !is_trivia(tree, sibling) {
+            return false;
+        }
+    }
+    true
 }
 
 // Whether a line ends before a node.

@@ -1,8 +1,7 @@
 -- What a list of edits makes of a text, in the words of texts.
 use Rattle.std.specs.Prelude.{◌≡◌, ◌↔◌, ℕ, List, [], ◌∷◌, Some, length, take}
 use Rattle.std.specs.List.{slice_get, All}
-use Rattle.jsonc_text.specs.Edits.{Document, Operation, Run}
-use Rattle.jsonc_text.specs.Edits.{replace, remove, remove_comment, set_root, clear_root, replace_property, ensure_root, set_value, ensure_value, set_boolean, ensure_multiline, insert_element, append_element, insert_property, append_property, ensure_property, set_commas, rearrange}
+use Rattle.jsonc_text.specs.Edits.{Document, IsOne, Operation, Run, replace, remove, remove_comment, set_root, clear_root, replace_property, ensure_root, set_value, ensure_value, set_boolean, ensure_multiline, insert_element, append_element, insert_property, append_property, ensure_property, set_commas, rearrange}
 use Rattle.jsonc_text.specs.Marks.{comments_of}
 use Rattle.jsonc_layout.specs.input.Views.{chars_of, plain}
 use Rattle.jsonc_tree.specs.OrderedTree.{OrderedTree}
@@ -39,14 +38,15 @@ asks order (EnsureProperty path name shape how) = ensure_property path.items (ch
 asks order (SetTrailingCommas path mode) = set_commas path.items (sets_some mode)
 asks order (Sort path pin groups) = rearrange path.items order
 
--- the edits ask for these operations, each sort with an order of its own
-pub data Ask {A : Type 0} : List (Edit A) → List Operation → Type 0 where
-  none_asked : Ask [] []
-  one_asked : {e : Edit A} {es : List (Edit A)} {ops : List Operation} (order : List ℕ) → Ask es ops → Ask (e ∷ es) (asks order e ∷ ops)
+-- in the document the edit has its place
+abbrev pub HasPlace : {A : Type 0} → Document → Edit A → Type 0
+HasPlace d e = IsNamed d.value (length (comments_of d.marks)) (nodes.operation_of nodes.unsorted e)
 
--- from the one document the edits lead to the other
-abbrev pub EditsTo : {A : Type 0} → Document → List (Edit A) → Document → Type 0
-EditsTo d edits e = (ops : List Operation) × Ask edits ops × Run d ops e
+-- From the one document the edits lead to the other: each has its place in the document that the one before it made, and leads from there to the next, each sort
+-- with an order of its own.
+pub data EditsTo {A : Type 0} : Document → List (Edit A) → Document → Type 0 where
+  none_asked : {d : Document} → IsOne d → EditsTo d [] d
+  one_asked : {d m f : Document} {e : Edit A} {es : List (Edit A)} (order : List ℕ) → HasPlace d e → Run d (asks order e ∷ []) m → EditsTo m es f → EditsTo d (e ∷ es) f
 
 -- Whatever document the old tree shows: if each number that the edits write is, whole, one of its options, the new tree shows one to which the edits lead.
 abbrev pub EditsTheText : {A : Type 0} → OrderedTree → List (Edit A) → OrderedTree → Type 0
@@ -65,7 +65,7 @@ pub record IsStopped {A : Type 0} (d : Document) (edits : List (Edit A)) (k : �
   pub next : Edit A
   pub is_next : slice_get edits k ≡ Some next
   pub memory_or_place : WantsMemoryOrPlace why
-  pub named : (why ≡ NoSuchPlace) ↔ ¬ (IsNamed m.value (length (comments_of m.marks)) (nodes.operation_of nodes.unsorted next))
+  pub named : (why ≡ NoSuchPlace) ↔ ¬ (HasPlace m next)
   pub begun : List Operation
   pub is_begun : IsBegun next begun
   pub done : Run m begun e

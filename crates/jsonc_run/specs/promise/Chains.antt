@@ -1,5 +1,5 @@
 -- From edits that were made in nodes to one chain of texts.
-use Rattle.std.specs.Prelude.{List, ◌++◌, Option}
+use Rattle.std.specs.Prelude.{List, [], ◌∷◌, ◌++◌, length, Option}
 use Rattle.std.specs.List.{All}
 use Rattle.jsonc_text.specs.Edits as texts
 use Rattle.jsonc_text.specs.Edits.{Document, IsOne, Run}
@@ -11,17 +11,24 @@ use Rattle.jsonc_sound.specs.Documents.{document_of, Shows}
 use Rattle.jsonc_run.specs.Edits.{Operation, EditSteps}
 use Rattle.jsonc_run.specs.Steps.{IsOfCharacters, NumbersFit, Steps}
 use Rattle.jsonc_run.specs.Written.{options_after}
-use Rattle.jsonc_run.specs.promise.Words.{all_in_texts}
+use Rattle.jsonc_run.specs.promise.Words.{all_in_texts, in_texts}
+use Rattle.jsonc_run.specs.Named.{IsNamed}
+use Rattle.jsonc_text.specs.Marks.{comments_of}
+
+-- a chain of documents, in which each edit has its place
+pub data NamedRun : Document → List Operation → Document → Type 0 where
+  none_named : {d : Document} → IsOne d → NamedRun d [] d
+  one_named : {d m f : Document} {op : Operation} {ops : List Operation} → IsNamed d.value (length (comments_of d.marks)) op → Run d (in_texts op ∷ []) m → NamedRun m ops f → NamedRun d (op ∷ ops) f
 
 -- one chain of sound trees is one chain of the documents that they print
 abbrev pub StepsAreRun : Options → OrderedTree → OrderedTree → Type 0
 StepsAreRun o t u = (w x : Option Plain) (es : List Operation) → Steps o t w es u x → All IsOfCharacters es
-    → Run (document_of o t w) (all_in_texts es) (document_of (options_after o es) u x)
+    → Run (document_of o t w) (all_in_texts es) (document_of (options_after o es) u x) × NamedRun (document_of o t w) es (document_of (options_after o es) u x)
 
 -- Whatever document the old nodes show: if each number that the edits write is, whole, one of its options, then the new nodes show one to which the edits lead.
 abbrev pub Leads : List Node → List Operation → List Node → Type 0
 Leads old es new = (d : Document) → Shows d (ordered_tree old 0) → All (NumbersFit d.options) es
-    → (e : Document) × Shows e (ordered_tree new 0) × Run d (all_in_texts es) e
+    → (e : Document) × Shows e (ordered_tree new 0) × Run d (all_in_texts es) e × NamedRun d es e
 
 -- edits that were made in order lead from each document to the next
 abbrev pub EditsLead : List Node → List Node → Type 0

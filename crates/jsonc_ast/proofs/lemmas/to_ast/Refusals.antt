@@ -1,5 +1,5 @@
 -- What a parser that refuses has seen.
-use Rattle.std.proofs.Common.{ℕ, ◌<◌, ◌≡◌, ◌≢◌, ◌∙◌, sym, ap, subst, refl, arith, Bool, true, false, not, ◌||◌, ◌==◌, List, [], ◌∷◌, length, Option, Some, None, Result, Ok, Err, IfOk, IfErr, IfSome, OnOk, IsTrue, IsUtf8, IsCharBoundary, ◌⊎◌, inl, inr}
+use Rattle.std.proofs.Common.{ℕ, ◌<◌, ◌≡◌, ◌≢◌, ◌∙◌, sym, ap, subst, refl, arith, Bool, true, false, not, ◌||◌, ◌==◌, List, [], ◌∷◌, length, Option, Some, None, Result, Ok, Err, IfOk, IfErr, IfSome, OnOk, OnErr, IsTrue, IsUtf8, IsCharBoundary, ◌⊎◌, inl, inr}
 use Rattle.std.proofs.lemmas.Str.{IsUtf8-from_is_utf8}
 use Rattle.jsonc_text.specs.declared.errors.ParseError.{ParseError}
 use Rattle.jsonc_text.specs.declared.errors.ParseErrorKind.{ParseErrorKind}
@@ -219,13 +219,22 @@ err_some (Ok x) f h = tt
 err_some (Err e) f h = f e h
 
 -- what is said of a result, taken together
-pub ok_all : {X E F G : Type 0} {P Q : X → Type 0} (r : Result X E) → OnOk r F → OnOk r G → IfOk r P → ((x : X) → F → G → P x → Q x) → IfOk r Q
-ok_all (Ok x) f g p h = h x f g p
-ok_all (Err e) f g p h = tt
+pub ok_all : {X E F G H : Type 0} {P Q : X → Type 0} (r : Result X E) → OnOk r F → OnOk r G → OnOk r H → IfOk r P → ((x : X) → F → G → H → P x → Q x) → IfOk r Q
+ok_all (Ok x) f g h p all = all x f g h p
+ok_all (Err e) f g h p all = tt
 
-pub err_all : {X E : Type 0} {P Q S T : E → Type 0} (r : Result X E) → IfErr r P → IfErr r Q → IfErr r S → ((e : E) → P e → Q e → S e → T e) → IfErr r T
-err_all (Ok x) p q s h = tt
-err_all (Err e) p q s h = h e p q s
+pub stop_all : {X E P Q S T : Type 0} (r : Result X E) → OnErr r P → OnErr r Q → OnErr r S → (P → Q → S → T) → OnErr r T
+stop_all (Ok x) p q s h = tt
+stop_all (Err e) p q s h = h p q s
+
+pub err_on : {X E P Q : Type 0} (r : Result X E) → (P → Q) → OnErr r P → OnErr r Q
+err_on (Ok x) f h = tt
+err_on (Err e) f h = f h
+
+-- what is true anyhow
+pub on_err : {X E T : Type 0} (r : Result X E) → T → OnErr r T
+on_err (Ok x) t = tt
+on_err (Err e) t = t
 
 -- what a test has refuted
 pub refuted : {b : Bool} {X : Type 0} → (X → IsTrue b) → b ≡ false → X → ⊥

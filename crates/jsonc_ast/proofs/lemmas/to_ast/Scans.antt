@@ -114,7 +114,7 @@ module _ {A : Type 0} where
         (change (Separates (options_in old)) (λ t r g. no_comma may g) found.0, at_token)
 
   -- what stands after a comma, with the comma
-  pub after_comma : (old mid new : Context A) (f : Option Scanned) (t : Scanned) (bracket : ℕ) (r : Result (Option Scanned) ParseError) → Keeps old mid → Finds (Gap (options_in old)) old mid f → f ≡ Some t
+  pub after_comma : (old mid new : Context A) (f : Option Scanned) (t : Scanned) (bracket : ℕ) {E : Type 0} (r : Result (Option Scanned) E) → Keeps old mid → Finds (Gap (options_in old)) old mid f → f ≡ Some t
       → t ≡ lexeme (punctuation 0x2C) → IfOk r (Leads (Gap (options_in mid)) (TrailingComma (options_in mid) bracket) bracket mid new)
       → IfOk r (Leads (Separates (options_in old)) (Closes (options_in old) bracket) bracket old new)
   after_comma old mid new f t bracket (Err e) kept found is mark h = tt

@@ -69,7 +69,7 @@ module _ {A : Type 0} where
           let before = mark_passed old new f t 0x2C kept found is (Ends (options_in old) 0x2C) (λ t r g. g) mark in
           inl (join (AfterComma (options_in old)) (λ t u r g k. (u, g, k)) before (moved (λ p b. Between b (Gap p) (token_end new) (token_start last)) kept.options kept.text h.0))
 
-      pub comes_after_ok : (k : Container) (last : Context A) (r : Result (Option Scanned) ParseError) → t ≡ lexeme (punctuation 0x2C) → IfOk r (LeadsAfterComma k new last) → IfOk r (λ f. IfSome f (Comes old last))
+      pub comes_after_ok : (k : Container) (last : Context A) {E : Type 0} (r : Result (Option Scanned) E) → t ≡ lexeme (punctuation 0x2C) → IfOk r (LeadsAfterComma k new last) → IfOk r (λ f. IfSome f (Comes old last))
       comes_after_ok k last (Err x) mark h = tt
       comes_after_ok k last (Ok None) mark h = tt
       comes_after_ok k last (Ok (Some u)) mark h = comes_after k last u mark h

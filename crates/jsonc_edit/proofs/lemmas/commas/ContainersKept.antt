@@ -92,7 +92,7 @@ module _ (old new : List Node) (tree : IsTree old) (c x : ℕ) (said : parent_at
             let here : filter (is_container_at old) (children_at new c) ≡ filter (is_container_at old) (children_at old c) =
             ap (filter (is_container_at old)) row_after ∙ sym (filter_without (is_container_at old) (take place row) (drop (place + 1) row) x leaf) ∙ sym (ap (filter (is_container_at old)) parts) in
             subst (λ m. filter (is_container_at old) (children_at new m) ≡ filter (is_container_at old) (children_at old m)) (sym e) here
-        | inr ne ↦ ap (filter (is_container_at old)) (s.others n ne).0
+        | inr ne ↦ ap (filter (is_container_at old)) (s.others n ne)
       ]
 
   pub taken_keeps : KeepsContainers old new
@@ -149,7 +149,7 @@ module _ (old new : List Node) (c n : ℕ) (r : CommaInsertedAfter old new c n) 
             ∙ filter_without (is_container_at old) (take gap old_row) (drop gap old_row) (length old) (past_leaf old (length old) (omega arith))
             ∙ ap (filter (is_container_at old)) (take-append-drop gap old_row ∙ ready_children c) in
             subst (λ k. filter (is_container_at old) (children_at new k) ≡ filter (is_container_at old) (children_at old k)) (sym e) here
-        | inr ne ↦ ap (filter (is_container_at old)) ((r.put.others m ne).0 ∙ ready_children m)
+        | inr ne ↦ ap (filter (is_container_at old)) ((r.put.others m ne) ∙ ready_children m)
       ]
 
   pub came_keeps : KeepsContainers old new

@@ -22,14 +22,14 @@ use Rattle.jsonc_edit.proofs.Splices.{respliced_over, respliced_row}
 use Rattle.jsonc_edit.specs.commas.Commas.{a_comma, comma_wanted_behind, CommaInsertedAfter}
 use Rattle.jsonc_edit.specs.commas.InTurn.{holds_at}
 use Rattle.jsonc_edit.proofs.lemmas.commas.Children.{may_come}
-use Rattle.jsonc_edit.proofs.lemmas.commas.CommaRows.{comma_first, sound_with}
+use Rattle.jsonc_edit.proofs.lemmas.commas.CommaRows.{closes_yet, comma_first, sound_with}
 use Rattle.jsonc_edit.proofs.lemmas.commas.Holders.{row_stands, shows_standing}
 use Rattle.jsonc_edit.proofs.lemmas.commas.ContainersKept.{ready_children}
 use Rattle.jsonc_edit.proofs.lemmas.commas.OwnRow.{came_now, gap_is, take_past}
 use Rattle.jsonc_edit.proofs.lemmas.commas.Splits.{drop_past, no_elements, split_parent, standing, standing_then, WantedComma}
 use Rattle.jsonc_edit.proofs.lemmas.commas.WithoutCommas.{behind_bracket, comma_between, document_only}
 use Rattle.jsonc_text.specs.declared.edit.TrailingCommaMode.TheVariants.{IfMultiline}
-use Rattle.jsonc_edit.proofs.lemmas.commas.Steps.{all_front, all_rest, first_same, inside, marks_comma, opens_row, path, same_marks, same_top, under_bracket, Inside, Step}
+use Rattle.jsonc_edit.proofs.lemmas.commas.Steps.{all_front, all_rest, closing_next, first_same, inside, marks_comma, opens_row, path, same_marks, same_top, under_bracket, Inside, Step}
 
 -- a comma comes
 module _ (o : Options) (allowed : IsTrue o.trailing_commas) (old new : List Node) (tree : IsTree old) (after : IsTree new) (sound : SoundTree o (ordered_tree old 0)) (c n : ℕ) (over : IsOver old 0 c) (holds : IsTrue (holds_at old c))
@@ -146,7 +146,7 @@ module _ (o : Options) (allowed : IsTrue o.trailing_commas) (old new : List Node
           record {
             sound = sound_with o allowed i.kind front (content_at old n) (row_below old n) back p.0 (ordered_tree old 0) (ordered_tree new 0) sound g.element (no_elements old g.back g.behind) lacks changed;
             marks = same_marks (ordered_tree old 0) (ordered_tree new 0) changed (under_bracket i.kind (followed_by before (token_then 0x2C back)) ∙ marks_comma before back ∙ sym (under_bracket i.kind (followed_by before back)));
-            commas = document_only IfMultiline refl (behind_bracket i.kind (comma_between before back)) changed;
+            commas = document_only IfMultiline refl (behind_bracket i.kind (comma_between before back (closing_next o i.kind (closes_yet o allowed i.kind front (content_at old n) (row_below old n) back p.0 (ordered_tree old 0) (ordered_tree new 0) sound g.element (no_elements old g.back g.behind) lacks changed)))) changed;
           },
           came_now old new tree after c n g r,
         )

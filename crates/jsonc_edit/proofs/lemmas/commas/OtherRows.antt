@@ -99,11 +99,11 @@ module _ (old new : List Node) (tree : IsTree old) (after : IsTree new) (m : ℕ
 -- a comma that is set leaves every other row
 loses_others : (old new : List Node) (c : ℕ) (o : Option ℕ) → LosesIt old new c o → (m : ℕ) → m ≢ c → children_at new m ≡ children_at old m
 loses_others old new c None e m ne = ap (λ ns. children_at ns m) e
-loses_others old new c (Some k) s m ne = (s.others m ne).0
+loses_others old new c (Some k) s m ne = (s.others m ne)
 
 gains_others : (old new : List Node) (c : ℕ) (o : Option ℕ) → GainsIt old new c o → (m : ℕ) → m ≢ c → children_at new m ≡ children_at old m
 gains_others old new c None e m ne = ap (λ ns. children_at ns m) e
-gains_others old new c (Some n) r m ne = (r.put.others m ne).0 ∙ ready_children old new c n r m
+gains_others old new c (Some n) r m ne = (r.put.others m ne) ∙ ready_children old new c n r m
 
 set_others : (mode : TrailingCommaMode) (old new : List Node) (c : ℕ) → CommaIsSet mode old new c → (m : ℕ) → m ≢ c → children_at new m ≡ children_at old m
 set_others Never old new c s m ne = loses_others old new c (comma_gone old c) s m ne

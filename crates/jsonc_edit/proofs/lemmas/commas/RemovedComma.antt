@@ -26,7 +26,7 @@ use Rattle.jsonc_edit.proofs.lemmas.commas.OwnRow.{lost_now}
 use Rattle.jsonc_edit.proofs.lemmas.commas.Splits.{drop_past, no_elements, none_back, split_place, split_there, standing, standing_then, GoneComma}
 use Rattle.jsonc_edit.proofs.lemmas.commas.WithoutCommas.{behind_bracket, comma_between, document_only}
 use Rattle.jsonc_text.specs.declared.edit.TrailingCommaMode.TheVariants.{Never}
-use Rattle.jsonc_edit.proofs.lemmas.commas.Steps.{all_front, all_rest, closing_lacks, comma_leaf, first_same, inside, marks_comma, opens_row, path, same_marks, same_top, the_comma, under_bracket, Inside, Step}
+use Rattle.jsonc_edit.proofs.lemmas.commas.Steps.{all_front, all_rest, closing_lacks, closing_next, comma_leaf, first_same, inside, marks_comma, opens_row, path, same_marks, same_top, the_comma, under_bracket, Inside, Step}
 
 -- the comma leaves
 module _ (o : Options) (old new : List Node) (tree : IsTree old) (after : IsTree new) (sound : SoundTree o (ordered_tree old 0)) (c k : ℕ) (over : IsOver old 0 c) (holds : IsTrue (holds_at old c))
@@ -115,7 +115,7 @@ module _ (o : Options) (old new : List Node) (tree : IsTree old) (after : IsTree
           record {
             sound = sound_without o i.kind front back p.0 (ordered_tree old 0) (ordered_tree new 0) sound no_more changed;
             marks = same_marks (ordered_tree old 0) (ordered_tree new 0) changed (under_bracket i.kind (followed_by front back) ∙ sym (marks_comma front back) ∙ sym (under_bracket i.kind (followed_by front (token_then 0x2C back))));
-            commas = document_only Never refl (behind_bracket i.kind (comma_between front back)) changed;
+            commas = document_only Never refl (behind_bracket i.kind (comma_between front back (closing_next o i.kind (closes o i.kind front back p.0 (ordered_tree old 0) (ordered_tree new 0) sound no_more changed)))) changed;
           },
           lost_now old new tree after c k g s (closing_lacks o i.kind (closes o i.kind front back p.0 (ordered_tree old 0) (ordered_tree new 0) sound no_more changed)),
         )

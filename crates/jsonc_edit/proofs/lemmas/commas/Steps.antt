@@ -20,7 +20,7 @@ use Rattle.jsonc_edit.specs.Changes.{row_below}
 use Rattle.jsonc_edit.specs.Paths.{IsAt}
 use Rattle.jsonc_edit.proofs.FittingNodes.{over_there}
 use Rattle.jsonc_edit.specs.commas.InTurn.{holds_at}
-use Rattle.jsonc_edit.specs.commas.Laws.{OnlyCommas}
+use Rattle.jsonc_edit.specs.commas.Laws.{OnlyCommas, closes_next}
 use Rattle.jsonc_text.specs.declared.edit.TrailingCommaMode.{TrailingCommaMode}
 use Rattle.jsonc_edit.proofs.lemmas.commas.CommaRows.{comma_first, Closing, bracket, behind}
 use Rattle.jsonc_edit.proofs.lemmas.commas.Holders.{held, holder_path, row_stands, value_at_path, Held}
@@ -48,6 +48,22 @@ closing_lacks o kind (behind {content = content} {after = after} t c) = by conte
     by (Content.newline k) h e = e
     by (Content.comment s) h e = e
     by w h e = absurd h
+
+-- past trivia it comes to its last bracket
+pub closing_next : (o : Options) (kind : RowKind) {row : OrderedTree} → Closing o kind row → IsTrue (closes_next row)
+closing_next o kind bracket = by kind
+  where
+    by : (k : RowKind) → IsTrue (closes_next (token_then (rows.closing k) none))
+    by rows.of_values = refl
+    by rows.of_properties = refl
+closing_next o kind (behind {content = content} {after = after} t c) = by content after t (closing_next o kind c)
+  where
+    by : (w : Content) (a : OrderedTree) → IsTrivia o w → IsTrue (closes_next a) → IsTrue (closes_next (more w none a))
+    by w none h e = cc
+    by (Content.whitespace s) (more x y z) h e = e
+    by (Content.newline k) (more x y z) h e = e
+    by (Content.comment s) (more x y z) h e = e
+    by w (more x y z) h e = absurd h
 
 -- a comma has no mark
 pub marks_comma : (front back : OrderedTree) → marks (followed_by front (token_then 0x2C back)) ≡ marks (followed_by front back)

@@ -1,19 +1,20 @@
 -- Trees that differ in commas alone have the same value.
-use Rattle.std.proofs.Common.{◌≡◌, ◌∙◌, ℕ, sym, ap, subst, refl, true, false, cond, if◌then◌else◌, inl, inr, List, Option, Some, None, IsTrue}
+use Rattle.std.proofs.Common.{◌≡◌, ◌∙◌, ℕ, sym, ap, subst, refl, Bool, ◌&&◌, ◌||◌, true, false, cond, if◌then◌else◌, inl, inr, List, Option, Some, None, IsTrue}
 use Rattle.std.proofs.lemmas.Bool.{cases_Bool}
 use Rattle.jsonc_text.specs.Options.{Options}
+use Rattle.jsonc_text.proofs.Basics.{and_both}
 use Rattle.jsonc_text.specs.Plain.{Plain, Items, item, Members}
 use Rattle.jsonc_tree.specs.Content.{Content}
 use Rattle.jsonc_tree.specs.OrderedTree.{OrderedTree, Top, none, more, followed_by}
 use Rattle.jsonc_tree.specs.Values as values
 use Rattle.jsonc_tree.specs.Values.{is_passed_over, ValueOf, ItemsOf, MembersOf, PropertyOf, HoldsValue, HasNoValue, HoldsAtMostOne, DocumentValueOf}
-use Rattle.jsonc_layout.specs.nodes.Kinds.{is_comma}
+use Rattle.jsonc_layout.specs.nodes.Kinds.{is_comma, is_trivia}
 use Rattle.jsonc_sound.specs.Rows.{RowKind, of_values, of_properties, container_of}
 use Rattle.jsonc_sound.specs.TreeChanges.{IsElement, ElementChanged, this_element, passed, later_element, ValueChanged, itself, in_array, in_object, DocumentChanged, in_root}
 use Rattle.jsonc_sound.proofs.FirstNodes.{name_leaf_element, value_of_element}
 use Rattle.jsonc_text.specs.declared.edit.TrailingCommaMode.{TrailingCommaMode}
 use Rattle.jsonc_text.specs.declared.edit.TrailingCommaMode.TheVariants.{Never, IfMultiline}
-use Rattle.jsonc_edit.specs.commas.Laws.{LosesCommas, ended, stayed, left, OnlyCommas}
+use Rattle.jsonc_edit.specs.commas.Laws.{LosesCommas, closes_next, ended, stayed, left, OnlyCommas}
 
 -- a row, and those below it, without their commas
 abbrev pub without_commas : OrderedTree → OrderedTree
@@ -101,7 +102,7 @@ same_without ended = refl
 same_without (stayed {content = content} {below = below} {under = under} {after = after} {rest = rest} p q) =
     ap (λ t. cond (is_comma content) t (more content (without_commas under) t)) (same_without q)
     ∙ ap (λ b. cond (is_comma content) (without_commas after) (more content b (without_commas after))) (same_without p)
-same_without (left p q) = same_without q
+same_without (left p e q) = same_without q
 
 pub only_without : (mode : TrailingCommaMode) (t u : OrderedTree) → OnlyCommas mode t u → without_commas u ≡ without_commas t
 only_without Never t u h = same_without h
@@ -112,11 +113,37 @@ loses_none : (t : OrderedTree) → LosesCommas t t
 loses_none none = ended
 loses_none (more content below after) = stayed (loses_none below) (loses_none after)
 
+both_true : (x y : Bool) → IsTrue x → IsTrue y → IsTrue (x && y)
+both_true true y h k = k
+both_true false y h k = cc
+
+none_left : {x : OrderedTree} → LosesCommas x none → x ≡ none
+none_left ended = refl
+none_left (left {after = after} p e q) = let wrong : IsTrue (closes_next none) = subst (λ a. IsTrue (closes_next a)) (none_left q) e in cc
+
+-- a row closes where it closes without some commas
+comma_then : (below after : OrderedTree) → IsTrue (closes_next after) → IsTrue (closes_next (more (Content.token 0x2C) below after))
+comma_then below none e = cc
+comma_then below (more c b a) e = e
+
+leaf_then : (content : Content) (below after : OrderedTree) → IsTrue (is_trivia content || is_comma content) → IsTrue (closes_next after) → IsTrue (closes_next (more content below after))
+leaf_then content below none h e = cc
+leaf_then content below (more c b a) h e = both_true (is_trivia content || is_comma content) (closes_next (more c b a)) h e
+
+closes_before : {x y : OrderedTree} → LosesCommas x y → IsTrue (closes_next y) → IsTrue (closes_next x)
+closes_before ended h = h
+closes_before (left {below = below} {after = after} p e q) h = comma_then below after e
+closes_before (stayed {content = content} {below = below} {under = under} {after = after} {rest = rest} p q) h = by rest q h (λ k. closes_before q k)
+  where
+    by : (r : OrderedTree) → LosesCommas after r → IsTrue (closes_next (more content under r)) → (IsTrue (closes_next r) → IsTrue (closes_next after)) → IsTrue (closes_next (more content below after))
+    by none k h f = subst (λ a. IsTrue (closes_next (more content below a))) (sym (none_left k)) h
+    by (more n u r) k h f = let two = and_both (is_trivia content || is_comma content) (closes_next (more n u r)) h in leaf_then content below after two.0 (f two.1)
+
 loses_then : {t u v : OrderedTree} → LosesCommas t u → LosesCommas u v → LosesCommas t v
 loses_then ended h = h
 loses_then (stayed p q) (stayed r s) = stayed (loses_then p r) (loses_then q s)
-loses_then (stayed p q) (left r s) = left (loses_then p r) (loses_then q s)
-loses_then (left p q) h = left p (loses_then q h)
+loses_then (stayed p q) (left r e s) = left (loses_then p r) (closes_before q e) (loses_then q s)
+loses_then (left p e q) h = left p e (loses_then q h)
 
 pub only_same : (mode : TrailingCommaMode) (t : OrderedTree) → OnlyCommas mode t t
 only_same Never t = loses_none t
@@ -145,9 +172,9 @@ pub document_only : (mode : TrailingCommaMode) {was now : Top} {path : List ℕ}
 document_only mode e f (in_root {row = row} {new = new} k d) = let v = value_only mode e f d in only_stayed mode Content.root Content.root row new none none refl (row_only mode v.0 v.1 k) (only_same mode none)
 
 -- rows that differ in one comma, and those with a bracket before them
-pub comma_between : (front back : OrderedTree) → LosesCommas (followed_by front (more (Content.token 0x2C) none back)) (followed_by front back)
-comma_between none back = left ended (loses_none back)
-comma_between (more content below after) back = stayed (loses_none below) (comma_between after back)
+pub comma_between : (front back : OrderedTree) → IsTrue (closes_next back) → LosesCommas (followed_by front (more (Content.token 0x2C) none back)) (followed_by front back)
+comma_between none back h = left ended h (loses_none back)
+comma_between (more content below after) back h = stayed (loses_none below) (comma_between after back h)
 
 pub behind_bracket : (kind : RowKind) {x y : OrderedTree} → LosesCommas x y → LosesCommas (container_of kind x).below (container_of kind y).below
 behind_bracket of_values h = stayed ended h

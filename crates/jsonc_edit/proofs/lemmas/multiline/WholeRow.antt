@@ -4,9 +4,9 @@ use Rattle.std.specs.Prelude.{slice_range}
 use Rattle.std.specs.List.{flat_map, suffix_len}
 use Rattle.std.proofs.lemmas.List.{drop_all, drop_more}
 use Rattle.jsonc_tree.specs.Building.{Keeps}
-use Rattle.jsonc_tree.specs.Changes.{CanJoin, Splices, MakesRoom, IsFree}
+use Rattle.jsonc_tree.specs.Changes.{CanJoin, Splices, IsFree}
 use Rattle.jsonc_tree.specs.Tree.{Node, content_at, parent_at, children_at, place_at, is_in, IsTree, IsOver}
-use Rattle.jsonc_tree.proofs.Builder.{Keeps-same, Keeps-then, Keeps-fewer, Keeps-room}
+use Rattle.jsonc_tree.proofs.Builder.{Keeps-same}
 use Rattle.jsonc_tree.proofs.Order.{not_over_parent, parent_there}
 use Rattle.jsonc_tree.proofs.Splicing.{in_at}
 use Rattle.jsonc_layout.specs.nodes.Kinds.{is_whitespace, is_whitespace_at, is_comma_at, is_comma}
@@ -158,35 +158,29 @@ module _ (old now : List Node) (c : ℕ) (slots : List Slot) (row : List ℕ) (t
   }
 
 -- it has taken its place
-pub takes_row : (old now ready new : List Node) (c : ℕ) (slots : List Slot) (row : List ℕ) → IsTree old → c < length old → PlannedRow old now c slots row → MakesRoom now ready → IsTree ready → IsTree new → Splices ready new c 1 (length (children_at old c) - 1) row → TakesRow old new c slots
-takes_row old now ready new c slots row tree there p room after done put =
-    let q : PlannedRow old ready c slots row = planned_later old now c (length (children_at old c) - 1) slots row p ready (length (children_at old c) - 1) after (Keeps-room (length now) now ready room) (omega arith) in
-    record {
-      ready = ready;
-      row = row;
-      prepared = record { keeps = q.keeps; tree = after };
-      filled = q.filled;
-      join = may_join old ready c slots row tree there q;
-      put = put;
-      tree = done;
-    }
-
-pub kept_through : (old now ready : List Node) → Keeps (length old) old now → MakesRoom now ready → Keeps (length old) old ready
-kept_through old now ready keeps room = Keeps-then (length old) old now ready keeps (Keeps-fewer (length old) (length now) now ready keeps.len (Keeps-room (length now) now ready room))
+pub takes_row : (old now new : List Node) (c : ℕ) (slots : List Slot) (row : List ℕ) → IsTree old → c < length old → PlannedRow old now c slots row → IsTree now → IsTree new → Splices now new c 1 (length (children_at old c) - 1) row → TakesRow old new c slots
+takes_row old now new c slots row tree there p after done put = record {
+  ready = now;
+  row = row;
+  prepared = record { keeps = p.keeps; tree = after };
+  filled = p.filled;
+  join = may_join old now c slots row tree there p;
+  put = put;
+  tree = done;
+}
 
 -- how many children there are when it has been planned, and that it may take its place
-module _ (old now ready : List Node) (c : ℕ) (slots : List Slot) (row : List ℕ) (tree : IsTree old) (there : c < length old) (p : PlannedRow old now c slots row) (room : MakesRoom now ready) (after : IsTree ready) (count : ℕ) (counted : count ≡ length (children_at ready c)) where
+module _ (old now : List Node) (c : ℕ) (slots : List Slot) (row : List ℕ) (tree : IsTree old) (there : c < length old) (p : PlannedRow old now c slots row) (after : IsTree now) (count : ℕ) (counted : count ≡ length (children_at now c)) where
   same_count : count ≡ length (children_at old c)
-  same_count = counted ∙ ap length ((kept_through old now ready p.keeps room).children c there)
+  same_count = counted ∙ ap length (p.keeps.children c there)
 
-  pub row_ready : (xs : List ℕ) → xs ≡ row → CanJoin ready c 1 (count - 1) xs
+  pub row_ready : (xs : List ℕ) → xs ≡ row → CanJoin now c 1 (count - 1) xs
   row_ready xs e =
-      let q : PlannedRow old ready c slots row = planned_later old now c (length (children_at old c) - 1) slots row p ready (length (children_at old c) - 1) after (Keeps-room (length now) now ready room) (omega arith) in
-      subst (λ l. CanJoin ready c 1 (count - 1) l) (sym e) (subst (λ k. CanJoin ready c 1 (k - 1) row) (sym same_count) (may_join old ready c slots row tree there q))
+      subst (λ l. CanJoin now c 1 (count - 1) l) (sym e) (subst (λ k. CanJoin now c 1 (k - 1) row) (sym same_count) (may_join old now c slots row tree there p))
 
-  pub made_multiline : (new : List Node) → IsTree new → (xs : List ℕ) → xs ≡ row → Splices ready new c 1 (count - 1) xs → slots ≡ on_lines (lines_for old c) old (between (children_at old c)) → IsTrue (has_brackets old c) → has_line_end old c ≡ false → MadeMultiline old new c
+  pub made_multiline : (new : List Node) → IsTree new → (xs : List ℕ) → xs ≡ row → Splices now new c 1 (count - 1) xs → slots ≡ on_lines (lines_for old c) old (between (children_at old c)) → IsTrue (has_brackets old c) → has_line_end old c ≡ false → MadeMultiline old new c
   made_multiline new done xs e put told whole none = record {
     brackets = whole;
     was = λ h. absurd (let wrong : false ≡ true = sym none ∙ h in cc);
-    is = λ h. subst (TakesRow old new c) told (takes_row old now ready new c slots row tree there p room after done (subst (λ k. Splices ready new c 1 (k - 1) row) same_count (subst (λ l. Splices ready new c 1 (count - 1) l) e put)));
+    is = λ h. subst (TakesRow old new c) told (takes_row old now new c slots row tree there p after done (subst (λ k. Splices now new c 1 (k - 1) row) same_count (subst (λ l. Splices now new c 1 (count - 1) l) e put)));
   }

@@ -99,7 +99,7 @@ record Unmoved (old new : List Node) (c : ℕ) : Type 0 where
   children : (n : ℕ) → n ≢ c → children_at new n ≡ children_at old n
 
 unmoved_by : (old new : List Node) (c i j : ℕ) → Splices old new c i j [] → Unmoved old new c
-unmoved_by old new c i j s = record { len = s.len; content = s.content; children = λ n ne. (s.others n ne).0 }
+unmoved_by old new c i j s = record { len = s.len; content = s.content; children = λ n ne. (s.others n ne) }
 
 unmoved_same : (old new : List Node) (c : ℕ) → new ≡ old → Unmoved old new c
 unmoved_same old new c e = subst (λ ns. Unmoved old ns c) (sym e) (record { len = refl; content = λ n. refl; children = λ n ne. refl })

@@ -1,5 +1,5 @@
 -- An element has left a container's row: which row that was, and which it is.
-use Rattle.std.proofs.Common.{◌≡◌, ◌≢◌, ℕ, suc, ◌+◌, ◌<◌, Bool, true, false, not, cond, List, [], ◌∷◌, ◌++◌, length, filter, reverse, take, Option, Some, None, IsTrue, if◌then◌else◌, refl, sym, ap, subst, ◌∙◌, arith}
+use Rattle.std.proofs.Common.{◌≡◌, ◌≢◌, ℕ, suc, ◌+◌, ◌<◌, Bool, true, false, not, ◌&&◌, cond, List, [], ◌∷◌, ◌++◌, length, filter, reverse, take, Option, Some, None, IsTrue, if◌then◌else◌, refl, sym, ap, subst, ◌∙◌, arith}
 use Rattle.std.proofs.lemmas.List.{append_assoc, length-append, map-append, reverse-append, take_at}
 use Rattle.std.proofs.lemmas.List.Folds.{find-append}
 use Rattle.std.specs.Option.{option_or}
@@ -12,7 +12,7 @@ use Rattle.jsonc_tree.specs.Tree.{Node, content_at, parent_at, children_at, plac
 use Rattle.jsonc_tree.proofs.Order.{parent_there}
 use Rattle.jsonc_tree.proofs.OrderedTrees.{leaves-followed_by}
 use Rattle.jsonc_tree.proofs.Rows.{Shows-append, Shows-part, followed_by-assoc, followed_by-none}
-use Rattle.jsonc_layout.specs.nodes.Kinds.{is_element, is_element_at}
+use Rattle.jsonc_layout.specs.nodes.Kinds.{is_comma, is_element, is_element_at, is_trivia}
 use Rattle.jsonc_sound.specs.Shape.{token_then}
 use Rattle.jsonc_layout.specs.lines.Kinds.{is_array_or_object}
 use Rattle.jsonc_sound.specs.Rows.{RowKind, opening, closing}
@@ -23,7 +23,7 @@ use Rattle.jsonc_edit.specs.Due.{nearest, beginning_in, begins_bare, ends_bare, 
 use Rattle.jsonc_edit.specs.Put.{a_space}
 use Rattle.jsonc_edit.specs.SeamRemovals.{SpaceFirst, none_first, space_first, RemovedWithSeams, comma_behind, comma_before, no_comma}
 use Rattle.jsonc_edit.proofs.LeavesAroundNodes.{silent_row}
-use Rattle.jsonc_sound.specs.Leaving.{AreInlineTrivia, ends_apart, element_count, among, ElementRemoved, with_comma_behind, with_comma_before, with_no_comma, ClosesUp}
+use Rattle.jsonc_sound.specs.Leaving.{AreInlineTrivia, ends_apart, element_count, has_no_comma, comma_comes, among, ElementRemoved, with_comma_behind, with_comma_before, with_no_comma, ClosesUp}
 use Rattle.jsonc_sound.proofs.RowParts.{rest_trivia, between_trivia, line_trivia}
 use Rattle.jsonc_edit.proofs.WholeRows.{Whole, more_whole, whole_before, whole_behind}
 use Rattle.jsonc_edit.proofs.NearestLeaves.{back_bare, front_bare, meet_bare}
@@ -63,6 +63,23 @@ record Unspaced (ns : List Node) (xs : List ℕ) (before : List Content) (t : Or
   was : OrderedTree
   shows : Shows ns xs was
   space : SpaceFirst before was t
+
+-- a space is no comma
+free_of_commas : {ahead : List Content} {x y : OrderedTree} → SpaceFirst ahead x y → has_no_comma x ≡ has_no_comma y
+free_of_commas none_first = refl
+free_of_commas (space_first quiet rest s l f) = by quiet
+  where
+    by : (q : OrderedTree) → has_no_comma (followed_by q rest) ≡ has_no_comma (followed_by q (space_then rest))
+    by none = refl
+    by (more c b q) = ap (λ x. not (is_comma c) && x) (by q)
+
+comes_as_well : {ahead : List Content} {x y : OrderedTree} → SpaceFirst ahead x y → comma_comes x ≡ comma_comes y
+comes_as_well none_first = refl
+comes_as_well (space_first quiet rest s l f) = by quiet
+  where
+    by : (q : OrderedTree) → comma_comes (followed_by q rest) ≡ comma_comes (followed_by q (space_then rest))
+    by none = refl
+    by (more c b q) = ap (λ x. if is_trivia c then x else is_comma c) (by q)
 
 first_below : (ns : List Node) (n : ℕ) (rest : List ℕ) (t : OrderedTree) → Shows ns (n ∷ rest) t → (below : OrderedTree) × (after : OrderedTree) × (t ≡ more (content_at ns n) below after) × Shows ns (children_at ns n) below × Shows ns rest after
 first_below ns n rest _ (shows_more {below = b} {after = a} p q) = (b, a, refl, p, q)
@@ -284,7 +301,7 @@ module _ (o : Options) (old new : List Node) (tree : IsTree old) (after : IsTree
           seams =
               subst (λ k. RemovedWithSeams (top_at old n) k (followed_by p.front (followed_by p.stretch_of was.was)) (followed_by p.front p.rest_of)) (stretch_index away near line rest row edges beside same p)
               (subst (λ t. RemovedWithSeams (top_at old n) (element_count p.front) t (followed_by p.front p.rest_of)) (sym ready_is)
-              (no_comma p.front was.was p.rest_of (contents old near) (contents old line) beside ended was.space));
+              (no_comma p.front was.was p.rest_of (contents old near) (contents old line) beside ended (commas_shown old p.shows_front ∙ none_away) (ap not (comes_as_well was.space ∙ first_shown old p.shows_rest ∙ first)) was.space));
         }
     outcome _ _ (settled_behind away near between line rest k row edges beside apart_away comma goes quiet back_nodes come) same =
         let p = pieces away near (between ++ k ∷ line) rest row edges beside in
@@ -394,5 +411,6 @@ module _ (o : Options) (old new : List Node) (tree : IsTree old) (after : IsTree
           seams =
               subst (λ j. RemovedWithSeams (top_at old n) j (followed_by ready_front (followed_by p.stretch_of was.was)) left) ready_counts
               (subst (λ t. RemovedWithSeams (top_at old n) (element_count two.0 + element_count was_mid.was) t left) (sym ready_is)
-              (comma_before two.0 was_mid.was was.was one.after p.rest_of (contents old near) (contents old line) beside ended was_mid.space was.space));
+              (comma_before two.0 was_mid.was was.was one.after p.rest_of (contents old near) (contents old line) beside ended (free_of_commas was_mid.space ∙ commas_shown old one.shown ∙ none_mid)
+              (ap not (comes_as_well was.space ∙ first_shown old p.shows_rest ∙ first)) was_mid.space was.space));
         }

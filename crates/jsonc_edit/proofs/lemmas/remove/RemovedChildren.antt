@@ -40,7 +40,7 @@ pub stretch_out : (old new : List Node) (c i j : ℕ) (front gone back : List �
 stretch_out old new c i j front gone back row e f s = record {
   len = s.len;
   content = s.content;
-  children = λ n ne. (s.others n ne).0;
+  children = λ n ne. (s.others n ne);
   is = s.children ∙ ap (λ l. splice l i j []) row ∙ ap (λ k. splice (front ++ (gone ++ back)) k j []) e ∙ ap (λ k. splice (front ++ (gone ++ back)) (length front) k []) f ∙ spliced_row front gone back;
 }
 

@@ -4,11 +4,11 @@ use Rattle.std.proofs.lemmas.List.{get_or_default, nil_from_length}
 use Rattle.std.proofs.lemmas.List.Edits.{length-between}
 use Rattle.jsonc_text.specs.Plain.{Plain}
 use Rattle.jsonc_tree.specs.Building.{Builds, Keeps}
-use Rattle.jsonc_tree.specs.Changes.{CanJoin, MakesRoom, Splices}
+use Rattle.jsonc_tree.specs.Changes.{CanJoin, Splices}
 use Rattle.jsonc_tree.specs.Content.{Content}
 use Rattle.jsonc_tree.specs.OrderedTree.{OrderedTree, ordered_tree}
 use Rattle.jsonc_tree.specs.Tree.{Node, content_at, parent_at, children_at, is_in, IsTree}
-use Rattle.jsonc_tree.proofs.Builder.{Keeps-then, Keeps-fewer, Keeps-room}
+use Rattle.jsonc_tree.proofs.Builder.{Keeps-then, Keeps-fewer, Keeps-same}
 use Rattle.jsonc_tree.proofs.Splicing.{out_from}
 use Rattle.jsonc_layout.specs.from_input.Layout.{Layout}
 use Rattle.jsonc_layout.specs.from_input.Laid.{laid}
@@ -28,9 +28,6 @@ use Rattle.jsonc_edit.proofs.lemmas.set.RootRow.{Rising, risen, around_rises, ma
 -- what is ready stays ready while more is made
 pub still_kept : (a b c : List Node) → Keeps (length a) a b → Keeps (length b) b c → Keeps (length a) a c
 still_kept a b c first second = Keeps-then (length a) a b c first (Keeps-fewer (length a) (length b) b c first.len second)
-
-pub with_room : (a b : List Node) → MakesRoom a b → Keeps (length a) a b
-with_room a b room = Keeps-room (length a) a b room
 
 -- the document is what it was
 pub document_kept : (a b : List Node) → IsTree a → Keeps (length a) a b → IsTree b → ordered_tree b 0 ≡ ordered_tree a 0
@@ -58,88 +55,88 @@ module _ (old ready new : List Node) (keeps : Keeps (length old) old ready) (xs 
     len = omega (arith, keeps.len, put.len);
     content = λ n h. put.content n ∙ keeps.content n h;
     parent = λ n h. parent_same n h ∙ keeps.parent n h;
-    children = λ n h ne. (put.others n ne).0 ∙ keeps.children n h;
+    children = λ n h ne. (put.others n ne) ∙ keeps.children n h;
   }
 
--- A newline may have been made, then the value, then another newline, and then room.
-module _ (old first made last ready : List Node) (tree : IsTree old) (before behind : Option ℕ) (m : ℕ) (content : Content) (below : OrderedTree)
-    (p : Extends old first) (fresh : IsFresh old first before) (built : Builds first made m content below) (q : Extends made last) (also_fresh : IsFresh made last behind) (room : MakesRoom last ready) (after : IsTree ready) where
-  from_last : Keeps (length last) last ready
-  from_last = with_room last ready room
+-- A newline may have been made, then the value, then another newline.
+module _ (old first made last : List Node) (tree : IsTree old) (before behind : Option ℕ) (m : ℕ) (content : Content) (below : OrderedTree)
+    (p : Extends old first) (fresh : IsFresh old first before) (built : Builds first made m content below) (q : Extends made last) (also_fresh : IsFresh made last behind) (after : IsTree last) where
+  from_last : Keeps (length last) last last
+  from_last = Keeps-same (length last) last
 
-  pub from_made : Keeps (length made) made ready
-  from_made = still_kept made last ready q.keeps from_last
+  pub from_made : Keeps (length made) made last
+  from_made = q.keeps
 
-  from_first : Keeps (length first) first ready
-  from_first = still_kept first made ready built.keeps from_made
+  from_first : Keeps (length first) first last
+  from_first = still_kept first made last built.keeps from_made
 
-  pub from_old : Keeps (length old) old ready
-  from_old = still_kept old first ready p.keeps from_first
+  pub from_old : Keeps (length old) old last
+  from_old = still_kept old first last p.keeps from_first
 
-  before_free : (o : Option ℕ) → IsFresh old first o → IfSome o (λ x. (length old ≤ x) × (x < m) × (parent_at ready x ≡ None))
+  before_free : (o : Option ℕ) → IsFresh old first o → IfSome o (λ x. (length old ≤ x) × (x < m) × (parent_at last x ≡ None))
   before_free None f = tt
   before_free (Some x) f = (f.0, omega (arith, f.1, built.later), from_first.parent x f.1 ∙ f.2)
 
-  behind_free : (o : Option ℕ) → IsFresh made last o → IfSome o (λ x. (m < x) × (x < length ready) × (parent_at ready x ≡ None))
+  behind_free : (o : Option ℕ) → IsFresh made last o → IfSome o (λ x. (m < x) × (x < length last) × (parent_at last x ≡ None))
   behind_free None f = tt
   behind_free (Some x) f = (omega (arith, f.0, built.in_tree), omega (arith, f.1, from_last.len), from_last.parent x f.1 ∙ f.2)
 
-  pub rising : Rising ready (length old) (listed before ++ m ∷ listed behind)
+  pub rising : Rising last (length old) (listed before ++ m ∷ listed behind)
   rising =
-      around_rises ready (length old) m before behind (before_free before fresh) (omega (arith, built.later, p.keeps.len)) (omega (arith, built.in_tree, from_made.len)) (from_made.parent m built.in_tree ∙ built.alone) (behind_free behind also_fresh)
+      around_rises last (length old) m before behind (before_free before fresh) (omega (arith, built.later, p.keeps.len)) (omega (arith, built.in_tree, from_made.len)) (from_made.parent m built.in_tree ∙ built.alone) (behind_free behind also_fresh)
 
-  pub can_join : (i j : ℕ) → CanJoin ready 0 i j (listed before ++ m ∷ listed behind)
-  can_join i j = may_join ready after (length old) tree.first (listed before ++ m ∷ listed behind) rising i j
+  pub can_join : (i j : ℕ) → CanJoin last 0 i j (listed before ++ m ∷ listed behind)
+  can_join i j = may_join last after (length old) tree.first (listed before ++ m ∷ listed behind) rising i j
 
-  pub before_still : map (content_at ready) (listed before) ≡ map (content_at first) (listed before)
-  before_still = content_still first ready from_first (length old) before fresh
+  pub before_still : map (content_at last) (listed before) ≡ map (content_at first) (listed before)
+  before_still = content_still first last from_first (length old) before fresh
 
-  pub behind_still : map (content_at ready) (listed behind) ≡ map (content_at last) (listed behind)
-  behind_still = content_still last ready from_last (length made) behind also_fresh
+  pub behind_still : map (content_at last) (listed behind) ≡ map (content_at last) (listed behind)
+  behind_still = content_still last last from_last (length made) behind also_fresh
 
-  within_ready : (place count : ℕ) → count ≡ length (children_at old 0) → place ≤ count → place ≤ length (children_at ready 0)
+  within_ready : (place count : ℕ) → count ≡ length (children_at old 0) → place ≤ count → place ≤ length (children_at last 0)
   within_ready place count all within = omega (arith, all, within, ap length (from_old.children 0 tree.first))
 
-  pub nodes_stay : (place count : ℕ) → count ≡ length (children_at old 0) → place ≤ count → (new : List Node) → Splices ready new 0 place place (listed before ++ m ∷ listed behind) → KeepsNodes old new
-  nodes_stay place count all within new put = others_stay old ready new from_old (listed before ++ m ∷ listed behind) rising place (within_ready place count all within) put
+  pub nodes_stay : (place count : ℕ) → count ≡ length (children_at old 0) → place ≤ count → (new : List Node) → Splices last new 0 place place (listed before ++ m ∷ listed behind) → KeepsNodes old new
+  nodes_stay place count all within new put = others_stay old last new from_old (listed before ++ m ∷ listed behind) rising place (within_ready place count all within) put
 
 -- so it is with a value that is laid out as the document tells
-module _ (old first made last ready : List Node) (tree : IsTree old) (before behind : Option ℕ) (m : ℕ) (layout : Layout) (v : Plain)
-    (p : Extends old first) (fresh : IsFresh old first before) (built : Builds first made m (laid layout v).content (laid layout v).below) (q : Extends made last) (also_fresh : IsFresh made last behind) (room : MakesRoom last ready) (after : IsTree ready)
+module _ (old first made last : List Node) (tree : IsTree old) (before behind : Option ℕ) (m : ℕ) (layout : Layout) (v : Plain)
+    (p : Extends old first) (fresh : IsFresh old first before) (built : Builds first made m (laid layout v).content (laid layout v).below) (q : Extends made last) (also_fresh : IsFresh made last behind) (after : IsTree last)
     (told : layout ≡ layout_for old 0 0) (b a : Bool) (wanted : map (content_at first) (listed before) ≡ line_end_if b layout.newline) (also : map (content_at last) (listed behind) ≡ line_end_if a layout.newline)
     (place count : ℕ) (all : count ≡ length (children_at old 0)) (found : place ≡ newline_from old (children_at old 0) count) (led : b ≡ follows_comment old (children_at old 0) place) (closed : a ≡ (place == count))
-    (new : List Node) (done : IsTree new) (put : Splices ready new 0 place place (listed before ++ m ∷ listed behind)) where
+    (new : List Node) (done : IsTree new) (put : Splices last new 0 place place (listed before ++ m ∷ listed behind)) where
   kind : layout.newline ≡ newline_kind_of old
   kind = ap (λ (l : Layout). l.newline) told
 
   place_is : place ≡ first_place old
   place_is = found ∙ ap (newline_from old (children_at old 0)) all
 
-  top_is : top_at ready m ≡ laid (layout_for old 0 0) v
-  top_is = top_stays made ready built.tree (from_made old first made last ready tree before behind m (laid layout v).content (laid layout v).below p fresh built q also_fresh room after) after m built.in_tree ∙ built_top built ∙ ap (λ (l : Layout). laid l v) told
+  top_is : top_at last m ≡ laid (layout_for old 0 0) v
+  top_is = top_stays made last built.tree (from_made old first made last tree before behind m (laid layout v).content (laid layout v).below p fresh built q also_fresh after) after m built.in_tree ∙ built_top built ∙ ap (λ (l : Layout). laid l v) told
 
-  before_is : map (content_at ready) (listed before) ≡ line_end_if (leads_in old) (newline_kind_of old)
+  before_is : map (content_at last) (listed before) ≡ line_end_if (leads_in old) (newline_kind_of old)
   before_is =
-      before_still old first made last ready tree before behind m (laid layout v).content (laid layout v).below p fresh built q also_fresh room after ∙ wanted ∙ ap (line_end_if b) kind
+      before_still old first made last tree before behind m (laid layout v).content (laid layout v).below p fresh built q also_fresh after ∙ wanted ∙ ap (line_end_if b) kind
       ∙ ap (λ w. line_end_if w (newline_kind_of old)) (led ∙ ap (follows_comment old (children_at old 0)) place_is)
 
-  behind_is : map (content_at ready) (listed behind) ≡ line_end_if (leads_out old) (newline_kind_of old)
+  behind_is : map (content_at last) (listed behind) ≡ line_end_if (leads_out old) (newline_kind_of old)
   behind_is =
-      behind_still old first made last ready tree before behind m (laid layout v).content (laid layout v).below p fresh built q also_fresh room after ∙ also ∙ ap (line_end_if a) kind
+      behind_still old first made last tree before behind m (laid layout v).content (laid layout v).below p fresh built q also_fresh after ∙ also ∙ ap (line_end_if a) kind
       ∙ ap (λ w. line_end_if w (newline_kind_of old)) (closed ∙ ap (λ k. k == count) place_is ∙ ap (λ k. first_place old == k) all)
 
   pub first_value : FirstValue old new v m
   first_value = record {
-    ready = ready;
+    ready = last;
     before = listed before;
     behind = listed behind;
     fresh = omega (arith, built.later, p.keeps.len);
-    prepared = record { keeps = from_old old first made last ready tree before behind m (laid layout v).content (laid layout v).below p fresh built q also_fresh room after; tree = after };
+    prepared = record { keeps = from_old old first made last tree before behind m (laid layout v).content (laid layout v).below p fresh built q also_fresh after; tree = after };
     is = top_is;
     leads = before_is;
     ends = behind_is;
-    join = can_join old first made last ready tree before behind m (laid layout v).content (laid layout v).below p fresh built q also_fresh room after (first_place old) (first_place old);
-    put = subst (λ k. Splices ready new 0 k k (listed before ++ m ∷ listed behind)) place_is put;
+    join = can_join old first made last tree before behind m (laid layout v).content (laid layout v).below p fresh built q also_fresh after (first_place old) (first_place old);
+    put = subst (λ k. Splices last new 0 k k (listed before ++ m ∷ listed behind)) place_is put;
     tree = done;
   }
 

@@ -33,7 +33,7 @@ use Rattle.jsonc_edit.proofs.Splices.{respliced_row}
 use Rattle.jsonc_edit.proofs.ChangesUpward.{Shows-row_below, document_is}
 use Rattle.jsonc_edit.specs.set.RootSet.{first_place, leads_in, leads_out, line_end_if, FirstValue}
 use Rattle.jsonc_edit.specs.set.Laws.{ComesAmongRows}
-use Rattle.jsonc_edit.proofs.lemmas.set.FirstRow.{line_ends, led_apart, ends_told, place_within, starts}
+use Rattle.jsonc_edit.proofs.lemmas.set.FirstRow.{line_ends, led_apart, leads_so, ends_behind, ends_told, place_within, starts}
 
 no_container : (content : Content) → IsTrue (is_trivia content) → is_container content ≡ false
 no_container (Content.whitespace s) h = refl
@@ -202,6 +202,7 @@ module _ (old new : List Node) (v : Plain) (m : ℕ) (tree : IsTree old) (f : Fi
   comes =
       value_comes front back before behind quiet_front quiet_back (line_ends (leads_in old) (newline_kind_of old)) (line_ends (leads_out old) (newline_kind_of old))
       (led_apart front (leads_in old) (newline_kind_of old) (ends_told old row place in_row)) (starts old row (newline_kind_of old))
+      (leads_so front (leads_in old) (newline_kind_of old) (ends_told old row place in_row)) (ends_behind old row (newline_kind_of old))
 
   pub value_has_come : ValueInserted top (row_below old 0) (row_below new 0)
   value_has_come = subst (λ t. ValueInserted top t (row_below new 0)) (sym old_row) (subst (ValueInserted top (leaves_then (front ++ back) none)) (sym new_row) comes)

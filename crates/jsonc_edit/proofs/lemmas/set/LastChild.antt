@@ -7,7 +7,7 @@ use Rattle.std.proofs.lemmas.List.{drop_all, get_or_default}
 use Rattle.std.proofs.lemmas.List.Elements.{All-drop, All-from_get_or, All-head, All-nil, All-tail}
 use Rattle.jsonc_text.specs.Plain.{Plain}
 use Rattle.jsonc_tree.specs.Building.{Builds, Keeps}
-use Rattle.jsonc_tree.specs.Changes.{Appends, CanAppend, MakesRoom}
+use Rattle.jsonc_tree.specs.Changes.{Appends, CanAppend}
 use Rattle.jsonc_tree.specs.Content.{Content, is_container, property}
 use Rattle.jsonc_tree.specs.Order.{with_parent}
 use Rattle.jsonc_tree.specs.Siblings.{first, row_of, siblings_after}
@@ -30,7 +30,7 @@ use Rattle.jsonc_edit.proofs.ReplacedChildren.{laid_element}
 use Rattle.jsonc_edit.proofs.NodesKept.{built_top, over_no_old, top_stays}
 use Rattle.jsonc_edit.proofs.SpacedNodes.{around_children}
 use Rattle.jsonc_edit.specs.set.PropertyValues.{LastValue}
-use Rattle.jsonc_edit.proofs.lemmas.set.FirstValueMade.{still_kept, with_room}
+use Rattle.jsonc_edit.proofs.lemmas.set.FirstValueMade.{still_kept}
 
 no_space : (content : Content) → IsElement content → content ≡ a_space → ⊥
 no_space (Content.whitespace s) e f = cc
@@ -47,10 +47,6 @@ either P false x o here there = there
 find_all : (P : ℕ → Type 0) (test : ℕ → Bool) (xs : List ℕ) → All P xs → IfSome (find test xs) P
 find_all P test [] all = tt
 find_all P test (x ∷ xs) all = either P (test x) x (find test xs) (All-head P x xs all) (find_all P test xs (All-tail P x xs all))
-
--- a value was laid out, its spaces were made, and room for it
-pub kept_before_room : (old made ready roomy : List Node) → Keeps (length old) old made → Extends made ready → MakesRoom ready roomy → Keeps (length old) old roomy
-kept_before_room old made ready roomy keeps prepared room = still_kept old made roomy keeps (still_kept made ready roomy prepared.keeps (with_room ready roomy room))
 
 -- Of the nodes `made`, p is a property; m, detached, has become its last child.
 module _ (made held : List Node) (tree : IsTree made) (after : IsTree held) (p m : ℕ) (inside : p < length made) (is : content_at held p ≡ property) (contents : (k : ℕ) → k < length made → content_at held k ≡ content_at made k)
@@ -154,35 +150,35 @@ module _ (made held : List Node) (tree : IsTree made) (after : IsTree held) (p m
       let same : begins_bare held (nearest made (siblings_after made p)) ≡ begins_bare made (nearest made (siblings_after made p)) = begins_same (nearest made (siblings_after made p)) (find_all Apart (prints_at made) (siblings_after made p) after_apart) in
       sym (ap (λ o. cond (begins_bare held o) o None) behind_is ∙ ap (λ b. cond b (nearest made (siblings_after made p)) None) same)
 
--- Among the nodes `made` a value was laid out, then its spaces were made, and then room in p.
-module _ (old made ready roomy : List Node) (tree : IsTree old) (p m : ℕ) (inside : p < length old) (is : content_at old p ≡ property) (l : Layout) (v : Plain) (built : Builds old made m (laid l v).content (laid l v).below)
-    (prepared : Extends made ready) (room : MakesRoom ready roomy) (last : IsTree roomy) where
-  from_made : Keeps (length made) made roomy
-  from_made = still_kept made ready roomy prepared.keeps (with_room ready roomy room)
+-- Among the nodes `made` a value was laid out, and then its spaces were made.
+module _ (old made ready : List Node) (tree : IsTree old) (p m : ℕ) (inside : p < length old) (is : content_at old p ≡ property) (l : Layout) (v : Plain) (built : Builds old made m (laid l v).content (laid l v).below)
+    (prepared : Extends made ready) where
+  from_made : Keeps (length made) made ready
+  from_made = prepared.keeps
 
-  kept : Keeps (length old) old roomy
-  kept = kept_before_room old made ready roomy built.keeps prepared room
+  kept : Keeps (length old) old ready
+  kept = still_kept old made ready built.keeps prepared.keeps
 
   there : p < length made
   there = omega (arith, inside, built.keeps.len)
 
-  pub can_come : CanAppend roomy p m
+  pub can_come : CanAppend ready p m
   can_come = record {
     container = omega (arith, inside, kept.len);
     holds = ap is_container (kept.content p inside ∙ is);
     node = omega (arith, built.in_tree, from_made.len);
     not_root = λ e. omega (arith, e, built.later, inside);
     alone = from_made.parent m built.in_tree ∙ built.alone;
-    not_over = λ over. over_no_old old roomy tree kept m p built.later inside over;
+    not_over = λ over. over_no_old old ready tree kept m p built.later inside over;
   }
 
-  top_is : top_at roomy m ≡ laid l v
-  top_is = top_stays made roomy built.tree from_made last m built.in_tree ∙ built_top built
+  top_is : top_at ready m ≡ laid l v
+  top_is = top_stays made ready built.tree from_made prepared.tree m built.in_tree ∙ built_top built
 
   apart : p ≢ m
   apart e = omega (arith, e, built.later, inside)
 
-  module _ (held : List Node) (put : Appends roomy held p m) (after : IsTree held) where
+  module _ (held : List Node) (put : Appends ready held p m) (after : IsTree held) where
     contents : (k : ℕ) → k < length made → content_at held k ≡ content_at made k
     contents k h = put.content k ∙ from_made.content k h
 
@@ -215,9 +211,9 @@ module _ (old made ready roomy : List Node) (tree : IsTree old) (p m : ℕ) (ins
       come_free : (o : Option Space) → IsFree ready o → IsFree held o
       come_free None free = tt
       come_free (Some s) free = record {
-        in_tree = omega (arith, free.in_tree, room.len, put.len);
-        is = put.content s.leaf ∙ room.content s.leaf ∙ free.is;
-        alone = put.parents s.leaf (λ same. no_space (content_at ready m) element (ap (content_at ready) (sym same) ∙ free.is)) ∙ room.parent s.leaf ∙ free.alone;
+        in_tree = omega (arith, free.in_tree, put.len);
+        is = put.content s.leaf ∙ free.is;
+        alone = put.parents s.leaf (λ same. no_space (content_at ready m) element (ap (content_at ready) (sym same) ∙ free.is)) ∙ free.alone;
       }
 
       pub come_hand : AreAtHand held (nodes_of spaces) spaces
@@ -225,10 +221,10 @@ module _ (old made ready roomy : List Node) (tree : IsTree old) (p m : ℕ) (ins
 
       pub last_value : l ≡ layout_for old p p → (new : List Node) → AreSpaced held (nodes_of spaces) new → LastValue old new p v m
       last_value told new spaced = record {
-        ready = roomy;
+        ready = ready;
         held = held;
         fresh = built.later;
-        prepared = record { keeps = kept; tree = last };
+        prepared = record { keeps = kept; tree = prepared.tree };
         is = top_is ∙ ap (λ (w : Layout). laid w v) told;
         can = can_come;
         put = put;

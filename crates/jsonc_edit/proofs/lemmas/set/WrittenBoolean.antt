@@ -441,6 +441,15 @@ module _ (old new : List Node) (path : List ℕ) (n : ℕ) (b : Bool) (tree : Is
         parts_behind = λ o sound e. let wrong : false ≡ true = e in cc;
       }
 
+  -- no space comes behind it, and none before `true`
+  none_behind : seams.behind ≡ false
+  unfolding seams
+  none_behind = refl
+
+  none_before : b ≡ true → seams.before ≡ false
+  unfolding seams
+  none_before e = ap (λ x. not x && is_hex_at old (seen_before old n)) e
+
   -- in a sound document
   module _ (o : Options) (sound : SoundTree o (ordered_tree old 0)) where
     still_sound : SoundTree o (ordered_tree spaced 0)
@@ -551,8 +560,8 @@ module _ (old new : List Node) (path : List ℕ) (n : ℕ) (b : Bool) (tree : Is
 -- spaces have come, and then the one truth value has been replaced by the other at the path
 pub boolean_gives_way : (old new : List Node) (path : List ℕ) (n : ℕ) (b : Bool) → IsTree old → IsAt old path n → is_boolean (content_at old n) ≡ true → BooleanSet old new n b
     → (was : Bool) × (held : OrderedTree) × SpacesPut (ordered_tree old 0) held × DocumentChanged (boolean_leaf was) (boolean_leaf b) path held (ordered_tree new 0)
-    × ReplacedWithSeams path (boolean_leaf was) (boolean_leaf b) (ordered_tree old 0) (ordered_tree new 0)
-boolean_gives_way old new path n b tree at h g = (a old new path n b tree at h g, ordered_tree g.spaced 0, spaces old new path n b tree at h g, changed old new path n b tree at h g, seams old new path n b tree at h g)
+    × (seam : ReplacedWithSeams path (boolean_leaf was) (boolean_leaf b) (ordered_tree old 0) (ordered_tree new 0)) × (seam.behind ≡ false) × (b ≡ true → seam.before ≡ false)
+boolean_gives_way old new path n b tree at h g = (a old new path n b tree at h g, ordered_tree g.spaced 0, spaces old new path n b tree at h g, changed old new path n b tree at h g, seams old new path n b tree at h g, none_behind old new path n b tree at h g, none_before old new path n b tree at h g)
 
 pub writes_boolean : (o : Options) (old new : List Node) (path : List ℕ) (n : ℕ) (b : Bool) → WritesBoolean o old new path n b
 writes_boolean o old new path n b tree sound at h g = boolean_written old new path n b tree at h g o sound

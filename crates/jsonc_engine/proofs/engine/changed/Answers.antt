@@ -4,5 +4,5 @@ use Rattle.jsonc_engine.proofs.Changes.{left_by}
 use Rattle.jsonc_engine.proofs.engine.changed.Goals as goal
 
 pub returns-in-Ok-clause-left : goal.returns-in-Ok-clause-left
-returns-in-Ok-clause-left g c = λ o request is other sound.
-    left_by o c.args.change other request (printed_of c.args.document) (nodes_of c.args.document) (nodes_of c.make.new.document) is refl sound (c.in-Ok.ensures.made o request is)
+returns-in-Ok-clause-left g c = λ o request is other sound laid.
+    left_by o c.args.change other request (printed_of c.args.document) (nodes_of c.args.document) (nodes_of c.make.new.document) is refl sound laid (c.in-Ok.ensures.made o request is)

@@ -1,6 +1,6 @@
-use Rattle.std.proofs.Common.{◌≡◌, ℕ, IfErr, IfOk, IsUtf8, List, chars, rules, subst, true}
+use Rattle.std.proofs.Common.{◌≡◌, ◌∙◌, sym, ℕ, IfErr, IfOk, IsUtf8, List, chars, rules, subst, true}
 use Rattle.jsonc_text.specs.OptionsOf.{parse_options}
-use Rattle.jsonc_cst.specs.Document.{nodes_of, printed_of}
+use Rattle.jsonc_cst.specs.Document.{nodes_of, printed_of, tree_of, LiesIn}
 use Rattle.jsonc_engine.specs.Fault.{IsFaultOn}
 use Rattle.jsonc_engine.specs.Output.{IsLeft, output_bytes}
 use Rattle.jsonc_engine.specs.Parser.{IsDocument, IsFault, ParseFault, RefusesText}
@@ -12,7 +12,9 @@ returns-in-Ok-parse-clause-left g c = λ request is.
     let o = parse_options c.args.options.now in
     let reads : printed_of c.in-Ok-parse.document ≡ c.args.input.now = search rules in
     let sound = parsed_sound o (nodes_of c.in-Ok-parse.document) c.in-Ok-parse.ensures.shaped c.in-Ok-parse.ensures.lines in
-    subst (λ (b : List ℕ). IfOk c.outcome_of.result (λ output. IsLeft o request b (output_bytes output))) reads (c.outcome_of.ensures.left o request is sound)
+    let same : c.in-Ok.text.now ≡ c.args.input.now = search rules in
+    let laid : LiesIn o (printed_of c.in-Ok-parse.document) (tree_of c.in-Ok-parse.document) = subst (λ (b : List ℕ). LiesIn o b (tree_of c.in-Ok-parse.document)) (same ∙ sym reads) c.in-Ok-parse.ensures.laid in
+    subst (λ (b : List ℕ). IfOk c.outcome_of.result (λ output. IsLeft o request b (output_bytes output))) reads (c.outcome_of.ensures.left o request is sound laid)
 
 pub returns-in-Ok-parse-clause-refused : goal.returns-in-Ok-parse-clause-refused
 returns-in-Ok-parse-clause-refused g c = λ request is.

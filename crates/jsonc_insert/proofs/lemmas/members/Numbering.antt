@@ -154,7 +154,7 @@ module _ (old new : List Node) (c i : ℕ) (name : List ℕ) (v : Plain) (m : �
   elsewhere = record {
     len = omega (arith, prepared.keeps.len, e.put.len);
     content = λ n h. e.put.content n ∙ prepared.keeps.content n h;
-    children = λ n h ne. (e.put.others n ne).0 ∙ prepared.keeps.children n h;
+    children = λ n h ne. e.put.others n ne ∙ prepared.keeps.children n h;
     parent = λ n h ne.
         e.put.parents n
         ∙ ap (λ b. cond b (Some c) (cond (is_in n (slice_range (children_at e.ready c) 0 (length (children_at old c)))) None (parent_at e.ready n))) (not_in_row n h ne)

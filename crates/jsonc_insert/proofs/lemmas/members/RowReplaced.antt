@@ -3,15 +3,13 @@ use Rattle.std.proofs.Common.{◌≡◌, ◌<◌, ◌≤◌, inl, inr, ℕ, List
 use Rattle.std.proofs.lemmas.List.Elements.{All-from_get_or}
 use Rattle.jsonc_text.specs.Plain.{Plain}
 use Rattle.jsonc_tree.specs.Building.{Keeps}
-use Rattle.jsonc_tree.specs.Changes.{CanJoin, EachOnce, MakesRoom, Splices}
+use Rattle.jsonc_tree.specs.Changes.{CanJoin, EachOnce, Splices}
 use Rattle.jsonc_tree.specs.Tree.{Node, children_at, IsTree}
-use Rattle.jsonc_tree.proofs.Builder.{Keeps-room}
 use Rattle.jsonc_tree.proofs.Order.{parent_there}
 use Rattle.jsonc_edit.specs.Put.{Extends}
 use Rattle.jsonc_insert.specs.Inserted.{with_comma}
 use Rattle.jsonc_insert.specs.Made.{AreFresh, IsFresh}
 use Rattle.jsonc_insert.specs.Planned.{has_brackets}
-use Rattle.jsonc_insert.specs.Settings.{indents_of}
 use Rattle.jsonc_insert.specs.Trimmed.{with_at}
 use Rattle.jsonc_insert.proofs.RowReplaced.{may_join}
 use Rattle.jsonc_insert.proofs.MadeLeaves.{keeps_then}
@@ -19,8 +17,6 @@ use Rattle.jsonc_insert.proofs.NoDuplicates.{all_parts, all_with_at, once_left, 
 use Rattle.jsonc_insert.proofs.TrimmedRows.{has_two, trimmed_all, trimmed_brackets, trimmed_once}
 use Rattle.jsonc_insert.specs.members.Inserted.{plan_inside, PropertyPut, RowMade}
 use Rattle.jsonc_insert.specs.members.Opened.{IsBefore, IsOfRow}
-use Rattle.jsonc_insert.specs.members.Layout.{layout_inside}
-use Rattle.jsonc_insert.proofs.lemmas.members.MadeProperties.{made_later}
 
 -- new nodes come into a row of old ones, and a comma further in front
 module _ (lined ready : List Node) (was : List ℕ) (there : All (λ n. n < length lined) was) (once : EachOnce was) (place : ℕ) (comma written : List ℕ) (fresh : AreFresh lined ready (comma ++ written)) where
@@ -114,51 +110,33 @@ module _ (old lined ready : List Node) (tree : IsTree old) (c : ℕ) (there : c 
   pub joins : CanJoin ready c 0 (length (children_at old c)) row
   joins = may_join old ready tree prepared_all c there row row_once row_stands
 
--- all that was made stays ready while there is more room, and then takes its place
-module _ (old lined made ready : List Node) (tree : IsTree old) (c : ℕ) (there : c < length old) (was : List ℕ) (b : IsBefore old lined c was) (p : Extends lined made) (room : MakesRoom made ready) (after : IsTree ready)
+-- all that was made takes its place
+module _ (old lined made : List Node) (tree : IsTree old) (c : ℕ) (there : c < length old) (was : List ℕ) (b : IsBefore old lined c was) (p : Extends lined made)
     (i : ℕ) (name : List ℕ) (v : Plain) (m : ℕ) (row : List ℕ) (r : RowMade lined made c was i name v m row) where
-  keeps : Keeps (length made) made ready
-  keeps = Keeps-room (length made) made ready room
-
-  prepared : Extends lined ready
-  prepared = record { keeps = keeps_then lined made ready p.keeps keeps; tree = after }
-
-  row_made : RowMade lined ready c was i name v m row
-  row_made = record {
-    comma = r.comma;
-    before = r.before;
-    behind = r.behind;
-    made = made_later lined made ready (layout_inside lined c was) (indents_of lined c was).current (plan_inside lined c was i) name v m r.comma r.before r.behind p.tree keeps after r.made;
-    is = r.is;
-  }
-
-  takes : CanJoin ready c 0 (length (children_at old c)) row
-  takes = joins old lined ready tree c there was b prepared i name v m row row_made
+  takes : CanJoin made c 0 (length (children_at old c)) row
+  takes = joins old lined made tree c there was b p i name v m row r
 
   module _ (count : ℕ) (all : count ≡ length (children_at old c)) (given : List ℕ) (same : given ≡ row) where
-    pub within : count ≤ length (children_at ready c)
-    within = let kept = prepared_all old lined ready tree c there was b prepared i name v m row row_made in omega (arith, all, ap length (kept.keeps.children c there))
+    pub within : count ≤ length (children_at made c)
+    within = let kept = prepared_all old lined made tree c there was b p i name v m row r in omega (arith, all, ap length (kept.keeps.children c there))
 
-    pub can_join : CanJoin ready c 0 count given
-    can_join = subst (λ k. CanJoin ready c 0 k given) (sym all) (subst (CanJoin ready c 0 (length (children_at old c))) (sym same) takes)
+    pub can_join : CanJoin made c 0 count given
+    can_join = subst (λ k. CanJoin made c 0 k given) (sym all) (subst (CanJoin made c 0 (length (children_at old c))) (sym same) takes)
 
-    pub put_so : (new : List Node) → IsTree new → Splices ready new c 0 count given → PropertyPut old new c i name v m
+    pub put_so : (new : List Node) → IsTree new → Splices made new c 0 count given → PropertyPut old new c i name v m
     put_so new done put = record {
       lined = lined;
       was = was;
       before = b;
-      ready = ready;
+      ready = made;
       row = row;
-      prepared = prepared;
-      made = row_made;
+      prepared = p;
+      made = r;
       join = takes;
-      put = subst (λ k. Splices ready new c 0 k row) all (subst (Splices ready new c 0 count) same put);
+      put = subst (λ k. Splices made new c 0 k row) all (subst (Splices made new c 0 count) same put);
       tree = done;
     }
 
 -- all was made in two steps, and nothing that was there has changed
 pub kept_twice : (old lined made : List Node) → Extends old lined → Extends lined made → Keeps (length old) old made
 kept_twice old lined made first second = keeps_then old lined made first.keeps second.keeps
-
-pub kept_with_room : (old lined made ready : List Node) → Extends old lined → Extends lined made → MakesRoom made ready → Keeps (length old) old ready
-kept_with_room old lined made ready first second room = keeps_then old made ready (kept_twice old lined made first second) (Keeps-room (length made) made ready room)

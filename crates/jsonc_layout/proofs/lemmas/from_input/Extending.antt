@@ -1,13 +1,13 @@
 -- A node that stands alone is built on, step by step.
-use Rattle.std.proofs.Common.{ℕ, ◌≡◌, List, length, Result, Ok, Err, OnOk, OnErr, IsTrue, sym, ap, subst, ◌∙◌, arith}
+use Rattle.std.proofs.Common.{ℕ, ◌≡◌, List, length, Result, Ok, Err, OnOk, IsTrue, sym, ap, subst, ◌∙◌, arith}
 use Rattle.jsonc_tree.specs.Content.{Content, is_container}
 use Rattle.jsonc_tree.specs.Tree.{Node, IsTree}
-use Rattle.jsonc_tree.specs.Changes.{Appends, CanAppend, MakesRoom, Pushes}
+use Rattle.jsonc_tree.specs.Changes.{Appends, CanAppend, Pushes}
 use Rattle.jsonc_tree.specs.OrderedTree.{OrderedTree, none, more, followed_by}
 use Rattle.jsonc_tree.specs.Building.{Keeps, Builds}
 use Rattle.jsonc_tree.proofs.Rows.{followed_by-none, followed_by-assoc}
 use Rattle.jsonc_tree.proofs.Appending.{not_over_alone}
-use Rattle.jsonc_tree.proofs.Builder.{Builds-pushes, Builds-appends, Keeps-then, Keeps-fewer, Keeps-pushes, Keeps-appends, Keeps-room}
+use Rattle.jsonc_tree.proofs.Builder.{Builds-pushes, Builds-appends, Keeps-then, Keeps-fewer, Keeps-pushes, Keeps-appends}
 use Rattle.jsonc_layout.specs.from_input.Extending.{IsUnfinished, Extends}
 
 pub on_ok : {T E P Q : Type 0} (r : Result T E) → (P → Q) → OnOk r P → OnOk r Q
@@ -77,19 +77,12 @@ pub keeps_appends : {a b d : List Node} {c m : ℕ} {other : Content} {inner : O
 keeps_appends {a} {b} {d} {c} {m} u part appends =
     Keeps-then c a b d (keeps_apart u part.keeps) (Keeps-appends c b d c m (omega arith) (omega (arith, u.in_tree, part.later)) appends)
 
-pub keeps_more_room : {a b d : List Node} {c : ℕ} → IsUnfinished a c → Keeps (length a) a b → MakesRoom b d → Keeps c a d
-keeps_more_room {a} {b} {d} {c} u keeps room = Keeps-then c a b d (keeps_apart u keeps) (Keeps-room c b d room)
-
 pub keeps_both : {a b d : List Node} {c : ℕ} → Keeps c a b → Keeps c b d → Keeps c a d
 keeps_both {a} {b} {d} {c} p q = Keeps-then c a b d p q
 
 -- and all that were there before a new container
 pub keeps_old : {a b d : List Node} {n : ℕ} {content : Content} {below : OrderedTree} → Builds a b n content below → Keeps n b d → Keeps (length a) a d
 keeps_old {a} {b} {d} {n} built keeps = Keeps-then (length a) a b d built.keeps (Keeps-fewer (length a) n b d built.later keeps)
-
-pub keeps_attached : {T E : Type 0} {a b d : List Node} {c m : ℕ} {other : Content} {inner : OrderedTree} (r : Result T E) → IsUnfinished a c → Builds a b m other inner → OnOk r (Appends b d c m) → OnErr r (MakesRoom b d) → Keeps c a d
-keeps_attached (Ok x) u part appends room = keeps_appends u part appends
-keeps_attached (Err e) u part appends room = keeps_more_room u part.keeps room
 
 -- a container that was begun with a leaf, then a row, then a last leaf
 pub built_on : {a b d : List Node} {n : ℕ} {content : Content} {below row : OrderedTree} → Builds a b n content below → Extends b d n row → Builds a d n content (followed_by below row)

@@ -84,7 +84,7 @@ module _ (d : Document) (op : Operation) (old new : List Node) (tree : IsTree ol
       record {
         e = e;
         shown = record { sound = step.new.sound; value = step.new.value; is = refl };
-        edited = subst (λ (x : Document). Run x (in_texts op ∷ []) e) is (steps_are_run d.options t u chain.0 chain.1 (op ∷ []) chain.2 all);
+        edited = subst (λ (x : Document). Run x (in_texts op ∷ []) e) is (steps_are_run d.options t u chain.0 chain.1 (op ∷ []) chain.2 all).0;
         changed = subst (λ (w : Option Plain). IsChanged w op chain.1) (sym same) step.changed;
       }
 

@@ -1,5 +1,5 @@
 -- What edits ask for, in the words of texts; and where they stop.
-use Rattle.std.proofs.Common.{◌≡◌, ◌↔◌, ◌∙◌, ℕ, List, [], ◌∷◌, Some, length, take, refl, sym, ap, subst}
+use Rattle.std.proofs.Common.{◌≡◌, ◌↔◌, ◌∙◌, ℕ, List, [], ◌∷◌, Option, Some, length, take, refl, sym, ap, subst}
 use Rattle.std.specs.List.{slice_get, All}
 use Rattle.std.proofs.lemmas.List.Elements.{All-nil, All-cons}
 use Rattle.jsonc_text.specs.Options.{Options}
@@ -21,7 +21,9 @@ use Rattle.jsonc_run.specs.Refusals.{IsLeft, FailsWith, as_it_was, set_in_part}
 use Rattle.jsonc_run.specs.Steps.{Fits, IsOfCharacters, NumbersFit}
 use Rattle.jsonc_run.proofs.NamedPlaces.{tells_unnamed}
 use Rattle.jsonc_run.proofs.Refused.{made_tree, refused_so}
-use Rattle.jsonc_run.specs.promise.Asked.{asks, Ask, IsBegun, nothing, some_commas, StopsInText}
+use Rattle.jsonc_run.specs.promise.Asked.{asks, EditsTo, none_asked, one_asked, IsBegun, nothing, some_commas, StopsInText}
+use Rattle.jsonc_run.specs.promise.Chains.{NamedRun, none_named, one_named}
+use Rattle.jsonc_text.specs.Plain.{Plain}
 use Rattle.jsonc_run.specs.promise.Words.{all_in_texts, in_texts}
 use Rattle.jsonc_run.proofs.lemmas.promise.Leads.{edits_lead, shown_are_documents}
 use Rattle.jsonc_run.proofs.lemmas.promise.Commenting.{comments_counted}
@@ -47,6 +49,37 @@ asks_so s (EnsureProperty path name shape how) = refl
 asks_so s (SetTrailingCommas path mode) = refl
 asks_so s (Sort path pin groups) = refl
 
+-- how an edit sorts is of no weight for its place
+place_so : {A : Type 0} (w : Option Plain) (n : ℕ) (s : Sorting) (e : Edit A) → IsNamed w n (operation_of s e) ≡ IsNamed w n (operation_of unsorted e)
+place_so w n s (Replace path value) = refl
+place_so w n s (Remove path) = refl
+place_so w n s (RemoveComment number) = refl
+place_so w n s (SetRoot value) = refl
+place_so w n s ClearRoot = refl
+place_so w n s (ReplaceProperty path name value) = refl
+place_so w n s (EnsureRoot shape how) = refl
+place_so w n s (SetValue path value) = refl
+place_so w n s (EnsureValue path shape) = refl
+place_so w n s (SetBoolean path value) = refl
+place_so w n s (EnsureMultiline path) = refl
+place_so w n s (InsertElement path index value) = refl
+place_so w n s (AppendElement path value) = refl
+place_so w n s (InsertProperty path index name value) = refl
+place_so w n s (AppendProperty path name value) = refl
+place_so w n s (EnsureProperty path name shape how) = refl
+place_so w n s (SetTrailingCommas path mode) = refl
+place_so w n s (Sort path pin groups) = refl
+
+-- the edits ask for these operations, each sorted in its way
+pub data Ask {A : Type 0} : List (Edit A) → List Operation → Type 0 where
+  none_asks : Ask [] []
+  one_asks : {e : Edit A} {es : List (Edit A)} {ops : List Operation} (s : Sorting) → Ask es ops → Ask (e ∷ es) (operation_of s e ∷ ops)
+
+pub edits_to : {A : Type 0} {es : List (Edit A)} {ops : List Operation} {d f : Document} → Ask es ops → NamedRun d ops f → EditsTo d es f
+edits_to none_asks (none_named one) = none_asked one
+edits_to (one_asks {e = e} s a) (one_named {d = d} {m = m} named run rest) =
+    one_asked s.order (subst (λ (T : Type 0). T) (place_so d.value (length (comments_of d.marks)) s e) named) (subst (λ op. Run d (op ∷ []) m) (sym (asks_so s e)) run) (edits_to a rest)
+
 -- a tree has as many comments as the document that it shows
 counted : (d : Document) (t : OrderedTree) → Shows d t → comment_count t ≡ length (comments_of d.marks)
 counted d t shown = sym (comments_counted (trees.marks t)) ∙ sym (ap (λ (e : Document). length (comments_of e.marks)) shown.is)
@@ -69,7 +102,7 @@ left_so now new next _ m tree after shown asked (set_in_part {path = path} {mode
 
 -- The first edits were made, and the next was refused.
 pub stops_so : {A : Type 0} (old now new : List Node) (edits : List (Edit A)) (k : ℕ) (ops : List Operation) (next : Edit A) (why : EditError) → IsTree old → IsTree new → EditSteps old ops now → All IsOfCharacters ops
-    → ((o : Options) → All (Fits o) (take k edits) → All (NumbersFit o) ops) → Ask (take k edits) (all_in_texts ops) → slice_get edits k ≡ Some next
+    → ((o : Options) → All (Fits o) (take k edits) → All (NumbersFit o) ops) → Ask (take k edits) ops → slice_get edits k ≡ Some next
     → FailsWith now (operation_of unsorted next) why → IsLeft now (operation_of unsorted next) new → StopsInText (ordered_tree old 0) edits k why (ordered_tree new 0)
 stops_so old now new edits k ops next why tree after made characters numbers asked is_next told left d shown fit =
     let lead = edits_lead old now ops tree made characters d shown (numbers d.options fit) in
@@ -83,7 +116,7 @@ stops_so old now new edits k ops next why tree after made characters numbers ask
       l.shown,
       record {
         m = m;
-        made = (all_in_texts ops, asked, lead.2);
+        made = edits_to asked lead.3;
         next = next;
         is_next = is_next;
         memory_or_place = refused_so m.options now whole there.sound op why told;

@@ -7,6 +7,9 @@ use Rattle.jsonc_tree.specs.OrderedTree.{OrderedTree}
 use Rattle.jsonc_layout.specs.from_input.Texts.{IsOfTexts}
 use Rattle.jsonc_layout.proofs.lemmas.from_input.Meanings.{laid_value}
 use Rattle.jsonc_insert.specs.elements.Laws as laws
+use Rattle.jsonc_tree.specs.Values.{DocumentValueOf}
+use Rattle.jsonc_sound.specs.Leaving.{element_count}
+use Rattle.jsonc_run.proofs.lemmas.promise.Held.{as_many_items}
 use Rattle.jsonc_insert.specs.elements.Laws.{ElementInsertedAt, InsertsItem, ItemInserted, item_count}
 use Rattle.jsonc_sound.specs.Rows.{of_values}
 use Rattle.jsonc_sound.specs.SoundTrees.{SoundTree}
@@ -14,7 +17,8 @@ use Rattle.jsonc_sound.proofs.FirstNodes.{value_of_element}
 use Rattle.jsonc_text.specs.Paths.{an_array}
 use Rattle.jsonc_text.specs.Entries.{Named, items, of, Changed}
 use Rattle.jsonc_text.specs.Edits.{Gains}
-use Rattle.jsonc_run.proofs.lemmas.promise.Insides.{kept_texts, text_comes}
+use Rattle.jsonc_run.proofs.lemmas.promise.Insides.{kept_texts}
+use Rattle.jsonc_run.proofs.lemmas.promise.Arriving.{text_comes}
 use Rattle.jsonc_run.proofs.lemmas.promise.Stretches.{laid_literals}
 use Rattle.jsonc_insert.proofs.lemmas.elements.Marked.{kept_marks}
 use Rattle.jsonc_text.specs.Marks.{literals_of}
@@ -39,21 +43,27 @@ pub counted : (xs : List Named) → item_count (items xs) ≡ length xs
 counted [] = refl
 counted (x ∷ xs) = ap suc (counted xs)
 
-module _ (o : Options) {t u : OrderedTree} (s : SoundTree o t) (r : SoundTree o u) {path : List ℕ} {i j : ℕ} {v : Plain} (texts : IsOfTexts v) (c : ElementInsertedAt o path j v t u) {x y : Plain} (g : InsertsItem path i v x y) where
+module _ (o : Options) {t u : OrderedTree} (s : SoundTree o t) (r : SoundTree o u) {path : List ℕ} {i j : ℕ} {v : Plain} (texts : IsOfTexts v) (c : ElementInsertedAt o path j v t u) {x y : Plain} (h : DocumentValueOf o t (Some x)) (h2 : DocumentValueOf o u (Some y)) (g : InsertsItem path i v x y) where
   pub gained : ItemGained v (min i (item_count g.old)) g.old g.new
   gained = item_gained g.comes
 
-  pub gains_so : (k : ItemGained v (min i (item_count g.old)) g.old g.new) → Gains an_array path k.front k.back (entry_of [] v) (document_of o t (Some x)) (document_of o u (Some y))
-  gains_so k =
-      let comes = text_comes o of_values c.row c.kept c.new s r c.changed (Some x) (Some y) (kept_texts c.leave) (kept_marks c.leave) (value_of_element (laid_value o c.layout v texts)) (literals_of v) (laid_literals c.layout v texts) c.comes in (
+  -- as many values as elements
+  same_count : element_count c.row ≡ item_count g.old
+  same_count = as_many_items o h h2 of_values c.row c.new c.changed g.changed ∙ sym (counted (list_of_items g.old)) ∙ ap item_count (same_items g.old)
+
+  pub gains_so : (k : ItemGained v (min i (item_count g.old)) g.old g.new) → min j (item_count g.old) ≡ length k.front → Gains an_array path k.front k.back (entry_of [] v) (document_of o t (Some x)) (document_of o u (Some y))
+  gains_so k number =
+      let comes = text_comes o of_values c.row c.kept c.new s r c.changed (Some x) (Some y) (kept_texts c.leave) (kept_marks c.leave) (value_of_element (laid_value o c.layout v texts)) (literals_of v) (laid_literals c.layout v texts) c.row c.leave (λ g. (g, refl)) c.comes in (
         subst (λ (p : Items). Changed (of an_array (k.front ++ k.back)) (plain.array p) path x y) k.after (subst (λ (p : Items). Changed (plain.array p) (plain.array g.new) path x y) k.before (changed g.changed)),
         comes.0,
         comes.1,
-        comes.2,
+        comes.2 ∙ ap (λ n. min j n) same_count ∙ number,
         comes.3,
         comes.4,
         comes.5,
         comes.6,
+        comes.7,
+        comes.8,
       )
 
   -- at its number, or behind all

@@ -11,7 +11,7 @@ use Rattle.jsonc_run.specs.Edits.{Operation}
 use Rattle.jsonc_run.specs.Steps.{Says, Steps, no_step, one_step}
 use Rattle.jsonc_run.specs.Written.{options_after}
 use Rattle.jsonc_run.proofs.SoundChain.{makes_steps, says}
-use Rattle.jsonc_run.specs.promise.Chains.{EditsLead, ShownAreDocuments}
+use Rattle.jsonc_run.specs.promise.Chains.{EditsLead, NamedRun, ShownAreDocuments}
 use Rattle.jsonc_run.specs.promise.Words.{all_in_texts}
 use Rattle.jsonc_run.proofs.lemmas.promise.Chains.{steps_are_run}
 use Rattle.jsonc_run.proofs.lemmas.promise.ReplacedTexts.{is_one}
@@ -34,7 +34,8 @@ edits_lead old new es tree made characters d shown fit =
     let last = last_says chain.2 in
     let e : Document = document_of (options_after d.options es) u chain.1 in
     let is : document_of d.options t chain.0 ≡ d = ap (λ w. document_of d.options t w) (sym same) ∙ sym shown.is in
-    (e, record { sound = last.sound; value = last.value; is = refl }, subst (λ x. Run x (all_in_texts es) e) is (steps_are_run d.options t u chain.0 chain.1 es chain.2 characters))
+    let run = steps_are_run d.options t u chain.0 chain.1 es chain.2 characters in
+    (e, record { sound = last.sound; value = last.value; is = refl }, subst (λ x. Run x (all_in_texts es) e) is run.0, subst (λ x. NamedRun x es e) is run.1)
 
 pub shown_are_documents : (t : OrderedTree) → ShownAreDocuments t
 shown_are_documents t d shown =

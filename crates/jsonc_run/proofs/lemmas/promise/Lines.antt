@@ -1,5 +1,5 @@
 -- Where an array or object is put on several lines, in a text; and where commas are set.
-use Rattle.std.proofs.Common.{ℕ, ◌≡◌, ◌∙◌, sym, ap, subst, refl, ◌||◌, ◌==◌, List, inl, inr, ◌⊎◌, [], ◌∷◌, ◌++◌, IsTrue, Option}
+use Rattle.std.proofs.Common.{ℕ, ◌≡◌, ◌∙◌, sym, ap, subst, refl, ◌||◌, List, inl, inr, ◌⊎◌, [], ◌∷◌, ◌++◌, IsTrue, Option, chars}
 use Rattle.jsonc_text.specs.Options.{Options}
 use Rattle.jsonc_text.specs.Plain.{Plain}
 use Rattle.jsonc_text.specs.Gaps.{is_blank}
@@ -16,7 +16,7 @@ use Rattle.jsonc_sound.specs.TreeChanges.{leaves_of}
 use Rattle.jsonc_sound.proofs.NodesAlone.{document_alone}
 use Rattle.jsonc_sound.proofs.Pieces.{Pieces, document_pieces}
 use Rattle.jsonc_sound.proofs.Texts.{AllUtf8}
-use Rattle.jsonc_edit.specs.commas.Laws.{allowing, LosesCommas, OnlyCommas}
+use Rattle.jsonc_edit.specs.commas.Laws.{allowing, OnlyCommas}
 use Rattle.jsonc_text.specs.declared.edit.TrailingCommaMode.{TrailingCommaMode}
 use Rattle.jsonc_text.specs.declared.edit.TrailingCommaMode.TheVariants.{Never, IfMultiline}
 use Rattle.jsonc_edit.specs.multiline.Laws.{bracketed, SpreadAt}
@@ -25,9 +25,13 @@ use Rattle.jsonc_edit.specs.multiline.Reflows.{Reflows, SpreadsOut}
 use Rattle.jsonc_run.specs.Edits.{ensure_multiline, set_commas, set_some_commas}
 use Rattle.jsonc_run.specs.Written.{IsChanged, by_lines, by_commas, by_some_commas}
 use Rattle.jsonc_text.specs.Edits as texts
-use Rattle.jsonc_text.specs.Edits.{Commas, Inside, Makes, Without}
+use Rattle.jsonc_text.specs.Edits.{Commas, Inside, Makes, Without, is_space}
+use Rattle.jsonc_sound.specs.Leaves.{is_inner_blank}
+use Rattle.std.proofs.lemmas.Str.{chars-nil}
+use Rattle.std.proofs.lemmas.List.{append-nil}
+use Rattle.jsonc_run.proofs.lemmas.promise.Trivia.{first_text, piece_trivia}
 use Rattle.jsonc_run.specs.promise.PlaceLaws.{text_of_leaves, texts_of}
-use Rattle.jsonc_run.proofs.lemmas.promise.CommaTexts.{all_same, commas_text, same_before}
+use Rattle.jsonc_run.proofs.lemmas.promise.CommaTexts.{all_same, same_before}
 use Rattle.jsonc_run.proofs.lemmas.promise.CommentTexts.{blanks_text}
 use Rattle.jsonc_run.proofs.lemmas.promise.Insides.{inside_so, texts_followed, within_so}
 use Rattle.jsonc_run.proofs.lemmas.promise.Leaves.{front_of, back_of, document_parts, document_parts_then, document_utf8, text_joined}
@@ -36,14 +40,33 @@ use Rattle.jsonc_run.proofs.lemmas.promise.RemovedTexts.{container_leaves}
 use Rattle.jsonc_sound.specs.Documents.{document_of}
 use Rattle.jsonc_run.specs.Steps.{IsChangedAt}
 use Rattle.jsonc_run.specs.promise.Words.{sets_some}
-use Rattle.jsonc_run.proofs.lemmas.promise.CommaLeaves.{commas_leave}
+use Rattle.jsonc_run.proofs.lemmas.promise.Trailing.{loses_trailing}
 use Rattle.jsonc_run.proofs.lemmas.promise.ReflowedRows.{spread_texts}
 
 -- lists of leaves, of which the second is the first without some blanks
-data WithoutBlanks : List Content → List Content → Type 0 where
+pub data WithoutBlanks : List Content → List Content → Type 0 where
   no_more : WithoutBlanks [] []
   leaf_stays : {c : Content} {x y : List Content} → WithoutBlanks x y → WithoutBlanks (c ∷ x) (c ∷ y)
   blank_leaves : {c : Content} {x y : List Content} → IsTrue (is_whitespace c || is_newline c) → WithoutBlanks x y → WithoutBlanks (c ∷ x) y
+
+-- and without some whitespace
+pub data WithoutSpaces : List Content → List Content → Type 0 where
+  no_space_more : WithoutSpaces [] []
+  solid_stays : {c : Content} {x y : List Content} → WithoutSpaces x y → WithoutSpaces (c ∷ x) (c ∷ y)
+  space_leaves : {c : Content} {x y : List Content} → IsTrue (is_whitespace c) → WithoutSpaces x y → WithoutSpaces (c ∷ x) y
+
+same_solids : (ls : List Content) {x y : List Content} → WithoutSpaces x y → WithoutSpaces (ls ++ x) (ls ++ y)
+same_solids [] h = h
+same_solids (c ∷ ls) h = solid_stays (same_solids ls h)
+
+no_spaces_leave : (ls : List Content) → WithoutSpaces ls ls
+no_spaces_leave [] = no_space_more
+no_spaces_leave (c ∷ ls) = solid_stays (no_spaces_leave ls)
+
+spaces_then_same : {x y : List Content} (ls : List Content) → WithoutSpaces x y → WithoutSpaces (x ++ ls) (y ++ ls)
+spaces_then_same ls no_space_more = no_spaces_leave ls
+spaces_then_same ls (solid_stays h) = solid_stays (spaces_then_same ls h)
+spaces_then_same ls (space_leaves p h) = space_leaves p (spaces_then_same ls h)
 
 same_leaves : (ls : List Content) {x y : List Content} → WithoutBlanks x y → WithoutBlanks (ls ++ x) (ls ++ y)
 same_leaves [] h = h
@@ -59,35 +82,54 @@ then_same ls (leaf_stays h) = leaf_stays (then_same ls h)
 then_same ls (blank_leaves p h) = blank_leaves p (then_same ls h)
 
 -- what two rows are without the blanks that left or came
-record Between (x y : List Content) : Type 0 where
-  kept : List Content
-  first : WithoutBlanks x kept
-  second : WithoutBlanks y kept
+pub record Between (x y : List Content) : Type 0 where
+  pub kept : List Content
+  pub first : WithoutSpaces x kept
+  pub second : WithoutBlanks y kept
 
 reflowed : {x y : OrderedTree} → Reflows x y → Between (leaves x) (leaves y)
-reflowed reflows.ended = record { kept = []; first = no_more; second = no_more }
+reflowed reflows.ended = record { kept = []; first = no_space_more; second = no_more }
 reflowed (reflows.kept {content = c} {below = below} h) =
     let m = reflowed h in
-    record { kept = own_leaf c ++ (leaves below ++ m.kept); first = same_leaves (own_leaf c) (same_leaves (leaves below) m.first); second = same_leaves (own_leaf c) (same_leaves (leaves below) m.second) }
-reflowed (reflows.gone h k) = let m = reflowed k in record { kept = m.kept; first = blank_leaves refl m.first; second = m.second }
+    record { kept = own_leaf c ++ (leaves below ++ m.kept); first = same_solids (own_leaf c) (same_solids (leaves below) m.first); second = same_leaves (own_leaf c) (same_leaves (leaves below) m.second) }
+reflowed (reflows.gone h k) = let m = reflowed k in record { kept = m.kept; first = space_leaves refl m.first; second = m.second }
 reflowed (reflows.line h k) = let m = reflowed k in record { kept = m.kept; first = m.first; second = blank_leaves refl (blank_leaves refl m.second) }
 reflowed (reflows.line_end k) = let m = reflowed k in record { kept = m.kept; first = m.first; second = blank_leaves refl m.second }
 
-spread : {x y : OrderedTree} → SpreadsOut x y → Between (leaves x) (leaves y)
-spread (reflows.stays {row = row} h) = record { kept = leaves row; first = none_leave (leaves row); second = none_leave (leaves row) }
+pub spread : {x y : OrderedTree} → SpreadsOut x y → Between (leaves x) (leaves y)
+spread (reflows.stays {row = row} h) = record { kept = leaves row; first = no_spaces_leave (leaves row); second = none_leave (leaves row) }
 spread (reflows.reflows h k g) = reflowed g
 
 all_leave : {x y s r : List ℕ} → Many is_blank s r → r ≡ [] → Without is_blank x y → Without is_blank (s ++ x) y
 all_leave {x} {y} stop e h = subst (λ l. Without is_blank (l ++ x) y) (sym e) h
 all_leave (step p m) e h = texts.leaves p (all_leave m e h)
 
-blanks_leave : (o : Options) {x y : List Content} → WithoutBlanks x y → Pieces o x → AllUtf8 x → Without is_blank (text_of_leaves x) (text_of_leaves y)
+pub blanks_leave : (o : Options) {x y : List Content} → WithoutBlanks x y → Pieces o x → AllUtf8 x → Without is_blank (text_of_leaves x) (text_of_leaves y)
 blanks_leave o no_more p u = all_same (text_of_leaves [])
 blanks_leave o (leaf_stays {c = c} {x = x} {y = y} h) p u =
     subst (λ a. Without is_blank a (text_of_leaves (c ∷ y))) (sym (text_joined (c ∷ []) x (u.0, tt)))
     (subst (λ a. Without is_blank (text_of_leaves (c ∷ []) ++ text_of_leaves x) a) (sym (text_joined (c ∷ []) y (u.0, tt))) (same_before (text_of_leaves (c ∷ [])) (blanks_leave o h p.1 u.1)))
 blanks_leave o (blank_leaves {c = c} {x = x} {y = y} q h) p u =
     subst (λ a. Without is_blank a (text_of_leaves y)) (sym (text_joined (c ∷ []) x (u.0, tt))) (all_leave (blanks_text o (c ∷ []) (q, tt) (p.0, tt)) refl (blanks_leave o h p.1 u.1))
+
+inner_leave : {x y s r : List ℕ} → Many is_inner_blank s r → r ≡ [] → Without is_space x y → Without is_space (s ++ x) y
+inner_leave {x} {y} stop e h = subst (λ l. Without is_space (l ++ x) y) (sym e) h
+inner_leave (step p m) e h = texts.leaves p (inner_leave m e h)
+
+whitespace_leaves : (o : Options) (c : Content) {x y : List ℕ} → IsTrue (is_whitespace c) → Pieces o (c ∷ []) → Without is_space x y → Without is_space (text_of_leaves (c ∷ []) ++ x) y
+whitespace_leaves o (Content.whitespace s) {x} {y} q p h =
+    let t = piece_trivia o (Content.whitespace s) refl p.0 in
+    let text : text_of_leaves (Content.whitespace s ∷ []) ≡ chars s = first_text (Content.whitespace s) [] t.0 ∙ ap (λ l. chars s ++ l) chars-nil ∙ append-nil (chars s) in
+    subst (λ l. Without is_space (l ++ x) y) (sym text) (inner_leave t.1 refl h)
+whitespace_leaves o c q p h = cc
+
+pub spaces_leave : (o : Options) {x y : List Content} → WithoutSpaces x y → Pieces o x → AllUtf8 x → Without is_space (text_of_leaves x) (text_of_leaves y)
+spaces_leave o no_space_more p u = all_same (text_of_leaves [])
+spaces_leave o (solid_stays {c = c} {x = x} {y = y} h) p u =
+    subst (λ a. Without is_space a (text_of_leaves (c ∷ y))) (sym (text_joined (c ∷ []) x (u.0, tt)))
+    (subst (λ a. Without is_space (text_of_leaves (c ∷ []) ++ text_of_leaves x) a) (sym (text_joined (c ∷ []) y (u.0, tt))) (same_before (text_of_leaves (c ∷ [])) (spaces_leave o h p.1 u.1)))
+spaces_leave o (space_leaves {c = c} {x = x} {y = y} q h) p u =
+    subst (λ a. Without is_space a (text_of_leaves y)) (sym (text_joined (c ∷ []) x (u.0, tt))) (whitespace_leaves o c q (p.0, tt) (spaces_leave o h p.1 u.1))
 
 pub multiline_made : (o : Options) (t u : OrderedTree) (w x : Option Plain) (path : List ℕ) → SoundTree o t → SoundTree o u → IsChanged w (ensure_multiline path) x → tree_marks.marks u ≡ tree_marks.marks t → SpreadAt path t u
     → Makes (document_of o t w) (texts.ensure_multiline path) (document_of o u x)
@@ -99,7 +141,7 @@ multiline_made o t u w _ path s r by_lines m a =
     let front : List Content = front_of a.changed in
     let back : List Content = back_of a.changed in
     let kept : List Content = front ++ ((token (opening a.kind) ∷ (b.kept ++ leaves close)) ++ back) in
-    let first : WithoutBlanks (front ++ ((token (opening a.kind) ∷ (leaves a.row ++ leaves close)) ++ back)) kept = same_leaves front (then_same back (leaf_stays (then_same (leaves close) b.first))) in
+    let first : WithoutSpaces (front ++ ((token (opening a.kind) ∷ (leaves a.row ++ leaves close)) ++ back)) kept = same_solids front (spaces_then_same back (solid_stays (spaces_then_same (leaves close) b.first))) in
     let second : WithoutBlanks (front ++ ((token (opening a.kind) ∷ (leaves a.new ++ leaves close)) ++ back)) kept = same_leaves front (then_same back (leaf_stays (then_same (leaves close) b.second))) in
     let own : (row : OrderedTree) → leaves_of (bracketed a.kind row) ≡ token (opening a.kind) ∷ (leaves row ++ leaves close) = λ row. container_leaves a.kind (followed_by row close) ∙ ap (λ l. token (opening a.kind) ∷ l) (leaves-followed_by row close) in
     let of_t : leaves t ≡ front ++ ((token (opening a.kind) ∷ (leaves a.row ++ leaves close)) ++ back) = document_parts a.changed ∙ ap (λ l. front ++ (l ++ back)) (own a.row) in
@@ -109,18 +151,15 @@ multiline_made o t u w _ path s r by_lines m a =
       (refl, ap all_marks m),
       (
         text_of_leaves kept,
-        blanks_leave o (subst (λ l. WithoutBlanks l kept) (sym of_t) first) (document_pieces o (document_alone o s.shaped)) (document_utf8 o s.shaped),
+        spaces_leave o (subst (λ l. WithoutSpaces l kept) (sym of_t) first) (document_pieces o (document_alone o s.shaped)) (document_utf8 o s.shaped),
         blanks_leave o (subst (λ l. WithoutBlanks l kept) (sym of_u) second) (document_pieces o (document_alone o r.shaped)) (document_utf8 o r.shaped),
       ),
     )
 
 -- commas alone have left, or come
-lost_commas : (o : Options) {t u : OrderedTree} → SoundTree o t → LosesCommas t u → Without (λ c. c == 0x2C) (printed_text t) (printed_text u)
-lost_commas o s h = commas_text (commas_leave h) (document_utf8 o s.shaped)
-
-pub only_commas : (o : Options) (mode : TrailingCommaMode) {t u : OrderedTree} → SoundTree o t → SoundTree (allowing mode o) u → OnlyCommas mode t u → Commas (sets_some mode) (printed_text t) (printed_text u)
-only_commas o Never s r h = lost_commas o s h
-only_commas o IfMultiline s r h = lost_commas (allowing IfMultiline o) r h
+pub only_commas : (o : Options) (mode : TrailingCommaMode) {t u : OrderedTree} → SoundTree o t → SoundTree (allowing mode o) u → OnlyCommas mode t u → Commas (allowing mode o) (sets_some mode) (printed_text t) (printed_text u)
+only_commas o Never s r h = loses_trailing o s h
+only_commas o IfMultiline s r h = loses_trailing (allowing IfMultiline o) r h
 
 pub all_commas : {path : List ℕ} {mode : TrailingCommaMode} {w x : Option Plain} → IsChanged w (set_commas path mode) x → x ≡ w
 all_commas by_commas = refl

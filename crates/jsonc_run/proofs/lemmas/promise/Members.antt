@@ -1,9 +1,13 @@
 -- Where a property comes into an object of a sound tree, it comes into the text.
-use Rattle.std.proofs.Common.{ℕ, suc, ◌≤◌, min, ◌≡◌, ◌∙◌, sym, ap, subst, refl, List, [], ◌∷◌, ◌++◌, length, Option, Some, arith}
+use Rattle.std.proofs.Common.{ℕ, suc, ◌+◌, ◌≤◌, min, ◌≡◌, ◌∙◌, sym, ap, subst, refl, List, [], ◌∷◌, ◌++◌, length, Option, Some, arith}
 use Rattle.jsonc_text.specs.Options.{Options}
 use Rattle.jsonc_text.specs.Plain as plain
 use Rattle.jsonc_text.specs.Plain.{Plain, Members, no_members, member}
 use Rattle.jsonc_tree.specs.OrderedTree.{OrderedTree}
+use Rattle.jsonc_tree.specs.Values.{DocumentValueOf}
+use Rattle.jsonc_sound.specs.Changes as trees
+use Rattle.jsonc_sound.specs.Leaving.{element_count}
+use Rattle.jsonc_run.proofs.lemmas.promise.Held.{as_many_members}
 use Rattle.jsonc_insert.specs.elements.Members as laws
 use Rattle.jsonc_insert.specs.elements.Members.{PropertyInsertedAt, InsertsMemberAt, MemberInserted, member_count}
 use Rattle.jsonc_sound.specs.Rows.{of_properties}
@@ -14,7 +18,11 @@ use Rattle.jsonc_text.specs.Paths.{an_object}
 use Rattle.jsonc_text.specs.Entries.{Named, members, of, Changed}
 use Rattle.jsonc_text.specs.Edits as texts
 use Rattle.jsonc_text.specs.Edits.{Gains, Makes, written}
-use Rattle.jsonc_run.proofs.lemmas.promise.Insides.{kept_texts, text_comes}
+use Rattle.jsonc_run.proofs.lemmas.promise.Insides.{kept_texts}
+use Rattle.jsonc_run.proofs.lemmas.promise.Joined.{spread_good, spread_reflows}
+use Rattle.jsonc_run.proofs.lemmas.promise.Leaves.{back_of, front_of}
+use Rattle.jsonc_run.specs.promise.PlaceLaws.{text_of_leaves}
+use Rattle.jsonc_run.proofs.lemmas.promise.Arriving.{text_comes}
 use Rattle.jsonc_run.proofs.lemmas.promise.Stretches.{laid_property_literals}
 use Rattle.jsonc_layout.specs.from_input.Texts.{IsCharacters, IsOfTexts}
 use Rattle.jsonc_insert.proofs.lemmas.elements.Marked.{kept_marks}
@@ -42,31 +50,45 @@ pub members_counted : (xs : List Named) → member_count (members xs) ≡ length
 members_counted [] = refl
 members_counted (x ∷ xs) = ap suc (members_counted xs)
 
-module _ (o : Options) {t u : OrderedTree} (s : SoundTree o t) (r : SoundTree o u) {path : List ℕ} {j : ℕ} {name : List ℕ} {v : Plain} (f : IsCharacters name × IsOfTexts v) (c : PropertyInsertedAt o path j name v t u) {x y : Plain} where
-  pub member_gains : {n : ℕ} {old new : Members} → Changed (plain.object old) (plain.object new) path x y → (k : MemberGained name v n old new) → Gains an_object path k.front k.back (entry_of name v) (document_of o t (Some x)) (document_of o u (Some y))
-  member_gains {old = old} {new = new} g k =
-      let comes = text_comes o of_properties c.row c.kept c.new s r c.changed (Some x) (Some y) (spread_texts c.spreads ∙ kept_texts c.leave) (kept_marks c.leave ∙ spread_marks o c.spreads) refl (written an_object (entry_of name v)) (laid_property_literals c.layout name v f.0 f.1) c.comes in (
-        subst (λ (p : Members). Changed (of an_object (k.front ++ k.back)) (plain.object p) path x y) k.after (subst (λ (p : Members). Changed (plain.object p) (plain.object new) path x y) k.before g),
+module _ (o : Options) {t u : OrderedTree} (s : SoundTree o t) (r : SoundTree o u) {path : List ℕ} {j : ℕ} {name : List ℕ} {v : Plain} (f : IsCharacters name × IsOfTexts v) (c : PropertyInsertedAt o path j name v t u) {x y : Plain} (h : DocumentValueOf o t (Some x)) (h2 : DocumentValueOf o u (Some y)) where
+  -- as many values as properties
+  same_count : {old new : Members} → trees.Changed (plain.object old) (plain.object new) path x y → element_count c.row ≡ member_count old
+  same_count {old} g = as_many_members o h h2 of_properties c.row c.new c.changed g ∙ sym (members_counted (list_of_members old)) ∙ ap member_count (same_members old)
+
+  pub member_gains : {n : ℕ} {old new : Members} → trees.Changed (plain.object old) (plain.object new) path x y → (k : MemberGained name v n old new) → min j (member_count old) ≡ length k.front → Gains an_object path k.front k.back (entry_of name v) (document_of o t (Some x)) (document_of o u (Some y))
+  member_gains {old = old} {new = new} g k number =
+      let comes = text_comes o of_properties c.row c.kept c.new s r c.changed (Some x) (Some y) (spread_texts c.spreads ∙ kept_texts c.leave) (kept_marks c.leave ∙ spread_marks o c.spreads) refl (written an_object (entry_of name v)) (laid_property_literals c.layout name v f.0 f.1) c.spread c.leave
+      (λ g. (spread_good o of_properties (text_of_leaves (front_of c.changed)) (text_of_leaves (back_of c.changed)) c.spreads g, spread_reflows o of_properties (text_of_leaves (front_of c.changed)) (text_of_leaves (back_of c.changed)) c.spreads g)) c.comes in (
+        subst (λ (p : Members). Changed (of an_object (k.front ++ k.back)) (plain.object p) path x y) k.after (subst (λ (p : Members). Changed (plain.object p) (plain.object new) path x y) k.before (changed g)),
         comes.0,
         comes.1,
-        comes.2,
+        comes.2 ∙ ap (λ n. min j n) (same_count g) ∙ number,
         comes.3,
         comes.4,
         comes.5,
         comes.6,
+        comes.7,
+        comes.8,
       )
 
-pub property_inserted : (o : Options) (t u : OrderedTree) (w x : Option Plain) (path : List ℕ) (i : ℕ) (name : List ℕ) (v : Plain) → IsCharacters name × IsOfTexts v → SoundTree o t → SoundTree o u → IsChanged w (insert_property path i name v) x
-    → PropertyInsertedAt o path i name v t u → Makes (document_of o t w) (texts.insert_property path i name v) (document_of o u x)
-property_inserted o t u _ _ path i name v f s r (by_inserting_member gains) c =
-    let k = member_gained gains.comes in
-    (k.front, k.back, k.place ∙ ap (λ n. min i n) (ap member_count k.before ∙ members_counted (k.front ++ k.back)), member_gains o s r f c (changed gains.changed) k)
+behind_all : (n c : ℕ) → min (n + c) c ≡ c
+behind_all n c = omega arith
 
-pub property_appended : (o : Options) (t u : OrderedTree) (w x : Option Plain) (path : List ℕ) (name : List ℕ) (v : Plain) → IsCharacters name × IsOfTexts v → SoundTree o t → SoundTree o u → IsChanged w (append_property path name v) x
-    → (n : ℕ) → ((i : ℕ) → n ≤ i → PropertyInsertedAt o path i name v t u) → Makes (document_of o t w) (texts.append_property path name v) (document_of o u x)
-property_appended o t u _ _ path name v f s r (by_appending_member {i = i} {x = x} {y = y} gains far) n comes =
+behind_all_so : (i c : ℕ) → c ≤ i → c ≡ min i c
+behind_all_so i c h = omega (arith, h)
+
+pub property_inserted : (o : Options) (t u : OrderedTree) (w x : Option Plain) (path : List ℕ) (i : ℕ) (name : List ℕ) (v : Plain) → IsCharacters name × IsOfTexts v → SoundTree o t → SoundTree o u → DocumentValueOf o t w → DocumentValueOf o u x → IsChanged w (insert_property path i name v) x
+    → PropertyInsertedAt o path i name v t u → Makes (document_of o t w) (texts.insert_property path i name v) (document_of o u x)
+property_inserted o t u _ _ path i name v f s r h h2 (by_inserting_member gains) c =
     let k = member_gained gains.comes in
-    let c : PropertyInsertedAt o path n name v t u = comes n (omega arith) in
+    (k.front, k.back, k.place ∙ ap (λ n. min i n) (ap member_count k.before ∙ members_counted (k.front ++ k.back)), member_gains o s r f c h h2 gains.changed k (sym k.place))
+
+pub property_appended : (o : Options) (t u : OrderedTree) (w x : Option Plain) (path : List ℕ) (name : List ℕ) (v : Plain) → IsCharacters name × IsOfTexts v → SoundTree o t → SoundTree o u → DocumentValueOf o t w → DocumentValueOf o u x → IsChanged w (append_property path name v) x
+    → (n : ℕ) → ((i : ℕ) → n ≤ i → PropertyInsertedAt o path i name v t u) → Makes (document_of o t w) (texts.append_property path name v) (document_of o u x)
+property_appended o t u _ _ path name v f s r h h2 (by_appending_member {i = i} {x = x} {y = y} gains far) n comes =
+    let k = member_gained gains.comes in
+    let far_away : ℕ = n + member_count gains.old in
+    let c : PropertyInsertedAt o path far_away name v t u = comes far_away (omega arith) in
     let count : member_count gains.old ≡ length (k.front ++ k.back) = ap member_count k.before ∙ members_counted (k.front ++ k.back) in
     let last : k.back ≡ [] = nothing_behind k.front k.back (k.place ∙ omega (arith, far, count)) in
-    (k.front, subst (λ (b : List Named). Gains an_object path k.front b (entry_of name v) (document_of o t (Some x)) (document_of o u (Some y))) last (member_gains o s r f c (changed gains.changed) k))
+    (k.front, subst (λ (b : List Named). Gains an_object path k.front b (entry_of name v) (document_of o t (Some x)) (document_of o u (Some y))) last (member_gains o s r f c h h2 gains.changed k (behind_all n (member_count gains.old) ∙ behind_all_so i (member_count gains.old) far ∙ sym k.place)))

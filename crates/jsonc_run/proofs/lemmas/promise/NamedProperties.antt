@@ -1,6 +1,7 @@
 -- Where the first property of a name has to have a value of a shape, in a text.
-use Rattle.std.proofs.Common.{ℕ, suc, ◌≡◌, ◌≢◌, ◌∙◌, sym, ap, subst, refl, inl, inr, true, false, List, [], ◌∷◌, ◌++◌, length, Option, Some, arith}
+use Rattle.std.proofs.Common.{ℕ, suc, ◌+◌, ◌≤◌, min, ◌≡◌, ◌≢◌, ◌∙◌, sym, ap, subst, refl, inl, inr, true, false, List, [], ◌∷◌, ◌++◌, length, Option, Some, arith}
 use Rattle.std.specs.List.{All}
+use Rattle.std.proofs.lemmas.List.{append-nil}
 use Rattle.std.proofs.lemmas.List.Elements.{All-nil, All-cons}
 use Rattle.jsonc_text.specs.Options.{Options}
 use Rattle.jsonc_text.specs.Plain as plain
@@ -14,7 +15,7 @@ use Rattle.jsonc_insert.specs.elements.Members as laws
 use Rattle.jsonc_insert.specs.elements.Members.{PropertyInsertedAt, IsMemberInserted, MemberInserted, member_count}
 use Rattle.jsonc_insert.proofs.lemmas.elements.NamedProperties.{inserts_member}
 use Rattle.jsonc_sound.specs.Changes as changes
-use Rattle.jsonc_sound.specs.Changes.{ItemChanged, MemberChanged}
+use Rattle.jsonc_sound.specs.Changes.{MemberChanged}
 use Rattle.jsonc_edit.proofs.OneValue.{document_once}
 use Rattle.jsonc_text.specs.declared.edit.Over.{Over}
 use Rattle.jsonc_text.specs.declared.edit.Over.TheVariants as over
@@ -35,6 +36,7 @@ use Rattle.jsonc_run.proofs.lemmas.promise.Plains.{changed, entry_of, list_of_me
 use Rattle.jsonc_sound.specs.Documents.{document_of}
 use Rattle.jsonc_run.specs.promise.Words.{kind_of, yields}
 use Rattle.jsonc_run.proofs.lemmas.promise.Ensured.{empty_same, empty_shaped, empty_texts, given_so, onward, stays_so}
+use Rattle.jsonc_run.proofs.lemmas.promise.Held.{right_so}
 use Rattle.jsonc_run.proofs.lemmas.promise.Members.{MemberGained, member_gains, members_counted}
 use Rattle.jsonc_run.proofs.lemmas.promise.Replacing.{value_changed}
 
@@ -42,19 +44,6 @@ use Rattle.jsonc_run.proofs.lemmas.promise.Replacing.{value_changed}
 left_stands : {was now : Plain} {path : List ℕ} {x y : Plain} → Changed was now path x y → Changed was was path x x
 left_stands itself = itself
 left_stands (inside kind front back name c) = inside kind front back name (left_stands c)
-
-item_right : {was now : Plain} {i : ℕ} {vs ws : plain.Items} → ItemChanged was now i vs ws → ItemChanged now now i ws ws
-item_right changes.this_item = changes.this_item
-item_right (changes.later_item k) = changes.later_item (item_right k)
-
-member_right : {was now : Plain} {i : ℕ} {ms ns : Members} → MemberChanged was now i ms ns → MemberChanged now now i ns ns
-member_right changes.this_member = changes.this_member
-member_right (changes.later_member k) = changes.later_member (member_right k)
-
-pub right_so : {was now : Plain} {path : List ℕ} {x y : Plain} → changes.Changed was now path x y → changes.Changed now now path y y
-right_so changes.itself = changes.itself
-right_so (changes.in_array k c) = changes.in_array (item_right k) (right_so c)
-right_so (changes.in_object k c) = changes.in_object (member_right k) (right_so c)
 
 -- what has come at a path is one
 now_once : {was now old new : Plain} {path : List ℕ} {x y z : Plain} → changes.Changed was now path x y → changes.Changed old new path z y → now ≡ new
@@ -126,6 +115,9 @@ one_more (laws.later_member k) = ap suc (one_more k)
 no_more : (n : ℕ) → n ≢ suc n
 no_more n e = omega (arith, e)
 
+far : (n c m : ℕ) → m ≡ c → min (n + c) m ≡ c
+far n c m e = omega (arith, e)
+
 counted_in : (name : List ℕ) (front back : List Named) (v : Plain) → member_count (members (front ++ entry_of name v ∷ back)) ≡ suc (length (front ++ back))
 counted_in name [] back v = ap suc (members_counted back)
 counted_in name (x ∷ front) back v = ap suc (counted_in name front back v)
@@ -171,11 +163,11 @@ module _ (o : Options) {t u : OrderedTree} {x y : Plain} (old : Says o t (Some x
       )
 
   -- or one has come
-  one_come : {how : Over} {ms ns : Members} → IsCharacters name → changes.Changed (plain.object ms) (plain.object ns) path x y → Found name shape how ms ns → (n : ℕ) → PropertyInsertedAt o path n name (empty_of shape) t u → Ensured how
+  one_come : {how : Over} {ms ns : Members} → IsCharacters name → changes.Changed (plain.object ms) (plain.object ns) path x y → Found name shape how ms ns → (n : ℕ) → ((i : ℕ) → n ≤ i → PropertyInsertedAt o path i name (empty_of shape) t u) → Ensured how
   one_come {how} {ms} {ns} texts c f n comes = by f
     where
-      w : IsMemberInserted o path n name (empty_of shape) t u comes
-      w = inserts_member o path n name (empty_of shape) t u comes old.sound texts (empty_writable o shape)
+      w : IsMemberInserted o path n name (empty_of shape) t u (comes n (omega arith))
+      w = inserts_member o path n name (empty_of shape) t u (comes n (omega arith)) old.sound texts (empty_writable o shape)
 
       more_of_them : member_count ns ≡ suc (member_count ms)
       more_of_them =
@@ -196,8 +188,9 @@ module _ (o : Options) {t u : OrderedTree} {x y : Plain} (old : Says o t (Some x
           let counts : suc (length (front ++ back)) ≡ suc (suc (length (front ++ back))) = sym (counted_in name front back v') ∙ ap member_count (sym g) ∙ more_of_them ∙ ap (λ l. suc (member_count l)) e ∙ ap suc (counted_in name front back v) in
           absurd (no_more (suc (length (front ++ back))) counts)
       by (come front others e g) =
+          let counted_front : member_count ms ≡ length front = ap member_count e ∙ members_counted (front ++ []) ∙ ap (λ (l : List Named). length l) (append-nil front) in
           let k : MemberGained name (empty_of shape) (length front) ms ns = record { front = front; back = []; place = refl; before = e; after = g } in
-          let gains : Gains an_object path front [] (entry_of name (empty_of shape)) (document_of o t (Some x)) (document_of o u (Some y)) = member_gains o old.sound new.sound (texts, empty_texts shape) comes (changed c) k in
+          let gains : Gains an_object path front [] (entry_of name (empty_of shape)) (document_of o t (Some x)) (document_of o u (Some y)) = member_gains o old.sound new.sound (texts, empty_texts shape) (comes (n + length front) (omega arith)) old.value new.value c k (far n (length front) (member_count ms) counted_front) in
           (front, [], others, inr (refl, subst (λ (v : Plain). Gains an_object path front [] (entry_of name v) (document_of o t (Some x)) (document_of o u (Some y))) (sym (empty_same shape)) gains))
 
 pub property_ensured : (o : Options) (t u : OrderedTree) (w x : Option Plain) (path name : List ℕ) (shape : Shape) (how : Over) → Says o t w → Says o u x → IsCharacters name → IsChanged w (ensure_property path name shape how) x
@@ -206,4 +199,4 @@ property_ensured o t u _ _ path name shape how old new texts (by_ensuring_named 
 property_ensured o t u _ _ path name shape _ old new texts (by_ensuring_named {x = x} {y = y} e) (value_given i given other) =
     let m = value_changed o x y old.value new.value (path ++ i ∷ []) (empty_of shape) (empty_texts shape) given in
     value_given_there o old new path name shape e.inside e.members i m.0 (sym (same_shape shape m.1) ∙ other) m.2 (given_so o (path ++ i ∷ []) shape old.sound new.sound (Some x) (Some y) old.value new.value given other)
-property_ensured o t u _ _ path name shape how old new texts (by_ensuring_named e) (property_come n comes) = one_come o old new path name shape {how = how} texts e.inside (find e.members) n (comes n (omega arith))
+property_ensured o t u _ _ path name shape how old new texts (by_ensuring_named e) (property_come n comes) = one_come o old new path name shape {how = how} texts e.inside (find e.members) n comes

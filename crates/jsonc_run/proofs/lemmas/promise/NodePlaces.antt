@@ -134,7 +134,8 @@ module _ (old new : List Node) (tree : IsTree old) (after : IsTree new) where
   -- an edit that was made is a step
   pub made_leads : (op : Operation) → IsOfCharacters op → EditStep old op new → IsStepOf op old new
   made_leads op characters made = λ d shown fit.
-      edits_lead old new (op ∷ []) tree (first_made made after none_made) (one_only IsOfCharacters op characters) d shown (one_only (NumbersFit d.options) op fit)
+      let lead = edits_lead old new (op ∷ []) tree (first_made made after none_made) (one_only IsOfCharacters op characters) d shown (one_only (NumbersFit d.options) op fit) in
+      (lead.0, lead.1, lead.2)
 
   -- and of a node that has its place one at that place
   pub made_step : {P : Type 0} (At : List Node → P → ℕ → Type 0) (op : P → Operation) (n : ℕ) → ((p : P) → IsOfCharacters (op p))

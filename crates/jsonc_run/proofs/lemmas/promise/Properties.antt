@@ -29,7 +29,7 @@ use Rattle.jsonc_layout.specs.from_input.Texts.{IsCharacters, IsOfTexts}
 use Rattle.jsonc_text.specs.Paths.{Entry, an_object}
 use Rattle.jsonc_text.specs.Entries.{Named, members, of, Changed, Becomes}
 use Rattle.jsonc_text.specs.Edits as texts
-use Rattle.jsonc_text.specs.Edits.{IsSeam, Makes, Puts, Text, written}
+use Rattle.jsonc_text.specs.Edits.{Anything, IsSeam, Makes, Puts, Text, written}
 use Rattle.jsonc_run.specs.promise.PlaceLaws.{text_of_leaves}
 use Rattle.jsonc_run.proofs.lemmas.promise.Leaves.{back_of, document_parts, document_utf8, text_joined, utf8_first, utf8_second}
 use Rattle.jsonc_run.proofs.lemmas.promise.Plains.{changed, entry_of, list_of_members, same_members}
@@ -148,9 +148,9 @@ module _ (o : Options) where
         let begins = begins_so (g.quiet ++ g.rest) (utf8_second old (g.quiet ++ g.rest) (utf8_second g.front (old ++ (g.quiet ++ g.rest)) first.utf8)) (spelled_second old (g.quiet ++ g.rest) (spelled_second g.front (old ++ (g.quiet ++ g.rest)) was_spelled)) (g.parts_behind o s e) in
         meets (ends_behind (text_of_leaves g.front) (ends_with (bare e) new_utf8 new_spelled)) (subst BeginsBare old_back begins))
 
-    pub property_puts : (w x : Option Plain) (come : List Mark) → marks_in (leaves_of (property_of now)) ≡ come → (g.behind ≡ true → EndsBareWith (leaves_of (property_of now))) → Puts (Entry (path ++ i ∷ [])) come (document_of o t w) (document_of o u x)
+    pub property_puts : (w x : Option Plain) (come : List Mark) → marks_in (leaves_of (property_of now)) ≡ come → (g.behind ≡ true → EndsBareWith (leaves_of (property_of now))) → Puts Anything (Entry (path ++ i ∷ [])) come (document_of o t w) (document_of o u x)
     property_puts w x come is bare =
-        let text : Text IsSeam (text_of_leaves g.front) old_own [] new_own (seam_if g.behind) (text_of_leaves g.rest) (document_of o t w) (document_of o u x) =
+        let text : Text (text_of_leaves g.front) old_own [] new_own (seam_if g.behind) (text_of_leaves g.rest) (document_of o t w) (document_of o u x) =
         record {
           before = first.text ∙ ap (λ l. text_of_leaves g.front ++ (old_own ++ l)) old_back;
           after = second.text ∙ ap (λ l. text_of_leaves g.front ++ (new_own ++ l)) new_back;
@@ -170,6 +170,7 @@ module _ (o : Options) where
           seam_if g.behind,
           text_of_leaves g.rest,
           text,
+          tt,
           subst (λ l. Entry (path ++ i ∷ []) o (printed_text t) (old_own ++ l) l) old_back first.stands,
           subst (λ l. Entry (path ++ i ∷ []) o (printed_text u) (new_own ++ l) l) new_back second.stands,
           marks_in g.front,
@@ -212,7 +213,7 @@ gives {name = name} {v = v} (by_property path i {x = x} {y = y} g) =
     )
 
 puts : (o : Options) (t u : OrderedTree) (w x : Option Plain) (path name : List ℕ) (v : Plain) → IsCharacters name × IsOfTexts v → SoundTree o t → SoundTree o u → ReplacesProperty name v t u path
-    → Puts (Entry path) (written an_object (entry_of name v)) (document_of o t w) (document_of o u x)
+    → Puts Anything (Entry path) (written an_object (entry_of name v)) (document_of o t w) (document_of o u x)
 puts o t u w x _ name v f s r (property_given path i layout spaced front old back p c d seam bare) =
     property_puts o s r seam w x (written an_object (entry_of name v)) (laid_property_literals layout name v f.0 f.1) (λ e. property_ends layout name v (bare e))
 

@@ -1,7 +1,6 @@
 -- Where an entry leaves a sound tree, it leaves the text so.
 use Rattle.std.proofs.Common.{ℕ, ◌+◌, ◌≡◌, ◌∙◌, sym, ap, subst, refl, Bool, true, false, List, [], ◌∷◌, ◌++◌, Option, chars, arith, encode_utf8}
 use Rattle.std.proofs.lemmas.List.{append_assoc, append-nil}
-use Rattle.std.proofs.lemmas.Str.{chars-nil}
 use Rattle.jsonc_text.specs.Options.{Options}
 use Rattle.jsonc_text.specs.Text.{Many}
 use Rattle.jsonc_text.specs.Text as many
@@ -20,7 +19,7 @@ use Rattle.jsonc_sound.proofs.Texts.{AllUtf8}
 use Rattle.jsonc_sound.proofs.TriviaLeaves.{front_leaves}
 use Rattle.jsonc_text.specs.Paths.{Entry}
 use Rattle.jsonc_text.specs.Edits as texts
-use Rattle.jsonc_text.specs.Edits.{Trail, Comma, Parted}
+use Rattle.jsonc_text.specs.Edits.{Trail, Parted}
 use Rattle.jsonc_run.specs.promise.PlaceLaws.{text_of_leaves}
 use Rattle.jsonc_run.proofs.lemmas.promise.Entries.{value_stands_in, property_stands_in}
 use Rattle.jsonc_run.proofs.lemmas.promise.Leaves.{row_back, back_of, text_joined, utf8_first, utf8_second, document_utf8}
@@ -28,17 +27,10 @@ use Rattle.jsonc_run.proofs.lemmas.promise.StretchElements.{Reached, past_comma,
 use Rattle.jsonc_sound.specs.Documents.{document_of}
 use Rattle.jsonc_run.proofs.lemmas.promise.PrintedShapes.{comma_mark}
 use Rattle.jsonc_run.proofs.lemmas.promise.Stretches.{Begins, beside_begins, marks_in, parted, property_begins, value_begins}
+pub use Rattle.jsonc_run.proofs.lemmas.promise.Stretches.{pieces_first, pieces_second}
 use Rattle.jsonc_run.proofs.lemmas.promise.Trivia.{beside_text, trivia_text, end_text}
 use Rattle.jsonc_sound.proofs.FirstNodes.{none_changed}
 use Rattle.jsonc_run.proofs.lemmas.promise.Values.{top_same, array_place, object_place, past_trivia, past_token, node_leaves, at_the_place}
-
-pub pieces_first : (o : Options) (a b : List Content) → Pieces o (a ++ b) → Pieces o a
-pieces_first o [] b p = tt
-pieces_first o (c ∷ a) b p = (p.0, pieces_first o a b p.1)
-
-pub pieces_second : (o : Options) (a b : List Content) → Pieces o (a ++ b) → Pieces o b
-pieces_second o [] b p = p
-pieces_second o (c ∷ a) b p = pieces_second o a b p.1
 
 -- the comma, and what it prints
 pub comma_text : text_of_leaves (token 0x2C ∷ []) ≡ 0x2C ∷ []
@@ -75,23 +67,19 @@ module _ (o : Options) where
   rest_text (with_end line end h n) p u =
       subst (Trail false) (sym (text_joined line (end ∷ []) (utf8_first line (end ∷ []) u))) (texts.rest_of_line (beside_text o line h (pieces_first o line (end ∷ []) p)) (end_text o end n))
 
-  pub trail_text : {b : Bool} {c m line : List Content} → Commas b c m line → Pieces o line → AllUtf8 line → Trail b (text_of_leaves line) × Comma b (text_of_leaves c) (text_of_leaves m)
-  trail_text (behind_it (comma_alone between t)) p u = (
-    subst (Trail true) (sym (text_joined between (token 0x2C ∷ []) (utf8_first between (token 0x2C ∷ []) u) ∙ ap (λ l. text_of_leaves between ++ l) comma_text)) (texts.up_to_comma (trivia_text o between t (pieces_first o between (token 0x2C ∷ []) p))),
-    subst (λ x. Comma true x x) (sym chars-nil) texts.none,
-  )
+  pub trail_text : {b : Bool} {c m line : List Content} → Commas b c m line → Pieces o line → AllUtf8 line → Trail b (text_of_leaves line)
+  trail_text (behind_it (comma_alone between t)) p u =
+      subst (Trail true) (sym (text_joined between (token 0x2C ∷ []) (utf8_first between (token 0x2C ∷ []) u) ∙ ap (λ l. text_of_leaves between ++ l) comma_text)) (texts.up_to_comma (trivia_text o between t (pieces_first o between (token 0x2C ∷ []) p)))
   trail_text (behind_it (comma_and_line between line end b h n)) p u =
       let tail : List Content = line ++ end ∷ [] in
       let later = utf8_second between (token 0x2C ∷ tail) u in
       let text : text_of_leaves (between ++ (token 0x2C ∷ tail)) ≡ text_of_leaves between ++ (0x2C ∷ (text_of_leaves line ++ text_of_leaves (end ∷ []))) =
       text_joined between (token 0x2C ∷ tail) (utf8_first between (token 0x2C ∷ tail) u)
       ∙ ap (λ l. text_of_leaves between ++ l) (comma_then tail later ∙ ap (λ l. 0x2C ∷ l) (text_joined line (end ∷ []) (utf8_first line (end ∷ []) later.1))) in
-      let second = pieces_second o between (token 0x2C ∷ tail) p in (
-        subst (Trail true) (sym text) (texts.and_line (beside_text o between b (pieces_first o between (token 0x2C ∷ tail) p)) (beside_text o line h (pieces_first o line (end ∷ []) second.1)) (end_text o end n)),
-        subst (λ x. Comma true x x) (sym chars-nil) texts.none,
-      )
-  trail_text (ahead_of_it mid rl) p u = (rest_text rl p u, subst (λ x. Comma false x (text_of_leaves mid)) (sym comma_text) (texts.before_it (text_of_leaves mid)))
-  trail_text (nowhere rl) p u = (rest_text rl p u, subst (λ x. Comma false x x) (sym chars-nil) texts.none)
+      let second = pieces_second o between (token 0x2C ∷ tail) p in
+      subst (Trail true) (sym text) (texts.and_line (beside_text o between b (pieces_first o between (token 0x2C ∷ tail) p)) (beside_text o line h (pieces_first o line (end ∷ []) second.1)) (end_text o end n))
+  trail_text (ahead_of_it mid rl) p u = rest_text rl p u
+  trail_text (nowhere rl) p u = rest_text rl p u
 
   -- an element of an object is a property
   is_property : {x y : Top} {row : OrderedTree} {r : List ℕ} → ValueShaped o Content.object (token_then 0x7B row) r → {i : ℕ} {new : OrderedTree} → ElementChanged x y i row new → x.content ≡ Content.property

@@ -32,14 +32,14 @@ use Rattle.jsonc_edit.specs.SeamRemovals.{SpaceFirst, none_first, space_first, R
 use Rattle.jsonc_edit.specs.SeamPlaces.{DocumentHolds}
 use Rattle.jsonc_edit.specs.Seams.{PrintNothing, space_if}
 use Rattle.jsonc_text.specs.Paths.{Entry}
-use Rattle.jsonc_text.specs.Edits as texts
-use Rattle.jsonc_text.specs.Edits.{Document, InLine, IsSeam, Trail, Comma, Leaves, Loses}
+use Rattle.jsonc_text.specs.Edits.{IsSeam, Comma, Leaves, Loses}
 use Rattle.jsonc_run.specs.promise.PlaceLaws.{text_of_leaves}
 use Rattle.jsonc_run.proofs.lemmas.promise.CommentTexts.{blanks_text}
 use Rattle.jsonc_run.proofs.lemmas.promise.Leaves.{back_of, document_parts, document_utf8, text_joined, utf8_first, utf8_second}
 use Rattle.jsonc_run.proofs.lemmas.promise.RemovedEntries.{loses_value}
 use Rattle.jsonc_run.proofs.lemmas.promise.StretchElements.{renumber, rest_as, Reached, at_first, past_comma, past_row}
 use Rattle.jsonc_run.proofs.lemmas.promise.StretchElements as reaching
+use Rattle.jsonc_run.proofs.lemmas.promise.CommasLeft.{Which, the_one_behind, one_before, none_there, comma_so}
 use Rattle.jsonc_run.proofs.lemmas.promise.RemovedTexts.{Commas, behind_it, ahead_of_it, nowhere, among_leaves, container_leaves, none_more, text_cons, trail_text, comma_unmarked, entry_begins, entry_there, gone_parted, rest_pieces, pieces_first, pieces_second}
 use Rattle.jsonc_run.proofs.lemmas.promise.Stretches.{blanks_behind_unmarked, marks_in, marks_in_both, seam_unmarked}
 use Rattle.jsonc_sound.specs.Documents.{document_of}
@@ -161,12 +161,13 @@ record Gone (kind : RowKind) (top : Top) (i : ℕ) (row : OrderedTree) (t u : Or
   lead : AreInlineTrivia stretches.lead
   with_comma : Bool
   commas : Commas with_comma stretches.comma stretches.mid stretches.trail
+  which : Which top row stretches.comma stretches.mid stretches.lead stretches.trail rest with_comma
 
 module _ {kind : RowKind} {top : Top} {path : List ℕ} {t u : OrderedTree} {f b : List Content} (element : IsElement top.content) where
   -- with no comma, or with the one behind it
-  gone_ahead : (front back given : OrderedTree) (before behind : List Content) (row : OrderedTree) (c : Bool) → Commas c [] [] behind → AreInlineTrivia before → Around kind path t u row (followed_by front given) f b → SpaceFirst (leaves front) back given
+  gone_ahead : (front back given : OrderedTree) (before behind : List Content) (row : OrderedTree) (c : Bool) → Commas c [] [] behind → Which top row [] [] before behind (leaves back) c → AreInlineTrivia before → Around kind path t u row (followed_by front given) f b → SpaceFirst (leaves front) back given
       → leaves row ≡ leaves front ++ (before ++ (leaves_of top ++ (behind ++ leaves back))) → ((y : Top) → IsElement y.content → Reached top y (element_count front) row (behind ++ leaves back)) → Gone kind top (element_count front) row t u b
-  gone_ahead front back given before behind row c cm h d space e reach =
+  gone_ahead front back given before behind row c cm which h d space e reach =
       let o : Content = token (opening kind) in
       let seam = row_seam b space in
       record {
@@ -192,6 +193,7 @@ module _ {kind : RowKind} {top : Top} {path : List ℕ} {t u : OrderedTree} {f b
         lead = h;
         with_comma = c;
         commas = cm;
+        which = which;
       }
     where
       regroup_old : (f fr bf ow bt bk b : List Content) (c : Content) → f ++ ((c ∷ (fr ++ (bf ++ (ow ++ (bt ++ bk))))) ++ b) ≡ (f ++ (c ∷ fr)) ++ (bf ++ (ow ++ (bt ++ (bk ++ b))))
@@ -201,10 +203,10 @@ module _ {kind : RowKind} {top : Top} {path : List ℕ} {t u : OrderedTree} {f b
       regroup_new f fr bk b c = simp (append_assoc) refl
 
   -- with the one before it
-  gone_behind : (front mid back given_mid given : OrderedTree) (before line : List Content) (row : OrderedTree) → IsRestOfLine line → AreInlineTrivia before → Around kind path t u row (followed_by front (followed_by given_mid given)) f b
+  gone_behind : (front mid back given_mid given : OrderedTree) (before line : List Content) (row : OrderedTree) → IsRestOfLine line → Which top row (token 0x2C ∷ []) (leaves mid) before line (leaves back) false → AreInlineTrivia before → Around kind path t u row (followed_by front (followed_by given_mid given)) f b
       → SpaceFirst (leaves front) mid given_mid → SpaceFirst (leaves front ++ leaves given_mid) back given
       → leaves row ≡ leaves front ++ (token 0x2C ∷ (leaves mid ++ (before ++ (leaves_of top ++ (line ++ leaves back))))) → ((y : Top) → IsElement y.content → Reached top y (element_count front + element_count mid) row (line ++ leaves back)) → Gone kind top (element_count front + element_count mid) row t u b
-  gone_behind front mid back given_mid given before line row rl h d space_mid space e reach =
+  gone_behind front mid back given_mid given before line row rl which h d space_mid space e reach =
       let o : Content = token (opening kind) in
       let seam_mid = alone_seam space_mid in
       let seam = row_seam b space in
@@ -232,6 +234,7 @@ module _ {kind : RowKind} {top : Top} {path : List ℕ} {t u : OrderedTree} {f b
         lead = h;
         with_comma = false;
         commas = ahead_of_it (leaves mid) rl;
+        which = which;
       }
     where
       regroup_old : (f fr md bf ow bt bk b : List Content) (c m : Content) → f ++ ((c ∷ (fr ++ (m ∷ (md ++ (bf ++ (ow ++ (bt ++ bk))))))) ++ b) ≡ (f ++ (c ∷ fr)) ++ ((m ∷ []) ++ (md ++ (bf ++ (ow ++ (bt ++ (bk ++ b))))))
@@ -247,19 +250,19 @@ module _ {kind : RowKind} {top : Top} {path : List ℕ} {t u : OrderedTree} {f b
       let tail : OrderedTree = token_then 0x2C (leaves_then line back) in
       let behind : leaves (leaves_then between tail) ≡ (between ++ (comma ∷ line)) ++ leaves back =
       front_leaves between tail (between_trivia lb) ∙ ap (λ l. between ++ (comma ∷ l)) (front_leaves line back (line_trivia lb)) ∙ sym (append_assoc between (comma ∷ line) (leaves back)) in
-      gone_ahead front back given before (between ++ (comma ∷ line)) _ true (behind_it lb) be d space
+      gone_ahead front back given before (between ++ (comma ∷ line)) _ true (behind_it lb) the_one_behind be d space
       (leaves-followed_by front (among before top between tail) ∙ ap (λ l. leaves front ++ l) (among_leaves before top between tail trivia (between_trivia lb) ∙ ap (λ l. before ++ (leaves_of top ++ l)) (sym (front_leaves between tail (between_trivia lb)) ∙ behind)))
       (λ y q. renumber (none_more (element_count front)) (past_row front (reaching.past_leaves before trivia (rest_as behind (at_first (leaves_then between tail) element q)))))
-  gone_of (comma_before front mid back given_mid given before line be rl space_mid space) d =
+  gone_of (comma_before front mid back given_mid given before line be rl free not_come space_mid space) d =
       let trivia = beside_trivia before be in
       let inner : OrderedTree = among before top line back in
-      gone_behind front mid back given_mid given before line _ rl be d space_mid space
+      gone_behind front mid back given_mid given before line _ rl (one_before front mid back before line refl element trivia (rest_trivia line rl) free not_come) be d space_mid space
       (leaves-followed_by front (token_then 0x2C (followed_by mid inner)) ∙ ap (λ l. leaves front ++ (token 0x2C ∷ l)) (leaves-followed_by mid inner ∙ ap (λ l. leaves mid ++ l) (among_leaves before top line back trivia (rest_trivia line rl))))
       (λ y q. renumber (ap (λ n. element_count front + n) (none_more (element_count mid))) (past_row front (past_comma 0x2C (past_row mid (reaching.past_leaves before trivia (rest_as (front_leaves line back (rest_trivia line rl)) (at_first (leaves_then line back) element q)))))))
-  gone_of (no_comma front back given before line be rl space) d =
+  gone_of (no_comma front back given before line be rl free not_come space) d =
       let trivia = beside_trivia before be in
       let inner : OrderedTree = among before top line back in
-      gone_ahead front back given before line _ false (nowhere rl) be d space
+      gone_ahead front back given before line _ false (nowhere rl) (none_there front back before line refl element trivia (rest_trivia line rl) free not_come) be d space
       (leaves-followed_by front inner ∙ ap (λ l. leaves front ++ l) (among_leaves before top line back trivia (rest_trivia line rl)))
       (λ y q. renumber (none_more (element_count front)) (past_row front (reaching.past_leaves before trivia (rest_as (front_leaves line back (rest_trivia line rl)) (at_first (leaves_then line back) element q)))))
 
@@ -294,6 +297,7 @@ module _ (o : Options) {t u : OrderedTree} (s : SoundTree o t) (r : SoundTree o 
       let trail = trail_text o g.commas (pieces_first o k.trail k.back p5) (utf8_first k.trail k.back u5) in
       let behind = rest_pieces o k.trail g.rest b k.back g.back u5 in
       let entry = subst (λ z. Entry (path ++ i ∷ []) o (printed_text t) (text_of_leaves own ++ z) z) behind (entry_in kind d.itself g.reached) in
+      let comma = comma_so o s kind d.itself g.which k.back (sym g.back) in
       let old : printed_text t ≡ text_of_leaves k.front ++ (text_of_leaves k.comma ++ (text_of_leaves k.mid ++ (text_of_leaves k.lead ++ (text_of_leaves own ++ (text_of_leaves k.trail ++ text_of_leaves k.back))))) =
       ap text_of_leaves k.before ∙ text_cons k.front behind_front utf8 (text_cons k.comma behind_comma u1 (text_cons k.mid behind_mid u2 (text_cons k.lead behind_lead u3 (text_cons own behind_own u4 (text_cons k.trail k.back u5 refl))))) in
       let utf8_new = subst AllUtf8 k.after (document_utf8 o r.shaped) in
@@ -347,8 +351,8 @@ module _ (o : Options) {t u : OrderedTree} (s : SoundTree o t) (r : SoundTree o 
         new,
         entry,
         beside_text o k.lead g.lead (pieces_first o k.lead behind_lead p3),
-        trail.0,
-        trail.1,
+        trail,
+        comma,
         many.Many.stop,
         many.Many.stop,
         left_due,
@@ -391,13 +395,16 @@ left_unspaced front _ _ blanks c h (space_first quiet rest silent last first) e 
     let m = without_space (leaves front ++ leaves quiet) (leaves rest) blanks c h parts in
     record { blanks = m.blanks; are = m.are; is = ap (λ l. leaves front ++ l) (leaves-followed_by quiet rest) ∙ sym (append_assoc (leaves front) (leaves quiet) (leaves rest)) ∙ m.is }
 
+no_text : {o : Options} {text lead entry rest : List ℕ} {b : Bool} → Comma o text lead entry rest b (text_of_leaves []) (text_of_leaves []) → Comma o text lead entry rest b [] []
+no_text {o} {text} {lead} {entry} {rest} {b} c = subst (λ l. Comma o text lead entry rest b l l) chars-nil c
+
 module _ (o : Options) (kind : RowKind) {top : Top} {path : List ℕ} {t u : OrderedTree} {f ar : List Content} (s : SoundTree o t) (r : SoundTree o u) (w x : Option Plain) where
   -- the entry leaves, and with it all blanks that are left
   close_up : {i : ℕ} {row : OrderedTree} (c : ℕ) (d : Around kind path t u row (token_then c none) f ar)
-      → (fr lead trail bk : List Content) (b : Bool) → Commas b [] [] trail → AreInlineTrivia lead → Unspaced (fr ++ bk) (token c) → bk ≢ []
+      → (fr lead trail bk : List Content) (b : Bool) → Commas b [] [] trail → Which top row [] [] lead trail bk b → AreInlineTrivia lead → Unspaced (fr ++ bk) (token c) → bk ≢ []
       → leaves row ≡ fr ++ (lead ++ (leaves_of top ++ (trail ++ bk))) → ((y : Top) → IsElement y.content → Reached top y i row (trail ++ bk))
       → Leaves (path ++ i ∷ []) (document_of o t w) (document_of o u x)
-  close_up {i} {row} c d fr lead trail bk b commas beside un some e reach =
+  close_up {i} {row} c d fr lead trail bk b commas which beside un some e reach =
       let k = split fr bk un.blanks (token c) some un.is in
       let open_leaf : Content = token (opening kind) in
       let own : List Content = leaves_of top in
@@ -429,6 +436,8 @@ module _ (o : Options) (kind : RowKind) {top : Top} {path : List ℕ} {t u : Ord
       let behind : text_of_leaves (trail ++ bk) ++ text_of_leaves ar ≡ text_of_leaves trail ++ (text_of_leaves k.rest ++ text_of_leaves back) =
       rest_pieces o trail bk ar behind_trail tail u4 ∙ ap (λ l. text_of_leaves trail ++ l) (text_cons k.rest back u5 refl) in
       let entry = subst (λ z. Entry (path ++ i ∷ []) o (printed_text t) (text_of_leaves own ++ z) z) behind (entry_in o s r kind d.itself reach) in
+      let comma = comma_so o s kind d.itself which behind_trail (sym tail) in
+      let back_text : text_of_leaves behind_trail ≡ text_of_leaves k.rest ++ text_of_leaves back = text_cons k.rest back u5 refl in
       let blank = subst AreBlanks k.before un.are in
       let parted = gone_parted o s w (front ++ fr) lead own trail k.rest back (text_of_leaves k.rest) (old ∙ sym (append_assoc front fr behind_fr)) beside (entry_begins o kind s d.itself.changed reach behind_own) refl in
       let marks : marks_in (leaves u) ≡ marks_in (front ++ fr) ++ marks_in back =
@@ -449,8 +458,8 @@ module _ (o : Options) (kind : RowKind) {top : Top} {path : List ℕ} {t u : Ord
         edited,
         entry,
         beside_text o lead beside (pieces_first o lead behind_lead p2),
-        (trail_text o commas (pieces_first o trail behind_trail p4) (utf8_first trail behind_trail u4)).0,
-        texts.none,
+        trail_text o commas (pieces_first o trail behind_trail p4) (utf8_first trail behind_trail u4),
+        no_text (subst (λ z. Comma o (printed_text t) (text_of_leaves lead) (text_of_leaves own ++ (text_of_leaves trail ++ z)) (text_of_leaves trail ++ z) b (text_of_leaves []) (text_of_leaves [])) back_text comma),
         blanks_text o fr (blanks_first fr k.rest blank) (pieces_first o fr behind_fr p1),
         blanks_text o k.rest (blanks_second fr k.rest blank) (pieces_first o k.rest back p5),
         inl refl,
@@ -479,10 +488,10 @@ module _ (o : Options) (kind : RowKind) {top : Top} {path : List ℕ} {t u : Ord
       let alone_row = container_row o kind (at_the_place o s d.itself.changed).2.shaped in
       let parts = parted_at o kind front before top between tail trivia (between_trivia lb) element alone_row in
       let some = row_some o (past_leaves o kind line (line_trivia lb) (at_comma o kind parts.behind).1) in
-      close_up c d (leaves front) before (between ++ (comma ∷ line)) (leaves back) true (behind_it lb) be (left_unspaced front back given blanks c h space e) some
+      close_up c d (leaves front) before (between ++ (comma ∷ line)) (leaves back) true (behind_it lb) the_one_behind be (left_unspaced front back given blanks c h space e) some
       (leaves-followed_by front (among before top between tail) ∙ ap (λ l. leaves front ++ l) (among_leaves before top between tail trivia (between_trivia lb) ∙ ap (λ l. before ++ (leaves_of top ++ l)) (sym (front_leaves between tail (between_trivia lb)) ∙ behind)))
       (λ y q. renumber (none_more (element_count front)) (past_row front (reaching.past_leaves before trivia (rest_as behind (at_first (leaves_then between tail) element q)))))
-  closes_so element (comma_before front mid back given_mid given before line be rl space_mid space) blanks c h e d =
+  closes_so element (comma_before front mid back given_mid given before line be rl free not_come space_mid space) blanks c h e d =
       let alone_row = container_row o kind (at_the_place o s d.itself.changed).2.shaped in
       let parts = parted_row o kind front alone_row in
       let stood = (at_comma o kind parts.2).0 in
@@ -490,12 +499,12 @@ module _ (o : Options) (kind : RowKind) {top : Top} {path : List ℕ} {t u : Ord
       let none_stood = no_elements o parts.1 (omega (arith, count)) in
       let wrong : an_element ≡ nothing_yet = sym stood ∙ none_stood in
       cc
-  closes_so element (no_comma front back given before line be rl space) blanks c h e d =
+  closes_so element (no_comma front back given before line be rl free not_come space) blanks c h e d =
       let trivia = beside_trivia before be in
       let inner : OrderedTree = among before top line back in
       let alone_row = container_row o kind (at_the_place o s d.itself.changed).2.shaped in
       let parts = parted_at o kind front before top line back trivia (rest_trivia line rl) element alone_row in
-      close_up c d (leaves front) before line (leaves back) false (nowhere rl) be (left_unspaced front back given blanks c h space e) (row_some o parts.behind)
+      close_up c d (leaves front) before line (leaves back) false (nowhere rl) (none_there front back before line refl element trivia (rest_trivia line rl) free not_come) be (left_unspaced front back given blanks c h space e) (row_some o parts.behind)
       (leaves-followed_by front inner ∙ ap (λ l. leaves front ++ l) (among_leaves before top line back trivia (rest_trivia line rl)))
       (λ y q. renumber (none_more (element_count front)) (past_row front (reaching.past_leaves before trivia (rest_as (front_leaves line back (rest_trivia line rl)) (at_first (leaves_then line back) element q)))))
 

@@ -1,5 +1,5 @@
 -- Where the value of a document leaves it.
-use Rattle.std.proofs.Common.{ℕ, ◌≡◌, ◌∙◌, sym, ap, subst, refl, inl, false, List, [], ◌++◌, Option}
+use Rattle.std.proofs.Common.{ℕ, ◌≡◌, ◌∙◌, sym, ap, subst, refl, inl, true, false, List, [], ◌∷◌, ◌++◌, Option}
 use Rattle.std.proofs.lemmas.List.{append_assoc, append-nil}
 use Rattle.jsonc_text.specs.Options.{Options}
 use Rattle.jsonc_text.specs.Plain.{Plain}
@@ -22,13 +22,18 @@ use Rattle.jsonc_sound.proofs.RowParts.{beside_trivia, rest_trivia}
 use Rattle.jsonc_sound.proofs.Texts.{AllUtf8}
 use Rattle.jsonc_sound.proofs.TriviaLeaves.{front_leaves}
 use Rattle.jsonc_text.specs.Paths as places
-use Rattle.jsonc_text.specs.Paths.{Entry}
+use Rattle.jsonc_text.specs.Paths.{Entry, Value}
+use Rattle.jsonc_text.specs.Gaps.{Gap}
+use Rattle.jsonc_text.proofs.UniqueGaps.{gap_unique}
+use Rattle.jsonc_sound.specs.Lines.{LinesEndLoosely, DocumentLinesEndLoosely}
+use Rattle.jsonc_sound.proofs.LooseLines.{trivia_gap, value_stops}
+use Rattle.std.proofs.lemmas.Str.{chars-nil}
 use Rattle.jsonc_text.specs.Edits as texts
-use Rattle.jsonc_text.specs.Edits.{Leaves}
+use Rattle.jsonc_text.specs.Edits.{Leaves, NoCommaComes}
 use Rattle.jsonc_run.specs.promise.PlaceLaws.{text_of_leaves}
 use Rattle.jsonc_run.proofs.lemmas.promise.CommentTexts.{blanks_text}
 use Rattle.jsonc_run.proofs.lemmas.promise.Closing.{blanks_first, blanks_second}
-use Rattle.jsonc_run.proofs.lemmas.promise.Leaves.{utf8_second, utf8_first, document_utf8}
+use Rattle.jsonc_run.proofs.lemmas.promise.Leaves.{row_back, utf8_second, utf8_first, document_utf8}
 use Rattle.jsonc_run.proofs.lemmas.promise.StretchElements.{Reached, rest_as, at_first, past_leaves, past_row}
 use Rattle.jsonc_run.proofs.lemmas.promise.RemovedTexts as removing
 use Rattle.jsonc_run.proofs.lemmas.promise.RemovedTexts.{among_leaves, text_cons, trail_text, gone_parted, pieces_first, pieces_second}
@@ -47,6 +52,29 @@ module _ (o : Options) where
       by (this_element p q) = refl
       by (passed k f) = absurd (no_element content (value_element v) k)
       by (later_element k f) = absurd (none_changed (past_trivia o h f).changed)
+
+  -- behind it a gap reaches to the end
+  root_lines : (row : OrderedTree) → DocumentLinesEndLoosely (root_with row) → LinesEndLoosely false true row
+  root_lines row (row2, e, l) = let same : row2 ≡ row = cc in subst (LinesEndLoosely false true) same l
+
+  first_back : {x y : Top} {content : Content} {below after new : OrderedTree} → IsElement content → (e : ElementChanged x y 0 (more content below after) new) → row_back e ≡ leaves after
+  first_back h (this_element p q) = refl
+  first_back h (passed {content = content} k e) = absurd (no_element content h k)
+
+  behind_value : {x y : Top} {row new : OrderedTree} → DocumentShaped o (root_with row) → LinesEndLoosely false true row → (e : ElementChanged x y 0 row new) → Gap o (text_of_leaves (row_back e)) []
+  behind_value (shape.no_value g) l e = absurd (none_changed (past_trivia o g e).changed)
+  behind_value (shape.a_value {content = content} {below = below} {after = after} g v h) l e =
+      let a = past_trivia o g e in
+      let before = trivia_gap o [] false true (λ e. refl) (value_stops after v) g l in
+      let behind = trivia_gap o [] false true (λ e. refl) tt h before.1.2 in
+      let last : Gap o (printed_text after) [] = subst (λ t. Gap o t []) (append-nil (printed_text after)) (subst (Gap o _) (ap (λ t. t ++ []) chars-nil) behind.0) in
+      subst (λ l. Gap o (text_of_leaves l) []) (sym (first_back (value_element v) a.changed) ∙ a.same) last
+
+  gap_to : {text u r : List ℕ} → Value [] o text u r → Gap o text u
+  gap_to (t, g, places.itself v) = g
+
+  nothing_more : (r : List ℕ) → [] ≡ 0x2C ∷ r → ⊥
+  nothing_more r e = cc
 
   -- it leaves, and with it what is said of both ends
   value_gone : {top : Top} {row new : OrderedTree} (s : SoundTree o (root_with row)) (r : SoundTree o (root_with new)) (w x : Option Plain) → (pre mid : List Content) (lead line more_of_it back : List Content)
@@ -84,6 +112,9 @@ module _ (o : Options) where
       let behind : text_of_leaves (line ++ (tail ++ back)) ≡ text_of_leaves line ++ (text_of_leaves tail ++ text_of_leaves back) = text_cons line (tail ++ back) u4 (text_cons tail back u5 refl) in
       let stood = subst (λ l. Entry [] o (printed_text t) (text_of_leaves own ++ text_of_leaves l) (text_of_leaves l)) reach.same (places.the_value (at_the_place o s d).1) in
       let entry = subst (λ z. Entry [] o (printed_text t) (text_of_leaves own ++ z) z) behind stood in
+      let last = subst (λ x. Gap o x []) behind (subst (λ l. Gap o (text_of_leaves l) []) reach.same (behind_value s.shaped (root_lines row s.lines) reach.changed)) in
+      let not_behind : NoCommaComes o (text_of_leaves line ++ (text_of_leaves tail ++ text_of_leaves back)) = λ r g. nothing_more r (gap_unique last g refl refl) in
+      let ahead = subst (λ z. Gap o (printed_text t) (text_of_leaves own ++ z)) behind (subst (λ l. Gap o (printed_text t) (text_of_leaves own ++ text_of_leaves l)) reach.same (gap_to (at_the_place o s d).1)) in
       let begins = value_begins o (line ++ (tail ++ back)) (at_the_place o s d).2.shaped in
       let parted = gone_parted o s w (pre ++ mid) lead own line tail back (text_of_leaves tail) (old ∙ sym (append_assoc pre mid (lead ++ (own ++ (line ++ (tail ++ back)))))) beside begins refl in
       let marks : marks_in (leaves u) ≡ marks_in (pre ++ mid) ++ marks_in back = ap marks_in edited ∙ marks_in_both pre back ∙ ap (λ l. l ++ marks_in back) (sym (blanks_behind_unmarked pre mid are)) in (
@@ -103,8 +134,8 @@ module _ (o : Options) where
         after,
         entry,
         beside_text o lead beside (pieces_first o lead (own ++ (line ++ (tail ++ back))) p2),
-        (trail_text o (removing.nowhere rest) (pieces_first o line (tail ++ back) p4) (utf8_first line (tail ++ back) u4)).0,
-        texts.none,
+        trail_text o (removing.nowhere rest) (pieces_first o line (tail ++ back) p4) (utf8_first line (tail ++ back) u4),
+        texts.none not_behind texts.the_text (texts.gap ahead),
         blanks_text o mid are (pieces_first o mid (lead ++ (own ++ (line ++ (tail ++ back)))) p1),
         blanks_text o tail are_too (pieces_first o tail back p5),
         inl refl,

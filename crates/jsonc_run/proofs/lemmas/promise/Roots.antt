@@ -1,11 +1,14 @@
 -- Where a value comes into a document that had none, in a text; and where all leaves it.
-use Rattle.std.proofs.Common.{ℕ, ◌≡◌, ◌∙◌, sym, ap, subst, refl, inl, inr, List, [], ◌∷◌, ◌++◌, Option, Some, None}
+use Rattle.std.proofs.Common.{ℕ, ◌≡◌, ◌∙◌, sym, ap, subst, refl, inl, inr, ◌⊎◌, List, [], ◌∷◌, ◌++◌, Option, Some, None, IsTrue, chars}
 use Rattle.std.proofs.lemmas.List.{append_assoc, append-nil}
 use Rattle.std.proofs.lemmas.Str.{chars-nil}
 use Rattle.jsonc_text.specs.Options.{Options}
 use Rattle.jsonc_text.specs.Plain.{Plain}
-use Rattle.jsonc_text.specs.Text.{Many, stop, step, is_line_end}
-use Rattle.jsonc_tree.specs.Content.{Content}
+use Rattle.jsonc_tree.specs.Content.{Content, comment, newline, newline_text}
+use Rattle.jsonc_tree.specs.declared.node.CstNewlineKind.{CstNewlineKind}
+use Rattle.jsonc_tree.specs.declared.node.CstNewlineKind.TheVariants.{LineFeed, CarriageReturnLineFeed, CarriageReturn}
+use Rattle.jsonc_sound.proofs.NodesAlone.{document_alone}
+use Rattle.jsonc_sound.proofs.Pieces.{Pieces, document_pieces}
 use Rattle.jsonc_tree.specs.OrderedTree.{OrderedTree, none, more, leaves, Top}
 use Rattle.jsonc_tree.specs.Values.{DocumentValueOf}
 use Rattle.jsonc_sound.specs.Shape.{printed_text}
@@ -14,7 +17,7 @@ use Rattle.jsonc_layout.specs.from_input.Layout.{Layout}
 use Rattle.jsonc_layout.specs.from_input.Texts.{IsOfTexts}
 use Rattle.jsonc_layout.proofs.lemmas.from_input.Meanings.{laid_value}
 use Rattle.jsonc_sound.specs.Coming as coming
-use Rattle.jsonc_sound.specs.Coming.{ValueInserted}
+use Rattle.jsonc_sound.specs.Coming.{ValueInserted, Leads, behind_comment, at_once, EndsLine, comes_with, stood_last, ends_in_comment}
 use Rattle.jsonc_sound.specs.EntryLaws.{root_with}
 use Rattle.jsonc_sound.specs.MarkChanges.{AreBlanks}
 use Rattle.jsonc_sound.proofs.ReplacedStretches.{blanks_unmarked}
@@ -38,13 +41,13 @@ use Rattle.jsonc_text.specs.Paths.{Value}
 use Rattle.jsonc_text.specs.Entries as values
 use Rattle.jsonc_text.specs.Entries.{of}
 use Rattle.jsonc_text.specs.Edits as texts
-use Rattle.jsonc_text.specs.Edits.{AreLineEnds, AreLines, ComesFirst, Makes, Text}
+use Rattle.jsonc_text.specs.Edits.{ComesFirst, EndsInComment, IsLineEnd, Makes}
 use Rattle.jsonc_run.specs.promise.PlaceLaws.{text_of_leaves}
 use Rattle.jsonc_run.proofs.lemmas.promise.Leaves.{text_joined, utf8_first, utf8_second}
 use Rattle.jsonc_sound.specs.Documents.{all_marks}
 use Rattle.jsonc_sound.specs.Documents.{document_of}
-use Rattle.jsonc_run.proofs.lemmas.promise.Stretches.{blanks_behind_unmarked, laid_literals, marks_in, marks_in_both, parted, parted_as}
-use Rattle.jsonc_run.proofs.lemmas.promise.Trivia.{end_text}
+use Rattle.jsonc_run.proofs.lemmas.promise.Stretches.{pieces_first, pieces_second, blanks_behind_unmarked, laid_literals, marks_in, marks_in_both, parted, parted_as}
+use Rattle.jsonc_run.proofs.lemmas.promise.Trivia.{first_text, line_end_text, piece_trivia}
 use Rattle.jsonc_run.specs.promise.Words.{kind_of, yields}
 use Rattle.jsonc_run.proofs.lemmas.promise.Ensured.{empty_same, empty_texts, given_so, stays_so}
 use Rattle.jsonc_run.proofs.lemmas.promise.Replacing.{Printed, printed, value_put}
@@ -71,19 +74,45 @@ trivia_joined : (a b : List Content) → AreTrivia a → AreTrivia b → AreTriv
 trivia_joined [] b h k = k
 trivia_joined (c ∷ a) b h k = (h.0, trivia_joined a b h.1 k)
 
-many_joined : {a b r : List ℕ} → Many is_line_end a r → r ≡ [] → AreLineEnds b → AreLineEnds (a ++ b)
-many_joined {b = b} stop e h = subst (λ x. Many is_line_end (x ++ b) []) (sym e) h
-many_joined (step p m) e h = step p (many_joined m e h)
+-- one end of a line
+one_end : (behind back : List Content) → EndsLine behind back → ((text_of_leaves behind ≡ []) ⊎ (text_of_leaves back ≡ [])) × IsLineEnd (text_of_leaves behind ++ text_of_leaves back)
+one_end _ _ (comes_with {k = k}) = (inr chars-nil, subst IsLineEnd (sym (ap (λ l. text_of_leaves (newline k ∷ []) ++ l) chars-nil ∙ append-nil (text_of_leaves (newline k ∷ [])))) (line_end_text k))
+one_end _ _ (stood_last {k = k}) = (inl chars-nil, subst (λ l. IsLineEnd (l ++ text_of_leaves (newline k ∷ []))) (sym chars-nil) (line_end_text k))
 
-ends_text : (o : Options) (ls : List Content) → coming.AreLineEnds ls → AllUtf8 ls → AreLineEnds (text_of_leaves ls)
-ends_text o [] h u = subst AreLineEnds (sym chars-nil) stop
-ends_text o (c ∷ ls) h u = subst AreLineEnds (sym (text_joined (c ∷ []) ls (u.0, tt))) (many_joined (end_text o c h.0) refl (ends_text o ls h.1 u.1))
+-- leaves whose last is a comment
+record LastComment (ls : List Content) : Type 0 where
+  init : List Content
+  last : List ℕ
+  parts : ls ≡ init ++ comment last ∷ []
+
+last_comment : (ls : List Content) → IsTrue (ends_in_comment ls) → LastComment ls
+last_comment [] h = cc
+last_comment (comment s ∷ []) h = record { init = []; last = s; parts = refl }
+last_comment (c ∷ []) h = cc
+last_comment (c ∷ d ∷ ls) h = let m = last_comment (d ∷ ls) h in record { init = c ∷ m.init; last = m.last; parts = ap (λ l. c ∷ l) m.parts }
 
 module _ (o : Options) (top : Top) (v : Plain) where
+  led_by : (front before : List Content) → Leads front before → Pieces o front → AllUtf8 front → (text_of_leaves before ≡ []) ⊎ (IsLineEnd (text_of_leaves before) × EndsInComment (text_of_leaves front))
+  led_by front _ at_once p u = inl chars-nil
+  led_by front _ (behind_comment {k = k} h) p u =
+      let m = last_comment front h in
+      let q = (pieces_second o m.init (comment m.last ∷ []) (subst (Pieces o) m.parts p)).0 in
+      let is = piece_trivia o (comment m.last) refl q in
+      let one : text_of_leaves (comment m.last ∷ []) ≡ chars m.last = first_text (comment m.last) [] is.1.0 ∙ ap (λ l. chars m.last ++ l) chars-nil ∙ append-nil (chars m.last) in
+      inr (
+        line_end_text k,
+        (
+          text_of_leaves m.init,
+          chars m.last,
+          ap text_of_leaves m.parts ∙ text_joined m.init (comment m.last ∷ []) (utf8_first m.init (comment m.last ∷ []) (subst AllUtf8 m.parts u)) ∙ ap (λ l. text_of_leaves m.init ++ l) one,
+          is.1.1,
+        ),
+      )
+
   -- a value has come into the row of a root that had none
   first_come : {row next : OrderedTree} → ValueInserted top row next → IsElement top.content → SoundTree o (root_with row) → SoundTree o (root_with next) → (w x : Option Plain) → w ≡ None → x ≡ Some v
       → marks_in (leaves_of top) ≡ literals_of v → ComesFirst v (document_of o (root_with row) w) (document_of o (root_with next) x)
-  first_come (coming.value_comes front back before behind ft bt bl el quiet begins) element s r w x old new is =
+  first_come (coming.value_comes front back before behind ft bt bl el quiet begins leads ends) element s r w x old new is =
       let row : OrderedTree = leaves_then (front ++ back) none in
       let next : OrderedTree = leaves_then (front ++ before) (more top.content top.below (leaves_then (behind ++ back) none)) in
       let own : List Content = leaves_of top in
@@ -103,8 +132,8 @@ module _ (o : Options) (top : Top) (v : Plain) where
       let second : printed_text (root_with next) ≡ text_of_leaves front ++ (text_of_leaves before ++ (text_of_leaves own ++ (text_of_leaves behind ++ text_of_leaves back))) =
       p.text ∙ ap (λ l. l ++ (text_of_leaves own ++ text_of_leaves (behind ++ back))) t_front ∙ ap (λ l. (text_of_leaves front ++ text_of_leaves before) ++ (text_of_leaves own ++ l)) t_back
       ∙ append_assoc (text_of_leaves front) (text_of_leaves before) (text_of_leaves own ++ (text_of_leaves behind ++ text_of_leaves back)) in
-      let text : Text AreLines (text_of_leaves front) [] (text_of_leaves before) (text_of_leaves own) (text_of_leaves behind) (text_of_leaves back) (document_of o (root_with row) w) (document_of o (root_with next) x) =
-      record { before = first; after = second; sides = (ends_text o before bl (utf8_second front before u_front), ends_text o behind el (utf8_first behind back u_back)) } in
+      let pieces : Pieces o front = pieces_first o front before (pieces_first o (front ++ before) (own ++ (behind ++ back)) (subst (Pieces o) p.whole (document_pieces o (document_alone o r.shaped)))) in
+      let ended = one_end behind back ends in
       let new_parted = parted o r x (front ++ before) own (behind ++ back) p.whole p.begins
       (text_joined own (behind ++ back) (utf8_first own (behind ++ back) (utf8_second (front ++ before) (own ++ (behind ++ back)) p.utf8)) ∙ ap (λ l. text_of_leaves own ++ l) t_back) t_back in
       let behind_unmarked : marks_in (behind ++ back) ≡ marks_in back = marks_in_both behind back ∙ ap (λ l. all_marks l ++ marks_in back) (blanks_unmarked behind (ends_blanks behind el)) in
@@ -114,7 +143,11 @@ module _ (o : Options) (top : Top) (v : Plain) where
         text_of_leaves own,
         text_of_leaves behind,
         text_of_leaves back,
-        text,
+        first,
+        second,
+        led_by front before leads pieces (utf8_first front before u_front),
+        ended.0,
+        ended.1,
         subst (λ l. Value [] o (printed_text (root_with next)) (text_of_leaves own ++ l) l) t_back p.stands,
         old,
         new,

@@ -6,21 +6,17 @@ use Rattle.std.proofs.lemmas.Bool.{cases_Bool}
 use Rattle.jsonc_text.specs.Options.{Options}
 use Rattle.jsonc_text.specs.Plain as plain
 use Rattle.jsonc_text.specs.Plain.{Plain, Items, no_items, item, Members, no_members, member, null}
-use Rattle.jsonc_tree.specs.Content.{Content}
 use Rattle.jsonc_tree.specs.OrderedTree.{OrderedTree, Top, none}
-use Rattle.jsonc_tree.specs.Values as values
-use Rattle.jsonc_tree.specs.Values.{ItemsOf, MembersOf, ValueOf, DocumentValueOf, is_passed_over}
+use Rattle.jsonc_tree.specs.Values.{DocumentValueOf, is_passed_over}
 use Rattle.jsonc_sound.specs.Shape.{token_then}
 use Rattle.jsonc_layout.specs.nodes.Kinds.{is_element}
 use Rattle.jsonc_sound.specs.Changes as changes
 use Rattle.jsonc_sound.specs.Marks as tree_marks
-use Rattle.jsonc_sound.specs.Rows.{RowKind, of_values, of_properties, closing, container_of}
+use Rattle.jsonc_sound.specs.Rows.{RowKind, closing}
 use Rattle.jsonc_sound.specs.SoundTrees.{SoundTree}
-use Rattle.jsonc_sound.specs.TreeChanges.{IsElement}
 use Rattle.jsonc_sound.proofs.AtPath.{HeldAtPath, held_at_path}
 use Rattle.jsonc_edit.proofs.OneValue.{document_once}
 use Rattle.jsonc_run.proofs.lemmas.promise.Reversed.{flip}
-use Rattle.jsonc_sound.proofs.FirstNodes.{value_of_element}
 use Rattle.jsonc_insert.proofs.lemmas.named.PathValues.{value_once}
 use Rattle.jsonc_run.specs.Edits.{rearrange}
 use Rattle.jsonc_run.specs.Written.{IsChanged, by_sorting}
@@ -41,7 +37,7 @@ use Rattle.jsonc_run.proofs.lemmas.promise.Insides.{inside_so}
 use Rattle.jsonc_sound.specs.Documents.{all_marks, mark}
 use Rattle.jsonc_run.proofs.lemmas.promise.Plains.{changed, list_of_items, same_items, list_of_members, same_members}
 use Rattle.jsonc_sound.specs.Documents.{document_of}
-use Rattle.jsonc_run.proofs.lemmas.promise.NamedProperties.{right_so}
+use Rattle.jsonc_run.proofs.lemmas.promise.Held.{items_held, members_held, right_so}
 use Rattle.jsonc_run.proofs.lemmas.promise.Sorted.{elements, row_elements, sorted_elements}
 
 -- the texts of elements in places are those of what stands there
@@ -118,17 +114,6 @@ module _ (top : ℕ → Top) (kind : RowKind) (s : Sort) (is : IsOrderOf top s.r
   long : IsPermutation (range_with_len 0 (length (texts_of (closed kind top (all_stay s.row))))) s.order
   long = subst (λ n. IsPermutation (range_with_len 0 n) s.order) (sym (ap length before ∙ map_length (entry_text top) es)) perm
 
--- as many texts as values
-items_counted : {o : Options} {row : OrderedTree} {vs : Items} → ItemsOf o row vs → length (texts_of row) ≡ length (list_of_items vs)
-items_counted values.no_more_items = refl
-items_counted (values.pass_to_items {content = c} {below = below} {after = after} h g) = ap length (over_text c below after h) ∙ items_counted g
-items_counted (values.one_item {content = c} {below = below} {after = after} h g) = ap length (element_text c below after (value_of_element h)) ∙ ap suc (items_counted g)
-
-members_counted : {o : Options} {row : OrderedTree} {ms : Members} → MembersOf o row ms → length (texts_of row) ≡ length (list_of_members ms)
-members_counted values.no_more_members = refl
-members_counted (values.pass_to_members {content = c} {below = below} {after = after} h g) = ap length (over_text c below after h) ∙ members_counted g
-members_counted (values.one_member {below = below} {after = after} h g) = ap length (element_text Content.property below after refl) ∙ ap suc (members_counted g)
-
 -- values in an order
 abbrev nothing_there : Named
 nothing_there = record { name = []; value = null }
@@ -165,16 +150,6 @@ marks_folded test n (m ∷ ms) = marks_folded test (n + cond (test (mark m)) 1 0
 
 marks_counted : (test : text_marks.Mark → Bool) (ms : List tree_marks.Mark) → count_by test (all_marks ms) ≡ count_by (λ m. test (mark m)) ms
 marks_counted test ms = marks_folded test 0 ms
-
--- the values of a container's row
-items_held : {o : Options} {row : OrderedTree} {v : Plain} {vs : Items} (kind : RowKind) → ValueOf o (container_of kind row).content (container_of kind row).below v → v ≡ plain.array vs → length (texts_of row) ≡ length (list_of_items vs)
-items_held {vs = vs} of_values (values.array {vs = ws} (values.pass_to_items p h)) e = let same : ws ≡ vs = cc in items_counted h ∙ ap (λ l. length (list_of_items l)) same
-items_held of_values (values.array (values.one_item h g)) e = let wrong : IsElement (Content.token 0x5B) = value_of_element h in cc
-items_held of_properties (values.object h) e = cc
-
-members_held : {o : Options} {row : OrderedTree} {v : Plain} {ms : Members} (kind : RowKind) → ValueOf o (container_of kind row).content (container_of kind row).below v → v ≡ plain.object ms → length (texts_of row) ≡ length (list_of_members ms)
-members_held {ms = ms} of_properties (values.object {ms = ns} (values.pass_to_members p h)) e = let same : ns ≡ ms = cc in members_counted h ∙ ap (λ l. length (list_of_members l)) same
-members_held of_values (values.array h) e = cc
 
 module _ (o : Options) {t u : OrderedTree} {x y : Plain} (path order : List ℕ) (s : SoundTree o t) (r : SoundTree o u) (h : DocumentValueOf o t (Some x)) (k : DocumentValueOf o u (Some y))
     (m : (test : tree_marks.Mark → Bool) → count_by test (tree_marks.marks u) ≡ count_by test (tree_marks.marks t)) (a : SortedAt path order t u) where

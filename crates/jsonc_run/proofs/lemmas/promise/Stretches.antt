@@ -1,7 +1,10 @@
 -- The marks of a stretch of a sound tree's leaves are those of the stretch of its text.
-use Rattle.std.proofs.Common.{ℕ, ◌≡◌, ◌∙◌, sym, ap, subst, refl, Bool, true, false, List, [], ◌∷◌, ◌++◌, Option}
+use Rattle.std.proofs.Common.{ℕ, ◌≡◌, ◌∙◌, sym, ap, subst, refl, Bool, true, false, List, [], ◌∷◌, ◌++◌, Option, None, IsTrue}
 use Rattle.std.proofs.lemmas.List.{append_assoc, append-nil}
+use Rattle.std.proofs.lemmas.Str.{chars-nil}
 use Rattle.jsonc_text.specs.Options.{Options}
+use Rattle.jsonc_text.specs.Text.{next, no}
+use Rattle.jsonc_text.specs.Gaps.{is_in_line}
 use Rattle.jsonc_text.specs.Plain.{Plain, Items, no_items, item, Members, no_members, member}
 use Rattle.jsonc_text.specs.Marks.{Mark, MarksTo, literals_of, literals_of_items, literals_of_members}
 use Rattle.jsonc_text.specs.Spelling.{spelled}
@@ -22,11 +25,18 @@ use Rattle.jsonc_layout.specs.from_input.Laid.{laid, laid_property}
 use Rattle.jsonc_layout.specs.from_input.Layout.{Layout}
 use Rattle.jsonc_layout.specs.from_input.Texts.{IsCharacters, IsOfTexts}
 use Rattle.jsonc_sound.proofs.Laid.{laid_as_written, laid_as_written_named}
-use Rattle.jsonc_sound.proofs.Pieces.{ends_line}
-use Rattle.jsonc_sound.proofs.Printed.{EndsAtOnce, prints_first_marks, prints_last_marks}
+use Rattle.jsonc_sound.proofs.Pieces.{Pieces, LinesFlat, ends_line, document_pieces, document_flat}
+use Rattle.jsonc_sound.proofs.NodesAlone.{document_alone, document_leaves}
+use Rattle.jsonc_sound.proofs.ShapeTexts.{newline_no_line, trivia_utf8}
+use Rattle.jsonc_sound.proofs.Texts.{AllUtf8}
+use Rattle.jsonc_sound.specs.Adjacent.{LeavesEnd}
+use Rattle.jsonc_sound.proofs.Printed.{EndsAtOnce, leaves_marks, prints_first_marks, prints_last_marks}
 use Rattle.jsonc_edit.specs.Seams.{space_if}
 use Rattle.jsonc_run.specs.promise.PlaceLaws.{text_of_leaves}
 use Rattle.jsonc_run.proofs.lemmas.promise.MarkLists.{joined, marks_to}
+use Rattle.jsonc_run.proofs.lemmas.promise.CommentTexts.{blanks_text}
+use Rattle.jsonc_run.proofs.lemmas.promise.Leaves.{document_utf8, text_joined, utf8_first, utf8_second}
+use Rattle.jsonc_run.proofs.lemmas.promise.Trivia.{first_text}
 
 -- these leaves begin on their line with more than whitespace
 abbrev pub Begins : List Content → Type 0
@@ -87,14 +97,84 @@ space_behind_unmarked front b = ap (λ l. marks_in (front ++ l)) (sym (append-ni
 pub blanks_behind_unmarked : (front blanks : List Content) → AreBlanks blanks → marks_in (front ++ blanks) ≡ marks_in front
 blanks_behind_unmarked front blanks h = marks_in_both front blanks ∙ ap (λ l. marks_in front ++ all_marks l) (blanks_unmarked blanks h) ∙ append-nil (marks_in front)
 
+pub pieces_first : (o : Options) (a b : List Content) → Pieces o (a ++ b) → Pieces o a
+pieces_first o [] b p = tt
+pieces_first o (c ∷ a) b p = (p.0, pieces_first o a b p.1)
+
+pub pieces_second : (o : Options) (a b : List Content) → Pieces o (a ++ b) → Pieces o b
+pieces_second o [] b p = p
+pieces_second o (c ∷ a) b p = pieces_second o a b p.1
+
+ends_second : (o : Options) (a b : List Content) → LeavesEnd o (a ++ b) None → LeavesEnd o b None
+ends_second o [] b p = p
+ends_second o (c ∷ a) b p = ends_second o a b p.1
+
+flat_second : (a b : List Content) → LinesFlat (a ++ b) → LinesFlat b
+flat_second [] b p = p
+flat_second (c ∷ a) b p = flat_second a b p.1
+
+-- whitespace first, and then no line that is open goes on
+record Ahead (o : Options) (back : List Content) : Type 0 where
+  blanks : List Content
+  rest : List Content
+  split : back ≡ blanks ++ rest
+  are : AreBlanks blanks
+  at_once : EndsAtOnce rest
+
+ahead : (o : Options) (back : List Content) → Ahead o back
+ahead o [] = record { blanks = []; rest = []; split = refl; are = tt; at_once = λ h. subst (λ x. IsTrue (no is_in_line (next x))) (sym chars-nil) refl }
+ahead o (Content.whitespace s ∷ back) =
+    let m = ahead o back in
+    record { blanks = Content.whitespace s ∷ m.blanks; rest = m.rest; split = ap (λ l. Content.whitespace s ∷ l) m.split; are = (refl, m.are); at_once = m.at_once }
+ahead o (Content.newline k ∷ back) =
+    record {
+      blanks = [];
+      rest = Content.newline k ∷ back;
+      split = refl;
+      are = tt;
+      at_once = λ h. subst (λ x. IsTrue (no is_in_line (next x))) (sym (first_text (Content.newline k) back (trivia_utf8 o (Content.newline k) tt))) (newline_no_line k (text_of_leaves back));
+    }
+ahead o (content ∷ back) = record { blanks = []; rest = content ∷ back; split = refl; are = tt; at_once = λ h. cc }
+
+-- a stretch's own marks reach through it, or past blanks behind it
+record Through (o : Options) (own back : List Content) : Type 0 where
+  blanks : List Content
+  rest : List Content
+  text : text_of_leaves back ≡ text_of_leaves blanks ++ text_of_leaves rest
+  are : AreBlanks blanks
+  pieces : Pieces o (blanks ++ rest)
+  marks : MarksTo o (text_of_leaves rest) (text_of_leaves (own ++ back)) (marks_in own)
+
+through : (o : Options) {t : OrderedTree} → SoundTree o t → (front own back : List Content) → leaves t ≡ front ++ (own ++ back) → Through o own back
+through o {t} s front own back parts =
+    let m = ahead o back in
+    let same : own ++ back ≡ (own ++ m.blanks) ++ m.rest = ap (λ l. own ++ l) m.split ∙ sym (append_assoc own m.blanks m.rest) in
+    let whole : leaves t ≡ front ++ ((own ++ m.blanks) ++ m.rest) = parts ∙ ap (λ l. front ++ l) same in
+    let p = pieces_second o front ((own ++ m.blanks) ++ m.rest) (subst (Pieces o) whole (document_pieces o (document_alone o s.shaped))) in
+    let e = ends_second o front ((own ++ m.blanks) ++ m.rest) (subst (λ ls. LeavesEnd o ls None) whole (document_leaves o s.shaped)) in
+    let l = flat_second front ((own ++ m.blanks) ++ m.rest) (subst LinesFlat whole (document_flat o (document_alone o s.shaped) s.lines)) in
+    let found = marks_to (leaves_marks o m.rest m.at_once (own ++ m.blanks) p e l) in
+    let utf8 = utf8_second (own ++ m.blanks) m.rest (utf8_second front ((own ++ m.blanks) ++ m.rest) (subst AllUtf8 whole (document_utf8 o s.shaped))) in
+    let own_pieces = pieces_second o own (m.blanks ++ m.rest) (subst (Pieces o) (append_assoc own m.blanks m.rest) p) in
+    let own_utf8 = utf8_second own (m.blanks ++ m.rest) (subst AllUtf8 (append_assoc own m.blanks m.rest) (utf8_second front ((own ++ m.blanks) ++ m.rest) (subst AllUtf8 whole (document_utf8 o s.shaped)))) in
+    record {
+      blanks = m.blanks;
+      rest = m.rest;
+      text = ap text_of_leaves m.split ∙ text_joined m.blanks m.rest (utf8_first m.blanks m.rest own_utf8);
+      are = m.are;
+      pieces = own_pieces;
+      marks = subst (λ x. MarksTo o (text_of_leaves m.rest) (text_of_leaves x) (marks_in own)) (sym same) (subst (MarksTo o (text_of_leaves m.rest) (text_of_leaves ((own ++ m.blanks) ++ m.rest))) (blanks_behind_unmarked own m.blanks m.are) found);
+    }
+
 -- of a sound tree's marks some stand before a stretch of its text, some in it and the rest behind it
 pub parted : (o : Options) {t : OrderedTree} → SoundTree o t → (w : Option Plain) (front own back : List Content) → leaves t ≡ front ++ (own ++ back) → Begins (own ++ back)
     → {from to : List ℕ} → text_of_leaves (own ++ back) ≡ from → text_of_leaves back ≡ to → Parted (document_of o t w) from to (marks_in front) (marks_in own) (marks_in back)
 parted o {t} s w front own back parts begins {from} {to} e f =
+    let k = through o s front own back parts in
     record {
       all = ap marks_in parts ∙ marks_in_both front (own ++ back) ∙ ap (λ l. marks_in front ++ l) (marks_in_both own back);
       before = subst (λ z. MarksTo o z (printed_text t) (marks_in front)) e (marks_to (prints_first_marks o t s front (own ++ back) parts (no_line_open (own ++ back) begins)));
-      onward = subst (MarksTo o [] from) (marks_in_both own back) (subst (λ z. MarksTo o [] z (marks_in (own ++ back))) e (marks_to (prints_last_marks o t s front (own ++ back) parts)));
+      through = (text_of_leaves k.blanks, text_of_leaves k.rest, sym f ∙ k.text, blanks_text o k.blanks k.are (pieces_first o k.blanks k.rest k.pieces), subst (λ z. MarksTo o (text_of_leaves k.rest) z (marks_in own)) e k.marks);
       after = subst (λ z. MarksTo o [] z (marks_in back)) f (marks_to (prints_last_marks o t s (front ++ own) back (parts ∙ sym (append_assoc front own back))));
     }
 

@@ -1,13 +1,14 @@
 -- What leaves beside an entry print.
 use Rattle.std.proofs.Common.{ℕ, ◌≡◌, ◌∙◌, sym, ap, subst, refl, Bool, true, false, not, ◌&&◌, List, [], ◌∷◌, ◌++◌, IsTrue, IsUtf8, chars}
 use Rattle.std.specs.List.{flat_map}
+use Rattle.std.proofs.lemmas.List.{append-nil}
 use Rattle.std.proofs.lemmas.Str.{chars-nil, chars-append, chars-IsAscii}
 use Rattle.std.proofs.Common.{rules}
 use Rattle.jsonc_text.specs.Options.{Options}
 use Rattle.jsonc_text.specs.Text.{Many, stop, step, is_line_end}
 use Rattle.jsonc_text.specs.Gaps.{is_blank}
 use Rattle.jsonc_text.proofs.Basics.{and_both}
-use Rattle.jsonc_tree.specs.Content.{Content, text_of, newline_text}
+use Rattle.jsonc_tree.specs.Content.{Content, newline, text_of, newline_text}
 use Rattle.jsonc_tree.specs.declared.node.CstNewlineKind.{CstNewlineKind}
 use Rattle.jsonc_tree.specs.declared.node.CstNewlineKind.TheVariants.{LineFeed, CarriageReturnLineFeed, CarriageReturn}
 use Rattle.jsonc_layout.specs.nodes.Kinds.{is_newline, is_trivia}
@@ -18,7 +19,7 @@ use Rattle.jsonc_sound.specs.Leaving.{AreInlineTrivia}
 use Rattle.jsonc_sound.specs.TriviaChanges.{AreTrivia}
 use Rattle.jsonc_sound.proofs.Pieces.{Piece, Pieces, a_literal, a_name, a_trivia}
 use Rattle.jsonc_text.specs.Edits as texts
-use Rattle.jsonc_text.specs.Edits.{Trivia, InLine, AreLineEnds, Trail}
+use Rattle.jsonc_text.specs.Edits.{Trivia, InLine, AreLineEnds, IsLineEnd, Trail}
 use Rattle.jsonc_run.specs.promise.PlaceLaws.{text_of_leaves}
 
 pub newline_chars : (k : CstNewlineKind) → chars (newline_text k) ≡ newline_text k
@@ -29,6 +30,15 @@ newline_chars CarriageReturn = chars-IsAscii (13 ∷ []) (search rules)
 -- the first of some leaves prints before the others
 pub first_text : (content : Content) (rest : List Content) → IsUtf8 (text_of content) → text_of_leaves (content ∷ rest) ≡ chars (text_of content) ++ text_of_leaves rest
 first_text content rest u = chars-append (text_of content) (flat_map text_of rest) u
+
+-- one end of a line
+pub line_end_text : (k : CstNewlineKind) → IsLineEnd (text_of_leaves (newline k ∷ []))
+line_end_text k = subst IsLineEnd (sym (ap chars (append-nil (newline_text k)) ∙ newline_chars k)) (by k)
+  where
+    by : (k : CstNewlineKind) → IsLineEnd (newline_text k)
+    by LineFeed = texts.line_feed
+    by CarriageReturnLineFeed = texts.both
+    by CarriageReturn = texts.carriage_return
 
 blanks_before : {p : ℕ → Bool} {s r : List ℕ} (t : List ℕ) → ((c : ℕ) → IsTrue (is_inner_blank c) → IsTrue (is_blank c && p c)) → Many is_inner_blank s r → r ≡ [] → Trivia p t → Trivia p (s ++ t)
 blanks_before {p} t f stop e h = subst (λ x. Trivia p (x ++ t)) (sym e) h

@@ -14,7 +14,6 @@ loop-i-init g c = record {
   gap = λ k gap. subst (λ m. IsGap (nodes_of c.args.nodes.now.items) c.args.c m c.args.before c.args.behind) (sym (add-zero k)) gap;
   stored = c.requires.stored;
   len = refl;
-  capacity = refl;
 }
 
 pub put_between-requires-clause-stored : goal.put_between-requires-clause-stored
@@ -34,7 +33,6 @@ loop-i-preserved g c = record {
   gap = λ k gap. (put_step (nodes_of c.args.nodes.now.items) (nodes_of c.loop-i.nodes.items) (nodes_of c.put_between.new.nodes.items) c.args.c k c.loop-i.i (slice_index c.args.new.now c.loop-i.i) c.args.new.now c.loop-i.last c.args.behind gap.inside (omega arith) refl (c.loop-i.invariant.splices k gap) (c.loop-i.invariant.gap k gap) (c.put_between.ensures.fills (k + c.loop-i.i) (c.loop-i.invariant.gap k gap))).1;
   stored = c.put_between.ensures.stored;
   len = c.put_between.ensures.len ∙ c.loop-i.invariant.len;
-  capacity = c.put_between.ensures.capacity ∙ c.loop-i.invariant.capacity;
 }
 
 pub returns-clause-fills : goal.returns-clause-fills

@@ -1,4 +1,4 @@
-use Rattle.std.proofs.Common.{◌≡◌, ◌+◌, ℕ, take, vec_len, vec_capacity}
+use Rattle.std.proofs.Common.{◌≡◌, ◌+◌, ℕ, take, vec_len}
 use Rattle.jsonc_tree.specs.Changes.{Splices}
 use Rattle.jsonc_tree.specs.Stored.{nodes_of, IsStored}
 use Rattle.jsonc_tree.specs.Siblings.{IsGap}
@@ -10,5 +10,4 @@ invariant-loop-i g l = record {
   gap : (k : ℕ) → IsGap (nodes_of l.fn.nodes.items) l.c k l.fn.before l.behind → IsGap (nodes_of l.nodes.items) l.c (k + l.i) l.last l.behind;
   stored : IsStored l.nodes.items;
   len : vec_len l.nodes ≡ vec_len l.fn.nodes;
-  capacity : vec_capacity l.nodes ≡ vec_capacity l.fn.nodes;
 }

@@ -13,7 +13,6 @@ loop-i-init g c = record {
   stands = c.child_from-behind.ensures;
   stored = c.requires.stored;
   len = refl;
-  capacity = refl;
 }
 
 pub unreachable-requires : goal.unreachable-requires
@@ -33,7 +32,6 @@ loop-i-preserved g c =
       stands = c.next_of-behind.ensures ∙ step.1;
       stored = c.take_out.ensures.stored;
       len = c.take_out.ensures.len ∙ c.loop-i.invariant.len;
-      capacity = c.take_out.ensures.capacity ∙ c.loop-i.invariant.capacity;
     }
 
 pub returns-clause-splices : goal.returns-clause-splices

@@ -1,4 +1,4 @@
-use Rattle.std.proofs.Common.{◌≡◌, [], slice_get, vec_len, vec_capacity}
+use Rattle.std.proofs.Common.{◌≡◌, [], slice_get, vec_len}
 use Rattle.jsonc_tree.specs.Tree.{children_at}
 use Rattle.jsonc_tree.specs.Changes.{Splices}
 use Rattle.jsonc_tree.specs.Stored.{nodes_of, IsStored}
@@ -10,5 +10,4 @@ invariant-loop-i g l = record {
   stands : l.behind ≡ slice_get (children_at (nodes_of l.nodes.items) l.c) l.from;
   stored : IsStored l.nodes.items;
   len : vec_len l.nodes ≡ vec_len l.fn.nodes;
-  capacity : vec_capacity l.nodes ≡ vec_capacity l.fn.nodes;
 }

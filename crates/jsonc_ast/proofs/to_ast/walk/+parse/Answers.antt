@@ -16,7 +16,7 @@ use Rattle.jsonc_ast.proofs.lemmas.to_ast.Collecting.{collects_turn}
 use Rattle.jsonc_ast.proofs.lemmas.to_ast.Loops.{AtHand, elements_start, elements_turn, elements_whole, leads_on}
 use Rattle.jsonc_ast.proofs.lemmas.to_ast.Properties.{properties_start, properties_turn, properties_whole}
 use Rattle.jsonc_ast.proofs.lemmas.to_ast.NoValues.{value_read, property_read, ElementsLeft, PropertiesLeft, elements_left_start, elements_left_turn, properties_left_start, properties_left_turn, leaf_nowhere, nothing_in_array, nothing_in_object, element_refused, array_deep, object_deep, next_element_refused, property_refused, next_property_refused, name_missing, colon_missing, no_token_for_value, end_for_value, value_refused}
-use Rattle.jsonc_ast.proofs.lemmas.to_ast.Refusals.{err_all, err_of, ok_all, still}
+use Rattle.jsonc_ast.proofs.lemmas.to_ast.Refusals.{stop_all, on_err, ok_all, still}
 use Rattle.jsonc_ast.proofs.lemmas.to_ast.OpenContainers.{GoesOn, count_property, goes_first, elements_go_on, first_stops, next_stops, element_comes, element_stops, properties_go_on, property_comes, property_stops, name_stops, colon_missing_stops, no_token_stops, no_value_stops, value_told_stops, has_room, from_old}
 use Rattle.jsonc_ast.proofs.lemmas.to_ast.Walks.{element_deep, element_deep_stops, from_here, from_spans, from_start, leaf_told, less_left, member_reads, no_memory, opening_stops, property_deep, property_deep_stops}
 use Rattle.jsonc_ast.proofs.lemmas.to_ast.Handing.{number_here, number_means, string_here, utf8_there}
@@ -40,9 +40,9 @@ parse_array-loop-next-init g t c =
       collects = read.collects;
       same = read.source ∙ c.in-Ok.ensures.kept ∙ c.requires.source;
       follows = first_follows Array old now (g.R.Receiver.source c.first_item.new.to) (g.R.Receiver.reached c.first_item.new.to) found read.found (follows_in (read.source ∙ c.in-Ok.ensures.kept ∙ c.requires.source) refl read.follows);
-      so_far = elements_start whole old now found [] c.args.count refl c.first_item.ensures.kept read.found (c.opens_too_deep.ensures.within c.if-opens_too_deep.false);
-      left = elements_left_start whole old now found c.args.count c.requires.token c.first_item.ensures.kept read.only;
-      reading = goes_first whole Array old now found c.args.count c.requires.token (has_room whole Array c.args.count (c.opens_too_deep.ensures.within c.if-opens_too_deep.false)) c.first_item.ensures.kept read.found read.stands;
+      so_far = elements_start whole old now found [] c.args.count refl c.in_ok-next.ensures.kept read.found (c.opens_too_deep.ensures.within c.if-opens_too_deep.false);
+      left = elements_left_start whole old now found c.args.count c.requires.token c.in_ok-next.ensures.kept read.only;
+      reading = goes_first whole Array old now found c.args.count c.requires.token (has_room whole Array c.args.count (c.opens_too_deep.ensures.within c.if-opens_too_deep.false)) c.in_ok-next.ensures.kept read.found read.stands;
     }
 
 pub parse_object-loop-next-init : goal.parse_object-loop-next-init
@@ -58,9 +58,9 @@ parse_object-loop-next-init g t c =
       collects = read.collects;
       same = read.source ∙ c.in-Ok.ensures.kept ∙ c.requires.source;
       follows = first_follows Object old now (g.R.Receiver.source c.first_item.new.to) (g.R.Receiver.reached c.first_item.new.to) found read.found (follows_in (read.source ∙ c.in-Ok.ensures.kept ∙ c.requires.source) refl read.follows);
-      so_far = properties_start whole old now found [] c.args.count refl c.first_item.ensures.kept read.found (c.opens_too_deep.ensures.within c.if-opens_too_deep.false);
-      left = properties_left_start whole old now found c.args.count c.requires.token c.first_item.ensures.kept read.only;
-      reading = goes_first whole Object old now found c.args.count c.requires.token (has_room whole Object c.args.count (c.opens_too_deep.ensures.within c.if-opens_too_deep.false)) c.first_item.ensures.kept read.found read.stands;
+      so_far = properties_start whole old now found [] c.args.count refl c.in_ok-next.ensures.kept read.found (c.opens_too_deep.ensures.within c.if-opens_too_deep.false);
+      left = properties_left_start whole old now found c.args.count c.requires.token c.in_ok-next.ensures.kept read.only;
+      reading = goes_first whole Object old now found c.args.count c.requires.token (has_room whole Object c.args.count (c.opens_too_deep.ensures.within c.if-opens_too_deep.false)) c.in_ok-next.ensures.kept read.found read.stands;
     }
 
 pub parse_array-loop-next-preserved : goal.parse_array-loop-next-preserved
@@ -83,10 +83,10 @@ parse_array-loop-next-preserved g t c =
       collects = collects_turn old now mid new inv.so_far.kept inv.collects kept c.in_ok-parse_element.ensures.read.collects further.collects;
       same = further.source ∙ c.in_ok-parse_element.ensures.read.source ∙ inv.same;
       follows = next_follows Array mid new (g.R.Receiver.source c.next_item.new.to) (g.R.Receiver.reached c.next_item.new.to) next further.found (follows_in (further.source ∙ source_on old mid _ (kept_on old now mid inv.so_far.kept kept) (c.in_ok-parse_element.ensures.read.source ∙ inv.same)) refl further.follows);
-      so_far = elements_turn whole old now mid new (found_in now c.loop-next.next) next t read.element inv.elements (inv.elements ++ read.element ∷ []) c.args.count inv.so_far is kept read.reads c.next_item.ensures.kept further.found refl read.within;
-      left = elements_left_turn whole old now inv.so_far.kept t c.args.count (subst (λ n. ElementsLeft whole old now n c.args.count) is inv.left) mid read.element kept read.reads new next c.next_item.ensures.kept further.only;
+      so_far = elements_turn whole old now mid new (found_in now c.loop-next.next) next t read.element inv.elements (inv.elements ++ read.element ∷ []) c.args.count inv.so_far is kept read.reads c.in_ok-next-2.ensures.kept further.found refl read.within;
+      left = elements_left_turn whole old now inv.so_far.kept t c.args.count (subst (λ n. ElementsLeft whole old now n c.args.count) is inv.left) mid read.element kept read.reads new next c.in_ok-next-2.ensures.kept further.only;
       reading = elements_go_on whole old now inv.so_far.kept t mid (value_at read.element) c.args.count (subst (λ n. GoesOn whole Array old now n c.args.count) is inv.reading) kept (value_read now mid read.element read.reads) read.within
-          new next c.next_item.ensures.kept further.found further.stands further.comes;
+          new next c.in_ok-next-2.ensures.kept further.found further.stands further.comes;
     }
 
 pub parse_object-loop-next-preserved : goal.parse_object-loop-next-preserved
@@ -110,10 +110,10 @@ parse_object-loop-next-preserved g t c =
       collects = collects_turn old now mid new inv.so_far.kept inv.collects kept c.in_ok-parse_property.ensures.read.collects further.collects;
       same = further.source ∙ c.in_ok-parse_property.ensures.read.source ∙ inv.same;
       follows = next_follows Object mid new (g.R.Receiver.source c.next_item.new.to) (g.R.Receiver.reached c.next_item.new.to) next further.found (follows_in (further.source ∙ source_on old mid _ (kept_on old now mid inv.so_far.kept kept) (c.in_ok-parse_property.ensures.read.source ∙ inv.same)) refl further.follows);
-      so_far = properties_turn whole old now mid new (found_in now c.loop-next.next) next t m inv.properties (inv.properties ++ m ∷ []) c.args.count inv.so_far is kept read.reads c.next_item.ensures.kept further.found refl read.within;
-      left = properties_left_turn whole old now inv.so_far.kept t c.args.count (subst (λ n. PropertiesLeft whole old now n c.args.count) is inv.left) mid m kept read.reads new next c.next_item.ensures.kept further.only;
+      so_far = properties_turn whole old now mid new (found_in now c.loop-next.next) next t m inv.properties (inv.properties ++ m ∷ []) c.args.count inv.so_far is kept read.reads c.in_ok-next-2.ensures.kept further.found refl read.within;
+      left = properties_left_turn whole old now inv.so_far.kept t c.args.count (subst (λ n. PropertiesLeft whole old now n c.args.count) is inv.left) mid m kept read.reads new next c.in_ok-next-2.ensures.kept further.only;
       reading = properties_go_on whole old now inv.so_far.kept t mid m.name.name (value_at m.value) c.args.count (subst (λ n. GoesOn whole Object old now n c.args.count) is inv.reading) kept (property_read now mid m read.reads) read.within
-          new next c.next_item.ensures.kept further.found further.stands further.comes;
+          new next c.in_ok-next-2.ensures.kept further.found further.stands further.comes;
     }
 
 pub parse_array-returns-clause-read : goal.parse_array-returns-clause-read
@@ -162,8 +162,8 @@ pub parse_array-returns-in_err-next-clause-refused : goal.parse_array-returns-in
 parse_array-returns-in_err-next-clause-refused g t c =
     let whole = g.R.Receiver.whole in
     let old = c.args.context.now in
-    let e = c.in_err-next.field-0.0 in
-    err_of _ _ _ c.from_residual.ensures.1 (record {
+    let e = c.first_item.new.self.fault in
+    on_err c.from_residual.result (record {
       refused = still (nothing_in_array whole c.args.context.now c.args.count c.requires.token) c.in_err-next.ensures.refused;
       fault = c.in_err-next.ensures.fault;
       error = λ q d s many starts. first_stops whole Array old c.args.count q d s e c.requires.token (has_room whole Array c.args.count (c.opens_too_deep.ensures.within c.if-opens_too_deep.false)) many starts (λ q. rw c.told_from-from.ensures.some at (c.in_err-next.ensures.error q _ (from_here old c.token_start-start.result c.told_from-from.result c.told_from-from.ensures.place c.token_start-start.ensures)));
@@ -176,9 +176,9 @@ parse_array-returns-in_err-parse_element-clause-refused g t c =
     let now = c.loop-next.context in
     let inv = c.loop-next.invariant in
     let left = subst (λ n. ElementsLeft whole old now n c.args.count) (ap (found_in c.loop-next.context) c.in-Some.is) inv.left in
-    let e = c.in_err-parse_element.field-0.0 in
+    let e = c.parse_element.new.context.fault in
     let reading = subst (λ n. GoesOn whole Array old now n c.args.count) (ap (found_in c.loop-next.context) c.in-Some.is) inv.reading in
-    err_of _ _ _ c.from_residual-in_err-parse_element.ensures.1 (record {
+    on_err c.from_residual-in_err-parse_element.result (record {
       refused = still (element_refused whole old now inv.so_far.kept (last c.loop-next.context c.in-Some.token) c.args.count left) c.in_err-parse_element.ensures.refused.refused;
       fault = fault_before c.args.context.now c.loop-next.context _ c.loop-next.invariant.so_far.kept c.in_err-parse_element.ensures.refused.fault;
       error = λ q d s many starts. element_stops whole old now (last c.loop-next.context c.in-Some.token) c.args.count q d s e inv.so_far.kept (reading q d s many starts) many c.in_err-parse_element.ensures.refused.error;
@@ -194,11 +194,11 @@ parse_array-returns-in_err-next-2-clause-refused g t c =
     let mid = c.parse_element.new.context in
     let read = c.in_ok-parse_element.ensures.read in
     let made = read.found c.args.to.now c.token_start-start.result in
-    let e = c.in_err-next-2.field-0.0 in
+    let e = c.next_item.new.self.fault in
     let kept = kept_on c.args.context.now c.loop-next.context c.parse_element.new.context c.loop-next.invariant.so_far.kept c.in_ok-parse_element.ensures.read.kept in
     let reading = subst (λ n. GoesOn whole Array old now n c.args.count) (ap (found_in c.loop-next.context) c.in-Some.is) inv.reading in
     let x = made.element in
-    err_of _ _ _ c.from_residual-in_err-next-2.ensures.1 (record {
+    on_err c.from_residual-in_err-next-2.result (record {
       refused = still (next_element_refused whole old now inv.so_far.kept (last c.loop-next.context c.in-Some.token) c.args.count left mid (made.element) read.kept made.reads) c.in_err-next-2.ensures.refused;
       fault = fault_before c.args.context.now c.parse_element.new.context _ kept c.in_err-next-2.ensures.fault;
       error = λ q d s many starts. let h = reading q d s many starts in next_stops whole Array old now mid inv.so_far.kept read.kept (last c.loop-next.context c.in-Some.token) q d s h (element_comes whole old now mid (last c.loop-next.context c.in-Some.token) q d s (value_at x) c.args.count h read.kept (value_read now mid x made.reads) many made.within) e (λ q. rw c.told_from-from.ensures.some at (c.in_err-next-2.ensures.error q _ (from_old old mid c.told_from-from.result (from_start old c.token_start-start.result c.told_from-from.result c.told_from-from.ensures.place c.token_start-start.ensures) (kept_on old now mid inv.so_far.kept read.kept))));
@@ -208,8 +208,8 @@ pub parse_object-returns-in_err-next-clause-refused : goal.parse_object-returns-
 parse_object-returns-in_err-next-clause-refused g t c =
     let whole = g.R.Receiver.whole in
     let old = c.args.context.now in
-    let e = c.in_err-next.field-0.0 in
-    err_of _ _ _ c.from_residual.ensures.1 (record {
+    let e = c.first_item.new.self.fault in
+    on_err c.from_residual.result (record {
       refused = still (nothing_in_object whole c.args.context.now c.args.count c.requires.token) c.in_err-next.ensures.refused;
       fault = c.in_err-next.ensures.fault;
       error = λ q d s many starts. first_stops whole Object old c.args.count q d s e c.requires.token (has_room whole Object c.args.count (c.opens_too_deep.ensures.within c.if-opens_too_deep.false)) many starts (λ q. rw c.told_from-from.ensures.some at (c.in_err-next.ensures.error q _ (from_here old c.token_start-start.result c.told_from-from.result c.told_from-from.ensures.place c.token_start-start.ensures)));
@@ -222,9 +222,9 @@ parse_object-returns-in_err-parse_property-clause-refused g t c =
     let now = c.loop-next.context in
     let inv = c.loop-next.invariant in
     let left = subst (λ n. PropertiesLeft whole old now n c.args.count) (ap (found_in c.loop-next.context) c.in-Some.is) inv.left in
-    let e = c.in_err-parse_property.field-0.0 in
+    let e = c.parse_property.new.context.fault in
     let reading = subst (λ n. GoesOn whole Object old now n c.args.count) (ap (found_in c.loop-next.context) c.in-Some.is) inv.reading in
-    err_of _ _ _ c.from_residual-in_err-parse_property.ensures.1 (record {
+    on_err c.from_residual-in_err-parse_property.result (record {
       refused = still (property_refused whole old now inv.so_far.kept (last c.loop-next.context c.in-Some.token) c.args.count left) c.in_err-parse_property.ensures.refused.refused;
       fault = fault_before c.args.context.now c.loop-next.context _ c.loop-next.invariant.so_far.kept c.in_err-parse_property.ensures.refused.fault;
       error = λ q d s many starts. property_stops whole old now (last c.loop-next.context c.in-Some.token) c.args.count q d s e inv.so_far.kept (reading q d s many starts) many c.in_err-parse_property.ensures.refused.error;
@@ -240,11 +240,11 @@ parse_object-returns-in_err-next-2-clause-refused g t c =
     let mid = c.parse_property.new.context in
     let read = c.in_ok-parse_property.ensures.read in
     let made = read.found c.args.to.now c.token_start-start.result in
-    let e = c.in_err-next-2.field-0.0 in
+    let e = c.next_item.new.self.fault in
     let kept = kept_on c.args.context.now c.loop-next.context c.parse_property.new.context c.loop-next.invariant.so_far.kept c.in_ok-parse_property.ensures.read.kept in
     let reading = subst (λ n. GoesOn whole Object old now n c.args.count) (ap (found_in c.loop-next.context) c.in-Some.is) inv.reading in
     let m = made.member in
-    err_of _ _ _ c.from_residual-in_err-next-2.ensures.1 (record {
+    on_err c.from_residual-in_err-next-2.result (record {
       refused = still (next_property_refused whole old now inv.so_far.kept (last c.loop-next.context c.in-Some.token) c.args.count left mid made.member read.kept made.reads) c.in_err-next-2.ensures.refused;
       fault = fault_before c.args.context.now c.parse_property.new.context _ kept c.in_err-next-2.ensures.fault;
       error = λ q d s many starts. let h = reading q d s many starts in next_stops whole Object old now mid inv.so_far.kept read.kept (last c.loop-next.context c.in-Some.token) q d s h (property_comes whole old now mid (last c.loop-next.context c.in-Some.token) q d s m.name.name (value_at m.value) c.args.count h read.kept (property_read now mid m made.reads) many made.within) e (λ q. rw c.told_from-from.ensures.some at (c.in_err-next-2.ensures.error q _ (from_old old mid c.told_from-from.result (from_start old c.token_start-start.result c.told_from-from.result c.told_from-from.ensures.place c.token_start-start.ensures) (kept_on old now mid inv.so_far.kept read.kept))));
@@ -254,8 +254,8 @@ pub parse_property-returns-in_err-named-clause-refused : goal.parse_property-ret
 parse_property-returns-in_err-named-clause-refused g t c =
     let whole = g.R.Receiver.whole in
     let old = c.args.context.now in
-    let e = c.in_err-named.field-0.0 in
-    err_of _ _ _ c.from_residual.ensures.1 (record {
+    let e = c.parse_name.new.context.fault in
+    on_err c.from_residual.result (record {
       refused = still (name_missing whole c.args.context.now c.args.count) c.in_err-named.ensures.refused;
       fault = c.in_err-named.ensures.fault;
       error = λ q d s many starts. name_stops whole old (last c.args.context.now c.args.token) q d s c.requires.token starts e c.in_err-named.ensures.error;
@@ -265,11 +265,11 @@ pub parse_property-returns-in_err-pass_colon-clause-refused : goal.parse_propert
 parse_property-returns-in_err-pass_colon-clause-refused g t c =
     let whole = g.R.Receiver.whole in
     let old = c.args.context.now in
-    let e = c.in_err-pass_colon.field-0.0 in
-    err_of _ _ _ c.from_residual-in_err-pass_colon.ensures.1 (record {
-      refused = still (λ n. colon_missing whole c.args.context.now c.in_ok-named.ensures.named.name c.args.count c.in_ok-named.ensures.named.stands (no_colon_given c.args.context.now c.parse_name.new.context c.parse_name.ensures.gives n)) c.in_err-pass_colon.ensures.refused;
-      fault = fault_before c.args.context.now c.parse_name.new.context _ (kept_self c.args.context.now c.parse_name.new.context c.parse_name.ensures.gives) c.in_err-pass_colon.ensures.fault;
-      error = λ q d s many starts. colon_missing_stops whole old (last c.args.context.now c.args.token) q d s c.requires.token starts c.in_ok-named.ensures.named.name c.in_ok-named.ensures.named.stands e (stops_given c.args.context.now c.parse_name.new.context e c.parse_name.ensures.gives c.in_err-pass_colon.ensures.error whole _);
+    let e = c.pass_colon.new.self.fault in
+    on_err c.from_residual-in_err-pass_colon.result (record {
+      refused = still (λ n. colon_missing whole c.args.context.now c.in_ok-named.ensures.named.name c.args.count c.in_ok-named.ensures.named.stands (no_colon_given c.args.context.now c.parse_name.new.context c.in_ok-named.ensures.gives n)) c.in_err-pass_colon.ensures.refused;
+      fault = fault_before c.args.context.now c.parse_name.new.context _ (kept_self c.args.context.now c.parse_name.new.context c.in_ok-named.ensures.gives) c.in_err-pass_colon.ensures.fault;
+      error = λ q d s many starts. colon_missing_stops whole old (last c.args.context.now c.args.token) q d s c.requires.token starts c.in_ok-named.ensures.named.name c.in_ok-named.ensures.named.stands e (stops_given c.args.context.now c.parse_name.new.context e c.in_ok-named.ensures.gives c.in_err-pass_colon.ensures.error whole _);
     })
 
 pub parse_property-returns-in_err-found-clause-refused : goal.parse_property-returns-in_err-found-clause-refused
@@ -278,12 +278,12 @@ parse_property-returns-in_err-found-clause-refused g t c =
     let old = c.args.context.now in
     let mid = c.pass_colon.new.self in
     let name = c.in_ok-named.ensures.named.stands in
-    let e = c.in_err-found.field-0.0 in
-    let kept_mid = kept_given c.args.context.now c.parse_name.new.context c.pass_colon.new.self c.parse_name.ensures.gives c.pass_colon.ensures.kept in
-    err_of _ _ _ c.from_residual-in_err-found.ensures.1 (record {
-      refused = still (no_token_for_value whole old mid c.in_ok-named.ensures.named.name c.args.count name (kept_given c.args.context.now c.parse_name.new.context c.pass_colon.new.self c.parse_name.ensures.gives c.pass_colon.ensures.kept) (colon_given c.args.context.now c.parse_name.new.context c.pass_colon.new.self c.parse_name.ensures.gives c.in_ok-pass_colon.ensures.found)) c.in_err-found.ensures.refused;
+    let e = c.scan.new.self.fault in
+    let kept_mid = kept_given c.args.context.now c.parse_name.new.context c.pass_colon.new.self c.in_ok-named.ensures.gives c.in_ok-pass_colon.ensures.kept in
+    on_err c.from_residual-in_err-found.result (record {
+      refused = still (no_token_for_value whole old mid c.in_ok-named.ensures.named.name c.args.count name (kept_given c.args.context.now c.parse_name.new.context c.pass_colon.new.self c.in_ok-named.ensures.gives c.in_ok-pass_colon.ensures.kept) (colon_given c.args.context.now c.parse_name.new.context c.pass_colon.new.self c.in_ok-named.ensures.gives c.in_ok-pass_colon.ensures.found)) c.in_err-found.ensures.refused;
       fault = fault_before c.args.context.now c.pass_colon.new.self _ kept_mid c.in_err-found.ensures.fault;
-      error = λ q d s many starts. no_token_stops whole old (last c.args.context.now c.args.token) q d s c.requires.token starts c.in_ok-named.ensures.named.name c.in_ok-named.ensures.named.stands c.pass_colon.new.self (kept_given c.args.context.now c.parse_name.new.context c.pass_colon.new.self c.parse_name.ensures.gives c.pass_colon.ensures.kept) (colon_given c.args.context.now c.parse_name.new.context c.pass_colon.new.self c.parse_name.ensures.gives c.in_ok-pass_colon.ensures.found) e c.in_err-found.ensures.error;
+      error = λ q d s many starts. no_token_stops whole old (last c.args.context.now c.args.token) q d s c.requires.token starts c.in_ok-named.ensures.named.name c.in_ok-named.ensures.named.stands c.pass_colon.new.self (kept_given c.args.context.now c.parse_name.new.context c.pass_colon.new.self c.in_ok-named.ensures.gives c.in_ok-pass_colon.ensures.kept) (colon_given c.args.context.now c.parse_name.new.context c.pass_colon.new.self c.in_ok-named.ensures.gives c.in_ok-pass_colon.ensures.found) e c.in_err-found.ensures.error;
     })
 
 pub parse_property-returns-in_err-value-clause-refused : goal.parse_property-returns-in_err-value-clause-refused
@@ -294,13 +294,13 @@ parse_property-returns-in_err-value-clause-refused g t c =
     let name = c.in_ok-named.ensures.named.stands in
     let found = c.in_ok-found.ensures in
     let at = c.scan.new.self in
-    let e = c.in_err-value.field-0.0 in
-    let kept_mid = kept_given c.args.context.now c.parse_name.new.context c.pass_colon.new.self c.parse_name.ensures.gives c.pass_colon.ensures.kept in
-    let kept_at = kept_on c.args.context.now c.pass_colon.new.self c.scan.new.self kept_mid c.scan.ensures.kept in
-    err_of _ _ _ c.from_residual-in_err-value.ensures.1 (record {
-      refused = still (value_refused whole old mid c.in_ok-named.ensures.named.name c.args.count name (kept_given c.args.context.now c.parse_name.new.context c.pass_colon.new.self c.parse_name.ensures.gives c.pass_colon.ensures.kept) (colon_given c.args.context.now c.parse_name.new.context c.pass_colon.new.self c.parse_name.ensures.gives c.in_ok-pass_colon.ensures.found) at (found_in c.scan.new.self c.in_ok-found.found) found.kept found.found found.lexeme) (rw c.around_value-around.ensures at c.in_err-value.ensures.refused.refused);
+    let e = c.parse_value.new.context.fault in
+    let kept_mid = kept_given c.args.context.now c.parse_name.new.context c.pass_colon.new.self c.in_ok-named.ensures.gives c.in_ok-pass_colon.ensures.kept in
+    let kept_at = kept_on c.args.context.now c.pass_colon.new.self c.scan.new.self kept_mid c.in_ok-found.ensures.kept in
+    on_err c.from_residual-in_err-value.result (record {
+      refused = still (value_refused whole old mid c.in_ok-named.ensures.named.name c.args.count name (kept_given c.args.context.now c.parse_name.new.context c.pass_colon.new.self c.in_ok-named.ensures.gives c.in_ok-pass_colon.ensures.kept) (colon_given c.args.context.now c.parse_name.new.context c.pass_colon.new.self c.in_ok-named.ensures.gives c.in_ok-pass_colon.ensures.found) at (found_in c.scan.new.self c.in_ok-found.found) found.kept found.found found.lexeme) (rw c.around_value-around.ensures at c.in_err-value.ensures.refused.refused);
       fault = fault_before c.args.context.now c.scan.new.self _ kept_at c.in_err-value.ensures.refused.fault;
-      error = λ q d s many starts. value_told_stops whole old (last c.args.context.now c.args.token) q d s c.requires.token starts c.in_ok-named.ensures.named.name c.in_ok-named.ensures.named.stands c.pass_colon.new.self (kept_given c.args.context.now c.parse_name.new.context c.pass_colon.new.self c.parse_name.ensures.gives c.pass_colon.ensures.kept) (colon_given c.args.context.now c.parse_name.new.context c.pass_colon.new.self c.parse_name.ensures.gives c.in_ok-pass_colon.ensures.found) c.scan.new.self (found_in c.scan.new.self c.in_ok-found.found) found.kept found.found found.lexeme (last c.scan.new.self c.in-Some.token) (ap (found_in c.scan.new.self) c.in-Some.is) e c.around_value-around.result (let one = count_property whole (here old) q in omega (arith, one, many, c.around_value-around.ensures)) c.in_err-value.ensures.refused.error;
+      error = λ q d s many starts. value_told_stops whole old (last c.args.context.now c.args.token) q d s c.requires.token starts c.in_ok-named.ensures.named.name c.in_ok-named.ensures.named.stands c.pass_colon.new.self (kept_given c.args.context.now c.parse_name.new.context c.pass_colon.new.self c.in_ok-named.ensures.gives c.in_ok-pass_colon.ensures.kept) (colon_given c.args.context.now c.parse_name.new.context c.pass_colon.new.self c.in_ok-named.ensures.gives c.in_ok-pass_colon.ensures.found) c.scan.new.self (found_in c.scan.new.self c.in_ok-found.found) found.kept found.found found.lexeme (last c.scan.new.self c.in-Some.token) (ap (found_in c.scan.new.self) c.in-Some.is) e c.around_value-around.result (let one = count_property whole (here old) q in omega (arith, one, many, c.around_value-around.ensures)) c.in_err-value.ensures.refused.error;
     })
 
 pub parse_property-returns-in_default-clause-refused : goal.parse_property-returns-in_default-clause-refused
@@ -310,12 +310,12 @@ parse_property-returns-in_default-clause-refused g t c =
     let mid = c.pass_colon.new.self in
     let name = c.in_ok-named.ensures.named.stands in
     let found = c.in_ok-found.ensures in
-    let kept_mid = kept_given c.args.context.now c.parse_name.new.context c.pass_colon.new.self c.parse_name.ensures.gives c.pass_colon.ensures.kept in
-    let kept_at = kept_on c.args.context.now c.pass_colon.new.self c.scan.new.self kept_mid c.scan.ensures.kept in
+    let kept_mid = kept_given c.args.context.now c.parse_name.new.context c.pass_colon.new.self c.in_ok-named.ensures.gives c.in_ok-pass_colon.ensures.kept in
+    let kept_at = kept_on c.args.context.now c.pass_colon.new.self c.scan.new.self kept_mid c.in_ok-found.ensures.kept in
     record {
-      refused = inr (end_for_value whole old mid c.in_ok-named.ensures.named.name c.args.count name (kept_given c.args.context.now c.parse_name.new.context c.pass_colon.new.self c.parse_name.ensures.gives c.pass_colon.ensures.kept) (colon_given c.args.context.now c.parse_name.new.context c.pass_colon.new.self c.parse_name.ensures.gives c.in_ok-pass_colon.ensures.found) c.scan.new.self (found_in c.scan.new.self c.in_ok-found.found) found.kept found.found found.lexeme (ap (found_in c.scan.new.self) c.in_default.is));
-      fault = fault_before c.args.context.now c.scan.new.self _ kept_at c.fault_here.ensures.fault;
-      error = λ q d s many starts. let whole = g.R.Receiver.whole in let old = c.args.context.now in let found = c.in_ok-found.ensures in let small = c.holds_too_deep.ensures.within c.if-holds_too_deep.false in no_value_stops whole old (last c.args.context.now c.args.token) q d s c.requires.token starts c.in_ok-named.ensures.named.name c.in_ok-named.ensures.named.stands c.pass_colon.new.self (kept_given c.args.context.now c.parse_name.new.context c.pass_colon.new.self c.parse_name.ensures.gives c.pass_colon.ensures.kept) (colon_given c.args.context.now c.parse_name.new.context c.pass_colon.new.self c.parse_name.ensures.gives c.in_ok-pass_colon.ensures.found) c.scan.new.self (found_in c.scan.new.self c.in_ok-found.found) found.kept found.found found.lexeme (ap (found_in c.scan.new.self) c.in_default.is) c.fault_here.result (let one = count_property whole (here old) q in omega (arith, one, many, small)) c.fault_here.ensures.kind c.fault_here.ensures.range;
+      refused = inr (end_for_value whole old mid c.in_ok-named.ensures.named.name c.args.count name (kept_given c.args.context.now c.parse_name.new.context c.pass_colon.new.self c.in_ok-named.ensures.gives c.in_ok-pass_colon.ensures.kept) (colon_given c.args.context.now c.parse_name.new.context c.pass_colon.new.self c.in_ok-named.ensures.gives c.in_ok-pass_colon.ensures.found) c.scan.new.self (found_in c.scan.new.self c.in_ok-found.found) found.kept found.found found.lexeme (ap (found_in c.scan.new.self) c.in_default.is));
+      fault = fault_before c.args.context.now c.scan.new.self _ kept_at c.stop_here.ensures.fault;
+      error = λ q d s many starts. let whole = g.R.Receiver.whole in let old = c.args.context.now in let found = c.in_ok-found.ensures in let small = c.holds_too_deep.ensures.within c.if-holds_too_deep.false in no_value_stops whole old (last c.args.context.now c.args.token) q d s c.requires.token starts c.in_ok-named.ensures.named.name c.in_ok-named.ensures.named.stands c.pass_colon.new.self (kept_given c.args.context.now c.parse_name.new.context c.pass_colon.new.self c.in_ok-named.ensures.gives c.in_ok-pass_colon.ensures.kept) (colon_given c.args.context.now c.parse_name.new.context c.pass_colon.new.self c.in_ok-named.ensures.gives c.in_ok-pass_colon.ensures.found) c.scan.new.self (found_in c.scan.new.self c.in_ok-found.found) found.kept found.found found.lexeme (ap (found_in c.scan.new.self) c.in_default.is) c.stop_here.new.self.fault (let one = count_property whole (here old) q in omega (arith, one, many, small)) c.stop_here.ensures.kind c.stop_here.ensures.range;
     }
 
 pub parse_value-returns-in-Err-clause-refused : goal.parse_value-returns-in-Err-clause-refused
@@ -332,16 +332,16 @@ pub parse_array-returns-then-opens_too_deep-clause-refused : goal.parse_array-re
 parse_array-returns-then-opens_too_deep-clause-refused g t c =
     record {
       refused = inr (array_deep g.R.Receiver.whole c.args.context.now c.args.count c.requires.token (c.opens_too_deep.ensures.deep c.if-opens_too_deep.true));
-      fault = c.nesting_fault.ensures.fault;
-      error = opening_stops g.R.Receiver.whole Array c.args.context.now c.token_start-start.result c.args.count c.nesting_fault.result (c.opens_too_deep.ensures.apart c.if-opens_too_deep.true) c.requires.token c.token_start-start.ensures (c.opens_too_deep.ensures.deep c.if-opens_too_deep.true) c.nesting_fault.ensures.kind c.nesting_fault.ensures.range;
+      fault = c.stop_too_deep.ensures.fault;
+      error = opening_stops g.R.Receiver.whole Array c.args.context.now c.token_start-start.result c.args.count c.stop_too_deep.new.self.fault (c.opens_too_deep.ensures.apart c.if-opens_too_deep.true) c.requires.token c.token_start-start.ensures (c.opens_too_deep.ensures.deep c.if-opens_too_deep.true) c.stop_too_deep.ensures.kind c.stop_too_deep.ensures.range;
     }
 
 pub parse_object-returns-then-opens_too_deep-clause-refused : goal.parse_object-returns-then-opens_too_deep-clause-refused
 parse_object-returns-then-opens_too_deep-clause-refused g t c =
     record {
       refused = inr (object_deep g.R.Receiver.whole c.args.context.now c.args.count c.requires.token (c.opens_too_deep.ensures.deep c.if-opens_too_deep.true));
-      fault = c.nesting_fault.ensures.fault;
-      error = opening_stops g.R.Receiver.whole Object c.args.context.now c.token_start-start.result c.args.count c.nesting_fault.result (c.opens_too_deep.ensures.apart c.if-opens_too_deep.true) c.requires.token c.token_start-start.ensures (c.opens_too_deep.ensures.deep c.if-opens_too_deep.true) c.nesting_fault.ensures.kind c.nesting_fault.ensures.range;
+      fault = c.stop_too_deep.ensures.fault;
+      error = opening_stops g.R.Receiver.whole Object c.args.context.now c.token_start-start.result c.args.count c.stop_too_deep.new.self.fault (c.opens_too_deep.ensures.apart c.if-opens_too_deep.true) c.requires.token c.token_start-start.ensures (c.opens_too_deep.ensures.deep c.if-opens_too_deep.true) c.stop_too_deep.ensures.kind c.stop_too_deep.ensures.range;
     }
 
 pub parse_array-returns-then-holds_too_deep-clause-refused : goal.parse_array-returns-then-holds_too_deep-clause-refused
@@ -355,14 +355,14 @@ parse_array-returns-then-holds_too_deep-clause-refused g t c =
     let reading = subst (λ n. GoesOn whole Array old now n c.args.count) is inv.reading in
     record {
       refused = inr (element_deep whole old now (last now c.in-Some.token) c.args.count (c.holds_too_deep.ensures.whole c.if-holds_too_deep.true) left (c.holds_too_deep.ensures.deep c.if-holds_too_deep.true));
-      fault = fault_before c.args.context.now c.loop-next.context _ c.loop-next.invariant.so_far.kept c.nesting_fault-then-holds_too_deep.ensures.fault;
-      error = element_deep_stops whole old now (last now c.in-Some.token) c.token_start-start.result c.args.count c.nesting_fault-then-holds_too_deep.result (c.holds_too_deep.ensures.whole c.if-holds_too_deep.true) inv.so_far.kept (subst (AtHand 0x5D now) is inv.so_far.hand) c.token_start-start.ensures (c.holds_too_deep.ensures.deep c.if-holds_too_deep.true) c.nesting_fault-then-holds_too_deep.ensures.kind c.nesting_fault-then-holds_too_deep.ensures.range reading;
+      fault = fault_before c.args.context.now c.loop-next.context _ c.loop-next.invariant.so_far.kept c.stop_too_deep-then-holds_too_deep.ensures.fault;
+      error = element_deep_stops whole old now (last now c.in-Some.token) c.token_start-start.result c.args.count c.stop_too_deep-then-holds_too_deep.new.self.fault (c.holds_too_deep.ensures.whole c.if-holds_too_deep.true) inv.so_far.kept (subst (AtHand 0x5D now) is inv.so_far.hand) c.token_start-start.ensures (c.holds_too_deep.ensures.deep c.if-holds_too_deep.true) c.stop_too_deep-then-holds_too_deep.ensures.kind c.stop_too_deep-then-holds_too_deep.ensures.range reading;
     }
 
 pub parse_property-returns-then-holds_too_deep-clause-refused : goal.parse_property-returns-then-holds_too_deep-clause-refused
 parse_property-returns-then-holds_too_deep-clause-refused g t c =
-    let kept_mid = kept_given c.args.context.now c.parse_name.new.context c.pass_colon.new.self c.parse_name.ensures.gives c.pass_colon.ensures.kept in
-    let kept_at = kept_on c.args.context.now c.pass_colon.new.self c.scan.new.self kept_mid c.scan.ensures.kept in
+    let kept_mid = kept_given c.args.context.now c.parse_name.new.context c.pass_colon.new.self c.in_ok-named.ensures.gives c.in_ok-pass_colon.ensures.kept in
+    let kept_at = kept_on c.args.context.now c.pass_colon.new.self c.scan.new.self kept_mid c.in_ok-found.ensures.kept in
     let whole = g.R.Receiver.whole in
     let old = c.args.context.now in
     let named = c.parse_name.new.context in
@@ -371,8 +371,8 @@ parse_property-returns-then-holds_too_deep-clause-refused g t c =
     let found = c.in_ok-found.ensures in
     record {
       refused = inr (property_deep g.R.Receiver.whole c.args.context.now c.args.count (c.holds_too_deep.ensures.whole c.if-holds_too_deep.true) (c.holds_too_deep.ensures.deep c.if-holds_too_deep.true));
-      fault = fault_before c.args.context.now c.scan.new.self _ kept_at c.nesting_fault.ensures.fault;
-      error = property_deep_stops whole old (last old c.args.token) c.requires.token c.in_ok-named.ensures.named.name c.in_ok-named.ensures.named.stands mid (kept_given old named mid c.parse_name.ensures.gives c.pass_colon.ensures.kept) (colon_given old named mid c.parse_name.ensures.gives c.in_ok-pass_colon.ensures.found) at (found_in at c.in_ok-found.found) found.kept found.found found.lexeme c.args.count c.nesting_fault.result c.token_start-start.result (c.holds_too_deep.ensures.whole c.if-holds_too_deep.true) c.token_start-start.ensures (c.holds_too_deep.ensures.deep c.if-holds_too_deep.true) c.nesting_fault.ensures.kind c.nesting_fault.ensures.range;
+      fault = fault_before c.args.context.now c.scan.new.self _ kept_at c.stop_too_deep.ensures.fault;
+      error = property_deep_stops whole old (last old c.args.token) c.requires.token c.in_ok-named.ensures.named.name c.in_ok-named.ensures.named.stands mid (kept_given old named mid c.in_ok-named.ensures.gives c.in_ok-pass_colon.ensures.kept) (colon_given old named mid c.in_ok-named.ensures.gives c.in_ok-pass_colon.ensures.found) at (found_in at c.in_ok-found.found) found.kept found.found found.lexeme c.args.count c.stop_too_deep.new.self.fault c.token_start-start.result (c.holds_too_deep.ensures.whole c.if-holds_too_deep.true) c.token_start-start.ensures (c.holds_too_deep.ensures.deep c.if-holds_too_deep.true) c.stop_too_deep.ensures.kind c.stop_too_deep.ensures.range;
     }
 
 pub parse_element-hand_string-requires-clause-utf8 : goal.parse_element-hand_string-requires-clause-utf8
@@ -392,7 +392,7 @@ parse_property-parse_value-requires g t c κs within =
     let at = c.scan.new.self in
     let found = c.in_ok-found.ensures in
     let is = ap (found_in at) c.in-Some.is in
-    let kept = kept_given old named mid c.parse_name.ensures.gives c.pass_colon.ensures.kept in
+    let kept = kept_given old named mid c.in_ok-named.ensures.gives c.in_ok-pass_colon.ensures.kept in
     let token = subst (IsThere at.scanner) is found.found.1 in
     let same = c.in_ok-named.ensures.source ∙ c.requires.source in
     let small = c.holds_too_deep.ensures.within c.if-holds_too_deep.false in
@@ -426,19 +426,19 @@ parse_object-next_item-requires-clause-source g t c =
 
 pub parse_property-pass_colon-requires-clause-source : goal.parse_property-pass_colon-requires-clause-source
 parse_property-pass_colon-requires-clause-source g t c =
-    source_on c.args.context.now c.parse_name.new.context _ (kept_self c.args.context.now c.parse_name.new.context c.parse_name.ensures.gives) (c.in_ok-named.ensures.source ∙ c.requires.source)
+    source_on c.args.context.now c.parse_name.new.context _ (kept_self c.args.context.now c.parse_name.new.context c.in_ok-named.ensures.gives) (c.in_ok-named.ensures.source ∙ c.requires.source)
 
 pub parse_property-pass_colon-requires-clause-reached : goal.parse_property-pass_colon-requires-clause-reached
-parse_property-pass_colon-requires-clause-reached g t c = subst (g.R.Receiver.reached c.parse_name.new.to) (ap end_of (sym c.parse_name.ensures.gives.scanner)) c.in_ok-named.ensures.reached
+parse_property-pass_colon-requires-clause-reached g t c = subst (g.R.Receiver.reached c.parse_name.new.to) (ap end_of (sym c.in_ok-named.ensures.gives.scanner)) c.in_ok-named.ensures.reached
 
 pub parse_property-scan-requires-clause-source : goal.parse_property-scan-requires-clause-source
 parse_property-scan-requires-clause-source g t c =
     let old = c.args.context.now in
     let mid = c.pass_colon.new.self in
-    source_on old mid _ (kept_given old c.parse_name.new.context mid c.parse_name.ensures.gives c.pass_colon.ensures.kept) (c.in_ok-pass_colon.ensures.source ∙ c.in_ok-named.ensures.source ∙ c.requires.source)
+    source_on old mid _ (kept_given old c.parse_name.new.context mid c.in_ok-named.ensures.gives c.in_ok-pass_colon.ensures.kept) (c.in_ok-pass_colon.ensures.source ∙ c.in_ok-named.ensures.source ∙ c.requires.source)
 
 pub parse_property-scan-requires-clause-behind : goal.parse_property-scan-requires-clause-behind
-parse_property-scan-requires-clause-behind g t c = behind_in (sym (source_later c.parse_name.new.context c.pass_colon.new.self c.pass_colon.ensures.kept)) c.in_ok-pass_colon.ensures.behind
+parse_property-scan-requires-clause-behind g t c = behind_in (sym (source_later c.parse_name.new.context c.pass_colon.new.self c.in_ok-pass_colon.ensures.kept)) c.in_ok-pass_colon.ensures.behind
 
 pub parse_property-property-requires : goal.parse_property-property-requires
 parse_property-property-requires g t c =
@@ -451,7 +451,7 @@ parse_property-property-requires g t c =
 
 pub parse_element-returns-in_err-value-in_default-clause-refused : goal.parse_element-returns-in_err-value-in_default-clause-refused
 parse_element-returns-in_err-value-in_default-clause-refused g t c =
-    err_of _ _ _ c.from_residual.ensures.1 c.in_err-value-in_default.ensures.refused
+    on_err c.from_residual.result c.in_err-value-in_default.ensures.refused
 
 pub parse_value-returns-in-Ok-clause-read : goal.parse_value-returns-in-Ok-clause-read
 parse_value-returns-in-Ok-clause-read g t c = c.in-Ok.ensures.read
@@ -472,17 +472,17 @@ parse_property-returns-clause-read g t c =
     let n = c.in_ok-named.ensures.named.name in
     let colon = c.in_ok-pass_colon.ensures in
     let found = c.in_ok-found.ensures in
-    let kept_mid = kept_given old named mid c.parse_name.ensures.gives c.pass_colon.ensures.kept in
+    let kept_mid = kept_given old named mid c.in_ok-named.ensures.gives c.in_ok-pass_colon.ensures.kept in
     let starts = c.new-range.ensures.start ∙ c.token_start-start.ensures in
     let ends = c.new-range.ensures.end ∙ c.token_end.ensures in
     record {
       source = c.in-Ok.ensures.kept ∙ read.source ∙ found.source ∙ colon.source ∙ c.in_ok-named.ensures.source;
       reached = c.in-Ok.ensures.reached _ read.reached;
       kept = kept_on old at new (kept_on old mid at kept_mid found.kept) read.kept;
-      collects = collects_turn old mid at new kept_mid (collects_given old named mid c.parse_name.ensures.gives colon.collects) found.kept found.collects read.collects;
+      collects = collects_turn old mid at new kept_mid (collects_given old named mid c.in_ok-named.ensures.gives colon.collects) found.kept found.collects read.collects;
       found = λ s i. record {
         member = record { range = c.new-range.result; name = n; value = made.value };
-        reads = member_reads old mid at new n c.new-range.result made.value c.in_ok-named.ensures.named.stands c.in_ok-named.ensures.named.range kept_mid (colon_given old named mid c.parse_name.ensures.gives colon.found) found.kept found.found.0 made.reads starts ends;
+        reads = member_reads old mid at new n c.new-range.result made.value c.in_ok-named.ensures.named.stands c.in_ok-named.ensures.named.range kept_mid (colon_given old named mid c.in_ok-named.ensures.gives colon.found) found.kept found.found.0 made.reads starts ends;
         within = subst (λ n. size whole (value_at made.value) + n ≤ 512) c.around_value-around.ensures made.within;
         put = λ ms held. c.in-Ok.ensures.held s c.args.to.now c.scan.new.to i ms n made.value held (found.held.named c.args.to.now _ n (colon.held.named c.args.to.now _ n c.in_ok-named.ensures.named.made)) made.made (record { starts = starts ∙ ap (λ q. q.start) (sym c.in_ok-named.ensures.named.range); ends = ends ∙ sym made.reads.ends });
       };
@@ -492,8 +492,7 @@ pub parse_value-returns-in_default-clause-read : goal.parse_value-returns-in_def
 parse_value-returns-in_default-clause-read g t c =
     let old = c.args.context.now in
     let new = c.parse_leaf.new.context in
-    let gives = c.parse_leaf.ensures.gives in
-    ok_all c.parse_leaf.result c.parse_leaf.ensures.source c.parse_leaf.ensures.reached c.parse_leaf.ensures.found (λ i source reached h. record {
+    ok_all c.parse_leaf.result c.parse_leaf.ensures.gives c.parse_leaf.ensures.source c.parse_leaf.ensures.reached c.parse_leaf.ensures.found (λ i gives source reached h. record {
       source = source;
       reached = reached;
       kept = kept_self old new gives;
@@ -513,10 +512,10 @@ parse_value-returns-in_default-clause-refused g t c =
     let t = last old c.args.token in
     let no_bracket : t ≢ lexeme (punctuation 0x5B) = λ e. c.in_default.not-OpenBracket (is_bracket old.scanner old.content c.args.token e) in
     let no_brace : t ≢ lexeme (punctuation 0x7B) = λ e. c.in_default.not-OpenBrace (is_brace old.scanner old.content c.args.token e) in
-    err_all c.parse_leaf.result c.parse_leaf.ensures.refused c.parse_leaf.ensures.fault c.parse_leaf.ensures.error (λ e none fault told. record {
+    stop_all c.parse_leaf.result c.parse_leaf.ensures.refused c.parse_leaf.ensures.fault c.parse_leaf.ensures.error (λ none fault told. record {
       refused = still (leaf_nowhere whole old t c.args.count c.requires.token no_bracket no_brace) none;
       fault = fault;
-      error = leaf_told whole old t e c.args.count c.requires.token c.requires.around (told (no_bracket, no_brace));
+      error = leaf_told whole old t c.parse_leaf.new.context.fault c.args.count c.requires.token c.requires.around (told (no_bracket, no_brace));
     })
 
 pub parse_element-returns-in-Ok-element-clause-read : goal.parse_element-returns-in-Ok-element-clause-read
@@ -587,7 +586,7 @@ parse_array-loop-next-smaller g t c =
     let hand = subst (AtHand 0x5D now) (ap (found_in now) c.in-Some.is) c.loop-next.invariant.so_far.hand in
     let read = c.in_ok-parse_element.ensures.read in
     let made = read.found c.args.to.now c.token_start-start.result in
-    less_left now mid new t hand read.kept made.reads.on c.next_item.ensures.kept (leads_on _ _ _ mid new (found_in new c.in_ok-next-2.next) c.in_ok-next-2.ensures.found)
+    less_left now mid new t hand read.kept made.reads.on c.in_ok-next-2.ensures.kept (leads_on _ _ _ mid new (found_in new c.in_ok-next-2.next) c.in_ok-next-2.ensures.found)
 
 pub parse_object-next_item-requires-clause-start : goal.parse_object-next_item-requires-clause-start
 parse_object-next_item-requires-clause-start g t c =
@@ -608,47 +607,47 @@ parse_object-loop-next-smaller g t c =
     let hand = subst (AtHand 0x7D now) (ap (found_in now) c.in-Some.is) c.loop-next.invariant.so_far.hand in
     let read = c.in_ok-parse_property.ensures.read in
     let made = read.found c.args.to.now c.token_start-start.result in
-    less_left now mid new t hand read.kept made.reads.on c.next_item.ensures.kept (leads_on _ _ _ mid new (found_in new c.in_ok-next-2.next) c.in_ok-next-2.ensures.found)
+    less_left now mid new t hand read.kept made.reads.on c.in_ok-next-2.ensures.kept (leads_on _ _ _ mid new (found_in new c.in_ok-next-2.next) c.in_ok-next-2.ensures.found)
 
 pub parse_array-returns-in_default-clause-refused : goal.parse_array-returns-in_default-clause-refused
 parse_array-returns-in_default-clause-refused g t c =
-    no_memory c.args.context.now c.args.context.now _ (kept_same _) c.out_of_memory.ensures.fault c.out_of_memory.ensures.memory (λ m q d s many starts. inl m)
+    no_memory c.args.context.now c.args.context.now _ (kept_same _) c.stop_for_memory.ensures.fault c.stop_for_memory.ensures.memory (λ m q d s many starts. inl m)
 
 pub parse_array-returns-in_default-close_array-clause-refused : goal.parse_array-returns-in_default-close_array-clause-refused
 parse_array-returns-in_default-close_array-clause-refused g t c =
-    no_memory c.args.context.now c.loop-next.context _ c.loop-next.invariant.so_far.kept c.out_of_memory-in_default-close_array.ensures.fault c.out_of_memory-in_default-close_array.ensures.memory (λ m q d s many starts. inl m)
+    no_memory c.args.context.now c.loop-next.context _ c.loop-next.invariant.so_far.kept c.stop_for_memory-in_default-close_array.ensures.fault c.stop_for_memory-in_default-close_array.ensures.memory (λ m q d s many starts. inl m)
 
 pub parse_object-returns-in_default-clause-refused : goal.parse_object-returns-in_default-clause-refused
 parse_object-returns-in_default-clause-refused g t c =
-    no_memory c.args.context.now c.args.context.now _ (kept_same _) c.out_of_memory.ensures.fault c.out_of_memory.ensures.memory (λ m q d s many starts. inl m)
+    no_memory c.args.context.now c.args.context.now _ (kept_same _) c.stop_for_memory.ensures.fault c.stop_for_memory.ensures.memory (λ m q d s many starts. inl m)
 
 pub parse_object-returns-in_default-close_object-clause-refused : goal.parse_object-returns-in_default-close_object-clause-refused
 parse_object-returns-in_default-close_object-clause-refused g t c =
-    no_memory c.args.context.now c.loop-next.context _ c.loop-next.invariant.so_far.kept c.out_of_memory-in_default-close_object.ensures.fault c.out_of_memory-in_default-close_object.ensures.memory (λ m q d s many starts. inl m)
+    no_memory c.args.context.now c.loop-next.context _ c.loop-next.invariant.so_far.kept c.stop_for_memory-in_default-close_object.ensures.fault c.stop_for_memory-in_default-close_object.ensures.memory (λ m q d s many starts. inl m)
 
 pub parse_element-returns-in_default-hand_string-clause-refused : goal.parse_element-returns-in_default-hand_string-clause-refused
 parse_element-returns-in_default-hand_string-clause-refused g t c =
-    no_memory c.args.context.now c.args.context.now _ (kept_same _) c.out_of_memory.ensures.fault c.out_of_memory.ensures.memory (λ m q d s many starts. inl m)
+    no_memory c.args.context.now c.args.context.now _ (kept_same _) c.stop_for_memory.ensures.fault c.stop_for_memory.ensures.memory (λ m q d s many starts. inl m)
 
 pub parse_element-returns-in_default-element-clause-refused : goal.parse_element-returns-in_default-element-clause-refused
 parse_element-returns-in_default-element-clause-refused g t c =
-    no_memory c.args.context.now c.args.context.now _ (kept_same _) c.out_of_memory-in_default-element.ensures.fault c.out_of_memory-in_default-element.ensures.memory (λ m q d s many starts. inl m)
+    no_memory c.args.context.now c.args.context.now _ (kept_same _) c.stop_for_memory-in_default-element.ensures.fault c.stop_for_memory-in_default-element.ensures.memory (λ m q d s many starts. inl m)
 
 pub parse_element-returns-in_default-number-clause-refused : goal.parse_element-returns-in_default-number-clause-refused
 parse_element-returns-in_default-number-clause-refused g t c =
-    no_memory c.args.context.now c.args.context.now _ (kept_same _) c.out_of_memory-in_default-number.ensures.fault c.out_of_memory-in_default-number.ensures.memory (λ m q d s many starts. inl m)
+    no_memory c.args.context.now c.args.context.now _ (kept_same _) c.stop_for_memory-in_default-number.ensures.fault c.stop_for_memory-in_default-number.ensures.memory (λ m q d s many starts. inl m)
 
 pub parse_element-returns-in_default-element-2-clause-refused : goal.parse_element-returns-in_default-element-2-clause-refused
 parse_element-returns-in_default-element-2-clause-refused g t c =
-    no_memory c.args.context.now c.args.context.now _ (kept_same _) c.out_of_memory-in_default-element-2.ensures.fault c.out_of_memory-in_default-element-2.ensures.memory (λ m q d s many starts. inl m)
+    no_memory c.args.context.now c.args.context.now _ (kept_same _) c.stop_for_memory-in_default-element-2.ensures.fault c.stop_for_memory-in_default-element-2.ensures.memory (λ m q d s many starts. inl m)
 
 pub parse_element-returns-in_default-element-3-clause-refused : goal.parse_element-returns-in_default-element-3-clause-refused
 parse_element-returns-in_default-element-3-clause-refused g t c =
-    no_memory c.args.context.now c.parse_value.new.context _ c.in_ok-value-in_default.ensures.read.kept c.out_of_memory-in_default-element-3.ensures.fault c.out_of_memory-in_default-element-3.ensures.memory (λ m q d s many starts. inl m)
+    no_memory c.args.context.now c.parse_value.new.context _ c.in_ok-value-in_default.ensures.read.kept c.stop_for_memory-in_default-element-3.ensures.fault c.stop_for_memory-in_default-element-3.ensures.memory (λ m q d s many starts. inl m)
 
 pub parse_property-returns-in_default-property-clause-refused : goal.parse_property-returns-in_default-property-clause-refused
 parse_property-returns-in_default-property-clause-refused g t c =
     let old = c.args.context.now in
-    let kept_mid = kept_given old c.parse_name.new.context c.pass_colon.new.self c.parse_name.ensures.gives c.pass_colon.ensures.kept in
-    let kept_at = kept_on old c.pass_colon.new.self c.scan.new.self kept_mid c.scan.ensures.kept in
-    no_memory old c.parse_value.new.context _ (kept_on old c.scan.new.self c.parse_value.new.context kept_at c.in_ok-value.ensures.read.kept) c.out_of_memory.ensures.fault c.out_of_memory.ensures.memory (λ m q d s many starts. inl m)
+    let kept_mid = kept_given old c.parse_name.new.context c.pass_colon.new.self c.in_ok-named.ensures.gives c.in_ok-pass_colon.ensures.kept in
+    let kept_at = kept_on old c.pass_colon.new.self c.scan.new.self kept_mid c.in_ok-found.ensures.kept in
+    no_memory old c.parse_value.new.context _ (kept_on old c.scan.new.self c.parse_value.new.context kept_at c.in_ok-value.ensures.read.kept) c.stop_for_memory.ensures.fault c.stop_for_memory.ensures.memory (λ m q d s many starts. inl m)

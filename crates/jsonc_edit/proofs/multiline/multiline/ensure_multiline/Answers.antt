@@ -5,12 +5,12 @@ use Rattle.jsonc_edit.proofs.ReplacedChildren.{where_refused}
 use Rattle.jsonc_edit.proofs.NodesKept.{tree_stays}
 use Rattle.jsonc_layout.specs.lines.Kinds.{is_array_or_object}
 use Rattle.jsonc_edit.specs.multiline.Lines.{between, on_lines}
-use Rattle.jsonc_edit.proofs.lemmas.multiline.WholeRow.{row_ready, kept_through, made_multiline, two_there}
+use Rattle.jsonc_edit.proofs.lemmas.multiline.WholeRow.{row_ready, made_multiline, two_there}
 use Rattle.jsonc_edit.proofs.multiline.multiline.ensure_multiline.Goals as goal
 
 pub splice-requires-clause-join : goal.splice-requires-clause-join
 splice-requires-clause-join g c =
-    row_ready c.args.tree.now.nodes c.plan_lines.new.tree.nodes c.reserve.new.self.nodes c.args.container _ c.in_ok-row.row.items c.args.tree.now.tree c.requires.in_tree c.in_ok-row.ensures.planned c.reserve.ensures.kept c.reserve.new.self.tree c.child_count-count.result c.child_count-count.ensures
+    row_ready c.args.tree.now.nodes c.plan_lines.new.tree.nodes c.args.container _ c.in_ok-row.row.items c.args.tree.now.tree c.requires.in_tree c.in_ok-row.ensures.planned c.plan_lines.ensures.prepared.tree c.child_count-count.result c.child_count-count.ensures
     c.deref.result.now c.deref.ensures.value
 
 pub returns-in_err-row-clause-document : goal.returns-in_err-row-clause-document
@@ -18,32 +18,27 @@ returns-in_err-row-clause-document g c =
     where_refused c.from_residual-in_err-row.result
     (tree_stays c.args.tree.now.nodes c.plan_lines.new.tree.nodes c.args.tree.now.tree c.plan_lines.ensures.prepared.keeps c.plan_lines.ensures.prepared.tree)
 
-pub returns-in_err-reserve-clause-document : goal.returns-in_err-reserve-clause-document
-returns-in_err-reserve-clause-document g c =
-    where_refused c.from_residual-in_err-reserve.result
-    (tree_stays c.args.tree.now.nodes c.reserve.new.self.nodes c.args.tree.now.tree (kept_through c.args.tree.now.nodes c.plan_lines.new.tree.nodes c.reserve.new.self.nodes c.plan_lines.ensures.prepared.keeps c.reserve.ensures.kept) c.reserve.new.self.tree)
-
 pub returns-clause-made : goal.returns-clause-made
 returns-clause-made g c =
-    made_multiline c.args.tree.now.nodes c.plan_lines.new.tree.nodes c.reserve.new.self.nodes c.args.container _ c.in_ok-row.row.items c.args.tree.now.tree c.requires.in_tree c.in_ok-row.ensures.planned c.reserve.ensures.kept c.reserve.new.self.tree c.child_count-count.result c.child_count-count.ensures
+    made_multiline c.args.tree.now.nodes c.plan_lines.new.tree.nodes c.args.container _ c.in_ok-row.row.items c.args.tree.now.tree c.requires.in_tree c.in_ok-row.ensures.planned c.plan_lines.ensures.prepared.tree c.child_count-count.result c.child_count-count.ensures
     c.splice.new.self.nodes c.splice.new.self.tree c.deref.result.now c.deref.ensures.value c.splice.ensures.splices (ap (λ l. on_lines l c.args.tree.now.nodes (between (children_at c.args.tree.now.nodes c.args.container))) c.in_ok-lines.ensures) (sym c.has_brackets.ensures ∙ c.if-not-has_brackets.false) (sym c.has_line_end.ensures ∙ c.if-has_line_end.false)
 
 contains : (w : Content) → IsTrue (is_array_or_object w) → is_container w ≡ true
 contains w holds = grind arith
 
 pub splice-requires-clause-in_tree : goal.splice-requires-clause-in_tree
-splice-requires-clause-in_tree g c = omega (arith, c.requires.in_tree, c.plan_lines.ensures.prepared.keeps.len, c.reserve.ensures.kept.len)
+splice-requires-clause-in_tree g c = omega (arith, c.requires.in_tree, c.plan_lines.ensures.prepared.keeps.len)
 
 pub splice-requires-clause-container : goal.splice-requires-clause-container
 splice-requires-clause-container g c =
-    ap is_container ((kept_through c.args.tree.now.nodes c.plan_lines.new.tree.nodes c.reserve.new.self.nodes c.plan_lines.ensures.prepared.keeps c.reserve.ensures.kept).content c.args.container c.requires.in_tree) ∙ contains (content_at c.args.tree.now.nodes c.args.container) c.requires.holds
+    ap is_container (c.plan_lines.ensures.prepared.keeps.content c.args.container c.requires.in_tree) ∙ contains (content_at c.args.tree.now.nodes c.args.container) c.requires.holds
 
 pub splice-requires-clause-order : goal.splice-requires-clause-order
 splice-requires-clause-order g c =
     omega (
       arith,
       two_there c.args.tree.now.nodes c.args.container (sym c.has_brackets.ensures ∙ c.if-not-has_brackets.false),
-      c.child_count-count.ensures ∙ ap length ((kept_through c.args.tree.now.nodes c.plan_lines.new.tree.nodes c.reserve.new.self.nodes c.plan_lines.ensures.prepared.keeps c.reserve.ensures.kept).children c.args.container c.requires.in_tree),
+      c.child_count-count.ensures ∙ ap length (c.plan_lines.ensures.prepared.keeps.children c.args.container c.requires.in_tree),
     )
 
 pub splice-requires-clause-within : goal.splice-requires-clause-within
@@ -51,7 +46,3 @@ splice-requires-clause-within g c = omega (arith, c.child_count-count.ensures)
 
 pub returns-in_err-row-clause-kept : goal.returns-in_err-row-clause-kept
 returns-in_err-row-clause-kept g c = where_refused c.from_residual-in_err-row.result c.plan_lines.ensures.prepared.keeps
-
-pub returns-in_err-reserve-clause-kept : goal.returns-in_err-reserve-clause-kept
-returns-in_err-reserve-clause-kept g c =
-    where_refused c.from_residual-in_err-reserve.result (kept_through c.args.tree.now.nodes c.plan_lines.new.tree.nodes c.reserve.new.self.nodes c.plan_lines.ensures.prepared.keeps c.reserve.ensures.kept)

@@ -5,7 +5,7 @@ use Rattle.jsonc_edit.proofs.ReplacedChildren.{where_refused}
 use Rattle.jsonc_edit.proofs.NodesKept.{tree_stays}
 use Rattle.jsonc_insert.specs.Planned.{has_brackets}
 use Rattle.jsonc_insert.specs.members.Inserted.{RowMade}
-use Rattle.jsonc_insert.proofs.lemmas.members.RowReplaced.{before_brackets, before_there, can_join, kept_twice, kept_with_room, put_so, within}
+use Rattle.jsonc_insert.proofs.lemmas.members.RowReplaced.{before_brackets, before_there, can_join, kept_twice, put_so, within}
 use Rattle.jsonc_insert.proofs.members.members.insert_property.Goals as goal
 
 pub returns-in_err-before-clause-document : goal.returns-in_err-before-clause-document
@@ -33,41 +33,28 @@ returns-in_err-made-clause-document g c =
     where_refused c.from_residual-in_err-made.result
     (tree_stays old made c.args.tree.now.tree (kept_twice old c.row_before.new.tree.nodes made c.row_before.ensures.prepared c.make_row.ensures.prepared) c.make_row.ensures.prepared.tree)
 
-pub returns-in_err-reserve-clause-kept : goal.returns-in_err-reserve-clause-kept
-returns-in_err-reserve-clause-kept g c =
-    where_refused c.from_residual-in_err-reserve.result
-    (kept_with_room c.args.tree.now.nodes c.row_before.new.tree.nodes c.make_row.new.tree.nodes c.reserve.new.self.nodes c.row_before.ensures.prepared c.make_row.ensures.prepared c.reserve.ensures.kept)
-
-pub returns-in_err-reserve-clause-document : goal.returns-in_err-reserve-clause-document
-returns-in_err-reserve-clause-document g c =
-    let old = c.args.tree.now.nodes in
-    let ready = c.reserve.new.self.nodes in
-    where_refused c.from_residual-in_err-reserve.result
-    (tree_stays old ready c.args.tree.now.tree (kept_with_room old c.row_before.new.tree.nodes c.make_row.new.tree.nodes ready c.row_before.ensures.prepared c.make_row.ensures.prepared c.reserve.ensures.kept)
-    c.reserve.new.self.tree)
-
 pub splice-requires-clause-container : goal.splice-requires-clause-container
 splice-requires-clause-container g c =
-    let kept = kept_with_room c.args.tree.now.nodes c.row_before.new.tree.nodes c.make_row.new.tree.nodes c.reserve.new.self.nodes c.row_before.ensures.prepared c.make_row.ensures.prepared c.reserve.ensures.kept in
+    let kept = kept_twice c.args.tree.now.nodes c.row_before.new.tree.nodes c.make_row.new.tree.nodes c.row_before.ensures.prepared c.make_row.ensures.prepared in
     ap is_container (kept.content c.args.object c.requires.in_tree ∙ c.requires.object)
 
 pub splice-requires-clause-within : goal.splice-requires-clause-within
 splice-requires-clause-within g c =
-    within c.args.tree.now.nodes c.row_before.new.tree.nodes c.make_row.new.tree.nodes c.reserve.new.self.nodes c.args.tree.now.tree c.args.object c.requires.in_tree c.in_ok-before.before.items c.in_ok-before.ensures.is c.make_row.ensures.prepared c.reserve.ensures.kept c.reserve.new.self.tree
+    within c.args.tree.now.nodes c.row_before.new.tree.nodes c.make_row.new.tree.nodes c.args.tree.now.tree c.args.object c.requires.in_tree c.in_ok-before.before.items c.in_ok-before.ensures.is c.make_row.ensures.prepared
     c.args.index (chars c.args.name.now) (plain c.args.value.now) c.in_ok-made.made.property c.in_ok-made.made.row.items
     (subst (λ l. RowMade c.row_before.new.tree.nodes c.make_row.new.tree.nodes c.args.object l c.args.index (chars c.args.name.now) (plain c.args.value.now) c.in_ok-made.made.property c.in_ok-made.made.row.items) c.deref.ensures.value c.in_ok-made.ensures.made)
     c.child_count-count.result c.child_count-count.ensures c.deref-2.result.now c.deref-2.ensures.value
 
 pub splice-requires-clause-join : goal.splice-requires-clause-join
 splice-requires-clause-join g c =
-    can_join c.args.tree.now.nodes c.row_before.new.tree.nodes c.make_row.new.tree.nodes c.reserve.new.self.nodes c.args.tree.now.tree c.args.object c.requires.in_tree c.in_ok-before.before.items c.in_ok-before.ensures.is c.make_row.ensures.prepared c.reserve.ensures.kept c.reserve.new.self.tree
+    can_join c.args.tree.now.nodes c.row_before.new.tree.nodes c.make_row.new.tree.nodes c.args.tree.now.tree c.args.object c.requires.in_tree c.in_ok-before.before.items c.in_ok-before.ensures.is c.make_row.ensures.prepared
     c.args.index (chars c.args.name.now) (plain c.args.value.now) c.in_ok-made.made.property c.in_ok-made.made.row.items
     (subst (λ l. RowMade c.row_before.new.tree.nodes c.make_row.new.tree.nodes c.args.object l c.args.index (chars c.args.name.now) (plain c.args.value.now) c.in_ok-made.made.property c.in_ok-made.made.row.items) c.deref.ensures.value c.in_ok-made.ensures.made)
     c.child_count-count.result c.child_count-count.ensures c.deref-2.result.now c.deref-2.ensures.value
 
 pub returns-clause-put : goal.returns-clause-put
 returns-clause-put g c =
-    put_so c.args.tree.now.nodes c.row_before.new.tree.nodes c.make_row.new.tree.nodes c.reserve.new.self.nodes c.args.tree.now.tree c.args.object c.requires.in_tree c.in_ok-before.before.items c.in_ok-before.ensures.is c.make_row.ensures.prepared c.reserve.ensures.kept c.reserve.new.self.tree
+    put_so c.args.tree.now.nodes c.row_before.new.tree.nodes c.make_row.new.tree.nodes c.args.tree.now.tree c.args.object c.requires.in_tree c.in_ok-before.before.items c.in_ok-before.ensures.is c.make_row.ensures.prepared
     c.args.index (chars c.args.name.now) (plain c.args.value.now) c.in_ok-made.made.property c.in_ok-made.made.row.items
     (subst (λ l. RowMade c.row_before.new.tree.nodes c.make_row.new.tree.nodes c.args.object l c.args.index (chars c.args.name.now) (plain c.args.value.now) c.in_ok-made.made.property c.in_ok-made.made.row.items) c.deref.ensures.value c.in_ok-made.ensures.made)
     c.child_count-count.result c.child_count-count.ensures c.deref-2.result.now c.deref-2.ensures.value

@@ -9,7 +9,7 @@ use Rattle.jsonc_layout.specs.input.Views.{plain, items_plain, members_plain}
 use Rattle.jsonc_layout.specs.from_input.Layout.{layout_of}
 use Rattle.jsonc_layout.specs.from_input.Extending.{Extends, IsUnfinished}
 use Rattle.jsonc_layout.specs.from_input.Laid.{laid, laid_items, laid_members, laid_property, leaf_then, node_then, on_lines, closed}
-use Rattle.jsonc_layout.proofs.lemmas.from_input.Extending.{on_ok, begun_same, built_on, can_append, extends_appends, extends_none, extends_same, extends_then, keeps_apart, keeps_attached, keeps_both, keeps_old}
+use Rattle.jsonc_layout.proofs.lemmas.from_input.Extending.{on_ok, begun_same, built_on, can_append, extends_appends, extends_none, extends_same, extends_then, keeps_apart, keeps_appends, keeps_both, keeps_old}
 use Rattle.jsonc_layout.proofs.lemmas.from_input.Leaves.{leaf_built, built_as}
 use Rattle.jsonc_layout.proofs.lemmas.from_input.Rows.{lines_at, line_at, properties_at, lines_none, line_none, properties_past, line_written, among_written, written_start, written_end, pair_laid, elements_then, properties_then, elements_flat, elements_spread, properties_spread, properties_none}
 use Rattle.jsonc_layout.proofs.lemmas.from_input.ValueLevels.{plain-Array, plain-Object, plain-Null, plain-Bool, plain-Number, plain-String, length_none, length_some, part_smaller}
@@ -167,22 +167,21 @@ push_properties_on_lines-loop-place-preserved g t c =
 pub push_properties_on_lines-returns-clause-added : goal.push_properties_on_lines-returns-clause-added
 push_properties_on_lines-returns-clause-added g t c = written_end c.loop-place.invariant (properties_past (layout_of c.args.layout.now) c.args.properties.now c.loop-place.place c.loop-place-test.false)
 
-pub push_property-attach-requires : goal.push_property-attach-requires
-push_property-attach-requires g t c =
+pub push_property-append-requires : goal.push_property-append-requires
+push_property-append-requires g t c =
     let unfinished : IsUnfinished c.args.tree.now.nodes c.args.object = assumption c.requires in
     can_append unfinished c.in_ok-node.ensures.built
 
 pub push_property-returns-clause-added : goal.push_property-returns-clause-added
 push_property-returns-clause-added g t c =
     let unfinished : IsUnfinished c.args.tree.now.nodes c.args.object = assumption c.requires in
-    on_ok c.attach.result (λ appends. extends_appends unfinished c.in_ok-node.ensures.built appends c.attach.new.self.tree) c.attach.ensures.appends
+    extends_appends unfinished c.in_ok-node.ensures.built c.append.ensures c.append.new.self.tree
 
-pub push_value-attach-requires : goal.push_value-attach-requires
-push_value-attach-requires g t c = can_append c.requires c.in_ok-node.ensures.built
+pub push_value-append-requires : goal.push_value-append-requires
+push_value-append-requires g t c = can_append c.requires c.in_ok-node.ensures.built
 
 pub push_value-returns-clause-added : goal.push_value-returns-clause-added
-push_value-returns-clause-added g t c =
-    on_ok c.attach.result (λ appends. extends_appends c.requires c.in_ok-node.ensures.built appends c.attach.new.self.tree) c.attach.ensures.appends
+push_value-returns-clause-added g t c = extends_appends c.requires c.in_ok-node.ensures.built c.append.ensures c.append.new.self.tree
 
 pub lay_out_object-returns-in_err-push_properties-clause-kept : goal.lay_out_object-returns-in_err-push_properties-clause-kept
 lay_out_object-returns-in_err-push_properties-clause-kept g t c = keeps_old c.in_ok-object.ensures.built c.in_err-push_properties.ensures.kept
@@ -213,7 +212,7 @@ pub lay_out_property-returns-clause-kept : goal.lay_out_property-returns-clause-
 lay_out_property-returns-clause-kept g t c = keeps_old c.in_ok-property.ensures.built (keeps_both c.in_ok-push_spaced.ensures.kept c.in_ok-push_value.ensures.kept)
 
 pub push_value-returns-clause-kept : goal.push_value-returns-clause-kept
-push_value-returns-clause-kept g t c = keeps_attached c.attach.result c.requires c.in_ok-node.ensures.built c.attach.ensures.appends c.attach.ensures.err
+push_value-returns-clause-kept g t c = keeps_appends c.requires c.in_ok-node.ensures.built c.append.ensures
 
 pub push_value-returns-in_err-node-clause-kept : goal.push_value-returns-in_err-node-clause-kept
 push_value-returns-in_err-node-clause-kept g t c = keeps_apart c.requires c.in_err-node.ensures.kept
@@ -221,7 +220,7 @@ push_value-returns-in_err-node-clause-kept g t c = keeps_apart c.requires c.in_e
 pub push_property-returns-clause-kept : goal.push_property-returns-clause-kept
 push_property-returns-clause-kept g t c =
     let unfinished : IsUnfinished c.args.tree.now.nodes c.args.object = assumption c.requires in
-    keeps_attached c.attach.result unfinished c.in_ok-node.ensures.built c.attach.ensures.appends c.attach.ensures.err
+    keeps_appends unfinished c.in_ok-node.ensures.built c.append.ensures
 
 pub push_property-returns-in_err-node-clause-kept : goal.push_property-returns-in_err-node-clause-kept
 push_property-returns-in_err-node-clause-kept g t c =

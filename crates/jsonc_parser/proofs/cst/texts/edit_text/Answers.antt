@@ -15,7 +15,7 @@ returns-in-Ok-text-clause-edited g c =
     c.in_default.ensures.made.edited (sym c.in-Ok-text.ensures.printed)
 
 pub returns-in-Ok-text-clause-made : goal.returns-in-Ok-text-clause-made
-returns-in-Ok-text-clause-made g c = (c.in-Ok.doc, c.run.new.doc, c.in-Ok.ensures.document, c.in_default.ensures.made, sym c.in-Ok-text.ensures.printed)
+returns-in-Ok-text-clause-made g c = (c.in-Ok.doc, c.run.new.doc, c.in-Ok.ensures.document, c.in_default.ensures.made, sym c.in-Ok-text.ensures.printed, c.in-Ok.ensures.laid)
 
 pub returns-clause-refused : goal.returns-clause-refused
 returns-clause-refused g c =

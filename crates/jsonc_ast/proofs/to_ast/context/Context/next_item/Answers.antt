@@ -3,7 +3,6 @@ use Rattle.std.proofs.Common.{inr, sym, ap, ◌∙◌, ◌∷◌, Some, is_some,
 use Rattle.jsonc_text.specs.Lexemes.{lexeme, punctuation}
 use Rattle.jsonc_ast.specs.to_ast.Context.{text_in}
 use Rattle.jsonc_ast.specs.to_ast.Reached.{container, comma}
-use Rattle.jsonc_ast.specs.to_ast.Faults.{StopsInside}
 use Rattle.jsonc_ast.proofs.lemmas.to_ast.Scans.{token_is, at_token}
 use Rattle.jsonc_ast.proofs.lemmas.to_ast.Stopping.{stops_here, open_stops, missing_stops, comma_stops, from_before}
 use Rattle.jsonc_text.specs.Grammar.{plain, Closes}
@@ -12,10 +11,10 @@ use Rattle.jsonc_ast.specs.to_ast.Context.{options_in}
 use Rattle.jsonc_ast.proofs.lemmas.to_ast.Scans.{closed, without_comma, after_comma}
 use Rattle.jsonc_ast.specs.to_ast.Refusals.{after}
 use Rattle.jsonc_ast.proofs.lemmas.to_ast.Collecting.{collects_on, ok_collects}
-use Rattle.jsonc_ast.proofs.lemmas.to_ast.Refusals.{err_of, ok_some, err_some, still, refuted, no_token_lexeme, nowhere_next, nothing_at_end, nothing_next, next_after_comma, missing_refused, only_next}
+use Rattle.jsonc_ast.proofs.lemmas.to_ast.Refusals.{on_err, ok_some, err_on, still, refuted, no_token_lexeme, nowhere_next, nothing_at_end, nothing_next, next_after_comma, missing_refused, only_next}
 use Rattle.jsonc_ast.proofs.lemmas.to_ast.Tokens.{open_before, end_here, closes_none, comes_after_ok}
 use Rattle.jsonc_text.specs.Faults.{IsFault}
-use Rattle.std.proofs.Common.{subst, IfErr}
+use Rattle.std.proofs.Common.{subst, OnErr}
 use Rattle.jsonc_ast.proofs.lemmas.to_ast.Scans.{kept_on}
 use Rattle.jsonc_ast.specs.to_ast.Handed.{at_place}
 use Rattle.jsonc_ast.proofs.lemmas.to_ast.Following.{follows_in, held_on, mark_behind, source_later, source_on}
@@ -23,35 +22,35 @@ use Rattle.jsonc_ast.proofs.to_ast.context.Context.next_item.Goals as goal
 
 pub returns-then-closes-clause-found : goal.returns-then-closes-clause-found
 returns-then-closes-clause-found g c =
-    closed c.args.self.now c.scan.new.self (found_in c.scan.new.self c.in_ok-token.field-0) (last c.scan.new.self c.in-Some.token) (closing c.args.container) c.scan.ensures.kept c.in_ok-token.ensures.found (ap (found_in c.scan.new.self) c.in-Some.is)
+    closed c.args.self.now c.scan.new.self (found_in c.scan.new.self c.in_ok-token.field-0) (last c.scan.new.self c.in-Some.token) (closing c.args.container) c.in_ok-token.ensures.kept c.in_ok-token.ensures.found (ap (found_in c.scan.new.self) c.in-Some.is)
     (Closes (options_in c.args.self.now) (closing c.args.container)) (λ t r g. plain g) (c.closes.ensures.0 c.if-closes.true)
 
 pub returns-then-is_comma-clause-found : goal.returns-then-is_comma-clause-found
 returns-then-is_comma-clause-found g c =
-    after_comma c.args.self.now c.scan.new.self c.item_after_comma-then-is_comma.new.self (found_in c.scan.new.self c.in_ok-token.field-0) (last c.scan.new.self c.in-Some.token) (closing c.args.container) (found_by c.item_after_comma-then-is_comma.new.self c.item_after_comma-then-is_comma.result) c.scan.ensures.kept c.in_ok-token.ensures.found (ap (found_in c.scan.new.self) c.in-Some.is)
+    after_comma c.args.self.now c.scan.new.self c.item_after_comma-then-is_comma.new.self (found_in c.scan.new.self c.in_ok-token.field-0) (last c.scan.new.self c.in-Some.token) (closing c.args.container) (found_by c.item_after_comma-then-is_comma.new.self c.item_after_comma-then-is_comma.result) c.in_ok-token.ensures.kept c.in_ok-token.ensures.found (ap (found_in c.scan.new.self) c.in-Some.is)
     (c.is_comma.ensures.0 c.if-is_comma.true) c.item_after_comma-then-is_comma.ensures.found
 
 pub returns-clause-found : goal.returns-clause-found
 returns-clause-found g c =
-    without_comma c.args.self.now c.scan.new.self (found_in c.scan.new.self c.in_ok-token.field-0) (last c.scan.new.self c.in-Some.token) 0 c.scan.ensures.kept c.in_ok-token.ensures.found (ap (found_in c.scan.new.self) c.in-Some.is) c.if-not-self.false
+    without_comma c.args.self.now c.scan.new.self (found_in c.scan.new.self c.in_ok-token.field-0) (last c.scan.new.self c.in-Some.token) 0 c.in_ok-token.ensures.kept c.in_ok-token.ensures.found (ap (found_in c.scan.new.self) c.in-Some.is) c.if-not-self.false
 
 pub returns-in_err-token-clause-refused : goal.returns-in_err-token-clause-refused
 returns-in_err-token-clause-refused g c =
     let old = c.args.self.now in
-    err_of _ c.in_err-token.field-0.0 c.from_residual.result c.from_residual.ensures.1
+    on_err c.from_residual.result
     (still (λ n. nowhere_next (options_in old) c.args.container (after old) (no_token_lexeme old n)) c.in_err-token.ensures.refused)
 
 pub returns-in_default-clause-refused : goal.returns-in_default-clause-refused
 returns-in_default-clause-refused g c =
     let old = c.args.self.now in
     let read = c.in_ok-token.ensures in
-    inr (nowhere_next (options_in old) c.args.container (after old) (nothing_at_end old c.scan.new.self (found_in c.scan.new.self c.in_ok-token.field-0) c.scan.ensures.kept read.found read.lexeme (ap (found_in c.scan.new.self) c.in_default.is)))
+    inr (nowhere_next (options_in old) c.args.container (after old) (nothing_at_end old c.scan.new.self (found_in c.scan.new.self c.in_ok-token.field-0) c.in_ok-token.ensures.kept read.found read.lexeme (ap (found_in c.scan.new.self) c.in_default.is)))
 
 pub returns-then-is_comma-clause-only : goal.returns-then-is_comma-clause-only
 returns-then-is_comma-clause-only g c =
     let read = c.in_ok-token.ensures in
     ok_some (found_by c.item_after_comma-then-is_comma.new.self c.item_after_comma-then-is_comma.result)
-    (λ t. next_after_comma c.args.self.now c.scan.new.self (found_in c.scan.new.self c.in_ok-token.field-0) c.scan.ensures.kept read.found read.lexeme (last c.scan.new.self c.in-Some.token) (ap (found_in c.scan.new.self) c.in-Some.is) c.args.container (c.is_comma.ensures.0 c.if-is_comma.true) c.item_after_comma-then-is_comma.new.self)
+    (λ t. next_after_comma c.args.self.now c.scan.new.self (found_in c.scan.new.self c.in_ok-token.field-0) c.in_ok-token.ensures.kept read.found read.lexeme (last c.scan.new.self c.in-Some.token) (ap (found_in c.scan.new.self) c.in-Some.is) c.args.container (c.is_comma.ensures.0 c.if-is_comma.true) c.item_after_comma-then-is_comma.new.self)
     c.item_after_comma-then-is_comma.ensures.only
 
 pub returns-then-is_comma-clause-refused : goal.returns-then-is_comma-clause-refused
@@ -59,37 +58,37 @@ returns-then-is_comma-clause-refused g c =
     let read = c.in_ok-token.ensures in
     let old = c.args.self.now in
     let new = c.scan.new.self in
-    err_some c.item_after_comma-then-is_comma.result
-    (λ e. still (nothing_next old new (found_in c.scan.new.self c.in_ok-token.field-0) c.scan.ensures.kept read.found read.lexeme (last c.scan.new.self c.in-Some.token) (ap (found_in c.scan.new.self) c.in-Some.is) c.args.container (c.is_comma.ensures.0 c.if-is_comma.true)))
+    err_on c.item_after_comma-then-is_comma.result
+    (still (nothing_next old new (found_in c.scan.new.self c.in_ok-token.field-0) c.in_ok-token.ensures.kept read.found read.lexeme (last c.scan.new.self c.in-Some.token) (ap (found_in c.scan.new.self) c.in-Some.is) c.args.container (c.is_comma.ensures.0 c.if-is_comma.true)))
     c.item_after_comma-then-is_comma.ensures.refused
 
 pub returns-then-not-self-clause-refused : goal.returns-then-not-self-clause-refused
 returns-then-not-self-clause-refused g c =
     let read = c.in_ok-token.ensures in
     let new = c.scan.new.self in
-    inr (missing_refused c.args.self.now new (found_in c.scan.new.self c.in_ok-token.field-0) c.scan.ensures.kept read.found read.lexeme (last c.scan.new.self c.in-Some.token) (ap (found_in c.scan.new.self) c.in-Some.is) c.args.container
+    inr (missing_refused c.args.self.now new (found_in c.scan.new.self c.in_ok-token.field-0) c.in_ok-token.ensures.kept read.found read.lexeme (last c.scan.new.self c.in-Some.token) (ap (found_in c.scan.new.self) c.in-Some.is) c.args.container
     (refuted c.closes.ensures.1 c.if-closes.false) (refuted c.is_comma.ensures.1 c.if-is_comma.false)
-    (ap (λ p. p.missing_commas) (sym (new.same ∙ c.scan.ensures.kept.options)) ∙ c.if-not-self.true))
+    (ap (λ p. p.missing_commas) (sym (new.same ∙ c.in_ok-token.ensures.kept.options)) ∙ c.if-not-self.true))
 
 pub returns-clause-only : goal.returns-clause-only
 returns-clause-only g c =
     let read = c.in_ok-token.ensures in
-    only_next c.args.self.now c.scan.new.self (found_in c.scan.new.self c.in_ok-token.field-0) c.scan.ensures.kept read.found read.lexeme (last c.scan.new.self c.in-Some.token) (ap (found_in c.scan.new.self) c.in-Some.is) c.args.container
+    only_next c.args.self.now c.scan.new.self (found_in c.scan.new.self c.in_ok-token.field-0) c.in_ok-token.ensures.kept read.found read.lexeme (last c.scan.new.self c.in-Some.token) (ap (found_in c.scan.new.self) c.in-Some.is) c.args.container
     (refuted c.closes.ensures.1 c.if-closes.false) (refuted c.is_comma.ensures.1 c.if-is_comma.false)
 
 pub returns-then-is_comma-clause-collects : goal.returns-then-is_comma-clause-collects
 returns-then-is_comma-clause-collects g c =
-    ok_collects c.item_after_comma-then-is_comma.result (collects_on c.args.self.now c.scan.new.self c.item_after_comma-then-is_comma.new.self c.scan.ensures.kept c.in_ok-token.ensures.collects) c.item_after_comma-then-is_comma.ensures.collects
+    ok_collects c.item_after_comma-then-is_comma.result (collects_on c.args.self.now c.scan.new.self c.item_after_comma-then-is_comma.new.self c.in_ok-token.ensures.kept c.in_ok-token.ensures.collects) c.item_after_comma-then-is_comma.ensures.collects
 
 pub returns-clause-stands : goal.returns-clause-stands
 returns-clause-stands g c =
     let read = c.in_ok-token.ensures in
-    closes_none c.args.self.now c.scan.new.self (found_in c.scan.new.self c.in_ok-token.field-0) c.scan.ensures.kept read.found read.lexeme (last c.scan.new.self c.in-Some.token) (ap (found_in c.scan.new.self) c.in-Some.is) c.args.container (refuted c.closes.ensures.1 c.if-closes.false)
+    closes_none c.args.self.now c.scan.new.self (found_in c.scan.new.self c.in_ok-token.field-0) c.in_ok-token.ensures.kept read.found read.lexeme (last c.scan.new.self c.in-Some.token) (ap (found_in c.scan.new.self) c.in-Some.is) c.args.container (refuted c.closes.ensures.1 c.if-closes.false)
 
 pub returns-then-is_comma-clause-comes : goal.returns-then-is_comma-clause-comes
 returns-then-is_comma-clause-comes g c =
     let read = c.in_ok-token.ensures in
-    comes_after_ok c.args.self.now c.scan.new.self (found_in c.scan.new.self c.in_ok-token.field-0) c.scan.ensures.kept read.found read.lexeme (last c.scan.new.self c.in-Some.token) (ap (found_in c.scan.new.self) c.in-Some.is) c.args.container c.item_after_comma-then-is_comma.new.self (found_by c.item_after_comma-then-is_comma.new.self c.item_after_comma-then-is_comma.result)
+    comes_after_ok c.args.self.now c.scan.new.self (found_in c.scan.new.self c.in_ok-token.field-0) c.in_ok-token.ensures.kept read.found read.lexeme (last c.scan.new.self c.in-Some.token) (ap (found_in c.scan.new.self) c.in-Some.is) c.args.container c.item_after_comma-then-is_comma.new.self (found_by c.item_after_comma-then-is_comma.new.self c.item_after_comma-then-is_comma.result)
     (c.is_comma.ensures.0 c.if-is_comma.true) c.item_after_comma-then-is_comma.ensures.found
 
 pub returns-clause-comes : goal.returns-clause-comes
@@ -99,17 +98,17 @@ pub returns-in_err-token-clause-error : goal.returns-in_err-token-clause-error
 returns-in_err-token-clause-error g c =
     let old = c.args.self.now in
     let k = c.args.container in
-    err_of (StopsInside k c.args.start (comma k (after old)) old) c.in_err-token.field-0.0 c.from_residual.result c.from_residual.ensures.1
-    (λ q a h. stops_here old (is_some c.args.start) (container k a ∷ q) (comma k (after old)) c.in_err-token.field-0.0 c.in_err-token.ensures.error)
+    on_err c.from_residual.result
+    (λ q a h. stops_here old (is_some c.args.start) (container k a ∷ q) (comma k (after old)) c.scan.new.self.fault c.in_err-token.ensures.error)
 
 pub returns-in_default-clause-error : goal.returns-in_default-clause-error
 returns-in_default-clause-error g c =
     let old = c.args.self.now in
     let new = c.scan.new.self in
     let read = c.in_ok-token.ensures in
-    let kept = c.scan.ensures.kept in
-    open_stops old new (found_in c.scan.new.self c.in_ok-token.field-0) kept read.found read.lexeme (ap (found_in c.scan.new.self) c.in_default.is) c.args.container c.args.start c.unterminated.result
-    (open_before old new c.args.container c.args.start c.unterminated.result kept (c.unterminated.ensures.error (end_here old new (found_in c.scan.new.self c.in_ok-token.field-0) kept read.found read.lexeme (ap (found_in c.scan.new.self) c.in_default.is)))) (comma c.args.container (after old)) (λ whole q. refl)
+    let kept = c.in_ok-token.ensures.kept in
+    open_stops old new (found_in c.scan.new.self c.in_ok-token.field-0) kept read.found read.lexeme (ap (found_in c.scan.new.self) c.in_default.is) c.args.container c.args.start c.stop_in.new.self.fault
+    (open_before old new c.args.container c.args.start c.stop_in.new.self.fault kept (c.stop_in.ensures.error (end_here old new (found_in c.scan.new.self c.in_ok-token.field-0) kept read.found read.lexeme (ap (found_in c.scan.new.self) c.in_default.is)))) (comma c.args.container (after old)) (λ whole q. refl)
 
 pub returns-then-is_comma-clause-error : goal.returns-then-is_comma-clause-error
 returns-then-is_comma-clause-error g c =
@@ -117,11 +116,11 @@ returns-then-is_comma-clause-error g c =
     let new = c.scan.new.self in
     let f = (found_in c.scan.new.self c.in_ok-token.field-0) in
     let read = c.in_ok-token.ensures in
-    let kept = c.scan.ensures.kept in
+    let kept = c.in_ok-token.ensures.kept in
     let mark = c.is_comma.ensures.0 c.if-is_comma.true in
     let one = token_is (text_in new) (options_in new) new.scanner (last c.scan.new.self c.in-Some.token) 0x2C refl refl (at_token old new f (last c.scan.new.self c.in-Some.token) 0x2C kept read.found (ap (found_in c.scan.new.self) c.in-Some.is)) mark in
-    err_some c.item_after_comma-then-is_comma.result
-    (λ e told q a from. comma_stops old new f kept read.found read.lexeme (last c.scan.new.self c.in-Some.token) (ap (found_in c.scan.new.self) c.in-Some.is) mark c.args.container e (is_some c.args.start) (container c.args.container a ∷ q) one
+    err_on c.item_after_comma-then-is_comma.result
+    (λ told q a from. comma_stops old new f kept read.found read.lexeme (last c.scan.new.self c.in-Some.token) (ap (found_in c.scan.new.self) c.in-Some.is) mark c.args.container c.item_after_comma-then-is_comma.new.self.fault (is_some c.args.start) (container c.args.container a ∷ q) one
     (told one q a (from_before old new kept c.args.start a from)))
     c.item_after_comma-then-is_comma.ensures.error
 
@@ -130,9 +129,9 @@ returns-then-not-self-clause-error g c = λ q a from.
     let old = c.args.self.now in
     let new = c.scan.new.self in
     let read = c.in_ok-token.ensures in
-    missing_stops old new (found_in c.scan.new.self c.in_ok-token.field-0) c.scan.ensures.kept read.found read.lexeme (last c.scan.new.self c.in-Some.token) (ap (found_in c.scan.new.self) c.in-Some.is) c.args.container c.missing_comma.result c.token_end-end.result
-    (ap (λ p. p.missing_commas) (sym (new.same ∙ c.scan.ensures.kept.options)) ∙ c.if-not-self.true) c.token_end-end.ensures (refuted c.closes.ensures.1 c.if-closes.false) (refuted c.is_comma.ensures.1 c.if-is_comma.false)
-    c.missing_comma.ensures.comma c.missing_comma.ensures.misplaced (is_some c.args.start) (container c.args.container a ∷ q)
+    missing_stops old new (found_in c.scan.new.self c.in_ok-token.field-0) c.in_ok-token.ensures.kept read.found read.lexeme (last c.scan.new.self c.in-Some.token) (ap (found_in c.scan.new.self) c.in-Some.is) c.args.container c.stop_for_comma.new.self.fault c.token_end-end.result
+    (ap (λ p. p.missing_commas) (sym (new.same ∙ c.in_ok-token.ensures.kept.options)) ∙ c.if-not-self.true) c.token_end-end.ensures (refuted c.closes.ensures.1 c.if-closes.false) (refuted c.is_comma.ensures.1 c.if-is_comma.false)
+    c.stop_for_comma.ensures.comma c.stop_for_comma.ensures.misplaced (is_some c.args.start) (container c.args.container a ∷ q)
 
 pub returns-then-has_next-clause-found : goal.returns-then-has_next-clause-found
 returns-then-has_next-clause-found g c =
@@ -150,8 +149,8 @@ returns-then-has_next-clause-only g c =
 pub returns-then-has_next-clause-refused : goal.returns-then-has_next-clause-refused
 returns-then-has_next-clause-refused g c =
     let passed = c.pass_next_comma.ensures in
-    err_some c.item_after_comma.result
-    (λ e. still (nothing_next c.args.self.now c.pass_next_comma.new.self (Some (lexeme (punctuation 0x2C))) passed.kept passed.found refl (lexeme (punctuation 0x2C)) refl c.args.container refl))
+    err_on c.item_after_comma.result
+    (still (nothing_next c.args.self.now c.pass_next_comma.new.self (Some (lexeme (punctuation 0x2C))) passed.kept passed.found refl (lexeme (punctuation 0x2C)) refl c.args.container refl))
     c.item_after_comma.ensures.refused
 
 pub returns-then-has_next-clause-collects : goal.returns-then-has_next-clause-collects
@@ -172,28 +171,28 @@ returns-then-has_next-clause-error g c =
     let passed = c.pass_next_comma.ensures in
     let kept = passed.kept in
     let one = token_is (text_in new) (options_in new) new.scanner (lexeme (punctuation 0x2C)) 0x2C refl refl (at_token old new (Some (lexeme (punctuation 0x2C))) (lexeme (punctuation 0x2C)) 0x2C kept passed.found refl) refl in
-    err_some c.item_after_comma.result
-    (λ e told q a from. comma_stops old new (Some (lexeme (punctuation 0x2C))) kept passed.found refl (lexeme (punctuation 0x2C)) refl refl c.args.container e (is_some c.args.start) (container c.args.container a ∷ q) one
+    err_on c.item_after_comma.result
+    (λ told q a from. comma_stops old new (Some (lexeme (punctuation 0x2C))) kept passed.found refl (lexeme (punctuation 0x2C)) refl refl c.args.container c.item_after_comma.new.self.fault (is_some c.args.start) (container c.args.container a ∷ q) one
     (told one q a (from_before old new kept c.args.start a from)))
     c.item_after_comma.ensures.error
 
 pub returns-in_default-clause-fault : goal.returns-in_default-clause-fault
-returns-in_default-clause-fault g c = subst (λ b. IsFault b c.unterminated.result) c.scan.ensures.kept.text c.unterminated.ensures.fault
+returns-in_default-clause-fault g c = subst (λ b. IsFault b c.stop_in.new.self.fault) c.in_ok-token.ensures.kept.text c.stop_in.ensures.fault
 
 pub returns-then-not-self-clause-fault : goal.returns-then-not-self-clause-fault
-returns-then-not-self-clause-fault g c = subst (λ b. IsFault b c.missing_comma.result) c.scan.ensures.kept.text c.missing_comma.ensures.fault
+returns-then-not-self-clause-fault g c = subst (λ b. IsFault b c.stop_for_comma.new.self.fault) c.in_ok-token.ensures.kept.text c.stop_for_comma.ensures.fault
 
 pub returns-then-is_comma-clause-kept : goal.returns-then-is_comma-clause-kept
-returns-then-is_comma-clause-kept g c = kept_on c.args.self.now c.scan.new.self c.item_after_comma-then-is_comma.new.self c.scan.ensures.kept c.item_after_comma-then-is_comma.ensures.kept
+returns-then-is_comma-clause-kept g c = ok_collects c.item_after_comma-then-is_comma.result (kept_on c.args.self.now c.scan.new.self c.item_after_comma-then-is_comma.new.self c.in_ok-token.ensures.kept) c.item_after_comma-then-is_comma.ensures.kept
 
 pub returns-then-is_comma-clause-fault : goal.returns-then-is_comma-clause-fault
-returns-then-is_comma-clause-fault g c = subst (λ b. IfErr c.item_after_comma-then-is_comma.result (IsFault b)) c.scan.ensures.kept.text c.item_after_comma-then-is_comma.ensures.fault
+returns-then-is_comma-clause-fault g c = subst (λ b. OnErr c.item_after_comma-then-is_comma.result (IsFault b c.item_after_comma-then-is_comma.new.self.fault)) c.in_ok-token.ensures.kept.text c.item_after_comma-then-is_comma.ensures.fault
 
 pub returns-then-has_next-clause-kept : goal.returns-then-has_next-clause-kept
-returns-then-has_next-clause-kept g c = kept_on c.args.self.now c.pass_next_comma.new.self c.item_after_comma.new.self c.pass_next_comma.ensures.kept c.item_after_comma.ensures.kept
+returns-then-has_next-clause-kept g c = ok_collects c.item_after_comma.result (kept_on c.args.self.now c.pass_next_comma.new.self c.item_after_comma.new.self c.pass_next_comma.ensures.kept) c.item_after_comma.ensures.kept
 
 pub returns-then-has_next-clause-fault : goal.returns-then-has_next-clause-fault
-returns-then-has_next-clause-fault g c = subst (λ b. IfErr c.item_after_comma.result (IsFault b)) c.pass_next_comma.ensures.kept.text c.item_after_comma.ensures.fault
+returns-then-has_next-clause-fault g c = subst (λ b. OnErr c.item_after_comma.result (IsFault b c.item_after_comma.new.self.fault)) c.pass_next_comma.ensures.kept.text c.item_after_comma.ensures.fault
 
 pub scan-requires-clause-behind : goal.scan-requires-clause-behind
 scan-requires-clause-behind g c = at_place c.requires.reached
@@ -209,13 +208,13 @@ pub returns-then-has_next-clause-follows : goal.returns-then-has_next-clause-fol
 returns-then-has_next-clause-follows g c = ok_collects c.item_after_comma.result (follows_in (source_later c.args.self.now c.pass_next_comma.new.self c.pass_next_comma.ensures.kept) refl) c.item_after_comma.ensures.follows
 
 pub item_after_comma-requires-then-is_comma-clause-source : goal.item_after_comma-requires-then-is_comma-clause-source
-item_after_comma-requires-then-is_comma-clause-source g c = source_on c.args.self.now c.scan.new.self _ c.scan.ensures.kept (c.in_ok-token.ensures.source ∙ c.requires.source)
+item_after_comma-requires-then-is_comma-clause-source g c = source_on c.args.self.now c.scan.new.self _ c.in_ok-token.ensures.kept (c.in_ok-token.ensures.source ∙ c.requires.source)
 
 pub item_after_comma-requires-then-is_comma-clause-behind : goal.item_after_comma-requires-then-is_comma-clause-behind
 item_after_comma-requires-then-is_comma-clause-behind g c =
     let old = c.args.self.now in
     let new = c.scan.new.self in
-    let kept = c.scan.ensures.kept in
+    let kept = c.in_ok-token.ensures.kept in
     let read = c.in_ok-token.ensures in
     let f = found_in new c.in_ok-token.field-0 in
     let t = last new c.in-Some.token in
@@ -226,7 +225,7 @@ pub returns-then-is_comma-clause-source : goal.returns-then-is_comma-clause-sour
 returns-then-is_comma-clause-source g c = ok_collects c.item_after_comma-then-is_comma.result (λ e. e ∙ c.in_ok-token.ensures.source) c.item_after_comma-then-is_comma.ensures.source
 
 pub returns-then-is_comma-clause-follows : goal.returns-then-is_comma-clause-follows
-returns-then-is_comma-clause-follows g c = ok_collects c.item_after_comma-then-is_comma.result (follows_in (source_later c.args.self.now c.scan.new.self c.scan.ensures.kept) refl) c.item_after_comma-then-is_comma.ensures.follows
+returns-then-is_comma-clause-follows g c = ok_collects c.item_after_comma-then-is_comma.result (follows_in (source_later c.args.self.now c.scan.new.self c.in_ok-token.ensures.kept) refl) c.item_after_comma-then-is_comma.ensures.follows
 
 pub returns-then-is_comma-clause-held : goal.returns-then-is_comma-clause-held
 returns-then-is_comma-clause-held g c = ok_collects c.item_after_comma-then-is_comma.result (held_on c.in_ok-token.ensures.held) c.item_after_comma-then-is_comma.ensures.held

@@ -2,14 +2,12 @@ use Rattle.std.proofs.Common.{◌∙◌, [], ap, inr, refl, subst, sym, arith}
 use Rattle.jsonc_ast.specs.to_ast.Handed.{at_place}
 use Rattle.jsonc_text.specs.Faults.{IsFault}
 use Rattle.jsonc_ast.specs.Located.{value_at}
-use Rattle.jsonc_ast.specs.to_ast.Context.{last, found_in, text_in, options_in}
+use Rattle.jsonc_ast.specs.to_ast.Context.{last, found_in}
 use Rattle.jsonc_ast.specs.to_ast.Reached.{document}
-use Rattle.jsonc_ast.specs.to_ast.Refusals.{Refuses}
-use Rattle.jsonc_ast.specs.to_ast.Faults.{ParseFault}
 use Rattle.jsonc_ast.proofs.lemmas.to_ast.MovedTokens.{none_found}
 use Rattle.jsonc_ast.proofs.lemmas.to_ast.Leaves.{empty_document, value_document}
 use Rattle.jsonc_ast.proofs.lemmas.to_ast.NoValues.{value_read, document_no_token, document_no_value, document_no_end, document_goes_on, document_from_start}
-use Rattle.jsonc_ast.proofs.lemmas.to_ast.Refusals.{err_of, still}
+use Rattle.jsonc_ast.proofs.lemmas.to_ast.Refusals.{on_err, still}
 use Rattle.jsonc_ast.proofs.lemmas.to_ast.Following.{follows_in, source_on}
 use Rattle.jsonc_ast.proofs.lemmas.to_ast.Scans.{kept_on}
 use Rattle.jsonc_ast.proofs.lemmas.to_ast.OpenContainers.{root_stops, end_stops, second_stops, text_stops}
@@ -17,10 +15,10 @@ use Rattle.jsonc_ast.proofs.lemmas.to_ast.Stopping.{stops_here}
 use Rattle.jsonc_ast.proofs.lemmas.to_ast.Walks.{root_counts, root_fits}
 use Rattle.jsonc_ast.proofs.lemmas.to_ast.Collecting.{collects_turn}
 use Rattle.jsonc_scan.specs.Scanner.{IsThere}
-use Rattle.jsonc_ast.proofs.to_ast.walk.read_document.Goals as goal
+use Rattle.jsonc_ast.proofs.to_ast.walk.read_text.Goals as goal
 
 pub returns-in_default-clause-found : goal.returns-in_default-clause-found
-returns-in_default-clause-found g c = empty_document c.args.context.now c.scan.new.self (found_in c.scan.new.self c.in_ok-token.field-0) c.requires.start c.scan.ensures.kept c.in_ok-token.ensures.found (ap (found_in c.scan.new.self) c.in_default.is)
+returns-in_default-clause-found g c = empty_document c.args.context.now c.scan.new.self (found_in c.scan.new.self c.in_ok-token.field-0) c.requires.start c.in_ok-token.ensures.kept c.in_ok-token.ensures.found (ap (found_in c.scan.new.self) c.in_default.is)
 
 pub returns-clause-found : goal.returns-clause-found
 returns-clause-found g c =
@@ -31,7 +29,7 @@ returns-clause-found g c =
     let read = c.in_ok-value.ensures.read.found in (
       read.value,
       value_document old now mid end (found_in now c.in_ok-token.field-0) (found_in end c.in_ok-scan.field-0) read.value c.requires.start
-          c.scan.ensures.kept c.in_ok-token.ensures.found c.in_ok-value.ensures.read.kept read.reads c.scan-2.ensures.kept c.in_ok-scan.ensures.found (ap (found_in end) c.in-None.is),
+          c.in_ok-token.ensures.kept c.in_ok-token.ensures.found c.in_ok-value.ensures.read.kept read.reads c.in_ok-scan.ensures.kept c.in_ok-scan.ensures.found (ap (found_in end) c.in-None.is),
       omega (arith, read.within),
       (c.scan.new.to, c.parse_value.new.to, c.in_ok-token.ensures.passes, read.made, c.in_ok-scan.ensures.passes),
     )
@@ -39,13 +37,13 @@ returns-clause-found g c =
 pub returns-clause-kept : goal.returns-clause-kept
 returns-clause-kept g c =
     let mid = c.parse_value.new.context in
-    kept_on c.args.context.now c.scan.new.self c.scan-2.new.self c.scan.ensures.kept (kept_on c.scan.new.self mid c.scan-2.new.self c.in_ok-value.ensures.read.kept c.scan-2.ensures.kept)
+    kept_on c.args.context.now c.scan.new.self c.scan-2.new.self c.in_ok-token.ensures.kept (kept_on c.scan.new.self mid c.scan-2.new.self c.in_ok-value.ensures.read.kept c.in_ok-scan.ensures.kept)
 
 pub returns-in_err-token-clause-refused : goal.returns-in_err-token-clause-refused
 returns-in_err-token-clause-refused g c =
     let old = c.args.context.now in
-    let e = c.in_err-token.field-0.0 in
-    err_of (Refuses (options_in old) g.R.Receiver.whole (text_in old)) e c.from_residual.result c.from_residual.ensures.1
+    let e = c.scan.new.self.fault in
+    on_err c.from_residual.result
     (still (λ n. document_from_start g.R.Receiver.whole old _ _ c.requires.start refl refl (document_no_token g.R.Receiver.whole old n)) c.in_err-token.ensures.refused)
 
 pub returns-in_err-value-clause-refused : goal.returns-in_err-value-clause-refused
@@ -53,9 +51,9 @@ returns-in_err-value-clause-refused g c =
     let old = c.args.context.now in
     let now = c.scan.new.self in
     let read = c.in_ok-token.ensures in
-    let e = c.in_err-value.field-0.0 in
-    err_of (Refuses (options_in old) g.R.Receiver.whole (text_in old)) e c.from_residual-in_err-value.result c.from_residual-in_err-value.ensures.1
-    (still (λ n. document_from_start g.R.Receiver.whole old _ _ c.requires.start refl refl (document_no_value g.R.Receiver.whole old now (found_in c.scan.new.self c.in_ok-token.field-0) c.scan.ensures.kept read.found read.lexeme (last c.scan.new.self c.in-Some.token) (ap (found_in c.scan.new.self) c.in-Some.is) n)) c.in_err-value.ensures.refused.refused)
+    let e = c.parse_value.new.context.fault in
+    on_err c.from_residual-in_err-value.result
+    (still (λ n. document_from_start g.R.Receiver.whole old _ _ c.requires.start refl refl (document_no_value g.R.Receiver.whole old now (found_in c.scan.new.self c.in_ok-token.field-0) c.in_ok-token.ensures.kept read.found read.lexeme (last c.scan.new.self c.in-Some.token) (ap (found_in c.scan.new.self) c.in-Some.is) n)) c.in_err-value.ensures.refused.refused)
 
 pub returns-in_err-scan-clause-refused : goal.returns-in_err-scan-clause-refused
 returns-in_err-scan-clause-refused g c =
@@ -63,10 +61,10 @@ returns-in_err-scan-clause-refused g c =
     let now = c.scan.new.self in
     let read = c.in_ok-token.ensures in
     let value = c.in_ok-value.ensures.read in
-    let e = c.in_err-scan.field-0.0 in
-    err_of (Refuses (options_in old) g.R.Receiver.whole (text_in old)) e c.from_residual-in_err-scan.result c.from_residual-in_err-scan.ensures.1
+    let e = c.scan-2.new.self.fault in
+    on_err c.from_residual-in_err-scan.result
     (still
-    (λ n. document_from_start g.R.Receiver.whole old _ _ c.requires.start refl refl (document_no_end g.R.Receiver.whole old now (found_in c.scan.new.self c.in_ok-token.field-0) c.scan.ensures.kept read.found read.lexeme (last c.scan.new.self c.in-Some.token) (ap (found_in c.scan.new.self) c.in-Some.is) c.parse_value.new.context value.found.value value.kept value.found.reads n)) c.in_err-scan.ensures.refused)
+    (λ n. document_from_start g.R.Receiver.whole old _ _ c.requires.start refl refl (document_no_end g.R.Receiver.whole old now (found_in c.scan.new.self c.in_ok-token.field-0) c.in_ok-token.ensures.kept read.found read.lexeme (last c.scan.new.self c.in-Some.token) (ap (found_in c.scan.new.self) c.in-Some.is) c.parse_value.new.context value.found.value value.kept value.found.reads n)) c.in_err-scan.ensures.refused)
 
 pub returns-in_default-2-clause-refused : goal.returns-in_default-2-clause-refused
 returns-in_default-2-clause-refused g c =
@@ -75,36 +73,36 @@ returns-in_default-2-clause-refused g c =
     let value = c.in_ok-value.ensures.read in
     let over = c.in_ok-scan.ensures in
     inr (document_from_start g.R.Receiver.whole old _ _ c.requires.start refl refl
-    (document_goes_on g.R.Receiver.whole old c.scan.new.self (found_in c.scan.new.self c.in_ok-token.field-0) c.scan.ensures.kept read.found read.lexeme (last c.scan.new.self c.in-Some.token) (ap (found_in c.scan.new.self) c.in-Some.is) c.parse_value.new.context value.found.value value.kept value.found.reads
-    c.scan-2.new.self (found_in c.scan-2.new.self c.in_ok-scan.field-0) c.scan-2.ensures.kept over.found over.lexeme (λ e. c.in_default-2.not-None (none_found (last c.scan-2.new.self) c.in_ok-scan.field-0 e))))
+    (document_goes_on g.R.Receiver.whole old c.scan.new.self (found_in c.scan.new.self c.in_ok-token.field-0) c.in_ok-token.ensures.kept read.found read.lexeme (last c.scan.new.self c.in-Some.token) (ap (found_in c.scan.new.self) c.in-Some.is) c.parse_value.new.context value.found.value value.kept value.found.reads
+    c.scan-2.new.self (found_in c.scan-2.new.self c.in_ok-scan.field-0) c.in_ok-scan.ensures.kept over.found over.lexeme (λ e. c.in_default-2.not-None (none_found (last c.scan-2.new.self) c.in_ok-scan.field-0 e))))
 
 pub returns-in_err-token-clause-error : goal.returns-in_err-token-clause-error
 returns-in_err-token-clause-error g c =
     let old = c.args.context.now in
-    let e = c.in_err-token.field-0.0 in
-    err_of (ParseFault (options_in old) (text_in old) g.R.Receiver.whole) e c.from_residual.result c.from_residual.ensures.1
+    let e = c.scan.new.self.fault in
+    on_err c.from_residual.result
     (text_stops g.R.Receiver.whole old _ _ e refl refl c.requires.start (stops_here old g.R.Receiver.whole [] document e c.in_err-token.ensures.error))
 
 pub returns-in_err-value-clause-error : goal.returns-in_err-value-clause-error
 returns-in_err-value-clause-error g c =
     let old = c.args.context.now in
     let read = c.in_ok-token.ensures in
-    let e = c.in_err-value.field-0.0 in
-    err_of (ParseFault (options_in old) (text_in old) g.R.Receiver.whole) e c.from_residual-in_err-value.result c.from_residual-in_err-value.ensures.1
+    let e = c.parse_value.new.context.fault in
+    on_err c.from_residual-in_err-value.result
     (text_stops g.R.Receiver.whole old _ _ e refl refl c.requires.start
-    (root_stops g.R.Receiver.whole old c.scan.new.self (found_in c.scan.new.self c.in_ok-token.field-0) c.scan.ensures.kept read.found read.lexeme (last c.scan.new.self c.in-Some.token) (ap (found_in c.scan.new.self) c.in-Some.is) e (root_counts g.R.Receiver.whole) c.in_err-value.ensures.refused.error))
+    (root_stops g.R.Receiver.whole old c.scan.new.self (found_in c.scan.new.self c.in_ok-token.field-0) c.in_ok-token.ensures.kept read.found read.lexeme (last c.scan.new.self c.in-Some.token) (ap (found_in c.scan.new.self) c.in-Some.is) e (root_counts g.R.Receiver.whole) c.in_err-value.ensures.refused.error))
 
 pub returns-in_err-scan-clause-error : goal.returns-in_err-scan-clause-error
 returns-in_err-scan-clause-error g c =
     let old = c.args.context.now in
     let read = c.in_ok-token.ensures in
     let value = c.in_ok-value.ensures.read in
-    let e = c.in_err-scan.field-0.0 in
+    let e = c.scan-2.new.self.fault in
     let x = value.found.value in
     let mid = c.parse_value.new.context in
-    err_of (ParseFault (options_in old) (text_in old) g.R.Receiver.whole) e c.from_residual-in_err-scan.result c.from_residual-in_err-scan.ensures.1
+    on_err c.from_residual-in_err-scan.result
     (text_stops g.R.Receiver.whole old _ _ e refl refl c.requires.start
-    (end_stops g.R.Receiver.whole old c.scan.new.self (found_in c.scan.new.self c.in_ok-token.field-0) c.scan.ensures.kept read.found read.lexeme (last c.scan.new.self c.in-Some.token) (ap (found_in c.scan.new.self) c.in-Some.is) mid (value_at x) value.kept (value_read c.scan.new.self mid x value.found.reads) (root_fits g.R.Receiver.whole _ value.found.within) e c.in_err-scan.ensures.error))
+    (end_stops g.R.Receiver.whole old c.scan.new.self (found_in c.scan.new.self c.in_ok-token.field-0) c.in_ok-token.ensures.kept read.found read.lexeme (last c.scan.new.self c.in-Some.token) (ap (found_in c.scan.new.self) c.in-Some.is) mid (value_at x) value.kept (value_read c.scan.new.self mid x value.found.reads) (root_fits g.R.Receiver.whole _ value.found.within) e c.in_err-scan.ensures.error))
 
 pub returns-in_default-2-clause-error : goal.returns-in_default-2-clause-error
 returns-in_default-2-clause-error g c =
@@ -114,28 +112,28 @@ returns-in_default-2-clause-error g c =
     let over = c.in_ok-scan.ensures in
     let x = value.found.value in
     let mid = c.parse_value.new.context in
-    text_stops g.R.Receiver.whole old _ _ c.fault_here.result refl refl c.requires.start
-    (second_stops g.R.Receiver.whole old c.scan.new.self (found_in c.scan.new.self c.in_ok-token.field-0) c.scan.ensures.kept read.found read.lexeme (last c.scan.new.self c.in-Some.token) (ap (found_in c.scan.new.self) c.in-Some.is) mid (value_at x) value.kept (value_read c.scan.new.self mid x value.found.reads) (root_fits g.R.Receiver.whole _ value.found.within)
-    c.scan-2.new.self (found_in c.scan-2.new.self c.in_ok-scan.field-0) c.scan-2.ensures.kept over.found over.lexeme (λ e. c.in_default-2.not-None (none_found (last c.scan-2.new.self) c.in_ok-scan.field-0 e)) c.fault_here.result c.fault_here.ensures.kind c.fault_here.ensures.range)
+    text_stops g.R.Receiver.whole old _ _ c.stop_here.new.self.fault refl refl c.requires.start
+    (second_stops g.R.Receiver.whole old c.scan.new.self (found_in c.scan.new.self c.in_ok-token.field-0) c.in_ok-token.ensures.kept read.found read.lexeme (last c.scan.new.self c.in-Some.token) (ap (found_in c.scan.new.self) c.in-Some.is) mid (value_at x) value.kept (value_read c.scan.new.self mid x value.found.reads) (root_fits g.R.Receiver.whole _ value.found.within)
+    c.scan-2.new.self (found_in c.scan-2.new.self c.in_ok-scan.field-0) c.in_ok-scan.ensures.kept over.found over.lexeme (λ e. c.in_default-2.not-None (none_found (last c.scan-2.new.self) c.in_ok-scan.field-0 e)) c.stop_here.new.self.fault c.stop_here.ensures.kind c.stop_here.ensures.range)
 
 pub returns-in_err-token-clause-fault : goal.returns-in_err-token-clause-fault
-returns-in_err-token-clause-fault g c = err_of (IsFault (text_in c.args.context.now)) c.in_err-token.field-0.0 c.from_residual.result c.from_residual.ensures.1 c.in_err-token.ensures.fault
+returns-in_err-token-clause-fault g c = on_err c.from_residual.result c.in_err-token.ensures.fault
 
 pub returns-in_err-value-clause-fault : goal.returns-in_err-value-clause-fault
 returns-in_err-value-clause-fault g c =
-    let e = c.in_err-value.field-0.0 in
-    err_of (IsFault (text_in c.args.context.now)) e c.from_residual-in_err-value.result c.from_residual-in_err-value.ensures.1 (subst (λ b. IsFault b e) c.scan.ensures.kept.text c.in_err-value.ensures.refused.fault)
+    let e = c.parse_value.new.context.fault in
+    on_err c.from_residual-in_err-value.result (subst (λ b. IsFault b e) c.in_ok-token.ensures.kept.text c.in_err-value.ensures.refused.fault)
 
 pub returns-in_err-scan-clause-fault : goal.returns-in_err-scan-clause-fault
 returns-in_err-scan-clause-fault g c =
-    let e = c.in_err-scan.field-0.0 in
-    err_of (IsFault (text_in c.args.context.now)) e c.from_residual-in_err-scan.result c.from_residual-in_err-scan.ensures.1
-    (subst (λ b. IsFault b e) (c.in_ok-value.ensures.read.kept.text ∙ c.scan.ensures.kept.text) c.in_err-scan.ensures.fault)
+    let e = c.scan-2.new.self.fault in
+    on_err c.from_residual-in_err-scan.result
+    (subst (λ b. IsFault b e) (c.in_ok-value.ensures.read.kept.text ∙ c.in_ok-token.ensures.kept.text) c.in_err-scan.ensures.fault)
 
 pub returns-in_default-2-clause-fault : goal.returns-in_default-2-clause-fault
 returns-in_default-2-clause-fault g c =
-    let e = c.fault_here.result in
-    subst (λ b. IsFault b e) (c.scan-2.ensures.kept.text ∙ c.in_ok-value.ensures.read.kept.text ∙ c.scan.ensures.kept.text) c.fault_here.ensures.fault
+    let e = c.stop_here.new.self.fault in
+    subst (λ b. IsFault b e) (c.in_ok-scan.ensures.kept.text ∙ c.in_ok-value.ensures.read.kept.text ∙ c.in_ok-token.ensures.kept.text) c.stop_here.ensures.fault
 
 pub returns-in_default-clause-end : goal.returns-in_default-clause-end
 returns-in_default-clause-end g c = subst (IsThere c.scan.new.self.scanner) (ap (found_in c.scan.new.self) c.in_default.is) c.in_ok-token.ensures.found.1
@@ -163,7 +161,7 @@ scan-requires-2-clause-source g c =
     let old = c.args.context.now in
     let now = c.scan.new.self in
     let mid = c.parse_value.new.context in
-    source_on old mid _ (kept_on old now mid c.scan.ensures.kept c.in_ok-value.ensures.read.kept) (c.in_ok-value.ensures.read.source ∙ c.in_ok-token.ensures.source ∙ c.requires.source)
+    source_on old mid _ (kept_on old now mid c.in_ok-token.ensures.kept c.in_ok-value.ensures.read.kept) (c.in_ok-value.ensures.read.source ∙ c.in_ok-token.ensures.source ∙ c.requires.source)
 
 pub scan-requires-2-clause-behind : goal.scan-requires-2-clause-behind
 scan-requires-2-clause-behind g c = at_place c.in_ok-value.ensures.read.reached

@@ -1,0 +1,477 @@
+-- What an element that comes into a container of a sound tree adds to the text.
+use Rattle.std.proofs.Common.{◌||◌, ◌==◌, inr, inl, ◌⊎◌, arith, ℕ, ◌+◌, ◌≡◌, ◌∙◌, sym, ap, subst, refl, Bool, true, false, not, List, [], ◌∷◌, ◌++◌, length, IsTrue, Option}
+use Rattle.std.proofs.lemmas.List.{append_assoc, append-nil}
+use Rattle.jsonc_text.specs.Options.{Options}
+use Rattle.jsonc_text.specs.Plain.{Plain}
+use Rattle.jsonc_tree.specs.Content.{Content, token, newline}
+use Rattle.jsonc_tree.specs.OrderedTree.{OrderedTree, none, more, own_leaf, leaves, followed_by, Top}
+use Rattle.jsonc_sound.specs.Shape.{token_then, printed_text}
+use Rattle.jsonc_sound.specs.Leaving.{element_count}
+use Rattle.jsonc_sound.specs.Leaving as leaving
+use Rattle.jsonc_sound.specs.Leaving.{AreInlineTrivia}
+use Rattle.jsonc_edit.specs.multiline.Reflows.{has_newline}
+use Rattle.jsonc_layout.specs.nodes.Kinds.{is_newline}
+use Rattle.jsonc_run.proofs.lemmas.promise.Trivia.{beside_text, line_end_text}
+use Rattle.jsonc_sound.specs.Rows.{RowKind, of_values, of_properties, closing, opening, container_of}
+use Rattle.jsonc_sound.specs.SoundTrees.{SoundTree}
+use Rattle.jsonc_sound.specs.Marks.{marks, marks_of}
+use Rattle.jsonc_sound.specs.TreeChanges.{IsElement, leaves_of, ElementChanged, this_element, passed, later_element, DocumentChanged}
+use Rattle.jsonc_sound.proofs.Texts.{AllUtf8}
+use Rattle.jsonc_sound.proofs.TriviaLeaves.{front_leaves}
+use Rattle.jsonc_edit.specs.multiline.Laws.{bracketed}
+use Rattle.jsonc_insert.proofs.lemmas.elements.Marked.{behind_marks, led_marks}
+use Rattle.jsonc_tree.proofs.OrderedTrees.{leaves-followed_by}
+use Rattle.jsonc_sound.specs.TriviaChanges.{AreTrivia, leaves_then}
+use Rattle.jsonc_insert.specs.elements.Coming as coming
+use Rattle.jsonc_insert.specs.elements.Coming.{FirstLinesLeave, LastLinesLeave, BlankLinesLeave, Gap, CommaInserted, GoesOn, ElementInserted}
+use Rattle.jsonc_text.specs.Paths.{Entry, HasEntries}
+use Rattle.jsonc_text.specs.Marks.{Mark}
+use Rattle.jsonc_text.specs.Edits.{Come, Document, Inside, Within, Joins, NoCommaComes, Spreads}
+use Rattle.jsonc_run.specs.promise.PlaceLaws.{text_of_leaves, node_chars, texts_of}
+use Rattle.jsonc_run.proofs.lemmas.promise.Entries.{element_text}
+use Rattle.jsonc_run.proofs.lemmas.promise.Reversed.{flip, front_same, back_same}
+use Rattle.jsonc_run.proofs.lemmas.promise.Leaves.{row_back, front_of, back_of, document_parts, document_utf8, text_joined, utf8_first, utf8_joined, utf8_second}
+use Rattle.jsonc_run.proofs.lemmas.promise.StretchElements.{Reached, at_first, past_leaves, past_row}
+use Rattle.jsonc_run.proofs.lemmas.promise.RemovedTexts.{container_leaves, entry_begins, entry_there, none_more}
+use Rattle.jsonc_run.proofs.lemmas.promise.Stretches.{marks_in, marks_in_both, parted, parted_as}
+use Rattle.jsonc_sound.specs.Documents.{all_marks, document_of}
+use Rattle.jsonc_run.proofs.lemmas.promise.Values.{at_the_place, node_leaves}
+use Rattle.jsonc_run.proofs.lemmas.promise.Insides.{as_many, comma_comes, gap_trivia, goes_on, inside_so, texts_followed, texts_past}
+use Rattle.jsonc_run.proofs.lemmas.promise.Joined.{Good, bracket_follows, close_text, gap_blanks, good_as, good_first, good_second, good_tree, led_so, lines_behind, lines_past, lines_trimmed, no_comma_closes, one_token, onward, open_text, past_some, past_stretch, with_row}
+use Rattle.jsonc_sound.proofs.RowParts.{leaves_followed}
+use Rattle.jsonc_tree.proofs.Rows.{followed_by-assoc}
+use Rattle.jsonc_run.proofs.lemmas.promise.Values.{ValueHere}
+use Rattle.jsonc_run.proofs.lemmas.promise.CommentTexts.{blanks_text}
+use Rattle.jsonc_run.proofs.lemmas.promise.LooseRows.{AreLeaves, Ended, all_trivia, behind_one, Reads, behind_entry, closing_gap, ended, kind_of_row, none_comes, row_reads}
+use Rattle.jsonc_run.proofs.lemmas.promise.Closing.{count_followed}
+use Rattle.jsonc_sound.proofs.LooseLines.{Stops, trivia_gap}
+use Rattle.jsonc_sound.specs.Rows as rows
+use Rattle.jsonc_text.specs.Gaps as text_gaps
+use Rattle.jsonc_run.proofs.lemmas.promise.PrintedShapes.{comma_mark}
+use Rattle.jsonc_text.specs.Edits as texts
+use Rattle.jsonc_sound.specs.Lines.{LinesEndLoosely}
+use Rattle.jsonc_text.specs.Paths as places
+
+-- an element stands in a row with more behind it
+record Followed {x y : Top} {i : ℕ} {row new : OrderedTree} (e : ElementChanged x y i row new) (after : OrderedTree) : Type 0 where
+  changed : ElementChanged x y i (followed_by row after) (followed_by new after)
+  same : row_back changed ≡ row_back e ++ leaves after
+
+followed : {x y : Top} {i : ℕ} {row new : OrderedTree} (e : ElementChanged x y i row new) (after : OrderedTree) → Followed e after
+followed (this_element {after = rest} p q) after = record { changed = this_element p q; same = leaves-followed_by rest after }
+followed (passed h e) after = let m = followed e after in record { changed = passed h m.changed; same = m.same }
+followed (later_element h e) after = let m = followed e after in record { changed = later_element h m.changed; same = m.same }
+
+reached_with : {x y : Top} {i : ℕ} {row : OrderedTree} {rest : List Content} (after : OrderedTree) → Reached x y i row rest → Reached x y i (followed_by row after) (rest ++ leaves after)
+reached_with after r = let m = followed r.changed after in record { new = followed_by r.new after; changed = m.changed; same = m.same ∙ ap (λ l. l ++ leaves after) r.same }
+
+gap_unmarked : {b : Bool} {gap : List Content} → Gap b gap → marks_of gap ≡ []
+gap_unmarked coming.nothing = refl
+gap_unmarked coming.a_space = refl
+gap_unmarked (coming.a_line h) = refl
+
+regroup_row : (ld gp a b bh : List Content) → ld ++ (gp ++ (a ++ (b ++ bh))) ≡ (ld ++ gp) ++ ((a ++ b) ++ bh)
+regroup_row ld gp a b bh = simp (append_assoc) refl
+
+regroup : (f ld ow bh br b : List Content) (c : Content) → f ++ ((c ∷ ((ld ++ (ow ++ bh)) ++ br)) ++ b) ≡ (f ++ c ∷ ld) ++ (ow ++ ((bh ++ br) ++ b))
+regroup f ld ow bh br b c = simp (append_assoc) refl
+
+regroup_marks : (f a b c : List Mark) → f ++ ((a ++ b) ++ c) ≡ (f ++ a) ++ (b ++ c)
+regroup_marks f a b c = simp (append_assoc) refl
+
+-- what a new element adds to a text, its place there, and its marks
+abbrev pub TextComes : RowKind → List ℕ → ℕ → List Mark → Document → Document → Type 0
+TextComes kind path n come d e = (before behind : List (List ℕ)) × (length before ≡ n) × (text rest : List ℕ) × Inside path (before ++ behind) (before ++ text ∷ behind) d e
+    × Entry (path ++ length before ∷ []) e.options e.text (text ++ rest) rest × Come come (text ++ rest) rest d e × Joins (kind_of_row kind) text rest d e
+
+opening_so : (kind : RowKind) → IsTrue (places.opening (kind_of_row kind) == 0x2C || places.opening (kind_of_row kind) == places.opening (kind_of_row kind))
+opening_so of_values = refl
+opening_so of_properties = refl
+
+element_stops : (content : Content) (below after : OrderedTree) → IsElement content → Stops (more content below after)
+element_stops (Content.whitespace s) below after h = cc
+element_stops (Content.newline k) below after h = cc
+element_stops content below after h = tt
+
+-- where no line ends in a row
+either_false : (x y : Bool) → x || y ≡ false → (x ≡ false) × (y ≡ false)
+either_false true y e = cc
+either_false false y e = (refl, e)
+
+both_lack : (a b : OrderedTree) → has_newline (followed_by a b) ≡ false → (has_newline a ≡ false) × (has_newline b ≡ false)
+both_lack none b h = (refl, h)
+both_lack (more c w a) b h =
+    let m = either_false (is_newline c) (has_newline (followed_by a b)) h in
+    let n = both_lack a b m.1 in
+    (ap (λ x. x || has_newline a) m.0 ∙ n.0, n.1)
+
+lack_both : (a b : OrderedTree) → has_newline a ≡ false → has_newline b ≡ false → has_newline (followed_by a b) ≡ false
+lack_both none b h k = k
+lack_both (more c w a) b h k = let m = either_false (is_newline c) (has_newline a) h in ap (λ x. x || has_newline (followed_by a b)) m.0 ∙ lack_both a b m.1 k
+
+led_lacks : {front led : OrderedTree} → CommaInserted front led → has_newline front ≡ false → has_newline led ≡ false
+led_lacks coming.none_comes h = h
+led_lacks (coming.one_comes f last beside p b) h =
+    let rest : OrderedTree = leaves_then beside none in
+    let m = both_lack f (more last.content last.below rest) h in
+    let n = either_false (is_newline last.content) (has_newline rest) m.1 in
+    lack_both f (more last.content last.below (token_then 0x2C rest)) m.0 (ap (λ x. x || has_newline rest) n.0 ∙ n.1)
+
+-- leaves of trivia without the end of a line stand on one
+on_one_line : (o : Options) (kind : places.Kind) (z : List ℕ) (ls : List Content) (are : AreTrivia ls) (c : Content) (b r : OrderedTree) (s : OrderedTree) → AreLeaves o kind z ls are c b r s → has_newline s ≡ false → AreInlineTrivia (leaves s)
+on_one_line o kind z ls are c b r none a h = tt
+on_one_line o kind z ls are c b r (more (Content.whitespace k) w s) a h = subst (λ y. AreInlineTrivia (leaves (more (Content.whitespace k) y s))) (sym a.1) (refl, on_one_line o kind z ls are c b r s a.2 h)
+on_one_line o kind z ls are c b r (more (Content.comment k) w s) a h = subst (λ y. AreInlineTrivia (leaves (more (Content.comment k) y s))) (sym a.1) (refl, on_one_line o kind z ls are c b r s a.2 h)
+on_one_line o kind z ls are c b r (more (Content.newline k) w s) a h = cc
+on_one_line o kind z ls are c b r (more x w s) a h = absurd a.0
+
+-- all around it stays
+module _ (o : Options) (kind : RowKind) (row middle kept new : OrderedTree) {path : List ℕ} {t u : OrderedTree} (s : SoundTree o t) (r : SoundTree o u) (d : DocumentChanged (bracketed kind row) (bracketed kind new) path t u) (leave : BlankLinesLeave middle kept) where
+  abbrev F : List ℕ
+  F = text_of_leaves (front_of d)
+
+  abbrev B : List ℕ
+  B = text_of_leaves (back_of d)
+
+  abbrev k : places.Kind
+  k = kind_of_row kind
+
+  abbrev pub Spreading : Type 0
+  Spreading = Good o (leaves row) → Good o (leaves middle) × Spreads k (with_row o kind F B (text_of_leaves (leaves row))) (with_row o kind F B (text_of_leaves (leaves middle)))
+
+  abbrev close : List Content
+  close = token (closing kind) ∷ []
+
+  abbrev bracket : OrderedTree
+  bracket = token_then (closing kind) none
+
+  bracketed_leaves : (z : OrderedTree) → leaves_of (bracketed kind z) ≡ token (opening kind) ∷ (leaves z ++ close)
+  bracketed_leaves z = container_leaves kind (followed_by z bracket) ∙ ap (λ l. token (opening kind) ∷ l) (leaves-followed_by z bracket)
+
+  inner_good : (z : OrderedTree) (f b : List Content) → Good o (f ++ (leaves_of (bracketed kind z) ++ b)) → Good o (token (opening kind) ∷ (leaves z ++ close))
+  inner_good z f b g = good_as o (bracketed_leaves z) (good_first o (leaves_of (bracketed kind z)) b (good_second o f (leaves_of (bracketed kind z) ++ b) g))
+
+  row_good : (z : OrderedTree) → Good o (token (opening kind) ∷ (leaves z ++ close)) → Good o (leaves z)
+  row_good z g = good_first o (leaves z) close (good_second o (token (opening kind) ∷ []) (leaves z ++ close) g)
+
+  bracketed_text : (z : OrderedTree) → Good o (token (opening kind) ∷ (leaves z ++ close)) → text_of_leaves (leaves_of (bracketed kind z)) ≡ places.opening k ∷ (text_of_leaves (leaves z) ++ (places.closing k ∷ []))
+  bracketed_text z g =
+      let first = good_first o (token (opening kind) ∷ []) (leaves z ++ close) g in
+      ap text_of_leaves (bracketed_leaves z) ∙ text_joined (token (opening kind) ∷ []) (leaves z ++ close) first.utf8
+      ∙ ap (λ l. l ++ text_of_leaves (leaves z ++ close)) (open_text kind)
+      ∙ ap (λ l. places.opening k ∷ l) (text_joined (leaves z) close (row_good z g).utf8 ∙ ap (λ l. text_of_leaves (leaves z) ++ l) (close_text kind))
+
+  whole_text : (z : OrderedTree) (y : List ℕ) → Good o (token (opening kind) ∷ (leaves z ++ close)) → y ≡ F ++ (text_of_leaves (leaves_of (bracketed kind z)) ++ B) → y ≡ with_row o kind F B (text_of_leaves (leaves z))
+  whole_text z y g e = e ∙ ap (λ l. F ++ (l ++ B)) (bracketed_text z g) ∙ ap (λ l. F ++ (places.opening k ∷ l)) (append_assoc (text_of_leaves (leaves z)) (places.closing k ∷ []) B)
+
+  old_good : Good o (token (opening kind) ∷ (leaves row ++ close))
+  old_good = inner_good row (front_of d) (back_of d) (good_as o (document_parts d) (good_tree o s))
+
+  new_good : Good o (token (opening kind) ∷ (leaves new ++ close))
+  new_good = inner_good new (front_of (flip d)) (back_of (flip d)) (good_as o (document_parts (flip d)) (good_tree o r))
+
+  old_text : printed_text t ≡ with_row o kind F B (text_of_leaves (leaves row))
+  old_text = whole_text row (printed_text t) old_good (at_the_place o s d).0
+
+  new_text : printed_text u ≡ with_row o kind F B (text_of_leaves (leaves new))
+  new_text =
+      whole_text new (printed_text u) new_good
+      ((at_the_place o r (flip d)).0 ∙ ap (λ l. text_of_leaves l ++ (text_of_leaves (leaves_of (bracketed kind new)) ++ text_of_leaves (back_of (flip d)))) (front_same d) ∙ ap (λ l. F ++ (text_of_leaves (leaves_of (bracketed kind new)) ++ text_of_leaves l)) (back_same d))
+
+  here_new : ValueHere o (bracketed kind new) B
+  here_new = subst (λ l. ValueHere o (bracketed kind new) (text_of_leaves l)) (back_same d) (at_the_place o r (flip d)).2
+
+  join_regroup : (a b : ℕ) (f l g n h z : List ℕ) → f ++ (a ∷ ((l ++ (g ++ (n ++ h))) ++ (b ∷ z))) ≡ (f ++ (a ∷ l)) ++ (g ++ (n ++ (h ++ (b ∷ z))))
+  join_regroup a b f l g n h z = simp (append_assoc) refl
+
+  kept_regroup : (a b : ℕ) (f l h z : List ℕ) → f ++ (a ∷ ((l ++ h) ++ (b ∷ z))) ≡ (f ++ (a ∷ l)) ++ (h ++ (b ∷ z))
+  kept_regroup a b f l h z = simp (append_assoc) refl
+
+  behind_regroup : (c g h z : List ℕ) (b : ℕ) → (c ++ (g ++ h)) ++ (b ∷ z) ≡ c ++ (g ++ (h ++ (b ∷ z)))
+  behind_regroup c g h z b = simp (append_assoc) refl
+
+  ready_regroup : (q g a h z : List ℕ) (b : ℕ) → (q ++ (g ++ (a ++ (h ++ (b ∷ []))))) ++ z ≡ q ++ (g ++ (a ++ (h ++ (b ∷ z))))
+  ready_regroup q g a h z b = simp (append_assoc) refl
+
+  first_regroup : (a h z : List ℕ) (b : ℕ) → (a ++ (h ++ (b ∷ []))) ++ z ≡ a ++ (h ++ (b ∷ z))
+  first_regroup a h z b = simp (append_assoc) refl
+
+  row_regroup : (l g a b h : List Content) → l ++ (g ++ (a ++ (b ++ h))) ≡ l ++ (g ++ ((a ++ b) ++ h))
+  row_regroup l g a b h = simp (append_assoc) refl
+
+  module _ (spreads : Spreading) (top : Top) (element : IsElement top.content) (front back led behind : OrderedTree) (gap : List Content) (c : CommaInserted front led) (taken : IsTrue (coming.takes_element (rows.last_behind rows.nothing_yet led))) (no_comma : IsTrue (not (leaving.comma_comes back))) {must : Bool} (g : Gap must gap) (must_is : must ≡ has_newline (followed_by front back)) (on : GoesOn o back behind)
+      (kept_is : followed_by front back ≡ kept) (new_is : followed_by led (leaves_then gap (more top.content top.below behind)) ≡ new) (w x : Option Plain) where
+    abbrev own : List Content
+    own = leaves_of top
+
+    abbrev tail : OrderedTree
+    tail = more top.content top.below behind
+
+    parts : leaves new ≡ leaves led ++ (gap ++ (own ++ leaves behind))
+    parts =
+        ap leaves (sym new_is) ∙ leaves-followed_by led (leaves_then gap tail) ∙ ap (λ l. leaves led ++ l) (front_leaves gap tail (gap_trivia g))
+        ∙ row_regroup (leaves led) gap (own_leaf top.content) (leaves top.below) (leaves behind)
+
+    g0 : Good o (leaves led ++ (gap ++ (own ++ leaves behind)))
+    g0 = good_as o parts (row_good new new_good)
+
+    g_led : Good o (leaves led)
+    g_led = good_first o (leaves led) (gap ++ (own ++ leaves behind)) g0
+
+    g1 : Good o (gap ++ (own ++ leaves behind))
+    g1 = good_second o (leaves led) (gap ++ (own ++ leaves behind)) g0
+
+    g2 : Good o (own ++ leaves behind)
+    g2 = good_second o gap (own ++ leaves behind) g1
+
+    g3 : Good o (leaves behind)
+    g3 = good_second o own (leaves behind) g2
+
+    row_text : text_of_leaves (leaves new) ≡ text_of_leaves (leaves led) ++ (text_of_leaves gap ++ (node_chars top ++ text_of_leaves (leaves behind)))
+    row_text =
+        ap text_of_leaves parts ∙ text_joined (leaves led) (gap ++ (own ++ leaves behind)) g_led.utf8
+        ∙ ap (λ l. text_of_leaves (leaves led) ++ l) (text_joined gap (own ++ leaves behind) (good_first o gap (own ++ leaves behind) g1).utf8
+        ∙ ap (λ l. text_of_leaves gap ++ l) (text_joined own (leaves behind) (good_first o own (leaves behind) g2).utf8 ∙ ap (λ l. l ++ text_of_leaves (leaves behind)) (sym (node_leaves o top))))
+
+    on_text : text_of_leaves (leaves behind) ≡ (onward o comma_mark on).comma ++ (text_of_leaves (onward o comma_mark on).gap ++ text_of_leaves (leaves back))
+    on_text =
+        let n = onward o comma_mark on in
+        let h = good_as o n.parts g3 in
+        let h1 = good_second o n.leaf (n.gap ++ leaves back) h in
+        ap text_of_leaves n.parts ∙ text_joined n.leaf (n.gap ++ leaves back) (good_first o n.leaf (n.gap ++ leaves back) h).utf8
+        ∙ ap (λ l. l ++ text_of_leaves (n.gap ++ leaves back)) n.text ∙ ap (λ l. n.comma ++ l) (text_joined n.gap (leaves back) (good_first o n.gap (leaves back) h1).utf8)
+
+    abbrev back_text : List ℕ
+    back_text = text_of_leaves (leaves back) ++ (places.closing k ∷ B)
+
+    whole_row : followed_by new bracket ≡ followed_by led (leaves_then gap (more top.content top.below (followed_by behind bracket)))
+    whole_row = ap (λ z. followed_by z bracket) (sym new_is) ∙ followed_by-assoc led (leaves_then gap tail) bracket ∙ ap (followed_by led) (leaves_followed gap tail bracket)
+
+    some_tail : leaves_then gap (more top.content top.below (followed_by behind bracket)) ≡ none → ⊥
+    some_tail = some gap
+      where
+        some : (ls : List Content) → leaves_then ls (more top.content top.below (followed_by behind bracket)) ≡ none → ⊥
+        some [] e = cc
+        some (l ∷ ls) e = cc
+
+    -- what is behind it, with the last bracket
+    abbrev BehindIt : Type 0
+    BehindIt = Reads o k B (followed_by back bracket) × LinesEndLoosely true false (followed_by back bracket)
+
+    behind_it : BehindIt
+    behind_it =
+        let all = row_reads o B kind here_new in
+        let next : OrderedTree = more top.content top.below (followed_by behind bracket) in
+        let r0 = subst (Reads o k B) whole_row all.0 in
+        let l0 = subst (LinesEndLoosely true false) whole_row all.1 in
+        let r1 = past_stretch o k B led (leaves_then gap next) some_tail r0 in
+        let r2 = past_some o k B gap next (λ e. cc) r1 in
+        let r3 = behind_entry o k B top.content top.below (followed_by behind bracket) element r2 in
+        let l3 = (lines_past gap next (lines_behind led (leaves_then gap next) l0)).2 in
+        (onward o comma_mark on).rows B k (closing kind) r3 l3
+
+    back_printed : printed_text (followed_by back bracket) ++ B ≡ back_text
+    back_printed =
+        let u = (good_second o (onward o comma_mark on).gap (leaves back) (good_second o (onward o comma_mark on).leaf ((onward o comma_mark on).gap ++ leaves back) (good_as o (onward o comma_mark on).parts g3))).utf8 in
+        let text : text_of_leaves (leaves (followed_by back bracket)) ≡ text_of_leaves (leaves back) ++ (places.closing k ∷ []) =
+        ap text_of_leaves (leaves-followed_by back bracket) ∙ text_joined (leaves back) close u ∙ ap (λ l. text_of_leaves (leaves back) ++ l) (close_text kind) in
+        ap (λ l. l ++ B) text ∙ append_assoc (text_of_leaves (leaves back)) (places.closing k ∷ []) B
+
+    lacks : IsTrue (not (leaving.comma_comes (followed_by back bracket)))
+    lacks = bracket_follows back (closing kind) (no_comma_closes kind) no_comma
+
+    not_next : NoCommaComes o back_text
+    not_next = subst (NoCommaComes o) back_printed (none_comes o k B (followed_by back bracket) behind_it.0 behind_it.1 lacks)
+
+    -- with no comma behind the entry a gap leads to the last bracket
+    none_counted : (row : OrderedTree) → element_count row ≡ 0 → element_count (followed_by row bracket) ≡ 0
+    none_counted row e = count_followed row bracket ∙ omega (arith, e)
+
+    follows : ((onward o comma_mark on).comma ≡ 0x2C ∷ []) ⊎ (((onward o comma_mark on).comma ≡ []) × (y : List ℕ) × text_gaps.Gap o back_text (places.closing k ∷ y))
+    follows =
+        elim (onward o comma_mark on).one [
+          | inl e ↦ inl e
+          | inr e ↦ inr (e.0, B, subst (λ y. text_gaps.Gap o y (places.closing k ∷ B)) back_printed (closing_gap o k B (followed_by back bracket) behind_it.0 behind_it.1 lacks (none_counted back e.1)))
+        ]
+
+    -- a gap leads to it from the bracket or a comma
+    abbrev next_row : OrderedTree
+    next_row = more top.content top.below (followed_by behind bracket)
+
+    next_text : (rest : List ℕ) → rest ≡ text_of_leaves (leaves behind) ++ (places.closing k ∷ B) → (q : OrderedTree) → Good o (leaves q) → printed_text (followed_by q (leaves_then gap next_row)) ++ B ≡ text_of_leaves (leaves q) ++ (text_of_leaves gap ++ (node_chars top ++ rest))
+    next_text rest e q g0q =
+        let close_good = good_second o (leaves new) close (good_second o (token (opening kind) ∷ []) (leaves new ++ close) new_good) in
+        let g_gap = good_first o gap (own ++ leaves behind) g1 in
+        let g_own = good_first o own (leaves behind) g2 in
+        let inner : leaves (followed_by q (leaves_then gap next_row)) ≡ leaves q ++ (gap ++ (own ++ (leaves behind ++ close))) =
+        leaves-followed_by q (leaves_then gap next_row) ∙ ap (λ l. leaves q ++ l) (front_leaves gap next_row (gap_trivia g)
+        ∙ ap (λ l. gap ++ l) (ap (λ l. own_leaf top.content ++ (leaves top.below ++ l)) (leaves-followed_by behind bracket) ∙ sym (append_assoc (own_leaf top.content) (leaves top.below) (leaves behind ++ close)))) in
+        let text : text_of_leaves (leaves q ++ (gap ++ (own ++ (leaves behind ++ close)))) ≡ text_of_leaves (leaves q) ++ (text_of_leaves gap ++ (text_of_leaves own ++ (text_of_leaves (leaves behind) ++ text_of_leaves close))) =
+        text_joined (leaves q) (gap ++ (own ++ (leaves behind ++ close))) g0q.utf8
+        ∙ ap (λ l. text_of_leaves (leaves q) ++ l) (text_joined gap (own ++ (leaves behind ++ close)) g_gap.utf8
+        ∙ ap (λ l. text_of_leaves gap ++ l) (text_joined own (leaves behind ++ close) g_own.utf8 ∙ ap (λ l. text_of_leaves own ++ l) (text_joined (leaves behind) close g3.utf8))) in
+        ap (λ l. text_of_leaves l ++ B) inner ∙ ap (λ l. l ++ B) text
+        ∙ ap (λ l. (text_of_leaves (leaves q) ++ (text_of_leaves gap ++ (text_of_leaves own ++ (text_of_leaves (leaves behind) ++ l)))) ++ B) (close_text kind)
+        ∙ ready_regroup (text_of_leaves (leaves q)) (text_of_leaves gap) (text_of_leaves own) (text_of_leaves (leaves behind)) B (places.closing k)
+        ∙ ap (λ l. text_of_leaves (leaves q) ++ (text_of_leaves gap ++ (l ++ (text_of_leaves (leaves behind) ++ (places.closing k ∷ B))))) (sym (node_leaves o top))
+        ∙ ap (λ l. text_of_leaves (leaves q) ++ (text_of_leaves gap ++ (node_chars top ++ l))) (sym e)
+
+    first_text : (rest : List ℕ) → rest ≡ text_of_leaves (leaves behind) ++ (places.closing k ∷ B) → printed_text next_row ++ B ≡ node_chars top ++ rest
+    first_text rest e =
+        let g_own = good_first o own (leaves behind) g2 in
+        let inner : leaves next_row ≡ own ++ (leaves behind ++ close) = ap (λ l. own_leaf top.content ++ (leaves top.below ++ l)) (leaves-followed_by behind bracket) ∙ sym (append_assoc (own_leaf top.content) (leaves top.below) (leaves behind ++ close)) in
+        ap (λ l. text_of_leaves l ++ B) inner
+        ∙ ap (λ l. l ++ B) (text_joined own (leaves behind ++ close) g_own.utf8 ∙ ap (λ l. text_of_leaves own ++ l) (text_joined (leaves behind) close g3.utf8 ∙ ap (λ l. text_of_leaves (leaves behind) ++ l) (close_text kind)))
+        ∙ first_regroup (text_of_leaves own) (text_of_leaves (leaves behind)) B (places.closing k) ∙ ap (λ l. l ++ (text_of_leaves (leaves behind) ++ (places.closing k ∷ B))) (sym (node_leaves o top)) ∙ ap (λ l. node_chars top ++ l) (sym e)
+
+    abbrev StartsLine : Type 0
+    StartsLine = (line q : List ℕ) × (text_of_leaves gap ≡ line ++ q) × texts.IsLineEnd line
+
+    -- on its line stands nothing that stood there on another
+    started : {m : Bool} {gp : List Content} → Gap m gp → (q : OrderedTree) → Good o (leaves q) → AreLeaves o k B gap (gap_trivia g) top.content top.below (followed_by behind bracket) q → (m ≡ false → has_newline q ≡ false) → AllUtf8 gp
+        → texts.InLine (text_of_leaves (leaves q)) ⊎ ((line y : List ℕ) × (text_of_leaves gp ≡ line ++ y) × texts.IsLineEnd line)
+    started coming.nothing q h a f u = inl (beside_text o (leaves q) (on_one_line o k B gap (gap_trivia g) top.content top.below (followed_by behind bracket) q a (f refl)) h.pieces)
+    started coming.a_space q h a f u = inl (beside_text o (leaves q) (on_one_line o k B gap (gap_trivia g) top.content top.below (followed_by behind bracket) q a (f refl)) h.pieces)
+    started (coming.a_line {k = n} {s = y} i) q h a f u = inr (text_of_leaves (newline n ∷ []), text_of_leaves (Content.whitespace y ∷ []), text_joined (newline n ∷ []) (Content.whitespace y ∷ []) (u.0, tt), line_end_text n)
+
+    no_line_led : must ≡ false → has_newline led ≡ false
+    no_line_led e = led_lacks c (both_lack front back (sym must_is ∙ e)).0
+
+    abbrev Ready : List ℕ → List ℕ → Type 0
+    Ready lead rest = (y z : List ℕ) × (c : ℕ) × (lead ≡ y ++ c ∷ z) × IsTrue (c == 0x2C || c == places.opening k) × text_gaps.Gap o (z ++ (text_of_leaves gap ++ (node_chars top ++ rest))) (node_chars top ++ rest) × (texts.InLine z ⊎ StartsLine)
+
+    ready : (rest : List ℕ) → rest ≡ text_of_leaves (leaves behind) ++ (places.closing k ∷ B) → Ready (F ++ (places.opening k ∷ text_of_leaves (leaves led))) rest
+    ready rest e =
+        let all = row_reads o B kind here_new in
+        let r0 = subst (Reads o k B) whole_row all.0 in
+        let l0 = subst (LinesEndLoosely true false) whole_row all.1 in
+        by (ended o k B gap (gap_trivia g) top.content top.below (followed_by behind bracket) led rows.nothing_yet r0 taken) l0
+      where
+        by : Ended o k B gap (gap_trivia g) top.content top.below (followed_by behind bracket) rows.nothing_yet led → LinesEndLoosely true false (followed_by led (leaves_then gap next_row)) → Ready (F ++ (places.opening k ∷ text_of_leaves (leaves led))) rest
+        by (all_trivia h f a) l0 =
+            (F, text_of_leaves (leaves led), places.opening k, refl, opening_so kind, subst (λ y. text_gaps.Gap o y (node_chars top ++ rest)) (next_text rest e led g_led) (subst (text_gaps.Gap o (printed_text (followed_by led (leaves_then gap next_row)) ++ B)) (first_text rest e) (trivia_gap o B true false (λ w. cc) (element_stops top.content top.below (followed_by behind bracket) element) f l0).0), started g led g_led a no_line_led (good_first o gap (own ++ leaves behind) g1).utf8)
+        by (behind_one s1 s2 q f a) l0 =
+            let parts2 : leaves led ≡ leaves s1 ++ (token 0x2C ∷ leaves s2) = ap leaves q ∙ leaves-followed_by s1 (token_then 0x2C s2) in
+            let h0 = good_as o parts2 g_led in
+            let h1 = good_second o (leaves s1) (token 0x2C ∷ leaves s2) h0 in
+            let h2 = good_second o (token 0x2C ∷ []) (leaves s2) h1 in
+            let text : text_of_leaves (leaves led) ≡ text_of_leaves (leaves s1) ++ (0x2C ∷ text_of_leaves (leaves s2)) =
+            ap text_of_leaves parts2 ∙ text_joined (leaves s1) (token 0x2C ∷ leaves s2) (good_first o (leaves s1) (token 0x2C ∷ leaves s2) h0).utf8
+            ∙ ap (λ l. text_of_leaves (leaves s1) ++ l) (text_joined (token 0x2C ∷ []) (leaves s2) (good_first o (token 0x2C ∷ []) (leaves s2) h1).utf8 ∙ ap (λ l. l ++ text_of_leaves (leaves s2)) (one_token comma_mark)) in
+            let rows_is : followed_by led (leaves_then gap next_row) ≡ followed_by s1 (token_then 0x2C (followed_by s2 (leaves_then gap next_row))) = ap (λ y. followed_by y (leaves_then gap next_row)) q ∙ followed_by-assoc s1 (token_then 0x2C s2) (leaves_then gap next_row) in
+            let l1 = (lines_behind s1 (token_then 0x2C (followed_by s2 (leaves_then gap next_row))) (subst (LinesEndLoosely true false) rows_is l0)).2 in (
+              F ++ (places.opening k ∷ text_of_leaves (leaves s1)),
+              text_of_leaves (leaves s2),
+              0x2C,
+              ap (λ l. F ++ (places.opening k ∷ l)) text ∙ sym (append_assoc F (places.opening k ∷ text_of_leaves (leaves s1)) (0x2C ∷ text_of_leaves (leaves s2))),
+              refl,
+              subst (λ y. text_gaps.Gap o y (node_chars top ++ rest)) (next_text rest e s2 h2) (subst (text_gaps.Gap o (printed_text (followed_by s2 (leaves_then gap next_row)) ++ B)) (first_text rest e) (trivia_gap o B true false (λ w. cc) (element_stops top.content top.below (followed_by behind bracket) element) f l1).0),
+              started g s2 (good_second o (token 0x2C ∷ []) (leaves s2) h1) a (λ e2. (both_lack s1 (token_then 0x2C s2) (ap has_newline (sym q) ∙ no_line_led e2)).1) (good_first o gap (own ++ leaves behind) g1).utf8,
+            )
+
+    kept_text : Good o (leaves kept) → with_row o kind F B (text_of_leaves (leaves kept)) ≡ (F ++ (places.opening k ∷ text_of_leaves (leaves front))) ++ back_text
+    kept_text h =
+        let split : leaves kept ≡ leaves front ++ leaves back = ap leaves (sym kept_is) ∙ leaves-followed_by front back in
+        let u = (good_first o (leaves front) (leaves back) (good_as o split h)).utf8 in
+        ap (with_row o kind F B) (ap text_of_leaves split ∙ text_joined (leaves front) (leaves back) u) ∙ kept_regroup (places.opening k) (places.closing k) F (text_of_leaves (leaves front)) (text_of_leaves (leaves back)) B
+
+    pub joins_so : (rest : List ℕ) → rest ≡ text_of_leaves (leaves behind) ++ (places.closing k ∷ B) → Joins k (node_chars top) rest (document_of o t w) (document_of o u x)
+    joins_so rest e =
+        let m = spreads (row_good row old_good) in
+        let l = lines_trimmed o kind F B leave m.0 in
+        let y = ready rest e in
+        let n = onward o comma_mark on in (
+          with_row o kind F B (text_of_leaves (leaves middle)),
+          l.shorter,
+          F ++ (places.opening k ∷ text_of_leaves (leaves front)),
+          F ++ (places.opening k ∷ text_of_leaves (leaves led)),
+          text_of_leaves gap,
+          n.comma,
+          text_of_leaves n.gap,
+          back_text,
+          subst (λ y. Spreads k y (with_row o kind F B (text_of_leaves (leaves middle)))) (sym old_text) m.1,
+          l.last,
+          subst (texts.Trims k l.shorter) (kept_text l.good) l.first,
+          led_so o kind F B comma_mark c g_led,
+          blanks_text o gap (gap_blanks g) (good_first o gap (own ++ leaves behind) g1).pieces,
+          follows,
+          blanks_text o n.gap n.are (good_first o n.gap (leaves back) (good_second o n.leaf (n.gap ++ leaves back) (good_as o n.parts g3))).pieces,
+          not_next,
+          new_text ∙ ap (with_row o kind F B) row_text ∙ join_regroup (places.opening k) (places.closing k) F (text_of_leaves (leaves led)) (text_of_leaves gap) (node_chars top) (text_of_leaves (leaves behind)) B
+              ∙ ap (λ y. (F ++ (places.opening k ∷ text_of_leaves (leaves led))) ++ (text_of_leaves gap ++ (node_chars top ++ y))) (sym e),
+          e ∙ ap (λ y. y ++ (places.closing k ∷ B)) on_text ∙ behind_regroup n.comma (text_of_leaves n.gap) (text_of_leaves (leaves back)) B (places.closing k),
+          y.0,
+          y.1,
+          y.2,
+          y.3,
+          y.4,
+          y.5,
+          y.6,
+        )
+
+    pub rest_is : (b : List Content) → b ≡ back_of d → text_of_leaves ((leaves behind ++ leaves bracket) ++ b) ≡ text_of_leaves (leaves behind) ++ (places.closing k ∷ B)
+    rest_is b e =
+        let whole : Good o (leaves_of (bracketed kind new) ++ back_of (flip d)) = good_second o (front_of (flip d)) (leaves_of (bracketed kind new) ++ back_of (flip d)) (good_as o (document_parts (flip d)) (good_tree o r)) in
+        let closing_good = good_second o (leaves new) close (good_second o (token (opening kind) ∷ []) (leaves new ++ close) new_good) in
+        let both : AllUtf8 (leaves behind ++ close) = utf8_joined (leaves behind) close g3.utf8 closing_good.utf8 in
+        ap (λ l. text_of_leaves ((leaves behind ++ close) ++ l)) e ∙ text_joined (leaves behind ++ close) (back_of d) both
+        ∙ ap (λ l. l ++ B) (text_joined (leaves behind) close g3.utf8 ∙ ap (λ l. text_of_leaves (leaves behind) ++ l) (close_text kind)) ∙ append_assoc (text_of_leaves (leaves behind)) (places.closing k ∷ []) B
+
+module _ (o : Options) (kind : RowKind) (row kept new : OrderedTree) {path : List ℕ} {t u : OrderedTree} (s : SoundTree o t) (r : SoundTree o u) (d : DocumentChanged (bracketed kind row) (bracketed kind new) path t u)
+    (w x : Option Plain) (same_texts : texts_of row ≡ texts_of kept) (same_marks : marks kept ≡ marks row) {top : Top} (element : IsElement top.content) (come : List Mark) (is : marks_in (leaves_of top) ≡ come)
+    (middle : OrderedTree) (leave : BlankLinesLeave middle kept) (spreads : Spreading o kind row middle kept new s r d leave) where
+  pub text_comes : {n : ℕ} → ElementInserted o top n kept new → TextComes kind path n come (document_of o t w) (document_of o u x)
+  text_comes c = by c refl refl
+    where
+      by : {n : ℕ} {k now : OrderedTree} → ElementInserted o top n k now → k ≡ kept → now ≡ new → TextComes kind path n come (document_of o t w) (document_of o u x)
+      by (coming.comes front back led behind gap c taken no_comma g on) e f =
+          let bracket : OrderedTree = token_then (closing kind) none in
+          let around : DocumentChanged (bracketed kind new) (bracketed kind row) path u t = flip d in
+          let tail : OrderedTree = more top.content top.below behind in
+          let trivia : AreTrivia gap = gap_trivia g in
+          let now : OrderedTree = followed_by led (leaves_then gap tail) in
+          let own : List Content = leaves_of top in
+          let rest : List Content = leaves behind ++ leaves bracket in
+          let back_leaves : List Content = rest ++ back_of around in
+          let all_row : leaves now ≡ (leaves led ++ gap) ++ (own ++ leaves behind) =
+          leaves-followed_by led (leaves_then gap tail) ∙ ap (λ l. leaves led ++ l) (front_leaves gap tail trivia) ∙ regroup_row (leaves led) gap (own_leaf top.content) (leaves top.below) (leaves behind) in
+          let ahead : List Content = front_of around ++ token (opening kind) ∷ (leaves led ++ gap) in
+          let whole : leaves u ≡ ahead ++ (own ++ back_leaves) =
+          document_parts around ∙ ap (λ l. front_of around ++ (l ++ back_of around)) (container_leaves kind (followed_by new bracket) ∙ ap (λ l. token (opening kind) ∷ l) (leaves-followed_by new bracket ∙ ap (λ l. leaves l ++ leaves bracket) (sym f) ∙ ap (λ l. l ++ leaves bracket) all_row))
+          ∙ regroup (front_of around) (leaves led ++ gap) own (leaves behind) (leaves bracket) (back_of around) (token (opening kind)) in
+          let reach : (y : Top) → IsElement y.content → Reached top y (element_count led + 0) (followed_by now bracket) rest = λ y q. reached_with bracket (past_row led (past_leaves gap trivia (at_first behind element q))) in
+          let reach_new : (y : Top) → IsElement y.content → Reached top y (element_count led + 0) (followed_by new bracket) rest = λ y q. subst (λ z. Reached top y (element_count led + 0) (followed_by z bracket) rest) f (reach y q) in
+          let number : element_count led + 0 ≡ length (texts_of front) = none_more (element_count led) ∙ as_many led ∙ ap (λ (l : List (List ℕ)). length l) (comma_comes c) in
+          let u0 = subst AllUtf8 whole (document_utf8 o r.shaped) in
+          let u1 = utf8_second ahead (own ++ back_leaves) u0 in
+          let u2 = utf8_second own back_leaves u1 in
+          let rest_text : text_of_leaves back_leaves ≡ text_of_leaves rest ++ text_of_leaves (back_of around) = text_joined rest (back_of around) (utf8_first rest (back_of around) u2) in
+          let own_text : text_of_leaves own ≡ node_chars top = sym (node_leaves o top) in
+          let entry = subst (λ b. Entry (path ++ length (texts_of front) ∷ []) o (printed_text u) (node_chars top ++ b) b) (sym rest_text)
+          (subst (λ l. Entry (path ++ length (texts_of front) ∷ []) o (printed_text u) (l ++ (text_of_leaves rest ++ text_of_leaves (back_of around))) (text_of_leaves rest ++ text_of_leaves (back_of around))) own_text
+          (subst (λ k. Entry (path ++ k ∷ []) o (printed_text u) (text_of_leaves own ++ (text_of_leaves rest ++ text_of_leaves (back_of around))) (text_of_leaves rest ++ text_of_leaves (back_of around))) number (entry_there o kind r around reach_new))) in
+          let new_parted = parted o r x ahead own back_leaves whole (entry_begins o kind r around reach_new back_leaves) (text_joined own back_leaves (utf8_first own back_leaves u1) ∙ ap (λ l. l ++ text_of_leaves back_leaves) own_text) refl in
+          let old_texts : texts_of (followed_by row bracket) ≡ texts_of front ++ texts_of back = texts_followed row bracket ∙ append-nil (texts_of row) ∙ same_texts ∙ ap texts_of (sym e) ∙ texts_followed front back in
+          let new_texts : texts_of (followed_by new bracket) ≡ texts_of front ++ node_chars top ∷ texts_of back =
+          texts_followed new bracket ∙ append-nil (texts_of new) ∙ ap texts_of (sym f) ∙ texts_followed led (leaves_then gap tail) ∙ ap (λ l. l ++ texts_of (leaves_then gap tail)) (comma_comes c)
+          ∙ ap (λ l. texts_of front ++ l) (texts_past gap tail trivia ∙ element_text top.content top.below behind element ∙ ap (λ l. node_chars top ∷ l) (goes_on on)) in
+          let old_row : marks_in (leaves row) ≡ marks_in (leaves front) ++ marks_in (leaves back) = ap all_marks (sym same_marks ∙ ap marks (sym e)) ∙ ap marks_in (leaves-followed_by front back) ∙ marks_in_both (leaves front) (leaves back) in
+          let old_marks : marks_in (leaves t) ≡ marks_in ahead ++ marks_in back_leaves =
+          ap marks_in (document_parts d ∙ ap (λ l. l ++ (leaves_of (bracketed kind row) ++ back_of d)) (sym (front_same d)) ∙ ap (λ l. front_of around ++ (leaves_of (bracketed kind row) ++ l)) (sym (back_same d)))
+          ∙ marks_in_both (front_of around) (leaves_of (bracketed kind row) ++ back_of around)
+          ∙ ap (λ l. marks_in (front_of around) ++ l) (marks_in_both (leaves_of (bracketed kind row)) (back_of around)
+          ∙ ap (λ l. l ++ marks_in (back_of around)) (ap marks_in (container_leaves kind (followed_by row bracket) ∙ ap (λ l. token (opening kind) ∷ l) (leaves-followed_by row bracket)) ∙ marks_in_both (leaves row) (leaves bracket) ∙ append-nil (marks_in (leaves row)) ∙ old_row))
+          ∙ regroup_marks (marks_in (front_of around)) (marks_in (leaves front)) (marks_in (leaves back)) (marks_in (back_of around))
+          ∙ ap (λ l. (marks_in (front_of around) ++ l) ++ (marks_in (leaves back) ++ marks_in (back_of around))) (sym (marks_in_both (leaves led) gap ∙ ap (λ l. marks_in (leaves led) ++ l) (ap all_marks (gap_unmarked g)) ∙ append-nil (marks_in (leaves led)) ∙ ap all_marks (led_marks c)))
+          ∙ ap (λ l. l ++ (marks_in (leaves back) ++ marks_in (back_of around))) (sym (marks_in_both (front_of around) (token (opening kind) ∷ (leaves led ++ gap))))
+          ∙ ap (λ l. marks_in ahead ++ l) (sym (marks_in_both rest (back_of around) ∙ ap (λ l. l ++ marks_in (back_of around)) (marks_in_both (leaves behind) (leaves bracket) ∙ append-nil (marks_in (leaves behind)) ∙ ap all_marks (behind_marks on)))) in (
+            texts_of front,
+            texts_of back,
+            sym (as_many front),
+            node_chars top,
+            text_of_leaves back_leaves,
+            subst (λ ts. Inside path (texts_of front ++ texts_of back) ts (document_of o t w) (document_of o u x)) new_texts (subst (λ ts. Inside path ts (texts_of (followed_by new bracket)) (document_of o t w) (document_of o u x)) old_texts (inside_so o kind s r d w x)),
+            entry,
+            (marks_in ahead, marks_in back_leaves, parted_as refl is refl new_parted, old_marks),
+            joins_so o kind row middle kept new s r d leave spreads top element front back led behind gap c taken no_comma g refl on e f w x (text_of_leaves back_leaves) (rest_is o kind row middle kept new s r d leave spreads top element front back led behind gap c taken no_comma g refl on e f w x (back_of around) (back_same d)),
+          )

@@ -1,0 +1,198 @@
+-- The comma that leaves with an entry of a sound tree is its own.
+use Rattle.std.proofs.Common.{ℕ, ◌≡◌, ◌∙◌, sym, ap, subst, refl, Bool, true, false, not, List, [], ◌∷◌, ◌++◌, IsTrue}
+use Rattle.std.proofs.lemmas.List.{append_assoc}
+use Rattle.std.proofs.lemmas.Str.{chars-nil}
+use Rattle.jsonc_text.specs.Options.{Options}
+use Rattle.jsonc_text.specs.Paths as places
+use Rattle.jsonc_tree.specs.Content.{Content, token}
+use Rattle.jsonc_tree.specs.OrderedTree.{OrderedTree, none, more, leaves, followed_by, Top}
+use Rattle.jsonc_tree.proofs.OrderedTrees.{leaves-followed_by}
+use Rattle.jsonc_layout.specs.nodes.Kinds.{is_trivia}
+use Rattle.jsonc_sound.specs.Leaving.{among, comma_comes, has_no_comma}
+use Rattle.jsonc_sound.specs.Lines.{LinesEndLoosely}
+use Rattle.jsonc_sound.specs.Rows.{RowKind, of_values, of_properties, opening, container_of}
+use Rattle.jsonc_sound.specs.Shape.{token_then, printed_text}
+use Rattle.jsonc_sound.specs.SoundTrees.{SoundTree}
+use Rattle.jsonc_sound.specs.TreeChanges.{IsElement, leaves_of}
+use Rattle.jsonc_sound.specs.TriviaChanges.{AreTrivia, leaves_then}
+use Rattle.jsonc_sound.proofs.LooseLines.{Stops}
+use Rattle.jsonc_sound.proofs.Texts.{AllUtf8}
+use Rattle.jsonc_sound.proofs.TriviaLeaves.{front_leaves}
+use Rattle.jsonc_run.specs.promise.PlaceLaws.{text_of_leaves}
+use Rattle.jsonc_text.specs.Edits.{Comma, Loose, NoCommaComes, Opens}
+use Rattle.jsonc_text.specs.Edits as texts
+use Rattle.jsonc_run.proofs.lemmas.promise.Leaves.{back_of, document_parts, document_utf8, front_of, text_joined, utf8_first, utf8_second}
+use Rattle.jsonc_run.proofs.lemmas.promise.LooseRows.{Reads, kind_of_row, behind_comma, behind_entry, loose_text, loose_to, none_comes, reads_on, reads_past, row_reads}
+use Rattle.jsonc_run.proofs.lemmas.promise.Places.{DocumentItself}
+use Rattle.jsonc_run.proofs.lemmas.promise.PrintedShapes.{bracket_mark, brace_mark, mark_text}
+use Rattle.jsonc_run.proofs.lemmas.promise.RemovedTexts.{among_leaves, comma_text, container_leaves, text_cons}
+use Rattle.jsonc_run.proofs.lemmas.promise.Values.{ValueHere, at_the_place}
+
+-- which comma leaves a row with its element, by what stands in it
+pub data Which (top : Top) (row : OrderedTree) : (comma mid lead trail rest : List Content) → Bool → Type 0 where
+  the_one_behind : {lead trail rest : List Content} → Which top row [] [] lead trail rest true
+  one_before : (front mid back : OrderedTree) (before line : List Content) → row ≡ followed_by front (token_then 0x2C (followed_by mid (among before top line back)))
+      → IsElement top.content → AreTrivia before → AreTrivia line → IsTrue (has_no_comma mid) → IsTrue (not (comma_comes back)) → Which top row (token 0x2C ∷ []) (leaves mid) before line (leaves back) false
+  none_there : (front back : OrderedTree) (before line : List Content) → row ≡ followed_by front (among before top line back)
+      → IsElement top.content → AreTrivia before → AreTrivia line → IsTrue (has_no_comma front) → IsTrue (not (comma_comes back)) → Which top row [] [] before line (leaves back) false
+
+element_stops : (content : Content) (below after : OrderedTree) → IsElement content → Stops (more content below after)
+element_stops (Content.whitespace s) below after h = cc
+element_stops (Content.newline k) below after h = cc
+element_stops content below after h = tt
+
+lines_on : (s row : OrderedTree) → LinesEndLoosely true false (followed_by s row) → LinesEndLoosely true false row
+lines_on none row l = l
+lines_on (more c b s) row l = lines_on s row l.2
+
+lines_past : (ls : List Content) (row : OrderedTree) → LinesEndLoosely true false (leaves_then ls row) → LinesEndLoosely true false row
+lines_past [] row l = l
+lines_past (c ∷ ls) row l = lines_past ls row l.2
+
+comes_past : (content : Content) (below after : OrderedTree) → IsTrue (is_trivia content) → comma_comes (more content below after) ≡ comma_comes after
+comes_past content below after h = rw h refl
+
+comes_behind : (ls : List Content) (row : OrderedTree) → AreTrivia ls → comma_comes (leaves_then ls row) ≡ comma_comes row
+comes_behind [] row h = refl
+comes_behind (c ∷ ls) row h = comes_past c none (leaves_then ls row) h.0 ∙ comes_behind ls row h.1
+
+module _ (o : Options) {t : OrderedTree} (s : SoundTree o t) (kind : RowKind) {path : List ℕ} {row : OrderedTree} {f b : List Content} (d : DocumentItself (container_of kind row) path t f b) where
+  abbrev z : List ℕ
+  z = text_of_leaves b
+
+  here : ValueHere o (container_of kind row) z
+  here = subst (λ l. ValueHere o (container_of kind row) (text_of_leaves l)) d.last (at_the_place o s d.changed).2
+
+  whole : leaves t ≡ f ++ ((token (opening kind) ∷ leaves row) ++ b)
+  whole = document_parts d.changed ∙ ap (λ l. l ++ (leaves_of (container_of kind row) ++ back_of d.changed)) d.first ∙ ap (λ l. f ++ (leaves_of (container_of kind row) ++ l)) d.last ∙ ap (λ l. f ++ (l ++ b)) (container_leaves kind row)
+
+  row_utf8 : AllUtf8 (leaves row ++ b)
+  row_utf8 = (utf8_second f ((token (opening kind) ∷ leaves row) ++ b) (subst AllUtf8 whole (document_utf8 o s.shaped))).1
+
+  -- the end of the row, which these leaves are, and what it prints
+  ends_so : (r : OrderedTree) (ls : List Content) → leaves r ≡ ls → AllUtf8 (ls ++ b) → printed_text r ++ z ≡ text_of_leaves (ls ++ b)
+  ends_so r ls e u = ap (λ l. text_of_leaves l ++ z) e ∙ sym (text_joined ls b (utf8_first ls b u))
+
+  bracket_text : (k : RowKind) (r : OrderedTree) → text_of_leaves (token (opening k) ∷ leaves r) ≡ places.opening (kind_of_row k) ∷ printed_text r
+  bracket_text of_values r = mark_text bracket_mark r
+  bracket_text of_properties r = mark_text brace_mark r
+
+  opened : Opens (printed_text t) (printed_text row ++ z)
+  opened =
+      let m = at_the_place o s d.changed in
+      let text : printed_text t ≡ text_of_leaves (front_of d.changed) ++ (places.opening (kind_of_row kind) ∷ (printed_text row ++ z)) =
+      m.0 ∙ ap (λ l. text_of_leaves (front_of d.changed) ++ (text_of_leaves (leaves_of (container_of kind row)) ++ text_of_leaves l)) d.last
+      ∙ ap (λ l. text_of_leaves (front_of d.changed) ++ (l ++ z)) (ap text_of_leaves (container_leaves kind row) ∙ bracket_text kind row) in
+      subst (λ x. Opens x (printed_text row ++ z)) (sym text) (texts.a_bracket (kind_of_row kind) (text_of_leaves (front_of d.changed)))
+
+  -- what stands behind a place of the row
+  module _ (top : Top) (back : OrderedTree) (before line : List Content) (element : IsElement top.content) (bt : AreTrivia before) (lt : AreTrivia line) (none_come : IsTrue (not (comma_comes back))) (mid : OrderedTree) (free : IsTrue (has_no_comma mid))
+      (u : AllUtf8 (leaves (followed_by mid (among before top line back)) ++ b)) (reads : Reads o (kind_of_row kind) z (followed_by mid (among before top line back))) (lines : LinesEndLoosely true false (followed_by mid (among before top line back))) where
+    abbrev own : List Content
+    own = leaves_of top
+
+    abbrev tail : List Content
+    tail = leaves back ++ b
+
+    abbrev first : OrderedTree
+    first = more top.content top.below (leaves_then line back)
+
+    first_leaves : leaves first ≡ own ++ (line ++ leaves back)
+    first_leaves = among_leaves [] top line back tt lt
+
+    mid_leaves : leaves (followed_by mid (among before top line back)) ≡ leaves mid ++ (before ++ (own ++ (line ++ leaves back)))
+    mid_leaves = leaves-followed_by mid (among before top line back) ∙ ap (λ l. leaves mid ++ l) (among_leaves before top line back bt lt)
+
+    grouped : (a c e g h i : List Content) → (a ++ (c ++ (e ++ (g ++ h)))) ++ i ≡ a ++ (c ++ (e ++ (g ++ (h ++ i))))
+    grouped a c e g h i = simp (append_assoc) refl
+
+    u0 : AllUtf8 (leaves mid ++ (before ++ (own ++ (line ++ tail))))
+    u0 = subst AllUtf8 (ap (λ l. l ++ b) mid_leaves ∙ grouped (leaves mid) before own line (leaves back) b) u
+
+    u1 : AllUtf8 (before ++ (own ++ (line ++ tail)))
+    u1 = utf8_second (leaves mid) (before ++ (own ++ (line ++ tail))) u0
+
+    u2 : AllUtf8 (own ++ (line ++ tail))
+    u2 = utf8_second before (own ++ (line ++ tail)) u1
+
+    u3 : AllUtf8 (line ++ tail)
+    u3 = utf8_second own (line ++ tail) u2
+
+    line_text : text_of_leaves (line ++ tail) ≡ text_of_leaves line ++ text_of_leaves tail
+    line_text = text_joined line tail (utf8_first line tail u3)
+
+    own_text : text_of_leaves (own ++ (line ++ tail)) ≡ text_of_leaves own ++ (text_of_leaves line ++ text_of_leaves tail)
+    own_text = text_cons own (line ++ tail) u2 line_text
+
+    mid_text : text_of_leaves (leaves mid ++ (before ++ (own ++ (line ++ tail)))) ≡ text_of_leaves (leaves mid) ++ (text_of_leaves before ++ (text_of_leaves own ++ (text_of_leaves line ++ text_of_leaves tail)))
+    mid_text = text_cons (leaves mid) (before ++ (own ++ (line ++ tail))) u0 (text_cons before (own ++ (line ++ tail)) u1 own_text)
+
+    at_first : printed_text first ++ z ≡ text_of_leaves own ++ (text_of_leaves line ++ text_of_leaves tail)
+    at_first =
+        ends_so first (own ++ (line ++ leaves back)) first_leaves (subst AllUtf8 (sym (append_assoc own (line ++ leaves back) b ∙ ap (λ l. own ++ l) (append_assoc line (leaves back) b))) u2)
+        ∙ ap text_of_leaves (append_assoc own (line ++ leaves back) b ∙ ap (λ l. own ++ l) (append_assoc line (leaves back) b)) ∙ own_text
+
+    at_line : printed_text (leaves_then line back) ++ z ≡ text_of_leaves line ++ text_of_leaves tail
+    at_line =
+        ends_so (leaves_then line back) (line ++ leaves back) (front_leaves line back lt) (subst AllUtf8 (sym (append_assoc line (leaves back) b)) u3)
+        ∙ ap text_of_leaves (append_assoc line (leaves back) b) ∙ line_text
+
+    at_mid : printed_text (followed_by mid (among before top line back)) ++ z ≡ text_of_leaves (leaves mid) ++ (text_of_leaves before ++ (text_of_leaves own ++ (text_of_leaves line ++ text_of_leaves tail)))
+    at_mid =
+        ends_so (followed_by mid (among before top line back)) (leaves mid ++ (before ++ (own ++ (line ++ leaves back)))) mid_leaves (subst AllUtf8 (sym (grouped (leaves mid) before own line (leaves back) b)) u0)
+        ∙ ap text_of_leaves (grouped (leaves mid) before own line (leaves back) b) ∙ mid_text
+
+    loose : Loose o (printed_text (followed_by mid (among before top line back)) ++ z) (text_of_leaves own ++ (text_of_leaves line ++ text_of_leaves tail))
+    loose =
+        subst (Loose o (printed_text (followed_by mid (among before top line back)) ++ z)) at_first
+        (loose_text o (kind_of_row kind) z (element_stops top.content top.below (leaves_then line back) element) lines (loose_to o (kind_of_row kind) z mid before top.content top.below (leaves_then line back) reads free bt))
+
+    abbrev second : OrderedTree
+    second = leaves_then before first
+
+    later : Reads o (kind_of_row kind) z (leaves_then line back)
+    later = behind_entry o (kind_of_row kind) z top.content top.below (leaves_then line back) element (reads_past o (kind_of_row kind) z before top.content top.below (leaves_then line back) (stretch before reads))
+      where
+        stretch : (ls : List Content) → Reads o (kind_of_row kind) z (followed_by mid (leaves_then ls first)) → Reads o (kind_of_row kind) z (leaves_then ls first)
+        stretch [] r = reads_on o (kind_of_row kind) z mid top.content top.below (leaves_then line back) r
+        stretch (c ∷ ls) r = reads_on o (kind_of_row kind) z mid c none (leaves_then ls first) r
+
+    not_behind : NoCommaComes o (text_of_leaves line ++ text_of_leaves tail)
+    not_behind =
+        subst (NoCommaComes o) at_line
+        (none_comes o (kind_of_row kind) z (leaves_then line back) later (lines_past before first (lines_on mid second lines)).2 (subst (λ (x : Bool). IsTrue (not x)) (sym (comes_behind line back lt)) none_come))
+
+  whose : {top : Top} {comma mid lead trail rest : List Content} {c : Bool} → Which top row comma mid lead trail rest c
+      → Comma o (printed_text t) (text_of_leaves lead) (text_of_leaves (leaves_of top) ++ (text_of_leaves trail ++ text_of_leaves (rest ++ b))) (text_of_leaves trail ++ text_of_leaves (rest ++ b)) c (text_of_leaves comma) (text_of_leaves mid)
+  whose {top} (the_one_behind {lead = lead} {trail = trail} {rest = rest}) =
+      let behind : List ℕ = text_of_leaves trail ++ text_of_leaves (rest ++ b) in
+      subst (λ x. Comma o (printed_text t) (text_of_leaves lead) (text_of_leaves (leaves_of top) ++ behind) behind true x x) (sym chars-nil) texts.behind
+  whose {top} (one_before front mid back before line e el bt lt free come) =
+      let all = row_reads o z kind here in
+      let inner : OrderedTree = followed_by mid (among before top line back) in
+      let r0 = subst (Reads o (kind_of_row kind) z) e all.0 in
+      let r1 = reads_on o (kind_of_row kind) z front (token 0x2C) none inner r0 in
+      let r2 = behind_comma o (kind_of_row kind) z mid before top.content top.below (leaves_then line back) r1 in
+      let l2 = (lines_on front (token_then 0x2C inner) (subst (LinesEndLoosely true false) e all.1)).2 in
+      let parts : leaves row ++ b ≡ leaves front ++ (token 0x2C ∷ (leaves inner ++ b)) = ap (λ r. leaves r ++ b) e ∙ ap (λ l. l ++ b) (leaves-followed_by front (token_then 0x2C inner)) ∙ append_assoc (leaves front) (token 0x2C ∷ leaves inner) b in
+      let u2 : AllUtf8 (leaves inner ++ b) = (utf8_second (leaves front) (token 0x2C ∷ (leaves inner ++ b)) (subst AllUtf8 parts row_utf8)).1 in
+      let l = loose top back before line el bt lt come mid free u2 r2 l2 in
+      let n = not_behind top back before line el bt lt come mid free u2 r2 l2 in
+      let m = at_mid top back before line el bt lt come mid free u2 r2 l2 in
+      let entry : List ℕ = text_of_leaves (leaves_of top) ++ (text_of_leaves line ++ text_of_leaves (leaves back ++ b)) in
+      subst (λ x. Comma o (printed_text t) (text_of_leaves before) entry (text_of_leaves line ++ text_of_leaves (leaves back ++ b)) false x (text_of_leaves (leaves mid))) (sym comma_text) (texts.before_it n (subst (λ x. Loose o x entry) m l))
+  whose {top} (none_there front back before line e el bt lt free come) =
+      let all = row_reads o z kind here in
+      let r2 = subst (Reads o (kind_of_row kind) z) e all.0 in
+      let l2 = subst (LinesEndLoosely true false) e all.1 in
+      let u2 = subst (λ r. AllUtf8 (leaves r ++ b)) e row_utf8 in
+      let l = loose top back before line el bt lt come front free u2 r2 l2 in
+      let n = not_behind top back before line el bt lt come front free u2 r2 l2 in
+      let entry : List ℕ = text_of_leaves (leaves_of top) ++ (text_of_leaves line ++ text_of_leaves (leaves back ++ b)) in
+      subst (λ x. Comma o (printed_text t) (text_of_leaves before) entry (text_of_leaves line ++ text_of_leaves (leaves back ++ b)) false x x) (sym chars-nil)
+      (texts.none n opened (subst (λ r. Loose o (printed_text r ++ z) entry) (sym e) l))
+
+  pub comma_so : {top : Top} {comma mid lead trail rest : List Content} {c : Bool} → Which top row comma mid lead trail rest c → (back : List Content) → rest ++ b ≡ back
+      → Comma o (printed_text t) (text_of_leaves lead) (text_of_leaves (leaves_of top) ++ (text_of_leaves trail ++ text_of_leaves back)) (text_of_leaves trail ++ text_of_leaves back) c (text_of_leaves comma) (text_of_leaves mid)
+  comma_so {top} {comma} {mid} {lead} {trail} {rest} {c} w back e =
+      subst (λ l. Comma o (printed_text t) (text_of_leaves lead) (text_of_leaves (leaves_of top) ++ (text_of_leaves trail ++ text_of_leaves l)) (text_of_leaves trail ++ text_of_leaves l) c (text_of_leaves comma) (text_of_leaves mid)) e (whose w)
