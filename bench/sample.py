@@ -1,6 +1,6 @@
 #!/usr/bin/env python3
-"""Writes crates/jsonc_bench/stdin and stdout: the cases of bench/crate, bench/rows, bench/settings, bench/cuts and
-bench/pairs, and a sample of a folder of vectors.
+"""Writes crates/jsonc_bench/stdin and stdout: the cases of bench/crate, bench/rows, bench/settings, bench/cuts,
+bench/pairs and bench/one_line, and a sample of a folder of vectors.
 
 usage: bench/sample.py FOLDER
 
@@ -245,6 +245,9 @@ def main(folder):
         put(case, (case[0],) + answer)
     lines.append('% A sample of the vectors')
     for case, answer in list(sample(folder, found)):
+        put(case, answer)
+    lines.append('% Every kind of edit, many times, on documents of 2,000 entries on one line')
+    for case, answer in vectors.one_line(os.path.join(HERE, 'one_line')):
         put(case, answer)
     lines.append('% Lines that are passed over, and lines that are no case')
     for line, message in NO_CASES:

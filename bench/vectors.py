@@ -105,3 +105,37 @@ def pairs(folder):
             calls = three_calls('off%d-%d-%d' % (*off, option), options, 'O-', text)
             for case, answer in zip(calls, stored[first:first + 3]):
                 yield case, case[:1] + answer
+
+
+def one_line(folder):
+    """Every kind of edit of entries, fifty times and more, on documents of 2,000 entries that stand on one line."""
+    everywhere = range(0, 2000, 40)
+
+    def row(entry, brackets):
+        return brackets[0] + ', '.join(entry(number) for number in range(2000)) + brackets[1]
+
+    def each(edit, places=everywhere):
+        return [edit % place for place in places]
+
+    names = row('"k{0}": true'.format, '{}')
+    documents = {
+        'array': (row(lambda number: 'true', '[]'), each('Replace /%d #7') + each('SetBoolean /%d F', range(1, 2000, 40))
+                  + each("InsertElement / %d 'in") + ["AppendElement / 'end"] * 50 + each('Remove /%d')
+                  + ['SetTrailingCommas / never'] * 50 + ['Sort / 0 0'] * 3),
+        'comments': (row('{0} /* c */'.format, '[]'), each('RemoveComment %d', reversed(everywhere)) + each('Replace /%d N') + each('Remove /%d', reversed(everywhere))),
+        'object': (names, each('SetValue /%d #7') + each('EnsureValue /%d arr', range(1, 2000, 40)) + each('Replace /%d N')
+                   + each("ReplaceProperty /%d 'new #1") + each("EnsureProperty / 'k%d obj replace", range(2, 2000, 40))
+                   + ['EnsureRoot obj keep'] * 50 + each('Remove /%d', reversed(everywhere)) + ['Sort / 0 0'] * 3),
+        'appended': (names, ["AppendProperty / 'end #1"] * 50),
+        'inserted': (names, each("InsertProperty / %d 'in #1")),
+        'ensured': (names, each("EnsureProperty / 'n%d obj keep")),
+        'lines': (names, ['EnsureMultiline /'] * 50),
+        'root': (names, ['SetRoot [0'] + ['EnsureRoot obj replace'] * 2 + ['ClearRoot', 'EnsureRoot arr keep']),
+        'objects': (row(lambda number: '{"a": 1}', '[]'), each("AppendProperty /%d 'end #1", reversed(everywhere))
+                    + each("InsertProperty /%d 0 'in #1", range(1, 2000, 40)) + each("EnsureProperty /%d 'b arr keep", range(2, 2000, 40))),
+        'arrays': (row(lambda number: '[1]', '[]'), each("AppendElement /%d 'end", reversed(everywhere)) + each("InsertElement /%d 0 'in", range(1, 2000, 40))
+                   + each('EnsureMultiline /%d', range(2, 2000, 40)) + each('SetTrailingCommas /%d ifmultiline', range(2, 2000, 40))),
+    }
+    cases = [['one-line-' + name, 'edit', '1' * 10, text, ' ; '.join(edits)] for name, (text, edits) in documents.items()]
+    for case, answer in zip(cases, lines(folder, 'answers'), strict=True):
+        yield case, case[:1] + answer
