@@ -1,5 +1,5 @@
 -- Copies, level by level.
-use Rattle.std.proofs.Common.{◌≡◌, ◌∙◌, ℕ, ◌+◌, ◌<◌, ◌≤◌, Bool, List, [], ◌∷◌, ◌++◌, Vec, map, take, get_or, length, chars, sym, ap, rules, arith}
+use Rattle.std.proofs.Common.{◌≡◌, ◌≢◌, ◌∙◌, ℕ, ◌+◌, ◌<◌, ◌≤◌, Bool, List, [], ◌∷◌, ◌++◌, Vec, map, take, get_or, length, chars, sym, ap, rules, arith}
 use Rattle.std.proofs.lemmas.List.{map_push, take_all, take_more}
 use Rattle.std.specs.Cow.{cow_str_bytes}
 use Rattle.std.specs.List.{flat_map}
@@ -144,3 +144,7 @@ size-element A vs i v h e = let within = at_most (λ x. size-Value A x) vs i v h
 
 pub size-member : (A : Type 0) (ps : List (ObjectProp A)) (i : ℕ) (p : ObjectProp A) → i < length ps → p ≡ get_or ps i p → size-ObjectProp A p ≤ most (λ x. size-ObjectProp A x) ps
 size-member A ps i p h e = let within = at_most (λ x. size-ObjectProp A x) ps i p h in omega (arith, within, ap (λ x. size-ObjectProp A x) e)
+
+-- what has an element is not empty
+pub not_empty : {X : Type 0} (xs : List X) (i : ℕ) → i < length xs → xs ≢ []
+not_empty xs i within = λ none. omega (arith, within, ap length none)

@@ -1,11 +1,13 @@
--- What a copy has besides its value and the places of its nodes: which names are in quotes.
-use Rattle.std.specs.Prelude.{Bool, true, false, List, [], ◌∷◌}
+-- What a copy has besides its value and the places of its nodes: which names are in quotes; and which copies take memory.
+use Rattle.std.specs.Prelude.{◌≢◌, Bool, true, false, List, [], ◌∷◌}
+use Rattle.std.specs.Cow.{IsOwnedStr}
 use Rattle.std.specs.List.{flat_map}
+use Rattle.jsonc_ast.specs.Access.{properties}
 use Rattle.jsonc_ast.specs.Located.{Located}
 use Rattle.jsonc_ast.specs.Views.{LocatedMember, value_step, array_step, object_step, property_step}
 use Rattle.jsonc_ast.specs.declared.ast.ObjectPropName.{ObjectPropName}
 use Rattle.jsonc_ast.specs.declared.ast.ObjectPropName.TheVariants.{String, Word}
-use Rattle.jsonc_ast.specs.declared.ast.Value.{Value, fold-Value}
+use Rattle.jsonc_ast.specs.declared.ast.Value.{Value, fold-Value, out-Value}
 use Rattle.jsonc_ast.specs.declared.ast.Array.{Array, fold-Array}
 use Rattle.jsonc_ast.specs.declared.ast.Object.{Object, fold-Object}
 use Rattle.jsonc_ast.specs.declared.ast.ObjectProp.{ObjectProp, fold-ObjectProp}
@@ -48,3 +50,18 @@ module _ {A : Type 0} where
 
   abbrev pub quotes_in_property : ObjectProp A → List Bool
   quotes_in_property = fold-ObjectProp A (List Bool) (List Bool) (List Bool) (List Bool) value_quotes array_quotes object_quotes property_quotes
+
+  -- the name is in quotes, and owns its text
+  abbrev pub OwnsText : ObjectPropName A → Type 0
+  OwnsText (String s) = IsOwnedStr s.value
+  OwnsText (Word w) = ⊥
+
+  abbrev level_takes_memory : Value-F A (Value A) (Array A) (Object A) (ObjectProp A) → Type 0
+  level_takes_memory (Value-F.StringLit s) = IsOwnedStr s.value
+  level_takes_memory (Value-F.Array a) = a.elements.items ≢ []
+  level_takes_memory (Value-F.Object o) = properties o ≢ []
+  level_takes_memory _ = ⊥
+
+  -- a copy of the value takes memory: it is a string that owns its text, or a container with something in it
+  abbrev pub TakesMemory : Value A → Type 0
+  TakesMemory v = level_takes_memory (out-Value A v)

@@ -1,5 +1,5 @@
 //! Values, and where they stand in their text.
-ghost use Rattle.std.specs.Prelude.{◌≡◌, ◌++◌, ◌∷◌, [], OnOk};
+ghost use Rattle.std.specs.Prelude.{◌≡◌, ◌++◌, ◌∷◌, [], OnErr, OnOk};
 ghost use Rattle.jsonc_ast.specs.Located.{array_at, object_at, range_at};
 ghost use Rattle.jsonc_ast.specs.Views.{located, object_located, items_located, member_of, members_located, name_at, Grown};
 ghost use Rattle.jsonc_ast.specs.Spelled.{spelled, spelled_in_property, spelled_in_elements, spelled_in_properties};
@@ -133,25 +133,27 @@ pub fn property_of<'a, A: Allocator>(
     ObjectProp { range, name, value }
 }
 
-/// Appends an element.
+/// Appends an element. On an error the vector stays as it is.
 pub fn push_value<'a, A: Allocator>(
     elements: &mut Vec<Value<'a, A>, A>,
     value: Value<'a, A>,
 ) -> Result<(), AllocError>
     ensures located { OnOk result (Grown located elements.old.items elements.new.items value.entry) }
     ensures pushed { OnOk result (elements.new.items ≡ elements.old.items ++ value.entry ∷ []) }
+    ensures kept { OnErr result (elements.new.items ≡ elements.old.items) }
 {
     elements.push(value)?;
     Ok(())
 }
 
-/// Appends a property.
+/// Appends a property. On an error the vector stays as it is.
 pub fn push_property<'a, A: Allocator>(
     properties: &mut Vec<ObjectProp<'a, A>, A>,
     property: ObjectProp<'a, A>,
 ) -> Result<(), AllocError>
     ensures located { OnOk result (Grown member_of properties.old.items properties.new.items property.entry) }
     ensures pushed { OnOk result (properties.new.items ≡ properties.old.items ++ property.entry ∷ []) }
+    ensures kept { OnErr result (properties.new.items ≡ properties.old.items) }
 {
     properties.push(property)?;
     Ok(())

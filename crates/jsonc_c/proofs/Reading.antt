@@ -32,10 +32,10 @@ told_counted e f k t = record { kind = t.kind; start = t.start; end = t.end; lin
 -- it tells the same of an edit
 pub unread_counted : {c : JsoncEdit} {status : ℕ} {f : JsoncFault} (k : ℕ) → IsUnread c status f → IsUnread c status (counted f k)
 unread_counted k IsUnread.for_memory = IsUnread.for_memory
-unread_counted k (IsUnread.for_name other) = IsUnread.for_name other
-unread_counted k (IsUnread.for_json other) = IsUnread.for_json other
-unread_counted k (IsUnread.for_text {f = f} e refused told) = IsUnread.for_text e refused (told_counted e f k told)
-unread_counted k (IsUnread.for_value empty) = IsUnread.for_value empty
+unread_counted k (IsUnread.for_name has other) = IsUnread.for_name has other
+unread_counted k (IsUnread.for_json has other) = IsUnread.for_json has other
+unread_counted k (IsUnread.for_text {f = f} e has refused told) = IsUnread.for_text e has refused (told_counted e f k told)
+unread_counted k (IsUnread.for_value has empty) = IsUnread.for_value has empty
 unread_counted k (IsUnread.for_kind past) = IsUnread.for_kind past
 
 -- the one at a place of a list

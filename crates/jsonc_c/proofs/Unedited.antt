@@ -31,10 +31,10 @@ module _ (A : Type 0) (o p : Options) (text : List ℕ) (cs : List JsoncEdit) (s
 -- that an edit is none is no success, and no want of room
 pub unread_tells : {c : JsoncEdit} {status : ℕ} {f : JsoncFault} → IsUnread c status f → (1 ≤ status) × ¬ (status ≡ 17)
 unread_tells IsUnread.for_memory = (omega arith, λ e. omega (arith, e))
-unread_tells (IsUnread.for_name other) = (omega arith, λ e. omega (arith, e))
-unread_tells (IsUnread.for_json other) = (omega arith, λ e. omega (arith, e))
-unread_tells (IsUnread.for_text e refused told) = (omega arith, λ e. omega (arith, e))
-unread_tells (IsUnread.for_value empty) = (omega arith, λ e. omega (arith, e))
+unread_tells (IsUnread.for_name has other) = (omega arith, λ e. omega (arith, e))
+unread_tells (IsUnread.for_json has other) = (omega arith, λ e. omega (arith, e))
+unread_tells (IsUnread.for_text e has refused told) = (omega arith, λ e. omega (arith, e))
+unread_tells (IsUnread.for_value has empty) = (omega arith, λ e. omega (arith, e))
 unread_tells (IsUnread.for_kind past) = (omega arith, λ e. omega (arith, e))
 
 unread_in_tells : (cs : List JsoncEdit) (status : ℕ) (f : JsoncFault) → IsUnreadIn cs status f → (1 ≤ status) × ¬ (status ≡ 17)

@@ -82,18 +82,25 @@ IsOfValue kind = (kind ≡ 0) ⊎ ((kind ≡ 7) ⊎ ((kind ≡ 11) ⊎ (kind ≡
 abbrev pub IsOfProperty : ℕ → Type 0
 IsOfProperty kind = (kind ≡ 5) ⊎ ((kind ≡ 13) ⊎ (kind ≡ 14))
 
--- an allocation failed, or the name is not UTF-8
-abbrev pub IsWanting : JsoncEdit → ℕ → Type 0
-IsWanting c status = (status ≡ 1) ⊎ ((status ≡ 2) × ¬ (IsUtf8 c.name.now))
+-- the kinds that have a name, and those that have a value
+abbrev pub HasName : ℕ → Type 0
+HasName kind = IsOfProperty kind ⊎ (kind ≡ 15)
 
--- Why C's edit is none: an allocation failed; its name or JSON text is not UTF-8; that text is no document, and the fault tells what is wrong with it; it has no
--- value; or no edit has its kind.
+abbrev pub HasValue : ℕ → Type 0
+HasValue kind = (kind ≡ 3) ⊎ (IsOfValue kind ⊎ IsOfProperty kind)
+
+-- an allocation failed, or the name that the kind has is not UTF-8
+abbrev pub IsWanting : JsoncEdit → ℕ → Type 0
+IsWanting c status = (status ≡ 1) ⊎ ((status ≡ 2) × HasName c.kind × ¬ (IsUtf8 c.name.now))
+
+-- Why C's edit is none: an allocation failed; a name or JSON text that its kind has is not UTF-8; that text is no document, and the fault tells what is wrong with
+-- it; it has no value; or no edit has its kind.
 pub data IsUnread (c : JsoncEdit) : ℕ → JsoncFault → Type 0 where
   for_memory : {f : JsoncFault} → IsUnread c 1 f
-  for_name : {f : JsoncFault} → ¬ (IsUtf8 c.name.now) → IsUnread c 2 f
-  for_json : {f : JsoncFault} → ¬ (IsUtf8 c.json.now) → IsUnread c 2 f
-  for_text : {f : JsoncFault} (e : ParseError) → IsRefusal c.json.now e → IsToldOf e f → IsUnread c 7 f
-  for_value : {f : JsoncFault} → IsDocument all_on (chars c.json.now) None → IsUnread c 8 f
+  for_name : {f : JsoncFault} → HasName c.kind → ¬ (IsUtf8 c.name.now) → IsUnread c 2 f
+  for_json : {f : JsoncFault} → HasValue c.kind → ¬ (IsUtf8 c.json.now) → IsUnread c 2 f
+  for_text : {f : JsoncFault} (e : ParseError) → HasValue c.kind → IsRefusal c.json.now e → IsToldOf e f → IsUnread c 7 f
+  for_value : {f : JsoncFault} → HasValue c.kind → IsDocument all_on (chars c.json.now) None → IsUnread c 8 f
   for_kind : {f : JsoncFault} → 17 < c.kind → IsUnread c 16 f
 
 -- why one of C's edits is none: an allocation failed, or so it is of the one of the number that the fault tells

@@ -69,6 +69,16 @@ pub record IsToldOf (e : ParseError) (f : JsoncFault) : Type 0 where
   pub text : take f.text_len f.text ≡ take 192 (error_text e)
   pub within : f.text_len ≤ 192
 
+-- A call of a text tells nothing with another status than 4, 5 and 7, and of no edits.
+pub record TellsOfTexts (status : ℕ) (f : JsoncFault) : Type 0 where
+  pub nothing : ¬ (status ≡ 4) → ¬ (status ≡ 5) → ¬ (status ≡ 7) → f ≡ no_fault
+  pub no_edits : f.made ≡ 0
+
+-- A call of edits tells with another status than 4 and 7 at most their number, and with status 0 nothing.
+pub record TellsOfEdits (status : ℕ) (f : JsoncFault) : Type 0 where
+  pub nothing : status ≡ 0 → f ≡ no_fault
+  pub number : ¬ (status ≡ 4) → ¬ (status ≡ 7) → f ≡ record no_fault { made = f.made }
+
 -- the status of an edit that was refused
 abbrev pub edit_status : EditError → ℕ
 edit_status refused.OutOfMemory = 1

@@ -5,6 +5,7 @@ ghost use Rattle.jsonc_engine.specs.Input.{IsInputOf};
 ghost use Rattle.jsonc_engine.specs.Output.{IsLeft};
 ghost use Rattle.jsonc_c.specs.Commands.{HasNoText, IsRefused, asked_of};
 ghost use Rattle.jsonc_c.specs.Options.{options_of};
+ghost use Rattle.jsonc_c.specs.Told.{TellsOfTexts, no_fault};
 
 use crate::fault::{JsoncFault, OTHER, WORD_NOT_UTF8, no_fault, tell};
 use crate::options::options_of;
@@ -51,6 +52,7 @@ fn command_of<'a>(asked: Asked<'a>) -> Option<Command<'a>>
 }
 
 /// What the command writes of a text.
+#[tactic(auto, using(crate::proofs::Telling::tells_none, crate::proofs::Telling::tells_of))]
 pub(crate) fn written(
     alloc: Global,
     asked: Asked,
@@ -66,6 +68,8 @@ pub(crate) fn written(
     ensures words { IfErr result (λ status. status ≡ 2 → HasNoText (asked_of asked.entry)) }
     ensures refused { IfErr result (λ status. 3 ≤ status →
         IsRefused (options_of options) (asked_of asked.entry) text.now status fault.new) }
+    ensures untold { OnOk result (fault.new ≡ no_fault) }
+    ensures told { IfErr result (λ status. TellsOfTexts status fault.new) }
 {
     *fault = no_fault();
     let Some(command) = command_of(asked) else {

@@ -4,7 +4,7 @@ ghost use Rattle.jsonc_text.specs.OptionsOf.{parse_options};
 ghost use Rattle.jsonc_text.specs.declared.errors.ParseError.{ParseError};
 ghost use Rattle.jsonc_engine.specs.Input.{IsInputOf, IsRefusalOf};
 ghost use Rattle.jsonc_c.specs.Options.{options_of};
-ghost use Rattle.jsonc_c.specs.Told.{IsToldOf};
+ghost use Rattle.jsonc_c.specs.Told.{IsToldOf, TellsOfTexts};
 
 use crate::fault::{JsoncFault, NOT_UTF8, OK, TEXT, no_fault, tell_error};
 use crate::options::options_of;
@@ -25,6 +25,7 @@ fn checked(alloc: Global, text: &str, options: &ParseOptions) -> Result<(), Pars
 ///
 /// 0: it is a document of the options. 1: an allocation failed. 3: it is not UTF-8. 4: it is no document within the
 /// nesting, and the fault tells what is wrong with it.
+#[tactic(auto, using(crate::proofs::Telling::tells_none, crate::proofs::Telling::tells_text))]
 #[unsafe(no_mangle)]
 pub extern "C" fn jsonc_check(
     alloc: Global,
@@ -37,6 +38,7 @@ pub extern "C" fn jsonc_check(
     ensures refused { result ≡ 4 →
         (e : ParseError) × IsRefusalOf (options_of options) text.now e × IsToldOf e fault.new }
     ensures statuses { ¬ (result ≡ 0) → ¬ (result ≡ 1) → ¬ (result ≡ 3) → result ≡ 4 }
+    ensures told { TellsOfTexts result fault.new }
 {
     *fault = no_fault();
     let Ok(text) = str::from_utf8(text) else {

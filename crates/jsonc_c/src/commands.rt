@@ -6,6 +6,7 @@ ghost use Rattle.jsonc_engine.specs.Input.{IsInputOf};
 ghost use Rattle.jsonc_engine.specs.Output.{IsLeft};
 ghost use Rattle.jsonc_c.specs.Commands.{HasNoText, IsRefused, asked_of};
 ghost use Rattle.jsonc_c.specs.Options.{options_of};
+ghost use Rattle.jsonc_c.specs.Told.{TellsOfTexts};
 
 use crate::asked::{Asked, written};
 use crate::fault::{JsoncFault, OK};
@@ -13,6 +14,7 @@ use crate::handed::{hand_out, hand_out_line};
 use std::alloc::Global;
 
 /// Hands out what a command writes of a text.
+#[tactic(auto, using(crate::proofs::Telling::tells_none))]
 fn change(
     alloc: Global,
     command: Asked,
@@ -27,6 +29,7 @@ fn change(
     ensures refused { 3 ≤ result →
         IsRefused (options_of options) (asked_of command.entry) text.now result fault.new }
     ensures empty { 1 ≤ result → out.new.now ≡ [] }
+    ensures told { TellsOfTexts result fault.new }
 {
     *out = &[];
     match written(alloc, command, text, options, fault) {
@@ -53,6 +56,7 @@ pub extern "C" fn jsonc_print(
     ensures accepted { result ≡ 0 → IsInputOf (options_of options) text.now }
     ensures refused { 2 ≤ result → IsRefused (options_of options) asked.print text.now result fault.new }
     ensures empty { 1 ≤ result → out.new.now ≡ [] }
+    ensures told { TellsOfTexts result fault.new }
 {
     change(alloc, Asked::Print, text, options, out, fault)
 }
@@ -78,6 +82,7 @@ pub extern "C" fn jsonc_set(
     ensures refused { 3 ≤ result →
         IsRefused (options_of options) (asked.set name.now json.now) text.now result fault.new }
     ensures empty { 1 ≤ result → out.new.now ≡ [] }
+    ensures told { TellsOfTexts result fault.new }
 {
     change(alloc, Asked::Set(name, json), text, options, out, fault)
 }
@@ -100,6 +105,7 @@ pub extern "C" fn jsonc_append(
     ensures refused { 3 ≤ result →
         IsRefused (options_of options) (asked.append json.now) text.now result fault.new }
     ensures empty { 1 ≤ result → out.new.now ≡ [] }
+    ensures told { TellsOfTexts result fault.new }
 {
     change(alloc, Asked::Append(json), text, options, out, fault)
 }
@@ -122,6 +128,7 @@ pub extern "C" fn jsonc_remove(
     ensures refused { 3 ≤ result →
         IsRefused (options_of options) (asked.remove name.now) text.now result fault.new }
     ensures empty { 1 ≤ result → out.new.now ≡ [] }
+    ensures told { TellsOfTexts result fault.new }
 {
     change(alloc, Asked::Remove(name), text, options, out, fault)
 }
@@ -141,6 +148,7 @@ pub extern "C" fn jsonc_sort(
     ensures accepted { result ≡ 0 → IsInputOf (options_of options) text.now }
     ensures refused { 2 ≤ result → IsRefused (options_of options) asked.sort text.now result fault.new }
     ensures empty { 1 ≤ result → out.new.now ≡ [] }
+    ensures told { TellsOfTexts result fault.new }
 {
     change(alloc, Asked::Sort, text, options, out, fault)
 }
@@ -164,6 +172,7 @@ pub extern "C" fn jsonc_get(
     ensures refused { 3 ≤ result →
         IsRefused (options_of options) (asked.get path.now) text.now result fault.new }
     ensures empty { 1 ≤ result → out.new.now ≡ [] }
+    ensures told { TellsOfTexts result fault.new }
 {
     *out = &[];
     match written(alloc, Asked::Get(path), text, options, fault) {
@@ -194,6 +203,7 @@ pub extern "C" fn jsonc_put(
     ensures refused { 3 ≤ result →
         IsRefused (options_of options) (asked.put path.now json.now) text.now result fault.new }
     ensures empty { 1 ≤ result → out.new.now ≡ [] }
+    ensures told { TellsOfTexts result fault.new }
 {
     change(alloc, Asked::Put(path, json), text, options, out, fault)
 }
@@ -216,6 +226,7 @@ pub extern "C" fn jsonc_drop(
     ensures refused { 3 ≤ result →
         IsRefused (options_of options) (asked.drop path.now) text.now result fault.new }
     ensures empty { 1 ≤ result → out.new.now ≡ [] }
+    ensures told { TellsOfTexts result fault.new }
 {
     change(alloc, Asked::Drop(path), text, options, out, fault)
 }

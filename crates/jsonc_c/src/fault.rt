@@ -166,6 +166,7 @@ fn put_text(text: &[u8], fault: &mut JsoncFault)
     ensures end { fault.new.end ≡ fault.old.end }
     ensures line { fault.new.line ≡ fault.old.line }
     ensures column { fault.new.column ≡ fault.old.column }
+    ensures made { fault.new.made ≡ fault.old.made }
 {
     let count = TEXT_LEN.min(text.len());
     fault.text[..count].copy_from_slice(&text[..count]);
@@ -181,6 +182,8 @@ pub(crate) fn tell_error(
     fault: &mut JsoncFault,
 ) -> u32
     ensures status { (result ≡ 1) ⊎ ((result ≡ status) × IsToldOf error.now fault.new) }
+    ensures untold { ¬ (result ≡ status) → fault.new ≡ fault.old }
+    ensures made { fault.new.made ≡ fault.old.made }
 {
     if *error.kind() == ParseErrorKind::OutOfMemory {
         return OUT_OF_MEMORY;
@@ -215,6 +218,8 @@ pub(crate) fn tell(alloc: Global, told: &Fault, fault: &mut JsoncFault) -> u32
     ensures told { (result ≡ 1) ⊎ IsTold told.now result fault.new }
     ensures status { 1 ≤ result }
     ensures other { ¬ (result ≡ 17) }
+    ensures untold { ¬ (result ≡ 4) → ¬ (result ≡ 5) → ¬ (result ≡ 7) → fault.new ≡ fault.old }
+    ensures made { fault.new.made ≡ fault.old.made }
 {
     match told {
         Fault::Input(error) => tell_error(alloc, error, TEXT, fault),

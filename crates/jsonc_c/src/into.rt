@@ -8,6 +8,7 @@ ghost use Rattle.jsonc_engine.specs.Output.{IsLeft};
 ghost use Rattle.jsonc_c.specs.Commands.{HasNoText, IsRefused, asked_of};
 ghost use Rattle.jsonc_c.specs.Edits.{IsEdited, IsUnedited};
 ghost use Rattle.jsonc_c.specs.Options.{options_of};
+ghost use Rattle.jsonc_c.specs.Told.{TellsOfEdits, TellsOfTexts};
 
 use crate::asked::{Asked, written};
 use crate::edits::JsoncEdit;
@@ -21,6 +22,7 @@ fn fill(bytes: &[u8], room: &mut [u8], len: &mut usize) -> u32
     ensures len { len.new ≡ length bytes.now }
     ensures filled { result ≡ 0 → take len.new room.new ≡ bytes.now }
     ensures no_room { ¬ (result ≡ 0) → (result ≡ 17) × (length room.old < len.new) }
+    ensures unwritten { ¬ (result ≡ 0) → room.new ≡ room.old }
 {
     *len = bytes.len();
     if bytes.len() > room.len() {
@@ -31,6 +33,7 @@ fn fill(bytes: &[u8], room: &mut [u8], len: &mut usize) -> u32
 }
 
 /// Writes what a command writes of a text into a buffer.
+#[tactic(auto, using(crate::proofs::Telling::tells_none))]
 fn change_into(
     alloc: Global,
     command: Asked,
@@ -44,6 +47,9 @@ fn change_into(
         IsLeft (options_of options) (asked_of command.entry) text.now (take len.new room.new) }
     ensures accepted { result ≡ 0 → IsInputOf (options_of options) text.now }
     ensures no_room { result ≡ 17 → length room.old < len.new }
+    ensures len { ¬ (result ≡ 0) → ¬ (result ≡ 17) → len.new ≡ 0 }
+    ensures unwritten { ¬ (result ≡ 0) → room.new ≡ room.old }
+    ensures told { TellsOfTexts result fault.new }
     ensures words { result ≡ 2 → HasNoText (asked_of command.entry) }
     ensures refused { 3 ≤ result → ¬ (result ≡ 17) →
         IsRefused (options_of options) (asked_of command.entry) text.now result fault.new }
@@ -70,6 +76,9 @@ pub extern "C" fn jsonc_print_into(
     ensures printed { result ≡ 0 → take len.new room.new ≡ text.now }
     ensures accepted { result ≡ 0 → IsInputOf (options_of options) text.now }
     ensures no_room { result ≡ 17 → length room.old < len.new }
+    ensures len { ¬ (result ≡ 0) → ¬ (result ≡ 17) → len.new ≡ 0 }
+    ensures unwritten { ¬ (result ≡ 0) → room.new ≡ room.old }
+    ensures told { TellsOfTexts result fault.new }
     ensures refused { 2 ≤ result → ¬ (result ≡ 17) →
         IsRefused (options_of options) asked.print text.now result fault.new }
 {
@@ -94,6 +103,9 @@ pub extern "C" fn jsonc_set_into(
         IsMadeOf (options_of options) (asked.set name.now json.now) text.now (take len.new room.new) }
     ensures accepted { result ≡ 0 → IsInputOf (options_of options) text.now }
     ensures no_room { result ≡ 17 → length room.old < len.new }
+    ensures len { ¬ (result ≡ 0) → ¬ (result ≡ 17) → len.new ≡ 0 }
+    ensures unwritten { ¬ (result ≡ 0) → room.new ≡ room.old }
+    ensures told { TellsOfTexts result fault.new }
     ensures words { result ≡ 2 → ¬ (IsUtf8 name.now) ⊎ ¬ (IsUtf8 json.now) }
     ensures refused { 3 ≤ result → ¬ (result ≡ 17) →
         IsRefused (options_of options) (asked.set name.now json.now) text.now result fault.new }
@@ -126,6 +138,9 @@ pub extern "C" fn jsonc_append_into(
         IsMadeOf (options_of options) (asked.append json.now) text.now (take len.new room.new) }
     ensures accepted { result ≡ 0 → IsInputOf (options_of options) text.now }
     ensures no_room { result ≡ 17 → length room.old < len.new }
+    ensures len { ¬ (result ≡ 0) → ¬ (result ≡ 17) → len.new ≡ 0 }
+    ensures unwritten { ¬ (result ≡ 0) → room.new ≡ room.old }
+    ensures told { TellsOfTexts result fault.new }
     ensures words { result ≡ 2 → ¬ (IsUtf8 json.now) }
     ensures refused { 3 ≤ result → ¬ (result ≡ 17) →
         IsRefused (options_of options) (asked.append json.now) text.now result fault.new }
@@ -150,6 +165,9 @@ pub extern "C" fn jsonc_remove_into(
         IsMadeOf (options_of options) (asked.remove name.now) text.now (take len.new room.new) }
     ensures accepted { result ≡ 0 → IsInputOf (options_of options) text.now }
     ensures no_room { result ≡ 17 → length room.old < len.new }
+    ensures len { ¬ (result ≡ 0) → ¬ (result ≡ 17) → len.new ≡ 0 }
+    ensures unwritten { ¬ (result ≡ 0) → room.new ≡ room.old }
+    ensures told { TellsOfTexts result fault.new }
     ensures words { result ≡ 2 → ¬ (IsUtf8 name.now) }
     ensures refused { 3 ≤ result → ¬ (result ≡ 17) →
         IsRefused (options_of options) (asked.remove name.now) text.now result fault.new }
@@ -173,6 +191,9 @@ pub extern "C" fn jsonc_sort_into(
         IsMadeOf (options_of options) asked.sort text.now (take len.new room.new) }
     ensures accepted { result ≡ 0 → IsInputOf (options_of options) text.now }
     ensures no_room { result ≡ 17 → length room.old < len.new }
+    ensures len { ¬ (result ≡ 0) → ¬ (result ≡ 17) → len.new ≡ 0 }
+    ensures unwritten { ¬ (result ≡ 0) → room.new ≡ room.old }
+    ensures told { TellsOfTexts result fault.new }
     ensures refused { 2 ≤ result → ¬ (result ≡ 17) →
         IsRefused (options_of options) asked.sort text.now result fault.new }
 {
@@ -182,6 +203,7 @@ pub extern "C" fn jsonc_sort_into(
 /// Writes the value at a path, as it is written, into a buffer, as `jsonc_get` hands it out.
 ///
 /// 17: the buffer is too small. `len` tells how long the value is then, too.
+#[tactic(auto, using(crate::proofs::Telling::tells_none))]
 #[unsafe(no_mangle)]
 pub extern "C" fn jsonc_get_into(
     alloc: Global,
@@ -196,6 +218,9 @@ pub extern "C" fn jsonc_get_into(
         IsGot (options_of options) path.now text.now (take len.new room.new ++ 0x0A ∷ []) }
     ensures accepted { result ≡ 0 → IsInputOf (options_of options) text.now }
     ensures no_room { result ≡ 17 → length room.old < len.new }
+    ensures len { ¬ (result ≡ 0) → ¬ (result ≡ 17) → len.new ≡ 0 }
+    ensures unwritten { ¬ (result ≡ 0) → room.new ≡ room.old }
+    ensures told { TellsOfTexts result fault.new }
     ensures words { result ≡ 2 → ¬ (IsUtf8 path.now) }
     ensures refused { 3 ≤ result → ¬ (result ≡ 17) →
         IsRefused (options_of options) (asked.get path.now) text.now result fault.new }
@@ -225,6 +250,9 @@ pub extern "C" fn jsonc_put_into(
         IsMadeOf (options_of options) (asked.put path.now json.now) text.now (take len.new room.new) }
     ensures accepted { result ≡ 0 → IsInputOf (options_of options) text.now }
     ensures no_room { result ≡ 17 → length room.old < len.new }
+    ensures len { ¬ (result ≡ 0) → ¬ (result ≡ 17) → len.new ≡ 0 }
+    ensures unwritten { ¬ (result ≡ 0) → room.new ≡ room.old }
+    ensures told { TellsOfTexts result fault.new }
     ensures words { result ≡ 2 → ¬ (IsUtf8 path.now) ⊎ ¬ (IsUtf8 json.now) }
     ensures refused { 3 ≤ result → ¬ (result ≡ 17) →
         IsRefused (options_of options) (asked.put path.now json.now) text.now result fault.new }
@@ -257,6 +285,9 @@ pub extern "C" fn jsonc_drop_into(
         IsMadeOf (options_of options) (asked.drop path.now) text.now (take len.new room.new) }
     ensures accepted { result ≡ 0 → IsInputOf (options_of options) text.now }
     ensures no_room { result ≡ 17 → length room.old < len.new }
+    ensures len { ¬ (result ≡ 0) → ¬ (result ≡ 17) → len.new ≡ 0 }
+    ensures unwritten { ¬ (result ≡ 0) → room.new ≡ room.old }
+    ensures told { TellsOfTexts result fault.new }
     ensures words { result ≡ 2 → ¬ (IsUtf8 path.now) }
     ensures refused { 3 ≤ result → ¬ (result ≡ 17) →
         IsRefused (options_of options) (asked.drop path.now) text.now result fault.new }
@@ -267,6 +298,7 @@ pub extern "C" fn jsonc_drop_into(
 /// Writes the text after edits into a buffer, as `jsonc_edit` hands it out.
 ///
 /// 17: the buffer is too small. `len` tells how long the text is then, too.
+#[tactic(auto, using(crate::proofs::Telling::tells_no_edits))]
 #[unsafe(no_mangle)]
 pub extern "C" fn jsonc_edit_into(
     alloc: Global,
@@ -280,6 +312,9 @@ pub extern "C" fn jsonc_edit_into(
     ensures edited { result ≡ 0 →
         IsEdited Global (options_of options) text.now edits.now (take len.new room.new) }
     ensures no_room { result ≡ 17 → length room.old < len.new }
+    ensures len { ¬ (result ≡ 0) → ¬ (result ≡ 17) → len.new ≡ 0 }
+    ensures unwritten { ¬ (result ≡ 0) → room.new ≡ room.old }
+    ensures told { TellsOfEdits result fault.new }
     ensures refused { ¬ (result ≡ 0) → ¬ (result ≡ 17) →
         IsUnedited Global (options_of options) text.now edits.now result fault.new }
 {

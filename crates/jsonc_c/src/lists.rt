@@ -1,9 +1,10 @@
 //! Lists of edits.
-ghost use Rattle.std.specs.Prelude.{◌≡◌, List, [], IfErr, IfOk, string_bytes};
+ghost use Rattle.std.specs.Prelude.{◌≡◌, List, [], IfErr, IfOk, OnOk, string_bytes};
 ghost use Rattle.jsonc_c.specs.declared.edits.JsoncEdit.{JsoncEdit};
 ghost use Rattle.std.specs.declared.alloc.Global.{Global};
 ghost use Rattle.jsonc_c.specs.Edits.{AreReadAs, IsEdited, IsUnedited};
 ghost use Rattle.jsonc_c.specs.Options.{options_of};
+ghost use Rattle.jsonc_c.specs.Told.{TellsOfEdits, no_fault};
 
 use crate::compare::compare;
 use crate::edits::JsoncEdit;
@@ -22,10 +23,13 @@ fn edited(
     options: u32,
     fault: &mut JsoncFault,
 ) -> Result<String, u32>
+    requires untold { fault.old ≡ no_fault }
     ensures edited { (listed : List JsoncEdit) → AreReadAs listed edits.items
         → IfOk result (λ made. IsEdited Global (options_of options) text.now listed (string_bytes made)) }
     ensures refused { (listed : List JsoncEdit) → AreReadAs listed edits.items
         → IfErr result (λ status. IsUnedited Global (options_of options) text.now listed status fault.new) }
+    ensures untold { OnOk result (fault.new ≡ no_fault) }
+    ensures told { IfErr result (λ status. TellsOfEdits status fault.new) }
 {
     let compare = |document: &CstRootNode<Global>, one: CstNode, other: CstNode| compare(
         document, one, other,
@@ -51,6 +55,8 @@ pub(crate) fn text_after(
     ensures edited { IfOk result (λ made. IsEdited Global (options_of options) text.now edits.now (string_bytes made)) }
     ensures refused { IfErr result
         (λ status. IsUnedited Global (options_of options) text.now edits.now status fault.new) }
+    ensures untold { OnOk result (fault.new ≡ no_fault) }
+    ensures told { IfErr result (λ status. TellsOfEdits status fault.new) }
 {
     *fault = no_fault();
     let read = match read_edits(alloc, edits, fault) {
@@ -68,6 +74,7 @@ pub(crate) fn text_after(
 /// 0: it is done. 1, 3 and 4 as of `jsonc_check`. 2: a name or JSON text is not UTF-8. 7 and 8: a JSON text is no
 /// document, or has no value. 13: an edit has no place. 16: an edit has no such kind. The fault tells how many edits
 /// stand before it.
+#[tactic(auto, using(crate::proofs::Telling::tells_no_edits))]
 #[unsafe(no_mangle)]
 pub extern "C" fn jsonc_edit(
     alloc: Global,
@@ -80,6 +87,7 @@ pub extern "C" fn jsonc_edit(
     ensures edited { result ≡ 0 → IsEdited Global (options_of options) text.now edits.now out.new.now }
     ensures refused { ¬ (result ≡ 0) → IsUnedited Global (options_of options) text.now edits.now result fault.new }
     ensures empty { ¬ (result ≡ 0) → out.new.now ≡ [] }
+    ensures told { TellsOfEdits result fault.new }
 {
     *out = &[];
     match text_after(alloc, text, edits, options, fault) {

@@ -1,6 +1,6 @@
 //! Edits of C, read.
-ghost use Rattle.std.specs.Prelude.{◌≡◌, IfErr, IfOk, IsUtf8, string_bytes};
-ghost use Rattle.jsonc_c.specs.Edits.{AreReadAs, IsReadAs, IsUnread, IsUnreadIn, IsValueOf, IsWanting};
+ghost use Rattle.std.specs.Prelude.{◌≡◌, IfErr, IfOk, IsUtf8, OnOk, string_bytes};
+ghost use Rattle.jsonc_c.specs.Edits.{AreReadAs, HasName, HasValue, IsReadAs, IsUnread, IsUnreadIn, IsValueOf, IsWanting};
 ghost use Rattle.jsonc_c.specs.Edits.{IsOfPath, IsOfProperty, IsOfRoot, IsOfValue, mode_of, over_of, shape_of};
 
 use crate::edits::{
@@ -54,6 +54,7 @@ fn path_of(alloc: Global, edit: &JsoncEdit) -> Result<Vec<usize>, u32>
 
 /// Its name.
 fn name_of(alloc: Global, edit: &JsoncEdit) -> Result<String, u32>
+    requires { HasName edit.now.kind }
     ensures name { IfOk result (λ name. string_bytes name ≡ edit.now.name.now) }
     ensures refused { IfErr result (λ status. IsWanting edit.now status) }
 {
@@ -72,8 +73,11 @@ fn value_of(
     edit: &JsoncEdit,
     fault: &mut JsoncFault,
 ) -> Result<CstInputValue<Global>, u32>
+    requires { HasValue edit.now.kind }
     ensures value { IfOk result (IsValueOf edit.now) }
     ensures refused { IfErr result (λ status. IsUnread edit.now status fault.new) }
+    ensures left { OnOk result (fault.new ≡ fault.old) }
+    ensures untold { IfErr result (λ status. ¬ (status ≡ 7) → fault.new ≡ fault.old) }
 {
     let Ok(json) = str::from_utf8(edit.json) else {
         return Err(WORD_NOT_UTF8);
@@ -90,6 +94,8 @@ fn root_edit(alloc: Global, edit: &JsoncEdit, fault: &mut JsoncFault) -> Result<
     requires { IsOfRoot edit.now.kind }
     ensures read { IfOk result (IsReadAs edit.now) }
     ensures refused { IfErr result (λ status. IsUnread edit.now status fault.new) }
+    ensures left { OnOk result (fault.new ≡ fault.old) }
+    ensures untold { IfErr result (λ status. ¬ (status ≡ 7) → fault.new ≡ fault.old) }
 {
     match edit.kind {
         REMOVE_COMMENT => Ok(Edit::RemoveComment(edit.index)),
@@ -128,6 +134,8 @@ fn value_edit(alloc: Global, edit: &JsoncEdit, fault: &mut JsoncFault) -> Result
     requires { IsOfValue edit.now.kind }
     ensures read { IfOk result (IsReadAs edit.now) }
     ensures refused { IfErr result (λ status. IsUnread edit.now status fault.new) }
+    ensures left { OnOk result (fault.new ≡ fault.old) }
+    ensures untold { IfErr result (λ status. ¬ (status ≡ 7) → fault.new ≡ fault.old) }
 {
     let value = match value_of(alloc, edit, fault) {
         Ok(value) => value,
@@ -176,6 +184,8 @@ fn property_edit(
     requires { IsOfProperty edit.now.kind }
     ensures read { IfOk result (IsReadAs edit.now) }
     ensures refused { IfErr result (λ status. IsUnread edit.now status fault.new) }
+    ensures left { OnOk result (fault.new ≡ fault.old) }
+    ensures untold { IfErr result (λ status. ¬ (status ≡ 7) → fault.new ≡ fault.old) }
 {
     let value = match value_of(alloc, edit, fault) {
         Ok(value) => value,
@@ -201,6 +211,8 @@ fn property_edit(
 fn read_edit(alloc: Global, edit: &JsoncEdit, fault: &mut JsoncFault) -> Result<Edit<Global>, u32>
     ensures read { IfOk result (IsReadAs edit.now) }
     ensures refused { IfErr result (λ status. IsUnread edit.now status fault.new) }
+    ensures left { OnOk result (fault.new ≡ fault.old) }
+    ensures untold { IfErr result (λ status. ¬ (status ≡ 7) → fault.new ≡ fault.old) }
 {
     match edit.kind {
         REMOVE_COMMENT | SET_ROOT | CLEAR_ROOT | ENSURE_ROOT => root_edit(alloc, edit, fault),
@@ -222,6 +234,9 @@ pub(crate) fn read_edits(
 ) -> Result<Vec<Edit<Global>>, u32>
     ensures read { IfOk result (λ read. AreReadAs edits.now read.items) }
     ensures refused { IfErr result (λ status. IsUnreadIn edits.now status fault.new) }
+    ensures left { OnOk result (fault.new ≡ fault.old) }
+    ensures untold { IfErr result (λ status. ¬ (status ≡ 7) → fault.new ≡ record fault.old { made = fault.new.made }) }
+    ensures some { IfErr result (λ status. ¬ (status ≡ 0)) }
 {
     let mut read = Vec::new(alloc);
     for (count, edit) in edits.iter().enumerate() {

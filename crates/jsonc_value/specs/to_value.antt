@@ -1,4 +1,5 @@
 pub mod Views
 pub mod Reads
 pub mod Refusals
+pub mod Lent
 pub mod Made

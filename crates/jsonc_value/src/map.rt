@@ -4,7 +4,7 @@
 //! words for what a call does to that list are std's own of lists of pairs: `lookup` and
 //! `lookup_entry` find a key's value or pair, `remove_entry` closes up, `insert_entry` puts a new key
 //! last and gives a present one the value in its place.
-ghost use Rattle.std.specs.Prelude.{◌≡◌, ◌↔◌, ◌+◌, ◌<◌, ◌≤◌, false, [], ◌∷◌, ◌++◌, length, position, remove, IsTrue, IfOk, IfErr, IfSome, OnOk, OnErr, Some, is_some, slice_get, option_copied};
+ghost use Rattle.std.specs.Prelude.{◌≡◌, ◌↔◌, ◌+◌, ◌<◌, ◌≤◌, false, [], ◌∷◌, ◌++◌, length, position, remove, IsTrue, IfOk, IfErr, IfSome, OnOk, OnErr, None, Some, is_some, slice_get, option_copied};
 ghost use Rattle.std.specs.Option.{option_map};
 ghost use Rattle.std.specs.Map.{lookup, lookup_entry, remove_entry, keys_of, values_of};
 ghost use Rattle.std.specs.Map.Iter.{deref_pair};
@@ -301,13 +301,14 @@ impl<K: Eq + Hash + Drop, V, A: Allocator + Copy> Map<K, V, A> {
 
     /// Sets the value of this key, and answers the old one.
     ///
-    /// A new key is appended; a present one keeps its place. On an error the pair is given back,
-    /// and nothing changes.
+    /// A new key is appended; a present one keeps its place, and takes no memory. On an error the
+    /// pair is given back, and nothing changes.
     pub fn insert(&mut self, key: K, value: V) -> Result<Option<V>, AllocFailed<(K, V)>>
         ensures old { IfOk result (λ old. old ≡ lookup (K.eq key) self.old) }
         ensures entries { OnOk result (self.new ≡ insert_entry K.eq self.old key value) }
         ensures value_returned { IfErr result (λ y. y.value ≡ (key, value)) }
         ensures err { OnErr result (self.new ≡ self.old) }
+        ensures memory { OnErr result (lookup (K.eq key) self.old ≡ None) }
     {
         match self.find(&key) {
             Some(index) => Ok(Some(mem::replace(&mut self.pairs[index].1, value))),

@@ -1,24 +1,31 @@
 //! Copies of values.
-ghost use Rattle.std.specs.Prelude.{◌≡◌, IfOk, Ok, map};
-ghost use Rattle.std.specs.Cow.{cow_str_bytes};
+ghost use Rattle.std.specs.Prelude.{◌≡◌, ◌≢◌, ◌⊎◌, [], IfOk, Ok, OnErr, map};
+ghost use Rattle.std.specs.Cow.{IsOwnedStr, cow_str_bytes};
+ghost use Rattle.jsonc_ast.specs.Access.{properties};
 ghost use Rattle.jsonc_ast.specs.Views.{located, object_located, member_of, name_at};
-ghost use Rattle.jsonc_ast.specs.Copies.{array_located, in_quotes, quotes, quotes_in_array, quotes_in_object, quotes_in_property};
+ghost use Rattle.jsonc_ast.specs.Copies.{OwnsText, TakesMemory, array_located, in_quotes, quotes, quotes_in_array, quotes_in_object, quotes_in_property};
 
 use super::{
     Array, BooleanLit, NullKeyword, NumberLit, Object, ObjectProp, ObjectPropName, StringLit,
     Value, WordLit,
 };
 use std::alloc::{AllocError, Allocator};
+use std::borrow::CowStr;
 
 impl<'a, A: Allocator + Copy> StringLit<'a, A> {
-    /// A copy of the string, with the same range.
+    /// A copy of the string, with the same range. Only that of a string which owns its text takes memory.
     pub fn try_clone(&self) -> Result<Self, AllocError>
         ensures range { IfOk result (λ s. s.range ≡ self.now.range) }
         ensures text { IfOk result (λ s. cow_str_bytes s.value ≡ cow_str_bytes self.now.value) }
+        ensures memory { OnErr result (IsOwnedStr self.now.value) }
     {
+        let value = match &self.value {
+            CowStr::Borrowed(text) => CowStr::Borrowed(*text),
+            CowStr::Owned(text) => CowStr::Owned(text.clone()?),
+        };
         Ok(StringLit {
             range: self.range,
-            value: self.value.clone()?,
+            value,
         })
     }
 }
@@ -73,6 +80,7 @@ impl<'a, A: Allocator + Copy> ObjectPropName<'a, A> {
     pub fn try_clone(&self) -> Result<Self, AllocError>
         ensures name { IfOk result (λ n. name_at n ≡ name_at self.now) }
         ensures quotes { IfOk result (λ n. in_quotes n ≡ in_quotes self.now) }
+        ensures memory { OnErr result (OwnsText self.now) }
     {
         match self {
             ObjectPropName::String(name) => Ok(ObjectPropName::String(name.try_clone()?)),
@@ -90,6 +98,7 @@ impl<'a, A: Allocator + Copy> Value<'a, A> {
     pub fn try_clone(&self) -> Result<Self, AllocError>
         ensures value { IfOk result (λ v. located v ≡ located self.now) }
         ensures quotes { IfOk result (λ v. quotes v ≡ quotes self.now) }
+        ensures memory { OnErr result (TakesMemory self.now) }
     {
         match self {
             Value::StringLit(string) => Ok(Value::StringLit(string.try_clone()?)),
@@ -114,6 +123,7 @@ impl<'a, A: Allocator + Copy> Object<'a, A> {
     pub fn try_clone(&self) -> Result<Self, AllocError>
         ensures value { IfOk result (λ o. object_located o ≡ object_located self.now) }
         ensures quotes { IfOk result (λ o. quotes_in_object o ≡ quotes_in_object self.now) }
+        ensures memory { OnErr result (properties self.now ≢ []) }
     {
         let copies = copy_properties(*self.properties.allocator(), self.properties.as_slice())?;
         Ok(Object {
@@ -129,6 +139,7 @@ impl<'a, A: Allocator + Copy> ObjectProp<'a, A> {
     pub fn try_clone(&self) -> Result<Self, AllocError>
         ensures value { IfOk result (λ p. member_of p ≡ member_of self.now) }
         ensures quotes { IfOk result (λ p. quotes_in_property p ≡ quotes_in_property self.now) }
+        ensures memory { OnErr result (OwnsText self.now.name ⊎ TakesMemory self.now.value) }
     {
         let name = self.name.try_clone()?;
         let value = self.value.try_clone()?;
@@ -146,6 +157,7 @@ impl<'a, A: Allocator + Copy> Array<'a, A> {
     pub fn try_clone(&self) -> Result<Self, AllocError>
         ensures value { IfOk result (λ a. array_located a ≡ array_located self.now) }
         ensures quotes { IfOk result (λ a. quotes_in_array a ≡ quotes_in_array self.now) }
+        ensures memory { OnErr result (self.now.elements.items ≢ []) }
     {
         let copies = copy_elements(*self.elements.allocator(), self.elements.as_slice())?;
         Ok(Array {
@@ -163,6 +175,7 @@ fn copy_elements<'a, A: Allocator + Copy>(
 ) -> Result<Vec<Value<'a, A>, A>, AllocError>
     ensures values { IfOk result (λ v. map located v.items ≡ map located values.now) }
     ensures quotes { IfOk result (λ v. map quotes v.items ≡ map quotes values.now) }
+    ensures memory { OnErr result (values.now ≢ []) }
 {
     let mut copies = Vec::with_capacity(alloc, values.len())?;
     for value in values {
@@ -179,6 +192,7 @@ fn copy_properties<'a, A: Allocator + Copy>(
 ) -> Result<Vec<ObjectProp<'a, A>, A>, AllocError>
     ensures values { IfOk result (λ v. map member_of v.items ≡ map member_of properties.now) }
     ensures quotes { IfOk result (λ v. map quotes_in_property v.items ≡ map quotes_in_property properties.now) }
+    ensures memory { OnErr result (properties.now ≢ []) }
 {
     let mut copies = Vec::with_capacity(alloc, properties.len())?;
     for property in properties {

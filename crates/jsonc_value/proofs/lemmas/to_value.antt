@@ -3,3 +3,4 @@ pub mod Insertions
 pub mod Grown
 pub mod Documents
 pub mod Stacked
+pub mod Lending

@@ -11,6 +11,7 @@ use Rattle.jsonc_ast.specs.Views.{LocatedMember, items_of, members_of}
 use Rattle.jsonc_ast.specs.to_ast.Handed.{Source}
 use Rattle.jsonc_value.specs.declared.to_value.values.ValueMaker.{ValueMaker}
 use Rattle.jsonc_value.specs.declared.value.JsonValue.{JsonValue}
+use Rattle.jsonc_value.specs.to_value.Lent.{AreLent, IsLent, texts, texts_in_elements, texts_in_properties}
 use Rattle.jsonc_value.specs.to_value.Views.{plain, name_of, same_name, items_plain, members_plain}
 
 module _ {A : Type 0} where
@@ -42,6 +43,19 @@ module _ {A : Type 0} where
   abbrev pub SameOpen : ValueMaker A → ValueMaker A → Type 0
   SameOpen s t = (t.elements.items ≡ s.elements.items) × (t.properties.items ≡ s.properties.items)
 
+  -- from s to t the text and the open containers stay, and the value is made of what was read, its strings and names lent by the text
+  pub record IsMade (s t : ValueMaker A) (v : JsonValue A) (x : Located) : Type 0 where
+    pub source : source_in t ≡ source_in s
+    pub stacks : SameOpen s t
+    pub collapsed : IsCollapsed v x
+    pub lent : AreLent (source_in s) (texts v)
+
+  pub record IsNamed (s t : ValueMaker A) (k : CowStr A) (n : LocatedName) : Type 0 where
+    pub source : source_in t ≡ source_in s
+    pub stacks : SameOpen s t
+    pub name : IsName k n
+    pub lent : IsLent (source_in s) k
+
   -- behind the elements that s has, t has those of an array that begins there
   pub record HoldsElements (s t : ValueMaker A) (start : ℕ) (xs : List Located) : Type 0 where
     pub elements : List (JsonValue A)
@@ -49,6 +63,8 @@ module _ {A : Type 0} where
     pub stacked : t.elements.items ≡ s.elements.items ++ elements
     pub same : t.properties.items ≡ s.properties.items
     pub are : AreElements elements xs
+    pub source : source_in t ≡ source_in s
+    pub lent : AreLent (source_in s) (texts_in_elements elements)
 
   -- behind the properties that s has, t has those of an object that begins there, each as it was read
   pub record HoldsProperties (s t : ValueMaker A) (start : ℕ) (ms : List LocatedMember) : Type 0 where
@@ -57,3 +73,5 @@ module _ {A : Type 0} where
     pub stacked : t.properties.items ≡ s.properties.items ++ properties
     pub same : t.elements.items ≡ s.elements.items
     pub are : AreProperties (insert_all same_name [] properties) ms
+    pub source : source_in t ≡ source_in s
+    pub lent : AreLent (source_in s) (texts_in_properties properties)

@@ -1,5 +1,5 @@
 //! Values of a map, to write.
-ghost use Rattle.std.specs.Prelude.{◌≡◌, ◌<◌, length, slice_get, Some, IfOk, IfErr, OnErr};
+ghost use Rattle.std.specs.Prelude.{◌≡◌, ◌<◌, length, slice_get, None, Some, IfOk, IfErr, OnErr};
 ghost use Rattle.std.specs.Borrow.{sem};
 ghost use Rattle.std.specs.Option.{option_copied_mut, unwrap_or};
 ghost use Rattle.std.specs.Map.{lookup, values_of};
@@ -58,6 +58,7 @@ impl<K: Eq + Hash + Drop, V: Drop, A: Allocator + Copy> Map<K, V, A> {
             ≡ Some (unwrap_or (lookup (K.eq key) self.old) value)) }
         ensures value_returned { IfErr result (λ y. y.value ≡ value) }
         ensures err { OnErr result (self.new ≡ self.old) }
+        ensures memory { OnErr result (lookup (K.eq key) self.old ≡ None) }
     {
         if let Some(index) = self.find(&key) {
             return Ok(index);
@@ -78,11 +79,12 @@ impl<'a, K: Eq + Hash + Drop, V: Drop, A: Allocator + Copy> Entry<'a, K, V, A> {
 
     /// The value of the key, to write; where it has none, this one is appended.
     ///
-    /// On an error the pairs stay as they are, and the value is given back.
+    /// On an error the pairs stay as they are, and the value is given back. Only a key that has no value takes memory.
     pub fn or_insert(self, value: V) -> Result<&'a mut V, AllocFailed<V>>
         ensures* writes_back { sem 𝓛 (entry_lends K.row V.row A.row K.Hash A.Allocator self.entry result) }
         ensures value { IfOk result (λ v. v.now ≡ unwrap_or (lookup (K.eq self.entry.key) self.entry.map.now) value) }
         ensures value_returned { IfErr result (λ y. y.value ≡ value) }
+        ensures memory { OnErr result (lookup (K.eq self.entry.key) self.entry.map.now ≡ None) }
     {
         let Entry { map, key } = self;
         match map.place_or_insert(key, value) {

@@ -5,7 +5,7 @@ ghost use Rattle.std.specs.Map.{keys_of, values_of};
 ghost use Rattle.indexmap.specs.IndexMap.{insert_all};
 ghost use Rattle.jsonc_value.specs.Copies.{EqualsItsClones, IsPairClone};
 ghost use Rattle.jsonc_value.specs.Hashes.{AreHashesOf};
-ghost use Rattle.jsonc_value.specs.Lists.{InsertsUpTo};
+ghost use Rattle.jsonc_value.specs.Lists.{BeginsWithNew, InsertsUpTo};
 
 use super::Map;
 use super::hashes::{FEW, Hashes, hashes_of};
@@ -77,13 +77,14 @@ impl<K: Eq + Hash + Drop, V: Drop, A: Allocator + Copy> Map<K, V, A> {
     /// Inserts these pairs one after another.
     ///
     /// On an error those before the one that failed are inserted, and that one and those after it
-    /// are given back.
+    /// are given back. Its key is a new one.
     pub fn extend_list<B: Allocator>(
         &mut self,
         pairs: Vec<(K, V), B>,
     ) -> Result<(), AllocFailed<Vec<(K, V), B>>>
         ensures inserted { OnOk result (self.new ≡ insert_all K.eq self.old pairs.items) }
         ensures refused { IfErr result (λ y. InsertsUpTo K.eq self.old pairs.items y.value.items self.new) }
+        ensures memory { IfErr result (λ y. BeginsWithNew K.eq self.new y.value.items) }
     {
         // Last first, so that the next pair is the one that `pop` gives.
         let mut rest = pairs;

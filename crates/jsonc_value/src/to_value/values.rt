@@ -1,8 +1,9 @@
 //! A value, made of a text.
 ghost use Rattle.std.specs.Prelude.{◌≡◌, ◌≤◌, length, take, drop, IfOk, IfErr, OnOk, false, chars};
-ghost use Rattle.std.specs.Cow.{cow_str_bytes};
+ghost use Rattle.std.specs.Cow.{IsOwnedStr, cow_str_bytes};
 ghost use Rattle.std.specs.Str.{IsUtf8};
 ghost use Rattle.jsonc_value.specs.to_value.Views.{plain, name_of, items_plain, members_plain};
+ghost use Rattle.jsonc_value.specs.to_value.Lent.{IsLentBy, texts, texts_in_elements, texts_in_properties};
 ghost use Rattle.jsonc_value.specs.to_value.Reads.{IsValueOf};
 ghost use Rattle.jsonc_value.specs.to_value.Refusals.{RefusesText};
 ghost use Rattle.jsonc_ast.specs.to_ast.Faults.{ParseFault};
@@ -28,6 +29,7 @@ use std::borrow::CowStr;
 fn lent<'a, A: Allocator>(text: &'a str) -> CowStr<'a, A>
     ensures name { name_of result ≡ chars text.now }
     ensures utf8 { IsUtf8 (cow_str_bytes result) }
+    ensures lent { ¬ (IsOwnedStr result) }
 {
     CowStr::Borrowed(text)
 }
@@ -35,7 +37,8 @@ fn lent<'a, A: Allocator>(text: &'a str) -> CowStr<'a, A>
 /// An array of these elements.
 #[inline(always)]
 fn array_of<'a, A: Allocator>(elements: Vec<JsonValue<'a, A>, A>) -> JsonValue<'a, A>
-    ensures { plain result ≡ array (items_plain elements.entry.items) }
+    ensures plain { plain result ≡ array (items_plain elements.entry.items) }
+    ensures texts { texts result ≡ texts_in_elements elements.entry.items }
 {
     JsonValue::Array(JsonArray::new(elements))
 }
@@ -45,7 +48,8 @@ fn array_of<'a, A: Allocator>(elements: Vec<JsonValue<'a, A>, A>) -> JsonValue<'
 fn object_of<'a, A: Allocator>(
     properties: Map<CowStr<'a, A>, JsonValue<'a, A>, A>,
 ) -> JsonValue<'a, A>
-    ensures { plain result ≡ object (members_plain properties.entry) }
+    ensures plain { plain result ≡ object (members_plain properties.entry) }
+    ensures texts { texts result ≡ texts_in_properties properties.entry }
 {
     JsonValue::Object(JsonObject::new(properties))
 }
@@ -63,7 +67,7 @@ pub(crate) struct ValueMaker<'a, A: Allocator> {
 
 impl<'a, A: Allocator + Copy> Receiver<String<A>> for ValueMaker<'a, A> {
     ghost use Rattle.std.specs.Prelude.{false};
-    ghost use Rattle.jsonc_value.specs.to_value.Made.{source_in, HoldsElements, HoldsProperties, SameOpen, IsCollapsed, IsName};
+    ghost use Rattle.jsonc_value.specs.to_value.Made.{source_in, HoldsElements, HoldsProperties, IsMade, IsNamed};
 
     type Item = JsonValue<'a, A>;
 
@@ -79,9 +83,9 @@ impl<'a, A: Allocator + Copy> Receiver<String<A>> for ValueMaker<'a, A> {
 
     ghost source = { source_in };
 
-    ghost makes = { λ s t i x. IsCollapsed i x × SameOpen s t };
+    ghost makes = { IsMade };
 
-    ghost names = { λ s t p n. IsName p n × SameOpen s t };
+    ghost names = { IsNamed };
 
     ghost holds_elements = { λ s t a i xs. HoldsElements s t a xs };
 
@@ -205,8 +209,8 @@ impl<'a, A: Allocator + Copy> Receiver<String<A>> for ValueMaker<'a, A> {
 /// Parses a text to its value, without ranges and comments.
 ///
 /// A text of blanks and comments alone has none. Of properties with one name the first gives the
-/// place and the last the value. A value with more than 512 containers inside one another is an
-/// error. The error says what is wrong, in which bytes, and in which line and column; an allocation
+/// place and the last the value. Strings and names without a backslash are lent by the text. A value
+/// with more than 512 containers inside one another is an error. The error says what is wrong, in which bytes, and in which line and column; an allocation
 /// failure is an error too.
 pub fn parse_to_value<'a, A: Allocator + Copy>(
     alloc: A,
@@ -214,6 +218,7 @@ pub fn parse_to_value<'a, A: Allocator + Copy>(
     options: &ParseOptions,
 ) -> Result<Option<JsonValue<'a, A>>, ParseError>
     ensures accepted { IfOk result (IsValueOf (parse_options options.now) (chars text.now)) }
+    ensures lent { IfOk result (IsLentBy (parse_options options.now) text.now) }
     ensures refused { IfErr result (RefusesText (parse_options options.now) text.now) }
     ensures fault { IfErr result (IsFault text.now) }
     ensures error { IfErr result (ParseFault (parse_options options.now) text.now false) }

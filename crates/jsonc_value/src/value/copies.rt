@@ -1,19 +1,29 @@
 //! Copies of values.
-ghost use Rattle.std.specs.Prelude.{◌≡◌, IfOk, map};
+ghost use Rattle.std.specs.Prelude.{◌≡◌, ◌≢◌, [], IfOk, OnErr, map};
 ghost use Rattle.jsonc_value.specs.Contents.{content, named_contents, object_content, array_content};
+ghost use Rattle.jsonc_value.specs.Copies.{TakesMemory};
+ghost use Rattle.jsonc_value.specs.Kinds.{elements, properties};
 
 use super::{JsonArray, JsonObject, JsonValue};
+use crate::map::Map;
 use std::alloc::{AllocError, Allocator};
 use std::borrow::CowStr;
 
 impl<'a, A: Allocator + Copy> JsonValue<'a, A> {
-    /// A copy of the value. Its properties are in the same order.
+    /// A copy of the value. Its properties are in the same order. Only a string that owns its text, and what is
+    /// in arrays and objects, takes memory.
     #[cycle(copy)]
     pub fn try_clone(&self) -> Result<Self, AllocError>
-        ensures { IfOk result (λ v. content v ≡ content self.now) }
+        ensures value { IfOk result (λ v. content v ≡ content self.now) }
+        ensures memory { OnErr result (TakesMemory self.now) }
     {
         match self {
-            JsonValue::String(string) => Ok(JsonValue::String(string.clone()?)),
+            JsonValue::String(CowStr::Borrowed(text)) => {
+                Ok(JsonValue::String(CowStr::Borrowed(*text)))
+            }
+            JsonValue::String(CowStr::Owned(text)) => {
+                Ok(JsonValue::String(CowStr::Owned(text.clone()?)))
+            }
             JsonValue::Number(number) => Ok(JsonValue::Number(*number)),
             JsonValue::Boolean(boolean) => Ok(JsonValue::Boolean(*boolean)),
             JsonValue::Object(object) => Ok(JsonValue::Object(object.try_clone()?)),
@@ -27,8 +37,12 @@ impl<'a, A: Allocator + Copy> JsonObject<'a, A> {
     /// A copy of the object. Its properties are in the same order.
     #[cycle(copy)]
     pub fn try_clone(&self) -> Result<Self, AllocError>
-        ensures { IfOk result (λ o. object_content o ≡ object_content self.now) }
+        ensures value { IfOk result (λ o. object_content o ≡ object_content self.now) }
+        ensures memory { OnErr result (properties self.now ≢ []) }
     {
+        if self.0.is_empty() {
+            return Ok(JsonObject(Map::new(*self.0.allocator())));
+        }
         let copies = copy_pairs(*self.0.allocator(), self.0.pairs_slice())?;
         Ok(JsonObject(self.0.with_copies(copies)?))
     }
@@ -38,7 +52,8 @@ impl<'a, A: Allocator + Copy> JsonArray<'a, A> {
     /// A copy of the array. Its elements are in the same order.
     #[cycle(copy)]
     pub fn try_clone(&self) -> Result<Self, AllocError>
-        ensures { IfOk result (λ a. array_content a ≡ array_content self.now) }
+        ensures value { IfOk result (λ a. array_content a ≡ array_content self.now) }
+        ensures memory { OnErr result (elements self.now ≢ []) }
     {
         let copies = copy_all(*self.0.allocator(), self.0.as_slice())?;
         Ok(JsonArray(copies))
@@ -51,7 +66,8 @@ fn copy_all<'a, A: Allocator + Copy>(
     alloc: A,
     values: &[JsonValue<'a, A>],
 ) -> Result<Vec<JsonValue<'a, A>, A>, AllocError>
-    ensures { IfOk result (λ v. map content v.items ≡ map content values.now) }
+    ensures values { IfOk result (λ v. map content v.items ≡ map content values.now) }
+    ensures memory { OnErr result (values.now ≢ []) }
 {
     let mut copies = Vec::with_capacity(alloc, values.len())?;
     for value in values {

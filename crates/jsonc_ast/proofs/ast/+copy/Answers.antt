@@ -4,7 +4,8 @@ use Rattle.jsonc_ast.specs.Views.{located, member_of}
 use Rattle.jsonc_ast.specs.Copies.{quotes, quotes_in_property}
 use Rattle.jsonc_ast.specs.declared.ast.Value.{size-Value}
 use Rattle.jsonc_ast.specs.declared.ast.ObjectProp.{size-ObjectProp}
-use Rattle.jsonc_ast.proofs.Copies.{located-Array, located-Object, quotes-Array, quotes-Object, none_copied, one_copied, all_copied, array_copied, array_quotes_copied, object_copied, object_quotes_copied, property_copied, property_quotes_copied, string_copied, string_quotes_copied, size-in-array, size-of-array, size-in-object, size-of-object, size-in-property, size-element, size-member}
+use Rattle.jsonc_ast.proofs.Copies.{located-Array, located-Object, quotes-Array, quotes-Object, none_copied, one_copied, all_copied, not_empty, array_copied, array_quotes_copied, object_copied, object_quotes_copied, property_copied, property_quotes_copied, string_copied, string_quotes_copied, size-in-array, size-of-array, size-in-object, size-of-object, size-in-property, size-element, size-member}
+use Rattle.jsonc_ast.proofs.lemmas.to_ast.Refusals.{on_err}
 use Rattle.jsonc_ast.proofs.ast.+copy.Goals as goal
 
 pub Array::try_clone-copy_elements-requires :
@@ -181,3 +182,11 @@ pub copies::copy_properties-returns-clause-quotes :
     goal.copies::copy_properties-returns-clause-quotes
 copies::copy_properties-returns-clause-quotes g t c =
     all_copied quotes_in_property c.args.properties.now c.loop-property.copies.items c.loop-property.property-index c.loop-property-test.false c.loop-property.invariant.quotes
+
+pub copies::copy_properties-returns-in_err-try_clone-clause-memory : goal.copies::copy_properties-returns-in_err-try_clone-clause-memory
+copies::copy_properties-returns-in_err-try_clone-clause-memory g t c =
+    on_err c.from_residual-in_err-try_clone.result (not_empty c.args.properties.now c.loop-property.property-index c.loop-property-test.true)
+
+pub copies::copy_properties-returns-in_err-push-clause-memory : goal.copies::copy_properties-returns-in_err-push-clause-memory
+copies::copy_properties-returns-in_err-push-clause-memory g t c =
+    on_err c.from_residual-in_err-push.result (not_empty c.args.properties.now c.loop-property.property-index c.loop-property-test.true)

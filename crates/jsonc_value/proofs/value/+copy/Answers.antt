@@ -6,17 +6,17 @@ use Rattle.jsonc_value.specs.declared.value.JsonValue.{size-JsonValue}
 use Rattle.jsonc_value.proofs.Contents.{content-Array, content-Object, same_texts, one_pair_copied, size-pair, one_copied, all_copied, size-in-array, size-of-array, size-of-object, size-element}
 use Rattle.jsonc_value.proofs.value.+copy.Goals as goal
 
-pub JsonValue::try_clone-returns-in_ok-try_clone-in-Object : goal.JsonValue::try_clone-returns-in_ok-try_clone-in-Object
-JsonValue::try_clone-returns-in_ok-try_clone-in-Object g t c =
-    content-Object c.in_ok-try_clone-in-Object.field-0 ∙ ap object c.in_ok-try_clone-in-Object.ensures ∙ sym (content-Object c.in-Object.object) ∙ ap content (sym c.in-Object.is)
+pub JsonValue::try_clone-returns-in_ok-try_clone-in-Object-clause-value : goal.JsonValue::try_clone-returns-in_ok-try_clone-in-Object-clause-value
+JsonValue::try_clone-returns-in_ok-try_clone-in-Object-clause-value g t c =
+    content-Object c.in_ok-try_clone-in-Object.field-0 ∙ ap object c.in_ok-try_clone-in-Object.ensures.value ∙ sym (content-Object c.in-Object.object) ∙ ap content (sym c.in-Object.is)
 
-pub JsonValue::try_clone-returns-in_ok-try_clone-in-Array : goal.JsonValue::try_clone-returns-in_ok-try_clone-in-Array
-JsonValue::try_clone-returns-in_ok-try_clone-in-Array g t c =
-    content-Array c.in_ok-try_clone-in-Array.field-0 ∙ ap array c.in_ok-try_clone-in-Array.ensures ∙ sym (content-Array c.in-Array.array) ∙ ap content (sym c.in-Array.is)
+pub JsonValue::try_clone-returns-in_ok-try_clone-in-Array-clause-value : goal.JsonValue::try_clone-returns-in_ok-try_clone-in-Array-clause-value
+JsonValue::try_clone-returns-in_ok-try_clone-in-Array-clause-value g t c =
+    content-Array c.in_ok-try_clone-in-Array.field-0 ∙ ap array c.in_ok-try_clone-in-Array.ensures.value ∙ sym (content-Array c.in-Array.array) ∙ ap content (sym c.in-Array.is)
 
 pub copies::copy_all-loop-value-preserved : goal.copies::copy_all-loop-value-preserved
 copies::copy_all-loop-value-preserved g t c =
-    one_copied c.args.values.now c.loop-value.copies.items c.push.new.self.items c.loop-value.value-index c.value-item.result c.in_ok-try_clone.field-0 c.loop-value.invariant c.loop-value-test.true c.value-item.is c.in_ok-try_clone.ensures c.in_ok-push.ensures.items
+    one_copied c.args.values.now c.loop-value.copies.items c.push.new.self.items c.loop-value.value-index c.value-item.result c.in_ok-try_clone.field-0 c.loop-value.invariant c.loop-value-test.true c.value-item.is c.in_ok-try_clone.ensures.value c.in_ok-push.ensures.items
 
 pub JsonValue::try_clone-try_clone-requires : goal.JsonValue::try_clone-try_clone-requires
 JsonValue::try_clone-try_clone-requires g t c κs within =
@@ -26,16 +26,16 @@ pub JsonValue::try_clone-try_clone-requires-in-Array : goal.JsonValue::try_clone
 JsonValue::try_clone-try_clone-requires-in-Array g t c κs within =
     (omega (arith, size-of-array g.row.A.Denot c.in-Array.array, ap (λ x. size-JsonValue g.row.A.Denot x) c.in-Array.is), within)
 
-pub JsonValue::try_clone-returns-in-Number : goal.JsonValue::try_clone-returns-in-Number
-JsonValue::try_clone-returns-in-Number g t c =
+pub JsonValue::try_clone-returns-in-Number-clause-value : goal.JsonValue::try_clone-returns-in-Number-clause-value
+JsonValue::try_clone-returns-in-Number-clause-value g t c =
     ap content (sym c.in-Number.is)
 
-pub JsonValue::try_clone-returns-in-Boolean : goal.JsonValue::try_clone-returns-in-Boolean
-JsonValue::try_clone-returns-in-Boolean g t c =
+pub JsonValue::try_clone-returns-in-Boolean-clause-value : goal.JsonValue::try_clone-returns-in-Boolean-clause-value
+JsonValue::try_clone-returns-in-Boolean-clause-value g t c =
     ap content (sym c.in-Boolean.is)
 
-pub JsonValue::try_clone-returns-in-Null : goal.JsonValue::try_clone-returns-in-Null
-JsonValue::try_clone-returns-in-Null g t c =
+pub JsonValue::try_clone-returns-in-Null-clause-value : goal.JsonValue::try_clone-returns-in-Null-clause-value
+JsonValue::try_clone-returns-in-Null-clause-value g t c =
     ap content (sym c.in-Null.is)
 
 pub JsonArray::try_clone-copy_all-requires : goal.JsonArray::try_clone-copy_all-requires
@@ -54,8 +54,8 @@ pub copies::copy_all-loop-value-smaller : goal.copies::copy_all-loop-value-small
 copies::copy_all-loop-value-smaller g t c =
     omega (arith, c.loop-value-test.true)
 
-pub copies::copy_all-returns : goal.copies::copy_all-returns
-copies::copy_all-returns g t c =
+pub copies::copy_all-returns-clause-values : goal.copies::copy_all-returns-clause-values
+copies::copy_all-returns-clause-values g t c =
     all_copied c.args.values.now c.loop-value.copies.items c.loop-value.value-index c.loop-value-test.false c.loop-value.invariant
 
 pub JsonObject::try_clone-with_copies-requires-clause-keys : goal.JsonObject::try_clone-with_copies-requires-clause-keys
@@ -69,4 +69,4 @@ copies::copy_pairs-try_clone-requires g t c κs within =
 pub copies::copy_pairs-loop-name-preserved : goal.copies::copy_pairs-loop-name-preserved
 copies::copy_pairs-loop-name-preserved g t c =
     one_pair_copied c.args.pairs.now c.loop-name.copies.items c.push.new.self.items c.loop-name.name-index c.loop-name-item.result (c.in_ok-clone.field-0, c.in_ok-try_clone.field-0)
-    c.loop-name.invariant c.loop-name-test.true c.loop-name-item.is c.in_ok-clone.ensures.cases c.in_ok-try_clone.ensures c.in_ok-push.ensures.items
+    c.loop-name.invariant c.loop-name-test.true c.loop-name-item.is c.in_ok-clone.ensures.cases c.in_ok-try_clone.ensures.value c.in_ok-push.ensures.items

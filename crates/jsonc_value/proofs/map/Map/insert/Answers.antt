@@ -37,3 +37,6 @@ returns-in-Ok-clause-old g c = value_none (g.K.PartialEq.eq c.args.key) c.args.s
 
 pub returns-in-Ok-clause-entries : goal.returns-in-Ok-clause-entries
 returns-in-Ok-clause-entries g c = c.in-Ok.ensures.pairs ∙ inserted_last g.K.PartialEq.eq c.args.self.now c.args.key c.args.value c.in-None.ensures.found
+
+pub returns-in-Err-clause-memory : goal.returns-in-Err-clause-memory
+returns-in-Err-clause-memory g c = sym (value_none (g.K.PartialEq.eq c.args.key) c.args.self.now c.in-None.ensures.found)

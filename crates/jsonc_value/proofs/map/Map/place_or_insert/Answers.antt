@@ -1,4 +1,4 @@
-use Rattle.std.proofs.Common.{◌≡◌, Some, get_or, ap, ◌∙◌, slice_get}
+use Rattle.std.proofs.Common.{◌≡◌, Some, get_or, ap, sym, ◌∙◌, slice_get}
 use Rattle.std.specs.Option.{unwrap_or}
 use Rattle.std.specs.Map.{values_of}
 use Rattle.std.proofs.lemmas.Option.{slice_get-get_or}
@@ -26,3 +26,6 @@ pub returns-in-Ok-clause-value : goal.returns-in-Ok-clause-value
 returns-in-Ok-clause-value g c =
     (λ j. slice_get (values_of (c.in-Ok.ensures.pairs j)) (c.len-index.ensures.len j)) ∙ value_last c.args.self.now c.args.key c.args.value
     ∙ ap (λ o. Some (unwrap_or o c.args.value)) (value_none (g.K.PartialEq.eq c.args.key) c.args.self.now c.in_default.ensures.found)
+
+pub returns-in-Err-clause-memory : goal.returns-in-Err-clause-memory
+returns-in-Err-clause-memory g c = sym (value_none (g.K.PartialEq.eq c.args.key) c.args.self.now c.in_default.ensures.found)

@@ -22,5 +22,5 @@ returns-in-Ok g c =
     let here : slice_get es i ≡ Some e = slice_get_read es (length es) i e refl within c.index_mut.ensures.value in
     let same = sym (value_at es i e here) ∙ ap (λ l. slice_get (values_of l) i) c.map.view_is ∙ c.in-Ok.ensures.value in (
       (λ j. inl (c.map-in-Ok-1.given, λ w. (set_is_value es i e w c.index_mut.ensures.value ∙ ap (λ l. set_value_at l i w) c.map.view_is ∙ c.in-Ok.ensures.place w) j)),
-      record { writes_back = tt; value = ap (λ o. unwrap_or o e.1) same; value_returned = tt },
+      record { writes_back = tt; value = ap (λ o. unwrap_or o e.1) same; value_returned = tt; memory = tt },
     )

@@ -1,7 +1,11 @@
-use Rattle.std.proofs.Common.{[], ap, ◌∙◌}
+use Rattle.std.proofs.Common.{[], ap, sym, subst, ◌∙◌}
 use Rattle.indexmap.specs.IndexMap.{insert_all}
 use Rattle.jsonc_text.specs.Plain.{object}
+use Rattle.std.proofs.lemmas.List.Elements.{All-nil}
+use Rattle.jsonc_value.specs.to_value.Lent.{AreLent, IsLent, texts_in_properties}
+use Rattle.jsonc_value.specs.to_value.Made.{source_in}
 use Rattle.jsonc_value.specs.to_value.Views.{same_name, members_plain}
+use Rattle.jsonc_value.proofs.lemmas.to_value.Lending.{all_lent}
 use Rattle.jsonc_ast.proofs.lemmas.to_ast.Stacked.{Parted, parted}
 use Rattle.jsonc_value.proofs.to_value.values.ValueMakerReceiverString.close_object.Goals as goal
 
@@ -14,4 +18,9 @@ pub returns-clause-made : goal.returns-clause-made
 returns-clause-made g c = λ s ms h.
     let apart : Parted c.args.self.now.properties.items s.properties.items h.properties c.args.object = parted c.args.self.now.properties.items s.properties.items h.properties c.args.object h.begins h.stacked in
     let same = c.in_ok-from_vec.ensures ∙ ap (insert_all same_name []) (c.in_ok-properties.ensures.taken ∙ apart.taken) in
-    (c.object_of.ensures ∙ ap (λ ps. object (members_plain ps)) same ∙ ap object h.are.0, (h.same, c.in_ok-properties.ensures.left ∙ apart.left))
+    record {
+      source = h.source;
+      stacks = (h.same, c.in_ok-properties.ensures.left ∙ apart.left);
+      collapsed = c.object_of.ensures.plain ∙ ap (λ ps. object (members_plain ps)) same ∙ ap object h.are.0;
+      lent = subst (AreLent (source_in s)) (sym (c.object_of.ensures.texts ∙ ap texts_in_properties same)) (all_lent (source_in s) [] h.properties (All-nil (IsLent (source_in s))) h.lent);
+    }

@@ -3,4 +3,4 @@ use Rattle.jsonc_value.proofs.lemmas.to_value.Stacked.{element_stacked}
 use Rattle.jsonc_value.proofs.to_value.values.ValueMakerReceiverString.element.Goals as goal
 
 pub returns-clause-held : goal.returns-clause-held
-returns-clause-held g c = λ s m i xs x held made. element_stacked s m c.args.self.now _ c.args._array.now c.args.item xs x held made c.in_ok-push.ensures.items refl
+returns-clause-held g c = λ s m i xs x held made. element_stacked s m c.args.self.now _ c.args._array.now c.args.item xs x held made refl c.in_ok-push.ensures.items refl

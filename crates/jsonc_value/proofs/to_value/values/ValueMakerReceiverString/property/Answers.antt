@@ -4,4 +4,4 @@ use Rattle.jsonc_value.proofs.to_value.values.ValueMakerReceiverString.property.
 
 pub returns-clause-held : goal.returns-clause-held
 returns-clause-held g c = λ s m k i ms n x held named made covers.
-    property_stacked s m k c.args.self.now _ c.args._object.now c.args.property c.args.item ms (record { range = c.args._range; name = n; value = x }) held named made c.in_ok-push.ensures.items refl
+    property_stacked s m k c.args.self.now _ c.args._object.now c.args.property c.args.item ms (record { range = c.args._range; name = n; value = x }) held named made refl c.in_ok-push.ensures.items refl
