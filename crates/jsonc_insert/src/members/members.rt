@@ -61,7 +61,7 @@ fn read<A: Allocator + Copy>(
     ensures plan { IfOk result (λ r. r.plan ≡ plan_inside tree.now.nodes object row.now index) }
 {
     let layout = layout_inside(alloc, tree, object, row)?;
-    let outer = outer_indent(alloc, tree, object, row)?;
+    let outer = outer_indent(alloc, tree, object)?;
     let plan = planned(tree, true, layout.trailing_commas, row, index);
     Ok(Reading {
         layout,
