@@ -154,9 +154,9 @@ module _ (ns : List Node) where
                   let low : j < length row - 1 = omega (arith, some, long) in
                   let end : (k : ℕ) → k < length run → is_whitespace_at ns (slice_index run k) ≡ false → is_newline_at ns (slice_index (reverse (take (length row - 1) row)) (length row - 2 - (place + k))) ≡ true =
                   λ k h off.
-                      let same : length row - 2 - (length row - 2 - (place + k)) ≡ place + k = omega (arith, h, long) in
-                      ap (is_newline_at ns) (back (length row - 2 - (place + k)) (omega (arith, h, long)) ∙ ap (slice_index row) same)
-                      ∙ blank_end (slice_index row (place + k)) (blank (place + k) (omega arith) (omega (arith, h, long))) (sym (ap (is_whitespace_at ns) (at k h)) ∙ off) in
+                  let same : length row - 2 - (length row - 2 - (place + k)) ≡ place + k = omega (arith, h, long) in
+                  ap (is_newline_at ns) (back (length row - 2 - (place + k)) (omega (arith, h, long)) ∙ ap (slice_index row) same)
+                  ∙ blank_end (slice_index row (place + k)) (blank (place + k) (omega arith) (omega (arith, h, long))) (sym (ap (is_whitespace_at ns) (at k h)) ∙ off) in
                   absurd (not_twice (reverse (take (length row - 1) row)) i j e (omega (arith, lt, some, apart, long)) (omega (arith, low, whole, length-reverse (take (length row - 1) row)))
                   (λ q l. ap (is_blank_at ns) (back q (omega (arith, l, low))) ∙ blank (length row - 2 - q) (omega (arith, l, some, long)) (omega (arith, two, l)))
                   (end last (omega (arith, some, apart)) (last_stops run some)) (end (spaces ns run) some (first_stops run some)))

@@ -79,8 +79,8 @@ fn read<A: Allocator + Copy>(
     })
 }
 
-// The new element with what comes directly before and behind it.
-fn written<A: Allocator>(
+/// The new element with what comes directly before and behind it.
+pub(crate) fn written<A: Allocator>(
     alloc: A,
     before: &[usize],
     element: usize,
@@ -189,15 +189,15 @@ fn insert_in_row<A: Allocator + Copy>(
     Ok(made.element)
 }
 
-// What the document tells of an element that comes between two neighbours.
+/// What the document tells of an element that comes between two neighbours.
 #[derive(Drop)]
-struct Telling<A: Allocator> {
-    // How the element is laid out.
-    layout: Layout<A>,
-    // The indent of the container's own line.
-    outer: String<A>,
-    // Where the element comes.
-    beside: Neighbours,
+pub(crate) struct Telling<A: Allocator> {
+    /// How the element is laid out.
+    pub(crate) layout: Layout<A>,
+    /// The indent of the container's own line.
+    pub(crate) outer: String<A>,
+    /// Where the element comes.
+    pub(crate) beside: Neighbours,
 }
 
 // Reads what the document tells of an element that gets a line of its own.
@@ -273,8 +273,8 @@ fn read_beside<A: Allocator + Copy>(
     read_on_line(alloc, tree, container, index)
 }
 
-// Puts what was made behind its neighbours. No memory is wanted.
-fn put_beside<A: Allocator>(
+/// Puts what was made behind its neighbours. No memory is wanted.
+pub(crate) fn put_beside<A: Allocator>(
     tree: &mut Tree<A>,
     container: usize,
     beside: Neighbours,

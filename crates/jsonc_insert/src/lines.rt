@@ -115,8 +115,8 @@ fn pass<A: Allocator, B: Allocator>(
     Ok(())
 }
 
-// The first indent among the children of a container.
-fn first_indent_inside<A: Allocator + Copy>(
+/// The first indent among the children of a container.
+pub(crate) fn first_indent_inside<A: Allocator + Copy>(
     alloc: A,
     tree: &Tree<A>,
     container: usize,

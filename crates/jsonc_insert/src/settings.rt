@@ -249,8 +249,8 @@ pub fn outer_indent<A: Allocator + Copy>(
     Ok(indents.current)
 }
 
-// The indents one level deeper than a container with its row.
-fn indents_below<A: Allocator + Copy>(
+/// The indents one level deeper than a container with its row.
+pub(crate) fn indents_below<A: Allocator + Copy>(
     alloc: A,
     tree: &Tree<A>,
     container: usize,
@@ -294,7 +294,8 @@ fn has_blanks<A: Allocator>(tree: &Tree<A>, container: usize) -> bool
     requires { container < length tree.now.nodes }
     ensures { result ≡ list_any (is_whitespace_at tree.now.nodes) (children_at tree.now.nodes container) }
 {
-    tree.children(container).any(|node| is_whitespace(tree, node))
+    tree.children(container)
+        .any(|node| is_whitespace(tree, node))
 }
 
 /// Whether a line ends among the children of a container.
@@ -305,8 +306,8 @@ pub(crate) fn has_line_end<A: Allocator>(tree: &Tree<A>, container: usize) -> bo
     tree.children(container).any(|node| is_newline(tree, node))
 }
 
-// Whether commas stand behind last elements, in a container or below it.
-fn uses_commas<A: Allocator + Copy>(
+/// Whether commas stand behind last elements, in a container or below it.
+pub(crate) fn uses_commas<A: Allocator + Copy>(
     alloc: A,
     tree: &Tree<A>,
     container: usize,
