@@ -63,7 +63,7 @@ some_same : (x n : ℕ) → Some x ≡ Some n → x ≡ n
 some_same x n e = ap (λ o. unwrap_or o 0) e
 
 -- what holds of each holds of what is found, and that passes
-holds_found : (p : ℕ → Bool) (P : ℕ → Type 0) (xs : List ℕ) → ((k d : ℕ) → k < length xs → P (get_or xs k d)) → (n : ℕ) → find p xs ≡ Some n → P n × (p n ≡ true)
+pub holds_found : (p : ℕ → Bool) (P : ℕ → Type 0) (xs : List ℕ) → ((k d : ℕ) → k < length xs → P (get_or xs k d)) → (n : ℕ) → find p xs ≡ Some n → P n × (p n ≡ true)
 holds_found p P [] h n e = absurd (let wrong : None ≡ Some n = e in cc)
 holds_found p P (x ∷ xs) h n e = found_by (p x) refl e (holds_found p P xs (λ k d l. h (suc k) d (omega (arith, l))) n)
   where

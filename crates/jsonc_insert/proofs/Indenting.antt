@@ -32,7 +32,7 @@ pub no_text : {A : Type 0} (o : Option (String A)) → is_some o ≡ false → t
 no_text None e = refl
 no_text (Some s) e = absurd (false≢true (sym e))
 
-some_text : {A : Type 0} (o : Option (String A)) (rest : Option (List ℕ)) → is_some o ≡ true → option_or (text_in o) rest ≡ text_in o
+pub some_text : {A : Type 0} (o : Option (String A)) (rest : Option (List ℕ)) → is_some o ≡ true → option_or (text_in o) rest ≡ text_in o
 some_text None rest e = absurd (false≢true e)
 some_text (Some s) rest e = refl
 
@@ -61,3 +61,15 @@ module _ (ns : List Node) (row : List ℕ) (start p : ℕ) where
 
   pub indent_nowhere : length row ≤ p → first_indent_past ns (slice_range row start p) (drop p row) ≡ None
   indent_nowhere high = ap (first_indent_past ns (slice_range row start p)) (drop_all p row high)
+
+-- the same, node by node
+module _ {A : Type 0} (ns : List Node) (line row : List ℕ) (n : ℕ) (rest : List ℕ) (is : row ≡ n ∷ rest) (o : Option (String A)) (given : List ℕ) (same : given ≡ line) (told : text_in o ≡ indent_of_line ns given) where
+  pub told_here : is_some o ≡ true → first_indent_past ns line row ≡ text_in o
+  told_here some =
+      ap (first_indent_past ns line) is ∙ ap (λ w. option_or w (first_indent_past ns (line_past ns line n) rest)) (sym (told ∙ ap (indent_of_line ns) same))
+      ∙ some_text o (first_indent_past ns (line_past ns line n) rest) some
+
+  pub told_later : is_some o ≡ false → (next : List ℕ) → next ≡ line_past ns line n → first_indent_past ns line row ≡ first_indent_past ns next rest
+  told_later none next goes =
+      ap (first_indent_past ns line) is ∙ ap (λ w. option_or w (first_indent_past ns (line_past ns line n) rest)) (sym (told ∙ ap (indent_of_line ns) same) ∙ no_text o none)
+      ∙ ap (λ l. first_indent_past ns l rest) (sym goes)

@@ -45,7 +45,7 @@ module _ (ns : List Node) where
   last_within : (xs : List ℕ) → last_blanks ns xs ≤ length xs
   last_within xs = omega (arith, blanks_within (reverse xs), length-reverse xs)
 
-  spaces_apart : (xs : List ℕ) → spaces ns xs < length xs → spaces ns xs + last_spaces ns xs < length xs
+  pub spaces_apart : (xs : List ℕ) → spaces ns xs < length xs → spaces ns xs + last_spaces ns xs < length xs
   spaces_apart xs h =
       let front = length-prefix_len (is_whitespace_at ns) xs in
       let back = length-prefix_len (is_whitespace_at ns) (reverse xs) in
@@ -65,7 +65,7 @@ pub record Within (low high : ℕ) (s : Stretch) : Type 0 where
   pub order : s.from ≤ s.to
   pub to : s.to ≤ high
 
-either : (P : Stretch → Type 0) (b : Bool) (s t : Stretch) → (b ≡ true → P s) → P t → P (cond b s t)
+pub either : (P : Stretch → Type 0) (b : Bool) (s t : Stretch) → (b ≡ true → P s) → P t → P (cond b s t)
 either P true s t f g = f refl
 either P false s t f g = g
 
@@ -229,7 +229,7 @@ module _ (ns : List Node) where
       by _ f = cc
 
   module _ (row : List ℕ) (two : 2 ≤ length row) where
-    inside_at : (q : ℕ) → 1 ≤ q → q < length row - 1 → slice_index (inside row) (q - 1) ≡ slice_index row q
+    pub inside_at : (q : ℕ) → 1 ≤ q → q < length row - 1 → slice_index (inside row) (q - 1) ≡ slice_index row q
     inside_at q low high = let at : 1 + (q - 1) ≡ q = omega (arith, low) in get_or-between row 1 (length row - 1) (q - 1) 0 (omega (arith, low, high)) ∙ ap (slice_index row) at
 
     pub front_blank : (q : ℕ) → 1 ≤ q → q < 1 + blanks ns (inside row) → is_blank_at ns (slice_index row q) ≡ true

@@ -1,7 +1,7 @@
 -- What a document tells of an element that is put into an array: read in the array's row as it is when blank lines inside its brackets have left.
-use Rattle.std.specs.Prelude.{ℕ, ◌++◌, ◌==◌, Bool, true, false, not, ◌&&◌, ◌||◌, List, [], ◌∷◌, length, Option, Some, None, is_some, option_and_then, slice_get, unwrap_or, if◌then◌else◌}
+use Rattle.std.specs.Prelude.{ℕ, ◌++◌, ◌==◌, Bool, true, false, not, ◌&&◌, ◌||◌, List, [], ◌∷◌, Option, Some, None, is_some, option_and_then, slice_get, unwrap_or, if◌then◌else◌}
 use Rattle.std.specs.Option.{option_or}
-use Rattle.std.specs.List.{find, list_any, list_all}
+use Rattle.std.specs.List.{list_any, list_all}
 use Rattle.jsonc_text.specs.Plain.{Plain, member}
 use Rattle.jsonc_tree.specs.Tree.{Node, children_at}
 use Rattle.jsonc_tree.specs.declared.node.CstNewlineKind.{CstNewlineKind}

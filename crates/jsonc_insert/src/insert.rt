@@ -1,27 +1,32 @@
 //! Elements that come into arrays.
 
-ghost use Rattle.std.specs.Prelude.{◌≡◌, ◌<◌, ◌∷◌, ◌++◌, IfErr, IfOk, OnErr, OnOk, All, length, string_bytes, true};
+ghost use Rattle.std.specs.Prelude.{◌≡◌, ◌<◌, ◌∷◌, ◌++◌, IfErr, IfOk, IsTrue, OnErr, OnOk, All, false, length, string_bytes, true};
 ghost use Rattle.jsonc_tree.specs.Building.{Keeps};
 ghost use Rattle.jsonc_tree.specs.Content.{Content};
 ghost use Rattle.jsonc_tree.specs.OrderedTree.{ordered_tree};
-ghost use Rattle.jsonc_tree.specs.Tree.{children_at, content_at};
+ghost use Rattle.jsonc_text.specs.Plain.{Plain};
+ghost use Rattle.jsonc_tree.specs.Tree.{children_at, content_at, is_container_at};
 ghost use Rattle.jsonc_layout.specs.input.Views.{plain};
 ghost use Rattle.jsonc_layout.specs.from_input.Layout.{layout_of};
 ghost use Rattle.jsonc_edit.specs.Put.{Extends};
 ghost use Rattle.jsonc_insert.specs.Inserted.{outer_indent, plan_of, put_by, refusal, with_comma, ElementPut, RowMade};
 ghost use Rattle.jsonc_insert.specs.Planned.{has_brackets};
-ghost use Rattle.jsonc_insert.specs.Settings.{layout_inside};
+ghost use Rattle.jsonc_insert.specs.Neighbours.{AreReady, BecomesRow, IsBeside, IsTold};
+ghost use Rattle.jsonc_insert.specs.Settings.{layout_inside, on_several_lines};
 ghost use Rattle.jsonc_insert.specs.Trimmed.{trimmed};
 
 use crate::made::{Made, make};
+use crate::neighbours::{Neighbours, insert_after, neighbours_of};
 use crate::plan::{Plan, has_brackets, planned};
-use crate::settings::{layout_in, on_several_lines, outer_indent};
-use crate::trim::{trimmed, with_at};
+use crate::settings::{
+    has_line_end, is_spread, layout_in, layout_inside, on_several_lines, outer_indent,
+};
+use crate::trim::{has_no_blank_lines, trimmed, with_at};
 use jsonc_edit::EditError;
 use jsonc_layout::from_input::Layout;
 use jsonc_layout::input::CstInputValue;
 use jsonc_layout::nodes::children;
-use jsonc_tree::Tree;
+use jsonc_tree::{CstNewlineKind, Tree};
 use std::alloc::{AllocError, Allocator};
 
 // What the document tells of an element that comes in.
@@ -63,7 +68,7 @@ fn read<A: Allocator + Copy>(
     let row = children(alloc, tree, container)?;
     let kept = trimmed(alloc, tree, &row)?;
     let layout = layout_in(alloc, tree, container, &kept)?;
-    let outer = outer_indent(alloc, tree, container, &kept)?;
+    let outer = outer_indent(alloc, tree, container)?;
     let several = on_several_lines(tree, &kept, value);
     let plan = planned(tree, several, layout.trailing_commas, &kept, index);
     Ok(Reading {
@@ -74,8 +79,8 @@ fn read<A: Allocator + Copy>(
     })
 }
 
-// The new element with what comes directly before and behind it.
-fn written<A: Allocator>(
+/// The new element with what comes directly before and behind it.
+pub(crate) fn written<A: Allocator>(
     alloc: A,
     before: &[usize],
     element: usize,
@@ -164,6 +169,159 @@ fn make_row<A: Allocator + Copy>(
     })
 }
 
+// Lets a value come in where blank lines are removed: its container gets another row at once.
+fn insert_in_row<A: Allocator + Copy>(
+    alloc: A,
+    tree: &mut Tree<A>,
+    container: usize,
+    index: usize,
+    value: &CstInputValue<A>,
+) -> Result<usize, AllocError>
+    requires in_tree { container < length tree.old.nodes }
+    requires holds { IsTrue (is_container_at tree.old.nodes container) }
+    requires brackets { has_brackets tree.old.nodes (children_at tree.old.nodes container) ≡ true }
+    ensures put { IfOk result (ElementPut tree.old.nodes tree.new.nodes container index (plain value.now)) }
+    ensures prepared { OnErr result (Extends tree.old.nodes tree.new.nodes) }
+{
+    let count = tree.child_count(container);
+    let made = make_row(alloc, tree, container, index, value)?;
+    tree.splice(container, 0, count, &made.row);
+    Ok(made.element)
+}
+
+/// What the document tells of an element that comes between two neighbours.
+#[derive(Drop)]
+pub(crate) struct Telling<A: Allocator> {
+    /// How the element is laid out.
+    pub(crate) layout: Layout<A>,
+    /// The indent of the container's own line.
+    pub(crate) outer: String<A>,
+    /// Where the element comes.
+    pub(crate) beside: Neighbours,
+}
+
+// Reads what the document tells of an element that gets a line of its own.
+fn read_on_lines<A: Allocator + Copy>(
+    alloc: A,
+    tree: &Tree<A>,
+    container: usize,
+    index: usize,
+) -> Result<Telling<A>, AllocError>
+    requires in_tree { container < length tree.now.nodes }
+    requires brackets { has_brackets tree.now.nodes (children_at tree.now.nodes container) ≡ true }
+    ensures { IfOk result (λ t. (v : Plain) → trimmed tree.now.nodes (children_at tree.now.nodes container)
+        ≡ children_at tree.now.nodes container
+        → on_several_lines tree.now.nodes (children_at tree.now.nodes container) v ≡ true
+        → IsTold tree.now.nodes container index v (layout_of t.layout) (string_bytes t.outer) t.beside) }
+{
+    let layout = layout_inside(alloc, tree, container)?;
+    let outer = outer_indent(alloc, tree, container)?;
+    let commas = layout.trailing_commas;
+    let beside = neighbours_of(alloc, tree, container, true, commas, index)?;
+    Ok(Telling {
+        layout,
+        outer,
+        beside,
+    })
+}
+
+// The same of one that comes on a line with others: no layout is asked for.
+fn read_on_line<A: Allocator + Copy>(
+    alloc: A,
+    tree: &Tree<A>,
+    container: usize,
+    index: usize,
+) -> Result<Telling<A>, AllocError>
+    requires in_tree { container < length tree.now.nodes }
+    requires brackets { has_brackets tree.now.nodes (children_at tree.now.nodes container) ≡ true }
+    ensures { IfOk result (λ t. (v : Plain) → trimmed tree.now.nodes (children_at tree.now.nodes container)
+        ≡ children_at tree.now.nodes container
+        → on_several_lines tree.now.nodes (children_at tree.now.nodes container) v ≡ false
+        → IsTold tree.now.nodes container index v (layout_of t.layout) (string_bytes t.outer) t.beside) }
+{
+    let beside = neighbours_of(alloc, tree, container, false, false, index)?;
+    Ok(Telling {
+        layout: Layout {
+            current: String::new(alloc),
+            single: String::new(alloc),
+            trailing_commas: false,
+            newline: CstNewlineKind::LineFeed,
+        },
+        outer: String::new(alloc),
+        beside,
+    })
+}
+
+// Reads what the document tells of a value that comes between two neighbours.
+fn read_beside<A: Allocator + Copy>(
+    alloc: A,
+    tree: &Tree<A>,
+    container: usize,
+    index: usize,
+    value: &CstInputValue<A>,
+) -> Result<Telling<A>, AllocError>
+    requires in_tree { container < length tree.now.nodes }
+    requires brackets { has_brackets tree.now.nodes (children_at tree.now.nodes container) ≡ true }
+    requires keeps { trimmed tree.now.nodes (children_at tree.now.nodes container)
+        ≡ children_at tree.now.nodes container }
+    ensures { IfOk result (λ t.
+        IsTold tree.now.nodes container index (plain value.now) (layout_of t.layout) (string_bytes t.outer) t.beside) }
+{
+    if has_line_end(tree, container) || is_spread(value) {
+        return read_on_lines(alloc, tree, container, index);
+    }
+    read_on_line(alloc, tree, container, index)
+}
+
+/// Puts what was made behind its neighbours. No memory is wanted.
+pub(crate) fn put_beside<A: Allocator>(
+    tree: &mut Tree<A>,
+    container: usize,
+    beside: Neighbours,
+    comma: &[usize],
+    written: &[usize],
+)
+    requires { AreReady tree.old.nodes container beside comma.now written.now }
+    ensures { (plan : Plan) → IsBeside tree.old.nodes container plan beside
+        → BecomesRow tree.old.nodes tree.new.nodes container
+        (put_by plan comma.now written.now (children_at tree.old.nodes container)) }
+{
+    insert_after(tree, container, beside.after, written);
+    let Some(node) = beside.comma else {
+        return;
+    };
+    insert_after(tree, container, node, comma);
+}
+
+// Lets a value come in where no blank line is removed: between two neighbours.
+fn insert_beside<A: Allocator + Copy>(
+    alloc: A,
+    tree: &mut Tree<A>,
+    container: usize,
+    index: usize,
+    value: &CstInputValue<A>,
+) -> Result<usize, AllocError>
+    requires in_tree { container < length tree.old.nodes }
+    requires brackets { has_brackets tree.old.nodes (children_at tree.old.nodes container) ≡ true }
+    requires keeps { trimmed tree.old.nodes (children_at tree.old.nodes container)
+        ≡ children_at tree.old.nodes container }
+    ensures put { IfOk result (ElementPut tree.old.nodes tree.new.nodes container index (plain value.now)) }
+    ensures prepared { OnErr result (Extends tree.old.nodes tree.new.nodes) }
+{
+    let told = read_beside(alloc, tree, container, index, value)?;
+    let made = make(
+        alloc,
+        tree,
+        value,
+        &told.layout,
+        told.outer.as_str(),
+        told.beside.plan,
+    )?;
+    let written = written(alloc, &made.before, made.element, &made.behind)?;
+    put_beside(tree, container, told.beside, &made.comma, &written);
+    Ok(made.element)
+}
+
 /// Lets a value come into an array as its element of this number, or behind the last one where there are
 /// fewer, and answers the number of its node.
 ///
@@ -193,8 +351,10 @@ pub fn insert_element<A: Allocator + Copy>(
     if !has_brackets(tree, array) {
         return Err(EditError::MissingBrackets);
     }
-    let count = tree.child_count(array);
-    let made = make_row(alloc, tree, array, index, value)?;
-    tree.splice(array, 0, count, &made.row);
-    Ok(made.element)
+    if has_no_blank_lines(tree, array) {
+        let element = insert_beside(alloc, tree, array, index, value)?;
+        return Ok(element);
+    }
+    let element = insert_in_row(alloc, tree, array, index, value)?;
+    Ok(element)
 }

@@ -24,6 +24,7 @@ mod lines;
 mod made;
 pub mod members;
 pub mod named;
+mod neighbours;
 mod plan;
 pub mod properties;
 mod settings;

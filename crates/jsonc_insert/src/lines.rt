@@ -1,12 +1,13 @@
 //! The lines of a row, and the indents that they begin with.
 
-ghost use Rattle.std.specs.Prelude.{◌≡◌, ◌≤◌, ◌<◌, ◌+◌, [], IfOk, length, slice_index, string_bytes, if◌then◌else◌};
+ghost use Rattle.std.specs.Prelude.{◌≡◌, ◌≤◌, ◌<◌, ◌+◌, [], IfOk, OnOk, length, slice_index, string_bytes, if◌then◌else◌};
 ghost use Rattle.std.specs.List.{list_all};
 ghost use Rattle.jsonc_layout.specs.nodes.Kinds.{is_newline_at, is_trivia_at};
 ghost use Rattle.jsonc_layout.specs.lines.IndentViews.{text_in};
 ghost use Rattle.jsonc_layout.specs.lines.Kinds.{blank_at};
 ghost use Rattle.jsonc_layout.specs.lines.Lines.{blanks};
-ghost use Rattle.jsonc_insert.specs.Settings.{begins_blank, first_indent_past, indent_of_line, single_in};
+ghost use Rattle.jsonc_tree.specs.Tree.{children_at};
+ghost use Rattle.jsonc_insert.specs.Settings.{begins_blank, first_indent_past, indent_of_line, line_past, single_in};
 
 use jsonc_layout::lines::blank_at;
 use jsonc_layout::nodes::{is_newline, is_trivia, is_whitespace};
@@ -96,6 +97,59 @@ pub fn first_indent<A: Allocator + Copy>(
         start = line_start(tree, row, start, place);
     }
     Ok(None)
+}
+
+// Passes a node on a line.
+fn pass<A: Allocator, B: Allocator>(
+    tree: &Tree<A>,
+    line: &mut Vec<usize, B>,
+    node: usize,
+) -> Result<(), AllocError>
+    ensures { OnOk result (line.new.items ≡ line_past tree.now.nodes line.old.items node) }
+{
+    if is_newline(tree, node) {
+        line.clear();
+        return Ok(());
+    }
+    line.push(node)?;
+    Ok(())
+}
+
+/// The first indent among the children of a container.
+pub(crate) fn first_indent_inside<A: Allocator + Copy>(
+    alloc: A,
+    tree: &Tree<A>,
+    container: usize,
+) -> Result<Option<String<A>>, AllocError>
+    requires { container < length tree.now.nodes }
+    ensures { IfOk result
+        (λ o. text_in o ≡ first_indent_past tree.now.nodes [] (children_at tree.now.nodes container)) }
+{
+    let mut line = Vec::new(alloc);
+    for node in tree.children(container) {
+        let text = indent_of_line(alloc, tree, &line)?;
+        if text.is_some() {
+            return Ok(text);
+        }
+        pass(tree, &mut line, node)?;
+    }
+    Ok(None)
+}
+
+/// What one level adds in a document whose value has its row.
+pub(crate) fn single_inside<A: Allocator + Copy>(
+    alloc: A,
+    tree: &Tree<A>,
+    container: usize,
+) -> Result<String<A>, AllocError>
+    requires { container < length tree.now.nodes }
+    ensures { IfOk result
+        (λ s. string_bytes s ≡ single_in tree.now.nodes (children_at tree.now.nodes container)) }
+{
+    if let Some(first) = first_indent_inside(alloc, tree, container)? {
+        return Ok(first);
+    }
+    String::from_str(alloc, "  ")
 }
 
 /// What one level adds in a document whose value has this row.

@@ -1,11 +1,11 @@
 //! Where an element is put into a row, and what is written beside it.
 
-ghost use Rattle.std.specs.Prelude.{◌≡◌, ◌≤◌, ◌<◌, length, slice_get, true};
+ghost use Rattle.std.specs.Prelude.{◌≡◌, ◌≤◌, ◌<◌, Bool, None, length, slice_get, true, ℕ};
 ghost use Rattle.jsonc_tree.specs.Tree.{children_at};
 ghost use Rattle.jsonc_insert.specs.Planned.{before_next, behind_comma, comma_comes, comma_wanted, element_before};
 ghost use Rattle.jsonc_insert.specs.Planned.{elements, has_brackets, has_comma, line_ends};
 ghost use Rattle.jsonc_insert.specs.Planned.{line_if, line_unless, parting, past_comments, place_in, plan_alone, plan_behind};
-ghost use Rattle.jsonc_insert.specs.Planned.{plan_first, planned, through_comments, trivia};
+ghost use Rattle.jsonc_insert.specs.Planned.{plan_by, plan_first, planned, through_comments, trivia};
 
 use jsonc_layout::nodes::{is_comma, is_element, is_newline, is_token, is_trivia};
 use jsonc_layout::rows::{all_inline_trivia, last_blanks, last_element, last_spaces, line_length};
@@ -215,8 +215,8 @@ fn plan_first<A: Allocator>(tree: &Tree<A>, several: bool, row: &[usize]) -> Pla
     }
 }
 
-// The plan behind the element that ends at a place.
-fn plan_behind<A: Allocator>(
+/// The plan behind the element that ends at a place.
+pub(crate) fn plan_behind<A: Allocator>(
     tree: &Tree<A>,
     several: bool,
     commas: bool,
@@ -249,6 +249,20 @@ fn plan_behind<A: Allocator>(
     }
 }
 
+/// The plan with no element before the new one.
+pub(crate) fn plan_front<A: Allocator>(tree: &Tree<A>, several: bool, row: &[usize]) -> Plan
+    requires { has_brackets tree.now.nodes row.now ≡ true }
+    ensures plan { (commas : Bool) (i : ℕ) → result ≡ plan_by tree.now.nodes several commas row.now i None }
+    ensures place { 1 ≤ result.place }
+    ensures within { result.place ≤ length row.now }
+    ensures comma { result.comma ≡ None }
+{
+    if nth_element(tree, row, 0).is_some() {
+        return plan_first(tree, several, row);
+    }
+    plan_alone(tree, several, row)
+}
+
 /// Where a new element comes into a row that has its brackets, and what comes with it.
 pub fn planned<A: Allocator>(
     tree: &Tree<A>,
@@ -262,10 +276,7 @@ pub fn planned<A: Allocator>(
     ensures within { result.place ≤ length row.now }
 {
     let Some(node) = element_before(tree, row, index) else {
-        if nth_element(tree, row, 0).is_some() {
-            return plan_first(tree, several, row);
-        }
-        return plan_alone(tree, several, row);
+        return plan_front(tree, several, row);
     };
     let more = nth_element(tree, row, index).is_some();
     let ended = place_in(row, node) + 1;
@@ -277,10 +288,17 @@ pub fn has_brackets<A: Allocator>(tree: &Tree<A>, container: usize) -> bool
     requires { container < length tree.now.nodes }
     ensures { result ≡ has_brackets tree.now.nodes (children_at tree.now.nodes container) }
 {
-    let count = tree.child_count(container);
-    if count < 2 {
+    let Some(first) = tree.first_child(container) else {
+        return false;
+    };
+    let Some(last) = tree.last_child(container) else {
+        return false;
+    };
+    if first == last {
         return false;
     }
-    let last = tree.child_at(container, count - 1);
-    is_token(tree, tree.child_at(container, 0)) && is_token(tree, last)
+    if !is_token(tree, first) {
+        return false;
+    }
+    is_token(tree, last)
 }

@@ -1,31 +1,34 @@
 //! What a document tells of an element that is put into an array, read in the row that the array has
 //! when blank lines have left.
 
-ghost use Rattle.std.specs.Prelude.{◌≡◌, ◌<◌, All, IfOk, length, string_bytes};
+ghost use Rattle.std.specs.Prelude.{◌≡◌, ◌<◌, All, IfOk, List, length, string_bytes, ℕ};
+ghost use Rattle.std.specs.List.{list_any};
+ghost use Rattle.jsonc_tree.specs.Tree.{children_at};
 ghost use Rattle.jsonc_layout.specs.input.Views.{plain};
+ghost use Rattle.jsonc_layout.specs.nodes.Kinds.{is_newline_at, is_whitespace_at};
 ghost use Rattle.jsonc_layout.specs.nodes.Siblings.{IsThere};
 ghost use Rattle.jsonc_layout.specs.lines.Breadth.{is_in_document};
 ghost use Rattle.jsonc_layout.specs.lines.IndentViews.{texts_of};
 ghost use Rattle.jsonc_layout.specs.from_input.Laid.{holds_filled, is_filled};
 ghost use Rattle.jsonc_layout.specs.from_input.Layout.{layout_of};
-ghost use Rattle.jsonc_insert.specs.Settings.{indents_at_first, indents_of, is_document_value, is_spaced_row, is_spread, has_last_comma};
+ghost use Rattle.jsonc_insert.specs.Settings.{indents_at_first, indents_inside, indents_of, is_document_value, is_spaced_row, is_spread, has_last_comma};
 ghost use Rattle.jsonc_insert.specs.Settings.{layout_in, newline_kind_with, on_several_lines, one_deeper, told_by_row, uses_commas_in};
 
-use crate::lines::single_in;
+use crate::lines::{single_in, single_inside};
 use crate::plan::nth_element;
 use jsonc_layout::from_input::{Layout, holds_filled, is_filled};
 use jsonc_layout::input::CstInputValue;
 use jsonc_layout::lines::{
     Indents, Sought, first_sought, indent_text, indents_at, is_in_document, last_child_element,
-    trailing_comma,
+    newline_kind_at, trailing_comma,
 };
-use jsonc_layout::nodes::first_element_from;
+use jsonc_layout::nodes::{children, element_at, first_element_from, is_newline, is_whitespace};
 use jsonc_layout::rows::{has_newline, has_whitespace, last_element};
 use jsonc_tree::{CstNewlineKind, Kind, Tree};
 use std::alloc::{AllocError, Allocator};
 
-// Whether a value is laid out on several lines.
-fn is_spread<A: Allocator>(value: &CstInputValue<A>) -> bool
+/// Whether a value is laid out on several lines.
+pub(crate) fn is_spread<A: Allocator>(value: &CstInputValue<A>) -> bool
     ensures { result ≡ is_spread (plain value.now) }
 {
     match value {
@@ -229,16 +232,115 @@ pub(crate) fn layout_in<A: Allocator + Copy>(
     })
 }
 
-/// The indent of a container's own line, where it is to have this row.
+/// The indent of a container's own line, whatever row it is to have.
 pub fn outer_indent<A: Allocator + Copy>(
     alloc: A,
     tree: &Tree<A>,
     container: usize,
-    row: &[usize],
 ) -> Result<String<A>, AllocError>
     requires { container < length tree.now.nodes }
-    ensures { IfOk result (λ s. string_bytes s ≡ (indents_of tree.now.nodes container row.now).current) }
+    ensures { IfOk result (λ s. (row : List ℕ)
+        → string_bytes s ≡ (indents_of tree.now.nodes container row).current) }
 {
-    let indents = indents_of(alloc, tree, container, row)?;
+    if is_document_value(tree, container) {
+        return Ok(String::new(alloc));
+    }
+    let indents = indents_at(alloc, tree, container)?;
     Ok(indents.current)
+}
+
+/// The indents one level deeper than a container with its row.
+pub(crate) fn indents_below<A: Allocator + Copy>(
+    alloc: A,
+    tree: &Tree<A>,
+    container: usize,
+) -> Result<Indents<A>, AllocError>
+    requires in_tree { container < length tree.now.nodes }
+    ensures indents { IfOk result (λ i. texts_of i
+        ≡ one_deeper (indents_of tree.now.nodes container (children_at tree.now.nodes container))) }
+{
+    if !is_document_value(tree, container) {
+        let outer = indents_at(alloc, tree, container)?;
+        return one_deeper(outer);
+    }
+    let single = single_inside(alloc, tree, container)?;
+    one_deeper(Indents {
+        current: String::new(alloc),
+        single,
+    })
+}
+
+// The indents of the elements of a container.
+fn indents_inside<A: Allocator + Copy>(
+    alloc: A,
+    tree: &Tree<A>,
+    container: usize,
+) -> Result<Indents<A>, AllocError>
+    requires in_tree { container < length tree.now.nodes }
+    ensures indents { IfOk result (λ i. texts_of i
+        ≡ indents_inside tree.now.nodes container (children_at tree.now.nodes container)) }
+{
+    let Some(element) = element_at(tree, container, 0) else {
+        return indents_below(alloc, tree, container);
+    };
+    if told_by_row(alloc, tree, container, element)? {
+        return indents_below(alloc, tree, container);
+    }
+    indents_at(alloc, tree, element)
+}
+
+// Whether whitespace stands among the children of a container.
+fn has_blanks<A: Allocator>(tree: &Tree<A>, container: usize) -> bool
+    requires { container < length tree.now.nodes }
+    ensures { result ≡ list_any (is_whitespace_at tree.now.nodes) (children_at tree.now.nodes container) }
+{
+    tree.children(container)
+        .any(|node| is_whitespace(tree, node))
+}
+
+/// Whether a line ends among the children of a container.
+pub(crate) fn has_line_end<A: Allocator>(tree: &Tree<A>, container: usize) -> bool
+    requires { container < length tree.now.nodes }
+    ensures { result ≡ list_any (is_newline_at tree.now.nodes) (children_at tree.now.nodes container) }
+{
+    tree.children(container).any(|node| is_newline(tree, node))
+}
+
+/// Whether commas stand behind last elements, in a container or below it.
+pub(crate) fn uses_commas<A: Allocator + Copy>(
+    alloc: A,
+    tree: &Tree<A>,
+    container: usize,
+) -> Result<bool, AllocError>
+    requires in_tree { container < length tree.now.nodes }
+    ensures uses { IfOk result (λ uses. uses
+        ≡ uses_commas_in tree.now.nodes container (children_at tree.now.nodes container)) }
+{
+    let last = last_child_element(tree, container);
+    if last.is_some() && has_blanks(tree, container) {
+        return Ok(ends_with_comma(tree, last));
+    }
+    let row = children(alloc, tree, container)?;
+    uses_commas_in(alloc, tree, container, &row)
+}
+
+/// How an element is laid out in a container that keeps its row.
+pub(crate) fn layout_inside<A: Allocator + Copy>(
+    alloc: A,
+    tree: &Tree<A>,
+    container: usize,
+) -> Result<Layout<A>, AllocError>
+    requires container { container < length tree.now.nodes }
+    ensures layout { IfOk result (λ l. layout_of l
+        ≡ layout_in tree.now.nodes container (children_at tree.now.nodes container)) }
+{
+    let indents = indents_inside(alloc, tree, container)?;
+    let trailing_commas = uses_commas(alloc, tree, container)?;
+    let newline = newline_kind_at(alloc, tree, container)?;
+    Ok(Layout {
+        current: indents.current,
+        single: indents.single,
+        trailing_commas,
+        newline,
+    })
 }

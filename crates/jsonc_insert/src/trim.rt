@@ -1,8 +1,12 @@
 //! Blank lines directly inside brackets: which they are, and a row without them.
 
-ghost use Rattle.std.specs.Prelude.{◌≡◌, ◌≤◌, ◌<◌, ◌+◌, ◌^◌, IfOk, length};
-ghost use Rattle.jsonc_insert.specs.Trimmed.{before_last_line, behind_first_line, first_gone, last_gone, trimmed, with_at, without};
+ghost use Rattle.std.specs.Prelude.{◌≡◌, ◌≤◌, ◌<◌, ◌+◌, ◌^◌, IfOk, false, length, true};
+ghost use Rattle.jsonc_tree.specs.Tree.{children_at};
+ghost use Rattle.jsonc_tree.specs.Siblings.{siblings_after, siblings_before};
+ghost use Rattle.jsonc_insert.specs.Planned.{has_brackets};
+ghost use Rattle.jsonc_insert.specs.Trimmed.{before_last_line, behind_first_line, ends_once, first_gone, last_gone, trimmed, with_at, without};
 
+use jsonc_layout::nodes::{is_blank, is_newline};
 use jsonc_layout::rows::{blanks, last_blanks, last_spaces, spaces};
 use jsonc_tree::Tree;
 use std::alloc::{AllocError, Allocator};
@@ -99,6 +103,58 @@ pub fn trimmed<A: Allocator + Copy>(
 {
     let kept = without(alloc, row, last_gone(tree, row))?;
     without(alloc, &kept, first_gone(tree, row))
+}
+
+// Whether at most one line ends in the blanks after a node.
+fn ends_once_after<A: Allocator>(tree: &Tree<A>, node: usize) -> bool
+    requires { node < length tree.now.nodes }
+    ensures { result ≡ ends_once tree.now.nodes false (siblings_after tree.now.nodes node) }
+{
+    let mut ended = false;
+    for sibling in tree.next_siblings(node) {
+        if !is_blank(tree, sibling) {
+            return true;
+        }
+        if ended & is_newline(tree, sibling) {
+            return false;
+        }
+        ended = ended | is_newline(tree, sibling);
+    }
+    true
+}
+
+// The same of those before a node.
+fn ends_once_before<A: Allocator>(tree: &Tree<A>, node: usize) -> bool
+    requires { node < length tree.now.nodes }
+    ensures { result ≡ ends_once tree.now.nodes false (siblings_before tree.now.nodes node) }
+{
+    let mut ended = false;
+    for sibling in tree.previous_siblings(node) {
+        if !is_blank(tree, sibling) {
+            return true;
+        }
+        if ended & is_newline(tree, sibling) {
+            return false;
+        }
+        ended = ended | is_newline(tree, sibling);
+    }
+    true
+}
+
+/// Whether no blank line is removed: at most one line ends directly inside each bracket.
+pub(crate) fn has_no_blank_lines<A: Allocator>(tree: &Tree<A>, container: usize) -> bool
+    requires in_tree { container < length tree.now.nodes }
+    requires brackets { has_brackets tree.now.nodes (children_at tree.now.nodes container) ≡ true }
+    ensures { result ≡ true → trimmed tree.now.nodes (children_at tree.now.nodes container)
+        ≡ children_at tree.now.nodes container }
+{
+    let Some(open) = tree.first_child(container) else {
+        return false;
+    };
+    let Some(close) = tree.last_child(container) else {
+        return false;
+    };
+    ends_once_after(tree, open) && ends_once_before(tree, close)
 }
 
 /// A row with other nodes at a place.

@@ -10,3 +10,5 @@ pub mod Changing
 pub mod Commas
 pub mod FittingLayout
 pub mod SamePlans
+pub mod KeptRows
+pub mod PropertyBeside

@@ -1,6 +1,7 @@
 //! Properties that come into objects.
 
 ghost use Rattle.std.specs.Prelude.{◌≡◌, ◌<◌, All, IfErr, IfOk, OnErr, OnOk, chars, length, string_bytes, true};
+ghost use Rattle.std.specs.List.{list_any};
 ghost use Rattle.jsonc_tree.specs.Building.{Keeps};
 ghost use Rattle.jsonc_tree.specs.Content.{Content};
 ghost use Rattle.jsonc_tree.specs.OrderedTree.{ordered_tree};
@@ -9,15 +10,22 @@ ghost use Rattle.jsonc_layout.specs.input.Views.{plain};
 ghost use Rattle.jsonc_layout.specs.from_input.Layout.{layout_of};
 ghost use Rattle.jsonc_edit.specs.Put.{Extends};
 ghost use Rattle.jsonc_insert.specs.Inserted.{refusal};
+ghost use Rattle.jsonc_layout.specs.nodes.Kinds.{is_newline_at};
+ghost use Rattle.jsonc_insert.specs.Neighbours.{IsBeside};
 ghost use Rattle.jsonc_insert.specs.Planned.{has_brackets};
+ghost use Rattle.jsonc_insert.specs.Trimmed.{trimmed};
 ghost use Rattle.jsonc_insert.specs.Settings.{indents_of};
 ghost use Rattle.jsonc_insert.specs.members.Inserted.{plan_inside, PropertyPut, RowMade};
 ghost use Rattle.jsonc_insert.specs.members.Opened.{IsBefore};
 ghost use Rattle.jsonc_insert.specs.members.Layout.{layout_inside};
 
+use crate::insert::{Telling, put_beside, written};
 use crate::members::made::make;
 use crate::members::opened::opened;
-use crate::members::settings::layout_inside;
+use crate::members::settings::{layout_inside, layout_kept};
+use crate::neighbours::neighbours_of;
+use crate::settings::has_line_end;
+use crate::trim::has_no_blank_lines;
 use crate::{Plan, has_brackets, outer_indent, planned, trimmed, with_made};
 use jsonc_edit::EditError;
 use jsonc_layout::from_input::Layout;
@@ -61,7 +69,7 @@ fn read<A: Allocator + Copy>(
     ensures plan { IfOk result (λ r. r.plan ≡ plan_inside tree.now.nodes object row.now index) }
 {
     let layout = layout_inside(alloc, tree, object, row)?;
-    let outer = outer_indent(alloc, tree, object, row)?;
+    let outer = outer_indent(alloc, tree, object)?;
     let plan = planned(tree, true, layout.trailing_commas, row, index);
     Ok(Reading {
         layout,
@@ -114,6 +122,97 @@ fn row_before<A: Allocator + Copy>(
     trimmed(alloc, tree, &opened)
 }
 
+// Lets a property come in where its object gets another row at once.
+fn insert_in_row<A: Allocator + Copy>(
+    alloc: A,
+    tree: &mut Tree<A>,
+    object: usize,
+    index: usize,
+    name: &str,
+    value: &CstInputValue<A>,
+) -> Result<usize, AllocError>
+    requires in_tree { object < length tree.old.nodes }
+    requires object { content_at tree.old.nodes object ≡ Content.object }
+    requires brackets { has_brackets tree.old.nodes (children_at tree.old.nodes object) ≡ true }
+    ensures put { IfOk result (PropertyPut tree.old.nodes tree.new.nodes object index (chars name.now)
+        (plain value.now)) }
+    ensures prepared { OnErr result (Extends tree.old.nodes tree.new.nodes) }
+{
+    let count = tree.child_count(object);
+    let before = row_before(alloc, tree, object)?;
+    let made = make_row(alloc, tree, object, &before, index, name, value)?;
+    tree.splice(object, 0, count, &made.row);
+    Ok(made.property)
+}
+
+// Whether an object keeps its row: a line ends in it, and no blank line is removed.
+fn keeps_row<A: Allocator>(tree: &Tree<A>, object: usize) -> bool
+    requires in_tree { object < length tree.now.nodes }
+    requires brackets { has_brackets tree.now.nodes (children_at tree.now.nodes object) ≡ true }
+    ensures ends { result ≡ true → list_any (is_newline_at tree.now.nodes) (children_at tree.now.nodes object) ≡ true }
+    ensures keeps { result ≡ true → trimmed tree.now.nodes (children_at tree.now.nodes object)
+        ≡ children_at tree.now.nodes object }
+{
+    if !has_line_end(tree, object) {
+        return false;
+    }
+    has_no_blank_lines(tree, object)
+}
+
+// Reads what the document tells of a property that comes between two neighbours.
+fn read_beside<A: Allocator + Copy>(
+    alloc: A,
+    tree: &Tree<A>,
+    object: usize,
+    index: usize,
+) -> Result<Telling<A>, AllocError>
+    requires in_tree { object < length tree.now.nodes }
+    requires brackets { has_brackets tree.now.nodes (children_at tree.now.nodes object) ≡ true }
+    ensures layout { IfOk result
+        (λ t. layout_of t.layout ≡ layout_inside tree.now.nodes object (children_at tree.now.nodes object)) }
+    ensures outer { IfOk result (λ t. string_bytes t.outer
+        ≡ (indents_of tree.now.nodes object (children_at tree.now.nodes object)).current) }
+    ensures beside { IfOk result (λ t. IsBeside tree.now.nodes object
+        (plan_inside tree.now.nodes object (children_at tree.now.nodes object) index) t.beside) }
+{
+    let layout = layout_kept(alloc, tree, object)?;
+    let outer = outer_indent(alloc, tree, object)?;
+    let commas = layout.trailing_commas;
+    let beside = neighbours_of(alloc, tree, object, true, commas, index)?;
+    Ok(Telling {
+        layout,
+        outer,
+        beside,
+    })
+}
+
+// Lets a property come in where its object keeps its row: between two neighbours.
+fn insert_beside<A: Allocator + Copy>(
+    alloc: A,
+    tree: &mut Tree<A>,
+    object: usize,
+    index: usize,
+    name: &str,
+    value: &CstInputValue<A>,
+) -> Result<usize, AllocError>
+    requires in_tree { object < length tree.old.nodes }
+    requires brackets { has_brackets tree.old.nodes (children_at tree.old.nodes object) ≡ true }
+    requires ends { list_any (is_newline_at tree.old.nodes) (children_at tree.old.nodes object) ≡ true }
+    requires keeps { trimmed tree.old.nodes (children_at tree.old.nodes object)
+        ≡ children_at tree.old.nodes object }
+    ensures put { IfOk result (PropertyPut tree.old.nodes tree.new.nodes object index (chars name.now)
+        (plain value.now)) }
+    ensures prepared { OnErr result (Extends tree.old.nodes tree.new.nodes) }
+{
+    let told = read_beside(alloc, tree, object, index)?;
+    let outer = told.outer.as_str();
+    let plan = told.beside.plan;
+    let made = make(alloc, tree, name, value, &told.layout, outer, plan)?;
+    let written = written(alloc, &made.before, made.element, &made.behind)?;
+    put_beside(tree, object, told.beside, &made.comma, &written);
+    Ok(made.element)
+}
+
 /// Lets a property of this name and value come into an object as its property of this number, or behind
 /// the last one where there are fewer, and answers the number of its node.
 ///
@@ -145,9 +244,10 @@ pub fn insert_property<A: Allocator + Copy>(
     if !has_brackets(tree, object) {
         return Err(EditError::MissingBrackets);
     }
-    let count = tree.child_count(object);
-    let before = row_before(alloc, tree, object)?;
-    let made = make_row(alloc, tree, object, &before, index, name, value)?;
-    tree.splice(object, 0, count, &made.row);
-    Ok(made.property)
+    if keeps_row(tree, object) {
+        let property = insert_beside(alloc, tree, object, index, name, value)?;
+        return Ok(property);
+    }
+    let property = insert_in_row(alloc, tree, object, index, name, value)?;
+    Ok(property)
 }

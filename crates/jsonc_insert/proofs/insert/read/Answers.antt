@@ -21,7 +21,7 @@ planned-plan-requires g c =
     let ns = c.args.tree.now.nodes in
     let row = children_at ns c.args.container in
     let is : c.in_ok-kept.kept.items ≡ trimmed ns row = c.in_ok-kept.ensures ∙ ap (trimmed ns) (c.deref.ensures.value ∙ c.in_ok-row.ensures.children) in
-    ap (has_brackets ns) (c.deref-5.ensures.value ∙ is) ∙ trimmed_brackets ns row c.requires.brackets
+    ap (has_brackets ns) (c.deref-4.ensures.value ∙ is) ∙ trimmed_brackets ns row c.requires.brackets
 
 pub returns-clause-layout : goal.returns-clause-layout
 returns-clause-layout g c =
@@ -38,8 +38,8 @@ returns-clause-plan g c =
     let i = c.args.index in
     let is : c.in_ok-kept.kept.items ≡ trimmed ns row = c.in_ok-kept.ensures ∙ ap (trimmed ns) (c.deref.ensures.value ∙ c.in_ok-row.ensures.children) in
     let told = c.in_ok-layout.ensures.layout ∙ ap (layout_in ns c.args.container) (c.deref-2.ensures.value ∙ is) in
-    let several = c.on_several_lines-several.ensures ∙ ap (λ l. on_several_lines ns l v) (c.deref-4.ensures.value ∙ is) in
+    let several = c.on_several_lines-several.ensures ∙ ap (λ l. on_several_lines ns l v) (c.deref-3.ensures.value ∙ is) in
     c.planned-plan.ensures.plan
-    ∙ ap (λ b. planned ns b c.in_ok-layout.layout.trailing_commas c.deref-5.result.now i) several
-    ∙ ap (λ b. planned ns (on_several_lines ns (trimmed ns row) v) b c.deref-5.result.now i) (ap (λ (l : Layout). l.trailing_commas) told)
-    ∙ ap (λ l. planned ns (on_several_lines ns (trimmed ns row) v) (layout_in ns c.args.container (trimmed ns row)).trailing_commas l i) (c.deref-5.ensures.value ∙ is)
+    ∙ ap (λ b. planned ns b c.in_ok-layout.layout.trailing_commas c.deref-4.result.now i) several
+    ∙ ap (λ b. planned ns (on_several_lines ns (trimmed ns row) v) b c.deref-4.result.now i) (ap (λ (l : Layout). l.trailing_commas) told)
+    ∙ ap (λ l. planned ns (on_several_lines ns (trimmed ns row) v) (layout_in ns c.args.container (trimmed ns row)).trailing_commas l i) (c.deref-4.ensures.value ∙ is)

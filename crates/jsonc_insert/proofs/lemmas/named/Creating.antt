@@ -1,5 +1,5 @@
 -- A property with an empty value that has come into an object: which node that value is.
-use Rattle.std.proofs.Common.{◌≡◌, ℕ, ◌<◌, ◌≤◌, Bool, true, false, not, cond, List, [], ◌∷◌, length, Option, Some, None, Result, Ok, Err, IfOk, refl, sym, ap, subst, ◌∙◌, arith}
+use Rattle.std.proofs.Common.{◌≡◌, ℕ, ◌<◌, ◌≤◌, Bool, true, not, cond, List, ◌∷◌, length, Some, refl, sym, ap, subst, ◌∙◌, arith}
 use Rattle.std.proofs.lemmas.List.Filters.{length-filter_both}
 use Rattle.std.specs.List.{find}
 use Rattle.jsonc_text.specs.Options.{all_on}
@@ -25,7 +25,6 @@ use Rattle.jsonc_insert.proofs.lemmas.members.Changing.{is_property}
 use Rattle.jsonc_insert.proofs.lemmas.members.Numbering.{takes_number}
 use Rattle.jsonc_insert.proofs.lemmas.members.PastTheEnd.{past_the_end}
 use Rattle.jsonc_text.specs.declared.edit.Shape.{Shape}
-use Rattle.jsonc_text.specs.declared.edit.Shape.TheVariants.{Object, Array}
 use Rattle.jsonc_edit.specs.set.Shapes.{is_of, empty_of}
 use Rattle.jsonc_edit.proofs.lemmas.set.Shaped.{empty_laid}
 use Rattle.jsonc_insert.proofs.lemmas.named.PropertyValues.{first_shown}

@@ -1,17 +1,13 @@
 -- From the nodes to the row of trees.
-use Rattle.std.proofs.Common.{◌≡◌, ℕ, true, List, ◌∷◌, ◌++◌, length, sym, ap, subst}
+use Rattle.std.proofs.Common.{ℕ, true, List, subst}
 use Rattle.jsonc_text.specs.Options.{Options}
 use Rattle.jsonc_text.specs.Plain.{Plain}
-use Rattle.jsonc_tree.specs.Content.{object}
 use Rattle.jsonc_tree.specs.OrderedTree.{ordered_tree}
-use Rattle.jsonc_tree.specs.Tree.{Node, content_at, IsTree}
-use Rattle.jsonc_sound.specs.SoundTrees.{SoundTree}
-use Rattle.jsonc_edit.specs.Paths.{IsAt}
+use Rattle.jsonc_tree.specs.Tree.{Node}
 use Rattle.jsonc_layout.specs.from_input.Laid.{laid_property}
 use Rattle.jsonc_layout.specs.from_input.Layout.{Layout}
 use Rattle.jsonc_insert.specs.Planned.{planned}
 use Rattle.jsonc_insert.specs.Settings.{indents_of}
-use Rattle.jsonc_insert.specs.elements.Members.{PropertyInsertedAt}
 use Rattle.jsonc_insert.proofs.lemmas.elements.PlannedRows.{Filled}
 use Rattle.jsonc_edit.proofs.FittingNodes.{over_there}
 use Rattle.jsonc_edit.proofs.lemmas.multiline.Documents.{over_at}

@@ -1,0 +1,152 @@
+-- What comes in on a line with others has no part of a layout in it.
+use Rattle.std.proofs.Common.{◌≡◌, ◌||◌, ℕ, Bool, true, false, cond, List, ◌∷◌, ◌++◌, slice_get, Option, Some, None, is_some, refl, sym, ap, subst, ◌∙◌}
+use Rattle.std.proofs.lemmas.Bool.{false≢true}
+use Rattle.jsonc_text.specs.Plain.{Plain, Items, no_items, item, no_members, member}
+use Rattle.jsonc_tree.specs.Content as content
+use Rattle.jsonc_tree.specs.Content.{token}
+use Rattle.jsonc_tree.specs.Tree.{Node, children_at}
+use Rattle.jsonc_tree.specs.declared.node.CstNewlineKind.{CstNewlineKind}
+use Rattle.jsonc_layout.specs.from_input.Laid.{closed, holds_filled, is_filled, laid, laid_items, leaf_then, on_one_line, spread}
+use Rattle.jsonc_layout.specs.from_input.Layout.{deeper, Layout}
+use Rattle.jsonc_insert.specs.Inserted.{outer_indent, plan_in, plan_of, NodesMade}
+use Rattle.jsonc_insert.specs.Made.{comma_leaf, gap_leaves}
+use Rattle.jsonc_insert.specs.Neighbours.{IsBeside, IsTold, SameGaps}
+use Rattle.jsonc_insert.specs.Planned.{element_before, elements, plan_alone, plan_between, plan_by, plan_first, planned}
+use Rattle.jsonc_insert.specs.Settings.{indents_of, is_spread, layout_in, layout_inside, on_several_lines}
+use Rattle.jsonc_insert.specs.Trimmed.{trimmed}
+use Rattle.jsonc_insert.specs.declared.neighbours.Neighbours.{Neighbours}
+use Rattle.jsonc_insert.specs.declared.plan.Gap.{Gap}
+use Rattle.jsonc_insert.specs.declared.plan.Gap.TheVariants.{Nothing, Space, Line}
+use Rattle.jsonc_insert.specs.declared.plan.Plan.{Plan}
+
+either_off : (a b : Bool) → (a || b) ≡ false → (a ≡ false) × (b ≡ false)
+either_off true b e = absurd (false≢true (sym e))
+either_off false b e = (refl, e)
+
+-- a value on one line is laid out alike by all layouts
+module _ (l k : Layout) where
+  single_alike : (v : Plain) → is_filled v ≡ false → laid l v ≡ laid k v
+  single_alike Plain.null e = refl
+  single_alike (Plain.boolean b) e = refl
+  single_alike (Plain.number s) e = refl
+  single_alike (Plain.string s) e = refl
+  single_alike (Plain.array no_items) e = refl
+  single_alike (Plain.array (item v vs)) e = absurd (false≢true (sym e))
+  single_alike (Plain.object no_members) e = refl
+  single_alike (Plain.object (member name v ms)) e = absurd (false≢true (sym e))
+
+  items_alike : (vs : Items) → holds_filled vs ≡ false → laid_items l vs ≡ laid_items k vs
+  items_alike no_items e = refl
+  items_alike (item v vs) e =
+      let parts = either_off (is_filled v) (holds_filled vs) e in
+      ap (λ t. t ∷ laid_items l vs) (single_alike v parts.0) ∙ ap (λ ts. laid k v ∷ ts) (items_alike vs parts.1)
+
+  array_on_line : (m : Layout) (vs : Items) → holds_filled vs ≡ false → laid m (Plain.array vs) ≡ record { content = content.array; below = leaf_then (token 0x5B) (on_one_line (laid_items m vs) (closed 0x5D)) }
+  array_on_line m vs e = ap (λ b. record { content = content.array; below = leaf_then (token 0x5B) (cond b (spread m (laid_items (deeper m) vs) (closed 0x5D)) (on_one_line (laid_items m vs) (closed 0x5D))) }) e
+
+  pub laid_alike : (v : Plain) → is_spread v ≡ false → laid l v ≡ laid k v
+  laid_alike Plain.null e = refl
+  laid_alike (Plain.boolean b) e = refl
+  laid_alike (Plain.number s) e = refl
+  laid_alike (Plain.string s) e = refl
+  laid_alike (Plain.array vs) e =
+      array_on_line l vs e
+      ∙ ap (λ ts. record { content = content.array; below = leaf_then (token 0x5B) (on_one_line ts (closed 0x5D)) }) (items_alike vs e)
+      ∙ sym (array_on_line k vs e)
+  laid_alike (Plain.object no_members) e = refl
+  laid_alike (Plain.object (member name v ms)) e = absurd (false≢true (sym e))
+
+-- no line ends beside what is planned on one line
+abbrev pub ends_line : Gap → Bool
+ends_line Line = true
+ends_line _ = false
+
+gap_alike : (k j : CstNewlineKind) (s t : List ℕ) (gap : Gap) → ends_line gap ≡ false → gap_leaves k s gap ≡ gap_leaves j t gap
+gap_alike k j s t Nothing e = refl
+gap_alike k j s t Space e = refl
+gap_alike k j s t Line e = absurd (false≢true (sym e))
+
+abbrev pub OnLine : Plan → Type 0
+OnLine p = (ends_line p.before ≡ false) × (ends_line p.behind ≡ false)
+
+module _ (ns : List Node) (commas : Bool) (row : List ℕ) (i : ℕ) where
+  between_on : (more : Bool) (comma : Option ℕ) (place : ℕ) → OnLine (plan_between ns false commas row more comma place)
+  between_on true comma place = (refl, refl)
+  between_on false comma place = (refl, refl)
+
+  front_on : (b : Bool) → OnLine (cond b (plan_first ns false row) (plan_alone ns false row))
+  front_on true = (refl, refl)
+  front_on false = (refl, refl)
+
+  by_on : (o : Option ℕ) → OnLine (plan_by ns false commas row i o)
+  by_on None = front_on (is_some (slice_get (elements ns row) 0))
+  by_on (Some n) = between_on (is_some (slice_get (elements ns row) i)) _ _
+
+  pub planned_on : OnLine (planned ns false commas row i)
+  planned_on = by_on (element_before ns row i)
+
+  between_same : (more : Bool) (comma : Option ℕ) (place : ℕ) → plan_between ns false false row more comma place ≡ plan_between ns false commas row more comma place
+  between_same true comma place = refl
+  between_same false comma place = refl
+
+  by_same : (o : Option ℕ) → plan_by ns false false row i o ≡ plan_by ns false commas row i o
+  by_same None = refl
+  by_same (Some n) = between_same (is_some (slice_get (elements ns row) i)) _ _
+
+  pub planned_same : planned ns false false row i ≡ planned ns false commas row i
+  planned_same = by_same (element_before ns row i)
+
+-- what is made by a plan with the same gaps
+pub made_alike : (old ready : List Node) (l : Layout) (outer : List ℕ) (p q : Plan) (v : Plain) (m : ℕ) (comma before behind : List ℕ) → SameGaps p q → NodesMade old ready l outer q v m comma before behind → NodesMade old ready l outer p v m comma before behind
+made_alike old ready l outer p q v m comma before behind same made = record {
+  fresh = made.fresh;
+  is = made.is;
+  parts = made.parts ∙ ap comma_leaf (sym same.comma);
+  leads = made.leads ∙ ap (gap_leaves l.newline l.current) (sym same.before);
+  ends = made.ends ∙ ap (λ b. comma_leaf b ++ gap_leaves l.newline outer q.behind) (sym same.comma_behind) ∙ ap (λ g. comma_leaf p.comma_behind ++ gap_leaves l.newline outer g) (sym same.behind);
+}
+
+-- and on one line, by another layout
+made_on : (old ready : List Node) (l k : Layout) (outer other : List ℕ) (p : Plan) (v : Plain) (m : ℕ) (comma before behind : List ℕ) → OnLine p → is_spread v ≡ false → NodesMade old ready l outer p v m comma before behind → NodesMade old ready k other p v m comma before behind
+made_on old ready l k outer other p v m comma before behind on single made = record {
+  fresh = made.fresh;
+  is = made.is ∙ laid_alike l k v single;
+  parts = made.parts;
+  leads = made.leads ∙ gap_alike l.newline k.newline l.current k.current p.before on.0;
+  ends = made.ends ∙ ap (λ g. comma_leaf p.comma_behind ++ g) (gap_alike l.newline k.newline outer other p.behind on.1);
+}
+
+module _ (ns : List Node) (c i : ℕ) (v : Plain) (keeps : trimmed ns (children_at ns c) ≡ children_at ns c) (b : Neighbours) where
+  abbrev row : List ℕ
+  row = children_at ns c
+
+  plan_told : (several commas : Bool) → on_several_lines ns row v ≡ several → planned ns several commas row i ≡ plan_in ns commas (trimmed ns row) i v
+  plan_told several commas tells =
+      ap (λ s. planned ns s commas row i) (sym tells) ∙ ap (λ r. plan_in ns commas r i v) (sym keeps)
+
+  pub told_on_lines : (l : Layout) (outer : List ℕ) → l ≡ layout_in ns c row → outer ≡ (indents_of ns c (trimmed ns row)).current → on_several_lines ns row v ≡ true → IsBeside ns c (planned ns true l.trailing_commas row i) b → IsTold ns c i v l outer b
+  told_on_lines l outer laid_by from tells beside =
+      let all : l ≡ layout_inside ns c = laid_by ∙ ap (layout_in ns c) (sym keeps) in
+      let plan : planned ns true l.trailing_commas row i ≡ plan_of ns c i v = plan_told true l.trailing_commas tells ∙ ap (λ (m : Layout). plan_in ns m.trailing_commas (trimmed ns row) i v) all in
+      let told : IsBeside ns c (plan_of ns c i v) b = subst (λ p. IsBeside ns c p b) plan beside in
+      record {
+        beside = told;
+        makes = λ ready m comma before behind made.
+            subst (λ o. NodesMade ns ready (layout_inside ns c) o (plan_of ns c i v) v m comma before behind) from
+            (subst (λ k. NodesMade ns ready k outer (plan_of ns c i v) v m comma before behind) all
+            (made_alike ns ready l outer (plan_of ns c i v) b.plan v m comma before behind told.gaps made));
+      }
+
+  pub told_on_line : (l : Layout) (outer : List ℕ) → on_several_lines ns row v ≡ false → IsBeside ns c (planned ns false false row i) b → IsTold ns c i v l outer b
+  told_on_line l outer tells beside =
+      let commas : Bool = (layout_inside ns c).trailing_commas in
+      let plan : planned ns false commas row i ≡ plan_of ns c i v = plan_told false commas tells in
+      let told : IsBeside ns c (plan_of ns c i v) b = subst (λ p. IsBeside ns c p b) (planned_same ns commas row i ∙ plan) beside in
+      let on : OnLine (plan_of ns c i v) = subst OnLine plan (planned_on ns commas row i) in
+      let single : is_spread v ≡ false = (either_off _ (is_spread v) tells).1 in
+      record {
+        beside = told;
+        makes = λ ready m comma before behind made.
+            made_on ns ready l (layout_inside ns c) outer (outer_indent ns c) (plan_of ns c i v) v m comma before behind on single
+            (made_alike ns ready l outer (plan_of ns c i v) b.plan v m comma before behind told.gaps made);
+      }
