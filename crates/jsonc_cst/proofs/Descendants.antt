@@ -1,10 +1,10 @@
 -- The nodes below a node, in the order of the document: those that it stands above.
-use Rattle.std.proofs.Common.{◌≡◌, ◌∙◌, refl, sym, ap, subst, arith, ℕ, zero, suc, ◌<◌, List, [], ◌∷◌, ◌++◌, length, slice_index, Some}
+use Rattle.std.proofs.Common.{◌≡◌, ◌∙◌, ap, ℕ, zero, suc, ◌<◌, List, [], ◌∷◌, ◌++◌, length, slice_index, Some}
 use Rattle.std.specs.List.{All, flat_map}
 use Rattle.std.proofs.lemmas.List.{append-nil}
-use Rattle.std.proofs.lemmas.List.Elements.{All-append, All-cons, All-from_get_or, All-head, All-nil, All-same, All-tail, All-weaker}
+use Rattle.std.proofs.lemmas.List.Elements.{All-append, All-cons, All-from_get_or, All-head, All-nil, All-tail, All-weaker}
 use Rattle.jsonc_tree.specs.Tree.{Node, children_at, IsOver, IsTree, above, itself}
-use Rattle.jsonc_tree.specs.Order.{below, following, in_order, rest_at}
+use Rattle.jsonc_tree.specs.Order.{below, in_order, rest_at}
 use Rattle.jsonc_tree.proofs.Order.{following_end}
 use Rattle.jsonc_cst.specs.Nodes.{IsNodeOf}
 use Rattle.jsonc_cst.specs.Readings.{typed_all}

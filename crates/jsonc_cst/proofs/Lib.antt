@@ -5,6 +5,7 @@ pub mod Tree
 pub mod Shown
 pub mod RangeWalk
 pub mod Descendants
+pub mod RangedDescendants
 pub mod JsonValues
 pub mod NodePaths
 pub mod NamePaths

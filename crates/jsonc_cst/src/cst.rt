@@ -38,7 +38,7 @@ mod siblings;
 mod values;
 
 pub use access::{AncestorIterator, node_at};
-pub use descendants::DescendantIterator;
+pub use descendants::{DescendantIterator, RangedDescendantIterator};
 pub use input::CstInputValue;
 use jsonc_build::parse_tree;
 pub use jsonc_edit::{EditError, TrailingCommaMode};
