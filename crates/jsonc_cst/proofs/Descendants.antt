@@ -14,7 +14,7 @@ use Rattle.jsonc_cst.proofs.Readings.{typed_all_held}
 abbrev pub IsUnder : List Node → ℕ → ℕ → Type 0
 IsUnder ns top n = (n < length ns) × IsOver ns top n
 
-all_flat : (P : ℕ → Type 0) (f : ℕ → List ℕ) (xs : List ℕ) → All (λ x. All P (f x)) xs → All P (flat_map f xs)
+pub all_flat : (P : ℕ → Type 0) (f : ℕ → List ℕ) (xs : List ℕ) → All (λ x. All P (f x)) xs → All P (flat_map f xs)
 all_flat P f [] h = All-nil P
 all_flat P f (x ∷ xs) h = All-append P (f x) (flat_map f xs) (All-head (λ y. All P (f y)) x xs h) (all_flat P f xs (All-tail (λ y. All P (f y)) x xs h))
 
@@ -23,7 +23,7 @@ module _ (ns : List Node) (tree : IsTree ns) where
   pub rest_at_top : (n : ℕ) → n < length ns → rest_at ns n (Some n) ≡ in_order ns n
   rest_at_top n h = ap (λ l. in_order ns n ++ l) (following_end ns tree n h) ∙ append-nil (in_order ns n)
 
-  below_under : (depth top n : ℕ) → IsUnder ns top n → All (IsUnder ns top) (below depth ns n)
+  pub below_under : (depth top n : ℕ) → IsUnder ns top n → All (IsUnder ns top) (below depth ns n)
   below_under zero top n h = All-nil (IsUnder ns top)
   below_under (suc depth) top n h =
       let children : All (λ c. All (IsUnder ns top) (below depth ns c)) (children_at ns n) =

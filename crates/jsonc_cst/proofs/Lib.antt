@@ -6,6 +6,7 @@ pub mod Shown
 pub mod RangeWalk
 pub mod Descendants
 pub mod RangedDescendants
+pub mod DescendantsBelow
 pub mod JsonValues
 pub mod NodePaths
 pub mod NamePaths

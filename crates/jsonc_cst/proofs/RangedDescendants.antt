@@ -35,7 +35,7 @@ module _ (ns : List Node) where
   over_trans a b n up (above said rest) = above said (over_trans a b _ up rest)
 
   -- of two nodes above one, the one is above the other
-  over_either : (a b n : ℕ) → IsOver ns a n → IsOver ns b n → IsOver ns a b ⊎ IsOver ns b a
+  pub over_either : (a b n : ℕ) → IsOver ns a n → IsOver ns b n → IsOver ns a b ⊎ IsOver ns b a
   over_either a b _ itself up = inr up
   over_either a b n (above said rest) itself = inl (above said rest)
   over_either a b n (above {c = c} said rest) (above {c = d} told up) =
@@ -71,7 +71,7 @@ module _ (ns : List Node) (tree : IsTree ns) where
   step : (end n : ℕ) → IsUnder ns end n → (o : Option ℕ) × (rest_at ns end (Some n) ≡ n ∷ rest_at ns end o) × IfSome o (IsUnder ns end)
   step end n u = step_by end n u (cases_lt 0 (length (children_at ns n)))
 
-  inner : (end n c : ℕ) → n ≢ end → parent_at ns n ≡ Some c → following ns end n ≡ flat_map (in_order ns) (drop (place_at ns n + 1) (children_at ns c)) ++ following ns end c
+  pub inner : (end n c : ℕ) → n ≢ end → parent_at ns n ≡ Some c → following ns end n ≡ flat_map (in_order ns) (drop (place_at ns n + 1) (children_at ns c)) ++ following ns end c
   inner end n c ne said =
       following_is ns tree end n (parent_there ns tree n c said).0
       ∙ ap (λ b. cond b [] (with_parent (parent_at ns n) (λ q. flat_map (in_order ns) (drop (place_at ns n + 1) (children_at ns q)) ++ following ns end q))) (ne_eqb n end ne)
