@@ -4,6 +4,9 @@ pub mod Colons
 pub mod Tree
 pub mod Shown
 pub mod RangeWalk
+pub mod Descendants
+pub mod RangedDescendants
+pub mod DescendantsBelow
 pub mod JsonValues
 pub mod NodePaths
 pub mod NamePaths

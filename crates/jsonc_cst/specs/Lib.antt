@@ -10,3 +10,4 @@ pub mod objects
 pub mod Ranges
 pub mod Paths
 pub mod RepeatedNames
+pub mod Descendants

@@ -3,6 +3,7 @@ use Rattle.std.specs.Prelude.{◌≡◌, ℕ, Bool, List, length, map, filter, O
 use Rattle.std.specs.List.{find}
 use Rattle.jsonc_text.specs.declared.errors.ParseStringErrorKind.{ParseStringErrorKind}
 use Rattle.jsonc_tree.specs.Content.{text_of}
+use Rattle.jsonc_tree.specs.Order.{in_order}
 use Rattle.jsonc_tree.specs.Tree.{Node, content_at, children_at}
 use Rattle.jsonc_layout.specs.nodes.Kinds.{is_property}
 use Rattle.jsonc_layout.specs.nodes.Names.{FirstNamed, IsNoString, StandsFor}
@@ -83,6 +84,10 @@ index_in_object (Some (Object x)) index = index
 index_in_object _ index = 0
 
 module _ {A : Type 0} where
+  -- the node and all below it, in the order of the document
+  abbrev pub descendants_of : CstRootNode A → CstNode → List CstNode
+  descendants_of d node = typed_all (nodes_of d) (in_order (nodes_of d) (number_of node))
+
   -- the siblings of a node, nearest first
   abbrev pub next_siblings_of : CstRootNode A → CstNode → List CstNode
   next_siblings_of d node = typed_all (nodes_of d) (siblings_after (nodes_of d) (number_of node))

@@ -21,6 +21,7 @@ ghost use Rattle.jsonc_cst.specs.Document.{printed_of, tree_of, HasNoDeeperValue
 ghost use Rattle.jsonc_cst.specs.Tree.{NodesAreTree};
 
 mod access;
+mod descendants;
 mod elements;
 pub mod input;
 mod into;
@@ -37,6 +38,7 @@ mod siblings;
 mod values;
 
 pub use access::{AncestorIterator, node_at};
+pub use descendants::{DescendantIterator, RangedDescendantIterator};
 pub use input::CstInputValue;
 use jsonc_build::parse_tree;
 pub use jsonc_edit::{EditError, TrailingCommaMode};

@@ -13,8 +13,10 @@ ghost use Rattle.jsonc_cst.specs.declared.cst.node.CstArray.{CstArray};
 ghost use Rattle.jsonc_cst.specs.declared.cst.node.CstNode.{CstNode};
 ghost use Rattle.jsonc_cst.specs.declared.cst.node.CstObject.{CstObject};
 ghost use Rattle.jsonc_cst.specs.declared.cst.node.CstObjectProp.{CstObjectProp};
-ghost use Rattle.jsonc_cst.specs.Document.{nodes_of};
+ghost use Rattle.jsonc_cst.specs.Descendants.{AreAllBelow};
+ghost use Rattle.jsonc_cst.specs.Document.{nodes_of, HasNode};
 ghost use Rattle.jsonc_cst.specs.Nodes.{number_of, object_prop_node};
+ghost use Rattle.jsonc_cst.specs.Readings.{descendants_of};
 ghost use Rattle.jsonc_cst.specs.Values.{GivesTheValue};
 ghost use Rattle.jsonc_cst.specs.objects.Members.{HasNamedComeIn};
 ghost use Rattle.jsonc_cst.specs.objects.Named.{HasEnsuredArray, HasEnsuredObject};
@@ -36,6 +38,12 @@ use std::alloc::Allocator;
 /// the last at the first place: `parse` says that its tree has the shape of the grammar and this value.
 pub fn documents_give_their_value<A: Allocator>()
     ensures { (o : Options) (tree : OrderedTree) → GivesTheValue A o tree }
+{}
+
+/// What an iterator over a node and all below it gives: the node and each node of the document that it stands
+/// above, each once, and no other. In what order they come says `in_order`, by which the tree is walked.
+pub fn descendants_are_those_below<A: Allocator>()
+    ensures { (d : CstRootNode A) (node : CstNode) → HasNode d node → AreAllBelow d node (descendants_of d node) }
 {}
 
 /// What typed calls say is what lists of calls are made of: from the clause that each has of the nodes, word

@@ -65,7 +65,7 @@ back_of [] = Back.empty refl
 back_of (x ∷ xs) = back_behind x xs (back_of xs)
 
 -- of two ways to cut a list one cuts it later
-data Later (a b c d : List ℕ) : Type 0 where
+pub data Later (a b c d : List ℕ) : Type 0 where
   first_later : (h : List ℕ) → a ≡ c ++ h → d ≡ h ++ b → Later a b c d
   second_later : (h : List ℕ) → c ≡ a ++ h → b ≡ h ++ d → Later a b c d
 
@@ -73,7 +73,7 @@ later_behind : (x y : ℕ) (a b c d : List ℕ) → x ≡ y → Later a b c d �
 later_behind x y a b c d s (Later.first_later h p q) = Later.first_later h (cc) q
 later_behind x y a b c d s (Later.second_later h p q) = Later.second_later h (cc) q
 
-later : (a b c d : List ℕ) → a ++ b ≡ c ++ d → Later a b c d
+pub later : (a b c d : List ℕ) → a ++ b ≡ c ++ d → Later a b c d
 later [] b c d e = Later.second_later c refl e
 later (x ∷ a) b [] d e = Later.first_later (x ∷ a) refl (sym e)
 later (x ∷ a) b (y ∷ c) d e = later_behind x y a b c d (cc) (later a b c d (cc))

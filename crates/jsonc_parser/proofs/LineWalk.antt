@@ -1,16 +1,17 @@
 -- Lines and columns: a walk over a text, the place of a line and a column, and the line and column of a place.
-use Rattle.std.proofs.Common.{◌≡◌, ◌∙◌, refl, sym, ap, subst, arith, ℕ, ◌+◌, ◌-◌, ◌<◌, ◌≤◌, List, [], ◌∷◌, ◌++◌, length, take, drop, chars, IsUtf8, IsCharBoundary, Bool, true, false, cond, ◌⊎◌, inl, inr, Option, None, Some, IfSome, IfNone}
+use Rattle.std.proofs.Common.{◌≡◌, ◌∙◌, refl, sym, ap, subst, arith, ℕ, ◌+◌, ◌-◌, ◌<◌, ◌≤◌, List, [], ◌∷◌, ◌++◌, length, drop, chars, slice_range, IsUtf8, IsCharBoundary, Bool, true, false, cond, ◌⊎◌, inl, inr, Option, None, Some, IfSome, IfNone}
 use Rattle.std.proofs.lemmas.Bool.{cases_lt, lt-ltb, le-ltb}
-use Rattle.std.proofs.lemmas.List.{append-nil, same_from_push, append_assoc, take-append-drop, length-drop}
-use Rattle.std.proofs.lemmas.Str.{chars-append, IsUtf8-take, len_utf8_bounds}
+use Rattle.std.proofs.lemmas.List.{append-nil, same_from_push, append_assoc, length-drop}
+use Rattle.std.proofs.lemmas.Str.{len_utf8_bounds, IsCharBoundary-start}
 use Rattle.std.specs.Char.{len_utf8}
-use Rattle.jsonc_text.specs.Text.{byte_length, rest}
+use Rattle.jsonc_text.specs.Text.{byte_length, rest, Spans}
 use Rattle.jsonc_text.specs.Places.{ends_line, walked, LineColumn}
-use Rattle.jsonc_text.proofs.Cuts.{byte_length-append, byte_length-one}
+use Rattle.jsonc_text.specs.declared.line.LineAndColumn.{LineAndColumn}
+use Rattle.jsonc_text.proofs.Cuts.{byte_length-append, byte_length-one, chars_between, rest_past}
 use Rattle.jsonc_parser.specs.declared.places.ColumnUnit.{ColumnUnit}
 use Rattle.jsonc_parser.specs.declared.places.ColumnUnit.TheVariants.{Character, Utf16}
 use Rattle.jsonc_parser.specs.Places.{past, walked_by, LineColumnBy, utf16_units, units}
-use Rattle.jsonc_parser.proofs.Changes.{Back, back_of, size_of, boundary_behind}
+use Rattle.jsonc_parser.proofs.Changes.{Back, Later, back_of, boundary_behind, later, size_of}
 
 -- no character takes more units of a column than bytes
 abbrev pub IsNarrow : (ℕ → ℕ) → Type 0
@@ -62,9 +63,17 @@ pub found_in_characters : (t : List ℕ) (line column : ℕ) (r : Option ℕ) �
 found_in_characters t line column None h = h
 found_in_characters t line column (Some p) h = in_characters t p line column h
 
+pub position_in_characters : (t : List ℕ) (p : ℕ) (r : Option LineAndColumn) → IfSome r (λ at. LineColumnBy (units Character) t p at.line at.column) → IfSome r (λ at. LineColumn t p at.line at.column)
+position_in_characters t p None h = h
+position_in_characters t p (Some at) h = in_characters t p at.line at.column h
+
 pub none_in_characters : (t : List ℕ) (line column : ℕ) (r : Option ℕ) → IfNone r ((p : ℕ) → LineColumnBy (units Character) t p line column → ⊥) → IfNone r ((p : ℕ) → LineColumn t p line column → ⊥)
 none_in_characters t line column None h = λ p x. h p (of_characters t p line column x)
 none_in_characters t line column (Some p) h = h
+
+-- a text begins in line 1, column 1
+pub text_start : (w : ℕ → ℕ) (t : List ℕ) → LineColumnBy w t 0 1 1
+text_start w t = record { before = []; after = t; split = refl; at = refl; position = refl }
 
 -- a walk over a text has passed these characters, and come to this line and column
 pub record Walked (w : ℕ → ℕ) (text rest : List ℕ) (line column : ℕ) : Type 0 where
@@ -73,12 +82,39 @@ pub record Walked (w : ℕ → ℕ) (text rest : List ℕ) (line column : ℕ) :
   pub position : (line, column) ≡ walked_by w (1, 1) passed rest
   pub few : (line ≤ byte_length passed + 1) × (column ≤ byte_length passed + 1)
 
-pub walked_start : (w : ℕ → ℕ) (text : List ℕ) → Walked w text text 1 1
-walked_start w text = record { passed = []; split = refl; position = refl; few = (omega arith, omega arith) }
-
 few_past : (b : Bool) (u size n h k : ℕ) → u ≤ size → 1 ≤ size → (h ≤ n + 1) × (k ≤ n + 1) → ((cond {A = ℕ × ℕ} b (h + 1, 1) (h, k + u)).0 ≤ n + size + 1) × ((cond {A = ℕ × ℕ} b (h + 1, 1) (h, k + u)).1 ≤ n + size + 1)
 few_past true u size n h k least some few = (omega (arith, few.0), omega arith)
 few_past false u size n h k least some few = (omega (arith, few.0), omega (arith, few.1))
+
+-- lines and columns are no more than one and the bytes that were passed
+few_by : (w : ℕ → ℕ) (n : ℕ) (p : ℕ × ℕ) (s r : List ℕ) → IsNarrow w → (p.0 ≤ n + 1) × (p.1 ≤ n + 1) → ((walked_by w p s r).0 ≤ n + byte_length s + 1) × ((walked_by w p s r).1 ≤ n + byte_length s + 1)
+few_by w n p [] r least few = (omega (arith, few.0), omega (arith, few.1))
+few_by w n p (c ∷ s) r least few =
+    let size : byte_length (c ∷ s) ≡ len_utf8 c + byte_length s = byte_length-append (c ∷ []) s ∙ ap (λ k. k + byte_length s) (byte_length-one c) in
+    let more = few_by w (n + len_utf8 c) (past w p c (s ++ r)) s r least (few_past (ends_line c (s ++ r)) (w c) (len_utf8 c) n p.0 p.1 (least c) (len_utf8_bounds c).0 few) in
+    (omega (arith, size, more.0), omega (arith, size, more.1))
+
+-- what stands behind a place whose line and column are known
+pub behind_place : (w : ℕ → ℕ) (text : List ℕ) (p line column : ℕ) → IsUtf8 text → (x : LineColumnBy w (chars text) p line column) → rest text p ≡ x.after
+behind_place w text p line column u x =
+    let zero : 0 + byte_length x.before ≡ p = omega (arith, x.at) in
+    subst (λ k. rest text k ≡ x.after) zero (rest_past text x.before x.after 0 u (IsCharBoundary-start text u) x.split).0
+
+-- a place whose line and column are known is on a boundary
+pub place_boundary : (w : ℕ → ℕ) (text : List ℕ) (p line column : ℕ) → IsUtf8 text → LineColumnBy w (chars text) p line column → IsCharBoundary text p
+place_boundary w text p line column u x = subst (IsCharBoundary text) x.at (boundary_behind text x.before x.after u x.split)
+
+-- a walk that begins there
+pub walked_from : (w : ℕ → ℕ) (text : List ℕ) (p line column : ℕ) → IsNarrow w → IsUtf8 text → LineColumnBy w (chars text) p line column → Walked w (chars text) (rest text p) line column
+walked_from w text p line column least u x =
+    let behind = behind_place w text p line column u x in
+    let few = few_by w 0 (1, 1) x.before x.after least (omega arith, omega arith) in
+    record {
+      passed = x.before;
+      split = x.split ∙ ap (λ t. x.before ++ t) (sym behind);
+      position = x.position ∙ ap (λ t. walked_by w (1, 1) x.before t) (sym behind);
+      few = (omega (arith, few.0, ap (λ q. q.0) x.position), omega (arith, few.1, ap (λ q. q.1) x.position));
+    }
 
 -- one character further
 pub walked_on : (w : ℕ → ℕ) (text rest : List ℕ) (c : ℕ) (r : List ℕ) (h k h' k' : ℕ) → IsNarrow w → Walked w text rest h k → rest ≡ c ∷ r → (h', k') ≡ past w (h, k) c r → Walked w text r h' k'
@@ -121,13 +157,19 @@ pub record HasWalked (w : ℕ → ℕ) (text rest : List ℕ) (line column here_
   pub walk : Walked w text rest here_line here_column
   pub not_yet : NotYet w walk.passed rest line column
 
-nothing_passed : (b : List ℕ) (x : ℕ) (m : List ℕ) → [] ≡ b ++ x ∷ m → ⊥
-nothing_passed [] x m e = cc
-nothing_passed (d ∷ b) x m e = cc
-
-pub walk_begins : (w : ℕ → ℕ) (text : List ℕ) (line column : ℕ) → HasWalked w text text line column 1 1
-unfolding walked_start
-walk_begins w text line column = record { walk = walked_start w text; not_yet = λ b x m e p. nothing_passed b x m e }
+-- a walk begins at a place before which none is in that line and column
+pub walk_begins : (w : ℕ → ℕ) (text : List ℕ) (p h k line column : ℕ) → IsNarrow w → IsUtf8 text → LineColumnBy w (chars text) p h k → ((q : ℕ) → LineColumnBy w (chars text) q line column → p ≤ q)
+    → HasWalked w (chars text) (rest text p) line column h k
+unfolding walked_from
+walk_begins w text p h k line column least u x ahead = record {
+  walk = walked_from w text p h k least u x;
+  not_yet = λ b y m e g.
+      (let behind = behind_place w text p h k u x in
+      let split : chars text ≡ b ++ (y ∷ (m ++ rest text p)) = x.split ∙ ap (λ t. x.before ++ t) (sym behind) ∙ ap (λ t. t ++ rest text p) e ∙ append_assoc b (y ∷ m) (rest text p) in
+      let there : LineColumnBy w (chars text) (byte_length b) line column = record { before = b; after = y ∷ (m ++ rest text p); split = split; at = refl; position = g } in
+      let size : byte_length x.before ≡ byte_length b + (byte_length (y ∷ []) + byte_length m) = ap byte_length e ∙ byte_length-append b (y ∷ m) ∙ ap (λ n. byte_length b + n) (byte_length-append (y ∷ []) m) in
+      omega (arith, ahead (byte_length b) there, x.at, size, byte_length-one y, (len_utf8_bounds y).0));
+}
 
 not_yet_after : (w : ℕ → ℕ) (passed : List ℕ) (c : ℕ) (r : List ℕ) (line column : ℕ) → NotYet w passed (c ∷ r) line column → ((line, column) ≡ walked_by w (1, 1) passed (c ∷ r) → ⊥)
     → (b : List ℕ) (x : ℕ) (m : List ℕ) → Back m → passed ++ c ∷ [] ≡ b ++ x ∷ m → (line, column) ≡ walked_by w (1, 1) b (x ∷ (m ++ r)) → ⊥
@@ -168,11 +210,11 @@ pub record WalksTo (w : ℕ → ℕ) (text rest last : List ℕ) (line column : 
   pub ahead : List ℕ
   pub still : rest ≡ ahead ++ last
 
-pub walks_to_start : (w : ℕ → ℕ) (text : List ℕ) (place : ℕ) → IsUtf8 text → IsCharBoundary text place → WalksTo w (chars text) (chars text) (rest text place) 1 1
-walks_to_start w text place u b = record {
-  walk = walked_start w (chars text);
-  ahead = chars (take place text);
-  still = ap chars (sym (take-append-drop place text)) ∙ chars-append (take place text) (drop place text) (IsUtf8-take text place u b);
+pub walks_to_start : (w : ℕ → ℕ) (text : List ℕ) (from place h k : ℕ) → IsNarrow w → IsUtf8 text → Spans text from place → LineColumnBy w (chars text) from h k → WalksTo w (chars text) (rest text from) (rest text place) h k
+walks_to_start w text from place h k least u spans x = record {
+  walk = walked_from w text from h k least u x;
+  ahead = chars (slice_range text from place);
+  still = chars_between text from place u spans;
 }
 
 still_past : (ahead last rest : List ℕ) (c : ℕ) (r : List ℕ) → rest ≡ ahead ++ last → rest ≡ c ∷ r → byte_length last < byte_length rest → (m : List ℕ) × (r ≡ m ++ last)
@@ -192,3 +234,32 @@ pub walks_to_end : (w : ℕ → ℕ) (text left : List ℕ) (place h k : ℕ) �
 walks_to_end w text left place h k u v b d x few =
     let ahead : byte_length (chars left) ≡ byte_length x.ahead + byte_length (rest text place) = ap byte_length x.still ∙ byte_length-append x.ahead (rest text place) in
     walked_place w text left place h k u v (omega (arith, ahead, few, size_of left v, size_of (drop place text) d, length-drop place text, b.0)) x.walk
+
+-- a walk leads to no line before the one where it begins
+past_rises : (w : ℕ → ℕ) (p : ℕ × ℕ) (c : ℕ) (b : Bool) → p.0 ≤ (cond {A = ℕ × ℕ} b (p.0 + 1, 1) (p.0, p.1 + w c)).0
+past_rises w p c true = omega arith
+past_rises w p c false = omega arith
+
+pub lines_rise : (w : ℕ → ℕ) (p : ℕ × ℕ) (s r : List ℕ) → p.0 ≤ (walked_by w p s r).0
+lines_rise w p [] r = omega arith
+lines_rise w p (c ∷ s) r = omega (arith, past_rises w p c (ends_line c (s ++ r)), lines_rise w (past w p c (s ++ r)) s r)
+
+-- once the walk is past the line, no place in it and that column is left
+pub walk_leaves : (w : ℕ → ℕ) (text rest : List ℕ) (line column h k : ℕ) → HasWalked w text rest line column h k → line < h → (p : ℕ) → LineColumnBy w text p line column → ⊥
+walk_leaves w text rest line column h k x more p at = by (later at.before at.after x.walk.passed rest (sym at.split ∙ x.walk.split))
+  where
+    here : (b a : List ℕ) → b ≡ x.walk.passed → a ≡ rest → (line, column) ≡ walked_by w (1, 1) b a → ⊥
+    here b a e f g =
+        let same : (line, column) ≡ (h, k) = g ∙ ap (λ t. walked_by w (1, 1) t a) e ∙ ap (λ t. walked_by w (1, 1) x.walk.passed t) f ∙ sym x.walk.position in
+        omega (arith, more, ap (λ q. q.0) same)
+
+    behind : (g : List ℕ) → x.walk.passed ≡ at.before ++ g → at.after ≡ g ++ rest → ⊥
+    behind [] e f = here at.before at.after (sym (append-nil at.before) ∙ sym e) f at.position
+    behind (y ∷ m) e f = x.not_yet at.before y m e (at.position ∙ ap (λ t. walked_by w (1, 1) at.before t) f)
+
+    by : Later at.before at.after x.walk.passed rest → ⊥
+    by (Later.second_later g e f) = behind g e f
+    by (Later.first_later g e f) =
+        let on : (line, column) ≡ walked_by w (h, k) g at.after =
+        at.position ∙ ap (λ t. walked_by w (1, 1) t at.after) e ∙ walked_append w (1, 1) x.walk.passed g at.after ∙ ap (λ t. walked_by w (walked_by w (1, 1) x.walk.passed t) g at.after) (sym f) ∙ ap (λ q. walked_by w q g at.after) (sym x.walk.position) in
+        omega (arith, more, lines_rise w (h, k) g at.after, ap (λ q. q.0) on)

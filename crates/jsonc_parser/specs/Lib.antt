@@ -3,6 +3,7 @@ pub mod Promise
 pub mod Errors
 pub mod paths
 pub mod Changes
+pub mod LineStarts
 pub mod Places
 pub mod Numbers
 pub mod Checker

@@ -20,8 +20,8 @@ pub use jsonc_cst::cst::{
     AncestorIterator, CstArray, CstBooleanLit, CstComment, CstContainerNode, CstInputValue,
     CstLeafNode, CstNewline, CstNewlineKind, CstNode, CstNullKeyword, CstNumberLit, CstObject,
     CstObjectProp, CstRoot, CstRootNode, CstStringLit, CstToken, CstWhitespace, CstWordLit,
-    EditError, NextSiblingIterator, ObjectPropName, ParentNode, Pieces, PreviousSiblingIterator,
-    Shown, TrailingCommaMode, TypedNode, input,
+    DescendantIterator, EditError, NextSiblingIterator, ObjectPropName, ParentNode, Pieces,
+    PreviousSiblingIterator, RangedDescendantIterator, Shown, TrailingCommaMode, TypedNode, input,
 };
 pub use jsonc_cst::sorting::{
     BlankLineHeaders, ElementSort, HeaderRule, HeadersBy, NoHeaders, PropertySort,

@@ -1,7 +1,8 @@
 //! Lines and columns of places in a text, and places by line and column.
 
-ghost use Rattle.std.specs.Prelude.{◌≡◌, ◌+◌, ◌<◌, ◌^◌, ℕ, chars, IfNone, IfSome, IsCharBoundary};
+ghost use Rattle.std.specs.Prelude.{◌≡◌, ◌+◌, ◌<◌, ◌≤◌, ◌^◌, ℕ, chars, IfNone, IfSome, IsCharBoundary};
 ghost use Rattle.jsonc_text.specs.Places.{LineColumn};
+ghost use Rattle.jsonc_text.specs.Text.{Spans};
 ghost use Rattle.jsonc_parser.specs.Places.{LineColumnBy, LineColumnUtf16, past, units};
 
 use jsonc_text::line::ends_line;
@@ -9,7 +10,7 @@ pub use jsonc_text::line::{LineAndColumn, line_and_column};
 
 /// What a column counts.
 #[derive(Clone, Copy)]
-enum ColumnUnit {
+pub(crate) enum ColumnUnit {
     /// Characters, whatever their size.
     Character,
     /// UTF-16 code units, of which a character above U+FFFF takes two.
@@ -47,23 +48,61 @@ fn past(at: LineAndColumn, c: char, rest: &str, unit: ColumnUnit) -> LineAndColu
     }
 }
 
-/// The place of a line and column, both counted from 1, the column in the units named.
-fn place_by(text: &str, line: usize, column: usize, unit: ColumnUnit) -> Option<usize>
-    ensures found { IfSome result (λ p. LineColumnBy (units unit) (chars text.now) p line column) }
-    ensures boundary { IfSome result (IsCharBoundary text.now) }
-    ensures none { IfNone result ((p : ℕ) → LineColumnBy (units unit) (chars text.now) p line column → ⊥) }
+/// The line and column of a place, by a walk from a place before it, or from itself, which is in the line and column `at`.
+pub(crate) fn walk_to(
+    text: &str,
+    from: usize,
+    at: LineAndColumn,
+    place: usize,
+    unit: ColumnUnit,
+) -> LineAndColumn
+    requires spans { Spans text.now from place }
+    requires at { LineColumnBy (units unit) (chars text.now) from at.line at.column }
+    ensures { LineColumnBy (units unit) (chars text.now) place result.line result.column }
 {
-    let mut rest = text.chars();
-    let mut at = LineAndColumn { line: 1, column: 1 };
+    let after = text.len() - place;
+    let mut rest = text[from..].chars();
+    let mut here = at;
+    while rest.as_str().len() > after
+        && let Some(c) = rest.next()
+    {
+        here = past(here, c, rest.as_str(), unit);
+    }
+    here
+}
+
+/// The place of a line and column, looked for from a place that is in the line and column `at` and not behind it.
+pub(crate) fn place_from(
+    text: &str,
+    from: usize,
+    at: LineAndColumn,
+    wanted: LineAndColumn,
+    unit: ColumnUnit,
+) -> Option<usize>
+    requires boundary { IsCharBoundary text.now from }
+    requires at { LineColumnBy (units unit) (chars text.now) from at.line at.column }
+    requires ahead { (p : ℕ)
+        → LineColumnBy (units unit) (chars text.now) p wanted.line wanted.column → from ≤ p }
+    ensures found { IfSome result
+        (λ p. LineColumnBy (units unit) (chars text.now) p wanted.line wanted.column) }
+    ensures boundary { IfSome result (IsCharBoundary text.now) }
+    ensures none { IfNone result
+        ((p : ℕ) → LineColumnBy (units unit) (chars text.now) p wanted.line wanted.column → ⊥) }
+{
+    let mut rest = text[from..].chars();
+    let mut here = at;
     loop {
         let left = rest.as_str();
-        if at.line == line && at.column == column {
+        if here.line == wanted.line && here.column == wanted.column {
             return Some(text.len() - left.len());
+        }
+        if here.line > wanted.line {
+            return None;
         }
         let Some(c) = rest.next() else {
             return None;
         };
-        at = past(at, c, rest.as_str(), unit);
+        here = past(here, c, rest.as_str(), unit);
     }
 }
 
@@ -77,7 +116,9 @@ pub fn place_of(text: &str, line: usize, column: usize) -> Option<usize>
     ensures boundary { IfSome result (IsCharBoundary text.now) }
     ensures none { IfNone result ((p : ℕ) → LineColumn (chars text.now) p line column → ⊥) }
 {
-    place_by(text, line, column, ColumnUnit::Character)
+    let start = LineAndColumn { line: 1, column: 1 };
+    let wanted = LineAndColumn { line, column };
+    place_from(text, 0, start, wanted, ColumnUnit::Character)
 }
 
 /// The place of a line and a UTF-16 column, if the text has them.
@@ -91,7 +132,9 @@ pub fn place_of_utf16(text: &str, line: usize, column: usize) -> Option<usize>
     ensures boundary { IfSome result (IsCharBoundary text.now) }
     ensures none { IfNone result ((p : ℕ) → LineColumnUtf16 (chars text.now) p line column → ⊥) }
 {
-    place_by(text, line, column, ColumnUnit::Utf16)
+    let start = LineAndColumn { line: 1, column: 1 };
+    let wanted = LineAndColumn { line, column };
+    place_from(text, 0, start, wanted, ColumnUnit::Utf16)
 }
 
 /// The line and the UTF-16 column of a place.
@@ -104,13 +147,6 @@ pub fn line_and_column_utf16(text: &str, place: usize) -> LineAndColumn
     requires { IsCharBoundary text.now place }
     ensures { LineColumnUtf16 (chars text.now) place result.line result.column }
 {
-    let after = text.len() - place;
-    let mut rest = text.chars();
-    let mut at = LineAndColumn { line: 1, column: 1 };
-    while rest.as_str().len() > after
-        && let Some(c) = rest.next()
-    {
-        at = past(at, c, rest.as_str(), ColumnUnit::Utf16);
-    }
-    at
+    let start = LineAndColumn { line: 1, column: 1 };
+    walk_to(text, 0, start, place, ColumnUnit::Utf16)
 }

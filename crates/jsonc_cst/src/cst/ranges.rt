@@ -8,7 +8,7 @@ ghost use Rattle.jsonc_tree.specs.Stored.{content_of};
 ghost use Rattle.jsonc_tree.specs.Tree.{IsOver};
 ghost use Rattle.jsonc_cst.specs.Document.{nodes_of, printed_of, HasNode};
 ghost use Rattle.jsonc_cst.specs.Nodes.{number_of};
-ghost use Rattle.jsonc_cst.specs.Ranges.{IsBefore, PrintsByte, PrintsRange};
+ghost use Rattle.jsonc_cst.specs.Ranges.{place_past, range_from, IsBefore, PrintsByte, PrintsRange};
 
 use super::CstRootNode;
 use super::access::node_at;
@@ -18,7 +18,7 @@ use jsonc_tree::{CstNewlineKind, Kind, Tree};
 use std::alloc::Allocator;
 
 // How many bytes a node prints itself.
-fn own_length<A: Allocator>(kind: &Kind<A>) -> usize
+pub(super) fn own_length<A: Allocator>(kind: &Kind<A>) -> usize
     ensures { result ≡ length (text_of (content_of kind.now)) }
 {
     match kind {
@@ -44,7 +44,7 @@ fn own_length<A: Allocator>(kind: &Kind<A>) -> usize
 }
 
 // How many bytes the document prints before a node, if the node stands in it.
-fn bytes_before<A: Allocator>(tree: &Tree<A>, node: usize) -> Option<usize>
+pub(super) fn bytes_before<A: Allocator>(tree: &Tree<A>, node: usize) -> Option<usize>
     requires { node < length tree.now.nodes }
     ensures found { IfSome result (IsBefore tree.now.nodes node) }
     ensures none { IfNone result (IsOver tree.now.nodes 0 node → 2 ^ 64 ≤ length (printed (ordered_tree tree.now.nodes 0))) }
@@ -80,6 +80,31 @@ fn bytes_of<A: Allocator>(tree: &Tree<A>, node: usize) -> Option<usize>
         next = tree.next_in_order(node, at);
     }
     Some(count)
+}
+
+// The place so many bytes after another, if memory can count to it.
+pub(super) fn place_past(at: Option<usize>, size: usize) -> Option<usize>
+    ensures { result ≡ place_past at size }
+{
+    let Some(at) = at else {
+        return None;
+    };
+    at.checked_add(size)
+}
+
+// The range of what a node prints, with all below it, where it begins at a place.
+pub(super) fn range_from<A: Allocator>(
+    tree: &Tree<A>,
+    at: Option<usize>,
+    node: usize,
+) -> Option<Range>
+    requires { node < length tree.now.nodes }
+    ensures { result ≡ range_from at (length (printed_at tree.now.nodes node)) }
+{
+    let start = at?;
+    let length = bytes_of(tree, node)?;
+    let end = start.checked_add(length)?;
+    Some(Range::new(start, end))
 }
 
 // The leaf that prints the byte at a place of the document's text.

@@ -1,0 +1,156 @@
+//! Lines and columns of many places of one text, and places by line and column.
+
+ghost use Rattle.std.specs.Prelude.{◌≡◌, ◌<◌, ◌≤◌, ℕ, chars, length, slice_index};
+ghost use Rattle.std.specs.Prelude.{IfNone, IfOk, IfSome, IsCharBoundary};
+ghost use Rattle.std.specs.List.Sorted.{IsNonDecreasing};
+ghost use Rattle.jsonc_text.specs.Places.{LineColumn};
+ghost use Rattle.jsonc_parser.specs.Places.{LineColumnBy, LineColumnUtf16, units};
+
+use crate::places::{ColumnUnit, LineAndColumn, place_from, walk_to};
+use jsonc_text::line::ends_line;
+use std::alloc::{AllocError, Allocator};
+use std::marker::Model;
+
+/// The places where the lines of a text begin, found once, for the lines and columns of many places.
+///
+/// Its calls answer as [`crate::line_and_column`], [`crate::place_of`] and their UTF-16 forms do. Each takes the time
+/// of a search among the lines and of a walk over one line, and not over the text before it. It is seen as the text.
+#[derive(Drop)]
+pub struct LineIndex<'t, A: Allocator> {
+    text: &'t str,
+    starts: Vec<usize, A>,
+}
+
+impl<'t, A: Allocator> Model for LineIndex<'t, A> {
+    ghost use Rattle.std.specs.Prelude.{ℕ, List, chars, IsUtf8};
+
+    ghost Value = { List ℕ };
+
+    ghost use Rattle.jsonc_parser.specs.LineStarts.{AreLineStarts};
+
+    ghost view = { λ index. index.text.now };
+
+    ghost invariant = { λ index. IsUtf8 index.text.now
+        × AreLineStarts (chars index.text.now) index.starts.items };
+}
+
+// How many of these places, none of which is less than the one before it, are at most this one.
+fn count_to(places: &[usize], place: usize) -> usize
+    requires { IsNonDecreasing places.now }
+    ensures within { result ≤ length places.now }
+    ensures to { (k : ℕ) → k < result → slice_index places.now k ≤ place }
+    ensures behind { (k : ℕ) → result ≤ k → k < length places.now
+        → place < slice_index places.now k }
+{
+    places.partition_point(|other| *other <= place)
+}
+
+impl<'t, A: Allocator> LineIndex<'t, A> {
+    /// Finds the places where the lines of a text begin, in one pass.
+    ///
+    /// LF, CR LF and CR alone end a line. It borrows the text, and takes memory for one number a line. The error
+    /// is that there is no memory.
+    pub fn new(alloc: A, text: &'t str) -> Result<LineIndex<'t, A>, AllocError>
+        ensures { IfOk result (λ index. index ≡ text.now) }
+    {
+        let mut starts = Vec::new(alloc);
+        starts.push(0)?;
+        let mut rest = text.chars();
+        while let Some(c) = rest.next() {
+            let left = rest.as_str();
+            if ends_line(c, left) {
+                starts.push(text.len() - left.len())?;
+            }
+        }
+        Ok(LineIndex { text, starts })
+    }
+
+    // The last line that begins at a place or before it, and where it begins.
+    fn line_before(&self, place: usize) -> (usize, usize)
+        ensures at { (w : ℕ → ℕ) → LineColumnBy w (chars self.now) result.1 result.0 1 }
+        ensures before { result.1 ≤ place }
+        ensures boundary { IsCharBoundary self.now result.1 }
+    {
+        let line = count_to(&self.starts, place);
+        (line, self.starts[line - 1])
+    }
+
+    // The line and the column of a place, in the units named.
+    fn position_by(&self, place: usize, unit: ColumnUnit) -> Option<LineAndColumn>
+        ensures found { IfSome result
+            (λ at. LineColumnBy (units unit) (chars self.now) place at.line at.column) }
+        ensures none { IfNone result (IsCharBoundary self.now place → ⊥) }
+    {
+        if !self.text.is_char_boundary(place) {
+            return None;
+        }
+        let (line, start) = self.line_before(place);
+        let at = LineAndColumn { line, column: 1 };
+        Some(walk_to(self.text, start, at, place, unit))
+    }
+
+    // The place of a line and column, the column in the units named.
+    fn place_by(&self, line: usize, column: usize, unit: ColumnUnit) -> Option<usize>
+        ensures found { IfSome result
+            (λ p. LineColumnBy (units unit) (chars self.now) p line column) }
+        ensures boundary { IfSome result (IsCharBoundary self.now) }
+        ensures none { IfNone result
+            ((p : ℕ) → LineColumnBy (units unit) (chars self.now) p line column → ⊥) }
+    {
+        if line == 0 || line > self.starts.len() {
+            return None;
+        }
+        let start = self.starts[line - 1];
+        let at = LineAndColumn { line, column: 1 };
+        place_from(self.text, start, at, LineAndColumn { line, column }, unit)
+    }
+
+    /// The line and the column of a place, as [`crate::line_and_column`] answers them.
+    ///
+    /// The place counts bytes, the line and the column count from 1, and the column counts characters. None
+    /// within a character and past the end. Nothing is allocated. In `{\n  "a": 1\n}` place 4 is in line 2,
+    /// column 3.
+    pub fn line_and_column(&self, place: usize) -> Option<LineAndColumn>
+        ensures found { IfSome result (λ at. LineColumn (chars self.now) place at.line at.column) }
+        ensures none { IfNone result (IsCharBoundary self.now place → ⊥) }
+    {
+        self.position_by(place, ColumnUnit::Character)
+    }
+
+    /// The line and the UTF-16 column of a place, as [`crate::line_and_column_utf16`] answers them.
+    ///
+    /// The column counts UTF-16 code units, of which a character above U+FFFF takes two. A language server
+    /// counts lines and columns from 0, so take 1 off both. None within a character and past the end. In
+    /// `a😀b` place 5 is in line 1, column 4, and place 2 in none.
+    pub fn line_and_column_utf16(&self, place: usize) -> Option<LineAndColumn>
+        ensures found { IfSome result
+            (λ at. LineColumnUtf16 (chars self.now) place at.line at.column) }
+        ensures none { IfNone result (IsCharBoundary self.now place → ⊥) }
+    {
+        self.position_by(place, ColumnUnit::Utf16)
+    }
+
+    /// The place of a line and column, if the text has them, as [`crate::place_of`] answers it.
+    ///
+    /// Line and column count from 1, the column in characters, and the place counts bytes. In
+    /// `{\n  "a": 1\n}` line 2, column 3 is place 4, and line 2 has no column 10.
+    pub fn place_of(&self, line: usize, column: usize) -> Option<usize>
+        ensures found { IfSome result (λ p. LineColumn (chars self.now) p line column) }
+        ensures boundary { IfSome result (IsCharBoundary self.now) }
+        ensures none { IfNone result ((p : ℕ) → LineColumn (chars self.now) p line column → ⊥) }
+    {
+        self.place_by(line, column, ColumnUnit::Character)
+    }
+
+    /// The place of a line and a UTF-16 column, if the text has them, as [`crate::place_of_utf16`] answers it.
+    ///
+    /// A language server counts lines and columns from 0, so add 1 to both of its numbers. In `a😀b` line 1,
+    /// column 4 is place 5, and column 3 is no place.
+    pub fn place_of_utf16(&self, line: usize, column: usize) -> Option<usize>
+        ensures found { IfSome result (λ p. LineColumnUtf16 (chars self.now) p line column) }
+        ensures boundary { IfSome result (IsCharBoundary self.now) }
+        ensures none { IfNone result ((p : ℕ) → LineColumnUtf16 (chars self.now) p line column → ⊥) }
+    {
+        self.place_by(line, column, ColumnUnit::Utf16)
+    }
+}
