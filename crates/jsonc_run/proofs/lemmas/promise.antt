@@ -42,3 +42,5 @@ pub mod Leads
 pub mod Asked
 pub mod NodePlaces
 pub mod CommaSteps
+pub mod NoneLeft
+pub mod Hexadecimal
