@@ -1,10 +1,10 @@
 -- Where a hexadecimal number is printed last, the text ends in one.
-use Rattle.std.proofs.Common.{ℕ, ◌≡◌, ◌∙◌, sym, ap, subst, refl, inl, inr, Bool, true, false, ◌&&◌, ◌||◌, ◌==◌, List, [], ◌∷◌, ◌++◌, Option, Some, None, IsTrue, chars, append-nil, arith, if◌then◌else◌}
+use Rattle.std.proofs.Common.{ℕ, ◌≡◌, ◌∙◌, sym, ap, subst, refl, inl, inr, Bool, true, false, ◌&&◌, ◌==◌, List, [], ◌∷◌, ◌++◌, Option, Some, None, IsTrue, chars, append-nil, arith, if◌then◌else◌}
 use Rattle.std.proofs.lemmas.Bool.{false≢true}
 use Rattle.std.proofs.lemmas.List.{append_assoc}
 use Rattle.jsonc_text.specs.Options.{Options}
 use Rattle.jsonc_text.specs.Text.{next, starts}
-use Rattle.jsonc_text.specs.Words.{Keyword, keyword_text, begins_word}
+use Rattle.jsonc_text.specs.Words.{Keyword, begins_word}
 use Rattle.jsonc_text.specs.Numbers.{Sign, Unsigned, Whole, Number, is_sign, is_x}
 use Rattle.jsonc_text.specs.Lexemes.{LexemeKind, Lexeme}
 use Rattle.jsonc_text.specs.Grammar.{may_name}

@@ -1,18 +1,17 @@
 -- Where no trailing comma is left in a tree, its text is in the grammar that allows none.
-use Rattle.std.proofs.Common.{◌≡◌, ◌∙◌, ℕ, sym, ap, subst, refl, Bool, true, false, List, [], ◌∷◌, ◌++◌, Option, None, IsTrue}
-use Rattle.jsonc_text.specs.Options.{Options, AgreeOnLexemes, AllowsMore, without_trailing}
+use Rattle.std.proofs.Common.{◌≡◌, ℕ, subst, refl, Bool, true, false, List, [], ◌∷◌, ◌++◌, Option, None}
+use Rattle.jsonc_text.specs.Options.{Options, AllowsMore, without_trailing}
 use Rattle.jsonc_text.specs.Text.{next}
 use Rattle.jsonc_text.specs.Plain.{Plain}
-use Rattle.jsonc_text.specs.Lexemes.{LexemeKind, Lexeme}
 use Rattle.jsonc_text.specs.Grammar.{IsDocument, IsValue}
 use Rattle.jsonc_text.specs.Paths.{Value}
 use Rattle.jsonc_text.specs.Edits.{HasNoTrailing}
 use Rattle.jsonc_text.proofs.SameOptions.{lexeme_same}
 use Rattle.jsonc_text.proofs.UniqueValues.{document_unique}
 use Rattle.jsonc_text.proofs.WiderOptions.{document_wider}
-use Rattle.jsonc_tree.specs.Content.{Content, root}
+use Rattle.jsonc_tree.specs.Content.{root}
 use Rattle.jsonc_tree.specs.OrderedTree.{OrderedTree, Top, none, more, own_leaf, leaves}
-use Rattle.jsonc_sound.specs.Shape.{IsTrivia, ValueShaped, printed_text}
+use Rattle.jsonc_sound.specs.Shape.{ValueShaped, printed_text}
 use Rattle.jsonc_sound.specs.Alone as alone
 use Rattle.jsonc_sound.specs.Alone.{RootAlone, ValueAlone}
 use Rattle.jsonc_sound.specs.Documents.{document_of}
