@@ -44,3 +44,4 @@ pub mod NodePlaces
 pub mod CommaSteps
 pub mod NoneLeft
 pub mod Hexadecimal
+pub mod LinesInside

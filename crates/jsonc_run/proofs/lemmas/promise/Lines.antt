@@ -36,6 +36,7 @@ use Rattle.jsonc_run.proofs.lemmas.promise.CommaTexts.{all_same, same_before}
 use Rattle.jsonc_run.proofs.lemmas.promise.CommentTexts.{blanks_text}
 use Rattle.jsonc_run.proofs.lemmas.promise.Insides.{inside_so, texts_followed, within_so}
 use Rattle.jsonc_run.proofs.lemmas.promise.NoneLeft.{none_left, NoneLeft}
+use Rattle.jsonc_run.proofs.lemmas.promise.LinesInside.{line_inside}
 use Rattle.jsonc_run.proofs.lemmas.promise.Leaves.{front_of, back_of, document_parts, document_parts_then, document_utf8, text_joined}
 use Rattle.jsonc_sound.specs.Documents.{all_marks}
 use Rattle.jsonc_run.proofs.lemmas.promise.RemovedTexts.{container_leaves}
@@ -156,6 +157,7 @@ multiline_made o t u w _ path s r by_lines m a =
         spaces_leave o (subst (λ l. WithoutSpaces l kept) (sym of_t) first) (document_pieces o (document_alone o s.shaped)) (document_utf8 o s.shaped),
         blanks_leave o (subst (λ l. WithoutBlanks l kept) (sym of_u) second) (document_pieces o (document_alone o r.shaped)) (document_utf8 o r.shaped),
       ),
+      line_inside o r a w,
     )
 
 -- commas alone have left, or come
