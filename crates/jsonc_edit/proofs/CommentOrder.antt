@@ -1,23 +1,20 @@
 -- The comments of a document in order: they stay where spaces come and where other nodes are made, and as many stand before one as its number says.
-use Rattle.std.proofs.Common.{◌≡◌, ◌≢◌, ℕ, zero, suc, ◌+◌, ◌-◌, ◌<◌, Bool, true, false, cond, List, [], ◌∷◌, ◌++◌, length, filter, get_or, map, take, drop, slice_index, slice_range, Option, Some, None, IsTrue, refl, sym, ap, subst, ◌∙◌, arith, length-append}
-use Rattle.std.proofs.lemmas.List.{append-nil, append_assoc}
-use Rattle.std.proofs.lemmas.List.Concat.{flat_map-append}
+use Rattle.std.proofs.Common.{◌≡◌, ◌≢◌, ℕ, zero, suc, ◌+◌, ◌-◌, ◌<◌, Bool, true, false, cond, List, [], ◌∷◌, ◌++◌, length, filter, get_or, map, take, drop, slice_range, Some, None, IsTrue, refl, sym, ap, ◌∙◌, arith, length-append}
 use Rattle.std.proofs.lemmas.List.Elements.{All-nil, All-cons, All-append, All-head, All-tail, filter-append}
 use Rattle.std.specs.List.{flat_map, slice_get}
 use Rattle.jsonc_tree.specs.Building.{Keeps}
 use Rattle.jsonc_tree.specs.Content.{Content, is_container}
 use Rattle.jsonc_tree.specs.Order.{below, in_order}
 use Rattle.jsonc_tree.specs.OrderedTree.{own_leaf}
-use Rattle.jsonc_tree.specs.Tree.{Node, content_at, parent_at, children_at, place_at, IsTree, IsOver, itself, above}
+use Rattle.jsonc_tree.specs.Tree.{Node, content_at, parent_at, children_at, place_at, IsTree, IsOver}
 use Rattle.jsonc_tree.proofs.Order.{flat_map_same, in_order_is, line_long, line_of, over_step, parent_there, steady}
-use Rattle.jsonc_layout.specs.nodes.Kinds.{is_comment, is_trivia, is_comment_at, is_trivia_at}
+use Rattle.jsonc_layout.specs.nodes.Kinds.{is_comment, is_trivia, is_comment_at}
 use Rattle.jsonc_layout.specs.nodes.Siblings.{AreThere}
 use Rattle.jsonc_sound.specs.MarkChanges.{AreBlanks}
 use Rattle.jsonc_sound.specs.Marks as marks
 use Rattle.jsonc_sound.specs.Marks.{comments_of, marks_of}
 use Rattle.jsonc_sound.specs.TriviaChanges.{AreTrivia}
 use Rattle.jsonc_sound.proofs.ReplacedStretches.{marks_join}
-use Rattle.jsonc_edit.specs.Comments.{comment_at}
 use Rattle.jsonc_edit.specs.Put.{StandsBefore}
 use Rattle.jsonc_edit.proofs.InOrder.{leaf_at, spliced_order}
 

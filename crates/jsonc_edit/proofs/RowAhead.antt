@@ -1,5 +1,5 @@
 -- A space that comes before what is printed behind a node leaves the row as it was up to that node.
-use Rattle.std.proofs.Common.{◌≡◌, ◌≢◌, ℕ, zero, suc, ◌+◌, ◌<◌, ◌≤◌, ◌==◌, cond, false, true, List, [], ◌∷◌, ◌++◌, length, take, drop, slice_index, get_or, Some, inl, inr, if◌then◌else◌, refl, sym, ap, subst, ◌∙◌, arith, length-take, get_or-take}
+use Rattle.std.proofs.Common.{◌≡◌, ℕ, zero, suc, ◌+◌, ◌<◌, ◌≤◌, ◌==◌, cond, false, true, List, ◌∷◌, ◌++◌, length, take, drop, slice_index, get_or, Some, inl, inr, if◌then◌else◌, refl, sym, ap, subst, ◌∙◌, arith, length-take, get_or-take}
 use Rattle.std.proofs.lemmas.Bool.{cases_Bool}
 use Rattle.std.proofs.lemmas.List.{take-append-le, take-take}
 use Rattle.jsonc_text.proofs.Basics.{eq_test, test_eq}

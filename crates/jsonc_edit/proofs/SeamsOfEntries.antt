@@ -1,7 +1,7 @@
 -- A property that stands in the document between leaves does so in its ordered tree.
-use Rattle.std.proofs.Common.{◌≡◌, ℕ, List, ◌++◌, sym, ap, subst}
+use Rattle.std.proofs.Common.{◌≡◌, ℕ, List, ◌++◌, subst}
 use Rattle.jsonc_tree.specs.Content.{Content, object, property}
-use Rattle.jsonc_tree.specs.OrderedTree.{OrderedTree, ordered_tree, Top}
+use Rattle.jsonc_tree.specs.OrderedTree.{ordered_tree}
 use Rattle.jsonc_tree.specs.Tree.{Node, content_at, IsTree}
 use Rattle.jsonc_edit.specs.Changes.{row_below}
 use Rattle.jsonc_edit.specs.Paths.{IsAt, IsElementOf}

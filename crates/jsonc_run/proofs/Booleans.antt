@@ -9,7 +9,8 @@ use Rattle.jsonc_tree.specs.Tree.{Node, content_at, IsTree}
 use Rattle.jsonc_tree.specs.Values as values
 use Rattle.jsonc_tree.specs.Values.{ValueOf}
 use Rattle.jsonc_sound.specs.Shape.{printed_text}
-use Rattle.jsonc_sound.specs.Booleans.{boolean_leaf}
+use Rattle.jsonc_sound.specs.Adjacent.{last_printed}
+use Rattle.jsonc_sound.specs.Booleans.{boolean_leaf, is_hex_leaf}
 use Rattle.jsonc_sound.specs.Changes.{Changed}
 use Rattle.jsonc_sound.specs.SoundTrees.{SoundTree}
 use Rattle.jsonc_sound.proofs.LeavesAround.{document_differs}
@@ -38,9 +39,10 @@ module _ (ns : List Node) (path : List ℕ) (n : ℕ) (b : Bool) (at : IsBoolean
 -- the old one has been replaced at the path
 pub boolean_given : (old new : List Node) (path : List ℕ) (n : ℕ) (b : Bool) → IsTree old → IsBooleanAt old path n → BooleanSet old new n b
     → (was : Bool) × (given : ReplacesValue path (Plain.boolean b) (ordered_tree old 0) (ordered_tree new 0)) × (given.was ≡ boolean_leaf was) × (given.seams.behind ≡ false) × (b ≡ true → given.seams.before ≡ false)
+    × ((o : Options) → SoundTree o (ordered_tree old 0) → given.seams.before ≡ true → is_hex_leaf (last_printed given.seams.front) ≡ true)
 boolean_given old new path n b tree at set =
     let g = boolean_gives_way old new path n b tree at.0 at.1 set in
-    (g.0, record { was = boolean_leaf g.0; layout = layout_for old 0 n; spaced = g.1; spaces = g.2; changed = g.3; around = document_differs g.3; seams = g.4 }, refl, g.5, g.6)
+    (g.0, record { was = boolean_leaf g.0; layout = layout_for old 0 n; spaced = g.1; spaces = g.2; changed = g.3; around = document_differs g.3; seams = g.4 }, refl, g.5, g.6, g.7)
 
 -- a truth value's node has it as its value
 pub boolean_value : {o : Options} {content : Content} {below : OrderedTree} {v : Plain} (a : Bool) → content ≡ Content.boolean a → ValueOf o content below v → v ≡ Plain.boolean a

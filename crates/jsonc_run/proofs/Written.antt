@@ -58,7 +58,7 @@ use Rattle.jsonc_insert.proofs.lemmas.named.Writing.{writes_named}
 use Rattle.jsonc_edit.proofs.SeamsOfComments.{comment_has_seam}
 use Rattle.jsonc_insert.proofs.lemmas.named.Values.{replaces_held, stays_ensured}
 use Rattle.jsonc_run.proofs.ValueMade.{set_replaced}
-use Rattle.jsonc_run.proofs.Sorts.{commas_say, commas_within, some_commas_say, some_commas_within, sorted_at, sorted_outside, sorted_says}
+use Rattle.jsonc_run.proofs.Sorts.{commas_placed, commas_say, some_commas_say, some_commas_within, sorted_at, sorted_outside, sorted_says}
 use Rattle.jsonc_run.specs.Steps.{MadeIn}
 use Rattle.jsonc_insert.proofs.lemmas.named.Values.{value_gives_way}
 use Rattle.jsonc_run.proofs.Roots.{value_stands, root_value_set, whole_changed, emptied, no_leaves}
@@ -95,7 +95,7 @@ made_in o old new (set_value path v) tree after sound may (r, at, set) =
     let given = set_replaced o old new tree sound path r at v set in
     value_gives_way old new path given.0 given.1 v tree given.2 given.3
 made_in o old new (ensure_value path shape) tree after sound may (r, at, ensured) = stays_ensured old new path shape tree (property_values.value_ensured o old new tree sound path r at shape ensured)
-made_in o old new (set_boolean path b) tree after sound may (n, at, set) = boolean_given old new path n b tree at set
+made_in o old new (set_boolean path b) tree after sound may (n, at, set) = let g = boolean_given old new path n b tree at set in (g.0, g.1, g.2, g.3, g.4, g.5 o sound)
 made_in o old new (ensure_multiline path) tree after sound may (n, at, made) = spread_at o old new path n tree after sound at.0 at.1 made
 made_in o old new (insert_element path i v) tree after sound may (n, m, at, put) = elements_come_at o old new path n i v m tree sound at.0 at.1 put
 made_in o old new (append_element path v) tree after sound may (n, m, at, put) =
@@ -105,7 +105,7 @@ made_in o old new (insert_property path i name v) tree after sound may (n, m, at
 made_in o old new (append_property path name v) tree after sound may (n, m, at, put) =
     (length (elements_at old n), λ i far. properties_come_at o old new path n i name v m tree sound at.0 at.1 (properties.behind_all o old new path n m name v tree sound at (length (elements_at old n)) i (omega arith) far put))
 made_in o old new (ensure_property path name shape how) tree after sound may (n, m, at, ensured) = (writes_named o old new path n name shape how m tree sound at.0 at.1 may ensured).around
-made_in o old new (set_commas path mode) tree after sound may (n, at, set) = ((commas_say o old new path n tree sound at mode set).commas, commas_within o old new path n tree sound at mode set)
+made_in o old new (set_commas path mode) tree after sound may (n, at, set) = let placed = commas_placed o old new path n tree sound at mode set in ((commas_say o old new path n tree sound at mode set).commas, placed.0, placed.1)
 made_in o old new (set_some_commas path mode) tree after sound may (n, at, part) = ((some_commas_say o old new path n tree sound at mode part).commas, some_commas_within o old new path n tree sound at mode part)
 made_in o old new (rearrange path headers order) tree after sound may (n, at, all, made) =
     let s = sorted_at o old new path n tree sound at headers order after all made in

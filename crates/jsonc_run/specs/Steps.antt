@@ -1,18 +1,21 @@
 -- What edits that were made in order make of a sound document: one chain of sound documents, one after each edit.
 use Rattle.std.specs.Prelude.{◌≡◌, ◌≤◌, ℕ, Bool, true, false, List, [], ◌∷◌, Option}
 use Rattle.std.specs.List.{All}
-use Rattle.jsonc_text.specs.Options.{Options}
+use Rattle.jsonc_text.specs.Options.{Options, without_trailing}
 use Rattle.jsonc_text.specs.Plain.{Plain, boolean}
 use Rattle.jsonc_text.specs.Grammar.{IsDocument}
 use Rattle.jsonc_tree.specs.Tree.{Node}
 use Rattle.jsonc_tree.specs.OrderedTree.{OrderedTree, Top, none, ordered_tree}
 use Rattle.jsonc_tree.specs.Values.{DocumentValueOf}
 use Rattle.jsonc_sound.specs.Shape.{printed_text}
-use Rattle.jsonc_sound.specs.Booleans.{boolean_leaf}
+use Rattle.jsonc_sound.specs.Adjacent.{last_printed}
+use Rattle.jsonc_sound.specs.Booleans.{boolean_leaf, is_hex_leaf}
 use Rattle.jsonc_sound.specs.EntryLaws.{root_with}
 use Rattle.jsonc_sound.specs.Marks.{AreMarks, marks}
 use Rattle.jsonc_sound.specs.SoundTrees.{SoundTree}
 use Rattle.jsonc_sound.specs.TreeChanges.{DocumentChanged}
+use Rattle.jsonc_text.specs.declared.edit.TrailingCommaMode.TheVariants.{Never}
+use Rattle.jsonc_sound.specs.Alone.{ValueAlone}
 use Rattle.jsonc_edit.specs.commas.Laws.{OnlyCommas}
 use Rattle.jsonc_edit.specs.Comments.{comments_ahead, LosesComment}
 use Rattle.jsonc_edit.specs.SeamLaws.{comments_before, LosesWithSeam}
@@ -75,13 +78,14 @@ MadeIn o t (ensure_root shape how) u = RootValueEnsured shape t u how
 MadeIn o t (set_value path v) u = ReplacesValue path v t u
 MadeIn o t (ensure_value path shape) u = ValueEnsured path shape t u
 MadeIn o t (set_boolean path b) u = (was : Bool) × (given : ReplacesValue path (boolean b) t u) × (given.was ≡ boolean_leaf was) × (given.seams.behind ≡ false) × (b ≡ true → given.seams.before ≡ false)
+    × (given.seams.before ≡ true → is_hex_leaf (last_printed given.seams.front) ≡ true)
 MadeIn o t (ensure_multiline path) u = SpreadAt path t u
 MadeIn o t (insert_element path i v) u = ElementInsertedAt o path i v t u
 MadeIn o t (append_element path v) u = (n : ℕ) × ((i : ℕ) → n ≤ i → ElementInsertedAt o path i v t u)
 MadeIn o t (insert_property path i name v) u = PropertyInsertedAt o path i name v t u
 MadeIn o t (append_property path name v) u = (n : ℕ) × ((i : ℕ) → n ≤ i → PropertyInsertedAt o path i name v t u)
 MadeIn o t (ensure_property path name shape how) u = named.StaysAround o path name shape t u how
-MadeIn o t (set_commas path mode) u = OnlyCommas mode t u × IsChangedAt path t u
+MadeIn o t (set_commas path mode) u = OnlyCommas mode t u × (at : IsChangedAt path t u) × (mode ≡ Never → ValueAlone (without_trailing o) at.1.content at.1.below)
 MadeIn o t (set_some_commas path mode) u = OnlyCommas mode t u × IsChangedAt path t u
 MadeIn o t (rearrange path headers order) u = (sorted : SortedAt path order t u) × KeepsOutside sorted
 

@@ -41,6 +41,17 @@ Stops (more (Content.whitespace s) below after) = ⊥
 Stops (more (Content.newline k) below after) = ⊥
 Stops (more _ below after) = Unit {0}
 
+-- or it is the end of a line
+abbrev pub Halts : OrderedTree → Type 0
+Halts (more (Content.newline k) none after) = Unit {0}
+Halts row = Stops row
+
+pub stops_halts : (row : OrderedTree) → Stops row → Halts row
+stops_halts none s = s
+stops_halts (more (Content.newline k) below after) s = absurd s
+stops_halts (more (Content.whitespace w) below after) s = absurd s
+stops_halts (more content below after) s = s
+
 literal_stops : (o : Options) (content : Content) (r : List ℕ) (below after : OrderedTree) → IsLiteralBefore o content r → Stops (more content below after)
 literal_stops o (Content.whitespace s) r below after h = absurd h
 literal_stops o (Content.newline k) r below after h = absurd h
@@ -88,9 +99,17 @@ module _ (o : Options) (z : List ℕ) where
       let inside = block_inside b in
       gaps.comment c (inr (scanned_before o (block_comment inside.0) (chars s) t (b, inside.1) tt).0) g
 
-  at_the_end : (loose at_end : Bool) (r : OrderedTree) → (at_end ≡ true → z ≡ []) → Stops r → IsTrue (ends_loosely loose at_end r) → Skipped o (printed_text r ++ z) (printed_text r ++ z)
+  at_the_end : (loose at_end : Bool) (r : OrderedTree) → (at_end ≡ true → z ≡ []) → Halts r → IsTrue (ends_loosely loose at_end r) → Skipped o (printed_text r ++ z) (printed_text r ++ z)
   at_the_end loose at_end none f s h = record { blanks = []; rest = printed_text none ++ z; split = refl; in_line = stop; ends = subst (λ x. IsTrue (no is_in_line (next x))) (sym (ap (λ x. x ++ z) chars-nil ∙ f h)) refl; gap = gaps.none }
-  at_the_end loose at_end (more (Content.newline k) below after) f s h = absurd s
+  at_the_end loose at_end (more (Content.newline k) none after) f s h = record {
+    blanks = [];
+    rest = printed_text (more (Content.newline k) none after) ++ z;
+    split = refl;
+    in_line = stop;
+    ends = subst (λ x. IsTrue (no is_in_line (next x))) (sym (leaf_then (Content.newline k) after tt)) (newline_no_line k (printed_text after ++ z));
+    gap = gaps.none;
+  }
+  at_the_end loose at_end (more (Content.newline k) (more c b a) after) f s h = absurd s
   at_the_end loose at_end (more (Content.whitespace k) below after) f s h = absurd s
   at_the_end loose at_end (more content below after) f s h = cc
 
@@ -102,14 +121,14 @@ module _ (o : Options) (z : List ℕ) where
       by false e = gap_append (leaf_gap o (Content.comment s) t h (λ k. (let wrong : false ≡ true = sym e ∙ k in cc))) g
 
   mutual
-    pub loose_gap : (loose at_end : Bool) {t r : OrderedTree} → (at_end ≡ true → z ≡ []) → Stops r → Trivia o t r → LinesEndLoosely loose at_end t → Gap o (printed_text t ++ z) (printed_text r ++ z)
+    pub loose_gap : (loose at_end : Bool) {t r : OrderedTree} → (at_end ≡ true → z ≡ []) → Halts r → Trivia o t r → LinesEndLoosely loose at_end t → Gap o (printed_text t ++ z) (printed_text r ++ z)
     loose_gap loose at_end f s shape.nothing l = gaps.none
     loose_gap loose at_end {r = r} f s (shape.trivia {content = Content.comment c} {t = t} h g) l =
         subst (λ x. Gap o x (printed_text r ++ z)) (sym (leaf_then (Content.comment c) t h)) (comment_gap c (printed_text t ++ z) (printed_text r ++ z) h (loose_gap loose at_end f s g l.2) (λ k. skip loose at_end f s g l.2 (l.0 k)))
     loose_gap loose at_end {r = r} f s (shape.trivia {content = content} {t = t} h g) l =
         subst (λ x. Gap o x (printed_text r ++ z)) (sym (leaf_then content t h)) (gap_append (leaf_gap o content (printed_text t ++ z) h (λ k. cc)) (loose_gap loose at_end f s g l.2))
 
-    skip : (loose at_end : Bool) {t r : OrderedTree} → (at_end ≡ true → z ≡ []) → Stops r → Trivia o t r → LinesEndLoosely loose at_end t → IsTrue (ends_loosely loose at_end t) → Skipped o (printed_text t ++ z) (printed_text r ++ z)
+    skip : (loose at_end : Bool) {t r : OrderedTree} → (at_end ≡ true → z ≡ []) → Halts r → Trivia o t r → LinesEndLoosely loose at_end t → IsTrue (ends_loosely loose at_end t) → Skipped o (printed_text t ++ z) (printed_text r ++ z)
     skip loose at_end {r = r} f s shape.nothing l e = at_the_end loose at_end r f s e
     skip loose at_end {r = r} f s (shape.trivia {content = Content.newline k} {t = t} h g) l e =
         record {
@@ -136,6 +155,6 @@ module _ (o : Options) (z : List ℕ) where
   lines_behind loose at_end shape.nothing l = l
   lines_behind loose at_end (shape.trivia h g) l = lines_behind loose at_end g l.2
 
-  -- so trivia is a gap, and the line comments behind it end as they did
+  -- so trivia is a gap, up to a line's end too, and the line comments behind it end as they did
   pub trivia_gap : (loose at_end : Bool) {t r : OrderedTree} → (at_end ≡ true → z ≡ []) → Stops r → Trivia o t r → LinesEndLoosely loose at_end t → Gap o (printed_text t ++ z) (printed_text r ++ z) × LinesEndLoosely loose at_end r
-  trivia_gap loose at_end f s g l = (loose_gap loose at_end f s g l, lines_behind loose at_end g l)
+  trivia_gap loose at_end {r = r} f s g l = (loose_gap loose at_end f (stops_halts r s) g l, lines_behind loose at_end g l)

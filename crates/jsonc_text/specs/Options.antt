@@ -51,6 +51,10 @@ json_with_comments = record plain_json { comments = true; trailing_commas = true
 abbrev pub with_commas : Options → Options
 with_commas o = record o { missing_commas = false }
 
+-- o without trailing commas
+abbrev pub without_trailing : Options → Options
+without_trailing o = record o { trailing_commas = false }
+
 -- o and p agree on the six options that lexemes look at
 pub record AgreeOnLexemes (o p : Options) : Type 0 where
   pub single_quoted_strings : o.single_quoted_strings ≡ p.single_quoted_strings

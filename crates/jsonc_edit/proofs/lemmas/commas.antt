@@ -19,3 +19,6 @@ pub mod Reach
 pub mod ReachedContainers
 pub mod Joined
 pub mod InsideAlone
+pub mod NoTrailing
+pub mod Reaching
+pub mod NoneLeft

@@ -8,6 +8,7 @@ pub mod PropertyRows
 pub mod WrittenProperty
 pub mod PropertyPlace
 pub mod HexRows
+pub mod HexBefore
 pub mod BooleanSetting
 pub mod WrittenBoolean
 pub mod PropertyValue

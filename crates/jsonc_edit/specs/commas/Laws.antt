@@ -1,19 +1,20 @@
 -- Laws of trailing commas that are set: what becomes of the document.
 use Rattle.std.specs.Prelude.{◌≡◌, ◌<◌, ◌⊎◌, ◌&&◌, ◌||◌, ℕ, Bool, true, false, not, List, length, Option, None, Some, IsTrue}
 use Rattle.std.specs.List.{All}
-use Rattle.jsonc_text.specs.Options.{Options}
+use Rattle.jsonc_text.specs.Options.{Options, without_trailing}
 use Rattle.jsonc_text.specs.Plain.{Plain}
 use Rattle.jsonc_text.specs.Grammar.{IsDocument}
 use Rattle.jsonc_tree.specs.Content.{Content, token}
 use Rattle.jsonc_tree.specs.OrderedTree.{OrderedTree, none, more, ordered_tree}
-use Rattle.jsonc_tree.specs.Tree.{Node, IsTree, IsOver}
+use Rattle.jsonc_tree.specs.Tree.{Node, content_at, IsTree, IsOver}
 use Rattle.jsonc_layout.specs.lines.Siblings.{trailing_comma_at}
 use Rattle.jsonc_layout.specs.nodes.Kinds.{is_comma, is_token, is_trivia}
 use Rattle.jsonc_sound.specs.Shape.{printed_text}
 use Rattle.jsonc_sound.specs.Marks.{marks}
+use Rattle.jsonc_sound.specs.Alone.{ValueAlone}
 use Rattle.jsonc_sound.specs.SoundTrees.{SoundTree}
 use Rattle.jsonc_sound.specs.TreeChanges.{DocumentChanged}
-use Rattle.jsonc_edit.specs.Changes.{top_at}
+use Rattle.jsonc_edit.specs.Changes.{row_below, top_at}
 use Rattle.jsonc_edit.specs.Paths.{IsAt}
 use Rattle.jsonc_text.specs.declared.edit.TrailingCommaMode.{TrailingCommaMode}
 use Rattle.jsonc_text.specs.declared.edit.TrailingCommaMode.TheVariants.{Never, IfMultiline}
@@ -78,6 +79,15 @@ KeepsDocumentInPart mode o old c new =
 -- then each is as the mode says
 abbrev pub SetsAll : TrailingCommaMode → Options → List Node → ℕ → List Node → Type 0
 SetsAll mode o old c new = IsInSound o old c → AreSetInTurn mode old (holders old c) new → All (IsSet mode new) (holders new c)
+
+-- After `Never` what stands at the node is a value under options that allow no trailing comma,
+abbrev pub LeavesNone : Options → List Node → ℕ → List Node → Type 0
+LeavesNone o old c new = IsInSound o old c → IsTrue (holds_at old c) → AreSetInTurn Never old (holders old c) new
+    → ValueAlone (without_trailing o) (content_at new c) (row_below new c)
+
+-- and where the node is the root, the document is one
+abbrev pub LeavesNoneAnywhere : Options → List Node → List Node → Type 0
+LeavesNoneAnywhere o old new = IsInSound o old 0 → AreSetInTurn Never old (holders old 0) new → SoundTree (without_trailing o) (ordered_tree new 0)
 
 -- and those that were set before an error are
 abbrev pub SetsThoseDone : TrailingCommaMode → Options → List Node → ℕ → List Node → Type 0

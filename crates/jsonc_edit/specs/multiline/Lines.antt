@@ -1,8 +1,8 @@
 -- The row of an array or object on several lines.
-use Rattle.std.specs.Prelude.{ℕ, ◌-◌, Bool, ◌++◌, List, [], ◌∷◌, length, map, take, drop, slice_range, if◌then◌else◌}
+use Rattle.std.specs.Prelude.{ℕ, ◌-◌, ◌++◌, List, [], ◌∷◌, length, map, take, drop, slice_range, if◌then◌else◌}
 use Rattle.std.specs.List.{flat_map, onto_first, prefix_len, suffix_len}
 use Rattle.jsonc_tree.specs.Content.{newline, whitespace}
-use Rattle.jsonc_tree.specs.Tree.{Node, children_at, content_at}
+use Rattle.jsonc_tree.specs.Tree.{Node, children_at}
 use Rattle.jsonc_tree.specs.declared.node.CstNewlineKind.{CstNewlineKind}
 use Rattle.jsonc_layout.specs.nodes.Kinds.{is_comma_at, is_whitespace_at}
 use Rattle.jsonc_layout.specs.lines.Breadth.{newline_kind_at}

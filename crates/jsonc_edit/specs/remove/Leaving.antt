@@ -1,7 +1,7 @@
 -- What leaves with an element, by the numbers of nodes.
 use Rattle.std.specs.Prelude.{ℕ, Bool, true, false, not, ◌&&◌, ◌||◌, ◌==◌, List, [], ◌∷◌, Option, Some, None, if◌then◌else◌}
 use Rattle.std.specs.List.{find}
-use Rattle.jsonc_tree.specs.Tree.{Node, content_at}
+use Rattle.jsonc_tree.specs.Tree.{Node}
 use Rattle.jsonc_tree.specs.Siblings.{siblings_after, siblings_before}
 use Rattle.jsonc_layout.specs.nodes.Kinds.{is_inline_trivia_at, is_blank_at, is_comma_at, is_newline_at, is_trivia_at, is_whitespace_at}
 use Rattle.jsonc_layout.specs.nodes.Comments.{after_inline_trivia_at}

@@ -1,6 +1,6 @@
 -- What the nodes are where an element has been taken out.
 use Rattle.std.specs.Prelude.{◌≡◌, ℕ, ◌+◌, ◌-◌, ◌==◌, Bool, true, false, not, ◌&&◌, IsTrue, List, [], ◌∷◌, ◌++◌, length, drop, reverse, Option, Some, None, if◌then◌else◌, bytes_eq}
-use Rattle.jsonc_tree.specs.Content.{Content, root, array, object, token}
+use Rattle.jsonc_tree.specs.Content.{Content, root, array, object}
 use Rattle.jsonc_tree.specs.Changes.{Splices}
 use Rattle.jsonc_tree.specs.Siblings.{first}
 use Rattle.jsonc_tree.specs.Tree.{Node, content_at, children_at, parent_at, place_at}

@@ -42,3 +42,6 @@ pub mod Leads
 pub mod Asked
 pub mod NodePlaces
 pub mod CommaSteps
+pub mod NoneLeft
+pub mod Hexadecimal
+pub mod LinesInside

@@ -1,7 +1,7 @@
 -- What a list of edits makes of a text, in the words of texts.
 use Rattle.std.specs.Prelude.{◌≡◌, ◌↔◌, ℕ, List, [], ◌∷◌, Some, length, take}
 use Rattle.std.specs.List.{slice_get, All}
-use Rattle.jsonc_text.specs.Edits.{Document, IsOne, Operation, Run, replace, remove, remove_comment, set_root, clear_root, replace_property, ensure_root, set_value, ensure_value, set_boolean, ensure_multiline, insert_element, append_element, insert_property, append_property, ensure_property, set_commas, rearrange}
+use Rattle.jsonc_text.specs.Edits.{Document, IsOne, Operation, Run, replace, remove, remove_comment, set_root, clear_root, replace_property, ensure_root, set_value, ensure_value, set_boolean, ensure_multiline, insert_element, append_element, insert_property, append_property, ensure_property, set_commas, set_some_commas, rearrange}
 use Rattle.jsonc_text.specs.Marks.{comments_of}
 use Rattle.jsonc_layout.specs.input.Views.{chars_of, plain}
 use Rattle.jsonc_tree.specs.OrderedTree.{OrderedTree}
@@ -55,7 +55,7 @@ EditsTheText t edits u = (d : Document) → Shows d t → All (Fits d.options) e
 -- of an edit that was refused nothing is done; or, where it was to set trailing commas, some of them are set, or taken away
 pub data IsBegun {A : Type 0} (next : Edit A) : List Operation → Type 0 where
   nothing : IsBegun next []
-  some_commas : (path : List ℕ) {mode : TrailingCommaMode} → nodes.operation_of nodes.unsorted next ≡ nodes.set_commas path mode → IsBegun next (set_commas path (sets_some mode) ∷ [])
+  some_commas : (path : List ℕ) {mode : TrailingCommaMode} → nodes.operation_of nodes.unsorted next ≡ nodes.set_commas path mode → IsBegun next (set_some_commas path (sets_some mode) ∷ [])
 
 -- The first k edits lead from d to m. The next one was refused for memory, or since m has no place for it, and that exactly where m has none. What was done of
 -- it leads to e.

@@ -24,7 +24,7 @@ abbrev pub sets_some : TrailingCommaMode → Bool
 sets_some Never = false
 sets_some IfMultiline = true
 
--- each edit, in the words of texts: trailing commas of which only the first were set are commas too, and of a sort the order tells
+-- each edit, in the words of texts; of a sort the order tells
 abbrev pub in_texts : Operation → texts.Operation
 in_texts (replace path v) = texts.replace path v
 in_texts (remove path) = texts.remove path
@@ -43,7 +43,7 @@ in_texts (insert_property path i name v) = texts.insert_property path i name v
 in_texts (append_property path name v) = texts.append_property path name v
 in_texts (ensure_property path name shape how) = texts.ensure_property path name (kind_of shape) (yields how)
 in_texts (set_commas path mode) = texts.set_commas path (sets_some mode)
-in_texts (set_some_commas path mode) = texts.set_commas path (sets_some mode)
+in_texts (set_some_commas path mode) = texts.set_some_commas path (sets_some mode)
 in_texts (rearrange path headers order) = texts.rearrange path order
 
 abbrev pub all_in_texts : List Operation → List texts.Operation

@@ -37,7 +37,7 @@ comma_first (more (Content.comment s) below after) = comma_first after
 comma_first (more (Content.token c) below after) = c == 0x2C
 comma_first (more content below after) = false
 
-trivia_comma : (o : Options) (content : Content) (below after : OrderedTree) → IsTrivia o content → comma_first (more content below after) ≡ comma_first after
+pub trivia_comma : (o : Options) (content : Content) (below after : OrderedTree) → IsTrivia o content → comma_first (more content below after) ≡ comma_first after
 trivia_comma o (Content.whitespace s) below after h = refl
 trivia_comma o (Content.newline k) below after h = refl
 trivia_comma o (Content.comment s) below after h = refl

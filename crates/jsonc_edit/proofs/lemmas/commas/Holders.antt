@@ -128,7 +128,7 @@ first_element o ns (x ∷ xs) n f e =
     subst (λ c. IsNameBefore o c []) (sym is ∙ ap (content_at ns) it) f.named
 
 -- a child splits its row
-child_split : (xs : List ℕ) (k n : ℕ) → k < length xs → get_or xs k 0 ≡ n → (front : List ℕ) × (back : List ℕ) × (xs ≡ front ++ n ∷ back)
+pub child_split : (xs : List ℕ) (k n : ℕ) → k < length xs → get_or xs k 0 ≡ n → (front : List ℕ) × (back : List ℕ) × (xs ≡ front ++ n ∷ back)
 child_split [] k n h e = absurd (omega arith)
 child_split (x ∷ xs) zero n h e = ([], xs, ap (λ y. y ∷ xs) e)
 child_split (x ∷ xs) (suc k) n h e = let r = child_split xs k n (omega arith) e in (x ∷ r.0, r.1, ap (λ l. x ∷ l) r.2)

@@ -39,6 +39,18 @@ module _ (p : ℕ → Bool) where
   none_turned [] h = tt
   none_turned (x ∷ xs) h = subst (NoneOf p) (sym (reverse-append (x ∷ []) xs)) (none_joined (reverse xs) (x ∷ []) (none_turned xs h.1) (h.0, tt))
 
+  none_found : (xs : List ℕ) → find p xs ≡ None → NoneOf p xs
+  none_found [] e = tt
+  none_found (x ∷ xs) e =
+      elim (cases_Bool (p x)) [
+        | inl t ↦ let wrong : Some x ≡ None = sym (ap (λ b. cond b (Some x) (find p xs)) t) ∙ e in cc
+        | inr f ↦ (f, none_found xs (sym (ap (λ b. cond b (Some x) (find p xs)) f) ∙ e))
+      ]
+
+  -- where none was found from behind, none passes
+  pub none_found_back : (xs : List ℕ) → find p (reverse xs) ≡ None → NoneOf p xs
+  none_found_back xs e = subst (NoneOf p) (reverse-reverse xs) (none_turned (reverse xs) (none_found (reverse xs) e))
+
   -- the first that passes
   pub record Parted (xs : List ℕ) (n : ℕ) : Type 0 where
     pub front : List ℕ
@@ -256,3 +268,29 @@ wanted_parted ns tree c n e =
       behind = l.behind;
       lacks = comma_found ns l.back ∙ ap (λ x. is_some (if_comma ns (find (is_no_trivia_at ns) x))) (sym row) ∙ ap (λ x. is_some (trailing_comma_at ns x)) (sym t.1) ∙ t.0;
     }
+
+-- a row in which no comma stands behind its last element
+pub data EndsBare (ns : List Node) (xs : List ℕ) : Type 0 where
+  empty : NoneOf (is_element_at ns) xs → EndsBare ns xs
+  behind_last : (front : List ℕ) (n : ℕ) (back : List ℕ) → xs ≡ front ++ n ∷ back → is_element_at ns n ≡ true → NoneOf (is_element_at ns) back
+      → comma_first (standing ns back) ≡ false → EndsBare ns xs
+
+no_some : (o : Option ℕ) → o ≡ None → is_some o ≡ false
+no_some o e = ap is_some e
+
+pub bare_end : (ns : List Node) → IsTree ns → (c : ℕ) → comma_gone ns c ≡ None → EndsBare ns (children_at ns c)
+bare_end ns tree c e = by (last_element ns c) refl
+  where
+    by : (o : Option ℕ) → last_element ns c ≡ o → EndsBare ns (children_at ns c)
+    by None f = empty (none_found_back (is_element_at ns) (children_at ns c) f)
+    by (Some n) f =
+        let l = parted_last (is_element_at ns) (children_at ns c) n f in
+        let row : siblings_after ns n ≡ l.back = split_after ns tree c n l.front l.back l.are in
+        let gone : trailing_comma_at ns n ≡ None = sym (ap (option_and_then (trailing_comma_at ns)) f) ∙ e in
+        behind_last l.front n l.back l.are l.is l.behind
+        (comma_found ns l.back ∙ ap (λ x. is_some (if_comma ns (find (is_no_trivia_at ns) x))) (sym row) ∙ no_some (trailing_comma_at ns n) gone)
+
+pub without_first : (ns : List Node) (x : ℕ) (xs : List ℕ) → is_element_at ns x ≡ false → EndsBare ns (x ∷ xs) → EndsBare ns xs
+without_first ns x xs e (empty h) = empty h.1
+without_first ns x xs e (behind_last [] n back are is past lacks) = let same : x ≡ n = cc in absurd (false≢true (sym e ∙ ap (is_element_at ns) same ∙ is))
+without_first ns x xs e (behind_last (y ∷ front) n back are is past lacks) = behind_last front n back (let rest : xs ≡ front ++ n ∷ back = cc in rest) is past lacks

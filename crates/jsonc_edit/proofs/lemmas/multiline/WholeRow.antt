@@ -3,7 +3,6 @@ use Rattle.std.proofs.Common.{◌≡◌, ◌≢◌, ℕ, ◌+◌, ◌-◌, ◌<�
 use Rattle.std.specs.Prelude.{slice_range}
 use Rattle.std.specs.List.{flat_map, suffix_len}
 use Rattle.std.proofs.lemmas.List.{drop_all, drop_more}
-use Rattle.jsonc_tree.specs.Building.{Keeps}
 use Rattle.jsonc_tree.specs.Changes.{CanJoin, Splices, IsFree}
 use Rattle.jsonc_tree.specs.Tree.{Node, content_at, parent_at, children_at, place_at, is_in, IsTree, IsOver}
 use Rattle.jsonc_tree.proofs.Builder.{Keeps-same}

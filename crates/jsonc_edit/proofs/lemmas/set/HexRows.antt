@@ -6,11 +6,11 @@ use Rattle.std.proofs.lemmas.List.{append_assoc, reverse-append}
 use Rattle.std.proofs.lemmas.List.Folds.{find-append}
 use Rattle.jsonc_text.specs.Options.{Options}
 use Rattle.jsonc_text.specs.Text.{starts}
-use Rattle.jsonc_tree.specs.Content.{Content, is_container}
+use Rattle.jsonc_tree.specs.Content.{Content, array, is_container}
 use Rattle.jsonc_tree.specs.OrderedTree.{OrderedTree, none, more, own_leaf, leaves, followed_by, Shows, shows_none, shows_more}
 use Rattle.jsonc_tree.specs.Tree.{Node, content_at}
 use Rattle.jsonc_sound.specs.Shape as shape
-use Rattle.jsonc_sound.specs.Shape.{IsTrivia, Trivia, IsLiteralBefore, IsNameBefore}
+use Rattle.jsonc_sound.specs.Shape.{IsTrivia, Trivia, IsLiteralBefore, IsNameBefore, token_then}
 use Rattle.jsonc_sound.specs.Rows as rows
 use Rattle.jsonc_sound.specs.Rows.{Last}
 use Rattle.jsonc_sound.specs.Adjacent.{first_char, or_else, last_printed}
@@ -142,3 +142,9 @@ module _ (ns : List Node) where
   -- so the row prints a hexadecimal number last where the nearest of these children is one
   pub hex_seen : {xs : List ℕ} {t : OrderedTree} → Shows ns xs t → Flat t → is_hex_leaf (last_printed (leaves t)) ≡ is_hex_at ns (nearest ns (reverse xs))
   hex_seen {xs} {t} s f = told (last_printed (leaves t)) (nearest ns (reverse xs)) (row_tells s f)
+
+-- the row of an array
+pub array_row : (o : Options) {content : Content} {below : OrderedTree} → content ≡ array → ValueAlone o content below → (row : OrderedTree) × (below ≡ token_then 0x5B row) × RowAlone o rows.of_values rows.nothing_yet row
+array_row o e (alone.literal {content = content} l) = absurd (subst (λ w. IsLiteralBefore o w []) e l)
+array_row o e (alone.an_array {row = row} g) = (row, refl, g)
+array_row o e (alone.an_object g) = cc

@@ -7,7 +7,6 @@ use Rattle.jsonc_tree.specs.Tree.{Node, content_at}
 use Rattle.jsonc_layout.specs.nodes.Kinds.{is_element}
 use Rattle.jsonc_layout.specs.from_input.Laid.{laid}
 use Rattle.jsonc_layout.specs.from_input.Layout.{Layout}
-use Rattle.jsonc_edit.specs.Changes.{top_at}
 use Rattle.jsonc_edit.specs.set.Kinds.{KeptOrReplaced}
 use Rattle.jsonc_edit.specs.set.PropertyValues.{HeldOrSet}
 use Rattle.jsonc_edit.specs.set.Shapes.{is_of, empty_of}

@@ -22,7 +22,7 @@ use Rattle.jsonc_layout.specs.nodes.Properties.{is_name, is_name_at, value_at}
 use Rattle.jsonc_layout.specs.nodes.Siblings.{AreThere, IsThere, elements_at}
 use Rattle.jsonc_layout.proofs.lemmas.nodes.PropertyValues.{IsAlike, held_alike, held_in, value_is_held}
 use Rattle.jsonc_layout.proofs.lemmas.nodes.InTree.{before_there, find_there}
-use Rattle.jsonc_sound.specs.Shape.{IsLiteralBefore, IsTrivia, token_then}
+use Rattle.jsonc_sound.specs.Shape.{IsTrivia, token_then}
 use Rattle.jsonc_sound.proofs.ShapeValues.{document_printed}
 use Rattle.jsonc_sound.specs.ChangeLaws.{DiffersIn}
 use Rattle.jsonc_sound.specs.Rows as rows
@@ -77,7 +77,8 @@ use Rattle.jsonc_edit.proofs.LeavesAroundNodes.{between_above}
 use Rattle.jsonc_edit.proofs.LeavesAroundNodes as seams_of
 use Rattle.jsonc_edit.proofs.PathPlaces.{AtBetween, at_between, holds_between}
 use Rattle.jsonc_edit.proofs.lemmas.set.BooleanSetting.{boolean_of}
-use Rattle.jsonc_edit.proofs.lemmas.set.HexRows.{Flat, a_leaf, more_flat, flat_before, array_flat, property_flat, root_flat, hex_seen}
+use Rattle.jsonc_edit.proofs.lemmas.set.HexBefore.{hex_before}
+use Rattle.jsonc_edit.proofs.lemmas.set.HexRows.{Flat, a_leaf, array_row, more_flat, flat_before, array_flat, property_flat, root_flat, hex_seen}
 use Rattle.jsonc_edit.proofs.lemmas.set.PropertyRows.{over_at, Parted, parted, object_row, inside_of, counted_elements, some_value_of, prints_value, prints_first}
 
 -- the leaves of a row with a node in it
@@ -97,11 +98,6 @@ begins f c r (more d y fr) back top own p ne e =
 behind_bracket : (front back r : OrderedTree) (top : Top) → IsElement top.content → row_around front top back ≡ token_then 0x5B r → front ≢ none
 behind_bracket none back r top h e f = let same : top.content ≡ token 0x5B = cc in false≢true (subst IsElement same h)
 behind_bracket (more d b a) back r top h e f = cc
-
-array_row : (o : Options) {content : Content} {below : OrderedTree} → content ≡ array → ValueAlone o content below → (row : OrderedTree) × (below ≡ token_then 0x5B row) × RowAlone o rows.of_values rows.nothing_yet row
-array_row o e (alone.literal {content = content} l) = absurd (subst (λ w. IsLiteralBefore o w []) e l)
-array_row o e (alone.an_array {row = row} g) = (row, refl, g)
-array_row o e (alone.an_object g) = cc
 
 property_part : {o : Options} {last : Last} {content : Content} {below after : OrderedTree} → content ≡ property → RowAlone o rows.of_properties last (more content below after) → PropertyAlone o below
 property_part e (alone.closes m) = cc
@@ -450,6 +446,17 @@ module _ (old new : List Node) (path : List ℕ) (n : ℕ) (b : Bool) (tree : Is
   unfolding seams
   none_before e = ap (λ x. not x && is_hex_at old (seen_before old n)) e
 
+  hex_there : (c : Bool) → c && is_hex_at old (seen_before old n) ≡ true → is_hex_at old (seen_before old n) ≡ true
+  hex_there false e = let wrong : false ≡ true = e in cc
+  hex_there true e = e
+
+  -- and where one comes, a hexadecimal number is printed last before it
+  hex_printed : (o : Options) → SoundTree o (ordered_tree old 0) → seams.before ≡ true → is_hex_leaf (last_printed seams.front) ≡ true
+  unfolding seams
+  hex_printed o sound e =
+      let sound_ready : SoundTree o (ordered_tree ready 0) = subst (SoundTree o) (sym (tree_stays old ready tree kept g.prepared.tree)) sound in
+      hex_before o ready g.prepared.tree sound_ready path n at_ready place.first place.last place.stands (hex_same ∙ hex_there (not b) e)
+
   -- in a sound document
   module _ (o : Options) (sound : SoundTree o (ordered_tree old 0)) where
     still_sound : SoundTree o (ordered_tree spaced 0)
@@ -561,7 +568,8 @@ module _ (old new : List Node) (path : List ℕ) (n : ℕ) (b : Bool) (tree : Is
 pub boolean_gives_way : (old new : List Node) (path : List ℕ) (n : ℕ) (b : Bool) → IsTree old → IsAt old path n → is_boolean (content_at old n) ≡ true → BooleanSet old new n b
     → (was : Bool) × (held : OrderedTree) × SpacesPut (ordered_tree old 0) held × DocumentChanged (boolean_leaf was) (boolean_leaf b) path held (ordered_tree new 0)
     × (seam : ReplacedWithSeams path (boolean_leaf was) (boolean_leaf b) (ordered_tree old 0) (ordered_tree new 0)) × (seam.behind ≡ false) × (b ≡ true → seam.before ≡ false)
-boolean_gives_way old new path n b tree at h g = (a old new path n b tree at h g, ordered_tree g.spaced 0, spaces old new path n b tree at h g, changed old new path n b tree at h g, seams old new path n b tree at h g, none_behind old new path n b tree at h g, none_before old new path n b tree at h g)
+    × ((o : Options) → SoundTree o (ordered_tree old 0) → seam.before ≡ true → is_hex_leaf (last_printed seam.front) ≡ true)
+boolean_gives_way old new path n b tree at h g = (a old new path n b tree at h g, ordered_tree g.spaced 0, spaces old new path n b tree at h g, changed old new path n b tree at h g, seams old new path n b tree at h g, none_behind old new path n b tree at h g, none_before old new path n b tree at h g, hex_printed old new path n b tree at h g)
 
 pub writes_boolean : (o : Options) (old new : List Node) (path : List ℕ) (n : ℕ) (b : Bool) → WritesBoolean o old new path n b
 writes_boolean o old new path n b tree sound at h g = boolean_written old new path n b tree at h g o sound

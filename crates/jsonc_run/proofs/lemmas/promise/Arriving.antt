@@ -37,12 +37,12 @@ use Rattle.jsonc_run.proofs.lemmas.promise.Stretches.{marks_in, marks_in_both, p
 use Rattle.jsonc_sound.specs.Documents.{all_marks, document_of}
 use Rattle.jsonc_run.proofs.lemmas.promise.Values.{at_the_place, node_leaves}
 use Rattle.jsonc_run.proofs.lemmas.promise.Insides.{as_many, comma_comes, gap_trivia, goes_on, inside_so, texts_followed, texts_past}
-use Rattle.jsonc_run.proofs.lemmas.promise.Joined.{Good, bracket_follows, close_text, gap_blanks, good_as, good_first, good_second, good_tree, led_so, lines_behind, lines_past, lines_trimmed, no_comma_closes, one_token, onward, open_text, past_some, past_stretch, with_row}
+use Rattle.jsonc_run.proofs.lemmas.promise.Joined.{EntriesOf, Good, none_behind, bracket_follows, close_text, gap_blanks, good_as, good_first, good_second, good_tree, led_so, lines_behind, lines_past, lines_trimmed, no_comma_closes, one_token, onward, open_text, past_some, past_stretch, with_row}
 use Rattle.jsonc_sound.proofs.RowParts.{leaves_followed}
 use Rattle.jsonc_tree.proofs.Rows.{followed_by-assoc}
 use Rattle.jsonc_run.proofs.lemmas.promise.Values.{ValueHere}
 use Rattle.jsonc_run.proofs.lemmas.promise.CommentTexts.{blanks_text}
-use Rattle.jsonc_run.proofs.lemmas.promise.LooseRows.{AreLeaves, Ended, all_trivia, behind_one, Reads, behind_entry, closing_gap, ended, kind_of_row, none_comes, row_reads}
+use Rattle.jsonc_run.proofs.lemmas.promise.LooseRows.{AreLeaves, Ended, all_trivia, behind_one, Reads, behind_entry, entry_read, reads_on, closing_gap, ended, kind_of_row, none_comes, row_reads}
 use Rattle.jsonc_run.proofs.lemmas.promise.Closing.{count_followed}
 use Rattle.jsonc_sound.proofs.LooseLines.{Stops, trivia_gap}
 use Rattle.jsonc_sound.specs.Rows as rows
@@ -369,6 +369,30 @@ module _ (o : Options) (kind : RowKind) (row middle kept new : OrderedTree) {pat
               started g s2 (good_second o (token 0x2C ∷ []) (leaves s2) h1) a (λ e2. (both_lack s1 (token_then 0x2C s2) (ap has_newline (sym q) ∙ no_line_led e2)).1) (good_first o gap (own ++ leaves behind) g1).utf8,
             )
 
+    -- the entry that a comma has come behind
+    comma_entry : (rest : List ℕ) → rest ≡ text_of_leaves (leaves behind) ++ (places.closing k ∷ B) → EntriesOf o kind F B led (text_of_leaves gap ++ (node_chars top ++ rest))
+    comma_entry rest e f last beside is h trivia =
+        let r : List ℕ = text_of_leaves gap ++ (node_chars top ++ rest) in
+        let entry : List ℕ = text_of_leaves (leaves_of last) in
+        let q : OrderedTree = token_then 0x2C (leaves_then beside none) in
+        let w : OrderedTree = more last.content last.below q in
+        let after : OrderedTree = leaves_then gap next_row in
+        let r0 = subst (Reads o k B) whole_row (row_reads o B kind here_new).0 in
+        let r1 : Reads o k B (followed_by f (followed_by w after)) = subst (Reads o k B) (ap (λ y. followed_by y after) is ∙ followed_by-assoc f w after) r0 in
+        let own = entry_read o k B last.content last.below (followed_by q after) h (reads_on o k B f last.content last.below (followed_by q after) r1) in
+        let g_w : Good o (leaves w) = good_second o (leaves f) (leaves w) (good_as o (ap leaves is ∙ leaves-followed_by f w) g_led) in
+        let w_parts : leaves w ≡ leaves_of last ++ leaves q = sym (append_assoc (own_leaf last.content) (leaves last.below) (leaves q)) in
+        let g_parts : Good o (leaves_of last ++ leaves q) = good_as o w_parts g_w in
+        let g_q : Good o (leaves q) = good_second o (leaves_of last) (leaves q) g_parts in
+        let q_leaves : leaves q ≡ token 0x2C ∷ beside = ap (λ l. token 0x2C ∷ l) (none_behind beside trivia) in
+        let q_text : text_of_leaves (leaves q) ≡ 0x2C ∷ text_of_leaves beside =
+        ap text_of_leaves q_leaves ∙ text_joined (token 0x2C ∷ []) beside (good_first o (token 0x2C ∷ []) beside (good_as o q_leaves g_q)).utf8 ∙ ap (λ l. l ++ text_of_leaves beside) (one_token comma_mark) in
+        let w_text : text_of_leaves (leaves w) ≡ entry ++ (0x2C ∷ text_of_leaves beside) =
+        ap text_of_leaves w_parts ∙ text_joined (leaves_of last) (leaves q) (good_first o (leaves_of last) (leaves q) g_parts).utf8 ∙ ap (λ l. entry ++ l) q_text in
+        let from : printed_text (followed_by w after) ++ B ≡ entry ++ (0x2C ∷ (text_of_leaves beside ++ r)) = next_text rest e w g_w ∙ ap (λ l. l ++ r) w_text ∙ append_assoc entry (0x2C ∷ text_of_leaves beside) r in
+        let to : printed_text (followed_by q after) ++ B ≡ 0x2C ∷ (text_of_leaves beside ++ r) = next_text rest e q g_q ∙ ap (λ l. l ++ r) q_text in
+        subst (λ y. places.IsEntry o k y (0x2C ∷ (text_of_leaves beside ++ r))) from (subst (places.IsEntry o k (printed_text (followed_by w after) ++ B)) to own)
+
     kept_text : Good o (leaves kept) → with_row o kind F B (text_of_leaves (leaves kept)) ≡ (F ++ (places.opening k ∷ text_of_leaves (leaves front))) ++ back_text
     kept_text h =
         let split : leaves kept ≡ leaves front ++ leaves back = ap leaves (sym kept_is) ∙ leaves-followed_by front back in
@@ -392,7 +416,7 @@ module _ (o : Options) (kind : RowKind) (row middle kept new : OrderedTree) {pat
           subst (λ y. Spreads k y (with_row o kind F B (text_of_leaves (leaves middle)))) (sym old_text) m.1,
           l.last,
           subst (texts.Trims k l.shorter) (kept_text l.good) l.first,
-          led_so o kind F B comma_mark c g_led,
+          led_so o kind F B comma_mark (text_of_leaves gap ++ (node_chars top ++ rest)) (comma_entry rest e) c g_led,
           blanks_text o gap (gap_blanks g) (good_first o gap (own ++ leaves behind) g1).pieces,
           follows,
           blanks_text o n.gap n.are (good_first o n.gap (leaves back) (good_second o n.leaf (n.gap ++ leaves back) (good_as o n.parts g3))).pieces,

@@ -224,10 +224,10 @@ nothing_first : (s : List ℕ) → starts (λ c. true) (next s) ≡ false → s 
 nothing_first [] e = refl
 nothing_first (c ∷ s) e = cc
 
-one_more : (leaf : Content) (rest : List Content) → AllUtf8 (leaf ∷ rest) → text_of_leaves (leaf ∷ rest) ≡ chars (text_of leaf) ++ text_of_leaves rest
+pub one_more : (leaf : Content) (rest : List Content) → AllUtf8 (leaf ∷ rest) → text_of_leaves (leaf ∷ rest) ≡ chars (text_of leaf) ++ text_of_leaves rest
 one_more leaf rest u = chars-append (text_of leaf) (flat_map text_of rest) u.0
 
-none_last : (row : List Content) → AllUtf8 row → last_printed row ≡ None → text_of_leaves row ≡ []
+pub none_last : (row : List Content) → AllUtf8 row → last_printed row ≡ None → text_of_leaves row ≡ []
 none_last [] u e = chars-nil
 none_last (leaf ∷ rest) u e = by (last_printed rest) (starts (λ c. true) (first_char leaf)) refl refl e (none_last rest u.1)
   where

@@ -28,10 +28,13 @@ use Rattle.jsonc_sound.specs.Marks as tree_marks
 use Rattle.jsonc_text.specs.Marks.{comments_of}
 use Rattle.jsonc_run.specs.promise.Words.{in_texts}
 use Rattle.jsonc_run.proofs.lemmas.promise.Commenting.{comment_leaves, comments_counted}
+use Rattle.jsonc_sound.specs.Adjacent.{last_printed}
+use Rattle.jsonc_sound.specs.Booleans.{is_hex_leaf}
 use Rattle.jsonc_run.proofs.lemmas.promise.Ensured.{ensured_value}
 use Rattle.jsonc_run.proofs.lemmas.promise.Inserting.{ItemGained, item_gained, gained, in_place, gains_so, counted, nothing_behind}
 use Rattle.jsonc_run.proofs.lemmas.promise.Lines as lines
-use Rattle.jsonc_run.proofs.lemmas.promise.Lines.{commas_made, multiline_made, options_same}
+use Rattle.jsonc_run.proofs.lemmas.promise.Lines.{some_commas_made, multiline_made, options_same, options_same_in_part}
+use Rattle.jsonc_run.proofs.lemmas.promise.NoneLeft.{at_path}
 use Rattle.jsonc_run.proofs.lemmas.promise.Members.{property_inserted, property_appended}
 use Rattle.jsonc_run.proofs.lemmas.promise.NamedProperties.{property_ensured}
 use Rattle.jsonc_run.proofs.lemmas.promise.Plains.{changed, entry_of}
@@ -66,8 +69,8 @@ removal_made o t u w x old new (value_left top taken) =
     (root_made o w x old.sound new.sound taken, texts.all none)
 
 boolean_made : (o : Options) {t u : OrderedTree} {w x : Option Plain} {path : List ℕ} {b : Bool} → SoundTree o t → SoundTree o u → IsChanged w (set_boolean path b) x → (given : ReplacesValue path (Plain.boolean b) t u) → given.seams.behind ≡ false → (b ≡ true → given.seams.before ≡ false)
-    → Makes (document_of o t w) (texts.set_boolean path b) (document_of o u x)
-boolean_made o {path = path} {b = b} s r (by_boolean {was = was} {x = x} {y = y} c) given behind before = (was, boolean_put_so o s r (Some x) (Some y) path b given behind before, changed c)
+    → (given.seams.before ≡ true → is_hex_leaf (last_printed given.seams.front) ≡ true) → Makes (document_of o t w) (texts.set_boolean path b) (document_of o u x)
+boolean_made o {path = path} {b = b} s r (by_boolean {was = was} {x = x} {y = y} c) given behind before hex = (was, boolean_put_so o s r (Some x) (Some y) path b given behind before hex, changed c)
 
 behind_all : (n c : ℕ) → min (n + c) c ≡ c
 behind_all n c = omega arith
@@ -100,7 +103,7 @@ step_made o t u w x (remove path) s f = removal_made o t u w x s.old s.new s.mad
 step_made o t u w x (insert_element path i v) s f = insertion_made o t u w x path i v f s.old.sound s.new.sound s.old.value s.new.value s.changed s.made
 step_made o t u w x (append_element path v) s f = append_made o t u w x path v f s.old.sound s.new.sound s.old.value s.new.value s.changed s.made.0 s.made.1
 step_made o t u w x (set_value path v) s f = value_put o s.old.sound s.new.sound w x s.old.value s.new.value path v f s.made
-step_made o t u w x (set_boolean path b) s f = boolean_made o s.old.sound s.new.sound s.changed s.made.1 s.made.3 s.made.4
+step_made o t u w x (set_boolean path b) s f = boolean_made o s.old.sound s.new.sound s.changed s.made.1 s.made.3 s.made.4 s.made.5
 step_made o t u w x (remove_comment n) s f = comment_made o t u w x n s
 step_made o t u w x (insert_property path i name v) s f = property_inserted o t u w x path i name v f s.old.sound s.new.sound s.old.value s.new.value s.changed s.made
 step_made o t u w x (append_property path name v) s f = property_appended o t u w x path name v f s.old.sound s.new.sound s.old.value s.new.value s.changed s.made.0 s.made.1
@@ -109,8 +112,9 @@ step_made o t u w x (set_root v) s f = root_set o t u w x v f s.old.sound s.new.
 step_made o t u w x clear_root s f = root_cleared o t u w x s.changed s.made
 step_made o t u w x (ensure_root shape how) s f = root_ensured o t u w x shape how s.old.sound s.new.sound s.old.value s.new.value s.changed s.made
 step_made o t u w x (ensure_multiline path) s f = multiline_made o t u w x path s.old.sound s.new.sound s.changed s.marked s.made
-step_made o t u w x (set_commas path mode) s f = commas_made o t u w x path mode s.old.sound s.new.sound (lines.all_commas s.changed) s.marked s.made.0 (inr s.made.1)
-step_made o t u w x (set_some_commas path mode) s f = commas_made o t u w x path mode s.old.sound s.new.sound (lines.some_commas s.changed) s.marked s.made.0 (inr s.made.1)
+step_made o t u w x (set_commas path mode) s f =
+    lines.commas_made o t u w x path mode s.new.sound s.new.text (some_commas_made o t u w x path mode s.old.sound s.new.sound (lines.all_commas s.changed) s.marked s.made.0 (inr s.made.1)) (λ is. at_path s.made.1 (s.made.2 is))
+step_made o t u w x (set_some_commas path mode) s f = some_commas_made o t u w x path mode s.old.sound s.new.sound (lines.some_commas s.changed) s.marked s.made.0 (inr s.made.1)
 step_made o t u w x (ensure_property path name shape how) s f = property_ensured o t u w x path name shape how s.old s.new f s.changed s.made
 step_made o t u w x (replace_property path name v) s f = property_replaced o t u w x path name v f s.old.sound s.new.sound s.changed s.made
 step_made o t u w x (rearrange path headers order) s f = rearranged o t u w x path order headers s.old.sound s.new.sound s.old.value s.new.value s.changed s.marked s.made.0
@@ -133,7 +137,7 @@ options_alike o (insert_property path i name v) = refl
 options_alike o (append_property path name v) = refl
 options_alike o (ensure_property path name shape how) = refl
 options_alike o (set_commas path mode) = options_same o path mode
-options_alike o (set_some_commas path mode) = options_same o path mode
+options_alike o (set_some_commas path mode) = options_same_in_part o path mode
 options_alike o (rearrange path headers order) = refl
 
 -- a tree has as many comments as the document that it prints

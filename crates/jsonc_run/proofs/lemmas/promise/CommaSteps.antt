@@ -1,7 +1,9 @@
 -- Trailing commas that are set, of the document or of an array or object in it, as a step.
-use Rattle.std.proofs.Common.{◌≡◌, ◌⊎◌, ◌∙◌, sym, ap, subst, refl, ℕ, List, [], ◌∷◌}
+use Rattle.std.proofs.Common.{◌≡◌, ◌⊎◌, ◌∙◌, sym, ap, subst, refl, ℕ, Option, List, [], ◌∷◌}
 use Rattle.jsonc_text.specs.Edits as texts
-use Rattle.jsonc_text.specs.Edits.{Document, Makes, Run}
+use Rattle.jsonc_text.specs.Edits.{Document, Makes, Run, SetsCommas}
+use Rattle.jsonc_text.specs.Grammar.{IsDocument}
+use Rattle.jsonc_text.specs.Plain.{Plain}
 use Rattle.jsonc_text.specs.Options.{Options}
 use Rattle.jsonc_text.proofs.UniqueValues.{document_unique}
 use Rattle.jsonc_tree.specs.OrderedTree.{OrderedTree, ordered_tree}
@@ -11,21 +13,35 @@ use Rattle.jsonc_sound.specs.Documents.{document_of, Shows}
 use Rattle.jsonc_sound.specs.SoundTrees.{SoundTree}
 use Rattle.jsonc_edit.proofs.OneValue.{document_once}
 use Rattle.jsonc_text.specs.declared.edit.TrailingCommaMode.{TrailingCommaMode}
+use Rattle.jsonc_text.specs.declared.edit.TrailingCommaMode.TheVariants.{Never}
 use Rattle.jsonc_edit.specs.commas.Laws.{allowing, SaysTheSame}
 use Rattle.jsonc_run.specs.Edits.{set_commas, set_some_commas}
 use Rattle.jsonc_run.specs.Steps.{IsChangedAt}
 use Rattle.jsonc_run.proofs.SoundChain.{says}
 use Rattle.jsonc_run.specs.promise.Steps.{IsStepOf}
 use Rattle.jsonc_run.specs.promise.Words.{sets_some}
-use Rattle.jsonc_run.proofs.lemmas.promise.Lines.{commas_made, options_same}
+use Rattle.jsonc_run.proofs.lemmas.promise.Lines.{commas_made, some_commas_made, options_same, options_same_in_part}
+use Rattle.jsonc_run.proofs.lemmas.promise.NoneLeft.{NoneLeft}
 use Rattle.jsonc_run.proofs.lemmas.promise.ReplacedTexts.{is_one}
 
 module _ (mode : TrailingCommaMode) (old new : List Node) (same : (o : Options) → SoundTree o (ordered_tree old 0) → SaysTheSame mode o (ordered_tree old 0) (ordered_tree new 0)) where
-  commas_run : (path : List ℕ) → (path ≡ []) ⊎ IsChangedAt path (ordered_tree old 0) (ordered_tree new 0) → (d : Document) → Shows d (ordered_tree old 0) → (e : Document) × Shows e (ordered_tree new 0) × Run d (texts.set_commas path (sets_some mode) ∷ []) e
-  commas_run path place d shown =
+  abbrev t : OrderedTree
+  t = ordered_tree old 0
+
+  abbrev u : OrderedTree
+  u = ordered_tree new 0
+
+  abbrev Place : List ℕ → Type 0
+  Place path = (path ≡ []) ⊎ IsChangedAt path t u
+
+  -- of all commas that are set, or of the first of them, an operation is made
+  abbrev IsMade : List ℕ → texts.Operation → Type 0
+  IsMade path op = (o : Options) (w x : Option Plain) → SoundTree o t → SoundTree (allowing mode o) u → IsDocument (allowing mode o) (printed_text u) x
+      → SetsCommas path (sets_some mode) (document_of o t w) (document_of (allowing mode o) u x) → Makes (document_of o t w) op (document_of (allowing mode o) u x)
+
+  commas_run : (path : List ℕ) → Place path → (op : texts.Operation) → ((o : Options) → allowing mode o ≡ texts.options_behind o op) → IsMade path op → (d : Document) → Shows d t → (e : Document) × Shows e u × Run d (op ∷ []) e
+  commas_run path place op behind makes d shown =
       let o : Options = d.options in
-      let t : OrderedTree = ordered_tree old 0 in
-      let u : OrderedTree = ordered_tree new 0 in
       let was = says o t shown.sound in
       let kept = same o shown.sound in
       let now = says (allowing mode o) u kept.sound in
@@ -35,13 +51,16 @@ module _ (mode : TrailingCommaMode) (old new : List Node) (same : (o : Options) 
       let d2 : Document = document_of o t was.0 in
       let e : Document = document_of (allowing mode o) u now.0 in
       let is : d2 ≡ d = ap (λ w. document_of o t w) (sym value) ∙ sym shown.is in
-      let made : Makes d2 (texts.set_commas path (sets_some mode)) e = commas_made o t u was.0 now.0 path mode shown.sound kept.sound (second ∙ sym first) kept.marks kept.commas place in
-      let run : Run d2 (texts.set_commas path (sets_some mode) ∷ []) e =
-      texts.one_made (is_one o t was.0 shown.sound was.1.text) (options_same o path mode) made (texts.none_made (is_one (allowing mode o) u now.0 kept.sound now.1.text)) in
-      (e, record { sound = kept.sound; value = now.1.value; is = refl }, subst (λ x. Run x (texts.set_commas path (sets_some mode) ∷ []) e) is run)
+      let sets : SetsCommas path (sets_some mode) d2 e = some_commas_made o t u was.0 now.0 path mode shown.sound kept.sound (second ∙ sym first) kept.marks kept.commas place in
+      let made : Makes d2 op e = makes o was.0 now.0 shown.sound kept.sound now.1.text sets in
+      let run : Run d2 (op ∷ []) e =
+      texts.one_made (is_one o t was.0 shown.sound was.1.text) (behind o) made (texts.none_made (is_one (allowing mode o) u now.0 kept.sound now.1.text)) in
+      (e, record { sound = kept.sound; value = now.1.value; is = refl }, subst (λ x. Run x (op ∷ []) e) is run)
 
-  pub commas_lead : (path : List ℕ) → (path ≡ []) ⊎ IsChangedAt path (ordered_tree old 0) (ordered_tree new 0) → IsStepOf (set_commas path mode) old new
-  commas_lead path place = λ d shown fit. commas_run path place d shown
+  pub commas_lead : (path : List ℕ) → Place path → ((o : Options) → SoundTree o t → mode ≡ Never → NoneLeft o path t u) → IsStepOf (set_commas path mode) old new
+  commas_lead path place left = λ d shown fit.
+      commas_run path place (texts.set_commas path (sets_some mode)) (λ o. options_same o path mode) (λ o w x s r text sets. commas_made o t u w x path mode r text sets (left o s)) d shown
 
-  pub some_commas_lead : (path : List ℕ) → (path ≡ []) ⊎ IsChangedAt path (ordered_tree old 0) (ordered_tree new 0) → IsStepOf (set_some_commas path mode) old new
-  some_commas_lead path place = λ d shown fit. commas_run path place d shown
+  pub some_commas_lead : (path : List ℕ) → Place path → IsStepOf (set_some_commas path mode) old new
+  some_commas_lead path place = λ d shown fit.
+      commas_run path place (texts.set_some_commas path (sets_some mode)) (λ o. options_same_in_part o path mode) (λ o w x s r text sets. sets) d shown

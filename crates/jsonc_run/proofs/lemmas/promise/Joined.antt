@@ -7,7 +7,7 @@ use Rattle.jsonc_text.specs.Text as many
 use Rattle.jsonc_text.specs.Paths as places
 use Rattle.jsonc_tree.specs.Content.{Content, token, newline, whitespace}
 use Rattle.jsonc_tree.specs.declared.node.CstNewlineKind.{CstNewlineKind}
-use Rattle.jsonc_tree.specs.OrderedTree.{OrderedTree, none, more, own_leaf, leaves, followed_by}
+use Rattle.jsonc_tree.specs.OrderedTree.{OrderedTree, Top, none, more, own_leaf, leaves, followed_by}
 use Rattle.jsonc_tree.proofs.OrderedTrees.{leaves-followed_by}
 use Rattle.jsonc_layout.specs.nodes.Kinds.{is_comma, is_trivia}
 use Rattle.jsonc_sound.specs.InRows.{row_around}
@@ -17,7 +17,7 @@ use Rattle.jsonc_sound.specs.MarkChanges.{AreBlanks}
 use Rattle.jsonc_sound.specs.Rows.{RowKind, of_values, of_properties, opening, closing}
 use Rattle.jsonc_sound.specs.Shape.{token_then}
 use Rattle.jsonc_sound.specs.SoundTrees.{SoundTree}
-use Rattle.jsonc_sound.specs.TreeChanges.{leaves_of}
+use Rattle.jsonc_sound.specs.TreeChanges.{leaves_of, IsElement}
 use Rattle.jsonc_sound.specs.TriviaChanges.{AreTrivia, leaves_then}
 use Rattle.jsonc_sound.proofs.NodesAlone.{document_alone}
 use Rattle.jsonc_sound.proofs.Pieces.{Pieces, a_trivia, document_pieces}
@@ -76,7 +76,7 @@ blanks_with_line : (ls : List Content) (n : CstNewlineKind) → AreBlanks ls →
 blanks_with_line [] n h = (refl, tt)
 blanks_with_line (c ∷ ls) n h = (h.0, blanks_with_line ls n h.1)
 
-none_behind : (ls : List Content) → AreTrivia ls → leaves (leaves_then ls none) ≡ ls
+pub none_behind : (ls : List Content) → AreTrivia ls → leaves (leaves_then ls none) ≡ ls
 none_behind ls h = front_leaves ls none h ∙ append-nil ls
 
 pub one_token : {c : ℕ} → Mark c → text_of_leaves (token c ∷ []) ≡ c ∷ []
@@ -224,9 +224,15 @@ module _ (o : Options) (kind : RowKind) (F B : List ℕ) where
   led_regroup : (a : ℕ) (f x y : List ℕ) → f ++ (a ∷ (x ++ y)) ≡ (f ++ (a ∷ x)) ++ y
   led_regroup a f x y = simp (append_assoc) refl
 
-  pub led_so : (m : Mark 0x2C) {front led : OrderedTree} → CommaInserted front led → Good o (leaves led) → Led (F ++ (places.opening k ∷ text_of_leaves (leaves front))) (F ++ (places.opening k ∷ text_of_leaves (leaves led)))
-  led_so m coming.none_comes g = texts.as_it_was
-  led_so m (coming.one_comes f last beside h b) g =
+  -- behind each entry of the row that the comma may follow
+  abbrev pub EntriesOf : OrderedTree → List ℕ → Type 0
+  EntriesOf led r = (f : OrderedTree) (last : Top) (beside : List Content) → led ≡ row_around f last (token_then 0x2C (leaves_then beside none)) → IsElement last.content → AreTrivia beside
+      → places.IsEntry o k (text_of_leaves (leaves_of last) ++ 0x2C ∷ (text_of_leaves beside ++ r)) (0x2C ∷ (text_of_leaves beside ++ r))
+
+  pub led_so : (m : Mark 0x2C) (r : List ℕ) {front led : OrderedTree} → EntriesOf led r → CommaInserted front led → Good o (leaves led)
+      → Led o k r (F ++ (places.opening k ∷ text_of_leaves (leaves front))) (F ++ (places.opening k ∷ text_of_leaves (leaves led)))
+  led_so m r entries coming.none_comes g = texts.as_it_was
+  led_so m r entries (coming.one_comes f last beside h b) g =
       let trivia = beside_trivia beside b in
       let rest : OrderedTree = leaves_then beside none in
       let x : List Content = leaves f ++ leaves_of last in
@@ -245,9 +251,15 @@ module _ (o : Options) (kind : RowKind) (F B : List ℕ) where
       let now : text_of_leaves (leaves (row_around f last (token_then 0x2C rest))) ≡ text_of_leaves x ++ (0x2C ∷ text_of_leaves beside) =
       ap text_of_leaves is ∙ text_joined x (token 0x2C ∷ beside) x_utf8
       ∙ ap (λ l. text_of_leaves x ++ l) (text_joined (token 0x2C ∷ []) beside (good_first o (token 0x2C ∷ []) beside g1).utf8 ∙ ap (λ l. l ++ text_of_leaves beside) (one_token m)) in
-      subst (λ y. Led y (F ++ (places.opening k ∷ text_of_leaves (leaves (row_around f last (token_then 0x2C rest)))))) (sym (ap (λ l. F ++ (places.opening k ∷ l)) text ∙ led_regroup (places.opening k) F (text_of_leaves x) (text_of_leaves beside)))
-      (subst (Led ((F ++ (places.opening k ∷ text_of_leaves x)) ++ text_of_leaves beside)) (sym (ap (λ l. F ++ (places.opening k ∷ l)) now ∙ led_regroup (places.opening k) F (text_of_leaves x) (0x2C ∷ text_of_leaves beside)))
-      (texts.with_comma (F ++ (places.opening k ∷ text_of_leaves x)) (beside_text o beside b g2.pieces)))
+      let before : List ℕ = text_of_leaves (leaves f) in
+      let entry : List ℕ = text_of_leaves (leaves_of last) in
+      let behind : List ℕ = text_of_leaves beside in
+      let of_both : text_of_leaves x ≡ before ++ entry = text_joined (leaves f) (leaves_of last) (utf8_first (leaves f) (leaves_of last) x_utf8) in
+      let was_text : text_of_leaves (leaves (row_around f last rest)) ≡ before ++ (entry ++ behind) = text ∙ ap (λ l. l ++ behind) of_both ∙ append_assoc before entry behind in
+      let now_text : text_of_leaves (leaves (row_around f last (token_then 0x2C rest))) ≡ before ++ (entry ++ (0x2C ∷ behind)) = now ∙ ap (λ l. l ++ (0x2C ∷ behind)) of_both ∙ append_assoc before entry (0x2C ∷ behind) in
+      subst (λ y. Led o k r y (F ++ (places.opening k ∷ text_of_leaves (leaves (row_around f last (token_then 0x2C rest)))))) (sym (ap (λ l. F ++ (places.opening k ∷ l)) was_text ∙ led_regroup (places.opening k) F before (entry ++ behind)))
+      (subst (Led o k r ((F ++ (places.opening k ∷ before)) ++ (entry ++ behind))) (sym (ap (λ l. F ++ (places.opening k ∷ l)) now_text ∙ led_regroup (places.opening k) F before (entry ++ (0x2C ∷ behind))))
+      (texts.with_comma (F ++ (places.opening k ∷ before)) entry (entries f last beside refl h trivia) (beside_text o beside b g2.pieces)))
 
 -- behind the new entry
 pub gap_blanks : {b : Bool} {gap : List Content} → Gap b gap → AreBlanks gap

@@ -1,6 +1,7 @@
 -- Where an array or object is put on several lines, in a text; and where commas are set.
 use Rattle.std.proofs.Common.{ℕ, ◌≡◌, ◌∙◌, sym, ap, subst, refl, ◌||◌, List, inl, inr, ◌⊎◌, [], ◌∷◌, ◌++◌, IsTrue, Option, chars}
 use Rattle.jsonc_text.specs.Options.{Options}
+use Rattle.jsonc_text.specs.Grammar.{IsDocument}
 use Rattle.jsonc_text.specs.Plain.{Plain}
 use Rattle.jsonc_text.specs.Gaps.{is_blank}
 use Rattle.jsonc_text.specs.Text.{Many, stop, step}
@@ -25,7 +26,7 @@ use Rattle.jsonc_edit.specs.multiline.Reflows.{Reflows, SpreadsOut}
 use Rattle.jsonc_run.specs.Edits.{ensure_multiline, set_commas, set_some_commas}
 use Rattle.jsonc_run.specs.Written.{IsChanged, by_lines, by_commas, by_some_commas}
 use Rattle.jsonc_text.specs.Edits as texts
-use Rattle.jsonc_text.specs.Edits.{Commas, Inside, Makes, Without, is_space}
+use Rattle.jsonc_text.specs.Edits.{Commas, Inside, Makes, SetsCommas, Without, is_space}
 use Rattle.jsonc_sound.specs.Leaves.{is_inner_blank}
 use Rattle.std.proofs.lemmas.Str.{chars-nil}
 use Rattle.std.proofs.lemmas.List.{append-nil}
@@ -34,6 +35,8 @@ use Rattle.jsonc_run.specs.promise.PlaceLaws.{text_of_leaves, texts_of}
 use Rattle.jsonc_run.proofs.lemmas.promise.CommaTexts.{all_same, same_before}
 use Rattle.jsonc_run.proofs.lemmas.promise.CommentTexts.{blanks_text}
 use Rattle.jsonc_run.proofs.lemmas.promise.Insides.{inside_so, texts_followed, within_so}
+use Rattle.jsonc_run.proofs.lemmas.promise.NoneLeft.{none_left, NoneLeft}
+use Rattle.jsonc_run.proofs.lemmas.promise.LinesInside.{line_inside}
 use Rattle.jsonc_run.proofs.lemmas.promise.Leaves.{front_of, back_of, document_parts, document_parts_then, document_utf8, text_joined}
 use Rattle.jsonc_sound.specs.Documents.{all_marks}
 use Rattle.jsonc_run.proofs.lemmas.promise.RemovedTexts.{container_leaves}
@@ -154,6 +157,7 @@ multiline_made o t u w _ path s r by_lines m a =
         spaces_leave o (subst (λ l. WithoutSpaces l kept) (sym of_t) first) (document_pieces o (document_alone o s.shaped)) (document_utf8 o s.shaped),
         blanks_leave o (subst (λ l. WithoutBlanks l kept) (sym of_u) second) (document_pieces o (document_alone o r.shaped)) (document_utf8 o r.shaped),
       ),
+      line_inside o r a w,
     )
 
 -- commas alone have left, or come
@@ -167,10 +171,20 @@ all_commas by_commas = refl
 pub some_commas : {path : List ℕ} {mode : TrailingCommaMode} {w x : Option Plain} → IsChanged w (set_some_commas path mode) x → x ≡ w
 some_commas by_some_commas = refl
 
-pub commas_made : (o : Options) (t u : OrderedTree) (w x : Option Plain) (path : List ℕ) (mode : TrailingCommaMode) → SoundTree o t → SoundTree (allowing mode o) u → x ≡ w → tree_marks.marks u ≡ tree_marks.marks t → OnlyCommas mode t u → (path ≡ []) ⊎ IsChangedAt path t u
-    → Makes (document_of o t w) (texts.set_commas path (sets_some mode)) (document_of (allowing mode o) u x)
-commas_made o t u w x path mode s r same m h place = (only_commas o mode s r h, (same, ap all_marks m), elim place [ inl whole ↦ inl whole | inr at ↦ inr (within_so o (allowing mode o) s r at.2 w x) ])
+pub some_commas_made : (o : Options) (t u : OrderedTree) (w x : Option Plain) (path : List ℕ) (mode : TrailingCommaMode) → SoundTree o t → SoundTree (allowing mode o) u → x ≡ w → tree_marks.marks u ≡ tree_marks.marks t → OnlyCommas mode t u → (path ≡ []) ⊎ IsChangedAt path t u
+    → SetsCommas path (sets_some mode) (document_of o t w) (document_of (allowing mode o) u x)
+some_commas_made o t u w x path mode s r same m h place = (only_commas o mode s r h, (same, ap all_marks m), elim place [ inl whole ↦ inl whole | inr at ↦ inr (within_so o (allowing mode o) s r at.2 w x) ])
+
+-- all of them
+pub commas_made : (o : Options) (t u : OrderedTree) (w x : Option Plain) (path : List ℕ) (mode : TrailingCommaMode) → SoundTree (allowing mode o) u → IsDocument (allowing mode o) (printed_text u) x
+    → SetsCommas path (sets_some mode) (document_of o t w) (document_of (allowing mode o) u x) → (mode ≡ Never → NoneLeft o path t u) → Makes (document_of o t w) (texts.set_commas path (sets_some mode)) (document_of (allowing mode o) u x)
+commas_made o t u w x path Never sound text sets left = (sets, λ h. none_left o path sound x text (left refl))
+commas_made o t u w x path IfMultiline sound text sets left = (sets, λ h. cc)
 
 pub options_same : (o : Options) (path : List ℕ) (mode : TrailingCommaMode) → allowing mode o ≡ texts.options_behind o (texts.set_commas path (sets_some mode))
 options_same o path Never = refl
 options_same o path IfMultiline = refl
+
+pub options_same_in_part : (o : Options) (path : List ℕ) (mode : TrailingCommaMode) → allowing mode o ≡ texts.options_behind o (texts.set_some_commas path (sets_some mode))
+options_same_in_part o path Never = refl
+options_same_in_part o path IfMultiline = refl

@@ -153,6 +153,19 @@ module _ (o : Options) (kind : Kind) (z : List ℕ) where
   behind_entry c b r h (inl l) = let k : IsElement (token (closing kind)) = subst IsElement l.3 h in cc
   behind_entry c b r h (inr (x1, reads)) = reads
 
+  -- an entry, by what stands behind it
+  pub entry_read : (content : Content) (below rest : OrderedTree) → IsElement content → Reads (more content below rest) → IsEntry o kind (printed_text (more content below rest) ++ z) (printed_text rest ++ z)
+  entry_read c b r h (inl l) = let k : IsElement (token (closing kind)) = subst IsElement l.3 h in cc
+  entry_read c b r h (inr (is_a_leaf t e, reads)) = absurd (leaf_no_entry c h t)
+    where
+      leaf_no_entry : (content : Content) → IsElement content → IsTrivia o content → ⊥
+      leaf_no_entry (Content.whitespace s) p q = cc
+      leaf_no_entry (Content.newline k) p q = cc
+      leaf_no_entry (Content.comment s) p q = cc
+      leaf_no_entry content p q = q
+  entry_read c b r h (inr (is_entry p s q, reads)) = q
+  entry_read c b r h (inr (is_a_comma e n0, reads)) = let k : IsElement (token 0x2C) = subst IsElement e h in cc
+
   pub behind_comma : (s : OrderedTree) (ls : List Content) (content : Content) (below rest : OrderedTree) → Reads (token_then 0x2C (followed_by s (leaves_then ls (more content below rest)))) → Reads (followed_by s (leaves_then ls (more content below rest)))
   behind_comma s ls c b r (inl l) = absurd (never_ends s ls c b r l.2)
   behind_comma s ls c b r (inr (x1, reads)) = reads

@@ -1,5 +1,5 @@
 -- Where a value is replaced with spaces at the seams in sound trees, it is replaced so in the texts.
-use Rattle.std.proofs.Common.{false, Bool, ℕ, ◌≡◌, ◌∙◌, ap, subst, true, List, ◌++◌, Option, Some, None}
+use Rattle.std.proofs.Common.{false, Bool, ℕ, ◌≡◌, ◌⊎◌, ◌∙◌, sym, ap, subst, refl, inl, inr, true, List, [], ◌++◌, Option, Some, None}
 use Rattle.std.proofs.lemmas.List.{append_assoc}
 use Rattle.jsonc_text.specs.Options.{Options}
 use Rattle.jsonc_text.specs.Plain.{Plain}
@@ -27,8 +27,11 @@ use Rattle.jsonc_edit.specs.Seams.{space_if}
 use Rattle.jsonc_text.specs.Marks.{Mark, literals_of}
 use Rattle.jsonc_text.specs.Paths.{Value}
 use Rattle.jsonc_text.specs.Entries.{Becomes}
-use Rattle.jsonc_text.specs.Edits.{BesideTruth, IsSeam, Puts, PutsValue, Text}
+use Rattle.jsonc_text.specs.Edits.{BesideTruth, EndsInHexadecimal, IsSeam, Puts, PutsValue, Text}
 use Rattle.jsonc_run.specs.promise.PlaceLaws.{text_of_leaves}
+use Rattle.jsonc_sound.specs.Adjacent.{last_printed}
+use Rattle.jsonc_sound.specs.Booleans.{is_hex_leaf}
+use Rattle.jsonc_run.proofs.lemmas.promise.Hexadecimal.{ends_in_hex, hex_front, hex_leaves, AllHex}
 use Rattle.jsonc_run.proofs.lemmas.promise.Leaves.{back_of, document_parts, document_utf8, text_joined, utf8_first, utf8_second}
 use Rattle.jsonc_run.proofs.lemmas.promise.Plains.{changed}
 use Rattle.jsonc_sound.specs.Documents.{document_of}
@@ -124,7 +127,7 @@ module _ (o : Options) where
         meets (ends_behind (text_of_leaves g.front) (ends_behind (seam_if g.before) (own_ends parts.0))) (subst BeginsBare old_back begins))
 
     -- the stretch of the text that is replaced, with its seams
-    pub puts_with_seams : (w x : Option Plain) (come : List Mark) → marks_in (leaves_of now) ≡ come → {Beside : List ℕ → List ℕ → Type 0} → Beside (seam_if g.before) (seam_if g.behind) → Puts Beside (Value path) come (document_of o t w) (document_of o u x)
+    pub puts_with_seams : (w x : Option Plain) (come : List Mark) → marks_in (leaves_of now) ≡ come → {Beside : List ℕ → List ℕ → List ℕ → Type 0} → Beside (text_of_leaves g.front) (seam_if g.before) (seam_if g.behind) → Puts Beside (Value path) come (document_of o t w) (document_of o u x)
     puts_with_seams w x come is {Beside} beside =
         let text : Text (text_of_leaves g.front) old_own (seam_if g.before) new_own (seam_if g.behind) (text_of_leaves g.rest) (document_of o t w) (document_of o u x) =
         record {
@@ -182,11 +185,22 @@ pub value_put_so : (o : Options) {t u : OrderedTree} → SoundTree o t → Sound
 value_put_so o {t} {u} s r w x path v texts given was becomes =
     (puts_with_seams o s r given.seams w x (literals_of v) (laid_literals given.layout v texts) tt, becomes)
 
--- a truth value, behind which no space comes, nor before `true`
+no_true : (b : Bool) → (b ≡ true → false ≡ true) → b ≡ false
+no_true true h = sym (h refl)
+no_true false h = refl
+
+-- a truth value, behind which no space comes, nor before it but behind a hexadecimal number
 pub boolean_put_so : (o : Options) {t u : OrderedTree} → SoundTree o t → SoundTree o u → (w x : Option Plain) → (path : List ℕ) (b : Bool) → (given : ReplacesValue path (Plain.boolean b) t u)
-    → given.seams.behind ≡ false → (b ≡ true → given.seams.before ≡ false) → Puts (BesideTruth b) (Value path) (literals_of (Plain.boolean b)) (document_of o t w) (document_of o u x)
-boolean_put_so o s r w x path b given behind before =
-    puts_with_seams o s r given.seams w x (literals_of (Plain.boolean b)) (laid_literals given.layout (Plain.boolean b) tt) (ap seam_if behind, λ e. ap seam_if (before e))
+    → given.seams.behind ≡ false → (b ≡ true → given.seams.before ≡ false) → (given.seams.before ≡ true → is_hex_leaf (last_printed given.seams.front) ≡ true) → Puts (BesideTruth b) (Value path) (literals_of (Plain.boolean b)) (document_of o t w) (document_of o u x)
+boolean_put_so o s r w x path b given behind before hex =
+    puts_with_seams o s r given.seams w x (literals_of (Plain.boolean b)) (laid_literals given.layout (Plain.boolean b) tt) (ap seam_if behind, beside given.seams.before refl)
+  where
+    beside : (c : Bool) → given.seams.before ≡ c → (seam_if given.seams.before ≡ []) ⊎ ((b ≡ false) × EndsInHexadecimal (text_of_leaves given.seams.front))
+    beside false e = inl (ap seam_if e)
+    beside true e =
+        let first = printed o s given.seams.stood in
+        let rest : List Content = leaves_of given.was ++ (given.seams.quiet ++ given.seams.rest) in
+        inr (no_true b (λ k. sym (before k) ∙ e), ends_in_hex given.seams.front (utf8_first given.seams.front rest first.utf8) (hex_front given.seams.front rest (subst AllHex first.whole (hex_leaves o s))) (hex e))
 
 pub value_put : (o : Options) {t u : OrderedTree} → SoundTree o t → SoundTree o u → (w x : Option Plain) → DocumentValueOf o t w → DocumentValueOf o u x → (path : List ℕ) (v : Plain) → IsOfTexts v → ReplacesValue path v t u
     → (was : Plain) × PutsValue was v path (document_of o t w) (document_of o u x)

@@ -1,7 +1,7 @@
 use Rattle.std.proofs.Common.{false}
 use Rattle.jsonc_tree.specs.Content.{Content}
 use Rattle.jsonc_tree.specs.OrderedTree.{OrderedTree, none, more}
-use Rattle.jsonc_sound.proofs.LooseLines.{Stops, loose_gap}
+use Rattle.jsonc_sound.proofs.LooseLines.{Stops, stops_halts, loose_gap}
 use Rattle.jsonc_sound.specs.LooseLines.{StartsNoTrivia}
 use Rattle.jsonc_sound.proofs.LooseChanges.{document_loose, parted_loosely, joined_loosely}
 use Rattle.jsonc_sound.proofs.sound.loose_lines_are_gaps.Goals as goal
@@ -13,7 +13,7 @@ stops (more (Content.newline k) below after) s = cc
 stops (more content below after) s = tt
 
 pub returns-clause-gaps : goal.returns-clause-gaps
-returns-clause-gaps c = λ o loose t r g s l z. loose_gap o z loose false (λ e. cc) (stops r s) g l
+returns-clause-gaps c = λ o loose t r g s l z. loose_gap o z loose false (λ e. cc) (stops_halts r (stops r s)) g l
 
 pub returns-clause-changed : goal.returns-clause-changed
 returns-clause-changed c = λ t l was now path u d n. document_loose n d l

@@ -2,6 +2,7 @@ use Rattle.jsonc_tree.specs.Tree.{IsOver}
 use Rattle.jsonc_edit.specs.commas.InTurn.{holders}
 use Rattle.jsonc_edit.proofs.lemmas.commas.UnsoundDocuments.{sets_anyway}
 use Rattle.jsonc_edit.proofs.lemmas.commas.Documents.{are_holders, holders_stay, leaves_set, sets_all, sets_in_part, sets_once}
+use Rattle.jsonc_edit.proofs.lemmas.commas.NoneLeft.{leaves_none, leaves_none_anywhere}
 use Rattle.jsonc_edit.proofs.commas.laws.commas_are_set.Goals as goal
 
 pub returns-clause-all : goal.returns-clause-all
@@ -21,3 +22,9 @@ returns-clause-once c mode o old now k new = sets_once mode o old now k new
 
 pub returns-clause-holders : goal.returns-clause-holders
 returns-clause-holders c mode old k new tree there set = holders_stay mode k (holders old k) old new tree (are_holders old tree k k IsOver.itself) set k there
+
+pub returns-clause-bare : goal.returns-clause-bare
+returns-clause-bare c = leaves_none
+
+pub returns-clause-document : goal.returns-clause-document
+returns-clause-document c = leaves_none_anywhere

@@ -1,0 +1,148 @@
+-- Where a line ends in the row of a container of a sound tree, one ends directly inside of the container in the text.
+use Rattle.std.proofs.Common.{ℕ, ◌≡◌, ◌∙◌, sym, ap, subst, refl, inl, inr, Bool, true, false, ◌||◌, List, [], ◌∷◌, ◌++◌, IsTrue, Option}
+use Rattle.std.proofs.lemmas.List.{append_assoc}
+use Rattle.jsonc_text.specs.Options.{Options}
+use Rattle.jsonc_text.specs.Plain.{Plain}
+use Rattle.jsonc_text.specs.Text.{is_line_end}
+use Rattle.jsonc_text.specs.Gaps.{Gap}
+use Rattle.jsonc_text.specs.Paths.{Kind}
+use Rattle.jsonc_text.specs.Paths as places
+use Rattle.jsonc_text.specs.Edits as texts
+use Rattle.jsonc_text.specs.Edits.{Along, HasLineEnd, IsLineEnd}
+use Rattle.jsonc_tree.specs.Content.{Content, newline, token}
+use Rattle.jsonc_tree.specs.OrderedTree.{OrderedTree, none, more, leaves, followed_by}
+use Rattle.jsonc_sound.specs.Documents.{document_of}
+use Rattle.jsonc_sound.specs.Lines.{LinesEndLoosely}
+use Rattle.jsonc_sound.specs.Rows.{RowKind, of_values, of_properties, container_of, closing}
+use Rattle.jsonc_sound.specs.Shape as shape
+use Rattle.jsonc_sound.specs.Shape.{IsTrivia, Trivia, printed_text, token_then}
+use Rattle.jsonc_sound.specs.SoundTrees.{SoundTree}
+use Rattle.jsonc_sound.specs.TreeChanges.{leaves_of, IsElement}
+use Rattle.jsonc_sound.proofs.LooseLines.{Halts, Stops, loose_gap, trivia_gap}
+use Rattle.jsonc_sound.proofs.ShapeTexts.{trivia_utf8}
+use Rattle.jsonc_layout.specs.nodes.Kinds.{is_newline}
+use Rattle.jsonc_edit.specs.multiline.Reflows as reflows
+use Rattle.jsonc_edit.specs.multiline.Reflows.{has_newline, SpreadsOut}
+use Rattle.jsonc_edit.specs.multiline.Laws.{SpreadAt}
+use Rattle.jsonc_run.specs.promise.PlaceLaws.{text_of_leaves}
+use Rattle.jsonc_run.proofs.lemmas.promise.Leaves.{back_of, text_joined}
+use Rattle.jsonc_run.proofs.lemmas.promise.LooseRows.{is_a_comma, is_a_leaf, is_entry, kind_of_row, row_reads, Reads}
+use Rattle.jsonc_run.proofs.lemmas.promise.PrintedShapes.{bracket_mark, brace_mark, comma_mark, mark_text}
+use Rattle.jsonc_run.proofs.lemmas.promise.Reversed.{flip}
+use Rattle.jsonc_run.proofs.lemmas.promise.Trivia.{line_end_text}
+use Rattle.jsonc_run.proofs.lemmas.promise.Values.{at_the_place}
+
+-- the text begins with the end of a line
+record StartsLine (s : List ℕ) : Type 0 where
+  char : ℕ
+  rest : List ℕ
+  is : s ≡ char ∷ rest
+  ends : IsTrue (is_line_end char)
+
+line_starts : {s : List ℕ} → IsLineEnd s → (r : List ℕ) → StartsLine (s ++ r)
+line_starts texts.line_feed r = record { char = 0x0A; rest = r; is = refl; ends = refl }
+line_starts texts.carriage_return r = record { char = 0x0D; rest = r; is = refl; ends = refl }
+line_starts texts.both r = record { char = 0x0D; rest = 0x0A ∷ r; is = refl; ends = refl }
+
+further : {o : Options} {a b c : OrderedTree} → Trivia o a b → Trivia o b c → Trivia o a c
+further shape.nothing h = h
+further (shape.trivia t g) h = shape.trivia t (further g h)
+
+abbrev is_line : Content → Bool
+is_line (newline k) = true
+is_line content = false
+
+no_line_element : (content : Content) (below after : OrderedTree) → IsElement content → has_newline (more content below after) ≡ true → has_newline after ≡ true
+no_line_element (Content.newline k) below after e h = cc
+no_line_element content below after e h = h
+
+element_stops : (content : Content) (below after : OrderedTree) → content ≡ token 0x2C → Stops (more content below after)
+element_stops content below after e = subst (λ c. Stops (more c below after)) (sym e) tt
+
+module _ (o : Options) (kind : Kind) (z : List ℕ) where
+  -- from here on a line ends
+  record HasLine (t : List ℕ) : Type 0 where
+    char : ℕ
+    rest : List ℕ
+    along : Along o kind t (char ∷ rest)
+    ends : IsTrue (is_line_end char)
+
+  past_gap : {t u : List ℕ} → Gap o t u → HasLine u → HasLine t
+  past_gap g h = record { char = h.char; rest = h.rest; along = texts.past_gap g h.along; ends = h.ends }
+
+  past_comma : {t u : List ℕ} → u ≡ 0x2C ∷ t → HasLine t → HasLine u
+  past_comma e h = subst HasLine (sym e) (record { char = h.char; rest = h.rest; along = texts.past_comma h.along; ends = h.ends })
+
+  past_entry : {t u : List ℕ} → places.IsEntry o kind t u → HasLine u → HasLine t
+  past_entry q h = record { char = h.char; rest = h.rest; along = texts.past_entry q h.along; ends = h.ends }
+
+  here : (t : List ℕ) → StartsLine t → HasLine t
+  here t s = record { char = s.char; rest = s.rest; along = subst (λ u. Along o kind t u) s.is texts.there; ends = s.ends }
+
+  abbrev text : OrderedTree → List ℕ
+  text row = printed_text row ++ z
+
+  newline_starts : (content : Content) (after : OrderedTree) → is_line content ≡ true → StartsLine (text (more content none after))
+  newline_starts (Content.newline k) after e =
+      let joined : text (more (newline k) none after) ≡ text_of_leaves (newline k ∷ []) ++ (text_of_leaves (leaves after) ++ z) =
+      ap (λ l. l ++ z) (text_joined (newline k ∷ []) (leaves after) (trivia_utf8 o (newline k) tt, tt)) ∙ append_assoc (text_of_leaves (newline k ∷ [])) (text_of_leaves (leaves after)) z in
+      subst StartsLine (sym joined) (line_starts (line_end_text k) (text_of_leaves (leaves after) ++ z))
+  newline_starts content after e = let wrong : false ≡ true = e in cc
+
+  line_halts : (content : Content) (after : OrderedTree) → is_line content ≡ true → Halts (more content none after)
+  line_halts (Content.newline k) after e = tt
+  line_halts content after e = let wrong : false ≡ true = e in cc
+
+  other_line : (content : Content) (below after : OrderedTree) → is_line content ≡ false → has_newline (more content below after) ≡ true → has_newline after ≡ true
+  other_line (Content.newline k) below after e h = let wrong : true ≡ false = e in cc
+  other_line content below after e h = h
+
+  at_leaf : (start : OrderedTree) (x : Content) (w after : OrderedTree) → Trivia o start (more x w after) → IsTrivia o x → w ≡ none → LinesEndLoosely true false start → has_newline (more x w after) ≡ true
+      → (Trivia o start after → has_newline after ≡ true → HasLine (text start)) → HasLine (text start)
+  at_leaf start x w after t k e l h on = by (is_line x) refl
+    where
+      along : Trivia o start (more x none after)
+      along = subst (λ y. Trivia o start (more x y after)) e t
+
+      by : (b : Bool) → is_line x ≡ b → HasLine (text start)
+      by true f = past_gap (loose_gap o z true false (λ y. cc) (line_halts x after f) along l) (here (text (more x none after)) (newline_starts x after f))
+      by false f = on (further along (shape.trivia k shape.nothing)) (other_line x w after f h)
+
+  walk : (start row : OrderedTree) → Trivia o start row → Reads o kind z row → LinesEndLoosely true false start → has_newline row ≡ true → HasLine (text start)
+  walk start none t r l h = absurd r
+  walk start (more x w after) t (inl m) l h = let wrong : false ≡ true = sym (ap has_newline (ap (λ y. more y w after) m.3 ∙ ap (more (token (places.closing kind)) w) m.2)) ∙ h in cc
+  walk start (more x w after) t (inr (is_a_leaf k e, reads)) l h = at_leaf start x w after t k e l h (λ on later. walk start after on reads l later)
+  walk start (more x w after) t (inr (is_entry p s q, reads)) l h =
+      let m = trivia_gap o z true false (λ y. cc) s t l in
+      past_gap m.0 (past_entry q (walk after after shape.nothing reads m.1.2 (no_line_element x w after p h)))
+  walk start (more x w after) t (inr (is_a_comma e n, reads)) l h =
+      let m = trivia_gap o z true false (λ y. cc) (element_stops x w after e) t l in
+      let comma : more x w after ≡ token_then 0x2C after = ap (λ y. more y w after) e ∙ ap (λ y. more (token 0x2C) y after) n in
+      past_gap m.0 (past_comma (ap (λ y. printed_text y ++ z) comma ∙ ap (λ y. y ++ z) (mark_text comma_mark after)) (walk after after shape.nothing reads m.1.2 (other_line (token 0x2C) none after refl (ap has_newline (sym comma) ∙ h))))
+
+or_both : (a b c : Bool) → (b ≡ true → c ≡ true) → a || b ≡ true → a || c ≡ true
+or_both true b c f h = refl
+or_both false b c f h = f h
+
+newline_stays : (row close : OrderedTree) → has_newline row ≡ true → has_newline (followed_by row close) ≡ true
+newline_stays none close h = let wrong : false ≡ true = h in cc
+newline_stays (more content below after) close h = or_both (is_newline content) (has_newline after) (has_newline (followed_by after close)) (newline_stays after close) h
+
+spread_line : {x y : OrderedTree} → SpreadsOut x y → has_newline y ≡ true
+spread_line (reflows.stays h) = h
+spread_line (reflows.reflows e h k) = h
+
+opened : (kind : RowKind) (row : OrderedTree) → text_of_leaves (leaves_of (container_of kind row)) ≡ places.opening (kind_of_row kind) ∷ printed_text row
+opened of_values row = mark_text bracket_mark row
+opened of_properties row = mark_text brace_mark row
+
+-- the container that has been put on several lines
+pub line_inside : (o : Options) {t u : OrderedTree} {path : List ℕ} → SoundTree o u → (a : SpreadAt path t u) (w : Option Plain) → HasLineEnd path (document_of o u w)
+line_inside o {u = u} {path = path} r a w =
+    let row : OrderedTree = followed_by a.new (token_then (closing a.kind) none) in
+    let place = at_the_place o r (flip a.changed) in
+    let back : List ℕ = text_of_leaves (back_of (flip a.changed)) in
+    let read = row_reads o back a.kind place.2 in
+    let line = walk o (kind_of_row a.kind) back row row shape.nothing read.0 read.1 (newline_stays a.new (token_then (closing a.kind) none) (spread_line a.spreads)) in
+    let own : text_of_leaves (leaves_of (container_of a.kind row)) ++ back ≡ places.opening (kind_of_row a.kind) ∷ (printed_text row ++ back) = ap (λ l. l ++ back) (opened a.kind row) in
+    (kind_of_row a.kind, text_of_leaves (leaves_of (container_of a.kind row)) ++ back, back, printed_text row ++ back, line.rest, line.char, place.1, own, line.along, line.ends)
