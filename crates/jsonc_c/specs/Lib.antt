@@ -2,3 +2,4 @@ pub mod Options
 pub mod Told
 pub mod Commands
 pub mod Edits
+pub mod Compared

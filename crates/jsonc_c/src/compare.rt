@@ -1,4 +1,10 @@
 //! The order of what an edit sorts.
+ghost use Rattle.std.specs.Prelude.{◌≡◌};
+ghost use Rattle.std.specs.Cmp.Lexicographic.{slice_cmp};
+ghost use Rattle.std.specs.Ordering.{nat_cmp};
+ghost use Rattle.jsonc_cst.specs.Document.{content_of, nodes_of};
+ghost use Rattle.jsonc_engine.specs.Sorting.{between_quotes, written_name};
+ghost use Rattle.jsonc_c.specs.Compared.{literal_text, sorted_by};
 ghost use Rattle.jsonc_cst.specs.Document.{HasNode};
 ghost use Rattle.jsonc_cst.specs.Nodes.{boolean_lit_node, object_prop_node};
 
@@ -10,7 +16,9 @@ use std::alloc::Global;
 use std::cmp::Ordering;
 
 /// The bytes of a string as it is written, without its quotes.
-fn between_quotes(text: &str) -> &[u8] {
+fn between_quotes(text: &str) -> &[u8]
+    ensures { result.now ≡ between_quotes text.now }
+{
     let bytes = text.as_bytes();
     if bytes.len() < 2 {
         return &[];
@@ -21,6 +29,7 @@ fn between_quotes(text: &str) -> &[u8] {
 /// The name of a property as it is written, without quotes.
 fn name_of(document: &CstRootNode<Global>, property: CstObjectProp) -> &[u8]
     requires { HasNode document.now (object_prop_node property) }
+    ensures { result.now ≡ written_name (nodes_of document.now) property.number }
 {
     match property.name(document) {
         Some(ObjectPropName::String(string)) => between_quotes(string.raw_value(document)),
@@ -32,6 +41,7 @@ fn name_of(document: &CstRootNode<Global>, property: CstObjectProp) -> &[u8]
 /// A truth value as it is written.
 fn boolean_of(document: &CstRootNode<Global>, boolean: CstBooleanLit) -> &'static [u8]
     requires { HasNode document.now (boolean_lit_node boolean) }
+    ensures { result.now ≡ literal_text (content_of document.now (boolean_lit_node boolean)) }
 {
     if boolean.value(document) {
         b"true"
@@ -43,6 +53,7 @@ fn boolean_of(document: &CstRootNode<Global>, boolean: CstBooleanLit) -> &'stati
 /// What goes by in a sort: of a property its name, of a literal its text, of an array or object nothing.
 fn sorted_by(document: &CstRootNode<Global>, node: CstNode) -> &[u8]
     requires { HasNode document.now node }
+    ensures { result.now ≡ sorted_by document.now node }
 {
     match node {
         CstNode::Container(CstContainerNode::ObjectProp(property)) => name_of(document, property),
@@ -59,6 +70,7 @@ fn sorted_by(document: &CstRootNode<Global>, node: CstNode) -> &[u8]
 pub(crate) fn compare(document: &CstRootNode<Global>, one: CstNode, other: CstNode) -> Ordering
     requires one { HasNode document.now one }
     requires other { HasNode document.now other }
+    ensures { result ≡ slice_cmp nat_cmp (sorted_by document.now one) (sorted_by document.now other) }
 {
     let text = sorted_by(document, one);
     text.cmp(&sorted_by(document, other))

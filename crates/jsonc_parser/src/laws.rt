@@ -4,11 +4,24 @@
 //! The texts that write a float are the numbers of the grammar, and each writes one
 //! ([`numbers_have_one_value`]).
 //!
+//! At a place of a text stands at most one lexeme or comment ([`one_lexeme`]), and a text has at most one list of
+//! them ([`one_list_of_tokens`]). Comments, strings and numbers end where they must ([`block_comment_ends_first`],
+//! [`strings_end_at_their_quote`], [`numbers_end_at_their_followers`]), and no lexeme depends on what follows it, beyond
+//! the next character ([`lexemes_stand_alone`]). Lexemes look at six options ([`lexemes_look_at_six_options`]), and a
+//! document stays one where more is allowed ([`documents_stay_where_more_is_allowed`]). A string stands for what is
+//! computed of its characters ([`strings_are_computed`]), and what is spelled for one is such a string
+//! ([`spelled_strings_are_strings`]).
+//!
+//! Of a lexeme, a string or a text at most one fault can be told ([`one_fault`], [`one_fault_of_a_string`],
+//! [`one_reading`]), and where one is told, there is no document ([`faults_are_of_no_document`]); where reading comes to
+//! the end, there is one ([`reading_to_the_end`]).
+//!
 //! A text has at most one value ([`one_value`]), and what is at most 256 levels deep has at most 512
 //! containers and properties around a value ([`around_is_within_twice_depth`]). Equality of values is one
 //! ([`equality`]), is that of their parts ([`equality_by_parts`]), and copies are equal
 //! ([`equality_of_copies`]). What `to_value` answers of a parsed document is the text's value
-//! ([`documents_give_their_value`]). What is found of a name in an object is the first of that name in the
+//! ([`documents_give_their_value`]), and a node gives one value or none ([`one_value_is_given`],
+//! [`values_are_given`]). What is found of a name in an object is the first of that name in the
 //! object's value ([`names_are_those_of_values`]).
 //!
 //! Edits that are made are named in the document before them, one after another ([`edits_make_steps`]), and
@@ -32,16 +45,25 @@ pub use crate::paths::laws::{
     what_is_read_stands_at_paths, what_stands_can_leave, what_was_put_stands_there,
     worked_equal_names,
 };
+pub use jsonc_ast::to_ast::laws::{faults_are_of_no_document, one_reading, reading_to_the_end};
 pub use jsonc_cst::laws::{documents_give_their_value, typed_calls_are_calls};
 pub use jsonc_cst::sorted::laws::{
     blank_lines_part_groups, groups_keep_their_places, second_sorts_by_key_change_no_byte,
     second_sorts_change_no_byte,
 };
 pub use jsonc_edit::space_laws::{nearest_tell, removals_want_no_memory};
+pub use jsonc_layout::input::laws::spelled_strings_are_strings;
+pub use jsonc_layout::to_input::laws::{one_value_is_given, values_are_given};
 pub use jsonc_run::laws::{
     calls_keep_parents, edits_make_steps, names_are_those_of_values, places_are_named,
     sorted_containers_keep_their_children, sorted_rows_keep_their_nodes,
 };
 pub use jsonc_run::promise::laws::{runs_join, shown_are_documents};
-pub use jsonc_text::laws::{around_is_within_twice_depth, one_value};
+pub use jsonc_scan::laws::one_fault;
+pub use jsonc_text::laws::{
+    around_is_within_twice_depth, block_comment_ends_first, documents_stay_where_more_is_allowed,
+    lexemes_look_at_six_options, lexemes_stand_alone, numbers_end_at_their_followers, one_lexeme,
+    one_list_of_tokens, one_value, strings_end_at_their_quote,
+};
+pub use jsonc_text::string::laws::{one_fault as one_fault_of_a_string, strings_are_computed};
 pub use jsonc_value::laws::{equality, equality_by_parts, equality_of_copies};

@@ -45,6 +45,11 @@ abbrev pub DropsAt : Document → List (List ℕ) → List Node → List Node �
 DropsAt d names old new true = (operation : Operation) × IsDroppedBy d.value names operation × EditStep old operation new × (e : Document) × Shows e (ordered_tree new 0) × IsDroppedIn d names operation e
 DropsAt d names old new false = (new ≡ old) × NamesNothing d names
 
+-- Whatever the nodes show, and where they show nothing: one edit was made, or none where the answer is false.
+abbrev pub MakesOneEdit : List Node → List Node → Bool → Type 0
+MakesOneEdit old new true = (operation : Operation) × EditStep old operation new
+MakesOneEdit old new false = new ≡ old
+
 -- so it is of whatever document the old nodes show
 abbrev pub PutsWhatShown : Plain → Over → List (List ℕ) → List Node → List Node → Bool → Type 0
 PutsWhatShown v over names old new done = (d : Document) → Shows d (ordered_tree old 0) → PutsAt d v over names old new done

@@ -5,7 +5,7 @@ ghost use Rattle.jsonc_layout.specs.input.Views.{chars_of, plain};
 ghost use Rattle.jsonc_run.specs.Edits.{is_whole, operation_of, unsorted, EditStep};
 ghost use Rattle.jsonc_run.specs.Refusals.{FailsWith};
 ghost use Rattle.jsonc_cst.specs.Document.{nodes_of, tree_of};
-ghost use Rattle.jsonc_parser.specs.paths.Calls.{DropsWhatShown, PutsWhatShown, WantsMemory};
+ghost use Rattle.jsonc_parser.specs.paths.Calls.{DropsWhatShown, MakesOneEdit, PutsWhatShown, WantsMemory};
 ghost use Rattle.jsonc_parser.specs.paths.Choices.{Chooses, IsAppending};
 ghost use Rattle.jsonc_parser.specs.paths.Found.{names_of};
 ghost use Rattle.jsonc_parser.specs.paths.Memory.{TellsWhatStays, WantsForSomething, WantsToLookUp, WantsToPut};
@@ -173,6 +173,7 @@ pub fn set_at<A: Allocator + Copy>(
 ) -> Result<bool, EditError>
     ensures put { IfOk result
         (PutsWhatShown (plain value) over (names_of names.now) (nodes_of doc.old) (nodes_of doc.new)) }
+    ensures one { IfOk result (MakesOneEdit (nodes_of doc.old) (nodes_of doc.new)) }
     ensures error { IfErr result (WantsMemory (nodes_of doc.old)) }
     ensures oom_only_if { OnErr result (WantsToPut over (nodes_of doc.old) (names_of names.now)) }
     ensures document { OnErr result (tree_of doc.new ≡ tree_of doc.old) }
@@ -210,6 +211,7 @@ pub fn remove_at<A: Allocator + Copy>(
 ) -> Result<bool, EditError>
     ensures dropped { IfOk result
         (DropsWhatShown (names_of names.now) (nodes_of doc.old) (nodes_of doc.new)) }
+    ensures one { IfOk result (MakesOneEdit (nodes_of doc.old) (nodes_of doc.new)) }
     ensures error { IfErr result (WantsMemory (nodes_of doc.old)) }
     ensures oom_only_if { OnErr result (WantsForSomething (nodes_of doc.old) (names_of names.now)) }
     ensures document { OnErr result (tree_of doc.new ≡ tree_of doc.old) }

@@ -1,4 +1,5 @@
 use Rattle.std.proofs.Common.{refl, subst}
+use Rattle.jsonc_run.specs.Edits.{remove}
 use Rattle.jsonc_parser.specs.paths.Found.{names_of}
 use Rattle.jsonc_parser.specs.paths.Reach.{ReachesWhatShown}
 use Rattle.jsonc_parser.proofs.lemmas.paths.ChosenEdit.{nothing_another, nothing_missing}
@@ -24,3 +25,6 @@ pub returns-in-Err-make_one-clause-error : goal.returns-in-Err-make_one-clause-e
 returns-in-Err-make_one-clause-error g c =
     drop_refused c.args.doc.now c.make_one.new.doc c.args.doc.now.tree.tree (names_of c.args.names.now) c.in-Ok-Value.path
     (subst (ReachesWhatShown c.args.doc.now (names_of c.args.names.now)) c.in-Ok-Value.field-0-is c.in-Ok-Value.ensures.reached) c.in-Err-make_one.error c.in-Err-make_one.ensures.error
+
+pub returns-in-Ok-clause-one : goal.returns-in-Ok-clause-one
+returns-in-Ok-clause-one g c = (remove c.in-Ok-Value.path.items, c.in-Ok.ensures.made)
