@@ -1,84 +1,215 @@
-//! Prints the fault of each file that is no JSONC document, with its line and column, and of each other
-//! file the comments in which something is left to do: `example_lint FILE..`.
+//! A linter of JSONC files: `example_lint [--no-trailing-commas] FILE..`.
+//!
+//! It prints a line for each finding, `FILE:LINE:COLUMN: ..`, in order of place: the fault of a text that is no
+//! document; a name that stands twice in its object; a comment that says `TODO`; and, where told to, a trailing
+//! comma. The status is 1 where there is a finding, and 2 without files.
 #![tactic(auto)]
 
-ghost use Rattle.std.specs.List.{All};
-ghost use Rattle.jsonc_text.specs.Text.{Spans};
+ghost use Rattle.jsonc_cst.specs.Document.{HasNode};
+ghost use Rattle.jsonc_cst.specs.Nodes.{comment_node, object_prop_node};
 
-use jsonc_parser::common::Ranged;
-use jsonc_parser::errors::ParseError;
-use jsonc_parser::tokens::{Token, TokenAndRange};
-use jsonc_parser::{CollectOptions, CommentCollectionStrategy, ParseOptions, parse_to_ast};
-use std::alloc::Allocator;
+use jsonc_parser::cst::{
+    CstContainerNode, CstLeafNode, CstNode, CstObjectProp, CstRootNode, TypedNode,
+};
+use jsonc_parser::{LineIndex, ParseOptions};
+use std::alloc::{Allocator, Global};
+use std::collections::HashMap;
+use std::collections::hash_map::Entry;
 use std::default::Default;
+use std::io::ErrorKind;
 use std::process::ExitCode;
 use std::rt::Files;
-use std::{env, fs, io};
+use std::{env, fs};
 
-/// What is collected of a text: its tokens, with its comments among them.
-const COLLECTED: CollectOptions = CollectOptions {
-    comments: CommentCollectionStrategy::AsTokens,
-    tokens: true,
-};
+const USAGE: &str = "usage: example_lint [--no-trailing-commas] FILE..";
 
-/// Whether a token is a comment.
-fn is_comment<A: Allocator>(token: &Token<A>) -> bool {
-    matches!(token, Token::CommentLine(_) | Token::CommentBlock(_))
+/// A name in an object, which is known by its number.
+#[derive(PartialEq, Eq, Hash, Drop)]
+struct NameIn {
+    object: usize,
+    name: String,
 }
 
-/// Prints where the fault of a file is, and what is wrong there.
-fn print_fault<R: Print>(rt: &R, path: &str, fault: &ParseError) -> io::Result<()> {
-    let line = fault.line_display();
-    let column = fault.column_display();
-    println!(rt; "{path}:{line}:{column}: {}", fault.kind())
+/// The names of the objects of a document, each with the place of the first property that has it.
+type Names = HashMap<NameIn, usize>;
+
+/// What is found at a place.
+#[derive(Clone, Copy)]
+enum Finding {
+    /// A name that stood before, at this place.
+    Repeated(usize),
+    /// A comma behind the last element or property.
+    TrailingComma,
+    /// A comment that says `TODO`.
+    Todo,
 }
 
-/// Prints each of these comments that says `TODO`, as it is written.
-fn print_todos<R: Print, A: Allocator>(
-    rt: &R,
-    path: &str,
-    text: &str,
-    tokens: &[TokenAndRange<'_, A>],
-) -> io::Result<()>
-    requires { All (λ t. Spans text.now t.range.start t.range.end) tokens.now }
+/// The place where the name of a property stood before in its object. It joins the names.
+fn repeated<A: Allocator + Copy>(
+    alloc: Global,
+    doc: &CstRootNode<A>,
+    property: CstObjectProp,
+    start: usize,
+    names: &mut Names,
+) -> anyhow::Result<Option<usize>>
+    requires { HasNode doc.now (object_prop_node property) }
 {
-    for token in tokens {
-        let written = token.text(text);
-        if is_comment(&token.token) && written.contains("TODO") {
-            println!(rt; "{path}: {written}")?;
+    let Some(CstContainerNode::Object(object)) = property.parent(doc) else {
+        return Ok(None);
+    };
+    let Some(decoded) = property.decoded_name(doc)? else {
+        return Ok(None);
+    };
+    let name = String::from_str(alloc, decoded.as_str())?;
+    let object = object.node().number();
+    match names.entry(NameIn { object, name })? {
+        Entry::Occupied(first) => Ok(Some(*first.get())),
+        Entry::Vacant(place) => {
+            place.insert(start);
+            Ok(None)
         }
     }
-    Ok(())
 }
 
-/// Reads a file, and tells whether it is a document. If not, prints its fault; if so, what is left to do there.
-fn lint<R: Files + AllocGlobal + Print>(rt: &R, path: &str) -> io::Result<bool> {
-    let file = fs::read_to_string(rt, path)?;
-    let text = file.as_str();
-    match parse_to_ast(rt.alloc(), text, &COLLECTED, &ParseOptions::default()) {
-        Ok(read) => {
-            if let Some(tokens) = &read.tokens {
-                print_todos(rt, path, text, tokens)?;
+/// Whether a comma stands behind the last element or property of its container.
+fn is_trailing_comma<A: Allocator>(doc: &CstRootNode<A>, node: CstNode) -> bool
+    requires { HasNode doc.now node }
+{
+    if !node.is_comma(doc) {
+        return false;
+    }
+    for sibling in node.next_siblings(doc) {
+        if !sibling.is_trivia() {
+            return matches!(sibling.token_char(doc), Some(']' | '}'));
+        }
+    }
+    false
+}
+
+/// What is found at a node that begins at a place.
+fn finding_at<A: Allocator + Copy>(
+    alloc: Global,
+    doc: &CstRootNode<A>,
+    node: CstNode,
+    start: usize,
+    names: &mut Names,
+) -> anyhow::Result<Option<Finding>>
+    requires { HasNode doc.now node }
+{
+    match node {
+        CstNode::Container(CstContainerNode::ObjectProp(property)) => {
+            match repeated(alloc, doc, property, start, names)? {
+                Some(first) => Ok(Some(Finding::Repeated(first))),
+                None => Ok(None),
             }
-            Ok(true)
         }
-        Err(fault) => {
-            print_fault(rt, path, &fault)?;
-            Ok(false)
+        CstNode::Leaf(CstLeafNode::Comment(comment)) if comment.raw_value(doc).contains("TODO") => {
+            Ok(Some(Finding::Todo))
         }
+        CstNode::Leaf(CstLeafNode::Token(_)) if is_trailing_comma(doc, node) => {
+            Ok(Some(Finding::TrailingComma))
+        }
+        _ => Ok(None),
     }
 }
 
-fn main(rt: HostRuntime) -> io::Result<ExitCode> {
-    let paths: Vec<String> = env::args(&rt)?.skip(1).collect(rt.alloc())?;
-    let mut all = true;
-    for path in paths.iter() {
-        if !lint(&rt, path.as_str())? {
-            all = false;
+/// Prints a finding at a place of a text, and tells whether it did.
+fn print_finding<R: Print, A: Allocator>(
+    rt: &R,
+    file: &str,
+    lines: &LineIndex<A>,
+    start: usize,
+    finding: Finding,
+) -> anyhow::Result<bool> {
+    let Some(at) = lines.line_and_column(start) else {
+        return Ok(false);
+    };
+    print!(rt; "{file}:{}:{}: ", at.line, at.column)?;
+    match finding {
+        Finding::TrailingComma => println!(rt; "a trailing comma")?,
+        Finding::Todo => println!(rt; "a comment says TODO")?,
+        Finding::Repeated(first) => match lines.line_and_column(first) {
+            Some(first) => {
+                println!(rt;
+                    "the name stands in line {}, column {} too",
+                    first.line, first.column
+                )?
+            }
+            None => println!(rt; "the name stands twice")?,
+        },
+    }
+    Ok(true)
+}
+
+/// Prints each finding of a text, and tells whether there is one.
+fn lint_text<R: AllocGlobal + Print>(
+    rt: &R,
+    file: &str,
+    text: &str,
+    no_trailing_commas: bool,
+) -> anyhow::Result<bool> {
+    let doc = match CstRootNode::parse(rt.alloc(), text, &ParseOptions::default()) {
+        Ok(doc) => doc,
+        Err(fault) => {
+            let (line, column) = (fault.line_display(), fault.column_display());
+            println!(rt; "{file}:{line}:{column}: {}", fault.kind())?;
+            return Ok(true);
+        }
+    };
+    let lines = LineIndex::new(rt.alloc(), text)?;
+    let mut names = HashMap::new(rt.alloc());
+    let mut any = false;
+    for (node, range) in doc.descendants_with_ranges(doc.root().into()) {
+        let Some(range) = range else {
+            continue;
+        };
+        match finding_at(rt.alloc(), &doc, node, range.start, &mut names)? {
+            Some(Finding::TrailingComma) if !no_trailing_commas => {}
+            Some(finding) => any |= print_finding(rt, file, &lines, range.start, finding)?,
+            None => {}
         }
     }
-    if all {
-        return Ok(ExitCode::SUCCESS);
+    Ok(any)
+}
+
+/// Prints each finding of a file, and tells whether there is one. Places count without a byte order mark.
+fn lint<R: Files + AllocGlobal + Print>(
+    rt: &R,
+    file: &str,
+    no_trailing_commas: bool,
+) -> anyhow::Result<bool> {
+    let text = match fs::read_to_string(rt, file) {
+        Ok(text) => text,
+        Err(error) if error.kind() == ErrorKind::InvalidData => {
+            println!(rt; "{file}:1:1: the file is not UTF-8")?;
+            return Ok(true);
+        }
+        Err(_) => {
+            println!(rt; "{file}:1:1: the file cannot be read")?;
+            return Ok(true);
+        }
+    };
+    let text = text.as_str();
+    let text = text.strip_prefix('\u{feff}').unwrap_or(text);
+    lint_text(rt, file, text, no_trailing_commas)
+}
+
+fn main(rt: HostRuntime) -> anyhow::Result<ExitCode> {
+    let arguments: Vec<String> = env::args(&rt)?.skip(1).collect(rt.alloc())?;
+    let no_trailing_commas = arguments
+        .iter()
+        .any(|word| word.as_str() == "--no-trailing-commas");
+    let mut files = 0u64;
+    let mut any = false;
+    for word in arguments.iter() {
+        if word.as_str() != "--no-trailing-commas" {
+            files = files.saturating_add(1);
+            any |= lint(&rt, word.as_str(), no_trailing_commas)?;
+        }
     }
-    Ok(ExitCode::FAILURE)
+    if files == 0 {
+        eprintln!(rt; "{USAGE}")?;
+        return Ok(ExitCode::from(2));
+    }
+    Ok(ExitCode::from(if any { 1 } else { 0 }))
 }

@@ -1,8 +1,8 @@
-//! A recipe that looks at each object of a document.
+//! A recipe that comes past each node of a document.
 
-use jsonc_parser::cst::{CstNode, CstObject, CstRootNode, ParentNode, TypedNode};
-use jsonc_parser::{ParseOptions, line_and_column};
-use std::alloc::Allocator;
+use jsonc_parser::cst::{CstContainerNode, CstNode, CstRootNode, TypedNode};
+use jsonc_parser::{LineIndex, ParseOptions};
+use std::collections::HashSet;
 use std::default::Default;
 
 const NESTED: &str = r#"{
@@ -10,45 +10,22 @@ const NESTED: &str = r#"{
   "off": {"a": 1}
 }"#;
 
-/// Prints the line and column of each property of an object that repeats a name.
-fn print_repeated<R: Print, A: Allocator + Copy>(
-    rt: &R,
-    doc: &CstRootNode<A>,
-    text: &str,
-    object: CstObject,
-) -> anyhow::Result<()> {
-    if !doc.holds(object.node()) {
-        return Ok(());
-    }
-    for property in object.repeated_names(doc)? {
-        if doc.holds(property.node())
-            && let Some(range) = doc.range(property.node())
-            && text.is_char_boundary(range.start)
-        {
-            let at = line_and_column(text, range.start);
-            println!(rt; "{}:{}: the name stands twice", at.line, at.column)?;
-        }
-    }
-    Ok(())
-}
-
-/// Prints the repeated names of all objects of a text, of the outer ones first.
+/// Prints the line and column of each property that repeats a name of its object, in order of place.
 fn lint_objects<R: AllocGlobal + Print>(rt: &R, text: &str) -> anyhow::Result<()> {
     let doc = CstRootNode::parse(rt.alloc(), text, &ParseOptions::default())?;
-    let mut left = Vec::new(rt.alloc()); // the next node is the last
-    left.push(CstNode::from(doc.root()))?;
-    for _ in 0..u64::MAX {
-        let Some(node) = left.pop() else {
-            break;
-        };
-        if let Some(object) = node.as_object() {
-            print_repeated(rt, &doc, text, object)?;
-        }
-        if doc.holds(node) {
-            let children = node.children(&doc)?;
-            for child in children.iter().rev() {
-                left.push(*child)?;
+    let lines = LineIndex::new(rt.alloc(), text)?;
+    let mut repeated = HashSet::new(rt.alloc());
+    for (node, range) in doc.descendants_with_ranges(doc.root().into()) {
+        if let CstNode::Container(CstContainerNode::Object(object)) = node {
+            for property in object.repeated_names(&doc)? {
+                repeated.insert(property.node().number())?;
             }
+        }
+        if repeated.contains(&node.number())
+            && let Some(range) = range
+            && let Some(at) = lines.line_and_column(range.start)
+        {
+            println!(rt; "{}:{}: the name stands twice", at.line, at.column)?;
         }
     }
     Ok(())

@@ -1,18 +1,18 @@
 //! The calls that are timed. Each answers a number of its result, so that no result goes unused.
 ghost use Rattle.std.specs.Prelude.{All, IfOk};
 ghost use Rattle.jsonc_cst.specs.Document.{HasNode};
-ghost use Rattle.jsonc_cst.specs.Nodes.{number_lit_node};
+ghost use Rattle.jsonc_cst.specs.Nodes.{number_lit_node, object_node};
 
 use jsonc_engine::command::Command;
 use jsonc_engine::engine::run_on;
 use jsonc_engine::fault::Fault;
 use jsonc_parser::cst::{
-    CstContainerNode, CstInputValue, CstLeafNode, CstNode, CstNumberLit, CstRootNode, EditError,
-    TypedNode,
+    CstContainerNode, CstInputValue, CstLeafNode, CstNode, CstNumberLit, CstObject, CstRootNode,
+    EditError, TypedNode,
 };
 use jsonc_parser::{
-    CollectOptions, CommentCollectionStrategy, ParseOptions, Scanner, ScannerOptions, check,
-    parse_to_ast, parse_to_value,
+    CollectOptions, CommentCollectionStrategy, LineIndex, ParseOptions, Scanner, ScannerOptions,
+    check, parse_to_ast, parse_to_value,
 };
 use std::alloc::Global;
 
@@ -43,6 +43,10 @@ pub enum Call {
     Siblings,
     /// `append` of a number to an array that is parsed once.
     Appended,
+    /// What a linter does: parse, and walk all nodes with ranges, for lines, columns and names that stand twice.
+    Lint,
+    /// `repeated_names` of the document's object, which is parsed once.
+    Repeated,
 }
 
 impl Call {
@@ -61,6 +65,8 @@ impl Call {
             "replaced" => Some(Call::Replaced),
             "siblings" => Some(Call::Siblings),
             "appended" => Some(Call::Appended),
+            "lint" => Some(Call::Lint),
+            "repeated" => Some(Call::Repeated),
             _ => None,
         }
     }
@@ -75,6 +81,7 @@ impl Call {
             Call::Replaced => replaced(alloc, text, count),
             Call::Siblings => siblings(alloc, text, count),
             Call::Appended => appended(alloc, text, count),
+            Call::Repeated => repeated(alloc, text, count),
             _ => self.each(alloc, text, count),
         }
     }
@@ -89,7 +96,12 @@ impl Call {
 
     fn once(self, alloc: Global, text: &str) -> Result<usize, Fault> {
         match self {
-            Call::Nothing | Call::Print | Call::Replaced | Call::Siblings | Call::Appended => Ok(0),
+            Call::Nothing
+            | Call::Print
+            | Call::Replaced
+            | Call::Siblings
+            | Call::Appended
+            | Call::Repeated => Ok(0),
             Call::Scan => scan(alloc, text),
             Call::Check => checked(alloc, text),
             Call::Ast => ast(alloc, text),
@@ -97,6 +109,7 @@ impl Call {
             Call::Value => value(alloc, text),
             Call::Document => document(alloc, text),
             Call::Program => program(alloc, text),
+            Call::Lint => lint(alloc, text),
         }
     }
 }
@@ -300,6 +313,51 @@ fn appended(alloc: Global, text: &str, count: u64) -> Result<usize, Fault> {
     for _ in 0..count {
         append(alloc, &mut document)?;
         sum = sum.saturating_add(1);
+    }
+    Ok(sum)
+}
+
+/// How many properties of an object have a name that stood before.
+fn repeated_in(document: &CstRootNode<Global>, object: CstObject) -> Result<usize, Fault>
+    requires { HasNode document.now (object_node object) }
+{
+    match object.repeated_names(document) {
+        Ok(properties) => Ok(properties.len()),
+        Err(error) => Err(Fault::Edit(error)),
+    }
+}
+
+/// The nodes of a document, the columns of its properties, and the names that stand twice, summed.
+fn lint(alloc: Global, text: &str) -> Result<usize, Fault> {
+    let document = parsed(alloc, text)?;
+    let lines = LineIndex::new(alloc, text)?;
+    let mut sum = 0usize;
+    for (node, range) in document.descendants_with_ranges(CstNode::from(document.root())) {
+        let Some(range) = range else {
+            continue;
+        };
+        sum = sum.saturating_add(1);
+        if let CstNode::Container(CstContainerNode::Object(object)) = node {
+            sum = sum.saturating_add(repeated_in(&document, object)?);
+        }
+        if node.as_object_prop().is_some()
+            && let Some(at) = lines.line_and_column(range.start)
+        {
+            sum = sum.saturating_add(at.column);
+        }
+    }
+    Ok(sum)
+}
+
+/// How many names stand twice in the object of one document, so many times.
+fn repeated(alloc: Global, text: &str, count: u64) -> Result<usize, Fault> {
+    let document = parsed(alloc, text)?;
+    let Some(object) = document.object_value() else {
+        return Err(Fault::NotObject);
+    };
+    let mut sum = 0usize;
+    for _ in 0..count {
+        sum = sum.saturating_add(repeated_in(&document, object)?);
     }
     Ok(sum)
 }

@@ -248,6 +248,17 @@ fn rows_told<A: Allocator + Copy>(doc: &CstRootNode<A>) -> bool {
         && doc.holds(comma)
 }
 
+/// A walk with ranges comes past the nodes of the walk without, each with the range that the document tells.
+fn walk_told<A: Allocator>(doc: &CstRootNode<A>) -> bool {
+    let mut nodes = doc.descendants(CstNode::from(doc.root()));
+    for (node, range) in doc.descendants_with_ranges(CstNode::from(doc.root())) {
+        if nodes.next() != Some(node) || range != doc.range(node) {
+            return false;
+        }
+    }
+    nodes.next() == None
+}
+
 /// Whether this is told of a text though all is refused once it is read, and nothing asked for.
 fn is_told_unasked<T: Fn(&CstRootNode<&Refusing<Global>>) -> bool>(
     alloc: Global,
@@ -268,4 +279,5 @@ fn is_told_unasked<T: Fn(&CstRootNode<&Refusing<Global>>) -> bool>(
 fn other_readings_take_no_memory(rt: HostRuntime) {
     assert!(rt; is_told_unasked(rt.alloc(), SPREAD, |doc| rows_told(doc)));
     assert!(rt; is_told_unasked(rt.alloc(), LEAVES, |doc| leaves_told(doc)));
+    assert!(rt; is_told_unasked(rt.alloc(), SPREAD, |doc| walk_told(doc)));
 }

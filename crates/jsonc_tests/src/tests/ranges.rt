@@ -1,4 +1,5 @@
 //! Where nodes stand in the text of their document.
+ghost use Rattle.jsonc_cst.specs.Document.{HasNode};
 
 use jsonc_parser::ParseOptions;
 use jsonc_parser::common::Range;
@@ -19,6 +20,30 @@ static PLACES: [(usize, usize, usize, usize, usize); 7] = [
     (23, 23, 24, 0, 24),
 ];
 
+/// The ranges of all nodes of the text, in its order.
+static ALL: [(usize, usize); 20] = [
+    (0, 24),
+    (0, 23),
+    (0, 1),
+    (1, 3),
+    (3, 15),
+    (3, 7),
+    (7, 8),
+    (8, 9),
+    (9, 15),
+    (9, 10),
+    (10, 11),
+    (11, 12),
+    (12, 13),
+    (13, 14),
+    (14, 15),
+    (15, 16),
+    (16, 21),
+    (21, 22),
+    (22, 23),
+    (23, 24),
+];
+
 /// The ranges of the innermost node at a place and of its parent.
 fn ranges_at<A: Allocator>(doc: &CstRootNode<A>, place: usize) -> Option<(Range, Range)> {
     let node = doc.node_at(place)?;
@@ -37,6 +62,37 @@ fn nodes_have_ranges(rt: HostRuntime) -> Result<(), Fail> {
     Ok(())
 }
 
+/// Whether a walk from a node comes past nodes of these ranges, and then ends.
+fn is_walked<A: Allocator>(doc: &CstRootNode<A>, top: CstNode, ranges: &[(usize, usize)]) -> bool
+    requires { HasNode doc.now top }
+{
+    let mut nodes = doc.descendants(top);
+    let mut left = ranges.iter();
+    for (node, range) in doc.descendants_with_ranges(top) {
+        let Some((start, end)) = left.next() else {
+            return false;
+        };
+        if range != Some(Range::new(*start, *end))
+            || range != doc.range(node)
+            || nodes.next() != Some(node)
+        {
+            return false;
+        }
+    }
+    left.next().is_none() && nodes.next().is_none()
+}
+
+#[test]
+fn walks_come_past_all_nodes(rt: HostRuntime) -> Result<(), Fail> {
+    let doc = CstRootNode::parse(rt.alloc(), TEXT, &ParseOptions::jsonc())?;
+    assert!(rt; is_walked(&doc, CstNode::from(doc.root()), &ALL));
+    let Some(property) = doc.node_at(7).and_then(|colon| colon.parent(&doc)) else {
+        return Ok(assert!(rt; false));
+    };
+    assert!(rt; is_walked(&doc, CstNode::from(property), &ALL[4..15]));
+    Ok(())
+}
+
 /// Removes the number at a place, and answers whether it has no range then.
 fn loses_its_range<A: Allocator + Copy>(doc: &mut CstRootNode<A>, place: usize) -> Option<bool> {
     let node = doc.node_at(place)?;
@@ -47,7 +103,12 @@ fn loses_its_range<A: Allocator + Copy>(doc: &mut CstRootNode<A>, place: usize) 
     let Ok(()) = number.remove(doc) else {
         return None;
     };
-    Some(doc.holds(node) && doc.range(node).is_none())
+    if !doc.holds(node) {
+        return None;
+    }
+    let mut nodes = doc.descendants_with_ranges(node);
+    let stands_alone = nodes.next() == Some((node, None)) && nodes.next().is_none();
+    Some(stands_alone && doc.range(node).is_none())
 }
 
 #[test]

@@ -1,11 +1,15 @@
 //! Calls on texts alone, and values read by reference.
 
+use failing_alloc::Refusing;
+use failing_alloc::in_turn::is_refused_in_turn;
+use failing_alloc::outcome::Outcome;
 use jsonc_parser::common::Range;
 use jsonc_parser::{
-    JsonObject, JsonValue, ParseOptions, line_and_column, line_and_column_utf16, parse_to_value,
-    place_of, place_of_utf16, text_change,
+    JsonObject, JsonValue, LineAndColumn, LineIndex, ParseOptions, line_and_column,
+    line_and_column_utf16, parse_to_value, place_of, place_of_utf16, text_change,
 };
-use std::alloc::Allocator;
+use std::alloc::{AllocError, Allocator};
+use std::test::Fail;
 
 /// An old text, a new one, and the change between them.
 static CHANGED: [(&str, &str, usize, usize, &str); 7] = [
@@ -59,6 +63,84 @@ fn lines_and_columns_have_places(rt: HostRuntime) {
     for (text, line, column, place) in &PLACED {
         assert!(rt; place_of(text, *line, *column) == *place);
     }
+}
+
+/// Whether the lines of a text, found under an allocator, tell this of a line, a column and a place.
+fn is_indexed<A: Allocator>(
+    alloc: A,
+    text: &str,
+    line: usize,
+    column: usize,
+    place: Option<usize>,
+) -> Result<bool, AllocError> {
+    let lines = LineIndex::new(alloc, text)?;
+    let Some(place) = place else {
+        return Ok(lines.place_of(line, column) == None);
+    };
+    let at = Some(LineAndColumn { line, column });
+    Ok(lines.place_of(line, column) == Some(place) && lines.line_and_column(place) == at)
+}
+
+/// The same, where the column counts UTF-16 code units.
+fn is_indexed_utf16<A: Allocator>(
+    alloc: A,
+    text: &str,
+    line: usize,
+    column: usize,
+    place: Option<usize>,
+) -> Result<bool, AllocError> {
+    let lines = LineIndex::new(alloc, text)?;
+    let Some(place) = place else {
+        return Ok(lines.place_of_utf16(line, column) == None);
+    };
+    let at = Some(LineAndColumn { line, column });
+    let is_found = lines.place_of_utf16(line, column) == Some(place);
+    Ok(is_found && lines.line_and_column_utf16(place) == at)
+}
+
+#[test]
+fn line_indexes_tell_the_same(rt: HostRuntime) -> Result<(), Fail> {
+    for (text, line, column, place) in &PLACED {
+        assert!(rt; is_indexed(rt.alloc(), text, *line, *column, *place)?);
+    }
+    for (text, line, column, place) in &PLACED_UTF16 {
+        assert!(rt; is_indexed_utf16(rt.alloc(), text, *line, *column, *place)?);
+    }
+    let lines = LineIndex::new(rt.alloc(), "é\n")?;
+    assert!(rt; lines.line_and_column(1) == None && lines.line_and_column_utf16(4) == None);
+    Ok(())
+}
+
+/// More lines than a list has room for at first, each of one character.
+const LINES: &str = "a\nb\nc\nd\ne\nf\ng\nh\ni\nj\nk\nl";
+
+/// Whether the last of these lines is found where it is.
+fn last_line<A: Allocator>(alloc: A) -> Outcome {
+    Outcome::of_answer(is_indexed(alloc, LINES, 12, 1, Some(22)), &true)
+}
+
+#[test]
+fn lines_are_refused_in_turn(rt: HostRuntime) -> Result<(), Fail> {
+    assert!(rt; is_refused_in_turn(rt.alloc(), |heap| last_line(heap)));
+    Ok(())
+}
+
+#[test]
+fn lines_that_are_found_take_no_more(rt: HostRuntime) -> Result<(), Fail> {
+    let heap = Refusing::at(rt.alloc(), u64::MAX);
+    let lines = LineIndex::new(&heap, LINES)?;
+    let asked = heap.asked();
+    assert!(rt;
+        lines.line_and_column(22)
+            == Some(LineAndColumn {
+                line: 12,
+                column: 1
+            })
+    );
+    assert!(rt; lines.line_and_column_utf16(24) == None);
+    assert!(rt; lines.place_of(2, 2) == Some(3) && lines.place_of_utf16(13, 1) == None);
+    assert!(rt; heap.asked() == asked);
+    Ok(())
 }
 
 #[test]
