@@ -1,5 +1,5 @@
 //! Where the program's bytes come from and go to, with counts of the calls that failed and of the reads that gave nothing.
-ghost use Rattle.std.specs.Prelude.{◌≡◌, ℕ, List, Option, OnOk, false};
+ghost use Rattle.std.specs.Prelude.{◌≡◌, ℕ, List, Option, OnErr, OnOk, false, true};
 ghost use Rattle.std.specs.Io.{ReadsAtMost};
 ghost use Rattle.std.specs.Io.KnownBytes.{Appends, Keeps, ReadConsumes};
 ghost use Rattle.jsonc_engine.specs.Calls.{IsCounted, IsEndCounted};
@@ -142,13 +142,22 @@ impl<W: Write> Sink for ToWriter<W> {
 
     ghost is_flushed = { λ s. s.unflushed ≡ false };
 
-    fn write(&mut self, bytes: &[u8]) -> io::Result<()> {
+    fn write(&mut self, bytes: &[u8]) -> io::Result<()>
+        ensures bytes { OnOk result (Appends (W.contents self.old.writer) (W.contents self.new.writer) bytes.now) }
+        ensures counted { IsCounted result self.old.failed self.new.failed }
+        ensures unflushed { self.new.unflushed ≡ true }
+    {
         self.unflushed = true;
         let outcome = self.writer.write_all(bytes);
         self.count(outcome)
     }
 
-    fn flush(&mut self) -> io::Result<()> {
+    fn flush(&mut self) -> io::Result<()>
+        ensures bytes { OnOk result (Keeps (W.contents self.old.writer) (W.contents self.new.writer)) }
+        ensures flushed { OnOk result (self.new.unflushed ≡ false) }
+        ensures counted { IsCounted result self.old.failed self.new.failed }
+        ensures unflushed { OnErr result (self.new.unflushed ≡ true) }
+    {
         let outcome = self.writer.flush();
         self.unflushed = outcome.is_err();
         self.count(outcome)

@@ -1,6 +1,6 @@
 //! Values for edits: what an edit writes, and what a document gives.
 
-ghost use Rattle.std.specs.Prelude.{◌≡◌, IfErr, IfNone, IfOk, IfSome, chars, option_map, true};
+ghost use Rattle.std.specs.Prelude.{◌≡◌, IfErr, IfNone, IfOk, IfSome, OnErr, chars, option_map, true};
 ghost use Rattle.jsonc_text.specs.Faults.{IsFault};
 ghost use Rattle.jsonc_text.specs.Numbers.{NumberLit};
 ghost use Rattle.jsonc_text.specs.OptionsOf.{parse_options};
@@ -21,7 +21,8 @@ use std::alloc::{AllocError, Allocator};
 /// The number of this text, if it is, whole, a number that the options allow.
 ///
 /// Nothing may stand before or after the number, blanks neither. `1e5` is one, and so is `0x1F` where
-/// hexadecimal numbers are allowed; `01`, `1.` and `one` give None under the options of JSON.
+/// hexadecimal numbers are allowed; `01`, `1.` and `one` give None under the options of JSON, and ask
+/// for no memory.
 pub fn number<A: Allocator>(
     alloc: A,
     text: &str,
@@ -30,6 +31,7 @@ pub fn number<A: Allocator>(
     ensures value { IfOk result (λ found. IfSome found (λ v. plain v ≡ number (chars text.now))) }
     ensures numbers { IfOk result (λ found. IfSome found (λ v. IsOfNumbers (parse_options options.now) (plain v))) }
     ensures none { IfOk result (λ found. IfNone found (NumberLit (parse_options options.now) (chars text.now) → ⊥)) }
+    ensures memory { OnErr result (NumberLit (parse_options options.now) (chars text.now)) }
 {
     if !is_number(text, options) {
         return Ok(None);

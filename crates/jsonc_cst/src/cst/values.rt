@@ -1,7 +1,8 @@
 //! The names and values of properties, as they are written.
 
-ghost use Rattle.std.specs.Prelude.{◌≡◌, chars, IfErr, IfOk, IfSome};
-ghost use Rattle.jsonc_cst.specs.Document.{HasNode};
+ghost use Rattle.std.specs.Prelude.{◌≡◌, chars, IfErr, IfOk, IfSome, OnErr};
+ghost use Rattle.jsonc_layout.specs.nodes.Names.{HoldsEscapedName};
+ghost use Rattle.jsonc_cst.specs.Document.{HasNode, nodes_of};
 ghost use Rattle.jsonc_cst.specs.Nodes.{array_node, name_node, object_node, object_prop_node};
 ghost use Rattle.jsonc_cst.specs.Readings.{name_of, value_under, array_if, object_if};
 ghost use Rattle.jsonc_cst.specs.Values.{IsValueNamed};
@@ -72,7 +73,7 @@ impl CstObjectProp {
 }
 
 impl CstObject {
-    /// The value of its first property of a name, if it is an object.
+    /// The value of its first property of a name, if it is an object. Only a name with a backslash needs memory.
     pub fn object_value<A: Allocator + Copy>(
         self,
         doc: &CstRootNode<A>,
@@ -82,6 +83,7 @@ impl CstObject {
         ensures value { IfOk result (IsValueNamed object_if doc.now self (chars name.now)) }
         ensures in_document { IfOk result (λ o. IfSome o (λ x. HasNode doc.now (object_node x))) }
         ensures memory { IfErr result (λ e. e ≡ EditError.OutOfMemory) }
+        ensures escaped { OnErr result (HoldsEscapedName (nodes_of doc.now) self.number) }
     {
         match self.get(doc, name) {
             Ok(Some(property)) => Ok(property.object_value(doc)),
@@ -90,7 +92,7 @@ impl CstObject {
         }
     }
 
-    /// The value of its first property of a name, if it is an array.
+    /// The value of its first property of a name, if it is an array. Only a name with a backslash needs memory.
     pub fn array_value<A: Allocator + Copy>(
         self,
         doc: &CstRootNode<A>,
@@ -100,6 +102,7 @@ impl CstObject {
         ensures value { IfOk result (IsValueNamed array_if doc.now self (chars name.now)) }
         ensures in_document { IfOk result (λ o. IfSome o (λ x. HasNode doc.now (array_node x))) }
         ensures memory { IfErr result (λ e. e ≡ EditError.OutOfMemory) }
+        ensures escaped { OnErr result (HoldsEscapedName (nodes_of doc.now) self.number) }
     {
         match self.get(doc, name) {
             Ok(Some(property)) => Ok(property.array_value(doc)),
