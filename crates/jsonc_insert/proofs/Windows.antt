@@ -11,17 +11,16 @@ use Rattle.std.proofs.Math.Seq.{drop-append-add}
 use Rattle.jsonc_tree.specs.Order.{with_parent}
 use Rattle.jsonc_tree.specs.Siblings.{siblings_after}
 use Rattle.jsonc_tree.specs.Tree.{Node, children_at, parent_at, place_among, place_at, place_under, IsTree}
-use Rattle.jsonc_tree.proofs.AgreeingLinks.{row_short}
 use Rattle.jsonc_layout.specs.lines.Breadth.{last_element}
 use Rattle.jsonc_layout.specs.nodes.Kinds.{is_element_at}
 use Rattle.jsonc_layout.proofs.lemmas.nodes.InTree.{All-reverse}
-use Rattle.jsonc_layout.proofs.lemmas.nodes.Walks.{filter_short}
 use Rattle.jsonc_insert.specs.Neighbours.{place_behind, IsBeside, SameGaps}
 use Rattle.jsonc_insert.specs.Planned.{before_next, behind_comma, comma_comes, comma_wanted, element_before, elements, is_other, line, parting, past_comments, place_in, plan_behind, plan_between, through_comments, trivia}
 use Rattle.jsonc_insert.specs.declared.neighbours.Neighbours.{Neighbours}
 use Rattle.jsonc_insert.specs.declared.plan.Gap.TheVariants.{Nothing}
 use Rattle.jsonc_insert.specs.declared.plan.Plan.{Plan}
 use Rattle.jsonc_insert.proofs.BeforeTheBracket.{holds_found}
+use Rattle.jsonc_insert.proofs.ElementsInTree.{few_elements}
 
 -- the same, so many places further back
 abbrev pub shifted : ℕ → Plan → Plan
@@ -215,13 +214,14 @@ front_told ns tree c w whole q low high none b plan after comma p is =
     subst (λ r. IsBeside ns c r b) (shifted_none q ∙ is)
     (beside_is ns tree c [] w (sym whole) q b low high (subst (λ o. IfSome o (λ k. (1 ≤ k) × (k ≤ length w))) (sym none) tt) (subst (λ o. IfSome o (λ k. k ≤ q.place)) (sym none) tt) plan after comma)
 
--- there are no more elements than nodes
+-- there are fewer elements than nodes
 pub no_more : (ns : List Node) → IsTree ns → (c i len : ℕ) → len ≡ length ns → len ≤ i → slice_get (elements ns (children_at ns c)) i ≡ None
-no_more ns tree c i len all past = slice_get_past (elements ns (children_at ns c)) i (omega (arith, all, past, filter_short (is_element_at ns) (children_at ns c), row_short ns tree c))
+no_more ns tree c i len all past = slice_get_past (elements ns (children_at ns c)) i (omega (arith, past, few_elements ns tree c len all))
 
-pub last_before : (ns : List Node) → IsTree ns → (c i len : ℕ) → len ≡ length ns → len < i → last_element ns (children_at ns c) ≡ element_before ns (children_at ns c) i
-last_before ns tree c zero len all past = absurd (omega (arith, past))
-last_before ns tree c (suc i) len all past = sym (ap (λ o. option_or o (last_element ns (children_at ns c))) (no_more ns tree c i len all (omega (arith, past))))
+pub last_before : (ns : List Node) → IsTree ns → (c i len : ℕ) → len ≡ length ns → len ≤ i → last_element ns (children_at ns c) ≡ element_before ns (children_at ns c) i
+last_before ns tree c zero len all past = absurd (omega (arith, past, all, tree.first))
+last_before ns tree c (suc i) len all past =
+    sym (ap (λ o. option_or o (last_element ns (children_at ns c))) (slice_get_past (elements ns (children_at ns c)) i (omega (arith, past, few_elements ns tree c len all))))
 
 -- what an element comes behind is a child
 pub child_before : (ns : List Node) → IsTree ns → (c i n : ℕ) → element_before ns (children_at ns c) i ≡ Some n → parent_at ns n ≡ Some c

@@ -35,8 +35,8 @@ fn element_before<A: Allocator>(tree: &Tree<A>, container: usize, index: usize) 
     if index == 0 {
         return None;
     }
-    if index > tree.len() {
-        // There are no more elements than nodes.
+    if index >= tree.len() {
+        // There are fewer elements than nodes.
         return last_child_element(tree, container);
     }
     match element_at(tree, container, index - 1) {
@@ -50,7 +50,7 @@ fn has_element<A: Allocator>(tree: &Tree<A>, container: usize, index: usize) -> 
     requires { container < length tree.now.nodes }
     ensures { result ≡ is_some (slice_get (elements tree.now.nodes (children_at tree.now.nodes container)) index) }
 {
-    if index > tree.len() {
+    if index >= tree.len() {
         return false;
     }
     element_at(tree, container, index).is_some()

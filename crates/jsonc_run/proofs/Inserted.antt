@@ -19,6 +19,7 @@ use Rattle.jsonc_text.specs.declared.edit.EditError.TheVariants.{OutOfMemory, Mi
 use Rattle.jsonc_insert.specs.Inserted.{refusal, ElementPut}
 use Rattle.jsonc_insert.specs.Planned.{has_brackets}
 use Rattle.jsonc_insert.proofs.PastTheEnd.{past_the_end}
+use Rattle.jsonc_insert.proofs.ElementsInTree.{few_elements}
 use Rattle.jsonc_insert.specs.elements.Laws.{item_count, ElementInsertedAt, GainsMarks, IsInserted}
 use Rattle.jsonc_insert.proofs.lemmas.elements.InsertedValues.{elements_come_at}
 use Rattle.jsonc_insert.proofs.lemmas.elements.Containers.{has_its_brackets}
@@ -33,9 +34,9 @@ use Rattle.jsonc_insert.proofs.lemmas.named.EnsureErrors.{no_other}
 pub fewer : (ns : List Node) (c : ℕ) → length (elements_at ns c) ≤ length (children_at ns c)
 fewer ns c = omega (arith, length-filter_both (is_element_at ns) (λ n. not (is_element_at ns n)) (λ n. refl) (children_at ns c))
 
--- what came at the number of the children came behind the last element
-pub comes_last : (old new : List Node) (c : ℕ) (v : Plain) (m : ℕ) → has_brackets old (children_at old c) ≡ true → ElementPut old new c (length (children_at old c)) v m → ElementPut old new c (length (elements_at old c)) v m
-comes_last old new c v m brackets put = past_the_end old new c (length (children_at old c)) (length (elements_at old c)) v m brackets (fewer old c) (omega arith) put
+-- what came at the number of the nodes came behind the last element
+pub comes_last : (old new : List Node) (c k : ℕ) (v : Plain) (m : ℕ) → IsTree old → k ≡ length old → has_brackets old (children_at old c) ≡ true → ElementPut old new c k v m → ElementPut old new c (length (elements_at old c)) v m
+comes_last old new c k v m tree all brackets put = past_the_end old new c k (length (elements_at old c)) v m brackets (omega (arith, few_elements old tree c k all)) (omega arith) put
 
 -- why nothing came in
 module _ (ns : List Node) (path : List ℕ) (n : ℕ) (v : Plain) (at : IsArrayAt ns path n) where

@@ -19,6 +19,7 @@ use Rattle.jsonc_insert.specs.Planned.{has_brackets}
 use Rattle.jsonc_edit.proofs.lemmas.multiline.Documents.{over_at}
 use Rattle.jsonc_insert.specs.members.Inserted.{PropertyPut}
 use Rattle.jsonc_insert.proofs.lemmas.members.PastTheEnd.{past_the_end}
+use Rattle.jsonc_insert.proofs.ElementsInTree.{few_elements}
 use Rattle.jsonc_insert.proofs.lemmas.members.SpreadObjects.{wants_memory_alone}
 use Rattle.jsonc_insert.specs.elements.Members.{member_count, IsMemberInserted, PropertyInsertedAt}
 use Rattle.jsonc_insert.proofs.lemmas.elements.NamedProperties.{inserts_member}
@@ -37,9 +38,9 @@ use Rattle.jsonc_insert.proofs.lemmas.named.PathValues.{value_once}
 pub object_there : (ns : List Node) → IsTree ns → (path : List ℕ) (n : ℕ) → IsObjectAt ns path n → n < length ns
 object_there ns tree path n at = over_there ns tree n (over_at ns tree path n at.0)
 
--- what came at the number of the children came behind the last property
-pub comes_last : (old new : List Node) (c : ℕ) (name : List ℕ) (v : Plain) (m : ℕ) → IsTree old → c < length old → has_brackets old (children_at old c) ≡ true → PropertyPut old new c (length (children_at old c)) name v m → PropertyPut old new c (length (elements_at old c)) name v m
-comes_last old new c name v m tree there brackets put = past_the_end old new c (length (children_at old c)) (length (elements_at old c)) name v m tree there brackets (fewer old c) (omega arith) put
+-- what came at the number of the nodes came behind the last property
+pub comes_last : (old new : List Node) (c k : ℕ) (name : List ℕ) (v : Plain) (m : ℕ) → IsTree old → k ≡ length old → c < length old → has_brackets old (children_at old c) ≡ true → PropertyPut old new c k name v m → PropertyPut old new c (length (elements_at old c)) name v m
+comes_last old new c k name v m tree all there brackets put = past_the_end old new c k (length (elements_at old c)) name v m tree there brackets (omega (arith, few_elements old tree c k all)) (omega arith) put
 
 -- why nothing came in
 module _ (ns : List Node) (path : List ℕ) (n : ℕ) (name : List ℕ) (v : Plain) (at : IsObjectAt ns path n) where

@@ -215,8 +215,8 @@ pub(crate) fn append_element_at<A: Allocator + Copy>(
     let Some(array) = find_needed(tree, path, Needed::Array) else {
         return Err(EditError::NoSuchPlace);
     };
-    // There are no more elements than children.
-    let count = tree.child_count(array);
+    // There are fewer elements than nodes.
+    let count = tree.len();
     match insert_element(alloc, tree, array, count, value) {
         Ok(_) => Ok(()),
         Err(error) => Err(error),
@@ -258,8 +258,8 @@ pub(crate) fn append_property_at<A: Allocator + Copy>(
     let Some(object) = find_needed(tree, path, Needed::Object) else {
         return Err(EditError::NoSuchPlace);
     };
-    // There are no more properties than children.
-    let count = tree.child_count(object);
+    // There are fewer properties than nodes.
+    let count = tree.len();
     match insert_property(alloc, tree, object, count, name, value) {
         Ok(_) => Ok(()),
         Err(error) => Err(error),

@@ -51,8 +51,8 @@ fn append_empty<A: Allocator + Copy>(
     ensures kept { OnErr result (Keeps (length tree.old.nodes) tree.old.nodes tree.new.nodes) }
     ensures document { OnErr result (ordered_tree tree.new.nodes 0 ≡ ordered_tree tree.old.nodes 0) }
 {
-    // There are no more properties than children.
-    let count = tree.child_count(object);
+    // There are fewer properties than nodes.
+    let count = tree.len();
     let empty = empty_value(alloc, shape);
     let property = match insert_property(alloc, tree, object, count, name, &empty) {
         Ok(property) => property,

@@ -1,8 +1,7 @@
 -- What a document tells of a property in an object that keeps its row, read at the property's number.
-use Rattle.std.proofs.Common.{◌≡◌, ◌≤◌, ◌-◌, ◌&&◌, ℕ, Bool, true, false, cond, List, [], ◌∷◌, length, reverse, take, drop, slice_get, slice_range, Option, Some, None, is_some, option_and_then, refl, sym, ap, ◌∙◌, arith}
+use Rattle.std.proofs.Common.{◌≡◌, ◌≤◌, ◌-◌, ◌&&◌, ℕ, cond, List, [], ◌∷◌, length, reverse, take, drop, slice_get, slice_range, Some, None, is_some, option_and_then, refl, sym, ap, ◌∙◌, arith}
 use Rattle.std.specs.List.{list_all, take_while}
 use Rattle.std.specs.Option.{option_or}
-use Rattle.std.proofs.lemmas.Bool.{cases_eq, eq-eqb, ne_eqb}
 use Rattle.std.proofs.lemmas.List.{length-reverse, length-take}
 use Rattle.std.proofs.lemmas.List.Folds.{length-prefix_len}
 use Rattle.std.proofs.lemmas.List.Sums.{prefix_len-le-length}
@@ -17,7 +16,7 @@ use Rattle.jsonc_layout.specs.lines.Lines.{blanks, indent_at}
 use Rattle.jsonc_layout.specs.nodes.Kinds.{is_trivia_at, is_whitespace}
 use Rattle.jsonc_layout.specs.nodes.Siblings.{is_no_newline_at, line_before, siblings_before}
 use Rattle.jsonc_layout.proofs.lemmas.nodes.Lines.{line_is}
-use Rattle.jsonc_insert.specs.Planned.{elements, place_in}
+use Rattle.jsonc_insert.specs.Planned.{elements}
 use Rattle.jsonc_insert.specs.Settings.{begins_blank, indent_of_line}
 use Rattle.jsonc_insert.specs.members.Layout.{indent_in, last_line, line_up_to}
 use Rattle.jsonc_insert.proofs.Windows.{child_before, place_is}

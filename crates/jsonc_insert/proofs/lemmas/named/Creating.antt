@@ -1,5 +1,5 @@
 -- A property with an empty value that has come into an object: which node that value is.
-use Rattle.std.proofs.Common.{◌≡◌, ℕ, ◌<◌, ◌≤◌, Bool, true, not, cond, List, ◌∷◌, length, Some, refl, sym, ap, subst, ◌∙◌, arith}
+use Rattle.std.proofs.Common.{◌≡◌, ℕ, ◌<◌, ◌≤◌, Bool, true, not, cond, List, ◌∷◌, length, Some, refl, ap, subst, ◌∙◌, arith}
 use Rattle.std.proofs.lemmas.List.Filters.{length-filter_both}
 use Rattle.std.specs.List.{find}
 use Rattle.jsonc_text.specs.Options.{all_on}
@@ -106,7 +106,7 @@ module _ (old new : List Node) (c i : ℕ) (name : List ℕ) (shape : Shape) (p 
         shaped = ap (is_of shape) last.kind ∙ empty.1;
       }
 
-  pub put_last : i ≡ length (children_at old c) → PropertyPut old new c (length (elements_at old c)) name (empty_of shape) p
+  pub put_last : length (elements_at old c) < i → PropertyPut old new c (length (elements_at old c)) name (empty_of shape) p
   put_last at =
       past_the_end old new c i (length (elements_at old c)) name (empty_of shape) p tree there brackets
-      (subst (λ k. length (elements_at old c) ≤ k) (sym at) (fewer old c)) (omega arith) e
+      (omega (arith, at)) (omega arith) e

@@ -22,8 +22,7 @@ returns-in-Ok g c = record {
     c.in-Some.array,
     c.in-Ok.field-0,
     (c.find_needed.ensures.found c.in-Some.array).0 c.in-Some.is,
-    comes_last c.args.tree.now.nodes c.insert_element.new.tree.nodes c.in-Some.array (plain c.args.value.now) c.in-Ok.field-0 c.in-Ok.ensures.brackets
-        (subst (λ (k : ℕ). ElementPut c.args.tree.now.nodes c.insert_element.new.tree.nodes c.in-Some.array k (plain c.args.value.now) c.in-Ok.field-0) c.child_count-count.ensures c.in-Ok.ensures.put),
+    comes_last c.args.tree.now.nodes c.insert_element.new.tree.nodes c.in-Some.array c.len-count.result (plain c.args.value.now) c.in-Ok.field-0 c.args.tree.now.tree c.len-count.ensures.len c.in-Ok.ensures.brackets c.in-Ok.ensures.put,
   );
   error = tt;
   left = tt;

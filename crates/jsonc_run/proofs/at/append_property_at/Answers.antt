@@ -22,8 +22,7 @@ returns-in-Ok g c = record {
     c.in-Some.object,
     c.in-Ok.field-0,
     at,
-    comes_last c.args.tree.now.nodes c.insert_property.new.tree.nodes c.in-Some.object (chars c.args.name.now) (plain c.args.value.now) c.in-Ok.field-0 c.args.tree.now.tree (object_there c.args.tree.now.nodes c.args.tree.now.tree c.args.path.now c.in-Some.object at) c.in-Ok.ensures.brackets
-        (subst (λ (k : ℕ). PropertyPut c.args.tree.now.nodes c.insert_property.new.tree.nodes c.in-Some.object k (chars c.args.name.now) (plain c.args.value.now) c.in-Ok.field-0) c.child_count-count.ensures c.in-Ok.ensures.put),
+    comes_last c.args.tree.now.nodes c.insert_property.new.tree.nodes c.in-Some.object c.len-count.result (chars c.args.name.now) (plain c.args.value.now) c.in-Ok.field-0 c.args.tree.now.tree c.len-count.ensures.len (object_there c.args.tree.now.nodes c.args.tree.now.tree c.args.path.now c.in-Some.object at) c.in-Ok.ensures.brackets c.in-Ok.ensures.put,
   );
   error = tt;
   left = tt;

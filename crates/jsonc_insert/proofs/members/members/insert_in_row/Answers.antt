@@ -2,7 +2,6 @@ use Rattle.std.proofs.Common.{chars, sym, ap, subst, ◌∙◌, ◌<◌, All, le
 use Rattle.jsonc_tree.specs.Content.{is_container}
 use Rattle.jsonc_layout.specs.input.Views.{plain}
 use Rattle.jsonc_edit.proofs.ReplacedChildren.{where_refused}
-use Rattle.jsonc_edit.proofs.NodesKept.{tree_stays}
 use Rattle.jsonc_insert.specs.Planned.{has_brackets}
 use Rattle.jsonc_insert.specs.members.Inserted.{RowMade}
 use Rattle.jsonc_insert.proofs.lemmas.members.RowReplaced.{before_brackets, before_there, can_join, kept_twice, put_so, within}
