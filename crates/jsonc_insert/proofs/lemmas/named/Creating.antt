@@ -1,6 +1,5 @@
 -- A property with an empty value that has come into an object: which node that value is.
-use Rattle.std.proofs.Common.{◌≡◌, ℕ, ◌<◌, ◌≤◌, Bool, true, not, cond, List, ◌∷◌, length, Some, refl, ap, subst, ◌∙◌, arith}
-use Rattle.std.proofs.lemmas.List.Filters.{length-filter_both}
+use Rattle.std.proofs.Common.{◌≡◌, ℕ, ◌<◌, Bool, true, cond, List, ◌∷◌, length, Some, refl, ap, subst, ◌∙◌, arith}
 use Rattle.std.specs.List.{find}
 use Rattle.jsonc_text.specs.Options.{all_on}
 use Rattle.jsonc_tree.specs.Content as content
@@ -71,10 +70,6 @@ module _ (ns : List Node) where
 
 pub some_same : (n m : ℕ) → Some n ≡ Some m → n ≡ m
 some_same n m e = cc
-
--- a container has no more elements than children
-fewer : (ns : List Node) (c : ℕ) → length (elements_at ns c) ≤ length (children_at ns c)
-fewer ns c = omega (arith, length-filter_both (is_element_at ns) (λ n. not (is_element_at ns n)) (λ n. refl) (children_at ns c))
 
 -- the property that has come at the number of the children holds its value
 pub record HoldsEmpty (new : List Node) (p : ℕ) (shape : Shape) : Type 0 where
