@@ -1,6 +1,5 @@
 -- Values that come into arrays at paths.
 use Rattle.std.proofs.Common.{◌≡◌, ℕ, ◌≤◌, ◌+◌, true, not, List, [], ◌++◌, length, Some, refl, sym, ap, subst, ◌∙◌, arith, append_assoc}
-use Rattle.std.proofs.lemmas.List.Filters.{length-filter_both}
 use Rattle.jsonc_text.specs.Options.{Options}
 use Rattle.jsonc_text.specs.Plain.{Plain, array}
 use Rattle.jsonc_text.proofs.UniqueValues.{document_unique}
@@ -29,10 +28,6 @@ use Rattle.jsonc_run.specs.Places.{IsArrayAt}
 use Rattle.jsonc_run.specs.Refusals.{FailsWith}
 use Rattle.jsonc_insert.proofs.lemmas.named.PathValues.{value_once}
 use Rattle.jsonc_insert.proofs.lemmas.named.EnsureErrors.{no_other}
-
--- a container has no more elements than children
-pub fewer : (ns : List Node) (c : ℕ) → length (elements_at ns c) ≤ length (children_at ns c)
-fewer ns c = omega (arith, length-filter_both (is_element_at ns) (λ n. not (is_element_at ns n)) (λ n. refl) (children_at ns c))
 
 -- what came at the number of the nodes came behind the last element
 pub comes_last : (old new : List Node) (c k : ℕ) (v : Plain) (m : ℕ) → IsTree old → k ≡ length old → has_brackets old (children_at old c) ≡ true → ElementPut old new c k v m → ElementPut old new c (length (elements_at old c)) v m

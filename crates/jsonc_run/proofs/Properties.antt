@@ -31,7 +31,6 @@ use Rattle.jsonc_run.specs.Edits.{append_property, ensure_property, insert_prope
 use Rattle.jsonc_run.specs.Places.{IsObjectAt}
 use Rattle.jsonc_run.specs.Refusals.{FailsWith}
 use Rattle.jsonc_insert.proofs.lemmas.named.EnsureErrors.{no_other}
-use Rattle.jsonc_run.proofs.Inserted.{fewer}
 use Rattle.jsonc_insert.proofs.lemmas.named.PathValues.{value_once}
 
 -- it is one of the nodes

@@ -66,8 +66,8 @@ impl CstObject {
         ensures kept { OnErr result (Unchanged doc.old doc.new) }
         ensures document { OnErr result (tree_of doc.new ≡ tree_of doc.old) }
     {
-        // There are no more properties than children.
-        let count = doc.tree.child_count(self.node().number());
+        // There are fewer properties than nodes.
+        let count = doc.tree.len();
         self.insert(doc, count, name, value)
     }
 

@@ -45,8 +45,8 @@ impl CstArray {
         ensures kept { OnErr result (Unchanged doc.old doc.new) }
         ensures document { OnErr result (tree_of doc.new ≡ tree_of doc.old) }
     {
-        // There are no more elements than children.
-        let count = doc.tree.child_count(self.node().number());
+        // There are fewer elements than nodes.
+        let count = doc.tree.len();
         self.insert(doc, count, value)
     }
 

@@ -1,15 +1,13 @@
 -- Elements that have come into arrays: what the new node is, and which nodes stay.
-use Rattle.std.proofs.Common.{◌≡◌, ℕ, ◌<◌, ◌≤◌, ◌⊎◌, inl, inr, true, not, List, length, min, Result, Ok, Err, IfOk, refl, sym, ap, subst, ◌∙◌, arith}
+use Rattle.std.proofs.Common.{◌≡◌, ℕ, ◌<◌, ◌≤◌, ◌⊎◌, inl, inr, true, List, length, min, Result, Ok, Err, IfOk, refl, sym, ap, subst, ◌∙◌, arith}
 use Rattle.std.proofs.Math.Nat.{min-eq_left, min-eq_right}
 use Rattle.std.proofs.lemmas.Bool.{cases_lt}
-use Rattle.std.proofs.lemmas.List.Filters.{length-filter_both}
 use Rattle.jsonc_text.specs.Options.{Options}
 use Rattle.jsonc_text.specs.Plain.{Plain}
 use Rattle.jsonc_tree.specs.Content as content
 use Rattle.jsonc_tree.specs.OrderedTree.{ordered_tree}
 use Rattle.jsonc_tree.specs.Tree.{Node, children_at, content_at, IsTree}
 use Rattle.jsonc_tree.proofs.Order.{parent_there}
-use Rattle.jsonc_layout.specs.nodes.Kinds.{is_element_at}
 use Rattle.jsonc_layout.specs.nodes.Siblings.{elements_at}
 use Rattle.jsonc_layout.specs.lines.Kinds.{is_array_or_object}
 use Rattle.jsonc_edit.proofs.lemmas.commas.Holders.{holder_path}
@@ -20,6 +18,7 @@ use Rattle.jsonc_insert.specs.Inserted.{refusal, ElementPut}
 use Rattle.jsonc_insert.specs.Laws.{KeepsNodesBut}
 use Rattle.jsonc_insert.specs.Planned.{has_brackets}
 use Rattle.jsonc_insert.proofs.Numbering.{changes_one_row, takes_number}
+use Rattle.jsonc_insert.proofs.ElementsInTree.{few_elements}
 use Rattle.jsonc_insert.proofs.PastTheEnd.{past_the_end}
 use Rattle.jsonc_insert.proofs.lemmas.elements.InsertedValues.{elements_come_at}
 use Rattle.jsonc_insert.proofs.lemmas.elements.Containers.{wants_memory_alone}
@@ -52,10 +51,6 @@ module _ (old new : List Node) (c : ℕ) (v : Plain) (tree : IsTree old) (is : c
       let place = holder_path o old tree sound c over (ap is_array_or_object is) in
       told ∙ wants_memory_alone o old place.0 c tree sound place.1 is
 
--- a container has no more elements than children
-fewer : (ns : List Node) (c : ℕ) → length (elements_at ns c) ≤ length (children_at ns c)
-fewer ns c = omega (arith, length-filter_both (is_element_at ns) (λ n. not (is_element_at ns n)) (λ n. refl) (children_at ns c))
-
 -- the number of a last one: past the end all do the same
 put_by_place : (old new : List Node) (c i : ℕ) (v : Plain) (m : ℕ) → has_brackets old (children_at old c) ≡ true → (i < length (elements_at old c)) ⊎ (length (elements_at old c) ≤ i)
     → ElementPut old new c i v m → ElementPut old new c (min i (length (elements_at old c))) v m
@@ -66,13 +61,13 @@ put_by_place old new c i v m brackets (inr high) e =
 pub put_at_place : (old new : List Node) (c i : ℕ) (v : Plain) (m : ℕ) → has_brackets old (children_at old c) ≡ true → ElementPut old new c i v m → ElementPut old new c (min i (length (elements_at old c))) v m
 put_at_place old new c i v m brackets e = put_by_place old new c i v m brackets (cases_lt i (length (elements_at old c))) e
 
--- as many as the children are mean the last
-pub behind_all : (ns : List Node) (c k : ℕ) → k ≡ length (children_at ns c) → min k (length (elements_at ns c)) ≡ length (elements_at ns c)
-behind_all ns c k e = min-eq_right (omega (arith, e, fewer ns c))
+-- as many as there are nodes mean the last
+pub behind_all : (ns : List Node) → IsTree ns → (c k : ℕ) → k ≡ length ns → min k (length (elements_at ns c)) ≡ length (elements_at ns c)
+behind_all ns tree c k e = min-eq_right (omega (arith, few_elements ns tree c k e))
 
-pub appended_element : {T E : Type 0} (number : T → ℕ) (old new : List Node) (c k : ℕ) → k ≡ length (children_at old c) → (r : Result T E) → IfOk r (λ x. IsElementOf new c (min k (length (elements_at old c))) (number x))
+pub appended_element : {T E : Type 0} (number : T → ℕ) (old new : List Node) → IsTree old → (c k : ℕ) → k ≡ length old → (r : Result T E) → IfOk r (λ x. IsElementOf new c (min k (length (elements_at old c))) (number x))
     → IfOk r (λ x. IsElementOf new c (min (length (elements_at old c)) (length (elements_at old c))) (number x))
-appended_element number old new c k e (Ok x) at =
+appended_element number old new tree c k e (Ok x) at =
     let count : ℕ = length (elements_at old c) in
-    subst (λ j. IsElementOf new c j (number x)) (behind_all old c k e ∙ sym (min-eq_right {n = count} {m = count} (omega arith))) at
-appended_element number old new c k e (Err x) at = tt
+    subst (λ j. IsElementOf new c j (number x)) (behind_all old tree c k e ∙ sym (min-eq_right {n = count} {m = count} (omega arith))) at
+appended_element number old new tree c k e (Err x) at = tt
