@@ -82,14 +82,22 @@ fn is_walked<A: Allocator>(doc: &CstRootNode<A>, top: CstNode, ranges: &[(usize,
     left.next().is_none() && nodes.next().is_none()
 }
 
+/// The same of a walk from the parent of the node at a place.
+fn is_walked_above<A: Allocator>(
+    doc: &CstRootNode<A>,
+    place: usize,
+    ranges: &[(usize, usize)],
+) -> Option<bool> {
+    let node = doc.node_at(place)?;
+    let parent = CstNode::from(node.parent(doc)?);
+    Some(is_walked(doc, parent, ranges))
+}
+
 #[test]
 fn walks_come_past_all_nodes(rt: HostRuntime) -> Result<(), Fail> {
     let doc = CstRootNode::parse(rt.alloc(), TEXT, &ParseOptions::jsonc())?;
     assert!(rt; is_walked(&doc, CstNode::from(doc.root()), &ALL));
-    let Some(property) = doc.node_at(7).and_then(|colon| colon.parent(&doc)) else {
-        return Ok(assert!(rt; false));
-    };
-    assert!(rt; is_walked(&doc, CstNode::from(property), &ALL[4..15]));
+    assert!(rt; is_walked_above(&doc, 7, &ALL[4..15]) == Some(true));
     Ok(())
 }
 
