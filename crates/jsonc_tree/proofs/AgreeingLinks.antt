@@ -8,7 +8,7 @@ use Rattle.std.proofs.lemmas.Map.Keys.{IsDistinct-from_apart}
 use Rattle.jsonc_tree.specs.Tree as tree
 use Rattle.jsonc_tree.specs.Tree.{children_at, parent_at, content_at, node_at, IsTree, place_at}
 use Rattle.jsonc_tree.proofs.Splicing.{in_where}
-use Rattle.jsonc_tree.specs.Stored.{LinkedNode, nowhere, link_at, chain, shown, nodes_of, ahead_at, IsLinked, IsStored}
+use Rattle.jsonc_tree.specs.Stored.{LinkedNode, nowhere, link_at, chain, shown, nodes_of, ahead_at, line_ends, IsLinked, IsStored}
 
 -- a row of a tree is no longer than there are nodes
 pub row_short : (ns : List tree.Node) → IsTree ns → (c : ℕ) → length (children_at ns c) ≤ length ns
@@ -69,10 +69,11 @@ module _ (ls : List LinkedNode) (ns : List tree.Node) (t : IsTree ns) (same : Ag
   pub shown_is : nodes_of ls ≡ ns
   shown_is = list_same tree.nowhere (nodes_of ls) ns (length-map ls (shown ls) ∙ same.len) node_is
 
-  pub stored_by : length ls ≤ 2 ^ 32 - 1 → IsStored ls
-  stored_by few = record {
+  pub stored_by : ((c : ℕ) → (link_at ls c).lines ≡ line_ends ns (children_at ns c)) → length ls ≤ 2 ^ 32 - 1 → IsStored ls
+  stored_by lines few = record {
     tree = subst IsTree (sym shown_is) t;
     linked = subst (IsLinked ls) (sym shown_is) same.linked;
+    lines = λ c. lines c ∙ ap (λ ms. line_ends ms (children_at ms c)) (sym shown_is);
     few = few;
   }
 

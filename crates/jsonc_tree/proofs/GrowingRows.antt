@@ -1,17 +1,19 @@
 -- A node behind the last child of a container, where which child that is is kept apart.
-use Rattle.std.proofs.Common.{◌≡◌, ◌≢◌, ℕ, true, ◌+◌, ◌<◌, ◌≤◌, List, [], ◌∷◌, ◌++◌, length, set, cond, eqb, Option, None, Some, IfSome, inl, inr, refl, sym, ap, subst, ◌∙◌, arith, length-set, eq-eqb, ◌-◌, ◌^◌}
+use Rattle.std.proofs.Common.{◌≡◌, ◌≢◌, Bool, ℕ, true, ◌+◌, ◌<◌, ◌≤◌, List, [], ◌∷◌, ◌++◌, length, set, cond, eqb, Option, None, Some, IfSome, inl, inr, refl, sym, ap, subst, ◌∙◌, arith, length-set, eq-eqb, ◌-◌, ◌^◌}
 use Rattle.std.proofs.lemmas.Bool.{cases_eq, cases_Bool, ne_eqb}
-use Rattle.std.proofs.lemmas.List.{get_or_append_left, get_or_push, length_push}
-use Rattle.jsonc_tree.specs.Content.{Content, is_container, root}
+use Rattle.std.proofs.lemmas.List.{get_or_append_left, get_or_push, length_push, set-set}
+use Rattle.jsonc_tree.specs.Content.{Content, is_container, is_newline, root}
 use Rattle.jsonc_tree.specs.Tree as tree
 use Rattle.jsonc_tree.specs.Tree.{children_at, is_container_at}
 use Rattle.jsonc_tree.specs.Changes.{Adds, Appends, CanAppend, Pushes}
-use Rattle.jsonc_tree.specs.Stored.{LinkedNode, bare, nowhere, link_at, nodes_of, ahead_set, back_set, IsStored}
-use Rattle.jsonc_tree.proofs.AgreeingLinks.{length_shown, list_same}
+use Rattle.jsonc_tree.specs.Growing.{child_behind}
+use Rattle.jsonc_tree.specs.Stored.{LinkedNode, bare, nowhere, link_at, nodes_of, ahead_set, back_set, counted_in, lines_set, one_if, IsStored}
+use Rattle.jsonc_tree.proofs.AgreeingLinks.{length_shown, list_same, row_short}
 use Rattle.jsonc_tree.proofs.Appending.{Appends-splice, CanAppend-adds}
 use Rattle.jsonc_tree.proofs.Moves.{comes, gap_front_there, in_memory}
 use Rattle.jsonc_tree.proofs.UnchangedRows.{alone_stored, end_gap, pushed_adds, pushed_stored}
-use Rattle.jsonc_tree.proofs.Written.{same_here, same_there, length-ahead_set, length-back_set, relinked}
+use Rattle.jsonc_tree.proofs.LineEnds.{line_ends-short}
+use Rattle.jsonc_tree.proofs.Written.{same_here, same_there, back_set_keeps, content_kept, length-ahead_set, length-back_set, relinked}
 
 -- what a write makes of the link at a place
 abbrev one_set : (LinkedNode → LinkedNode) → ℕ → ℕ → LinkedNode → LinkedNode
@@ -108,6 +110,12 @@ module _ (ls : List LinkedNode) (c : ℕ) (last : Option ℕ) where
 
     pub other_last_fits : (items : List LinkedNode) (d : ℕ) (l : Option ℕ) → items ≡ filled → l ≡ (link_at items d).last → IfSome l (λ n. n < 2 ^ 32 - 1)
     other_last_fits items d l is said = in_memory l (length ls) (other_last_there items d l (length ls) is said refl) (omega (arith, ok.few, length-back_set ls c None last))
+
+    -- few ends of lines are counted
+    pub lines_at_hand : (link_at ls c).lines < 2 ^ 32
+    lines_at_hand =
+        let inside : c < length ls = omega (arith, at, size_same) in
+        omega (arith, same_here (λ m. m.lines) ls c (record (link_at ls c) { last = last }) inside, ok.lines c, line_ends-short (nodes_of filled) (children_at (nodes_of filled) c), row_short (nodes_of filled) ok.tree c, length_shown filled, ok.few)
 
     module _ (content : Content) where
       abbrev child : LinkedNode
@@ -207,9 +215,18 @@ module _ (ls : List LinkedNode) (c : ℕ) (last : Option ℕ) where
         ]
       ])
 
+      -- a container at hand counts the end of a line just as well before its last child is written
+      counted_grown : (to : ℕ) → back_set (lines_set written c to) c None (Some (length ls)) ≡ lines_set grown c to
+      counted_grown to =
+          let long : c < length written = omega (arith, length-ahead_set (ls ++ child ∷ []) c last (Some (length ls)), length_push ls child, inside) in
+          let e : LinkedNode = link_at written c in
+          ap (λ m. set (set written c (record e { lines = to })) c (record m { last = Some (length ls) })) (same_here (λ m. m) written c (record e { lines = to }) long)
+          ∙ set-set written c _ _
+          ∙ sym (ap (λ m. set (set written c (record e { last = Some (length ls) })) c (record m { lines = to })) (same_here (λ m. m) written c (record e { last = Some (length ls) }) long) ∙ set-set written c _ _)
+
       -- what a push makes of the nodes
-      pub grows : length ls < 2 ^ 32 - 1 → is_container_at (nodes_of filled) c ≡ true → Pushes (nodes_of filled) (nodes_of grown) c content × IsStored grown
-      grows fits holds =
+      grows : (w : Bool) → w ≡ is_newline content → length ls < 2 ^ 32 - 1 → is_container_at (nodes_of filled) c ≡ true → Pushes (nodes_of filled) (nodes_of (back_set (counted_in written c w) c None (Some (length ls)))) c content × IsStored (back_set (counted_in written c w) c None (Some (length ls)))
+      grows w w_is fits holds =
           let stored = pushed_stored filled content ok (omega (arith, fits, length-back_set ls c None last)) in
           let adds = pushed_adds filled content ok in
           let old : List tree.Node = nodes_of filled in
@@ -217,17 +234,22 @@ module _ (ls : List LinkedNode) (c : ℕ) (last : Option ℕ) where
           let can : CanAppend mid c (length ls) = subst (CanAppend mid c) size_same (CanAppend-adds old mid content c stored.tree at holds adds) in
           let last_added : last ≡ (link_at added c).last = last_is ∙ sym (ap (λ (m : LinkedNode). m.last) (get_or_append_left filled (bare content ∷ []) nowhere c (omega (arith, inside, length-back_set ls c None last)))) in
           let gap = end_gap added stored c last last_added in
-          let came = comes added stored c (length (children_at mid c)) (length ls) last None can gap in
-          let appends : Appends mid (nodes_of by_steps) c (length ls) = Appends-splice mid (nodes_of by_steps) c (length (children_at mid c)) (length ls) refl came.0 in
-          let pushes : Pushes old (nodes_of by_steps) c content = Pushes-from old mid (nodes_of by_steps) c content at adds (subst (Appends mid (nodes_of by_steps) c) (sym size_same) appends) in
-          (subst (λ l. Pushes old (nodes_of l) c content) steps_same pushes, subst IsStored steps_same came.1)
+          let weighed : w ≡ is_newline (link_at by_steps (length ls)).content = w_is ∙ ap is_newline (sym (content_kept added c last None (Some (length ls)) (Some (length ls)) (length ls) (Some c) last None (length ls) ∙ ap (λ (m : LinkedNode). m.content) (get_or_push filled (bare content) nowhere (length ls) (length-back_set ls c None last)))) in
+          let came = comes added stored c (length (children_at mid c)) (length ls) last None w can gap weighed in
+          let counted : counted_in by_steps c w ≡ back_set (counted_in written c w) c None (Some (length ls)) =
+          ap (λ l. counted_in l c w) steps_same
+          ∙ ap (λ n. lines_set grown c (n + one_if w)) (back_set_keeps (λ m. m.lines) written c c (Some (length ls)) None (λ n. refl) (λ n. refl))
+          ∙ sym (counted_grown ((link_at written c).lines + one_if w)) in
+          let appends : Appends mid (nodes_of (counted_in by_steps c w)) c (length ls) = Appends-splice mid (nodes_of (counted_in by_steps c w)) c (length (children_at mid c)) (length ls) refl came.0 in
+          let pushes : Pushes old (nodes_of (counted_in by_steps c w)) c content = Pushes-from old mid (nodes_of (counted_in by_steps c w)) c content at adds (subst (Appends mid (nodes_of (counted_in by_steps c w)) c) (sym size_same) appends) in
+          (subst (λ l. Pushes old (nodes_of l) c content) counted pushes, subst IsStored counted came.1)
 
       -- by what a call says of it
-      pub grows_by : (items : List LinkedNode) (now end : Option ℕ) (size : ℕ) → size < 2 ^ 32 - 1 → is_container_at (nodes_of filled) c ≡ true → now ≡ last → size ≡ length ls → end ≡ Some size → items ≡ ahead_set (ls ++ record (bare content) { parent = Some c; previous = now } ∷ []) c now (Some size) → Pushes (nodes_of filled) (nodes_of (back_set items c None end)) c content × IsStored (back_set items c None end)
+      pub grows_by : (items : List LinkedNode) (now end : Option ℕ) (size : ℕ) → size < 2 ^ 32 - 1 → is_container_at (nodes_of filled) c ≡ true → now ≡ last → size ≡ length ls → end ≡ Some size → items ≡ child_behind ls c now content size → Pushes (nodes_of filled) (nodes_of (back_set items c None end)) c content × IsStored (back_set items c None end)
       grows_by items now end size fits holds at_last at_size at_end said =
-          let is : items ≡ written = said ∙ ap (λ o. ahead_set (ls ++ record (bare content) { parent = Some c; previous = o } ∷ []) c o (Some size)) at_last ∙ ap (λ n. ahead_set (ls ++ child ∷ []) c last (Some n)) at_size in
-          let whole : back_set items c None end ≡ grown = ap (λ l. back_set l c None end) is ∙ ap (back_set written c None) (at_end ∙ ap Some at_size) in
-          subst (λ l. Pushes (nodes_of filled) (nodes_of l) c content × IsStored l) (sym whole) (grows (omega (arith, fits, at_size)) holds)
+          let is : items ≡ counted_in written c (is_newline content) = said ∙ ap (λ o. child_behind ls c o content size) at_last ∙ ap (child_behind ls c last content) at_size in
+          let whole : back_set items c None end ≡ back_set (counted_in written c (is_newline content)) c None (Some (length ls)) = ap (λ l. back_set l c None end) is ∙ ap (back_set (counted_in written c (is_newline content)) c None) (at_end ∙ ap Some at_size) in
+          subst (λ l. Pushes (nodes_of filled) (nodes_of l) c content × IsStored l) (sym whole) (grows (is_newline content) refl (omega (arith, fits, at_size)) holds)
 
 -- the container at hand stays one
 pub Pushes-holds : (old new : List tree.Node) (c : ℕ) (content : Content) → Pushes old new c content → c < length old → is_container_at old c ≡ true → (c < length new) × (is_container_at new c ≡ true)

@@ -1,21 +1,24 @@
 -- What one node's coming or going does to the stored nodes and to what they show.
-use Rattle.std.proofs.Common.{◌≡◌, ◌≢◌, ◌||◌, ◌^◌, ℕ, suc, ◌-◌, ◌<◌, ◌≤◌, List, [], ◌∷◌, length, get_or, map, cond, true, Option, None, Some, IfSome, inl, inr, slice_get, slice_range, refl, sym, ap, subst, ◌∙◌, arith, eq-eqb}
+use Rattle.std.proofs.Common.{◌≡◌, ◌≢◌, ◌||◌, ◌^◌, Bool, ℕ, suc, ◌-◌, ◌<◌, ◌≤◌, List, [], ◌∷◌, length, get_or, map, cond, true, Option, None, Some, IfSome, inl, inr, slice_get, slice_range, refl, sym, ap, subst, ◌∙◌, arith, eq-eqb}
 use Rattle.std.specs.List.{range_with_len}
 use Rattle.std.proofs.lemmas.Bool.{cases_lt, cases_Bool, ne_eqb}
 use Rattle.std.proofs.lemmas.Option.{slice_get-get_or, slice_get_within}
 use Rattle.std.proofs.lemmas.List.{get_or_past, length-map, nil_from_length}
 use Rattle.std.proofs.lemmas.List.FromFn.{get_or-map-range_with_len, length-range_with_len}
 use Rattle.std.proofs.lemmas.List.Edits.{length-between, get_or-between}
+use Rattle.jsonc_tree.specs.Content.{is_container, is_newline}
 use Rattle.jsonc_tree.specs.Tree as tree
-use Rattle.jsonc_tree.specs.Tree.{Node, children_at, parent_at, content_at, is_in, is_container_at, IsTreeBy, IsTree, place_at, place_under, IsOver}
+use Rattle.jsonc_tree.specs.Tree.{Node, children_at, parent_at, content_at, is_in, is_container_at, is_newline_at, IsTreeBy, IsTree, place_at, place_under, IsOver}
 use Rattle.jsonc_tree.specs.Changes.{Splices, CanJoin, CanAppend}
 use Rattle.jsonc_tree.proofs.SameLinks.{IsTreeBy-same, IsTree-from}
 use Rattle.jsonc_tree.proofs.Splicing.{spliced_nodes, spliced_places, spliced_tree, spliced_facts, in_at, out_from}
 use Rattle.jsonc_tree.proofs.Appending.{CanJoin-one}
-use Rattle.jsonc_tree.specs.Stored.{link_at, nodes_of, ahead_at, back_at, ahead_set, back_set, place_set, IsStored, LinkedNode}
+use Rattle.jsonc_tree.specs.Stored.{link_at, nodes_of, ahead_at, back_at, ahead_set, back_set, place_set, counted_in, counted_out, line_ends, one_if, IsStored, LinkedNode}
 use Rattle.jsonc_tree.specs.Siblings.{before, IsGap}
-use Rattle.jsonc_tree.proofs.Written.{relinked}
-use Rattle.jsonc_tree.proofs.AgreeingLinks.{Agrees, agrees, shown_is, stored_by, length_shown}
+use Rattle.jsonc_tree.proofs.Gaps.{at_there}
+use Rattle.jsonc_tree.proofs.Written.{relinked, content_kept, lines_kept}
+use Rattle.jsonc_tree.proofs.AgreeingLinks.{Agrees, agrees, content_shown, shown_is, stored_by, length_shown, row_short}
+use Rattle.jsonc_tree.proofs.LineEnds.{Counts, counted_agrees, counts_came, counts_went, line_ends-short, line_ends-went}
 use Rattle.jsonc_tree.proofs.Relinking.{came_agrees, went_agrees, before_there, place_there}
 
 -- the places of the nodes as a list
@@ -123,9 +126,9 @@ module _ (ls : List LinkedNode) (ok : IsStored ls) where
       let is : slice_get row k ≡ Some x = slice_get-get_or row k 0 inn ∙ ap Some (ok.tree.found x c said) in
       ap (back_at ls c) (sym is) ∙ ok.linked.back c k (omega arith)
 
-  -- a node that stands alone comes into a gap
-  pub comes : (c g x : ℕ) (b a : Option ℕ) → CanAppend (nodes_of ls) c x → IsGap (nodes_of ls) c g b a → Splices (nodes_of ls) (nodes_of (relinked ls c b a (Some x) (Some x) x (Some c) b a)) c g g (x ∷ []) × IsStored (relinked ls c b a (Some x) (Some x) x (Some c) b a)
-  comes c g x b a can gap =
+  -- a node that stands alone comes into a gap, and is counted
+  pub comes : (c g x : ℕ) (b a : Option ℕ) (w : Bool) → CanAppend (nodes_of ls) c x → IsGap (nodes_of ls) c g b a → w ≡ is_newline (link_at (relinked ls c b a (Some x) (Some x) x (Some c) b a) x).content → Splices (nodes_of ls) (nodes_of (counted_in (relinked ls c b a (Some x) (Some x) x (Some c) b a) c w)) c g g (x ∷ []) × IsStored (counted_in (relinked ls c b a (Some x) (Some x) x (Some c) b a) c w)
+  comes c g x b a w can gap weighed =
       let ns : List Node = nodes_of ls in
       let row : List ℕ = children_at ns c in
       let same = agrees ls ok in
@@ -134,14 +137,18 @@ module _ (ls : List LinkedNode) (ok : IsStored ls) where
       let new : List Node = made.0 in
       let moved = parent_came ns new c g x gap.inside made.1 in
       let fits : Agrees (relinked ls c (before row g) (slice_get row g) (Some x) (Some x) x (Some c) (before row g) (slice_get row g)) new = came_agrees ls ns new ok.tree same c g x can.container can.node made.1.len made.1.content made.1.others moved.1 gap.inside can.alone made.1.children moved.0 in
-      let here : Agrees (relinked ls c b a (Some x) (Some x) x (Some c) b a) new = rw (gap.front, gap.back) fits in (
+      let links : List LinkedNode = relinked ls c b a (Some x) (Some x) x (Some c) b a in
+      let linked : Agrees links new = rw (gap.front, gap.back) fits in
+      let is : w ≡ is_newline_at ns x = weighed ∙ ap is_newline (linked.content x (omega (arith, can.node, made.1.len)) ∙ made.1.content x) in
+      let here : Agrees (counted_in links c w) new = counted_agrees links c _ new linked in
+      let counts : Counts (counted_in links c w) new = subst (λ u. Counts (counted_in links c u) new) (sym is) (counts_came links ns new c g x (omega (arith, can.container, linked.len, made.1.len)) made.1.content made.1.others (λ d. lines_kept ls c b a (Some x) (Some x) x (Some c) b a d ∙ ok.lines d) made.1.children) in (
         subst (λ (l : List Node). Splices ns l c g g (x ∷ [])) (sym (shown_is _ new made.2 here)) made.1,
-        stored_by _ new made.2 here (omega (arith, ok.few, here.len, made.1.len, length_shown ls)),
+        stored_by _ new made.2 here counts (omega (arith, ok.few, here.len, made.1.len, length_shown ls)),
       )
 
-  -- a child goes out of its row
-  pub goes : (c g x : ℕ) (b a : Option ℕ) → c < length (nodes_of ls) → is_container_at (nodes_of ls) c ≡ true → slice_get (children_at (nodes_of ls) c) g ≡ Some x → b ≡ before (children_at (nodes_of ls) c) g → a ≡ slice_get (children_at (nodes_of ls) c) (suc g) → Splices (nodes_of ls) (nodes_of (relinked ls c b a a b x None None None)) c g (suc g) [] × IsStored (relinked ls c b a a b x None None None)
-  goes c g x b a at holds stood front back =
+  -- a child goes out of its row, and is counted no more
+  pub goes : (c g x : ℕ) (b a : Option ℕ) (w : Bool) → c < length (nodes_of ls) → is_container_at (nodes_of ls) c ≡ true → slice_get (children_at (nodes_of ls) c) g ≡ Some x → b ≡ before (children_at (nodes_of ls) c) g → a ≡ slice_get (children_at (nodes_of ls) c) (suc g) → w ≡ is_newline (link_at (relinked ls c b a a b x None None None) x).content → Splices (nodes_of ls) (nodes_of (counted_out (relinked ls c b a a b x None None None) c w)) c g (suc g) [] × IsStored (counted_out (relinked ls c b a a b x None None None) c w)
+  goes c g x b a w at holds stood front back weighed =
       let ns : List Node = nodes_of ls in
       let row : List ℕ = children_at ns c in
       let same = agrees ls ok in
@@ -151,20 +158,52 @@ module _ (ls : List LinkedNode) (ok : IsStored ls) where
       let new : List Node = made.0 in
       let moved = parent_went ns new c g x stood made.1 in
       let fits : Agrees (relinked ls c (before row g) (slice_get row (suc g)) (slice_get row (suc g)) (before row g) x None None None) new = went_agrees ls ns new ok.tree same c g x at there made.1.len made.1.content made.1.others moved.1 inside stood made.1.children moved.0 in
-      let here : Agrees (relinked ls c b a a b x None None None) new = rw (front, back) fits in (
+      let links : List LinkedNode = relinked ls c b a a b x None None None in
+      let linked : Agrees links new = rw (front, back) fits in
+      let is : w ≡ is_newline_at ns x = weighed ∙ ap is_newline (linked.content x (omega (arith, there, made.1.len)) ∙ made.1.content x) in
+      let here : Agrees (counted_out links c w) new = counted_agrees links c _ new linked in
+      let counts : Counts (counted_out links c w) new = subst (λ u. Counts (counted_out links c u) new) (sym is) (counts_went links ns new c g x (omega (arith, at, linked.len, made.1.len)) made.1.content made.1.others (λ d. lines_kept ls c b a a b x None None None d ∙ ok.lines d) stood made.1.children) in (
         subst (λ (l : List Node). Splices ns l c g (suc g) []) (sym (shown_is _ new made.2 here)) made.1,
-        stored_by _ new made.2 here (omega (arith, ok.few, here.len, made.1.len, length_shown ls)),
+        stored_by _ new made.2 here counts (omega (arith, ok.few, here.len, made.1.len, length_shown ls)),
       )
 
-  -- by the three steps
-  pub comes_by : (l1 l2 l3 : List LinkedNode) (c g x : ℕ) (b a : Option ℕ) → l1 ≡ ahead_set ls c b (Some x) → l2 ≡ back_set l1 c a (Some x) → l3 ≡ place_set l2 x (Some c) b a → CanAppend (nodes_of ls) c x → IsGap (nodes_of ls) c g b a → Splices (nodes_of ls) (nodes_of l3) c g g (x ∷ []) × IsStored l3
-  comes_by l1 l2 l3 c g x b a e1 e2 e3 can gap =
-      subst (λ (l : List LinkedNode). Splices (nodes_of ls) (nodes_of l) c g g (x ∷ []) × IsStored l) (sym (three ls l1 l2 l3 c x b a (Some x) (Some x) (Some c) b a e1 e2 e3)) (comes c g x b a can gap)
+  -- by the four steps
+  pub comes_by : (l1 l2 l3 l4 : List LinkedNode) (c g x : ℕ) (b a : Option ℕ) (w : Bool) → l1 ≡ ahead_set ls c b (Some x) → l2 ≡ back_set l1 c a (Some x) → l3 ≡ place_set l2 x (Some c) b a → w ≡ is_newline (link_at l3 x).content → l4 ≡ counted_in l3 c w → CanAppend (nodes_of ls) c x → IsGap (nodes_of ls) c g b a → Splices (nodes_of ls) (nodes_of l4) c g g (x ∷ []) × IsStored l4
+  comes_by l1 l2 l3 l4 c g x b a w e1 e2 e3 weighed e4 can gap =
+      let is = three ls l1 l2 l3 c x b a (Some x) (Some x) (Some c) b a e1 e2 e3 in
+      subst (λ (l : List LinkedNode). Splices (nodes_of ls) (nodes_of l) c g g (x ∷ []) × IsStored l) (sym (e4 ∙ ap (λ l. counted_in l c w) is)) (comes c g x b a w can gap (weighed ∙ ap (λ (l : List LinkedNode). is_newline (link_at l x).content) is))
 
-  pub goes_by : (l1 l2 l3 : List LinkedNode) (c x : ℕ) (b a : Option ℕ) → l1 ≡ ahead_set ls c b a → l2 ≡ back_set l1 c a b → l3 ≡ place_set l2 x None None None → parent_at (nodes_of ls) x ≡ Some c → b ≡ (link_at ls x).previous → a ≡ (link_at ls x).next → Splices (nodes_of ls) (nodes_of l3) c (place_at (nodes_of ls) x) (suc (place_at (nodes_of ls) x)) [] × IsStored l3
-  goes_by l1 l2 l3 c x b a e1 e2 e3 said front back =
+  pub goes_by : (l1 l2 l3 l4 : List LinkedNode) (c x : ℕ) (b a : Option ℕ) (w : Bool) → l1 ≡ ahead_set ls c b a → l2 ≡ back_set l1 c a b → l3 ≡ place_set l2 x None None None → w ≡ is_newline (link_at l3 x).content → l4 ≡ counted_out l3 c w → parent_at (nodes_of ls) x ≡ Some c → b ≡ (link_at ls x).previous → a ≡ (link_at ls x).next → Splices (nodes_of ls) (nodes_of l4) c (place_at (nodes_of ls) x) (suc (place_at (nodes_of ls) x)) [] × IsStored l4
+  goes_by l1 l2 l3 l4 c x b a w e1 e2 e3 weighed e4 said front back =
       let r = in_row (nodes_of ls) ok.tree x c said in
-      subst (λ (l : List LinkedNode). Splices (nodes_of ls) (nodes_of l) c (place_at (nodes_of ls) x) (suc (place_at (nodes_of ls) x)) [] × IsStored l) (sym (three ls l1 l2 l3 c x b a a b None None None e1 e2 e3)) (goes c (place_at (nodes_of ls) x) x b a r.0 r.1 r.2 (front ∙ previous_is x c said) (back ∙ next_is x c said))
+      let is = three ls l1 l2 l3 c x b a a b None None None e1 e2 e3 in
+      subst (λ (l : List LinkedNode). Splices (nodes_of ls) (nodes_of l) c (place_at (nodes_of ls) x) (suc (place_at (nodes_of ls) x)) [] × IsStored l) (sym (e4 ∙ ap (λ l. counted_out l c w) is)) (goes c (place_at (nodes_of ls) x) x b a w r.0 r.1 r.2 (front ∙ previous_is x c said) (back ∙ next_is x c said) (weighed ∙ ap (λ (l : List LinkedNode). is_newline (link_at l x).content) is))
+
+  -- a container that a node leaves or comes into, as its links say so far
+  module _ (c x : ℕ) (b a s t p q r : Option ℕ) (items : List LinkedNode) (steps : items ≡ relinked ls c b a s t x p q r) where
+    so_far : (link_at items c).lines ≡ line_ends (nodes_of ls) (children_at (nodes_of ls) c)
+    so_far = ap (λ (l : List LinkedNode). (link_at l c).lines) steps ∙ lines_kept ls c b a s t x p q r c ∙ ok.lines c
+
+    -- a child that is the end of a line is counted
+    pub counts_one : (w : Bool) → parent_at (nodes_of ls) x ≡ Some c → w ≡ is_newline (link_at items x).content → w ≡ true → 1 ≤ (link_at items c).lines
+    counts_one w said weighed h =
+        let row : List ℕ = children_at (nodes_of ls) c in
+        let k : ℕ = place_at (nodes_of ls) x in
+        let inn = ok.tree.within x c said in
+        let stood : slice_get row k ≡ Some x = slice_get-get_or row k 0 inn ∙ ap Some (ok.tree.found x c said) in
+        let there : x < length ls = omega (arith, at_there (nodes_of ls) ok.tree c k x stood, length_shown ls) in
+        let same : is_newline_at (nodes_of ls) x ≡ true = ap is_newline (sym (content_shown ls x there) ∙ sym (content_kept ls c b a s t x p q r x) ∙ ap (λ (l : List LinkedNode). (link_at l x).content) (sym steps)) ∙ sym weighed ∙ h in
+        omega (arith, so_far, line_ends-went (nodes_of ls) x row k stood, ap one_if same)
+
+    -- the container is still one
+    pub counts_container : is_container_at (nodes_of ls) c ≡ true → c < length (nodes_of ls) → is_container (link_at items c).content ≡ true
+    counts_container holds there =
+        ap (λ (l : List LinkedNode). is_container (link_at l c).content) steps
+        ∙ ap is_container (content_kept ls c b a s t x p q r c ∙ content_shown ls c (omega (arith, there, length_shown ls)))
+        ∙ holds
+
+    pub counts_few : (link_at items c).lines < 2 ^ 32
+    counts_few = omega (arith, so_far, line_ends-short (nodes_of ls) (children_at (nodes_of ls) c), row_short (nodes_of ls) ok.tree c, length_shown ls, ok.few)
 
   -- the neighbours are there
   pub previous_there : (x c size : ℕ) (b : Option ℕ) → parent_at (nodes_of ls) x ≡ Some c → b ≡ (link_at ls x).previous → size ≡ length (nodes_of ls) → IfSome b (λ n. n < size)

@@ -207,7 +207,7 @@ module _ (ls : List LinkedNode) (ns new : List tree.Node) (t : IsTree ns) (same 
     pub came_agrees : Agrees came new
     came_agrees = record {
       len = length-relinked ls c (before (children_at ns c) g) (slice_get (children_at ns c) g) (Some x) (Some x) x (Some c) (before (children_at ns c) g) (slice_get (children_at ns c) g) (omega (arith, same.len)) (omega (arith, same.len)) b_there a_there ∙ same.len ∙ sym len;
-      content = λ n h. content_kept ls c (before (children_at ns c) g) (slice_get (children_at ns c) g) (Some x) (Some x) x (Some c) (before (children_at ns c) g) (slice_get (children_at ns c) g) (omega (arith, same.len)) (omega (arith, same.len)) b_there a_there n ∙ same.content n (omega (arith, len)) ∙ sym (contents n);
+      content = λ n h. content_kept ls c (before (children_at ns c) g) (slice_get (children_at ns c) g) (Some x) (Some x) x (Some c) (before (children_at ns c) g) (slice_get (children_at ns c) g) n ∙ same.content n (omega (arith, len)) ∙ sym (contents n);
       parent = came_parent;
       linked = came_linked;
     }
@@ -355,7 +355,7 @@ module _ (ls : List LinkedNode) (ns new : List tree.Node) (t : IsTree ns) (same 
     pub went_agrees : Agrees went new
     went_agrees = record {
       len = length-relinked ls c (before (children_at ns c) g) (slice_get (children_at ns c) (suc g)) (slice_get (children_at ns c) (suc g)) (before (children_at ns c) g) x None None None (omega (arith, same.len)) (omega (arith, same.len)) wb_there wa_there ∙ same.len ∙ sym len;
-      content = λ n h. content_kept ls c (before (children_at ns c) g) (slice_get (children_at ns c) (suc g)) (slice_get (children_at ns c) (suc g)) (before (children_at ns c) g) x None None None (omega (arith, same.len)) (omega (arith, same.len)) wb_there wa_there n ∙ same.content n (omega (arith, len)) ∙ sym (contents n);
+      content = λ n h. content_kept ls c (before (children_at ns c) g) (slice_get (children_at ns c) (suc g)) (slice_get (children_at ns c) (suc g)) (before (children_at ns c) g) x None None None n ∙ same.content n (omega (arith, len)) ∙ sym (contents n);
       parent = went_parent;
       linked = went_linked;
     }

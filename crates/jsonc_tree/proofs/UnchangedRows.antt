@@ -1,18 +1,20 @@
 -- Changes that leave every row as it is: a new node, a leaf that becomes another.
 use Rattle.std.specs.Prelude.{if◌then◌else◌}
-use Rattle.std.proofs.Common.{◌≡◌, ◌^◌, ℕ, Bool, true, false, zero, suc, ◌<◌, List, [], ◌∷◌, ◌++◌, length, get_or, set, Option, None, Some, inl, inr, slice_get, refl, sym, ap, subst, ◌∙◌, arith, length-set, ◌-◌}
+use Rattle.std.proofs.Common.{◌≡◌, ◌^◌, ◌≢◌, ℕ, Bool, true, false, zero, suc, ◌<◌, ◌≤◌, List, [], ◌∷◌, ◌++◌, length, get_or, Option, None, Some, inl, inr, slice_get, refl, sym, ap, subst, ◌∙◌, arith, length-set, ◌-◌}
 use Rattle.std.proofs.lemmas.Bool.{cases_lt, cases_eq, false≢true}
 use Rattle.std.proofs.lemmas.List.{get_or_append_left, get_or_past, get_or_push, length_push, get_or-set_same, get_or-set_other}
 use Rattle.std.proofs.lemmas.Option.{slice_get_past}
-use Rattle.jsonc_tree.specs.Content.{Content, root, is_container}
+use Rattle.jsonc_tree.specs.Content.{Content, root, is_container, is_newline}
 use Rattle.jsonc_tree.specs.Tree as tree
-use Rattle.jsonc_tree.specs.Tree.{children_at, parent_at, content_at, node_at, place_at, is_container_at, IsTree, IsTreeBy, top}
+use Rattle.jsonc_tree.specs.Tree.{children_at, parent_at, content_at, node_at, place_at, is_container_at, is_newline_at, IsTree, IsTreeBy, top}
 use Rattle.jsonc_tree.specs.Changes.{Adds, LeafBecomes}
 use Rattle.jsonc_tree.proofs.SameLinks.{content_set, IsTreeBy-same, IsTree-from, LeafBecomes-set}
-use Rattle.jsonc_tree.specs.Stored.{LinkedNode, bare, nowhere, link_at, nodes_of, ahead_at, back_at, IsStored}
+use Rattle.jsonc_tree.specs.Stored.{LinkedNode, bare, nowhere, link_at, nodes_of, ahead_at, back_at, counted_in, counted_out, leaf_set, line_ends, one_if, IsStored}
 use Rattle.jsonc_tree.specs.Siblings.{IsGap}
 use Rattle.jsonc_tree.proofs.Written.{kept}
-use Rattle.jsonc_tree.proofs.AgreeingLinks.{Agrees, agrees, shown_is, stored_by, length_shown}
+use Rattle.jsonc_tree.proofs.AgreeingLinks.{Agrees, agrees, content_shown, shown_is, stored_by, length_shown, row_short}
+use Rattle.jsonc_tree.proofs.Moves.{in_row}
+use Rattle.jsonc_tree.proofs.LineEnds.{Counts, counted, counted_agrees, counts_alone, counts_changed, line_ends-like, line_ends-short, lines_here}
 
 -- an element at the end that says what a missing one says changes no answer
 push_same : {X Y : Type 0} (f : X → Y) (xs : List X) (x d : X) (k : ℕ) → f x ≡ f d → f (get_or (xs ++ x ∷ []) k d) ≡ f (get_or xs k d)
@@ -101,8 +103,15 @@ module _ (ls : List LinkedNode) (content : Content) (ok : IsStored ls) where
         };
       }
 
+  pushed_lines : Counts (ls ++ bare content ∷ []) (nodes_of ls ++ shown_bare content ∷ [])
+  pushed_lines c =
+      push_same (λ n. n.lines) ls (bare content) nowhere c refl
+      ∙ ok.lines c
+      ∙ sym (ap (line_ends (nodes_of ls ++ shown_bare content ∷ [])) (children_pushed (nodes_of ls) content c)
+      ∙ line_ends-like (nodes_of ls) (nodes_of ls ++ shown_bare content ∷ []) (children_at (nodes_of ls) c) (λ k h. ap (λ (n : tree.Node). n.content) (node_pushed (nodes_of ls) content _ (ok.tree.in_tree c k h))))
+
   pub pushed_stored : length ls < 2 ^ 32 - 1 → IsStored (ls ++ bare content ∷ [])
-  pushed_stored fits = stored_by _ _ (IsTree-pushed (nodes_of ls) content ok.tree) pushed_agrees (omega (arith, fits, length_push ls (bare content)))
+  pushed_stored fits = stored_by _ _ (IsTree-pushed (nodes_of ls) content ok.tree) pushed_agrees pushed_lines (omega (arith, fits, length_push ls (bare content)))
 
   pub pushed_adds : Adds (nodes_of ls) (nodes_of (ls ++ bare content ∷ [])) content
   pushed_adds = subst (λ (l : List tree.Node). Adds (nodes_of ls) l content) (sym (shown_is _ _ (IsTree-pushed (nodes_of ls) content ok.tree) pushed_agrees)) (Adds-pushed (nodes_of ls) content)
@@ -142,24 +151,28 @@ module _ (content : Content) (said : content ≡ root) where
       back = λ c k h. let r = alone_row c in let first : k ≡ 0 = omega (arith, h, ap length r) in rw (r, first) (one_bare (λ n. n.last) (bare content) nowhere c refl);
       alone = λ n e. (one_bare (λ x. x.next) (bare content) nowhere n refl, one_bare (λ x. x.previous) (bare content) nowhere n refl);
     };
+    lines = λ c. let r = alone_row c in rw r (one_bare (λ n. n.lines) (bare content) nowhere c refl);
     few = omega arith;
   }
 
 -- a leaf that becomes another
-module _ (ls : List LinkedNode) (ok : IsStored ls) (n : ℕ) (e : LinkedNode) (content : Content) (there : n < length ls) (read : e ≡ link_at ls n) (leaf : is_container_at (nodes_of ls) n ≡ false) where
+module _ (ls : List LinkedNode) (ok : IsStored ls) (n : ℕ) (content : Content) (there : n < length ls) (leaf : is_container_at (nodes_of ls) n ≡ false) where
+  abbrev leaf_now : LinkedNode
+  leaf_now = record (link_at ls n) { content = content }
+
   abbrev other_leaf : List LinkedNode
-  other_leaf = set ls n (record e { content = content })
+  other_leaf = leaf_set ls n content
 
-  abbrev leaf_set : List tree.Node
-  leaf_set = content_set (nodes_of ls) n content
+  abbrev changed_leaf : List tree.Node
+  changed_leaf = content_set (nodes_of ls) n content
 
-  becomes : LeafBecomes (nodes_of ls) leaf_set n content
-  becomes = LeafBecomes-set (nodes_of ls) leaf_set n content (omega (arith, length_shown ls)) refl
+  becomes : LeafBecomes (nodes_of ls) changed_leaf n content
+  becomes = LeafBecomes-set (nodes_of ls) changed_leaf n content (omega (arith, length_shown ls)) refl
 
-  leaf_set_tree : IsTree leaf_set
-  leaf_set_tree =
-      IsTree-from leaf_set (place_at (nodes_of ls))
-      (IsTreeBy-same (nodes_of ls) leaf_set (place_at (nodes_of ls)) (place_at (nodes_of ls))
+  changed_tree : IsTree changed_leaf
+  changed_tree =
+      IsTree-from changed_leaf (place_at (nodes_of ls))
+      (IsTreeBy-same (nodes_of ls) changed_leaf (place_at (nodes_of ls)) (place_at (nodes_of ls))
       (omega (arith, becomes.len)) becomes.children becomes.parent (λ k. refl)
       (elim (cases_eq 0 n) [
         | inl is ↦ let wrong : false ≡ true = sym leaf ∙ ap (is_container_at (nodes_of ls)) (sym is) ∙ ap is_container ok.tree.root_first in absurd (false≢true wrong)
@@ -171,8 +184,8 @@ module _ (ls : List LinkedNode) (ok : IsStored ls) (n : ℕ) (e : LinkedNode) (c
       ]))
       ok.tree)
 
-  field_kept : {X : Type 0} (f : LinkedNode → X) (k : ℕ) → f (record e { content = content }) ≡ f e → f (link_at other_leaf k) ≡ f (link_at ls k)
-  field_kept f k same = kept f ls n k (record e { content = content }) (same ∙ ap f read)
+  field_kept : {X : Type 0} (f : LinkedNode → X) (k : ℕ) → f leaf_now ≡ f (link_at ls n) → f (link_at other_leaf k) ≡ f (link_at ls k)
+  field_kept f k same = kept f ls n k leaf_now same
 
   ahead_kept : (c : ℕ) (o : Option ℕ) → ahead_at other_leaf c o ≡ ahead_at ls c o
   ahead_kept c None = field_kept (λ x. x.first) c refl
@@ -182,7 +195,7 @@ module _ (ls : List LinkedNode) (ok : IsStored ls) (n : ℕ) (e : LinkedNode) (c
   back_kept c None = field_kept (λ x. x.last) c refl
   back_kept c (Some m) = field_kept (λ x. x.previous) m refl
 
-  other_agrees : Agrees other_leaf leaf_set
+  other_agrees : Agrees other_leaf changed_leaf
   other_agrees =
       let same = agrees ls ok in
       record {
@@ -190,10 +203,10 @@ module _ (ls : List LinkedNode) (ok : IsStored ls) (n : ℕ) (e : LinkedNode) (c
         content = λ k h. elim (cases_eq k n) [
           | inl is ↦
               ap (λ m. (link_at other_leaf m).content) is
-              ∙ ap (λ (x : LinkedNode). x.content) (get_or-set_same ls n (record e { content = content }) nowhere there)
-              ∙ sym becomes.content ∙ ap (content_at leaf_set) (sym is)
+              ∙ ap (λ (x : LinkedNode). x.content) (get_or-set_same ls n leaf_now nowhere there)
+              ∙ sym becomes.content ∙ ap (content_at changed_leaf) (sym is)
           | inr ne ↦
-              ap (λ (x : LinkedNode). x.content) (get_or-set_other ls n k (record e { content = content }) nowhere ne)
+              ap (λ (x : LinkedNode). x.content) (get_or-set_other ls n k leaf_now nowhere ne)
               ∙ same.content k (omega (arith, becomes.len)) ∙ sym (becomes.others k ne)
         ];
         parent = λ k. field_kept (λ x. x.parent) k refl ∙ same.parent k ∙ sym (becomes.parent k);
@@ -206,11 +219,60 @@ module _ (ls : List LinkedNode) (ok : IsStored ls) (n : ℕ) (e : LinkedNode) (c
         };
       }
 
-  pub other_leaf_stored : IsStored other_leaf
-  other_leaf_stored = stored_by _ _ leaf_set_tree other_agrees (omega (arith, ok.few, length-set ls n (record e { content = content })))
+  counts_kept : Counts other_leaf (nodes_of ls)
+  counts_kept c = field_kept (λ x. x.lines) c refl ∙ ok.lines c
 
-  pub other_leaf_says : LeafBecomes (nodes_of ls) (nodes_of other_leaf) n content
-  other_leaf_says = subst (λ (l : List tree.Node). LeafBecomes (nodes_of ls) l n content) (sym (shown_is _ _ leaf_set_tree other_agrees)) becomes
+  stored_alone : parent_at (nodes_of ls) n ≡ None → IsStored other_leaf
+  stored_alone alone =
+      stored_by _ _ changed_tree other_agrees
+      (counts_alone other_leaf (nodes_of ls) changed_leaf ok.tree 0 0 n (omega (arith, ok.tree.first, length_shown ls, length-set ls n leaf_now)) becomes.children becomes.others counts_kept alone)
+      (omega (arith, ok.few, length-set ls n leaf_now))
+
+  -- where it has no parent
+  pub leaf_alone : parent_at (nodes_of ls) n ≡ None → IsStored other_leaf × LeafBecomes (nodes_of ls) (nodes_of other_leaf) n content
+  leaf_alone alone = (stored_alone alone, subst (λ (l : List tree.Node). LeafBecomes (nodes_of ls) l n content) (sym (shown_is _ _ changed_tree other_agrees)) becomes)
+
+  module _ (c : ℕ) (said : parent_at (nodes_of ls) n ≡ Some c) where
+    stood : slice_get (children_at (nodes_of ls) c) (place_at (nodes_of ls) n) ≡ Some n
+    stood = (in_row (nodes_of ls) ok.tree n c said).2
+
+    pub parent_there : c < length other_leaf
+    parent_there = omega (arith, (in_row (nodes_of ls) ok.tree n c said).0, length_shown ls, length-set ls n leaf_now)
+
+    -- a leaf is no container
+    apart : c ≢ n
+    apart is = false≢true (sym leaf ∙ ap (is_container_at (nodes_of ls)) (sym is) ∙ (in_row (nodes_of ls) ok.tree n c said).1)
+
+    pub parent_holds : is_container (link_at other_leaf c).content ≡ true
+    parent_holds =
+        let r = in_row (nodes_of ls) ok.tree n c said in
+        ap is_container (other_agrees.content c (omega (arith, parent_there, other_agrees.len)) ∙ becomes.others c apart) ∙ r.1
+
+    module _ (was is : Bool) (was_is : was ≡ is_newline (link_at ls n).content) (is_is : is ≡ is_newline content) where
+      was_at : was ≡ is_newline_at (nodes_of ls) n
+      was_at = was_is ∙ ap is_newline (content_shown ls n there)
+
+      is_at : is ≡ is_newline_at changed_leaf n
+      is_at = is_is ∙ ap is_newline (sym becomes.content)
+
+      pub was_counted : was ≡ true → 1 ≤ (link_at other_leaf c).lines
+      was_counted h = omega (arith, counted other_leaf (nodes_of ls) changed_leaf ok.tree c (place_at (nodes_of ls) n) n parent_there becomes.children becomes.others counts_kept stood, ap one_if (sym was_at ∙ h))
+
+      pub few_counted : (link_at (counted_out other_leaf c was) c).lines < 2 ^ 32
+      few_counted =
+          omega (arith, lines_here other_leaf c ((link_at other_leaf c).lines - one_if was) parent_there, counts_kept c, line_ends-short (nodes_of ls) (children_at (nodes_of ls) c), row_short (nodes_of ls) ok.tree c, length_shown ls, ok.few)
+
+      both_counted : Agrees (counted_in (counted_out other_leaf c was) c is) changed_leaf
+      both_counted = counted_agrees (counted_out other_leaf c was) c _ changed_leaf (counted_agrees other_leaf c _ changed_leaf other_agrees)
+
+      -- where it stands in a row
+      pub leaf_counted : IsStored (counted_in (counted_out other_leaf c was) c is) × LeafBecomes (nodes_of ls) (nodes_of (counted_in (counted_out other_leaf c was) c is)) n content
+      leaf_counted = (
+        stored_by _ _ changed_tree both_counted
+            (rw (was_at, is_at) (counts_changed other_leaf (nodes_of ls) changed_leaf ok.tree c (place_at (nodes_of ls) n) n parent_there becomes.children becomes.others counts_kept stood))
+            (omega (arith, ok.few, both_counted.len, becomes.len, length_shown ls)),
+        subst (λ (l : List tree.Node). LeafBecomes (nodes_of ls) l n content) (sym (shown_is _ _ changed_tree both_counted)) becomes,
+      )
 
 -- the gap at the end of a row
 module _ (ls : List LinkedNode) (ok : IsStored ls) where

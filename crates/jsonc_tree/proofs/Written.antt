@@ -38,7 +38,7 @@ module _ {X : Type 0} (f : LinkedNode → X) (ls : List LinkedNode) (c k : ℕ) 
   ahead_set_keeps None a b = kept f ls c k (record (link_at ls c) { first = t }) (a (link_at ls c))
   ahead_set_keeps (Some l) a b = kept f ls l k (record (link_at ls l) { next = t }) (b (link_at ls l))
 
-  back_set_keeps : (o : Option ℕ) → ((n : LinkedNode) → f (record n { last = t }) ≡ f n) → ((n : LinkedNode) → f (record n { previous = t }) ≡ f n) → f (link_at (back_set ls c o t) k) ≡ f (link_at ls k)
+  pub back_set_keeps : (o : Option ℕ) → ((n : LinkedNode) → f (record n { last = t }) ≡ f n) → ((n : LinkedNode) → f (record n { previous = t }) ≡ f n) → f (link_at (back_set ls c o t) k) ≡ f (link_at ls k)
   back_set_keeps None a b = kept f ls c k (record (link_at ls c) { last = t }) (a (link_at ls c))
   back_set_keeps (Some l) a b = kept f ls l k (record (link_at ls l) { previous = t }) (b (link_at ls l))
 
@@ -86,18 +86,26 @@ back_by_place ls x p q r d (Some m) ne = same_there (λ n. n.previous) ls x m (r
 abbrev pub relinked : List LinkedNode → ℕ → Option ℕ → Option ℕ → Option ℕ → Option ℕ → ℕ → Option ℕ → Option ℕ → Option ℕ → List LinkedNode
 relinked ls c b a s t x p q r = place_set (back_set (ahead_set ls c b s) c a t) x p q r
 
+module _ (ls : List LinkedNode) (c : ℕ) (b a s t : Option ℕ) (x : ℕ) (p q r : Option ℕ) where
+  -- no link says what a node is, or how many lines end in a row
+  field_stays : {X : Type 0} (f : LinkedNode → X) (k : ℕ) → ((n : LinkedNode) (o : Option ℕ) → f (record n { first = o }) ≡ f n) → ((n : LinkedNode) (o : Option ℕ) → f (record n { next = o }) ≡ f n) → ((n : LinkedNode) (o : Option ℕ) → f (record n { last = o }) ≡ f n) → ((n : LinkedNode) (o : Option ℕ) → f (record n { previous = o }) ≡ f n) → ((n : LinkedNode) → f (record n { parent = p; previous = q; next = r }) ≡ f n) → f (link_at (relinked ls c b a s t x p q r) k) ≡ f (link_at ls k)
+  field_stays f k h1 h2 h3 h4 h5 =
+      kept f (back_set (ahead_set ls c b s) c a t) x k _ (h5 _)
+      ∙ back_set_keeps f (ahead_set ls c b s) c k t a (λ n. h3 n t) (λ n. h4 n t)
+      ∙ ahead_set_keeps f ls c k s b (λ n. h1 n s) (λ n. h2 n s)
+
+  pub content_kept : (k : ℕ) → (link_at (relinked ls c b a s t x p q r) k).content ≡ (link_at ls k).content
+  content_kept k = field_stays (λ n. n.content) k (λ n o. refl) (λ n o. refl) (λ n o. refl) (λ n o. refl) (λ n. refl)
+
+  pub lines_kept : (k : ℕ) → (link_at (relinked ls c b a s t x p q r) k).lines ≡ (link_at ls k).lines
+  lines_kept k = field_stays (λ n. n.lines) k (λ n o. refl) (λ n o. refl) (λ n o. refl) (λ n o. refl) (λ n. refl)
+
 module _ (ls : List LinkedNode) (c : ℕ) (b a s t : Option ℕ) (x : ℕ) (p q r : Option ℕ) (at : c < length ls) (there : x < length ls) (b_there : IfSome b (λ n. n < length ls)) (a_there : IfSome a (λ n. n < length ls)) where
   pub length-relinked : length (relinked ls c b a s t x p q r) ≡ length ls
   length-relinked = length-set (back_set (ahead_set ls c b s) c a t) x _ ∙ length-back_set (ahead_set ls c b s) c a t ∙ length-ahead_set ls c b s
 
   x_there : x < length (back_set (ahead_set ls c b s) c a t)
   x_there = omega (arith, length-back_set (ahead_set ls c b s) c a t, length-ahead_set ls c b s)
-
-  pub content_kept : (k : ℕ) → (link_at (relinked ls c b a s t x p q r) k).content ≡ (link_at ls k).content
-  content_kept k =
-      kept (λ n. n.content) (back_set (ahead_set ls c b s) c a t) x k _ refl
-      ∙ back_set_keeps (λ n. n.content) (ahead_set ls c b s) c k t a (λ n. refl) (λ n. refl)
-      ∙ ahead_set_keeps (λ n. n.content) ls c k s b (λ n. refl) (λ n. refl)
 
   pub parent_here : (link_at (relinked ls c b a s t x p q r) x).parent ≡ p
   parent_here = same_here (λ n. n.parent) (back_set (ahead_set ls c b s) c a t) x _ x_there

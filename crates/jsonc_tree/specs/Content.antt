@@ -27,6 +27,11 @@ is_container array = true
 is_container property = true
 is_container _ = false
 
+-- the end of a line
+abbrev pub is_newline : Content → Bool
+is_newline (newline k) = true
+is_newline _ = false
+
 -- the bytes of a line's end
 abbrev pub newline_text : CstNewlineKind → List ℕ
 newline_text LineFeed = 10 ∷ []

@@ -1,13 +1,13 @@
 -- A tree under way, which grows at the end of one container.
 use Rattle.std.specs.Prelude.{ℕ, ◌<◌, ◌-◌, List, [], ◌∷◌, ◌++◌, length, Option, None, Some, vec_len, vec_capacity, IsTrue}
-use Rattle.jsonc_tree.specs.Content.{Content}
+use Rattle.jsonc_tree.specs.Content.{Content, is_newline}
 use Rattle.jsonc_tree.specs.Tree.{Node, is_container_at}
-use Rattle.jsonc_tree.specs.Stored.{LinkedNode, bare, nodes_of, ahead_set, back_set, IsStored}
+use Rattle.jsonc_tree.specs.Stored.{LinkedNode, bare, nodes_of, ahead_set, back_set, counted_in, IsStored}
 use Rattle.jsonc_tree.specs.declared.growing.Growing.{Growing}
 
--- the nodes, and one more of this number behind a container's last child, which leads on to it
+-- the nodes, and one more of this number behind a container's last child, which leads on to it, and counted there
 abbrev pub child_behind : List LinkedNode → ℕ → Option ℕ → Content → ℕ → List LinkedNode
-child_behind ls c last content number = ahead_set (ls ++ record (bare content) { parent = Some c; previous = last } ∷ []) c last (Some number)
+child_behind ls c last content number = counted_in (ahead_set (ls ++ record (bare content) { parent = Some c; previous = last } ∷ []) c last (Some number)) c (is_newline content)
 
 module _ {A : Type 0} where
   -- what nodes there are, with the last child of the container at hand in its place

@@ -1,9 +1,9 @@
 -- How the nodes are stored in memory: by links.
-use Rattle.std.specs.Prelude.{◌≡◌, ◌≤◌, ◌^◌, ◌-◌, length, Vec, ℕ, zero, suc, List, [], ◌∷◌, Option, Some, None, string_bytes, map, slice_index_or, slice_get, slice_set}
+use Rattle.std.specs.Prelude.{◌≡◌, ◌≤◌, ◌+◌, ◌^◌, ◌-◌, length, Vec, Bool, ℕ, zero, suc, List, [], ◌∷◌, Option, Some, None, string_bytes, map, slice_index_or, slice_get, slice_set, if◌then◌else◌}
 use Rattle.jsonc_tree.specs.Content as content
 use Rattle.jsonc_tree.specs.Content.{Content}
 use Rattle.jsonc_tree.specs.Tree as tree
-use Rattle.jsonc_tree.specs.Tree.{children_at, parent_at, IsTree}
+use Rattle.jsonc_tree.specs.Tree.{children_at, is_newline_at, parent_at, IsTree}
 use Rattle.jsonc_tree.specs.Siblings.{before}
 use Rattle.jsonc_tree.specs.declared.node.Ends.{Ends}
 use Rattle.jsonc_tree.specs.declared.node.Kind.{Kind}
@@ -47,11 +47,19 @@ module _ {A : Type 0} where
   last_end (Property ends) = ends.last
   last_end _ = None
 
+  -- how many of its children are ends of lines
+  abbrev pub line_count : Kind A → ℕ
+  line_count (Root ends) = ends.lines
+  line_count (Object ends) = ends.lines
+  line_count (Array ends) = ends.lines
+  line_count (Property ends) = ends.lines
+  line_count _ = 0
+
 -- the ends of a container without children
 abbrev pub no_ends : Ends
-no_ends = record { first = None; last = None }
+no_ends = record { first = None; last = None; lines = 0 }
 
--- a node as it is linked: what it is, its parent, its neighbours, and the ends of its row
+-- a node as it is linked: what it is, its parent, its neighbours, the ends of its row, and how many ends of lines stand in that
 pub record LinkedNode : Type 0 where
   pub content : Content
   pub parent : Option ℕ
@@ -59,10 +67,11 @@ pub record LinkedNode : Type 0 where
   pub next : Option ℕ
   pub first : Option ℕ
   pub last : Option ℕ
+  pub lines : ℕ
 
 -- a node that is detached
 abbrev pub bare : Content → LinkedNode
-bare content = record { content = content; parent = None; previous = None; next = None; first = None; last = None }
+bare content = record { content = content; parent = None; previous = None; next = None; first = None; last = None; lines = 0 }
 
 abbrev pub nowhere : LinkedNode
 nowhere = bare content.null
@@ -109,6 +118,30 @@ back_set ls c (Some n) to = slice_set ls n (record (link_at ls n) { previous = t
 abbrev pub place_set : List LinkedNode → ℕ → Option ℕ → Option ℕ → Option ℕ → List LinkedNode
 place_set ls n parent previous next = slice_set ls n (record (link_at ls n) { parent = parent; previous = previous; next = next })
 
+-- but that this leaf is another
+abbrev pub leaf_set : List LinkedNode → ℕ → Content → List LinkedNode
+leaf_set ls n content = slice_set ls n (record (link_at ls n) { content = content })
+
+-- but that so many ends of lines are counted in this container
+abbrev pub lines_set : List LinkedNode → ℕ → ℕ → List LinkedNode
+lines_set ls c to = slice_set ls c (record (link_at ls c) { lines = to })
+
+-- one where it is so
+abbrev pub one_if : Bool → ℕ
+one_if b = if b then 1 else 0
+
+-- but that the end of a line that came into this container, or left it, is counted
+abbrev pub counted_in : List LinkedNode → ℕ → Bool → List LinkedNode
+counted_in ls c b = lines_set ls c ((link_at ls c).lines + one_if b)
+
+abbrev pub counted_out : List LinkedNode → ℕ → Bool → List LinkedNode
+counted_out ls c b = lines_set ls c ((link_at ls c).lines - one_if b)
+
+-- how many of these nodes are ends of lines
+abbrev pub line_ends : List tree.Node → List ℕ → ℕ
+line_ends ns [] = 0
+line_ends ns (n ∷ row) = one_if (is_newline_at ns n) + line_ends ns row
+
 -- Over each gap of each row the links lead from what stands before it to what stands behind it, and back; the container stands at both ends of its row. A
 -- node without a parent has no neighbours.
 pub record IsLinked (ls : List LinkedNode) (ns : List tree.Node) : Type 0 where
@@ -130,8 +163,9 @@ StandsBefore ls o = (c : ℕ) × (k : ℕ) × (k ≤ length (children_at (nodes_
 abbrev pub Stands : List LinkedNode → Option ℕ → Type 0
 Stands ls o = (c : ℕ) × (k : ℕ) × (k ≤ length (children_at (nodes_of ls) c)) × (o ≡ slice_get (children_at (nodes_of ls) c) k)
 
--- what is shown is a tree, the links are those of its rows, and each node has a number that a link can hold
+-- what is shown is a tree, the links are those of its rows, each container counts its ends of lines, and each node has a number that a link can hold
 pub record IsStored (ls : List LinkedNode) : Type 0 where
   pub tree : IsTree (nodes_of ls)
   pub linked : IsLinked ls (nodes_of ls)
+  pub lines : (c : ℕ) → (link_at ls c).lines ≡ line_ends (nodes_of ls) (children_at (nodes_of ls) c)
   pub few : length ls ≤ 2 ^ 32 - 1

@@ -9,7 +9,7 @@ ghost use Rattle.jsonc_tree.specs.Growing.{IsGrowing, child_behind, container_of
 ghost use Rattle.jsonc_tree.specs.Stored.{content_of, link_at};
 
 use crate::link::WideLink;
-use crate::links::{last_of, next_number, set_ahead, set_back};
+use crate::links::{count_in, last_of, next_number, set_ahead, set_back};
 use crate::node::{Ends, Kind, Node, bare_node, node_in};
 use crate::tree::Tree;
 use std::alloc::{AllocError, Allocator};
@@ -35,13 +35,16 @@ fn push_behind<A: Allocator>(
     requires in_tree { c < vec_len nodes.old }
     requires container { is_container (link_at nodes.old.items c).content ≡ true }
     requires last { IfSome last (λ n. n < vec_len nodes.old) }
+    requires lines { (link_at nodes.old.items c).lines < 2 ^ 32 }
     ensures number { IfOk result (λ n. n ≡ vec_len nodes.old) }
     ensures fits { OnOk result (vec_len nodes.old < 2 ^ 32 - 1) }
     ensures nodes { OnOk result (nodes.new.items ≡ child_behind nodes.old.items c last (content_of kind) (vec_len nodes.old)) }
 {
     let number = next_number(nodes)?;
+    let newline = kind.is_newline();
     nodes.push(node_in(kind, c, last))?;
     set_ahead(nodes, c, last, Some(number));
+    count_in(nodes, c, newline);
     Ok(number)
 }
 

@@ -2,8 +2,8 @@
 
 ghost use Rattle.std.specs.Prelude.{◌≡◌, ◌<◌, ◌≤◌, ◌-◌, ◌^◌, true, vec_len};
 ghost use Rattle.std.specs.Prelude.{IfOk, IfSome, OnErr, OnOk};
-ghost use Rattle.jsonc_tree.specs.Content.{is_container};
-ghost use Rattle.jsonc_tree.specs.Stored.{link_at, ahead_set, back_set, back_at, place_set};
+ghost use Rattle.jsonc_tree.specs.Content.{is_container, is_newline};
+ghost use Rattle.jsonc_tree.specs.Stored.{link_at, ahead_set, back_set, back_at, counted_in, counted_out, place_set};
 
 use crate::node::Node;
 use std::alloc::{AllocError, Allocator};
@@ -92,6 +92,53 @@ pub(crate) fn set_place<A: Allocator>(
 {
     let node = &mut nodes[n];
     node.set_place(parent, previous, next);
+}
+
+// How many ends of lines a container counts.
+pub(crate) fn lines_of<A: Allocator>(nodes: &Vec<Node<A>, A>, c: usize) -> usize
+    requires { c < vec_len nodes.now }
+    ensures { result ≡ (link_at nodes.now.items c).lines }
+{
+    let container = &nodes[c];
+    container.lines()
+}
+
+// It counts one more, if that is the end of a line.
+#[inline(always)]
+pub(crate) fn count_in<A: Allocator>(nodes: &mut Vec<Node<A>, A>, c: usize, newline: bool)
+    requires in_tree { c < vec_len nodes.old }
+    requires container { is_container (link_at nodes.old.items c).content ≡ true }
+    requires fits { (link_at nodes.old.items c).lines < 2 ^ 32 }
+    ensures nodes { nodes.new.items ≡ counted_in nodes.old.items c newline }
+    ensures len { vec_len nodes.new ≡ vec_len nodes.old }
+{
+    if newline {
+        let container = &mut nodes[c];
+        container.add_line();
+    }
+}
+
+// It counts one fewer, if that was the end of a line.
+pub(crate) fn count_out<A: Allocator>(nodes: &mut Vec<Node<A>, A>, c: usize, newline: bool)
+    requires in_tree { c < vec_len nodes.old }
+    requires container { is_container (link_at nodes.old.items c).content ≡ true }
+    requires counted { newline ≡ true → 1 ≤ (link_at nodes.old.items c).lines }
+    ensures nodes { nodes.new.items ≡ counted_out nodes.old.items c newline }
+    ensures len { vec_len nodes.new ≡ vec_len nodes.old }
+{
+    if newline {
+        let container = &mut nodes[c];
+        container.remove_line();
+    }
+}
+
+// Whether a node is the end of a line.
+pub(crate) fn is_newline<A: Allocator>(nodes: &Vec<Node<A>, A>, n: usize) -> bool
+    requires { n < vec_len nodes.now }
+    ensures { result ≡ is_newline (link_at nodes.now.items n).content }
+{
+    let node = &nodes[n];
+    node.kind().is_newline()
 }
 
 pub(crate) fn parent_of<A: Allocator>(nodes: &Vec<Node<A>, A>, n: usize) -> Option<usize>

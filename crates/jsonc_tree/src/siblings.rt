@@ -2,11 +2,12 @@
 
 ghost use Rattle.std.specs.Prelude.{◌≡◌, ◌<◌, ◌^◌, length, reverse, vec_len};
 ghost use Rattle.std.specs.Iterator.{YieldsFirst, item_count};
-ghost use Rattle.jsonc_tree.specs.Tree.{children_at};
+ghost use Rattle.std.specs.List.{list_any};
+ghost use Rattle.jsonc_tree.specs.Tree.{children_at, is_newline_at};
 ghost use Rattle.jsonc_tree.specs.Siblings.{first, siblings_after, siblings_before};
 ghost use Rattle.jsonc_tree.specs.Stored.{nodes_in, IsStored};
 
-use crate::links::{first_of, last_of, next_of, previous_of};
+use crate::links::{first_of, last_of, lines_of, next_of, previous_of};
 use crate::node::Node;
 use crate::tree::Tree;
 use std::alloc::Allocator;
@@ -44,7 +45,24 @@ fn previous_in<A: Allocator>(nodes: &Vec<Node<A>, A>, n: usize) -> Option<usize>
     previous_of(nodes, n)
 }
 
+// Whether a container counts any end of a line.
+fn has_line_end_in<A: Allocator>(nodes: &Vec<Node<A>, A>, c: usize) -> bool
+    requires stored { IsStored nodes.now.items }
+    requires in_tree { c < vec_len nodes.now }
+    ensures { result ≡ list_any (is_newline_at (nodes_in nodes.now)) (children_at (nodes_in nodes.now) c) }
+{
+    lines_of(nodes, c) > 0
+}
+
 impl<A: Allocator> Tree<A> {
+    /// Whether a line ends among the children of a container, in constant time.
+    pub fn has_line_end(&self, container: usize) -> bool
+        requires { container < length self.now.nodes }
+        ensures { result ≡ list_any (is_newline_at self.now.nodes) (children_at self.now.nodes container) }
+    {
+        has_line_end_in(&self.nodes, container)
+    }
+
     /// A container's first child, if it has any.
     pub fn first_child(&self, node: usize) -> Option<usize>
         requires { node < length self.now.nodes }

@@ -9,7 +9,8 @@ ghost use Rattle.jsonc_tree.specs.Siblings.{TakesOut, TakesStretch};
 ghost use Rattle.jsonc_tree.specs.Stored.{nodes_in, IsStored};
 
 use crate::links::{
-    before_of, last_of, next_of, parent_of, previous_of, set_ahead, set_back, set_place,
+    before_of, count_in, count_out, is_newline, last_of, next_of, parent_of, previous_of,
+    set_ahead, set_back, set_place,
 };
 use crate::node::Node;
 use crate::walk::child_from;
@@ -33,6 +34,8 @@ pub(crate) fn put_between<A: Allocator>(
     set_ahead(nodes, c, before, Some(x));
     set_back(nodes, c, behind, Some(x));
     set_place(nodes, x, Some(c), before, behind);
+    let newline = is_newline(nodes, x);
+    count_in(nodes, c, newline);
 }
 
 // Takes a child out of its row.
@@ -49,6 +52,8 @@ fn take_out<A: Allocator>(nodes: &mut Vec<Node<A>, A>, c: usize, x: usize)
     set_ahead(nodes, c, before, behind);
     set_back(nodes, c, behind, before);
     set_place(nodes, x, None, None, None);
+    let newline = is_newline(nodes, x);
+    count_out(nodes, c, newline);
 }
 
 // Takes a stretch out of a row, and answers what stood behind it.

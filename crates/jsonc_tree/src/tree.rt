@@ -8,10 +8,10 @@ ghost use Rattle.jsonc_tree.specs.Changes.{Adds, Appends, CanAppend, CanJoin};
 ghost use Rattle.jsonc_tree.specs.Changes.{LeafBecomes, Pushes, Splices};
 ghost use Rattle.jsonc_tree.specs.Siblings.{CanFill, CanReplace, Fills, IsStretch, Replaces};
 ghost use Rattle.jsonc_tree.specs.Siblings.{TakesStretch};
-ghost use Rattle.jsonc_tree.specs.Stored.{content_of, nodes_in, IsStored};
+ghost use Rattle.jsonc_tree.specs.Stored.{content_of, leaf_set, link_at, nodes_in, IsStored};
 ghost use Rattle.jsonc_tree.specs.StoredOnce.{IsStored-prop};
 
-use crate::links::next_number;
+use crate::links::{count_in, count_out, is_newline, next_number, parent_of};
 use crate::node::{Ends, Kind, Node, bare_node};
 use crate::splice::{append_node, put_row, replace_child, splice_nodes, take_between};
 use std::alloc::{AllocError, Allocator};
@@ -42,6 +42,18 @@ impl<A: Allocator> Model for Tree<A> {
     } };
 }
 
+// Writes what a leaf is now.
+fn write_leaf<A: Allocator>(nodes: &mut Vec<Node<A>, A>, leaf: usize, kind: Kind<A>)
+    requires in_tree { leaf < vec_len nodes.old }
+    requires leaf { is_container (link_at nodes.old.items leaf).content ≡ false }
+    requires stays { is_container (content_of kind) ≡ false }
+    ensures nodes { nodes.new.items ≡ leaf_set nodes.old.items leaf (content_of kind) }
+    ensures len { vec_len nodes.new ≡ vec_len nodes.old }
+{
+    let node = &mut nodes[leaf];
+    node.set_leaf(kind);
+}
+
 // Lets a leaf become another.
 fn set_leaf_at<A: Allocator>(nodes: &mut Vec<Node<A>, A>, leaf: usize, kind: Kind<A>)
     requires stored { IsStored nodes.old.items }
@@ -52,8 +64,15 @@ fn set_leaf_at<A: Allocator>(nodes: &mut Vec<Node<A>, A>, leaf: usize, kind: Kin
     ensures stored { IsStored nodes.new.items }
     ensures len { vec_len nodes.new ≡ vec_len nodes.old }
 {
-    let node = &mut nodes[leaf];
-    node.set_leaf(kind);
+    let parent = parent_of(nodes, leaf);
+    let was = is_newline(nodes, leaf);
+    let is = kind.is_newline();
+    write_leaf(nodes, leaf, kind);
+    let Some(c) = parent else {
+        return;
+    };
+    count_out(nodes, c, was);
+    count_in(nodes, c, is);
 }
 
 impl<A: Allocator> Tree<A> {

@@ -3,7 +3,7 @@
 use crate::tests::edits::edited;
 use crate::tests::inputs::inputs;
 use crate::tests::named_values::named_values;
-use crate::tests::trees::changed_tree;
+use crate::tests::trees::{changed_tree, counted_lines};
 use crate::tests::typed::{children, names};
 use failing_alloc::in_turn::is_refused_in_turn;
 use std::test::Fail;
@@ -16,6 +16,7 @@ fn each_request_is_refused_in_turn(rt: HostRuntime) -> Result<(), Fail> {
     assert!(rt; is_refused_in_turn(alloc, |heap| names(heap)));
     assert!(rt; is_refused_in_turn(alloc, |heap| named_values(heap)));
     assert!(rt; is_refused_in_turn(alloc, |heap| changed_tree(heap)));
+    assert!(rt; is_refused_in_turn(alloc, |heap| counted_lines(heap)));
     assert!(rt; is_refused_in_turn(alloc, |heap| edited(heap)));
     Ok(())
 }

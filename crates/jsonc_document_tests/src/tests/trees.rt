@@ -3,7 +3,7 @@ ghost use Rattle.std.specs.Prelude.{◌<◌, IsTrue, length};
 ghost use Rattle.jsonc_tree.specs.Tree.{is_container_at};
 
 use failing_alloc::outcome::Outcome;
-use jsonc_tree::{Ends, Kind, Tree};
+use jsonc_tree::{CstNewlineKind, Ends, Kind, Tree};
 use std::alloc::Allocator;
 
 /// Whether a node is there and may have children.
@@ -105,6 +105,51 @@ fn is_changed<A: Allocator + Copy>(alloc: A, tree: Tree<A>) -> Outcome {
     let mut tree = tree;
     match change(alloc, &mut tree) {
         Ok(()) => Outcome::of_text(tree.to_string(alloc), "[a  ]"),
+        Err(outcome) => outcome,
+    }
+}
+
+// Goes on where a line ends in a container, or where none does.
+fn expect_line_end<A: Allocator>(
+    tree: &Tree<A>,
+    container: usize,
+    wanted: bool,
+) -> Result<(), Outcome> {
+    if container < tree.len() && tree.has_line_end(container) == wanted {
+        return Ok(());
+    }
+    Err(Outcome::Other)
+}
+
+// The end of a line comes, becomes blanks, is what a number becomes, goes, and comes again.
+fn change_lines<A: Allocator + Copy>(alloc: A, tree: &mut Tree<A>) -> Result<(), Outcome> {
+    let (array, number) = fill(alloc, tree)?;
+    expect_line_end(tree, array, false)?;
+    let end = push(tree, array, Kind::Newline(CstNewlineKind::LineFeed))?;
+    expect_line_end(tree, array, true)?;
+    set(tree, end, Kind::Whitespace(String::from_str(alloc, " ")?))?;
+    expect_line_end(tree, array, false)?;
+    set(tree, number, Kind::Newline(CstNewlineKind::CarriageReturn))?;
+    expect_line_end(tree, array, true)?;
+    put(tree, array, 1, 2, Kind::token(','))?;
+    expect_line_end(tree, array, false)?;
+    attach(tree, array, Kind::Newline(CstNewlineKind::LineFeed))?;
+    expect_line_end(tree, array, true)?;
+    expect_line_end(tree, 0, false)
+}
+
+/// A tree that is asked after each change whether a line ends in its array.
+pub fn counted_lines<A: Allocator + Copy>(alloc: A) -> Outcome {
+    match Tree::new(alloc) {
+        Ok(tree) => counts_lines(alloc, tree),
+        Err(error) => Outcome::from(error),
+    }
+}
+
+fn counts_lines<A: Allocator + Copy>(alloc: A, tree: Tree<A>) -> Outcome {
+    let mut tree = tree;
+    match change_lines(alloc, &mut tree) {
+        Ok(()) => Outcome::Answered,
         Err(outcome) => outcome,
     }
 }

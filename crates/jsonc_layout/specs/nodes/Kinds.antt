@@ -2,6 +2,9 @@
 use Rattle.std.specs.Prelude.{ℕ, Bool, true, false, List, ◌==◌, ◌||◌, not}
 use Rattle.jsonc_tree.specs.Content.{Content, property, token, whitespace, newline, comment}
 use Rattle.jsonc_tree.specs.Tree.{Node, content_at}
+-- the end of a line
+pub use Rattle.jsonc_tree.specs.Content.{is_newline}
+pub use Rattle.jsonc_tree.specs.Tree.{is_newline_at}
 use Rattle.jsonc_tree.specs.Values.{is_passed_over}
 
 -- neither whitespace, a newline, a comment nor a token
@@ -28,10 +31,6 @@ is_token content = false
 abbrev pub is_whitespace : Content → Bool
 is_whitespace (whitespace s) = true
 is_whitespace _ = false
-
-abbrev pub is_newline : Content → Bool
-is_newline (newline k) = true
-is_newline _ = false
 
 abbrev pub is_comment : Content → Bool
 is_comment (comment s) = true
@@ -61,9 +60,6 @@ is_comma_at ns n = is_comma (content_at ns n)
 
 abbrev pub is_whitespace_at : List Node → ℕ → Bool
 is_whitespace_at ns n = is_whitespace (content_at ns n)
-
-abbrev pub is_newline_at : List Node → ℕ → Bool
-is_newline_at ns n = is_newline (content_at ns n)
 
 -- whitespace or the end of a line
 abbrev pub is_blank_at : List Node → ℕ → Bool

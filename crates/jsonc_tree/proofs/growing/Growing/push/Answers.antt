@@ -1,6 +1,6 @@
 use Rattle.std.proofs.Common.{IfSome, ◌<◌, subst, sym, ap, ◌∙◌, arith, vec_len, Some}
 use Rattle.jsonc_tree.specs.Stored.{content_of}
-use Rattle.jsonc_tree.proofs.GrowingRows.{last_there, grows_by, Pushes-holds}
+use Rattle.jsonc_tree.proofs.GrowingRows.{last_there, lines_at_hand, grows_by, Pushes-holds}
 use Rattle.jsonc_tree.proofs.growing.Growing.push.Goals as goal
 
 pub push_behind-requires-clause-last : goal.push_behind-requires-clause-last
@@ -23,3 +23,8 @@ returns-clause-growing g c =
       in_tree = still.0;
       holds = still.1;
     }
+
+pub push_behind-requires-clause-lines : goal.push_behind-requires-clause-lines
+push_behind-requires-clause-lines g c =
+    let was = c.args.self.now in
+    lines_at_hand was.nodes.items was.container was.last c.requires.stored c.requires.in_tree
