@@ -1,5 +1,5 @@
 -- What links show: where they are those of a tree's rows, just that tree.
-use Rattle.std.proofs.Common.{◌≡◌, ℕ, zero, suc, ◌+◌, ◌<◌, ◌≤◌, List, [], ◌∷◌, length, get_or, drop, inl, inr, eqb, slice_get, refl, sym, ap, subst, ◌∙◌, arith, ◌-◌, ◌^◌}
+use Rattle.std.proofs.Common.{◌≡◌, ℕ, false, None, Some, zero, suc, ◌+◌, ◌<◌, ◌≤◌, List, [], ◌∷◌, length, get_or, drop, inl, inr, eqb, slice_get, refl, sym, ap, subst, ◌∙◌, arith, ◌-◌, ◌^◌}
 use Rattle.std.proofs.lemmas.Bool.{cases_lt, ne_eqb}
 use Rattle.std.proofs.lemmas.Option.{slice_get-get_or, slice_get_past}
 use Rattle.std.proofs.lemmas.List.{get_or-map, get_or_past, length-map, drop_more, drop_all, get_or_default}
@@ -17,6 +17,31 @@ row_short ns t c =
     length-le_from_distinct_below xs (length ns)
     (IsDistinct-from_apart eqb xs (λ i j d lt le. ne_eqb (get_or xs i d) (get_or xs j d) (λ e. omega (arith, t.placed c i (omega arith), t.placed c j le, ap (place_at ns) (get_or_default xs i 0 d (omega arith) ∙ e ∙ sym (get_or_default xs j 0 d le))))))
     (λ q e. let w = in_where q xs e in omega (arith, w.2, t.in_tree c w.0 w.1))
+
+-- and shorter, as the root stands in none
+module _ (ns : List tree.Node) (t : IsTree ns) (c : ℕ) where
+  no_root : (k d : ℕ) → k < length (children_at ns c) → 0 ≡ get_or (children_at ns c) k d → ⊥
+  no_root k d h e =
+      let is : get_or (children_at ns c) k 0 ≡ 0 = sym (e ∙ sym (get_or_default (children_at ns c) k 0 d h)) in
+      let wrong : Some c ≡ None = sym (t.named c k h) ∙ ap (parent_at ns) is ∙ t.root_alone in
+      cc
+
+  apart_beside : (i j d : ℕ) → i < j → j < suc (length (children_at ns c)) → eqb (get_or (0 ∷ children_at ns c) i d) (get_or (0 ∷ children_at ns c) j d) ≡ false
+  apart_beside i zero d lt le = absurd (omega arith)
+  apart_beside zero (suc j) d lt le = ne_eqb 0 (get_or (children_at ns c) j d) (no_root j d (omega arith))
+  apart_beside (suc i) (suc j) d lt le =
+      let xs : List ℕ = children_at ns c in
+      ne_eqb (get_or xs i d) (get_or xs j d) (λ e. omega (arith, t.placed c i (omega arith), t.placed c j (omega arith), ap (place_at ns) (get_or_default xs i 0 d (omega arith) ∙ e ∙ sym (get_or_default xs j 0 d (omega arith)))))
+
+  there_beside : (m q : ℕ) → m < suc (length (children_at ns c)) → get_or (0 ∷ children_at ns c) m 0 ≡ q → q < length ns
+  there_beside zero q h e = omega (arith, t.first, e)
+  there_beside (suc m) q h e = omega (arith, t.in_tree c m (omega arith), e)
+
+  pub row_shorter : length (children_at ns c) < length ns
+  row_shorter =
+      let xs : List ℕ = 0 ∷ children_at ns c in
+      let short = length-le_from_distinct_below xs (length ns) (IsDistinct-from_apart eqb xs apart_beside) (λ q e. let w = in_where q xs e in there_beside w.0 q w.1 w.2) in
+      omega (arith, short)
 
 -- lists with the same members are the same
 pub list_same : {X : Type 0} (d : X) (xs ys : List X) → length xs ≡ length ys → ((k : ℕ) → k < length ys → get_or xs k d ≡ get_or ys k d) → xs ≡ ys

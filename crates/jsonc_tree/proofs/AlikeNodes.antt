@@ -3,7 +3,7 @@ use Rattle.std.proofs.Common.{◌≡◌, ◌<◌, ℕ, true, false, List, length
 use Rattle.std.proofs.lemmas.Bool.{false≢true}
 use Rattle.jsonc_tree.specs.Content.{is_container}
 use Rattle.jsonc_tree.specs.Tree.{is_container_at}
-use Rattle.jsonc_tree.specs.Stored.{LinkedNode, content_of, first_end, last_end, line_count, link_at, nodes_of, ahead_set}
+use Rattle.jsonc_tree.specs.Stored.{LinkedNode, content_of, first_end, last_end, link_at, nodes_of, ahead_set}
 use Rattle.jsonc_tree.specs.declared.node.Kind.{Kind}
 use Rattle.jsonc_tree.specs.declared.node.Kind.TheVariants.{Root, Object, Array, Property, String, Word, Number, Boolean, Null, Token, Whitespace, Newline, Comment, StringPart, WordPart, NumberPart, WhitespacePart, CommentPart}
 use Rattle.jsonc_tree.proofs.AgreeingLinks.{content_shown}
@@ -13,25 +13,25 @@ not_so : {X : Type 0} → true ≡ false → X
 not_so e = absurd (false≢true (sym e))
 
 -- a leaf has no row
-pub leaf_ends : {A : Type 0} (k : Kind A) → is_container (content_of k) ≡ false → (first_end k ≡ None) × (last_end k ≡ None) × (line_count k ≡ 0)
+pub leaf_ends : {A : Type 0} (k : Kind A) → is_container (content_of k) ≡ false → (first_end k ≡ None) × (last_end k ≡ None)
 leaf_ends (Root ends) e = not_so e
 leaf_ends (Object ends) e = not_so e
 leaf_ends (Array ends) e = not_so e
 leaf_ends (Property ends) e = not_so e
-leaf_ends (String s) e = (refl, refl, refl)
-leaf_ends (Word s) e = (refl, refl, refl)
-leaf_ends (Number s) e = (refl, refl, refl)
-leaf_ends (Boolean b) e = (refl, refl, refl)
-leaf_ends Null e = (refl, refl, refl)
-leaf_ends (Token c) e = (refl, refl, refl)
-leaf_ends (Whitespace s) e = (refl, refl, refl)
-leaf_ends (Newline k) e = (refl, refl, refl)
-leaf_ends (Comment s) e = (refl, refl, refl)
-leaf_ends (StringPart s) e = (refl, refl, refl)
-leaf_ends (WordPart s) e = (refl, refl, refl)
-leaf_ends (NumberPart s) e = (refl, refl, refl)
-leaf_ends (WhitespacePart s) e = (refl, refl, refl)
-leaf_ends (CommentPart s) e = (refl, refl, refl)
+leaf_ends (String s) e = (refl, refl)
+leaf_ends (Word s) e = (refl, refl)
+leaf_ends (Number s) e = (refl, refl)
+leaf_ends (Boolean b) e = (refl, refl)
+leaf_ends Null e = (refl, refl)
+leaf_ends (Token c) e = (refl, refl)
+leaf_ends (Whitespace s) e = (refl, refl)
+leaf_ends (Newline k) e = (refl, refl)
+leaf_ends (Comment s) e = (refl, refl)
+leaf_ends (StringPart s) e = (refl, refl)
+leaf_ends (WordPart s) e = (refl, refl)
+leaf_ends (NumberPart s) e = (refl, refl)
+leaf_ends (WhitespacePart s) e = (refl, refl)
+leaf_ends (CommentPart s) e = (refl, refl)
 
 -- nodes whose parts are the same are the same
 pub linked_same : (m n : LinkedNode) → m.content ≡ n.content → m.parent ≡ n.parent → m.previous ≡ n.previous → m.next ≡ n.next → m.first ≡ n.first → m.last ≡ n.last → m.lines ≡ n.lines → m ≡ n

@@ -8,7 +8,7 @@ use Rattle.jsonc_tree.specs.Tree.{children_at, is_container_at}
 use Rattle.jsonc_tree.specs.Changes.{Adds, Appends, CanAppend, Pushes}
 use Rattle.jsonc_tree.specs.Growing.{child_behind}
 use Rattle.jsonc_tree.specs.Stored.{LinkedNode, bare, nowhere, link_at, nodes_of, ahead_set, back_set, counted_in, lines_set, one_if, IsStored}
-use Rattle.jsonc_tree.proofs.AgreeingLinks.{length_shown, list_same, row_short}
+use Rattle.jsonc_tree.proofs.AgreeingLinks.{length_shown, list_same, row_shorter}
 use Rattle.jsonc_tree.proofs.Appending.{Appends-splice, CanAppend-adds}
 use Rattle.jsonc_tree.proofs.Moves.{comes, gap_front_there, in_memory}
 use Rattle.jsonc_tree.proofs.UnchangedRows.{alone_stored, end_gap, pushed_adds, pushed_stored}
@@ -112,10 +112,10 @@ module _ (ls : List LinkedNode) (c : ℕ) (last : Option ℕ) where
     other_last_fits items d l is said = in_memory l (length ls) (other_last_there items d l (length ls) is said refl) (omega (arith, ok.few, length-back_set ls c None last))
 
     -- few ends of lines are counted
-    pub lines_at_hand : (link_at ls c).lines < 2 ^ 32
+    pub lines_at_hand : (link_at ls c).lines + 1 < 2 ^ 32
     lines_at_hand =
         let inside : c < length ls = omega (arith, at, size_same) in
-        omega (arith, same_here (λ m. m.lines) ls c (record (link_at ls c) { last = last }) inside, ok.lines c, line_ends-short (nodes_of filled) (children_at (nodes_of filled) c), row_short (nodes_of filled) ok.tree c, length_shown filled, ok.few)
+        omega (arith, same_here (λ m. m.lines) ls c (record (link_at ls c) { last = last }) inside, ok.lines c, line_ends-short (nodes_of filled) (children_at (nodes_of filled) c), row_shorter (nodes_of filled) ok.tree c, length_shown filled, ok.few)
 
     module _ (content : Content) where
       abbrev child : LinkedNode

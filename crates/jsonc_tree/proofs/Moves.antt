@@ -1,12 +1,12 @@
 -- What one node's coming or going does to the stored nodes and to what they show.
-use Rattle.std.proofs.Common.{◌≡◌, ◌≢◌, ◌||◌, ◌^◌, Bool, ℕ, suc, ◌-◌, ◌<◌, ◌≤◌, List, [], ◌∷◌, length, get_or, map, cond, true, Option, None, Some, IfSome, inl, inr, slice_get, slice_range, refl, sym, ap, subst, ◌∙◌, arith, eq-eqb}
+use Rattle.std.proofs.Common.{◌≡◌, ◌≢◌, ◌||◌, ◌^◌, Bool, ℕ, suc, ◌+◌, ◌-◌, ◌<◌, ◌≤◌, List, [], ◌∷◌, length, get_or, map, cond, true, Option, None, Some, IfSome, inl, inr, slice_get, slice_range, refl, sym, ap, subst, ◌∙◌, arith, eq-eqb}
 use Rattle.std.specs.List.{range_with_len}
 use Rattle.std.proofs.lemmas.Bool.{cases_lt, cases_Bool, ne_eqb}
 use Rattle.std.proofs.lemmas.Option.{slice_get-get_or, slice_get_within}
 use Rattle.std.proofs.lemmas.List.{get_or_past, length-map, nil_from_length}
 use Rattle.std.proofs.lemmas.List.FromFn.{get_or-map-range_with_len, length-range_with_len}
 use Rattle.std.proofs.lemmas.List.Edits.{length-between, get_or-between}
-use Rattle.jsonc_tree.specs.Content.{is_container, is_newline}
+use Rattle.jsonc_tree.specs.Content.{is_newline}
 use Rattle.jsonc_tree.specs.Tree as tree
 use Rattle.jsonc_tree.specs.Tree.{Node, children_at, parent_at, content_at, is_in, is_container_at, is_newline_at, IsTreeBy, IsTree, place_at, place_under, IsOver}
 use Rattle.jsonc_tree.specs.Changes.{Splices, CanJoin, CanAppend}
@@ -17,7 +17,7 @@ use Rattle.jsonc_tree.specs.Stored.{link_at, nodes_of, ahead_at, back_at, ahead_
 use Rattle.jsonc_tree.specs.Siblings.{before, IsGap}
 use Rattle.jsonc_tree.proofs.Gaps.{at_there}
 use Rattle.jsonc_tree.proofs.Written.{relinked, content_kept, lines_kept}
-use Rattle.jsonc_tree.proofs.AgreeingLinks.{Agrees, agrees, content_shown, shown_is, stored_by, length_shown, row_short}
+use Rattle.jsonc_tree.proofs.AgreeingLinks.{Agrees, agrees, content_shown, shown_is, stored_by, length_shown, row_shorter}
 use Rattle.jsonc_tree.proofs.LineEnds.{Counts, counted_agrees, counts_came, counts_went, line_ends-short, line_ends-went}
 use Rattle.jsonc_tree.proofs.Relinking.{came_agrees, went_agrees, before_there, place_there}
 
@@ -195,15 +195,8 @@ module _ (ls : List LinkedNode) (ok : IsStored ls) where
         let same : is_newline_at (nodes_of ls) x ≡ true = ap is_newline (sym (content_shown ls x there) ∙ sym (content_kept ls c b a s t x p q r x) ∙ ap (λ (l : List LinkedNode). (link_at l x).content) (sym steps)) ∙ sym weighed ∙ h in
         omega (arith, so_far, line_ends-went (nodes_of ls) x row k stood, ap one_if same)
 
-    -- the container is still one
-    pub counts_container : is_container_at (nodes_of ls) c ≡ true → c < length (nodes_of ls) → is_container (link_at items c).content ≡ true
-    counts_container holds there =
-        ap (λ (l : List LinkedNode). is_container (link_at l c).content) steps
-        ∙ ap is_container (content_kept ls c b a s t x p q r c ∙ content_shown ls c (omega (arith, there, length_shown ls)))
-        ∙ holds
-
-    pub counts_few : (link_at items c).lines < 2 ^ 32
-    counts_few = omega (arith, so_far, line_ends-short (nodes_of ls) (children_at (nodes_of ls) c), row_short (nodes_of ls) ok.tree c, length_shown ls, ok.few)
+    pub counts_few : (link_at items c).lines + 1 < 2 ^ 32
+    counts_few = omega (arith, so_far, line_ends-short (nodes_of ls) (children_at (nodes_of ls) c), row_shorter (nodes_of ls) ok.tree c, length_shown ls, ok.few)
 
   -- the neighbours are there
   pub previous_there : (x c size : ℕ) (b : Option ℕ) → parent_at (nodes_of ls) x ≡ Some c → b ≡ (link_at ls x).previous → size ≡ length (nodes_of ls) → IfSome b (λ n. n < size)

@@ -1,6 +1,6 @@
 -- Changes that leave every row as it is: a new node, a leaf that becomes another.
 use Rattle.std.specs.Prelude.{if◌then◌else◌}
-use Rattle.std.proofs.Common.{◌≡◌, ◌^◌, ◌≢◌, ℕ, Bool, true, false, zero, suc, ◌<◌, ◌≤◌, List, [], ◌∷◌, ◌++◌, length, get_or, Option, None, Some, inl, inr, slice_get, refl, sym, ap, subst, ◌∙◌, arith, length-set, ◌-◌}
+use Rattle.std.proofs.Common.{◌≡◌, ◌^◌, ◌+◌, ℕ, Bool, true, false, zero, suc, ◌<◌, ◌≤◌, List, [], ◌∷◌, ◌++◌, length, get_or, Option, None, Some, inl, inr, slice_get, refl, sym, ap, subst, ◌∙◌, arith, length-set, ◌-◌}
 use Rattle.std.proofs.lemmas.Bool.{cases_lt, cases_eq, false≢true}
 use Rattle.std.proofs.lemmas.List.{get_or_append_left, get_or_past, get_or_push, length_push, get_or-set_same, get_or-set_other}
 use Rattle.std.proofs.lemmas.Option.{slice_get_past}
@@ -12,7 +12,7 @@ use Rattle.jsonc_tree.proofs.SameLinks.{content_set, IsTreeBy-same, IsTree-from,
 use Rattle.jsonc_tree.specs.Stored.{LinkedNode, bare, nowhere, link_at, nodes_of, ahead_at, back_at, counted_in, counted_out, leaf_set, line_ends, one_if, IsStored}
 use Rattle.jsonc_tree.specs.Siblings.{IsGap}
 use Rattle.jsonc_tree.proofs.Written.{kept}
-use Rattle.jsonc_tree.proofs.AgreeingLinks.{Agrees, agrees, content_shown, shown_is, stored_by, length_shown, row_short}
+use Rattle.jsonc_tree.proofs.AgreeingLinks.{Agrees, agrees, content_shown, shown_is, stored_by, length_shown, row_shorter}
 use Rattle.jsonc_tree.proofs.Moves.{in_row}
 use Rattle.jsonc_tree.proofs.LineEnds.{Counts, counted, counted_agrees, counts_alone, counts_changed, line_ends-like, line_ends-short, lines_here}
 
@@ -239,15 +239,6 @@ module _ (ls : List LinkedNode) (ok : IsStored ls) (n : ℕ) (content : Content)
     pub parent_there : c < length other_leaf
     parent_there = omega (arith, (in_row (nodes_of ls) ok.tree n c said).0, length_shown ls, length-set ls n leaf_now)
 
-    -- a leaf is no container
-    apart : c ≢ n
-    apart is = false≢true (sym leaf ∙ ap (is_container_at (nodes_of ls)) (sym is) ∙ (in_row (nodes_of ls) ok.tree n c said).1)
-
-    pub parent_holds : is_container (link_at other_leaf c).content ≡ true
-    parent_holds =
-        let r = in_row (nodes_of ls) ok.tree n c said in
-        ap is_container (other_agrees.content c (omega (arith, parent_there, other_agrees.len)) ∙ becomes.others c apart) ∙ r.1
-
     module _ (was is : Bool) (was_is : was ≡ is_newline (link_at ls n).content) (is_is : is ≡ is_newline content) where
       was_at : was ≡ is_newline_at (nodes_of ls) n
       was_at = was_is ∙ ap is_newline (content_shown ls n there)
@@ -258,9 +249,9 @@ module _ (ls : List LinkedNode) (ok : IsStored ls) (n : ℕ) (content : Content)
       pub was_counted : was ≡ true → 1 ≤ (link_at other_leaf c).lines
       was_counted h = omega (arith, counted other_leaf (nodes_of ls) changed_leaf ok.tree c (place_at (nodes_of ls) n) n parent_there becomes.children becomes.others counts_kept stood, ap one_if (sym was_at ∙ h))
 
-      pub few_counted : (link_at (counted_out other_leaf c was) c).lines < 2 ^ 32
+      pub few_counted : (link_at (counted_out other_leaf c was) c).lines + 1 < 2 ^ 32
       few_counted =
-          omega (arith, lines_here other_leaf c ((link_at other_leaf c).lines - one_if was) parent_there, counts_kept c, line_ends-short (nodes_of ls) (children_at (nodes_of ls) c), row_short (nodes_of ls) ok.tree c, length_shown ls, ok.few)
+          omega (arith, lines_here other_leaf c ((link_at other_leaf c).lines - one_if was) parent_there, counts_kept c, line_ends-short (nodes_of ls) (children_at (nodes_of ls) c), row_shorter (nodes_of ls) ok.tree c, length_shown ls, ok.few)
 
       both_counted : Agrees (counted_in (counted_out other_leaf c was) c is) changed_leaf
       both_counted = counted_agrees (counted_out other_leaf c was) c _ changed_leaf (counted_agrees other_leaf c _ changed_leaf other_agrees)

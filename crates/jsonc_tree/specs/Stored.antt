@@ -47,17 +47,9 @@ module _ {A : Type 0} where
   last_end (Property ends) = ends.last
   last_end _ = None
 
-  -- how many of its children are ends of lines
-  abbrev pub line_count : Kind A → ℕ
-  line_count (Root ends) = ends.lines
-  line_count (Object ends) = ends.lines
-  line_count (Array ends) = ends.lines
-  line_count (Property ends) = ends.lines
-  line_count _ = 0
-
 -- the ends of a container without children
 abbrev pub no_ends : Ends
-no_ends = record { first = None; last = None; lines = 0 }
+no_ends = record { first = None; last = None }
 
 -- a node as it is linked: what it is, its parent, its neighbours, the ends of its row, and how many ends of lines stand in that
 pub record LinkedNode : Type 0 where

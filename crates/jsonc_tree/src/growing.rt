@@ -1,6 +1,6 @@
 //! A tree under way that is fast to add to.
 
-ghost use Rattle.std.specs.Prelude.{◌≡◌, ◌<◌, ◌≤◌, ◌-◌, ◌^◌, [], true, length, max, vec_len};
+ghost use Rattle.std.specs.Prelude.{◌≡◌, ◌<◌, ◌≤◌, ◌+◌, ◌-◌, ◌^◌, [], true, length, max, vec_len};
 ghost use Rattle.std.specs.Prelude.{IsTrue, IfOk, IfSome, OnOk};
 ghost use Rattle.jsonc_tree.specs.Content.{is_container};
 ghost use Rattle.jsonc_tree.specs.Tree.{children_at, is_container_at};
@@ -35,7 +35,7 @@ fn push_behind<A: Allocator>(
     requires in_tree { c < vec_len nodes.old }
     requires container { is_container (link_at nodes.old.items c).content ≡ true }
     requires last { IfSome last (λ n. n < vec_len nodes.old) }
-    requires lines { (link_at nodes.old.items c).lines < 2 ^ 32 }
+    requires lines { (link_at nodes.old.items c).lines + 1 < 2 ^ 32 }
     ensures number { IfOk result (λ n. n ≡ vec_len nodes.old) }
     ensures fits { OnOk result (vec_len nodes.old < 2 ^ 32 - 1) }
     ensures nodes { OnOk result (nodes.new.items ≡ child_behind nodes.old.items c last (content_of kind) (vec_len nodes.old)) }

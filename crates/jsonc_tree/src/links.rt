@@ -1,6 +1,6 @@
 //! The links of a row: how they are read and written, one at a time.
 
-ghost use Rattle.std.specs.Prelude.{◌≡◌, ◌<◌, ◌≤◌, ◌-◌, ◌^◌, true, vec_len};
+ghost use Rattle.std.specs.Prelude.{◌≡◌, ◌<◌, ◌≤◌, ◌+◌, ◌-◌, ◌^◌, true, vec_len};
 ghost use Rattle.std.specs.Prelude.{IfOk, IfSome, OnErr, OnOk};
 ghost use Rattle.jsonc_tree.specs.Content.{is_container, is_newline};
 ghost use Rattle.jsonc_tree.specs.Stored.{link_at, ahead_set, back_set, back_at, counted_in, counted_out, place_set};
@@ -95,7 +95,7 @@ pub(crate) fn set_place<A: Allocator>(
 }
 
 // How many ends of lines a container counts.
-pub(crate) fn lines_of<A: Allocator>(nodes: &Vec<Node<A>, A>, c: usize) -> usize
+pub(crate) fn lines_of<A: Allocator>(nodes: &Vec<Node<A>, A>, c: usize) -> u32
     requires { c < vec_len nodes.now }
     ensures { result ≡ (link_at nodes.now.items c).lines }
 {
@@ -107,8 +107,7 @@ pub(crate) fn lines_of<A: Allocator>(nodes: &Vec<Node<A>, A>, c: usize) -> usize
 #[inline(always)]
 pub(crate) fn count_in<A: Allocator>(nodes: &mut Vec<Node<A>, A>, c: usize, newline: bool)
     requires in_tree { c < vec_len nodes.old }
-    requires container { is_container (link_at nodes.old.items c).content ≡ true }
-    requires fits { (link_at nodes.old.items c).lines < 2 ^ 32 }
+    requires fits { (link_at nodes.old.items c).lines + 1 < 2 ^ 32 }
     ensures nodes { nodes.new.items ≡ counted_in nodes.old.items c newline }
     ensures len { vec_len nodes.new ≡ vec_len nodes.old }
 {
@@ -121,7 +120,6 @@ pub(crate) fn count_in<A: Allocator>(nodes: &mut Vec<Node<A>, A>, c: usize, newl
 // It counts one fewer, if that was the end of a line.
 pub(crate) fn count_out<A: Allocator>(nodes: &mut Vec<Node<A>, A>, c: usize, newline: bool)
     requires in_tree { c < vec_len nodes.old }
-    requires container { is_container (link_at nodes.old.items c).content ≡ true }
     requires counted { newline ≡ true → 1 ≤ (link_at nodes.old.items c).lines }
     ensures nodes { nodes.new.items ≡ counted_out nodes.old.items c newline }
     ensures len { vec_len nodes.new ≡ vec_len nodes.old }

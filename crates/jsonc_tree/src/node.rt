@@ -2,7 +2,7 @@
 
 ghost use Rattle.std.specs.Prelude.{◌≡◌, ◌≤◌, ◌<◌, ◌+◌, ◌-◌, ◌^◌, true, false, None, Some, option_map, IfSome};
 ghost use Rattle.jsonc_tree.specs.Content.{is_container, is_newline, kept_text};
-ghost use Rattle.jsonc_tree.specs.Stored.{bare, content_of, first_end, last_end, line_count, no_ends};
+ghost use Rattle.jsonc_tree.specs.Stored.{bare, content_of, first_end, last_end, no_ends};
 
 use crate::link::{Link, WideLink};
 use crate::part::Part;
@@ -26,13 +26,11 @@ impl Default for CstNewlineKind {
     }
 }
 
-/// The first and the last child of a container, where it has any, and how many of its children are ends
-/// of lines.
+/// The first and the last child of a container, where it has any.
 #[derive(Drop)]
 pub struct Ends {
     first: WideLink,
     last: WideLink,
-    lines: usize,
 }
 
 impl Ends {
@@ -43,7 +41,6 @@ impl Ends {
         Ends {
             first: WideLink::from_option(None),
             last: WideLink::from_option(None),
-            lines: 0,
         }
     }
 
@@ -51,7 +48,6 @@ impl Ends {
         requires { IfSome to (λ n. n < 2 ^ 32 - 1) }
         ensures first { self.new.first ≡ to }
         ensures last { self.new.last ≡ self.old.last }
-        ensures lines { self.new.lines ≡ self.old.lines }
     {
         self.first = WideLink::from_option(to);
     }
@@ -60,29 +56,8 @@ impl Ends {
         requires { IfSome to (λ n. n < 2 ^ 32 - 1) }
         ensures first { self.new.first ≡ self.old.first }
         ensures last { self.new.last ≡ to }
-        ensures lines { self.new.lines ≡ self.old.lines }
     {
         self.last = WideLink::from_option(to);
-    }
-
-    // One more end of a line is counted.
-    fn add_line(&mut self)
-        requires { self.old.lines + 1 < 2 ^ 64 }
-        ensures first { self.new.first ≡ self.old.first }
-        ensures last { self.new.last ≡ self.old.last }
-        ensures lines { self.new.lines ≡ self.old.lines + 1 }
-    {
-        self.lines += 1;
-    }
-
-    // One fewer is counted.
-    fn remove_line(&mut self)
-        requires { 1 ≤ self.old.lines }
-        ensures first { self.new.first ≡ self.old.first }
-        ensures last { self.new.last ≡ self.old.last }
-        ensures lines { self.new.lines ≡ self.old.lines - 1 }
-    {
-        self.lines -= 1;
     }
 }
 
@@ -182,17 +157,6 @@ impl<A: Allocator> Kind<A> {
         }
     }
 
-    fn lines(&self) -> usize
-        ensures { result ≡ line_count self.now }
-    {
-        match self {
-            Kind::Root(ends) | Kind::Object(ends) | Kind::Array(ends) | Kind::Property(ends) => {
-                ends.lines
-            }
-            _ => 0,
-        }
-    }
-
     // A container gets this first child.
     fn set_first(&mut self, to: Option<usize>)
         requires container { is_container (content_of self.old) ≡ true }
@@ -200,7 +164,6 @@ impl<A: Allocator> Kind<A> {
         ensures content { content_of self.new ≡ content_of self.old }
         ensures first { first_end self.new ≡ to }
         ensures last { last_end self.new ≡ last_end self.old }
-        ensures lines { line_count self.new ≡ line_count self.old }
     {
         match self {
             Kind::Root(ends) => ends.set_first(to),
@@ -218,49 +181,12 @@ impl<A: Allocator> Kind<A> {
         ensures content { content_of self.new ≡ content_of self.old }
         ensures first { first_end self.new ≡ first_end self.old }
         ensures last { last_end self.new ≡ to }
-        ensures lines { line_count self.new ≡ line_count self.old }
     {
         match self {
             Kind::Root(ends) => ends.set_last(to),
             Kind::Object(ends) => ends.set_last(to),
             Kind::Array(ends) => ends.set_last(to),
             Kind::Property(ends) => ends.set_last(to),
-            _ => {}
-        }
-    }
-
-    // A container counts one more end of a line.
-    fn add_line(&mut self)
-        requires container { is_container (content_of self.old) ≡ true }
-        requires lines { line_count self.old + 1 < 2 ^ 64 }
-        ensures content { content_of self.new ≡ content_of self.old }
-        ensures first { first_end self.new ≡ first_end self.old }
-        ensures last { last_end self.new ≡ last_end self.old }
-        ensures lines { line_count self.new ≡ line_count self.old + 1 }
-    {
-        match self {
-            Kind::Root(ends) => ends.add_line(),
-            Kind::Object(ends) => ends.add_line(),
-            Kind::Array(ends) => ends.add_line(),
-            Kind::Property(ends) => ends.add_line(),
-            _ => {}
-        }
-    }
-
-    // It counts one fewer.
-    fn remove_line(&mut self)
-        requires container { is_container (content_of self.old) ≡ true }
-        requires lines { 1 ≤ line_count self.old }
-        ensures content { content_of self.new ≡ content_of self.old }
-        ensures first { first_end self.new ≡ first_end self.old }
-        ensures last { last_end self.new ≡ last_end self.old }
-        ensures lines { line_count self.new ≡ line_count self.old - 1 }
-    {
-        match self {
-            Kind::Root(ends) => ends.remove_line(),
-            Kind::Object(ends) => ends.remove_line(),
-            Kind::Array(ends) => ends.remove_line(),
-            Kind::Property(ends) => ends.remove_line(),
             _ => {}
         }
     }
@@ -271,7 +197,6 @@ fn without_children<A: Allocator>(kind: Kind<A>) -> Kind<A>
     ensures content { content_of result ≡ content_of kind }
     ensures first { first_end result ≡ None }
     ensures last { last_end result ≡ None }
-    ensures lines { line_count result ≡ 0 }
 {
     match kind {
         Kind::Root(_) => Kind::Root(Ends::none()),
@@ -282,17 +207,19 @@ fn without_children<A: Allocator>(kind: Kind<A>) -> Kind<A>
     }
 }
 
-// A node as it is stored: its neighbours are those among its parent's children.
+// A node as it is stored: its neighbours are those among its parent's children. A container counts the
+// ends of lines among its own.
 #[derive(Drop)]
 pub(crate) struct Node<A: Allocator> {
     kind: Kind<A>,
     parent: Link,
     previous: Link,
     next: Link,
+    lines: u32,
 }
 
 impl<A: Allocator> Model for Node<A> {
-    ghost use Rattle.jsonc_tree.specs.Stored.{LinkedNode, content_of, first_end, last_end, line_count};
+    ghost use Rattle.jsonc_tree.specs.Stored.{LinkedNode, content_of, first_end, last_end};
 
     ghost Value = { LinkedNode };
 
@@ -303,7 +230,7 @@ impl<A: Allocator> Model for Node<A> {
       next = n.next;
       first = first_end n.kind;
       last = last_end n.kind;
-      lines = line_count n.kind;
+      lines = n.lines;
     } };
 }
 
@@ -316,6 +243,7 @@ pub(crate) fn bare_node<A: Allocator>(kind: Kind<A>) -> Node<A>
         parent: Link::from_option(None),
         previous: Link::from_option(None),
         next: Link::from_option(None),
+        lines: 0,
     }
 }
 
@@ -335,6 +263,7 @@ pub(crate) fn node_in<A: Allocator>(
         parent: Link::from_option(Some(parent)),
         previous: Link::from_option(previous),
         next: Link::from_option(None),
+        lines: 0,
     }
 }
 
@@ -375,11 +304,10 @@ impl<A: Allocator> Node<A> {
         self.kind.last()
     }
 
-    #[inline(always)]
-    pub(crate) fn lines(&self) -> usize
+    pub(crate) fn lines(&self) -> u32
         ensures { result ≡ self.now.lines }
     {
-        self.kind.lines()
+        self.lines
     }
 
     // A leaf becomes another.
@@ -407,20 +335,20 @@ impl<A: Allocator> Node<A> {
         self.kind.set_last(to);
     }
 
+    // One more end of a line is counted.
     pub(crate) fn add_line(&mut self)
-        requires container { is_container self.old.content ≡ true }
-        requires lines { self.old.lines + 1 < 2 ^ 64 }
+        requires { self.old.lines + 1 < 2 ^ 32 }
         ensures { self.new ≡ record self.old { lines = self.old.lines + 1 } }
     {
-        self.kind.add_line();
+        self.lines += 1;
     }
 
+    // One fewer is counted.
     pub(crate) fn remove_line(&mut self)
-        requires container { is_container self.old.content ≡ true }
-        requires lines { 1 ≤ self.old.lines }
+        requires { 1 ≤ self.old.lines }
         ensures { self.new ≡ record self.old { lines = self.old.lines - 1 } }
     {
-        self.kind.remove_line();
+        self.lines -= 1;
     }
 
     pub(crate) fn set_previous(&mut self, to: Option<usize>)

@@ -1,7 +1,7 @@
 use Rattle.std.proofs.Common.{Some, arith, vec_len}
 use Rattle.jsonc_tree.proofs.AgreeingLinks.{length_shown}
 use Rattle.jsonc_tree.proofs.AlikeNodes.{container_linked, container_ahead}
-use Rattle.jsonc_tree.proofs.Moves.{counts_container, counts_few, in_memory, comes_by, three, gap_front_there, gap_back_there}
+use Rattle.jsonc_tree.proofs.Moves.{counts_few, in_memory, comes_by, three, gap_front_there, gap_back_there}
 use Rattle.jsonc_tree.proofs.splice.put_between.Goals as goal
 
 pub set_ahead-requires-clause-in_tree : goal.set_ahead-requires-clause-in_tree
@@ -44,10 +44,6 @@ set_back-requires-clause-to g c = omega (arith, c.requires.can.node, c.requires.
 
 pub set_place-requires-clause-parent : goal.set_place-requires-clause-parent
 set_place-requires-clause-parent g c = omega (arith, c.requires.can.container, c.requires.stored.few, length_shown c.args.nodes.now.items)
-
-pub count_in-requires-clause-container : goal.count_in-requires-clause-container
-count_in-requires-clause-container g c =
-    counts_container c.args.nodes.now.items c.requires.stored c.args.c c.args.x c.args.before c.args.behind (Some c.args.x) (Some c.args.x) (Some c.args.c) c.args.before c.args.behind c.set_place.new.nodes.items (three c.args.nodes.now.items c.set_ahead.new.nodes.items c.set_back.new.nodes.items c.set_place.new.nodes.items c.args.c c.args.x c.args.before c.args.behind (Some c.args.x) (Some c.args.x) (Some c.args.c) c.args.before c.args.behind c.set_ahead.ensures.nodes c.set_back.ensures.nodes c.set_place.ensures.nodes) c.requires.can.holds c.requires.can.container
 
 pub count_in-requires-clause-fits : goal.count_in-requires-clause-fits
 count_in-requires-clause-fits g c =

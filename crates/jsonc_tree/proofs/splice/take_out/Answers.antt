@@ -2,7 +2,7 @@ use Rattle.std.proofs.Common.{None, arith, vec_len}
 use Rattle.jsonc_tree.specs.Stored.{nodes_of}
 use Rattle.jsonc_tree.proofs.AgreeingLinks.{length_shown}
 use Rattle.jsonc_tree.proofs.AlikeNodes.{container_linked, container_ahead}
-use Rattle.jsonc_tree.proofs.Moves.{counts_container, counts_one, in_memory, in_row, goes_by, three, previous_there, next_there}
+use Rattle.jsonc_tree.proofs.Moves.{counts_one, in_memory, in_row, goes_by, three, previous_there, next_there}
 use Rattle.jsonc_tree.proofs.splice.take_out.Goals as goal
 
 pub set_ahead-requires-clause-in_tree : goal.set_ahead-requires-clause-in_tree
@@ -44,11 +44,6 @@ set_back-requires-clause-container g c =
 
 pub count_out-requires-clause-in_tree : goal.count_out-requires-clause-in_tree
 count_out-requires-clause-in_tree g c = omega (arith, (in_row (nodes_of c.args.nodes.now.items) c.requires.stored.tree c.args.x c.args.c c.requires.child).0, length_shown c.args.nodes.now.items, c.args.nodes.now.ok.0, c.set_ahead.ensures.len, c.set_back.ensures.len, c.set_place.ensures.len)
-
-pub count_out-requires-clause-container : goal.count_out-requires-clause-container
-count_out-requires-clause-container g c =
-    let row = in_row (nodes_of c.args.nodes.now.items) c.requires.stored.tree c.args.x c.args.c c.requires.child in
-    counts_container c.args.nodes.now.items c.requires.stored c.args.c c.args.x c.previous_of-before.result c.next_of-behind.result c.next_of-behind.result c.previous_of-before.result None None None c.set_place.new.nodes.items (three c.args.nodes.now.items c.set_ahead.new.nodes.items c.set_back.new.nodes.items c.set_place.new.nodes.items c.args.c c.args.x c.previous_of-before.result c.next_of-behind.result c.next_of-behind.result c.previous_of-before.result None None None c.set_ahead.ensures.nodes c.set_back.ensures.nodes c.set_place.ensures.nodes) row.1 row.0
 
 pub count_out-requires-clause-counted : goal.count_out-requires-clause-counted
 count_out-requires-clause-counted g c =

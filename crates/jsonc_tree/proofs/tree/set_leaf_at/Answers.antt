@@ -1,10 +1,8 @@
 use Rattle.std.proofs.Common.{◌≡◌, length, List, sym, ap, ◌∙◌, arith, None, Some}
-use Rattle.jsonc_tree.specs.Content.{is_container}
 use Rattle.jsonc_tree.specs.Stored.{LinkedNode, content_of, counted_in, counted_out, leaf_set, nodes_of}
 use Rattle.jsonc_tree.specs.Tree.{parent_at}
 use Rattle.jsonc_tree.proofs.AgreeingLinks.{parent_shown}
-use Rattle.jsonc_tree.proofs.LineEnds.{container_counted}
-use Rattle.jsonc_tree.proofs.UnchangedRows.{leaf_alone, leaf_counted, few_counted, parent_holds, parent_there, was_counted}
+use Rattle.jsonc_tree.proofs.UnchangedRows.{leaf_alone, leaf_counted, few_counted, parent_there, was_counted}
 use Rattle.jsonc_tree.proofs.tree.set_leaf_at.Goals as goal
 
 pub returns-in_default-clause-becomes : goal.returns-in_default-clause-becomes
@@ -25,12 +23,6 @@ count_out-requires-clause-in_tree g c =
     let said : parent_at (nodes_of ls) c.args.leaf ≡ Some c.in-Some.c = sym (parent_shown ls c.args.leaf) ∙ sym c.parent_of-parent.ensures ∙ c.in-Some.is in
     omega (arith, parent_there ls c.requires.stored c.args.leaf (content_of c.args.kind) (omega (arith, c.requires.in_tree, c.args.nodes.now.ok.0)) c.requires.leaf c.in-Some.c said, ap length c.write_leaf.ensures.nodes, c.write_leaf.new.nodes.ok.0)
 
-pub count_out-requires-clause-container : goal.count_out-requires-clause-container
-count_out-requires-clause-container g c =
-    let ls : List LinkedNode = c.args.nodes.now.items in
-    let said : parent_at (nodes_of ls) c.args.leaf ≡ Some c.in-Some.c = sym (parent_shown ls c.args.leaf) ∙ sym c.parent_of-parent.ensures ∙ c.in-Some.is in
-    rw c.write_leaf.ensures.nodes (parent_holds ls c.requires.stored c.args.leaf (content_of c.args.kind) (omega (arith, c.requires.in_tree, c.args.nodes.now.ok.0)) c.requires.leaf c.in-Some.c said)
-
 pub count_out-requires-clause-counted : goal.count_out-requires-clause-counted
 count_out-requires-clause-counted g c = λ h.
     let ls : List LinkedNode = c.args.nodes.now.items in
@@ -42,12 +34,6 @@ count_in-requires-clause-in_tree g c =
     let ls : List LinkedNode = c.args.nodes.now.items in
     let said : parent_at (nodes_of ls) c.args.leaf ≡ Some c.in-Some.c = sym (parent_shown ls c.args.leaf) ∙ sym c.parent_of-parent.ensures ∙ c.in-Some.is in
     omega (arith, parent_there ls c.requires.stored c.args.leaf (content_of c.args.kind) (omega (arith, c.requires.in_tree, c.args.nodes.now.ok.0)) c.requires.leaf c.in-Some.c said, ap length c.write_leaf.ensures.nodes, c.write_leaf.new.nodes.ok.0, c.count_out.ensures.len)
-
-pub count_in-requires-clause-container : goal.count_in-requires-clause-container
-count_in-requires-clause-container g c =
-    let ls : List LinkedNode = c.args.nodes.now.items in
-    let said : parent_at (nodes_of ls) c.args.leaf ≡ Some c.in-Some.c = sym (parent_shown ls c.args.leaf) ∙ sym c.parent_of-parent.ensures ∙ c.in-Some.is in
-    rw (c.count_out.ensures.nodes, c.write_leaf.ensures.nodes) (ap is_container (container_counted (leaf_set ls c.args.leaf (content_of c.args.kind)) c.in-Some.c _ c.in-Some.c) ∙ parent_holds ls c.requires.stored c.args.leaf (content_of c.args.kind) (omega (arith, c.requires.in_tree, c.args.nodes.now.ok.0)) c.requires.leaf c.in-Some.c said)
 
 pub count_in-requires-clause-fits : goal.count_in-requires-clause-fits
 count_in-requires-clause-fits g c =

@@ -16,4 +16,4 @@ returns g c =
     (ap (λ (n : LinkedNode). n.next) is)
     (new.0 ∙ sym old.0 ∙ ap (λ (n : LinkedNode). n.first) is)
     (new.1 ∙ sym old.1 ∙ ap (λ (n : LinkedNode). n.last) is)
-    (new.2 ∙ sym old.2 ∙ ap (λ (n : LinkedNode). n.lines) is)
+    (ap (λ (n : LinkedNode). n.lines) is)
