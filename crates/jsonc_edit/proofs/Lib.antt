@@ -11,6 +11,7 @@ pub mod ReplacedChildren
 pub mod WrittenRows
 pub mod WrittenLines
 pub mod Writable
+pub mod OneLine
 pub mod FittingFinds
 pub mod FittingNodes
 pub mod FittingCommas
@@ -32,6 +33,8 @@ pub mod CommentOrder
 pub mod Numbered
 pub mod Refusals
 pub mod WholeRows
+pub mod RowEnds
+pub mod BlanksBefore
 pub mod NearestLeaves
 pub mod Printing
 pub mod SpacePlaces

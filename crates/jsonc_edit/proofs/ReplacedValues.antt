@@ -187,9 +187,9 @@ module _ (o : Options) (old new : List Node) (n m : ℕ) where
       written_at (layout_for old r.0 n) v path tree s at fits w r.2
 
 -- what a call that replaces n answers is written
-pub answer_writes : {E : Type 0} (o : Options) (old new : List Node) (n c : ℕ) (layout : Layout) (v : Plain) → IsTree old → parent_at old n ≡ Some c → layout ≡ layout_for old c n → (r : Result (Option ℕ) E)
+pub answer_writes : {E : Type 0} (o : Options) (old new : List Node) (n c : ℕ) (layout : Layout) (v : Plain) → IsTree old → parent_at old n ≡ Some c → laid layout v ≡ laid (layout_for old c n) v → (r : Result (Option ℕ) E)
     → IfOk r (λ a. IfSome a (λ m. ReplacedBy old new n m (laid layout v))) → IfOk r (λ a. IfSome a (λ m. Writes o old new n m v))
 answer_writes o old new n c layout v tree said told (Ok (Some m)) g =
-    replaced_written o old new n m v tree (c, said, subst (λ (l : Layout). ReplacedBy old new n m (laid l v)) told g)
+    replaced_written o old new n m v tree (c, said, subst (ReplacedBy old new n m) told g)
 answer_writes o old new n c layout v tree said told (Ok None) g = tt
 answer_writes o old new n c layout v tree said told (Err e) g = tt

@@ -16,7 +16,7 @@ use Rattle.jsonc_edit.specs.Put.{a_space, node_of, nodes_of, AreChildren, AreSpa
 use Rattle.jsonc_edit.proofs.InsertedSpaces.{contents_kept, parent_kept}
 
 -- what stands before a gap of a row is the first of what is before it, backwards
-first_back : (xs : List ℕ) (k : ℕ) → k ≤ length xs → before xs k ≡ first (reverse (take k xs))
+pub first_back : (xs : List ℕ) (k : ℕ) → k ≤ length xs → before xs k ≡ first (reverse (take k xs))
 first_back xs zero h = refl
 first_back xs (suc k) h =
     let one : suc k ≡ k + 1 = omega arith in

@@ -37,51 +37,39 @@ pub fn is_line_comment<A: Allocator>(tree: &Tree<A>, node: usize) -> bool
     }
 }
 
-// Where the whitespace leaves directly before a place begin.
-fn blanks_from<A: Allocator>(tree: &Tree<A>, container: usize, place: usize) -> usize
-    requires in_tree { container < length tree.now.nodes }
-    requires within { place ≤ length (children_at tree.now.nodes container) }
-    ensures from { result ≡ blanks_from tree.now.nodes (children_at tree.now.nodes container) place }
-    ensures before { result ≤ place }
+// The first of the whitespace leaves directly before a child of a container, or that child.
+fn first_blank<A: Allocator>(tree: &Tree<A>, container: usize, node: usize) -> usize
+    requires { parent_at tree.now.nodes node ≡ Some container }
+    ensures child { parent_at tree.now.nodes result ≡ Some container }
+    ensures place { place_at tree.now.nodes result
+        ≡ blanks_from tree.now.nodes (children_at tree.now.nodes container) (place_at tree.now.nodes node) }
+    ensures before { place_at tree.now.nodes result ≤ place_at tree.now.nodes node }
 {
-    let mut from = place;
-    while from > 0 {
-        if !is_whitespace(tree, tree.child_at(container, from - 1)) {
-            return from;
+    let mut first = node;
+    for sibling in tree.previous_siblings(node) {
+        if !is_whitespace(tree, sibling) {
+            return first;
         }
-        from -= 1;
+        first = sibling;
     }
-    from
+    first
 }
 
-/// The place of the newline leaf directly before a place of a container's row, or that place.
-pub fn newline_from<A: Allocator>(tree: &Tree<A>, container: usize, place: usize) -> usize
-    requires in_tree { container < length tree.now.nodes }
-    requires within { place ≤ length (children_at tree.now.nodes container) }
-    ensures from { result ≡ newline_from tree.now.nodes (children_at tree.now.nodes container) place }
-    ensures before { result ≤ place }
+// The newline leaf directly before a child of a container, or that child.
+fn newline_before<A: Allocator>(tree: &Tree<A>, container: usize, node: usize) -> usize
+    requires { parent_at tree.now.nodes node ≡ Some container }
+    ensures child { parent_at tree.now.nodes result ≡ Some container }
+    ensures place { place_at tree.now.nodes result
+        ≡ newline_from tree.now.nodes (children_at tree.now.nodes container) (place_at tree.now.nodes node) }
+    ensures before { place_at tree.now.nodes result ≤ place_at tree.now.nodes node }
 {
-    if place == 0 {
-        return 0;
+    let Some(sibling) = tree.previous_sibling(node) else {
+        return node;
+    };
+    if !is_newline(tree, sibling) {
+        return node;
     }
-    if !is_newline(tree, tree.child_at(container, place - 1)) {
-        return place;
-    }
-    place - 1
-}
-
-// Where what leaves with a comment begins.
-fn removed_from<A: Allocator>(tree: &Tree<A>, container: usize, comment: usize) -> usize
-    requires { parent_at tree.now.nodes comment ≡ Some container }
-    ensures from { result ≡ removed_from tree.now.nodes container comment }
-    ensures before { result ≤ place_at tree.now.nodes comment }
-{
-    let place = tree.child_index(comment);
-    if !is_line_comment(tree, comment) {
-        return place;
-    }
-    let blanks = blanks_from(tree, container, place);
-    newline_from(tree, container, blanks)
+    sibling
 }
 
 // The first node that leaves with a comment.
@@ -92,8 +80,11 @@ fn first_removed<A: Allocator>(tree: &Tree<A>, container: usize, comment: usize)
     ensures before { removed_from tree.now.nodes container comment ≤ place_at tree.now.nodes comment }
     ensures in_tree { result < length tree.now.nodes }
 {
-    let from = removed_from(tree, container, comment);
-    tree.child_at(container, from)
+    if !is_line_comment(tree, comment) {
+        return comment;
+    }
+    let blank = first_blank(tree, container, comment);
+    newline_before(tree, container, blank)
 }
 
 // Takes a comment out, and what leaves with it.

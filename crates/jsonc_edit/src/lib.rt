@@ -38,11 +38,12 @@ mod put;
 mod reading;
 pub mod remove;
 mod replacing;
+mod rows;
 pub mod seam_laws;
 pub mod set;
 pub mod space_laws;
 
-pub use comments::{is_line_comment, newline_from, remove_comment};
+pub use comments::{is_line_comment, remove_comment};
 pub use due::{
     is_bare, seen_before, space_needed_after, space_needed_before, space_needed_between,
     space_needed_last, space_needed_past,
@@ -50,5 +51,6 @@ pub use due::{
 pub use jsonc_text::edit::{EditError, Over, Shape, TrailingCommaMode};
 pub use paths::find;
 pub use put::{Space, Spaces, make_spaces, put_spaces};
-pub use reading::layout_for;
+pub use reading::{is_spread, layout_for, layout_for_value};
 pub use replacing::{put_in_place, replace, replace_name, replace_with, spaces_for};
+pub use rows::{clear_row, set_between};

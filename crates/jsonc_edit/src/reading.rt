@@ -1,12 +1,15 @@
 //! How the document tells to lay out what replaces a node of it.
 
 ghost use Rattle.std.specs.Prelude.{◌≡◌, ◌<◌, IfOk, length};
+ghost use Rattle.jsonc_layout.specs.input.Views.{plain};
+ghost use Rattle.jsonc_layout.specs.from_input.Laid.{laid};
 ghost use Rattle.jsonc_layout.specs.from_input.Layout.{layout_of};
-ghost use Rattle.jsonc_edit.specs.Reading.{commas_told_by, layout_for};
+ghost use Rattle.jsonc_edit.specs.Reading.{commas_told_by, is_spread, layout_for};
 
-use jsonc_layout::from_input::Layout;
+use jsonc_layout::from_input::{Layout, holds_filled, is_filled};
+use jsonc_layout::input::CstInputValue;
 use jsonc_layout::lines::{indents_at, newline_kind_at, uses_trailing_commas};
-use jsonc_tree::{Kind, Tree};
+use jsonc_tree::{CstNewlineKind, Kind, Tree};
 use std::alloc::{AllocError, Allocator};
 
 // The node whose containers tell whether trailing commas are used.
@@ -40,5 +43,41 @@ pub fn layout_for<A: Allocator + Copy>(
         single: indents.single,
         trailing_commas,
         newline,
+    })
+}
+
+/// Whether a value is laid out on several lines.
+pub fn is_spread<A: Allocator>(value: &CstInputValue<A>) -> bool
+    ensures { result ≡ is_spread (plain value.now) }
+{
+    match value {
+        CstInputValue::Array(elements) => holds_filled(elements.as_slice()),
+        CstInputValue::Object(_) => is_filled(value),
+        _ => false,
+    }
+}
+
+/// A layout by which a value becomes what it does by that which the document tells, for what replaces a
+/// child of a container. Where the value has one line the document is not asked.
+pub fn layout_for_value<A: Allocator + Copy>(
+    alloc: A,
+    tree: &Tree<A>,
+    container: usize,
+    node: usize,
+    value: &CstInputValue<A>,
+) -> Result<Layout<A>, AllocError>
+    requires container { container < length tree.now.nodes }
+    requires node { node < length tree.now.nodes }
+    ensures alike { IfOk result
+        (λ l. laid (layout_of l) (plain value.now) ≡ laid (layout_for tree.now.nodes container node) (plain value.now)) }
+{
+    if is_spread(value) {
+        return layout_for(alloc, tree, container, node);
+    }
+    Ok(Layout {
+        current: String::new(alloc),
+        single: String::new(alloc),
+        trailing_commas: false,
+        newline: CstNewlineKind::LineFeed,
     })
 }

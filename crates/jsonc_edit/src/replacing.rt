@@ -19,7 +19,7 @@ ghost use Rattle.jsonc_edit.specs.Written.{Writes};
 use crate::EditError;
 use crate::due::{is_bare, space_needed_after, space_needed_before};
 use crate::put::{Spaces, make_spaces, put_spaces};
-use crate::reading::layout_for;
+use crate::reading::layout_for_value;
 use jsonc_layout::from_input::{Layout, lay_out};
 use jsonc_layout::input::CstInputValue;
 use jsonc_tree::Tree;
@@ -121,7 +121,7 @@ pub fn replace<A: Allocator + Copy>(
     let Some(container) = tree.parent(node) else {
         return Ok(None);
     };
-    let layout = layout_for(alloc, tree, container, node)?;
+    let layout = layout_for_value(alloc, tree, container, node, value)?;
     replace_with(alloc, tree, node, value, &layout)
 }
 
@@ -173,7 +173,7 @@ pub fn replace_name<A: Allocator + Copy>(
     let Some(container) = tree.parent(node) else {
         return Ok(None);
     };
-    let told = layout_for(alloc, tree, container, container)?;
+    let told = layout_for_value(alloc, tree, container, container, value)?;
     let raw = replace_raw(alloc, tree, container, node, value, &told)?;
     Ok(Some(raw))
 }

@@ -12,6 +12,7 @@ ghost use Rattle.jsonc_sort.specs.Sorting.{is_unchanged};
 use crate::places::entries;
 use crate::plan::plan_row;
 use jsonc_edit::multiline::has_brackets;
+use jsonc_edit::set_between;
 use jsonc_layout::lines::newline_kind_at;
 use jsonc_layout::nodes::children;
 use jsonc_tree::Tree;
@@ -90,7 +91,6 @@ pub fn rearrange<A: Allocator + Copy>(
         return Ok(());
     }
     let row = sorted_row(alloc, tree, container, pinned, groups, order)?;
-    let count = tree.child_count(container);
-    tree.splice(container, 1, count - 1, &row);
+    set_between(tree, container, &row);
     Ok(())
 }

@@ -1,4 +1,5 @@
 pub mod RootRow
+pub mod FirstGap
 pub mod FirstValueMade
 pub mod FirstRow
 pub mod FirstValueRows

@@ -7,10 +7,10 @@ ghost use Rattle.jsonc_tree.specs.Tree.{content_at};
 ghost use Rattle.jsonc_layout.specs.lines.Kinds.{is_array_or_object};
 ghost use Rattle.jsonc_edit.specs.multiline.Multiline.{has_line_end, IsUnspread, MadeMultiline};
 
-use crate::EditError;
 use crate::multiline::lines::lines_for;
 use crate::multiline::plan::plan_lines;
 use crate::remove::has_brackets;
+use crate::{EditError, set_between};
 use jsonc_layout::nodes::{children_from, is_newline};
 use jsonc_tree::Tree;
 use std::alloc::Allocator;
@@ -49,7 +49,6 @@ pub fn ensure_multiline<A: Allocator + Copy>(
     }
     let lines = lines_for(alloc, tree, container)?;
     let row = plan_lines(alloc, tree, container, &lines)?;
-    let count = tree.child_count(container);
-    tree.splice(container, 1, count - 1, &row);
+    set_between(tree, container, &row);
     Ok(())
 }

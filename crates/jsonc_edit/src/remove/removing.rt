@@ -16,7 +16,9 @@ ghost use Rattle.jsonc_edit.specs.remove.Removed.{IsClosedUp, IsKeptFor, LosesCh
 
 use crate::remove::brackets::has_brackets;
 use crate::remove::leaving::{comma_gone, first_gone, last_gone};
-use crate::{EditError, make_spaces, put_spaces, seen_before, space_needed_between};
+use crate::{
+    EditError, clear_row, make_spaces, put_spaces, seen_before, set_between, space_needed_between,
+};
 use jsonc_layout::lines::is_array_or_object;
 use jsonc_layout::nodes::{children_from, is_blank};
 use jsonc_tree::{Kind, Tree};
@@ -184,11 +186,10 @@ fn empty<A: Allocator>(tree: &mut Tree<A>, container: usize)
     ensures emptied { Splices tree.old.nodes tree.new.nodes container
         (hollow_from tree.old.nodes container) (hollow_to tree.old.nodes container) [] }
 {
-    let count = tree.child_count(container);
     if is_array_or_object(tree.kind(container)) {
-        tree.splice(container, 1, count - 1, &[]);
+        set_between(tree, container, &[]);
     } else {
-        tree.splice(container, 0, count, &[]);
+        clear_row(tree, container);
     }
 }
 

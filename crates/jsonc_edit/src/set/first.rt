@@ -1,31 +1,63 @@
 //! A first value that comes into the root's row.
 
-ghost use Rattle.std.specs.Prelude.{◌≡◌, ◌≤◌, ◌++◌, ◌∷◌, IfErr, IfOk, OnErr, OnOk, length};
+ghost use Rattle.std.specs.Prelude.{◌≡◌, ◌++◌, ◌∷◌, IfErr, IfOk, OnErr, OnOk, length, ℕ};
 ghost use Rattle.jsonc_tree.specs.Building.{Keeps};
-ghost use Rattle.jsonc_tree.specs.Changes.{CanJoin, Splices};
 ghost use Rattle.jsonc_tree.specs.OrderedTree.{ordered_tree};
+ghost use Rattle.jsonc_tree.specs.Siblings.{CanFill, Fills, IsGap};
 ghost use Rattle.jsonc_tree.specs.Tree.{children_at};
 ghost use Rattle.jsonc_layout.specs.input.Views.{plain};
+ghost use Rattle.jsonc_layout.specs.nodes.Siblings.{IsThere};
 ghost use Rattle.jsonc_edit.specs.Due.{listed};
 ghost use Rattle.jsonc_edit.specs.Put.{Extends};
-ghost use Rattle.jsonc_edit.specs.set.RootSet.{follows_comment, FirstValue, KeepsNodes, LineEndMade};
+ghost use Rattle.jsonc_edit.specs.set.RootSet.{first_place, follows_comment, FirstValue, KeepsNodes, LineEndMade};
 
-use crate::{EditError, layout_for, newline_from};
+use crate::{EditError, layout_for};
 use jsonc_layout::from_input::lay_out;
 use jsonc_layout::input::CstInputValue;
-use jsonc_layout::nodes::is_comment;
+use jsonc_layout::nodes::{is_comment, is_newline};
 use jsonc_tree::{CstNewlineKind, Kind, Tree};
 use std::alloc::{AllocError, Allocator};
 
-// Whether a comment stands directly before a place of the root's row.
-fn follows_comment<A: Allocator>(tree: &Tree<A>, place: usize) -> bool
-    requires { place ≤ length (children_at tree.now.nodes 0) }
-    ensures { result ≡ follows_comment tree.now.nodes (children_at tree.now.nodes 0) place }
+// A gap of the root's row, by what stands before it and behind it.
+#[derive(Clone, Copy)]
+struct Gap {
+    before: Option<usize>,
+    behind: Option<usize>,
+}
+
+// The gap that a first value comes into.
+fn first_gap<A: Allocator>(tree: &Tree<A>) -> Gap
+    ensures gap { IsGap tree.now.nodes 0 (first_place tree.now.nodes) result.before result.behind }
+    ensures in_tree { IsThere tree.now.nodes result.before }
 {
-    if place == 0 {
-        return false;
+    let Some(last) = tree.last_child(0) else {
+        return Gap {
+            before: None,
+            behind: None,
+        };
+    };
+    if !is_newline(tree, last) {
+        return Gap {
+            before: Some(last),
+            behind: None,
+        };
     }
-    is_comment(tree, tree.child_at(0, place - 1))
+    Gap {
+        before: tree.previous_sibling(last),
+        behind: Some(last),
+    }
+}
+
+// Whether a comment stands directly before a gap of the root's row.
+fn follows_comment<A: Allocator>(tree: &Tree<A>, gap: Gap) -> bool
+    requires { IsThere tree.now.nodes gap.before }
+    ensures { (place : ℕ) → IsGap tree.now.nodes 0 place gap.before gap.behind
+        → result ≡ follows_comment tree.now.nodes (children_at tree.now.nodes 0) place }
+{
+    match gap.before {
+        Some(node) => is_comment(tree, node),
+        None => false,
+    }
 }
 
 // Makes a newline leaf, detached yet, where one is wanted.
@@ -47,20 +79,21 @@ fn make_line_end<A: Allocator>(
 // Puts a value into the root's row, with the newlines that there are before and behind it.
 fn put_first<A: Allocator>(
     tree: &mut Tree<A>,
-    place: usize,
+    gap: Gap,
     before: Option<usize>,
     value: usize,
     behind: Option<usize>,
 )
-    requires within { place ≤ length (children_at tree.old.nodes 0) }
-    requires join { CanJoin tree.old.nodes 0 place place (listed before ++ value ∷ listed behind) }
-    ensures put { Splices tree.old.nodes tree.new.nodes 0 place place (listed before ++ value ∷ listed behind) }
+    requires can { CanFill tree.old.nodes 0 gap.before gap.behind (listed before ++ value ∷ listed behind) }
+    ensures put { Fills tree.old.nodes tree.new.nodes 0 gap.before gap.behind (listed before ++ value ∷ listed behind) }
 {
     match (before, behind) {
-        (None, None) => tree.splice(0, place, place, &[value]),
-        (Some(first), None) => tree.splice(0, place, place, &[first, value]),
-        (None, Some(last)) => tree.splice(0, place, place, &[value, last]),
-        (Some(first), Some(last)) => tree.splice(0, place, place, &[first, value, last]),
+        (None, None) => tree.insert_between(0, gap.before, gap.behind, &[value]),
+        (Some(first), None) => tree.insert_between(0, gap.before, gap.behind, &[first, value]),
+        (None, Some(last)) => tree.insert_between(0, gap.before, gap.behind, &[value, last]),
+        (Some(first), Some(last)) => {
+            tree.insert_between(0, gap.before, gap.behind, &[first, value, last]);
+        }
     }
 }
 
@@ -77,11 +110,10 @@ pub(crate) fn set_first<A: Allocator + Copy>(
     ensures document { OnErr result (ordered_tree tree.new.nodes 0 ≡ ordered_tree tree.old.nodes 0) }
 {
     let layout = layout_for(alloc, tree, 0, 0)?;
-    let count = tree.child_count(0);
-    let place = newline_from(tree, 0, count);
-    let before = make_line_end(tree, follows_comment(tree, place), layout.newline)?;
+    let gap = first_gap(tree);
+    let before = make_line_end(tree, follows_comment(tree, gap), layout.newline)?;
     let new = lay_out(alloc, tree, value, &layout)?;
-    let behind = make_line_end(tree, place == count, layout.newline)?;
-    put_first(tree, place, before, new, behind);
+    let behind = make_line_end(tree, gap.behind.is_none(), layout.newline)?;
+    put_first(tree, gap, before, new, behind);
     Ok(new)
 }

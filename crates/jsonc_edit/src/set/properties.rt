@@ -7,7 +7,9 @@ ghost use Rattle.jsonc_tree.specs.Tree.{parent_at};
 ghost use Rattle.jsonc_layout.specs.input.Views.{plain};
 ghost use Rattle.jsonc_edit.specs.set.Giving.{due_after, is_bare_value, IsPropertyReplaced};
 
-use crate::{EditError, layout_for, make_spaces, put_in_place, put_spaces, space_needed_after};
+use crate::{
+    EditError, layout_for_value, make_spaces, put_in_place, put_spaces, space_needed_after,
+};
 use jsonc_layout::from_input::lay_out_property;
 use jsonc_layout::input::CstInputValue;
 use jsonc_tree::Tree;
@@ -69,7 +71,7 @@ pub fn replace_property<A: Allocator + Copy>(
     let Some(container) = tree.parent(property) else {
         return Ok(None);
     };
-    let layout = layout_for(alloc, tree, container, property)?;
+    let layout = layout_for_value(alloc, tree, container, property, value)?;
     let behind = due_after(tree, property, value);
     let new = lay_out_property(alloc, tree, name, value, &layout)?;
     let spaces = make_spaces(alloc, tree, None, behind)?;

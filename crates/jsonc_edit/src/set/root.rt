@@ -13,7 +13,7 @@ ghost use Rattle.jsonc_edit.specs.Written.{Writes};
 ghost use Rattle.jsonc_edit.specs.set.RootSet.{FirstValue, KeepsNodes};
 
 use crate::set::first::set_first;
-use crate::{EditError, replace};
+use crate::{EditError, clear_row, replace};
 use jsonc_layout::input::CstInputValue;
 use jsonc_layout::nodes::value_of;
 use jsonc_tree::Tree;
@@ -78,6 +78,5 @@ pub fn clear_root<A: Allocator>(tree: &mut Tree<A>)
     ensures cleared { children_at tree.new.nodes 0 ≡ [] }
     ensures taken { Splices tree.old.nodes tree.new.nodes 0 0 (length (children_at tree.old.nodes 0)) [] }
 {
-    let count = tree.child_count(0);
-    tree.splice(0, 0, count, &[]);
+    clear_row(tree, 0);
 }

@@ -16,7 +16,8 @@ ghost use Rattle.jsonc_edit.specs.set.Shapes.{empty_of, is_of};
 use crate::set::root::replace_child;
 use crate::set::shapes::{empty_value, has_shape};
 use crate::{
-    EditError, Shape, layout_for, put_spaces, space_needed_last, space_needed_past, spaces_for,
+    EditError, Shape, layout_for_value, put_spaces, space_needed_last, space_needed_past,
+    spaces_for,
 };
 use jsonc_layout::from_input::lay_out;
 use jsonc_layout::input::CstInputValue;
@@ -38,7 +39,7 @@ fn put_last<A: Allocator + Copy>(
     ensures kept { OnErr result (Keeps (length tree.old.nodes) tree.old.nodes tree.new.nodes) }
     ensures document { OnErr result (ordered_tree tree.new.nodes 0 ≡ ordered_tree tree.old.nodes 0) }
 {
-    let layout = layout_for(alloc, tree, property, property)?;
+    let layout = layout_for_value(alloc, tree, property, property, value)?;
     let new = lay_out(alloc, tree, value, &layout)?;
     let before = space_needed_last(tree, property, new);
     let behind = space_needed_past(tree, property);

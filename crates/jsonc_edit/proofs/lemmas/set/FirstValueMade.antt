@@ -1,5 +1,5 @@
 -- A first value: what was made ready for it, and what its coming does.
-use Rattle.std.proofs.Common.{◌≡◌, ◌≢◌, ◌==◌, ℕ, ◌<◌, ◌≤◌, Bool, cond, false, List, [], ◌∷◌, ◌++◌, length, map, slice_range, Option, Some, None, IfSome, Result, IfOk, refl, sym, ap, subst, ◌∙◌, arith}
+use Rattle.std.proofs.Common.{◌≡◌, ◌≢◌, ℕ, ◌<◌, ◌≤◌, Bool, cond, false, List, [], ◌∷◌, ◌++◌, length, map, slice_range, Option, Some, None, IfSome, Result, IfOk, refl, sym, ap, subst, ◌∙◌, arith}
 use Rattle.std.proofs.lemmas.List.{get_or_default, nil_from_length}
 use Rattle.std.proofs.lemmas.List.Edits.{length-between}
 use Rattle.jsonc_text.specs.Plain.{Plain}
@@ -7,6 +7,7 @@ use Rattle.jsonc_tree.specs.Building.{Builds, Keeps}
 use Rattle.jsonc_tree.specs.Changes.{CanJoin, Splices}
 use Rattle.jsonc_tree.specs.Content.{Content}
 use Rattle.jsonc_tree.specs.OrderedTree.{OrderedTree, ordered_tree}
+use Rattle.jsonc_tree.specs.Siblings.{IsGap}
 use Rattle.jsonc_tree.specs.Tree.{Node, content_at, parent_at, children_at, is_in, IsTree}
 use Rattle.jsonc_tree.proofs.Builder.{Keeps-then, Keeps-fewer, Keeps-same}
 use Rattle.jsonc_tree.proofs.Splicing.{out_from}
@@ -18,11 +19,11 @@ use Rattle.jsonc_layout.specs.lines.Breadth.{newline_kind_of}
 use Rattle.jsonc_edit.specs.Due.{listed}
 use Rattle.jsonc_edit.specs.Put.{Extends}
 use Rattle.jsonc_edit.specs.Changes.{top_at}
-use Rattle.jsonc_edit.specs.Comments.{newline_from}
 use Rattle.jsonc_edit.specs.Reading.{layout_for}
 use Rattle.jsonc_edit.proofs.FittingFinds.{found_one}
 use Rattle.jsonc_edit.proofs.NodesKept.{built_top, top_stays, tree_stays}
-use Rattle.jsonc_edit.specs.set.RootSet.{first_place, follows_comment, leads_in, leads_out, line_end_if, FirstValue, IsFresh, KeepsNodes}
+use Rattle.jsonc_edit.specs.set.RootSet.{first_place, leads_in, leads_out, line_end_if, FirstValue, IsFresh, KeepsNodes}
+use Rattle.jsonc_edit.proofs.lemmas.set.FirstGap.{gap_kept}
 use Rattle.jsonc_edit.proofs.lemmas.set.RootRow.{Rising, risen, around_rises, may_join}
 
 -- what is ready stays ready while more is made
@@ -94,23 +95,22 @@ module _ (old first made last : List Node) (tree : IsTree old) (before behind : 
   pub behind_still : map (content_at last) (listed behind) ≡ map (content_at last) (listed behind)
   behind_still = content_still last last from_last (length made) behind also_fresh
 
-  within_ready : (place count : ℕ) → count ≡ length (children_at old 0) → place ≤ count → place ≤ length (children_at last 0)
-  within_ready place count all within = omega (arith, all, within, ap length (from_old.children 0 tree.first))
+  within_ready : (place : ℕ) → place ≤ length (children_at old 0) → place ≤ length (children_at last 0)
+  within_ready place within = omega (arith, within, ap length (from_old.children 0 tree.first))
 
-  pub nodes_stay : (place count : ℕ) → count ≡ length (children_at old 0) → place ≤ count → (new : List Node) → Splices last new 0 place place (listed before ++ m ∷ listed behind) → KeepsNodes old new
-  nodes_stay place count all within new put = others_stay old last new from_old (listed before ++ m ∷ listed behind) rising place (within_ready place count all within) put
+  pub gap_still : (g : ℕ) (b a : Option ℕ) → IsGap old 0 g b a → IsGap last 0 g b a
+  gap_still g b a gap = gap_kept old last tree from_old g b a gap
+
+  pub nodes_stay : (place : ℕ) → place ≤ length (children_at old 0) → (new : List Node) → Splices last new 0 place place (listed before ++ m ∷ listed behind) → KeepsNodes old new
+  nodes_stay place within new put = others_stay old last new from_old (listed before ++ m ∷ listed behind) rising place (within_ready place within) put
 
 -- so it is with a value that is laid out as the document tells
 module _ (old first made last : List Node) (tree : IsTree old) (before behind : Option ℕ) (m : ℕ) (layout : Layout) (v : Plain)
     (p : Extends old first) (fresh : IsFresh old first before) (built : Builds first made m (laid layout v).content (laid layout v).below) (q : Extends made last) (also_fresh : IsFresh made last behind) (after : IsTree last)
     (told : layout ≡ layout_for old 0 0) (b a : Bool) (wanted : map (content_at first) (listed before) ≡ line_end_if b layout.newline) (also : map (content_at last) (listed behind) ≡ line_end_if a layout.newline)
-    (place count : ℕ) (all : count ≡ length (children_at old 0)) (found : place ≡ newline_from old (children_at old 0) count) (led : b ≡ follows_comment old (children_at old 0) place) (closed : a ≡ (place == count))
-    (new : List Node) (done : IsTree new) (put : Splices last new 0 place place (listed before ++ m ∷ listed behind)) where
+    (led : b ≡ leads_in old) (closed : a ≡ leads_out old) (new : List Node) (done : IsTree new) (put : Splices last new 0 (first_place old) (first_place old) (listed before ++ m ∷ listed behind)) where
   kind : layout.newline ≡ newline_kind_of old
   kind = ap (λ (l : Layout). l.newline) told
-
-  place_is : place ≡ first_place old
-  place_is = found ∙ ap (newline_from old (children_at old 0)) all
 
   top_is : top_at last m ≡ laid (layout_for old 0 0) v
   top_is = top_stays made last built.tree (from_made old first made last tree before behind m (laid layout v).content (laid layout v).below p fresh built q also_fresh after) after m built.in_tree ∙ built_top built ∙ ap (λ (l : Layout). laid l v) told
@@ -118,12 +118,12 @@ module _ (old first made last : List Node) (tree : IsTree old) (before behind : 
   before_is : map (content_at last) (listed before) ≡ line_end_if (leads_in old) (newline_kind_of old)
   before_is =
       before_still old first made last tree before behind m (laid layout v).content (laid layout v).below p fresh built q also_fresh after ∙ wanted ∙ ap (line_end_if b) kind
-      ∙ ap (λ w. line_end_if w (newline_kind_of old)) (led ∙ ap (follows_comment old (children_at old 0)) place_is)
+      ∙ ap (λ w. line_end_if w (newline_kind_of old)) led
 
   behind_is : map (content_at last) (listed behind) ≡ line_end_if (leads_out old) (newline_kind_of old)
   behind_is =
       behind_still old first made last tree before behind m (laid layout v).content (laid layout v).below p fresh built q also_fresh after ∙ also ∙ ap (line_end_if a) kind
-      ∙ ap (λ w. line_end_if w (newline_kind_of old)) (closed ∙ ap (λ k. k == count) place_is ∙ ap (λ k. first_place old == k) all)
+      ∙ ap (λ w. line_end_if w (newline_kind_of old)) closed
 
   pub first_value : FirstValue old new v m
   first_value = record {
@@ -136,7 +136,7 @@ module _ (old first made last : List Node) (tree : IsTree old) (before behind : 
     leads = before_is;
     ends = behind_is;
     join = can_join old first made last tree before behind m (laid layout v).content (laid layout v).below p fresh built q also_fresh after (first_place old) (first_place old);
-    put = subst (λ k. Splices last new 0 k k (listed before ++ m ∷ listed behind)) place_is put;
+    put = put;
     tree = done;
   }
 

@@ -10,6 +10,7 @@ use Rattle.jsonc_tree.specs.Building.{Builds, Keeps}
 use Rattle.jsonc_tree.specs.Changes.{Appends, CanAppend}
 use Rattle.jsonc_tree.specs.Content.{Content, is_container, property}
 use Rattle.jsonc_tree.specs.Order.{with_parent}
+use Rattle.jsonc_tree.specs.OrderedTree.{Top}
 use Rattle.jsonc_tree.specs.Siblings.{first, row_of, siblings_after}
 use Rattle.jsonc_tree.specs.Tree.{Node, content_at, parent_at, children_at, place_at, place_among, place_under, IsTree, IsOver}
 use Rattle.jsonc_tree.proofs.Order.{not_over_parent, parent_there}
@@ -219,15 +220,15 @@ module _ (old made ready : List Node) (tree : IsTree old) (p m : ℕ) (inside : 
       pub come_hand : AreAtHand held (nodes_of spaces) spaces
       come_hand = record { are = refl; before = come_free spaces.before hand.before; behind = come_free spaces.behind hand.behind; two = hand.two }
 
-      pub last_value : l ≡ layout_for old p p → (new : List Node) → AreSpaced held (nodes_of spaces) new → LastValue old new p v m
+      pub last_value : laid l v ≡ laid (layout_for old p p) v → (new : List Node) → AreSpaced held (nodes_of spaces) new → LastValue old new p v m
       last_value told new spaced = record {
         ready = ready;
         held = held;
         fresh = built.later;
         prepared = record { keeps = kept; tree = prepared.tree };
-        is = top_is ∙ ap (λ (w : Layout). laid w v) told;
+        is = top_is ∙ told;
         can = can_come;
         put = put;
         tree = after;
-        spaces = subst (λ (w : Layout). AreSpaced held (spaces_needed_around held m (laid w v).content) new) told (subst (λ xs. AreSpaced held xs new) due_nodes spaced);
+        spaces = subst (λ (t : Top). AreSpaced held (spaces_needed_around held m t.content) new) told (subst (λ xs. AreSpaced held xs new) due_nodes spaced);
       }

@@ -6,11 +6,12 @@ use Rattle.jsonc_text.specs.Plain.{Plain}
 use Rattle.jsonc_tree.specs.Building.{Builds, Keeps}
 use Rattle.jsonc_tree.specs.Changes.{CanJoin, Splices}
 use Rattle.jsonc_tree.specs.Content.{Content, property}
+use Rattle.jsonc_tree.specs.OrderedTree.{Top}
 use Rattle.jsonc_tree.specs.Tree.{Node, content_at, parent_at, place_at, IsTree, IsOver}
 use Rattle.jsonc_tree.proofs.Order.{parent_there}
 use Rattle.jsonc_sound.specs.TreeChanges.{IsElement}
 use Rattle.jsonc_layout.specs.from_input.Layout.{Layout}
-use Rattle.jsonc_layout.specs.from_input.Laid.{laid_property}
+use Rattle.jsonc_layout.specs.from_input.Laid.{laid, laid_property, property_of}
 use Rattle.jsonc_edit.specs.Due.{space_needed_after, space_needed_before, listed}
 use Rattle.jsonc_edit.specs.Put.{AreAtHand, AreChildren, AreSpaced, Extends, nodes_of}
 use Rattle.jsonc_edit.specs.declared.put.Spaces.{Spaces}
@@ -119,5 +120,15 @@ module _ (old made ready : List Node) (tree : IsTree old) (n c m : ℕ) (layout 
         place = subst (TakesPlace spaced new n m) (known.top m_ready ∙ m_top) (takes_place spaced new known.tree n c m given_child there later alone apart last element s);
       }
 
-      pub is_replaced : layout ≡ layout_for old c n → (new : List Node) → IsTree new → Splices spaced new c (place_at spaced n) (place_at spaced n + 1) (m ∷ []) → IsPropertyReplaced old new n name v m
-      is_replaced told new last s = (c, said, subst (λ (l : Layout). PropertyReplacedBy old new n m l name v) told (gives_way new last s))
+      alike : (new : List Node) (k : Layout) → laid layout v ≡ laid k v → PropertyReplacedBy old new n m layout name v → PropertyReplacedBy old new n m k name v
+      alike new k told g = record {
+        ready = g.ready;
+        spaced = g.spaced;
+        fresh = g.fresh;
+        prepared = g.prepared;
+        spaces = g.spaces;
+        place = subst (λ (t : Top). TakesPlace g.spaced new n m (record { content = property; below = (property_of name t).below })) told g.place;
+      }
+
+      pub is_replaced : laid layout v ≡ laid (layout_for old c n) v → (new : List Node) → IsTree new → Splices spaced new c (place_at spaced n) (place_at spaced n + 1) (m ∷ []) → IsPropertyReplaced old new n name v m
+      is_replaced told new last s = (c, said, alike new (layout_for old c n) told (gives_way new last s))

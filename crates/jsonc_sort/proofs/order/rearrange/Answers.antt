@@ -1,4 +1,4 @@
-use Rattle.std.proofs.Common.{sym, ◌∙◌}
+use Rattle.std.proofs.Common.{refl, sym, ◌∙◌}
 use Rattle.jsonc_edit.proofs.ReplacedChildren.{where_refused}
 use Rattle.jsonc_edit.proofs.NodesKept.{tree_stays}
 use Rattle.jsonc_edit.proofs.lemmas.multiline.WholeRow.{row_ready}
@@ -6,9 +6,9 @@ use Rattle.jsonc_sort.specs.Rearranged.{headers_of}
 use Rattle.jsonc_sort.proofs.SortedRow.{all_moves}
 use Rattle.jsonc_sort.proofs.order.rearrange.Goals as goal
 
-pub splice-requires-clause-join : goal.splice-requires-clause-join
-splice-requires-clause-join g c =
-    row_ready c.args.tree.now.nodes c.sorted_row.new.tree.nodes c.args.container _ c.in_ok-row.row.items c.args.tree.now.tree c.requires.in_tree c.in_ok-row.ensures.planned c.sorted_row.ensures.prepared.tree c.child_count-count.result c.child_count-count.ensures
+pub set_between-requires-clause-join : goal.set_between-requires-clause-join
+set_between-requires-clause-join g c =
+    row_ready c.args.tree.now.nodes c.sorted_row.new.tree.nodes c.args.container _ c.in_ok-row.row.items c.args.tree.now.tree c.requires.in_tree c.in_ok-row.ensures.planned c.sorted_row.ensures.prepared.tree _ refl
     c.deref.result.now c.deref.ensures.value
 
 pub returns-in_err-row-clause-document : goal.returns-in_err-row-clause-document
@@ -18,5 +18,5 @@ returns-in_err-row-clause-document g c =
 
 pub returns-clause-made : goal.returns-clause-made
 returns-clause-made g c =
-    all_moves c.args.tree.now.nodes c.sorted_row.new.tree.nodes c.splice.new.self.nodes c.args.container (headers_of c.args.pinned.now c.args.groups) c.args.order.now c.in_ok-row.row.items c.args.tree.now.tree c.requires.in_tree c.in_ok-row.ensures.planned c.sorted_row.ensures.prepared.tree
-    c.splice.new.self.tree c.child_count-count.result c.child_count-count.ensures c.deref.result.now c.deref.ensures.value c.splice.ensures.splices (sym c.moves.ensures ∙ c.if-not-moves.false)
+    all_moves c.args.tree.now.nodes c.sorted_row.new.tree.nodes c.set_between.new.tree.nodes c.args.container (headers_of c.args.pinned.now c.args.groups) c.args.order.now c.in_ok-row.row.items c.args.tree.now.tree c.requires.in_tree c.in_ok-row.ensures.planned c.sorted_row.ensures.prepared.tree
+    c.set_between.new.tree.tree _ refl c.deref.result.now c.deref.ensures.value c.set_between.ensures (sym c.moves.ensures ∙ c.if-not-moves.false)

@@ -1,4 +1,4 @@
-use Rattle.std.proofs.Common.{◌≡◌, true, length, IsTrue, sym, ap, ◌∙◌, arith}
+use Rattle.std.proofs.Common.{◌≡◌, true, length, IsTrue, refl, sym, ap, ◌∙◌, arith}
 use Rattle.jsonc_tree.specs.Content.{Content, is_container}
 use Rattle.jsonc_tree.specs.Tree.{content_at, children_at}
 use Rattle.jsonc_edit.proofs.ReplacedChildren.{where_refused}
@@ -8,9 +8,9 @@ use Rattle.jsonc_edit.specs.multiline.Lines.{between, on_lines}
 use Rattle.jsonc_edit.proofs.lemmas.multiline.WholeRow.{row_ready, made_multiline, two_there}
 use Rattle.jsonc_edit.proofs.multiline.multiline.ensure_multiline.Goals as goal
 
-pub splice-requires-clause-join : goal.splice-requires-clause-join
-splice-requires-clause-join g c =
-    row_ready c.args.tree.now.nodes c.plan_lines.new.tree.nodes c.args.container _ c.in_ok-row.row.items c.args.tree.now.tree c.requires.in_tree c.in_ok-row.ensures.planned c.plan_lines.ensures.prepared.tree c.child_count-count.result c.child_count-count.ensures
+pub set_between-requires-clause-join : goal.set_between-requires-clause-join
+set_between-requires-clause-join g c =
+    row_ready c.args.tree.now.nodes c.plan_lines.new.tree.nodes c.args.container _ c.in_ok-row.row.items c.args.tree.now.tree c.requires.in_tree c.in_ok-row.ensures.planned c.plan_lines.ensures.prepared.tree _ refl
     c.deref.result.now c.deref.ensures.value
 
 pub returns-in_err-row-clause-document : goal.returns-in_err-row-clause-document
@@ -20,29 +20,26 @@ returns-in_err-row-clause-document g c =
 
 pub returns-clause-made : goal.returns-clause-made
 returns-clause-made g c =
-    made_multiline c.args.tree.now.nodes c.plan_lines.new.tree.nodes c.args.container _ c.in_ok-row.row.items c.args.tree.now.tree c.requires.in_tree c.in_ok-row.ensures.planned c.plan_lines.ensures.prepared.tree c.child_count-count.result c.child_count-count.ensures
-    c.splice.new.self.nodes c.splice.new.self.tree c.deref.result.now c.deref.ensures.value c.splice.ensures.splices (ap (λ l. on_lines l c.args.tree.now.nodes (between (children_at c.args.tree.now.nodes c.args.container))) c.in_ok-lines.ensures) (sym c.has_brackets.ensures ∙ c.if-not-has_brackets.false) (sym c.has_line_end.ensures ∙ c.if-has_line_end.false)
+    made_multiline c.args.tree.now.nodes c.plan_lines.new.tree.nodes c.args.container _ c.in_ok-row.row.items c.args.tree.now.tree c.requires.in_tree c.in_ok-row.ensures.planned c.plan_lines.ensures.prepared.tree _ refl
+    c.set_between.new.tree.nodes c.set_between.new.tree.tree c.deref.result.now c.deref.ensures.value c.set_between.ensures (ap (λ l. on_lines l c.args.tree.now.nodes (between (children_at c.args.tree.now.nodes c.args.container))) c.in_ok-lines.ensures) (sym c.has_brackets.ensures ∙ c.if-not-has_brackets.false) (sym c.has_line_end.ensures ∙ c.if-has_line_end.false)
 
 contains : (w : Content) → IsTrue (is_array_or_object w) → is_container w ≡ true
 contains w holds = grind arith
 
-pub splice-requires-clause-in_tree : goal.splice-requires-clause-in_tree
-splice-requires-clause-in_tree g c = omega (arith, c.requires.in_tree, c.plan_lines.ensures.prepared.keeps.len)
+pub set_between-requires-clause-in_tree : goal.set_between-requires-clause-in_tree
+set_between-requires-clause-in_tree g c = omega (arith, c.requires.in_tree, c.plan_lines.ensures.prepared.keeps.len)
 
-pub splice-requires-clause-container : goal.splice-requires-clause-container
-splice-requires-clause-container g c =
+pub set_between-requires-clause-container : goal.set_between-requires-clause-container
+set_between-requires-clause-container g c =
     ap is_container (c.plan_lines.ensures.prepared.keeps.content c.args.container c.requires.in_tree) ∙ contains (content_at c.args.tree.now.nodes c.args.container) c.requires.holds
 
-pub splice-requires-clause-order : goal.splice-requires-clause-order
-splice-requires-clause-order g c =
+pub set_between-requires-clause-two : goal.set_between-requires-clause-two
+set_between-requires-clause-two g c =
     omega (
       arith,
       two_there c.args.tree.now.nodes c.args.container (sym c.has_brackets.ensures ∙ c.if-not-has_brackets.false),
-      c.child_count-count.ensures ∙ ap length (c.plan_lines.ensures.prepared.keeps.children c.args.container c.requires.in_tree),
+      ap length (c.plan_lines.ensures.prepared.keeps.children c.args.container c.requires.in_tree),
     )
-
-pub splice-requires-clause-within : goal.splice-requires-clause-within
-splice-requires-clause-within g c = omega (arith, c.child_count-count.ensures)
 
 pub returns-in_err-row-clause-kept : goal.returns-in_err-row-clause-kept
 returns-in_err-row-clause-kept g c = where_refused c.from_residual-in_err-row.result c.plan_lines.ensures.prepared.keeps

@@ -37,4 +37,4 @@ returns-clause-last g c =
     last_value c.args.tree.now.nodes c.lay_out.new.tree.nodes c.spaces_for.new.tree.nodes c.args.tree.now.tree c.args.property c.in_ok-new.new c.requires.in_tree c.requires.property
     (layout_of c.in_ok-layout.layout) (plain c.args.value.now) c.in_ok-new.ensures.built c.spaces_for.ensures.prepared
     c.append.new.self.nodes c.append.ensures c.append.new.self.tree c.space_needed_last-before.result c.space_needed_past-behind.result c.space_needed_last-before.ensures.due c.space_needed_past-behind.ensures.due c.in_ok-spaces.spaces c.in_ok-spaces.ensures.hand
-    c.in_ok-layout.ensures.layout c.put_spaces.new.tree.nodes c.put_spaces.ensures.put
+    c.in_ok-layout.ensures.alike c.put_spaces.new.tree.nodes c.put_spaces.ensures.put
