@@ -2,23 +2,14 @@
 
 ghost use Rattle.std.specs.Prelude.{◌≡◌, ◌<◌, OnErr, OnOk, Some, length};
 ghost use Rattle.jsonc_tree.specs.Tree.{parent_at};
-ghost use Rattle.jsonc_edit.specs.commas.Commas.{comma_gone, comma_wanted_behind, has_newline};
+ghost use Rattle.jsonc_edit.specs.commas.Commas.{comma_gone, comma_wanted_behind};
 ghost use Rattle.jsonc_edit.specs.commas.Commas.{CommaInsertedAfter, CommaIsSet, GainsComma, LosesComma, WantsComma};
 ghost use Rattle.jsonc_tree.specs.Siblings.{TakesOut};
 
 use crate::TrailingCommaMode;
 use jsonc_layout::lines::{last_child_element, trailing_comma};
-use jsonc_layout::nodes::{children_from, is_newline};
 use jsonc_tree::{Kind, Tree};
 use std::alloc::{AllocError, Allocator};
-
-// Whether a line ends between a container's children.
-fn has_newline<A: Allocator>(tree: &Tree<A>, container: usize) -> bool
-    requires { container < length tree.now.nodes }
-    ensures { result ≡ has_newline tree.now.nodes container }
-{
-    children_from(tree, container, 0).any(|child| is_newline(tree, child))
-}
 
 // The trailing comma of a container: that of its last element.
 fn comma_gone<A: Allocator>(tree: &Tree<A>, container: usize) -> Option<usize>
@@ -34,7 +25,7 @@ fn comma_wanted_behind<A: Allocator>(tree: &Tree<A>, container: usize) -> Option
     requires { container < length tree.now.nodes }
     ensures { result ≡ comma_wanted_behind tree.now.nodes container }
 {
-    if !has_newline(tree, container) {
+    if !tree.has_line_end(container) {
         return None;
     }
     let node = last_child_element(tree, container)?;

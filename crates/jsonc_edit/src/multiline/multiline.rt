@@ -5,23 +5,14 @@ ghost use Rattle.jsonc_tree.specs.Building.{Keeps};
 ghost use Rattle.jsonc_tree.specs.OrderedTree.{ordered_tree};
 ghost use Rattle.jsonc_tree.specs.Tree.{content_at};
 ghost use Rattle.jsonc_layout.specs.lines.Kinds.{is_array_or_object};
-ghost use Rattle.jsonc_edit.specs.multiline.Multiline.{has_line_end, IsUnspread, MadeMultiline};
+ghost use Rattle.jsonc_edit.specs.multiline.Multiline.{IsUnspread, MadeMultiline};
 
 use crate::multiline::lines::lines_for;
 use crate::multiline::plan::plan_lines;
 use crate::remove::has_brackets;
 use crate::{EditError, set_between};
-use jsonc_layout::nodes::{children_from, is_newline};
 use jsonc_tree::Tree;
 use std::alloc::Allocator;
-
-// Whether a line ends among the children of a container.
-fn has_line_end<A: Allocator>(tree: &Tree<A>, container: usize) -> bool
-    requires { container < length tree.now.nodes }
-    ensures { result ≡ has_line_end tree.now.nodes container }
-{
-    children_from(tree, container, 0).any(|child| is_newline(tree, child))
-}
 
 /// Puts an array or object on several lines, where no line ends among its children yet.
 ///
@@ -44,7 +35,7 @@ pub fn ensure_multiline<A: Allocator + Copy>(
     if !has_brackets(tree, container) {
         return Err(EditError::MissingBrackets);
     }
-    if has_line_end(tree, container) {
+    if tree.has_line_end(container) {
         return Ok(());
     }
     let lines = lines_for(alloc, tree, container)?;
