@@ -1,6 +1,5 @@
 -- Steps along the links of a row, and the steps of a splice.
-use Rattle.std.proofs.Common.{◌≡◌, ℕ, true, zero, suc, ◌+◌, ◌-◌, ◌<◌, ◌≤◌, List, [], ◌∷◌, ◌++◌, length, get_or, take, Option, None, Some, inl, inr, slice_get, slice_index, refl, sym, ap, subst, ◌∙◌, arith, length-take, length-append, length-drop}
-use Rattle.std.specs.List.{splice}
+use Rattle.std.proofs.Common.{◌≡◌, ℕ, true, zero, suc, ◌+◌, ◌-◌, ◌<◌, ◌≤◌, List, [], ◌∷◌, ◌++◌, length, get_or, take, Option, None, Some, inl, inr, slice_get, slice_index, refl, sym, ap, subst, ◌∙◌, arith, length-take}
 use Rattle.std.proofs.lemmas.Bool.{cases_lt}
 use Rattle.std.proofs.lemmas.Option.{slice_get-get_or, slice_get_within, slice_get_past, get_or_from_slice_get}
 use Rattle.std.proofs.Common.{drop}
@@ -122,12 +121,6 @@ module _ (ls : List LinkedNode) (ok : IsStored ls) where
 
   pub place_short : (n : ℕ) → place_at (nodes_of ls) n ≤ length (nodes_of ls)
   place_short n = place_by n (parent_at (nodes_of ls) n) refl
-
--- while a stretch goes, its next node stands at its front
-pub still_some : (old cur : List tree.Node) (c from m to : ℕ) → from ≤ m → m < to → to ≤ length (children_at old c) → Splices old cur c from m [] → slice_get (children_at cur c) from ≡ None → ⊥
-still_some old cur c from m to le lt h splices e =
-    let long : length (splice (children_at old c) from m []) ≡ from + (length (children_at old c) - m) = simp (length-append, length-take, length-drop) (omega arith) in
-    some_at (children_at cur c) from (omega (arith, ap length splices.children, long)) e
 
 module _ (ls ms : List LinkedNode) (ok : IsStored ls) where
   pub take_step : (old : List tree.Node) (c from m x : ℕ) → from ≤ m → m < length (children_at old c) → Splices old (nodes_of ls) c from m [] → slice_get (children_at (nodes_of ls) c) from ≡ Some x → Splices (nodes_of ls) (nodes_of ms) c (place_at (nodes_of ls) x) (suc (place_at (nodes_of ls) x)) [] → Splices old (nodes_of ms) c from (m + 1) [] × ((link_at ls x).next ≡ slice_get (children_at (nodes_of ms) c) from)

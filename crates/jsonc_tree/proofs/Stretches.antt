@@ -1,5 +1,5 @@
 -- One splice after another, as one.
-use Rattle.std.proofs.Common.{◌≡◌, ◌||◌, Bool, ℕ, zero, suc, ◌+◌, ◌-◌, ◌<◌, ◌≤◌, List, [], ◌∷◌, ◌++◌, length, get_or, take, drop, cond, eqb, true, false, Option, None, Some, inl, inr, slice_get, slice_range, refl, sym, ap, subst, ◌∙◌, arith, length-append, length-take, length-drop}
+use Rattle.std.proofs.Common.{◌≡◌, ◌||◌, Bool, ℕ, zero, suc, ◌+◌, ◌-◌, ◌<◌, ◌≤◌, List, [], ◌∷◌, ◌++◌, length, get_or, take, drop, cond, eqb, true, false, None, Some, inl, inr, slice_range, refl, sym, ap, subst, ◌∙◌, arith, length-append, length-take, length-drop}
 use Rattle.std.specs.List.{splice}
 use Rattle.std.proofs.lemmas.Bool.{cases_Bool}
 use Rattle.std.proofs.lemmas.List.{append_assoc, nil_from_length}
@@ -11,8 +11,6 @@ use Rattle.jsonc_tree.specs.Tree.{Node, children_at, parent_at, is_in, is_contai
 use Rattle.jsonc_tree.specs.Changes.{Splices, CanJoin, CanAppend, EachOnce}
 use Rattle.jsonc_tree.proofs.Splicing.{in_at, in_where, out_from}
 use Rattle.jsonc_tree.proofs.Over.{over_up}
-use Rattle.jsonc_tree.specs.Stored.{nodes_of, back_at, IsStored, LinkedNode}
-use Rattle.jsonc_tree.specs.Siblings.{IsGap}
 
 cond_or : {X : Type 0} (a b : Bool) (x y : X) → cond b x (cond a x y) ≡ cond (a || b) x y
 cond_or true true x y = refl
@@ -198,14 +196,3 @@ take_in xs k n e =
     let w = in_where n (take k xs) e in
     let long = length-take k xs in
     ap (λ m. is_in m xs) (sym (sym (get_or-take k xs w.0 0 (omega (arith, w.1))) ∙ w.2)) ∙ in_at xs w.0 (omega (arith, w.1))
-
--- the gap that a stretch leaves
-pub gone_gap : (l0 ls : List LinkedNode) → IsStored ls → (c i j : ℕ) (b a : Option ℕ) → i ≤ j → j ≤ length (children_at (nodes_of l0) c) → Splices (nodes_of l0) (nodes_of ls) c i j [] → a ≡ slice_get (children_at (nodes_of ls) c) i → b ≡ back_at ls c a → IsGap (nodes_of ls) c i b a
-gone_gap l0 ls ok c i j b a le h splices behind front =
-    let long = length_gone (children_at (nodes_of l0) c) i j le h in
-    let inside : i ≤ length (children_at (nodes_of ls) c) = omega (arith, long, ap length splices.children) in
-    record {
-      inside = inside;
-      front = front ∙ ap (back_at ls c) behind ∙ ok.linked.back c i inside;
-      back = behind;
-    }

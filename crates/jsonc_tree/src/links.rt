@@ -3,7 +3,7 @@
 ghost use Rattle.std.specs.Prelude.{◌≡◌, ◌<◌, ◌≤◌, ◌+◌, ◌-◌, ◌^◌, true, vec_len};
 ghost use Rattle.std.specs.Prelude.{IfOk, IfSome, OnErr, OnOk};
 ghost use Rattle.jsonc_tree.specs.Content.{is_container, is_newline};
-ghost use Rattle.jsonc_tree.specs.Stored.{link_at, ahead_set, back_set, back_at, counted_in, counted_out, place_set};
+ghost use Rattle.jsonc_tree.specs.Stored.{link_at, ahead_set, back_set, counted_in, counted_out, place_set};
 
 use crate::node::Node;
 use std::alloc::{AllocError, Allocator};
@@ -177,19 +177,4 @@ pub(crate) fn last_of<A: Allocator>(nodes: &Vec<Node<A>, A>, n: usize) -> Option
 {
     let node = &nodes[n];
     node.last()
-}
-
-pub(crate) fn before_of<A: Allocator>(
-    nodes: &Vec<Node<A>, A>,
-    c: usize,
-    behind: Option<usize>,
-) -> Option<usize>
-    requires in_tree { c < vec_len nodes.now }
-    requires behind { IfSome behind (λ n. n < vec_len nodes.now) }
-    ensures { result ≡ back_at nodes.now.items c behind }
-{
-    match behind {
-        None => last_of(nodes, c),
-        Some(n) => previous_of(nodes, n),
-    }
 }

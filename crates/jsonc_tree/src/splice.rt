@@ -1,19 +1,18 @@
 //! Nodes that come into a row and go out of one.
 
-ghost use Rattle.std.specs.Prelude.{◌≡◌, IsTrue, ◌<◌, ◌≤◌, ◌+◌, [], ◌∷◌, length, Some};
-ghost use Rattle.std.specs.Prelude.{slice_get, vec_len};
-ghost use Rattle.jsonc_tree.specs.Tree.{children_at, parent_at, is_container_at};
-ghost use Rattle.jsonc_tree.specs.Changes.{Appends, CanAppend, CanJoin, Splices};
+ghost use Rattle.std.specs.Prelude.{◌≡◌, IsTrue, ◌<◌, ◌≤◌, ◌+◌, ◌∷◌, [], Some};
+ghost use Rattle.std.specs.Prelude.{vec_len};
+ghost use Rattle.jsonc_tree.specs.Tree.{parent_at, is_container_at};
+ghost use Rattle.jsonc_tree.specs.Changes.{Appends, CanAppend};
 ghost use Rattle.jsonc_tree.specs.Siblings.{CanFill, CanReplace, Fills, HasGap, IsStretch, Replaces};
 ghost use Rattle.jsonc_tree.specs.Siblings.{TakesOut, TakesStretch};
 ghost use Rattle.jsonc_tree.specs.Stored.{nodes_in, IsStored};
 
 use crate::links::{
-    before_of, count_in, count_out, is_newline, last_of, next_of, parent_of, previous_of,
-    set_ahead, set_back, set_place,
+    count_in, count_out, is_newline, last_of, next_of, parent_of, previous_of, set_ahead, set_back,
+    set_place,
 };
 use crate::node::Node;
-use crate::walk::child_from;
 use std::alloc::Allocator;
 
 // Puts a node that stands alone into the gap between two neighbours of a row.
@@ -54,31 +53,6 @@ fn take_out<A: Allocator>(nodes: &mut Vec<Node<A>, A>, c: usize, x: usize)
     set_place(nodes, x, None, None, None);
     let newline = is_newline(nodes, x);
     count_out(nodes, c, newline);
-}
-
-// Takes a stretch out of a row, and answers what stood behind it.
-fn take_stretch<A: Allocator>(
-    nodes: &mut Vec<Node<A>, A>,
-    c: usize,
-    from: usize,
-    to: usize,
-) -> Option<usize>
-    requires stored { IsStored nodes.old.items }
-    requires in_tree { c < vec_len nodes.old }
-    requires order { from ≤ to }
-    requires within { to ≤ length (children_at (nodes_in nodes.old) c) }
-    ensures splices { Splices (nodes_in nodes.old) (nodes_in nodes.new) c from to [] }
-    ensures behind { result ≡ slice_get (children_at (nodes_in nodes.new) c) from }
-    ensures stored { IsStored nodes.new.items }
-    ensures len { vec_len nodes.new ≡ vec_len nodes.old }
-{
-    let mut behind = child_from(nodes, c, from);
-    for _i in from..to {
-        let Some(x) = behind else { unreachable!() };
-        behind = next_of(nodes, x);
-        take_out(nodes, c, x);
-    }
-    behind
 }
 
 // Takes the children from one to another out of a row.
@@ -127,29 +101,6 @@ pub(crate) fn put_row<A: Allocator>(
         put_between(nodes, c, last, behind, x);
         last = Some(x);
     }
-}
-
-// The whole splice.
-pub(crate) fn splice_nodes<A: Allocator>(
-    nodes: &mut Vec<Node<A>, A>,
-    c: usize,
-    from: usize,
-    to: usize,
-    new: &[usize],
-)
-    requires stored { IsStored nodes.old.items }
-    requires in_tree { c < vec_len nodes.old }
-    requires container { IsTrue (is_container_at (nodes_in nodes.old) c) }
-    requires order { from ≤ to }
-    requires within { to ≤ length (children_at (nodes_in nodes.old) c) }
-    requires join { CanJoin (nodes_in nodes.old) c from to new.now }
-    ensures splices { Splices (nodes_in nodes.old) (nodes_in nodes.new) c from to new.now }
-    ensures stored { IsStored nodes.new.items }
-    ensures len { vec_len nodes.new ≡ vec_len nodes.old }
-{
-    let behind = take_stretch(nodes, c, from, to);
-    let before = before_of(nodes, c, behind);
-    put_row(nodes, c, before, behind, new);
 }
 
 // Puts nodes in the place of a child.

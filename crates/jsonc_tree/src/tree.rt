@@ -4,8 +4,8 @@ ghost use Rattle.std.specs.Prelude.{◌≡◌, false, IsTrue, ◌<◌, ◌≤◌
 ghost use Rattle.std.specs.Prelude.{length, vec_len, IfOk, OnErr, OnOk};
 ghost use Rattle.jsonc_tree.specs.Content.{is_container};
 ghost use Rattle.jsonc_tree.specs.Tree.{children_at, is_container_at};
-ghost use Rattle.jsonc_tree.specs.Changes.{Adds, Appends, CanAppend, CanJoin};
-ghost use Rattle.jsonc_tree.specs.Changes.{LeafBecomes, Pushes, Splices};
+ghost use Rattle.jsonc_tree.specs.Changes.{Adds, Appends, CanAppend};
+ghost use Rattle.jsonc_tree.specs.Changes.{LeafBecomes, Pushes};
 ghost use Rattle.jsonc_tree.specs.Siblings.{CanFill, CanReplace, Fills, IsStretch, Replaces};
 ghost use Rattle.jsonc_tree.specs.Siblings.{TakesStretch};
 ghost use Rattle.jsonc_tree.specs.Stored.{content_of, leaf_set, link_at, nodes_in, IsStored};
@@ -13,7 +13,7 @@ ghost use Rattle.jsonc_tree.specs.StoredOnce.{IsStored-prop};
 
 use crate::links::{count_in, count_out, is_newline, next_number, parent_of};
 use crate::node::{Ends, Kind, Node, bare_node};
-use crate::splice::{append_node, put_row, replace_child, splice_nodes, take_between};
+use crate::splice::{append_node, put_row, replace_child, take_between};
 use std::alloc::{AllocError, Allocator};
 use std::marker::Model;
 
@@ -81,21 +81,6 @@ impl<A: Allocator> Tree<A> {
         ensures len { result ≡ length self.now.nodes }
     {
         self.nodes.len()
-    }
-
-    /// Puts nodes in the place of the container's children from `from` up to `to`.
-    ///
-    /// What is replaced is left without a parent. The nodes that are put in have none before, or are
-    /// among those that give way.
-    pub fn splice(&mut self, container: usize, from: usize, to: usize, new: &[usize])
-        requires in_tree { container < length self.old.nodes }
-        requires container { IsTrue (is_container_at self.old.nodes container) }
-        requires order { from ≤ to }
-        requires within { to ≤ length (children_at self.old.nodes container) }
-        requires join { CanJoin self.old.nodes container from to new.now }
-        ensures splices { Splices self.old.nodes self.new.nodes container from to new.now }
-    {
-        splice_nodes(&mut self.nodes, container, from, to, new);
     }
 
     /// Puts nodes in the place of a child, in the time that they take.

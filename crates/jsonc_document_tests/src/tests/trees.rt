@@ -42,22 +42,36 @@ fn attach<A: Allocator + Copy>(
     Ok(())
 }
 
-/// A new node in the place of a stretch of a container's children.
+/// A new node in front of a container's children.
+fn put_first<A: Allocator + Copy>(
+    tree: &mut Tree<A>,
+    container: usize,
+    kind: Kind<A>,
+) -> Result<usize, Outcome> {
+    if !can_hold(tree, container) {
+        return Err(Outcome::Other);
+    }
+    let node = tree.add(kind)?;
+    let first = tree.first_child(container);
+    tree.insert_between(container, None, first, &[node]);
+    Ok(node)
+}
+
+/// A new node in the place of a container's child.
 fn put<A: Allocator + Copy>(
     tree: &mut Tree<A>,
     container: usize,
-    from: usize,
-    to: usize,
+    child: usize,
     kind: Kind<A>,
 ) -> Result<(), Outcome> {
     if !can_hold(tree, container) {
         return Err(Outcome::Other);
     }
     let node = tree.add(kind)?;
-    if from > to || to > tree.child_count(container) {
+    if child >= tree.len() || tree.parent(child) != Some(container) {
         return Err(Outcome::Other);
     }
-    tree.splice(container, from, to, &[node]);
+    tree.replace(child, &[node]);
     Ok(())
 }
 
@@ -79,17 +93,12 @@ fn fill<A: Allocator + Copy>(alloc: A, tree: &mut Tree<A>) -> Result<(usize, usi
     Ok((array, number))
 }
 
-/// Puts a comma behind the number, blanks in the place of the comma, and a word in the number's.
+/// Puts a comma in front of the array's children, blanks in the place of the comma, and a word in the number's.
 fn change<A: Allocator + Copy>(alloc: A, tree: &mut Tree<A>) -> Result<(), Outcome> {
     let (array, number) = fill(alloc, tree)?;
-    put(tree, array, 2, 2, Kind::token(','))?;
-    put(
-        tree,
-        array,
-        2,
-        3,
-        Kind::Whitespace(String::from_str(alloc, "  ")?),
-    )?;
+    let comma = put_first(tree, array, Kind::token(','))?;
+    let blanks = Kind::Whitespace(String::from_str(alloc, "  ")?);
+    put(tree, array, comma, blanks)?;
     set(tree, number, Kind::Word(String::from_str(alloc, "a")?))
 }
 
@@ -104,7 +113,7 @@ pub fn changed_tree<A: Allocator + Copy>(alloc: A) -> Outcome {
 fn is_changed<A: Allocator + Copy>(alloc: A, tree: Tree<A>) -> Outcome {
     let mut tree = tree;
     match change(alloc, &mut tree) {
-        Ok(()) => Outcome::of_text(tree.to_string(alloc), "[a  ]"),
+        Ok(()) => Outcome::of_text(tree.to_string(alloc), "  [a]"),
         Err(outcome) => outcome,
     }
 }
@@ -131,7 +140,7 @@ fn change_lines<A: Allocator + Copy>(alloc: A, tree: &mut Tree<A>) -> Result<(),
     expect_line_end(tree, array, false)?;
     set(tree, number, Kind::Newline(CstNewlineKind::CarriageReturn))?;
     expect_line_end(tree, array, true)?;
-    put(tree, array, 1, 2, Kind::token(','))?;
+    put(tree, array, number, Kind::token(','))?;
     expect_line_end(tree, array, false)?;
     attach(tree, array, Kind::Newline(CstNewlineKind::LineFeed))?;
     expect_line_end(tree, array, true)?;
