@@ -57,20 +57,22 @@ fn put_first<A: Allocator + Copy>(
     Ok(node)
 }
 
-/// A new node in the place of a container's child.
+/// A new node in the place of a child.
 fn put<A: Allocator + Copy>(
     tree: &mut Tree<A>,
-    container: usize,
     child: usize,
     kind: Kind<A>,
 ) -> Result<(), Outcome> {
+    if child >= tree.len() {
+        return Err(Outcome::Other);
+    }
+    let Some(container) = tree.parent(child) else {
+        return Err(Outcome::Other);
+    };
     if !can_hold(tree, container) {
         return Err(Outcome::Other);
     }
     let node = tree.add(kind)?;
-    if child >= tree.len() || tree.parent(child) != Some(container) {
-        return Err(Outcome::Other);
-    }
     tree.replace(child, &[node]);
     Ok(())
 }
@@ -98,7 +100,7 @@ fn change<A: Allocator + Copy>(alloc: A, tree: &mut Tree<A>) -> Result<(), Outco
     let (array, number) = fill(alloc, tree)?;
     let comma = put_first(tree, array, Kind::token(','))?;
     let blanks = Kind::Whitespace(String::from_str(alloc, "  ")?);
-    put(tree, array, comma, blanks)?;
+    put(tree, comma, blanks)?;
     set(tree, number, Kind::Word(String::from_str(alloc, "a")?))
 }
 
@@ -140,7 +142,7 @@ fn change_lines<A: Allocator + Copy>(alloc: A, tree: &mut Tree<A>) -> Result<(),
     expect_line_end(tree, array, false)?;
     set(tree, number, Kind::Newline(CstNewlineKind::CarriageReturn))?;
     expect_line_end(tree, array, true)?;
-    put(tree, array, number, Kind::token(','))?;
+    put(tree, number, Kind::token(','))?;
     expect_line_end(tree, array, false)?;
     attach(tree, array, Kind::Newline(CstNewlineKind::LineFeed))?;
     expect_line_end(tree, array, true)?;
