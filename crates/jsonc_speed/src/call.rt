@@ -1,15 +1,14 @@
 //! The calls that are timed. Each answers a number of its result, so that no result goes unused.
-ghost use Rattle.std.specs.Prelude.{All, IfOk};
+ghost use Rattle.std.specs.Prelude.{All};
 ghost use Rattle.jsonc_cst.specs.Document.{HasNode};
-ghost use Rattle.jsonc_cst.specs.Nodes.{number_lit_node, object_node};
+ghost use Rattle.jsonc_cst.specs.Nodes.{object_node};
 
+use crate::documents::{elements, parsed};
+use crate::edits::{appended, inserted, removed, replaced, set};
 use jsonc_engine::command::Command;
 use jsonc_engine::engine::run_on;
 use jsonc_engine::fault::Fault;
-use jsonc_parser::cst::{
-    CstContainerNode, CstInputValue, CstLeafNode, CstNode, CstNumberLit, CstObject, CstRootNode,
-    EditError, TypedNode,
-};
+use jsonc_parser::cst::{CstContainerNode, CstNode, CstObject, CstRootNode, EditError, TypedNode};
 use jsonc_parser::{
     CollectOptions, CommentCollectionStrategy, LineIndex, ParseOptions, Scanner, ScannerOptions,
     check, parse_to_ast, parse_to_value,
@@ -41,8 +40,14 @@ pub enum Call {
     Replaced,
     /// `next_sibling` of each element of an array that is parsed once.
     Siblings,
+    /// `set_value` of the last property of an object that is parsed once.
+    Set,
     /// `append` of a number to an array that is parsed once.
     Appended,
+    /// `insert` of a number at the front of an array that is parsed once.
+    Inserted,
+    /// `remove` of the elements of an array that is parsed once, from the last on.
+    Removed,
     /// What a linter does: parse, and walk all nodes with ranges, for lines, columns and names that stand twice.
     Lint,
     /// `repeated_names` of the document's object, which is parsed once.
@@ -64,7 +69,10 @@ impl Call {
             "program" => Some(Call::Program),
             "replaced" => Some(Call::Replaced),
             "siblings" => Some(Call::Siblings),
+            "set" => Some(Call::Set),
             "appended" => Some(Call::Appended),
+            "inserted" => Some(Call::Inserted),
+            "removed" => Some(Call::Removed),
             "lint" => Some(Call::Lint),
             "repeated" => Some(Call::Repeated),
             _ => None,
@@ -80,7 +88,10 @@ impl Call {
             Call::Print => print(alloc, text, count),
             Call::Replaced => replaced(alloc, text, count),
             Call::Siblings => siblings(alloc, text, count),
+            Call::Set => set(alloc, text, count),
             Call::Appended => appended(alloc, text, count),
+            Call::Inserted => inserted(alloc, text, count),
+            Call::Removed => removed(alloc, text, count),
             Call::Repeated => repeated(alloc, text, count),
             _ => self.each(alloc, text, count),
         }
@@ -100,7 +111,10 @@ impl Call {
             | Call::Print
             | Call::Replaced
             | Call::Siblings
+            | Call::Set
             | Call::Appended
+            | Call::Inserted
+            | Call::Removed
             | Call::Repeated => Ok(0),
             Call::Scan => scan(alloc, text),
             Call::Check => checked(alloc, text),
@@ -183,13 +197,6 @@ fn value(alloc: Global, text: &str) -> Result<usize, Fault> {
     }
 }
 
-fn parsed(alloc: Global, text: &str) -> Result<CstRootNode<Global>, Fault> {
-    match CstRootNode::parse(alloc, text, &ParseOptions::default()) {
-        Ok(document) => Ok(document),
-        Err(error) => Err(Fault::Input(error)),
-    }
-}
-
 /// 1 for each document.
 fn document(alloc: Global, text: &str) -> Result<usize, Fault> {
     let _document = parsed(alloc, text)?;
@@ -217,19 +224,6 @@ fn program(alloc: Global, text: &str) -> Result<usize, Fault> {
     }
 }
 
-/// The elements of a document that is an array.
-fn elements(document: &CstRootNode<Global>) -> Result<Vec<CstNode>, Fault>
-    ensures { IfOk result (λ v. All (HasNode document.now) v.items) }
-{
-    match document.value() {
-        Some(CstNode::Container(CstContainerNode::Array(array))) => match array.elements(document) {
-            Ok(elements) => Ok(elements),
-            Err(error) => Err(Fault::Edit(error)),
-        },
-        _ => Err(Fault::NotArray),
-    }
-}
-
 /// How many of the elements have a next sibling.
 fn followed(document: &CstRootNode<Global>, elements: &[CstNode]) -> usize
     requires { All (HasNode document.now) elements.now }
@@ -250,69 +244,6 @@ fn siblings(alloc: Global, text: &str, count: u64) -> Result<usize, Fault> {
     let mut sum = 0usize;
     for _ in 0..count {
         sum = sum.saturating_add(followed(&document, elements.as_slice()));
-    }
-    Ok(sum)
-}
-
-/// The last element of an array, where it is a number.
-fn last_number(document: &CstRootNode<Global>) -> Result<CstNumberLit, Fault>
-    ensures { IfOk result (λ n. HasNode document.now (number_lit_node n)) }
-{
-    let elements = elements(document)?;
-    match elements.last() {
-        Some(CstNode::Leaf(CstLeafNode::NumberLit(number))) => Ok(*number),
-        _ => Err(Fault::NotArray),
-    }
-}
-
-/// Replaces a number by another.
-fn replace(
-    alloc: Global,
-    document: &mut CstRootNode<Global>,
-    number: CstNumberLit,
-) -> Result<CstNumberLit, Fault>
-    requires { HasNode document.old (number_lit_node number) }
-    ensures { IfOk result (λ n. HasNode document.new (number_lit_node n)) }
-{
-    let digits = String::from_str(alloc, "7")?;
-    match number.replace_with(document, CstInputValue::Number(digits)) {
-        Ok(Some(CstNode::Leaf(CstLeafNode::NumberLit(next)))) => Ok(next),
-        Ok(_) => Err(Fault::NotArray),
-        Err(error) => Err(Fault::Edit(error)),
-    }
-}
-
-/// How often the last number of an array was replaced.
-fn replaced(alloc: Global, text: &str, count: u64) -> Result<usize, Fault> {
-    let mut document = parsed(alloc, text)?;
-    let mut last = last_number(&document)?;
-    let mut sum = 0usize;
-    for _ in 0..count {
-        last = replace(alloc, &mut document, last)?;
-        sum = sum.saturating_add(1);
-    }
-    Ok(sum)
-}
-
-/// Appends a number to the array of a document.
-fn append(alloc: Global, document: &mut CstRootNode<Global>) -> Result<(), Fault> {
-    let Some(array) = document.array_value() else {
-        return Err(Fault::NotArray);
-    };
-    let digits = String::from_str(alloc, "7")?;
-    match array.append(document, CstInputValue::Number(digits)) {
-        Ok(_) => Ok(()),
-        Err(error) => Err(Fault::Edit(error)),
-    }
-}
-
-/// How often a number was appended to the array of one document.
-fn appended(alloc: Global, text: &str, count: u64) -> Result<usize, Fault> {
-    let mut document = parsed(alloc, text)?;
-    let mut sum = 0usize;
-    for _ in 0..count {
-        append(alloc, &mut document)?;
-        sum = sum.saturating_add(1);
     }
     Ok(sum)
 }
