@@ -4,14 +4,18 @@ use Rattle.std.proofs.lemmas.Bool.{cases_Bool, cases_lt}
 use Rattle.std.proofs.lemmas.List.{take-append-drop}
 use Rattle.std.proofs.lemmas.List.Folds.{list_any-append}
 use Rattle.jsonc_text.specs.Plain.{Plain}
-use Rattle.jsonc_tree.specs.Tree.{Node, children_at, parent_at, is_in, place_at}
+use Rattle.jsonc_tree.specs.Changes.{Splices}
+use Rattle.jsonc_tree.specs.Tree.{Node, children_at, parent_at, is_in, place_at, IsTree}
 use Rattle.jsonc_tree.proofs.Splicing.{in_at, in_where}
-use Rattle.jsonc_insert.specs.Inserted.{plan_of, with_comma}
+use Rattle.jsonc_edit.specs.Put.{Extends}
+use Rattle.jsonc_insert.specs.Inserted.{plan_of, put_by, with_comma, RowMade}
 use Rattle.jsonc_insert.specs.Laws.{LosesBlanksAlone}
 use Rattle.jsonc_insert.specs.Trimmed.{first_gone, last_gone, trimmed, with_at, without}
 use Rattle.jsonc_layout.specs.nodes.Kinds.{is_blank_at}
 use Rattle.jsonc_insert.specs.declared.trim.Stretch.{Stretch}
-use Rattle.jsonc_insert.proofs.Numbering.{whole}
+use Rattle.jsonc_insert.specs.declared.plan.Plan.{Plan}
+use Rattle.jsonc_insert.proofs.Numbering.{element_row, whole}
+use Rattle.jsonc_insert.proofs.RowReplaced.{IsRowFor}
 use Rattle.jsonc_insert.proofs.TrimmedRows.{back_blank, first_within, front_blank, has_two, last_high, last_low, shorter_at}
 
 either_left : (a b : Bool) → a ≡ true → (a || b) ≡ true
@@ -79,28 +83,32 @@ in_with_comma : (n : ℕ) (o : Option ℕ) (xs row : List ℕ) → is_in n row �
 in_with_comma n None xs row e = e
 in_with_comma n (Some at) xs row e = in_with_at n at xs row e
 
-pub loses_blanks_alone : (old new : List Node) (c i : ℕ) (v : Plain) (m : ℕ) → LosesBlanksAlone old new c i v m
-loses_blanks_alone old new c i v m tree there brackets e n said = by (cases_Bool (is_in n e.row)) (kept_or_blank old (children_at old c) (has_two old (children_at old c) brackets) n was)
+pub in_put_by : (n : ℕ) (plan : Plan) (comma written row : List ℕ) → is_in n row ≡ true → is_in n (put_by plan comma written row) ≡ true
+in_put_by n plan comma written row e = in_with_comma n plan.comma comma (with_at plan.place written row) (in_with_at n plan.place written row e)
+
+-- of the children those stay that stand in the row before anything comes in, and the others are detached
+pub stays_or_leaves : (old lined : List Node) (tree : IsTree old) (c : ℕ) (there : c < length old) (was : List ℕ) (b : IsRowFor old lined c was) (ready : List Node) (p : Extends lined ready) (i : ℕ) (name : Option (List ℕ)) (v : Plain) (m : ℕ) (row : List ℕ) (r : RowMade lined ready c was i name v m row)
+    (new : List Node) (put : Splices ready new c 0 (length (children_at old c)) row) (blank : Bool) (n : ℕ) → parent_at old n ≡ Some c → (is_in n was ≡ true) ⊎ (blank ≡ true) → (parent_at new n ≡ Some c) ⊎ ((blank ≡ true) × (parent_at new n ≡ None))
+stays_or_leaves old lined tree c there was b ready p i name v m row r new put blank n said w = by (cases_Bool (is_in n row)) w
   where
-    was : is_in n (children_at old c) ≡ true
-    was = subst (λ k. is_in k (children_at old c) ≡ true) (tree.found n c said) (in_at (children_at old c) (place_at old n) (tree.within n c said))
+    stood : is_in n (children_at old c) ≡ true
+    stood = subst (λ k. is_in k (children_at old c) ≡ true) (tree.found n c said) (in_at (children_at old c) (place_at old n) (tree.within n c said))
 
-    gone : is_in n (slice_range (children_at e.ready c) 0 (length (children_at old c))) ≡ true
-    gone = ap (is_in n) (whole old new c i v m tree there brackets e) ∙ was
+    gone : is_in n (slice_range (children_at ready c) 0 (length (children_at old c))) ≡ true
+    gone = ap (is_in n) (whole old lined tree c there was b ready p i name v m row r new put) ∙ stood
 
-    now : (b : Bool) → is_in n e.row ≡ b → parent_at new n ≡ cond b (Some c) None
-    now b f =
-        e.put.parents n ∙ ap (λ w. cond w (Some c) (cond (is_in n (slice_range (children_at e.ready c) 0 (length (children_at old c)))) None (parent_at e.ready n))) f
-        ∙ ap (λ w. cond b (Some c) (cond w None (parent_at e.ready n))) gone
+    now : (x : Bool) → is_in n row ≡ x → parent_at new n ≡ cond x (Some c) None
+    now x f =
+        put.parents n ∙ ap (λ y. cond y (Some c) (cond (is_in n (slice_range (children_at ready c) 0 (length (children_at old c)))) None (parent_at ready n))) f
+        ∙ ap (λ y. cond x (Some c) (cond y None (parent_at ready n))) gone
 
-    stays : is_in n (trimmed old (children_at old c)) ≡ true → is_in n e.row ≡ true
-    stays h =
-        let plan = plan_of old c i v in
-        let put = e.made.before ++ m ∷ e.made.behind in
-        let kept = trimmed old (children_at old c) in
-        ap (is_in n) e.made.is ∙ in_with_comma n plan.comma e.made.comma (with_at plan.place put kept) (in_with_at n plan.place put kept h)
+    by : (is_in n row ≡ true) ⊎ (is_in n row ≡ false) → (is_in n was ≡ true) ⊎ (blank ≡ true) → (parent_at new n ≡ Some c) ⊎ ((blank ≡ true) × (parent_at new n ≡ None))
+    by (inl here) k = inl (now true here)
+    by (inr out) (inl kept) = inl (now true (ap (is_in n) r.is ∙ in_put_by n (plan_of r.kept c i name v) r.comma (r.before ++ m ∷ r.behind) was kept))
+    by (inr out) (inr e) = inr (e, now false out)
 
-    by : (is_in n e.row ≡ true) ⊎ (is_in n e.row ≡ false) → (is_in n (trimmed old (children_at old c)) ≡ true) ⊎ (is_blank_at old n ≡ true) → (parent_at new n ≡ Some c) ⊎ ((is_blank_at old n ≡ true) × (parent_at new n ≡ None))
-    by (inl here) w = inl (now true here)
-    by (inr out) (inl kept) = inl (now true (stays kept))
-    by (inr out) (inr blank) = inr (blank, now false out)
+pub loses_blanks_alone : (old new : List Node) (c i : ℕ) (v : Plain) (m : ℕ) → LosesBlanksAlone old new c i v m
+loses_blanks_alone old new c i v m tree there brackets e n said =
+    stays_or_leaves old old tree c there (trimmed old (children_at old c)) (element_row old tree c brackets) e.ready e.prepared i None v m e.row e.made new e.put (is_blank_at old n) n said
+    (kept_or_blank old (children_at old c) (has_two old (children_at old c) brackets) n
+    (subst (λ k. is_in k (children_at old c) ≡ true) (tree.found n c said) (in_at (children_at old c) (place_at old n) (tree.within n c said))))

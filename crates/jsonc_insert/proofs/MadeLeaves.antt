@@ -1,20 +1,19 @@
 -- New leaves, made one behind the other, and a new element between them.
-use Rattle.std.proofs.Common.{◌≡◌, ◌<◌, ◌≤◌, ◌-◌, ℕ, suc, inl, inr, List, [], ◌∷◌, ◌++◌, length, map, slice_index, Result, Ok, Err, OnOk, All, refl, sym, ap, subst, ◌∙◌, arith, append_assoc, append-nil, length-append}
+use Rattle.std.proofs.Common.{◌≡◌, ◌<◌, ◌≤◌, ◌-◌, ℕ, suc, inl, inr, List, [], ◌∷◌, ◌++◌, length, map, slice_index, Option, Result, Ok, Err, OnOk, refl, sym, ap, subst, ◌∙◌, arith, append_assoc, append-nil, length-append}
 use Rattle.std.proofs.lemmas.Bool.{cases_lt}
 use Rattle.std.proofs.lemmas.List.{get_or-append_right, get_or_append_left}
 use Rattle.jsonc_text.specs.Plain.{Plain}
-use Rattle.jsonc_tree.specs.Building.{Builds, Keeps}
+use Rattle.jsonc_tree.specs.Building.{Keeps}
 use Rattle.jsonc_tree.specs.Changes.{Adds}
 use Rattle.jsonc_tree.specs.Content.{Content}
 use Rattle.jsonc_tree.specs.Tree.{Node, content_at, IsTree}
 use Rattle.jsonc_tree.proofs.Builder.{Keeps-adds, Keeps-fewer, Keeps-same, Keeps-then}
 use Rattle.jsonc_edit.proofs.NodesKept.{built_top, top_stays}
-use Rattle.jsonc_layout.specs.from_input.Laid.{laid}
 use Rattle.jsonc_layout.specs.from_input.Layout.{Layout}
-use Rattle.jsonc_insert.specs.Made.{comma_at, AreFresh, Gains, IsFresh, LeavesMade}
-use Rattle.jsonc_insert.specs.Inserted.{leaves_before, leaves_behind, NodesMade}
+use Rattle.jsonc_insert.specs.Made.{comma_at, AreFresh, BuildsTop, Gains, IsFresh, LeavesMade}
+use Rattle.jsonc_insert.specs.Inserted.{laid_entry, leaves_before, leaves_behind, NodesMade}
 use Rattle.jsonc_insert.specs.declared.plan.Plan.{Plan}
-use Rattle.jsonc_insert.proofs.NoDuplicates.{all_parts, once_append, once_right}
+use Rattle.jsonc_insert.proofs.NoDuplicates.{once_append}
 
 pub keeps_then : (a b d : List Node) → Keeps (length a) a b → Keeps (length b) b d → Keeps (length a) a d
 keeps_then a b d first second = Keeps-then (length a) a b d first (Keeps-fewer (length a) (length b) b d first.len second)
@@ -102,9 +101,9 @@ pub made_from : (old now : List Node) (r s : List ℕ) (contents : List Content)
 made_from old now r s contents e g = g old [] (subst (LeavesMade old old []) (sym e) (none_made old))
 
 -- a comma, the leaves before, the element and the leaves behind were made in turn
-module _ (old a b d ready : List Node) (layout : Layout) (outer : List ℕ) (plan : Plan) (v : Plain) (m : ℕ) (comma before behind : List ℕ)
+module _ (old a b d ready : List Node) (layout : Layout) (outer : List ℕ) (plan : Plan) (name : Option (List ℕ)) (v : Plain) (m : ℕ) (comma before behind : List ℕ)
     (one : LeavesMade old a (comma_at plan.comma) comma) (two : LeavesMade a b (leaves_before layout plan) before)
-    (built : Builds b d m (laid layout v).content (laid layout v).below) (last : LeavesMade d ready (leaves_behind layout outer plan) behind) (tree : IsTree ready) where
+    (built : BuildsTop b d m (laid_entry layout name v)) (last : LeavesMade d ready (leaves_behind layout outer plan) behind) (tree : IsTree ready) where
   from_b : Keeps (length b) b ready
   from_b = keeps_then b d ready built.keeps last.keeps
 
@@ -117,31 +116,11 @@ module _ (old a b d ready : List Node) (layout : Layout) (outer : List ℕ) (pla
   all_fresh : AreFresh old ready (comma ++ (before ++ m ∷ behind))
   all_fresh = fresh_append old a ready comma (before ++ m ∷ behind) one.keeps.len from_a one.fresh (fresh_append a b ready before (m ∷ behind) two.keeps.len from_b two.fresh element_fresh)
 
-  pub nodes_made : NodesMade old ready layout outer plan v m comma before behind
+  pub nodes_made : NodesMade old ready layout outer plan name v m comma before behind
   nodes_made = record {
     fresh = all_fresh;
     is = top_stays d ready built.tree last.keeps tree m built.in_tree ∙ built_top built;
     parts = contents_kept a ready from_a comma (λ k h. (one.fresh.each k h).in_tree) ∙ one.are;
     leads = contents_kept b ready from_b before (λ k h. (two.fresh.each k h).in_tree) ∙ two.are;
     ends = last.are;
-  }
-
--- they stay ready while there is more room
-module _ (old a b : List Node) (layout : Layout) (outer : List ℕ) (plan : Plan) (v : Plain) (m : ℕ) (comma before behind : List ℕ) (tree : IsTree a) (keeps : Keeps (length a) a b) (after : IsTree b) (made : NodesMade old a layout outer plan v m comma before behind) where
-  pub fresh_later : (n : ℕ) → IsFresh old a n → IsFresh old b n
-  fresh_later n f = record { later = f.later; in_tree = omega (arith, f.in_tree, keeps.len); alone = keeps.parent n f.in_tree ∙ f.alone }
-
-  parts : All (IsFresh old a) comma × All (IsFresh old a) (before ++ m ∷ behind)
-  parts = all_parts comma (before ++ m ∷ behind) made.fresh.once (IsFresh old a) made.fresh.each
-
-  beside : All (IsFresh old a) before × All (IsFresh old a) (m ∷ behind)
-  beside = all_parts before (m ∷ behind) (once_right comma (before ++ m ∷ behind) made.fresh.once) (IsFresh old a) (λ k h. parts.1 k 0 h)
-
-  pub made_later : NodesMade old b layout outer plan v m comma before behind
-  made_later = record {
-    fresh = record { each = λ k h. fresh_later (slice_index (comma ++ (before ++ m ∷ behind)) k) (made.fresh.each k h); once = made.fresh.once };
-    is = top_stays a b tree keeps after m (beside.1 0 0 (omega arith)).in_tree ∙ made.is;
-    parts = contents_kept a b keeps comma (λ k h. (parts.0 k 0 h).in_tree) ∙ made.parts;
-    leads = contents_kept a b keeps before (λ k h. (beside.0 k 0 h).in_tree) ∙ made.leads;
-    ends = contents_kept a b keeps behind (λ k h. (beside.1 (suc k) 0 (omega (arith, h))).in_tree) ∙ made.ends;
   }

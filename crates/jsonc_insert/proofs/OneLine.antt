@@ -8,12 +8,11 @@ use Rattle.jsonc_tree.specs.Tree.{Node, children_at}
 use Rattle.jsonc_tree.specs.declared.node.CstNewlineKind.{CstNewlineKind}
 use Rattle.jsonc_layout.specs.from_input.Laid.{closed, holds_filled, is_filled, laid, laid_items, leaf_then, on_one_line, spread}
 use Rattle.jsonc_layout.specs.from_input.Layout.{deeper, Layout}
-use Rattle.jsonc_insert.specs.Inserted.{outer_indent, plan_in, plan_of, NodesMade}
+use Rattle.jsonc_insert.specs.Inserted.{laid_entry, plan_of, NodesMade}
 use Rattle.jsonc_insert.specs.Made.{comma_leaf, gap_leaves}
 use Rattle.jsonc_insert.specs.Neighbours.{IsBeside, IsTold, SameGaps}
 use Rattle.jsonc_insert.specs.Planned.{element_before, elements, plan_alone, plan_between, plan_by, plan_first, planned}
-use Rattle.jsonc_insert.specs.Settings.{indents_of, is_spread, layout_in, layout_inside, on_several_lines}
-use Rattle.jsonc_insert.specs.Trimmed.{trimmed}
+use Rattle.jsonc_insert.specs.Settings.{is_spread, layout_inside, on_several_lines, outer_indent}
 use Rattle.jsonc_insert.specs.declared.neighbours.Neighbours.{Neighbours}
 use Rattle.jsonc_insert.specs.declared.plan.Gap.{Gap}
 use Rattle.jsonc_insert.specs.declared.plan.Gap.TheVariants.{Nothing, Space, Line}
@@ -97,8 +96,8 @@ module _ (ns : List Node) (commas : Bool) (row : List ℕ) (i : ℕ) where
   planned_same = by_same (element_before ns row i)
 
 -- what is made by a plan with the same gaps
-pub made_alike : (old ready : List Node) (l : Layout) (outer : List ℕ) (p q : Plan) (v : Plain) (m : ℕ) (comma before behind : List ℕ) → SameGaps p q → NodesMade old ready l outer q v m comma before behind → NodesMade old ready l outer p v m comma before behind
-made_alike old ready l outer p q v m comma before behind same made = record {
+pub made_alike : (old ready : List Node) (l : Layout) (outer : List ℕ) (p q : Plan) (name : Option (List ℕ)) (v : Plain) (m : ℕ) (comma before behind : List ℕ) → SameGaps p q → NodesMade old ready l outer q name v m comma before behind → NodesMade old ready l outer p name v m comma before behind
+made_alike old ready l outer p q name v m comma before behind same made = record {
   fresh = made.fresh;
   is = made.is;
   parts = made.parts ∙ ap comma_leaf (sym same.comma);
@@ -107,46 +106,46 @@ made_alike old ready l outer p q v m comma before behind same made = record {
 }
 
 -- and on one line, by another layout
-made_on : (old ready : List Node) (l k : Layout) (outer other : List ℕ) (p : Plan) (v : Plain) (m : ℕ) (comma before behind : List ℕ) → OnLine p → is_spread v ≡ false → NodesMade old ready l outer p v m comma before behind → NodesMade old ready k other p v m comma before behind
-made_on old ready l k outer other p v m comma before behind on single made = record {
+entry_alike : (l k : Layout) (name : Option (List ℕ)) (v : Plain) → is_some name ≡ false → is_spread v ≡ false → laid_entry l name v ≡ laid_entry k name v
+entry_alike l k None v e single = laid_alike l k v single
+entry_alike l k (Some name) v e single = absurd (false≢true (sym e))
+
+made_on : (old ready : List Node) (l k : Layout) (outer other : List ℕ) (p : Plan) (name : Option (List ℕ)) (v : Plain) (m : ℕ) (comma before behind : List ℕ) → OnLine p → is_some name ≡ false → is_spread v ≡ false → NodesMade old ready l outer p name v m comma before behind → NodesMade old ready k other p name v m comma before behind
+made_on old ready l k outer other p name v m comma before behind on none single made = record {
   fresh = made.fresh;
-  is = made.is ∙ laid_alike l k v single;
+  is = made.is ∙ entry_alike l k name v none single;
   parts = made.parts;
   leads = made.leads ∙ gap_alike l.newline k.newline l.current k.current p.before on.0;
   ends = made.ends ∙ ap (λ g. comma_leaf p.comma_behind ++ g) (gap_alike l.newline k.newline outer other p.behind on.1);
 }
 
-module _ (ns : List Node) (c i : ℕ) (v : Plain) (keeps : trimmed ns (children_at ns c) ≡ children_at ns c) (b : Neighbours) where
+module _ (ns : List Node) (c i : ℕ) (name : Option (List ℕ)) (v : Plain) (b : Neighbours) where
   abbrev row : List ℕ
   row = children_at ns c
 
-  plan_told : (several commas : Bool) → on_several_lines ns row v ≡ several → planned ns several commas row i ≡ plan_in ns commas (trimmed ns row) i v
-  plan_told several commas tells =
-      ap (λ s. planned ns s commas row i) (sym tells) ∙ ap (λ r. plan_in ns commas r i v) (sym keeps)
-
-  pub told_on_lines : (l : Layout) (outer : List ℕ) → l ≡ layout_in ns c row → outer ≡ (indents_of ns c (trimmed ns row)).current → on_several_lines ns row v ≡ true → IsBeside ns c (planned ns true l.trailing_commas row i) b → IsTold ns c i v l outer b
+  pub told_on_lines : (l : Layout) (outer : List ℕ) → l ≡ layout_inside ns c → outer ≡ outer_indent ns c → on_several_lines ns row name v ≡ true → IsBeside ns c (planned ns true l.trailing_commas row i) b → IsTold ns c i name v l outer b
   told_on_lines l outer laid_by from tells beside =
-      let all : l ≡ layout_inside ns c = laid_by ∙ ap (layout_in ns c) (sym keeps) in
-      let plan : planned ns true l.trailing_commas row i ≡ plan_of ns c i v = plan_told true l.trailing_commas tells ∙ ap (λ (m : Layout). plan_in ns m.trailing_commas (trimmed ns row) i v) all in
-      let told : IsBeside ns c (plan_of ns c i v) b = subst (λ p. IsBeside ns c p b) plan beside in
+      let plan : planned ns true l.trailing_commas row i ≡ plan_of ns c i name v = ap (λ s. planned ns s l.trailing_commas row i) (sym tells) ∙ ap (λ (k : Layout). planned ns (on_several_lines ns row name v) k.trailing_commas row i) laid_by in
+      let told : IsBeside ns c (plan_of ns c i name v) b = subst (λ p. IsBeside ns c p b) plan beside in
       record {
         beside = told;
         makes = λ ready m comma before behind made.
-            subst (λ o. NodesMade ns ready (layout_inside ns c) o (plan_of ns c i v) v m comma before behind) from
-            (subst (λ k. NodesMade ns ready k outer (plan_of ns c i v) v m comma before behind) all
-            (made_alike ns ready l outer (plan_of ns c i v) b.plan v m comma before behind told.gaps made));
+            subst (λ o. NodesMade ns ready (layout_inside ns c) o (plan_of ns c i name v) name v m comma before behind) from
+            (subst (λ k. NodesMade ns ready k outer (plan_of ns c i name v) name v m comma before behind) laid_by
+            (made_alike ns ready l outer (plan_of ns c i name v) b.plan name v m comma before behind told.gaps made));
       }
 
-  pub told_on_line : (l : Layout) (outer : List ℕ) → on_several_lines ns row v ≡ false → IsBeside ns c (planned ns false false row i) b → IsTold ns c i v l outer b
+  pub told_on_line : (l : Layout) (outer : List ℕ) → on_several_lines ns row name v ≡ false → IsBeside ns c (planned ns false false row i) b → IsTold ns c i name v l outer b
   told_on_line l outer tells beside =
       let commas : Bool = (layout_inside ns c).trailing_commas in
-      let plan : planned ns false commas row i ≡ plan_of ns c i v = plan_told false commas tells in
-      let told : IsBeside ns c (plan_of ns c i v) b = subst (λ p. IsBeside ns c p b) (planned_same ns commas row i ∙ plan) beside in
-      let on : OnLine (plan_of ns c i v) = subst OnLine plan (planned_on ns commas row i) in
-      let single : is_spread v ≡ false = (either_off _ (is_spread v) tells).1 in
+      let plan : planned ns false commas row i ≡ plan_of ns c i name v = ap (λ s. planned ns s commas row i) (sym tells) in
+      let told : IsBeside ns c (plan_of ns c i name v) b = subst (λ p. IsBeside ns c p b) (planned_same ns commas row i ∙ plan) beside in
+      let on : OnLine (plan_of ns c i name v) = subst OnLine plan (planned_on ns commas row i) in
+      let parts = either_off (is_some name) _ tells in
+      let single : is_spread v ≡ false = (either_off _ (is_spread v) parts.1).1 in
       record {
         beside = told;
         makes = λ ready m comma before behind made.
-            made_on ns ready l (layout_inside ns c) outer (outer_indent ns c) (plan_of ns c i v) v m comma before behind on single
-            (made_alike ns ready l outer (plan_of ns c i v) b.plan v m comma before behind told.gaps made);
+            made_on ns ready l (layout_inside ns c) outer (outer_indent ns c) (plan_of ns c i name v) name v m comma before behind on parts.0 single
+            (made_alike ns ready l outer (plan_of ns c i name v) b.plan name v m comma before behind told.gaps made);
       }

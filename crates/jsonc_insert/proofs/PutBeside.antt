@@ -7,14 +7,13 @@ use Rattle.jsonc_tree.proofs.Order.{parent_there}
 use Rattle.jsonc_layout.specs.from_input.Layout.{Layout}
 use Rattle.jsonc_edit.specs.Put.{Extends}
 use Rattle.jsonc_edit.proofs.NodesKept.{place_kept}
-use Rattle.jsonc_insert.specs.Inserted.{plan_of, put_by, ElementPut, NodesMade, RowMade}
-use Rattle.jsonc_insert.specs.Neighbours.{place_behind, BecomesRow, IsBeside, IsTold}
+use Rattle.jsonc_insert.specs.Inserted.{plan_of, put_by, BecomesRow, EntryPut, NodesMade, RowMade}
 use Rattle.jsonc_insert.specs.Planned.{has_brackets}
-use Rattle.jsonc_insert.specs.Trimmed.{trimmed}
+use Rattle.jsonc_insert.specs.Neighbours.{place_behind, IsBeside, IsTold}
 use Rattle.jsonc_insert.specs.declared.neighbours.Neighbours.{Neighbours}
 use Rattle.jsonc_insert.specs.declared.plan.Plan.{Plan}
-use Rattle.jsonc_insert.proofs.RowReplaced.{made_joins}
-use Rattle.jsonc_insert.proofs.TrimmedRows.{has_two}
+use Rattle.jsonc_insert.proofs.Additions.{row_stays}
+use Rattle.jsonc_insert.proofs.RowReplaced.{made_joins, own_row}
 
 module _ (old ready : List Node) (tree : IsTree old) (p : Extends old ready) (c : ℕ) (there : c < length old) where
   kept_parent : (n : ℕ) → parent_at old n ≡ Some c → parent_at ready n ≡ Some c
@@ -41,33 +40,38 @@ module _ (old ready : List Node) (tree : IsTree old) (p : Extends old ready) (c 
     before = before_kept b.comma b.after h.after h.before;
   }
 
-  pub row_becomes : (new : List Node) (plan : Plan) (comma written row : List ℕ) → row ≡ put_by plan comma written (children_at old c) → BecomesRow ready new c (put_by plan comma written (children_at ready c)) → Splices ready new c 0 (length (children_at old c)) row
-  row_becomes new plan comma written row is becomes =
-      let same : children_at ready c ≡ children_at old c = p.keeps.children c there in
-      subst (Splices ready new c 0 (length (children_at old c))) (ap (put_by plan comma written) same ∙ sym is)
-      (subst (λ k. Splices ready new c 0 k (put_by plan comma written (children_at ready c))) (ap length same) becomes.put)
-
-  module _ (i : ℕ) (v : Plain) (brackets : has_brackets old (children_at old c) ≡ true) (keeps : trimmed old (children_at old c) ≡ children_at old c)
-      (l : Layout) (outer : List ℕ) (b : Neighbours) (told : IsTold old c i v l outer b) (m : ℕ) (comma before behind : List ℕ) (nodes : NodesMade old ready l outer b.plan v m comma before behind) where
+  module _ (brackets : has_brackets old (children_at old c) ≡ true) (i : ℕ) (name : Option (List ℕ)) (v : Plain) (l : Layout) (outer : List ℕ) (b : Neighbours) (told : IsTold old c i name v l outer b) (m : ℕ) (comma before behind : List ℕ) (nodes : NodesMade old ready l outer b.plan name v m comma before behind) where
     abbrev plan : Plan
-    plan = plan_of old c i v
+    plan = plan_of old c i name v
 
     abbrev written : List ℕ
     written = before ++ m ∷ behind
 
-    made : RowMade old ready c i v m (put_by plan comma written (trimmed old (children_at old c)))
-    made = record { comma = comma; before = before; behind = behind; made = told.makes ready m comma before behind nodes; is = refl }
+    abbrev row : List ℕ
+    row = put_by plan comma written (children_at old c)
 
-    pub element_put : (new : List Node) (given put : List ℕ) → given ≡ comma → put ≡ written → ((q : Plan) → IsBeside ready c q b → BecomesRow ready new c (put_by q given put (children_at ready c))) → ElementPut old new c i v m
-    element_put new given put e f becomes =
+    made : RowMade old ready c (children_at old c) i name v m row
+    made = record {
+      kept = old;
+      has = record { put = row_stays old tree c; tree = tree };
+      comma = comma;
+      before = before;
+      behind = behind;
+      made = told.makes ready m comma before behind nodes;
+      is = refl;
+    }
+
+    pub comes_between : (new : List Node) (given put : List ℕ) → given ≡ comma → put ≡ written → ((q : Plan) → IsBeside ready c q b → BecomesRow ready new c (put_by q given put (children_at ready c))) → EntryPut old new c (children_at old c) i name v m
+    comes_between new given put e f becomes =
         let at : BecomesRow ready new c (put_by plan given put (children_at ready c)) = becomes plan (beside_kept plan b told.beside) in
         let same : BecomesRow ready new c (put_by plan comma written (children_at ready c)) = subst (λ w. BecomesRow ready new c (put_by plan comma w (children_at ready c))) f (subst (λ w. BecomesRow ready new c (put_by plan w put (children_at ready c))) e at) in
+        let kids : children_at ready c ≡ children_at old c = p.keeps.children c there in
         record {
           ready = ready;
-          row = put_by plan comma written (trimmed old (children_at old c));
+          row = row;
           prepared = p;
           made = made;
-          join = made_joins old ready tree p c there (has_two old (children_at old c) brackets) i v m (put_by plan comma written (trimmed old (children_at old c))) made;
-          put = row_becomes new plan comma written (put_by plan comma written (trimmed old (children_at old c))) (ap (put_by plan comma written) keeps) same;
+          join = made_joins old old tree c (children_at old c) (own_row old tree c brackets) ready there p i name v m row made;
+          put = subst (λ k. Splices ready new c 0 k row) (ap length kids) (subst (λ r. Splices ready new c 0 (length (children_at ready c)) (put_by plan comma written r)) kids same.put);
           tree = at.tree;
         }

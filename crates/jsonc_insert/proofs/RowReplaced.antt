@@ -1,79 +1,94 @@
 -- A new row may take the place of the old one, and has.
-use Rattle.std.proofs.Common.{◌≡◌, ◌≢◌, ◌<◌, ◌≤◌, ◌-◌, ◌⊎◌, inl, inr, ℕ, true, List, ◌∷◌, ◌++◌, All, length, take, drop, get_or, slice_index, slice_range, Option, Some, None, refl, sym, ap, subst, ◌∙◌, arith}
+use Rattle.std.proofs.Common.{◌≡◌, ◌≢◌, ◌<◌, ◌-◌, inl, inr, ℕ, true, List, ◌∷◌, ◌++◌, All, length, take, drop, get_or, slice_index, slice_range, Option, Some, None, refl, sym, ap, subst, ◌∙◌, arith}
 use Rattle.std.proofs.lemmas.List.{take_all}
 use Rattle.std.proofs.lemmas.List.Elements.{All-from_get_or}
 use Rattle.jsonc_text.specs.Plain.{Plain}
-use Rattle.jsonc_tree.specs.Changes.{CanJoin, EachOnce, IsFree, Splices}
+use Rattle.jsonc_tree.specs.Changes.{CanJoin, EachOnce, IsFree}
 use Rattle.jsonc_tree.specs.Tree.{Node, parent_at, children_at, place_at, is_in, IsTree, IsOver}
+use Rattle.jsonc_tree.proofs.Builder.{Keeps-same}
 use Rattle.jsonc_tree.proofs.Order.{not_over_parent, parent_there}
 use Rattle.jsonc_tree.proofs.Splicing.{in_at}
 use Rattle.jsonc_edit.specs.Put.{Extends}
 use Rattle.jsonc_edit.proofs.NodesKept.{over_no_old}
-use Rattle.jsonc_insert.specs.Inserted.{plan_of, put_by, with_comma, ElementPut, RowMade}
+use Rattle.jsonc_insert.specs.Inserted.{plan_of, put_by, with_comma, RowMade}
 use Rattle.jsonc_insert.specs.Made.{AreFresh, IsFresh}
 use Rattle.jsonc_insert.specs.Planned.{has_brackets}
 use Rattle.jsonc_insert.specs.Trimmed.{trimmed, with_at}
+use Rattle.jsonc_insert.specs.declared.plan.Plan.{Plan}
+use Rattle.jsonc_insert.specs.members.Opened.{IsOfRow}
+use Rattle.jsonc_insert.proofs.MadeLeaves.{keeps_then}
 use Rattle.jsonc_insert.proofs.NoDuplicates.{all_parts, all_with_at, once_left, once_right, once_with_at, parts_apart}
-use Rattle.jsonc_insert.proofs.TrimmedRows.{has_two, trimmed_all, trimmed_once}
+use Rattle.jsonc_insert.proofs.TrimmedRows.{has_two, trimmed_all, trimmed_brackets, trimmed_once}
+
+-- The row that c is to have before anything comes in: children of c, and leaves that were made for it.
+pub record IsRowFor (old lined : List Node) (c : ℕ) (was : List ℕ) : Type 0 where
+  pub prepared : Extends old lined
+  pub from : All (IsOfRow old lined c) was
+  pub once : EachOnce was
+  pub brackets : has_brackets lined was ≡ true
+
+-- so is its own, and that without blank lines
+pub own_row : (old : List Node) → IsTree old → (c : ℕ) → has_brackets old (children_at old c) ≡ true → IsRowFor old old c (children_at old c)
+own_row old tree c brackets = record {
+  prepared = record { keeps = Keeps-same (length old) old; tree = tree };
+  from = All-from_get_or (IsOfRow old old c) (children_at old c) 0 (λ k h. inl (tree.named c k h));
+  once = λ a b ha hb e. sym (tree.placed c a ha) ∙ ap (place_at old) e ∙ tree.placed c b hb;
+  brackets = brackets;
+}
+
+pub trimmed_row : (old lined : List Node) (c : ℕ) (row : List ℕ) → IsRowFor old lined c row → IsRowFor old lined c (trimmed lined row)
+trimmed_row old lined c row b = record {
+  prepared = b.prepared;
+  from = trimmed_all (IsOfRow old lined c) lined row b.from;
+  once = trimmed_once lined row (has_two lined row b.brackets) b.once;
+  brackets = trimmed_brackets lined row b.brackets;
+}
+
+-- new nodes come into a row of old ones, and a comma further in front
+module _ (lined ready : List Node) (was : List ℕ) (there : All (λ n. n < length lined) was) (once : EachOnce was) (place : ℕ) (comma written : List ℕ) (fresh : AreFresh lined ready (comma ++ written)) where
+  abbrev Old : ℕ → Type 0
+  Old n = n < length lined
+
+  abbrev New : ℕ → Type 0
+  New n = IsFresh lined ready n
+
+  apart : (n : ℕ) → New n → Old n → ⊥
+  apart n f old = omega (arith, f.later, old)
+
+  new_comma : All New comma
+  new_comma = (all_parts comma written fresh.once New fresh.each).0
+
+  new_written : All New written
+  new_written = (all_parts comma written fresh.once New fresh.each).1
+
+  once_wide : EachOnce (with_at place written was)
+  once_wide = once_with_at New Old apart place written was new_written there (once_right comma written fresh.once) once
+
+  abbrev InComma : ℕ → Type 0
+  InComma n = (a : ℕ) × (a < length comma) × (slice_index comma a ≡ n)
+
+  comma_in : All InComma comma
+  comma_in = All-from_get_or InComma comma 0 (λ k h. (k, h, refl))
+
+  comma_out : All (λ n. InComma n → ⊥) (with_at place written was)
+  comma_out =
+      all_with_at (λ n. InComma n → ⊥) place written was (All-from_get_or (λ n. InComma n → ⊥) written 0 (λ k h w. parts_apart comma written fresh.once w.0 k w.1 h w.2))
+      (λ k d h w. apart (get_or was k d) (subst New w.2 (new_comma w.0 0 w.1)) (there k d h))
+
+  pub once_put : (o : Option ℕ) → EachOnce (with_comma o comma (with_at place written was))
+  once_put None = once_wide
+  once_put (Some at) = once_with_at InComma (λ n. InComma n → ⊥) (λ n w never. never w) at comma (with_at place written was) comma_in comma_out (once_left comma written fresh.once) once_wide
+
+  all_wide : (P : ℕ → Type 0) → All P was → ((n : ℕ) → New n → P n) → All P (with_at place written was)
+  all_wide P old new = all_with_at P place written was (λ k d h. new (get_or written k d) (new_written k d h)) old
+
+  pub all_put : (P : ℕ → Type 0) → All P was → ((n : ℕ) → New n → P n) → (o : Option ℕ) → All P (with_comma o comma (with_at place written was))
+  all_put P old new None = all_wide P old new
+  all_put P old new (Some at) = all_with_at P at comma (with_at place written was) (λ k d h. new (get_or comma k d) (new_comma k d h)) (all_wide P old new)
 
 module _ (old ready : List Node) (tree : IsTree old) (p : Extends old ready) (c : ℕ) (there : c < length old) where
-  abbrev pub InRow : ℕ → Type 0
-  InRow n = parent_at old n ≡ Some c
-
-  abbrev pub Fresh : ℕ → Type 0
-  Fresh n = IsFresh old ready n
-
-  abbrev pub Stands : ℕ → Type 0
-  Stands n = InRow n ⊎ Fresh n
-
-  apart : (n : ℕ) → Fresh n → InRow n → ⊥
-  apart n f said = omega (arith, f.later, (parent_there old tree n c said).0)
-
-  all_kids : All InRow (children_at old c)
-  all_kids = All-from_get_or InRow (children_at old c) 0 (λ k h. tree.named c k h)
-
-  once_kids : EachOnce (children_at old c)
-  once_kids a b ha hb e = sym (tree.placed c a ha) ∙ ap (place_at old) e ∙ tree.placed c b hb
-
-  module _ (two : 2 ≤ length (children_at old c)) where
-    pub all_kept : All InRow (trimmed old (children_at old c))
-    all_kept = trimmed_all InRow old (children_at old c) all_kids
-
-    pub once_kept : EachOnce (trimmed old (children_at old c))
-    once_kept = trimmed_once old (children_at old c) two once_kids
-
-    module _ (place : ℕ) (comma written : List ℕ) (fresh : AreFresh old ready (comma ++ written)) where
-      all_comma : All Fresh comma
-      all_comma = (all_parts comma written fresh.once Fresh fresh.each).0
-
-      all_written : All Fresh written
-      all_written = (all_parts comma written fresh.once Fresh fresh.each).1
-
-      once_wide : EachOnce (with_at place written (trimmed old (children_at old c)))
-      once_wide = once_with_at Fresh InRow apart place written (trimmed old (children_at old c)) all_written all_kept (once_right comma written fresh.once) once_kept
-
-      all_wide : All Stands (with_at place written (trimmed old (children_at old c)))
-      all_wide = all_with_at Stands place written (trimmed old (children_at old c)) (λ k d h. inr (all_written k d h)) (λ k d h. inl (all_kept k d h))
-
-      abbrev InComma : ℕ → Type 0
-      InComma n = (a : ℕ) × (a < length comma) × (slice_index comma a ≡ n)
-
-      comma_in : All InComma comma
-      comma_in = All-from_get_or InComma comma 0 (λ k h. (k, h, refl))
-
-      comma_out : All (λ n. InComma n → ⊥) (with_at place written (trimmed old (children_at old c)))
-      comma_out =
-          all_with_at (λ n. InComma n → ⊥) place written (trimmed old (children_at old c))
-          (All-from_get_or (λ n. InComma n → ⊥) written 0 (λ k h w. parts_apart comma written fresh.once w.0 k w.1 h w.2))
-          (λ k d h w. apart (get_or (trimmed old (children_at old c)) k d) (subst Fresh w.2 (all_comma w.0 0 w.1)) (all_kept k d h))
-
-      with_comma_once : (o : Option ℕ) → EachOnce (with_comma o comma (with_at place written (trimmed old (children_at old c))))
-      with_comma_once None = once_wide
-      with_comma_once (Some at) = once_with_at InComma (λ n. InComma n → ⊥) (λ n w never. never w) at comma (with_at place written (trimmed old (children_at old c))) comma_in comma_out (once_left comma written fresh.once) once_wide
-
-      with_comma_all : (o : Option ℕ) → All Stands (with_comma o comma (with_at place written (trimmed old (children_at old c))))
-      with_comma_all None = all_wide
-      with_comma_all (Some at) = all_with_at Stands at comma (with_at place written (trimmed old (children_at old c))) (λ k d h. inr (all_comma k d h)) all_wide
+  abbrev Stands : ℕ → Type 0
+  Stands n = IsOfRow old ready c n
 
   -- any row of such nodes may come in
   module _ (row : List ℕ) (once : EachOnce row) (all : All Stands row) where
@@ -107,37 +122,38 @@ module _ (old ready : List Node) (tree : IsTree old) (p : Extends old ready) (c 
       not_over = λ k h. below (slice_index row k) (all k 0 h);
     }
 
-  pub made_joins : 2 ≤ length (children_at old c) → (i : ℕ) (v : Plain) (m : ℕ) (row : List ℕ) → RowMade old ready c i v m row → CanJoin ready c 0 (length (children_at old c)) row
-  made_joins two i v m row r =
-      let plan = plan_of old c i v in
-      let written = r.before ++ m ∷ r.behind in
-      subst (CanJoin ready c 0 (length (children_at old c))) (sym r.is)
-      (may_join (put_by plan r.comma written (trimmed old (children_at old c))) (with_comma_once two plan.place r.comma written r.made.fresh plan.comma) (with_comma_all two plan.place r.comma written r.made.fresh plan.comma))
+module _ (old lined : List Node) (tree : IsTree old) (c : ℕ) (was : List ℕ) (b : IsRowFor old lined c was) where
+  one_there : (n : ℕ) → IsOfRow old lined c n → n < length lined
+  one_there n (inl said) = omega (arith, (parent_there old tree n c said).0, b.prepared.keeps.len)
+  one_there n (inr f) = f.in_tree
 
-  pub made_stands : 2 ≤ length (children_at old c) → (i : ℕ) (v : Plain) (m : ℕ) (row : List ℕ) → RowMade old ready c i v m row → All Stands row
-  made_stands two i v m row r =
-      let plan = plan_of old c i v in
-      subst (All Stands) (sym r.is) (with_comma_all two plan.place r.comma (r.before ++ m ∷ r.behind) r.made.fresh plan.comma)
+  pub row_there : All (λ n. n < length lined) was
+  row_there = λ k d h. one_there (get_or was k d) (b.from k d h)
 
--- all that was made takes its place
-module _ (old made : List Node) (tree : IsTree old) (p : Extends old made) (c i : ℕ) (v : Plain) (m : ℕ) (row : List ℕ) (there : c < length old) (brackets : has_brackets old (children_at old c) ≡ true) (r : RowMade old made c i v m row)
-    (count : ℕ) (all : count ≡ length (children_at old c)) (given : List ℕ) (same : given ≡ row) where
-  joins : CanJoin made c 0 (length (children_at old c)) row
-  joins = made_joins old made tree p c there (has_two old (children_at old c) brackets) i v m row r
+  module _ (ready : List Node) (there : c < length old) (p : Extends lined ready) where
+    pub both : Extends old ready
+    both = record { keeps = keeps_then old lined ready b.prepared.keeps p.keeps; tree = p.tree }
 
-  pub within : count ≤ length (children_at made c)
-  within = omega (arith, all, ap length (p.keeps.children c there))
+    of_row : (n : ℕ) → IsOfRow old lined c n → IsOfRow old ready c n
+    of_row n (inl said) = inl said
+    of_row n (inr f) = inr (record { later = f.later; in_tree = omega (arith, f.in_tree, p.keeps.len); alone = p.keeps.parent n f.in_tree ∙ f.alone })
 
-  pub can_join : CanJoin made c 0 count given
-  can_join = subst (λ k. CanJoin made c 0 k given) (sym all) (subst (CanJoin made c 0 (length (children_at old c))) (sym same) joins)
+    of_new : (n : ℕ) → IsFresh lined ready n → IsOfRow old ready c n
+    of_new n f = inr (record { later = omega (arith, f.later, b.prepared.keeps.len); in_tree = f.in_tree; alone = f.alone })
 
-  pub put_so : (new : List Node) → IsTree new → Splices made new c 0 count given → ElementPut old new c i v m
-  put_so new done put = record {
-    ready = made;
-    row = row;
-    prepared = p;
-    made = r;
-    join = joins;
-    put = subst (λ k. Splices made new c 0 k row) all (subst (Splices made new c 0 count) same put);
-    tree = done;
-  }
+    module _ (plan : Plan) (comma written : List ℕ) (fresh : AreFresh lined ready (comma ++ written)) where
+      pub put_once : EachOnce (put_by plan comma written was)
+      put_once = once_put lined ready was row_there b.once plan.place comma written fresh plan.comma
+
+      pub put_stands : All (IsOfRow old ready c) (put_by plan comma written was)
+      put_stands = all_put lined ready was row_there b.once plan.place comma written fresh (IsOfRow old ready c) (λ k d h. of_row (get_or was k d) (b.from k d h)) of_new plan.comma
+
+      pub put_joins : CanJoin ready c 0 (length (children_at old c)) (put_by plan comma written was)
+      put_joins = may_join old ready tree both c there (put_by plan comma written was) put_once put_stands
+
+    module _ (i : ℕ) (name : Option (List ℕ)) (v : Plain) (m : ℕ) (row : List ℕ) (r : RowMade lined ready c was i name v m row) where
+      pub made_joins : CanJoin ready c 0 (length (children_at old c)) row
+      made_joins = subst (CanJoin ready c 0 (length (children_at old c))) (sym r.is) (put_joins (plan_of r.kept c i name v) r.comma (r.before ++ m ∷ r.behind) r.made.fresh)
+
+      pub made_stands : All (IsOfRow old ready c) row
+      made_stands = subst (All (IsOfRow old ready c)) (sym r.is) (put_stands (plan_of r.kept c i name v) r.comma (r.before ++ m ∷ r.behind) r.made.fresh)

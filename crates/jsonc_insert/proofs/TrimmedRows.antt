@@ -73,13 +73,13 @@ module _ (ns : List Node) (place : ℕ) (run : List ℕ) where
   few : nat_lt (spaces ns run) (length run) ≡ true → spaces ns run + last_spaces ns run < length run
   few b = spaces_apart ns run (ltb-true (spaces ns run) (length run) b)
 
-  behind_within : Within 1 (1 + length run) (behind_first_line ns 1 run)
+  pub behind_within : Within 1 (1 + length run) (behind_first_line ns 1 run)
   behind_within =
       either (Within 1 (1 + length run)) (nat_lt (spaces ns run) (length run)) _ (nothing_at 1)
       (λ b. record { from = omega arith; order = omega (arith, few b); to = omega arith })
       (record { from = omega arith; order = omega arith; to = omega arith })
 
-  before_within : Within place (place + length run) (before_last_line ns place run)
+  pub before_within : Within place (place + length run) (before_last_line ns place run)
   before_within =
       either (Within place (place + length run)) (nat_lt (spaces ns run) (length run)) _ (nothing_at place)
       (λ b. record { from = omega arith; order = omega (arith, few b); to = omega arith })

@@ -3,6 +3,7 @@ pub mod Planned
 pub mod Settings
 pub mod Made
 pub mod Inserted
+pub mod Removed
 pub mod Neighbours
 pub mod Laws
 pub mod Worked

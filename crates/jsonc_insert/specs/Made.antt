@@ -1,8 +1,9 @@
 -- New leaves, made to come into a row: detached yet.
 use Rattle.std.specs.Prelude.{◌≡◌, ◌≤◌, ◌<◌, ℕ, Bool, true, false, List, [], ◌∷◌, ◌++◌, length, map, slice_index, Option, None, is_some}
-use Rattle.jsonc_tree.specs.Building.{Keeps}
+use Rattle.jsonc_tree.specs.Building.{Builds, Keeps}
 use Rattle.jsonc_tree.specs.Changes.{EachOnce}
 use Rattle.jsonc_tree.specs.Content.{Content, newline, token, whitespace}
+use Rattle.jsonc_tree.specs.OrderedTree.{Top}
 use Rattle.jsonc_tree.specs.Tree.{Node, content_at, parent_at}
 use Rattle.jsonc_tree.specs.declared.node.CstNewlineKind.{CstNewlineKind}
 use Rattle.jsonc_insert.specs.declared.plan.Gap.{Gap}
@@ -44,3 +45,7 @@ pub record LeavesMade (old now : List Node) (contents : List Content) (leaves : 
 abbrev pub Gains : List Node → List ℕ → List Node → List ℕ → List Content → Type 0
 Gains now leaves later more contents =
     (old : List Node) (made : List Content) → LeavesMade old now made leaves → LeavesMade old later (made ++ contents) more
+
+-- this top was built as the node m, which stands alone
+abbrev pub BuildsTop : List Node → List Node → ℕ → Top → Type 0
+BuildsTop old now m top = Builds old now m top.content top.below

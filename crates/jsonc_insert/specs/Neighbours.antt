@@ -1,8 +1,7 @@
 -- Where a new element comes, by the children that stand before it.
-use Rattle.std.specs.Prelude.{◌≡◌, ◌≤◌, ◌<◌, ◌+◌, ◌++◌, ℕ, List, Some, IfSome, is_some, length, map, option_map}
+use Rattle.std.specs.Prelude.{◌≡◌, ◌≤◌, ◌<◌, ◌+◌, ◌++◌, ℕ, List, Option, Some, IfSome, is_some, length, map, option_map}
 use Rattle.jsonc_text.specs.Plain.{Plain}
-use Rattle.jsonc_tree.specs.Changes.{Splices}
-use Rattle.jsonc_tree.specs.Tree.{Node, children_at, content_at, parent_at, place_at, IsTree}
+use Rattle.jsonc_tree.specs.Tree.{Node, content_at, parent_at, place_at, IsTree}
 use Rattle.jsonc_edit.specs.Put.{Extends}
 use Rattle.jsonc_layout.specs.from_input.Layout.{Layout}
 use Rattle.jsonc_insert.specs.Inserted.{plan_of, NodesMade, NodesMadeFor}
@@ -29,10 +28,11 @@ pub record IsBeside (ns : List Node) (c : ℕ) (plan : Plan) (b : Neighbours) : 
   pub comma : plan.comma ≡ option_map (place_behind ns) b.comma
   pub before : IfSome b.comma (λ n. (parent_at ns n ≡ Some c) × (place_at ns n ≤ place_at ns b.after))
 
--- They tell what the plan for an element number i of the container says; and what is made by this layout is what that element needs.
-pub record IsTold (ns : List Node) (c i : ℕ) (v : Plain) (layout : Layout) (outer : List ℕ) (b : Neighbours) : Type 0 where
-  pub beside : IsBeside ns c (plan_of ns c i v) b
-  pub makes : (ready : List Node) (m : ℕ) (comma before behind : List ℕ) → NodesMade ns ready layout outer b.plan v m comma before behind → NodesMadeFor ns ready c i v m comma before behind
+-- They tell what the plan for element number i of the container says; and what is made by this layout is what that element needs.
+pub record IsTold (ns : List Node) (c i : ℕ) (name : Option (List ℕ)) (v : Plain) (layout : Layout) (outer : List ℕ) (b : Neighbours) : Type 0 where
+  pub beside : IsBeside ns c (plan_of ns c i name v) b
+  pub makes : (ready : List Node) (m : ℕ) (comma before behind : List ℕ) → NodesMade ns ready layout outer b.plan name v m comma before behind
+      → NodesMadeFor ns ns ready c i name v m comma before behind
 
 -- What comes beside them was made since, and is detached; the comma is a leaf.
 pub record AreReady (ready : List Node) (c : ℕ) (b : Neighbours) (comma written : List ℕ) : Type 0 where
@@ -44,8 +44,3 @@ pub record AreReady (ready : List Node) (c : ℕ) (b : Neighbours) (comma writte
   pub beside : IsBeside old c plan b
   pub fresh : AreFresh old ready (comma ++ written)
   pub leaves : map (content_at ready) comma ≡ comma_at plan.comma
-
--- the new nodes are the old ones, but that this is the container's row
-pub record BecomesRow (old new : List Node) (c : ℕ) (row : List ℕ) : Type 0 where
-  pub put : Splices old new c 0 (length (children_at old c)) row
-  pub tree : IsTree new

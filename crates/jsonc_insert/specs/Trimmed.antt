@@ -1,8 +1,8 @@
 -- Blank lines directly inside the brackets of a container, and its row without them. A row is a list of nodes by their numbers, the brackets among them.
-use Rattle.std.specs.Prelude.{ℕ, ◌+◌, ◌-◌, Bool, ◌||◌, true, false, not, ◌&&◌, List, [], ◌∷◌, ◌++◌, length, take, drop, reverse, slice_range, nat_lt, if◌then◌else◌}
+use Rattle.std.specs.Prelude.{ℕ, ◌+◌, ◌-◌, Bool, not, List, ◌++◌, length, take, drop, reverse, slice_range, nat_lt, if◌then◌else◌}
 use Rattle.std.specs.List.{take_while}
 use Rattle.jsonc_tree.specs.Tree.{Node}
-use Rattle.jsonc_layout.specs.nodes.Kinds.{is_blank_at, is_newline_at, is_whitespace_at}
+use Rattle.jsonc_layout.specs.nodes.Kinds.{is_blank_at, is_whitespace_at}
 use Rattle.jsonc_insert.specs.declared.trim.Stretch.{Stretch}
 
 -- how many nodes at the front of a row are blank, and how many are whitespace
@@ -62,8 +62,6 @@ trimmed ns row = without (first_gone ns row) (without (last_gone ns row) row)
 abbrev pub with_at : {A : Type 0} → ℕ → List A → List A → List A
 with_at place xs row = take place row ++ xs ++ drop place row
 
--- in the blanks that these nodes begin with no line ends, or one where none has ended before
-abbrev pub ends_once : List Node → Bool → List ℕ → Bool
-ends_once ns ended [] = true
-ends_once ns ended (n ∷ rest) =
-    if not (is_blank_at ns n) then true else (if ended && is_newline_at ns n then false else ends_once ns (ended || is_newline_at ns n) rest)
+-- the node is no blank
+abbrev pub is_no_blank_at : List Node → ℕ → Bool
+is_no_blank_at ns n = not (is_blank_at ns n)

@@ -1,7 +1,8 @@
 -- Worked insertions: arrays of leaves, and what they print with one more element.
-use Rattle.std.specs.Prelude.{◌≡◌, ℕ, suc, List, [], ◌∷◌, ◌++◌, map, Some, None, codes}
+use Rattle.std.specs.Prelude.{◌≡◌, ◌==◌, ℕ, suc, List, [], ◌∷◌, ◌++◌, length, map, Some, None, codes, if◌then◌else◌}
 use Rattle.std.specs.List.{flat_map}
 use Rattle.jsonc_text.specs.Plain.{Plain, no_items, item, no_members, member}
+use Rattle.jsonc_tree.specs.Changes.{parent_after}
 use Rattle.jsonc_tree.specs.Content as content
 use Rattle.jsonc_tree.specs.Content.{Content, newline, root, token, whitespace, text_of}
 use Rattle.jsonc_tree.specs.OrderedTree.{none, Top}
@@ -11,9 +12,9 @@ use Rattle.jsonc_layout.specs.from_input.Laid.{laid}
 use Rattle.jsonc_sound.specs.TreeChanges.{leaves_of}
 use Rattle.jsonc_edit.specs.Changes.{top_at}
 use Rattle.jsonc_insert.specs.Trimmed.{trimmed}
-use Rattle.jsonc_insert.specs.Settings.{layout_inside}
+use Rattle.jsonc_insert.specs.Settings.{layout_inside, outer_indent}
 use Rattle.jsonc_insert.specs.Made.{comma_at}
-use Rattle.jsonc_insert.specs.Inserted.{leaves_before, leaves_behind, outer_indent, plan_of, put_by}
+use Rattle.jsonc_insert.specs.Inserted.{leaves_before, leaves_behind, plan_of, put_by}
 use Rattle.jsonc_insert.specs.declared.plan.Plan.{Plan}
 
 -- the numbers of these nodes, from one on
@@ -30,6 +31,20 @@ array_of row =
     record { content = root; parent = None; children = 1 ∷ [] }
     ∷ record { content = content.array; parent = Some 0; children = numbers 2 row } ∷ map leaf_node row
 
+-- the nodes, but that c has this row
+abbrev pub nodes_with : List Node → ℕ → List ℕ → ℕ → List Node → List Node
+nodes_with ns c row k [] = []
+nodes_with ns c row k (n ∷ rest) =
+    record {
+      content = n.content;
+      parent = parent_after ns c 0 (length (children_at ns c)) row k;
+      children = if k == c then row else n.children;
+    }
+    ∷ nodes_with ns c row (suc k) rest
+
+abbrev pub with_row : List Node → ℕ → List ℕ → List Node
+with_row ns c row = nodes_with ns c row 0 ns
+
 -- what its row prints with this value as element number i
 abbrev pub leaf_top : Content → Top
 leaf_top content = record { content = content; below = none }
@@ -39,13 +54,17 @@ tops_put ns plan i v =
     put_by plan (map leaf_top (comma_at plan.comma))
     (map leaf_top (leaves_before (layout_inside ns 1) plan) ++ laid (layout_inside ns 1) v
     ∷ map leaf_top (leaves_behind (layout_inside ns 1) (outer_indent ns 1) plan))
-    (map (top_at ns) (trimmed ns (children_at ns 1)))
+    (map (top_at ns) (children_at ns 1))
 
 abbrev pub top_text : Top → List ℕ
 top_text top = flat_map text_of (leaves_of top)
 
+-- its nodes once blank lines have been removed
+abbrev pub kept : List Content → List Node
+kept row = with_row (array_of row) 1 (trimmed (array_of row) (children_at (array_of row) 1))
+
 abbrev pub text_with : List Content → ℕ → Plain → List ℕ
-text_with row i v = flat_map top_text (tops_put (array_of row) (plan_of (array_of row) 1 i v) i v)
+text_with row i v = flat_map top_text (tops_put (kept row) (plan_of (kept row) 1 i None v) i v)
 
 -- leaves by what they are
 abbrev pub mark : ℕ → Content

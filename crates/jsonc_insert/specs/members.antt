@@ -1,5 +1,4 @@
 pub mod Opened
-pub mod Layout
 pub mod Inserted
 pub mod Laws
 pub mod Worked

@@ -1,31 +1,31 @@
 //! A new element and the leaves beside it, made before a row changes.
 
-ghost use Rattle.std.specs.Prelude.{◌≡◌, ◌∷◌, [], IfOk, OnOk, string_bytes};
+ghost use Rattle.std.specs.Prelude.{◌≡◌, ◌∷◌, [], IfOk, OnOk, chars, option_map};
 ghost use Rattle.jsonc_tree.specs.Content.{newline, whitespace};
 ghost use Rattle.jsonc_tree.specs.Stored.{content_of};
 ghost use Rattle.jsonc_layout.specs.input.Views.{plain};
 ghost use Rattle.jsonc_layout.specs.from_input.Layout.{layout_of};
 ghost use Rattle.jsonc_edit.specs.Put.{Extends};
-ghost use Rattle.jsonc_insert.specs.Inserted.{leaves_before, leaves_behind, NodesMade};
-ghost use Rattle.jsonc_insert.specs.Made.{comma_leaf, gap_leaves, Gains, LeavesMade};
+ghost use Rattle.jsonc_insert.specs.Inserted.{laid_entry, leaves_before, leaves_behind, NodesMade};
+ghost use Rattle.jsonc_insert.specs.Made.{comma_leaf, gap_leaves, BuildsTop, Gains, LeavesMade};
 
 use crate::plan::{Gap, Plan};
-use jsonc_layout::from_input::{Layout, lay_out};
+use jsonc_layout::from_input::{Layout, lay_out, lay_out_property};
 use jsonc_layout::input::CstInputValue;
 use jsonc_tree::{CstNewlineKind, Kind, Tree};
 use std::alloc::{AllocError, Allocator};
 
 /// What comes in: the element, and what is written beside it.
 #[derive(Drop)]
-pub struct Made<A: Allocator> {
+pub(crate) struct Made<A: Allocator> {
     /// A comma that comes behind the element before.
-    pub comma: Vec<usize, A>,
+    pub(crate) comma: Vec<usize, A>,
     /// The leaves directly before the new element.
-    pub before: Vec<usize, A>,
+    pub(crate) before: Vec<usize, A>,
     /// The new element.
-    pub element: usize,
+    pub(crate) element: usize,
     /// The leaves directly behind it.
-    pub behind: Vec<usize, A>,
+    pub(crate) behind: Vec<usize, A>,
 }
 
 // Makes a leaf behind others.
@@ -110,8 +110,8 @@ fn push_comma_if<A: Allocator + Copy>(
     push_leaf(tree, leaves, Kind::token(','))
 }
 
-/// Makes a comma, where one is wanted.
-pub fn make_comma<A: Allocator + Copy>(
+// Makes a comma, where one is wanted.
+fn make_comma<A: Allocator + Copy>(
     alloc: A,
     tree: &mut Tree<A>,
     wanted: bool,
@@ -124,8 +124,8 @@ pub fn make_comma<A: Allocator + Copy>(
     Ok(leaves)
 }
 
-/// Makes what comes before the new element.
-pub fn make_before<A: Allocator + Copy>(
+// Makes what comes before the new element.
+fn make_before<A: Allocator + Copy>(
     alloc: A,
     tree: &mut Tree<A>,
     layout: &Layout<A>,
@@ -148,8 +148,8 @@ pub fn make_before<A: Allocator + Copy>(
     Ok(leaves)
 }
 
-/// Makes what comes behind it.
-pub fn make_behind<A: Allocator + Copy>(
+// Makes what comes behind it.
+fn make_behind<A: Allocator + Copy>(
     alloc: A,
     tree: &mut Tree<A>,
     layout: &Layout<A>,
@@ -167,10 +167,29 @@ pub fn make_behind<A: Allocator + Copy>(
     Ok(leaves)
 }
 
+// Makes a value, or a property of a name.
+fn make_entry<A: Allocator + Copy>(
+    alloc: A,
+    tree: &mut Tree<A>,
+    name: Option<&str>,
+    value: &CstInputValue<A>,
+    layout: &Layout<A>,
+) -> Result<usize, AllocError>
+    ensures made { IfOk result (λ n. BuildsTop tree.old.nodes tree.new.nodes n
+        (laid_entry (layout_of layout.now) (option_map (λ s. chars s.now) name.entry) (plain value.now))) }
+    ensures prepared { Extends tree.old.nodes tree.new.nodes }
+{
+    match name {
+        Some(name) => lay_out_property(alloc, tree, name, value, layout),
+        None => lay_out(alloc, tree, value, layout),
+    }
+}
+
 /// Makes all that comes in, as a plan says; no node that was there changes.
 pub(crate) fn make<A: Allocator + Copy>(
     alloc: A,
     tree: &mut Tree<A>,
+    name: Option<&str>,
     value: &CstInputValue<A>,
     layout: &Layout<A>,
     outer: &str,
@@ -178,12 +197,12 @@ pub(crate) fn make<A: Allocator + Copy>(
 ) -> Result<Made<A>, AllocError>
     ensures made { IfOk result
         (λ m. NodesMade tree.old.nodes tree.new.nodes (layout_of layout.now) outer.now plan
-        (plain value.now) m.element m.comma.items m.before.items m.behind.items) }
+        (option_map (λ s. chars s.now) name.entry) (plain value.now) m.element m.comma.items m.before.items m.behind.items) }
     ensures prepared { Extends tree.old.nodes tree.new.nodes }
 {
     let comma = make_comma(alloc, tree, plan.comma.is_some())?;
     let before = make_before(alloc, tree, layout, plan)?;
-    let element = lay_out(alloc, tree, value, layout)?;
+    let element = make_entry(alloc, tree, name, value, layout)?;
     let behind = make_behind(alloc, tree, layout, outer, plan)?;
     Ok(Made {
         comma,

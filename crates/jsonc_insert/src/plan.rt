@@ -8,13 +8,13 @@ ghost use Rattle.jsonc_insert.specs.Planned.{line_if, line_unless, parting, past
 ghost use Rattle.jsonc_insert.specs.Planned.{plan_by, plan_first, planned, through_comments, trivia};
 
 use jsonc_layout::nodes::{is_comma, is_element, is_newline, is_token, is_trivia};
-use jsonc_layout::rows::{all_inline_trivia, last_blanks, last_element, last_spaces, line_length};
+use jsonc_layout::rows::{all_inline_trivia, last_blanks, last_spaces, line_length};
 use jsonc_tree::Tree;
 use std::alloc::Allocator;
 
 /// What stands between two nodes: nothing, a space, or the end of a line and the next one's indent.
 #[derive(Clone, Copy)]
-pub enum Gap {
+pub(crate) enum Gap {
     Nothing,
     Space,
     Line,
@@ -22,17 +22,17 @@ pub enum Gap {
 
 /// Where a new element comes into a row, and what comes with it.
 #[derive(Clone, Copy)]
-pub struct Plan {
+pub(crate) struct Plan {
     /// Where a comma comes behind the element before it, if one is wanted there.
-    pub comma: Option<usize>,
+    pub(crate) comma: Option<usize>,
     /// Where the element comes, before that comma has come.
-    pub place: usize,
+    pub(crate) place: usize,
     /// What comes before it.
-    pub before: Gap,
+    pub(crate) before: Gap,
     /// Whether a comma comes behind it.
-    pub comma_behind: bool,
+    pub(crate) comma_behind: bool,
     /// What comes behind that.
-    pub behind: Gap,
+    pub(crate) behind: Gap,
 }
 
 fn line_if(several: bool) -> Gap
@@ -84,35 +84,14 @@ fn trivia<A: Allocator>(tree: &Tree<A>, row: &[usize]) -> usize
         .count()
 }
 
-/// The element of this number in a row, or none where there are fewer.
-pub fn nth_element<A: Allocator>(tree: &Tree<A>, row: &[usize], index: usize) -> Option<usize>
+// The element of this number in a row, or none where there are fewer.
+fn nth_element<A: Allocator>(tree: &Tree<A>, row: &[usize], index: usize) -> Option<usize>
     ensures element { result ≡ slice_get (elements tree.now.nodes row.now) index }
 {
     row.iter()
         .copied()
         .filter(|node| is_element(tree, *node))
         .nth(index)
-}
-
-// The element behind which another comes that is to have this number.
-fn element_before<A: Allocator>(tree: &Tree<A>, row: &[usize], index: usize) -> Option<usize>
-    ensures { result ≡ element_before tree.now.nodes row.now index }
-{
-    if index == 0 {
-        return None;
-    }
-    match nth_element(tree, row, index - 1) {
-        Some(node) => Some(node),
-        None => last_element(tree, row),
-    }
-}
-
-/// The place of a node in a row, or the row's length.
-pub fn place_in(row: &[usize], node: usize) -> usize
-    ensures place { result ≡ place_in node row.now }
-    ensures within { result ≤ length row.now }
-{
-    row.iter().take_while(|other| **other != node).count()
 }
 
 // Whether a comma comes past the trivia that a row begins with.
@@ -263,28 +242,8 @@ pub(crate) fn plan_front<A: Allocator>(tree: &Tree<A>, several: bool, row: &[usi
     plan_alone(tree, several, row)
 }
 
-/// Where a new element comes into a row that has its brackets, and what comes with it.
-pub fn planned<A: Allocator>(
-    tree: &Tree<A>,
-    several: bool,
-    commas: bool,
-    row: &[usize],
-    index: usize,
-) -> Plan
-    requires { has_brackets tree.now.nodes row.now ≡ true }
-    ensures plan { result ≡ planned tree.now.nodes several commas row.now index }
-    ensures within { result.place ≤ length row.now }
-{
-    let Some(node) = element_before(tree, row, index) else {
-        return plan_front(tree, several, row);
-    };
-    let more = nth_element(tree, row, index).is_some();
-    let ended = place_in(row, node) + 1;
-    plan_behind(tree, several, commas, row, more, ended)
-}
-
 /// Whether the first and the last child of a container are tokens, and two.
-pub fn has_brackets<A: Allocator>(tree: &Tree<A>, container: usize) -> bool
+pub(crate) fn has_brackets<A: Allocator>(tree: &Tree<A>, container: usize) -> bool
     requires { container < length tree.now.nodes }
     ensures { result ≡ has_brackets tree.now.nodes (children_at tree.now.nodes container) }
 {

@@ -25,7 +25,7 @@ const SET: &str = "[\n  1,\n  {\"a\": [2]},\n]";
 type OneEdit = (Memory, Step, &'static str, &'static str);
 
 /// A removal wants memory for a space that is due alone.
-static SINGLE: [OneEdit; 18] = [
+static SINGLE: [OneEdit; 23] = [
     (
         Memory::Some,
         (&[], Change::RemoveComment(0)),
@@ -57,6 +57,36 @@ static SINGLE: [OneEdit; 18] = [
         (&[], Change::Value(Way::Insert(1), "9")),
         "[1, 2]",
         "[1, 9,  2]",
+    ),
+    (
+        Memory::Some,
+        (&[], Change::Value(Way::Insert(0), "5")),
+        "[\n\n\n]",
+        "[\n  5\n]",
+    ),
+    (
+        Memory::Some,
+        (&[], Change::Value(Way::Insert(1), "5")),
+        "[9\n\n]",
+        "[9,\n  5\n]",
+    ),
+    (
+        Memory::Some,
+        (&[], Change::Value(Way::Insert(0), "5")),
+        "[\n\n//1\n]",
+        "[\n//1\n  5\n]",
+    ),
+    (
+        Memory::Some,
+        (&[], Change::Property(Way::Insert(1), "n", "5")),
+        "{c:1}",
+        "{\n  c:1,\n  \"n\": 5\n}",
+    ),
+    (
+        Memory::Some,
+        (&[], Change::Property(Way::Insert(0), "n", "5")),
+        "{\n\n//1\n}",
+        "{\n//1\n  \"n\": 5\n}",
     ),
     (
         Memory::Some,

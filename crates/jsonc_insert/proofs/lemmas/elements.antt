@@ -8,7 +8,6 @@ pub mod RowsOfTrees
 pub mod Containers
 pub mod Blanks
 pub mod Plans
-pub mod FittingLayout
 pub mod PlannedRows
 pub mod InsertedValues
 pub mod SpreadObjects
@@ -17,4 +16,5 @@ pub mod NamedProperties
 pub mod Opened
 pub mod Objects
 pub mod Places
+pub mod KeptTrees
 pub mod Worked

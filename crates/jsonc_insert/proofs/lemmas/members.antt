@@ -1,5 +1,4 @@
 pub mod Opening
-pub mod MadeProperties
 pub mod RowReplaced
 pub mod Elements
 pub mod Numbering
@@ -7,8 +6,4 @@ pub mod PastTheEnd
 pub mod BlanksRemoved
 pub mod SpreadObjects
 pub mod Changing
-pub mod Commas
-pub mod FittingLayout
-pub mod SamePlans
-pub mod KeptRows
-pub mod PropertyBeside
+pub mod SpreadRows

@@ -16,12 +16,11 @@ use Rattle.jsonc_text.specs.declared.edit.EditError.TheVariants.{OutOfMemory}
 use Rattle.jsonc_insert.specs.Inserted.{refusal}
 use Rattle.jsonc_insert.specs.Laws.{KeepsNodesBut}
 use Rattle.jsonc_insert.specs.Planned.{has_brackets}
-use Rattle.jsonc_insert.specs.Settings.{indents_of}
+use Rattle.jsonc_insert.specs.Settings.{layout_inside, outer_indent}
 use Rattle.jsonc_layout.specs.nodes.Kinds.{is_blank_at}
 use Rattle.jsonc_edit.specs.multiline.Laws.{bracketed}
 use Rattle.jsonc_edit.specs.multiline.Reflows.{SpreadsOut}
 use Rattle.jsonc_insert.specs.members.Inserted.{PropertyPut}
-use Rattle.jsonc_insert.specs.members.Layout.{layout_inside}
 
 -- the new node is the property of this number, or the last where there were fewer
 abbrev pub TakesItsNumber : List Node → List Node → ℕ → ℕ → List ℕ → Plain → ℕ → Type 0
@@ -77,14 +76,14 @@ OnlyOutOfMemory o ns path c =
 abbrev pub ChangesObjectAlone : List Node → List Node → ℕ → ℕ → List ℕ → Plain → ℕ → Type 0
 ChangesObjectAlone old new c i name v m = IsTree old → c < length old → PropertyPut old new c i name v m → ChangesAt old new c (top_at new c)
 
--- the new node is the property of this name and value, laid out as the row tells that it comes into
+-- the new node is the property of this name and value, laid out as the object tells once it has the row that the property comes into
 abbrev pub IsTheProperty : List Node → List Node → ℕ → ℕ → List ℕ → Plain → ℕ → Type 0
 IsTheProperty old new c i name v m =
     IsTree old → c < length old → (e : PropertyPut old new c i name v m)
-    → top_at new m ≡ laid_property (layout_inside e.lined c e.was) name v
+    → top_at new m ≡ laid_property (layout_inside e.made.kept c) name v
 
--- and the layout that the row tells is one that documents of these options may have
+-- and the layout that it tells is one that documents of these options may have
 abbrev pub FitsAsTold : Options → List Node → List Node → List ℕ → ℕ → ℕ → List ℕ → Plain → ℕ → Type 0
 FitsAsTold o old new path c i name v m =
     IsTree old → SoundTree o (ordered_tree old 0) → IsAt old path c → content_at old c ≡ object → (e : PropertyPut old new c i name v m)
-    → FitsLayout o (layout_inside e.lined c e.was) × IsIndent (indents_of e.lined c e.was).current
+    → FitsLayout o (layout_inside e.made.kept c) × IsIndent (outer_indent e.made.kept c)

@@ -1,9 +1,11 @@
 -- The row of an object on several lines, as it is to be before a property comes in. A row is a list of nodes by their numbers, the brackets among them.
-use Rattle.std.specs.Prelude.{◌-◌, ◌≡◌, ◌⊎◌, ℕ, true, List, [], ◌∷◌, ◌++◌, length, map, slice_index, Some, if◌then◌else◌}
+use Rattle.std.specs.Prelude.{◌-◌, ◌≡◌, ◌<◌, ◌⊎◌, ℕ, true, List, [], ◌∷◌, ◌++◌, length, map, slice_index, Some, if◌then◌else◌}
 use Rattle.std.specs.List.{All}
 use Rattle.jsonc_tree.specs.Changes.{EachOnce}
-use Rattle.jsonc_tree.specs.Tree.{Node, children_at, parent_at}
+use Rattle.jsonc_tree.specs.Building.{Keeps}
+use Rattle.jsonc_tree.specs.Tree.{Node, children_at, is_container_at, parent_at, IsTree}
 use Rattle.jsonc_edit.specs.Put.{Extends}
+use Rattle.jsonc_insert.specs.Inserted.{BecomesRow}
 use Rattle.jsonc_insert.specs.Made.{IsFresh}
 use Rattle.jsonc_insert.specs.Planned.{has_brackets}
 use Rattle.jsonc_insert.specs.Trimmed.{trimmed}
@@ -36,3 +38,19 @@ pub record IsBefore (old now : List Node) (c : ℕ) (row : List ℕ) : Type 0 wh
   pub lines : List ℕ
   pub opens : IsOpened old now c lines
   pub is : row ≡ trimmed now lines
+
+-- c has been put on several lines: the leaves that come were made, and then it got that row.
+pub record IsSpread (old new : List Node) (c : ℕ) : Type 0 where
+  pub lined : List Node
+  pub opens : IsOpened old lined c (children_at new c)
+  pub put : BecomesRow lined new c (children_at new c)
+
+-- it had this row and was put on several lines, and since then nodes have been added alone
+pub record WasSpread (old now : List Node) (c : ℕ) (row : List ℕ) : Type 0 where
+  pub tree : IsTree old
+  pub there : c < length old
+  pub holds : is_container_at old c ≡ true
+  pub had : row ≡ children_at old c
+  pub spread : List Node
+  pub is : IsSpread old spread c
+  pub later : Keeps (length spread) spread now

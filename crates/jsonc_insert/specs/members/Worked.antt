@@ -5,21 +5,20 @@ use Rattle.jsonc_text.specs.Plain.{Plain, member, no_members}
 use Rattle.jsonc_tree.specs.Content as content
 use Rattle.jsonc_tree.specs.Content.{Content, array, object, property, root, newline, token, whitespace, text_of}
 use Rattle.jsonc_tree.specs.OrderedTree.{Top}
-use Rattle.jsonc_tree.specs.Tree.{Node}
+use Rattle.jsonc_tree.specs.Tree.{Node, children_at}
 use Rattle.jsonc_tree.specs.declared.node.CstNewlineKind.TheVariants.{LineFeed}
 use Rattle.jsonc_layout.specs.from_input.Laid.{laid_property, leaf}
 use Rattle.jsonc_sound.specs.TreeChanges.{leaves_of}
 use Rattle.jsonc_edit.specs.Changes.{top_at}
 use Rattle.jsonc_edit.specs.Worked.{node}
-use Rattle.jsonc_insert.specs.Inserted.{leaves_before, leaves_behind, put_by}
+use Rattle.jsonc_insert.specs.Inserted.{leaves_before, leaves_behind, plan_of, put_by}
 use Rattle.jsonc_insert.specs.Made.{comma_at}
-use Rattle.jsonc_insert.specs.Settings.{indents_of}
+use Rattle.jsonc_insert.specs.Settings.{layout_inside, outer_indent}
 use Rattle.jsonc_insert.specs.Trimmed.{trimmed}
 use Rattle.jsonc_insert.specs.declared.plan.Plan.{Plan}
 use Rattle.jsonc_edit.specs.multiline.Slots.{Slot, stays, comes}
 use Rattle.jsonc_insert.specs.members.Opened.{opened}
-use Rattle.jsonc_insert.specs.members.Layout.{layout_inside}
-use Rattle.jsonc_insert.specs.members.Inserted.{plan_inside}
+use Rattle.jsonc_insert.specs.Worked.{with_row}
 
 -- the leaves that come into a row, and the numbers that fill its places, where these leaves have the numbers from n on
 abbrev pub coming : List Slot → List Node
@@ -39,22 +38,25 @@ lined ns c = ns ++ coming (opened ns c)
 abbrev pub row_before : List Node → ℕ → List ℕ
 row_before ns c = trimmed (lined ns c) (filled_from (length ns) (opened ns c))
 
+abbrev pub kept : List Node → ℕ → List Node
+kept ns c = with_row (lined ns c) c (row_before ns c)
+
 -- what it prints with this property as number i
-abbrev pub tops_put : List Node → ℕ → List ℕ → Plan → List ℕ → Plain → List Top
-tops_put ns c row plan name v =
+abbrev pub tops_put : List Node → ℕ → Plan → List ℕ → Plain → List Top
+tops_put ns c plan name v =
     put_by plan (map leaf (comma_at plan.comma))
-    (map leaf (leaves_before (layout_inside ns c row) plan)
-    ++ laid_property (layout_inside ns c row) name v ∷ map leaf (leaves_behind (layout_inside ns c row) (indents_of ns c row).current plan))
-    (map (top_at ns) row)
+    (map leaf (leaves_before (layout_inside ns c) plan)
+    ++ laid_property (layout_inside ns c) name v ∷ map leaf (leaves_behind (layout_inside ns c) (outer_indent ns c) plan))
+    (map (top_at ns) (children_at ns c))
 
 abbrev pub top_text : Top → List ℕ
 top_text top = flat_map text_of (leaves_of top)
 
-abbrev pub text_in_row : List Node → ℕ → List ℕ → ℕ → List ℕ → Plain → List ℕ
-text_in_row ns c row i name v = flat_map top_text (tops_put ns c row (plan_inside ns c row i) name v)
+abbrev pub text_of_row : List Node → ℕ → ℕ → List ℕ → Plain → List ℕ
+text_of_row ns c i name v = flat_map top_text (tops_put ns c (plan_of ns c i (Some name) v) name v)
 
 abbrev pub text_with : List Node → ℕ → ℕ → List ℕ → Plain → List ℕ
-text_with ns c i name v = text_in_row (lined ns c) c (row_before ns c) i name v
+text_with ns c i name v = text_of_row (kept ns c) c i name v
 
 -- leaves, by their parents
 abbrev pub mark : ℕ → ℕ → Node

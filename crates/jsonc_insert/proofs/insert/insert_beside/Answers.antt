@@ -1,21 +1,21 @@
-use Rattle.std.proofs.Common.{◌∙◌, ◌++◌, ◌∷◌, ap, string_bytes}
+use Rattle.std.proofs.Common.{◌∙◌, ◌++◌, ◌∷◌, ap, chars, option_map, string_bytes, subst}
 use Rattle.jsonc_layout.specs.input.Views.{plain}
 use Rattle.jsonc_layout.specs.from_input.Layout.{layout_of}
 use Rattle.jsonc_insert.specs.Inserted.{NodesMade}
-use Rattle.std.proofs.Common.{subst}
-use Rattle.jsonc_insert.proofs.PutBeside.{element_put}
+use Rattle.jsonc_insert.proofs.PutBeside.{comes_between}
 use Rattle.jsonc_insert.proofs.insert.insert_beside.Goals as goal
 
 pub returns-clause-put : goal.returns-clause-put
 returns-clause-put g c =
     let old = c.args.tree.now.nodes in
     let ready = c.make.new.tree.nodes in
+    let name = option_map (λ s. chars s.now) c.args.name in
     let v = plain c.args.value.now in
     let made = c.in_ok-made.made in
     let told = c.in_ok-told.told in
-    element_put old ready c.args.tree.now.tree c.in_ok-made.ensures.prepared c.args.container c.requires.in_tree c.args.index v c.requires.brackets c.requires.keeps (layout_of told.layout) (string_bytes told.outer) told.beside c.in_ok-told.ensures
+    comes_between old ready c.args.tree.now.tree c.in_ok-made.ensures.prepared c.args.container c.requires.in_tree c.requires.brackets c.args.index name v (layout_of told.layout) (string_bytes told.outer) told.beside c.in_ok-told.ensures
     made.element made.comma.items made.before.items made.behind.items
-    (subst (λ o. NodesMade old ready (layout_of told.layout) o told.beside.plan v made.element made.comma.items made.before.items made.behind.items) c.as_str.ensures.value c.in_ok-made.ensures.made)
+    (subst (λ o. NodesMade old ready (layout_of told.layout) o told.beside.plan name v made.element made.comma.items made.before.items made.behind.items) c.as_str-outer.ensures.value c.in_ok-made.ensures.made)
     c.put_beside.new.tree.nodes c.deref-3.result.now c.deref-4.result.now c.deref-3.ensures.value
     (c.deref-4.ensures.value ∙ c.in_ok-written.ensures ∙ ap (λ l. l ++ made.element ∷ c.deref-2.result.now) c.deref.ensures.value ∙ ap (λ l. made.before.items ++ made.element ∷ l) c.deref-2.ensures.value)
     c.put_beside.ensures

@@ -4,8 +4,4 @@ use Rattle.jsonc_insert.proofs.insert.insert_element.Goals as goal
 
 pub returns-in_err-element-clause-document : goal.returns-in_err-element-clause-document
 returns-in_err-element-clause-document g c =
-    where_refused c.from_residual.result (tree_stays c.args.tree.now.nodes c.insert_beside.new.tree.nodes c.args.tree.now.tree c.in_err-element.ensures.prepared.keeps c.in_err-element.ensures.prepared.tree)
-
-pub returns-in_err-element-2-clause-document : goal.returns-in_err-element-2-clause-document
-returns-in_err-element-2-clause-document g c =
-    where_refused c.from_residual-in_err-element-2.result (tree_stays c.args.tree.now.nodes c.insert_in_row.new.tree.nodes c.args.tree.now.tree c.in_err-element-2.ensures.prepared.keeps c.in_err-element-2.ensures.prepared.tree)
+    where_refused c.from_residual.result (tree_stays c.args.tree.now.nodes c.insert_entry.new.tree.nodes c.args.tree.now.tree c.in_err-element.ensures.kept c.insert_entry.new.tree.tree)

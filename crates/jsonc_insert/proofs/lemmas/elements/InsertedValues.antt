@@ -1,5 +1,5 @@
 -- A value comes into an array at a path of a sound document.
-use Rattle.std.proofs.Common.{◌≡◌, ◌∙◌, ◌<◌, ◌≤◌, ◌-◌, ◌||◌, ℕ, min, Bool, true, false, List, [], ◌∷◌, ◌++◌, All, length, take, refl, sym, ap, subst}
+use Rattle.std.proofs.Common.{◌≡◌, ◌∙◌, ◌<◌, ◌≤◌, ◌-◌, ◌||◌, ℕ, min, Bool, true, false, List, [], ◌∷◌, ◌++◌, None, All, length, take, refl, sym, ap, subst}
 use Rattle.std.specs.List.{list_any}
 use Rattle.std.proofs.lemmas.List.Elements.{All-from_get_or}
 use Rattle.std.proofs.lemmas.List.Folds.{list_any-append}
@@ -23,25 +23,28 @@ use Rattle.jsonc_edit.specs.Writing.{FitsLayout, IsIndent}
 use Rattle.jsonc_edit.specs.multiline.Laws.{bracketed}
 use Rattle.jsonc_edit.specs.multiline.Reflows.{has_newline}
 use Rattle.jsonc_edit.proofs.lemmas.multiline.OnLines.{standing, standing_newline}
-use Rattle.jsonc_insert.specs.Inserted.{outer_indent, plan_of, put_by, ElementPut}
+use Rattle.jsonc_insert.specs.Inserted.{plan_of, put_by, ElementPut}
 use Rattle.jsonc_insert.specs.Planned.{elements, has_brackets, planned}
-use Rattle.jsonc_insert.specs.Settings.{is_spread, layout_inside, on_several_lines}
+use Rattle.jsonc_insert.specs.Settings.{is_spread, layout_inside, on_several_lines, outer_indent}
 use Rattle.jsonc_insert.specs.Trimmed.{trimmed}
 use Rattle.jsonc_insert.specs.declared.plan.Plan.{Plan}
-use Rattle.jsonc_insert.proofs.RowReplaced.{once_kept}
+use Rattle.jsonc_insert.proofs.Additions.{whole_row}
+use Rattle.jsonc_insert.proofs.Numbering.{element_row}
+use Rattle.jsonc_insert.proofs.RowReplaced.{IsRowFor}
+use Rattle.jsonc_insert.proofs.SamePlans.{planned_alike, several_alike}
 use Rattle.jsonc_insert.proofs.TrimmedRows.{has_two, trimmed_all, trimmed_brackets, trimmed_elements}
 use Rattle.jsonc_insert.specs.elements.Coming.{ElementInserted}
 use Rattle.jsonc_insert.specs.elements.Laws.{ElementInsertedAt, ElementsInsertedAt}
 use Rattle.jsonc_insert.proofs.lemmas.elements.Containers.{ContainerRow}
 use Rattle.jsonc_insert.proofs.lemmas.elements.Containers as containers
 use Rattle.jsonc_insert.proofs.lemmas.elements.Blanks as blanks
-use Rattle.jsonc_insert.proofs.lemmas.elements.FittingLayout.{layout_fits, outer_fits}
+use Rattle.jsonc_insert.proofs.lemmas.elements.KeptTrees.{layout_fits, outer_fits}
 use Rattle.jsonc_insert.proofs.lemmas.elements.PlannedRows as filling
 use Rattle.jsonc_insert.proofs.lemmas.elements.PlannedRows.{Filled}
 use Rattle.jsonc_insert.proofs.lemmas.elements.Plans as plans
 use Rattle.jsonc_insert.proofs.lemmas.elements.Plans.{last_then}
 use Rattle.jsonc_insert.proofs.lemmas.elements.Rows.{IsRow, kept_row}
-use Rattle.jsonc_insert.proofs.lemmas.elements.RowsOfTrees.{standing_count}
+use Rattle.jsonc_insert.proofs.lemmas.elements.RowsOfTrees.{standing_count, standing_then, token_first}
 
 module _ (o : Options) (old new : List Node) (path : List ℕ) (c i : ℕ) (v : Plain) (m : ℕ) (tree : IsTree old) (sound : SoundTree o (ordered_tree old 0)) (at : IsAt old path c) (is : content_at old c ≡ content.array) (put : ElementPut old new c i v m) where
   abbrev kids : List ℕ
@@ -84,26 +87,44 @@ module _ (o : Options) (old new : List Node) (path : List ℕ) (c i : ℕ) (v : 
   row_now : IsRow o of_values (standing old left)
   row_now = kept_row o of_values l.leave a.row
 
+  b : IsRowFor old old c (trimmed old kids)
+  b = element_row old tree c whole
+
+  abbrev kept : List Node
+  kept = put.made.kept
+
+  row_kept : children_at kept c ≡ trimmed old kids
+  row_kept = put.made.has.put.children ∙ whole_row kids (trimmed old kids)
+
   abbrev layout : Layout
-  layout = layout_inside old c
+  layout = layout_inside kept c
+
+  kept_stands : standing old (trimmed old kids) ≡ token_then 0x5B (followed_by (standing old left) (token_then 0x5D none))
+  kept_stands =
+      ap (standing old) kept_is ∙ token_first old tree x 0x5B (standing old (left ++ y ∷ [])) a.opens
+      ∙ ap (token_then 0x5B) (standing_then old left (y ∷ []) ∙ ap (followed_by (standing old left)) (token_first old tree y 0x5D none a.closes))
 
   fits_layout : FitsLayout o layout
-  fits_layout = layout_fits o old tree sound.shaped c over (containers.holds o of_values old path c tree sound at is) whole
+  fits_layout = layout_fits o of_values old path c tree sound at is old (trimmed old kids) b kept put.made.has (standing old a.inner) a.top (standing old left) kept_stands row_now
 
-  outer_indents : IsIndent (outer_indent old c)
-  outer_indents = outer_fits o old tree sound.shaped c over (containers.holds o of_values old path c tree sound at is) whole
+  outer_indents : IsIndent (outer_indent kept c)
+  outer_indents = outer_fits o of_values old path c tree sound at is old (trimmed old kids) b kept put.made.has (standing old a.inner) a.top (standing old left) kept_stands row_now
 
   abbrev several : Bool
-  several = on_several_lines old (trimmed old kids) v
+  several = on_several_lines old (trimmed old kids) None v
 
   abbrev plan : Plan
-  plan = plan_of old c i v
+  plan = plan_of kept c i None v
 
   plan_is : plan ≡ planned old several layout.trailing_commas (x ∷ (left ++ y ∷ [])) i
-  plan_is = ap (λ r. planned old several layout.trailing_commas r i) kept_is
+  plan_is =
+      let same = λ (n : ℕ). put.made.has.put.content n in
+      ap (λ r. planned kept (on_several_lines kept r None v) layout.trailing_commas r i) row_kept
+      ∙ ap (λ w. planned kept w layout.trailing_commas (trimmed old kids) i) (several_alike old kept same (trimmed old kids) None v)
+      ∙ planned_alike old kept same several layout.trailing_commas (trimmed old kids) i ∙ ap (λ r. planned old several layout.trailing_commas r i) kept_is
 
   kept_once : EachOnce (x ∷ (left ++ y ∷ []))
-  kept_once = subst EachOnce kept_is (once_kept old ready tree put.prepared c there two)
+  kept_once = subst EachOnce kept_is b.once
 
   kept_whole : has_brackets old (x ∷ (left ++ y ∷ [])) ≡ true
   kept_whole = ap (has_brackets old) (sym kept_is) ∙ trimmed_brackets old kids whole
@@ -131,7 +152,7 @@ module _ (o : Options) (old new : List Node) (path : List ℕ) (c i : ℕ) (v : 
   kept_old = subst (All (λ n. n < length old)) kept_is (trimmed_all (λ n. n < length old) old kids (All-from_get_or (λ n. n < length old) kids 0 (λ k h. tree.in_tree c k h)))
 
   -- the row is filled
-  filled : Filled ready layout (outer_indent old c) plan (laid layout v) m (x ∷ (left ++ y ∷ [])) put.row
+  filled : Filled ready layout (outer_indent kept c) plan (laid layout v) m (x ∷ (left ++ y ∷ [])) put.row
   filled = record {
     comma = put.made.comma;
     before = put.made.before;
@@ -144,10 +165,10 @@ module _ (o : Options) (old new : List Node) (path : List ℕ) (c i : ℕ) (v : 
   }
 
   abbrev new_row : OrderedTree
-  new_row = filling.new_row o of_values old ready tree put.prepared x y left a.opens a.closes row_now layout (outer_indent old c) several plan fits (laid layout v) m put.row filled kept_old
+  new_row = filling.new_row o of_values old ready tree put.prepared x y left a.opens a.closes row_now layout (outer_indent kept c) several plan fits (laid layout v) m put.row filled kept_old
 
   row_stands : standing ready put.row ≡ token_then 0x5B (followed_by new_row (token_then 0x5D none))
-  row_stands = filling.row_stands o of_values old ready tree put.prepared x y left a.opens a.closes row_now layout (outer_indent old c) several plan fits (laid layout v) m put.row filled kept_old
+  row_stands = filling.row_stands o of_values old ready tree put.prepared x y left a.opens a.closes row_now layout (outer_indent kept c) several plan fits (laid layout v) m put.row filled kept_old
 
   changed : DocumentChanged (bracketed of_values (standing old a.inner)) (bracketed of_values new_row) path (ordered_tree old 0) (ordered_tree new 0)
   changed = containers.row_given of_values old ready new path c put.row (standing old a.inner) new_row tree put.prepared there is a.top at put.tree put.join put.put row_stands
@@ -166,7 +187,7 @@ module _ (o : Options) (old new : List Node) (path : List ℕ) (c i : ℕ) (v : 
 
   comes_into : ElementInserted o (laid layout v) (min i (element_count (standing old a.inner))) (standing old left) new_row
   comes_into =
-      filling.comes_into o of_values old ready tree put.prepared x y left a.opens a.closes row_now layout (outer_indent old c) several plan fits (laid layout v) m put.row filled kept_old fits_layout outer_indents lines
+      filling.comes_into o of_values old ready tree put.prepared x y left a.opens a.closes row_now layout (outer_indent kept c) several plan fits (laid layout v) m put.row filled kept_old fits_layout outer_indents lines
       (min i (element_count (standing old a.inner))) (front_count ∙ ap (min i) (same_count ∙ sym (standing_count old a.inner)))
 
   pub comes_at : ElementInsertedAt o path i v (ordered_tree old 0) (ordered_tree new 0)

@@ -1,12 +1,11 @@
 -- A property comes into an object at a path of a sound document: from the nodes to the row of trees.
-use Rattle.std.proofs.Common.{◌≡◌, ◌∙◌, ◌<◌, ◌≤◌, ◌-◌, ℕ, min, true, List, [], ◌∷◌, ◌++◌, All, length, take, refl, sym, ap, subst}
+use Rattle.std.proofs.Common.{◌≡◌, ◌∙◌, ◌<◌, ◌≤◌, ◌-◌, ℕ, min, true, List, [], ◌∷◌, ◌++◌, Some, All, length, take, refl, sym, ap, subst}
 use Rattle.jsonc_text.specs.Options.{Options}
 use Rattle.jsonc_text.specs.Plain.{Plain}
-use Rattle.jsonc_tree.specs.Changes.{CanJoin, EachOnce, Splices}
+use Rattle.jsonc_tree.specs.Changes.{EachOnce}
 use Rattle.jsonc_tree.specs.Content.{object, token}
 use Rattle.jsonc_tree.specs.OrderedTree.{OrderedTree, none, followed_by, ordered_tree}
 use Rattle.jsonc_tree.specs.Tree.{Node, children_at, content_at, IsTree, IsOver}
-use Rattle.jsonc_tree.proofs.Builder.{Keeps-fewer, Keeps-then}
 use Rattle.jsonc_sound.specs.Shape.{token_then}
 use Rattle.jsonc_layout.specs.from_input.Laid.{laid_property}
 use Rattle.jsonc_layout.specs.from_input.Layout.{Layout}
@@ -15,15 +14,21 @@ use Rattle.jsonc_sound.specs.Rows.{of_properties, opening, closing}
 use Rattle.jsonc_sound.specs.SoundTrees.{SoundTree}
 use Rattle.jsonc_sound.specs.TreeChanges.{DocumentChanged}
 use Rattle.jsonc_edit.specs.Paths.{IsAt}
-use Rattle.jsonc_edit.specs.Put.{Extends}
 use Rattle.jsonc_edit.specs.Writing.{FitsLayout, IsIndent}
 use Rattle.jsonc_edit.specs.multiline.Laws.{bracketed}
 use Rattle.jsonc_edit.specs.multiline.Reflows.{SpreadsOut}
 use Rattle.jsonc_edit.specs.multiline.Slots.{Slot, stays, AreFilled, row_in}
 use Rattle.jsonc_edit.proofs.lemmas.multiline.OnLines.{standing}
+use Rattle.jsonc_insert.specs.Inserted.{plan_of, put_by}
 use Rattle.jsonc_insert.specs.Planned.{elements, has_brackets, planned}
+use Rattle.jsonc_insert.specs.Settings.{layout_inside, outer_indent}
 use Rattle.jsonc_insert.specs.Trimmed.{trimmed}
 use Rattle.jsonc_insert.specs.declared.plan.Plan.{Plan}
+use Rattle.jsonc_insert.specs.members.Inserted.{PropertyPut}
+use Rattle.jsonc_insert.specs.members.Laws.{FitsAsTold}
+use Rattle.jsonc_insert.proofs.Additions.{whole_row}
+use Rattle.jsonc_insert.proofs.RowReplaced.{both, IsRowFor}
+use Rattle.jsonc_insert.proofs.SamePlans.{planned_alike}
 use Rattle.jsonc_insert.proofs.TrimmedRows.{has_two, trimmed_all, trimmed_brackets, trimmed_elements, trimmed_once}
 use Rattle.jsonc_insert.specs.elements.Coming.{ElementInserted}
 use Rattle.jsonc_insert.specs.elements.Members.{PropertyInsertedAt}
@@ -35,29 +40,13 @@ use Rattle.jsonc_insert.proofs.lemmas.elements.PlannedRows.{Filled}
 use Rattle.jsonc_insert.proofs.lemmas.elements.Opened as opened
 use Rattle.jsonc_insert.proofs.lemmas.elements.Opened.{filled_stands, filled_there, one_filled, Parted, parted_filled, spread_count}
 use Rattle.jsonc_insert.proofs.lemmas.elements.Plans as plans
+use Rattle.jsonc_insert.proofs.lemmas.elements.KeptTrees as kept_trees
 use Rattle.jsonc_insert.proofs.lemmas.elements.Rows.{IsRow, kept_row}
 use Rattle.jsonc_insert.proofs.lemmas.elements.SpreadObjects.{spread_row}
-use Rattle.jsonc_insert.proofs.lemmas.elements.RowsOfTrees.{standing_count}
+use Rattle.jsonc_insert.proofs.lemmas.elements.RowsOfTrees.{standing_count, standing_then, token_first}
+use Rattle.jsonc_insert.proofs.lemmas.members.RowReplaced.{row_before}
 
--- The property was put so: the leaves were made that put the object on several lines; then the property, with what comes beside it, for that row without blank
--- lines inside its brackets; and then the row of the object was replaced by the new one.
-pub record PropertyFilled (old new : List Node) (c i : ℕ) (name : List ℕ) (v : Plain) (m : ℕ) (layout : Layout) (outer : List ℕ) : Type 0 where
-  pub lined : List Node
-  pub lines : List ℕ
-  pub first : Extends old lined
-  pub fills : AreFilled old lined (opened.opened old c) lines
-  pub once : EachOnce lines
-  pub brackets : has_brackets lined lines ≡ true
-  pub ready : List Node
-  pub row : List ℕ
-  pub second : Extends lined ready
-  pub filled : Filled ready layout outer (planned lined true layout.trailing_commas (trimmed lined lines) i) (laid_property layout name v) m (trimmed lined lines) row
-  pub join : CanJoin ready c 0 (length (children_at old c)) row
-  pub put : Splices ready new c 0 (length (children_at old c)) row
-  pub tree : IsTree new
-
-module _ (o : Options) (old new : List Node) (path : List ℕ) (c i : ℕ) (name : List ℕ) (v : Plain) (m : ℕ) (layout : Layout) (outer : List ℕ) (tree : IsTree old) (sound : SoundTree o (ordered_tree old 0)) (at : IsAt old path c) (is : content_at old c ≡ object) (f : PropertyFilled old new c i name v m layout outer)
-    (fits_layout : FitsLayout o layout) (outer_fits : IsIndent outer) where
+module _ (o : Options) (old new : List Node) (path : List ℕ) (c i : ℕ) (name : List ℕ) (v : Plain) (m : ℕ) (tree : IsTree old) (sound : SoundTree o (ordered_tree old 0)) (at : IsAt old path c) (is : content_at old c ≡ object) (f : PropertyPut old new c i name v m) where
   over : IsOver old 0 c
   over = containers.over o of_properties old path c tree sound at is
 
@@ -76,10 +65,10 @@ module _ (o : Options) (old new : List Node) (path : List ℕ) (c i : ℕ) (name
   abbrev inside : List Slot
   inside = opened.inside o of_properties old c tree sound.shaped over a
 
-  fills : AreFilled old f.lined (stays x ∷ (inside ++ stays y ∷ [])) f.lines
-  fills = subst (λ s. AreFilled old f.lined s f.lines) (opened.opened_is o of_properties old c tree sound.shaped over a) f.fills
+  fills : AreFilled old f.lined (stays x ∷ (inside ++ stays y ∷ [])) f.before.lines
+  fills = subst (λ s. AreFilled old f.lined s f.before.lines) (opened.opened_is o of_properties old c tree sound.shaped over a) f.before.opens.filled
 
-  first_part : Parted old f.lined (stays x ∷ []) (inside ++ stays y ∷ []) f.lines
+  first_part : Parted old f.lined (stays x ∷ []) (inside ++ stays y ∷ []) f.before.lines
   first_part = parted_filled old f.lined (stays x ∷ []) (inside ++ stays y ∷ []) fills
 
   last_part : Parted old f.lined inside (stays y ∷ []) first_part.back
@@ -89,85 +78,127 @@ module _ (o : Options) (old new : List Node) (path : List ℕ) (c i : ℕ) (name
   abbrev inner : List ℕ
   inner = last_part.front
 
-  lines_are : f.lines ≡ x ∷ (inner ++ y ∷ [])
+  lines_are : f.before.lines ≡ x ∷ (inner ++ y ∷ [])
   lines_are =
       first_part.is ∙ ap (λ (l : List ℕ). l ++ first_part.back) (one_filled old f.lined x first_part.fills)
       ∙ ap (λ (l : List ℕ). x ∷ l) (last_part.is ∙ ap (λ (l : List ℕ). inner ++ l) (one_filled old f.lined y last_part.fills_rest))
 
   inner_stands : standing f.lined inner ≡ row_in old inside
-  inner_stands = filled_stands old f.lined tree f.first last_part.fills (opened.inside_fit o of_properties old c tree sound.shaped over a)
+  inner_stands = filled_stands old f.lined tree f.before.opens.prepared last_part.fills (opened.inside_fit o of_properties old c tree sound.shaped over a)
 
   spread_row_now : IsRow o of_properties (standing f.lined inner)
   spread_row_now = subst (IsRow o of_properties) (sym inner_stands) (spread_row o of_properties (opened.spreads o of_properties old c tree sound.shaped over a) a.row)
 
   opens : content_at f.lined x ≡ token (opening of_properties)
-  opens = f.first.keeps.content x (opened.x_there o of_properties old c tree sound.shaped over a) ∙ a.opens
+  opens = f.before.opens.prepared.keeps.content x (opened.x_there o of_properties old c tree sound.shaped over a) ∙ a.opens
 
   closes : content_at f.lined y ≡ token (closing of_properties)
-  closes = f.first.keeps.content y (opened.y_there o of_properties old c tree sound.shaped over a) ∙ a.closes
+  closes = f.before.opens.prepared.keeps.content y (opened.y_there o of_properties old c tree sound.shaped over a) ∙ a.closes
 
-  lines_there : All (λ n. n < length f.lined) f.lines
-  lines_there = filled_there old f.lined tree f.first fills (opened.opened_fit o of_properties old c tree sound.shaped over a)
+  lines_there : All (λ n. n < length f.lined) f.before.lines
+  lines_there = filled_there old f.lined tree f.before.opens.prepared fills (opened.opened_fit o of_properties old c tree sound.shaped over a)
 
   -- and without blank lines
-  l : blanks.Left f.lined f.first.tree x y inner
-  l = blanks.left f.lined f.first.tree x y inner
+  l : blanks.Left f.lined f.before.opens.prepared.tree x y inner
+  l = blanks.left f.lined f.before.opens.prepared.tree x y inner
 
   abbrev left : List ℕ
   left = l.inner_left
 
-  kept_is : trimmed f.lined f.lines ≡ x ∷ (left ++ y ∷ [])
+  kept_is : trimmed f.lined f.before.lines ≡ x ∷ (left ++ y ∷ [])
   kept_is = ap (trimmed f.lined) lines_are ∙ l.is
 
   row_now : IsRow o of_properties (standing f.lined left)
   row_now = kept_row o of_properties l.leave spread_row_now
 
-  two : 2 ≤ length f.lines
-  two = has_two f.lined f.lines f.brackets
+  two : 2 ≤ length f.before.lines
+  two = has_two f.lined f.before.lines f.before.opens.brackets
 
   kept_once : EachOnce (x ∷ (left ++ y ∷ []))
-  kept_once = subst EachOnce kept_is (trimmed_once f.lined f.lines two f.once)
+  kept_once = subst EachOnce kept_is (trimmed_once f.lined f.before.lines two f.before.opens.once)
 
   kept_whole : has_brackets f.lined (x ∷ (left ++ y ∷ [])) ≡ true
-  kept_whole = ap (has_brackets f.lined) (sym kept_is) ∙ trimmed_brackets f.lined f.lines f.brackets
+  kept_whole = ap (has_brackets f.lined) (sym kept_is) ∙ trimmed_brackets f.lined f.before.lines f.before.opens.brackets
 
   kept_there : All (λ n. n < length f.lined) (x ∷ (left ++ y ∷ []))
-  kept_there = subst (All (λ n. n < length f.lined)) kept_is (trimmed_all (λ n. n < length f.lined) f.lined f.lines lines_there)
+  kept_there = subst (All (λ n. n < length f.lined)) kept_is (trimmed_all (λ n. n < length f.lined) f.lined f.before.lines lines_there)
+
+  b : IsRowFor old f.lined c f.was
+  b = row_before old f.lined c f.was f.before
+
+  abbrev kept : List Node
+  kept = f.made.kept
+
+  was_is : f.was ≡ x ∷ (left ++ y ∷ [])
+  was_is = f.before.is ∙ kept_is
+
+  row_kept : children_at kept c ≡ x ∷ (left ++ y ∷ [])
+  row_kept = f.made.has.put.children ∙ whole_row (children_at f.lined c) f.was ∙ was_is
+
+  abbrev layout : Layout
+  layout = layout_inside kept c
+
+  abbrev outer : List ℕ
+  outer = outer_indent kept c
+
+  kept_stands : standing f.lined f.was ≡ token_then (opening of_properties) (followed_by (standing f.lined left) (token_then (closing of_properties) none))
+  kept_stands =
+      let tree_now : IsTree f.lined = f.before.opens.prepared.tree in
+      ap (standing f.lined) was_is ∙ token_first f.lined tree_now x (opening of_properties) (standing f.lined (left ++ y ∷ [])) opens
+      ∙ ap (token_then (opening of_properties)) (standing_then f.lined left (y ∷ []) ∙ ap (followed_by (standing f.lined left)) (token_first f.lined tree_now y (closing of_properties) none closes))
+
+  pub fits_layout : FitsLayout o layout
+  fits_layout = kept_trees.layout_fits o of_properties old path c tree sound at is f.lined f.was b kept f.made.has (standing old a.inner) a.top (standing f.lined left) kept_stands row_now
+
+  pub outer_fits : IsIndent outer
+  outer_fits = kept_trees.outer_fits o of_properties old path c tree sound at is f.lined f.was b kept f.made.has (standing old a.inner) a.top (standing f.lined left) kept_stands row_now
 
   abbrev plan : Plan
   plan = planned f.lined true layout.trailing_commas (x ∷ (left ++ y ∷ [])) i
 
-  fits : plans.PlanFits o of_properties f.lined f.first.tree x y left opens closes row_now true layout.trailing_commas plan
-  fits = plans.planned_fits o of_properties f.lined f.first.tree x y left opens closes row_now true layout.trailing_commas kept_whole kept_once i
+  plan_is : plan_of kept c i (Some name) v ≡ plan
+  plan_is = ap (λ r. planned kept true layout.trailing_commas r i) row_kept ∙ planned_alike f.lined kept (λ n. f.made.has.put.content n) true layout.trailing_commas (x ∷ (left ++ y ∷ [])) i
+
+  fits : plans.PlanFits o of_properties f.lined f.before.opens.prepared.tree x y left opens closes row_now true layout.trailing_commas plan
+  fits = plans.planned_fits o of_properties f.lined f.before.opens.prepared.tree x y left opens closes row_now true layout.trailing_commas kept_whole kept_once i
 
   front_count : length (elements f.lined (take (plan.place - 1) left)) ≡ min i (length (elements f.lined left))
-  front_count = plans.planned_front o of_properties f.lined f.first.tree x y left opens closes row_now true layout.trailing_commas kept_whole kept_once i fits
+  front_count = plans.planned_front o of_properties f.lined f.before.opens.prepared.tree x y left opens closes row_now true layout.trailing_commas kept_whole kept_once i fits
 
   same_count : length (elements f.lined left) ≡ element_count (standing old a.inner)
   same_count =
-      sym (plans.count_row o of_properties f.lined f.first.tree x y left opens closes row_now) ∙ ap (λ r. length (elements f.lined r)) (sym kept_is) ∙ ap length (trimmed_elements f.lined f.lines two)
-      ∙ ap (λ r. length (elements f.lined r)) lines_are ∙ plans.count_row o of_properties f.lined f.first.tree x y inner opens closes spread_row_now
+      sym (plans.count_row o of_properties f.lined f.before.opens.prepared.tree x y left opens closes row_now) ∙ ap (λ r. length (elements f.lined r)) (sym kept_is) ∙ ap length (trimmed_elements f.lined f.before.lines two)
+      ∙ ap (λ r. length (elements f.lined r)) lines_are ∙ plans.count_row o of_properties f.lined f.before.opens.prepared.tree x y inner opens closes spread_row_now
       ∙ sym (standing_count f.lined inner) ∙ ap element_count inner_stands ∙ spread_count (opened.spreads o of_properties old c tree sound.shaped over a)
 
+  filled_told : Filled f.ready layout outer (plan_of kept c i (Some name) v) (laid_property layout name v) m (x ∷ (left ++ y ∷ [])) f.row
+  filled_told = record {
+    comma = f.made.comma;
+    before = f.made.before;
+    behind = f.made.behind;
+    is = f.made.made.is;
+    parts = f.made.made.parts;
+    leads = f.made.made.leads;
+    ends = f.made.made.ends;
+    row = f.made.is ∙ ap (put_by (plan_of kept c i (Some name) v) f.made.comma (f.made.before ++ m ∷ f.made.behind)) was_is;
+  }
+
   filled : Filled f.ready layout outer plan (laid_property layout name v) m (x ∷ (left ++ y ∷ [])) f.row
-  filled = subst (λ r. Filled f.ready layout outer (planned f.lined true layout.trailing_commas r i) (laid_property layout name v) m r f.row) kept_is f.filled
+  filled = subst (λ p. Filled f.ready layout outer p (laid_property layout name v) m (x ∷ (left ++ y ∷ [])) f.row) plan_is filled_told
 
   abbrev new_row : OrderedTree
-  new_row = filling.new_row o of_properties f.lined f.ready f.first.tree f.second x y left opens closes row_now layout outer true plan fits (laid_property layout name v) m f.row filled kept_there
+  new_row = filling.new_row o of_properties f.lined f.ready f.before.opens.prepared.tree f.prepared x y left opens closes row_now layout outer true plan fits (laid_property layout name v) m f.row filled kept_there
 
   row_stands : standing f.ready f.row ≡ token_then (opening of_properties) (followed_by new_row (token_then (closing of_properties) none))
-  row_stands = filling.row_stands o of_properties f.lined f.ready f.first.tree f.second x y left opens closes row_now layout outer true plan fits (laid_property layout name v) m f.row filled kept_there
+  row_stands = filling.row_stands o of_properties f.lined f.ready f.before.opens.prepared.tree f.prepared x y left opens closes row_now layout outer true plan fits (laid_property layout name v) m f.row filled kept_there
 
   comes_into : ElementInserted o (laid_property layout name v) (min i (element_count (standing old a.inner))) (standing f.lined left) new_row
   comes_into =
-      filling.comes_into o of_properties f.lined f.ready f.first.tree f.second x y left opens closes row_now layout outer true plan fits (laid_property layout name v) m f.row filled kept_there fits_layout outer_fits (λ h. refl)
+      filling.comes_into o of_properties f.lined f.ready f.before.opens.prepared.tree f.prepared x y left opens closes row_now layout outer true plan fits (laid_property layout name v) m f.row filled kept_there fits_layout outer_fits (λ h. refl)
       (min i (element_count (standing old a.inner))) (front_count ∙ ap (min i) same_count)
 
-  both : Extends old f.ready
-  both = record { keeps = Keeps-then (length old) old f.lined f.ready f.first.keeps (Keeps-fewer (length old) (length f.lined) f.lined f.ready f.first.keeps.len f.second.keeps); tree = f.second.tree }
-
   changed : DocumentChanged (bracketed of_properties (standing old a.inner)) (bracketed of_properties new_row) path (ordered_tree old 0) (ordered_tree new 0)
-  changed = containers.row_given of_properties old f.ready new path c f.row (standing old a.inner) new_row tree both there is a.top at f.tree f.join f.put row_stands
+  changed = containers.row_given of_properties old f.ready new path c f.row (standing old a.inner) new_row tree (both old f.lined tree c f.was b f.ready there f.prepared) there is a.top at f.tree f.join f.put row_stands
 
   pub property_comes_at : PropertyInsertedAt o path i name v (ordered_tree old 0) (ordered_tree new 0)
   property_comes_at = record {
@@ -182,3 +213,6 @@ module _ (o : Options) (old new : List Node) (path : List ℕ) (c i : ℕ) (name
     comes = comes_into;
     changed = changed;
   }
+
+pub fits_as_told : (o : Options) (old new : List Node) (path : List ℕ) (c i : ℕ) (name : List ℕ) (v : Plain) (m : ℕ) → FitsAsTold o old new path c i name v m
+fits_as_told o old new path c i name v m tree sound at is e = (fits_layout o old new path c i name v m tree sound at is e, outer_fits o old new path c i name v m tree sound at is e)

@@ -23,7 +23,7 @@ use Rattle.jsonc_edit.specs.multiline.Reflows.{has_newline, Reflows, ended, kept
 use Rattle.jsonc_edit.specs.multiline.Slots.{Slot, stays, comes, AreFilled, no_more, stayed, came, row_in}
 use Rattle.jsonc_edit.proofs.lemmas.multiline.OnLines.{AllFit, bare_below, on_lines_fit, row_newline, row_reflows, standing, standing_newline}
 use Rattle.jsonc_insert.proofs.lemmas.elements.Containers.{ContainerRow}
-use Rattle.jsonc_insert.proofs.lemmas.elements.FittingLayout.{indent_joined}
+use Rattle.jsonc_insert.proofs.lemmas.elements.KeptTrees.{indent_joined}
 
 -- the places of a container's row on several lines: as they are, where a line ends among them already
 abbrev pub enclosed : List ℕ → List Slot → List Slot

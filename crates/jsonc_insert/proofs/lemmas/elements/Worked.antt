@@ -8,7 +8,7 @@ use Rattle.jsonc_tree.specs.declared.node.CstNewlineKind.TheVariants.{LineFeed}
 use Rattle.jsonc_sound.specs.Shape.{token_then}
 use Rattle.jsonc_insert.specs.elements.Coming.{none_comes, one_comes, comes, nothing, a_space, a_line, elements_follow, none_follow, comma_last}
 use Rattle.jsonc_insert.specs.elements.Worked.{blank_then, line_then, number_then, ComesBehind, ComesFirst, ComesOnALine}
-use Rattle.jsonc_insert.proofs.lemmas.elements.FittingLayout.{two_spaces}
+use Rattle.jsonc_insert.proofs.lemmas.elements.KeptTrees.{two_spaces}
 
 one : Top
 one = record { content = content.number (codes "1"); below = none }

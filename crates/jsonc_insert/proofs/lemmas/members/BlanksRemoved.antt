@@ -1,12 +1,11 @@
 -- Of a row nothing but whitespace and ends of lines leaves.
-use Rattle.std.proofs.Common.{◌≡◌, ◌<◌, ◌+◌, ◌-◌, ◌||◌, ◌⊎◌, inl, inr, ℕ, Bool, true, false, cond, List, [], ◌∷◌, ◌++◌, All, length, map, take, drop, get_or, slice_index, slice_range, Option, Some, None, eqb, refl, sym, ap, subst, ◌∙◌, arith, length-drop, get_or-drop}
+use Rattle.std.proofs.Common.{◌≡◌, ◌<◌, ◌+◌, ◌-◌, ◌||◌, ◌⊎◌, inl, inr, ℕ, Bool, true, false, cond, List, [], ◌∷◌, ◌++◌, All, length, map, take, drop, get_or, slice_index, Some, eqb, refl, sym, ap, subst, ◌∙◌, arith, length-drop, get_or-drop}
 use Rattle.std.specs.List.{suffix_len}
-use Rattle.std.proofs.lemmas.Bool.{cases_Bool}
 use Rattle.std.proofs.lemmas.List.{take-append-drop}
 use Rattle.std.proofs.lemmas.List.Elements.{All-append, All-cons, All-from_get_or, All-head, All-nil, All-tail}
 use Rattle.jsonc_text.specs.Plain.{Plain}
 use Rattle.jsonc_tree.specs.Content.{Content}
-use Rattle.jsonc_tree.specs.Tree.{Node, children_at, parent_at, is_in, place_at, IsTree}
+use Rattle.jsonc_tree.specs.Tree.{Node, children_at, is_in, place_at, IsTree}
 use Rattle.jsonc_tree.proofs.Order.{parent_there}
 use Rattle.jsonc_tree.proofs.Splicing.{in_at}
 use Rattle.jsonc_layout.specs.nodes.Kinds.{is_newline, is_newline_at, is_whitespace, is_whitespace_at, is_comma_at, is_blank_at}
@@ -15,16 +14,14 @@ use Rattle.jsonc_edit.specs.multiline.Lines.{Lines, between, lines_for, on_lines
 use Rattle.jsonc_edit.specs.multiline.Multiline.{has_line_end}
 use Rattle.jsonc_edit.specs.multiline.Plans.{begins_behind, child_slots}
 use Rattle.jsonc_edit.proofs.lemmas.multiline.RowByNode.{woven}
-use Rattle.jsonc_insert.specs.Inserted.{with_comma}
 use Rattle.jsonc_insert.specs.Planned.{has_brackets}
-use Rattle.jsonc_insert.specs.Trimmed.{trimmed, with_at}
-use Rattle.jsonc_insert.proofs.BlanksRemoved.{in_with_at, kept_or_blank}
+use Rattle.jsonc_insert.specs.Trimmed.{trimmed}
+use Rattle.jsonc_insert.proofs.BlanksRemoved.{kept_or_blank, stays_or_leaves}
 use Rattle.jsonc_insert.proofs.TrimmedRows.{has_two}
-use Rattle.jsonc_insert.specs.members.Inserted.{plan_inside}
 use Rattle.jsonc_insert.specs.members.Laws.{LosesBlanksAlone}
 use Rattle.jsonc_insert.specs.members.Opened.{enclosed, opened}
 use Rattle.jsonc_insert.proofs.lemmas.members.Elements.{enclosed_stay, lines_stay, staying, staying_all, suffix_passes, whole_row}
-use Rattle.jsonc_insert.proofs.lemmas.members.Numbering.{whole}
+use Rattle.jsonc_insert.proofs.lemmas.members.RowReplaced.{row_before}
 
 either_left : (a b : Bool) → a ≡ true → (a || b) ≡ true
 either_left true b e = refl
@@ -114,24 +111,10 @@ module _ (old : List Node) (tree : IsTree old) (c : ℕ) (brackets : has_bracket
 abbrev InLines : List ℕ → ℕ → Type 0
 InLines row k = is_in k row ≡ true
 
-in_with_comma : (n : ℕ) (o : Option ℕ) (xs row : List ℕ) → is_in n row ≡ true → is_in n (with_comma o xs row) ≡ true
-in_with_comma n None xs row e = e
-in_with_comma n (Some at) xs row e = in_with_at n at xs row e
-
 pub loses_blanks_alone : (old new : List Node) (c i : ℕ) (name : List ℕ) (v : Plain) (m : ℕ) → LosesBlanksAlone old new c i name v m
-loses_blanks_alone old new c i name v m tree there brackets e n said = by (cases_Bool (is_in n e.row)) stands
+loses_blanks_alone old new c i name v m tree there brackets e n said =
+    stays_or_leaves old e.lined tree c there e.was (row_before old e.lined c e.was e.before) e.ready e.prepared i (Some name) v m e.row e.made new e.put (is_blank_at old n) n said stands
   where
-    was : is_in n (children_at old c) ≡ true
-    was = subst (λ k. is_in k (children_at old c) ≡ true) (tree.found n c said) (in_at (children_at old c) (place_at old n) (tree.within n c said))
-
-    gone : is_in n (slice_range (children_at e.ready c) 0 (length (children_at old c))) ≡ true
-    gone = ap (is_in n) (whole old new c i name v m tree there e) ∙ was
-
-    now : (b : Bool) → is_in n e.row ≡ b → parent_at new n ≡ cond b (Some c) None
-    now b f =
-        e.put.parents n ∙ ap (λ w. cond w (Some c) (cond (is_in n (slice_range (children_at e.ready c) 0 (length (children_at old c)))) None (parent_at e.ready n))) f
-        ∙ ap (λ w. cond b (Some c) (cond w None (parent_at e.ready n))) gone
-
     in_lines : InLines e.before.lines n ⊎ (is_whitespace_at old n ≡ true)
     in_lines =
         subst (λ k. InLines e.before.lines k ⊎ (is_whitespace_at old k ≡ true)) (tree.found n c said)
@@ -150,14 +133,3 @@ loses_blanks_alone old new c i name v m tree there brackets e n said = by (cases
         here : InLines e.before.lines n ⊎ (is_whitespace_at old n ≡ true) → (is_in n e.was ≡ true) ⊎ (is_blank_at old n ≡ true)
         here (inr h) = inr (either_left (is_whitespace_at old n) (is_newline_at old n) h)
         here (inl h) = trim (kept_or_blank e.lined e.before.lines (has_two e.lined e.before.lines e.before.opens.brackets) n h)
-
-    stays_in : is_in n e.was ≡ true → is_in n e.row ≡ true
-    stays_in h =
-        let plan = plan_inside e.lined c e.was i in
-        let put = e.made.before ++ m ∷ e.made.behind in
-        ap (is_in n) e.made.is ∙ in_with_comma n plan.comma e.made.comma (with_at plan.place put e.was) (in_with_at n plan.place put e.was h)
-
-    by : (is_in n e.row ≡ true) ⊎ (is_in n e.row ≡ false) → (is_in n e.was ≡ true) ⊎ (is_blank_at old n ≡ true) → (parent_at new n ≡ Some c) ⊎ ((is_blank_at old n ≡ true) × (parent_at new n ≡ None))
-    by (inl here) w = inl (now true here)
-    by (inr out) (inl kept) = inl (now true (stays_in kept))
-    by (inr out) (inr blank) = inr (blank, now false out)

@@ -19,7 +19,7 @@ use Rattle.jsonc_edit.proofs.Uniqueness.{element_parent}
 use Rattle.jsonc_edit.proofs.ChangesUpward.{Shows-row_below}
 use Rattle.jsonc_insert.specs.Planned.{has_brackets}
 use Rattle.jsonc_insert.specs.members.Inserted.{PropertyPut}
-use Rattle.jsonc_insert.specs.members.Layout.{layout_inside}
+use Rattle.jsonc_insert.specs.Settings.{layout_inside}
 use Rattle.jsonc_insert.proofs.lemmas.members.Changing.{is_property}
 use Rattle.jsonc_insert.proofs.lemmas.members.Numbering.{takes_number}
 use Rattle.jsonc_insert.proofs.lemmas.members.PastTheEnd.{past_the_end}
@@ -82,7 +82,7 @@ module _ (old new : List Node) (c i : ℕ) (name : List ℕ) (shape : Shape) (p 
   property_there = (parent_there new e.tree p c (element_parent new e.tree c _ p (takes_number old new c i name (empty_of shape) p tree there brackets e))).0
 
   abbrev layout : Layout
-  layout = layout_inside e.lined c e.was
+  layout = layout_inside e.made.kept c
 
   is : top_at new p ≡ laid_property layout name (empty_of shape)
   is = is_property old new c i name (empty_of shape) p tree there e

@@ -1,4 +1,4 @@
-use Rattle.jsonc_insert.proofs.lemmas.members.FittingLayout.{fits_as_told}
+use Rattle.jsonc_insert.proofs.lemmas.elements.Objects.{fits_as_told}
 use Rattle.jsonc_insert.proofs.lemmas.members.SpreadObjects.{spreads_first, wants_memory_alone}
 use Rattle.jsonc_insert.proofs.members.laws.objects_are_spread_first.Goals as goal
 
