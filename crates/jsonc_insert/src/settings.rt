@@ -1,10 +1,8 @@
 //! What a document tells of what comes into a container, read in the tree as it is.
 
 ghost use Rattle.std.specs.Prelude.{◌≡◌, ◌<◌, IfOk, chars, length, option_map, string_bytes};
-ghost use Rattle.std.specs.List.{list_any};
 ghost use Rattle.jsonc_tree.specs.Tree.{children_at};
 ghost use Rattle.jsonc_layout.specs.input.Views.{plain};
-ghost use Rattle.jsonc_layout.specs.nodes.Kinds.{is_newline_at};
 ghost use Rattle.jsonc_layout.specs.lines.IndentViews.{texts_of};
 ghost use Rattle.jsonc_layout.specs.from_input.Layout.{layout_of};
 ghost use Rattle.jsonc_insert.specs.Settings.{indents_inside, is_spread, layout_inside, on_several_lines, one_deeper, outer_indent};
@@ -12,7 +10,7 @@ ghost use Rattle.jsonc_insert.specs.Settings.{indents_inside, is_spread, layout_
 use jsonc_layout::from_input::{Layout, holds_filled, is_filled};
 use jsonc_layout::input::CstInputValue;
 use jsonc_layout::lines::{Indents, indents_at, newline_kind_at, uses_trailing_commas};
-use jsonc_layout::nodes::{element_at, is_newline};
+use jsonc_layout::nodes::element_at;
 use jsonc_tree::Tree;
 use std::alloc::{AllocError, Allocator};
 
@@ -27,14 +25,6 @@ fn is_spread<A: Allocator>(value: &CstInputValue<A>) -> bool
     }
 }
 
-/// Whether a line ends among the children of a container.
-pub(crate) fn has_line_end<A: Allocator>(tree: &Tree<A>, container: usize) -> bool
-    requires { container < length tree.now.nodes }
-    ensures { result ≡ list_any (is_newline_at tree.now.nodes) (children_at tree.now.nodes container) }
-{
-    tree.children(container).any(|node| is_newline(tree, node))
-}
-
 /// Whether a value, or a property of a name, comes on a line of its own into a container.
 pub(crate) fn on_several_lines<A: Allocator>(
     tree: &Tree<A>,
@@ -46,7 +36,7 @@ pub(crate) fn on_several_lines<A: Allocator>(
     ensures { result ≡ on_several_lines tree.now.nodes (children_at tree.now.nodes container)
         (option_map (λ s. chars s.now) name.entry) (plain value.now) }
 {
-    name.is_some() || has_line_end(tree, container) || is_spread(value)
+    name.is_some() || tree.has_line_end(container) || is_spread(value)
 }
 
 // The indents one level deeper.

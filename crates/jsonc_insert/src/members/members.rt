@@ -15,9 +15,8 @@ ghost use Rattle.jsonc_insert.specs.members.Opened.{IsSpread, WasSpread};
 
 use crate::insert::insert_entry;
 use crate::plan::has_brackets;
-use crate::settings::has_line_end;
-use jsonc_edit::EditError;
 use jsonc_edit::multiline::{lines_for, plan_lines};
+use jsonc_edit::{EditError, clear_row, set_between};
 use jsonc_layout::input::CstInputValue;
 use jsonc_layout::nodes::children;
 use jsonc_tree::Tree;
@@ -38,8 +37,7 @@ fn spread<A: Allocator + Copy>(
 {
     let lines = lines_for(alloc, tree, object)?;
     let row = plan_lines(alloc, tree, object, &lines)?;
-    let count = tree.child_count(object);
-    tree.splice(object, 1, count - 1, &row);
+    set_between(tree, object, &row);
     Ok(())
 }
 
@@ -48,8 +46,8 @@ fn put_row_back<A: Allocator>(tree: &mut Tree<A>, object: usize, row: &[usize])
     requires { (old : List Node) × WasSpread old tree.old.nodes object row.now }
     ensures { (old : List Node) → WasSpread old tree.old.nodes object row.now → Keeps (length old) old tree.new.nodes }
 {
-    let count = tree.child_count(object);
-    tree.splice(object, 0, count, row);
+    clear_row(tree, object);
+    tree.insert_between(object, None, None, row);
 }
 
 // Lets a property come into an object on one line, which is put on several before, and on one again where
@@ -112,7 +110,7 @@ pub fn insert_property<A: Allocator + Copy>(
     if !has_brackets(tree, object) {
         return Err(EditError::MissingBrackets);
     }
-    if !has_line_end(tree, object) {
+    if !tree.has_line_end(object) {
         let property = insert_spread(alloc, tree, object, index, name, value)?;
         return Ok(property);
     }

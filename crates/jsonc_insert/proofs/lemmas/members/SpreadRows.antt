@@ -1,5 +1,5 @@
 -- A property that has come into an object, which was put on several lines before.
-use Rattle.std.proofs.Common.{◌≡◌, ◌<◌, ◌≤◌, ◌-◌, ◌+◌, false, ℕ, true, List, [], ◌∷◌, ◌++◌, length, slice_index, Some, refl, sym, ap, subst, ◌∙◌, arith}
+use Rattle.std.proofs.Common.{◌≡◌, ◌<◌, ◌≤◌, ◌-◌, ◌+◌, false, ℕ, true, List, [], ◌∷◌, ◌++◌, length, slice_get, slice_index, None, Some, refl, sym, ap, subst, ◌∙◌, arith}
 use Rattle.std.specs.List.{splice}
 use Rattle.std.proofs.lemmas.List.{drop_all, drop_more}
 use Rattle.jsonc_text.specs.Plain.{Plain}
@@ -7,7 +7,9 @@ use Rattle.jsonc_tree.specs.Building.{Keeps}
 use Rattle.jsonc_tree.specs.Changes.{CanJoin, Splices}
 use Rattle.jsonc_tree.specs.Content.{is_container}
 use Rattle.jsonc_tree.specs.Tree.{Node, children_at, is_container_at, IsTree}
+use Rattle.jsonc_tree.specs.Siblings.{CanFill, Fills, IsGap}
 use Rattle.jsonc_tree.proofs.RowSteps.{RowBecomes-splice}
+use Rattle.jsonc_tree.proofs.Stretches.{CanJoin-gone, Splices-more}
 use Rattle.jsonc_edit.specs.Put.{Extends}
 use Rattle.jsonc_edit.specs.multiline.Lines.{lines_for, spread_row}
 use Rattle.jsonc_edit.specs.multiline.Multiline.{has_line_end}
@@ -109,3 +111,26 @@ put_kept old new tree c i name v m brackets ended e = record {
 pub mid_holds : (old mid : List Node) (c : ℕ) (row : List ℕ) (w : WasSpread old mid c row) → is_container_at mid c ≡ true
 mid_holds old mid c row w =
     ap is_container (w.later.content c (spread_there old w.spread w.tree c w.there w.is)) ∙ spread_holds old w.spread w.tree c w.there w.is w.holds
+
+-- the row of an object that was put on several lines leaves, and the row that it had comes
+module _ (old mid : List Node) (c : ℕ) (row : List ℕ) (tm : IsTree mid) (w : WasSpread old mid c row) where
+  pub mid_there : c < length mid
+  mid_there = omega (arith, spread_there old w.spread w.tree c w.there w.is, w.later.len)
+
+  module _ (bare : List Node) (gone : Splices mid bare c 0 (length (children_at mid c)) []) where
+    pub bare_there : c < length bare
+    bare_there = omega (arith, mid_there, gone.len)
+
+    bare_row : children_at bare c ≡ []
+    bare_row = gone.children ∙ drop_all (length (children_at mid c)) (children_at mid c) (omega arith)
+
+    pub bare_gap : IsGap bare c 0 None None
+    bare_gap = record { inside = omega arith; front = refl; back = sym (ap (λ l. slice_get l 0) bare_row) }
+
+    pub comes_back : CanFill bare c None None row
+    comes_back = (0, bare_gap, CanJoin-gone mid bare c 0 (length (children_at mid c)) row gone (row_joins old w.spread w.tree c w.there w.is mid tm w.later w.holds (length (children_at mid c)) row refl w.had))
+
+    pub came_back : (new : List Node) → IsTree new → Fills bare new c None None row → Keeps (length old) old new
+    came_back new tn fills =
+        row_again old w.spread w.tree c w.there w.is mid tm w.later w.holds (length (children_at mid c)) row refl w.had new tn
+        (Splices-more mid bare new c 0 (length (children_at mid c)) 0 [] row (omega arith) (omega arith) (omega arith) gone (fills 0 bare_gap))
