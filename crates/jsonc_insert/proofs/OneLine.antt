@@ -8,6 +8,7 @@ use Rattle.jsonc_tree.specs.Tree.{Node, children_at}
 use Rattle.jsonc_tree.specs.declared.node.CstNewlineKind.{CstNewlineKind}
 use Rattle.jsonc_layout.specs.from_input.Laid.{closed, holds_filled, is_filled, laid, laid_items, leaf_then, on_one_line, spread}
 use Rattle.jsonc_layout.specs.from_input.Layout.{deeper, Layout}
+use Rattle.jsonc_edit.proofs.OneLine.{laid_alike}
 use Rattle.jsonc_insert.specs.Inserted.{laid_entry, plan_of, NodesMade}
 use Rattle.jsonc_insert.specs.Made.{comma_leaf, gap_leaves}
 use Rattle.jsonc_insert.specs.Neighbours.{IsBeside, IsTold, SameGaps}
@@ -21,39 +22,6 @@ use Rattle.jsonc_insert.specs.declared.plan.Plan.{Plan}
 either_off : (a b : Bool) → (a || b) ≡ false → (a ≡ false) × (b ≡ false)
 either_off true b e = absurd (false≢true (sym e))
 either_off false b e = (refl, e)
-
--- a value on one line is laid out alike by all layouts
-module _ (l k : Layout) where
-  single_alike : (v : Plain) → is_filled v ≡ false → laid l v ≡ laid k v
-  single_alike Plain.null e = refl
-  single_alike (Plain.boolean b) e = refl
-  single_alike (Plain.number s) e = refl
-  single_alike (Plain.string s) e = refl
-  single_alike (Plain.array no_items) e = refl
-  single_alike (Plain.array (item v vs)) e = absurd (false≢true (sym e))
-  single_alike (Plain.object no_members) e = refl
-  single_alike (Plain.object (member name v ms)) e = absurd (false≢true (sym e))
-
-  items_alike : (vs : Items) → holds_filled vs ≡ false → laid_items l vs ≡ laid_items k vs
-  items_alike no_items e = refl
-  items_alike (item v vs) e =
-      let parts = either_off (is_filled v) (holds_filled vs) e in
-      ap (λ t. t ∷ laid_items l vs) (single_alike v parts.0) ∙ ap (λ ts. laid k v ∷ ts) (items_alike vs parts.1)
-
-  array_on_line : (m : Layout) (vs : Items) → holds_filled vs ≡ false → laid m (Plain.array vs) ≡ record { content = content.array; below = leaf_then (token 0x5B) (on_one_line (laid_items m vs) (closed 0x5D)) }
-  array_on_line m vs e = ap (λ b. record { content = content.array; below = leaf_then (token 0x5B) (cond b (spread m (laid_items (deeper m) vs) (closed 0x5D)) (on_one_line (laid_items m vs) (closed 0x5D))) }) e
-
-  pub laid_alike : (v : Plain) → is_spread v ≡ false → laid l v ≡ laid k v
-  laid_alike Plain.null e = refl
-  laid_alike (Plain.boolean b) e = refl
-  laid_alike (Plain.number s) e = refl
-  laid_alike (Plain.string s) e = refl
-  laid_alike (Plain.array vs) e =
-      array_on_line l vs e
-      ∙ ap (λ ts. record { content = content.array; below = leaf_then (token 0x5B) (on_one_line ts (closed 0x5D)) }) (items_alike vs e)
-      ∙ sym (array_on_line k vs e)
-  laid_alike (Plain.object no_members) e = refl
-  laid_alike (Plain.object (member name v ms)) e = absurd (false≢true (sym e))
 
 -- no line ends beside what is planned on one line
 abbrev pub ends_line : Gap → Bool

@@ -9,6 +9,7 @@ use Rattle.jsonc_layout.specs.lines.Indents.{IndentTexts, indents_at}
 use Rattle.jsonc_layout.specs.from_input.Laid.{holds_filled}
 use Rattle.jsonc_layout.specs.from_input.Layout.{Layout}
 use Rattle.jsonc_insert.specs.Planned.{elements}
+pub use Rattle.jsonc_edit.specs.Reading.{is_spread}
 
 -- the indents of what stands in a container: those at its first element, or one level deeper than the container where there is none
 abbrev pub one_deeper : IndentTexts → IndentTexts
@@ -34,12 +35,6 @@ layout_inside ns c =
       trailing_commas = uses_trailing_commas_at ns c;
       newline = newline_kind_at ns c;
     }
-
--- a value that is laid out on several lines
-abbrev pub is_spread : Plain → Bool
-is_spread (Plain.array vs) = holds_filled vs
-is_spread (Plain.object (member name v ms)) = true
-is_spread v = false
 
 -- a property comes on a line of its own; so does a value, where the row has a line's end or the value is laid out on several lines
 abbrev pub on_several_lines : List Node → List ℕ → Option (List ℕ) → Plain → Bool

@@ -5,25 +5,15 @@ ghost use Rattle.jsonc_tree.specs.Tree.{children_at};
 ghost use Rattle.jsonc_layout.specs.input.Views.{plain};
 ghost use Rattle.jsonc_layout.specs.lines.IndentViews.{texts_of};
 ghost use Rattle.jsonc_layout.specs.from_input.Layout.{layout_of};
-ghost use Rattle.jsonc_insert.specs.Settings.{indents_inside, is_spread, layout_inside, on_several_lines, one_deeper, outer_indent};
+ghost use Rattle.jsonc_insert.specs.Settings.{indents_inside, layout_inside, on_several_lines, one_deeper, outer_indent};
 
-use jsonc_layout::from_input::{Layout, holds_filled, is_filled};
+use jsonc_edit::is_spread;
+use jsonc_layout::from_input::Layout;
 use jsonc_layout::input::CstInputValue;
 use jsonc_layout::lines::{Indents, indents_at, newline_kind_at, uses_trailing_commas};
 use jsonc_layout::nodes::element_at;
 use jsonc_tree::Tree;
 use std::alloc::{AllocError, Allocator};
-
-// Whether a value is laid out on several lines.
-fn is_spread<A: Allocator>(value: &CstInputValue<A>) -> bool
-    ensures { result ≡ is_spread (plain value.now) }
-{
-    match value {
-        CstInputValue::Array(elements) => holds_filled(elements.as_slice()),
-        CstInputValue::Object(_) => is_filled(value),
-        _ => false,
-    }
-}
 
 /// Whether a value, or a property of a name, comes on a line of its own into a container.
 pub(crate) fn on_several_lines<A: Allocator>(
