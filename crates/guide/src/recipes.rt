@@ -67,7 +67,7 @@ pub(crate) fn remove_font<A: Allocator + Copy>(doc: &mut CstRootNode<A>) -> Resu
     }
 }
 
-/// Removes a property with the comments on the lines directly above it.
+/// Removes a property with the comments that belong to it.
 pub(crate) fn remove_with_comments<A: Allocator + Copy>(
     doc: &mut CstRootNode<A>,
 ) -> Result<(), EditError> {
@@ -77,20 +77,7 @@ pub(crate) fn remove_with_comments<A: Allocator + Copy>(
     let Some(property) = object.get(doc, "fontSize")? else {
         return Ok(());
     };
-    let mut comments = Vec::new(*doc.allocator());
-    let mut whole = 0; // so many of them have their lines for themselves
-    for node in property.previous_siblings(doc) {
-        if let Some(comment) = node.as_comment() {
-            let Ok(()) = comments.push(comment) else {
-                return Err(EditError::OutOfMemory);
-            };
-        } else if node.is_newline() {
-            whole = comments.len();
-        } else if !node.is_whitespace() {
-            break;
-        }
-    }
-    for comment in comments.iter().take(whole) {
+    for comment in &doc.comments_of(property.node())? {
         if doc.holds(comment.node()) {
             comment.remove(doc)?;
         }

@@ -1,3 +1,4 @@
 pub mod sorting
 pub mod typed
 pub mod objects
+pub mod comments

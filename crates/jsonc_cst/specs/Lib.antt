@@ -11,3 +11,4 @@ pub mod Ranges
 pub mod Paths
 pub mod RepeatedNames
 pub mod Descendants
+pub mod EntryComments

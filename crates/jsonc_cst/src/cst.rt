@@ -21,6 +21,7 @@ ghost use Rattle.jsonc_cst.specs.Document.{printed_of, tree_of, HasNoDeeperValue
 ghost use Rattle.jsonc_cst.specs.Tree.{NodesAreTree};
 
 mod access;
+mod comments;
 mod descendants;
 mod elements;
 pub mod input;

@@ -15,6 +15,7 @@ ghost use Rattle.jsonc_cst.specs.declared.cst.node.CstObject.{CstObject};
 ghost use Rattle.jsonc_cst.specs.declared.cst.node.CstObjectProp.{CstObjectProp};
 ghost use Rattle.jsonc_cst.specs.Descendants.{AreAllBelow};
 ghost use Rattle.jsonc_cst.specs.Document.{nodes_of, HasNode};
+ghost use Rattle.jsonc_cst.specs.EntryComments.{MoveTheirComments};
 ghost use Rattle.jsonc_cst.specs.Nodes.{number_of, object_prop_node};
 ghost use Rattle.jsonc_cst.specs.Readings.{descendants_of};
 ghost use Rattle.jsonc_cst.specs.Values.{GivesTheValue};
@@ -44,6 +45,12 @@ pub fn documents_give_their_value<A: Allocator>()
 /// above, each once, and no other. In what order they come says `in_order`, by which the tree is walked.
 pub fn descendants_are_those_below<A: Allocator>()
     ensures { (d : CstRootNode A) (node : CstNode) → HasNode d node → AreAllBelow d node (descendants_of d node) }
+{}
+
+/// The comments of an entry are those that move with it: of an array or object that is sorted with the comments above
+/// blank lines kept, each entry, as the sort reads it, has its own comments in what goes with it, and no others.
+pub fn entries_move_their_comments<A: Allocator>()
+    ensures { (d : CstRootNode A) (node : CstNode) → MoveTheirComments d node }
 {}
 
 /// What typed calls say is what lists of calls are made of: from the clause that each has of the nodes, word

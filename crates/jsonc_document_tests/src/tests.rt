@@ -1,6 +1,7 @@
 //! The tests, and what they share.
 
 mod edits;
+mod entry_comments;
 mod inputs;
 mod named_values;
 mod node_edits;

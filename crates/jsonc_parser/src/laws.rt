@@ -46,7 +46,10 @@ pub use crate::paths::laws::{
     worked_equal_names,
 };
 pub use jsonc_ast::to_ast::laws::{faults_are_of_no_document, one_reading, reading_to_the_end};
-pub use jsonc_cst::laws::{documents_give_their_value, typed_calls_are_calls};
+pub use jsonc_cst::laws::{
+    descendants_are_those_below, documents_give_their_value, entries_move_their_comments,
+    typed_calls_are_calls,
+};
 pub use jsonc_cst::sorted::laws::{
     blank_lines_part_groups, groups_keep_their_places, second_sorts_by_key_change_no_byte,
     second_sorts_change_no_byte,

@@ -52,6 +52,8 @@ pub enum Call {
     Lint,
     /// `repeated_names` of the document's object, which is parsed once.
     Repeated,
+    /// `get` of the last name of the document's object, which is parsed once.
+    Last,
 }
 
 impl Call {
@@ -75,6 +77,7 @@ impl Call {
             "removed" => Some(Call::Removed),
             "lint" => Some(Call::Lint),
             "repeated" => Some(Call::Repeated),
+            "last" => Some(Call::Last),
             _ => None,
         }
     }
@@ -93,6 +96,7 @@ impl Call {
             Call::Inserted => inserted(alloc, text, count),
             Call::Removed => removed(alloc, text, count),
             Call::Repeated => repeated(alloc, text, count),
+            Call::Last => last(alloc, text, count),
             _ => self.each(alloc, text, count),
         }
     }
@@ -115,7 +119,8 @@ impl Call {
             | Call::Appended
             | Call::Inserted
             | Call::Removed
-            | Call::Repeated => Ok(0),
+            | Call::Repeated
+            | Call::Last => Ok(0),
             Call::Scan => scan(alloc, text),
             Call::Check => checked(alloc, text),
             Call::Ast => ast(alloc, text),
@@ -289,6 +294,45 @@ fn repeated(alloc: Global, text: &str, count: u64) -> Result<usize, Fault> {
     let mut sum = 0usize;
     for _ in 0..count {
         sum = sum.saturating_add(repeated_in(&document, object)?);
+    }
+    Ok(sum)
+}
+
+/// The name of the last property of an object.
+fn last_name(document: &CstRootNode<Global>, object: CstObject) -> Result<String, Fault>
+    requires { HasNode document.now (object_node object) }
+{
+    let properties = match object.properties(document) {
+        Ok(properties) => properties,
+        Err(error) => return Err(Fault::Edit(error)),
+    };
+    let Some(property) = properties.last() else {
+        return Err(Fault::NoSetting);
+    };
+    if !document.holds(property.node()) {
+        return Err(Fault::NoSetting);
+    }
+    match property.decoded_name(document) {
+        Ok(Some(name)) => Ok(name),
+        Ok(None) => Err(Fault::NoSetting),
+        Err(_) => Err(Fault::Edit(EditError::OutOfMemory)),
+    }
+}
+
+/// How often the last property of one document's object was found by its name.
+fn last(alloc: Global, text: &str, count: u64) -> Result<usize, Fault> {
+    let document = parsed(alloc, text)?;
+    let Some(object) = document.object_value() else {
+        return Err(Fault::NotObject);
+    };
+    let name = last_name(&document, object)?;
+    let mut sum = 0usize;
+    for _ in 0..count {
+        match object.get(&document, name.as_str()) {
+            Ok(Some(_)) => sum = sum.saturating_add(1),
+            Ok(None) => return Err(Fault::NoSetting),
+            Err(error) => return Err(Fault::Edit(error)),
+        }
     }
     Ok(sum)
 }

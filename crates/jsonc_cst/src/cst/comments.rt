@@ -1,0 +1,206 @@
+//! The comments that belong to an entry.
+
+ghost use Rattle.std.specs.Prelude.{◌≡◌, ◌≤◌, ◌<◌, drop, length, not, IfErr, IfOk, IsTrue};
+ghost use Rattle.std.specs.List.{All, take_while};
+ghost use Rattle.jsonc_tree.specs.Tree.{content_at};
+ghost use Rattle.jsonc_layout.specs.nodes.Kinds.{is_element_at};
+ghost use Rattle.jsonc_layout.specs.nodes.Siblings.{siblings_after, siblings_before};
+ghost use Rattle.jsonc_sort.specs.Parts.{comments_on_line, tail_length, through_comma};
+ghost use Rattle.jsonc_cst.specs.Document.{HasNode};
+ghost use Rattle.jsonc_cst.specs.EntryComments.{comments_around, comments_at, comments_of_entry, is_entry_at};
+ghost use Rattle.jsonc_cst.specs.EntryComments.{own_lead, tail_of};
+ghost use Rattle.jsonc_cst.specs.Nodes.{comment_node};
+
+use super::layout::comments_under;
+use super::node::{CstComment, CstNode};
+use super::{CstRootNode, EditError};
+use jsonc_edit::multiline::has_brackets;
+use jsonc_layout::lines::is_array_or_object;
+use jsonc_layout::nodes::{
+    is_comma, is_comment, is_element, is_newline, is_whitespace, next_element, next_siblings,
+    previous_element, previous_siblings,
+};
+use jsonc_layout::rows::{all_inline_trivia, has_newline, last_spaces, line_length};
+use jsonc_tree::Tree;
+use std::alloc::{AllocError, Allocator};
+
+// How many nodes behind an entry it is through its comma, if there is one.
+fn through_comma<A: Allocator>(tree: &Tree<A>, gap: &[usize]) -> usize
+    ensures count { result ≡ through_comma (content_at tree.now.nodes) gap.now }
+    ensures within { result ≤ length gap.now }
+{
+    for (place, node) in gap.iter().enumerate() {
+        if is_comma(tree, *node) {
+            return place + 1;
+        }
+    }
+    0
+}
+
+// How many nodes it is through the last comment of a line on which nothing else stands.
+fn comments_on_line<A: Allocator>(tree: &Tree<A>, last: bool, row: &[usize]) -> usize
+    ensures count { result ≡ comments_on_line (content_at tree.now.nodes) last row.now }
+    ensures within { result ≤ length row.now }
+{
+    let line = &row[..line_length(tree, row)];
+    if (last || has_newline(tree, row)) && all_inline_trivia(tree, line) {
+        return line.len() - last_spaces(tree, line);
+    }
+    0
+}
+
+// How many nodes behind an entry, which is the last or not, belong to it.
+fn tail_length<A: Allocator>(tree: &Tree<A>, last: bool, gap: &[usize]) -> usize
+    ensures count { result ≡ tail_length (content_at tree.now.nodes) last gap.now }
+    ensures within { result ≤ length gap.now }
+{
+    let through = through_comma(tree, gap);
+    through + comments_on_line(tree, last, &gap[through..])
+}
+
+// Where what belongs to an entry begins in what stands before it.
+fn own_lead<A: Allocator>(tree: &Tree<A>, lead: &[usize]) -> usize
+    ensures begins { drop result lead.now ≡ own_lead (content_at tree.now.nodes) lead.now }
+    ensures within { result ≤ length lead.now }
+{
+    let mut start = 0;
+    let mut ended = false;
+    let mut place = lead.len();
+    while place > 0 {
+        let node = lead[place - 1];
+        let ends = is_newline(tree, node);
+        if ends & ended {
+            return place;
+        }
+        if ends {
+            start = place;
+        }
+        ended = ends | (ended & is_whitespace(tree, node));
+        place -= 1;
+    }
+    start
+}
+
+// The comments of an entry, by what stands before it, and what is between it and what comes next.
+fn comments_around<A: Allocator>(
+    alloc: A,
+    tree: &Tree<A>,
+    lead: &[usize],
+    last: bool,
+    gap: &[usize],
+) -> Result<Vec<usize, A>, AllocError>
+    ensures { IfOk result (λ v. v.items
+        ≡ comments_around (content_at tree.now.nodes) lead.now (tail_of (content_at tree.now.nodes) last gap.now)) }
+{
+    let own = &lead[own_lead(tree, lead)..];
+    let tail = &gap[..tail_length(tree, last, gap)];
+    own.iter()
+        .chain(tail.iter())
+        .copied()
+        .filter(|node| is_comment(tree, *node))
+        .collect(alloc)
+}
+
+// The nodes between an entry and the one before it, nearest first; where it is the first, the bracket is the last of them.
+fn gap_before<A: Allocator>(
+    alloc: A,
+    tree: &Tree<A>,
+    node: usize,
+) -> Result<Vec<usize, A>, AllocError>
+    requires { node < length tree.now.nodes }
+    ensures { IfOk result (λ v. v.items
+        ≡ take_while (λ m. not (is_element_at tree.now.nodes m)) (siblings_before tree.now.nodes node)) }
+{
+    let mut gap = Vec::new(alloc);
+    for sibling in previous_siblings(tree, node) {
+        if is_element(tree, sibling) {
+            return Ok(gap);
+        }
+        gap.push(sibling)?;
+    }
+    Ok(gap)
+}
+
+// The nodes between an entry and the next one; where it is the last, the bracket is the last of them.
+fn gap_behind<A: Allocator>(
+    alloc: A,
+    tree: &Tree<A>,
+    node: usize,
+) -> Result<Vec<usize, A>, AllocError>
+    requires { node < length tree.now.nodes }
+    ensures { IfOk result (λ v. v.items
+        ≡ take_while (λ m. not (is_element_at tree.now.nodes m)) (siblings_after tree.now.nodes node)) }
+{
+    let mut gap = Vec::new(alloc);
+    for sibling in next_siblings(tree, node) {
+        if is_element(tree, sibling) {
+            return Ok(gap);
+        }
+        gap.push(sibling)?;
+    }
+    Ok(gap)
+}
+
+// Whether a node is an entry: an element between the brackets of an array or object.
+fn is_entry<A: Allocator>(tree: &Tree<A>, node: usize) -> bool
+    requires { node < length tree.now.nodes }
+    ensures { result ≡ is_entry_at tree.now.nodes node }
+{
+    match tree.parent(node) {
+        Some(container) => {
+            is_element(tree, node)
+                && is_array_or_object(tree.kind(container))
+                && has_brackets(tree, container)
+        }
+        None => false,
+    }
+}
+
+// The comments of an entry.
+fn comments_of<A: Allocator + Copy>(
+    alloc: A,
+    tree: &Tree<A>,
+    node: usize,
+) -> Result<Vec<usize, A>, AllocError>
+    requires in_tree { node < length tree.now.nodes }
+    requires entry { IsTrue (is_entry_at tree.now.nodes node) }
+    ensures { IfOk result (λ v. v.items ≡ comments_at tree.now.nodes node) }
+{
+    let mut before = gap_before(alloc, tree, node)?;
+    before.reverse();
+    let behind = gap_behind(alloc, tree, node)?;
+    let last = next_element(tree, node).is_none();
+    let from = match previous_element(tree, node) {
+        Some(_) => tail_length(tree, false, &before),
+        None => 1,
+    };
+    let upto = if last { behind.len() - 1 } else { behind.len() };
+    comments_around(alloc, tree, &before[from..], last, &behind[..upto])
+}
+
+impl<A: Allocator + Copy> CstRootNode<A> {
+    /// The comments that belong to an entry, an element of an array or a property of an object, as they are printed.
+    ///
+    /// Before it they are those below the last blank line, but none on the line of the entry or bracket before it if
+    /// a line ends in between. Then come those up to its comma, and those behind it if nothing else follows on that
+    /// line. They move with it in a sort that keeps those above blank lines. None of another node, and where a
+    /// bracket is missing. In `[1, // one` and, on the next lines, `// two` and `2]` the 2 has `// two`.
+    pub fn comments_of(&self, node: CstNode) -> Result<Vec<CstComment, A>, EditError>
+        requires { HasNode self.now node }
+        ensures comments { IfOk result (λ v. v.items ≡ comments_of_entry self.now node) }
+        ensures in_document { IfOk result (λ v. All (λ c. HasNode self.now (comment_node c)) v.items) }
+        ensures memory { IfErr result (λ e. e ≡ EditError.OutOfMemory) }
+    {
+        let number = node.number();
+        if !is_entry(&self.tree, number) {
+            return Ok(Vec::new(self.alloc));
+        }
+        let Ok(numbers) = comments_of(self.alloc, &self.tree, number) else {
+            return Err(EditError::OutOfMemory);
+        };
+        let Ok(comments) = comments_under(self.alloc, &numbers) else {
+            return Err(EditError::OutOfMemory);
+        };
+        Ok(comments)
+    }
+}

@@ -1,0 +1,134 @@
+//! The comments that belong to entries, and the memory that they want.
+ghost use Rattle.jsonc_cst.specs.Document.{HasNode};
+
+use crate::tests::reading::{asked_by, child_at, read};
+use failing_alloc::Refusing;
+use failing_alloc::in_turn::answers_in_turn;
+use failing_alloc::outcome::Outcome;
+use jsonc_parser::cst::{CstComment, CstNode, CstRootNode, ParentNode, TypedNode};
+use std::alloc::{Allocator, Global};
+use std::test::Fail;
+
+/// Texts of two entries, and the comments of each, with a bar behind each comment.
+static ROWS: [(&str, [&str; 2]); 8] = [
+    (
+        "{\n  // all\n\n  // on b\n  \"b\": 1, // one\n  \"a\": 2\n}",
+        ["// on b|// one|", ""],
+    ),
+    ("[1, // one\n// two\n2]", ["// one|", "// two|"]),
+    (
+        "{\"w\": 3 /* a */\n/* b */, /* c */ // d\n\"h\": 2}",
+        ["/* a */|/* b */|/* c */|// d|", ""],
+    ),
+    ("[1, /* x */ 2 // c\n]", ["", "/* x */|// c|"]),
+    (
+        "[// head\n  1 /* end */, /* x */\n2]",
+        ["/* end */|/* x */|", ""],
+    ),
+    (
+        "[1 /* a */, /* b */ 2 /* c */]",
+        ["/* a */|", "/* b */|/* c */|"],
+    ),
+    ("[1,\n// up\n\n// low\n\n2\n// last\n]", ["", ""]),
+    (
+        "[/* a */ /* b */\n/* c */ /* d */ 1\n, 2 /* e */ /* f */, // g\n]",
+        ["/* c */|/* d */|", "/* e */|/* f */|// g|"],
+    ),
+];
+
+/// An object with a comment before its property, whose value has one before it and one behind it.
+const PROPERTY: &str = "{// c\n\"a\": /* d */1 /* e */}";
+
+/// Whether these are comments with these texts, each with a bar behind it.
+fn are_comments<A: Allocator>(doc: &CstRootNode<A>, comments: &[CstComment], wanted: &str) -> bool {
+    let mut rest = wanted.as_bytes();
+    for comment in comments {
+        if !doc.holds(comment.node()) {
+            return false;
+        }
+        let Some(bar) = rest.strip_prefix(comment.raw_value(doc).as_bytes()) else {
+            return false;
+        };
+        let Some(next) = bar.strip_prefix(b"|".as_slice()) else {
+            return false;
+        };
+        rest = next;
+    }
+    rest.is_empty()
+}
+
+/// Whether these are the comments of a node, or the memory for them was wanted.
+fn has_comments<A: Allocator + Copy>(doc: &CstRootNode<A>, node: CstNode, wanted: &str) -> Outcome
+    requires { HasNode doc.now node }
+{
+    match doc.comments_of(node) {
+        Ok(comments) => Outcome::of(are_comments(doc, &comments, wanted)),
+        Err(error) => Outcome::from(error),
+    }
+}
+
+/// The comments of both entries of a document.
+fn entries_told<A: Allocator + Copy>(doc: &CstRootNode<A>, wanted: &[&str; 2]) -> Outcome {
+    let Some(value) = doc.value() else {
+        return Outcome::Other;
+    };
+    let entries = match value.children_exclude_trivia_and_tokens(doc) {
+        Ok(entries) => entries,
+        Err(error) => return Outcome::from(error),
+    };
+    match entries.as_slice() {
+        [first, second] if doc.holds(*first) && doc.holds(*second) => {
+            has_comments(doc, *first, wanted[0]).then(has_comments(doc, *second, wanted[1]))
+        }
+        _ => Outcome::Other,
+    }
+}
+
+/// The comments of both entries of a text.
+fn told<A: Allocator + Copy>(alloc: A, text: &str, wanted: &[&str; 2]) -> Outcome {
+    match read(alloc, text) {
+        Ok(doc) => entries_told(&doc, wanted),
+        Err(outcome) => outcome,
+    }
+}
+
+/// The root, the document's value, its first bracket and a comment are no entries, nor is the value of a property.
+fn others_have_none<A: Allocator + Copy>(doc: &CstRootNode<A>) -> Outcome {
+    let (Some(object), Some(bracket), Some(comment), Some(property)) = (
+        doc.value(),
+        child_at(doc, 0),
+        child_at(doc, 1),
+        child_at(doc, 3),
+    ) else {
+        return Outcome::Other;
+    };
+    let Some(value) = property.child_at_index(doc, 4) else {
+        return Outcome::Other;
+    };
+    has_comments(doc, object, "")
+        .then(has_comments(doc, bracket, ""))
+        .then(has_comments(doc, comment, ""))
+        .then(has_comments(doc, value, ""))
+        .then(has_comments(doc, CstNode::from(doc.root()), ""))
+}
+
+#[test]
+fn comments_of_entries_are_told_in_turn(rt: HostRuntime) -> Result<(), Fail> {
+    for (text, wanted) in &ROWS {
+        assert!(rt; told::<Global>(rt.alloc(), text, wanted) == Outcome::Answered);
+        assert!(rt; answers_in_turn(rt.alloc(), |heap| told(heap, text, wanted)));
+    }
+    Ok(())
+}
+
+#[test]
+fn other_nodes_have_none_without_memory(rt: HostRuntime) {
+    let asked = asked_by(rt.alloc(), PROPERTY);
+    let heap = Refusing::after(rt.alloc(), asked);
+    let outcome = match read(&heap, PROPERTY) {
+        Ok(doc) => others_have_none(&doc),
+        Err(outcome) => outcome,
+    };
+    assert!(rt; outcome == Outcome::Answered);
+    assert_eq!(rt; heap.asked(), asked);
+}
