@@ -36,9 +36,6 @@ module _ (ns : List Node) (t : IsTree ns) (c n : ℕ) where
   pub named : is_in n (children_at ns c) ≡ true → parent_at ns n ≡ Some c
   named e = let w = in_where n (children_at ns c) e in ap (parent_at ns) (sym w.2) ∙ t.named c w.0 w.1
 
-  pub standing_in : parent_at ns n ≡ Some c → is_in n (children_at ns c) ≡ true
-  standing_in said = ap (λ m. is_in m (children_at ns c)) (sym (t.found n c said)) ∙ in_at (children_at ns c) (place_at ns n) (t.within n c said)
-
   pub there_in : is_in n (children_at ns c) ≡ true → n < length ns
   there_in e = let w = in_where n (children_at ns c) e in subst (λ m. m < length ns) w.2 (t.in_tree c w.0 w.1)
 

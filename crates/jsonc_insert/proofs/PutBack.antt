@@ -84,16 +84,6 @@ module _ {A : Type 0} (ns : List Node) (tree : IsTree ns) (c : ℕ) (s : Stretch
       subst (λ k. Splices ns new c k s.to []) (ap (λ l. place_at ns (slice_index l 0)) same ∙ from_is some)
       (subst (λ k. Splices ns new c (place_at ns (slice_index given 0)) k []) (ap (λ l. place_at ns (slice_index l (length l - 1)) + 1) same ∙ to_is some) out)
 
-  pub stretch_given : (given : List ℕ) → given ≡ nodes → (length given == 0) ≡ false → IsStretch ns c (slice_index given 0) (slice_index given (length given - 1))
-  stretch_given given same e = subst (λ l. IsStretch ns c (slice_index l 0) (slice_index l (length l - 1))) (sym same) (is_stretch (some_length (length nodes) (ap (λ l. length l == 0) (sym same) ∙ e)))
-
-  pub removes_none : (given : List ℕ) → given ≡ nodes → (length given == 0) ≡ true → Splices ns ns c s.from s.to []
-  removes_none given same e = nothing_leaves (none_length (length nodes) (ap (λ l. length l == 0) (sym same) ∙ e))
-
-  -- the child before it stays
-  pub after_said : parent_at ns b.after ≡ Some c
-  after_said = ap (parent_at ns) at.after ∙ tree.named c (s.from - 1) (omega (arith, at.order, at.to))
-
   after_place : place_at ns b.after ≡ s.from - 1
   after_place = ap (place_at ns) at.after ∙ tree.placed c (s.from - 1) (omega (arith, at.order, at.to))
 

@@ -65,9 +65,6 @@ module _ (old now : List Node) (tree : IsTree old) (c : ℕ) (there : c < length
   pub spread_holds : is_container_at old c ≡ true → is_container_at now c ≡ true
   spread_holds holds = ap is_container (s.put.put.content c ∙ s.opens.prepared.keeps.content c there) ∙ holds
 
-  pub spread_brackets : has_brackets now (children_at now c) ≡ true
-  spread_brackets = same_brackets s.lined now (λ n. s.put.put.content n) (children_at now c) ∙ s.opens.brackets
-
   holds_now : is_container_at old c ≡ true → is_container_at s.lined c ≡ true
   holds_now holds = ap is_container (s.opens.prepared.keeps.content c there) ∙ holds
 

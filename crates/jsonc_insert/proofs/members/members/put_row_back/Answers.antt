@@ -19,4 +19,4 @@ insert_between-requires-clause-can g c = comes_back c.requires.0 c.args.tree.now
 pub returns : goal.returns
 returns g c = λ old w.
     came_back old c.args.tree.now.nodes c.args.object c.args.row.now c.args.tree.now.tree w c.clear_row.new.tree.nodes c.clear_row.ensures
-    c.insert_between.new.self.nodes c.insert_between.new.self.tree c.insert_between.ensures
+    c.insert_between.new.self.nodes c.insert_between.new.self.tree c.insert_between.ensures.fills
