@@ -1,8 +1,10 @@
-use Rattle.std.proofs.Common.{Some, chars, ap, sym, subst, ◌∙◌}
+use Rattle.std.proofs.Common.{◌≡◌, IfSome, Some, true, chars, ap, sym, subst, ◌∙◌}
 use Rattle.jsonc_tree.specs.Tree.{content_at}
 use Rattle.jsonc_text.specs.declared.edit.Over.TheVariants.{Replace}
 use Rattle.jsonc_text.specs.declared.edit.Shape.TheVariants.{Array}
+use Rattle.jsonc_edit.specs.set.Shapes.{is_of}
 use Rattle.jsonc_insert.specs.named.Named.{NamedEnsured}
+use Rattle.jsonc_cst.proofs.lemmas.typed.Roots.{array_is}
 use Rattle.jsonc_cst.specs.Nodes.{number_of}
 use Rattle.jsonc_cst.proofs.lemmas.objects.ByName.{named_elsewhere, named_for_memory, named_stays, named_written}
 use Rattle.jsonc_cst.proofs.lemmas.typed.PropertyValues.{held_object}
@@ -15,6 +17,11 @@ pub ensure_property-requires-clause-object : goal.ensure_property-requires-claus
 ensure_property-requires-clause-object g c =
     let old = c.args.doc.now.tree.nodes in
     ap (content_at old) (c.number-number.ensures ∙ ap number_of c.node.ensures) ∙ held_object old c.args.self c.requires
+
+pub array_at-requires : goal.array_at-requires
+array_at-requires g c =
+    let new = c.ensure_property.new.tree.nodes in
+    array_is (content_at new c.in-Ok-Some.array) (subst (λ a. IfSome a (λ m. is_of Array (content_at new m) ≡ true)) c.in-Ok-Some.field-0-is c.in-Ok-Some.ensures.shape)
 
 pub returns-in-Ok-Some : goal.returns-in-Ok-Some
 returns-in-Ok-Some g c =
