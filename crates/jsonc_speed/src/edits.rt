@@ -6,7 +6,7 @@ ghost use Rattle.jsonc_cst.specs.Nodes.{number_lit_node, object_prop_node};
 use crate::documents::{elements, parsed, properties};
 use jsonc_engine::fault::Fault;
 use jsonc_parser::cst::{
-    CstInputValue, CstLeafNode, CstNode, CstNumberLit, CstObjectProp, CstRootNode,
+    CstInputValue, CstLeafNode, CstNode, CstNumberLit, CstObjectProp, CstRootNode, TypedNode,
 };
 use std::alloc::{AllocError, Global};
 
@@ -103,10 +103,10 @@ fn set_one(
     alloc: Global,
     document: &mut CstRootNode<Global>,
     property: CstObjectProp,
-) -> Result<(), Fault>
-    requires { HasNode document.old (object_prop_node property) }
-    ensures { HasNode document.new (object_prop_node property) }
-{
+) -> Result<(), Fault> {
+    if !document.holds(property.node()) {
+        return Err(Fault::NotObject);
+    }
     let value = seven(alloc)?;
     match property.set_value(document, value) {
         Ok(_) => Ok(()),
