@@ -5,8 +5,6 @@
 #![tactic(auto)]
 
 mod call;
-mod documents;
-mod edits;
 
 use call::Call;
 use jsonc_engine::fault::Fault;
