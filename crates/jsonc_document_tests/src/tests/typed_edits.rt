@@ -30,17 +30,13 @@ type Row = (&'static str, TypedEdit, &'static str, &'static str);
 const TWO: &str = "{ \"a\": 1, \"b\": 2 }";
 
 /// The edits that want memory.
-static WANTING: [Row; 18] = [
+static WANTING: [Row; 14] = [
     ("// c", Root(RootEdit::Set), "1", "// c\n1\n"),
     (TWO, At(5, ReplaceProperty), "3", "{ \"a\": 1, \"c\": 3 }"),
     ("// c\n", Root(RootEdit::Set), "1", "// c\n1\n"),
     (TWO, At(2, SetValue), "3", "{ \"a\": 3, \"b\": 2 }"),
     ("", Root(RootEdit::ObjectOrCreate), "", "{}\n"),
-    (TWO, At(2, ObjectOrSet), "", "{ \"a\": {}, \"b\": 2 }"),
-    ("[1] // c", Root(RootEdit::ObjectOrSet), "", "{} // c"),
-    (TWO, At(5, ArrayOrSet), "", "{ \"a\": 1, \"b\": [] }"),
     ("", Root(RootEdit::ArrayOrCreate), "", "[]\n"),
-    ("{} // c", Root(RootEdit::ArrayOrSet), "", "[] // c"),
     ("[/*a*/1/*b*/]", At(2, Replace), "2", "[/*a*/2/*b*/]"),
     ("[1[2]3]", At(2, Replace), "9", "[1 9 3]"),
     ("{a:1\"b\":2}", At(2, ReplaceName), "7", "{a:17:2}"),
@@ -49,6 +45,15 @@ static WANTING: [Row; 18] = [
     ("[1/*c*/2]", At(2, Remove), "", "[1 2]"),
     ("[1[2]3]", At(2, Remove), "", "[1 3]"),
     ("{a:1\"x\":2b:3}", At(2, Remove), "", "{a:1 b:3}"),
+];
+
+/// The edits that write an empty array or object in the place of a value: they want memory only where there
+/// is none left for its nodes.
+static WRITING_EMPTY: [Row; 4] = [
+    (TWO, At(2, ObjectOrSet), "", "{ \"a\": {}, \"b\": 2 }"),
+    ("[1] // c", Root(RootEdit::ObjectOrSet), "", "{} // c"),
+    (TWO, At(5, ArrayOrSet), "", "{ \"a\": 1, \"b\": [] }"),
+    ("{} // c", Root(RootEdit::ArrayOrSet), "", "[] // c"),
 ];
 
 /// The edits that want none, though all further requests are refused.
@@ -131,6 +136,11 @@ fn is_refused(alloc: Global, row: &Row) -> bool {
     }
 }
 
+/// Each request of the edit itself is refused in turn, if there is any.
+fn is_refused_if_asked(alloc: Global, row: &Row) -> bool {
+    refused_in_turn(alloc, |heap| edited(heap, row)).is_some()
+}
+
 /// The edit is made though every request for it would be refused, and there is none.
 fn is_made_unasked(alloc: Global, row: &Row) -> bool {
     let asked = asked_before(alloc, row);
@@ -142,6 +152,19 @@ fn is_made_unasked(alloc: Global, row: &Row) -> bool {
 fn typed_edits_are_refused_in_turn(rt: HostRuntime) -> Result<(), Fail> {
     for row in &WANTING {
         assert!(rt; is_refused(rt.alloc(), row), "{} to {}", row.0, row.3);
+    }
+    Ok(())
+}
+
+#[test]
+fn empty_values_are_written_or_refused(rt: HostRuntime) -> Result<(), Fail> {
+    for row in &WRITING_EMPTY {
+        assert!(rt;
+            is_refused_if_asked(rt.alloc(), row),
+            "{} to {}",
+            row.0,
+            row.3
+        );
     }
     Ok(())
 }
