@@ -19,7 +19,8 @@ pub use kinds::{
     is_token, is_trivia, is_whitespace,
 };
 pub use names::{decoded_name, decoded_value, get};
-pub use property::{first_element_from, lacks_name, name_of, value_of};
+pub(crate) use property::first_element_from;
+pub use property::{lacks_name, name_of, value_of};
 pub use siblings::{
     LineBefore, child_at_index, children_from, line_before, next_sibling, next_siblings,
     previous_sibling, previous_siblings, root_node,

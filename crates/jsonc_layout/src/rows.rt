@@ -2,11 +2,10 @@
 
 ghost use Rattle.std.specs.Prelude.{◌≡◌, ◌≤◌, length, reverse};
 ghost use Rattle.std.specs.List.{list_all, list_any, position_or_len, prefix_len, suffix_len, take_while};
-ghost use Rattle.jsonc_layout.specs.lines.Breadth.{last_element};
 ghost use Rattle.jsonc_layout.specs.nodes.Kinds.{is_inline_trivia_at, is_blank_at, is_newline_at, is_whitespace_at};
 ghost use Rattle.jsonc_layout.specs.nodes.Siblings.{is_no_newline_at};
 
-use crate::nodes::{is_blank, is_element, is_inline_trivia, is_newline, is_whitespace};
+use crate::nodes::{is_blank, is_inline_trivia, is_newline, is_whitespace};
 use jsonc_tree::Tree;
 use std::alloc::Allocator;
 
@@ -17,28 +16,11 @@ pub fn has_newline<A: Allocator>(tree: &Tree<A>, row: &[usize]) -> bool
     row.iter().any(|node| is_newline(tree, *node))
 }
 
-/// Whether whitespace stands in a row.
-pub fn has_whitespace<A: Allocator>(tree: &Tree<A>, row: &[usize]) -> bool
-    ensures { result ≡ list_any (is_whitespace_at tree.now.nodes) row.now }
-{
-    row.iter().any(|node| is_whitespace(tree, *node))
-}
-
 /// Whether nothing but whitespace and comments stands in a row.
 pub fn all_inline_trivia<A: Allocator>(tree: &Tree<A>, row: &[usize]) -> bool
     ensures { result ≡ list_all (is_inline_trivia_at tree.now.nodes) row.now }
 {
     row.iter().all(|node| is_inline_trivia(tree, *node))
-}
-
-/// The last element of a row.
-pub fn last_element<A: Allocator>(tree: &Tree<A>, row: &[usize]) -> Option<usize>
-    ensures element { result ≡ last_element tree.now.nodes row.now }
-{
-    row.iter()
-        .rev()
-        .copied()
-        .find(|node| is_element(tree, *node))
 }
 
 /// How many nodes stand on the line that a row begins with.

@@ -1,8 +1,8 @@
 -- The nodes below a node, level after level.
-use Rattle.std.specs.Prelude.{ℕ, zero, suc, Bool, false, true, not, ◌&&◌, List, [], ◌∷◌, ◌++◌, length, reverse, ◌==◌, ◌||◌, Option, Some, None, is_some, option_and_then, if◌then◌else◌}
+use Rattle.std.specs.Prelude.{ℕ, zero, suc, Bool, false, true, ◌&&◌, List, [], ◌∷◌, ◌++◌, length, reverse, ◌==◌, ◌||◌, Option, Some, None, is_some, option_and_then, if◌then◌else◌}
 use Rattle.std.specs.List.{find, flat_map, list_any}
 use Rattle.jsonc_tree.specs.Content.{Content, newline}
-use Rattle.jsonc_tree.specs.Tree.{Node, content_at, children_at, is_in, parent_at}
+use Rattle.jsonc_tree.specs.Tree.{Node, content_at, children_at}
 use Rattle.jsonc_tree.specs.declared.node.CstNewlineKind.{CstNewlineKind}
 use Rattle.jsonc_tree.specs.declared.node.CstNewlineKind.TheVariants.{LineFeed}
 use Rattle.jsonc_layout.specs.nodes.Kinds.{is_element_at, is_newline_at, is_whitespace_at}
@@ -37,23 +37,14 @@ last_element ns row = find (is_element_at ns) (reverse row)
 abbrev pub is_spaced : List Node → ℕ → Bool
 is_spaced ns n = is_array_or_object (content_at ns n) && (has_whitespace ns n && is_some (last_element ns (children_at ns n)))
 
--- The node is no child of a container that is to have a row, or stands in that row. Where no container is, every node stays.
-abbrev pub is_child : Option ℕ → ℕ → Bool
-is_child None c = false
-is_child (Some p) c = p == c
-
-abbrev pub stays_in : List Node → Option ℕ → List ℕ → ℕ → Bool
-stays_in ns None row n = true
-stays_in ns (Some c) row n = not (is_child (parent_at ns n) c) || is_in n row
-
--- the node is what is looked for: the end of a line that stays, or an array or object with whitespace and an element
-abbrev pub is_sought : List Node → Option ℕ → List ℕ → Sought → ℕ → Bool
-is_sought ns changed row LineEnd n = is_newline_at ns n && stays_in ns changed row n
-is_sought ns changed row SpacedElements n = is_spaced ns n
+-- the node is what is looked for: the end of a line, or an array or object with whitespace and an element
+abbrev pub is_sought : List Node → Sought → ℕ → Bool
+is_sought ns LineEnd n = is_newline_at ns n
+is_sought ns SpacedElements n = is_spaced ns n
 
 -- the first such node, level after level from these nodes down
-abbrev pub first_sought : List Node → Option ℕ → List ℕ → Sought → List ℕ → Option ℕ
-first_sought ns changed row sought start = find (is_sought ns changed row sought) (levels (length ns) ns start)
+abbrev pub first_sought : List Node → Sought → List ℕ → Option ℕ
+first_sought ns sought start = find (is_sought ns sought) (levels (length ns) ns start)
 
 -- how a line ends, LF where nothing tells
 abbrev pub line_end_of : Content → CstNewlineKind
@@ -66,7 +57,7 @@ line_end_at ns (Some n) = line_end_of (content_at ns n)
 
 -- the document's: that of the first line's end, breadth first, or LF
 abbrev pub newline_kind_of : List Node → CstNewlineKind
-newline_kind_of ns = line_end_at ns (first_sought ns None [] LineEnd (0 ∷ []))
+newline_kind_of ns = line_end_at ns (first_sought ns LineEnd (0 ∷ []))
 
 -- the node is the root, or below it
 abbrev pub is_in_document : List Node → ℕ → Bool
@@ -83,4 +74,4 @@ ends_with_comma ns (Some n) = is_some (option_and_then (trailing_comma_at ns) (l
 
 -- the first array or object with whitespace and an element, breadth first, has a comma after its last element
 abbrev pub uses_trailing_commas_at : List Node → ℕ → Bool
-uses_trailing_commas_at ns n = ends_with_comma ns (first_sought ns None [] SpacedElements (n ∷ []))
+uses_trailing_commas_at ns n = ends_with_comma ns (first_sought ns SpacedElements (n ∷ []))

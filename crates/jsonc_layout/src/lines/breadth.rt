@@ -1,10 +1,10 @@
 //! What a walk over the levels of a document tells of its layout.
 ghost use Rattle.std.specs.Prelude.{◌≡◌, ◌<◌, ◌++◌, [], All, IfOk, IfSome, None, length};
 ghost use Rattle.std.specs.List.{find};
-ghost use Rattle.jsonc_tree.specs.Tree.{children_at, is_in};
-ghost use Rattle.jsonc_layout.specs.lines.Breadth.{first_sought, has_whitespace, is_child, is_sought, is_spaced};
+ghost use Rattle.jsonc_tree.specs.Tree.{children_at};
+ghost use Rattle.jsonc_layout.specs.lines.Breadth.{first_sought, has_whitespace, is_sought, is_spaced};
 ghost use Rattle.jsonc_layout.specs.lines.Breadth.{is_in_document, last_element, level_below, newline_kind_at, newline_kind_of};
-ghost use Rattle.jsonc_layout.specs.lines.Breadth.{stays_in, uses_trailing_commas_at};
+ghost use Rattle.jsonc_layout.specs.lines.Breadth.{uses_trailing_commas_at};
 
 use crate::lines::kinds::is_array_or_object;
 use crate::lines::siblings::trailing_comma;
@@ -12,9 +12,9 @@ use crate::nodes::{children_from, first_element_back, is_newline, is_whitespace,
 use jsonc_tree::{CstNewlineKind, Kind, Tree};
 use std::alloc::{AllocError, Allocator};
 
-/// What a walk looks for: the end of a line that stays, or an array or object with whitespace and an element.
+// What a walk looks for: the end of a line, or an array or object with whitespace and an element.
 #[derive(Clone, Copy)]
-pub enum Sought {
+enum Sought {
     LineEnd,
     SpacedElements,
 }
@@ -50,52 +50,17 @@ fn is_spaced<A: Allocator>(tree: &Tree<A>, node: usize) -> bool
     last_child_element(tree, node).is_some()
 }
 
-// Whether a number stands in a row.
-fn is_in(row: &[usize], node: usize) -> bool
-    ensures { result ≡ is_in node row.now }
-{
-    row.iter().any(|other| node == *other)
-}
-
-// Whether a container is this parent.
-fn is_child(parent: Option<usize>, container: usize) -> bool
-    ensures { result ≡ is_child parent container }
-{
-    match parent {
-        Some(parent) => parent == container,
-        None => false,
-    }
-}
-
-// Whether a node stays where the row of a container, if there is one, becomes this.
-fn stays_in<A: Allocator>(
-    tree: &Tree<A>,
-    changed: Option<usize>,
-    row: &[usize],
-    node: usize,
-) -> bool
-    requires { node < length tree.now.nodes }
-    ensures { result ≡ stays_in tree.now.nodes changed row.now node }
-{
-    match changed {
-        Some(container) => !is_child(tree.parent(node), container) || is_in(row, node),
-        None => true,
-    }
-}
-
 // Whether a node is what is looked for.
 fn is_sought<A: Allocator>(
     tree: &Tree<A>,
-    changed: Option<usize>,
-    row: &[usize],
     sought: Sought,
     node: usize,
 ) -> bool
     requires { node < length tree.now.nodes }
-    ensures { result ≡ is_sought tree.now.nodes changed row.now sought node }
+    ensures { result ≡ is_sought tree.now.nodes sought node }
 {
     match sought {
-        Sought::LineEnd => is_newline(tree, node) && stays_in(tree, changed, row, node),
+        Sought::LineEnd => is_newline(tree, node),
         Sought::SpacedElements => is_spaced(tree, node),
     }
 }
@@ -103,17 +68,15 @@ fn is_sought<A: Allocator>(
 // The first of these nodes that is what is looked for.
 fn first_in<A: Allocator>(
     tree: &Tree<A>,
-    changed: Option<usize>,
-    row: &[usize],
     sought: Sought,
     level: &[usize],
 ) -> Option<usize>
     requires in_tree { All (λ m. m < length tree.now.nodes) level.now }
-    ensures first { result ≡ find (is_sought tree.now.nodes changed row.now sought) level.now }
+    ensures first { result ≡ find (is_sought tree.now.nodes sought) level.now }
     ensures in_tree { IfSome result (λ m. m < length tree.now.nodes) }
 {
     for node in level {
-        if is_sought(tree, changed, row, sought, *node) {
+        if is_sought(tree, sought, *node) {
             return Some(*node);
         }
     }
@@ -123,20 +86,18 @@ fn first_in<A: Allocator>(
 // The first child of a node that is what is looked for; where there is none, the children are put behind others.
 fn first_child_in<A: Allocator>(
     tree: &Tree<A>,
-    changed: Option<usize>,
-    row: &[usize],
     sought: Sought,
     node: usize,
     below: &mut Vec<usize, A>,
 ) -> Result<Option<usize>, AllocError>
     requires in_tree { node < length tree.now.nodes }
     ensures first { IfOk result
-        (λ o. o ≡ find (is_sought tree.now.nodes changed row.now sought) (children_at tree.now.nodes node)) }
+        (λ o. o ≡ find (is_sought tree.now.nodes sought) (children_at tree.now.nodes node)) }
     ensures below { IfOk result
         (λ o. o ≡ None → below.new.items ≡ below.old.items ++ children_at tree.now.nodes node) }
 {
     for child in tree.children(node) {
-        if is_sought(tree, changed, row, sought, child) {
+        if is_sought(tree, sought, child) {
             return Ok(Some(child));
         }
         below.push(child)?;
@@ -147,8 +108,6 @@ fn first_child_in<A: Allocator>(
 // The first child of these nodes that is what is looked for; where there is none, a list has all of them.
 fn first_below<A: Allocator>(
     tree: &Tree<A>,
-    changed: Option<usize>,
-    row: &[usize],
     sought: Sought,
     level: &[usize],
     below: &mut Vec<usize, A>,
@@ -156,11 +115,11 @@ fn first_below<A: Allocator>(
     requires in_tree { All (λ m. m < length tree.now.nodes) level.now }
     requires empty { below.old.items ≡ [] }
     ensures first { IfOk result
-        (λ o. o ≡ find (is_sought tree.now.nodes changed row.now sought) (level_below tree.now.nodes level.now)) }
+        (λ o. o ≡ find (is_sought tree.now.nodes sought) (level_below tree.now.nodes level.now)) }
     ensures below { IfOk result (λ o. o ≡ None → below.new.items ≡ level_below tree.now.nodes level.now) }
 {
     for node in level {
-        let found = first_child_in(tree, changed, row, sought, *node, below)?;
+        let found = first_child_in(tree, sought, *node, below)?;
         if found.is_some() {
             return Ok(found);
         }
@@ -168,21 +127,18 @@ fn first_below<A: Allocator>(
     Ok(None)
 }
 
-/// The first node that is what is looked for, level after level from these nodes down, where the children of a
-/// container, if one is named, are to become a row.
-pub fn first_sought<A: Allocator + Copy>(
+// The first node that is what is looked for, level after level from these nodes down.
+fn first_sought<A: Allocator + Copy>(
     alloc: A,
     tree: &Tree<A>,
-    changed: Option<usize>,
-    row: &[usize],
     sought: Sought,
     start: &[usize],
 ) -> Result<Option<usize>, AllocError>
     requires { All (λ m. m < length tree.now.nodes) start.now }
-    ensures first { IfOk result (λ o. o ≡ first_sought tree.now.nodes changed row.now sought start.now) }
+    ensures first { IfOk result (λ o. o ≡ first_sought tree.now.nodes sought start.now) }
     ensures in_tree { IfOk result (λ o. IfSome o (λ m. m < length tree.now.nodes)) }
 {
-    if let Some(node) = first_in(tree, changed, row, sought, start) {
+    if let Some(node) = first_in(tree, sought, start) {
         return Ok(Some(node));
     }
     let mut level = Vec::from_slice(alloc, start)?;
@@ -191,7 +147,7 @@ pub fn first_sought<A: Allocator + Copy>(
             return Ok(None);
         }
         let mut below = Vec::new(alloc);
-        let found = first_below(tree, changed, row, sought, &level, &mut below)?;
+        let found = first_below(tree, sought, &level, &mut below)?;
         if found.is_some() {
             return Ok(found);
         }
@@ -207,7 +163,7 @@ pub fn newline_kind<A: Allocator + Copy>(
 ) -> Result<CstNewlineKind, AllocError>
     ensures kind { IfOk result (λ kind. kind ≡ newline_kind_of tree.now.nodes) }
 {
-    let Some(node) = first_sought(alloc, tree, None, &[], Sought::LineEnd, &[0])? else {
+    let Some(node) = first_sought(alloc, tree, Sought::LineEnd, &[0])? else {
         return Ok(CstNewlineKind::LineFeed);
     };
     match tree.kind(node) {
@@ -216,8 +172,8 @@ pub fn newline_kind<A: Allocator + Copy>(
     }
 }
 
-/// Whether a node is the root or stands below it.
-pub fn is_in_document<A: Allocator>(tree: &Tree<A>, node: usize) -> bool
+// Whether a node is the root or stands below it.
+fn is_in_document<A: Allocator>(tree: &Tree<A>, node: usize) -> bool
     requires { node < length tree.now.nodes }
     ensures { result ≡ is_in_document tree.now.nodes node }
 {
@@ -255,7 +211,7 @@ pub fn uses_trailing_commas<A: Allocator + Copy>(
     requires in_tree { node < length tree.now.nodes }
     ensures uses { IfOk result (λ uses. uses ≡ uses_trailing_commas_at tree.now.nodes node) }
 {
-    let Some(container) = first_sought(alloc, tree, None, &[], Sought::SpacedElements, &[node])?
+    let Some(container) = first_sought(alloc, tree, Sought::SpacedElements, &[node])?
     else {
         return Ok(false);
     };

@@ -50,8 +50,8 @@ fn beyond_properties<A: Allocator>(tree: &Tree<A>, node: usize) -> Option<usize>
     None
 }
 
-/// Of a node and those above it the levels of indent, nearest first.
-pub fn levels_from<A: Allocator>(
+// Of a node and those above it the levels of indent, nearest first.
+fn levels_from<A: Allocator>(
     alloc: A,
     tree: &Tree<A>,
     start: Option<usize>,
@@ -144,8 +144,8 @@ fn followed_by<A: Allocator>(
     Ok(text)
 }
 
-/// The indents so many levels further in than a line with this indent.
-pub fn levels_in<A: Allocator + Copy>(
+// The indents so many levels further in than a line with this indent.
+fn levels_in<A: Allocator + Copy>(
     alloc: A,
     outer: &str,
     count: usize,
@@ -158,8 +158,8 @@ pub fn levels_in<A: Allocator + Copy>(
     Ok(Indents { current, single })
 }
 
-/// The indents that two lines next to one another tell: the one with this indent, and those of the levels above it.
-pub fn told_by<A: Allocator + Copy>(
+// The indents that two lines next to one another tell: the one with this indent, and those of the levels above it.
+fn told_by<A: Allocator + Copy>(
     alloc: A,
     tree: &Tree<A>,
     own: Option<String<A>>,

@@ -17,8 +17,8 @@ fn blank_of<A: Allocator>(kind: &Kind<A>) -> Option<&str>
     }
 }
 
-/// The text of a node that is whitespace. The number may be any: one that names no node has none.
-pub fn blank_at<A: Allocator>(tree: &Tree<A>, node: usize) -> Option<&str>
+// The text of a node that is whitespace. The number may be any: one that names no node has none.
+pub(crate) fn blank_at<A: Allocator>(tree: &Tree<A>, node: usize) -> Option<&str>
     ensures { option_map (λ s. s.now) result ≡ blank_at tree.now.nodes node }
 {
     if node >= tree.len() {

@@ -15,7 +15,7 @@ first_child_in-requires g c = record { in_tree = c.requires.in_tree c.loop-node.
 pub returns-then-is_some-clause-first : goal.returns-then-is_some-clause-first
 returns-then-is_some-clause-first g c =
     let ns = c.args.tree.now.nodes in
-    let p = is_sought ns c.args.changed c.args.row.now c.args.sought in
+    let p = is_sought ns c.args.sought in
     let some = a_number c.in_ok-found.found (sym c.is_some.ensures ∙ c.if-is_some.true) in
     some.1 ∙ sym (found_among p (children_at ns) c.args.level.now c.loop-node.node-index some.0 c.loop-node-test.true c.loop-node.invariant.none (sym c.in_ok-found.ensures.first ∙ some.1))
 
@@ -28,7 +28,7 @@ returns-then-is_some-clause-below g c = λ none.
 pub loop-node-preserved : goal.loop-node-preserved
 loop-node-preserved g c =
     let ns = c.args.tree.now.nodes in
-    let p = is_sought ns c.args.changed c.args.row.now c.args.sought in
+    let p = is_sought ns c.args.sought in
     let none = no_number c.in_ok-found.found (sym c.is_some.ensures ∙ c.if-is_some.false) in
     record {
       below = c.in_ok-found.ensures.below none ∙ ap (λ l. l ++ children_at ns (get_or c.args.level.now c.loop-node.node-index 0)) c.loop-node.invariant.below ∙ sym (one_more (children_at ns) c.args.level.now c.loop-node.node-index c.loop-node-test.true);
@@ -38,7 +38,7 @@ loop-node-preserved g c =
 pub returns-clause-first : goal.returns-clause-first
 returns-clause-first g c =
     let ns = c.args.tree.now.nodes in
-    let p = is_sought ns c.args.changed c.args.row.now c.args.sought in
+    let p = is_sought ns c.args.sought in
     sym (ap (λ l. find p (flat_map (children_at ns) l)) (sym (take_all c.loop-node.node-index c.args.level.now c.loop-node-test.false)) ∙ c.loop-node.invariant.none)
 
 pub returns-clause-below : goal.returns-clause-below

@@ -6,7 +6,7 @@ use Rattle.jsonc_layout.proofs.lines.breadth.first_below.Given as goal
 
 abbrev pub invariant-loop-node : goal.invariant-loop-node
 invariant-loop-node g l =
-    let p = is_sought l.tree.nodes l.changed l.row l.sought in
+    let p = is_sought l.tree.nodes l.sought in
     record {
       below : l.below.items ≡ flat_map (children_at l.tree.nodes) (take l.node-index l.level);
       none : find p (flat_map (children_at l.tree.nodes) (take l.node-index l.level)) ≡ None;

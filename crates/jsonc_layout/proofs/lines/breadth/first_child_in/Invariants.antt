@@ -7,7 +7,7 @@ use Rattle.jsonc_layout.proofs.lines.breadth.first_child_in.Given as goal
 
 abbrev pub invariant-loop-child : goal.invariant-loop-child
 invariant-loop-child g l =
-    let p = is_sought l.tree.nodes l.changed l.row l.sought in
+    let p = is_sought l.tree.nodes l.sought in
     record {
       found : find p (children_at l.tree.nodes l.node) ≡ find p l.child-iterator;
       pushed : l.below.items ++ l.child-iterator ≡ l.fn.below.items ++ children_at l.tree.nodes l.node;

@@ -12,14 +12,14 @@ use Rattle.jsonc_layout.proofs.lines.breadth.first_sought.Goals as goal
 pub returns-in-Some-clause-first : goal.returns-in-Some-clause-first
 returns-in-Some-clause-first g c =
     let ns = c.args.tree.now.nodes in
-    let p = is_sought ns c.args.changed c.args.row.now c.args.sought in
+    let p = is_sought ns c.args.sought in
     let whole : length ns ≡ length ns - 0 = omega arith in
     sym (ap (λ k. find p (levels k ns c.args.start.now)) whole ∙ found_here p ns (length ns) 0 c.args.start.now (omega (arith, c.args.tree.now.tree.first)) c.in-Some.node (sym c.in-Some.ensures.first))
 
 pub loop-depth-init : goal.loop-depth-init
 loop-depth-init g c =
     let ns = c.args.tree.now.nodes in
-    let p = is_sought ns c.args.changed c.args.row.now c.args.sought in
+    let p = is_sought ns c.args.sought in
     let whole : length ns ≡ length ns - 0 = omega arith in
     record {
       in_tree = subst (λ (xs : List ℕ). All (λ m. m < length ns) xs) (sym c.in_ok-level.ensures.items) c.requires;
@@ -30,7 +30,7 @@ loop-depth-init g c =
 pub returns-then-is_empty-clause-first : goal.returns-then-is_empty-clause-first
 returns-then-is_empty-clause-first g c =
     let ns = c.args.tree.now.nodes in
-    let p = is_sought ns c.args.changed c.args.row.now c.args.sought in
+    let p = is_sought ns c.args.sought in
     let empty : c.loop-depth.level.items ≡ [] = nil_from_length c.loop-depth.level.items (omega (arith, c.loop-depth.level.ok.0, eqb-true (vec_len c.loop-depth.level) 0 (sym c.is_empty.ensures ∙ c.if-is_empty.true))) in
     sym (c.loop-depth.invariant.same
     ∙ ap (λ level. find p (levels (length ns - c.loop-depth._depth) ns (flat_map (children_at ns) level))) empty
@@ -42,7 +42,7 @@ first_below-requires-clause-in_tree g c = subst (λ (level : List ℕ). All (λ 
 pub returns-then-is_some-clause-first : goal.returns-then-is_some-clause-first
 returns-then-is_some-clause-first g c =
     let ns = c.args.tree.now.nodes in
-    let p = is_sought ns c.args.changed c.args.row.now c.args.sought in
+    let p = is_sought ns c.args.sought in
     let level : List ℕ = c.loop-depth.level.items in
     let some = a_number c.in_ok-found.found (sym c.is_some.ensures ∙ c.if-is_some.true) in
     let here : find p (flat_map (children_at ns) level) ≡ Some some.0 = ap (λ l. find p (flat_map (children_at ns) l)) (sym c.deref.ensures.value) ∙ sym c.in_ok-found.ensures.first ∙ some.1 in
@@ -51,13 +51,13 @@ returns-then-is_some-clause-first g c =
 pub returns-then-is_some-clause-in_tree : goal.returns-then-is_some-clause-in_tree
 returns-then-is_some-clause-in_tree g c =
     let ns = c.args.tree.now.nodes in
-    let p = is_sought ns c.args.changed c.args.row.now c.args.sought in
+    let p = is_sought ns c.args.sought in
     subst (IsThere ns) (sym c.in_ok-found.ensures.first) (find_there ns p (flat_map (children_at ns) c.deref.result.now) (all_below ns c.args.tree.now.tree c.deref.result.now))
 
 pub loop-depth-preserved : goal.loop-depth-preserved
 loop-depth-preserved g c =
     let ns = c.args.tree.now.nodes in
-    let p = is_sought ns c.args.changed c.args.row.now c.args.sought in
+    let p = is_sought ns c.args.sought in
     let level : List ℕ = c.loop-depth.level.items in
     let none = no_number c.in_ok-found.found (sym c.is_some.ensures ∙ c.if-is_some.false) in
     let below : c.first_below.new.below.items ≡ flat_map (children_at ns) level = c.in_ok-found.ensures.below none ∙ ap (flat_map (children_at ns)) c.deref.ensures.value in
@@ -71,4 +71,4 @@ loop-depth-preserved g c =
 pub returns-clause-first : goal.returns-clause-first
 returns-clause-first g c =
     let ns = c.args.tree.now.nodes in
-    sym (c.loop-depth.invariant.same ∙ found_nowhere (is_sought ns c.args.changed c.args.row.now c.args.sought) ns (length ns) c.loop-depth._depth (flat_map (children_at ns) c.loop-depth.level.items) (omega arith))
+    sym (c.loop-depth.invariant.same ∙ found_nowhere (is_sought ns c.args.sought) ns (length ns) c.loop-depth._depth (flat_map (children_at ns) c.loop-depth.level.items) (omega arith))

@@ -9,5 +9,5 @@ invariant-loop-depth g l =
     let ns = l.tree.nodes in
     record {
       in_tree : All (λ m. m < length ns) l.level.items;
-      same : first_sought ns l.changed l.row l.sought l.start ≡ find (is_sought ns l.changed l.row l.sought) (levels (length ns - l._depth) ns (flat_map (children_at ns) l.level.items));
+      same : first_sought ns l.sought l.start ≡ find (is_sought ns l.sought) (levels (length ns - l._depth) ns (flat_map (children_at ns) l.level.items));
     }
