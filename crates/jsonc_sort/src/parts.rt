@@ -94,7 +94,7 @@ fn comments_on_line<A: Allocator>(tree: &Tree<A>, last: bool, row: &[usize]) -> 
 
 /// How many nodes behind an element, which is the last or not, belong to it: through its comma, and the
 /// comments on its line.
-pub(crate) fn tail_length<A: Allocator>(tree: &Tree<A>, last: bool, gap: &[usize]) -> usize
+pub fn tail_length<A: Allocator>(tree: &Tree<A>, last: bool, gap: &[usize]) -> usize
     ensures count { result ≡ tail_length (content_at tree.now.nodes) last gap.now }
     ensures within { result ≤ length gap.now }
 {

@@ -5,7 +5,6 @@ ghost use Rattle.std.specs.List.{All, take_while};
 ghost use Rattle.jsonc_tree.specs.Tree.{content_at};
 ghost use Rattle.jsonc_layout.specs.nodes.Kinds.{is_element_at};
 ghost use Rattle.jsonc_layout.specs.nodes.Siblings.{siblings_after, siblings_before};
-ghost use Rattle.jsonc_sort.specs.Parts.{comments_on_line, tail_length, through_comma};
 ghost use Rattle.jsonc_cst.specs.Document.{HasNode};
 ghost use Rattle.jsonc_cst.specs.EntryComments.{comments_around, comments_at, comments_of_entry, is_entry_at};
 ghost use Rattle.jsonc_cst.specs.EntryComments.{own_lead, tail_of};
@@ -17,46 +16,12 @@ use super::{CstRootNode, EditError};
 use jsonc_edit::multiline::has_brackets;
 use jsonc_layout::lines::is_array_or_object;
 use jsonc_layout::nodes::{
-    is_comma, is_comment, is_element, is_newline, is_whitespace, next_element, next_siblings,
+    is_comment, is_element, is_newline, is_whitespace, next_element, next_siblings,
     previous_element, previous_siblings,
 };
-use jsonc_layout::rows::{all_inline_trivia, has_newline, last_spaces, line_length};
+use jsonc_sort::tail_length;
 use jsonc_tree::Tree;
 use std::alloc::{AllocError, Allocator};
-
-// How many nodes behind an entry it is through its comma, if there is one.
-fn through_comma<A: Allocator>(tree: &Tree<A>, gap: &[usize]) -> usize
-    ensures count { result ≡ through_comma (content_at tree.now.nodes) gap.now }
-    ensures within { result ≤ length gap.now }
-{
-    for (place, node) in gap.iter().enumerate() {
-        if is_comma(tree, *node) {
-            return place + 1;
-        }
-    }
-    0
-}
-
-// How many nodes it is through the last comment of a line on which nothing else stands.
-fn comments_on_line<A: Allocator>(tree: &Tree<A>, last: bool, row: &[usize]) -> usize
-    ensures count { result ≡ comments_on_line (content_at tree.now.nodes) last row.now }
-    ensures within { result ≤ length row.now }
-{
-    let line = &row[..line_length(tree, row)];
-    if (last || has_newline(tree, row)) && all_inline_trivia(tree, line) {
-        return line.len() - last_spaces(tree, line);
-    }
-    0
-}
-
-// How many nodes behind an entry, which is the last or not, belong to it.
-fn tail_length<A: Allocator>(tree: &Tree<A>, last: bool, gap: &[usize]) -> usize
-    ensures count { result ≡ tail_length (content_at tree.now.nodes) last gap.now }
-    ensures within { result ≤ length gap.now }
-{
-    let through = through_comma(tree, gap);
-    through + comments_on_line(tree, last, &gap[through..])
-}
 
 // Where what belongs to an entry begins in what stands before it.
 fn own_lead<A: Allocator>(tree: &Tree<A>, lead: &[usize]) -> usize
@@ -111,14 +76,9 @@ fn gap_before<A: Allocator>(
     ensures { IfOk result (λ v. v.items
         ≡ take_while (λ m. not (is_element_at tree.now.nodes m)) (siblings_before tree.now.nodes node)) }
 {
-    let mut gap = Vec::new(alloc);
-    for sibling in previous_siblings(tree, node) {
-        if is_element(tree, sibling) {
-            return Ok(gap);
-        }
-        gap.push(sibling)?;
-    }
-    Ok(gap)
+    previous_siblings(tree, node)
+        .take_while(|sibling| !is_element(tree, *sibling))
+        .collect(alloc)
 }
 
 // The nodes between an entry and the next one; where it is the last, the bracket is the last of them.
@@ -131,14 +91,9 @@ fn gap_behind<A: Allocator>(
     ensures { IfOk result (λ v. v.items
         ≡ take_while (λ m. not (is_element_at tree.now.nodes m)) (siblings_after tree.now.nodes node)) }
 {
-    let mut gap = Vec::new(alloc);
-    for sibling in next_siblings(tree, node) {
-        if is_element(tree, sibling) {
-            return Ok(gap);
-        }
-        gap.push(sibling)?;
-    }
-    Ok(gap)
+    next_siblings(tree, node)
+        .take_while(|sibling| !is_element(tree, *sibling))
+        .collect(alloc)
 }
 
 // Whether a node is an entry: an element between the brackets of an array or object.
