@@ -59,6 +59,8 @@ cc -O2 -shared -fPIC -o "$work/peak.so" "$top/bench/speed/peak.c"
 # Ours is the program that users would install.
 (cd "$top/crates/jsonc_speed" && rt run -- nothing 0 < stdin > /dev/null)
 
-python3 "$top/bench/speed/lint.py" "$top/crates/jsonc_speed/out/jsonc_speed" "$work/documents" ${2:+"$2"}
-exec python3 "$top/bench/speed/measure.py" "$top/crates/jsonc_speed/out/jsonc_speed" \
-    "$work/theirs/target/release/theirs" "$work/peak.so" "$work/documents" ${2:+"$2"}
+ours=$top/crates/jsonc_speed/out/jsonc_speed
+theirs=$work/theirs/target/release/theirs
+python3 "$top/bench/speed/lint.py" "$ours" "$work/documents" ${2:+"$2"}
+python3 "$top/bench/speed/edits.py" "$ours" "$theirs" "$work/documents" ${2:+"$2"}
+exec python3 "$top/bench/speed/measure.py" "$ours" "$theirs" "$work/peak.so" "$work/documents" ${2:+"$2"}

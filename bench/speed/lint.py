@@ -6,7 +6,7 @@ usage: lint.py OURS FOLDER [ROUNDS]
 `lint` parses a text, walks all nodes with their ranges, finds the line and column of each property, and asks each object for
 names that stand twice. Wanted: at most twice the time of `document`, which only parses, and on 10 MB at most 13 times that of
 1 MB, where the C library keeps the pages that it has. Of an object of properties that all have names of their own, `repeated`
-asks the document once more, on 100,000 and on half as many: at most 2.5 times the time.
+compares the names, and `last` gets the last property, on 100,000 and on half as many: at most 2.5 times the time.
 """
 import datetime
 import os
@@ -45,16 +45,16 @@ def rows(ours, folder, rounds):
                measure.marked(lint.seconds / document.seconds, TWICE, most=True), grown]
 
 
-def repeated(ours, folder, rounds):
-    """What `repeated_names` takes on an object, and how many times as long as on half of it."""
+def of_object(ours, folder, rounds, call):
+    """What a call takes on an object, and how many times as long as on half of it."""
     paths = [written_to(folder, 'object-%d' % count, an_object(count)) for count in (COUNT, COUNT // 2)]
-    whole, half = measure.taken([(ours, 'repeated', path) for path in paths], rounds, measure.KEEPS_PAGES)
+    whole, half = measure.taken([(ours, call, path) for path in paths], rounds, measure.KEEPS_PAGES)
     return measure.milliseconds(whole.seconds), measure.marked(whole.seconds / half.seconds, LINEAR, most=True)
 
 
 def main(ours, folder, rounds='5'):
     os.makedirs(folder, exist_ok=True)
-    took, times = repeated(ours, folder, int(rounds))
+    repeated, last = [of_object(ours, folder, int(rounds), call) for call in ('repeated', 'last')]
     written = '\n'.join([
         '## A linter',
         '',
@@ -63,7 +63,8 @@ def main(ours, folder, rounds='5'):
         '',
         measure.table(['Document', '`lint`', '`document`', 'times', 'of 1 MB'], list(rows(ours, folder, int(rounds)))),
         '',
-        'The names of an object of 100,000 properties are compared (`repeated_names`) in %s ms, %s times the time of half as many.' % (took, times),
+        'The names of an object of 100,000 properties are compared (`repeated_names`) in %s ms, %s times the time of half as many,'
+        ' and the last property is found (`get`) in %s ms, %s times.' % (*repeated, *last),
         '',
     ])
     print(written)

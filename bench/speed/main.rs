@@ -1,6 +1,6 @@
 //! The calls of `crates/jsonc_speed`, made of the Rust crate: the same words, the same answers.
 
-use jsonc_parser::cst::{CstArray, CstInputValue, CstRootNode};
+use jsonc_parser::cst::{CstArray, CstInputValue, CstObjectProp, CstRootNode};
 use jsonc_parser::{
     CollectOptions, CommentCollectionStrategy, ParseOptions, Scanner, ScannerOptions,
     parse_to_ast, parse_to_value,
@@ -70,6 +70,15 @@ fn array(document: &CstRootNode) -> Result<CstArray, Box<dyn Error>> {
     document.array_value().ok_or_else(|| "no array".into())
 }
 
+fn last_property(document: &CstRootNode) -> Result<CstObjectProp, Box<dyn Error>> {
+    let object = document.object_value().ok_or("no object")?;
+    object.properties().pop().ok_or_else(|| "no property".into())
+}
+
+fn seven() -> CstInputValue {
+    CstInputValue::Number("7".to_string())
+}
+
 fn siblings(text: &str, count: u64) -> Answer {
     let document = CstRootNode::parse(text, &ParseOptions::default())?;
     let elements = array(&document)?.elements();
@@ -86,7 +95,18 @@ fn replaced(text: &str, count: u64) -> Answer {
     let mut sum = 0;
     for _ in 0..count {
         let number = last.as_number_lit().ok_or("no number")?;
-        last = number.replace_with(CstInputValue::Number("7".to_string())).ok_or("no parent")?;
+        last = number.replace_with(seven()).ok_or("no parent")?;
+        sum += 1;
+    }
+    Ok(sum)
+}
+
+fn set(text: &str, count: u64) -> Answer {
+    let document = CstRootNode::parse(text, &ParseOptions::default())?;
+    let last = last_property(&document)?;
+    let mut sum = 0;
+    for _ in 0..count {
+        last.set_value(seven());
         sum += 1;
     }
     Ok(sum)
@@ -96,8 +116,31 @@ fn appended(text: &str, count: u64) -> Answer {
     let document = CstRootNode::parse(text, &ParseOptions::default())?;
     let mut sum = 0;
     for _ in 0..count {
-        array(&document)?.append(CstInputValue::Number("7".to_string()));
+        array(&document)?.append(seven());
         sum += 1;
+    }
+    Ok(sum)
+}
+
+fn inserted(text: &str, count: u64) -> Answer {
+    let document = CstRootNode::parse(text, &ParseOptions::default())?;
+    let mut sum = 0;
+    for _ in 0..count {
+        array(&document)?.insert(0, seven());
+        sum += 1;
+    }
+    Ok(sum)
+}
+
+fn removed(text: &str, count: u64) -> Answer {
+    let document = CstRootNode::parse(text, &ParseOptions::default())?;
+    let mut elements = array(&document)?.elements();
+    let mut sum = 0;
+    for _ in 0..count {
+        if let Some(last) = elements.pop() {
+            last.remove();
+            sum += 1;
+        }
     }
     Ok(sum)
 }
@@ -108,7 +151,10 @@ fn repeat(call: &str, input: &[u8], count: u64) -> Answer {
         "print" => return print(text, count),
         "replaced" => return replaced(text, count),
         "siblings" => return siblings(text, count),
+        "set" => return set(text, count),
         "appended" => return appended(text, count),
+        "inserted" => return inserted(text, count),
+        "removed" => return removed(text, count),
         _ => {}
     }
     let mut sum = 0;

@@ -1,15 +1,14 @@
 //! The calls that are timed. Each answers a number of its result, so that no result goes unused.
-ghost use Rattle.std.specs.Prelude.{All, IfOk};
+ghost use Rattle.std.specs.Prelude.{All};
 ghost use Rattle.jsonc_cst.specs.Document.{HasNode};
-ghost use Rattle.jsonc_cst.specs.Nodes.{number_lit_node, object_node};
+ghost use Rattle.jsonc_cst.specs.Nodes.{object_node};
 
+use crate::documents::{elements, parsed};
+use crate::edits::{appended, inserted, removed, replaced, set};
 use jsonc_engine::command::Command;
 use jsonc_engine::engine::run_on;
 use jsonc_engine::fault::Fault;
-use jsonc_parser::cst::{
-    CstContainerNode, CstInputValue, CstLeafNode, CstNode, CstNumberLit, CstObject, CstRootNode,
-    EditError, TypedNode,
-};
+use jsonc_parser::cst::{CstContainerNode, CstNode, CstObject, CstRootNode, EditError, TypedNode};
 use jsonc_parser::{
     CollectOptions, CommentCollectionStrategy, LineIndex, ParseOptions, Scanner, ScannerOptions,
     check, parse_to_ast, parse_to_value,
@@ -41,12 +40,20 @@ pub enum Call {
     Replaced,
     /// `next_sibling` of each element of an array that is parsed once.
     Siblings,
+    /// `set_value` of the last property of an object that is parsed once.
+    Set,
     /// `append` of a number to an array that is parsed once.
     Appended,
+    /// `insert` of a number at the front of an array that is parsed once.
+    Inserted,
+    /// `remove` of the elements of an array that is parsed once, from the last on.
+    Removed,
     /// What a linter does: parse, and walk all nodes with ranges, for lines, columns and names that stand twice.
     Lint,
     /// `repeated_names` of the document's object, which is parsed once.
     Repeated,
+    /// `get` of the last name of the document's object, which is parsed once.
+    Last,
 }
 
 impl Call {
@@ -64,9 +71,13 @@ impl Call {
             "program" => Some(Call::Program),
             "replaced" => Some(Call::Replaced),
             "siblings" => Some(Call::Siblings),
+            "set" => Some(Call::Set),
             "appended" => Some(Call::Appended),
+            "inserted" => Some(Call::Inserted),
+            "removed" => Some(Call::Removed),
             "lint" => Some(Call::Lint),
             "repeated" => Some(Call::Repeated),
+            "last" => Some(Call::Last),
             _ => None,
         }
     }
@@ -80,8 +91,12 @@ impl Call {
             Call::Print => print(alloc, text, count),
             Call::Replaced => replaced(alloc, text, count),
             Call::Siblings => siblings(alloc, text, count),
+            Call::Set => set(alloc, text, count),
             Call::Appended => appended(alloc, text, count),
+            Call::Inserted => inserted(alloc, text, count),
+            Call::Removed => removed(alloc, text, count),
             Call::Repeated => repeated(alloc, text, count),
+            Call::Last => last(alloc, text, count),
             _ => self.each(alloc, text, count),
         }
     }
@@ -100,8 +115,12 @@ impl Call {
             | Call::Print
             | Call::Replaced
             | Call::Siblings
+            | Call::Set
             | Call::Appended
-            | Call::Repeated => Ok(0),
+            | Call::Inserted
+            | Call::Removed
+            | Call::Repeated
+            | Call::Last => Ok(0),
             Call::Scan => scan(alloc, text),
             Call::Check => checked(alloc, text),
             Call::Ast => ast(alloc, text),
@@ -183,13 +202,6 @@ fn value(alloc: Global, text: &str) -> Result<usize, Fault> {
     }
 }
 
-fn parsed(alloc: Global, text: &str) -> Result<CstRootNode<Global>, Fault> {
-    match CstRootNode::parse(alloc, text, &ParseOptions::default()) {
-        Ok(document) => Ok(document),
-        Err(error) => Err(Fault::Input(error)),
-    }
-}
-
 /// 1 for each document.
 fn document(alloc: Global, text: &str) -> Result<usize, Fault> {
     let _document = parsed(alloc, text)?;
@@ -217,19 +229,6 @@ fn program(alloc: Global, text: &str) -> Result<usize, Fault> {
     }
 }
 
-/// The elements of a document that is an array.
-fn elements(document: &CstRootNode<Global>) -> Result<Vec<CstNode>, Fault>
-    ensures { IfOk result (λ v. All (HasNode document.now) v.items) }
-{
-    match document.value() {
-        Some(CstNode::Container(CstContainerNode::Array(array))) => match array.elements(document) {
-            Ok(elements) => Ok(elements),
-            Err(error) => Err(Fault::Edit(error)),
-        },
-        _ => Err(Fault::NotArray),
-    }
-}
-
 /// How many of the elements have a next sibling.
 fn followed(document: &CstRootNode<Global>, elements: &[CstNode]) -> usize
     requires { All (HasNode document.now) elements.now }
@@ -250,69 +249,6 @@ fn siblings(alloc: Global, text: &str, count: u64) -> Result<usize, Fault> {
     let mut sum = 0usize;
     for _ in 0..count {
         sum = sum.saturating_add(followed(&document, elements.as_slice()));
-    }
-    Ok(sum)
-}
-
-/// The last element of an array, where it is a number.
-fn last_number(document: &CstRootNode<Global>) -> Result<CstNumberLit, Fault>
-    ensures { IfOk result (λ n. HasNode document.now (number_lit_node n)) }
-{
-    let elements = elements(document)?;
-    match elements.last() {
-        Some(CstNode::Leaf(CstLeafNode::NumberLit(number))) => Ok(*number),
-        _ => Err(Fault::NotArray),
-    }
-}
-
-/// Replaces a number by another.
-fn replace(
-    alloc: Global,
-    document: &mut CstRootNode<Global>,
-    number: CstNumberLit,
-) -> Result<CstNumberLit, Fault>
-    requires { HasNode document.old (number_lit_node number) }
-    ensures { IfOk result (λ n. HasNode document.new (number_lit_node n)) }
-{
-    let digits = String::from_str(alloc, "7")?;
-    match number.replace_with(document, CstInputValue::Number(digits)) {
-        Ok(Some(CstNode::Leaf(CstLeafNode::NumberLit(next)))) => Ok(next),
-        Ok(_) => Err(Fault::NotArray),
-        Err(error) => Err(Fault::Edit(error)),
-    }
-}
-
-/// How often the last number of an array was replaced.
-fn replaced(alloc: Global, text: &str, count: u64) -> Result<usize, Fault> {
-    let mut document = parsed(alloc, text)?;
-    let mut last = last_number(&document)?;
-    let mut sum = 0usize;
-    for _ in 0..count {
-        last = replace(alloc, &mut document, last)?;
-        sum = sum.saturating_add(1);
-    }
-    Ok(sum)
-}
-
-/// Appends a number to the array of a document.
-fn append(alloc: Global, document: &mut CstRootNode<Global>) -> Result<(), Fault> {
-    let Some(array) = document.array_value() else {
-        return Err(Fault::NotArray);
-    };
-    let digits = String::from_str(alloc, "7")?;
-    match array.append(document, CstInputValue::Number(digits)) {
-        Ok(_) => Ok(()),
-        Err(error) => Err(Fault::Edit(error)),
-    }
-}
-
-/// How often a number was appended to the array of one document.
-fn appended(alloc: Global, text: &str, count: u64) -> Result<usize, Fault> {
-    let mut document = parsed(alloc, text)?;
-    let mut sum = 0usize;
-    for _ in 0..count {
-        append(alloc, &mut document)?;
-        sum = sum.saturating_add(1);
     }
     Ok(sum)
 }
@@ -358,6 +294,45 @@ fn repeated(alloc: Global, text: &str, count: u64) -> Result<usize, Fault> {
     let mut sum = 0usize;
     for _ in 0..count {
         sum = sum.saturating_add(repeated_in(&document, object)?);
+    }
+    Ok(sum)
+}
+
+/// The name of the last property of an object.
+fn last_name(document: &CstRootNode<Global>, object: CstObject) -> Result<String, Fault>
+    requires { HasNode document.now (object_node object) }
+{
+    let properties = match object.properties(document) {
+        Ok(properties) => properties,
+        Err(error) => return Err(Fault::Edit(error)),
+    };
+    let Some(property) = properties.last() else {
+        return Err(Fault::NoSetting);
+    };
+    if !document.holds(property.node()) {
+        return Err(Fault::NoSetting);
+    }
+    match property.decoded_name(document) {
+        Ok(Some(name)) => Ok(name),
+        Ok(None) => Err(Fault::NoSetting),
+        Err(_) => Err(Fault::Edit(EditError::OutOfMemory)),
+    }
+}
+
+/// How often the last property of one document's object was found by its name.
+fn last(alloc: Global, text: &str, count: u64) -> Result<usize, Fault> {
+    let document = parsed(alloc, text)?;
+    let Some(object) = document.object_value() else {
+        return Err(Fault::NotObject);
+    };
+    let name = last_name(&document, object)?;
+    let mut sum = 0usize;
+    for _ in 0..count {
+        match object.get(&document, name.as_str()) {
+            Ok(Some(_)) => sum = sum.saturating_add(1),
+            Ok(None) => return Err(Fault::NoSetting),
+            Err(error) => return Err(Fault::Edit(error)),
+        }
     }
     Ok(sum)
 }

@@ -5,6 +5,8 @@
 #![tactic(auto)]
 
 mod call;
+mod documents;
+mod edits;
 
 use call::Call;
 use jsonc_engine::fault::Fault;
