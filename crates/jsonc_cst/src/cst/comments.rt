@@ -1,14 +1,14 @@
 //! The comments that belong to an entry.
 
-ghost use Rattle.std.specs.Prelude.{◌≡◌, ◌≤◌, ◌<◌, drop, length, not, IfErr, IfOk, IsTrue};
+ghost use Rattle.std.specs.Prelude.{◌≡◌, ◌≤◌, ◌<◌, drop, length, not, IfErr, IfOk, IsTrue, OnErr};
 ghost use Rattle.std.specs.List.{All, take_while};
 ghost use Rattle.jsonc_tree.specs.Tree.{content_at};
 ghost use Rattle.jsonc_layout.specs.nodes.Kinds.{is_element_at};
 ghost use Rattle.jsonc_layout.specs.nodes.Siblings.{siblings_after, siblings_before};
-ghost use Rattle.jsonc_cst.specs.Document.{HasNode};
+ghost use Rattle.jsonc_cst.specs.Document.{HasNode, nodes_of};
 ghost use Rattle.jsonc_cst.specs.EntryComments.{comments_around, comments_at, comments_of_entry, is_entry_at};
 ghost use Rattle.jsonc_cst.specs.EntryComments.{own_lead, tail_of};
-ghost use Rattle.jsonc_cst.specs.Nodes.{comment_node};
+ghost use Rattle.jsonc_cst.specs.Nodes.{comment_node, number_of};
 
 use super::layout::comments_under;
 use super::node::{CstComment, CstNode};
@@ -145,6 +145,7 @@ impl<A: Allocator + Copy> CstRootNode<A> {
         ensures comments { IfOk result (λ v. v.items ≡ comments_of_entry self.now node) }
         ensures in_document { IfOk result (λ v. All (λ c. HasNode self.now (comment_node c)) v.items) }
         ensures memory { IfErr result (λ e. e ≡ EditError.OutOfMemory) }
+        ensures oom_only_if { OnErr result (IsTrue (is_entry_at (nodes_of self.now) (number_of node))) }
     {
         let number = node.number();
         if !is_entry(&self.tree, number) {
