@@ -51,11 +51,7 @@ fn is_spaced<A: Allocator>(tree: &Tree<A>, node: usize) -> bool
 }
 
 // Whether a node is what is looked for.
-fn is_sought<A: Allocator>(
-    tree: &Tree<A>,
-    sought: Sought,
-    node: usize,
-) -> bool
+fn is_sought<A: Allocator>(tree: &Tree<A>, sought: Sought, node: usize) -> bool
     requires { node < length tree.now.nodes }
     ensures { result ≡ is_sought tree.now.nodes sought node }
 {
@@ -66,11 +62,7 @@ fn is_sought<A: Allocator>(
 }
 
 // The first of these nodes that is what is looked for.
-fn first_in<A: Allocator>(
-    tree: &Tree<A>,
-    sought: Sought,
-    level: &[usize],
-) -> Option<usize>
+fn first_in<A: Allocator>(tree: &Tree<A>, sought: Sought, level: &[usize]) -> Option<usize>
     requires in_tree { All (λ m. m < length tree.now.nodes) level.now }
     ensures first { result ≡ find (is_sought tree.now.nodes sought) level.now }
     ensures in_tree { IfSome result (λ m. m < length tree.now.nodes) }
@@ -211,8 +203,7 @@ pub fn uses_trailing_commas<A: Allocator + Copy>(
     requires in_tree { node < length tree.now.nodes }
     ensures uses { IfOk result (λ uses. uses ≡ uses_trailing_commas_at tree.now.nodes node) }
 {
-    let Some(container) = first_sought(alloc, tree, Sought::SpacedElements, &[node])?
-    else {
+    let Some(container) = first_sought(alloc, tree, Sought::SpacedElements, &[node])? else {
         return Ok(false);
     };
     let Some(last) = last_child_element(tree, container) else {
