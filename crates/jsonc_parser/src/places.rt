@@ -109,8 +109,9 @@ pub(crate) fn place_from(
 /// The place of a line and column, both counted from 1, if the text has them.
 ///
 /// The place is counted in bytes and the column in characters, as in a `ParseError`. LF, CR LF and CR
-/// alone end a line, and the place before the line's end is its last one. Nothing is allocated. In
-/// `{\n  "a": 1\n}` line 2, column 3 is place 4, and line 2 has no column 10.
+/// alone end a line. Its last place is the one before its LF or CR; of CR LF it is the one between the two, which
+/// in `a\r\nb` is line 1, column 3. Nothing is allocated. In `{\n  "a": 1\n}` line 2, column 3 is place 4, and
+/// line 2 has no column 10.
 pub fn place_of(text: &str, line: usize, column: usize) -> Option<usize>
     ensures found { IfSome result (λ p. LineColumn (chars text.now) p line column) }
     ensures boundary { IfSome result (IsCharBoundary text.now) }
