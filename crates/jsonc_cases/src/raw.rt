@@ -65,7 +65,7 @@ fn leaf_at(
     Err(Refusal::Error(EditError::NoSuchPlace))
 }
 
-/// Lets a leaf become this text, as it stands.
+/// Replaces the text of a leaf, as it stands.
 fn set(doc: &mut CstRootNode<Global>, leaf: CstLeafNode, text: String) -> Result<(), Refusal> {
     if !doc.holds(leaf.into()) {
         return Err(Refusal::Error(EditError::NoSuchPlace));

@@ -144,7 +144,7 @@ fn put_beside<A: Allocator>(
     insert_after(tree, container, node, comma);
 }
 
-// Lets a value, or a property of a name, come into a container that keeps its row: between two neighbours.
+// Inserts a value, or a property of a name, between two children of a container, which all stay.
 fn insert_beside<A: Allocator + Copy>(
     alloc: A,
     tree: &mut Tree<A>,
@@ -168,7 +168,7 @@ fn insert_beside<A: Allocator + Copy>(
     Ok(made.element)
 }
 
-/// Lets a value, or a property of a name, come into a container; blank lines directly inside its brackets
+/// Inserts a value, or a property of a name, into a container; blank lines directly inside its brackets
 /// are removed before, and put back where memory is refused.
 pub(crate) fn insert_entry<A: Allocator + Copy>(
     alloc: A,
@@ -197,14 +197,14 @@ pub(crate) fn insert_entry<A: Allocator + Copy>(
     }
 }
 
-/// Lets a value come into an array as its element of this number, or behind the last one where there are
+/// Inserts a value into an array as its element of this number, or after the last one where there are
 /// fewer, and answers the number of its node.
 ///
-/// Blank lines directly inside the brackets leave: behind the first bracket all but the first line's end,
-/// before the last all but the last. The element comes behind the one before it, its comma and the
-/// comments on that line; a comma comes where one is wanted. Where the array has the end of a line between
-/// its brackets, or the value is laid out on several lines, the element gets a line of its own. The
-/// document tells its indent, how lines end and whether the last element has a comma.
+/// Blank lines directly inside the brackets are removed: after the first bracket all but the first line's
+/// end, before the last all but the last. The element is inserted after the one before it, its comma and the
+/// comments on that line, and a comma where one is wanted. Where the array has the end of a line between
+/// its brackets, or the value is laid out on several lines, the element gets a line of its own. Its indent,
+/// how lines end and whether the last element has a comma are the document's.
 ///
 /// An array that lacks a bracket answers `MissingBrackets`. An error leaves the document, and every node
 /// that was there, as it was.

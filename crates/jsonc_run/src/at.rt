@@ -21,7 +21,7 @@ use jsonc_layout::input::CstInputValue;
 use jsonc_tree::Tree;
 use std::alloc::Allocator;
 
-// Lets the value at a path are replaced by another.
+// Replaces the value at a path by another.
 pub(crate) fn replace_at<A: Allocator + Copy>(
     alloc: A,
     tree: &mut Tree<A>,
@@ -81,7 +81,7 @@ pub(crate) fn set_value<A: Allocator + Copy>(
     Ok(())
 }
 
-// Lets the property at a path are replaced by one of this name and value.
+// Replaces the property at a path by one of this name and value.
 pub(crate) fn replace_property_at<A: Allocator + Copy>(
     alloc: A,
     tree: &mut Tree<A>,
@@ -155,7 +155,7 @@ pub(crate) fn ensure_value_at<A: Allocator + Copy>(
     Ok(())
 }
 
-// Lets the truth value at a path become this one.
+// Sets the truth value at a path.
 pub(crate) fn set_boolean_at<A: Allocator + Copy>(
     alloc: A,
     tree: &mut Tree<A>,

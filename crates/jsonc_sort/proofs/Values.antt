@@ -138,7 +138,7 @@ module _ (at : ℕ → Content) where
   mapped es (i ∷ order) = ap (λ l. stays (entry_at es i).element ∷ l) (mapped es order)
 
   -- the sorted row has them in its order
-  sorted_elements : (k : CstNewlineKind) (h : Headers) (row order : List ℕ) → IsPermutation (range_with_len 0 (length (entries at h row))) order
+  pub sorted_elements : (k : CstNewlineKind) (h : Headers) (row order : List ℕ) → IsPermutation (range_with_len 0 (length (entries at h row))) order
       → elements (sorted at k h row order) ≡ map (λ i. stays (entry_at (entries at h row) i).element) order
   sorted_elements k h row order p =
       choose_by (λ l. elements l ≡ map (λ i. stays (entry_at (entries at h row) i).element) order) (is_unchanged order) (all_stay row) (lines_ended at k (rearranged at (entries at h row) order ++ all_stay (row_end at row))) old new

@@ -18,7 +18,7 @@ use Rattle.jsonc_sound.proofs.Leaves.{joined_leaves, last_serves}
 use Rattle.jsonc_sound.proofs.Spaces.{own_last, last_append, last_of, serves_unless, not_both, stretch_no_word}
 use Rattle.jsonc_sound.proofs.Texts.{trivia_leaf, comma_first, closing_first}
 
-trivia_not_bare : (o : Options) (content : Content) → IsTrivia o content → is_bare content ≡ false
+pub trivia_not_bare : (o : Options) (content : Content) → IsTrivia o content → is_bare content ≡ false
 trivia_not_bare o (Content.whitespace s) h = refl
 trivia_not_bare o (Content.newline k) h = refl
 trivia_not_bare o (Content.comment s) h = refl
@@ -33,11 +33,11 @@ either_not_bare : (x y : Option Content) → is_bare_leaf x ≡ false → is_bar
 either_not_bare None y e f = f
 either_not_bare (Some c) y e f = e
 
-and_false : (a b : Bool) → b ≡ false → a && b ≡ false
+pub and_false : (a b : Bool) → b ≡ false → a && b ≡ false
 and_false true b e = e
 and_false false b e = refl
 
-false_and : (a b : Bool) → a ≡ false → a && b ≡ false
+pub false_and : (a b : Bool) → a ≡ false → a && b ≡ false
 false_and true b e = cc
 false_and false b e = refl
 
@@ -46,7 +46,7 @@ last_with : {content : Content} (after : List Content) → own_leaf content ≡ 
 last_with {content} after e b k =
     subst (λ l. is_bare_leaf (last_printed (l ++ after)) ≡ false) (sym e) (either_not_bare (last_printed after) (own_last content) k (own_not_bare content b (starts (λ c. true) (first_char content))))
 
-first_with : {content : Content} (after : List Content) → own_leaf content ≡ content ∷ [] → is_bare content ≡ false → is_bare_leaf (first_printed after) ≡ false → is_bare_leaf (first_printed (own_leaf content ++ after)) ≡ false
+pub first_with : {content : Content} (after : List Content) → own_leaf content ≡ content ∷ [] → is_bare content ≡ false → is_bare_leaf (first_printed after) ≡ false → is_bare_leaf (first_printed (own_leaf content ++ after)) ≡ false
 first_with {content} after e b k = subst (λ l. is_bare_leaf (first_printed (l ++ after)) ≡ false) (sym e) (by (starts (λ c. true) (first_char content)))
   where
     by : (p : Bool) → is_bare_leaf (if p then Some content else first_printed after) ≡ false
@@ -59,19 +59,19 @@ mark_first_printed c ls e = ap (λ x. is_bare_leaf (if starts (λ d. true) x the
 comma_last : own_last (token 0x2C) ≡ Some (token 0x2C)
 comma_last = ap (λ x. if starts (λ d. true) x then Some (token 0x2C) else None) comma_first
 
-abbrev AtAnElement : Last → Type 0
+abbrev pub AtAnElement : Last → Type 0
 AtAnElement rows.nothing_yet = ⊥
 AtAnElement rows.an_element = Unit {0}
 AtAnElement rows.a_comma = ⊥
 
 -- the last that is printed is no literal without quotes, and behind an element something is printed
-record EndsWell (last : Last) (ls : List Content) : Type 0 where
-  not_bare : is_bare_leaf (last_printed ls) ≡ false
-  some : AtAnElement last → (c : Content) × (last_printed ls ≡ Some c)
+pub record EndsWell (last : Last) (ls : List Content) : Type 0 where
+  pub not_bare : is_bare_leaf (last_printed ls) ≡ false
+  pub some : AtAnElement last → (c : Content) × (last_printed ls ≡ Some c)
 
 module _ (o : Options) (kind : RowKind) where
   -- what a stretch ends with that does not lead to an element
-  ends_well : {last mid : Last} {stretch : OrderedTree} → StretchAlone o kind last stretch mid → (AtAnElement mid → ⊥) → EndsWell last (leaves stretch)
+  pub ends_well : {last mid : Last} {stretch : OrderedTree} → StretchAlone o kind last stretch mid → (AtAnElement mid → ⊥) → EndsWell last (leaves stretch)
   ends_well alone.stays f = record { not_bare = refl; some = λ h. absurd (f h) }
   ends_well (alone.past_trivia {content = content} {after = after} h s) f =
       let rest = ends_well s f in

@@ -27,9 +27,9 @@ use Rattle.jsonc_sound.proofs.ShapeTexts.{text_more, text_leaf, trivia_items, tr
 
 -- punctuation is one byte
 pub record Mark (c : ℕ) : Type 0 where
-  bytes : encode_utf8 c ≡ c ∷ []
-  utf8 : IsUtf8 (c ∷ [])
-  text : chars (c ∷ []) ≡ c ∷ []
+  pub bytes : encode_utf8 c ≡ c ∷ []
+  pub utf8 : IsUtf8 (c ∷ [])
+  pub text : chars (c ∷ []) ≡ c ∷ []
 
 pub comma_mark : Mark 0x2C
 unfolding encode
@@ -39,7 +39,7 @@ pub colon_mark : Mark 0x3A
 unfolding encode
 colon_mark = record { bytes = refl; utf8 = IsUtf8-from_ascii (0x3A ∷ []) (search rules); text = chars-IsAscii (0x3A ∷ []) (search rules) }
 
-bracket_mark : Mark 0x5B
+pub bracket_mark : Mark 0x5B
 unfolding encode
 bracket_mark = record { bytes = refl; utf8 = IsUtf8-from_ascii (0x5B ∷ []) (search rules); text = chars-IsAscii (0x5B ∷ []) (search rules) }
 
@@ -47,7 +47,7 @@ pub close_bracket_mark : Mark 0x5D
 unfolding encode
 close_bracket_mark = record { bytes = refl; utf8 = IsUtf8-from_ascii (0x5D ∷ []) (search rules); text = chars-IsAscii (0x5D ∷ []) (search rules) }
 
-brace_mark : Mark 0x7B
+pub brace_mark : Mark 0x7B
 unfolding encode
 brace_mark = record { bytes = refl; utf8 = IsUtf8-from_ascii (0x7B ∷ []) (search rules); text = chars-IsAscii (0x7B ∷ []) (search rules) }
 
@@ -58,43 +58,43 @@ close_brace_mark = record { bytes = refl; utf8 = IsUtf8-from_ascii (0x7D ∷ [])
 pub mark_text : {c : ℕ} → Mark c → (row : OrderedTree) → printed_text (token_then c row) ≡ c ∷ printed_text row
 mark_text {c} m row = text_leaf (Content.token c) row (subst IsUtf8 (sym m.bytes) m.utf8) ∙ ap (λ t. t ++ printed_text row) (ap chars m.bytes ∙ m.text)
 
-mark_utf8 : {c : ℕ} → Mark c → (row : OrderedTree) → IsUtf8 (printed row) → IsUtf8 (printed (token_then c row))
+pub mark_utf8 : {c : ℕ} → Mark c → (row : OrderedTree) → IsUtf8 (printed row) → IsUtf8 (printed (token_then c row))
 mark_utf8 {c} m row u = subst IsUtf8 (sym (printed-more (Content.token c) none row)) (IsUtf8-append (encode_utf8 c) (printed row) (subst IsUtf8 (sym m.bytes) m.utf8) u)
 
-mark_some : {c : ℕ} → Mark c → (row : OrderedTree) → 0 < length (printed_text (token_then c row))
+pub mark_some : {c : ℕ} → Mark c → (row : OrderedTree) → 0 < length (printed_text (token_then c row))
 mark_some m row = omega (arith, ap length (mark_text m row))
 
 -- the last bracket
-closing_text : {c : ℕ} → Mark c → (z : List ℕ) → printed_text (token_then c none) ++ z ≡ c ∷ z
+pub closing_text : {c : ℕ} → Mark c → (z : List ℕ) → printed_text (token_then c none) ++ z ≡ c ∷ z
 closing_text {c} m z = ap (λ t. t ++ z) (mark_text m none ∙ ap (λ t. c ∷ t) chars-nil)
 
-printed_none : IsUtf8 (printed none)
+pub printed_none : IsUtf8 (printed none)
 printed_none = IsUtf8-nil
 
-word_utf8 : (b : Bool) → IsUtf8 (text_of (Content.boolean b))
+pub word_utf8 : (b : Bool) → IsUtf8 (text_of (Content.boolean b))
 word_utf8 true = IsUtf8-from_ascii _ (search rules)
 word_utf8 false = IsUtf8-from_ascii _ (search rules)
 
-word_chars : (b : Bool) → chars (text_of (Content.boolean b)) ≡ keyword_text (words.boolean b)
+pub word_chars : (b : Bool) → chars (text_of (Content.boolean b)) ≡ keyword_text (words.boolean b)
 word_chars true = chars-IsAscii _ (search rules)
 word_chars false = chars-IsAscii _ (search rules)
 
-null_utf8 : IsUtf8 (text_of Content.null)
+pub null_utf8 : IsUtf8 (text_of Content.null)
 null_utf8 = IsUtf8-from_ascii _ (search rules)
 
-null_chars : chars (text_of Content.null) ≡ keyword_text words.null
+pub null_chars : chars (text_of Content.null) ≡ keyword_text words.null
 null_chars = chars-IsAscii _ (search rules)
 
 -- what the shape says of a lexeme before r is so before z too
-abbrev Carries : Options → List ℕ → List ℕ → Type 0
+abbrev pub Carries : Options → List ℕ → List ℕ → Type 0
 Carries o r z = (k : LexemeKind) (s : List ℕ) → Lexeme o k (s ++ r) r → Lexeme o k (s ++ z) z
 
 -- a node prints a value before z, and has it
-abbrev Stands : Options → Content → OrderedTree → List ℕ → Type 0
+abbrev pub Stands : Options → Content → OrderedTree → List ℕ → Type 0
 Stands o content below z = (v : Plain) × IsValue o (chars (text_of content ++ printed below) ++ z) v z × ValueOf o content below v
 
 module _ (o : Options) where
-  literal_utf8 : (content : Content) (r : List ℕ) → IsLiteralBefore o content r → IsUtf8 (text_of content)
+  pub literal_utf8 : (content : Content) (r : List ℕ) → IsLiteralBefore o content r → IsUtf8 (text_of content)
   literal_utf8 (Content.string s) r h = h.1.0
   literal_utf8 (Content.number s) r h = h.0
   literal_utf8 (Content.boolean b) r h = word_utf8 b
@@ -109,7 +109,7 @@ module _ (o : Options) where
   literal_utf8 (Content.newline k) r h = absurd h
   literal_utf8 (Content.comment s) r h = absurd h
 
-  literal_stands : (content : Content) {r : List ℕ} (z : List ℕ) → Carries o r z → IsLiteralBefore o content r → Stands o content none z
+  pub literal_stands : (content : Content) {r : List ℕ} (z : List ℕ) → Carries o r z → IsLiteralBefore o content r → Stands o content none z
   literal_stands (Content.string s) {r} z f (v, (u, h)) =
       (Plain.string v, subst (λ b. IsValue o (chars b ++ z) (Plain.string v) z) (sym (append-nil s)) (grammar.literal (lexemes.string v) (f (lexemes.string v) (chars s) h) refl), values.string (scanned_alone o (lexeme (lexemes.string v)) (chars s) r h).0)
   literal_stands (Content.number s) z f (u, h) =
@@ -134,7 +134,7 @@ module _ (o : Options) where
   literal_stands (Content.newline k) z f h = absurd h
   literal_stands (Content.comment s) z f h = absurd h
 
-  name_utf8 : (content : Content) (r : List ℕ) → IsNameBefore o content r → IsUtf8 (text_of content)
+  pub name_utf8 : (content : Content) (r : List ℕ) → IsNameBefore o content r → IsUtf8 (text_of content)
   name_utf8 (Content.string s) r h = h.1.0
   name_utf8 (Content.word s) r h = h.0
   name_utf8 Content.root r h = absurd h
@@ -149,7 +149,7 @@ module _ (o : Options) where
   name_utf8 (Content.newline k) r h = absurd h
   name_utf8 (Content.comment s) r h = absurd h
 
-  name_stands : (content : Content) {r : List ℕ} (z : List ℕ) → Carries o r z → IsNameBefore o content r → (name : List ℕ) × IsName o (chars (text_of content) ++ z) name z × IsNameLeaf o content name
+  pub name_stands : (content : Content) {r : List ℕ} (z : List ℕ) → Carries o r z → IsNameBefore o content r → (name : List ℕ) × IsName o (chars (text_of content) ++ z) name z × IsNameLeaf o content name
   name_stands (Content.string s) {r} z f (v, (u, h)) = (v, inl (f (lexemes.string v) (chars s) h), (scanned_alone o (lexeme (lexemes.string v)) (chars s) r h).0)
   name_stands (Content.word s) z f (u, h) = (chars s, inr (h.0, refl, h.2, h.3, f h.2 (chars s) h.4), (refl, refl))
   name_stands Content.root z f h = absurd h
@@ -164,59 +164,59 @@ module _ (o : Options) where
   name_stands (Content.newline k) z f h = absurd h
   name_stands (Content.comment s) z f h = absurd h
 
-  closed_utf8 : {b : ℕ} {row : OrderedTree} → Mark b → Closed o b row → IsUtf8 (printed row)
+  pub closed_utf8 : {b : ℕ} {row : OrderedTree} → Mark b → Closed o b row → IsUtf8 (printed row)
   closed_utf8 m (shape.plain g) = trivia_row_utf8 o g (mark_utf8 m none printed_none)
   closed_utf8 m (shape.trailing_comma {u = u} x g h) = trivia_row_utf8 o g (mark_utf8 comma_mark u (trivia_row_utf8 o h (mark_utf8 m none printed_none)))
 
-  separated_utf8 : {row next : OrderedTree} → Separated o row next → IsUtf8 (printed next) → IsUtf8 (printed row)
+  pub separated_utf8 : {row next : OrderedTree} → Separated o row next → IsUtf8 (printed next) → IsUtf8 (printed row)
   separated_utf8 (shape.comma {u = u} g h) v = trivia_row_utf8 o g (mark_utf8 comma_mark u (trivia_row_utf8 o h v))
   separated_utf8 (shape.no_comma x g) v = trivia_row_utf8 o g v
 
-  row_utf8 : (content : Content) (below after : OrderedTree) → IsUtf8 (text_of content ++ printed below) → IsUtf8 (printed after) → IsUtf8 (printed (more content below after))
+  pub row_utf8 : (content : Content) (below after : OrderedTree) → IsUtf8 (text_of content ++ printed below) → IsUtf8 (printed after) → IsUtf8 (printed (more content below after))
   row_utf8 content below after u v =
       subst IsUtf8 (sym (printed-more content below after ∙ sym (append_assoc (text_of content) (printed below) (printed after)))) (IsUtf8-append (text_of content ++ printed below) (printed after) u v)
 
   mutual
-    value_utf8 : {content : Content} {below : OrderedTree} {r : List ℕ} → ValueShaped o content below r → IsUtf8 (text_of content ++ printed below)
+    pub value_utf8 : {content : Content} {below : OrderedTree} {r : List ℕ} → ValueShaped o content below r → IsUtf8 (text_of content ++ printed below)
     value_utf8 (shape.literal {content = content} h) = subst IsUtf8 (sym (append-nil (text_of content))) (literal_utf8 content _ h)
     value_utf8 (shape.empty_array {t = t} g) = mark_utf8 bracket_mark t (trivia_row_utf8 o g (mark_utf8 close_bracket_mark none printed_none))
     value_utf8 (shape.array {t = t} g e) = mark_utf8 bracket_mark t (trivia_row_utf8 o g (elements_utf8 e))
     value_utf8 (shape.empty_object {t = t} g) = mark_utf8 brace_mark t (trivia_row_utf8 o g (mark_utf8 close_brace_mark none printed_none))
     value_utf8 (shape.object {t = t} g p) = mark_utf8 brace_mark t (trivia_row_utf8 o g (properties_utf8 p))
 
-    elements_utf8 : {row : OrderedTree} → ElementsShaped o row → IsUtf8 (printed row)
+    pub elements_utf8 : {row : OrderedTree} → ElementsShaped o row → IsUtf8 (printed row)
     elements_utf8 (shape.last_element {content = content} {below = below} {after = after} v c) = row_utf8 content below after (value_utf8 v) (closed_utf8 close_bracket_mark c)
     elements_utf8 (shape.element {content = content} {below = below} {after = after} v s e) = row_utf8 content below after (value_utf8 v) (separated_utf8 s (elements_utf8 e))
 
-    properties_utf8 : {row : OrderedTree} → PropertiesShaped o row → IsUtf8 (printed row)
+    pub properties_utf8 : {row : OrderedTree} → PropertiesShaped o row → IsUtf8 (printed row)
     properties_utf8 (shape.last_property {below = below} {after = after} p c) = row_utf8 Content.property below after (property_utf8 p) (closed_utf8 close_brace_mark c)
     properties_utf8 (shape.property {below = below} {after = after} p s e) = row_utf8 Content.property below after (property_utf8 p) (separated_utf8 s (properties_utf8 e))
 
-    property_utf8 : {row : OrderedTree} {r : List ℕ} → PropertyShaped o row r → IsUtf8 (printed row)
+    pub property_utf8 : {row : OrderedTree} {r : List ℕ} → PropertyShaped o row r → IsUtf8 (printed row)
     property_utf8 (shape.named {name = name} {content = content} {below = below} {after = after} {u = u} n g h v) =
         row_utf8 name none after (subst IsUtf8 (sym (append-nil (text_of name))) (name_utf8 name _ n)) (trivia_row_utf8 o g (mark_utf8 colon_mark u (trivia_row_utf8 o h (row_utf8 content below none (value_utf8 v) printed_none))))
 
   -- what stands after a value or property is something
-  closed_some : {b : ℕ} {row : OrderedTree} → Mark b → Closed o b row → 0 < length (printed_text row)
+  pub closed_some : {b : ℕ} {row : OrderedTree} → Mark b → Closed o b row → 0 < length (printed_text row)
   closed_some m (shape.plain g) = trivia_some o g (mark_some m none)
   closed_some m (shape.trailing_comma {u = u} x g h) = trivia_some o g (mark_some comma_mark u)
 
-  separated_some : {row next : OrderedTree} → Separated o row next → 0 < length (printed_text next) → 0 < length (printed_text row)
+  pub separated_some : {row next : OrderedTree} → Separated o row next → 0 < length (printed_text next) → 0 < length (printed_text row)
   separated_some (shape.comma {u = u} g h) l = trivia_some o g (mark_some comma_mark u)
   separated_some (shape.no_comma x g) l = trivia_some o g l
 
-  more_some : (content : Content) (below after : OrderedTree) → IsUtf8 (text_of content ++ printed below) → 0 < length (printed_text after) → 0 < length (printed_text (more content below after))
+  pub more_some : (content : Content) (below after : OrderedTree) → IsUtf8 (text_of content ++ printed below) → 0 < length (printed_text after) → 0 < length (printed_text (more content below after))
   more_some content below after u l = omega (arith, l, ap length (text_more content below after u), length-append (chars (text_of content ++ printed below)) (printed_text after))
 
-  elements_some : {row : OrderedTree} → ElementsShaped o row → 0 < length (printed_text row)
+  pub elements_some : {row : OrderedTree} → ElementsShaped o row → 0 < length (printed_text row)
   elements_some (shape.last_element {content = content} {below = below} {after = after} v c) = more_some content below after (value_utf8 v) (closed_some close_bracket_mark c)
   elements_some (shape.element {content = content} {below = below} {after = after} v s e) = more_some content below after (value_utf8 v) (separated_some s (elements_some e))
 
-  properties_some : {row : OrderedTree} → PropertiesShaped o row → 0 < length (printed_text row)
+  pub properties_some : {row : OrderedTree} → PropertiesShaped o row → 0 < length (printed_text row)
   properties_some (shape.last_property {below = below} {after = after} p c) = more_some Content.property below after (property_utf8 p) (closed_some close_brace_mark c)
   properties_some (shape.property {below = below} {after = after} p s e) = more_some Content.property below after (property_utf8 p) (separated_some s (properties_some e))
 
-  closed_stands : {b : ℕ} {row : OrderedTree} (z : List ℕ) → Mark b → Closed o b row → LinesEndLoosely true false row → Closes o b (printed_text row ++ z) z
+  pub closed_stands : {b : ℕ} {row : OrderedTree} (z : List ℕ) → Mark b → Closed o b row → LinesEndLoosely true false row → Closes o b (printed_text row ++ z) z
   closed_stands z m (shape.plain g) l =
       let gap = trivia_gap o z true false (λ e. cc) tt g l in
       grammar.plain (subst (Gap o _) (closing_text m z) gap.0)
@@ -225,39 +225,39 @@ module _ (o : Options) where
       let after = trivia_gap o z true false (λ e. cc) tt h before.1.2 in
       grammar.trailing_comma x (subst (Gap o _) (ap (λ t. t ++ z) (mark_text comma_mark u)) before.0) (subst (Gap o _) (closing_text m z) after.0)
 
-  separated_stands : {row next : OrderedTree} (z : List ℕ) → Stops next → Separated o row next → LinesEndLoosely true false row → Separates o (printed_text row ++ z) (printed_text next ++ z) × LinesEndLoosely true false next
+  pub separated_stands : {row next : OrderedTree} (z : List ℕ) → Stops next → Separated o row next → LinesEndLoosely true false row → Separates o (printed_text row ++ z) (printed_text next ++ z) × LinesEndLoosely true false next
   separated_stands z s (shape.comma {u = u} g h) l =
       let before = trivia_gap o z true false (λ e. cc) tt g l in
       let after = trivia_gap o z true false (λ e. cc) s h before.1.2 in
       (grammar.comma (subst (Gap o _) (ap (λ t. t ++ z) (mark_text comma_mark u)) before.0) after.0, after.1)
   separated_stands z s (shape.no_comma x g) l = let gap = trivia_gap o z true false (λ e. cc) s g l in (grammar.no_comma x gap.0, gap.1)
 
-  closed_items : {b : ℕ} {row : OrderedTree} → Closed o b row → ItemsOf o row no_items
+  pub closed_items : {b : ℕ} {row : OrderedTree} → Closed o b row → ItemsOf o row no_items
   closed_items (shape.plain g) = trivia_items o g (values.pass_to_items refl values.no_more_items)
   closed_items (shape.trailing_comma x g h) = trivia_items o g (values.pass_to_items refl (trivia_items o h (values.pass_to_items refl values.no_more_items)))
 
-  separated_items : {row next : OrderedTree} {vs : Items} → Separated o row next → ItemsOf o next vs → ItemsOf o row vs
+  pub separated_items : {row next : OrderedTree} {vs : Items} → Separated o row next → ItemsOf o next vs → ItemsOf o row vs
   separated_items (shape.comma g h) i = trivia_items o g (values.pass_to_items refl (trivia_items o h i))
   separated_items (shape.no_comma x g) i = trivia_items o g i
 
-  closed_members : {b : ℕ} {row : OrderedTree} → Closed o b row → MembersOf o row no_members
+  pub closed_members : {b : ℕ} {row : OrderedTree} → Closed o b row → MembersOf o row no_members
   closed_members (shape.plain g) = trivia_members o g (values.pass_to_members refl values.no_more_members)
   closed_members (shape.trailing_comma x g h) = trivia_members o g (values.pass_to_members refl (trivia_members o h (values.pass_to_members refl values.no_more_members)))
 
-  separated_members : {row next : OrderedTree} {ms : Members} → Separated o row next → MembersOf o next ms → MembersOf o row ms
+  pub separated_members : {row next : OrderedTree} {ms : Members} → Separated o row next → MembersOf o next ms → MembersOf o row ms
   separated_members (shape.comma g h) i = trivia_members o g (values.pass_to_members refl (trivia_members o h i))
   separated_members (shape.no_comma x g) i = trivia_members o g i
 
   -- more after what stands there changes nothing
-  carries_more : (r z : List ℕ) → 0 < length r → Carries o r (r ++ z)
+  pub carries_more : (r z : List ℕ) → 0 < length r → Carries o r (r ++ z)
   carries_more r z l k s h = lexeme_more o k s r z l h
 
   -- a node before those after it
-  node_text : (content : Content) (below after : OrderedTree) (z : List ℕ) → IsUtf8 (text_of content ++ printed below) → chars (text_of content ++ printed below) ++ (printed_text after ++ z) ≡ printed_text (more content below after) ++ z
+  pub node_text : (content : Content) (below after : OrderedTree) (z : List ℕ) → IsUtf8 (text_of content ++ printed below) → chars (text_of content ++ printed below) ++ (printed_text after ++ z) ≡ printed_text (more content below after) ++ z
   node_text content below after z u = sym (ap (λ t. t ++ z) (text_more content below after u) ∙ append_assoc (chars (text_of content ++ printed below)) (printed_text after) z)
 
   mutual
-    value_stands : {content : Content} {below : OrderedTree} {r : List ℕ} (z : List ℕ) → Carries o r z → ValueShaped o content below r → LinesEndLoosely (is_loose content) false below → Stands o content below z
+    pub value_stands : {content : Content} {below : OrderedTree} {r : List ℕ} (z : List ℕ) → Carries o r z → ValueShaped o content below r → LinesEndLoosely (is_loose content) false below → Stands o content below z
     value_stands z f (shape.literal {content = content} h) l = literal_stands content z f h
     value_stands z f (shape.empty_array {t = t} g) l =
         let gap = trivia_gap o z true false (λ e. cc) tt g l.2 in
@@ -274,7 +274,7 @@ module _ (o : Options) where
         let ps = properties_stand z p gap.1 in
         (Plain.object ps.0, subst (λ x. IsValue o (x ++ z) (Plain.object ps.0) z) (sym (mark_text brace_mark t)) (grammar.object gap.0 ps.1), values.object (values.pass_to_members refl (trivia_members o g ps.2)))
 
-    elements_stand : {row : OrderedTree} (z : List ℕ) → ElementsShaped o row → LinesEndLoosely true false row → (vs : Items) × AreElements o (printed_text row ++ z) vs z × ItemsOf o row vs
+    pub elements_stand : {row : OrderedTree} (z : List ℕ) → ElementsShaped o row → LinesEndLoosely true false row → (vs : Items) × AreElements o (printed_text row ++ z) vs z × ItemsOf o row vs
     elements_stand z (shape.last_element {content = content} {below = below} {after = after} v c) l =
         let one = value_stands (printed_text after ++ z) (carries_more (printed_text after) z (closed_some close_bracket_mark c)) v l.1 in
         (item one.0 no_items, subst (λ x. AreElements o x (item one.0 no_items) z) (node_text content below after z (value_utf8 v)) (grammar.last_element one.1 (closed_stands z close_bracket_mark c l.2)), values.one_item one.2 (closed_items c))
@@ -284,7 +284,7 @@ module _ (o : Options) where
         let others = elements_stand z e gap.1 in
         (item one.0 others.0, subst (λ x. AreElements o x (item one.0 others.0) z) (node_text content below after z (value_utf8 v)) (grammar.element one.1 gap.0 others.1), values.one_item one.2 (separated_items s others.2))
 
-    properties_stand : {row : OrderedTree} (z : List ℕ) → PropertiesShaped o row → LinesEndLoosely true false row → (ms : Members) × AreProperties o (printed_text row ++ z) ms z × MembersOf o row ms
+    pub properties_stand : {row : OrderedTree} (z : List ℕ) → PropertiesShaped o row → LinesEndLoosely true false row → (ms : Members) × AreProperties o (printed_text row ++ z) ms z × MembersOf o row ms
     properties_stand z (shape.last_property {below = below} {after = after} p c) l =
         let one = property_stands (printed_text after ++ z) (carries_more (printed_text after) z (closed_some close_brace_mark c)) p l.1 in
         (member one.0 one.1 no_members, subst (λ x. AreProperties o x (member one.0 one.1 no_members) z) (node_text Content.property below after z (property_utf8 p)) (grammar.last_property one.2 (closed_stands z close_brace_mark c l.2)), values.one_member one.3 (closed_members c))
@@ -294,7 +294,7 @@ module _ (o : Options) where
         let others = properties_stand z e gap.1 in
         (member one.0 one.1 others.0, subst (λ x. AreProperties o x (member one.0 one.1 others.0) z) (node_text Content.property below after z (property_utf8 p)) (grammar.property one.2 gap.0 others.1), values.one_member one.3 (separated_members s others.2))
 
-    property_stands : {row : OrderedTree} {r : List ℕ} (z : List ℕ) → Carries o r z → PropertyShaped o row r → LinesEndLoosely false false row → (name : List ℕ) × (v : Plain) × IsProperty o (printed_text row ++ z) name v z × PropertyOf o row name v
+    pub property_stands : {row : OrderedTree} {r : List ℕ} (z : List ℕ) → Carries o r z → PropertyShaped o row r → LinesEndLoosely false false row → (name : List ℕ) × (v : Plain) × IsProperty o (printed_text row ++ z) name v z × PropertyOf o row name v
     property_stands z f (shape.named {name = name} {content = content} {below = below} {after = after} {u = u} n g h v) l =
         let before = trivia_gap o z false false (λ e. cc) tt g l.2 in
         let behind = trivia_gap o z false false (λ e. cc) (value_stops none v) h before.1.2 in
@@ -306,7 +306,7 @@ module _ (o : Options) where
         let here = grammar.named called.1 (subst (Gap o _) (ap (λ t. t ++ z) (mark_text colon_mark u)) before.0) (subst (Gap o _) (ap (λ t. t ++ z) value_text) behind.0) one.1 in
         (called.0, one.0, subst (λ x. IsProperty o x called.0 one.0 z) row_text here, values.name_of called.2 (trivia_value o g (values.pass_to_value refl (trivia_value o h (values.value_of one.2 values.end)))))
 
-  root_text : (row : OrderedTree) → printed_text (more Content.root row none) ≡ printed_text row
+  pub root_text : (row : OrderedTree) → printed_text (more Content.root row none) ≡ printed_text row
   root_text row = ap chars (printed-more Content.root row none ∙ append-nil (printed row))
 
   pub document_printed : (tree : OrderedTree) → DocumentShaped o tree → DocumentLinesEndLoosely tree → PrintsDocument o tree

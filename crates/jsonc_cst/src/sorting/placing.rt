@@ -14,7 +14,7 @@ use jsonc_sort::rearrange;
 use jsonc_tree::Tree;
 use std::alloc::Allocator;
 
-// Lets the elements of an array or object come in an order.
+// Puts the elements of an array or object in an order.
 pub(crate) fn put_in_order<A: Allocator + Copy>(
     alloc: A,
     tree: &mut Tree<A>,

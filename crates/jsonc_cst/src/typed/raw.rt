@@ -18,7 +18,7 @@ use crate::cst::{
 use jsonc_tree::Kind;
 use std::alloc::Allocator;
 
-// Lets a leaf become another of its kind.
+// Replaces what a leaf holds by another text of its kind.
 fn set_leaf<A: Allocator>(doc: &mut CstRootNode<A>, node: CstNode, kind: Kind<A>)
     requires in_document { HasNode doc.old node }
     requires leaf { is_container (content_of kind) ≡ false }

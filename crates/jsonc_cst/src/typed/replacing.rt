@@ -42,7 +42,7 @@ fn is_name_of<A: Allocator>(tree: &Tree<A>, property: usize, number: usize) -> b
     }
 }
 
-// Lets a node are replaced by a value, and answers the node that the value is now.
+// Replaces a node by a value, and answers the node that the value is now.
 fn replace_with<A: Allocator + Copy, N: TypedNode>(
     doc: &mut CstRootNode<A>,
     node: N,

@@ -50,7 +50,7 @@ fn put_row_back<A: Allocator>(tree: &mut Tree<A>, object: usize, row: &[usize])
     tree.insert_between(object, None, None, row);
 }
 
-// Lets a property come into an object on one line, which is put on several before, and on one again where
+// Inserts a property into an object on one line, which is put on several before, and on one again where
 // memory is refused.
 fn insert_spread<A: Allocator + Copy>(
     alloc: A,
@@ -79,14 +79,14 @@ fn insert_spread<A: Allocator + Copy>(
     }
 }
 
-/// Lets a property of this name and value come into an object as its property of this number, or behind
-/// the last one where there are fewer, and answers the number of its node.
+/// Inserts a property of this name and value into an object as its property of this number, or after the
+/// last one where there are fewer, and answers the number of its node.
 ///
 /// An object without the end of a line between its brackets is put on several lines. Blank lines directly
-/// inside the brackets leave: behind the first bracket all but the first line's end, before the last all
-/// but the last. The property comes on a line of its own behind the one before it, its comma and the
-/// comments on that line; a comma comes where one is wanted. The document tells its indent, how lines end
-/// and whether the last property has a comma.
+/// inside the brackets are removed: after the first bracket all but the first line's end, before the last
+/// all but the last. The property is inserted on a line of its own after the one before it, its comma and the
+/// comments on that line, and a comma where one is wanted. Its indent, how lines end and whether the last
+/// property has a comma are the document's.
 ///
 /// An object that lacks a bracket answers `MissingBrackets`. An error leaves the document, and every node
 /// that was there, as it was.

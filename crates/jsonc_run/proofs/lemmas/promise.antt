@@ -1,4 +1,3 @@
-pub mod PrintedShapes
 pub mod Leaves
 pub mod Values
 pub mod Entries
@@ -35,7 +34,6 @@ pub mod Trailing
 pub mod Lines
 pub mod NamedProperties
 pub mod Properties
-pub mod Sorted
 pub mod Sorting
 pub mod Chains
 pub mod Leads

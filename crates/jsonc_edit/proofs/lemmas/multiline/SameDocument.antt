@@ -90,11 +90,11 @@ no_value_there (values.pass {content = content} h g) e =
       | beyond a q k f ↦ no_element content q h
     ]
 
-some_value : (o : Options) {was now : Top} {path : List ℕ} {t u : OrderedTree} → DocumentChanged was now path t u → DocumentValueOf o t None → ⊥
+pub some_value : (o : Options) {was now : Top} {path : List ℕ} {t u : OrderedTree} → DocumentChanged was now path t u → DocumentValueOf o t None → ⊥
 some_value o (in_root {row = row} e k) (below, same, h) = let first : below ≡ row = cc in no_value_there (subst HasNoValue first h) e
 
 -- no bracket is a literal
-no_bracket : (new : OrderedTree) (c : ℕ) → meet (leaves new) (leaves (token_then c none)) ≡ false
+pub no_bracket : (new : OrderedTree) (c : ℕ) → meet (leaves new) (leaves (token_then c none)) ≡ false
 no_bracket new c = both_false (is_bare_leaf (last_printed (leaves new))) (is_bare_leaf (first_printed (leaves (token_then c none)))) (by (starts (λ b. true) (first_char (token c))))
   where
     by : (b : Bool) → is_bare_leaf (if b then Some (token c) else None) ≡ false

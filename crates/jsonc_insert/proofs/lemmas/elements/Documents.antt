@@ -1,28 +1,25 @@
 -- A sound document in which the row of an array or object has become another that may stand there.
-use Rattle.std.proofs.Common.{◌≡◌, ◌∙◌, ℕ, Bool, true, false, ◌&&◌, List, ◌++◌, Option, Some, None, IsTrue, refl, ap, subst, append_assoc, append-nil, if◌then◌else◌}
+use Rattle.std.proofs.Common.{◌≡◌, ◌∙◌, ℕ, true, false, List, ◌++◌, Option, Some, None, IsTrue, refl, ap, subst, append_assoc, append-nil}
 use Rattle.jsonc_text.specs.Options.{Options}
 use Rattle.jsonc_text.specs.Grammar.{IsDocument}
 use Rattle.jsonc_text.specs.Plain.{Plain}
-use Rattle.jsonc_text.specs.Text.{next, starts}
-use Rattle.jsonc_tree.specs.Content.{token}
+use Rattle.jsonc_text.specs.Text.{next}
 use Rattle.jsonc_tree.specs.OrderedTree.{OrderedTree, Top, none, followed_by, leaves}
 use Rattle.jsonc_tree.specs.Values as values
-use Rattle.jsonc_tree.specs.Values.{HasNoValue, DocumentValueOf}
+use Rattle.jsonc_tree.specs.Values.{DocumentValueOf}
 use Rattle.jsonc_tree.proofs.OrderedTrees.{leaves-followed_by}
 use Rattle.jsonc_sound.specs.Lines.{LinesEndLoosely}
 use Rattle.jsonc_sound.specs.Shape.{printed_text, token_then}
 use Rattle.jsonc_sound.proofs.ShapeValues.{document_printed}
-use Rattle.jsonc_sound.specs.Adjacent.{first_char, follower, LeavesEnd, last_printed}
+use Rattle.jsonc_sound.specs.Adjacent.{follower, LeavesEnd, last_printed}
 use Rattle.jsonc_sound.specs.Alone.{RowAlone, may_come}
 use Rattle.jsonc_sound.specs.Marks.{Mark, marks}
 use Rattle.jsonc_sound.specs.MarkChanges.{marks_under}
 use Rattle.jsonc_sound.specs.Rows as rows
 use Rattle.jsonc_sound.specs.Rows.{RowKind, of_values, of_properties, closing}
 use Rattle.jsonc_sound.specs.SoundTrees.{SoundTree}
-use Rattle.jsonc_sound.specs.Spaces.{is_bare_leaf, first_printed, meet}
-use Rattle.jsonc_sound.specs.TreeChanges.{ElementChanged, DocumentChanged, in_root}
+use Rattle.jsonc_sound.specs.TreeChanges.{DocumentChanged}
 use Rattle.jsonc_sound.proofs.NodesAlone.{value_alone, value_leaves}
-use Rattle.jsonc_sound.proofs.FirstNodes.{here, over, beyond, meets_first, none_changed, no_element}
 use Rattle.jsonc_sound.proofs.ReplacedStretches.{values_marks}
 use Rattle.jsonc_sound.proofs.HeldValues.{document_held}
 use Rattle.jsonc_sound.proofs.Leaves.{parted_leaves, last_serves}
@@ -37,33 +34,9 @@ use Rattle.jsonc_edit.proofs.OneValue.{document_once}
 use Rattle.jsonc_edit.specs.multiline.Laws.{bracketed}
 use Rattle.jsonc_insert.specs.elements.Coming.{ElementInserted, comes}
 use Rattle.jsonc_insert.specs.elements.Laws.{GainsMarks}
+use Rattle.jsonc_edit.proofs.lemmas.multiline.SameDocument.{no_bracket, some_value}
 use Rattle.jsonc_insert.proofs.lemmas.elements.Marked.{marks_then, new_marks}
 use Rattle.jsonc_insert.proofs.lemmas.elements.Rows.{IsRow}
-
--- a document of which a value has changed has one
-no_value_there : {x y : Top} {row new : OrderedTree} {i : ℕ} → HasNoValue row → ElementChanged x y i row new → ⊥
-no_value_there values.end e = none_changed e
-no_value_there (values.pass {content = content} h g) e =
-    elim (meets_first e) [
-      | here a p b q f ↦ no_element content q h
-      | over q k f ↦ no_value_there g k
-      | beyond a q k f ↦ no_element content q h
-    ]
-
-some_value : (o : Options) {was now : Top} {path : List ℕ} {t u : OrderedTree} → DocumentChanged was now path t u → DocumentValueOf o t None → ⊥
-some_value o (in_root {row = row} e k) (below, same, h) = let first : below ≡ row = cc in no_value_there (subst HasNoValue first h) e
-
--- no bracket is a literal
-no_bracket : (new : OrderedTree) (c : ℕ) → meet (leaves new) (leaves (token_then c none)) ≡ false
-no_bracket new c = both_false (is_bare_leaf (last_printed (leaves new))) (is_bare_leaf (first_printed (leaves (token_then c none)))) (by (starts (λ b. true) (first_char (token c))))
-  where
-    by : (b : Bool) → is_bare_leaf (if b then Some (token c) else None) ≡ false
-    by true = refl
-    by false = refl
-
-    both_false : (a b : Bool) → b ≡ false → a && b ≡ false
-    both_false true b e = e
-    both_false false b e = refl
 
 -- the marks of a row with its brackets
 bracketed_marks : (kind : RowKind) (row : OrderedTree) → marks_under (bracketed kind row) ≡ marks row

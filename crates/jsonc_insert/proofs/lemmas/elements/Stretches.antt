@@ -1,25 +1,26 @@
 -- Stretches of an array's row before and behind a new element.
-use Rattle.std.proofs.Common.{◌≡◌, ◌≢◌, ◌∙◌, ℕ, suc, Bool, true, false, not, ◌&&◌, List, [], ◌∷◌, ◌++◌, Option, Some, None, IsTrue, refl, sym, ap, subst, arith, append_assoc, if◌then◌else◌}
+use Rattle.std.proofs.Common.{◌≡◌, ◌≢◌, ◌∙◌, ℕ, suc, Bool, true, false, not, List, [], ◌∷◌, Option, Some, IsTrue, refl, sym, ap, subst, arith, if◌then◌else◌}
 use Rattle.jsonc_text.specs.Options.{Options}
 use Rattle.jsonc_text.specs.Text.{starts}
 use Rattle.jsonc_tree.specs.Content.{Content, newline, token, whitespace}
-use Rattle.jsonc_tree.specs.OrderedTree.{OrderedTree, none, more, followed_by, leaves, own_leaf}
+use Rattle.jsonc_tree.specs.OrderedTree.{OrderedTree, none, more, followed_by, leaves}
 use Rattle.jsonc_layout.specs.nodes.Kinds.{is_trivia}
 use Rattle.jsonc_sound.specs.Shape.{IsTrivia}
-use Rattle.jsonc_sound.specs.Adjacent.{first_char, or_else, LeavesEnd, last_printed}
+use Rattle.jsonc_sound.specs.Adjacent.{first_char, LeavesEnd, last_printed}
 use Rattle.jsonc_sound.specs.Alone as alone
 use Rattle.jsonc_sound.specs.Alone.{may_stand, PartAlone, StretchAlone}
 use Rattle.jsonc_sound.specs.Leaving.{comma_comes, element_count}
 use Rattle.jsonc_sound.specs.Rows as rows
-use Rattle.jsonc_sound.specs.Rows.{RowKind, Last, last_behind}
+use Rattle.jsonc_sound.specs.Rows.{RowKind, Last}
 use Rattle.jsonc_sound.specs.Spaces.{is_bare, is_bare_leaf, first_printed}
 use Rattle.jsonc_sound.specs.TreeChanges.{IsElement}
 use Rattle.jsonc_sound.specs.TriviaChanges.{AreTrivia, leaves_then}
 use Rattle.jsonc_sound.proofs.Changed.{part_element}
+pub use Rattle.jsonc_sound.proofs.Commas.{and_false, false_and}
+use Rattle.jsonc_sound.proofs.Commas.{ends_well, first_with, trivia_not_bare}
 use Rattle.jsonc_sound.proofs.FirstNodes.{no_element, trivia_over}
 use Rattle.jsonc_sound.proofs.SeamStretches.{joined_stretch, parted_stretch}
 use Rattle.jsonc_sound.proofs.Spaced.{space_trivia}
-use Rattle.jsonc_sound.proofs.Spaces.{last_append, own_last}
 use Rattle.jsonc_sound.proofs.Texts.{comma_first, trivia_leaf}
 use Rattle.jsonc_insert.specs.elements.Coming.{Gap, nothing, a_space, a_line, takes_element}
 
@@ -36,12 +37,6 @@ trivia_is o (Content.newline n) h = refl
 trivia_is o (Content.comment s) h = refl
 trivia_is o content h = absurd h
 
-trivia_not_bare : (o : Options) (content : Content) → IsTrivia o content → is_bare content ≡ false
-trivia_not_bare o (Content.whitespace s) h = refl
-trivia_not_bare o (Content.newline k) h = refl
-trivia_not_bare o (Content.comment s) h = refl
-trivia_not_bare o content h = absurd h
-
 pub comma_past : (content : Content) (below after : OrderedTree) → IsTrue (is_trivia content) → comma_comes (more content below after) ≡ comma_comes after
 comma_past (Content.whitespace s) below after h = refl
 comma_past (Content.newline n) below after h = refl
@@ -57,27 +52,6 @@ count_past content below after h = cc
 pub count_one : (content : Content) (below after : OrderedTree) → IsElement content → element_count (more content below after) ≡ suc (element_count after)
 count_one content below after h = ap (λ b. if b then suc (element_count after) else element_count after) h
 
--- whether or not it prints
-own_not_bare : (content : Content) → is_bare content ≡ false → (b : Bool) → is_bare_leaf (if b then Some content else None) ≡ false
-own_not_bare content e true = e
-own_not_bare content e false = refl
-
-either_not_bare : (x y : Option Content) → is_bare_leaf x ≡ false → is_bare_leaf y ≡ false → is_bare_leaf (or_else x y) ≡ false
-either_not_bare None y e f = f
-either_not_bare (Some c) y e f = e
-
-pub false_and : (a b : Bool) → a ≡ false → a && b ≡ false
-false_and true b e = cc
-false_and false b e = refl
-
-pub and_false : (a b : Bool) → b ≡ false → a && b ≡ false
-and_false true b e = e
-and_false false b e = refl
-
-last_with : {content : Content} (after : List Content) → own_leaf content ≡ content ∷ [] → is_bare content ≡ false → is_bare_leaf (last_printed after) ≡ false → is_bare_leaf (last_printed (own_leaf content ++ after)) ≡ false
-last_with {content} after e b k =
-    subst (λ l. is_bare_leaf (last_printed (l ++ after)) ≡ false) (sym e) (either_not_bare (last_printed after) (own_last content) k (own_not_bare content b (starts (λ c. true) (first_char content))))
-
 first_alone : (content : Content) (after : List Content) → is_bare content ≡ false → is_bare_leaf (first_printed after) ≡ false → is_bare_leaf (first_printed (content ∷ after)) ≡ false
 first_alone content after b k = by (starts (λ c. true) (first_char content))
   where
@@ -85,14 +59,8 @@ first_alone content after b k = by (starts (λ c. true) (first_char content))
     by true = b
     by false = k
 
-first_with : {content : Content} (after : List Content) → own_leaf content ≡ content ∷ [] → is_bare content ≡ false → is_bare_leaf (first_printed after) ≡ false → is_bare_leaf (first_printed (own_leaf content ++ after)) ≡ false
-first_with {content} after e b k = subst (λ l. is_bare_leaf (first_printed (l ++ after)) ≡ false) (sym e) (first_alone content after b k)
-
 pub first_comma : (after : List Content) → is_bare_leaf (first_printed (token 0x2C ∷ after)) ≡ false
 first_comma after = ap (λ x. is_bare_leaf (if starts (λ d. true) x then Some (token 0x2C) else first_printed after)) comma_first
-
-comma_last : own_last (token 0x2C) ≡ Some (token 0x2C)
-comma_last = ap (λ x. if starts (λ d. true) x then Some (token 0x2C) else None) comma_first
 
 -- a gap between two nodes
 pub gap_first : {b : Bool} {gap : List Content} (row : OrderedTree) → Gap b gap → is_bare_leaf (first_printed (leaves row)) ≡ false → is_bare_leaf (first_printed (leaves (leaves_then gap row))) ≡ false
@@ -104,16 +72,6 @@ pub gap_ends : (o : Options) {b : Bool} {gap : List Content} (row : OrderedTree)
 gap_ends o row n nothing h = h
 gap_ends o row n a_space h = (tt, h)
 gap_ends o row n (a_line i) h = (tt, (tt, h))
-
-abbrev AtAnElement : Last → Type 0
-AtAnElement rows.nothing_yet = ⊥
-AtAnElement rows.an_element = Unit {0}
-AtAnElement rows.a_comma = ⊥
-
--- the last that is printed is no literal without quotes, and behind an element something is printed
-record EndsWell (last : Last) (ls : List Content) : Type 0 where
-  not_bare : is_bare_leaf (last_printed ls) ≡ false
-  some : AtAnElement last → (c : Content) × (last_printed ls ≡ Some c)
 
 module _ (o : Options) (kind : RowKind) where
   pub gap_stretch : {b : Bool} {gap : List Content} {last to : Last} {row : OrderedTree} → Gap b gap → StretchAlone o kind last row to → StretchAlone o kind last (leaves_then gap row) to
@@ -195,37 +153,10 @@ module _ (o : Options) (kind : RowKind) where
       by c e = refl
   none_comes_first h (alone.past_comma g) = cc
 
-  -- what a stretch ends with that does not lead to an element
-  ends_well : {last mid : Last} {stretch : OrderedTree} → StretchAlone o kind last stretch mid → (AtAnElement mid → ⊥) → EndsWell last (leaves stretch)
-  ends_well alone.stays f = record { not_bare = refl; some = λ h. absurd (f h) }
-  ends_well (alone.past_trivia {content = content} {after = after} h s) f =
-      let rest = ends_well s f in
-      record {
-        not_bare = last_with (leaves after) (trivia_leaf o content h) (trivia_not_bare o content h) rest.not_bare;
-        some = λ e. (let k = rest.some e in (k.0, last_append (own_leaf content) (leaves after) ∙ ap (λ x. or_else x (last_printed (own_leaf content))) k.1));
-      }
-  ends_well (alone.past_element {content = content} {below = below} {after = after} m p s) f =
-      let rest = ends_well s f in
-      let k = rest.some tt in
-      let own : List Content = own_leaf content ++ leaves below in
-      let joined : last_printed (own_leaf content ++ (leaves below ++ leaves after)) ≡ Some k.0 =
-      ap last_printed (sym (append_assoc (own_leaf content) (leaves below) (leaves after))) ∙ last_append own (leaves after) ∙ ap (λ x. or_else x (last_printed own)) k.1 in
-      record { not_bare = ap is_bare_leaf (joined ∙ sym k.1) ∙ rest.not_bare; some = λ e. (k.0, joined) }
-  ends_well (alone.past_comma {after = after} s) f =
-      let rest = ends_well s f in
-      record {
-        not_bare = either_not_bare (last_printed (leaves after)) (own_last (token 0x2C)) rest.not_bare (ap is_bare_leaf comma_last);
-        some = λ e. with_comma (last_printed (leaves after));
-      }
-    where
-      with_comma : (x : Option Content) → (c : Content) × (or_else x (own_last (token 0x2C)) ≡ Some c)
-      with_comma None = (token 0x2C, comma_last)
-      with_comma (Some c) = (c, refl)
-
   pub ends_not_bare : {last : Last} {stretch : OrderedTree} (mid : Last) → IsTrue (takes_element mid) → StretchAlone o kind last stretch mid → is_bare_leaf (last_printed (leaves stretch)) ≡ false
-  ends_not_bare rows.nothing_yet h g = (ends_well g (λ h. h)).not_bare
+  ends_not_bare rows.nothing_yet h g = (ends_well o kind g (λ h. h)).not_bare
   ends_not_bare rows.an_element h g = cc
-  ends_not_bare rows.a_comma h g = (ends_well g (λ h. h)).not_bare
+  ends_not_bare rows.a_comma h g = (ends_well o kind g (λ h. h)).not_bare
 
   pub takes_stands : (last : Last) → IsTrue (takes_element last) → IsTrue (may_stand o last)
   takes_stands rows.nothing_yet h = refl

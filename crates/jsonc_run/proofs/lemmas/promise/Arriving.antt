@@ -47,7 +47,7 @@ use Rattle.jsonc_run.proofs.lemmas.promise.Closing.{count_followed}
 use Rattle.jsonc_sound.proofs.LooseLines.{Stops, trivia_gap}
 use Rattle.jsonc_sound.specs.Rows as rows
 use Rattle.jsonc_text.specs.Gaps as text_gaps
-use Rattle.jsonc_run.proofs.lemmas.promise.PrintedShapes.{comma_mark}
+use Rattle.jsonc_sound.proofs.ShapeValues.{comma_mark}
 use Rattle.jsonc_text.specs.Edits as texts
 use Rattle.jsonc_sound.specs.Lines.{LinesEndLoosely}
 use Rattle.jsonc_text.specs.Paths as places

@@ -24,7 +24,7 @@ use Rattle.jsonc_text.specs.Edits as texts
 use Rattle.jsonc_run.proofs.lemmas.promise.Leaves.{back_of, document_parts, document_utf8, front_of, text_joined, utf8_first, utf8_second}
 use Rattle.jsonc_run.proofs.lemmas.promise.LooseRows.{Reads, kind_of_row, behind_comma, behind_entry, loose_text, loose_to, none_comes, reads_on, reads_past, row_reads}
 use Rattle.jsonc_run.proofs.lemmas.promise.Places.{DocumentItself}
-use Rattle.jsonc_run.proofs.lemmas.promise.PrintedShapes.{bracket_mark, brace_mark, mark_text}
+use Rattle.jsonc_sound.proofs.ShapeValues.{bracket_mark, brace_mark, mark_text}
 use Rattle.jsonc_run.proofs.lemmas.promise.RemovedTexts.{among_leaves, comma_text, container_leaves, text_cons}
 use Rattle.jsonc_run.proofs.lemmas.promise.Values.{ValueHere, at_the_place}
 

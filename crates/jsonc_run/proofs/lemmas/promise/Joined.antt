@@ -37,7 +37,7 @@ use Rattle.jsonc_run.proofs.lemmas.promise.CommentTexts.{blanks_text}
 use Rattle.jsonc_run.proofs.lemmas.promise.Leaves.{document_utf8, text_joined, utf8_first, utf8_joined, utf8_second}
 use Rattle.jsonc_run.proofs.lemmas.promise.Lines.{blanks_leave, spaces_leave, spread}
 use Rattle.jsonc_run.proofs.lemmas.promise.LooseRows.{Reads, kind_of_row}
-use Rattle.jsonc_run.proofs.lemmas.promise.PrintedShapes.{Mark, bracket_mark, brace_mark, close_bracket_mark, close_brace_mark}
+use Rattle.jsonc_sound.proofs.ShapeValues.{Mark, bracket_mark, brace_mark, close_bracket_mark, close_brace_mark}
 use Rattle.jsonc_run.proofs.lemmas.promise.Stretches.{pieces_first, pieces_second}
 use Rattle.jsonc_run.proofs.lemmas.promise.Trivia.{beside_text}
 

@@ -27,7 +27,7 @@ use Rattle.jsonc_edit.specs.multiline.Laws.{SpreadAt}
 use Rattle.jsonc_run.specs.promise.PlaceLaws.{text_of_leaves}
 use Rattle.jsonc_run.proofs.lemmas.promise.Leaves.{back_of, text_joined}
 use Rattle.jsonc_run.proofs.lemmas.promise.LooseRows.{is_a_comma, is_a_leaf, is_entry, kind_of_row, row_reads, Reads}
-use Rattle.jsonc_run.proofs.lemmas.promise.PrintedShapes.{bracket_mark, brace_mark, comma_mark, mark_text}
+use Rattle.jsonc_sound.proofs.ShapeValues.{bracket_mark, brace_mark, comma_mark, mark_text}
 use Rattle.jsonc_run.proofs.lemmas.promise.Reversed.{flip}
 use Rattle.jsonc_run.proofs.lemmas.promise.Trivia.{line_end_text}
 use Rattle.jsonc_run.proofs.lemmas.promise.Values.{at_the_place}

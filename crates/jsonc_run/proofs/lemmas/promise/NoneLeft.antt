@@ -25,7 +25,7 @@ use Rattle.jsonc_edit.proofs.lemmas.commas.NoTrailing.{same_lexemes, trivia_leaf
 use Rattle.jsonc_run.specs.Steps.{IsChangedAt}
 use Rattle.jsonc_run.specs.promise.PlaceLaws.{text_of_leaves}
 use Rattle.jsonc_run.proofs.lemmas.promise.Leaves.{back_of}
-use Rattle.jsonc_run.proofs.lemmas.promise.PrintedShapes.{document_printed, value_stands, Carries}
+use Rattle.jsonc_sound.proofs.ShapeValues.{document_printed, value_stands, Carries}
 use Rattle.jsonc_run.proofs.lemmas.promise.Reversed.{flip}
 use Rattle.jsonc_run.proofs.lemmas.promise.Values.{at_the_place, node_leaves}
 

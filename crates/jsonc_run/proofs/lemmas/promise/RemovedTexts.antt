@@ -25,7 +25,7 @@ use Rattle.jsonc_run.proofs.lemmas.promise.Entries.{value_stands_in, property_st
 use Rattle.jsonc_run.proofs.lemmas.promise.Leaves.{row_back, back_of, text_joined, utf8_first, utf8_second, document_utf8}
 use Rattle.jsonc_run.proofs.lemmas.promise.StretchElements.{Reached, past_comma, property_top}
 use Rattle.jsonc_sound.specs.Documents.{document_of}
-use Rattle.jsonc_run.proofs.lemmas.promise.PrintedShapes.{comma_mark}
+use Rattle.jsonc_sound.proofs.ShapeValues.{comma_mark}
 use Rattle.jsonc_run.proofs.lemmas.promise.Stretches.{Begins, beside_begins, marks_in, parted, property_begins, value_begins}
 pub use Rattle.jsonc_run.proofs.lemmas.promise.Stretches.{pieces_first, pieces_second}
 use Rattle.jsonc_run.proofs.lemmas.promise.Trivia.{beside_text, trivia_text, end_text}

@@ -38,7 +38,7 @@ use Rattle.jsonc_sound.specs.Documents.{all_marks, mark}
 use Rattle.jsonc_run.proofs.lemmas.promise.Plains.{changed, list_of_items, same_items, list_of_members, same_members}
 use Rattle.jsonc_sound.specs.Documents.{document_of}
 use Rattle.jsonc_run.proofs.lemmas.promise.Held.{items_held, members_held, right_so}
-use Rattle.jsonc_run.proofs.lemmas.promise.Sorted.{elements, row_elements, sorted_elements}
+use Rattle.jsonc_sort.proofs.Values.{elements, row_elements, sorted_elements}
 
 -- the texts of elements in places are those of what stands there
 same_content : (top : ℕ → Top) (s : Slot) → slot_content (content_of top) s ≡ (top_in top s).content

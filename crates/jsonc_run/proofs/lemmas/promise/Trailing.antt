@@ -28,7 +28,7 @@ use Rattle.jsonc_text.specs.Edits as texts
 use Rattle.jsonc_text.specs.Edits.{LosesTrailing}
 use Rattle.jsonc_run.proofs.lemmas.promise.Leaves.{document_utf8, text_joined, utf8_first, utf8_second}
 use Rattle.jsonc_run.proofs.lemmas.promise.LooseRows.{kind_of_row}
-use Rattle.jsonc_run.proofs.lemmas.promise.PrintedShapes.{close_bracket_mark, close_brace_mark, closing_text}
+use Rattle.jsonc_sound.proofs.ShapeValues.{close_bracket_mark, close_brace_mark, closing_text}
 use Rattle.jsonc_run.proofs.lemmas.promise.RemovedTexts.{comma_text}
 
 -- what has become of a row

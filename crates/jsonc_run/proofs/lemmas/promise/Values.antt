@@ -23,8 +23,8 @@ use Rattle.jsonc_text.specs.Paths as places
 use Rattle.jsonc_text.specs.Paths.{an_array, an_object, opening, IsEntry, LeadsTo, EntryAt, HasEntry, ValueAt, Value}
 use Rattle.jsonc_run.specs.promise.PlaceLaws.{text_of_leaves, node_chars, StandsInText}
 use Rattle.jsonc_run.proofs.lemmas.promise.Leaves.{row_back, value_back, front_of, back_of, document_parts, document_parts_then, text_joined, utf8_first, utf8_second, document_utf8}
-use Rattle.jsonc_run.proofs.lemmas.promise.PrintedShapes as standing
-use Rattle.jsonc_run.proofs.lemmas.promise.PrintedShapes.{colon_mark, bracket_mark, brace_mark, mark_text, Carries, value_utf8, property_utf8, closed_some, separated_some, elements_some, properties_some, separated_stands, carries_more, node_text, value_stands, property_stands, name_stands, name_utf8, mark_some, closing_text, close_bracket_mark, close_brace_mark}
+use Rattle.jsonc_sound.proofs.ShapeValues as standing
+use Rattle.jsonc_sound.proofs.ShapeValues.{colon_mark, bracket_mark, brace_mark, mark_text, Carries, value_utf8, property_utf8, closed_some, separated_some, elements_some, properties_some, separated_stands, carries_more, node_text, value_stands, property_stands, name_stands, name_utf8, mark_some, closing_text, close_bracket_mark, close_brace_mark}
 
 top_of : Content → OrderedTree → Top
 top_of c a = record { content = c; below = a }
