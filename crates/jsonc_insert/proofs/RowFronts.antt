@@ -1,5 +1,5 @@
 -- What a plan reads of a row ends with the first element that comes.
-use Rattle.std.proofs.Common.{◌≡◌, ◌≤◌, ◌<◌, ◌+◌, ◌-◌, ◌⊎◌, inl, inr, ℕ, zero, suc, Bool, true, false, not, ◌&&◌, cond, List, [], ◌∷◌, ◌++◌, length, take, drop, slice_get, slice_index, slice_range, Option, Some, None, option_map, is_some, refl, sym, ap, subst, ◌∙◌, arith, length-append}
+use Rattle.std.proofs.Common.{◌≡◌, ◌≤◌, ◌+◌, ◌-◌, ◌⊎◌, inl, inr, ℕ, zero, suc, Bool, true, false, not, ◌&&◌, cond, List, [], ◌∷◌, ◌++◌, length, take, drop, slice_get, slice_index, slice_range, Option, Some, None, option_map, is_some, refl, sym, ap, subst, ◌∙◌, arith, length-append}
 use Rattle.std.specs.List.{list_all, list_any, take_while}
 use Rattle.std.proofs.lemmas.Bool.{cases_Bool, false≢true}
 use Rattle.std.proofs.lemmas.List.{get_or_append_left, take_rest}
@@ -41,11 +41,10 @@ module _ (ns : List Node) where
   -- the row goes on behind it
   pub front_of : (row : List ℕ) → (rest : List ℕ) × (row ≡ front row ++ rest)
   front_of [] = ([], refl)
-  front_of (n ∷ row) = by (cases_Bool (is_element_at ns n))
-    where
-      by : (is_element_at ns n ≡ true) ⊎ (is_element_at ns n ≡ false) → (rest : List ℕ) × (n ∷ row ≡ front (n ∷ row) ++ rest)
-      by (inl e) = (row, ap (λ l. l ++ row) (sym (at_element n row e)))
-      by (inr e) = let more = front_of row in (more.0, ap (λ l. n ∷ l) more.1 ∙ ap (λ l. l ++ more.0) (sym (past_other n row e)))
+  front_of (n ∷ row) = elim (cases_Bool (is_element_at ns n)) [
+      | inl e ↦ (row, ap (λ l. l ++ row) (sym (at_element n row e)))
+      | inr e ↦ let more = front_of row in (more.0, ap (λ l. n ∷ l) more.1 ∙ ap (λ l. l ++ more.0) (sym (past_other n row e)))
+    ]
 
   -- trivia that come
   trivia_stop : (n : ℕ) (xs : List ℕ) → is_trivia_at ns n ≡ false → take_while (is_trivia_at ns) (n ∷ xs) ≡ []
@@ -56,15 +55,16 @@ module _ (ns : List Node) where
 
   same_trivia : (row : List ℕ) → take_while (is_trivia_at ns) (front row) ≡ take_while (is_trivia_at ns) row
   same_trivia [] = refl
-  same_trivia (n ∷ row) = by (cases_Bool (is_element_at ns n))
-    where
-      by : (is_element_at ns n ≡ true) ⊎ (is_element_at ns n ≡ false) → take_while (is_trivia_at ns) (front (n ∷ row)) ≡ take_while (is_trivia_at ns) (n ∷ row)
-      by (inl e) =
+  same_trivia (n ∷ row) = elim (cases_Bool (is_element_at ns n)) [
+      | inl e ↦ (
           let off = no_trivia (content_at ns n) e in
           ap (take_while (is_trivia_at ns)) (at_element n row e) ∙ trivia_stop n [] off ∙ sym (trivia_stop n row off)
-      by (inr e) =
+          )
+      | inr e ↦ (
           ap (take_while (is_trivia_at ns)) (past_other n row e) ∙ take_while-cons (is_trivia_at ns) n (front row)
           ∙ ap (λ l. cond (is_trivia_at ns n) (n ∷ l) []) (same_trivia row) ∙ sym (take_while-cons (is_trivia_at ns) n row)
+          )
+    ]
 
   -- the comma past them
   comma_stop : (n : ℕ) (xs : List ℕ) → is_trivia_at ns n ≡ false → comma_comes ns (n ∷ xs) ≡ begins_with_comma ns (n ∷ [])
@@ -75,29 +75,29 @@ module _ (ns : List Node) where
 
   same_comma : (row : List ℕ) → comma_comes ns (front row) ≡ comma_comes ns row
   same_comma [] = refl
-  same_comma (n ∷ row) = by (cases_Bool (is_element_at ns n)) (cases_Bool (is_trivia_at ns n))
+  same_comma (n ∷ row) = by (same_comma row) (cases_Bool (is_element_at ns n)) (cases_Bool (is_trivia_at ns n))
     where
-      by : (is_element_at ns n ≡ true) ⊎ (is_element_at ns n ≡ false) → (is_trivia_at ns n ≡ true) ⊎ (is_trivia_at ns n ≡ false) → comma_comes ns (front (n ∷ row)) ≡ comma_comes ns (n ∷ row)
-      by (inl e) t =
+      by : comma_comes ns (front row) ≡ comma_comes ns row → (is_element_at ns n ≡ true) ⊎ (is_element_at ns n ≡ false) → (is_trivia_at ns n ≡ true) ⊎ (is_trivia_at ns n ≡ false) → comma_comes ns (front (n ∷ row)) ≡ comma_comes ns (n ∷ row)
+      by more (inl e) t =
           let off = no_trivia (content_at ns n) e in
           ap (comma_comes ns) (at_element n row e) ∙ comma_stop n [] off ∙ sym (comma_stop n row off)
-      by (inr e) (inl on) = ap (comma_comes ns) (past_other n row e) ∙ comma_go n (front row) on ∙ same_comma row ∙ sym (comma_go n row on)
-      by (inr e) (inr off) = ap (comma_comes ns) (past_other n row e) ∙ comma_stop n (front row) off ∙ sym (comma_stop n row off)
+      by more (inr e) (inl on) = ap (comma_comes ns) (past_other n row e) ∙ comma_go n (front row) on ∙ more ∙ sym (comma_go n row on)
+      by more (inr e) (inr off) = ap (comma_comes ns) (past_other n row e) ∙ comma_stop n (front row) off ∙ sym (comma_stop n row off)
 
   -- the comments on the line
   abbrev inline : List ℕ → Bool
   inline xs = list_all (is_inline_trivia_at ns) xs
 
   cut : (b : Bool) (n : ℕ) (xs : List ℕ) → is_inline_trivia_at ns n ≡ false → inline (cond b (n ∷ xs) []) ≡ not b
-  cut true n xs e = ap (λ t. cond t (inline xs) false) e
+  cut true n xs e = ap (λ t. t && inline xs) e
   cut false n xs e = refl
 
   kept : (b : Bool) (n : ℕ) (xs ys : List ℕ) → inline xs ≡ inline ys → inline (cond b (n ∷ xs) []) ≡ inline (cond b (n ∷ ys) [])
-  kept true n xs ys e = ap (λ t. cond (is_inline_trivia_at ns n) t false) e
+  kept true n xs ys e = ap (λ t. is_inline_trivia_at ns n && t) e
   kept false n xs ys e = refl
 
   all_kept : (b : Bool) (n : ℕ) (xs ys : List ℕ) → is_inline_trivia_at ns n ≡ true → (inline ys ≡ true → xs ≡ ys) → inline (cond b (n ∷ ys) []) ≡ true → cond b (n ∷ xs) [] ≡ cond b (n ∷ ys) []
-  all_kept true n xs ys i same e = ap (λ l. n ∷ l) (same (ap (λ t. cond t (inline ys) false) (sym i) ∙ e))
+  all_kept true n xs ys i same e = ap (λ l. n ∷ l) (same (ap (λ t. t && inline ys) (sym i) ∙ e))
   all_kept false n xs ys i same e = refl
 
   none_kept : (b : Bool) (n : ℕ) (xs ys : List ℕ) → not b ≡ true → cond b (n ∷ xs) [] ≡ cond b (n ∷ ys) []
@@ -115,20 +115,19 @@ module _ (ns : List Node) where
 
   same_line : (row : List ℕ) → SameLine row
   same_line [] = (refl, λ e. refl)
-  same_line (n ∷ row) = by (cases_Bool (is_inline_trivia_at ns n))
+  same_line (n ∷ row) = by (same_line row) (cases_Bool (is_inline_trivia_at ns n))
     where
-      abbrev b : Bool
+      b : Bool
       b = is_no_newline_at ns n
 
-      by : (is_inline_trivia_at ns n ≡ true) ⊎ (is_inline_trivia_at ns n ≡ false) → SameLine (n ∷ row)
-      by (inl on) =
+      by : SameLine row → (is_inline_trivia_at ns n ≡ true) ⊎ (is_inline_trivia_at ns n ≡ false) → SameLine (n ∷ row)
+      by more (inl on) =
           let e = beside_none (content_at ns n) on in
-          let here : line ns (front (n ∷ row)) ≡ cond b (n ∷ line ns (front row)) [] = ap (line ns) (past_other n row e) ∙ line_cons n (front row) in
-          let more = same_line row in (
+          let here : line ns (front (n ∷ row)) ≡ cond b (n ∷ line ns (front row)) [] = ap (line ns) (past_other n row e) ∙ line_cons n (front row) in (
             ap inline here ∙ kept b n (line ns (front row)) (line ns row) more.0 ∙ ap inline (sym (line_cons n row)),
             λ all. here ∙ all_kept b n (line ns (front row)) (line ns row) on more.1 (sym (ap inline (line_cons n row)) ∙ all) ∙ sym (line_cons n row),
           )
-      by (inr off) =
+      by more (inr off) =
           let it = front_cons n row in
           let here : line ns (front (n ∷ row)) ≡ cond b (n ∷ line ns it.0) [] = ap (line ns) it.1 ∙ line_cons n it.0 in
           let whole : inline (line ns (n ∷ row)) ≡ not b = ap inline (line_cons n row) ∙ cut b n (line ns row) off in (
@@ -150,15 +149,16 @@ module _ (ns : List Node) where
   passed : (row : List ℕ) (k : ℕ) → count ns (take k row) ≡ 0 → drop k (front row) ≡ front (drop k row)
   passed row zero e = refl
   passed [] (suc k) e = refl
-  passed (n ∷ row) (suc k) e = by (cases_Bool (is_element_at ns n))
-    where
-      by : (is_element_at ns n ≡ true) ⊎ (is_element_at ns n ≡ false) → drop (suc k) (front (n ∷ row)) ≡ front (drop (suc k) (n ∷ row))
-      by (inl on) =
-          let some : length (cond (is_element_at ns n) (n ∷ elements ns (take k row)) (elements ns (take k row))) ≡ 1 + count ns (take k row) = ap (λ b. length (cond b (n ∷ elements ns (take k row)) (elements ns (take k row)))) on in
+  passed (n ∷ row) (suc k) e = elim (cases_Bool (is_element_at ns n)) [
+      | inl on ↦ (
+          let some : length (cond (is_element_at ns n) (n ∷ elements ns (take k row)) (elements ns (take k row))) ≡ suc (count ns (take k row)) = ap (λ b. length (cond b (n ∷ elements ns (take k row)) (elements ns (take k row)))) on in
           absurd (omega (arith, some, e))
-      by (inr off) =
+          )
+      | inr off ↦ (
           let none : length (cond (is_element_at ns n) (n ∷ elements ns (take k row)) (elements ns (take k row))) ≡ count ns (take k row) = ap (λ b. length (cond b (n ∷ elements ns (take k row)) (elements ns (take k row)))) off in
           ap (drop (suc k)) (past_other n row off) ∙ passed row k (sym none ∙ e)
+          )
+    ]
 
   -- a plan behind a node, by that and what follows through the next element
   module _ (several commas : Bool) (n : ℕ) (row : List ℕ) where
@@ -224,7 +224,7 @@ module _ (ns : List Node) where
     pub at_place : (k : ℕ) → 1 ≤ k → k ≤ length v → slice_index v (k - 1) ≡ slice_index w (k - 1)
     at_place k some h =
         let more = front_of row in
-        sym (ap (λ l. slice_index (n ∷ l) (k - 1)) more.1 ∙ get_or_append_left v more.0 (k - 1) 0 (omega (arith, some, h)))
+        sym (ap (λ l. slice_index (n ∷ l) (k - 1)) more.1 ∙ get_or_append_left v more.0 0 (k - 1) (omega (arith, some, h)))
 
     pub at_comma : (b : Bool) → option_map (λ k. slice_index v (k - 1)) (cond b None (Some 1)) ≡ option_map (λ k. slice_index w (k - 1)) (cond b None (Some 1))
     at_comma true = refl
@@ -233,23 +233,23 @@ module _ (ns : List Node) where
   -- the plan with no element before the new one, by the row through its first element
   first_some : (row : List ℕ) → is_some (slice_get (elements ns (front row)) 0) ≡ is_some (slice_get (elements ns row) 0)
   first_some [] = refl
-  first_some (n ∷ row) = by (cases_Bool (is_element_at ns n))
-    where
-      by : (is_element_at ns n ≡ true) ⊎ (is_element_at ns n ≡ false) → is_some (slice_get (elements ns (front (n ∷ row))) 0) ≡ is_some (slice_get (elements ns (n ∷ row)) 0)
-      by (inl e) =
+  first_some (n ∷ row) = elim (cases_Bool (is_element_at ns n)) [
+      | inl e ↦ (
           ap (λ l. is_some (slice_get (elements ns l) 0)) (at_element n row e) ∙ ap (λ b. is_some (slice_get (cond b (n ∷ []) []) 0)) e
           ∙ sym (ap (λ b. is_some (slice_get (cond b (n ∷ elements ns row) (elements ns row)) 0)) e)
-      by (inr e) =
+          )
+      | inr e ↦ (
           ap (λ l. is_some (slice_get (elements ns l) 0)) (past_other n row e) ∙ ap (λ b. is_some (slice_get (cond b (n ∷ elements ns (front row)) (elements ns (front row))) 0)) e
           ∙ first_some row ∙ sym (ap (λ b. is_some (slice_get (cond b (n ∷ elements ns row) (elements ns row)) 0)) e)
+          )
+    ]
 
   whole : (row : List ℕ) → is_some (slice_get (elements ns row) 0) ≡ false → front row ≡ row
   whole [] none = refl
-  whole (n ∷ row) none = by (cases_Bool (is_element_at ns n))
-    where
-      by : (is_element_at ns n ≡ true) ⊎ (is_element_at ns n ≡ false) → front (n ∷ row) ≡ n ∷ row
-      by (inl e) = absurd (false≢true (sym none ∙ ap (λ b. is_some (slice_get (cond b (n ∷ elements ns row) (elements ns row)) 0)) e))
-      by (inr e) = past_other n row e ∙ ap (λ l. n ∷ l) (whole row (sym (ap (λ b. is_some (slice_get (cond b (n ∷ elements ns row) (elements ns row)) 0)) e) ∙ none))
+  whole (n ∷ row) none = elim (cases_Bool (is_element_at ns n)) [
+      | inl e ↦ absurd (false≢true (sym none ∙ ap (λ b. is_some (slice_get (cond b (n ∷ elements ns row) (elements ns row)) 0)) e))
+      | inr e ↦ past_other n row e ∙ ap (λ l. n ∷ l) (whole row (sym (ap (λ b. is_some (slice_get (cond b (n ∷ elements ns row) (elements ns row)) 0)) e) ∙ none))
+    ]
 
   pub front_brackets : (row : List ℕ) → has_brackets ns row ≡ true → is_some (slice_get (elements ns (front row)) 0) ≡ false → has_brackets ns (front row) ≡ true
   front_brackets row brackets none = ap (has_brackets ns) (whole row (sym (first_some row) ∙ none)) ∙ brackets
@@ -257,17 +257,16 @@ module _ (ns : List Node) where
   pub front_size : (row : List ℕ) → has_brackets ns row ≡ true → 2 ≤ length (front row)
   front_size [] brackets = absurd (false≢true brackets)
   front_size (n ∷ []) brackets = absurd (false≢true brackets)
-  front_size (n ∷ m ∷ row) brackets = by (cases_Bool (is_element_at ns n))
-    where
-      by : (is_element_at ns n ≡ true) ⊎ (is_element_at ns n ≡ false) → 2 ≤ length (front (n ∷ m ∷ row))
-      by (inl e) = absurd (token_no_element (content_at ns n) (front_token ns (n ∷ m ∷ row) brackets) e)
-      by (inr e) = omega (arith, ap length (past_other n (m ∷ row) e))
+  front_size (n ∷ m ∷ row) brackets = elim (cases_Bool (is_element_at ns n)) [
+      | inl e ↦ absurd (token_no_element (content_at ns n) (front_token ns (n ∷ m ∷ row) brackets) e)
+      | inr e ↦ omega (arith, ap length (past_other n (m ∷ row) e))
+    ]
 
   pub same_front : (several commas : Bool) (row : List ℕ) → has_brackets ns row ≡ true → (i : ℕ) → plan_by ns several commas (front row) i None ≡ plan_by ns several commas row i None
   same_front several commas [] brackets i = refl
   same_front several commas (n ∷ row) brackets i = by (cases_Bool (is_some (slice_get (elements ns (n ∷ row)) 0)))
     where
-      abbrev v : List ℕ
+      v : List ℕ
       v = front (n ∷ row)
 
       token : is_element_at ns n ≡ false
@@ -313,14 +312,14 @@ beside_read ns tree c n said several commas more i tells v all q is high b plan 
 pub front_read : (ns : List Node) (tree : IsTree ns) (c : ℕ) (several : Bool) → has_brackets ns (children_at ns c) ≡ true → (v : List ℕ) → v ≡ through_element ns (children_at ns c)
     → (q : Plan) → 1 ≤ q.place → q.place ≤ length v → q.comma ≡ None → (b : Neighbours) → b.plan ≡ q → b.after ≡ slice_index v (q.place - 1) → b.comma ≡ option_map (λ k. slice_index v (k - 1)) q.comma
     → ((commas : Bool) (i : ℕ) → q ≡ plan_by ns several commas v i None) → (commas : Bool) (i : ℕ) → IsBeside ns c (plan_by ns several commas (children_at ns c) i None) b
-front_read ns tree c several brackets v all q low high none b plan after comma is commas i =
+front_read ns tree c several brackets u all p some high none b plan after comma is commas i =
     let row : List ℕ = children_at ns c in
     let more = front_of ns row in
-    let within : q.place ≤ length (through_element ns row) = subst (λ l. q.place ≤ length l) all high in
-    let long : q.place ≤ length row = omega (arith, within, ap length more.1, length-append (through_element ns row) more.0) in
-    let at : slice_index (through_element ns row) (q.place - 1) ≡ slice_index row (q.place - 1) =
-    sym (ap (λ l. slice_index l (q.place - 1)) more.1 ∙ get_or_append_left (through_element ns row) more.0 (q.place - 1) 0 (omega (arith, low, within))) in
-    front_told ns tree c row refl q low long none b plan
-    (after ∙ ap (λ l. slice_index l (q.place - 1)) all ∙ at)
-    (comma ∙ ap (option_map (λ k. slice_index v (k - 1))) none ∙ ap (option_map (λ k. slice_index row (k - 1))) (sym none)) _
+    let within : p.place ≤ length (through_element ns row) = subst (λ l. p.place ≤ length l) all high in
+    let long : p.place ≤ length row = omega (arith, within, ap length more.1, length-append (through_element ns row) more.0) in
+    let at : slice_index (through_element ns row) (p.place - 1) ≡ slice_index row (p.place - 1) =
+    sym (ap (λ l. slice_index l (p.place - 1)) more.1 ∙ get_or_append_left (through_element ns row) more.0 0 (p.place - 1) (omega (arith, some, within))) in
+    front_told ns tree c row refl p some long none b plan
+    (after ∙ ap (λ l. slice_index l (p.place - 1)) all ∙ at)
+    (comma ∙ ap (option_map (λ k. slice_index u (k - 1))) none ∙ ap (option_map (λ k. slice_index row (k - 1))) (sym none)) _
     (is commas i ∙ ap (λ l. plan_by ns several commas l i None) all ∙ same_front ns several commas row brackets i)

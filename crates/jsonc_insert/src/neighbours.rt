@@ -62,7 +62,7 @@ fn push_through_element<A: Allocator>(
     tree: &Tree<A>,
     nodes: Children<A>,
 ) -> Result<(), AllocError>
-    ensures { OnOk result (row.new.items ≡ row.old.items ++ through_element tree.now.nodes nodes) }
+    ensures { OnOk result (row.new.items ≡ row.old.items ++ through_element tree.now.nodes nodes.entry) }
 {
     for node in nodes {
         row.push(node)?;

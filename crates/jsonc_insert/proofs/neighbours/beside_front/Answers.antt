@@ -1,6 +1,6 @@
-use Rattle.std.proofs.Common.{◌≤◌, ap, subst, sym, ◌∙◌, length, None}
+use Rattle.std.proofs.Common.{◌≡◌, ◌≤◌, ap, false, is_some, slice_get, subst, sym, true, ◌∙◌, length, None}
 use Rattle.jsonc_tree.specs.Tree.{children_at}
-use Rattle.jsonc_insert.specs.Planned.{plan_by}
+use Rattle.jsonc_insert.specs.Planned.{elements, has_brackets, plan_by}
 use Rattle.jsonc_insert.proofs.RowFronts.{front_brackets, front_read, front_size}
 use Rattle.jsonc_insert.proofs.neighbours.beside_front.Goals as goal
 
@@ -10,10 +10,9 @@ plan_front-plan-requires-clause-size g c =
     subst (λ l. 2 ≤ length l) (sym (c.deref.ensures.value ∙ c.in_ok-row.ensures)) (front_size ns (children_at ns c.args.container) c.requires.brackets)
 
 pub plan_front-plan-requires-clause-brackets : goal.plan_front-plan-requires-clause-brackets
-plan_front-plan-requires-clause-brackets g c = λ none.
+plan_front-plan-requires-clause-brackets g c =
     let ns = c.args.tree.now.nodes in
-    let all = c.deref.ensures.value ∙ c.in_ok-row.ensures in
-    front_brackets ns (children_at ns c.args.container) c.requires.brackets none
+    subst (λ l. is_some (slice_get (elements ns l) 0) ≡ false → has_brackets ns l ≡ true) (sym (c.deref.ensures.value ∙ c.in_ok-row.ensures)) (front_brackets ns (children_at ns c.args.container) c.requires.brackets)
 
 pub returns : goal.returns
 returns g c =
