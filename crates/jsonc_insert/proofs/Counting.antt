@@ -29,7 +29,7 @@ trivia_none (content.newline k) e = refl
 trivia_none (content.comment s) e = refl
 trivia_none _ e = cc
 
-beside_none : (c : Content) → is_inline_trivia c ≡ true → is_element c ≡ false
+pub beside_none : (c : Content) → is_inline_trivia c ≡ true → is_element c ≡ false
 beside_none (content.whitespace s) e = refl
 beside_none (content.comment s) e = refl
 beside_none _ e = cc
@@ -48,7 +48,7 @@ module _ (ns : List Node) where
   one_some : (n : ℕ) → is_element_at ns n ≡ true → elements ns (n ∷ []) ≡ n ∷ []
   one_some n e = ap (λ b. cond b (n ∷ []) []) e
 
-  count_append : (xs ys : List ℕ) → count (xs ++ ys) ≡ count xs + count ys
+  pub count_append : (xs ys : List ℕ) → count (xs ++ ys) ≡ count xs + count ys
   count_append xs ys = ap length (filter-append (is_element_at ns) xs ys) ∙ length-append (elements ns xs) (elements ns ys)
 
   -- no more stand in the front of a row than in the row
@@ -174,7 +174,7 @@ module _ (ns : List Node) where
             let at : slice_index xs t ≡ y = ap (slice_index xs) (sym none) ∙ sym (get_or-drop t xs 0 0) ∙ ap (λ l. slice_index l 0) f in
             (omega (arith, length-drop t xs, ap length f), ap (is_comma_at ns) at ∙ h)
 
-    passes_comma : count (take (behind_comma ns row p) row) ≡ count (take p row)
+    pub passes_comma : count (take (behind_comma ns row p) row) ≡ count (take p row)
     passes_comma = by (cases_Bool (has_comma ns row p))
       where
         by : (has_comma ns row p ≡ true) ⊎ (has_comma ns row p ≡ false) → count (take (behind_comma ns row p) row) ≡ count (take p row)
@@ -214,7 +214,7 @@ module _ (ns : List Node) where
         by (inl so) = beside_none (content_at ns (slice_index row (p + k))) (sym (ap (is_inline_trivia_at ns) (line_at k h)) ∙ so)
         by (inr off) = absurd (false≢true (sym (list_all_at (is_inline_trivia_at ns) (line ns (slice_range row p (length row))) k 0 h off) ∙ all))
 
-    passes_comments : count (take (past_comments ns row p) row) ≡ count (take p row)
+    pub passes_comments : count (take (past_comments ns row p) row) ≡ count (take p row)
     passes_comments = by (cases_Bool (list_all (is_inline_trivia_at ns) (line ns (slice_range row p (length row)))))
       where
         by : (list_all (is_inline_trivia_at ns) (line ns (slice_range row p (length row))) ≡ true) ⊎ (list_all (is_inline_trivia_at ns) (line ns (slice_range row p (length row))) ≡ false) → count (take (past_comments ns row p) row) ≡ count (take p row)

@@ -184,11 +184,11 @@ module _ (ns : List Node) (tree : IsTree ns) (c n : ℕ) (said : parent_at ns n 
   at_least : (w : List ℕ) → 1 ≤ past_comments ns w (behind_comma ns w 1)
   at_least w = omega (arith, behind_low (comma_comes ns (drop 1 w)) (trivia ns (drop 1 w)))
 
-  wanted_at : (several commas more : Bool) (w : List ℕ) → (plan_behind ns several commas w more 1).comma ≡ comma_wanted ns w 1
+  pub wanted_at : (several commas more : Bool) (w : List ℕ) → (plan_behind ns several commas w more 1).comma ≡ comma_wanted ns w 1
   wanted_at several commas true w = refl
   wanted_at several commas false w = refl
 
-  place_at_least : (several commas more : Bool) (w : List ℕ) → 1 ≤ (plan_behind ns several commas w more 1).place
+  pub place_at_least : (several commas more : Bool) (w : List ℕ) → 1 ≤ (plan_behind ns several commas w more 1).place
   place_at_least several commas true w = at_least w
   place_at_least several commas false w = at_least w
 

@@ -1,12 +1,11 @@
 -- What a document tells of what comes into a container, read in the tree once blank lines inside its brackets have been removed.
-use Rattle.std.specs.Prelude.{ℕ, ◌++◌, Bool, true, false, ◌||◌, List, Option, Some, None, is_some, slice_get}
+use Rattle.std.specs.Prelude.{ℕ, ◌++◌, Bool, ◌||◌, List, Option, Some, None, is_some, slice_get}
 use Rattle.std.specs.List.{list_any}
-use Rattle.jsonc_text.specs.Plain.{Plain, member}
+use Rattle.jsonc_text.specs.Plain.{Plain}
 use Rattle.jsonc_tree.specs.Tree.{Node, children_at}
 use Rattle.jsonc_layout.specs.nodes.Kinds.{is_newline_at}
 use Rattle.jsonc_layout.specs.lines.Breadth.{newline_kind_at, uses_trailing_commas_at}
 use Rattle.jsonc_layout.specs.lines.Indents.{IndentTexts, indents_at}
-use Rattle.jsonc_layout.specs.from_input.Laid.{holds_filled}
 use Rattle.jsonc_layout.specs.from_input.Layout.{Layout}
 use Rattle.jsonc_insert.specs.Planned.{elements}
 pub use Rattle.jsonc_edit.specs.Reading.{is_spread}

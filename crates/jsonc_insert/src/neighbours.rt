@@ -1,18 +1,18 @@
 //! Where an element comes between two neighbours, read in the tree as it is, and how it comes there.
 
-ghost use Rattle.std.specs.Prelude.{◌≡◌, ◌≤◌, ◌<◌, ◌+◌, ◌-◌, ◌∷◌, IfOk, IfSome, None, Some, is_some, length, option_map};
+ghost use Rattle.std.specs.Prelude.{◌≡◌, ◌≤◌, ◌<◌, ◌+◌, ◌-◌, ◌∷◌, ◌++◌, IfOk, IfSome, None, OnOk, Some, is_some, length, option_map};
 ghost use Rattle.std.specs.Prelude.{Bool, slice_get, slice_index, true, ℕ};
 ghost use Rattle.jsonc_tree.specs.Changes.{CanJoin, Splices};
 ghost use Rattle.jsonc_tree.specs.Siblings.{siblings_after};
 ghost use Rattle.jsonc_tree.specs.Tree.{children_at, parent_at, place_at};
 ghost use Rattle.jsonc_layout.specs.nodes.Siblings.{IsThere};
 ghost use Rattle.jsonc_insert.specs.Neighbours.{IsBeside};
-ghost use Rattle.jsonc_insert.specs.Planned.{element_before, elements, has_brackets, plan_by, planned};
+ghost use Rattle.jsonc_insert.specs.Planned.{element_before, elements, has_brackets, plan_by, planned, through_element};
 
 use crate::plan::{Plan, plan_behind, plan_front};
 use jsonc_layout::lines::last_child_element;
-use jsonc_layout::nodes::{children, element_at};
-use jsonc_tree::Tree;
+use jsonc_layout::nodes::{element_at, is_element};
+use jsonc_tree::{Children, Tree};
 use std::alloc::{AllocError, Allocator};
 
 /// Where a new element comes, by the children that stand before it, and what comes with it.
@@ -56,20 +56,50 @@ fn has_element<A: Allocator>(tree: &Tree<A>, container: usize, index: usize) -> 
     element_at(tree, container, index).is_some()
 }
 
-// A node and the siblings after it.
+// Adds nodes to a row, through the first element.
+fn push_through_element<A: Allocator>(
+    row: &mut Vec<usize, A>,
+    tree: &Tree<A>,
+    nodes: Children<A>,
+) -> Result<(), AllocError>
+    ensures { OnOk result (row.new.items ≡ row.old.items ++ through_element tree.now.nodes nodes.entry) }
+{
+    for node in nodes {
+        row.push(node)?;
+        if is_element(tree, node) {
+            return Ok(());
+        }
+    }
+    Ok(())
+}
+
+// The children of a container, through its first element.
+fn row_front<A: Allocator + Copy>(
+    alloc: A,
+    tree: &Tree<A>,
+    container: usize,
+) -> Result<Vec<usize, A>, AllocError>
+    requires { container < length tree.now.nodes }
+    ensures { IfOk result (λ v. v.items ≡ through_element tree.now.nodes (children_at tree.now.nodes container)) }
+{
+    let mut row = Vec::new(alloc);
+    push_through_element(&mut row, tree, tree.children(container))?;
+    Ok(row)
+}
+
+// A node and the siblings after it, through the first element among these.
 fn row_from<A: Allocator + Copy>(
     alloc: A,
     tree: &Tree<A>,
     node: usize,
 ) -> Result<Vec<usize, A>, AllocError>
     requires { node < length tree.now.nodes }
-    ensures { IfOk result (λ v. v.items ≡ node ∷ siblings_after tree.now.nodes node) }
+    ensures { IfOk result
+        (λ v. v.items ≡ node ∷ through_element tree.now.nodes (siblings_after tree.now.nodes node)) }
 {
     let mut row = Vec::new(alloc);
     row.push(node)?;
-    for sibling in tree.next_siblings(node) {
-        row.push(sibling)?;
-    }
+    push_through_element(&mut row, tree, tree.next_siblings(node))?;
     Ok(row)
 }
 
@@ -112,7 +142,7 @@ fn beside_front<A: Allocator + Copy>(
     ensures { IfOk result (λ b. (commas : Bool) (i : ℕ) → IsBeside tree.now.nodes container
         (plan_by tree.now.nodes several commas (children_at tree.now.nodes container) i None) b) }
 {
-    let row = children(alloc, tree, container)?;
+    let row = row_front(alloc, tree, container)?;
     let plan = plan_front(tree, several, &row);
     Ok(beside(&row, plan))
 }

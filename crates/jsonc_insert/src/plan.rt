@@ -1,6 +1,6 @@
 //! Where an element is put into a row, and what is written beside it.
 
-ghost use Rattle.std.specs.Prelude.{◌≡◌, ◌≤◌, ◌<◌, Bool, None, length, slice_get, true, ℕ};
+ghost use Rattle.std.specs.Prelude.{◌≡◌, ◌≤◌, ◌<◌, Bool, None, false, is_some, length, slice_get, true, ℕ};
 ghost use Rattle.jsonc_tree.specs.Tree.{children_at};
 ghost use Rattle.jsonc_insert.specs.Planned.{before_next, behind_comma, comma_comes, comma_wanted, element_before};
 ghost use Rattle.jsonc_insert.specs.Planned.{elements, has_brackets, has_comma, line_ends};
@@ -228,9 +228,11 @@ pub(crate) fn plan_behind<A: Allocator>(
     }
 }
 
-/// The plan with no element before the new one.
+/// The plan with no element before the new one, by a row that may end with the first element.
 pub(crate) fn plan_front<A: Allocator>(tree: &Tree<A>, several: bool, row: &[usize]) -> Plan
-    requires { has_brackets tree.now.nodes row.now ≡ true }
+    requires size { 2 ≤ length row.now }
+    requires brackets { is_some (slice_get (elements tree.now.nodes row.now) 0) ≡ false
+        → has_brackets tree.now.nodes row.now ≡ true }
     ensures plan { (commas : Bool) (i : ℕ) → result ≡ plan_by tree.now.nodes several commas row.now i None }
     ensures place { 1 ≤ result.place }
     ensures within { result.place ≤ length row.now }
