@@ -42,9 +42,9 @@ module _ (ns : List Node) where
   pub front_of : (row : List ℕ) → (rest : List ℕ) × (row ≡ front row ++ rest)
   front_of [] = ([], refl)
   front_of (n ∷ row) = elim (cases_Bool (is_element_at ns n)) [
-      | inl e ↦ (row, ap (λ l. l ++ row) (sym (at_element n row e)))
-      | inr e ↦ let more = front_of row in (more.0, ap (λ l. n ∷ l) more.1 ∙ ap (λ l. l ++ more.0) (sym (past_other n row e)))
-    ]
+    | inl e ↦ (row, ap (λ l. l ++ row) (sym (at_element n row e)))
+    | inr e ↦ let more = front_of row in (more.0, ap (λ l. n ∷ l) more.1 ∙ ap (λ l. l ++ more.0) (sym (past_other n row e)))
+  ]
 
   -- trivia that come
   trivia_stop : (n : ℕ) (xs : List ℕ) → is_trivia_at ns n ≡ false → take_while (is_trivia_at ns) (n ∷ xs) ≡ []
@@ -56,15 +56,15 @@ module _ (ns : List Node) where
   same_trivia : (row : List ℕ) → take_while (is_trivia_at ns) (front row) ≡ take_while (is_trivia_at ns) row
   same_trivia [] = refl
   same_trivia (n ∷ row) = elim (cases_Bool (is_element_at ns n)) [
-      | inl e ↦ (
-          let off = no_trivia (content_at ns n) e in
-          ap (take_while (is_trivia_at ns)) (at_element n row e) ∙ trivia_stop n [] off ∙ sym (trivia_stop n row off)
-          )
-      | inr e ↦ (
-          ap (take_while (is_trivia_at ns)) (past_other n row e) ∙ take_while-cons (is_trivia_at ns) n (front row)
-          ∙ ap (λ l. cond (is_trivia_at ns n) (n ∷ l) []) (same_trivia row) ∙ sym (take_while-cons (is_trivia_at ns) n row)
-          )
-    ]
+    | inl e ↦ (
+        let off = no_trivia (content_at ns n) e in
+        ap (take_while (is_trivia_at ns)) (at_element n row e) ∙ trivia_stop n [] off ∙ sym (trivia_stop n row off)
+        )
+    | inr e ↦ (
+        ap (take_while (is_trivia_at ns)) (past_other n row e) ∙ take_while-cons (is_trivia_at ns) n (front row)
+        ∙ ap (λ l. cond (is_trivia_at ns n) (n ∷ l) []) (same_trivia row) ∙ sym (take_while-cons (is_trivia_at ns) n row)
+        )
+  ]
 
   -- the comma past them
   comma_stop : (n : ℕ) (xs : List ℕ) → is_trivia_at ns n ≡ false → comma_comes ns (n ∷ xs) ≡ begins_with_comma ns (n ∷ [])
@@ -150,15 +150,15 @@ module _ (ns : List Node) where
   passed row zero e = refl
   passed [] (suc k) e = refl
   passed (n ∷ row) (suc k) e = elim (cases_Bool (is_element_at ns n)) [
-      | inl on ↦ (
-          let some : length (cond (is_element_at ns n) (n ∷ elements ns (take k row)) (elements ns (take k row))) ≡ suc (count ns (take k row)) = ap (λ b. length (cond b (n ∷ elements ns (take k row)) (elements ns (take k row)))) on in
-          absurd (omega (arith, some, e))
-          )
-      | inr off ↦ (
-          let none : length (cond (is_element_at ns n) (n ∷ elements ns (take k row)) (elements ns (take k row))) ≡ count ns (take k row) = ap (λ b. length (cond b (n ∷ elements ns (take k row)) (elements ns (take k row)))) off in
-          ap (drop (suc k)) (past_other n row off) ∙ passed row k (sym none ∙ e)
-          )
-    ]
+    | inl on ↦ (
+        let some : length (cond (is_element_at ns n) (n ∷ elements ns (take k row)) (elements ns (take k row))) ≡ suc (count ns (take k row)) = ap (λ b. length (cond b (n ∷ elements ns (take k row)) (elements ns (take k row)))) on in
+        absurd (omega (arith, some, e))
+        )
+    | inr off ↦ (
+        let none : length (cond (is_element_at ns n) (n ∷ elements ns (take k row)) (elements ns (take k row))) ≡ count ns (take k row) = ap (λ b. length (cond b (n ∷ elements ns (take k row)) (elements ns (take k row)))) off in
+        ap (drop (suc k)) (past_other n row off) ∙ passed row k (sym none ∙ e)
+        )
+  ]
 
   -- a plan behind a node, by that and what follows through the next element
   module _ (several commas : Bool) (n : ℕ) (row : List ℕ) where
@@ -234,22 +234,22 @@ module _ (ns : List Node) where
   first_some : (row : List ℕ) → is_some (slice_get (elements ns (front row)) 0) ≡ is_some (slice_get (elements ns row) 0)
   first_some [] = refl
   first_some (n ∷ row) = elim (cases_Bool (is_element_at ns n)) [
-      | inl e ↦ (
-          ap (λ l. is_some (slice_get (elements ns l) 0)) (at_element n row e) ∙ ap (λ b. is_some (slice_get (cond b (n ∷ []) []) 0)) e
-          ∙ sym (ap (λ b. is_some (slice_get (cond b (n ∷ elements ns row) (elements ns row)) 0)) e)
-          )
-      | inr e ↦ (
-          ap (λ l. is_some (slice_get (elements ns l) 0)) (past_other n row e) ∙ ap (λ b. is_some (slice_get (cond b (n ∷ elements ns (front row)) (elements ns (front row))) 0)) e
-          ∙ first_some row ∙ sym (ap (λ b. is_some (slice_get (cond b (n ∷ elements ns row) (elements ns row)) 0)) e)
-          )
-    ]
+    | inl e ↦ (
+        ap (λ l. is_some (slice_get (elements ns l) 0)) (at_element n row e) ∙ ap (λ b. is_some (slice_get (cond b (n ∷ []) []) 0)) e
+        ∙ sym (ap (λ b. is_some (slice_get (cond b (n ∷ elements ns row) (elements ns row)) 0)) e)
+        )
+    | inr e ↦ (
+        ap (λ l. is_some (slice_get (elements ns l) 0)) (past_other n row e) ∙ ap (λ b. is_some (slice_get (cond b (n ∷ elements ns (front row)) (elements ns (front row))) 0)) e
+        ∙ first_some row ∙ sym (ap (λ b. is_some (slice_get (cond b (n ∷ elements ns row) (elements ns row)) 0)) e)
+        )
+  ]
 
   whole : (row : List ℕ) → is_some (slice_get (elements ns row) 0) ≡ false → front row ≡ row
   whole [] none = refl
   whole (n ∷ row) none = elim (cases_Bool (is_element_at ns n)) [
-      | inl e ↦ absurd (false≢true (sym none ∙ ap (λ b. is_some (slice_get (cond b (n ∷ elements ns row) (elements ns row)) 0)) e))
-      | inr e ↦ past_other n row e ∙ ap (λ l. n ∷ l) (whole row (sym (ap (λ b. is_some (slice_get (cond b (n ∷ elements ns row) (elements ns row)) 0)) e) ∙ none))
-    ]
+    | inl e ↦ absurd (false≢true (sym none ∙ ap (λ b. is_some (slice_get (cond b (n ∷ elements ns row) (elements ns row)) 0)) e))
+    | inr e ↦ past_other n row e ∙ ap (λ l. n ∷ l) (whole row (sym (ap (λ b. is_some (slice_get (cond b (n ∷ elements ns row) (elements ns row)) 0)) e) ∙ none))
+  ]
 
   pub front_brackets : (row : List ℕ) → has_brackets ns row ≡ true → is_some (slice_get (elements ns (front row)) 0) ≡ false → has_brackets ns (front row) ≡ true
   front_brackets row brackets none = ap (has_brackets ns) (whole row (sym (first_some row) ∙ none)) ∙ brackets
@@ -258,9 +258,9 @@ module _ (ns : List Node) where
   front_size [] brackets = absurd (false≢true brackets)
   front_size (n ∷ []) brackets = absurd (false≢true brackets)
   front_size (n ∷ m ∷ row) brackets = elim (cases_Bool (is_element_at ns n)) [
-      | inl e ↦ absurd (token_no_element (content_at ns n) (front_token ns (n ∷ m ∷ row) brackets) e)
-      | inr e ↦ omega (arith, ap length (past_other n (m ∷ row) e))
-    ]
+    | inl e ↦ absurd (token_no_element (content_at ns n) (front_token ns (n ∷ m ∷ row) brackets) e)
+    | inr e ↦ omega (arith, ap length (past_other n (m ∷ row) e))
+  ]
 
   pub same_front : (several commas : Bool) (row : List ℕ) → has_brackets ns row ≡ true → (i : ℕ) → plan_by ns several commas (front row) i None ≡ plan_by ns several commas row i None
   same_front several commas [] brackets i = refl
