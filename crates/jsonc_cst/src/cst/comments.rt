@@ -76,9 +76,14 @@ fn gap_before<A: Allocator>(
     ensures { IfOk result (λ v. v.items
         ≡ take_while (λ m. not (is_element_at tree.now.nodes m)) (siblings_before tree.now.nodes node)) }
 {
-    previous_siblings(tree, node)
-        .take_while(|sibling| !is_element(tree, *sibling))
-        .collect(alloc)
+    let mut gap = Vec::new(alloc);
+    for sibling in previous_siblings(tree, node) {
+        if is_element(tree, sibling) {
+            return Ok(gap);
+        }
+        gap.push(sibling)?;
+    }
+    Ok(gap)
 }
 
 // The nodes between an entry and the next one; where it is the last, the bracket is the last of them.
@@ -91,9 +96,14 @@ fn gap_behind<A: Allocator>(
     ensures { IfOk result (λ v. v.items
         ≡ take_while (λ m. not (is_element_at tree.now.nodes m)) (siblings_after tree.now.nodes node)) }
 {
-    next_siblings(tree, node)
-        .take_while(|sibling| !is_element(tree, *sibling))
-        .collect(alloc)
+    let mut gap = Vec::new(alloc);
+    for sibling in next_siblings(tree, node) {
+        if is_element(tree, sibling) {
+            return Ok(gap);
+        }
+        gap.push(sibling)?;
+    }
+    Ok(gap)
 }
 
 // Whether a node is an entry: an element between the brackets of an array or object.

@@ -1,0 +1,10 @@
+use Rattle.std.proofs.Common.{◌≡◌, ◌++◌}
+use Rattle.std.specs.List.{take_while}
+use Rattle.jsonc_layout.specs.nodes.Siblings.{siblings_before}
+use Rattle.jsonc_cst.proofs.lemmas.comments.Gaps.{no_element}
+use Rattle.jsonc_cst.proofs.cst.comments.gap_before.Given as goal
+
+abbrev pub invariant-loop-sibling : goal.invariant-loop-sibling
+invariant-loop-sibling g l =
+    let ns = l.tree.nodes in
+    l.gap.items ++ take_while (no_element ns) l.sibling-iterator ≡ take_while (no_element ns) (siblings_before ns l.node)
