@@ -1,6 +1,7 @@
 //! From a text to its syntax tree; and the walk over a text, whatever is made of it.
 
 pub mod collect;
+mod collecting;
 pub mod comments;
 pub mod container;
 pub mod context;
@@ -9,6 +10,7 @@ pub mod passed;
 pub mod receiver;
 mod room;
 pub mod stack;
+pub mod stops;
 mod values;
 pub mod walk;
 

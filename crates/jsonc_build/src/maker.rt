@@ -241,6 +241,8 @@ impl<'a, A: Allocator + Copy> Receiver<String<A>> for DocumentMaker<'a, A> {
 
     type Property = usize;
 
+    type Error = AllocError;
+
     ghost whole = { true };
 
     ghost source = { source_in };

@@ -3,6 +3,7 @@
 mod edits;
 mod entry_comments;
 mod inputs;
+mod large;
 mod named_values;
 mod node_edits;
 mod raw_edits;

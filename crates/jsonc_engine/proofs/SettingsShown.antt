@@ -1,6 +1,6 @@
 -- What stands at names in a document that nodes show, what was put there, and what was dropped.
 use Rattle.std.proofs.Common.{◌≡◌, ◌⊎◌, ◌++◌, ◌∷◌, [], ℕ, Bool, true, false, List, Option, Some, None, inl, inr, refl, sym, ap, subst}
-use Rattle.jsonc_text.specs.Edits.{Document}
+use Rattle.jsonc_text.specs.Documents.{Document}
 use Rattle.jsonc_text.specs.Grammar.{IsDocument}
 use Rattle.jsonc_text.specs.Options.{Options}
 use Rattle.jsonc_text.specs.Plain.{Plain}

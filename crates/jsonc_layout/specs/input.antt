@@ -1,3 +1,4 @@
 pub mod Views
 pub mod Numbers
 pub mod Rows
+pub mod Copies

@@ -4,3 +4,4 @@ pub mod Lines
 pub mod Breadth
 pub mod Indents
 pub mod IndentViews
+pub mod Walk

@@ -1,3 +1,4 @@
 pub mod Given
 pub mod Taken
 pub mod Laws
+pub mod Wanted

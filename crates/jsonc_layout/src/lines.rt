@@ -8,6 +8,7 @@ mod indent;
 mod indents;
 mod kinds;
 mod siblings;
+mod walk;
 
 pub use breadth::{last_child_element, newline_kind, newline_kind_at, uses_trailing_commas};
 pub use indent::{indent_text, single_indent_text};

@@ -10,6 +10,7 @@ mod kinds;
 mod names;
 mod property;
 mod siblings;
+mod strings;
 mod within;
 
 pub use comments::{after_inline_trivia, leading_comments_same_line, trailing_comments_same_line};

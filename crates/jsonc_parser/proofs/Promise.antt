@@ -2,7 +2,7 @@
 use Rattle.std.proofs.Common.{◌≡◌, ◌<◌, ◌∙◌, ℕ, List, Some, Option, inl, inr, chars, length, take, refl, sym, ap, subst}
 use Rattle.std.specs.List.{slice_get, All}
 use Rattle.std.proofs.lemmas.Option.{slice_get_within}
-use Rattle.jsonc_text.specs.Edits.{Document, IsOne}
+use Rattle.jsonc_text.specs.Documents.{Document, IsOne}
 use Rattle.jsonc_text.specs.Options.{Options}
 use Rattle.jsonc_tree.specs.OrderedTree.{OrderedTree, printed}
 use Rattle.jsonc_sound.specs.Documents.{Shows, ShowsText}

@@ -1,7 +1,7 @@
 -- From a text, through a list of edits, to the text after them.
 use Rattle.std.specs.Prelude.{◌≡◌, ◌⊎◌, ◌<◌, ℕ, true, List, chars, length, take}
 use Rattle.std.specs.List.{All}
-use Rattle.jsonc_text.specs.Edits.{Document, IsOne}
+use Rattle.jsonc_text.specs.Documents.{Document, IsOne}
 use Rattle.jsonc_text.specs.Faults.{IsFault}
 use Rattle.jsonc_text.specs.Options.{Options}
 use Rattle.jsonc_ast.specs.to_ast.Refusals.{RefusesText}

@@ -1,18 +1,19 @@
 //! Whether a text is read, and what is wrong with one that is not.
-ghost use Rattle.std.specs.Prelude.{IfErr, OnOk, chars, false, true};
+ghost use Rattle.std.specs.Prelude.{◌≢◌, IfErr, OnOk, chars, false, true};
 ghost use Rattle.jsonc_ast.specs.to_ast.Faults.{ParseFault};
 ghost use Rattle.jsonc_ast.specs.to_ast.Refusals.{Refuses};
 ghost use Rattle.jsonc_parser.specs.Checker.{HasValueWithin};
-ghost use Rattle.jsonc_text.specs.Faults.{IsFault};
+ghost use Rattle.jsonc_text.specs.Faults.{IsFault, kind_of};
 ghost use Rattle.jsonc_text.specs.OptionsOf.{parse_options};
 
 use jsonc_ast::to_ast::context::Context;
 use jsonc_ast::to_ast::receiver::Receiver;
 use jsonc_ast::to_ast::walk::read_document;
 use jsonc_text::common::Range;
-use jsonc_text::errors::ParseError;
+use jsonc_text::errors::{ParseError, ParseErrorKind};
 use jsonc_text::options::ParseOptions;
-use std::alloc::{AllocError, Allocator};
+use std::alloc::Allocator;
+use std::convert::Infallible;
 
 /// What counts towards the depth.
 pub(crate) trait Depth: Drop {
@@ -55,7 +56,7 @@ impl Depth for ContainersAndProperties {
     }
 }
 
-/// What makes nothing of a text as it is read.
+/// What makes nothing of a text as it is read, and wants no memory.
 #[derive(Drop)]
 pub(crate) struct Checker<'a, D: Depth> {
     text: &'a str,
@@ -73,6 +74,8 @@ impl<'a, A: Allocator, D: Depth> Receiver<String<A>> for Checker<'a, D> {
     type Object = ();
 
     type Property = ();
+
+    type Error = Infallible;
 
     ghost whole = { D.whole };
 
@@ -96,77 +99,77 @@ impl<'a, A: Allocator, D: Depth> Receiver<String<A>> for Checker<'a, D> {
     }
 
     #[inline(always)]
-    fn pass_gap(&mut self, from: usize) -> Result<usize, AllocError> {
+    fn pass_gap(&mut self, from: usize) -> Result<usize, Infallible> {
         Ok(from)
     }
 
     #[inline(always)]
-    fn string(&mut self, _range: Range) -> Result<(), AllocError> {
+    fn string(&mut self, _range: Range) -> Result<(), Infallible> {
         Ok(())
     }
 
     #[inline(always)]
-    fn decoded(&mut self, _range: Range, _value: String<A>) -> Result<(), AllocError> {
+    fn decoded(&mut self, _range: Range, _value: String<A>) -> Result<(), Infallible> {
         Ok(())
     }
 
     #[inline(always)]
-    fn passed(&mut self, _range: Range) -> Result<(), AllocError> {
+    fn passed(&mut self, _range: Range) -> Result<(), Infallible> {
         Ok(())
     }
 
     #[inline(always)]
-    fn number(&mut self, _range: Range) -> Result<(), AllocError> {
+    fn number(&mut self, _range: Range) -> Result<(), Infallible> {
         Ok(())
     }
 
     #[inline(always)]
-    fn boolean(&mut self, _range: Range, _value: bool) -> Result<(), AllocError> {
+    fn boolean(&mut self, _range: Range, _value: bool) -> Result<(), Infallible> {
         Ok(())
     }
 
     #[inline(always)]
-    fn null(&mut self, _range: Range) -> Result<(), AllocError> {
+    fn null(&mut self, _range: Range) -> Result<(), Infallible> {
         Ok(())
     }
 
     #[inline(always)]
-    fn open_array(&mut self, _start: usize) -> Result<(), AllocError> {
+    fn open_array(&mut self, _start: usize) -> Result<(), Infallible> {
         Ok(())
     }
 
     #[inline(always)]
-    fn element(&mut self, _array: &mut (), _item: ()) -> Result<(), AllocError> {
+    fn element(&mut self, _array: &mut (), _item: ()) -> Result<(), Infallible> {
         Ok(())
     }
 
     #[inline(always)]
-    fn close_array(&mut self, _array: (), _range: Range) -> Result<(), AllocError> {
+    fn close_array(&mut self, _array: (), _range: Range) -> Result<(), Infallible> {
         Ok(())
     }
 
     #[inline(always)]
-    fn open_object(&mut self, _start: usize) -> Result<(), AllocError> {
+    fn open_object(&mut self, _start: usize) -> Result<(), Infallible> {
         Ok(())
     }
 
     #[inline(always)]
-    fn string_name(&mut self, _range: Range) -> Result<(), AllocError> {
+    fn string_name(&mut self, _range: Range) -> Result<(), Infallible> {
         Ok(())
     }
 
     #[inline(always)]
-    fn decoded_name(&mut self, _range: Range, _value: String<A>) -> Result<(), AllocError> {
+    fn decoded_name(&mut self, _range: Range, _value: String<A>) -> Result<(), Infallible> {
         Ok(())
     }
 
     #[inline(always)]
-    fn passed_name(&mut self, _range: Range) -> Result<(), AllocError> {
+    fn passed_name(&mut self, _range: Range) -> Result<(), Infallible> {
         Ok(())
     }
 
     #[inline(always)]
-    fn word_name(&mut self, _range: Range) -> Result<(), AllocError> {
+    fn word_name(&mut self, _range: Range) -> Result<(), Infallible> {
         Ok(())
     }
 
@@ -177,12 +180,12 @@ impl<'a, A: Allocator, D: Depth> Receiver<String<A>> for Checker<'a, D> {
         _property: (),
         _item: (),
         _range: Range,
-    ) -> Result<(), AllocError> {
+    ) -> Result<(), Infallible> {
         Ok(())
     }
 
     #[inline(always)]
-    fn close_object(&mut self, _object: (), _range: Range) -> Result<(), AllocError> {
+    fn close_object(&mut self, _object: (), _range: Range) -> Result<(), Infallible> {
         Ok(())
     }
 }
@@ -198,6 +201,7 @@ fn check_by<A: Allocator + Copy, D: Depth>(
     ensures refused { IfErr result (Refuses (parse_options options.now) D.whole text.now) }
     ensures fault { IfErr result (IsFault text.now) }
     ensures error { IfErr result (ParseFault (parse_options options.now) text.now D.whole) }
+    ensures memory { IfErr result (λ e. kind_of e ≢ ParseErrorKind.OutOfMemory) }
 {
     let mut context = Context::of_places(alloc, text, options);
     let mut to = Checker {
@@ -209,7 +213,7 @@ fn check_by<A: Allocator + Copy, D: Depth>(
     Ok(())
 }
 
-/// Checks a text, and keeps nothing of it: no string is decoded.
+/// Checks a text, and keeps nothing of it: no string is decoded, and no memory is asked for.
 ///
 /// It accepts what [`parse_to_value`](crate::parse_to_value) does, a text without a value too, and its errors are
 /// those of that call: a text with more than 512 containers inside one another is an error.
@@ -222,6 +226,7 @@ pub fn check<A: Allocator + Copy>(
     ensures refused { IfErr result (Refuses (parse_options options.now) false text.now) }
     ensures fault { IfErr result (IsFault text.now) }
     ensures error { IfErr result (ParseFault (parse_options options.now) text.now false) }
+    ensures memory { IfErr result (λ e. kind_of e ≢ ParseErrorKind.OutOfMemory) }
 {
     check_by(alloc, text, options, Containers)
 }
@@ -237,6 +242,7 @@ pub fn check_document<A: Allocator + Copy>(
     ensures refused { IfErr result (Refuses (parse_options options.now) true text.now) }
     ensures fault { IfErr result (IsFault text.now) }
     ensures error { IfErr result (ParseFault (parse_options options.now) text.now true) }
+    ensures memory { IfErr result (λ e. kind_of e ≢ ParseErrorKind.OutOfMemory) }
 {
     check_by(alloc, text, options, ContainersAndProperties)
 }

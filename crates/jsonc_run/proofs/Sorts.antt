@@ -1,16 +1,16 @@
 -- Entries at a path that come in an order, and commas that are set there: what becomes of a document.
-use Rattle.std.proofs.Common.{◌≡◌, ℕ, List}
-use Rattle.jsonc_text.specs.Options.{Options, without_trailing}
+use Rattle.std.proofs.Common.{inr, ℕ, List}
+use Rattle.jsonc_text.specs.Options.{Options}
 use Rattle.jsonc_tree.specs.OrderedTree.{ordered_tree}
 use Rattle.jsonc_tree.specs.Tree.{Node, content_at, IsTree}
 use Rattle.jsonc_sound.specs.SoundTrees.{SoundTree}
 use Rattle.jsonc_edit.specs.commas.InTurn.{holders, AreSetInPart, AreSetInTurn}
-use Rattle.jsonc_edit.specs.commas.Laws.{IsInSound, SaysTheSame}
-use Rattle.jsonc_sound.specs.Alone.{ValueAlone}
+use Rattle.jsonc_edit.specs.commas.Laws.{IsAsSaid, IsInSound, SaysTheSame}
 use Rattle.jsonc_edit.proofs.lemmas.commas.Documents.{keeps_document, keeps_in_part}
 use Rattle.jsonc_edit.proofs.lemmas.commas.InsideAlone.{stays_outside, stays_outside_in_part}
 use Rattle.jsonc_edit.specs.Changes.{row_below, top_at}
 use Rattle.jsonc_edit.proofs.lemmas.commas.NoneLeft.{leaves_none}
+use Rattle.jsonc_edit.proofs.lemmas.commas.NoneMissing.{leaves_all}
 use Rattle.jsonc_text.specs.declared.edit.TrailingCommaMode.{TrailingCommaMode}
 use Rattle.jsonc_text.specs.declared.edit.TrailingCommaMode.TheVariants.{Never, IfMultiline}
 use Rattle.jsonc_edit.proofs.lemmas.multiline.Documents.{over_at}
@@ -33,15 +33,15 @@ module _ (o : Options) (old new : List Node) (path : List ℕ) (n : ℕ) (tree :
   pub some_commas_say : (mode : TrailingCommaMode) → AreSetInPart mode old (holders old n) new → SaysTheSame mode o (ordered_tree old 0) (ordered_tree new 0)
   some_commas_say mode part = keeps_in_part mode o old n in_sound new part
 
-  -- and nothing outside of the array or object changes
-  -- and after `Never` none is left
-  commas_gone : (mode : TrailingCommaMode) → mode ≡ Never → AreSetInTurn mode old (holders old n) new → ValueAlone (without_trailing o) (content_at new n) (row_below new n)
-  commas_gone Never is set = leaves_none o old n new in_sound at.1 set
-  commas_gone IfMultiline is set = cc
+  -- what stands there is as the mode says
+  commas_as_said : (mode : TrailingCommaMode) → AreSetInTurn mode old (holders old n) new → IsAsSaid mode o (content_at new n) (row_below new n)
+  commas_as_said Never set = leaves_none o old n new in_sound at.1 set
+  commas_as_said IfMultiline set = leaves_all o old n new in_sound (inr at.1) set
 
+  -- and nothing outside of the array or object changes
   pub commas_placed : (mode : TrailingCommaMode) → AreSetInTurn mode old (holders old n) new
-      → (at : IsChangedAt path (ordered_tree old 0) (ordered_tree new 0)) × (mode ≡ Never → ValueAlone (without_trailing o) at.1.content at.1.below)
-  commas_placed mode set = ((top_at old n, top_at new n, stays_outside mode old n path new tree in_sound.over at.1 at.0 set), λ is. commas_gone mode is set)
+      → (at : IsChangedAt path (ordered_tree old 0) (ordered_tree new 0)) × IsAsSaid mode o at.1.content at.1.below
+  commas_placed mode set = ((top_at old n, top_at new n, stays_outside mode old n path new tree in_sound.over at.1 at.0 set), commas_as_said mode set)
 
   pub some_commas_within : (mode : TrailingCommaMode) → AreSetInPart mode old (holders old n) new → IsChangedAt path (ordered_tree old 0) (ordered_tree new 0)
   some_commas_within mode part = (top_at old n, top_at new n, stays_outside_in_part mode old n path new tree in_sound.over at.1 at.0 part)

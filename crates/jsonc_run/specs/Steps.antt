@@ -1,7 +1,7 @@
 -- What edits that were made in order make of a sound document: one chain of sound documents, one after each edit.
 use Rattle.std.specs.Prelude.{◌≡◌, ◌≤◌, ℕ, Bool, true, false, List, [], ◌∷◌, Option}
 use Rattle.std.specs.List.{All}
-use Rattle.jsonc_text.specs.Options.{Options, without_trailing}
+use Rattle.jsonc_text.specs.Options.{Options}
 use Rattle.jsonc_text.specs.Plain.{Plain, boolean}
 use Rattle.jsonc_text.specs.Grammar.{IsDocument}
 use Rattle.jsonc_tree.specs.Tree.{Node}
@@ -14,9 +14,7 @@ use Rattle.jsonc_sound.specs.EntryLaws.{root_with}
 use Rattle.jsonc_sound.specs.Marks.{AreMarks, marks}
 use Rattle.jsonc_sound.specs.SoundTrees.{SoundTree}
 use Rattle.jsonc_sound.specs.TreeChanges.{DocumentChanged}
-use Rattle.jsonc_text.specs.declared.edit.TrailingCommaMode.TheVariants.{Never}
-use Rattle.jsonc_sound.specs.Alone.{ValueAlone}
-use Rattle.jsonc_edit.specs.commas.Laws.{OnlyCommas}
+use Rattle.jsonc_edit.specs.commas.Laws.{IsAsSaid, OnlyCommas}
 use Rattle.jsonc_edit.specs.Comments.{comments_ahead, LosesComment}
 use Rattle.jsonc_edit.specs.SeamLaws.{comments_before, LosesWithSeam}
 use Rattle.jsonc_edit.specs.Writing.{IsOfNumbers}
@@ -85,7 +83,7 @@ MadeIn o t (append_element path v) u = (n : ℕ) × ((i : ℕ) → n ≤ i → E
 MadeIn o t (insert_property path i name v) u = PropertyInsertedAt o path i name v t u
 MadeIn o t (append_property path name v) u = (n : ℕ) × ((i : ℕ) → n ≤ i → PropertyInsertedAt o path i name v t u)
 MadeIn o t (ensure_property path name shape how) u = named.StaysAround o path name shape t u how
-MadeIn o t (set_commas path mode) u = OnlyCommas mode t u × (at : IsChangedAt path t u) × (mode ≡ Never → ValueAlone (without_trailing o) at.1.content at.1.below)
+MadeIn o t (set_commas path mode) u = OnlyCommas mode t u × (at : IsChangedAt path t u) × IsAsSaid mode o at.1.content at.1.below
 MadeIn o t (set_some_commas path mode) u = OnlyCommas mode t u × IsChangedAt path t u
 MadeIn o t (rearrange path headers order) u = (sorted : SortedAt path order t u) × KeepsOutside sorted
 

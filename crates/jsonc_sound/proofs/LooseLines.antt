@@ -72,12 +72,12 @@ pub properties_stop : {o : Options} {row : OrderedTree} → PropertiesShaped o r
 properties_stop (shape.last_property p c) = tt
 properties_stop (shape.property p s e) = tt
 
-inner_blanks : {t r : List ℕ} → Many is_inner_blank t r → Many is_in_line t r
+pub inner_blanks : {t r : List ℕ} → Many is_inner_blank t r → Many is_in_line t r
 inner_blanks stop = stop
 inner_blanks (step {c = c} h g) = step (and_both (is_blank c) _ h).1 (inner_blanks g)
 
 -- a comment of one line takes blanks behind it up to the line's end
-comment_takes : (s blanks rest : List ℕ) → LineComment s [] → Many is_in_line blanks [] → IsTrue (no is_in_line (next rest)) → LineComment (s ++ (blanks ++ rest)) rest
+pub comment_takes : (s blanks rest : List ℕ) → LineComment s [] → Many is_in_line blanks [] → IsTrue (no is_in_line (next rest)) → LineComment (s ++ (blanks ++ rest)) rest
 comment_takes _ blanks rest (line {t = x} m n) b e = line (many_append (many_more m (blanks ++ rest)) (many_more b rest)) e
 
 -- blanks of t up to a line's end, from which on it is a gap
@@ -90,7 +90,7 @@ record Skipped (o : Options) (t r : List ℕ) : Type 0 where
   gap : Gap o rest r
 
 module _ (o : Options) (z : List ℕ) where
-  leaf_then : (content : Content) (t : OrderedTree) → IsTrivia o content → printed_text (more content none t) ++ z ≡ chars (text_of content) ++ (printed_text t ++ z)
+  pub leaf_then : (content : Content) (t : OrderedTree) → IsTrivia o content → printed_text (more content none t) ++ z ≡ chars (text_of content) ++ (printed_text t ++ z)
   leaf_then content t h = ap (λ x. x ++ z) (text_leaf content t (trivia_utf8 o content h)) ∙ append_assoc (chars (text_of content)) (printed_text t) z
 
   line_gap : (s : List ℕ) (t r : List ℕ) → IsTrue o.comments → IsComment (chars s) [] → Gap o t r → Skipped o t r → Gap o (chars s ++ t) r

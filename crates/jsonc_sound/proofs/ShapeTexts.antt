@@ -76,7 +76,7 @@ blanks_gap t stop e = rw e gaps.none
 blanks_gap t (step {c = c} h g) e = gaps.blank (and_both (is_blank c) _ h).0 (blanks_gap t g e)
 
 -- a comment alone is one before a text that ends its line, if it is a line comment
-begins_line : (s : List ℕ) {t : List ℕ} → IsUtf8 s → chars s ≡ 0x2F ∷ 0x2F ∷ t → IsTrue (is_line_comment (Content.comment s))
+pub begins_line : (s : List ℕ) {t : List ℕ} → IsUtf8 s → chars s ≡ 0x2F ∷ 0x2F ∷ t → IsTrue (is_line_comment (Content.comment s))
 unfolding encode
 begins_line s {t} u e = subst (λ b. IsTrue (is_line_comment (Content.comment b))) (ap encode_utf8_all (sym e) ∙ encodes-chars s u) refl
 

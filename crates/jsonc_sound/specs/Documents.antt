@@ -3,7 +3,7 @@ use Rattle.std.specs.Prelude.{◌≡◌, ℕ, List, [], ◌∷◌, Option}
 use Rattle.jsonc_text.specs.Options.{Options}
 use Rattle.jsonc_text.specs.Plain.{Plain}
 use Rattle.jsonc_text.specs.Marks.{Mark}
-use Rattle.jsonc_text.specs.Edits.{Document}
+use Rattle.jsonc_text.specs.Documents.{Document}
 use Rattle.jsonc_tree.specs.OrderedTree.{OrderedTree}
 use Rattle.jsonc_tree.specs.Values.{DocumentValueOf}
 use Rattle.jsonc_sound.specs.Shape.{printed_text}

@@ -24,5 +24,7 @@ pub mod Marks
 pub mod Paths
 pub mod Entries
 pub mod EditErrors
+pub mod Documents
+pub mod Entering
 pub mod Edits
 pub mod string

@@ -76,6 +76,7 @@ module _ {A : Type 0} where
   -- nothing but what is held of the last token has changed
   pub record GivesAway (old new : Context A) : Type 0 where
     pub scanner : new.scanner ≡ old.scanner
+    pub decodes : new.decodes ≡ old.decodes
     pub tokens : new.tokens ≡ old.tokens
     pub comments : new.comments_are_tokens ≡ old.comments_are_tokens
     pub apart : new.comments ≡ old.comments
@@ -84,10 +85,11 @@ module _ {A : Type 0} where
   abbrev pub IsToken : Context A → Scanned → Type 0
   IsToken c t = IsThere c.scanner (Some t)
 
-  -- the text and the options stay, and whether tokens are collected, and comments among them or apart
+  -- the text and the options stay, and whether strings are decoded, tokens are collected, and comments among them or apart
   pub record Keeps (old new : Context A) : Type 0 where
     pub text : text_in new ≡ text_in old
     pub options : options_in new ≡ options_in old
+    pub decodes : new.decodes ≡ old.decodes
     pub tokens : tokens_asked new ≡ tokens_asked old
     pub comments : new.comments_are_tokens ≡ old.comments_are_tokens
     pub apart : comments_asked new ≡ comments_asked old

@@ -5,7 +5,7 @@ use Rattle.jsonc_text.specs.declared.errors.ParseError.{ParseError}
 use Rattle.jsonc_text.specs.declared.errors.ParseErrorKind.{ParseErrorKind}
 use Rattle.jsonc_text.specs.declared.errors.ParseErrorKind.TheVariants.{OutOfMemory, CommentsNotAllowed}
 use Rattle.jsonc_text.specs.Options.{Options}
-use Rattle.jsonc_text.specs.Faults.{kind_of, range_of}
+use Rattle.jsonc_text.specs.Faults.{IsFault, kind_of, range_of}
 use Rattle.jsonc_text.specs.Text.{rest, next, starts}
 use Rattle.jsonc_text.specs.Gaps.{Gap}
 use Rattle.jsonc_text.specs.Lexemes.{Scanned, LexemeKind, Lexeme}
@@ -15,7 +15,7 @@ use Rattle.jsonc_ast.specs.Located.{Ends, TrailingComma}
 use Rattle.jsonc_ast.specs.declared.to_ast.container.Container.{Container}
 use Rattle.jsonc_ast.specs.declared.to_ast.context.Context.{Context}
 use Rattle.jsonc_ast.specs.to_ast.Containers.{closing, unterminated_kind}
-use Rattle.jsonc_ast.specs.to_ast.Context.{text_in, options_in, token_start, token_end, token_range}
+use Rattle.jsonc_ast.specs.to_ast.Context.{text_in, options_in, comments_asked, token_start, token_end, token_range}
 use Rattle.jsonc_ast.specs.to_ast.Reached.{size, per_property, FitsIn}
 
 -- allocation failed
@@ -98,6 +98,15 @@ abbrev pub WhereSome : Type 0 → Option Scanned → Type 0
 WhereSome fact found = IfSome found (λ t. fact)
 
 module _ {A : Type 0} where
+  -- strings are decoded, as where tokens are collected, or comments are collected apart
+  abbrev pub AsksForMemory : Context A → Type 0
+  AsksForMemory c = IsTrue (c.decodes || comments_asked c)
+
+  -- the fault is of the text; and no allocation failure, unless the parser asks for memory or its receiver has failed
+  pub record IsFaultHere (c : Context A) (has_failed : Type 0) (e : ParseError) : Type 0 where
+    pub of_text : IsFault (text_in c) e
+    pub memory : IsAllocationFailure e → AsksForMemory c ⊎ has_failed
+
   -- the text from the last token on
   abbrev pub here : Context A → List ℕ
   here c = rest (text_in c) (token_start c)

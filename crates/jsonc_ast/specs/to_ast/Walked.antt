@@ -1,12 +1,11 @@
 -- What a part of the walk over a text answers.
 use Rattle.std.specs.Prelude.{ℕ, ◌≡◌}
 use Rattle.jsonc_text.specs.declared.errors.ParseError.{ParseError}
-use Rattle.jsonc_text.specs.Faults.{IsFault}
 use Rattle.jsonc_ast.specs.declared.to_ast.context.Context.{Context}
 use Rattle.jsonc_ast.specs.to_ast.Collected.{Collects}
-use Rattle.jsonc_ast.specs.to_ast.Context.{text_in, token_end, Keeps}
+use Rattle.jsonc_ast.specs.to_ast.Context.{token_end, Keeps}
 use Rattle.jsonc_ast.specs.to_ast.Handed.{Source}
-use Rattle.jsonc_ast.specs.to_ast.Refusals.{OutOfMemoryOr}
+use Rattle.jsonc_ast.specs.to_ast.Refusals.{IsFaultHere, OutOfMemoryOr}
 
 module _ {A : Type 0} where
   -- this was found, and the tokens and comments on the way were collected; a receiver still has its text, and has come to the end of the last token
@@ -17,8 +16,8 @@ module _ {A : Type 0} where
     pub collects : Collects old new
     pub found : is_found
 
-  -- allocation failed or there is none, and the error is of the text and tells that
-  pub record IsRefused (old : Context A) (is_none : Type 0) (tells : ParseError → Type 0) (e : ParseError) : Type 0 where
+  -- allocation failed, where memory is asked for, or there is none; and the error is of the text and tells that
+  pub record IsRefused (old : Context A) (has_failed : Type 0) (is_none : Type 0) (tells : ParseError → Type 0) (e : ParseError) : Type 0 where
     pub refused : OutOfMemoryOr is_none e
-    pub fault : IsFault (text_in old) e
+    pub fault : IsFaultHere old has_failed e
     pub error : tells e

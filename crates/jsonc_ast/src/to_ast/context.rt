@@ -5,26 +5,21 @@ ghost use Rattle.jsonc_text.specs.OptionsOf.{parse_options};
 ghost use Rattle.jsonc_scan.specs.Scanner.{options_of};
 
 use crate::ast::{ObjectPropName, StringLit, WordLit};
-use crate::to_ast::collect::{CollectOptions, CommentCollectionStrategy, CommentMap};
-use crate::to_ast::comments::{GapComments, comment_of};
+use crate::to_ast::collect::{CollectOptions, CommentCollectionStrategy};
+use crate::to_ast::comments::GapComments;
 use crate::to_ast::container::Container;
 use crate::to_ast::receiver::Receiver;
-use crate::to_ast::room::make_room;
+use crate::to_ast::stops::Stopped;
 use jsonc_scan::found::{TokenContent, TokenKind};
 use jsonc_scan::scanner::Scanner;
 use jsonc_text::common::Range;
 use jsonc_text::errors::{ParseError, ParseErrorKind};
 use jsonc_text::options::ParseOptions;
 use jsonc_text::tokens::TokenAndRange;
-use std::alloc::{AllocError, Allocator};
-use std::mem::replace;
+use std::alloc::Allocator;
 
 /// How many containers, or containers and properties, may be around a value.
 pub const MAXIMUM_NESTING: usize = 512;
-
-/// Reading has stopped, with the fault that the context keeps. So what is read on the way to there has no room for one.
-#[derive(Clone, Copy)]
-pub struct Stopped;
 
 #[derive(Drop)]
 pub struct Context<'a, A: Allocator> {
@@ -47,25 +42,20 @@ pub struct Context<'a, A: Allocator> {
 }
 
 impl<'a, A: Allocator + Copy> Context<'a, A> {
-    ghost use Rattle.std.specs.Prelude.{◌≡◌, ◌≢◌, ◌≤◌, ◌<◌, ◌⊎◌, ◌||◌, [], true, false, is_some, IfOk, IfErr, IfSome, IfNone, OnOk, OnErr, IsTrue, Some};
-    ghost use Rattle.jsonc_ast.specs.to_ast.Refusals.{IsFaultOf, IsOpen, OutOfMemoryOr, IsAllocationFailure, WhereSome, RefusesComment, NoTokenAfter, NothingFirst, NothingAfterComma, NothingNext, OnlyFirst, OnlyAfterComma, OnlyNext, NoColon, NoName};
-    ghost use Rattle.jsonc_text.specs.Faults.{IsFault, IsOutOfMemory, range_of, kind_of};
+    ghost use Rattle.std.specs.Prelude.{◌≡◌, ◌≢◌, ◌<◌, ◌||◌, [], false, IfOk, IfSome, IfNone, OnOk, OnErr, IsTrue, Some};
+    ghost use Rattle.jsonc_ast.specs.to_ast.Refusals.{IsFaultHere, OutOfMemoryOr, WhereSome, NoTokenAfter, NothingFirst, NothingAfterComma, NothingNext, OnlyFirst, OnlyAfterComma, OnlyNext, NoColon, NoName, here, after};
     ghost use Rattle.jsonc_text.specs.Gaps.{Gap};
     ghost use Rattle.jsonc_text.specs.Places.{is_comment as is_a_comment};
     ghost use Rattle.jsonc_text.specs.Text.{Spans};
-    ghost use Rattle.jsonc_ast.specs.to_ast.Context.{text_in, options_in, token_end, token_range, tokens_asked, comments_asked, last, found_in, found_by, GivesAway, Keeps, Finds, LeadsToFirst, LeadsAfterComma, LeadsToNext, PassesColon, IsToken, IsNameHere, IsNoComment, AtEnd, ClosesNone, Comes};
+    ghost use Rattle.jsonc_ast.specs.to_ast.Context.{text_in, options_in, token_end, token_range, tokens_asked, comments_asked, last, found_by, GivesAway, Keeps, Finds, LeadsToFirst, LeadsAfterComma, LeadsToNext, PassesColon, IsToken, IsNameHere, IsNoComment, ClosesNone, Comes, IsBracket, token_start};
     ghost use Rattle.jsonc_scan.specs.Scanner.{ComesNext};
     ghost use Rattle.jsonc_ast.specs.Views.{name_at};
-    ghost use Rattle.jsonc_ast.specs.to_ast.Containers.{misplaced_kind, begins};
     ghost use Rattle.jsonc_ast.specs.to_ast.Faults.{IsWrongName, StopsAnyhow, StopsAtColon, StopsInside};
     ghost use Rattle.jsonc_ast.specs.to_ast.Reached.{Due};
-    ghost use Rattle.jsonc_ast.specs.to_ast.Context.{IsBracket};
-    ghost use Rattle.jsonc_ast.specs.to_ast.Refusals.{here, after};
     ghost use Rattle.jsonc_ast.specs.Located.{Between, One};
-    ghost use Rattle.jsonc_ast.specs.to_ast.Context.{token_start};
     ghost use Rattle.jsonc_ast.specs.to_ast.Handed.{source_of, Follows, IsBehind, ReachesBehind, StaysHeld};
     ghost use Rattle.jsonc_ast.specs.to_ast.Written.{IsLentHere, IsWritten};
-    ghost use Rattle.jsonc_ast.specs.to_ast.Collected.{takes_comments, is_separate, collected, CollectsLast, CollectsComment, OmitsComment, StaysLent, HasNoted, NotesComment, NotesLexeme, ShowsNoted, Collects};
+    ghost use Rattle.jsonc_ast.specs.to_ast.Collected.{takes_comments, is_separate, collected, HasNoted, Collects};
 
     /// A parser at the start of a text.
     pub fn new(
@@ -135,242 +125,10 @@ impl<'a, A: Allocator + Copy> Context<'a, A> {
         Range::new(self.scanner.token_start(), self.scanner.token_end())
     }
 
-    /// Reading stops with this fault.
-    #[cold]
-    fn stop(&mut self, fault: ParseError) -> Stopped
-        ensures { self.new.fault ≡ fault }
-    {
-        self.fault = fault;
-        Stopped
-    }
-
-    /// The fault that reading stopped with.
-    pub(crate) fn taken_fault(&mut self) -> ParseError
-        ensures { result ≡ self.old.fault }
-    {
-        replace(&mut self.fault, ParseError::out_of_memory())
-    }
-
-    /// Reading stops with a fault told of these bytes.
-    #[cold]
-    fn stop_at(&mut self, range: Range, kind: ParseErrorKind) -> Stopped
-        requires range { Spans (text_in self.old) range.start range.end }
-        requires kind { kind ≢ ParseErrorKind.OutOfMemory }
-        ensures fault { IsFault (text_in self.old) self.new.fault }
-        ensures range { range_of self.new.fault ≡ range }
-        ensures kind { kind_of self.new.fault ≡ kind }
-    {
-        let fault = ParseError::new(range, kind, self.scanner.file_text());
-        self.stop(fault)
-    }
-
-    /// The same, told of the last token.
-    #[cold]
-    pub(crate) fn stop_here(&mut self, kind: ParseErrorKind) -> Stopped
-        requires { kind ≢ ParseErrorKind.OutOfMemory }
-        ensures fault { IsFault (text_in self.old) self.new.fault }
-        ensures range { range_of self.new.fault ≡ token_range self.old }
-        ensures kind { kind_of self.new.fault ≡ kind }
-    {
-        let here = self.range();
-        self.stop_at(here, kind)
-    }
-
-    /// The same, told of the bytes from a place through the last token.
-    #[cold]
-    fn stop_from(&mut self, start: usize, kind: ParseErrorKind) -> Stopped
-        requires start { Spans (text_in self.old) start (token_end self.old) }
-        requires kind { kind ≢ ParseErrorKind.OutOfMemory }
-        ensures fault { IsFault (text_in self.old) self.new.fault }
-        ensures range { range_of self.new.fault ≡ record { start = start; end = token_end self.old } }
-        ensures kind { kind_of self.new.fault ≡ kind }
-    {
-        let range = Range::new(start, self.scanner.token_end());
-        self.stop_at(range, kind)
-    }
-
-    /// Reading stops where the text ends in a container, with a fault told of the bytes from where the container
-    /// began, or else of the end.
-    #[cold]
-    fn stop_in(&mut self, container: Container, start: Option<usize>) -> Stopped
-        requires { IfSome start (λ i. Spans (text_in self.old) i (token_end self.old)) }
-        ensures fault { IsFault (text_in self.old) self.new.fault }
-        ensures error { AtEnd self.old → IsOpen container (text_in self.old) start self.new.fault }
-    {
-        match start {
-            Some(start) => self.stop_from(start, container.unterminated()),
-            None => self.stop_here(container.unterminated()),
-        }
-    }
-
-    /// The error of an allocation failure. It is cold, so that it takes no room where items are made.
-    #[cold]
-    pub fn out_of_memory(&self) -> ParseError
-        ensures fault { IsFault (text_in self.now) result }
-        ensures memory { IsOutOfMemory result }
-    {
-        ParseError::out_of_memory()
-    }
-
-    /// Reading stops as no memory is left.
-    #[cold]
-    pub(crate) fn stop_for_memory(&mut self) -> Stopped
-        ensures fault { IsFault (text_in self.old) self.new.fault }
-        ensures memory { IsOutOfMemory self.new.fault }
-    {
-        let fault = self.out_of_memory();
-        self.stop(fault)
-    }
-
-    /// Reading stops at a value that too many containers and properties are around. The innermost of
-    /// them begins at the place.
-    #[cold]
-    pub(crate) fn stop_too_deep(&mut self, start: usize) -> Stopped
-        requires { Spans (text_in self.old) start (token_end self.old) }
-        ensures fault { IsFault (text_in self.old) self.new.fault }
-        ensures kind { kind_of self.new.fault ≡ ParseErrorKind.NestingDepthExceeded }
-        ensures range { range_of self.new.fault ≡ record { start = start; end = token_end self.old } }
-    {
-        self.stop_from(start, ParseErrorKind::NestingDepthExceeded)
-    }
-
-    /// Whether anything is collected.
-    #[inline(always)]
-    fn collects(&self) -> bool
-        ensures value { result ≡ tokens_asked self.now || comments_asked self.now }
-        ensures tokens { result ≡ false → tokens_asked self.now ≡ false }
-        ensures comments { result ≡ false → comments_asked self.now ≡ false }
-    {
-        if self.tokens.is_some() {
-            return true;
-        }
-        self.comments.is_some()
-    }
-
-    /// Collects the last token, where tokens are asked for.
-    #[inline(always)]
-    fn collect(&mut self, token: TokenKind) -> Result<(), AllocError>
-        requires { IsTrue (tokens_asked self.old) → token ≢ TokenKind.Passed }
-        ensures scanner { self.new.scanner ≡ self.old.scanner }
-        ensures content { self.new.content ≡ self.old.content }
-        ensures tokens { tokens_asked self.new ≡ tokens_asked self.old }
-        ensures comments { self.new.comments_are_tokens ≡ self.old.comments_are_tokens }
-        ensures apart { self.new.comments ≡ self.old.comments }
-        ensures collected { OnOk result (CollectsLast self.old self.new (last self.old token)) }
-        ensures lent { OnOk result (IsLentHere self.old (Some token) → StaysLent self.old self.new) }
-    {
-        let range = self.range();
-        let len = self.scanner.file_text().len();
-        let Some(tokens) = &mut self.tokens else {
-            return Ok(());
-        };
-        let Ok(token) = self.content.token(token) else {
-            return Err(AllocError);
-        };
-        let next = TokenAndRange { range, token };
-        let Ok(()) = make_room(tokens, &next, len) else {
-            return Err(AllocError);
-        };
-        let Ok(()) = tokens.push(next) else {
-            return Err(AllocError);
-        };
-        Ok(())
-    }
-
-    /// Notes a comment, the last token, where comments are asked for apart.
-    fn note(&mut self, comment: TokenKind) -> Result<(), AllocError>
-        ensures scanner { self.new.scanner ≡ self.old.scanner }
-        ensures content { self.new.content ≡ self.old.content }
-        ensures tokens { self.new.tokens ≡ self.old.tokens }
-        ensures comments { self.new.comments_are_tokens ≡ self.old.comments_are_tokens }
-        ensures apart { comments_asked self.new ≡ comments_asked self.old }
-        ensures noted { OnOk result (NotesComment self.old self.new (last self.old comment)) }
-    {
-        let Some(comment) = comment_of(comment, &self.content, self.range()) else {
-            return Ok(());
-        };
-        let Some(comments) = &mut self.comments else {
-            return Ok(());
-        };
-        let Ok(()) = comments.pass_comment(comment) else {
-            return Err(AllocError);
-        };
-        Ok(())
-    }
-
-    /// Notes that the gap before a lexeme, the last token, has ended, where comments are asked for
-    /// apart.
-    #[inline(always)]
-    fn end_gap(&mut self) -> Result<(), AllocError>
-        ensures scanner { self.new.scanner ≡ self.old.scanner }
-        ensures content { self.new.content ≡ self.old.content }
-        ensures tokens { self.new.tokens ≡ self.old.tokens }
-        ensures comments { self.new.comments_are_tokens ≡ self.old.comments_are_tokens }
-        ensures apart { comments_asked self.new ≡ comments_asked self.old }
-        ensures noted { OnOk result (NotesLexeme self.old self.new) }
-    {
-        let range = self.range();
-        let Some(comments) = &mut self.comments else {
-            return Ok(());
-        };
-        let Ok(()) = comments.pass_lexeme(range) else {
-            return Err(AllocError);
-        };
-        Ok(())
-    }
-
-    /// Takes the comments of the whole text, where they are asked for apart, at its end.
-    pub(crate) fn take_comments(&mut self) -> Result<Option<CommentMap<'a, A>>, ParseError>
-        ensures tokens { self.new.tokens ≡ self.old.tokens }
-        ensures apart { IfOk result (λ m. is_some m ≡ comments_asked self.old) }
-        ensures shown { IfOk result (ShowsNoted self.old) }
-        ensures memory { IfErr result (λ e. kind_of e ≡ ParseErrorKind.OutOfMemory) }
-        ensures fault { IfErr result (IsFault (text_in self.old)) }
-    {
-        let Some(comments) = self.comments.take() else {
-            return Ok(None);
-        };
-        let Ok(found) = comments.finish(self.scanner.token_end()) else {
-            return Err(self.out_of_memory());
-        };
-        Ok(Some(found))
-    }
-
-    /// Passes a comment, the last token, where comments are allowed.
-    #[cold]
-    fn pass_comment(&mut self, comment: TokenKind) -> Result<(), Stopped>
-        requires { comment ≢ TokenKind.Passed }
-        ensures scanner { OnOk result (self.new.scanner ≡ self.old.scanner) }
-        ensures content { OnOk result (self.new.content ≡ self.old.content) }
-        ensures tokens { OnOk result (tokens_asked self.new ≡ tokens_asked self.old) }
-        ensures comments { OnOk result (self.new.comments_are_tokens ≡ self.old.comments_are_tokens) }
-        ensures apart { OnOk result (comments_asked self.new ≡ comments_asked self.old) }
-        ensures noted { OnOk result (NotesComment self.old self.new (last self.old comment)) }
-        ensures collected { OnOk result (CollectsComment self.old self.new (last self.old comment)) }
-        ensures omitted { OnOk result (OmitsComment self.old self.new) }
-        ensures lent { OnOk result (IsLentHere self.old (Some comment) → StaysLent self.old self.new) }
-        ensures allowed { OnOk result (IsTrue (options_in self.old).comments) }
-        ensures refused { OnErr result (RefusesComment self.old self.new.fault) }
-        ensures fault { OnErr result (IsFault (text_in self.old) self.new.fault) }
-    {
-        if !self.options.allow_comments {
-            return Err(self.stop_here(ParseErrorKind::CommentsNotAllowed));
-        }
-        let Ok(()) = self.note(comment) else {
-            return Err(self.stop_for_memory());
-        };
-        if self.comments_are_tokens {
-            let Ok(()) = self.collect(comment) else {
-                return Err(self.stop_for_memory());
-            };
-        }
-        Ok(())
-    }
-
     // Tells a receiver of the gap behind the last token, and passes as much of it as the receiver did, where nothing
     // is collected.
     #[inline(always)]
-    fn pass_gap<R: Receiver<String<A>>>(&mut self, to: &mut R) -> Result<(), AllocError>
+    fn pass_gap<R: Receiver<String<A>>>(&mut self, to: &mut R) -> Result<(), R::Error>
         requires source { R.source to.old ≡ source_of self.old }
         requires behind { IsBehind (source_of self.old) (R.reached to.old) (token_end self.old) }
         ensures kept { Keeps self.old self.new }
@@ -416,7 +174,7 @@ impl<'a, A: Allocator + Copy> Context<'a, A> {
         ensures lent { IfOk result (IsLentHere self.new) }
         ensures collects { OnOk result (Collects self.old self.new) }
         ensures refused { OnErr result (OutOfMemoryOr (NoTokenAfter self.old) self.new.fault) }
-        ensures fault { OnErr result (IsFault (text_in self.old) self.new.fault) }
+        ensures fault { OnErr result (IsFaultHere self.old ⊥ self.new.fault) }
         ensures error { OnErr result (StopsAnyhow self.old self.new.fault) }
     {
         loop {
@@ -455,7 +213,7 @@ impl<'a, A: Allocator + Copy> Context<'a, A> {
         ensures lent { IfOk result (IsLentHere self.new) }
         ensures collects { OnOk result (Collects self.old self.new) }
         ensures refused { OnErr result (OutOfMemoryOr (NoTokenAfter self.old) self.new.fault) }
-        ensures fault { OnErr result (IsFault (text_in self.old) self.new.fault) }
+        ensures fault { OnErr result (IsFaultHere self.old R.Error self.new.fault) }
         ensures error { OnErr result (StopsAnyhow self.old self.new.fault) }
         ensures source { OnOk result (R.source to.new ≡ R.source to.old) }
         ensures follows { OnOk result (Follows (source_of self.old) (R.reached to.new) (token_start self.new)) }
@@ -534,7 +292,7 @@ impl<'a, A: Allocator + Copy> Context<'a, A> {
         ensures lent { IfOk result (IsLentHere self.new) }
         ensures collects { OnOk result (Collects self.old self.new) }
         ensures refused { OnErr result (OutOfMemoryOr (NothingFirst container self.old) self.new.fault) }
-        ensures fault { OnErr result (IsFault (text_in self.old) self.new.fault) }
+        ensures fault { OnErr result (IsFaultHere self.old R.Error self.new.fault) }
         ensures error { OnErr result (StopsInside container start (Due.first container) self.old self.new.fault) }
         ensures stands { IfOk (found_by self.new result) (λ f. IfSome f (ClosesNone container)) }
         ensures source { OnOk result (R.source to.new ≡ R.source to.old) }
@@ -567,7 +325,7 @@ impl<'a, A: Allocator + Copy> Context<'a, A> {
         ensures lent { IfOk result (IsLentHere self.new) }
         ensures collects { OnOk result (Collects self.old self.new) }
         ensures refused { OnErr result (OutOfMemoryOr (NothingAfterComma container self.old) self.new.fault) }
-        ensures fault { OnErr result (IsFault (text_in self.old) self.new.fault) }
+        ensures fault { OnErr result (IsFaultHere self.old R.Error self.new.fault) }
         ensures error { OnErr result (IsBracket 0x2C self.old
             → StopsInside container start (Due.further container (here self.old)) self.old self.new.fault) }
         ensures stands { IfOk (found_by self.new result) (λ f. IfSome f (ClosesNone container)) }
@@ -588,23 +346,6 @@ impl<'a, A: Allocator + Copy> Context<'a, A> {
         Ok(None)
     }
 
-    /// Reading stops at the last token, where a comma must stand, after what ended at a place.
-    #[cold]
-    fn stop_for_comma(&mut self, container: Container, token: TokenKind, end: usize) -> Stopped
-        requires { Spans (text_in self.old) end (token_end self.old) }
-        ensures fault { IsFault (text_in self.old) self.new.fault }
-        ensures comma { IsTrue (begins container (last self.old token))
-            → IsFaultOf ParseErrorKind.ExpectedComma (record { start = end; end = end }) self.new.fault }
-        ensures misplaced { begins container (last self.old token) ≡ false
-            → IsFaultOf (misplaced_kind container (last self.old token)) (token_range self.old) self.new.fault }
-    {
-        if self.begins(container, token) {
-            return self.stop_at(Range::from_byte_index(end), ParseErrorKind::ExpectedComma);
-        }
-        let kind = self.misplaced(container, token);
-        self.stop_here(kind)
-    }
-
     /// Passes what stands after an element or a property: answers the kind of the token that the
     /// next one begins with, or none past the closing bracket.
     #[inline(always)]
@@ -623,7 +364,7 @@ impl<'a, A: Allocator + Copy> Context<'a, A> {
         ensures lent { IfOk result (IsLentHere self.new) }
         ensures collects { OnOk result (Collects self.old self.new) }
         ensures refused { OnErr result (OutOfMemoryOr (NothingNext container self.old) self.new.fault) }
-        ensures fault { OnErr result (IsFault (text_in self.old) self.new.fault) }
+        ensures fault { OnErr result (IsFaultHere self.old R.Error self.new.fault) }
         ensures error { OnErr result (StopsInside container start (Due.comma container (after self.old)) self.old self.new.fault) }
         ensures stands { IfOk (found_by self.new result) (λ f. IfSome f (ClosesNone container)) }
         ensures comes { IfOk (found_by self.new result) (λ f. IfSome f (Comes self.old self.new)) }
@@ -663,7 +404,7 @@ impl<'a, A: Allocator + Copy> Context<'a, A> {
         ensures written { IfOk result (λ n. IsLentHere self.old (Some token)
             → IsWritten (options_in self.old) (text_in self.old) n) }
         ensures refused { OnErr result (NoName self.old) }
-        ensures fault { OnErr result (IsFault (text_in self.old) self.new.fault) }
+        ensures fault { OnErr result (IsFaultHere self.old ⊥ self.new.fault) }
         ensures error { OnErr result (IsWrongName self.old (last self.old token) self.new.fault) }
     {
         let range = self.range();
@@ -693,7 +434,7 @@ impl<'a, A: Allocator + Copy> Context<'a, A> {
         ensures found { OnOk result (PassesColon self.old self.new) }
         ensures collects { OnOk result (Collects self.old self.new) }
         ensures refused { OnErr result (OutOfMemoryOr (NoColon self.old) self.new.fault) }
-        ensures fault { OnErr result (IsFault (text_in self.old) self.new.fault) }
+        ensures fault { OnErr result (IsFaultHere self.old R.Error self.new.fault) }
         ensures error { OnErr result (StopsAtColon self.old self.new.fault) }
         ensures source { OnOk result (R.source to.new ≡ R.source to.old) }
         ensures behind { OnOk result (IsBehind (source_of self.old) (R.reached to.new) (token_end self.new)) }

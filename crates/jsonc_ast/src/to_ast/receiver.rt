@@ -1,7 +1,7 @@
 //! What a walk over a text hands what it reads to.
 
 use jsonc_text::common::Range;
-use std::alloc::{AllocError, Allocator};
+use std::alloc::Allocator;
 
 /// A string that owns its characters.
 pub trait Text: Drop {
@@ -19,7 +19,8 @@ impl<A: Allocator> Text for String<A> {
 /// What is made of a text as it is read. The receiver has the text itself, and is told of literals by their places.
 ///
 /// Between two of its states an item is made of a value, and a property is named. An array or an object
-/// that was opened at one state holds elements or properties at a later one. It fails for want of memory alone.
+/// that was opened at one state holds elements or properties at a later one. It fails for want of memory alone, and one
+/// that wants none has an `Error` without a value.
 ///
 /// At each state it has come to a place of the text. What is handed next begins there. Gaps are passed between what
 /// is handed, and with them the comma or colon before each.
@@ -40,6 +41,9 @@ pub trait Receiver<S: Text> {
     type Object: Drop;
 
     type Property: Drop;
+
+    /// That memory was wanted and there was none.
+    type Error: Drop;
 
     ghost whole: { Bool };
 
@@ -68,7 +72,7 @@ pub trait Receiver<S: Text> {
 
     /// Passes as much as it likes of the gap at a place that it has come to, or that stands behind a comma or a colon
     /// there. Answers up to where. It has come to whatever place the rest of the gap leads to.
-    fn pass_gap(&mut self, from: usize) -> Result<usize, AllocError>
+    fn pass_gap(&mut self, from: usize) -> Result<usize, Self::Error>
         requires behind { IsBehind (source self.old) (reached self.old) from }
         requires boundary { IsCharBoundary (source self.old).bytes from }
         ensures kept { OnOk result (source self.new ≡ source self.old) }
@@ -79,7 +83,7 @@ pub trait Receiver<S: Text> {
         ensures held { OnOk result (StaysHeld names holds_elements holds_properties self.old self.new) };
 
     /// A string without a backslash: it means what stands between its quotes.
-    fn string(&mut self, range: Range) -> Result<Self::Item, AllocError>
+    fn string(&mut self, range: Range) -> Result<Self::Item, Self::Error>
         requires inside { Spans (source self.old).bytes (range.start + 1) (range.end - 1) }
         requires stands { HasPlainString (source self.old) range }
         requires follows { Follows (source self.old) (reached self.old) range.start }
@@ -89,7 +93,7 @@ pub trait Receiver<S: Text> {
             (leaf_at range (string (chars_between (source self.old) (range.start + 1) (range.end - 1))))) };
 
     /// A string with a backslash, and what it means.
-    fn decoded(&mut self, range: Range, value: S) -> Result<Self::Item, AllocError>
+    fn decoded(&mut self, range: Range, value: S) -> Result<Self::Item, Self::Error>
         requires stands { HasEscapedString (source self.old) range (S.chars_of value) }
         requires follows { Follows (source self.old) (reached self.old) range.start }
         ensures kept { OnOk result (source self.new ≡ source self.old) }
@@ -97,7 +101,7 @@ pub trait Receiver<S: Text> {
         ensures made { IfOk result (λ i. makes self.old self.new i (leaf_at range (string (S.chars_of value)))) };
 
     /// A string with a backslash that was passed: its place alone is told.
-    fn passed(&mut self, range: Range) -> Result<Self::Item, AllocError>
+    fn passed(&mut self, range: Range) -> Result<Self::Item, Self::Error>
         requires inside { Spans (source self.old).bytes range.start range.end }
         requires stands { HasEscapedString (source self.old) range (value_in (source self.old) range) }
         requires follows { Follows (source self.old) (reached self.old) range.start }
@@ -106,7 +110,7 @@ pub trait Receiver<S: Text> {
         ensures made { IfOk result (λ i. makes self.old self.new i (leaf_at range (string (value_in (source self.old) range)))) };
 
     /// A number.
-    fn number(&mut self, range: Range) -> Result<Self::Item, AllocError>
+    fn number(&mut self, range: Range) -> Result<Self::Item, Self::Error>
         requires inside { Spans (source self.old).bytes range.start range.end }
         requires stands { HasNumber (source self.old) range }
         requires follows { Follows (source self.old) (reached self.old) range.start }
@@ -116,7 +120,7 @@ pub trait Receiver<S: Text> {
             (leaf_at range (number (chars_between (source self.old) range.start range.end)))) };
 
     /// `true` or `false`.
-    fn boolean(&mut self, range: Range, value: bool) -> Result<Self::Item, AllocError>
+    fn boolean(&mut self, range: Range, value: bool) -> Result<Self::Item, Self::Error>
         requires inside { Spans (source self.old).bytes range.start range.end }
         requires follows { Follows (source self.old) (reached self.old) range.start }
         ensures kept { OnOk result (source self.new ≡ source self.old) }
@@ -124,7 +128,7 @@ pub trait Receiver<S: Text> {
         ensures made { IfOk result (λ i. makes self.old self.new i (leaf_at range (boolean value))) };
 
     /// `null`.
-    fn null(&mut self, range: Range) -> Result<Self::Item, AllocError>
+    fn null(&mut self, range: Range) -> Result<Self::Item, Self::Error>
         requires inside { Spans (source self.old).bytes range.start range.end }
         requires follows { Follows (source self.old) (reached self.old) range.start }
         ensures kept { OnOk result (source self.new ≡ source self.old) }
@@ -132,14 +136,14 @@ pub trait Receiver<S: Text> {
         ensures made { IfOk result (λ i. makes self.old self.new i (leaf_at range null)) };
 
     /// The `[` of an array.
-    fn open_array(&mut self, start: usize) -> Result<Self::Array, AllocError>
+    fn open_array(&mut self, start: usize) -> Result<Self::Array, Self::Error>
         requires follows { Follows (source self.old) (reached self.old) start }
         ensures kept { OnOk result (source self.new ≡ source self.old) }
         ensures reached { OnOk result (reached self.new (start + 1)) }
         ensures held { IfOk result (λ a. holds_elements self.old self.new a start []) };
 
     /// An element of an array, behind the others.
-    fn element(&mut self, array: &mut Self::Array, item: Self::Item) -> Result<(), AllocError>
+    fn element(&mut self, array: &mut Self::Array, item: Self::Item) -> Result<(), Self::Error>
         requires held { (s : Self) × (m : Self) × (i : ℕ) × (xs : List Located) × (x : Located)
             × holds_elements s m array.old i xs × makes m self.old item x }
         ensures kept { OnOk result (source self.new ≡ source self.old) }
@@ -149,7 +153,7 @@ pub trait Receiver<S: Text> {
             → makes m self.old item x → holds_elements s self.new array.new i (xs ++ x ∷ [])) };
 
     /// The array of these elements, whose `]` was read.
-    fn close_array(&mut self, array: Self::Array, range: Range) -> Result<Self::Item, AllocError>
+    fn close_array(&mut self, array: Self::Array, range: Range) -> Result<Self::Item, Self::Error>
         requires held { (s : Self) × (xs : List Located) × holds_elements s self.old array range.start xs }
         requires ends { 0 < range.end }
         requires follows { Follows (source self.old) (reached self.old) (range.end - 1) }
@@ -160,14 +164,14 @@ pub trait Receiver<S: Text> {
             → makes s self.new i (array_at range (items_of xs))) };
 
     /// The `{` of an object.
-    fn open_object(&mut self, start: usize) -> Result<Self::Object, AllocError>
+    fn open_object(&mut self, start: usize) -> Result<Self::Object, Self::Error>
         requires follows { Follows (source self.old) (reached self.old) start }
         ensures kept { OnOk result (source self.new ≡ source self.old) }
         ensures reached { OnOk result (reached self.new (start + 1)) }
         ensures held { IfOk result (λ o. holds_properties self.old self.new o start []) };
 
     /// A name in quotes without a backslash.
-    fn string_name(&mut self, range: Range) -> Result<Self::Property, AllocError>
+    fn string_name(&mut self, range: Range) -> Result<Self::Property, Self::Error>
         requires inside { Spans (source self.old).bytes (range.start + 1) (range.end - 1) }
         requires stands { HasPlainString (source self.old) range }
         requires follows { Follows (source self.old) (reached self.old) range.start }
@@ -177,7 +181,7 @@ pub trait Receiver<S: Text> {
             (record { range = range; name = chars_between (source self.old) (range.start + 1) (range.end - 1) })) };
 
     /// A name in quotes with a backslash, and what it means.
-    fn decoded_name(&mut self, range: Range, value: S) -> Result<Self::Property, AllocError>
+    fn decoded_name(&mut self, range: Range, value: S) -> Result<Self::Property, Self::Error>
         requires stands { HasEscapedString (source self.old) range (S.chars_of value) }
         requires follows { Follows (source self.old) (reached self.old) range.start }
         ensures kept { OnOk result (source self.new ≡ source self.old) }
@@ -185,7 +189,7 @@ pub trait Receiver<S: Text> {
         ensures named { IfOk result (λ p. names self.old self.new p (record { range = range; name = S.chars_of value })) };
 
     /// A name in quotes with a backslash that was passed.
-    fn passed_name(&mut self, range: Range) -> Result<Self::Property, AllocError>
+    fn passed_name(&mut self, range: Range) -> Result<Self::Property, Self::Error>
         requires inside { Spans (source self.old).bytes range.start range.end }
         requires stands { HasEscapedString (source self.old) range (value_in (source self.old) range) }
         requires follows { Follows (source self.old) (reached self.old) range.start }
@@ -195,7 +199,7 @@ pub trait Receiver<S: Text> {
             (record { range = range; name = value_in (source self.old) range })) };
 
     /// A name without quotes.
-    fn word_name(&mut self, range: Range) -> Result<Self::Property, AllocError>
+    fn word_name(&mut self, range: Range) -> Result<Self::Property, Self::Error>
         requires inside { Spans (source self.old).bytes range.start range.end }
         requires stands { HasLooseName (source self.old) range }
         requires follows { Follows (source self.old) (reached self.old) range.start }
@@ -211,7 +215,7 @@ pub trait Receiver<S: Text> {
         property: Self::Property,
         item: Self::Item,
         range: Range,
-    ) -> Result<(), AllocError>
+    ) -> Result<(), Self::Error>
         requires held { (s : Self) × (m : Self) × (k : Self) × (i : ℕ) × (ms : List LocatedMember) × (n : LocatedName)
             × (x : Located) × holds_properties s m object.old i ms × names m k property n × makes k self.old item x
             × Covers range n x }
@@ -223,7 +227,11 @@ pub trait Receiver<S: Text> {
             → holds_properties s self.new object.new i (ms ++ record { range = range; name = n; value = x } ∷ [])) };
 
     /// The object of these properties, whose `}` was read.
-    fn close_object(&mut self, object: Self::Object, range: Range) -> Result<Self::Item, AllocError>
+    fn close_object(
+        &mut self,
+        object: Self::Object,
+        range: Range,
+    ) -> Result<Self::Item, Self::Error>
         requires held { (s : Self) × (ms : List LocatedMember) × holds_properties s self.old object range.start ms }
         requires ends { 0 < range.end }
         requires follows { Follows (source self.old) (reached self.old) (range.end - 1) }

@@ -59,6 +59,8 @@ impl<'a, A: Allocator + Copy> Receiver<String<A>> for TreeMaker<'a, A> {
 
     type Property = ObjectPropName<'a, A>;
 
+    type Error = AllocError;
+
     ghost whole = { true };
 
     ghost source = { source_in };

@@ -1,5 +1,5 @@
 //! The walk over a text, by recursive descent, whatever is made of it.
-ghost use Rattle.std.specs.Prelude.{ℕ, List, ◌≡◌, ◌+◌, ◌≤◌, ◌<◌, IfOk, IfErr, OnOk, OnErr, IfSome, IfNone, IsTrue, true, false, chars, is_some};
+ghost use Rattle.std.specs.Prelude.{ℕ, List, ◌≡◌, ◌+◌, ◌≤◌, ◌<◌, ◌⊎◌, IfOk, IfErr, OnOk, OnErr, IfSome, IfNone, IsTrue, true, false, chars, is_some};
 ghost use Rattle.std.specs.Cow.{cow_str_bytes};
 ghost use Rattle.std.specs.Str.{IsUtf8};
 ghost use Rattle.jsonc_text.specs.Faults.{IsFault};
@@ -13,19 +13,20 @@ ghost use Rattle.jsonc_ast.specs.to_ast.Context.{text_in, options_in, token_star
 ghost use Rattle.jsonc_ast.specs.to_ast.Faults.{ParseFault, StopsAtContainer, StopsAtItem, StopsAtValue};
 ghost use Rattle.jsonc_ast.specs.to_ast.Handed.{source_of, ElementMade, Follows, IsDocumentMade, IsUnexpectedHere, IsWrongNameHere, LeafMade, MadeBetweenGaps, NameMade, PropertyMade, ReadsLeaf, ReadsMade};
 ghost use Rattle.jsonc_ast.specs.to_ast.Reached.{least, per_property};
-ghost use Rattle.jsonc_ast.specs.to_ast.Refusals.{NoLiteral, NoName, NoPropertyHere, NoValueHere, OutOfMemoryOr, Refuses};
+ghost use Rattle.jsonc_ast.specs.to_ast.Refusals.{AsksForMemory, IsAllocationFailure, IsFaultHere, NoLiteral, NoName, NoPropertyHere, NoValueHere, OutOfMemoryOr, Refuses};
 ghost use Rattle.jsonc_ast.specs.to_ast.Scanned.{leaf_value};
 ghost use Rattle.jsonc_ast.specs.to_ast.Walked.{IsRead, IsRefused};
 ghost use Rattle.jsonc_ast.specs.to_ast.Written.{IsLentHere, IsWritten};
 
 use crate::ast::{ObjectPropName, StringLit};
 use crate::to_ast::container::Container;
-use crate::to_ast::context::{Context, MAXIMUM_NESTING, Stopped};
+use crate::to_ast::context::{Context, MAXIMUM_NESTING};
 use crate::to_ast::receiver::Receiver;
+use crate::to_ast::stops::Stopped;
 use jsonc_scan::found::TokenKind;
 use jsonc_text::common::Range;
 use jsonc_text::errors::{ParseError, ParseErrorKind};
-use std::alloc::{AllocError, Allocator};
+use std::alloc::Allocator;
 use std::borrow::CowStr;
 
 // Whether no container may begin inside of so many, where containers alone count.
@@ -75,7 +76,7 @@ fn hand_string<'a, A: Allocator, R: Receiver<String<A>>>(
     to: &mut R,
     range: Range,
     value: CowStr<'a, A>,
-) -> Result<R::Item, AllocError>
+) -> Result<R::Item, R::Error>
     requires utf8 { IsUtf8 (R.source to.old).bytes }
     requires written { IsWritten (R.source to.old).options (R.source to.old).bytes (quoted (record { range = range; value = value })) }
     requires follows { Follows (R.source to.old) (R.reached to.old) range.start }
@@ -94,7 +95,7 @@ fn hand_string<'a, A: Allocator, R: Receiver<String<A>>>(
 fn hand_name<'a, A: Allocator, R: Receiver<String<A>>>(
     to: &mut R,
     name: ObjectPropName<'a, A>,
-) -> Result<R::Property, AllocError>
+) -> Result<R::Property, R::Error>
     requires utf8 { IsUtf8 (R.source to.old).bytes }
     requires written { IsWritten (R.source to.old).options (R.source to.old).bytes name }
     requires follows { Follows (R.source to.old) (R.reached to.old) (name_at name).range.start }
@@ -130,7 +131,7 @@ fn parse_name<'a, A: Allocator + Copy, R: Receiver<String<A>>>(
     ensures gives { OnOk result (GivesAway context.old context.new) }
     ensures named { IfOk result (λ p. NameMade context.old (R.names to.old to.new p)) }
     ensures refused { OnErr result (OutOfMemoryOr (NoName context.old) context.new.fault) }
-    ensures fault { OnErr result (IsFault (text_in context.old) context.new.fault) }
+    ensures fault { OnErr result (IsFaultHere context.old R.Error context.new.fault) }
     ensures error { OnErr result (IsWrongNameHere context.old (last context.old token) context.new.fault) }
 {
     if let TokenKind::Passed = token {
@@ -154,7 +155,7 @@ fn leaf<'a, A: Allocator + Copy, R: Receiver<String<A>>>(
     to: &mut R,
     token: TokenKind,
     range: Range,
-) -> Result<Option<R::Item>, AllocError>
+) -> Result<Option<R::Item>, R::Error>
     requires token { IsToken context.old (last context.old token) }
     requires lent { IsLentHere context.old (Some token) }
     requires place { range ≡ token_range context.old }
@@ -214,7 +215,7 @@ fn parse_leaf<'a, A: Allocator + Copy, R: Receiver<String<A>>>(
     ensures gives { OnOk result (GivesAway context.old context.new) }
     ensures found { IfOk result (λ i. ReadsLeaf context.old (R.makes to.old to.new i)) }
     ensures refused { OnErr result (OutOfMemoryOr (NoLiteral context.old) context.new.fault) }
-    ensures fault { OnErr result (IsFault (text_in context.old) context.new.fault) }
+    ensures fault { OnErr result (IsFaultHere context.old R.Error context.new.fault) }
     ensures error { OnErr result (OpensNone (last context.old token)
         → IsUnexpectedHere context.old (last context.old token) context.new.fault) }
 {
@@ -245,7 +246,7 @@ fn parse_value<'a, A: Allocator + Copy, R: Receiver<String<A>>>(
     requires follows { Follows (R.source to.old) (R.reached to.old) (token_start context.old) }
     ensures read { IfOk result (λ i. IsRead context.old context.new (R.source to.old) (R.source to.new) (R.reached to.new)
         (ReadsMade context.old context.new R.whole count (R.makes to.old to.new i))) }
-    ensures refused { OnErr result (IsRefused context.old (NoValueHere context.old R.whole count)
+    ensures refused { OnErr result (IsRefused context.old R.Error (NoValueHere context.old R.whole count)
         (StopsAtValue context.old (last context.old token) R.whole count) context.new.fault) }
 {
     // The results of the two calls are taken apart, so that those of literals can stay in registers.
@@ -282,7 +283,7 @@ fn parse_element<'a, A: Allocator + Copy, R: Receiver<String<A>>>(
     ensures read { OnOk result (IsRead context.old context.new (R.source to.old) (R.source to.new) (R.reached to.new)
         ((s : R) (i : ℕ) → ElementMade context.old context.new R.whole count (R.holds_elements s to.old elements.old i)
         (R.holds_elements s to.new elements.new i))) }
-    ensures refused { OnErr result (IsRefused context.old (NoValueHere context.old R.whole count)
+    ensures refused { OnErr result (IsRefused context.old R.Error (NoValueHere context.old R.whole count)
         (StopsAtValue context.old (last context.old token) R.whole count) context.new.fault) }
 {
     match token {
@@ -331,7 +332,7 @@ fn parse_array<'a, A: Allocator + Copy, R: Receiver<String<A>>>(
     requires follows { Follows (R.source to.old) (R.reached to.old) (token_start context.old) }
     ensures read { IfOk result (λ i. IsRead context.old context.new (R.source to.old) (R.source to.new) (R.reached to.new)
         (ReadsMade context.old context.new R.whole count (R.makes to.old to.new i))) }
-    ensures refused { OnErr result (IsRefused context.old (NoValueHere context.old R.whole count)
+    ensures refused { OnErr result (IsRefused context.old R.Error (NoValueHere context.old R.whole count)
         (StopsAtContainer context.old R.whole count) context.new.fault) }
 {
     let start = context.scanner.token_start();
@@ -371,7 +372,7 @@ fn parse_object<'a, A: Allocator + Copy, R: Receiver<String<A>>>(
     requires follows { Follows (R.source to.old) (R.reached to.old) (token_start context.old) }
     ensures read { IfOk result (λ i. IsRead context.old context.new (R.source to.old) (R.source to.new) (R.reached to.new)
         (ReadsMade context.old context.new R.whole count (R.makes to.old to.new i))) }
-    ensures refused { OnErr result (IsRefused context.old (NoValueHere context.old R.whole count)
+    ensures refused { OnErr result (IsRefused context.old R.Error (NoValueHere context.old R.whole count)
         (StopsAtContainer context.old R.whole count) context.new.fault) }
 {
     let start = context.scanner.token_start();
@@ -413,7 +414,7 @@ fn parse_property<'a, A: Allocator + Copy, R: Receiver<String<A>>>(
     ensures read { OnOk result (IsRead context.old context.new (R.source to.old) (R.source to.new) (R.reached to.new)
         ((s : R) (i : ℕ) → PropertyMade context.old context.new R.whole count (R.holds_properties s to.old properties.old i)
         (R.holds_properties s to.new properties.new i))) }
-    ensures refused { OnErr result (IsRefused context.old (NoPropertyHere context.old R.whole count)
+    ensures refused { OnErr result (IsRefused context.old R.Error (NoPropertyHere context.old R.whole count)
         (StopsAtItem Object context.old (last context.old token) R.whole count) context.new.fault) }
 {
     let start = context.scanner.token_start();
@@ -451,7 +452,7 @@ fn read_text<'a, A: Allocator + Copy, R: Receiver<String<A>>>(
         (IsDocumentMade (source_of context.old) R.whole (MadeBetweenGaps R.passes R.makes to.old to.new)) }
     ensures none { IfOk result (λ f. IfNone f (R.passes to.old to.new)) }
     ensures refused { OnErr result (Refuses (options_in context.old) R.whole (text_in context.old) context.new.fault) }
-    ensures fault { OnErr result (IsFault (text_in context.old) context.new.fault) }
+    ensures fault { OnErr result (IsFaultHere context.old R.Error context.new.fault) }
     ensures error { OnErr result (ParseFault (options_in context.old) (text_in context.old) R.whole context.new.fault) }
 {
     let Some(token) = context.scan(to)? else {
@@ -481,6 +482,7 @@ pub fn read_document<'a, A: Allocator + Copy, R: Receiver<String<A>>>(
     ensures none { IfOk result (λ f. IfNone f (R.passes to.old to.new)) }
     ensures refused { IfErr result (Refuses (options_in context.old) R.whole (text_in context.old)) }
     ensures fault { IfErr result (IsFault (text_in context.old)) }
+    ensures memory { IfErr result (λ e. IsAllocationFailure e → AsksForMemory context.old ⊎ R.Error) }
     ensures error { IfErr result (ParseFault (options_in context.old) (text_in context.old) R.whole) }
 {
     match read_text(context, to) {

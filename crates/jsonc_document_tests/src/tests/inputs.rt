@@ -160,3 +160,16 @@ fn values_are_made_and_strings_spelled(rt: HostRuntime) {
     assert!(rt; are_given(&heap) && heap.asked() == 0);
     assert!(rt; inputs::<Global>(rt.alloc()) == Outcome::Answered);
 }
+
+fn is_copied(value: CstInputValue<&Refusing<Global>>) -> bool {
+    value.try_clone().is_ok()
+}
+
+#[test]
+fn copies_of_what_owns_nothing_take_no_memory(rt: HostRuntime) {
+    let heap = Refusing::always(rt.alloc());
+    assert!(rt; is_copied(CstInputValue::Null) && is_copied(CstInputValue::Bool(true)));
+    assert!(rt; is_copied(CstInputValue::Array(Vec::new(&heap))));
+    assert!(rt; is_copied(CstInputValue::Object(Vec::new(&heap))));
+    assert!(rt; heap.asked() == 0);
+}

@@ -3,16 +3,19 @@ ghost use Rattle.jsonc_cst.specs.Document.{HasNode};
 ghost use Rattle.jsonc_cst.specs.Nodes.{object_prop_node};
 ghost use Rattle.jsonc_cst.specs.declared.cst.node.CstNode.{CstNode};
 
-use crate::tests::reading::{asked_by, child_at, read};
+use crate::tests::node_edits::{NodeEdit, edit_node};
+use crate::tests::reading::{asked_by, child_at, prepared, read};
 use crate::tests::typed::SPREAD;
 use failing_alloc::awaited::prints;
 use failing_alloc::flags::is_alone;
+use failing_alloc::outcome::Outcome;
 use failing_alloc::{Refusing, given};
 use jsonc_parser::cst::{
     CstContainerNode, CstLeafNode, CstNewlineKind, CstNode, CstObject, CstObjectProp, CstRootNode,
     ParentNode, TypedNode,
 };
 use std::alloc::{Allocator, Global};
+use std::test::Fail;
 
 /// Leaves of each kind, in a property and in the array of the next one.
 const LEAVES: &str = "{a: \"b\", c: [true,false,null,1 /*c*/\n]}";
@@ -280,4 +283,88 @@ fn other_readings_take_no_memory(rt: HostRuntime) {
     assert!(rt; is_told_unasked(rt.alloc(), SPREAD, |doc| rows_told(doc)));
     assert!(rt; is_told_unasked(rt.alloc(), LEAVES, |doc| leaves_told(doc)));
     assert!(rt; is_told_unasked(rt.alloc(), SPREAD, |doc| walk_told(doc)));
+}
+
+/// Texts, how their lines end, and whether they use trailing commas. What is less deep tells, and of what is as deep
+/// what stands first.
+static LAID_OUT: [(&str, CstNewlineKind, bool); 8] = [
+    ("[\r\n  1,\r\n]\n", CstNewlineKind::LineFeed, true),
+    ("[[\r\n1],2\n]", CstNewlineKind::LineFeed, false),
+    (
+        "[[[\r\n1]],[[2\n]]]",
+        CstNewlineKind::CarriageReturnLineFeed,
+        false,
+    ),
+    ("[[[\r\n1]],[2\n]]", CstNewlineKind::LineFeed, false),
+    (
+        "{a:[[[\r\n1, ]]],b:2}",
+        CstNewlineKind::CarriageReturnLineFeed,
+        true,
+    ),
+    ("[[ 1,],2]", CstNewlineKind::LineFeed, true),
+    ("[[1,], [ 2]]", CstNewlineKind::LineFeed, false),
+    ("", CstNewlineKind::LineFeed, false),
+];
+
+fn lines_told<A: Allocator + Copy>(doc: &CstRootNode<A>, kind: CstNewlineKind, uses: bool) -> bool {
+    let is_kind = match doc.newline_kind() {
+        Ok(told) => told == kind,
+        Err(_) => false,
+    };
+    let is_used = match doc.root().uses_trailing_commas(doc) {
+        Ok(told) => told == uses,
+        Err(_) => false,
+    };
+    is_kind && is_used
+}
+
+#[test]
+fn line_ends_and_trailing_commas_take_no_memory(rt: HostRuntime) -> Result<(), Fail> {
+    for (text, kind, uses) in &LAID_OUT {
+        assert!(rt;
+            is_told_unasked(rt.alloc(), text, |doc| lines_told(doc, *kind, *uses)),
+            "{text}"
+        );
+    }
+    Ok(())
+}
+
+/// A leaf that becomes this string has no value.
+fn gives_nothing<A: Allocator + Copy>(doc: CstRootNode<A>, word: String<A>) -> bool {
+    let mut doc = doc;
+    let Some(node) = child_at(&doc, 1) else {
+        return false;
+    };
+    if edit_node(&mut doc, NodeEdit::SetRaw, node, word) != Outcome::Answered {
+        return false;
+    }
+    match child_at(&doc, 1) {
+        Some(node) => match node.to_value(&doc) {
+            Ok(None) => true,
+            _ => false,
+        },
+        None => false,
+    }
+}
+
+/// The same, though all is refused behind the text and the string.
+fn gives_nothing_unasked(alloc: Global, string: &str) -> bool {
+    let counted = Refusing::at(alloc, u64::MAX);
+    drop(prepared(&counted, "[\"a\"]", string));
+    let heap = Refusing::after(alloc, counted.asked());
+    match prepared(&heap, "[\"a\"]", string) {
+        Ok((doc, word)) => gives_nothing(doc, word),
+        Err(_) => false,
+    }
+}
+
+/// Strings that do not decode: an escape of too few digits, a backslash at the end, and no quotes.
+static UNDECODED: [&str; 3] = ["\"\\u12\"", "\"b\\", "\\n"];
+
+#[test]
+fn strings_that_do_not_decode_take_no_memory(rt: HostRuntime) -> Result<(), Fail> {
+    for string in &UNDECODED {
+        assert!(rt; gives_nothing_unasked(rt.alloc(), string), "{string}");
+    }
+    Ok(())
 }

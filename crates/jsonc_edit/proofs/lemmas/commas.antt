@@ -22,3 +22,4 @@ pub mod InsideAlone
 pub mod NoTrailing
 pub mod Reaching
 pub mod NoneLeft
+pub mod NoneMissing

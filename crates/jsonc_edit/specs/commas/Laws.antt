@@ -8,7 +8,8 @@ use Rattle.jsonc_tree.specs.Content.{Content, token}
 use Rattle.jsonc_tree.specs.OrderedTree.{OrderedTree, none, more, ordered_tree}
 use Rattle.jsonc_tree.specs.Tree.{Node, content_at, IsTree, IsOver}
 use Rattle.jsonc_layout.specs.lines.Siblings.{trailing_comma_at}
-use Rattle.jsonc_layout.specs.nodes.Kinds.{is_comma, is_token, is_trivia}
+use Rattle.jsonc_layout.specs.nodes.Kinds.{is_comma, is_element, is_newline, is_token, is_trivia}
+use Rattle.jsonc_layout.specs.lines.Kinds.{is_array_or_object}
 use Rattle.jsonc_sound.specs.Shape.{printed_text}
 use Rattle.jsonc_sound.specs.Marks.{marks}
 use Rattle.jsonc_sound.specs.Alone.{ValueAlone}
@@ -88,6 +89,31 @@ LeavesNone o old c new = IsInSound o old c → IsTrue (holds_at old c) → AreSe
 -- and where the node is the root, the document is one
 abbrev pub LeavesNoneAnywhere : Options → List Node → List Node → Type 0
 LeavesNoneAnywhere o old new = IsInSound o old 0 → AreSetInTurn Never old (holders old 0) new → SoundTree (without_trailing o) (ordered_tree new 0)
+
+-- an element is last in a row, trivia and all tokens but commas passed over
+abbrev pub element_last : Bool → Content → Bool
+element_last before content = is_element content || (not (is_comma content) && before)
+
+-- In this rest of a row and below it each array or object in which a line ends between the children, and which has an element, has a trailing comma. `holds`: the
+-- row is that of an array or object; `line`, `element`: in what stands before, a line has ended, and an element is last.
+abbrev pub row_is_full : (holds line element : Bool) → OrderedTree → Bool
+row_is_full holds line element none = not (holds && (line && element))
+row_is_full holds line element (more content below after) =
+    row_is_full (is_array_or_object content) false false below && row_is_full holds (is_newline content || line) (element_last element content) after
+
+-- the same of a node
+abbrev pub is_full : Content → OrderedTree → Bool
+is_full content below = row_is_full (is_array_or_object content) false false below
+
+-- After `IfMultiline` no trailing comma is missing in the array or object, or in the document where the node is the root.
+abbrev pub LeavesAll : Options → List Node → ℕ → List Node → Type 0
+LeavesAll o old c new = IsInSound o old c → (c ≡ 0) ⊎ IsTrue (holds_at old c) → AreSetInTurn IfMultiline old (holders old c) new
+    → IsTrue (is_full (content_at new c) (row_below new c))
+
+-- what the mode says of the value that a node is
+abbrev pub IsAsSaid : TrailingCommaMode → Options → Content → OrderedTree → Type 0
+IsAsSaid Never o content below = ValueAlone (without_trailing o) content below
+IsAsSaid IfMultiline o content below = IsTrue (is_full content below)
 
 -- and those that were set before an error are
 abbrev pub SetsThoseDone : TrailingCommaMode → Options → List Node → ℕ → List Node → Type 0

@@ -7,7 +7,7 @@ ghost use Rattle.jsonc_tree.specs.Order.{printed_at};
 ghost use Rattle.jsonc_edit.specs.commas.Commas.{comma_gone, comma_wanted_behind};
 ghost use Rattle.jsonc_edit.specs.commas.InTurn.{holders};
 ghost use Rattle.jsonc_edit.specs.commas.Laws.{KeepsDocument, KeepsDocumentInPart, KeepsHolders};
-ghost use Rattle.jsonc_edit.specs.commas.Laws.{LeavesNone, LeavesNoneAnywhere};
+ghost use Rattle.jsonc_edit.specs.commas.Laws.{LeavesAll, LeavesNone, LeavesNoneAnywhere};
 ghost use Rattle.jsonc_edit.specs.commas.Laws.{LeavesOthers, LeavesOthersInPart, LeavesWhatIsSet};
 ghost use Rattle.jsonc_edit.specs.commas.Laws.{SetsAll, SetsAllButSeveral, SetsOnce, SetsThoseDone};
 ghost use Rattle.jsonc_edit.specs.commas.Worked.{bare_array, colonless_object, comma_array, open_array};
@@ -33,12 +33,14 @@ pub fn documents_say_the_same()
 /// document, but that `Never` leaves a comma where several stood behind the last element, which is in no
 /// sound one. Where all is so before, nothing changes; so of a sound document nothing does a second time.
 /// The same arrays and objects are there afterwards, in the same order. After `Never` the array or object,
-/// or the document, is one of options that allow no trailing comma.
+/// or the document, is one of options that allow no trailing comma. After `IfMultiline` no trailing comma is
+/// missing there, in the document as it is printed.
 pub fn commas_are_set()
     ensures all { (mode : TrailingCommaMode) (o : Options) (old : List Node) (c : ℕ) (new : List Node)
         → SetsAll mode o old c new }
     ensures bare { (o : Options) (old : List Node) (c : ℕ) (new : List Node) → LeavesNone o old c new }
     ensures document { (o : Options) (old new : List Node) → LeavesNoneAnywhere o old new }
+    ensures full { (o : Options) (old : List Node) (c : ℕ) (new : List Node) → LeavesAll o old c new }
     ensures part { (mode : TrailingCommaMode) (o : Options) (old : List Node) (c : ℕ) (new : List Node)
         → SetsThoseDone mode o old c new }
     ensures several { (mode : TrailingCommaMode) (old : List Node) (c : ℕ) (new : List Node)

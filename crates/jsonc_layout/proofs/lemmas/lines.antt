@@ -1,5 +1,6 @@
 pub mod SiblingSteps
-pub mod Levels
+pub mod Depths
+pub mod WalkSteps
 pub mod NodesAbove
 pub mod Told
 pub mod LineBegins

@@ -19,6 +19,10 @@ use Rattle.jsonc_layout.specs.nodes.Properties.{name_at}
 abbrev pub StandsFor : List ℕ → List ℕ → Type 0
 StandsFor bytes v = (r : List ℕ) × IsString all_on (chars bytes) v r
 
+-- one stands there
+abbrev pub HoldsString : List ℕ → Type 0
+HoldsString bytes = (v : List ℕ) × StandsFor bytes v
+
 -- no string stands at the front of the text, and the kind of fault is true of it
 pub record IsNoString (bytes : List ℕ) (kind : ParseStringErrorKind) : Type 0 where
   pub none : (v : List ℕ) → StandsFor bytes v → ⊥

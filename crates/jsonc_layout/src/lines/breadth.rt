@@ -1,13 +1,14 @@
 //! What a walk over the levels of a document tells of its layout.
-ghost use Rattle.std.specs.Prelude.{◌≡◌, ◌<◌, ◌++◌, [], All, IfOk, IfSome, None, length};
+ghost use Rattle.std.specs.Prelude.{◌≡◌, ◌<◌, ◌∷◌, [], IfOk, IfSome, IsOk, length};
 ghost use Rattle.std.specs.List.{find};
 ghost use Rattle.jsonc_tree.specs.Tree.{children_at};
 ghost use Rattle.jsonc_layout.specs.lines.Breadth.{first_sought, has_whitespace, is_sought, is_spaced};
-ghost use Rattle.jsonc_layout.specs.lines.Breadth.{is_in_document, last_element, level_below, newline_kind_at, newline_kind_of};
+ghost use Rattle.jsonc_layout.specs.lines.Breadth.{is_in_document, last_element, levels, newline_kind_at, newline_kind_of};
 ghost use Rattle.jsonc_layout.specs.lines.Breadth.{uses_trailing_commas_at};
 
 use crate::lines::kinds::is_array_or_object;
 use crate::lines::siblings::trailing_comma;
+use crate::lines::walk::{Reached, next_higher, next_within};
 use crate::nodes::{children_from, first_element_back, is_newline, is_whitespace, root_node};
 use jsonc_tree::{CstNewlineKind, Kind, Tree};
 use std::alloc::{AllocError, Allocator};
@@ -61,101 +62,67 @@ fn is_sought<A: Allocator>(tree: &Tree<A>, sought: Sought, node: usize) -> bool
     }
 }
 
-// The first of these nodes that is what is looked for.
-fn first_in<A: Allocator>(tree: &Tree<A>, sought: Sought, level: &[usize]) -> Option<usize>
-    requires in_tree { All (λ m. m < length tree.now.nodes) level.now }
-    ensures first { result ≡ find (is_sought tree.now.nodes sought) level.now }
+// The first node that is what is looked for, level after level from a node down, on so many levels.
+//
+// It walks in the order of the document, and looks at no node that is as deep as one that it has found.
+fn first_above<A: Allocator>(
+    tree: &Tree<A>,
+    sought: Sought,
+    top: usize,
+    depth: usize,
+) -> Option<usize>
+    requires in_tree { top < length tree.now.nodes }
+    requires some { 0 < depth }
+    ensures first { result ≡ find (is_sought tree.now.nodes sought) (levels depth tree.now.nodes (top ∷ [])) }
     ensures in_tree { IfSome result (λ m. m < length tree.now.nodes) }
 {
-    for node in level {
-        if is_sought(tree, sought, *node) {
-            return Some(*node);
+    let mut found = None;
+    let mut bound = depth;
+    let mut at = Some(Reached {
+        node: top,
+        depth: 0,
+    });
+    while let Some(here) = at {
+        if is_sought(tree, sought, here.node) {
+            found = Some(here.node);
+            bound = here.depth;
+            at = next_higher(tree, top, here);
+        } else {
+            at = next_within(tree, top, here, bound);
         }
     }
-    None
+    found
 }
 
-// The first child of a node that is what is looked for; where there is none, the children are put behind others.
-fn first_child_in<A: Allocator>(
-    tree: &Tree<A>,
-    sought: Sought,
-    node: usize,
-    below: &mut Vec<usize, A>,
-) -> Result<Option<usize>, AllocError>
-    requires in_tree { node < length tree.now.nodes }
-    ensures first { IfOk result
-        (λ o. o ≡ find (is_sought tree.now.nodes sought) (children_at tree.now.nodes node)) }
-    ensures below { IfOk result
-        (λ o. o ≡ None → below.new.items ≡ below.old.items ++ children_at tree.now.nodes node) }
+// The first node that is what is looked for, level after level from a node down.
+//
+// It mostly stands on one of the first two or three levels, and then no deeper one is looked at.
+fn first_sought<A: Allocator>(tree: &Tree<A>, sought: Sought, top: usize) -> Option<usize>
+    requires { top < length tree.now.nodes }
+    ensures first { result ≡ first_sought tree.now.nodes sought (top ∷ []) }
+    ensures in_tree { IfSome result (λ m. m < length tree.now.nodes) }
 {
-    for child in tree.children(node) {
-        if is_sought(tree, sought, child) {
-            return Ok(Some(child));
-        }
-        below.push(child)?;
-    }
-    Ok(None)
-}
-
-// The first child of these nodes that is what is looked for; where there is none, a list has all of them.
-fn first_below<A: Allocator>(
-    tree: &Tree<A>,
-    sought: Sought,
-    level: &[usize],
-    below: &mut Vec<usize, A>,
-) -> Result<Option<usize>, AllocError>
-    requires in_tree { All (λ m. m < length tree.now.nodes) level.now }
-    requires empty { below.old.items ≡ [] }
-    ensures first { IfOk result
-        (λ o. o ≡ find (is_sought tree.now.nodes sought) (level_below tree.now.nodes level.now)) }
-    ensures below { IfOk result (λ o. o ≡ None → below.new.items ≡ level_below tree.now.nodes level.now) }
-{
-    for node in level {
-        let found = first_child_in(tree, sought, *node, below)?;
+    let depth = tree.len();
+    for near in 2..depth.min(4) {
+        let found = first_above(tree, sought, top, near);
         if found.is_some() {
-            return Ok(found);
+            return found;
         }
     }
-    Ok(None)
-}
-
-// The first node that is what is looked for, level after level from these nodes down.
-fn first_sought<A: Allocator + Copy>(
-    alloc: A,
-    tree: &Tree<A>,
-    sought: Sought,
-    start: &[usize],
-) -> Result<Option<usize>, AllocError>
-    requires { All (λ m. m < length tree.now.nodes) start.now }
-    ensures first { IfOk result (λ o. o ≡ first_sought tree.now.nodes sought start.now) }
-    ensures in_tree { IfOk result (λ o. IfSome o (λ m. m < length tree.now.nodes)) }
-{
-    if let Some(node) = first_in(tree, sought, start) {
-        return Ok(Some(node));
-    }
-    let mut level = Vec::from_slice(alloc, start)?;
-    for _depth in 1..tree.len() {
-        if level.is_empty() {
-            return Ok(None);
-        }
-        let mut below = Vec::new(alloc);
-        let found = first_below(tree, sought, &level, &mut below)?;
-        if found.is_some() {
-            return Ok(found);
-        }
-        level = below;
-    }
-    Ok(None)
+    first_above(tree, sought, top, depth)
 }
 
 /// How the lines of a document end: as the first of them, level after level, or by LF.
+///
+/// No memory is wanted.
 pub fn newline_kind<A: Allocator + Copy>(
-    alloc: A,
+    _alloc: A,
     tree: &Tree<A>,
 ) -> Result<CstNewlineKind, AllocError>
     ensures kind { IfOk result (λ kind. kind ≡ newline_kind_of tree.now.nodes) }
+    ensures ok { IsOk result }
 {
-    let Some(node) = first_sought(alloc, tree, Sought::LineEnd, &[0])? else {
+    let Some(node) = first_sought(tree, Sought::LineEnd, 0) else {
         return Ok(CstNewlineKind::LineFeed);
     };
     match tree.kind(node) {
@@ -177,6 +144,8 @@ fn is_in_document<A: Allocator>(tree: &Tree<A>, node: usize) -> bool
 
 /// How lines end that are put in beside a node: as the document's do, and by LF in what stands apart
 /// from it.
+///
+/// No memory is wanted.
 pub fn newline_kind_at<A: Allocator + Copy>(
     alloc: A,
     tree: &Tree<A>,
@@ -184,6 +153,7 @@ pub fn newline_kind_at<A: Allocator + Copy>(
 ) -> Result<CstNewlineKind, AllocError>
     requires in_tree { node < length tree.now.nodes }
     ensures kind { IfOk result (λ kind. kind ≡ newline_kind_at tree.now.nodes node) }
+    ensures ok { IsOk result }
 {
     if !is_in_document(tree, node) {
         return Ok(CstNewlineKind::LineFeed);
@@ -194,16 +164,17 @@ pub fn newline_kind_at<A: Allocator + Copy>(
 /// Whether commas stand after last elements: in the first array or object, level after level from a
 /// node down, that has whitespace between its brackets and an element.
 ///
-/// False where there is no such array or object.
+/// False where there is no such array or object. No memory is wanted.
 pub fn uses_trailing_commas<A: Allocator + Copy>(
-    alloc: A,
+    _alloc: A,
     tree: &Tree<A>,
     node: usize,
 ) -> Result<bool, AllocError>
     requires in_tree { node < length tree.now.nodes }
     ensures uses { IfOk result (λ uses. uses ≡ uses_trailing_commas_at tree.now.nodes node) }
+    ensures ok { IsOk result }
 {
-    let Some(container) = first_sought(alloc, tree, Sought::SpacedElements, &[node])? else {
+    let Some(container) = first_sought(tree, Sought::SpacedElements, node) else {
         return Ok(false);
     };
     let Some(last) = last_child_element(tree, container) else {

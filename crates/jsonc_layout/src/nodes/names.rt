@@ -3,17 +3,19 @@
 ghost use Rattle.std.specs.Prelude.{◌≡◌, ◌<◌, chars, length, string_bytes, IfErr, IfOk, IsTrue, OnErr};
 ghost use Rattle.std.specs.Bool.{Decides};
 ghost use Rattle.std.specs.Option.{option_map};
+ghost use Rattle.jsonc_tree.specs.Order.{text_at};
 ghost use Rattle.jsonc_tree.specs.Stored.{content_of};
 ghost use Rattle.jsonc_tree.specs.Tree.{content_at};
 ghost use Rattle.jsonc_text.specs.string.Escapes.{StringHoldsBackslash};
 ghost use Rattle.jsonc_layout.specs.nodes.Names.{FirstInObject, HasEscapedName, HasName, HoldsEscapedName, NameIsEscaped};
-ghost use Rattle.jsonc_layout.specs.nodes.Names.{IsEscaped, IsNamed, LeafIsNoString};
+ghost use Rattle.jsonc_layout.specs.nodes.Names.{HoldsString, IsEscaped, IsNamed, LeafIsNoString};
 ghost use Rattle.jsonc_layout.specs.nodes.Names.{LeafStandsFor, NameReads, Names, ReadsAs, StandsFor};
 ghost use Rattle.jsonc_layout.specs.nodes.Names.{is_string, string_text, word_text};
 ghost use Rattle.jsonc_layout.specs.nodes.Siblings.{IsThere};
 
 use crate::nodes::property::name_of;
 use crate::nodes::siblings::children_from;
+use crate::nodes::strings::fault_of;
 use jsonc_text::errors::ParseStringErrorKind;
 use jsonc_text::string::provider::parse_string;
 use jsonc_tree::{Kind, Tree};
@@ -62,7 +64,7 @@ fn front_string<'a, B: Allocator>(
 /// What a string leaf stands for. What follows its closing quote is ignored.
 ///
 /// A leaf's text with no quote in front is `UnterminatedStringLiteral`, allocation failure
-/// `OutOfMemory`.
+/// `OutOfMemory`. Only a string that decodes wants memory.
 pub fn decoded_value<A: Allocator, B: Allocator + Copy>(
     alloc: B,
     tree: &Tree<A>,
@@ -72,6 +74,7 @@ pub fn decoded_value<A: Allocator, B: Allocator + Copy>(
     requires string { IsTrue (is_string (content_at tree.now.nodes leaf)) }
     ensures found { IfOk result (λ s. LeafStandsFor tree.now.nodes leaf (string_bytes s)) }
     ensures fault { IfErr result (LeafIsNoString tree.now.nodes leaf) }
+    ensures memory { IfErr result (λ kind. kind ≡ ParseStringErrorKind.OutOfMemory → HoldsString (text_at tree.now.nodes leaf)) }
 {
     let Some(text) = text_of_string(tree.kind(leaf)) else {
         unreachable!();
@@ -81,7 +84,7 @@ pub fn decoded_value<A: Allocator, B: Allocator + Copy>(
             Ok(string) => Ok(string),
             Err(_) => Err(ParseStringErrorKind::OutOfMemory),
         },
-        Err(fault) => Err(fault.kind),
+        Err(fault) => Err(fault_of(text, fault.kind)),
     }
 }
 

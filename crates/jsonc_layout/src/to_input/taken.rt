@@ -1,6 +1,6 @@
 //! Values taken of nodes, by recursion over the tree.
 
-ghost use Rattle.std.specs.Prelude.{◌≡◌, ◌<◌, chars, false, length, IfOk, IsTrue, OnOk};
+ghost use Rattle.std.specs.Prelude.{◌≡◌, ◌<◌, chars, false, length, IfOk, IsTrue, OnErr, OnOk};
 ghost use Rattle.jsonc_text.specs.Plain.{number};
 ghost use Rattle.jsonc_layout.specs.input.Views.{plain};
 ghost use Rattle.jsonc_tree.specs.OrderedTree.{ordered_tree};
@@ -9,6 +9,7 @@ ghost use Rattle.jsonc_layout.specs.nodes.Names.{is_string};
 ghost use Rattle.jsonc_layout.specs.to_input.Given.{holds_value};
 ghost use Rattle.jsonc_layout.specs.to_input.Taken.{ElementsTaken, IsMemberTaken, IsTaken, IsTakenAt};
 ghost use Rattle.jsonc_layout.specs.to_input.Taken.{MembersTaken, inserted};
+ghost use Rattle.jsonc_layout.specs.to_input.Wanted.{MayTakeMemory};
 
 use crate::input::CstInputValue;
 use crate::nodes::{decoded_name, decoded_value, value_of};
@@ -29,7 +30,8 @@ fn string_value<A: Allocator, B: Allocator + Copy>(
 ) -> Result<Option<CstInputValue<B>>, AllocError>
     requires in_tree { leaf < length tree.now.nodes }
     requires string { IsTrue (is_string (content_at tree.now.nodes leaf)) }
-    ensures { IfOk result (IsTakenAt tree.now.nodes leaf) }
+    ensures taken { IfOk result (IsTakenAt tree.now.nodes leaf) }
+    ensures memory { OnErr result (MayTakeMemory (content_at tree.now.nodes leaf)) }
 {
     match decoded_value(alloc, tree, leaf) {
         Ok(text) => Ok(Some(CstInputValue::from(text))),
@@ -55,7 +57,8 @@ fn leaf_value<A: Allocator, B: Allocator + Copy>(
 ) -> Result<Option<CstInputValue<B>>, AllocError>
     requires in_tree { leaf < length tree.now.nodes }
     requires leaf { is_container_at tree.now.nodes leaf ≡ false }
-    ensures { IfOk result (IsTakenAt tree.now.nodes leaf) }
+    ensures taken { IfOk result (IsTakenAt tree.now.nodes leaf) }
+    ensures memory { OnErr result (MayTakeMemory (content_at tree.now.nodes leaf)) }
 {
     match tree.kind(leaf) {
         Kind::String(_) | Kind::StringPart(_) => string_value(alloc, tree, leaf),
@@ -75,7 +78,8 @@ fn take<A: Allocator, B: Allocator + Copy>(
     node: usize,
 ) -> Result<Option<CstInputValue<B>>, AllocError>
     requires in_tree { node < length tree.now.nodes }
-    ensures { IfOk result (IsTakenAt tree.now.nodes node) }
+    ensures taken { IfOk result (IsTakenAt tree.now.nodes node) }
+    ensures memory { OnErr result (MayTakeMemory (content_at tree.now.nodes node)) }
 {
     match tree.kind(node) {
         Kind::Root(_) | Kind::Property(_) => take_held(alloc, tree, node),
@@ -196,14 +200,15 @@ fn take_property<A: Allocator, B: Allocator + Copy>(
 /// array what its elements give; an object its properties' names, decoded, with what their values
 /// give, of equal names the last value at the first place. A word, a token, trivia and a string that
 /// does not decode give None. What gives None inside a container, or has no name that decodes, is
-/// passed over.
+/// passed over. Of a leaf only a number and a string that decodes want memory.
 pub fn to_value<A: Allocator, B: Allocator + Copy>(
     alloc: B,
     tree: &Tree<A>,
     node: usize,
 ) -> Result<Option<CstInputValue<B>>, AllocError>
     requires { node < length tree.now.nodes }
-    ensures { IfOk result (IsTaken (ordered_tree tree.now.nodes node)) }
+    ensures value { IfOk result (IsTaken (ordered_tree tree.now.nodes node)) }
+    ensures memory { OnErr result (MayTakeMemory (content_at tree.now.nodes node)) }
 {
     take(alloc, tree, node)
 }

@@ -1,6 +1,6 @@
 -- What stands at paths of positions: which node is found there, what it has, and what is taken of it.
 use Rattle.std.specs.Prelude.{◌≡◌, ◌↔◌, ◌++◌, ◌∷◌, [], ℕ, List, Option, Some, None, option_map}
-use Rattle.jsonc_text.specs.Edits.{Document}
+use Rattle.jsonc_text.specs.Documents.{Document}
 use Rattle.jsonc_text.specs.Plain.{Plain, Members, collapse}
 use Rattle.jsonc_text.specs.Plain as plain_values
 use Rattle.jsonc_layout.specs.input.Views.{plain}

@@ -1,6 +1,6 @@
 -- The one edit that is chosen for names, by how far they lead.
 use Rattle.std.specs.Prelude.{◌≡◌, ◌+◌, ◌∷◌, true, ℕ, List, Option, Some, None, drop}
-use Rattle.jsonc_text.specs.Edits.{Document}
+use Rattle.jsonc_text.specs.Documents.{Document}
 use Rattle.jsonc_text.specs.Plain.{Plain}
 use Rattle.jsonc_sound.specs.Documents.{Shows}
 use Rattle.jsonc_text.specs.declared.edit.Over.{Over}

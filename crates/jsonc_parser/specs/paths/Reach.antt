@@ -1,6 +1,6 @@
 -- How far names lead in a document, by positions.
 use Rattle.std.specs.Prelude.{◌≡◌, ◌<◌, ◌+◌, ◌++◌, ℕ, List, [], ◌∷◌, Some, None, drop, take}
-use Rattle.jsonc_text.specs.Edits.{Document}
+use Rattle.jsonc_text.specs.Documents.{Document}
 use Rattle.jsonc_text.specs.Plain.{Plain, Members, object}
 use Rattle.jsonc_tree.specs.Tree.{Node}
 use Rattle.jsonc_sound.specs.Documents.{Shows}

@@ -1,6 +1,6 @@
 -- What stands at names in a document that a tree shows, as a node of the tree.
 use Rattle.std.specs.Prelude.{◌≡◌, ◌≢◌, ◌++◌, [], ◌∷◌, ℕ, List, Some, None, filter, length}
-use Rattle.jsonc_text.specs.Edits.{Document}
+use Rattle.jsonc_text.specs.Documents.{Document}
 use Rattle.jsonc_text.specs.Plain.{Plain, Members}
 use Rattle.jsonc_text.specs.Plain as plain
 use Rattle.jsonc_tree.specs.Content.{object}

@@ -1,7 +1,7 @@
 //! Laws of settings: each is the contract of a function that does nothing.
 
 ghost use Rattle.std.specs.Prelude.{true, List, Option, ℕ};
-ghost use Rattle.jsonc_text.specs.Edits.{Document};
+ghost use Rattle.jsonc_text.specs.Documents.{Document};
 ghost use Rattle.jsonc_text.specs.Plain.{Plain};
 ghost use Rattle.jsonc_tree.specs.Tree.{Node};
 ghost use Rattle.jsonc_text.specs.declared.edit.EditError.{EditError};

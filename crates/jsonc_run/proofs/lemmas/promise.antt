@@ -41,5 +41,6 @@ pub mod Asked
 pub mod NodePlaces
 pub mod CommaSteps
 pub mod NoneLeft
+pub mod NoneMissing
 pub mod Hexadecimal
 pub mod LinesInside

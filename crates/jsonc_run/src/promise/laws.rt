@@ -1,7 +1,7 @@
 //! Laws of edits of texts: each is the contract of a function that does nothing.
 
 ghost use Rattle.std.specs.Prelude.{List};
-ghost use Rattle.jsonc_text.specs.Edits.{Document};
+ghost use Rattle.jsonc_text.specs.Documents.{Document};
 ghost use Rattle.jsonc_text.specs.Options.{Options};
 ghost use Rattle.jsonc_tree.specs.OrderedTree.{OrderedTree};
 ghost use Rattle.jsonc_tree.specs.Tree.{Node};

@@ -4,7 +4,7 @@ use failing_alloc::Refusing;
 use failing_alloc::awaited::Awaited;
 use failing_alloc::in_turn::refused_in_turn;
 use failing_alloc::outcome::Outcome;
-use jsonc_parser::{JsonObject, JsonValue, Map};
+use jsonc_parser::{JsonObject, JsonValue, Map, ParseOptions, parse_to_value};
 use std::alloc::{AllocError, AllocFailed, Allocator, Global};
 use std::borrow::CowStr;
 use std::fmt::Write;
@@ -312,5 +312,138 @@ fn refused_pairs_are_handed_back(rt: HostRuntime) -> Result<(), Fail> {
     let one_by_one = refused_in_turn(alloc, |heap| is_handed_back(heap));
     let listed = refused_in_turn(alloc, |heap| is_list_handed_back(alloc, heap));
     assert!(rt; matches!((one_by_one, listed), (Some(4..), Some(4..))));
+    Ok(())
+}
+
+/// Fills a map up to what it says that it can hold, with keys from one on, and asks for nothing.
+fn is_filled_up(
+    heap: &Refusing<Global>,
+    map: &mut Map<usize, char, &Refusing<Global>>,
+    first: usize,
+) -> bool {
+    let asked = heap.asked();
+    let capacity = map.capacity();
+    let free = capacity - map.len();
+    for key in first..first.saturating_add(free) {
+        if map.insert(key, '-').is_err() {
+            return false;
+        }
+    }
+    map.len() == capacity && heap.asked() == asked
+}
+
+/// A map in use is filled up without a further request: once it has a pair, more room, fewer pairs, or none.
+fn keeps_its_room(heap: &Refusing<Global>) -> Result<bool, AllocError> {
+    let mut map = Map::new(heap);
+    map.insert(0, '-')?;
+    let is_begun = is_filled_up(heap, &mut map, 1);
+    let len = map.len();
+    map.reserve(12)?;
+    let has_room = map.capacity() >= len.saturating_add(12);
+    let is_grown = is_filled_up(heap, &mut map, 100);
+    let capacity = map.capacity();
+    map.retain(|key, _value| *key % 2 == 0);
+    let is_thinned = map.capacity() == capacity && is_filled_up(heap, &mut map, 1000);
+    map.clear();
+    let is_cleared = map.capacity() == capacity && is_filled_up(heap, &mut map, 0);
+    Ok(is_begun && has_room && is_grown && is_thinned && is_cleared)
+}
+
+#[test]
+fn maps_in_use_keep_their_room(rt: HostRuntime) -> Result<(), Fail> {
+    let heap = Refusing::at(rt.alloc(), u64::MAX);
+    assert!(rt; keeps_its_room(&heap)?);
+    Ok(())
+}
+
+/// Objects of three and of nine properties. Of more than 8 the hashes are kept.
+static OBJECTS: [(&str, usize); 2] = [
+    ("{\"a\":1,\"b\":2,\"c\":3}", 3),
+    (
+        "{\"a\":1,\"b\":2,\"c\":3,\"d\":4,\"e\":5,\"f\":6,\"g\":7,\"h\":8,\"i\":9}",
+        9,
+    ),
+];
+
+/// Names that they do not have.
+static OTHERS: [&str; 16] = [
+    "A", "B", "C", "D", "E", "F", "G", "H", "I", "J", "K", "L", "M", "N", "O", "P",
+];
+
+/// The map of an object, as it was read, takes as many properties as it says that it can hold, and asks for nothing.
+fn is_object_filled_up<'a>(
+    heap: &'a Refusing<Global>,
+    object: JsonObject<'a, &'a Refusing<Global>>,
+    count: usize,
+) -> bool {
+    let asked = heap.asked();
+    let mut map = object.take_inner();
+    let capacity = map.capacity();
+    let is_whole = map.len() == count && capacity <= count.saturating_add(OTHERS.len());
+    for name in OTHERS.iter().take(capacity.saturating_sub(count)) {
+        if map
+            .insert(CowStr::Borrowed(*name), JsonValue::Null)
+            .is_err()
+        {
+            return false;
+        }
+    }
+    is_whole && map.len() == capacity && heap.asked() == asked
+}
+
+#[test]
+fn read_objects_are_filled_to_their_capacity_unasked(rt: HostRuntime) -> Result<(), Fail> {
+    for (text, count) in &OBJECTS {
+        let heap = Refusing::at(rt.alloc(), u64::MAX);
+        let is_filled = match parse_to_value(&heap, text, &ParseOptions::json()) {
+            Ok(Some(JsonValue::Object(object))) => is_object_filled_up(&heap, object, *count),
+            _ => false,
+        };
+        assert!(rt; is_filled, "{text}");
+    }
+    Ok(())
+}
+
+/// The place of a present key is lent though all is refused, and that of an absent one wants memory where there is
+/// no room.
+fn is_entered<A: Allocator + Copy>(map: &mut Map<usize, char, A>) -> bool {
+    let is_refused = map.entry(map.len()).is_err();
+    let is_lent = match map.entry(0) {
+        Ok(entry) => match entry.or_insert('b') {
+            Ok(value) => *value == 'a',
+            Err(_) => false,
+        },
+        Err(_) => false,
+    };
+    is_lent && is_refused
+}
+
+/// A map of so many pairs that is full, and then finds no more memory.
+fn is_full_entered(alloc: Global, room: usize) -> bool {
+    let counted = Refusing::at(alloc, u64::MAX);
+    drop(full_map(&counted, room));
+    let heap = Refusing::after(alloc, counted.asked());
+    match full_map(&heap, room) {
+        Ok(map) => {
+            let mut map = map;
+            is_entered(&mut map)
+        }
+        Err(_) => false,
+    }
+}
+
+fn full_map<A: Allocator + Copy>(alloc: A, room: usize) -> Result<Map<usize, char, A>, AllocError> {
+    let mut map = Map::with_capacity(alloc, room)?;
+    for key in 0..map.capacity() {
+        map.insert(key, 'a')?;
+    }
+    Ok(map)
+}
+
+#[test]
+fn present_keys_are_entered_unasked(rt: HostRuntime) -> Result<(), Fail> {
+    for room in [1usize, 8, 20] {
+        assert!(rt; is_full_entered(rt.alloc(), room), "room for {room}");
+    }
     Ok(())
 }

@@ -111,3 +111,71 @@ fn values_and_documents_have_debug(rt: HostRuntime) {
     assert!(rt; value_debugs(rt.alloc()));
     assert!(rt; document_debugs(rt.alloc()));
 }
+
+/// Texts, and what `Debug` prints of their values.
+static SHOWN: [(&str, &str); 5] = [
+    ("{}", "Object(JsonObject({}))"),
+    ("[]", "Array(JsonArray([]))"),
+    ("[{}]", "Array(JsonArray([Object(JsonObject({}))]))"),
+    ("-0.5e1", "Number(\"-0.5e1\")"),
+    (
+        "{\"a\":{\"b\":false}}",
+        "Object(JsonObject({\"a\": Object(JsonObject({\"b\": Boolean(false)}))}))",
+    ),
+];
+
+/// The same map, with `Debug` on several lines.
+const OVER_LINES: &str = "{
+    \"b\": Boolean(
+        true,
+    ),
+    \"a\": Null,
+}";
+
+/// Texts, and what `Debug` prints of their documents.
+static DOCUMENTS: [(&str, &str); 3] = [
+    ("", "CstRootNode()"),
+    (" // c\n", "CstRootNode( // c\n)"),
+    ("{a: 'b',}\r\n", "CstRootNode({a: 'b',}\r\n)"),
+];
+
+fn is_shown(alloc: Global, text: &str, shown: &str) -> bool {
+    match parse_to_value(alloc, text, &ParseOptions::json()) {
+        Ok(Some(value)) => debugs(&value, shown),
+        _ => false,
+    }
+}
+
+fn is_document_shown(alloc: Global, text: &str, shown: &str) -> bool {
+    match CstRootNode::parse(alloc, text, &ParseOptions::default()) {
+        Ok(document) => debugs(&document, shown),
+        Err(_) => false,
+    }
+}
+
+fn is_shown_over_lines(alloc: Global) -> bool {
+    let Ok(Some(JsonValue::Object(object))) = parse_to_value(
+        alloc,
+        "{\"b\": true, \"a\": null}",
+        &ParseOptions::json(),
+    ) else {
+        return false;
+    };
+    let mut printed = Awaited {
+        rest: OVER_LINES.as_bytes(),
+    };
+    let is_printed = write!(printed, "{:#?}", object.take_inner()).is_ok();
+    is_printed && printed.rest.is_empty()
+}
+
+#[test]
+fn maps_and_documents_have_debug(rt: HostRuntime) -> Result<(), Fail> {
+    for (text, shown) in &SHOWN {
+        assert!(rt; is_shown(rt.alloc(), text, shown), "{text}");
+    }
+    for (text, shown) in &DOCUMENTS {
+        assert!(rt; is_document_shown(rt.alloc(), text, shown), "{text}");
+    }
+    assert!(rt; is_shown_over_lines(rt.alloc()));
+    Ok(())
+}

@@ -6,7 +6,7 @@ ghost use Rattle.std.specs.Map.{lookup, values_of};
 ghost use Rattle.jsonc_value.specs.Lists.{IsPlaceOf};
 
 use super::Map;
-use std::alloc::{AllocFailed, Allocator};
+use std::alloc::{AllocError, AllocFailed, Allocator};
 use std::hash::Hash;
 
 /// The place of a key in a map, at its pair or after the last one.
@@ -31,7 +31,23 @@ impl<K: Eq + Hash, V, A: Allocator> Map<K, V, A> {
         }
     }
 
+    // Makes room for this key, where the map lacks it.
+    fn reserve_for(&mut self, key: &K) -> Result<(), AllocError>
+    where
+        K: Drop,
+        A: Copy,
+        ensures pairs { self.new ≡ self.old }
+        ensures memory { OnErr result (lookup (K.eq key.now) self.old ≡ None) }
+    {
+        if self.find(key).is_some() {
+            return Ok(());
+        }
+        self.reserve(1)
+    }
+
     /// The place of this key. On an error the pairs stay as they are, and the key is given back.
+    ///
+    /// Only a key that has no value takes memory.
     pub fn entry(&mut self, key: K) -> Result<Entry<'_, K, V, A>, AllocFailed<K>>
     where
         K: Drop,
@@ -41,8 +57,9 @@ impl<K: Eq + Hash, V, A: Allocator> Map<K, V, A> {
         ensures map { IfOk result (λ e. e.map.now ≡ self.old) }
         ensures key { IfOk result (λ e. e.key ≡ key) }
         ensures value_returned { IfErr result (λ y. y.value ≡ key) }
+        ensures memory { OnErr result (lookup (K.eq key) self.old ≡ None) }
     {
-        match self.reserve(1) {
+        match self.reserve_for(&key) {
             Ok(()) => Ok(Entry { map: self, key }),
             Err(_) => Err(AllocFailed { value: key }),
         }

@@ -79,6 +79,8 @@ impl<'a, A: Allocator + Copy> Receiver<String<A>> for ValueMaker<'a, A> {
 
     type Property = CowStr<'a, A>;
 
+    type Error = AllocError;
+
     ghost whole = { false };
 
     ghost source = { source_in };

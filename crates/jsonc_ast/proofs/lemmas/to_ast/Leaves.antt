@@ -95,7 +95,7 @@ module _ {A : Type 0} where
       }
 
   pub gives_nothing : (c : Context A) → GivesAway c c
-  gives_nothing c = record { scanner = refl; tokens = refl; comments = refl; apart = refl }
+  gives_nothing c = record { scanner = refl; decodes = refl; tokens = refl; comments = refl; apart = refl }
 
   -- a literal, put behind the elements so far
   pub element_put : (old new : Context A) (t : Scanned) (r : Range) (v : Plain) (whole : Bool) (count : ℕ) (held holds_now : List Located → Type 0) → IsToken old t → leaf_value t ≡ Some v → r ≡ token_range old → GivesAway old new → count ≤ 512

@@ -117,6 +117,7 @@ module _ {A : Type 0} where
     tokens = ap (λ v. is_some v) given.tokens;
     comments = given.comments;
     apart = ap (λ v. is_some v) given.apart;
+    decodes = given.decodes;
   }
 
   pub collects_self : (old new : Context A) → GivesAway old new → Collects old new
@@ -143,6 +144,7 @@ module _ {A : Type 0} where
       tokens = h.tokens ∙ ap (λ v. is_some v) given.tokens;
       comments = h.comments ∙ given.comments;
       apart = h.apart ∙ ap (λ v. is_some v) given.apart;
+      decodes = h.decodes ∙ given.decodes;
     }
 
     pub collects_given : Collects mid new → Collects old new

@@ -42,10 +42,10 @@ module _ {A : Type 0} where
   plain_found old s x (Some k) h there = scan_found old old s s (Some (scanned_seen s x k)) (Some (scanned_seen s x k)) refl refl (passing_start old) h there
 
   -- where a step has moved the scanner alone
-  module _ (old new : Context A) (tokens : new.tokens ≡ old.tokens) (among : new.comments_are_tokens ≡ old.comments_are_tokens) (apart : new.comments ≡ old.comments) where
+  module _ (old new : Context A) (tokens : new.tokens ≡ old.tokens) (among : new.comments_are_tokens ≡ old.comments_are_tokens) (apart : new.comments ≡ old.comments) (decodes : new.decodes ≡ old.decodes) where
     pub plain_kept : (f : Option TokenKind) → IfSome f (λ k. PassesBlanks old.scanner new.scanner) → IfSome f (λ k. Keeps old new)
     plain_kept None h = tt
-    plain_kept (Some k) h = kept_step old old new new.scanner (passing_start old) h refl (ap is_some tokens) among (ap is_some apart)
+    plain_kept (Some k) h = kept_step old old new new.scanner (passing_start old) h refl (ap is_some tokens) among (ap is_some apart) decodes
 
     pub plain_collects : (f : Option TokenKind) → tokens_asked old ≡ false → comments_asked old ≡ false → IfSome f (λ k. PassesBlanks old.scanner new.scanner) → IfSome f (λ k. IsThere new.scanner (seen new.scanner new.content (Some k)))
         → IfSome f (λ k. is_comment (scanned_seen new.scanner new.content k) ≡ false) → IfSome f (λ k. Collects old new)
@@ -54,7 +54,7 @@ module _ {A : Type 0} where
         collects_nothing old old new.scanner (Some (last new k)) (last new k) new (kept_same old) (collects_same old) h refl there refl lexeme no_tokens tokens (ap is_some apart ∙ no_comments)
 
     pub plain_none : (f : Option TokenKind) → IfNone f (new.scanner ≡ old.scanner) → IfNone f (GivesAway old new)
-    plain_none None same = record { scanner = same; tokens = tokens; comments = among; apart = apart }
+    plain_none None same = record { scanner = same; decodes = decodes; tokens = tokens; comments = among; apart = apart }
     plain_none (Some k) same = tt
 
   -- behind a gap

@@ -1,5 +1,5 @@
 -- A parser on its way from one token to the next.
-use Rattle.std.proofs.Common.{ℕ, ◌≡◌, ◌≤◌, ◌<◌, ◌+◌, ◌++◌, length, ◌∙◌, sym, ap, subst, refl, arith, true, false, List, [], ◌∷◌, Option, None, Some, Result, Ok, Err, IfOk, IsTrue, IsUtf8}
+use Rattle.std.proofs.Common.{ℕ, Bool, ◌≡◌, ◌⊎◌, ◌||◌, inl, inr, ◌≤◌, ◌<◌, ◌+◌, ◌++◌, length, ◌∙◌, sym, ap, subst, refl, arith, true, false, List, [], ◌∷◌, Option, None, Some, Result, Ok, Err, IfOk, IsTrue, IsUtf8}
 use Rattle.jsonc_text.specs.declared.errors.ParseError.{ParseError}
 use Rattle.jsonc_scan.specs.declared.scanner.Scanner.{Scanner}
 use Rattle.jsonc_text.specs.Options.{Options}
@@ -17,6 +17,7 @@ use Rattle.jsonc_ast.specs.declared.to_ast.context.Context.{Context}
 use Rattle.jsonc_ast.specs.to_ast.Collected.{collected, CollectsMore, NotesMore, Collects}
 use Rattle.jsonc_ast.specs.to_ast.Context.{text_in, options_in, token_start, token_end, tokens_asked, comments_asked, Keeps, Passes, Finds, IsBracket, Leads, IsToken}
 use Rattle.jsonc_ast.specs.to_ast.Lent.{AreLentIn}
+use Rattle.jsonc_ast.specs.to_ast.Refusals.{AsksForMemory, IsFaultHere}
 use Rattle.jsonc_ast.specs.Located.{Between, One, Ends, TrailingComma}
 use Rattle.jsonc_ast.proofs.lemmas.to_ast.Collecting.{placed_here, collects_same, collects_comment}
 use Rattle.jsonc_ast.proofs.lemmas.to_ast.Gaps.{join, change, nothing, passed, stands, comment_passed, gap_append}
@@ -34,6 +35,23 @@ one_byte bytes c i j u small h =
     let e : byte_length (c ∷ []) ≡ 1 = ascii_length c small in
     let after : j ≡ i + byte_length (c ∷ []) = place_after bytes (c ∷ []) i j u h.spans.from h.spans.to h.stands in omega arith
 
+anyhow : {P Q : Type 0} → P ⊎ ⊥ → P ⊎ Q
+anyhow (inl p) = inl p
+anyhow (inr q) = absurd q
+
+or_right : (b c : Bool) → IsTrue c → IsTrue (b || c)
+or_right true c h = refl
+or_right false c h = h
+
+pub on_left : {P Q R : Type 0} → (P → R) → P ⊎ Q → R ⊎ Q
+on_left f (inl p) = inl (f p)
+on_left f (inr q) = inr q
+
+-- what has failed has a failure
+pub failure : {X E : Type 0} (r : Result X E) → ((x : X) → r ≡ Ok x → ⊥) → E
+failure (Ok x) no_value = absurd (no_value x refl)
+failure (Err e) no_value = e
+
 module _ {A : Type 0} where
   -- up to the last token stands a gap
   pub record Passing (start now : Context A) : Type 0 where
@@ -42,14 +60,32 @@ module _ {A : Type 0} where
     pub collects : Collects start now
 
   pub kept_same : (c : Context A) → Keeps c c
-  kept_same c = record { text = refl; options = refl; tokens = refl; comments = refl; apart = refl }
+  kept_same c = record { text = refl; options = refl; decodes = refl; tokens = refl; comments = refl; apart = refl }
 
   pub kept_on : (a b c : Context A) → Keeps a b → Keeps b c → Keeps a c
-  kept_on a b c h k = record { text = k.text ∙ h.text; options = k.options ∙ h.options; tokens = k.tokens ∙ h.tokens; comments = k.comments ∙ h.comments; apart = k.apart ∙ h.apart }
+  kept_on a b c h k = record { text = k.text ∙ h.text; options = k.options ∙ h.options; decodes = k.decodes ∙ h.decodes; tokens = k.tokens ∙ h.tokens; comments = k.comments ∙ h.comments; apart = k.apart ∙ h.apart }
+
+  pub decoding_asks : (c : Context A) → IsTrue c.decodes → AsksForMemory c
+  decoding_asks c decodes = ap (λ d. d || comments_asked c) decodes
+
+  pub noting_asks : (c : Context A) → IsTrue (comments_asked c) → AsksForMemory c
+  noting_asks c asked = or_right c.decodes (comments_asked c) asked
+
+  -- a parser that asks for memory did before
+  pub asks_before : {old new : Context A} → Keeps old new → AsksForMemory new → AsksForMemory old
+  asks_before {old} {new} kept asks = subst (λ d. IsTrue (d || comments_asked old)) kept.decodes (subst (λ m. IsTrue (new.decodes || m)) kept.apart asks)
+
+  -- no allocation failure, so whatever has failed
+  pub told_anyhow : {c : Context A} {has_failed : Type 0} {e : ParseError} → IsFaultHere c ⊥ e → IsFaultHere c has_failed e
+  told_anyhow h = record { of_text = h.of_text; memory = λ m. anyhow (h.memory m) }
 
   -- a fault of the text, which stays the same
-  pub fault_before : (old new : Context A) (e : ParseError) → Keeps old new → IsFault (text_in new) e → IsFault (text_in old) e
-  fault_before old new e kept h = subst (λ b. IsFault b e) kept.text h
+  pub fault_before : {has_failed : Type 0} (old new : Context A) (e : ParseError) → Keeps old new → IsFaultHere new has_failed e → IsFaultHere old has_failed e
+  fault_before old new e kept h = record { of_text = subst (λ b. IsFault b e) kept.text h.of_text; memory = λ m. on_left (asks_before kept) (h.memory m) }
+
+  -- an allocation failure, where memory is asked for or the receiver has failed
+  pub starved : {has_failed : Type 0} (old new : Context A) (e : ParseError) → Keeps old new → IsFault (text_in new) e → AsksForMemory new ⊎ has_failed → IsFaultHere old has_failed e
+  starved old new e kept h asks = fault_before old new e kept (record { of_text = h; memory = λ m. asks })
 
   pub passing_start : (c : Context A) → Passing c c
   passing_start c = record { kept = kept_same c; gap = nothing (text_in c) (Gap (options_in c)) (token_end c) c.scanner.at_place none; collects = collects_same c }
@@ -66,24 +102,25 @@ module _ {A : Type 0} where
 
   -- after a step of the scanner
   pub kept_step : (start now new : Context A) (s : Scanner A) → Passing start now → PassesBlanks now.scanner s → new.scanner ≡ s → tokens_asked new ≡ tokens_asked now → new.comments_are_tokens ≡ now.comments_are_tokens
-      → comments_asked new ≡ comments_asked now → Keeps start new
-  kept_step start now new s h blanks same asked strategy apart = record {
+      → comments_asked new ≡ comments_asked now → new.decodes ≡ now.decodes → Keeps start new
+  kept_step start now new s h blanks same asked strategy apart decodes = record {
     text = ap text_of same ∙ blanks.text ∙ h.kept.text;
     options = ap options_of same ∙ blanks.options ∙ h.kept.options;
     tokens = asked ∙ h.kept.tokens;
     comments = strategy ∙ h.kept.comments;
     apart = apart ∙ h.kept.apart;
+    decodes = decodes ∙ h.kept.decodes;
   }
 
   -- a comment after a gap
-  pub passing_on : (start now new : Context A) (s : Scanner A) (f : Option Scanned) (t : Scanned) → f ≡ Some t → new.scanner ≡ s → tokens_asked new ≡ tokens_asked now → new.comments_are_tokens ≡ now.comments_are_tokens → comments_asked new ≡ comments_asked now
+  pub passing_on : (start now new : Context A) (s : Scanner A) (f : Option Scanned) (t : Scanned) → f ≡ Some t → new.scanner ≡ s → tokens_asked new ≡ tokens_asked now → new.comments_are_tokens ≡ now.comments_are_tokens → comments_asked new ≡ comments_asked now → new.decodes ≡ now.decodes
       → Passing start now → PassesBlanks now.scanner s → IsThere s f → is_comment t ≡ true → IsTrue (options_of s).comments
       → (now.comments_are_tokens ≡ true → CollectsMore now new (placed_here s t ∷ [])) → (now.comments_are_tokens ≡ false → collected new ≡ collected now) → (AreLentIn (text_of s) now.tokens → AreLentIn (text_of s) new.tokens) → NotesMore now new (placed_here s t ∷ []) → Passing start new
-  passing_on start now new s f t is same asked strategy apart h blanks at comment allowed more none_more lent noted =
+  passing_on start now new s f t is same asked strategy apart decodes h blanks at comment allowed more none_more lent noted =
       let may : IsTrue (options_in start).comments = ap (λ p. p.comments) (sym (blanks.options ∙ h.kept.options)) ∙ allowed in
       let gap = comment_passed (text_in start) (options_in start) (token_end start) now.scanner s t h.kept.text h.kept.options blanks h.gap (subst (IsThere s) is at) comment may in
       record {
-        kept = kept_step start now new s h blanks same asked strategy apart;
+        kept = kept_step start now new s h blanks same asked strategy apart decodes;
         gap = subst (λ x. Between (text_in start) (Gap (options_in start)) (token_end start) (end_of x)) (sym same) gap;
         collects = collects_comment start now new s f t h.kept h.collects blanks same at is comment more none_more lent noted (ap (λ p. p.comments) (sym blanks.options) ∙ allowed);
       }

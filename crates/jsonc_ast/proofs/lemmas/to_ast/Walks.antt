@@ -29,7 +29,7 @@ use Rattle.jsonc_ast.proofs.lemmas.to_ast.Loops.{Elements, start_spans}
 use Rattle.jsonc_ast.proofs.lemmas.to_ast.NoValues.{ElementsLeft, PropertiesLeft, nesting_in_property, nesting_refused}
 use Rattle.jsonc_ast.proofs.lemmas.to_ast.OpenContainers.{GoesOn, deep_container_stops, deep_property_stops, deep_stops, leaf_stops}
 use Rattle.jsonc_ast.proofs.lemmas.to_ast.Properties.{Properties}
-use Rattle.jsonc_ast.proofs.lemmas.to_ast.Scans.{moved, kept_on}
+use Rattle.jsonc_ast.proofs.lemmas.to_ast.Scans.{moved, kept_on, starved}
 
 module _ {A : Type 0} where
   -- an array's elements so far, what is held of them, and what is left of it
@@ -73,8 +73,9 @@ module _ {A : Type 0} where
   from_spans old now start (Some i) is first kept on = start_spans old now i (is ∙ first) kept on
 
   -- allocation failed, which is told alike wherever
-  pub no_memory : {X : Type 0} {tells : ParseError → Type 0} (old now : Context A) (e : ParseError) → Keeps old now → IsFault (text_in now) e → IsOutOfMemory e → (IsAllocationFailure e → tells e) → IsRefused old X tells e
-  no_memory old now e kept fault memory tell = record { refused = inl memory.kind; fault = subst (λ b. IsFault b e) kept.text fault; error = tell memory.kind }
+  pub no_memory : {X has_failed : Type 0} {tells : ParseError → Type 0} (old now : Context A) (e : ParseError) → Keeps old now → IsFault (text_in now) e → IsOutOfMemory e → has_failed → (IsAllocationFailure e → tells e)
+      → IsRefused old has_failed X tells e
+  no_memory old now e kept fault memory failed tell = record { refused = inl memory.kind; fault = starved old now e kept fault (inr failed); error = tell memory.kind }
 
   -- behind an item less of the text is left
   pub less_left : (now mid new : Context A) (t : Scanned) → IsToken now t → Keeps now mid → token_end now ≤ token_end mid → Keeps mid new → token_end mid ≤ token_start new → length (text_in new) - token_start new < length (text_in now) - token_start now

@@ -17,6 +17,7 @@ use Rattle.jsonc_edit.proofs.lemmas.commas.InsideAlone.{stays_outside, stays_out
 use Rattle.jsonc_edit.proofs.lemmas.commas.Documents.{keeps_document, keeps_in_part}
 use Rattle.jsonc_edit.proofs.lemmas.commas.Holders.{holder_path}
 use Rattle.jsonc_edit.proofs.lemmas.commas.NoneLeft.{leaves_none, leaves_none_anywhere}
+use Rattle.jsonc_edit.proofs.lemmas.commas.NoneMissing.{all_anywhere, leaves_all}
 use Rattle.jsonc_edit.specs.commas.InTurn.{holders, AreSetInTurn}
 use Rattle.jsonc_edit.specs.Changes.{top_at}
 use Rattle.jsonc_edit.specs.Comments.{CommentTaken, TakesOut}
@@ -40,7 +41,9 @@ use Rattle.jsonc_run.specs.Places.{IsEntryAt}
 use Rattle.jsonc_run.specs.Steps.{IsChangedAt}
 use Rattle.jsonc_run.specs.promise.Steps.{IsCommentAt}
 use Rattle.jsonc_run.proofs.lemmas.promise.CommaSteps.{commas_lead, some_commas_lead}
-use Rattle.jsonc_run.proofs.lemmas.promise.NoneLeft.{anywhere, at_path, NoneLeft}
+use Rattle.jsonc_run.proofs.lemmas.promise.Lines.{AreSet}
+use Rattle.jsonc_run.proofs.lemmas.promise.NoneLeft.{anywhere, at_path}
+use Rattle.jsonc_run.proofs.lemmas.promise.NoneMissing as missing
 use Rattle.jsonc_run.proofs.lemmas.promise.NodePlaces.{made_leads, made_step}
 use Rattle.jsonc_cst.specs.Nodes.{typed, typed_at}
 use Rattle.jsonc_cst.specs.typed.Commas.{CommasSet, CommasSetInPart}
@@ -135,22 +138,28 @@ module _ (old new : List Node) (tree : IsTree old) where
   commas_place o sound n holder over path place changed =
       elim place [ inl whole ↦ inl whole.1 | inr at ↦ inr (top_at old n, top_at new n, changed at (holder_at o old tree sound n holder path at)) ]
 
-  -- after `Never` no trailing comma is left, in what stands at the path or in the whole document
-  none_left : (mode : TrailingCommaMode) (n : ℕ) → AreSetInTurn mode old (holders old n) new → IsHolder (typed_at old n) → IsOver old 0 n → (path : List ℕ) → IsWholeOrAt old path n → (o : Options) → SoundTree o (ordered_tree old 0) → mode ≡ Never
-      → NoneLeft o path (ordered_tree old 0) (ordered_tree new 0)
-  none_left Never n set holder over path (inl (is, whole)) o sound e =
+  -- no trailing comma is left or none is missing, in what stands at the path or in the whole document
+  all_set : (mode : TrailingCommaMode) (n : ℕ) → AreSetInTurn mode old (holders old n) new → IsHolder (typed_at old n) → IsOver old 0 n → (path : List ℕ) → IsWholeOrAt old path n → (o : Options) → SoundTree o (ordered_tree old 0)
+      → AreSet mode o path (ordered_tree old 0) (ordered_tree new 0)
+  all_set Never n set holder over path (inl (is, whole)) o sound =
       let all : AreSetInTurn Never old (holders old 0) new = subst (λ m. AreSetInTurn Never old (holders old m) new) is set in
       anywhere whole (leaves_none_anywhere o old new (record { tree = tree; over = IsOver.itself; sound = sound }) all)
-  none_left Never n set holder over path (inr at) o sound e =
+  all_set Never n set holder over path (inr at) o sound =
       let holds : IsTrue (is_array_or_object (content_at old n)) = holder_at o old tree sound n holder path at in
       at_path (top_at old n, top_at new n, stays_outside Never old n path new tree over holds at set) (leaves_none o old n new (record { tree = tree; over = over; sound = sound }) holds set)
-  none_left IfMultiline n set holder over path at o sound e = cc
+  all_set IfMultiline n set holder over path (inl (is, whole)) o sound =
+      let all : AreSetInTurn IfMultiline old (holders old 0) new = subst (λ m. AreSetInTurn IfMultiline old (holders old m) new) is set in
+      let row = all_anywhere o old new (record { tree = tree; over = IsOver.itself; sound = sound }) all in
+      missing.anywhere row.0 whole row.1 row.2
+  all_set IfMultiline n set holder over path (inr at) o sound =
+      let holds : IsTrue (is_array_or_object (content_at old n)) = holder_at o old tree sound n holder path at in
+      missing.at_path (top_at old n, top_at new n, stays_outside IfMultiline old n path new tree over holds at set) (leaves_all o old n new (record { tree = tree; over = over; sound = sound }) (inr holds) set)
 
   pub commas_step : (mode : TrailingCommaMode) (n : ℕ) → CommasSet old new mode n → IsHolder (typed_at old n) → IsSettingCommas old new mode n
   commas_step mode n set holder = λ over d shown.
       let place = holder_place d.options old tree shown.sound n holder over in
       let within = commas_place d.options shown.sound n holder over place.0 place.1 (λ at holds. stays_outside mode old n place.0 new tree over holds at set) in
-      (place.0, place.1, commas_lead mode old new (λ o sound. keeps_document mode o old n (record { tree = tree; over = over; sound = sound }) new set) place.0 within (none_left mode n set holder over place.0 place.1) d shown)
+      (place.0, place.1, commas_lead mode old new (λ o sound. keeps_document mode o old n (record { tree = tree; over = over; sound = sound }) new set) place.0 within (all_set mode n set holder over place.0 place.1) d shown)
 
   pub some_commas_step : (mode : TrailingCommaMode) (n : ℕ) → CommasSetInPart old new mode n → IsHolder (typed_at old n) → IsSettingSomeCommas old new mode n
   some_commas_step mode n part holder = λ over d shown.

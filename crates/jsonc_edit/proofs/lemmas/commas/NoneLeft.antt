@@ -23,18 +23,18 @@ use Rattle.jsonc_edit.proofs.lemmas.commas.NoTrailing.{root_without, same_lexeme
 use Rattle.jsonc_edit.proofs.lemmas.commas.Reaching.{each_holder}
 
 -- the nodes stay a tree, and an array or object stays one of the document
-record Stays (new : List Node) (c : ℕ) : Type 0 where
-  tree : IsTree new
-  over : IsOver new 0 c
-  holds : IsTrue (holds_at new c)
+pub record Stays (new : List Node) (c : ℕ) : Type 0 where
+  pub tree : IsTree new
+  pub over : IsOver new 0 c
+  pub holds : IsTrue (holds_at new c)
 
-stays : (mode : TrailingCommaMode) (c : ℕ) (all : List ℕ) (old new : List Node) → Stays old c → AreSetInTurn mode old all new → Stays new c
+pub stays : (mode : TrailingCommaMode) (c : ℕ) (all : List ℕ) (old new : List Node) → Stays old c → AreSetInTurn mode old all new → Stays new c
 stays mode c [] old new s e = subst (λ ns. Stays ns c) (sym e) s
 stays mode c (n ∷ rest) old new s (now, set, after, later) =
     let h : AreHolders now 0 (c ∷ []) = holders_kept old now s.tree after (set_keeps mode old now s.tree n set) 0 (c ∷ []) (s.over, s.holds, tt) in
     stays mode c rest now new (record { tree = after; over = h.0; holds = h.1 }) later
 
-tree_now : (mode : TrailingCommaMode) (all : List ℕ) (old new : List Node) → IsTree old → AreSetInTurn mode old all new → IsTree new
+pub tree_now : (mode : TrailingCommaMode) (all : List ℕ) (old new : List Node) → IsTree old → AreSetInTurn mode old all new → IsTree new
 tree_now mode [] old new tree e = subst IsTree (sym e) tree
 tree_now mode (n ∷ rest) old new tree (now, set, after, later) = tree_now mode rest now new after later
 

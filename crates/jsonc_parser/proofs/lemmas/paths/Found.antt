@@ -3,7 +3,7 @@ use Rattle.std.proofs.Common.{ℕ, ◌≡◌, ◌++◌, ◌+◌, ◌<◌, ◌≤
 use Rattle.std.proofs.lemmas.List.{drop_more, map-append, take-append-drop, take_all, take_more}
 use Rattle.std.specs.declared.string.String.{String}
 use Rattle.jsonc_layout.specs.input.Views.{chars_of}
-use Rattle.jsonc_text.specs.Edits.{Document}
+use Rattle.jsonc_text.specs.Documents.{Document}
 use Rattle.jsonc_tree.specs.Content.{Content, object}
 use Rattle.jsonc_tree.specs.Tree.{content_at, IsTree}
 use Rattle.jsonc_sound.specs.Documents.{Shows}

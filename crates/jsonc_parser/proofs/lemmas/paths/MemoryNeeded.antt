@@ -4,7 +4,7 @@ use Rattle.std.proofs.lemmas.Bool.{false≢true}
 use Rattle.std.proofs.lemmas.List.{take_all}
 use Rattle.std.specs.Bool.{Decides}
 use Rattle.std.specs.declared.string.String.{String}
-use Rattle.jsonc_text.specs.Edits.{Document}
+use Rattle.jsonc_text.specs.Documents.{Document}
 use Rattle.jsonc_text.specs.Plain.{Plain, Members}
 use Rattle.jsonc_text.specs.Plain as plain
 use Rattle.jsonc_layout.specs.input.Views.{chars_of}

@@ -1,7 +1,7 @@
 -- What stands at names in a document that a tree shows: the value's node, and that of a first property's value.
 use Rattle.std.proofs.Common.{ℕ, ◌≡◌, ◌∙◌, ◌++◌, sym, ap, subst, refl, not, List, [], ◌∷◌, Option, Some, None}
 use Rattle.std.specs.List.{find}
-use Rattle.jsonc_text.specs.Edits.{Document}
+use Rattle.jsonc_text.specs.Documents.{Document}
 use Rattle.jsonc_text.specs.Grammar.{IsDocument}
 use Rattle.jsonc_text.specs.Plain as plain
 use Rattle.jsonc_text.specs.Plain.{Plain, Members, no_members, member}

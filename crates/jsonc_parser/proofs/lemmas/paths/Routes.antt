@@ -2,7 +2,7 @@
 use Rattle.std.proofs.Common.{ℕ, ◌≡◌, ◌<◌, ◌≤◌, ◌+◌, ◌++◌, ◌∙◌, List, [], ◌∷◌, Option, Some, None, sym, ap, subst, refl, drop, take, length, get_or, option_map}
 use Rattle.std.proofs.lemmas.List.{drop_more, drop-map, take-map, take_all}
 use Rattle.std.specs.declared.string.String.{String}
-use Rattle.jsonc_text.specs.Edits.{Document}
+use Rattle.jsonc_text.specs.Documents.{Document}
 use Rattle.jsonc_text.specs.Plain as plain
 use Rattle.jsonc_text.specs.Plain.{Plain, Members}
 use Rattle.jsonc_layout.specs.input.Views.{chars_of}

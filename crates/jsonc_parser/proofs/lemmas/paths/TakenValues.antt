@@ -1,6 +1,6 @@
 -- What is taken of a node that names lead to stands for its value.
 use Rattle.std.proofs.Common.{◌≡◌, ◌∙◌, ℕ, List, Option, Some, None, Result, Ok, Err, IfOk, option_map, sym, ap, subst}
-use Rattle.jsonc_text.specs.Edits.{Document}
+use Rattle.jsonc_text.specs.Documents.{Document}
 use Rattle.jsonc_text.specs.Plain.{Plain, collapse}
 use Rattle.jsonc_layout.specs.input.Views.{plain}
 use Rattle.jsonc_layout.specs.declared.input.value.CstInputValue.{CstInputValue}

@@ -26,7 +26,8 @@ use Rattle.jsonc_insert.specs.elements.Coming as coming
 use Rattle.jsonc_insert.specs.elements.Coming.{FirstLinesLeave, LastLinesLeave, BlankLinesLeave, Gap, CommaInserted, GoesOn, ElementInserted}
 use Rattle.jsonc_text.specs.Paths.{Entry, HasEntries}
 use Rattle.jsonc_text.specs.Marks.{Mark}
-use Rattle.jsonc_text.specs.Edits.{Come, Document, Inside, Within, Joins, NoCommaComes, Spreads}
+use Rattle.jsonc_text.specs.Documents.{Come, Document, Inside, Within}
+use Rattle.jsonc_text.specs.Entering.{Joins, NoCommaComes, Spreads}
 use Rattle.jsonc_run.specs.promise.PlaceLaws.{text_of_leaves, node_chars, texts_of}
 use Rattle.jsonc_run.proofs.lemmas.promise.Entries.{element_text}
 use Rattle.jsonc_run.proofs.lemmas.promise.Reversed.{flip, front_same, back_same}
@@ -48,7 +49,8 @@ use Rattle.jsonc_sound.proofs.LooseLines.{Stops, trivia_gap}
 use Rattle.jsonc_sound.specs.Rows as rows
 use Rattle.jsonc_text.specs.Gaps as text_gaps
 use Rattle.jsonc_sound.proofs.ShapeValues.{comma_mark}
-use Rattle.jsonc_text.specs.Edits as texts
+use Rattle.jsonc_text.specs.Documents as documents
+use Rattle.jsonc_text.specs.Entering as entering
 use Rattle.jsonc_sound.specs.Lines.{LinesEndLoosely}
 use Rattle.jsonc_text.specs.Paths as places
 
@@ -325,11 +327,11 @@ module _ (o : Options) (kind : RowKind) (row middle kept new : OrderedTree) {pat
         ∙ first_regroup (text_of_leaves own) (text_of_leaves (leaves behind)) B (places.closing k) ∙ ap (λ l. l ++ (text_of_leaves (leaves behind) ++ (places.closing k ∷ B))) (sym (node_leaves o top)) ∙ ap (λ l. node_chars top ++ l) (sym e)
 
     abbrev StartsLine : Type 0
-    StartsLine = (line q : List ℕ) × (text_of_leaves gap ≡ line ++ q) × texts.IsLineEnd line
+    StartsLine = (line q : List ℕ) × (text_of_leaves gap ≡ line ++ q) × documents.IsLineEnd line
 
     -- on its line stands nothing that stood there on another
     started : {m : Bool} {gp : List Content} → Gap m gp → (q : OrderedTree) → Good o (leaves q) → AreLeaves o k B gap (gap_trivia g) top.content top.below (followed_by behind bracket) q → (m ≡ false → has_newline q ≡ false) → AllUtf8 gp
-        → texts.InLine (text_of_leaves (leaves q)) ⊎ ((line y : List ℕ) × (text_of_leaves gp ≡ line ++ y) × texts.IsLineEnd line)
+        → documents.InLine (text_of_leaves (leaves q)) ⊎ ((line y : List ℕ) × (text_of_leaves gp ≡ line ++ y) × documents.IsLineEnd line)
     started coming.nothing q h a f u = inl (beside_text o (leaves q) (on_one_line o k B gap (gap_trivia g) top.content top.below (followed_by behind bracket) q a (f refl)) h.pieces)
     started coming.a_space q h a f u = inl (beside_text o (leaves q) (on_one_line o k B gap (gap_trivia g) top.content top.below (followed_by behind bracket) q a (f refl)) h.pieces)
     started (coming.a_line {k = n} {s = y} i) q h a f u = inr (text_of_leaves (newline n ∷ []), text_of_leaves (Content.whitespace y ∷ []), text_joined (newline n ∷ []) (Content.whitespace y ∷ []) (u.0, tt), line_end_text n)
@@ -338,7 +340,7 @@ module _ (o : Options) (kind : RowKind) (row middle kept new : OrderedTree) {pat
     no_line_led e = led_lacks c (both_lack front back (sym must_is ∙ e)).0
 
     abbrev Ready : List ℕ → List ℕ → Type 0
-    Ready lead rest = (y z : List ℕ) × (c : ℕ) × (lead ≡ y ++ c ∷ z) × IsTrue (c == 0x2C || c == places.opening k) × text_gaps.Gap o (z ++ (text_of_leaves gap ++ (node_chars top ++ rest))) (node_chars top ++ rest) × (texts.InLine z ⊎ StartsLine)
+    Ready lead rest = (y z : List ℕ) × (c : ℕ) × (lead ≡ y ++ c ∷ z) × IsTrue (c == 0x2C || c == places.opening k) × text_gaps.Gap o (z ++ (text_of_leaves gap ++ (node_chars top ++ rest))) (node_chars top ++ rest) × (documents.InLine z ⊎ StartsLine)
 
     ready : (rest : List ℕ) → rest ≡ text_of_leaves (leaves behind) ++ (places.closing k ∷ B) → Ready (F ++ (places.opening k ∷ text_of_leaves (leaves led))) rest
     ready rest e =
@@ -415,7 +417,7 @@ module _ (o : Options) (kind : RowKind) (row middle kept new : OrderedTree) {pat
           back_text,
           subst (λ y. Spreads k y (with_row o kind F B (text_of_leaves (leaves middle)))) (sym old_text) m.1,
           l.last,
-          subst (texts.Trims k l.shorter) (kept_text l.good) l.first,
+          subst (entering.Trims k l.shorter) (kept_text l.good) l.first,
           led_so o kind F B comma_mark (text_of_leaves gap ++ (node_chars top ++ rest)) (comma_entry rest e) c g_led,
           blanks_text o gap (gap_blanks g) (good_first o gap (own ++ leaves behind) g1).pieces,
           follows,

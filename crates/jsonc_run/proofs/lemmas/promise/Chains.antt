@@ -2,7 +2,9 @@
 use Rattle.std.proofs.Common.{ℕ, ◌+◌, ◌≤◌, min, length, arith, ◌≡◌, ◌∙◌, sym, ap, subst, refl, inr, Bool, true, false, List, [], ◌++◌, Option, Some, None}
 use Rattle.std.proofs.lemmas.List.Elements.{All-head, All-tail}
 use Rattle.jsonc_text.specs.Edits as texts
-use Rattle.jsonc_text.specs.Edits.{Document, Gains, IsOne, Leaves, Makes, Run}
+use Rattle.jsonc_text.specs.Documents.{Document, IsOne}
+use Rattle.jsonc_text.specs.Entering.{Gains}
+use Rattle.jsonc_text.specs.Edits.{Leaves, Makes, Run}
 use Rattle.jsonc_text.specs.Entries.{Named}
 use Rattle.jsonc_text.specs.Options.{Options}
 use Rattle.jsonc_text.specs.Paths.{an_array}
@@ -34,7 +36,6 @@ use Rattle.jsonc_run.proofs.lemmas.promise.Ensured.{ensured_value}
 use Rattle.jsonc_run.proofs.lemmas.promise.Inserting.{ItemGained, item_gained, gained, in_place, gains_so, counted, nothing_behind}
 use Rattle.jsonc_run.proofs.lemmas.promise.Lines as lines
 use Rattle.jsonc_run.proofs.lemmas.promise.Lines.{some_commas_made, multiline_made, options_same, options_same_in_part}
-use Rattle.jsonc_run.proofs.lemmas.promise.NoneLeft.{at_path}
 use Rattle.jsonc_run.proofs.lemmas.promise.Members.{property_inserted, property_appended}
 use Rattle.jsonc_run.proofs.lemmas.promise.NamedProperties.{property_ensured}
 use Rattle.jsonc_run.proofs.lemmas.promise.Plains.{changed, entry_of}
@@ -113,7 +114,7 @@ step_made o t u w x clear_root s f = root_cleared o t u w x s.changed s.made
 step_made o t u w x (ensure_root shape how) s f = root_ensured o t u w x shape how s.old.sound s.new.sound s.old.value s.new.value s.changed s.made
 step_made o t u w x (ensure_multiline path) s f = multiline_made o t u w x path s.old.sound s.new.sound s.changed s.marked s.made
 step_made o t u w x (set_commas path mode) s f =
-    lines.commas_made o t u w x path mode s.new.sound s.new.text (some_commas_made o t u w x path mode s.old.sound s.new.sound (lines.all_commas s.changed) s.marked s.made.0 (inr s.made.1)) (λ is. at_path s.made.1 (s.made.2 is))
+    lines.commas_made o t u w x path mode s.new.sound s.new.text (some_commas_made o t u w x path mode s.old.sound s.new.sound (lines.all_commas s.changed) s.marked s.made.0 (inr s.made.1)) (lines.set_at_path mode o path s.made.1 s.made.2)
 step_made o t u w x (set_some_commas path mode) s f = some_commas_made o t u w x path mode s.old.sound s.new.sound (lines.some_commas s.changed) s.marked s.made.0 (inr s.made.1)
 step_made o t u w x (ensure_property path name shape how) s f = property_ensured o t u w x path name shape how s.old s.new f s.changed s.made
 step_made o t u w x (replace_property path name v) s f = property_replaced o t u w x path name v f s.old.sound s.new.sound s.changed s.made

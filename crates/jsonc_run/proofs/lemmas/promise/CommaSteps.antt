@@ -1,7 +1,8 @@
 -- Trailing commas that are set, of the document or of an array or object in it, as a step.
 use Rattle.std.proofs.Common.{◌≡◌, ◌⊎◌, ◌∙◌, sym, ap, subst, refl, ℕ, Option, List, [], ◌∷◌}
 use Rattle.jsonc_text.specs.Edits as texts
-use Rattle.jsonc_text.specs.Edits.{Document, Makes, Run, SetsCommas}
+use Rattle.jsonc_text.specs.Documents.{Document}
+use Rattle.jsonc_text.specs.Edits.{Makes, Run, SetsCommas}
 use Rattle.jsonc_text.specs.Grammar.{IsDocument}
 use Rattle.jsonc_text.specs.Plain.{Plain}
 use Rattle.jsonc_text.specs.Options.{Options}
@@ -13,15 +14,13 @@ use Rattle.jsonc_sound.specs.Documents.{document_of, Shows}
 use Rattle.jsonc_sound.specs.SoundTrees.{SoundTree}
 use Rattle.jsonc_edit.proofs.OneValue.{document_once}
 use Rattle.jsonc_text.specs.declared.edit.TrailingCommaMode.{TrailingCommaMode}
-use Rattle.jsonc_text.specs.declared.edit.TrailingCommaMode.TheVariants.{Never}
 use Rattle.jsonc_edit.specs.commas.Laws.{allowing, SaysTheSame}
 use Rattle.jsonc_run.specs.Edits.{set_commas, set_some_commas}
 use Rattle.jsonc_run.specs.Steps.{IsChangedAt}
 use Rattle.jsonc_run.proofs.SoundChain.{says}
 use Rattle.jsonc_run.specs.promise.Steps.{IsStepOf}
 use Rattle.jsonc_run.specs.promise.Words.{sets_some}
-use Rattle.jsonc_run.proofs.lemmas.promise.Lines.{commas_made, some_commas_made, options_same, options_same_in_part}
-use Rattle.jsonc_run.proofs.lemmas.promise.NoneLeft.{NoneLeft}
+use Rattle.jsonc_run.proofs.lemmas.promise.Lines.{AreSet, commas_made, some_commas_made, options_same, options_same_in_part}
 use Rattle.jsonc_run.proofs.lemmas.promise.ReplacedTexts.{is_one}
 
 module _ (mode : TrailingCommaMode) (old new : List Node) (same : (o : Options) → SoundTree o (ordered_tree old 0) → SaysTheSame mode o (ordered_tree old 0) (ordered_tree new 0)) where
@@ -57,9 +56,9 @@ module _ (mode : TrailingCommaMode) (old new : List Node) (same : (o : Options) 
       texts.one_made (is_one o t was.0 shown.sound was.1.text) (behind o) made (texts.none_made (is_one (allowing mode o) u now.0 kept.sound now.1.text)) in
       (e, record { sound = kept.sound; value = now.1.value; is = refl }, subst (λ x. Run x (op ∷ []) e) is run)
 
-  pub commas_lead : (path : List ℕ) → Place path → ((o : Options) → SoundTree o t → mode ≡ Never → NoneLeft o path t u) → IsStepOf (set_commas path mode) old new
-  commas_lead path place left = λ d shown fit.
-      commas_run path place (texts.set_commas path (sets_some mode)) (λ o. options_same o path mode) (λ o w x s r text sets. commas_made o t u w x path mode r text sets (left o s)) d shown
+  pub commas_lead : (path : List ℕ) → Place path → ((o : Options) → SoundTree o t → AreSet mode o path t u) → IsStepOf (set_commas path mode) old new
+  commas_lead path place set = λ d shown fit.
+      commas_run path place (texts.set_commas path (sets_some mode)) (λ o. options_same o path mode) (λ o w x s r text sets. commas_made o t u w x path mode r text sets (set o s)) d shown
 
   pub some_commas_lead : (path : List ℕ) → Place path → IsStepOf (set_some_commas path mode) old new
   some_commas_lead path place = λ d shown fit.

@@ -19,7 +19,8 @@ use Rattle.jsonc_sound.proofs.LooseLines.{Stops}
 use Rattle.jsonc_sound.proofs.Texts.{AllUtf8}
 use Rattle.jsonc_sound.proofs.TriviaLeaves.{front_leaves}
 use Rattle.jsonc_run.specs.promise.PlaceLaws.{text_of_leaves}
-use Rattle.jsonc_text.specs.Edits.{Comma, Loose, NoCommaComes, Opens}
+use Rattle.jsonc_text.specs.Entering.{NoCommaComes}
+use Rattle.jsonc_text.specs.Edits.{Comma, Loose, Opens}
 use Rattle.jsonc_text.specs.Edits as texts
 use Rattle.jsonc_run.proofs.lemmas.promise.Leaves.{back_of, document_parts, document_utf8, front_of, text_joined, utf8_first, utf8_second}
 use Rattle.jsonc_run.proofs.lemmas.promise.LooseRows.{Reads, kind_of_row, behind_comma, behind_entry, loose_text, loose_to, none_comes, reads_on, reads_past, row_reads}

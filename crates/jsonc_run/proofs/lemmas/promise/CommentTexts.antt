@@ -13,8 +13,7 @@ use Rattle.jsonc_sound.specs.Leaves.{is_inner_blank}
 use Rattle.jsonc_sound.proofs.ShapeTexts.{trivia_utf8}
 use Rattle.jsonc_sound.specs.MarkChanges.{AreBlanks}
 use Rattle.jsonc_sound.proofs.Pieces.{Pieces}
-use Rattle.jsonc_text.specs.Edits as promise
-use Rattle.jsonc_text.specs.Edits.{LosesComment}
+use Rattle.jsonc_text.specs.Documents as documents
 use Rattle.jsonc_run.specs.promise.PlaceLaws.{text_of_leaves}
 use Rattle.jsonc_run.proofs.lemmas.promise.Trivia.{first_text, newline_chars, piece_trivia}
 
@@ -28,11 +27,11 @@ newline_blanks CarriageReturnLineFeed h = many.step refl (many.step refl h)
 newline_blanks CarriageReturn h = many.step refl h
 
 module _ (o : Options) where
-  pub blanks_text : (ls : List Content) → AreBlanks ls → Pieces o ls → promise.AreBlanks (text_of_leaves ls)
-  blanks_text [] h p = subst promise.AreBlanks (sym chars-nil) many.stop
+  pub blanks_text : (ls : List Content) → AreBlanks ls → Pieces o ls → documents.AreBlanks (text_of_leaves ls)
+  blanks_text [] h p = subst documents.AreBlanks (sym chars-nil) many.stop
   blanks_text (Content.whitespace s ∷ ls) h p =
       let t = piece_trivia o (Content.whitespace s) refl p.0 in
-      subst promise.AreBlanks (sym (first_text (Content.whitespace s) ls t.0)) (more_blanks t.1 refl (blanks_text ls h.1 p.1))
+      subst documents.AreBlanks (sym (first_text (Content.whitespace s) ls t.0)) (more_blanks t.1 refl (blanks_text ls h.1 p.1))
   blanks_text (Content.newline k ∷ ls) h p =
-      subst promise.AreBlanks (sym (first_text (Content.newline k) ls (trivia_utf8 o (Content.newline k) tt) ∙ ap (λ x. x ++ text_of_leaves ls) (newline_chars k))) (newline_blanks k (blanks_text ls h.1 p.1))
+      subst documents.AreBlanks (sym (first_text (Content.newline k) ls (trivia_utf8 o (Content.newline k) tt) ∙ ap (λ x. x ++ text_of_leaves ls) (newline_chars k))) (newline_blanks k (blanks_text ls h.1 p.1))
   blanks_text (c ∷ ls) h p = cc

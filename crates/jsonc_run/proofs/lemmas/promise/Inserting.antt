@@ -16,7 +16,7 @@ use Rattle.jsonc_sound.specs.SoundTrees.{SoundTree}
 use Rattle.jsonc_sound.proofs.FirstNodes.{value_of_element}
 use Rattle.jsonc_text.specs.Paths.{an_array}
 use Rattle.jsonc_text.specs.Entries.{Named, items, of, Changed}
-use Rattle.jsonc_text.specs.Edits.{Gains}
+use Rattle.jsonc_text.specs.Entering.{Gains}
 use Rattle.jsonc_run.proofs.lemmas.promise.Insides.{kept_texts}
 use Rattle.jsonc_run.proofs.lemmas.promise.Arriving.{text_comes}
 use Rattle.jsonc_run.proofs.lemmas.promise.Stretches.{laid_literals}

@@ -30,8 +30,10 @@ use Rattle.jsonc_edit.specs.multiline.Reflows.{Reflows, SpreadsOut}
 use Rattle.jsonc_insert.specs.elements.Coming as coming
 use Rattle.jsonc_insert.specs.elements.Coming.{FirstLinesLeave, LastLinesLeave, BlankLinesLeave, Gap, CommaInserted, GoesOn}
 use Rattle.jsonc_run.specs.promise.PlaceLaws.{text_of_leaves}
-use Rattle.jsonc_text.specs.Edits as texts
-use Rattle.jsonc_text.specs.Edits.{Led, NoCommaComes, Spreads, Trims, Without, is_space}
+use Rattle.jsonc_text.specs.Documents as documents
+use Rattle.jsonc_text.specs.Entering as entering
+use Rattle.jsonc_text.specs.Documents.{Without}
+use Rattle.jsonc_text.specs.Entering.{Led, NoCommaComes, Spreads, Trims, is_space}
 use Rattle.jsonc_run.proofs.lemmas.promise.CommaTexts.{all_same, same_before}
 use Rattle.jsonc_run.proofs.lemmas.promise.CommentTexts.{blanks_text}
 use Rattle.jsonc_run.proofs.lemmas.promise.Leaves.{document_utf8, text_joined, utf8_first, utf8_joined, utf8_second}
@@ -92,9 +94,9 @@ close_text of_values = one_token close_bracket_mark
 close_text of_properties = one_token close_brace_mark
 
 same_behind : {p : ℕ → Bool} {x y : List ℕ} (s : List ℕ) → Without p x y → Without p (x ++ s) (y ++ s)
-same_behind s texts.ended = all_same s
-same_behind s (texts.stays h) = texts.stays (same_behind s h)
-same_behind s (texts.leaves q h) = texts.leaves q (same_behind s h)
+same_behind s documents.ended = all_same s
+same_behind s (documents.stays h) = documents.stays (same_behind s h)
+same_behind s (documents.leaves q h) = documents.leaves q (same_behind s h)
 
 module _ (o : Options) (kind : RowKind) (F B : List ℕ) where
   abbrev k : places.Kind
@@ -107,7 +109,7 @@ module _ (o : Options) (kind : RowKind) (F B : List ℕ) where
   not_trimmed : (s : List ℕ) → Trims k (with_row s) (with_row s)
   not_trimmed s =
       subst (λ x. Trims k x x) (append_assoc F (places.opening k ∷ s) (places.closing k ∷ B))
-      (texts.before_last (F ++ (places.opening k ∷ s)) [] [] B many.Many.stop many.Many.stop)
+      (entering.before_last (F ++ (places.opening k ∷ s)) [] [] B many.Many.stop many.Many.stop)
 
   back_regroup : (a b c : ℕ) (f r g s z : List ℕ) → f ++ (a ∷ ((r ++ (g ++ s)) ++ (b ∷ z))) ≡ (f ++ (a ∷ r)) ++ (g ++ (s ++ (b ∷ z)))
   back_regroup a b c f r g s z = simp (append_assoc) refl
@@ -150,7 +152,7 @@ module _ (o : Options) (kind : RowKind) (F B : List ℕ) where
         trims =
             subst (λ x. Trims k x (with_row (text_of_leaves (leaves (followed_by front tail))))) (sym all)
             (subst (Trims k ((F ++ (places.opening k ∷ text_of_leaves (leaves front))) ++ (text_of_leaves gone ++ (text_of_leaves line ++ (places.closing k ∷ B))))) (sym now)
-            (texts.before_last (F ++ (places.opening k ∷ text_of_leaves (leaves front))) (text_of_leaves gone) (text_of_leaves line) B (blanks_text o gone a (good_first o gone line g1).pieces) (blanks_text o line (refl, b) g2.pieces)));
+            (entering.before_last (F ++ (places.opening k ∷ text_of_leaves (leaves front))) (text_of_leaves gone) (text_of_leaves line) B (blanks_text o gone a (good_first o gone line g1).pieces) (blanks_text o line (refl, b) g2.pieces)));
       }
 
   first_trimmed : {row kept : OrderedTree} → FirstLinesLeave row kept → Good o (leaves row) → Trimmed row kept
@@ -177,7 +179,7 @@ module _ (o : Options) (kind : RowKind) (F B : List ℕ) where
         trims =
             subst (λ x. Trims k x (with_row (text_of_leaves (leaves (leaves_then spaces (more (newline n) none row)))))) (sym all)
             (subst (Trims k (F ++ (places.opening k ∷ (text_of_leaves line ++ (text_of_leaves gone ++ (text_of_leaves rest ++ (places.closing k ∷ B))))))) (sym now)
-            (texts.behind_first F (text_of_leaves line) (text_of_leaves gone) (text_of_leaves rest ++ (places.closing k ∷ B)) (blanks_text o line (blanks_with_line spaces n a) f0.pieces) (blanks_text o gone b (good_first o gone rest g1).pieces)));
+            (entering.behind_first F (text_of_leaves line) (text_of_leaves gone) (text_of_leaves rest ++ (places.closing k ∷ B)) (blanks_text o line (blanks_with_line spaces n a) f0.pieces) (blanks_text o gone b (good_first o gone rest g1).pieces)));
       }
 
   -- a row that is put on several lines
@@ -200,9 +202,9 @@ module _ (o : Options) (kind : RowKind) (F B : List ℕ) where
   spread_good (reflows.reflows h q r) g = reflowed_good r g
 
   around : {p : ℕ → Bool} {x y : List ℕ} → Without p x y → Without p (with_row x) (with_row y)
-  around h = same_before F (texts.stays (same_behind (places.closing k ∷ B) h))
+  around h = same_before F (documents.stays (same_behind (places.closing k ∷ B) h))
 
-  pub spread_reflows : {x y : OrderedTree} → SpreadsOut x y → Good o (leaves x) → texts.Reflows (with_row (text_of_leaves (leaves x))) (with_row (text_of_leaves (leaves y)))
+  pub spread_reflows : {x y : OrderedTree} → SpreadsOut x y → Good o (leaves x) → entering.Reflows (with_row (text_of_leaves (leaves x))) (with_row (text_of_leaves (leaves y)))
   spread_reflows s g =
       let b = spread s in
       let h = spread_good s g in
@@ -231,7 +233,7 @@ module _ (o : Options) (kind : RowKind) (F B : List ℕ) where
 
   pub led_so : (m : Mark 0x2C) (r : List ℕ) {front led : OrderedTree} → EntriesOf led r → CommaInserted front led → Good o (leaves led)
       → Led o k r (F ++ (places.opening k ∷ text_of_leaves (leaves front))) (F ++ (places.opening k ∷ text_of_leaves (leaves led)))
-  led_so m r entries coming.none_comes g = texts.as_it_was
+  led_so m r entries coming.none_comes g = entering.as_it_was
   led_so m r entries (coming.one_comes f last beside h b) g =
       let trivia = beside_trivia beside b in
       let rest : OrderedTree = leaves_then beside none in
@@ -259,7 +261,7 @@ module _ (o : Options) (kind : RowKind) (F B : List ℕ) where
       let now_text : text_of_leaves (leaves (row_around f last (token_then 0x2C rest))) ≡ before ++ (entry ++ (0x2C ∷ behind)) = now ∙ ap (λ l. l ++ (0x2C ∷ behind)) of_both ∙ append_assoc before entry (0x2C ∷ behind) in
       subst (λ y. Led o k r y (F ++ (places.opening k ∷ text_of_leaves (leaves (row_around f last (token_then 0x2C rest)))))) (sym (ap (λ l. F ++ (places.opening k ∷ l)) was_text ∙ led_regroup (places.opening k) F before (entry ++ behind)))
       (subst (Led o k r ((F ++ (places.opening k ∷ before)) ++ (entry ++ behind))) (sym (ap (λ l. F ++ (places.opening k ∷ l)) now_text ∙ led_regroup (places.opening k) F before (entry ++ (0x2C ∷ behind))))
-      (texts.with_comma (F ++ (places.opening k ∷ before)) entry (entries f last beside refl h trivia) (beside_text o beside b g2.pieces)))
+      (entering.with_comma (F ++ (places.opening k ∷ before)) entry (entries f last beside refl h trivia) (beside_text o beside b g2.pieces)))
 
 -- behind the new entry
 pub gap_blanks : {b : Bool} {gap : List Content} → Gap b gap → AreBlanks gap

@@ -17,7 +17,7 @@ use Rattle.jsonc_sound.specs.TreeChanges.{leaves_of}
 use Rattle.jsonc_sound.proofs.NodesAlone.{document_alone}
 use Rattle.jsonc_sound.proofs.Pieces.{Pieces, document_pieces}
 use Rattle.jsonc_sound.proofs.Texts.{AllUtf8}
-use Rattle.jsonc_edit.specs.commas.Laws.{allowing, OnlyCommas}
+use Rattle.jsonc_edit.specs.commas.Laws.{allowing, IsAsSaid, OnlyCommas}
 use Rattle.jsonc_text.specs.declared.edit.TrailingCommaMode.{TrailingCommaMode}
 use Rattle.jsonc_text.specs.declared.edit.TrailingCommaMode.TheVariants.{Never, IfMultiline}
 use Rattle.jsonc_edit.specs.multiline.Laws.{bracketed, SpreadAt}
@@ -25,8 +25,11 @@ use Rattle.jsonc_edit.specs.multiline.Reflows as reflows
 use Rattle.jsonc_edit.specs.multiline.Reflows.{Reflows, SpreadsOut}
 use Rattle.jsonc_run.specs.Edits.{ensure_multiline, set_commas, set_some_commas}
 use Rattle.jsonc_run.specs.Written.{IsChanged, by_lines, by_commas, by_some_commas}
+use Rattle.jsonc_text.specs.Documents as documents
 use Rattle.jsonc_text.specs.Edits as texts
-use Rattle.jsonc_text.specs.Edits.{Commas, Inside, Makes, SetsCommas, Without, is_space}
+use Rattle.jsonc_text.specs.Documents.{Inside, Without}
+use Rattle.jsonc_text.specs.Entering.{is_space}
+use Rattle.jsonc_text.specs.Edits.{Commas, Makes, SetsCommas}
 use Rattle.jsonc_sound.specs.Leaves.{is_inner_blank}
 use Rattle.std.proofs.lemmas.Str.{chars-nil}
 use Rattle.std.proofs.lemmas.List.{append-nil}
@@ -35,7 +38,10 @@ use Rattle.jsonc_run.specs.promise.PlaceLaws.{text_of_leaves, texts_of}
 use Rattle.jsonc_run.proofs.lemmas.promise.CommaTexts.{all_same, same_before}
 use Rattle.jsonc_run.proofs.lemmas.promise.CommentTexts.{blanks_text}
 use Rattle.jsonc_run.proofs.lemmas.promise.Insides.{inside_so, texts_followed, within_so}
+use Rattle.jsonc_run.proofs.lemmas.promise.NoneLeft as gone
 use Rattle.jsonc_run.proofs.lemmas.promise.NoneLeft.{none_left, NoneLeft}
+use Rattle.jsonc_run.proofs.lemmas.promise.NoneMissing as missing
+use Rattle.jsonc_run.proofs.lemmas.promise.NoneMissing.{all_trailing, NoneMissing}
 use Rattle.jsonc_run.proofs.lemmas.promise.LinesInside.{line_inside}
 use Rattle.jsonc_run.proofs.lemmas.promise.Leaves.{front_of, back_of, document_parts, document_parts_then, document_utf8, text_joined}
 use Rattle.jsonc_sound.specs.Documents.{all_marks}
@@ -105,7 +111,7 @@ spread (reflows.reflows h k g) = reflowed g
 
 all_leave : {x y s r : List ℕ} → Many is_blank s r → r ≡ [] → Without is_blank x y → Without is_blank (s ++ x) y
 all_leave {x} {y} stop e h = subst (λ l. Without is_blank (l ++ x) y) (sym e) h
-all_leave (step p m) e h = texts.leaves p (all_leave m e h)
+all_leave (step p m) e h = documents.leaves p (all_leave m e h)
 
 pub blanks_leave : (o : Options) {x y : List Content} → WithoutBlanks x y → Pieces o x → AllUtf8 x → Without is_blank (text_of_leaves x) (text_of_leaves y)
 blanks_leave o no_more p u = all_same (text_of_leaves [])
@@ -117,7 +123,7 @@ blanks_leave o (blank_leaves {c = c} {x = x} {y = y} q h) p u =
 
 inner_leave : {x y s r : List ℕ} → Many is_inner_blank s r → r ≡ [] → Without is_space x y → Without is_space (s ++ x) y
 inner_leave {x} {y} stop e h = subst (λ l. Without is_space (l ++ x) y) (sym e) h
-inner_leave (step p m) e h = texts.leaves p (inner_leave m e h)
+inner_leave (step p m) e h = documents.leaves p (inner_leave m e h)
 
 whitespace_leaves : (o : Options) (c : Content) {x y : List ℕ} → IsTrue (is_whitespace c) → Pieces o (c ∷ []) → Without is_space x y → Without is_space (text_of_leaves (c ∷ []) ++ x) y
 whitespace_leaves o (Content.whitespace s) {x} {y} q p h =
@@ -175,11 +181,19 @@ pub some_commas_made : (o : Options) (t u : OrderedTree) (w x : Option Plain) (p
     → SetsCommas path (sets_some mode) (document_of o t w) (document_of (allowing mode o) u x)
 some_commas_made o t u w x path mode s r same m h place = (only_commas o mode s r h, (same, ap all_marks m), elim place [ inl whole ↦ inl whole | inr at ↦ inr (within_so o (allowing mode o) s r at.2 w x) ])
 
--- all of them
+-- all of them: none is left, or none is missing
+abbrev pub AreSet : TrailingCommaMode → Options → List ℕ → OrderedTree → OrderedTree → Type 0
+AreSet Never o path t u = NoneLeft o path t u
+AreSet IfMultiline o path t u = NoneMissing path t u
+
+pub set_at_path : (mode : TrailingCommaMode) (o : Options) (path : List ℕ) {t u : OrderedTree} (at : IsChangedAt path t u) → IsAsSaid mode o at.1.content at.1.below → AreSet mode o path t u
+set_at_path Never o path at a = gone.at_path at a
+set_at_path IfMultiline o path at a = missing.at_path at a
+
 pub commas_made : (o : Options) (t u : OrderedTree) (w x : Option Plain) (path : List ℕ) (mode : TrailingCommaMode) → SoundTree (allowing mode o) u → IsDocument (allowing mode o) (printed_text u) x
-    → SetsCommas path (sets_some mode) (document_of o t w) (document_of (allowing mode o) u x) → (mode ≡ Never → NoneLeft o path t u) → Makes (document_of o t w) (texts.set_commas path (sets_some mode)) (document_of (allowing mode o) u x)
-commas_made o t u w x path Never sound text sets left = (sets, λ h. none_left o path sound x text (left refl))
-commas_made o t u w x path IfMultiline sound text sets left = (sets, λ h. cc)
+    → SetsCommas path (sets_some mode) (document_of o t w) (document_of (allowing mode o) u x) → AreSet mode o path t u → Makes (document_of o t w) (texts.set_commas path (sets_some mode)) (document_of (allowing mode o) u x)
+commas_made o t u w x path Never sound text sets set = (sets, none_left o path sound x text set)
+commas_made o t u w x path IfMultiline sound text sets set = (sets, all_trailing (allowing IfMultiline o) path sound x text set)
 
 pub options_same : (o : Options) (path : List ℕ) (mode : TrailingCommaMode) → allowing mode o ≡ texts.options_behind o (texts.set_commas path (sets_some mode))
 options_same o path Never = refl

@@ -7,8 +7,10 @@ use Rattle.jsonc_text.specs.Text.{is_line_end}
 use Rattle.jsonc_text.specs.Gaps.{Gap}
 use Rattle.jsonc_text.specs.Paths.{Kind}
 use Rattle.jsonc_text.specs.Paths as places
-use Rattle.jsonc_text.specs.Edits as texts
-use Rattle.jsonc_text.specs.Edits.{Along, HasLineEnd, IsLineEnd}
+use Rattle.jsonc_text.specs.Documents as documents
+use Rattle.jsonc_text.specs.Entering as entering
+use Rattle.jsonc_text.specs.Documents.{IsLineEnd}
+use Rattle.jsonc_text.specs.Entering.{Along, HasLineEnd}
 use Rattle.jsonc_tree.specs.Content.{Content, newline, token}
 use Rattle.jsonc_tree.specs.OrderedTree.{OrderedTree, none, more, leaves, followed_by}
 use Rattle.jsonc_sound.specs.Documents.{document_of}
@@ -40,9 +42,9 @@ record StartsLine (s : List ℕ) : Type 0 where
   ends : IsTrue (is_line_end char)
 
 line_starts : {s : List ℕ} → IsLineEnd s → (r : List ℕ) → StartsLine (s ++ r)
-line_starts texts.line_feed r = record { char = 0x0A; rest = r; is = refl; ends = refl }
-line_starts texts.carriage_return r = record { char = 0x0D; rest = r; is = refl; ends = refl }
-line_starts texts.both r = record { char = 0x0D; rest = 0x0A ∷ r; is = refl; ends = refl }
+line_starts documents.line_feed r = record { char = 0x0A; rest = r; is = refl; ends = refl }
+line_starts documents.carriage_return r = record { char = 0x0D; rest = r; is = refl; ends = refl }
+line_starts documents.both r = record { char = 0x0D; rest = 0x0A ∷ r; is = refl; ends = refl }
 
 further : {o : Options} {a b c : OrderedTree} → Trivia o a b → Trivia o b c → Trivia o a c
 further shape.nothing h = h
@@ -68,16 +70,16 @@ module _ (o : Options) (kind : Kind) (z : List ℕ) where
     ends : IsTrue (is_line_end char)
 
   past_gap : {t u : List ℕ} → Gap o t u → HasLine u → HasLine t
-  past_gap g h = record { char = h.char; rest = h.rest; along = texts.past_gap g h.along; ends = h.ends }
+  past_gap g h = record { char = h.char; rest = h.rest; along = entering.past_gap g h.along; ends = h.ends }
 
   past_comma : {t u : List ℕ} → u ≡ 0x2C ∷ t → HasLine t → HasLine u
-  past_comma e h = subst HasLine (sym e) (record { char = h.char; rest = h.rest; along = texts.past_comma h.along; ends = h.ends })
+  past_comma e h = subst HasLine (sym e) (record { char = h.char; rest = h.rest; along = entering.past_comma h.along; ends = h.ends })
 
   past_entry : {t u : List ℕ} → places.IsEntry o kind t u → HasLine u → HasLine t
-  past_entry q h = record { char = h.char; rest = h.rest; along = texts.past_entry q h.along; ends = h.ends }
+  past_entry q h = record { char = h.char; rest = h.rest; along = entering.past_entry q h.along; ends = h.ends }
 
   here : (t : List ℕ) → StartsLine t → HasLine t
-  here t s = record { char = s.char; rest = s.rest; along = subst (λ u. Along o kind t u) s.is texts.there; ends = s.ends }
+  here t s = record { char = s.char; rest = s.rest; along = subst (λ u. Along o kind t u) s.is entering.there; ends = s.ends }
 
   abbrev text : OrderedTree → List ℕ
   text row = printed_text row ++ z

@@ -17,7 +17,9 @@ use Rattle.jsonc_run.specs.Written.{IsChanged, by_inserting_member, by_appending
 use Rattle.jsonc_text.specs.Paths.{an_object}
 use Rattle.jsonc_text.specs.Entries.{Named, members, of, Changed}
 use Rattle.jsonc_text.specs.Edits as texts
-use Rattle.jsonc_text.specs.Edits.{Gains, Makes, written}
+use Rattle.jsonc_text.specs.Documents.{written}
+use Rattle.jsonc_text.specs.Entering.{Gains}
+use Rattle.jsonc_text.specs.Edits.{Makes}
 use Rattle.jsonc_run.proofs.lemmas.promise.Insides.{kept_texts}
 use Rattle.jsonc_run.proofs.lemmas.promise.Joined.{spread_good, spread_reflows}
 use Rattle.jsonc_run.proofs.lemmas.promise.Leaves.{back_of, front_of}

@@ -31,7 +31,8 @@ use Rattle.jsonc_run.specs.Written.{IsChanged, by_ensuring_named}
 use Rattle.jsonc_text.specs.Paths.{an_object}
 use Rattle.jsonc_text.specs.Entries.{Named, members, of, Changed, itself, inside}
 use Rattle.jsonc_text.specs.Edits as texts
-use Rattle.jsonc_text.specs.Edits.{Ensures, EnsuresNamed, Gains, Makes}
+use Rattle.jsonc_text.specs.Entering.{Gains}
+use Rattle.jsonc_text.specs.Edits.{Ensures, EnsuresNamed, Makes}
 use Rattle.jsonc_run.proofs.lemmas.promise.Plains.{changed, entry_of, list_of_members, same_members}
 use Rattle.jsonc_sound.specs.Documents.{document_of}
 use Rattle.jsonc_run.specs.promise.Words.{kind_of, yields}

@@ -11,7 +11,7 @@ use Rattle.jsonc_sound.specs.SoundTrees.{SoundTree}
 use Rattle.jsonc_sound.specs.TreeChanges.{ElementChanged, DocumentChanged, in_root}
 use Rattle.jsonc_sound.proofs.FirstNodes.{here, over, beyond, meets_first, none_changed, no_element}
 use Rattle.jsonc_sound.proofs.Printed.{prints_its_marks}
-use Rattle.jsonc_text.specs.Edits.{IsOne}
+use Rattle.jsonc_text.specs.Documents.{IsOne}
 use Rattle.jsonc_sound.specs.Documents.{document_of}
 use Rattle.jsonc_run.proofs.lemmas.promise.MarkLists.{marks_to}
 

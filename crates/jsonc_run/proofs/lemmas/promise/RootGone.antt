@@ -29,7 +29,8 @@ use Rattle.jsonc_sound.specs.Lines.{LinesEndLoosely, DocumentLinesEndLoosely}
 use Rattle.jsonc_sound.proofs.LooseLines.{trivia_gap, value_stops}
 use Rattle.std.proofs.lemmas.Str.{chars-nil}
 use Rattle.jsonc_text.specs.Edits as texts
-use Rattle.jsonc_text.specs.Edits.{Leaves, NoCommaComes}
+use Rattle.jsonc_text.specs.Entering.{NoCommaComes}
+use Rattle.jsonc_text.specs.Edits.{Leaves}
 use Rattle.jsonc_run.specs.promise.PlaceLaws.{text_of_leaves}
 use Rattle.jsonc_run.proofs.lemmas.promise.CommentTexts.{blanks_text}
 use Rattle.jsonc_run.proofs.lemmas.promise.Closing.{blanks_first, blanks_second}

@@ -39,7 +39,8 @@ use Rattle.jsonc_text.specs.Paths.{Value}
 use Rattle.jsonc_text.specs.Entries as values
 use Rattle.jsonc_text.specs.Entries.{of}
 use Rattle.jsonc_text.specs.Edits as texts
-use Rattle.jsonc_text.specs.Edits.{ComesFirst, EndsInComment, IsLineEnd, Makes}
+use Rattle.jsonc_text.specs.Documents.{EndsInComment, IsLineEnd}
+use Rattle.jsonc_text.specs.Edits.{ComesFirst, Makes}
 use Rattle.jsonc_run.specs.promise.PlaceLaws.{text_of_leaves}
 use Rattle.jsonc_run.proofs.lemmas.promise.Leaves.{text_joined, utf8_first, utf8_second}
 use Rattle.jsonc_sound.specs.Documents.{all_marks}

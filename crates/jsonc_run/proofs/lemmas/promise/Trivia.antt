@@ -18,8 +18,8 @@ use Rattle.jsonc_sound.proofs.ShapeTexts.{trivia_utf8}
 use Rattle.jsonc_sound.specs.Leaving.{AreInlineTrivia}
 use Rattle.jsonc_sound.specs.TriviaChanges.{AreTrivia}
 use Rattle.jsonc_sound.proofs.Pieces.{Piece, Pieces, a_literal, a_name, a_trivia}
-use Rattle.jsonc_text.specs.Edits as texts
-use Rattle.jsonc_text.specs.Edits.{Trivia, InLine, AreLineEnds, IsLineEnd, Trail}
+use Rattle.jsonc_text.specs.Documents as documents
+use Rattle.jsonc_text.specs.Documents.{Trivia, InLine, AreLineEnds, IsLineEnd}
 use Rattle.jsonc_run.specs.promise.PlaceLaws.{text_of_leaves}
 
 pub newline_chars : (k : CstNewlineKind) → chars (newline_text k) ≡ newline_text k
@@ -36,13 +36,13 @@ pub line_end_text : (k : CstNewlineKind) → IsLineEnd (text_of_leaves (newline 
 line_end_text k = subst IsLineEnd (sym (ap chars (append-nil (newline_text k)) ∙ newline_chars k)) (by k)
   where
     by : (k : CstNewlineKind) → IsLineEnd (newline_text k)
-    by LineFeed = texts.line_feed
-    by CarriageReturnLineFeed = texts.both
-    by CarriageReturn = texts.carriage_return
+    by LineFeed = documents.line_feed
+    by CarriageReturnLineFeed = documents.both
+    by CarriageReturn = documents.carriage_return
 
 blanks_before : {p : ℕ → Bool} {s r : List ℕ} (t : List ℕ) → ((c : ℕ) → IsTrue (is_inner_blank c) → IsTrue (is_blank c && p c)) → Many is_inner_blank s r → r ≡ [] → Trivia p t → Trivia p (s ++ t)
 blanks_before {p} t f stop e h = subst (λ x. Trivia p (x ++ t)) (sym e) h
-blanks_before t f (step {c = c} b m) e h = texts.blank (f c b) (blanks_before t f m e h)
+blanks_before t f (step {c = c} b m) e h = documents.blank (f c b) (blanks_before t f m e h)
 
 in_a_line : (c : ℕ) → IsTrue (is_inner_blank c) → IsTrue (is_blank c && not (is_line_end c))
 in_a_line c h = h
@@ -67,13 +67,13 @@ module _ (o : Options) where
 
   -- whitespace and comments print a stretch of a line
   pub beside_text : (ls : List Content) → AreInlineTrivia ls → Pieces o ls → InLine (text_of_leaves ls)
-  beside_text [] h p = subst InLine (sym chars-nil) texts.nothing
+  beside_text [] h p = subst InLine (sym chars-nil) documents.nothing
   beside_text (Content.whitespace s ∷ ls) h p =
       let t = piece_trivia (Content.whitespace s) refl p.0 in
       subst InLine (sym (first_text (Content.whitespace s) ls t.0)) (blanks_before (text_of_leaves ls) in_a_line t.1 refl (beside_text ls h.1 p.1))
   beside_text (Content.comment s ∷ ls) h p =
       let t = piece_trivia (Content.comment s) refl p.0 in
-      subst InLine (sym (first_text (Content.comment s) ls t.1.0)) (texts.comment t.1.1 (beside_text ls h.1 p.1))
+      subst InLine (sym (first_text (Content.comment s) ls t.1.0)) (documents.comment t.1.1 (beside_text ls h.1 p.1))
   beside_text (content ∷ ls) h p = cc
 
   -- with ends of lines they are trivia
@@ -81,12 +81,12 @@ module _ (o : Options) where
   newline_before k t h = subst (λ x. Trivia (λ c. true) (x ++ t)) (sym (newline_chars k)) (by k)
     where
       by : (k : CstNewlineKind) → Trivia (λ c. true) (newline_text k ++ t)
-      by LineFeed = texts.blank refl h
-      by CarriageReturnLineFeed = texts.blank refl (texts.blank refl h)
-      by CarriageReturn = texts.blank refl h
+      by LineFeed = documents.blank refl h
+      by CarriageReturnLineFeed = documents.blank refl (documents.blank refl h)
+      by CarriageReturn = documents.blank refl h
 
   pub trivia_text : (ls : List Content) → AreTrivia ls → Pieces o ls → Trivia (λ c. true) (text_of_leaves ls)
-  trivia_text [] h p = subst (Trivia (λ c. true)) (sym chars-nil) texts.nothing
+  trivia_text [] h p = subst (Trivia (λ c. true)) (sym chars-nil) documents.nothing
   trivia_text (Content.whitespace s ∷ ls) h p =
       let t = piece_trivia (Content.whitespace s) refl p.0 in
       subst (Trivia (λ c. true)) (sym (first_text (Content.whitespace s) ls t.0)) (blanks_before (text_of_leaves ls) anywhere t.1 refl (trivia_text ls h.1 p.1))
@@ -94,7 +94,7 @@ module _ (o : Options) where
       subst (Trivia (λ c. true)) (sym (first_text (Content.newline k) ls (trivia_utf8 o (Content.newline k) tt))) (newline_before k (text_of_leaves ls) (trivia_text ls h.1 p.1))
   trivia_text (Content.comment s ∷ ls) h p =
       let t = piece_trivia (Content.comment s) refl p.0 in
-      subst (Trivia (λ c. true)) (sym (first_text (Content.comment s) ls t.1.0)) (texts.comment t.1.1 (trivia_text ls h.1 p.1))
+      subst (Trivia (λ c. true)) (sym (first_text (Content.comment s) ls t.1.0)) (documents.comment t.1.1 (trivia_text ls h.1 p.1))
   trivia_text (content ∷ ls) h p = cc
 
   -- the end of a line prints ends of lines

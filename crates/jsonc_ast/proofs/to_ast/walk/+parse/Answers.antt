@@ -11,7 +11,7 @@ use Rattle.jsonc_ast.specs.to_ast.Refusals.{here}
 use Rattle.jsonc_ast.specs.declared.to_ast.container.Container.TheVariants.{Array, Object}
 use Rattle.jsonc_ast.proofs.lemmas.to_ast.MovedTokens.{is_bracket, is_brace, kept_self, collects_self, collects_given, reads_self, kept_given, colon_given, no_colon_given, stops_given}
 use Rattle.jsonc_ast.proofs.lemmas.to_ast.Following.{behind_in, first_follows, follows_in, next_follows, opened_reached, source_later, source_on}
-use Rattle.jsonc_ast.proofs.lemmas.to_ast.Scans.{fault_before, kept_on, kept_same}
+use Rattle.jsonc_ast.proofs.lemmas.to_ast.Scans.{failure, fault_before, kept_on, kept_same, told_anyhow}
 use Rattle.jsonc_ast.proofs.lemmas.to_ast.Collecting.{collects_turn}
 use Rattle.jsonc_ast.proofs.lemmas.to_ast.Loops.{AtHand, elements_start, elements_turn, elements_whole, leads_on}
 use Rattle.jsonc_ast.proofs.lemmas.to_ast.Properties.{properties_start, properties_turn, properties_whole}
@@ -314,7 +314,7 @@ parse_property-returns-in_default-clause-refused g t c =
     let kept_at = kept_on c.args.context.now c.pass_colon.new.self c.scan.new.self kept_mid c.in_ok-found.ensures.kept in
     record {
       refused = inr (end_for_value whole old mid c.in_ok-named.ensures.named.name c.args.count name (kept_given c.args.context.now c.parse_name.new.context c.pass_colon.new.self c.in_ok-named.ensures.gives c.in_ok-pass_colon.ensures.kept) (colon_given c.args.context.now c.parse_name.new.context c.pass_colon.new.self c.in_ok-named.ensures.gives c.in_ok-pass_colon.ensures.found) c.scan.new.self (found_in c.scan.new.self c.in_ok-found.found) found.kept found.found found.lexeme (ap (found_in c.scan.new.self) c.in_default.is));
-      fault = fault_before c.args.context.now c.scan.new.self _ kept_at c.stop_here.ensures.fault;
+      fault = fault_before c.args.context.now c.scan.new.self _ kept_at (told_anyhow c.stop_here.ensures.fault);
       error = λ q d s many starts. let whole = g.R.Receiver.whole in let old = c.args.context.now in let found = c.in_ok-found.ensures in let small = c.holds_too_deep.ensures.within c.if-holds_too_deep.false in no_value_stops whole old (last c.args.context.now c.args.token) q d s c.requires.token starts c.in_ok-named.ensures.named.name c.in_ok-named.ensures.named.stands c.pass_colon.new.self (kept_given c.args.context.now c.parse_name.new.context c.pass_colon.new.self c.in_ok-named.ensures.gives c.in_ok-pass_colon.ensures.kept) (colon_given c.args.context.now c.parse_name.new.context c.pass_colon.new.self c.in_ok-named.ensures.gives c.in_ok-pass_colon.ensures.found) c.scan.new.self (found_in c.scan.new.self c.in_ok-found.found) found.kept found.found found.lexeme (ap (found_in c.scan.new.self) c.in_default.is) c.stop_here.new.self.fault (let one = count_property whole (here old) q in omega (arith, one, many, small)) c.stop_here.ensures.kind c.stop_here.ensures.range;
     }
 
@@ -332,7 +332,7 @@ pub parse_array-returns-then-opens_too_deep-clause-refused : goal.parse_array-re
 parse_array-returns-then-opens_too_deep-clause-refused g t c =
     record {
       refused = inr (array_deep g.R.Receiver.whole c.args.context.now c.args.count c.requires.token (c.opens_too_deep.ensures.deep c.if-opens_too_deep.true));
-      fault = c.stop_too_deep.ensures.fault;
+      fault = told_anyhow c.stop_too_deep.ensures.fault;
       error = opening_stops g.R.Receiver.whole Array c.args.context.now c.token_start-start.result c.args.count c.stop_too_deep.new.self.fault (c.opens_too_deep.ensures.apart c.if-opens_too_deep.true) c.requires.token c.token_start-start.ensures (c.opens_too_deep.ensures.deep c.if-opens_too_deep.true) c.stop_too_deep.ensures.kind c.stop_too_deep.ensures.range;
     }
 
@@ -340,7 +340,7 @@ pub parse_object-returns-then-opens_too_deep-clause-refused : goal.parse_object-
 parse_object-returns-then-opens_too_deep-clause-refused g t c =
     record {
       refused = inr (object_deep g.R.Receiver.whole c.args.context.now c.args.count c.requires.token (c.opens_too_deep.ensures.deep c.if-opens_too_deep.true));
-      fault = c.stop_too_deep.ensures.fault;
+      fault = told_anyhow c.stop_too_deep.ensures.fault;
       error = opening_stops g.R.Receiver.whole Object c.args.context.now c.token_start-start.result c.args.count c.stop_too_deep.new.self.fault (c.opens_too_deep.ensures.apart c.if-opens_too_deep.true) c.requires.token c.token_start-start.ensures (c.opens_too_deep.ensures.deep c.if-opens_too_deep.true) c.stop_too_deep.ensures.kind c.stop_too_deep.ensures.range;
     }
 
@@ -355,7 +355,7 @@ parse_array-returns-then-holds_too_deep-clause-refused g t c =
     let reading = subst (λ n. GoesOn whole Array old now n c.args.count) is inv.reading in
     record {
       refused = inr (element_deep whole old now (last now c.in-Some.token) c.args.count (c.holds_too_deep.ensures.whole c.if-holds_too_deep.true) left (c.holds_too_deep.ensures.deep c.if-holds_too_deep.true));
-      fault = fault_before c.args.context.now c.loop-next.context _ c.loop-next.invariant.so_far.kept c.stop_too_deep-then-holds_too_deep.ensures.fault;
+      fault = fault_before c.args.context.now c.loop-next.context _ c.loop-next.invariant.so_far.kept (told_anyhow c.stop_too_deep-then-holds_too_deep.ensures.fault);
       error = element_deep_stops whole old now (last now c.in-Some.token) c.token_start-start.result c.args.count c.stop_too_deep-then-holds_too_deep.new.self.fault (c.holds_too_deep.ensures.whole c.if-holds_too_deep.true) inv.so_far.kept (subst (AtHand 0x5D now) is inv.so_far.hand) c.token_start-start.ensures (c.holds_too_deep.ensures.deep c.if-holds_too_deep.true) c.stop_too_deep-then-holds_too_deep.ensures.kind c.stop_too_deep-then-holds_too_deep.ensures.range reading;
     }
 
@@ -371,7 +371,7 @@ parse_property-returns-then-holds_too_deep-clause-refused g t c =
     let found = c.in_ok-found.ensures in
     record {
       refused = inr (property_deep g.R.Receiver.whole c.args.context.now c.args.count (c.holds_too_deep.ensures.whole c.if-holds_too_deep.true) (c.holds_too_deep.ensures.deep c.if-holds_too_deep.true));
-      fault = fault_before c.args.context.now c.scan.new.self _ kept_at c.stop_too_deep.ensures.fault;
+      fault = fault_before c.args.context.now c.scan.new.self _ kept_at (told_anyhow c.stop_too_deep.ensures.fault);
       error = property_deep_stops whole old (last old c.args.token) c.requires.token c.in_ok-named.ensures.named.name c.in_ok-named.ensures.named.stands mid (kept_given old named mid c.in_ok-named.ensures.gives c.in_ok-pass_colon.ensures.kept) (colon_given old named mid c.in_ok-named.ensures.gives c.in_ok-pass_colon.ensures.found) at (found_in at c.in_ok-found.found) found.kept found.found found.lexeme c.args.count c.stop_too_deep.new.self.fault c.token_start-start.result (c.holds_too_deep.ensures.whole c.if-holds_too_deep.true) c.token_start-start.ensures (c.holds_too_deep.ensures.deep c.if-holds_too_deep.true) c.stop_too_deep.ensures.kind c.stop_too_deep.ensures.range;
     }
 
@@ -400,7 +400,7 @@ parse_property-parse_value-requires g t c κs within =
     let at_old = source_on old at (g.R.Receiver.source c.scan.new.to) (kept_on old mid at kept found.kept) source in
     let follows = follows_in (found.source ∙ c.in_ok-pass_colon.ensures.source ∙ same ∙ source_later old mid kept) refl found.follows in
     let lent = subst (IsLentHere at) c.in-Some.is found.lent in
-    (omega (arith, c.around_value-around.ensures, small), (within.0, (within.1.0, (within.1.1.0, (within.1.1.1.0, (within.1.1.1.1.0, (within.1.1.1.1.1, (token, (omega (arith, c.around_value-around.ensures, small), (lent, (at_old, follows)))))))))))
+    (omega (arith, c.around_value-around.ensures, small), (within.0, (within.1.0, (within.1.1.0, (within.1.1.1.0, (within.1.1.1.1.0, (within.1.1.1.1.1.0, (within.1.1.1.1.1.1, (token, (omega (arith, c.around_value-around.ensures, small), (lent, (at_old, follows))))))))))))
 
 pub parse_array-first_item-requires-clause-source : goal.parse_array-first_item-requires-clause-source
 parse_array-first_item-requires-clause-source g t c = c.in-Ok.ensures.kept ∙ c.requires.source
@@ -522,7 +522,7 @@ pub parse_element-returns-in-Ok-element-clause-read : goal.parse_element-returns
 parse_element-returns-in-Ok-element-clause-read g t c =
     let whole = g.R.Receiver.whole in
     let old = c.args.context.now in
-    let gives : GivesAway old _ = record { scanner = refl; tokens = refl; comments = refl; apart = refl } in
+    let gives : GivesAway old _ = record { scanner = refl; decodes = refl; tokens = refl; comments = refl; apart = refl } in
     record {
       source = c.in-Ok-element.ensures.kept ∙ c.in-Ok.ensures.source;
       reached = c.in-Ok-element.ensures.reached _ (subst (λ r. g.R.Receiver.reached c.hand_string.new.to r.end) c.range-range.ensures c.in-Ok.ensures.reached);
@@ -611,43 +611,43 @@ parse_object-loop-next-smaller g t c =
 
 pub parse_array-returns-in_default-clause-refused : goal.parse_array-returns-in_default-clause-refused
 parse_array-returns-in_default-clause-refused g t c =
-    no_memory c.args.context.now c.args.context.now _ (kept_same _) c.stop_for_memory.ensures.fault c.stop_for_memory.ensures.memory (λ m q d s many starts. inl m)
+    no_memory c.args.context.now c.args.context.now _ (kept_same _) c.stop_for_memory.ensures.fault c.stop_for_memory.ensures.memory (failure _ c.in_default.not-Ok) (λ m q d s many starts. inl m)
 
 pub parse_array-returns-in_default-close_array-clause-refused : goal.parse_array-returns-in_default-close_array-clause-refused
 parse_array-returns-in_default-close_array-clause-refused g t c =
-    no_memory c.args.context.now c.loop-next.context _ c.loop-next.invariant.so_far.kept c.stop_for_memory-in_default-close_array.ensures.fault c.stop_for_memory-in_default-close_array.ensures.memory (λ m q d s many starts. inl m)
+    no_memory c.args.context.now c.loop-next.context _ c.loop-next.invariant.so_far.kept c.stop_for_memory-in_default-close_array.ensures.fault c.stop_for_memory-in_default-close_array.ensures.memory (failure _ c.in_default-close_array.not-Ok) (λ m q d s many starts. inl m)
 
 pub parse_object-returns-in_default-clause-refused : goal.parse_object-returns-in_default-clause-refused
 parse_object-returns-in_default-clause-refused g t c =
-    no_memory c.args.context.now c.args.context.now _ (kept_same _) c.stop_for_memory.ensures.fault c.stop_for_memory.ensures.memory (λ m q d s many starts. inl m)
+    no_memory c.args.context.now c.args.context.now _ (kept_same _) c.stop_for_memory.ensures.fault c.stop_for_memory.ensures.memory (failure _ c.in_default.not-Ok) (λ m q d s many starts. inl m)
 
 pub parse_object-returns-in_default-close_object-clause-refused : goal.parse_object-returns-in_default-close_object-clause-refused
 parse_object-returns-in_default-close_object-clause-refused g t c =
-    no_memory c.args.context.now c.loop-next.context _ c.loop-next.invariant.so_far.kept c.stop_for_memory-in_default-close_object.ensures.fault c.stop_for_memory-in_default-close_object.ensures.memory (λ m q d s many starts. inl m)
+    no_memory c.args.context.now c.loop-next.context _ c.loop-next.invariant.so_far.kept c.stop_for_memory-in_default-close_object.ensures.fault c.stop_for_memory-in_default-close_object.ensures.memory (failure _ c.in_default-close_object.not-Ok) (λ m q d s many starts. inl m)
 
 pub parse_element-returns-in_default-hand_string-clause-refused : goal.parse_element-returns-in_default-hand_string-clause-refused
 parse_element-returns-in_default-hand_string-clause-refused g t c =
-    no_memory c.args.context.now c.args.context.now _ (kept_same _) c.stop_for_memory.ensures.fault c.stop_for_memory.ensures.memory (λ m q d s many starts. inl m)
+    no_memory c.args.context.now c.args.context.now _ (kept_same _) c.stop_for_memory.ensures.fault c.stop_for_memory.ensures.memory (failure _ c.in_default-hand_string.not-Ok) (λ m q d s many starts. inl m)
 
 pub parse_element-returns-in_default-element-clause-refused : goal.parse_element-returns-in_default-element-clause-refused
 parse_element-returns-in_default-element-clause-refused g t c =
-    no_memory c.args.context.now c.args.context.now _ (kept_same _) c.stop_for_memory-in_default-element.ensures.fault c.stop_for_memory-in_default-element.ensures.memory (λ m q d s many starts. inl m)
+    no_memory c.args.context.now c.args.context.now _ (kept_same _) c.stop_for_memory-in_default-element.ensures.fault c.stop_for_memory-in_default-element.ensures.memory (failure _ c.in_default-element.not-Ok) (λ m q d s many starts. inl m)
 
 pub parse_element-returns-in_default-number-clause-refused : goal.parse_element-returns-in_default-number-clause-refused
 parse_element-returns-in_default-number-clause-refused g t c =
-    no_memory c.args.context.now c.args.context.now _ (kept_same _) c.stop_for_memory-in_default-number.ensures.fault c.stop_for_memory-in_default-number.ensures.memory (λ m q d s many starts. inl m)
+    no_memory c.args.context.now c.args.context.now _ (kept_same _) c.stop_for_memory-in_default-number.ensures.fault c.stop_for_memory-in_default-number.ensures.memory (failure _ c.in_default-number.not-Ok) (λ m q d s many starts. inl m)
 
 pub parse_element-returns-in_default-element-2-clause-refused : goal.parse_element-returns-in_default-element-2-clause-refused
 parse_element-returns-in_default-element-2-clause-refused g t c =
-    no_memory c.args.context.now c.args.context.now _ (kept_same _) c.stop_for_memory-in_default-element-2.ensures.fault c.stop_for_memory-in_default-element-2.ensures.memory (λ m q d s many starts. inl m)
+    no_memory c.args.context.now c.args.context.now _ (kept_same _) c.stop_for_memory-in_default-element-2.ensures.fault c.stop_for_memory-in_default-element-2.ensures.memory (failure _ c.in_default-element-2.not-Ok) (λ m q d s many starts. inl m)
 
 pub parse_element-returns-in_default-element-3-clause-refused : goal.parse_element-returns-in_default-element-3-clause-refused
 parse_element-returns-in_default-element-3-clause-refused g t c =
-    no_memory c.args.context.now c.parse_value.new.context _ c.in_ok-value-in_default.ensures.read.kept c.stop_for_memory-in_default-element-3.ensures.fault c.stop_for_memory-in_default-element-3.ensures.memory (λ m q d s many starts. inl m)
+    no_memory c.args.context.now c.parse_value.new.context _ c.in_ok-value-in_default.ensures.read.kept c.stop_for_memory-in_default-element-3.ensures.fault c.stop_for_memory-in_default-element-3.ensures.memory (failure _ c.in_default-element-3.not-Ok) (λ m q d s many starts. inl m)
 
 pub parse_property-returns-in_default-property-clause-refused : goal.parse_property-returns-in_default-property-clause-refused
 parse_property-returns-in_default-property-clause-refused g t c =
     let old = c.args.context.now in
     let kept_mid = kept_given old c.parse_name.new.context c.pass_colon.new.self c.in_ok-named.ensures.gives c.in_ok-pass_colon.ensures.kept in
     let kept_at = kept_on old c.pass_colon.new.self c.scan.new.self kept_mid c.in_ok-found.ensures.kept in
-    no_memory old c.parse_value.new.context _ (kept_on old c.scan.new.self c.parse_value.new.context kept_at c.in_ok-value.ensures.read.kept) c.stop_for_memory.ensures.fault c.stop_for_memory.ensures.memory (λ m q d s many starts. inl m)
+    no_memory old c.parse_value.new.context _ (kept_on old c.scan.new.self c.parse_value.new.context kept_at c.in_ok-value.ensures.read.kept) c.stop_for_memory.ensures.fault c.stop_for_memory.ensures.memory (failure _ c.in_default-property.not-Ok) (λ m q d s many starts. inl m)

@@ -1,12 +1,13 @@
 use Rattle.std.proofs.Common.{ap, sym, refl, ◌∙◌, None, option_map, inr}
 use Rattle.jsonc_ast.specs.Located.{leaf_at}
-use Rattle.jsonc_ast.proofs.lemmas.to_ast.MovedTokens.{last_same}
+use Rattle.jsonc_ast.proofs.lemmas.to_ast.MovedTokens.{kept_self, last_same}
 use Rattle.jsonc_scan.specs.Scanner.{start_of, end_of}
 use Rattle.jsonc_ast.specs.to_ast.Context.{last}
 use Rattle.jsonc_ast.specs.to_ast.Scanned.{unexpected_kind}
 use Rattle.jsonc_ast.proofs.lemmas.to_ast.NoValues.{no_literal_here}
 use Rattle.jsonc_ast.proofs.lemmas.to_ast.Stopping.{is_unexpected}
 use Rattle.jsonc_ast.proofs.lemmas.to_ast.Leaves.{leaf_reads}
+use Rattle.jsonc_ast.proofs.lemmas.to_ast.Scans.{failure, fault_before, starved, told_anyhow}
 use Rattle.jsonc_ast.proofs.to_ast.walk.parse_leaf.Goals as goal
 
 pub returns-in_default-found-clause-refused : goal.returns-in_default-found-clause-refused
@@ -31,3 +32,13 @@ returns-clause-found g c =
     let old = c.args.context.now in
     let made = rw c.in-Some.is at c.in-Ok.ensures.made in
     leaf_reads old (last old c.args.token) (g.R.Receiver.makes c.args.to.now c.leaf.new.to c.in-Some.value) c.range-range.result c.requires.token made c.range-range.ensures
+
+pub returns-in_default-clause-fault : goal.returns-in_default-clause-fault
+returns-in_default-clause-fault g c =
+    let old = c.args.context.now in
+    starved old c.leaf.new.context _ (kept_self old c.leaf.new.context c.leaf.ensures.gives) c.stop_for_memory.ensures.fault (inr (failure _ c.in_default.not-Ok))
+
+pub returns-in_default-found-clause-fault : goal.returns-in_default-found-clause-fault
+returns-in_default-found-clause-fault g c =
+    let old = c.args.context.now in
+    fault_before old c.leaf.new.context _ (kept_self old c.leaf.new.context c.leaf.ensures.gives) (told_anyhow c.stop_here.ensures.fault)

@@ -1,6 +1,5 @@
 use Rattle.std.proofs.Common.{◌∙◌, [], ap, inr, refl, subst, sym, arith}
 use Rattle.jsonc_ast.specs.to_ast.Handed.{at_place}
-use Rattle.jsonc_text.specs.Faults.{IsFault}
 use Rattle.jsonc_ast.specs.Located.{value_at}
 use Rattle.jsonc_ast.specs.to_ast.Context.{last, found_in}
 use Rattle.jsonc_ast.specs.to_ast.Reached.{document}
@@ -9,7 +8,7 @@ use Rattle.jsonc_ast.proofs.lemmas.to_ast.Leaves.{empty_document, value_document
 use Rattle.jsonc_ast.proofs.lemmas.to_ast.NoValues.{value_read, document_no_token, document_no_value, document_no_end, document_goes_on, document_from_start}
 use Rattle.jsonc_ast.proofs.lemmas.to_ast.Refusals.{on_err, still}
 use Rattle.jsonc_ast.proofs.lemmas.to_ast.Following.{follows_in, source_on}
-use Rattle.jsonc_ast.proofs.lemmas.to_ast.Scans.{kept_on}
+use Rattle.jsonc_ast.proofs.lemmas.to_ast.Scans.{fault_before, kept_on, told_anyhow}
 use Rattle.jsonc_ast.proofs.lemmas.to_ast.OpenContainers.{root_stops, end_stops, second_stops, text_stops}
 use Rattle.jsonc_ast.proofs.lemmas.to_ast.Stopping.{stops_here}
 use Rattle.jsonc_ast.proofs.lemmas.to_ast.Walks.{root_counts, root_fits}
@@ -122,18 +121,22 @@ returns-in_err-token-clause-fault g c = on_err c.from_residual.result c.in_err-t
 pub returns-in_err-value-clause-fault : goal.returns-in_err-value-clause-fault
 returns-in_err-value-clause-fault g c =
     let e = c.parse_value.new.context.fault in
-    on_err c.from_residual-in_err-value.result (subst (λ b. IsFault b e) c.in_ok-token.ensures.kept.text c.in_err-value.ensures.refused.fault)
+    on_err c.from_residual-in_err-value.result (fault_before c.args.context.now c.scan.new.self e c.in_ok-token.ensures.kept c.in_err-value.ensures.refused.fault)
 
 pub returns-in_err-scan-clause-fault : goal.returns-in_err-scan-clause-fault
 returns-in_err-scan-clause-fault g c =
     let e = c.scan-2.new.self.fault in
     on_err c.from_residual-in_err-scan.result
-    (subst (λ b. IsFault b e) (c.in_ok-value.ensures.read.kept.text ∙ c.in_ok-token.ensures.kept.text) c.in_err-scan.ensures.fault)
+    (fault_before c.args.context.now c.parse_value.new.context e (kept_on c.args.context.now c.scan.new.self c.parse_value.new.context c.in_ok-token.ensures.kept c.in_ok-value.ensures.read.kept) c.in_err-scan.ensures.fault)
 
 pub returns-in_default-2-clause-fault : goal.returns-in_default-2-clause-fault
 returns-in_default-2-clause-fault g c =
     let e = c.stop_here.new.self.fault in
-    subst (λ b. IsFault b e) (c.in_ok-scan.ensures.kept.text ∙ c.in_ok-value.ensures.read.kept.text ∙ c.in_ok-token.ensures.kept.text) c.stop_here.ensures.fault
+    let old = c.args.context.now in
+    let now = c.scan.new.self in
+    let mid = c.parse_value.new.context in
+    let end = c.scan-2.new.self in
+    fault_before old end e (kept_on old now end c.in_ok-token.ensures.kept (kept_on now mid end c.in_ok-value.ensures.read.kept c.in_ok-scan.ensures.kept)) (told_anyhow c.stop_here.ensures.fault)
 
 pub returns-in_default-clause-end : goal.returns-in_default-clause-end
 returns-in_default-clause-end g c = subst (IsThere c.scan.new.self.scanner) (ap (found_in c.scan.new.self) c.in_default.is) c.in_ok-token.ensures.found.1

@@ -3,6 +3,7 @@ use Rattle.jsonc_edit.specs.commas.InTurn.{holders}
 use Rattle.jsonc_edit.proofs.lemmas.commas.UnsoundDocuments.{sets_anyway}
 use Rattle.jsonc_edit.proofs.lemmas.commas.Documents.{are_holders, holders_stay, leaves_set, sets_all, sets_in_part, sets_once}
 use Rattle.jsonc_edit.proofs.lemmas.commas.NoneLeft.{leaves_none, leaves_none_anywhere}
+use Rattle.jsonc_edit.proofs.lemmas.commas.NoneMissing.{leaves_all}
 use Rattle.jsonc_edit.proofs.commas.laws.commas_are_set.Goals as goal
 
 pub returns-clause-all : goal.returns-clause-all
@@ -28,3 +29,6 @@ returns-clause-bare c = leaves_none
 
 pub returns-clause-document : goal.returns-clause-document
 returns-clause-document c = leaves_none_anywhere
+
+pub returns-clause-full : goal.returns-clause-full
+returns-clause-full c = leaves_all

@@ -12,12 +12,12 @@ use Rattle.jsonc_layout.proofs.lemmas.to_input.Leaves.{not_property}
 use Rattle.jsonc_layout.proofs.lemmas.to_input.Nodes.{array_taken, object_taken, held_taken, nothing_held, member_taken, nameless_passed, valueless_passed, other_passed, pairs_taken}
 use Rattle.jsonc_layout.proofs.to_input.taken.+take.Goals as goal
 
-pub take-returns-in_ok-take_elements-in-Array : goal.take-returns-in_ok-take_elements-in-Array
-take-returns-in_ok-take_elements-in-Array g t c =
+pub take-returns-in_ok-take_elements-in-Array-clause-taken : goal.take-returns-in_ok-take_elements-in-Array-clause-taken
+take-returns-in_ok-take_elements-in-Array-clause-taken g t c =
     array_taken c.args.tree.now.nodes c.args.node c.in_ok-take_elements-in-Array.field-0.items c.from.result (ap content_of (sym c.in-Array.is) ∙ c.kind.ensures) c.in_ok-take_elements-in-Array.ensures c.from.ensures
 
-pub take-returns-in_ok-take_properties-in-Object : goal.take-returns-in_ok-take_properties-in-Object
-take-returns-in_ok-take_properties-in-Object g t c =
+pub take-returns-in_ok-take_properties-in-Object-clause-taken : goal.take-returns-in_ok-take_properties-in-Object-clause-taken
+take-returns-in_ok-take_properties-in-Object-clause-taken g t c =
     object_taken c.args.tree.now.nodes c.args.node c.in_ok-take_properties-in-Object.field-0.items c.from-in-Object.result (ap content_of (sym c.in-Object.is) ∙ c.kind.ensures) c.in_ok-take_properties-in-Object.ensures c.from-in-Object.ensures
 
 pub take_elements-loop-child-init : goal.take_elements-loop-child-init
@@ -38,7 +38,7 @@ take_elements-loop-child-preserved g t c =
     let row : List _ = children_at ns c.args.array in
     let so_far = c.loop-child.invariant in
     let step = given_at so_far.0 row c.loop-child.child-iterator c.in-Some.child c.next.new.self so_far.1 c.in-Some.ensures.steps in
-    let child = subst (λ m. IsTakenAt ns m c.in_ok-value.field-0) step.1 c.in_ok-value.ensures in
+    let child = subst (λ m. IsTakenAt ns m c.in_ok-value.field-0) step.1 c.in_ok-value.ensures.taken in
     (so_far.0 + 1, step.2, nothing_more_taken ns row so_far.0 c.loop-child.elements.items c.in_ok-value.field-0 step.0 so_far.2 child c.in_default.is)
 
 pub take_elements-loop-child-preserved-in-Continue-branch-3 : goal.take_elements-loop-child-preserved-in-Continue-branch-3
@@ -47,7 +47,7 @@ take_elements-loop-child-preserved-in-Continue-branch-3 g t c =
     let row : List _ = children_at ns c.args.array in
     let so_far = c.loop-child.invariant in
     let step = given_at so_far.0 row c.loop-child.child-iterator c.in-Some.child c.next.new.self so_far.1 c.in-Some.ensures.steps in
-    let child = subst (λ m. IsTakenAt ns m c.in_ok-value.field-0) step.1 c.in_ok-value.ensures in
+    let child = subst (λ m. IsTakenAt ns m c.in_ok-value.field-0) step.1 c.in_ok-value.ensures.taken in
     (so_far.0 + 1, step.2, one_more_taken ns row so_far.0 c.loop-child.elements.items c.push.new.self.items c.in_ok-value.field-0 c.in-Some-2.value step.0 so_far.2 child c.in-Some-2.is c.in_ok-push.ensures.items)
 
 pub take_elements-returns : goal.take_elements-returns
@@ -63,7 +63,7 @@ take_held-take-requires g t c κs within =
     (omega (arith, c.decreases, smaller), (within.0, (within.1, c.in-Some.ensures.in_tree)))
 
 pub take_held-returns-in-Some : goal.take_held-returns-in-Some
-take_held-returns-in-Some g t c = held_taken c.args.tree.now.nodes c.args.node c.in-Some.value _ (sym c.in-Some.ensures.value) c.take.ensures
+take_held-returns-in-Some g t c = held_taken c.args.tree.now.nodes c.args.node c.in-Some.value _ (sym c.in-Some.ensures.value) c.take.ensures.taken
 
 pub take_held-returns-in-None : goal.take_held-returns-in-None
 take_held-returns-in-None g t c = nothing_held c.args.tree.now.nodes c.args.node c.requires.holds (sym c.in-None.ensures.value)
@@ -117,8 +117,8 @@ take_property-returns-in_default-2 g t c =
 pub take_property-returns-in-Some-2 : goal.take_property-returns-in-Some-2
 take_property-returns-in-Some-2 g t c =
     let name = subst (NameReads (HasName c.args.tree.now.nodes c.args.child)) c.in-Some.is c.in_ok-name.ensures.name in
-    member_taken c.args.tree.now.nodes c.args.child c.in-Some.name c.in-Some-2.value c.in_ok-value.field-0 (ap content_of (sym c.in-Property.is) ∙ c.kind.ensures) name c.in_ok-value.ensures c.in-Some-2.is
+    member_taken c.args.tree.now.nodes c.args.child c.in-Some.name c.in-Some-2.value c.in_ok-value.field-0 (ap content_of (sym c.in-Property.is) ∙ c.kind.ensures) name c.in_ok-value.ensures.taken c.in-Some-2.is
 
 pub take_property-returns-in-None : goal.take_property-returns-in-None
 take_property-returns-in-None g t c =
-    valueless_passed c.args.tree.now.nodes c.args.child c.in_ok-value.field-0 (ap content_of (sym c.in-Property.is) ∙ c.kind.ensures) c.in_ok-value.ensures c.in-None.is
+    valueless_passed c.args.tree.now.nodes c.args.child c.in_ok-value.field-0 (ap content_of (sym c.in-Property.is) ∙ c.kind.ensures) c.in_ok-value.ensures.taken c.in-None.is

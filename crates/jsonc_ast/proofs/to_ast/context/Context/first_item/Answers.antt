@@ -7,7 +7,7 @@ use Rattle.jsonc_ast.specs.to_ast.Context.{options_in}
 use Rattle.jsonc_ast.specs.to_ast.Refusals.{after}
 use Rattle.jsonc_ast.proofs.lemmas.to_ast.Refusals.{on_err, still, refuted, no_token_lexeme, nowhere_first, nothing_at_end, only_first}
 use Rattle.jsonc_ast.proofs.lemmas.to_ast.Tokens.{open_before, end_here, closes_none}
-use Rattle.jsonc_text.specs.Faults.{IsFault}
+use Rattle.jsonc_ast.proofs.lemmas.to_ast.Scans.{fault_before, told_anyhow}
 use Rattle.std.proofs.Common.{subst}
 use Rattle.jsonc_ast.specs.to_ast.Handed.{at_place}
 use Rattle.jsonc_ast.proofs.to_ast.context.Context.first_item.Goals as goal
@@ -51,7 +51,7 @@ returns-in_default-clause-error g c =
     (open_before old new c.args.container c.args.start c.stop_in.new.self.fault kept (c.stop_in.ensures.error (end_here old new (found_in c.scan.new.self c.in_ok-first.field-0) kept read.found read.lexeme (ap (found_in c.scan.new.self) c.in_default.is)))) (first c.args.container) (λ whole q. refl)
 
 pub returns-in_default-clause-fault : goal.returns-in_default-clause-fault
-returns-in_default-clause-fault g c = subst (λ b. IsFault b c.stop_in.new.self.fault) c.in_ok-first.ensures.kept.text c.stop_in.ensures.fault
+returns-in_default-clause-fault g c = fault_before c.args.self.now c.scan.new.self _ c.in_ok-first.ensures.kept (told_anyhow c.stop_in.ensures.fault)
 
 pub scan-requires-clause-behind : goal.scan-requires-clause-behind
 scan-requires-clause-behind g c = at_place c.requires.reached

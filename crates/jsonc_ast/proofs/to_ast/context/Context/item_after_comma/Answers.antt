@@ -7,7 +7,7 @@ use Rattle.jsonc_ast.specs.to_ast.Context.{options_in}
 use Rattle.jsonc_ast.specs.to_ast.Refusals.{after}
 use Rattle.jsonc_ast.proofs.lemmas.to_ast.Refusals.{on_err, still, refuted, no_token_lexeme, nowhere_comma, nothing_at_end, only_after_comma, trailing_refused}
 use Rattle.jsonc_ast.proofs.lemmas.to_ast.Tokens.{open_before, end_here, closes_none}
-use Rattle.jsonc_text.specs.Faults.{IsFault}
+use Rattle.jsonc_ast.proofs.lemmas.to_ast.Scans.{fault_before, told_anyhow}
 use Rattle.std.proofs.Common.{subst}
 use Rattle.jsonc_ast.proofs.to_ast.context.Context.item_after_comma.Goals as goal
 
@@ -65,7 +65,7 @@ returns-then-not-self-clause-error g c = λ one q a from.
     (ap (λ p. p.trailing_commas) (sym (new.same ∙ c.in_ok-token.ensures.kept.options)) ∙ c.if-not-self.true) c.stop_at.ensures.kind (c.stop_at.ensures.range ∙ c.range-comma.ensures) (is_some c.args.start) (container c.args.container a ∷ q) one
 
 pub returns-in_default-clause-fault : goal.returns-in_default-clause-fault
-returns-in_default-clause-fault g c = subst (λ b. IsFault b c.stop_in.new.self.fault) c.in_ok-token.ensures.kept.text c.stop_in.ensures.fault
+returns-in_default-clause-fault g c = fault_before c.args.self.now c.scan.new.self _ c.in_ok-token.ensures.kept (told_anyhow c.stop_in.ensures.fault)
 
 pub returns-then-not-self-clause-fault : goal.returns-then-not-self-clause-fault
-returns-then-not-self-clause-fault g c = subst (λ b. IsFault b c.stop_at.new.self.fault) c.in_ok-token.ensures.kept.text c.stop_at.ensures.fault
+returns-then-not-self-clause-fault g c = fault_before c.args.self.now c.scan.new.self _ c.in_ok-token.ensures.kept (told_anyhow c.stop_at.ensures.fault)

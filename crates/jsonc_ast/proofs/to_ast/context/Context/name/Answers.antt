@@ -11,7 +11,7 @@ use Rattle.jsonc_ast.proofs.to_ast.context.Context.name.Goals as goal
 pub returns-else-not-self : goal.returns-else-not-self
 returns-else-not-self g c =
     let e : loose_text (last c.args.self.now c.args.token) ≡ Some (chars c.in-Some.value.now) = cc c.in-Some.ensures in
-    record { gives = record { scanner = refl; tokens = refl; comments = refl; apart = refl }; name = loose_name_here c.args.self.now (last c.args.self.now c.args.token) c.requires.token (chars c.in-Some.value.now) c.if-not-self.false e; range = c.range-range.ensures; written = λ lent. word_written c.args.self.now (last c.args.self.now c.args.token) (record { range = c.range-range.result; value = c.in-Some.value }) c.requires.token e c.range-range.ensures; refused = tt; fault = tt; error = tt }
+    record { gives = record { scanner = refl; decodes = refl; tokens = refl; comments = refl; apart = refl }; name = loose_name_here c.args.self.now (last c.args.self.now c.args.token) c.requires.token (chars c.in-Some.value.now) c.if-not-self.false e; range = c.range-range.ensures; written = λ lent. word_written c.args.self.now (last c.args.self.now c.args.token) (record { range = c.range-range.result; value = c.in-Some.value }) c.requires.token e c.range-range.ensures; refused = tt; fault = tt; error = tt }
 
 pub returns-in_default-loose_name-clause-refused : goal.returns-in_default-loose_name-clause-refused
 returns-in_default-loose_name-clause-refused g c =

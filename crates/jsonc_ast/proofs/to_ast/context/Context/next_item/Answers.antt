@@ -13,7 +13,7 @@ use Rattle.jsonc_ast.specs.to_ast.Refusals.{after}
 use Rattle.jsonc_ast.proofs.lemmas.to_ast.Collecting.{collects_on, ok_collects}
 use Rattle.jsonc_ast.proofs.lemmas.to_ast.Refusals.{on_err, ok_some, err_on, still, refuted, no_token_lexeme, nowhere_next, nothing_at_end, nothing_next, next_after_comma, missing_refused, only_next}
 use Rattle.jsonc_ast.proofs.lemmas.to_ast.Tokens.{open_before, end_here, closes_none, comes_after_ok}
-use Rattle.jsonc_text.specs.Faults.{IsFault}
+use Rattle.jsonc_ast.proofs.lemmas.to_ast.Scans.{fault_before, told_anyhow}
 use Rattle.std.proofs.Common.{subst, OnErr}
 use Rattle.jsonc_ast.proofs.lemmas.to_ast.Scans.{kept_on}
 use Rattle.jsonc_ast.specs.to_ast.Handed.{at_place}
@@ -177,22 +177,22 @@ returns-then-has_next-clause-error g c =
     c.item_after_comma.ensures.error
 
 pub returns-in_default-clause-fault : goal.returns-in_default-clause-fault
-returns-in_default-clause-fault g c = subst (λ b. IsFault b c.stop_in.new.self.fault) c.in_ok-token.ensures.kept.text c.stop_in.ensures.fault
+returns-in_default-clause-fault g c = fault_before c.args.self.now c.scan.new.self _ c.in_ok-token.ensures.kept (told_anyhow c.stop_in.ensures.fault)
 
 pub returns-then-not-self-clause-fault : goal.returns-then-not-self-clause-fault
-returns-then-not-self-clause-fault g c = subst (λ b. IsFault b c.stop_for_comma.new.self.fault) c.in_ok-token.ensures.kept.text c.stop_for_comma.ensures.fault
+returns-then-not-self-clause-fault g c = fault_before c.args.self.now c.scan.new.self _ c.in_ok-token.ensures.kept (told_anyhow c.stop_for_comma.ensures.fault)
 
 pub returns-then-is_comma-clause-kept : goal.returns-then-is_comma-clause-kept
 returns-then-is_comma-clause-kept g c = ok_collects c.item_after_comma-then-is_comma.result (kept_on c.args.self.now c.scan.new.self c.item_after_comma-then-is_comma.new.self c.in_ok-token.ensures.kept) c.item_after_comma-then-is_comma.ensures.kept
 
 pub returns-then-is_comma-clause-fault : goal.returns-then-is_comma-clause-fault
-returns-then-is_comma-clause-fault g c = subst (λ b. OnErr c.item_after_comma-then-is_comma.result (IsFault b c.item_after_comma-then-is_comma.new.self.fault)) c.in_ok-token.ensures.kept.text c.item_after_comma-then-is_comma.ensures.fault
+returns-then-is_comma-clause-fault g c = err_on c.item_after_comma-then-is_comma.result (fault_before c.args.self.now c.scan.new.self _ c.in_ok-token.ensures.kept) c.item_after_comma-then-is_comma.ensures.fault
 
 pub returns-then-has_next-clause-kept : goal.returns-then-has_next-clause-kept
 returns-then-has_next-clause-kept g c = ok_collects c.item_after_comma.result (kept_on c.args.self.now c.pass_next_comma.new.self c.item_after_comma.new.self c.pass_next_comma.ensures.kept) c.item_after_comma.ensures.kept
 
 pub returns-then-has_next-clause-fault : goal.returns-then-has_next-clause-fault
-returns-then-has_next-clause-fault g c = subst (λ b. OnErr c.item_after_comma.result (IsFault b c.item_after_comma.new.self.fault)) c.pass_next_comma.ensures.kept.text c.item_after_comma.ensures.fault
+returns-then-has_next-clause-fault g c = err_on c.item_after_comma.result (fault_before c.args.self.now c.pass_next_comma.new.self _ c.pass_next_comma.ensures.kept) c.item_after_comma.ensures.fault
 
 pub scan-requires-clause-behind : goal.scan-requires-clause-behind
 scan-requires-clause-behind g c = at_place c.requires.reached

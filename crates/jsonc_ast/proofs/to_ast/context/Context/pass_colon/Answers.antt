@@ -4,7 +4,7 @@ use Rattle.std.proofs.Common.{inr}
 use Rattle.jsonc_ast.specs.to_ast.Reached.{colon}
 use Rattle.jsonc_ast.proofs.lemmas.to_ast.Stopping.{stops_here, colon_end_stops, colon_stops}
 use Rattle.jsonc_ast.proofs.lemmas.to_ast.Refusals.{on_err, still, refuted, no_token_colon, no_colon_at_end, no_colon}
-use Rattle.jsonc_text.specs.Faults.{IsFault}
+use Rattle.jsonc_ast.proofs.lemmas.to_ast.Scans.{fault_before, told_anyhow}
 use Rattle.std.proofs.Common.{subst}
 use Rattle.std.proofs.Common.{refl}
 use Rattle.jsonc_ast.specs.to_ast.Context.{text_in, options_in}
@@ -46,10 +46,10 @@ returns-then-not-is_colon-clause-error g c =
     (refuted c.is_colon.ensures.1 c.if-not-is_colon.true) c.stop_here-then-not-is_colon.ensures.kind c.stop_here-then-not-is_colon.ensures.range
 
 pub returns-in_default-clause-fault : goal.returns-in_default-clause-fault
-returns-in_default-clause-fault g c = subst (λ b. IsFault b c.stop_here.new.self.fault) c.in_ok-token.ensures.kept.text c.stop_here.ensures.fault
+returns-in_default-clause-fault g c = fault_before c.args.self.now c.scan.new.self _ c.in_ok-token.ensures.kept (told_anyhow c.stop_here.ensures.fault)
 
 pub returns-then-not-is_colon-clause-fault : goal.returns-then-not-is_colon-clause-fault
-returns-then-not-is_colon-clause-fault g c = subst (λ b. IsFault b c.stop_here-then-not-is_colon.new.self.fault) c.in_ok-token.ensures.kept.text c.stop_here-then-not-is_colon.ensures.fault
+returns-then-not-is_colon-clause-fault g c = fault_before c.args.self.now c.scan.new.self _ c.in_ok-token.ensures.kept (told_anyhow c.stop_here-then-not-is_colon.ensures.fault)
 
 pub scan-requires-clause-behind : goal.scan-requires-clause-behind
 scan-requires-clause-behind g c = at_place c.requires.reached

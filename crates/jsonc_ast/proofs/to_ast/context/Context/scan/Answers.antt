@@ -1,4 +1,4 @@
-use Rattle.std.proofs.Common.{Some, sym, subst}
+use Rattle.std.proofs.Common.{Some, inr, sym, subst}
 use Rattle.jsonc_text.specs.Gaps.{Gap}
 use Rattle.jsonc_scan.specs.Scanner.{end_of}
 use Rattle.jsonc_ast.specs.Located.{Between}
@@ -8,7 +8,7 @@ use Rattle.jsonc_ast.proofs.lemmas.to_ast.MovedTokens.{collects_self, kept_self}
 use Rattle.jsonc_ast.proofs.lemmas.to_ast.PassedGaps.{reaches_token}
 use Rattle.jsonc_ast.proofs.lemmas.to_ast.Plains.{finds_before, follows_on, no_token_before, on_ok, told_before}
 use Rattle.jsonc_ast.proofs.lemmas.to_ast.Refusals.{err_on, ok_of, still}
-use Rattle.jsonc_ast.proofs.lemmas.to_ast.Scans.{fault_before, kept_on}
+use Rattle.jsonc_ast.proofs.lemmas.to_ast.Scans.{failure, fault_before, kept_on, starved, told_anyhow}
 use Rattle.jsonc_ast.proofs.to_ast.context.Context.scan.Goals as goal
 
 pub returns-in-Some-clause-kept : goal.returns-in-Some-clause-kept
@@ -87,6 +87,10 @@ returns-in-None-clause-refused g c =
     let gap = subst (λ s. Between (text_in old) (Gap (options_in old)) (token_end old) (end_of s)) (sym gives.scanner) c.in-Ok.ensures.gap in
     err_on r (still (no_token_before old on kept gap)) c.scan_on.ensures.refused
 
+pub returns-in_default-clause-fault : goal.returns-in_default-clause-fault
+returns-in_default-clause-fault g c =
+    starved c.args.self.now c.pass_gap.new.self _ c.pass_gap.ensures.kept c.stop_for_memory.ensures.fault (inr (failure _ c.in_default.not-Ok))
+
 pub returns-in-None-clause-fault : goal.returns-in-None-clause-fault
 returns-in-None-clause-fault g c =
     let old = c.args.self.now in
@@ -96,7 +100,7 @@ returns-in-None-clause-fault g c =
     let gives = c.in-None.ensures.none in
     let kept = kept_on old c.pass_gap.new.self on c.pass_gap.ensures.kept (kept_self c.pass_gap.new.self on gives) in
     let gap = subst (λ s. Between (text_in old) (Gap (options_in old)) (token_end old) (end_of s)) (sym gives.scanner) c.in-Ok.ensures.gap in
-    err_on r (fault_before old on new.fault kept) c.scan_on.ensures.fault
+    err_on r (λ h. fault_before old on new.fault kept (told_anyhow h)) c.scan_on.ensures.fault
 
 pub returns-in-None-clause-error : goal.returns-in-None-clause-error
 returns-in-None-clause-error g c =

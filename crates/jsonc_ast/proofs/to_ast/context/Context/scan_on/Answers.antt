@@ -1,15 +1,15 @@
 use Rattle.jsonc_text.specs.Places.{is_comment}
-use Rattle.std.proofs.Common.{◌≡◌, false, sym, ap, ◌∙◌, refl, subst, Some, is_some, option_map, IfSome}
+use Rattle.std.proofs.Common.{◌≡◌, false, inl, sym, ap, ◌∙◌, refl, subst, Some, is_some, option_map, IfSome}
 use Rattle.jsonc_text.specs.Faults.{IsFault}
 use Rattle.jsonc_scan.specs.Scanner.{text_of}
 use Rattle.jsonc_ast.specs.to_ast.Context.{text_in}
 use Rattle.jsonc_scan.specs.Scanner.{scanned_seen, IsLentSeen}
 use Rattle.jsonc_ast.proofs.lemmas.to_ast.MovedTokens.{seen_same}
-use Rattle.jsonc_ast.proofs.lemmas.to_ast.Scans.{scan_found, kept_step, passing_on, passing_start}
+use Rattle.jsonc_ast.proofs.lemmas.to_ast.Scans.{asks_before, decoding_asks, kept_step, noting_asks, on_left, passing_on, passing_start, scan_found}
 use Rattle.jsonc_ast.proofs.lemmas.to_ast.Collecting.{collects_end, collects_nothing, collects_on_lexeme}
 use Rattle.jsonc_ast.proofs.lemmas.to_ast.Refusals.{on_err, scan_refused, comment_refused}
 use Rattle.jsonc_ast.specs.to_ast.Faults.{StopsAnyhow}
-use Rattle.jsonc_ast.specs.to_ast.Refusals.{NoTokenAfter, OutOfMemoryOr}
+use Rattle.jsonc_ast.specs.to_ast.Refusals.{IsFaultHere, NoTokenAfter, OutOfMemoryOr}
 use Rattle.jsonc_ast.proofs.lemmas.to_ast.Stopping.{scan_stops, comment_stops}
 use Rattle.jsonc_ast.proofs.to_ast.context.Context.scan_on.Goals as goal
 
@@ -28,7 +28,7 @@ returns-then-not-is_comment-clause-found g c =
 
 pub loop-found-preserved : goal.loop-found-preserved
 loop-found-preserved g c =
-    passing_on c.args.self.now c.loop-found.self c.pass_comment.new.self c.step.new.self (option_map (scanned_seen c.step.new.self c.step.new.content) c.in-Ok.found) (scanned_seen c.step.new.self c.step.new.content c.in-Some.token) (ap (option_map (scanned_seen c.step.new.self c.step.new.content)) c.in-Some.is) c.in_ok-pass_comment.ensures.scanner c.in_ok-pass_comment.ensures.tokens c.in_ok-pass_comment.ensures.comments c.in_ok-pass_comment.ensures.apart
+    passing_on c.args.self.now c.loop-found.self c.pass_comment.new.self c.step.new.self (option_map (scanned_seen c.step.new.self c.step.new.content) c.in-Ok.found) (scanned_seen c.step.new.self c.step.new.content c.in-Some.token) (ap (option_map (scanned_seen c.step.new.self c.step.new.content)) c.in-Some.is) c.in_ok-pass_comment.ensures.scanner c.in_ok-pass_comment.ensures.tokens c.in_ok-pass_comment.ensures.comments c.in_ok-pass_comment.ensures.apart c.in_ok-pass_comment.ensures.decodes
     c.loop-found.invariant c.step.ensures.blanks c.in-Ok.ensures.found (sym c.is_comment.ensures ∙ c.if-not-is_comment.false) c.in_ok-pass_comment.ensures.allowed c.in_ok-pass_comment.ensures.collected c.in_ok-pass_comment.ensures.omitted
     (c.in_ok-pass_comment.ensures.lent (subst (λ f. IfSome f (IsLentSeen c.step.new.self c.step.new.content)) c.in-Some.is c.in-Ok.ensures.lent))
     (c.in_ok-pass_comment.ensures.noted (sym c.is_comment.ensures ∙ c.if-not-is_comment.false))
@@ -79,34 +79,53 @@ returns-in_err-pass_comment-clause-error g c =
     (sym c.is_comment.ensures ∙ c.if-not-is_comment.false) c.in_err-pass_comment.ensures.refused)
 
 pub returns-in_default-clause-kept : goal.returns-in_default-clause-kept
-returns-in_default-clause-kept g c = kept_step c.args.self.now c.loop-found.self _ c.step.new.self c.loop-found.invariant c.step.ensures.blanks refl refl refl refl
+returns-in_default-clause-kept g c = kept_step c.args.self.now c.loop-found.self _ c.step.new.self c.loop-found.invariant c.step.ensures.blanks refl refl refl refl refl
 
 pub returns-then-not-collects-clause-kept : goal.returns-then-not-collects-clause-kept
-returns-then-not-collects-clause-kept g c = kept_step c.args.self.now c.loop-found.self _ c.step.new.self c.loop-found.invariant c.step.ensures.blanks refl refl refl refl
+returns-then-not-collects-clause-kept g c = kept_step c.args.self.now c.loop-found.self _ c.step.new.self c.loop-found.invariant c.step.ensures.blanks refl refl refl refl refl
 
 pub returns-then-not-is_comment-clause-kept : goal.returns-then-not-is_comment-clause-kept
 returns-then-not-is_comment-clause-kept g c =
     let taken = c.collect.ensures in
     let ended = c.end_gap.ensures in
-    kept_step c.args.self.now c.loop-found.self c.end_gap.new.self c.step.new.self c.loop-found.invariant c.step.ensures.blanks (ended.scanner ∙ taken.scanner) (ap is_some ended.tokens ∙ taken.tokens) (ended.comments ∙ taken.comments) (ended.apart ∙ ap is_some taken.apart)
+    kept_step c.args.self.now c.loop-found.self c.end_gap.new.self c.step.new.self c.loop-found.invariant c.step.ensures.blanks (ended.scanner ∙ taken.scanner) (ap is_some ended.tokens ∙ taken.tokens) (ended.comments ∙ taken.comments) (ended.apart ∙ ap is_some taken.apart) (ended.decodes ∙ taken.decodes)
 
 pub returns-in-Err-clause-fault : goal.returns-in-Err-clause-fault
 returns-in-Err-clause-fault g c =
-    subst (IsFault (text_in c.args.self.now)) (sym c.stop.ensures) (subst (λ b. IsFault b c.in-Err.fault) (c.step.ensures.blanks.text ∙ c.loop-found.invariant.kept.text) c.in-Err.ensures.fault)
+    let read = c.in-Err.ensures in
+    let kept = c.loop-found.invariant.kept in
+    subst (IsFaultHere c.args.self.now ⊥) (sym c.stop.ensures) (record {
+      of_text = subst (λ b. IsFault b c.in-Err.fault) (read.blanks.text ∙ kept.text) read.fault;
+      memory = λ m. inl (asks_before kept (decoding_asks c.loop-found.self (read.wanted m)));
+    })
 
 pub returns-in_default-collect-clause-fault : goal.returns-in_default-collect-clause-fault
 returns-in_default-collect-clause-fault g c =
-    subst (λ b. IsFault b c.stop_for_memory.new.self.fault) (ap text_of c.collect.ensures.scanner ∙ c.step.ensures.blanks.text ∙ c.loop-found.invariant.kept.text) c.stop_for_memory.ensures.fault
+    let kept = c.loop-found.invariant.kept in
+    let taken = c.collect.ensures in
+    record {
+      of_text = subst (λ b. IsFault b c.stop_for_memory.new.self.fault) (ap text_of taken.scanner ∙ c.step.ensures.blanks.text ∙ kept.text) c.stop_for_memory.ensures.fault;
+      memory = λ m. inl (asks_before kept (decoding_asks c.loop-found.self c.in_default-collect.ensures.memory));
+    }
 
 pub returns-in_default-end_gap-clause-fault : goal.returns-in_default-end_gap-clause-fault
 returns-in_default-end_gap-clause-fault g c =
-    subst (λ b. IsFault b c.stop_for_memory-in_default-end_gap.new.self.fault) (ap text_of (c.end_gap.ensures.scanner ∙ c.collect.ensures.scanner) ∙ c.step.ensures.blanks.text ∙ c.loop-found.invariant.kept.text) c.stop_for_memory-in_default-end_gap.ensures.fault
+    let kept = c.loop-found.invariant.kept in
+    let taken = c.collect.ensures in
+    record {
+      of_text = subst (λ b. IsFault b c.stop_for_memory-in_default-end_gap.new.self.fault) (ap text_of (c.end_gap.ensures.scanner ∙ taken.scanner) ∙ c.step.ensures.blanks.text ∙ kept.text) c.stop_for_memory-in_default-end_gap.ensures.fault;
+      memory = λ m. inl (asks_before kept (noting_asks c.loop-found.self (ap is_some (sym taken.apart) ∙ c.in_default-end_gap.ensures.memory)));
+    }
 
 pub returns-in_err-pass_comment-clause-fault : goal.returns-in_err-pass_comment-clause-fault
 returns-in_err-pass_comment-clause-fault g c =
     let e = c.pass_comment.new.self.fault in
-    on_err c.from_residual.result
-    (subst (λ b. IsFault b e) (c.step.ensures.blanks.text ∙ c.loop-found.invariant.kept.text) c.in_err-pass_comment.ensures.fault)
+    let kept = c.loop-found.invariant.kept in
+    let told = c.in_err-pass_comment.ensures.fault in
+    on_err c.from_residual.result (record {
+      of_text = subst (λ b. IsFault b e) (c.step.ensures.blanks.text ∙ kept.text) told.of_text;
+      memory = λ m. on_left (asks_before kept) (told.memory m);
+    })
 
 pub returns-then-not-collects-clause-lent : goal.returns-then-not-collects-clause-lent
 returns-then-not-collects-clause-lent g c = subst (λ f. IfSome f (IsLentSeen c.step.new.self c.step.new.content)) c.in-Some.is c.in-Ok.ensures.lent

@@ -1,0 +1,62 @@
+-- What is said of a text when an entry comes into a row, or when the row is put on several lines.
+use Rattle.std.specs.Prelude.{ℕ, ◌≡◌, ◌⊎◌, Bool, not, ◌&&◌, ◌||◌, ◌==◌, List, [], ◌∷◌, ◌++◌, length, IsTrue}
+use Rattle.jsonc_text.specs.Options.{Options}
+use Rattle.jsonc_text.specs.Text.{is_line_end}
+use Rattle.jsonc_text.specs.Gaps.{Gap, is_blank}
+use Rattle.jsonc_text.specs.Paths.{Kind, an_array, an_object, opening, closing, IsEntry, Value, Entry}
+use Rattle.jsonc_text.specs.Entries.{Named, of, Becomes}
+use Rattle.jsonc_text.specs.Documents.{Document, IsLineEnd, AreBlanks, InLine, Without, written, Come, Inside}
+
+-- blanks alone come, and leave, and of those that leave none ends a line
+abbrev pub is_space : ℕ → Bool
+is_space c = is_blank c && not (is_line_end c)
+
+abbrev pub Reflows : List ℕ → List ℕ → Type 0
+Reflows x y = (z : List ℕ) × Without is_space x z × Without is_blank y z
+
+-- from t to r stand entries, commas and gaps
+pub data Along (o : Options) (kind : Kind) : List ℕ → List ℕ → Type 0 where
+  there : {r : List ℕ} → Along o kind r r
+  past_gap : {t u r : List ℕ} → Gap o t u → Along o kind u r → Along o kind t r
+  past_comma : {t r : List ℕ} → Along o kind t r → Along o kind (0x2C ∷ t) r
+  past_entry : {t u r : List ℕ} → IsEntry o kind t u → Along o kind u r → Along o kind t r
+
+-- a line ends in the container at the path, directly between its brackets
+abbrev pub HasLineEnd : List ℕ → Document → Type 0
+HasLineEnd path e = (kind : Kind) × (u r x y : List ℕ) × (c : ℕ) × Value path e.options e.text u r × (u ≡ opening kind ∷ x) × Along e.options kind x (c ∷ y) × IsTrue (is_line_end c)
+
+-- past a gap no comma comes
+abbrev pub NoCommaComes : Options → List ℕ → Type 0
+NoCommaComes o t = (r : List ℕ) → Gap o t (0x2C ∷ r) → ⊥
+
+-- blanks leave a container directly behind its first bracket, or before its last one, where others may stand between
+pub data Trims (kind : Kind) : List ℕ → List ℕ → Type 0 where
+  behind_first : (front s gone back : List ℕ) → AreBlanks s → AreBlanks gone → Trims kind (front ++ opening kind ∷ (s ++ (gone ++ back))) (front ++ opening kind ∷ (s ++ back))
+  before_last : (front gone s back : List ℕ) → AreBlanks gone → AreBlanks s → Trims kind (front ++ (gone ++ (s ++ closing kind ∷ back))) (front ++ (s ++ closing kind ∷ back))
+
+-- an object may be put on several lines before
+abbrev pub Spreads : Kind → List ℕ → List ℕ → Type 0
+Spreads an_array x y = y ≡ x
+Spreads an_object x y = Reflows x y
+
+-- the text, or a comma has come into it directly behind an entry, which trivia on its line alone follow; and then r
+pub data Led (o : Options) (kind : Kind) (r : List ℕ) : List ℕ → List ℕ → Type 0 where
+  as_it_was : {s : List ℕ} → Led o kind r s s
+  with_comma : (s entry : List ℕ) {beside : List ℕ} → IsEntry o kind (entry ++ 0x2C ∷ (beside ++ r)) (0x2C ∷ (beside ++ r)) → InLine beside
+      → Led o kind r (s ++ (entry ++ beside)) (s ++ (entry ++ 0x2C ∷ beside))
+
+-- An entry with this text comes before the rest. All around it stays but blanks directly inside of the brackets; at most a comma comes before it, directly
+-- behind an entry, and blanks, and behind it a comma and blanks. A gap leads to it from the first bracket or a comma, and where a line ends in that, one ends
+-- directly before it. Where no comma comes behind it a gap leads from there to the last bracket.
+abbrev pub Joins : Kind → (new rest : List ℕ) → Document → Document → Type 0
+Joins kind new rest d e = (spread shorter front led gap comma behind back : List ℕ) × Spreads kind d.text spread × Trims kind spread shorter × Trims kind shorter (front ++ back)
+    × Led d.options kind (gap ++ (new ++ rest)) front led × AreBlanks gap × ((comma ≡ 0x2C ∷ []) ⊎ ((comma ≡ []) × (r : List ℕ) × Gap d.options back (closing kind ∷ r))) × AreBlanks behind
+    × NoCommaComes d.options back × (e.text ≡ led ++ (gap ++ (new ++ rest))) × (rest ≡ comma ++ (behind ++ back))
+    × (x t : List ℕ) × (c : ℕ) × (led ≡ x ++ c ∷ t) × IsTrue (c == 0x2C || c == opening kind) × Gap d.options (t ++ (gap ++ (new ++ rest))) (new ++ rest)
+    × (InLine t ⊎ ((line s : List ℕ) × (gap ≡ line ++ s) × IsLineEnd line))
+
+-- Between these and those an entry comes into the container at the path, and its marks with its text; each other keeps its text.
+abbrev pub Gains : Kind → List ℕ → (front back : List Named) → Named → Document → Document → Type 0
+Gains kind path front back new d e = Becomes (of kind (front ++ back)) (of kind (front ++ new ∷ back)) path d.value e.value
+    × (before behind : List (List ℕ)) × (length before ≡ length front) × (text rest : List ℕ) × Inside path (before ++ behind) (before ++ text ∷ behind) d e
+    × Entry (path ++ length before ∷ []) e.options e.text (text ++ rest) rest × Come (written kind new) (text ++ rest) rest d e × Joins kind text rest d e
