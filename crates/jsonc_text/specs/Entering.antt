@@ -1,5 +1,5 @@
 -- What is said of a text when an entry comes into a row, or when the row is put on several lines.
-use Rattle.std.specs.Prelude.{ℕ, ◌≡◌, ◌⊎◌, Bool, not, ◌&&◌, ◌||◌, ◌==◌, List, [], ◌∷◌, ◌++◌, length, IsTrue}
+use Rattle.std.specs.Prelude.{ℕ, ◌≡◌, ◌≢◌, ◌⊎◌, Bool, not, ◌&&◌, ◌||◌, ◌==◌, List, [], ◌∷◌, ◌++◌, length, IsTrue}
 use Rattle.jsonc_text.specs.Options.{Options}
 use Rattle.jsonc_text.specs.Text.{is_line_end}
 use Rattle.jsonc_text.specs.Gaps.{Gap, is_blank}
@@ -45,18 +45,24 @@ pub data Led (o : Options) (kind : Kind) (r : List ℕ) : List ℕ → List ℕ 
   with_comma : (s entry : List ℕ) {beside : List ℕ} → IsEntry o kind (entry ++ 0x2C ∷ (beside ++ r)) (0x2C ∷ (beside ++ r)) → InLine beside
       → Led o kind r (s ++ (entry ++ beside)) (s ++ (entry ++ 0x2C ∷ beside))
 
--- An entry with this text comes before the rest. All around it stays but blanks directly inside of the brackets; at most a comma comes before it, directly
--- behind an entry, and blanks, and behind it a comma and blanks. A gap leads to it from the first bracket or a comma, and where a line ends in that, one ends
--- directly before it. Where no comma comes behind it a gap leads from there to the last bracket.
-abbrev pub Joins : Kind → (new rest : List ℕ) → Document → Document → Type 0
-Joins kind new rest d e = (spread shorter front led gap comma behind back : List ℕ) × Spreads kind d.text spread × Trims kind spread shorter × Trims kind shorter (front ++ back)
-    × Led d.options kind (gap ++ (new ++ rest)) front led × AreBlanks gap × ((comma ≡ 0x2C ∷ []) ⊎ ((comma ≡ []) × (r : List ℕ) × Gap d.options back (closing kind ∷ r))) × AreBlanks behind
+-- the text begins with the end of a line
+abbrev pub StartsLine : List ℕ → Type 0
+StartsLine s = (line t : List ℕ) × (s ≡ line ++ t) × IsLineEnd line
+
+-- An entry with this text comes before those that follow and the rest. All around it stays but blanks directly inside of the brackets; at most a comma comes
+-- before it, directly behind an entry, and blanks, and behind it a comma and blanks. A gap leads to it from the first bracket or a comma, and where a line ends in
+-- that, one ends directly before it. Where no comma comes behind it a gap leads from there to the last bracket; where one comes, entries follow, or a line ends
+-- directly before it.
+abbrev pub Joins : Kind → (follow : List (List ℕ)) → (new rest : List ℕ) → Document → Document → Type 0
+Joins kind follow new rest d e = (spread shorter front led gap comma behind back : List ℕ) × Spreads kind d.text spread × Trims kind spread shorter × Trims kind shorter (front ++ back)
+    × Led d.options kind (gap ++ (new ++ rest)) front led × AreBlanks gap
+    × (((comma ≡ 0x2C ∷ []) × ((follow ≢ []) ⊎ StartsLine gap)) ⊎ ((comma ≡ []) × (r : List ℕ) × Gap d.options back (closing kind ∷ r))) × AreBlanks behind
     × NoCommaComes d.options back × (e.text ≡ led ++ (gap ++ (new ++ rest))) × (rest ≡ comma ++ (behind ++ back))
     × (x t : List ℕ) × (c : ℕ) × (led ≡ x ++ c ∷ t) × IsTrue (c == 0x2C || c == opening kind) × Gap d.options (t ++ (gap ++ (new ++ rest))) (new ++ rest)
-    × (InLine t ⊎ ((line s : List ℕ) × (gap ≡ line ++ s) × IsLineEnd line))
+    × (InLine t ⊎ StartsLine gap)
 
 -- Between these and those an entry comes into the container at the path, and its marks with its text; each other keeps its text.
 abbrev pub Gains : Kind → List ℕ → (front back : List Named) → Named → Document → Document → Type 0
 Gains kind path front back new d e = Becomes (of kind (front ++ back)) (of kind (front ++ new ∷ back)) path d.value e.value
     × (before behind : List (List ℕ)) × (length before ≡ length front) × (text rest : List ℕ) × Inside path (before ++ behind) (before ++ text ∷ behind) d e
-    × Entry (path ++ length before ∷ []) e.options e.text (text ++ rest) rest × Come (written kind new) (text ++ rest) rest d e × Joins kind text rest d e
+    × Entry (path ++ length before ∷ []) e.options e.text (text ++ rest) rest × Come (written kind new) (text ++ rest) rest d e × Joins kind behind text rest d e

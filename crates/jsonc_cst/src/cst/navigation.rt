@@ -1,12 +1,13 @@
 //! The calls that every kind of node has: who stands above, beside and below it, how it is laid out, and what it
 //! prints and gives.
 
-ghost use Rattle.std.specs.Prelude.{◌≡◌, option_map, string_bytes, IfErr, IfOk, IfSome};
+ghost use Rattle.std.specs.Prelude.{◌≡◌, option_map, string_bytes, IfErr, IfOk, IfSome, IsOk, OnErr};
 ghost use Rattle.std.specs.List.{All, slice_get};
 ghost use Rattle.jsonc_layout.specs.lines.Lines.{blank_line_before};
+ghost use Rattle.jsonc_layout.specs.to_input.Wanted.{MayTakeMemory};
 ghost use Rattle.jsonc_tree.specs.Tree.{place_at};
 ghost use Rattle.jsonc_cst.specs.Document.{nodes_of, HasNode};
-ghost use Rattle.jsonc_cst.specs.Document.{parent_of, ancestors_of, children_of};
+ghost use Rattle.jsonc_cst.specs.Document.{parent_of, ancestors_of, children_of, content_of};
 ghost use Rattle.jsonc_cst.specs.Layout.{indent_of, leading_comments_of, trailing_comma_of};
 ghost use Rattle.jsonc_cst.specs.Layout.{trailing_comments_of, uses_trailing_commas_of};
 ghost use Rattle.jsonc_cst.specs.Nodes.{comment_node, number_of, root_node, token_node};
@@ -195,7 +196,7 @@ pub trait TypedNode: Copy {
     /// last element.
     ///
     /// Laid out is one that has whitespace between its brackets and an element, and the nearest is
-    /// the first of them, level after level. False where there is none.
+    /// the first of them, level after level. False where there is none. No memory is wanted.
     final fn uses_trailing_commas<A: Allocator + Copy>(
         self,
         doc: &CstRootNode<A>,
@@ -203,6 +204,7 @@ pub trait TypedNode: Copy {
         requires { HasNode doc.now (node_of self) }
         ensures uses { IfOk result (λ uses. uses ≡ uses_trailing_commas_of doc.now (node_of self)) }
         ensures memory { IfErr result (λ e. e ≡ EditError.OutOfMemory) }
+        ensures ok { IsOk result }
     {
         let number = self.node().number();
         let Ok(uses) = jsonc_layout::lines::uses_trailing_commas(doc.alloc, &doc.tree, number)
@@ -263,7 +265,7 @@ pub trait TypedNode: Copy {
     /// A property gives its value's, the root its value's. Numbers are as written, strings decoded;
     /// of equal names the last value stands at the first place. A word, a token, trivia and a
     /// string that does not decode give None. What gives None inside a container, or has no name
-    /// that decodes, is passed over.
+    /// that decodes, is passed over. Of a leaf only a number and a string that decodes want memory.
     final fn to_value<A: Allocator + Copy>(
         self,
         doc: &CstRootNode<A>,
@@ -271,6 +273,7 @@ pub trait TypedNode: Copy {
         requires { HasNode doc.now (node_of self) }
         ensures value { IfOk result (IsValueTaken doc.now (node_of self)) }
         ensures memory { IfErr result (λ e. e ≡ EditError.OutOfMemory) }
+        ensures wanted { OnErr result (MayTakeMemory (content_of doc.now (node_of self))) }
     {
         let number = self.node().number();
         let Ok(value) = jsonc_layout::to_input::to_value(doc.alloc, &doc.tree, number) else {

@@ -52,14 +52,14 @@ takes_element an_element = false
 takes_element a_comma = true
 
 -- the row that stands behind the new element: a comma comes before elements that follow, with a gap behind it; behind the last one there may be the end of its
--- line, or a comma where documents of these options may have one there
-pub data GoesOn (o : Options) (rest : OrderedTree) : OrderedTree → Type 0 where
-  elements_follow : (gap : List Content) → Gap false gap → element_count rest ≢ 0 → GoesOn o rest (token_then 0x2C (leaves_then gap rest))
-  none_follow : (gap : List Content) → Gap false gap → element_count rest ≡ 0 → GoesOn o rest (leaves_then gap rest)
-  comma_last : IsTrue o.trailing_commas → element_count rest ≡ 0 → GoesOn o rest (token_then 0x2C rest)
+-- line, or, where a line ends before it, a comma if documents of these options may have one there
+pub data GoesOn (o : Options) (before : List Content) (rest : OrderedTree) : OrderedTree → Type 0 where
+  elements_follow : (gap : List Content) → Gap false gap → element_count rest ≢ 0 → GoesOn o before rest (token_then 0x2C (leaves_then gap rest))
+  none_follow : (gap : List Content) → Gap false gap → element_count rest ≡ 0 → GoesOn o before rest (leaves_then gap rest)
+  comma_last : IsTrue o.trailing_commas → Gap true before → element_count rest ≡ 0 → GoesOn o before rest (token_then 0x2C rest)
 
 -- The second row is the first with the new element, `top`, as its element of this number. Where a line ends in the row, the element has a line of its own.
 pub data ElementInserted (o : Options) (top : Top) : ℕ → OrderedTree → OrderedTree → Type 0 where
   comes : (front back led behind : OrderedTree) (gap : List Content) → CommaInserted front led → IsTrue (takes_element (last_behind nothing_yet led))
-      → IsTrue (not (comma_comes back)) → Gap (has_newline (followed_by front back)) gap → GoesOn o back behind
+      → IsTrue (not (comma_comes back)) → Gap (has_newline (followed_by front back)) gap → GoesOn o gap back behind
       → ElementInserted o top (element_count front) (followed_by front back) (followed_by led (leaves_then gap (more top.content top.below behind)))

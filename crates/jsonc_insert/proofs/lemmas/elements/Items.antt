@@ -81,10 +81,10 @@ module _ (o : Options) where
       let d = parted_items o front (more last.content last.below rest) g in
       subst (ItemsOf o (followed_by front (more last.content last.below (token_then 0x2C rest)))) (sym d.4) (joined_items o d.2 (first_with_comma d.3))
 
-  behind_items : {rest behind : OrderedTree} {vs : Items} → GoesOn o rest behind → ItemsOf o rest vs → ItemsOf o behind vs
+  behind_items : {before : List Content} {rest behind : OrderedTree} {vs : Items} → GoesOn o before rest behind → ItemsOf o rest vs → ItemsOf o behind vs
   behind_items (elements_follow gap w n) g = comma_before (gap_items w g)
   behind_items (none_follow gap w n) g = gap_items w g
-  behind_items (comma_last t n) g = comma_before g
+  behind_items (comma_last t b n) g = comma_before g
 
   pub items_come : {top : Top} {i : ℕ} {row new : OrderedTree} {v : Plain} {us : Items} → ElementInserted o top i row new → HasValue o top v → ItemsOf o row us → (ws : Items) × ItemInserted v i us ws × ItemsOf o new ws
   items_come {v = v} (comes front back led behind gap c t n w g) h r =

@@ -56,13 +56,13 @@ led_marks (one_comes front last beside el be) =
     ∙ ap (λ ms. marks front ++ ms) (marks_first last (token_then 0x2C rest) ∙ sym (marks_first last rest))
     ∙ sym (marks_then front (more last.content last.below rest))
 
-pub behind_marks : {o : Options} {rest behind : OrderedTree} → GoesOn o rest behind → marks behind ≡ marks rest
+pub behind_marks : {o : Options} {before : List Content} {rest behind : OrderedTree} → GoesOn o before rest behind → marks behind ≡ marks rest
 behind_marks {rest = rest} (elements_follow gap w n) = gap_marks rest w
 behind_marks {rest = rest} (none_follow gap w n) = gap_marks rest w
-behind_marks (comma_last t n) = refl
+behind_marks (comma_last t b n) = refl
 
 -- where an element comes its marks do
-pub new_marks : (o : Options) (top : Top) (front back led behind : OrderedTree) (gap : List Content) {b : Bool} → CommaInserted front led → Gap b gap → GoesOn o back behind
+pub new_marks : (o : Options) (top : Top) (front back led behind : OrderedTree) (gap : List Content) {b : Bool} → CommaInserted front led → Gap b gap → GoesOn o gap back behind
     → marks (followed_by led (leaves_then gap (more top.content top.below behind))) ≡ marks front ++ (marks_under top ++ marks back)
 new_marks o top front back led behind gap c w g =
     let rest : OrderedTree = more top.content top.below behind in
@@ -96,10 +96,10 @@ all_gap nothing a = a
 all_gap a_space a = comes_in a
 all_gap (a_line i) a = comes_in (comes_in a)
 
-all_behind : {o : Options} {rest behind : OrderedTree} → GoesOn o rest behind → HasAll rest behind
+all_behind : {o : Options} {before : List Content} {rest behind : OrderedTree} → GoesOn o before rest behind → HasAll rest behind
 all_behind {rest = rest} (elements_follow gap w n) = comes_in (all_gap w (all_same rest))
 all_behind {rest = rest} (none_follow gap w n) = all_gap w (all_same rest)
-all_behind {rest = rest} (comma_last t n) = comes_in (all_same rest)
+all_behind {rest = rest} (comma_last t b n) = comes_in (all_same rest)
 
 pub all_stay : {o : Options} {top : Top} {i : ℕ} {row new : OrderedTree} → ElementInserted o top i row new → HasAll row new
 all_stay (comes front back led behind gap c t n w g) = all_then (all_led c) (all_gap w (comes_in (all_behind g)))

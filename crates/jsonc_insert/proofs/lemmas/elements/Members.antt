@@ -73,10 +73,10 @@ module _ (o : Options) where
       let d = parted_members o front (more last.content last.below rest) g in
       subst (MembersOf o (followed_by front (more last.content last.below (token_then 0x2C rest)))) (sym d.4) (joined_members o d.2 (first_with_comma d.3))
 
-  behind_members : {rest behind : OrderedTree} {ms : Members} → GoesOn o rest behind → MembersOf o rest ms → MembersOf o behind ms
+  behind_members : {before : List Content} {rest behind : OrderedTree} {ms : Members} → GoesOn o before rest behind → MembersOf o rest ms → MembersOf o behind ms
   behind_members (elements_follow gap w n) g = comma_before (gap_members w g)
   behind_members (none_follow gap w n) g = gap_members w g
-  behind_members (comma_last t n) g = comma_before g
+  behind_members (comma_last t b n) g = comma_before g
 
   pub members_come : {held : OrderedTree} {i : ℕ} {row new : OrderedTree} {name : List ℕ} {v : Plain} {ls : Members} → ElementInserted o (property_of held) i row new → PropertyOf o held name v → MembersOf o row ls
       → (ns : Members) × MemberInserted name v i ls ns × MembersOf o new ns

@@ -66,13 +66,13 @@ both_are [] ys a b = b
 both_are (content ∷ xs) ys a b = (a.0, both_are xs ys a.1 b)
 
 -- what comes behind the element
-goes_on : (o : Options) (kind : CstNewlineKind) (s : List ℕ) (comma commas : Bool) (g : written.Gap) (rest : OrderedTree) → IsIndent s → (commas ≡ true → IsTrue o.trailing_commas)
-    → ((comma ≡ true) × (element_count rest ≢ 0)) ⊎ (((comma ≡ false) × (element_count rest ≡ 0)) ⊎ ((comma ≡ true) × (commas ≡ true) × (g ≡ Nothing) × (element_count rest ≡ 0)))
-    → GoesOn o rest (leaves_then (comma_leaf comma ++ gap_leaves kind s g) rest)
-goes_on o kind s comma commas g rest h f (inl (e, n)) = subst (λ v. GoesOn o rest (leaves_then (comma_leaf v ++ gap_leaves kind s g) rest)) (sym e) (elements_follow (gap_leaves kind s g) (gap_any kind s g h) n)
-goes_on o kind s comma commas g rest h f (inr (inl (e, n))) = subst (λ v. GoesOn o rest (leaves_then (comma_leaf v ++ gap_leaves kind s g) rest)) (sym e) (none_follow (gap_leaves kind s g) (gap_any kind s g h) n)
-goes_on o kind s comma commas g rest h f (inr (inr (e, t, w, n))) =
-    subst (λ v. GoesOn o rest (leaves_then (comma_leaf v ++ gap_leaves kind s g) rest)) (sym e) (subst (λ v. GoesOn o rest (token_then 0x2C (leaves_then (gap_leaves kind s v) rest))) (sym w) (comma_last (f t) n))
+goes_on : (o : Options) (kind : CstNewlineKind) (s : List ℕ) (comma commas : Bool) (g : written.Gap) (before : List Content) (rest : OrderedTree) → IsIndent s → (commas ≡ true → IsTrue o.trailing_commas)
+    → ((comma ≡ true) × (element_count rest ≢ 0)) ⊎ (((comma ≡ false) × (element_count rest ≡ 0)) ⊎ ((comma ≡ true) × (commas ≡ true) × Gap true before × (g ≡ Nothing) × (element_count rest ≡ 0)))
+    → GoesOn o before rest (leaves_then (comma_leaf comma ++ gap_leaves kind s g) rest)
+goes_on o kind s comma commas g before rest h f (inl (e, n)) = subst (λ v. GoesOn o before rest (leaves_then (comma_leaf v ++ gap_leaves kind s g) rest)) (sym e) (elements_follow (gap_leaves kind s g) (gap_any kind s g h) n)
+goes_on o kind s comma commas g before rest h f (inr (inl (e, n))) = subst (λ v. GoesOn o before rest (leaves_then (comma_leaf v ++ gap_leaves kind s g) rest)) (sym e) (none_follow (gap_leaves kind s g) (gap_any kind s g h) n)
+goes_on o kind s comma commas g before rest h f (inr (inr (e, t, b, w, n))) =
+    subst (λ v. GoesOn o before rest (leaves_then (comma_leaf v ++ gap_leaves kind s g) rest)) (sym e) (subst (λ v. GoesOn o before rest (token_then 0x2C (leaves_then (gap_leaves kind s v) rest))) (sym w) (comma_last (f t) b n))
 
 -- behind a comma, and leaves beside it, a comma stood last
 beside_last : (ls : List Content) → AreInlineTrivia ls → last_behind a_comma (leaves_then ls none) ≡ a_comma
@@ -274,17 +274,17 @@ module _ (o : Options) (kind : RowKind) (old ready : List Node) (tree : IsTree o
     parts_are : standing old left ≡ followed_by (standing old front) (standing old back)
     parts_are = ap (standing old) (sym (take-append-drop (plan.place - 1) left)) ∙ standing_then old front back
 
-    goes : GoesOn o (standing old back) behind
-    goes = goes_on o layout.newline outer plan.comma_behind layout.trailing_commas plan.behind (standing old back) outer_fits fits_layout.commas (by fits.goes)
+    goes : GoesOn o gap (standing old back) behind
+    goes = goes_on o layout.newline outer plan.comma_behind layout.trailing_commas plan.behind gap (standing old back) outer_fits fits_layout.commas (by fits.goes)
       where
         counted : element_count (standing old back) ≡ length (elements old back)
         counted = standing_count old back
 
         by : plans.Goes o kind old tree x y left opens closes row_now layout.trailing_commas plan
-            → ((plan.comma_behind ≡ true) × (element_count (standing old back) ≢ 0)) ⊎ (((plan.comma_behind ≡ false) × (element_count (standing old back) ≡ 0)) ⊎ ((plan.comma_behind ≡ true) × (layout.trailing_commas ≡ true) × (plan.behind ≡ Nothing) × (element_count (standing old back) ≡ 0)))
+            → ((plan.comma_behind ≡ true) × (element_count (standing old back) ≢ 0)) ⊎ (((plan.comma_behind ≡ false) × (element_count (standing old back) ≡ 0)) ⊎ ((plan.comma_behind ≡ true) × (layout.trailing_commas ≡ true) × Gap true gap × (plan.behind ≡ Nothing) × (element_count (standing old back) ≡ 0)))
         by (plans.more_go e n) = inl (e, λ z. n (sym counted ∙ z))
         by (plans.none_go e n) = inr (inl (e, counted ∙ n))
-        by (plans.last_goes e t w n) = inr (inr (e, t, w, counted ∙ n))
+        by (plans.last_goes e t b w n) = inr (inr (e, t, subst (λ v. Gap true (gap_leaves layout.newline layout.current v)) (sym b) (a_line fits_layout.current), w, counted ∙ n))
 
     pub comes_into : (n : ℕ) → length (elements old front) ≡ n → ElementInserted o top n (standing old left) new_row
     unfolding new_row

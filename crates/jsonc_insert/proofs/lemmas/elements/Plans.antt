@@ -25,7 +25,7 @@ use Rattle.jsonc_sound.proofs.SeamStretches.{last_is, parted_stretch}
 use Rattle.jsonc_edit.specs.Changes.{row_below}
 use Rattle.jsonc_insert.specs.Planned.{behind_comma, begins_with_comma, comma_comes, comma_wanted, element_before, elements, has_brackets, has_comma, is_other, line, line_if, parting, past_comments, place_in, plan_alone, plan_behind, plan_by, plan_first, planned, trivia}
 use Rattle.jsonc_insert.specs.Trimmed.{last_blanks, last_spaces}
-use Rattle.jsonc_insert.specs.declared.plan.Gap.TheVariants.{Nothing}
+use Rattle.jsonc_insert.specs.declared.plan.Gap.TheVariants.{Line, Nothing}
 use Rattle.jsonc_insert.specs.declared.plan.Plan.{Plan}
 use Rattle.jsonc_insert.proofs.Counting.{found_last, planned_count}
 use Rattle.jsonc_insert.proofs.BeforeTheBracket.{stands_inside}
@@ -119,7 +119,7 @@ module _ (o : Options) (kind : RowKind) (ns : List Node) (tree : IsTree ns) (x y
   pub data Goes (commas : Bool) (p : Plan) : Type 0 where
     more_go : p.comma_behind ≡ true → length (elements ns (behind p)) ≢ 0 → Goes commas p
     none_go : p.comma_behind ≡ false → length (elements ns (behind p)) ≡ 0 → Goes commas p
-    last_goes : p.comma_behind ≡ true → commas ≡ true → p.behind ≡ Nothing → length (elements ns (behind p)) ≡ 0 → Goes commas p
+    last_goes : p.comma_behind ≡ true → commas ≡ true → p.before ≡ Line → p.behind ≡ Nothing → length (elements ns (behind p)) ≡ 0 → Goes commas p
 
   pub record PlanFits (several commas : Bool) (p : Plan) : Type 0 where
     pub low : 1 ≤ p.place
@@ -423,7 +423,7 @@ module _ (o : Options) (kind : RowKind) (ns : List Node) (tree : IsTree ns) (x y
       goes_end false f g = by (cases_Bool (several && commas))
         where
           by : ((several && commas) ≡ true) ⊎ ((several && commas) ≡ false) → Goes commas (at_end false)
-          by (inl h) = last_goes h (and_parts several commas h).1 refl (g refl)
+          by (inl h) = let parts = and_parts several commas h in last_goes h parts.1 (before_end false ∙ ap parting parts.0) refl (g refl)
           by (inr h) = none_go h (g refl)
 
       comma_fits : (follow : Bool) → CommaAt (at_end follow)

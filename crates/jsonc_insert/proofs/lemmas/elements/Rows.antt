@@ -204,8 +204,8 @@ module _ (o : Options) (kind : RowKind) where
     ends : LeavesEnd o (leaves behind) None
     first : is_bare_leaf (first_printed (leaves behind)) ≡ false
 
-  goes_behind : {rest behind : OrderedTree} {last to : Last} → GoesOn o rest behind → IsTrue (not (comma_comes rest)) → StretchAlone o kind last rest to → IsTrue (may_end o to) → LinesEndLoosely true false rest → LeavesEnd o (leaves rest) None → Behind false behind
-  goes_behind {rest} {to = to} (elements_follow gap w n) c g m l h = record {
+  goes_behind : {before : List Content} {rest behind : OrderedTree} {last to : Last} → GoesOn o before rest behind → IsTrue (not (comma_comes rest)) → StretchAlone o kind last rest to → IsTrue (may_end o to) → LinesEndLoosely true false rest → LeavesEnd o (leaves rest) None → Behind false behind
+  goes_behind {rest = rest} {to = to} (elements_follow gap w n) c g m l h = record {
     to = to;
     stretch = alone.past_comma (gap_stretch o kind w (behind_comma o kind g c n));
     may = m;
@@ -213,7 +213,7 @@ module _ (o : Options) (kind : RowKind) where
     ends = (tt, gap_ends o rest None w h);
     first = first_comma (leaves (leaves_then gap rest));
   }
-  goes_behind {rest} (none_follow gap w n) c g m l h = record {
+  goes_behind {rest = rest} (none_follow gap w n) c g m l h = record {
     to = an_element;
     stretch = gap_stretch o kind w (without_elements o kind g c n an_element);
     may = refl;
@@ -221,7 +221,7 @@ module _ (o : Options) (kind : RowKind) where
     ends = gap_ends o rest None w h;
     first = gap_first rest w (trivia_first o kind g c n);
   }
-  goes_behind {rest} (comma_last t n) c g m l h = record {
+  goes_behind {rest = rest} (comma_last t b n) c g m l h = record {
     to = a_comma;
     stretch = alone.past_comma (without_elements o kind g c n a_comma);
     may = t;

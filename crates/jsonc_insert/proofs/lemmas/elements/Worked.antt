@@ -25,4 +25,4 @@ comes_first o =
 pub comes_on_a_line : ComesOnALine
 comes_on_a_line =
     comes (number_then (codes "1") (token_then 0x2C none)) (line_then none) (number_then (codes "1") (token_then 0x2C none)) (token_then 0x2C (line_then none)) (content.newline LineFeed ∷ whitespace (0x20 ∷ 0x20 ∷ []) ∷ [])
-    none_comes refl refl (a_line two_spaces) (comma_last refl refl)
+    none_comes refl refl (a_line two_spaces) (comma_last refl (a_line two_spaces) refl)

@@ -1,5 +1,5 @@
 -- What an element that comes into a container of a sound tree adds to the text.
-use Rattle.std.proofs.Common.{◌||◌, ◌==◌, inr, inl, ◌⊎◌, arith, ℕ, ◌+◌, ◌≡◌, ◌∙◌, sym, ap, subst, refl, Bool, true, false, not, List, [], ◌∷◌, ◌++◌, length, IsTrue, Option}
+use Rattle.std.proofs.Common.{◌||◌, ◌==◌, inr, inl, ◌⊎◌, arith, ℕ, ◌+◌, ◌≡◌, ◌≢◌, ◌∙◌, sym, ap, subst, refl, Bool, true, false, not, List, [], ◌∷◌, ◌++◌, length, IsTrue, Option}
 use Rattle.std.proofs.lemmas.List.{append_assoc, append-nil}
 use Rattle.jsonc_text.specs.Options.{Options}
 use Rattle.jsonc_text.specs.Plain.{Plain}
@@ -84,7 +84,7 @@ regroup_marks f a b c = simp (append_assoc) refl
 -- what a new element adds to a text, its place there, and its marks
 abbrev pub TextComes : RowKind → List ℕ → ℕ → List Mark → Document → Document → Type 0
 TextComes kind path n come d e = (before behind : List (List ℕ)) × (length before ≡ n) × (text rest : List ℕ) × Inside path (before ++ behind) (before ++ text ∷ behind) d e
-    × Entry (path ++ length before ∷ []) e.options e.text (text ++ rest) rest × Come come (text ++ rest) rest d e × Joins (kind_of_row kind) text rest d e
+    × Entry (path ++ length before ∷ []) e.options e.text (text ++ rest) rest × Come come (text ++ rest) rest d e × Joins (kind_of_row kind) behind text rest d e
 
 opening_so : (kind : RowKind) → IsTrue (places.opening (kind_of_row kind) == 0x2C || places.opening (kind_of_row kind) == places.opening (kind_of_row kind))
 opening_so of_values = refl
@@ -201,7 +201,7 @@ module _ (o : Options) (kind : RowKind) (row middle kept new : OrderedTree) {pat
   row_regroup : (l g a b h : List Content) → l ++ (g ++ (a ++ (b ++ h))) ≡ l ++ (g ++ ((a ++ b) ++ h))
   row_regroup l g a b h = simp (append_assoc) refl
 
-  module _ (spreads : Spreading) (top : Top) (element : IsElement top.content) (front back led behind : OrderedTree) (gap : List Content) (c : CommaInserted front led) (taken : IsTrue (coming.takes_element (rows.last_behind rows.nothing_yet led))) (no_comma : IsTrue (not (leaving.comma_comes back))) {must : Bool} (g : Gap must gap) (must_is : must ≡ has_newline (followed_by front back)) (on : GoesOn o back behind)
+  module _ (spreads : Spreading) (top : Top) (element : IsElement top.content) (front back led behind : OrderedTree) (gap : List Content) (c : CommaInserted front led) (taken : IsTrue (coming.takes_element (rows.last_behind rows.nothing_yet led))) (no_comma : IsTrue (not (leaving.comma_comes back))) {must : Bool} (g : Gap must gap) (must_is : must ≡ has_newline (followed_by front back)) (on : GoesOn o gap back behind)
       (kept_is : followed_by front back ≡ kept) (new_is : followed_by led (leaves_then gap (more top.content top.below behind)) ≡ new) (w x : Option Plain) where
     abbrev own : List Content
     own = leaves_of top
@@ -289,10 +289,15 @@ module _ (o : Options) (kind : RowKind) (row middle kept new : OrderedTree) {pat
     none_counted : (row : OrderedTree) → element_count row ≡ 0 → element_count (followed_by row bracket) ≡ 0
     none_counted row e = count_followed row bracket ∙ omega (arith, e)
 
-    follows : ((onward o comma_mark on).comma ≡ 0x2C ∷ []) ⊎ (((onward o comma_mark on).comma ≡ []) × (y : List ℕ) × text_gaps.Gap o back_text (places.closing k ∷ y))
+    starts_line : {m : Bool} {gp : List Content} → Gap m gp → m ≡ true → AllUtf8 gp → entering.StartsLine (text_of_leaves gp)
+    starts_line coming.nothing q u = cc
+    starts_line coming.a_space q u = cc
+    starts_line (coming.a_line {k = n} {s = y} i) q u = (text_of_leaves (newline n ∷ []), text_of_leaves (Content.whitespace y ∷ []), text_joined (newline n ∷ []) (Content.whitespace y ∷ []) (u.0, tt), line_end_text n)
+
+    follows : (((onward o comma_mark on).comma ≡ 0x2C ∷ []) × ((texts_of back ≢ []) ⊎ entering.StartsLine (text_of_leaves gap))) ⊎ (((onward o comma_mark on).comma ≡ []) × (y : List ℕ) × text_gaps.Gap o back_text (places.closing k ∷ y))
     follows =
         elim (onward o comma_mark on).one [
-          | inl e ↦ inl e
+          | inl e ↦ inl (e.0, elim e.1 [ inl n ↦ inl (λ none. n (as_many back ∙ ap (λ (l : List (List ℕ)). length l) none)) | inr b ↦ inr (starts_line b refl (good_first o gap (own ++ leaves behind) g1).utf8) ])
           | inr e ↦ inr (e.0, B, subst (λ y. text_gaps.Gap o y (places.closing k ∷ B)) back_printed (closing_gap o k B (followed_by back bracket) behind_it.0 behind_it.1 lacks (none_counted back e.1)))
         ]
 
@@ -401,7 +406,7 @@ module _ (o : Options) (kind : RowKind) (row middle kept new : OrderedTree) {pat
         let u = (good_first o (leaves front) (leaves back) (good_as o split h)).utf8 in
         ap (with_row o kind F B) (ap text_of_leaves split ∙ text_joined (leaves front) (leaves back) u) ∙ kept_regroup (places.opening k) (places.closing k) F (text_of_leaves (leaves front)) (text_of_leaves (leaves back)) B
 
-    pub joins_so : (rest : List ℕ) → rest ≡ text_of_leaves (leaves behind) ++ (places.closing k ∷ B) → Joins k (node_chars top) rest (document_of o t w) (document_of o u x)
+    pub joins_so : (rest : List ℕ) → rest ≡ text_of_leaves (leaves behind) ++ (places.closing k ∷ B) → Joins k (texts_of back) (node_chars top) rest (document_of o t w) (document_of o u x)
     joins_so rest e =
         let m = spreads (row_good row old_good) in
         let l = lines_trimmed o kind F B leave m.0 in

@@ -105,10 +105,10 @@ comma_comes (coming.one_comes front last beside h b) =
     let tail : OrderedTree = leaves_then beside none in
     texts_followed front (more last.content last.below (token_then 0x2C tail)) ∙ ap (λ l. texts_of front ++ l) (element_text last.content last.below (token_then 0x2C tail) h ∙ sym (element_text last.content last.below tail h)) ∙ sym (texts_followed front (more last.content last.below tail))
 
-pub goes_on : {o : Options} {rest behind : OrderedTree} → GoesOn o rest behind → texts_of behind ≡ texts_of rest
+pub goes_on : {o : Options} {before : List Content} {rest behind : OrderedTree} → GoesOn o before rest behind → texts_of behind ≡ texts_of rest
 goes_on {rest = rest} (coming.elements_follow gap g n) = texts_past gap rest (gap_trivia g)
 goes_on {rest = rest} (coming.none_follow gap g n) = texts_past gap rest (gap_trivia g)
-goes_on (coming.comma_last c n) = refl
+goes_on (coming.comma_last c b n) = refl
 
 -- as many texts as elements
 pub as_many : (row : OrderedTree) → element_count row ≡ length (texts_of row)

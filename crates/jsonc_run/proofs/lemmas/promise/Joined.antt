@@ -1,5 +1,5 @@
 -- Where an entry comes into a container of a sound tree, all around it stays in the text but blanks directly inside of the brackets.
-use Rattle.std.proofs.Common.{ℕ, ◌≡◌, ◌∙◌, ◌⊎◌, inl, inr, sym, ap, subst, refl, Bool, true, false, not, ◌==◌, List, [], ◌∷◌, ◌++◌, IsTrue, chars, encode_utf8}
+use Rattle.std.proofs.Common.{ℕ, ◌≡◌, ◌≢◌, ◌∙◌, ◌⊎◌, inl, inr, sym, ap, subst, refl, Bool, true, false, not, ◌==◌, List, [], ◌∷◌, ◌++◌, IsTrue, chars, encode_utf8}
 use Rattle.std.proofs.lemmas.List.{append_assoc, append-nil}
 use Rattle.std.proofs.lemmas.Str.{chars-nil}
 use Rattle.jsonc_text.specs.Options.{Options}
@@ -322,22 +322,22 @@ lines_past [] row l = l
 lines_past (c ∷ ls) row l = lines_past ls row l.2
 
 -- what goes on behind it: perhaps a comma, blanks, and the rest as it was
-pub record Onward (o : Options) (back : OrderedTree) (behind : OrderedTree) : Type 0 where
+pub record Onward (o : Options) (before : List Content) (back : OrderedTree) (behind : OrderedTree) : Type 0 where
   pub comma : List ℕ
   pub leaf : List Content
   pub gap : List Content
-  pub one : (comma ≡ 0x2C ∷ []) ⊎ ((comma ≡ []) × (element_count back ≡ 0))
+  pub one : ((comma ≡ 0x2C ∷ []) × ((element_count back ≢ 0) ⊎ Gap true before)) ⊎ ((comma ≡ []) × (element_count back ≡ 0))
   pub are : AreBlanks gap
   pub text : text_of_leaves leaf ≡ comma
   pub parts : leaves behind ≡ leaf ++ (gap ++ leaves back)
   pub rows : (z : List ℕ) (kind : places.Kind) (c : ℕ) → Reads o kind z (followed_by behind (token_then c none)) → LinesEndLoosely true false (followed_by behind (token_then c none)) → Reads o kind z (followed_by back (token_then c none)) × LinesEndLoosely true false (followed_by back (token_then c none))
 
-pub onward : (o : Options) (m : Mark 0x2C) {back behind : OrderedTree} → GoesOn o back behind → Onward o back behind
-onward o m {back} (coming.elements_follow gap g n) = record {
+pub onward : (o : Options) (m : Mark 0x2C) {before : List Content} {back behind : OrderedTree} → GoesOn o before back behind → Onward o before back behind
+onward o m {back = back} (coming.elements_follow gap g n) = record {
   comma = 0x2C ∷ [];
   leaf = token 0x2C ∷ [];
   gap = gap;
-  one = inl refl;
+  one = inl (refl, inl n);
   are = gap_blanks g;
   text = one_token m;
   parts = ap (λ l. token 0x2C ∷ l) (front_leaves gap back (blanks_are_trivia gap (gap_blanks g)));
@@ -347,7 +347,7 @@ onward o m {back} (coming.elements_follow gap g n) = record {
       let r1 = past_some o kind z (token 0x2C ∷ gap) (followed_by back (token_then c none)) (some_row back c) (subst (Reads o kind z) all r) in
       (r1, lines_past (token 0x2C ∷ gap) (followed_by back (token_then c none)) (subst (LinesEndLoosely true false) all l));
 }
-onward o m {back} (coming.none_follow gap g n) = record {
+onward o m {back = back} (coming.none_follow gap g n) = record {
   comma = [];
   leaf = [];
   gap = gap;
@@ -359,11 +359,11 @@ onward o m {back} (coming.none_follow gap g n) = record {
       let same : followed_by (leaves_then gap back) (token_then c none) ≡ leaves_then gap (followed_by back (token_then c none)) = leaves_followed gap back (token_then c none) in
       (past_some o kind z gap (followed_by back (token_then c none)) (some_row back c) (subst (Reads o kind z) same r), lines_past gap (followed_by back (token_then c none)) (subst (LinesEndLoosely true false) same l));
 }
-onward o m {back} (coming.comma_last x n) = record {
+onward o m {back = back} (coming.comma_last x b n) = record {
   comma = 0x2C ∷ [];
   leaf = token 0x2C ∷ [];
   gap = [];
-  one = inl refl;
+  one = inl (refl, inr b);
   are = tt;
   text = one_token m;
   parts = refl;
