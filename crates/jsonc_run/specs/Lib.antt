@@ -6,4 +6,5 @@ pub mod Named
 pub mod Marked
 pub mod Steps
 pub mod Parents
+pub mod texts
 pub mod promise

@@ -21,10 +21,6 @@ pub mod Faults
 pub mod Tokens
 pub mod Spelling
 pub mod Marks
-pub mod Paths
-pub mod Entries
 pub mod EditErrors
 pub mod Documents
-pub mod Entering
-pub mod Edits
 pub mod string

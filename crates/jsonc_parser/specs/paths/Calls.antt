@@ -1,7 +1,7 @@
 -- What is put at names in a document, and what is dropped from it, by one edit.
 use Rattle.std.specs.Prelude.{◌≡◌, ◌∷◌, [], ℕ, Bool, true, false, List}
 use Rattle.jsonc_text.specs.Documents.{Document}
-use Rattle.jsonc_text.specs.Edits.{Run}
+use Rattle.jsonc_run.specs.texts.Edits.{Run}
 use Rattle.jsonc_text.specs.Plain.{Plain}
 use Rattle.jsonc_tree.specs.OrderedTree.{ordered_tree}
 use Rattle.jsonc_tree.specs.Tree.{Node, IsTree}

@@ -2,7 +2,7 @@
 use Rattle.std.specs.Prelude.{◌≡◌, ◌↔◌, ℕ, List, [], ◌∷◌, Some, length, take}
 use Rattle.std.specs.List.{slice_get, All}
 use Rattle.jsonc_text.specs.Documents.{Document, IsOne}
-use Rattle.jsonc_text.specs.Edits.{Operation, Run, replace, remove, remove_comment, set_root, clear_root, replace_property, ensure_root, set_value, ensure_value, set_boolean, ensure_multiline, insert_element, append_element, insert_property, append_property, ensure_property, set_commas, set_some_commas, rearrange}
+use Rattle.jsonc_run.specs.texts.Edits.{Operation, Run, replace, remove, remove_comment, set_root, clear_root, replace_property, ensure_root, set_value, ensure_value, set_boolean, ensure_multiline, insert_element, append_element, insert_property, append_property, ensure_property, set_commas, set_some_commas, rearrange}
 use Rattle.jsonc_text.specs.Marks.{comments_of}
 use Rattle.jsonc_layout.specs.input.Views.{chars_of, plain}
 use Rattle.jsonc_tree.specs.OrderedTree.{OrderedTree}

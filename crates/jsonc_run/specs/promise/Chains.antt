@@ -1,9 +1,9 @@
 -- From edits that were made in nodes to one chain of texts.
 use Rattle.std.specs.Prelude.{List, [], ◌∷◌, ◌++◌, length, Option}
 use Rattle.std.specs.List.{All}
-use Rattle.jsonc_text.specs.Edits as texts
+use Rattle.jsonc_run.specs.texts.Edits as texts
 use Rattle.jsonc_text.specs.Documents.{Document, IsOne}
-use Rattle.jsonc_text.specs.Edits.{Run}
+use Rattle.jsonc_run.specs.texts.Edits.{Run}
 use Rattle.jsonc_text.specs.Options.{Options}
 use Rattle.jsonc_text.specs.Plain.{Plain}
 use Rattle.jsonc_tree.specs.OrderedTree.{OrderedTree, ordered_tree}

@@ -10,7 +10,7 @@ use Rattle.jsonc_sound.specs.Shape.{printed_text}
 use Rattle.jsonc_sound.specs.ChangeLaws.{DiffersIn}
 use Rattle.jsonc_sound.specs.SoundTrees.{SoundTree}
 use Rattle.jsonc_sound.specs.TreeChanges.{leaves_of, DocumentChanged}
-use Rattle.jsonc_text.specs.Paths.{Value, HasEntries}
+use Rattle.jsonc_run.specs.texts.Paths.{Value, HasEntries}
 
 -- the characters that leaves print
 abbrev pub text_of_leaves : List Content → List ℕ

@@ -1,7 +1,7 @@
 -- One edit of a node, as a step of the chain: from each document that the nodes showed it leads to one that they show.
 use Rattle.std.specs.Prelude.{◌≡◌, ◌≢◌, ℕ, List, [], ◌∷◌, Some}
 use Rattle.jsonc_text.specs.Documents.{Document}
-use Rattle.jsonc_text.specs.Edits.{Run}
+use Rattle.jsonc_run.specs.texts.Edits.{Run}
 use Rattle.jsonc_tree.specs.Content.{property}
 use Rattle.jsonc_tree.specs.OrderedTree.{ordered_tree}
 use Rattle.jsonc_tree.specs.Tree.{Node, content_at, parent_at, IsOver}

@@ -7,8 +7,8 @@ use Rattle.jsonc_text.specs.declared.edit.Over.TheVariants as over
 use Rattle.jsonc_text.specs.declared.edit.Shape.{Shape}
 use Rattle.jsonc_text.specs.declared.edit.Shape.TheVariants.{Object, Array}
 use Rattle.jsonc_run.specs.Edits.{Operation, replace, remove, remove_comment, set_root, clear_root, replace_property, ensure_root, set_value, ensure_value, set_boolean, ensure_multiline, insert_element, append_element, insert_property, append_property, ensure_property, set_commas, set_some_commas, rearrange}
-use Rattle.jsonc_text.specs.Paths.{Kind, an_array, an_object}
-use Rattle.jsonc_text.specs.Edits as texts
+use Rattle.jsonc_run.specs.texts.Paths.{Kind, an_array, an_object}
+use Rattle.jsonc_run.specs.texts.Edits as texts
 
 abbrev pub kind_of : Shape → Kind
 kind_of Object = an_object

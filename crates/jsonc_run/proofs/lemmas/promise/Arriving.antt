@@ -24,10 +24,11 @@ use Rattle.jsonc_tree.proofs.OrderedTrees.{leaves-followed_by}
 use Rattle.jsonc_sound.specs.TriviaChanges.{AreTrivia, leaves_then}
 use Rattle.jsonc_insert.specs.elements.Coming as coming
 use Rattle.jsonc_insert.specs.elements.Coming.{FirstLinesLeave, LastLinesLeave, BlankLinesLeave, Gap, CommaInserted, GoesOn, ElementInserted}
-use Rattle.jsonc_text.specs.Paths.{Entry, HasEntries}
+use Rattle.jsonc_run.specs.texts.Paths.{Entry, HasEntries}
 use Rattle.jsonc_text.specs.Marks.{Mark}
-use Rattle.jsonc_text.specs.Documents.{Come, Document, Inside, Within}
-use Rattle.jsonc_text.specs.Entering.{Joins, NoCommaComes, Spreads}
+use Rattle.jsonc_text.specs.Documents.{Document}
+use Rattle.jsonc_run.specs.texts.Stretches.{Come, Inside, Within}
+use Rattle.jsonc_run.specs.texts.Entering.{Joins, NoCommaComes, Spreads}
 use Rattle.jsonc_run.specs.promise.PlaceLaws.{text_of_leaves, node_chars, texts_of}
 use Rattle.jsonc_run.proofs.lemmas.promise.Entries.{element_text}
 use Rattle.jsonc_run.proofs.lemmas.promise.Reversed.{flip, front_same, back_same}
@@ -50,9 +51,9 @@ use Rattle.jsonc_sound.specs.Rows as rows
 use Rattle.jsonc_text.specs.Gaps as text_gaps
 use Rattle.jsonc_sound.proofs.ShapeValues.{comma_mark}
 use Rattle.jsonc_text.specs.Documents as documents
-use Rattle.jsonc_text.specs.Entering as entering
+use Rattle.jsonc_run.specs.texts.Entering as entering
 use Rattle.jsonc_sound.specs.Lines.{LinesEndLoosely}
-use Rattle.jsonc_text.specs.Paths as places
+use Rattle.jsonc_run.specs.texts.Paths as places
 
 -- an element stands in a row with more behind it
 record Followed {x y : Top} {i : ℕ} {row new : OrderedTree} (e : ElementChanged x y i row new) (after : OrderedTree) : Type 0 where

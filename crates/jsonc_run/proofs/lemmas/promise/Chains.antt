@@ -1,13 +1,13 @@
 -- From one chain of sound trees to one chain of texts.
 use Rattle.std.proofs.Common.{ℕ, ◌+◌, ◌≤◌, min, length, arith, ◌≡◌, ◌∙◌, sym, ap, subst, refl, inr, Bool, true, false, List, [], ◌++◌, Option, Some, None}
 use Rattle.std.proofs.lemmas.List.Elements.{All-head, All-tail}
-use Rattle.jsonc_text.specs.Edits as texts
+use Rattle.jsonc_run.specs.texts.Edits as texts
 use Rattle.jsonc_text.specs.Documents.{Document, IsOne}
-use Rattle.jsonc_text.specs.Entering.{Gains}
-use Rattle.jsonc_text.specs.Edits.{Leaves, Makes, Run}
-use Rattle.jsonc_text.specs.Entries.{Named}
+use Rattle.jsonc_run.specs.texts.Entering.{Gains}
+use Rattle.jsonc_run.specs.texts.Edits.{Leaves, Makes, Run}
+use Rattle.jsonc_run.specs.texts.Entries.{Named}
 use Rattle.jsonc_text.specs.Options.{Options}
-use Rattle.jsonc_text.specs.Paths.{an_array}
+use Rattle.jsonc_run.specs.texts.Paths.{an_array}
 use Rattle.jsonc_text.specs.Plain.{Plain}
 use Rattle.jsonc_text.proofs.UniqueValues.{document_unique}
 use Rattle.jsonc_tree.specs.OrderedTree.{OrderedTree, Top}

@@ -1,8 +1,8 @@
 -- Trailing commas that are set, of the document or of an array or object in it, as a step.
 use Rattle.std.proofs.Common.{◌≡◌, ◌⊎◌, ◌∙◌, sym, ap, subst, refl, ℕ, Option, List, [], ◌∷◌}
-use Rattle.jsonc_text.specs.Edits as texts
+use Rattle.jsonc_run.specs.texts.Edits as texts
 use Rattle.jsonc_text.specs.Documents.{Document}
-use Rattle.jsonc_text.specs.Edits.{Makes, Run, SetsCommas}
+use Rattle.jsonc_run.specs.texts.Edits.{Makes, Run, SetsCommas}
 use Rattle.jsonc_text.specs.Grammar.{IsDocument}
 use Rattle.jsonc_text.specs.Plain.{Plain}
 use Rattle.jsonc_text.specs.Options.{Options}

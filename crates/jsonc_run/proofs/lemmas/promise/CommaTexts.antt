@@ -1,6 +1,6 @@
 -- Texts without some of their characters.
 use Rattle.std.proofs.Common.{ℕ, Bool, List, [], ◌∷◌, ◌++◌}
-use Rattle.jsonc_text.specs.Documents.{Without}
+use Rattle.jsonc_run.specs.texts.Stretches.{Without}
 use Rattle.jsonc_text.specs.Documents as documents
 
 -- the same characters before two texts

@@ -3,7 +3,7 @@ use Rattle.std.proofs.Common.{ℕ, ◌≡◌, ◌∙◌, sym, ap, subst, refl, B
 use Rattle.std.proofs.lemmas.List.{append_assoc}
 use Rattle.std.proofs.lemmas.Str.{chars-nil}
 use Rattle.jsonc_text.specs.Options.{Options}
-use Rattle.jsonc_text.specs.Paths as places
+use Rattle.jsonc_run.specs.texts.Paths as places
 use Rattle.jsonc_tree.specs.Content.{Content, token}
 use Rattle.jsonc_tree.specs.OrderedTree.{OrderedTree, none, more, leaves, followed_by, Top}
 use Rattle.jsonc_tree.proofs.OrderedTrees.{leaves-followed_by}
@@ -19,9 +19,9 @@ use Rattle.jsonc_sound.proofs.LooseLines.{Stops}
 use Rattle.jsonc_sound.proofs.Texts.{AllUtf8}
 use Rattle.jsonc_sound.proofs.TriviaLeaves.{front_leaves}
 use Rattle.jsonc_run.specs.promise.PlaceLaws.{text_of_leaves}
-use Rattle.jsonc_text.specs.Entering.{NoCommaComes}
-use Rattle.jsonc_text.specs.Edits.{Comma, Loose, Opens}
-use Rattle.jsonc_text.specs.Edits as texts
+use Rattle.jsonc_run.specs.texts.Entering.{NoCommaComes}
+use Rattle.jsonc_run.specs.texts.Edits.{Comma, Loose, Opens}
+use Rattle.jsonc_run.specs.texts.Edits as texts
 use Rattle.jsonc_run.proofs.lemmas.promise.Leaves.{back_of, document_parts, document_utf8, front_of, text_joined, utf8_first, utf8_second}
 use Rattle.jsonc_run.proofs.lemmas.promise.LooseRows.{Reads, kind_of_row, behind_comma, behind_entry, loose_text, loose_to, none_comes, reads_on, reads_past, row_reads}
 use Rattle.jsonc_run.proofs.lemmas.promise.Places.{DocumentItself}

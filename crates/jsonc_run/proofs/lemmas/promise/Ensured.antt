@@ -20,9 +20,9 @@ use Rattle.jsonc_insert.specs.named.Values.{ReplacesHeld, ReplacesValue, ValueEn
 use Rattle.jsonc_insert.proofs.lemmas.named.Values.{same_shape}
 use Rattle.jsonc_run.specs.Edits.{ensure_value}
 use Rattle.jsonc_run.specs.Written.{IsChanged, by_ensuring_held}
-use Rattle.jsonc_text.specs.Entries.{Becomes, Changed, itself, inside, is_of, of}
-use Rattle.jsonc_text.specs.Edits as texts
-use Rattle.jsonc_text.specs.Edits.{Ensures, Makes}
+use Rattle.jsonc_run.specs.texts.Entries.{Becomes, Changed, itself, inside, is_of, of}
+use Rattle.jsonc_run.specs.texts.Edits as texts
+use Rattle.jsonc_run.specs.texts.Edits.{Ensures, Makes}
 use Rattle.jsonc_sound.specs.Documents.{all_marks}
 use Rattle.jsonc_run.proofs.lemmas.promise.Plains.{changed}
 use Rattle.jsonc_sound.specs.Documents.{document_of}

@@ -14,8 +14,8 @@ use Rattle.jsonc_sound.specs.Rows.{RowKind, of_values, of_properties, container_
 use Rattle.jsonc_sound.specs.SoundTrees.{SoundTree}
 use Rattle.jsonc_sound.specs.TreeChanges.{IsElement, leaves_of, property_of, ElementChanged, DocumentChanged}
 use Rattle.jsonc_sound.proofs.FirstNodes.{no_element, trivia_over, value_element}
-use Rattle.jsonc_text.specs.Paths as places
-use Rattle.jsonc_text.specs.Paths.{Kind, an_array, an_object, Entry, Row, HasEntries}
+use Rattle.jsonc_run.specs.texts.Paths as places
+use Rattle.jsonc_run.specs.texts.Paths.{Kind, an_array, an_object, Entry, Row, HasEntries}
 use Rattle.jsonc_run.specs.promise.PlaceLaws.{text_of_leaves, node_chars, texts_of, EntriesStand}
 use Rattle.jsonc_run.proofs.lemmas.promise.Leaves.{row_back, back_of}
 use Rattle.jsonc_sound.proofs.ShapeValues.{bracket_mark, brace_mark, close_bracket_mark, close_brace_mark, mark_text, closing_text, value_utf8, property_utf8, closed_some, separated_some, elements_some, properties_some, separated_stands, closed_stands, carries_more, node_text, value_stands, property_stands}

@@ -8,7 +8,7 @@ use Rattle.jsonc_text.specs.Words.{Keyword, begins_word}
 use Rattle.jsonc_text.specs.Numbers.{Sign, Unsigned, Whole, Number, is_sign, is_x}
 use Rattle.jsonc_text.specs.Lexemes.{LexemeKind, Lexeme}
 use Rattle.jsonc_text.specs.Grammar.{may_name}
-use Rattle.jsonc_text.specs.Edits.{EndsInHexadecimal}
+use Rattle.jsonc_run.specs.texts.Edits.{EndsInHexadecimal}
 use Rattle.jsonc_text.proofs.Basics.{Apart, clash, or_cases, test_eq}
 use Rattle.jsonc_text.proofs.Begins.{begins_plain_number, plain_number_word}
 use Rattle.jsonc_text.proofs.NumberFrames.{number_whole}

@@ -14,9 +14,9 @@ use Rattle.jsonc_insert.specs.elements.Laws.{ElementInsertedAt, InsertsItem, Ite
 use Rattle.jsonc_sound.specs.Rows.{of_values}
 use Rattle.jsonc_sound.specs.SoundTrees.{SoundTree}
 use Rattle.jsonc_sound.proofs.FirstNodes.{value_of_element}
-use Rattle.jsonc_text.specs.Paths.{an_array}
-use Rattle.jsonc_text.specs.Entries.{Named, items, of, Changed}
-use Rattle.jsonc_text.specs.Entering.{Gains}
+use Rattle.jsonc_run.specs.texts.Paths.{an_array}
+use Rattle.jsonc_run.specs.texts.Entries.{Named, items, of, Changed}
+use Rattle.jsonc_run.specs.texts.Entering.{Gains}
 use Rattle.jsonc_run.proofs.lemmas.promise.Insides.{kept_texts}
 use Rattle.jsonc_run.proofs.lemmas.promise.Arriving.{text_comes}
 use Rattle.jsonc_run.proofs.lemmas.promise.Stretches.{laid_literals}

@@ -15,8 +15,8 @@ use Rattle.jsonc_sound.specs.TreeChanges.{IsElement, leaves_of, DocumentChanged}
 use Rattle.jsonc_sound.specs.TriviaChanges.{AreTrivia, leaves_then}
 use Rattle.jsonc_insert.specs.elements.Coming as coming
 use Rattle.jsonc_insert.specs.elements.Coming.{FirstLinesLeave, LastLinesLeave, BlankLinesLeave, Gap, CommaInserted, GoesOn, ElementInserted}
-use Rattle.jsonc_text.specs.Paths.{HasEntries}
-use Rattle.jsonc_text.specs.Documents.{Inside, Within}
+use Rattle.jsonc_run.specs.texts.Paths.{HasEntries}
+use Rattle.jsonc_run.specs.texts.Stretches.{Inside, Within}
 use Rattle.jsonc_run.specs.promise.PlaceLaws.{text_of_leaves, node_chars, texts_of}
 use Rattle.jsonc_run.proofs.lemmas.promise.Entries.{has_entries, element_text, over_text}
 use Rattle.jsonc_run.proofs.lemmas.promise.Reversed.{flip, front_same, back_same}

@@ -4,7 +4,7 @@ use Rattle.std.proofs.lemmas.List.{append_assoc, append-nil}
 use Rattle.std.proofs.lemmas.Str.{chars-nil}
 use Rattle.jsonc_text.specs.Options.{Options}
 use Rattle.jsonc_text.specs.Text as many
-use Rattle.jsonc_text.specs.Paths as places
+use Rattle.jsonc_run.specs.texts.Paths as places
 use Rattle.jsonc_tree.specs.Content.{Content, token, newline, whitespace}
 use Rattle.jsonc_tree.specs.declared.node.CstNewlineKind.{CstNewlineKind}
 use Rattle.jsonc_tree.specs.OrderedTree.{OrderedTree, Top, none, more, own_leaf, leaves, followed_by}
@@ -30,10 +30,10 @@ use Rattle.jsonc_edit.specs.multiline.Reflows.{Reflows, SpreadsOut}
 use Rattle.jsonc_insert.specs.elements.Coming as coming
 use Rattle.jsonc_insert.specs.elements.Coming.{FirstLinesLeave, LastLinesLeave, BlankLinesLeave, Gap, CommaInserted, GoesOn}
 use Rattle.jsonc_run.specs.promise.PlaceLaws.{text_of_leaves}
-use Rattle.jsonc_text.specs.Documents as documents
-use Rattle.jsonc_text.specs.Entering as entering
-use Rattle.jsonc_text.specs.Documents.{Without}
-use Rattle.jsonc_text.specs.Entering.{Led, NoCommaComes, Spreads, Trims, is_space}
+use Rattle.jsonc_run.specs.texts.Stretches as documents
+use Rattle.jsonc_run.specs.texts.Entering as entering
+use Rattle.jsonc_run.specs.texts.Stretches.{Without}
+use Rattle.jsonc_run.specs.texts.Entering.{Led, NoCommaComes, Spreads, Trims, is_space}
 use Rattle.jsonc_run.proofs.lemmas.promise.CommaTexts.{all_same, same_before}
 use Rattle.jsonc_run.proofs.lemmas.promise.CommentTexts.{blanks_text}
 use Rattle.jsonc_run.proofs.lemmas.promise.Leaves.{document_utf8, text_joined, utf8_first, utf8_joined, utf8_second}

@@ -1,7 +1,7 @@
 -- Edits that were made lead from the document that nodes showed to the one that they show.
 use Rattle.std.proofs.Common.{◌≡◌, ◌∙◌, sym, ap, subst, refl, List, Option}
 use Rattle.jsonc_text.specs.Documents.{Document, IsOne}
-use Rattle.jsonc_text.specs.Edits.{Run}
+use Rattle.jsonc_run.specs.texts.Edits.{Run}
 use Rattle.jsonc_text.specs.Options.{Options}
 use Rattle.jsonc_text.specs.Plain.{Plain}
 use Rattle.jsonc_tree.specs.OrderedTree.{OrderedTree, ordered_tree}

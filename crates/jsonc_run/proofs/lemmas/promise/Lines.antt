@@ -26,10 +26,10 @@ use Rattle.jsonc_edit.specs.multiline.Reflows.{Reflows, SpreadsOut}
 use Rattle.jsonc_run.specs.Edits.{ensure_multiline, set_commas, set_some_commas}
 use Rattle.jsonc_run.specs.Written.{IsChanged, by_lines, by_commas, by_some_commas}
 use Rattle.jsonc_text.specs.Documents as documents
-use Rattle.jsonc_text.specs.Edits as texts
-use Rattle.jsonc_text.specs.Documents.{Inside, Without}
-use Rattle.jsonc_text.specs.Entering.{is_space}
-use Rattle.jsonc_text.specs.Edits.{Commas, Makes, SetsCommas}
+use Rattle.jsonc_run.specs.texts.Edits as texts
+use Rattle.jsonc_run.specs.texts.Stretches.{Inside, Without}
+use Rattle.jsonc_run.specs.texts.Entering.{is_space}
+use Rattle.jsonc_run.specs.texts.Edits.{Commas, Makes, SetsCommas}
 use Rattle.jsonc_sound.specs.Leaves.{is_inner_blank}
 use Rattle.std.proofs.lemmas.Str.{chars-nil}
 use Rattle.std.proofs.lemmas.List.{append-nil}

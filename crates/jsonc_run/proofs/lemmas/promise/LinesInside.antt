@@ -5,12 +5,12 @@ use Rattle.jsonc_text.specs.Options.{Options}
 use Rattle.jsonc_text.specs.Plain.{Plain}
 use Rattle.jsonc_text.specs.Text.{is_line_end}
 use Rattle.jsonc_text.specs.Gaps.{Gap}
-use Rattle.jsonc_text.specs.Paths.{Kind}
-use Rattle.jsonc_text.specs.Paths as places
+use Rattle.jsonc_run.specs.texts.Paths.{Kind}
+use Rattle.jsonc_run.specs.texts.Paths as places
 use Rattle.jsonc_text.specs.Documents as documents
-use Rattle.jsonc_text.specs.Entering as entering
-use Rattle.jsonc_text.specs.Documents.{IsLineEnd}
-use Rattle.jsonc_text.specs.Entering.{Along, HasLineEnd}
+use Rattle.jsonc_run.specs.texts.Entering as entering
+use Rattle.jsonc_run.specs.texts.Stretches.{IsLineEnd}
+use Rattle.jsonc_run.specs.texts.Entering.{Along, HasLineEnd}
 use Rattle.jsonc_tree.specs.Content.{Content, newline, token}
 use Rattle.jsonc_tree.specs.OrderedTree.{OrderedTree, none, more, leaves, followed_by}
 use Rattle.jsonc_sound.specs.Documents.{document_of}

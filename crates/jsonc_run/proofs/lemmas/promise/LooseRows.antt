@@ -6,7 +6,7 @@ use Rattle.jsonc_text.specs.Gaps.{Gap}
 use Rattle.jsonc_text.specs.Grammar.{IsProperty, named}
 use Rattle.jsonc_text.specs.Grammar as grammar
 use Rattle.jsonc_text.specs.Plain.{Plain}
-use Rattle.jsonc_text.specs.Paths.{Kind, an_array, an_object, closing, IsEntry}
+use Rattle.jsonc_run.specs.texts.Paths.{Kind, an_array, an_object, closing, IsEntry}
 use Rattle.jsonc_text.proofs.Basics.{and_both}
 use Rattle.jsonc_text.proofs.Begins.{begins_item}
 use Rattle.jsonc_text.proofs.UniqueGaps.{begins_gap, gap_unique}
@@ -25,9 +25,9 @@ use Rattle.jsonc_sound.specs.TreeChanges.{IsElement}
 use Rattle.jsonc_sound.specs.TriviaChanges.{AreTrivia, leaves_then}
 use Rattle.jsonc_sound.proofs.FirstNodes.{value_element}
 use Rattle.jsonc_sound.proofs.LooseLines.{Stops, value_stops, elements_stop, properties_stop, trivia_gap}
-use Rattle.jsonc_text.specs.Entering.{NoCommaComes}
-use Rattle.jsonc_text.specs.Edits.{Loose}
-use Rattle.jsonc_text.specs.Edits as texts
+use Rattle.jsonc_run.specs.texts.Entering.{NoCommaComes}
+use Rattle.jsonc_run.specs.texts.Edits.{Loose}
+use Rattle.jsonc_run.specs.texts.Edits as texts
 use Rattle.jsonc_sound.proofs.ShapeValues.{Mark, close_bracket_mark, close_brace_mark, closing_text, value_utf8, property_utf8, closed_some, separated_some, elements_some, properties_some, separated_stands, carries_more, node_text, value_stands, property_stands}
 use Rattle.jsonc_run.proofs.lemmas.promise.Values.{ValueHere}
 

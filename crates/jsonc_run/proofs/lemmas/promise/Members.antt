@@ -14,12 +14,12 @@ use Rattle.jsonc_sound.specs.Rows.{of_properties}
 use Rattle.jsonc_sound.specs.SoundTrees.{SoundTree}
 use Rattle.jsonc_run.specs.Edits.{insert_property, append_property}
 use Rattle.jsonc_run.specs.Written.{IsChanged, by_inserting_member, by_appending_member}
-use Rattle.jsonc_text.specs.Paths.{an_object}
-use Rattle.jsonc_text.specs.Entries.{Named, members, of, Changed}
-use Rattle.jsonc_text.specs.Edits as texts
-use Rattle.jsonc_text.specs.Documents.{written}
-use Rattle.jsonc_text.specs.Entering.{Gains}
-use Rattle.jsonc_text.specs.Edits.{Makes}
+use Rattle.jsonc_run.specs.texts.Paths.{an_object}
+use Rattle.jsonc_run.specs.texts.Entries.{Named, members, of, Changed}
+use Rattle.jsonc_run.specs.texts.Edits as texts
+use Rattle.jsonc_run.specs.texts.Stretches.{written}
+use Rattle.jsonc_run.specs.texts.Entering.{Gains}
+use Rattle.jsonc_run.specs.texts.Edits.{Makes}
 use Rattle.jsonc_run.proofs.lemmas.promise.Insides.{kept_texts}
 use Rattle.jsonc_run.proofs.lemmas.promise.Joined.{spread_good, spread_reflows}
 use Rattle.jsonc_run.proofs.lemmas.promise.Leaves.{back_of, front_of}

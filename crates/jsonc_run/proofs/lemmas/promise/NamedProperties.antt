@@ -28,11 +28,11 @@ use Rattle.jsonc_insert.proofs.lemmas.named.Values.{empty_writable, same_shape}
 use Rattle.jsonc_run.specs.Edits.{ensure_property}
 use Rattle.jsonc_run.specs.Steps.{Says}
 use Rattle.jsonc_run.specs.Written.{IsChanged, by_ensuring_named}
-use Rattle.jsonc_text.specs.Paths.{an_object}
-use Rattle.jsonc_text.specs.Entries.{Named, members, of, Changed, itself, inside}
-use Rattle.jsonc_text.specs.Edits as texts
-use Rattle.jsonc_text.specs.Entering.{Gains}
-use Rattle.jsonc_text.specs.Edits.{Ensures, EnsuresNamed, Makes}
+use Rattle.jsonc_run.specs.texts.Paths.{an_object}
+use Rattle.jsonc_run.specs.texts.Entries.{Named, members, of, Changed, itself, inside}
+use Rattle.jsonc_run.specs.texts.Edits as texts
+use Rattle.jsonc_run.specs.texts.Entering.{Gains}
+use Rattle.jsonc_run.specs.texts.Edits.{Ensures, EnsuresNamed, Makes}
 use Rattle.jsonc_run.proofs.lemmas.promise.Plains.{changed, entry_of, list_of_members, same_members}
 use Rattle.jsonc_sound.specs.Documents.{document_of}
 use Rattle.jsonc_run.specs.promise.Words.{kind_of, yields}

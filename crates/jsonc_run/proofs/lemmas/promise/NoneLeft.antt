@@ -4,8 +4,8 @@ use Rattle.jsonc_text.specs.Options.{Options, AllowsMore, without_trailing}
 use Rattle.jsonc_text.specs.Text.{next}
 use Rattle.jsonc_text.specs.Plain.{Plain}
 use Rattle.jsonc_text.specs.Grammar.{IsDocument, IsValue}
-use Rattle.jsonc_text.specs.Paths.{Value}
-use Rattle.jsonc_text.specs.Edits.{HasNoTrailing}
+use Rattle.jsonc_run.specs.texts.Paths.{Value}
+use Rattle.jsonc_run.specs.texts.Edits.{HasNoTrailing}
 use Rattle.jsonc_text.proofs.SameOptions.{lexeme_same}
 use Rattle.jsonc_text.proofs.UniqueValues.{document_unique}
 use Rattle.jsonc_text.proofs.WiderOptions.{document_wider}

@@ -11,12 +11,12 @@ use Rattle.jsonc_text.specs.Lexemes as lexemes
 use Rattle.jsonc_text.specs.Lexemes.{block_comment}
 use Rattle.jsonc_text.specs.Plain.{Plain}
 use Rattle.jsonc_text.specs.Grammar.{IsDocument}
-use Rattle.jsonc_text.specs.Paths as places
-use Rattle.jsonc_text.specs.Paths.{Kind, an_array, an_object, closing, LeadsTo, Value}
-use Rattle.jsonc_text.specs.Documents as documents
-use Rattle.jsonc_text.specs.Documents.{IsLineEnd}
-use Rattle.jsonc_text.specs.Edits as texts
-use Rattle.jsonc_text.specs.Edits.{Full, FullRow, HasAllTrailing}
+use Rattle.jsonc_run.specs.texts.Paths as places
+use Rattle.jsonc_run.specs.texts.Paths.{Kind, an_array, an_object, closing, LeadsTo, Value}
+use Rattle.jsonc_run.specs.texts.Stretches as documents
+use Rattle.jsonc_run.specs.texts.Stretches.{IsLineEnd}
+use Rattle.jsonc_run.specs.texts.Edits as texts
+use Rattle.jsonc_run.specs.texts.Edits.{Full, FullRow, HasAllTrailing}
 use Rattle.jsonc_text.proofs.Basics.{and_both}
 use Rattle.jsonc_text.proofs.BlockComments.{block_inside}
 use Rattle.jsonc_text.proofs.CharacterSteps.{many_append}

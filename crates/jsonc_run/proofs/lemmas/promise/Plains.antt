@@ -4,8 +4,8 @@ use Rattle.jsonc_text.specs.Plain as plain
 use Rattle.jsonc_text.specs.Plain.{Plain, Items, no_items, item, Members, no_members, member}
 use Rattle.jsonc_sound.specs.Changes as changes
 use Rattle.jsonc_sound.specs.Changes.{ItemChanged, MemberChanged}
-use Rattle.jsonc_text.specs.Paths.{Kind, an_array, an_object}
-use Rattle.jsonc_text.specs.Entries.{Named, items, members, of, Changed, itself, inside}
+use Rattle.jsonc_run.specs.texts.Paths.{Kind, an_array, an_object}
+use Rattle.jsonc_run.specs.texts.Entries.{Named, items, members, of, Changed, itself, inside}
 
 abbrev pub entry_of : List ℕ → Plain → Named
 entry_of n v = record { name = n; value = v }

@@ -26,11 +26,11 @@ use Rattle.jsonc_text.specs.Marks.{Mark}
 use Rattle.jsonc_layout.specs.from_input.Laid.{laid_property, number_leaf, string_leaf}
 use Rattle.jsonc_layout.specs.from_input.Layout.{Layout}
 use Rattle.jsonc_layout.specs.from_input.Texts.{IsCharacters, IsOfTexts}
-use Rattle.jsonc_text.specs.Paths.{Entry, an_object}
-use Rattle.jsonc_text.specs.Entries.{Named, members, of, Changed, Becomes}
-use Rattle.jsonc_text.specs.Edits as texts
-use Rattle.jsonc_text.specs.Documents.{written}
-use Rattle.jsonc_text.specs.Edits.{Anything, IsSeam, Makes, Puts, Text}
+use Rattle.jsonc_run.specs.texts.Paths.{Entry, an_object}
+use Rattle.jsonc_run.specs.texts.Entries.{Named, members, of, Changed, Becomes}
+use Rattle.jsonc_run.specs.texts.Edits as texts
+use Rattle.jsonc_run.specs.texts.Stretches.{written}
+use Rattle.jsonc_run.specs.texts.Edits.{Anything, IsSeam, Makes, Puts, Text}
 use Rattle.jsonc_run.specs.promise.PlaceLaws.{text_of_leaves}
 use Rattle.jsonc_run.proofs.lemmas.promise.Leaves.{back_of, document_parts, document_utf8, text_joined, utf8_first, utf8_second}
 use Rattle.jsonc_run.proofs.lemmas.promise.Plains.{changed, entry_of, list_of_members, same_members}

@@ -13,9 +13,9 @@ use Rattle.jsonc_sound.specs.Values as entries
 use Rattle.jsonc_sound.specs.Values.{ItemRemoved, MemberRemoved}
 use Rattle.jsonc_sound.proofs.RemovedValues.{document_loses}
 use Rattle.jsonc_edit.proofs.OneValue.{document_once}
-use Rattle.jsonc_text.specs.Paths.{Kind, an_array, an_object}
-use Rattle.jsonc_text.specs.Entries.{Named, of, Changed}
-use Rattle.jsonc_text.specs.Edits.{Loses, one}
+use Rattle.jsonc_run.specs.texts.Paths.{Kind, an_array, an_object}
+use Rattle.jsonc_run.specs.texts.Entries.{Named, of, Changed}
+use Rattle.jsonc_run.specs.texts.Edits.{Loses, one}
 use Rattle.jsonc_run.proofs.lemmas.promise.Plains.{changed, entry_of, list_of_items, list_of_members, same_items, same_members, items_of, members_of}
 use Rattle.jsonc_run.proofs.lemmas.promise.ReplacedTexts.{some_value}
 

@@ -17,10 +17,10 @@ use Rattle.jsonc_sound.specs.TriviaChanges.{AreTrivia, leaves_then}
 use Rattle.jsonc_sound.proofs.Pieces.{Pieces}
 use Rattle.jsonc_sound.proofs.Texts.{AllUtf8}
 use Rattle.jsonc_sound.proofs.TriviaLeaves.{front_leaves}
-use Rattle.jsonc_text.specs.Paths.{Entry}
-use Rattle.jsonc_text.specs.Edits as texts
-use Rattle.jsonc_text.specs.Documents.{Parted}
-use Rattle.jsonc_text.specs.Edits.{Trail}
+use Rattle.jsonc_run.specs.texts.Paths.{Entry}
+use Rattle.jsonc_run.specs.texts.Edits as texts
+use Rattle.jsonc_run.specs.texts.Stretches.{Parted}
+use Rattle.jsonc_run.specs.texts.Edits.{Trail}
 use Rattle.jsonc_run.specs.promise.PlaceLaws.{text_of_leaves}
 use Rattle.jsonc_run.proofs.lemmas.promise.Entries.{value_stands_in, property_stands_in}
 use Rattle.jsonc_run.proofs.lemmas.promise.Leaves.{row_back, back_of, text_joined, utf8_first, utf8_second, document_utf8}

@@ -31,8 +31,8 @@ use Rattle.jsonc_edit.specs.remove.Laws.{EntryTaken}
 use Rattle.jsonc_edit.specs.SeamRemovals.{SpaceFirst, none_first, space_first, RemovedWithSeams, comma_behind, comma_before, no_comma}
 use Rattle.jsonc_edit.specs.SeamPlaces.{DocumentHolds}
 use Rattle.jsonc_edit.specs.Seams.{PrintNothing, space_if}
-use Rattle.jsonc_text.specs.Paths.{Entry}
-use Rattle.jsonc_text.specs.Edits.{IsSeam, Comma, Leaves, Loses}
+use Rattle.jsonc_run.specs.texts.Paths.{Entry}
+use Rattle.jsonc_run.specs.texts.Edits.{IsSeam, Comma, Leaves, Loses}
 use Rattle.jsonc_run.specs.promise.PlaceLaws.{text_of_leaves}
 use Rattle.jsonc_run.proofs.lemmas.promise.CommentTexts.{blanks_text}
 use Rattle.jsonc_run.proofs.lemmas.promise.Leaves.{back_of, document_parts, document_utf8, text_joined, utf8_first, utf8_second}

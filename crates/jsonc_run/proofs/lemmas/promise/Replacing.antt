@@ -25,9 +25,9 @@ use Rattle.jsonc_insert.specs.named.Values.{ReplacesValue}
 use Rattle.jsonc_edit.specs.SeamPlaces.{DocumentHolds, ReplacedWithSeams}
 use Rattle.jsonc_edit.specs.Seams.{space_if}
 use Rattle.jsonc_text.specs.Marks.{Mark, literals_of}
-use Rattle.jsonc_text.specs.Paths.{Value}
-use Rattle.jsonc_text.specs.Entries.{Becomes}
-use Rattle.jsonc_text.specs.Edits.{BesideTruth, EndsInHexadecimal, IsSeam, Puts, PutsValue, Text}
+use Rattle.jsonc_run.specs.texts.Paths.{Value}
+use Rattle.jsonc_run.specs.texts.Entries.{Becomes}
+use Rattle.jsonc_run.specs.texts.Edits.{BesideTruth, EndsInHexadecimal, IsSeam, Puts, PutsValue, Text}
 use Rattle.jsonc_run.specs.promise.PlaceLaws.{text_of_leaves}
 use Rattle.jsonc_sound.specs.Adjacent.{last_printed}
 use Rattle.jsonc_sound.specs.Booleans.{is_hex_leaf}

@@ -21,16 +21,16 @@ use Rattle.jsonc_sound.proofs.Pieces.{Pieces, document_pieces}
 use Rattle.jsonc_sound.proofs.RowParts.{beside_trivia, rest_trivia}
 use Rattle.jsonc_sound.proofs.Texts.{AllUtf8}
 use Rattle.jsonc_sound.proofs.TriviaLeaves.{front_leaves}
-use Rattle.jsonc_text.specs.Paths as places
-use Rattle.jsonc_text.specs.Paths.{Entry, Value}
+use Rattle.jsonc_run.specs.texts.Paths as places
+use Rattle.jsonc_run.specs.texts.Paths.{Entry, Value}
 use Rattle.jsonc_text.specs.Gaps.{Gap}
 use Rattle.jsonc_text.proofs.UniqueGaps.{gap_unique}
 use Rattle.jsonc_sound.specs.Lines.{LinesEndLoosely, DocumentLinesEndLoosely}
 use Rattle.jsonc_sound.proofs.LooseLines.{trivia_gap, value_stops}
 use Rattle.std.proofs.lemmas.Str.{chars-nil}
-use Rattle.jsonc_text.specs.Edits as texts
-use Rattle.jsonc_text.specs.Entering.{NoCommaComes}
-use Rattle.jsonc_text.specs.Edits.{Leaves}
+use Rattle.jsonc_run.specs.texts.Edits as texts
+use Rattle.jsonc_run.specs.texts.Entering.{NoCommaComes}
+use Rattle.jsonc_run.specs.texts.Edits.{Leaves}
 use Rattle.jsonc_run.specs.promise.PlaceLaws.{text_of_leaves}
 use Rattle.jsonc_run.proofs.lemmas.promise.CommentTexts.{blanks_text}
 use Rattle.jsonc_run.proofs.lemmas.promise.Closing.{blanks_first, blanks_second}

@@ -35,12 +35,12 @@ use Rattle.jsonc_edit.specs.set.Shapes.{empty_of, EnsuredValue, comes_first, has
 use Rattle.jsonc_run.specs.Edits.{clear_root, ensure_root}
 use Rattle.jsonc_run.specs.Written.{IsChanged, by_clearing, by_ensuring, RootValueSet, given_way, has_come, RootValueEnsured, all_kept, empty_come, empty_given}
 use Rattle.jsonc_edit.specs.SeamPlaces.{RowHolds, this_element, past_other, itself, DocumentHolds, in_root}
-use Rattle.jsonc_text.specs.Paths.{Value}
-use Rattle.jsonc_text.specs.Entries as values
-use Rattle.jsonc_text.specs.Entries.{of}
-use Rattle.jsonc_text.specs.Edits as texts
-use Rattle.jsonc_text.specs.Documents.{EndsInComment, IsLineEnd}
-use Rattle.jsonc_text.specs.Edits.{ComesFirst, Makes}
+use Rattle.jsonc_run.specs.texts.Paths.{Value}
+use Rattle.jsonc_run.specs.texts.Entries as values
+use Rattle.jsonc_run.specs.texts.Entries.{of}
+use Rattle.jsonc_run.specs.texts.Edits as texts
+use Rattle.jsonc_run.specs.texts.Stretches.{EndsInComment, IsLineEnd}
+use Rattle.jsonc_run.specs.texts.Edits.{ComesFirst, Makes}
 use Rattle.jsonc_run.specs.promise.PlaceLaws.{text_of_leaves}
 use Rattle.jsonc_run.proofs.lemmas.promise.Leaves.{text_joined, utf8_first, utf8_second}
 use Rattle.jsonc_sound.specs.Documents.{all_marks}

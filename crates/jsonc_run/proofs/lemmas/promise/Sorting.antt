@@ -27,11 +27,11 @@ use Rattle.jsonc_sort.specs.Paths.{SortedAt}
 use Rattle.jsonc_sort.proofs.Choices.{Each, each_moved}
 use Rattle.jsonc_sort.proofs.Weights.{entry_count}
 use Rattle.jsonc_text.specs.Marks as text_marks
-use Rattle.jsonc_text.specs.Paths.{an_array, an_object}
-use Rattle.jsonc_text.specs.Entries.{Named, items, members, of, Changed}
-use Rattle.jsonc_text.specs.Edits as texts
-use Rattle.jsonc_text.specs.Documents.{Inside}
-use Rattle.jsonc_text.specs.Edits.{Makes}
+use Rattle.jsonc_run.specs.texts.Paths.{an_array, an_object}
+use Rattle.jsonc_run.specs.texts.Entries.{Named, items, members, of, Changed}
+use Rattle.jsonc_run.specs.texts.Edits as texts
+use Rattle.jsonc_run.specs.texts.Stretches.{Inside}
+use Rattle.jsonc_run.specs.texts.Edits.{Makes}
 use Rattle.jsonc_run.specs.promise.PlaceLaws.{node_chars, texts_of}
 use Rattle.jsonc_run.proofs.lemmas.promise.Entries.{element_text, over_text}
 use Rattle.jsonc_run.proofs.lemmas.promise.Insides.{inside_so}

@@ -8,7 +8,8 @@ use Rattle.jsonc_text.specs.Gaps.{is_in_line}
 use Rattle.jsonc_text.specs.Plain.{Plain, Items, no_items, item, Members, no_members, member}
 use Rattle.jsonc_text.specs.Marks.{Mark, MarksTo, literals_of, literals_of_items, literals_of_members}
 use Rattle.jsonc_text.specs.Spelling.{spelled}
-use Rattle.jsonc_text.specs.Documents.{Document, Parted}
+use Rattle.jsonc_text.specs.Documents.{Document}
+use Rattle.jsonc_run.specs.texts.Stretches.{Parted}
 use Rattle.jsonc_tree.specs.Content.{Content}
 use Rattle.jsonc_tree.specs.OrderedTree.{OrderedTree, own_leaf, leaves}
 use Rattle.jsonc_sound.specs.Shape as shape

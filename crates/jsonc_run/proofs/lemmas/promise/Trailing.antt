@@ -4,7 +4,7 @@ use Rattle.std.proofs.lemmas.List.{append_assoc, append-nil}
 use Rattle.std.proofs.lemmas.Str.{chars-nil}
 use Rattle.jsonc_text.specs.Options.{Options}
 use Rattle.jsonc_text.specs.Gaps.{Gap}
-use Rattle.jsonc_text.specs.Paths as places
+use Rattle.jsonc_run.specs.texts.Paths as places
 use Rattle.jsonc_tree.specs.Content.{Content, token}
 use Rattle.jsonc_tree.specs.OrderedTree.{OrderedTree, none, more, own_leaf, leaves}
 use Rattle.jsonc_layout.specs.nodes.Kinds.{is_comma, is_token, is_trivia}
@@ -24,8 +24,8 @@ use Rattle.jsonc_sound.proofs.Texts.{AllUtf8}
 use Rattle.jsonc_edit.specs.commas.Laws as losing
 use Rattle.jsonc_edit.specs.commas.Laws.{LosesCommas, closes_next}
 use Rattle.jsonc_run.specs.promise.PlaceLaws.{text_of_leaves}
-use Rattle.jsonc_text.specs.Edits as texts
-use Rattle.jsonc_text.specs.Edits.{LosesTrailing}
+use Rattle.jsonc_run.specs.texts.Edits as texts
+use Rattle.jsonc_run.specs.texts.Edits.{LosesTrailing}
 use Rattle.jsonc_run.proofs.lemmas.promise.Leaves.{document_utf8, text_joined, utf8_first, utf8_second}
 use Rattle.jsonc_run.proofs.lemmas.promise.LooseRows.{kind_of_row}
 use Rattle.jsonc_sound.proofs.ShapeValues.{close_bracket_mark, close_brace_mark, closing_text}

@@ -18,8 +18,8 @@ use Rattle.jsonc_sound.proofs.ShapeTexts.{trivia_utf8}
 use Rattle.jsonc_sound.specs.Leaving.{AreInlineTrivia}
 use Rattle.jsonc_sound.specs.TriviaChanges.{AreTrivia}
 use Rattle.jsonc_sound.proofs.Pieces.{Piece, Pieces, a_literal, a_name, a_trivia}
-use Rattle.jsonc_text.specs.Documents as documents
-use Rattle.jsonc_text.specs.Documents.{Trivia, InLine, AreLineEnds, IsLineEnd}
+use Rattle.jsonc_run.specs.texts.Stretches as documents
+use Rattle.jsonc_run.specs.texts.Stretches.{Trivia, InLine, AreLineEnds, IsLineEnd}
 use Rattle.jsonc_run.specs.promise.PlaceLaws.{text_of_leaves}
 
 pub newline_chars : (k : CstNewlineKind) → chars (newline_text k) ≡ newline_text k

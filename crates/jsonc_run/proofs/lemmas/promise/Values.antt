@@ -19,8 +19,8 @@ use Rattle.jsonc_sound.specs.TreeChanges.{IsElement, leaves_of, property_of, Ele
 use Rattle.jsonc_sound.proofs.FirstNodes.{none_changed, no_element, trivia_over, value_element, name_element}
 use Rattle.jsonc_sound.proofs.ReadRows.{closed_changed}
 use Rattle.jsonc_sound.proofs.Texts.{AllUtf8}
-use Rattle.jsonc_text.specs.Paths as places
-use Rattle.jsonc_text.specs.Paths.{an_array, an_object, opening, IsEntry, LeadsTo, EntryAt, HasEntry, ValueAt, Value}
+use Rattle.jsonc_run.specs.texts.Paths as places
+use Rattle.jsonc_run.specs.texts.Paths.{an_array, an_object, opening, IsEntry, LeadsTo, EntryAt, HasEntry, ValueAt, Value}
 use Rattle.jsonc_run.specs.promise.PlaceLaws.{text_of_leaves, node_chars, StandsInText}
 use Rattle.jsonc_run.proofs.lemmas.promise.Leaves.{row_back, value_back, front_of, back_of, document_parts, document_parts_then, text_joined, utf8_first, utf8_second, document_utf8}
 use Rattle.jsonc_sound.proofs.ShapeValues as standing

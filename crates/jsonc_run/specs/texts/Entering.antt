@@ -3,9 +3,10 @@ use Rattle.std.specs.Prelude.{ℕ, ◌≡◌, ◌≢◌, ◌⊎◌, Bool, not, �
 use Rattle.jsonc_text.specs.Options.{Options}
 use Rattle.jsonc_text.specs.Text.{is_line_end}
 use Rattle.jsonc_text.specs.Gaps.{Gap, is_blank}
-use Rattle.jsonc_text.specs.Paths.{Kind, an_array, an_object, opening, closing, IsEntry, Value, Entry}
-use Rattle.jsonc_text.specs.Entries.{Named, of, Becomes}
-use Rattle.jsonc_text.specs.Documents.{Document, IsLineEnd, AreBlanks, InLine, Without, written, Come, Inside}
+use Rattle.jsonc_run.specs.texts.Paths.{Kind, an_array, an_object, opening, closing, IsEntry, Value, Entry}
+use Rattle.jsonc_run.specs.texts.Entries.{Named, of, Becomes}
+use Rattle.jsonc_text.specs.Documents.{Document}
+use Rattle.jsonc_run.specs.texts.Stretches.{IsLineEnd, AreBlanks, InLine, Without, written, Come, Inside}
 
 -- blanks alone come, and leave, and of those that leave none ends a line
 abbrev pub is_space : ℕ → Bool

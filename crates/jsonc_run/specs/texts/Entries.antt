@@ -1,7 +1,7 @@
 -- What edits make of plain values: a container is a kind and a list of entries.
 use Rattle.std.specs.Prelude.{ℕ, Bool, true, false, List, [], ◌∷◌, ◌++◌, length, Option, Some}
 use Rattle.jsonc_text.specs.Plain.{Plain, array, object, Items, no_items, item, Members, no_members, member}
-use Rattle.jsonc_text.specs.Paths.{Kind, an_array, an_object}
+use Rattle.jsonc_run.specs.texts.Paths.{Kind, an_array, an_object}
 
 -- a value with its name; in an array the name is of no weight
 pub record Named : Type 0 where

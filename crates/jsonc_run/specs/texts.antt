@@ -1,0 +1,5 @@
+pub mod Paths
+pub mod Entries
+pub mod Stretches
+pub mod Entering
+pub mod Edits
