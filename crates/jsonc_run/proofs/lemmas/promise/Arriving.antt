@@ -50,7 +50,7 @@ use Rattle.jsonc_sound.proofs.LooseLines.{Stops, trivia_gap}
 use Rattle.jsonc_sound.specs.Rows as rows
 use Rattle.jsonc_text.specs.Gaps as text_gaps
 use Rattle.jsonc_sound.proofs.ShapeValues.{comma_mark}
-use Rattle.jsonc_text.specs.Documents as documents
+use Rattle.jsonc_run.specs.texts.Stretches as documents
 use Rattle.jsonc_run.specs.texts.Entering as entering
 use Rattle.jsonc_sound.specs.Lines.{LinesEndLoosely}
 use Rattle.jsonc_run.specs.texts.Paths as places

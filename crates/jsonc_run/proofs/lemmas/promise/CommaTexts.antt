@@ -1,7 +1,7 @@
 -- Texts without some of their characters.
 use Rattle.std.proofs.Common.{ℕ, Bool, List, [], ◌∷◌, ◌++◌}
 use Rattle.jsonc_run.specs.texts.Stretches.{Without}
-use Rattle.jsonc_text.specs.Documents as documents
+use Rattle.jsonc_run.specs.texts.Stretches as documents
 
 -- the same characters before two texts
 pub same_before : {p : ℕ → Bool} (s : List ℕ) {x y : List ℕ} → Without p x y → Without p (s ++ x) (s ++ y)

@@ -13,7 +13,7 @@ use Rattle.jsonc_sound.specs.Leaves.{is_inner_blank}
 use Rattle.jsonc_sound.proofs.ShapeTexts.{trivia_utf8}
 use Rattle.jsonc_sound.specs.MarkChanges.{AreBlanks}
 use Rattle.jsonc_sound.proofs.Pieces.{Pieces}
-use Rattle.jsonc_text.specs.Documents as documents
+use Rattle.jsonc_run.specs.texts.Stretches as documents
 use Rattle.jsonc_run.specs.promise.PlaceLaws.{text_of_leaves}
 use Rattle.jsonc_run.proofs.lemmas.promise.Trivia.{first_text, newline_chars, piece_trivia}
 

@@ -25,7 +25,7 @@ use Rattle.jsonc_edit.specs.multiline.Reflows as reflows
 use Rattle.jsonc_edit.specs.multiline.Reflows.{Reflows, SpreadsOut}
 use Rattle.jsonc_run.specs.Edits.{ensure_multiline, set_commas, set_some_commas}
 use Rattle.jsonc_run.specs.Written.{IsChanged, by_lines, by_commas, by_some_commas}
-use Rattle.jsonc_text.specs.Documents as documents
+use Rattle.jsonc_run.specs.texts.Stretches as documents
 use Rattle.jsonc_run.specs.texts.Edits as texts
 use Rattle.jsonc_run.specs.texts.Stretches.{Inside, Without}
 use Rattle.jsonc_run.specs.texts.Entering.{is_space}

@@ -7,7 +7,7 @@ use Rattle.jsonc_text.specs.Text.{is_line_end}
 use Rattle.jsonc_text.specs.Gaps.{Gap}
 use Rattle.jsonc_run.specs.texts.Paths.{Kind}
 use Rattle.jsonc_run.specs.texts.Paths as places
-use Rattle.jsonc_text.specs.Documents as documents
+use Rattle.jsonc_run.specs.texts.Stretches as documents
 use Rattle.jsonc_run.specs.texts.Entering as entering
 use Rattle.jsonc_run.specs.texts.Stretches.{IsLineEnd}
 use Rattle.jsonc_run.specs.texts.Entering.{Along, HasLineEnd}
