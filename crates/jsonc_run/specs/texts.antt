@@ -2,4 +2,5 @@ pub mod Paths
 pub mod Entries
 pub mod Stretches
 pub mod Entering
+pub mod Sorting
 pub mod Edits

@@ -25,7 +25,7 @@ module _ (o : Options) (kind : RowKind) (top : ℕ → Top) where
   abbrev Quiet : ℕ → Type 0
   Quiet n = IsQuiet o kind top (top n)
 
-  abbrev AllQuiet : List ℕ → Type 0
+  abbrev pub AllQuiet : List ℕ → Type 0
   AllQuiet row = Quiets o kind top row
 
   abbrev Runs_ : Last → List Slot → Last → Type 0
@@ -75,10 +75,10 @@ module _ (o : Options) (kind : RowKind) (top : ℕ → Top) where
   tail_runs false tail g = with_none tail g
 
   -- leads of trivia
-  record QuietLead (p : LeadParts) : Type 0 where
-    front : AllQuiet p.front
-    travels : AllQuiet p.travels
-    indent : AllQuiet p.indent
+  pub record QuietLead (p : LeadParts) : Type 0 where
+    pub front : AllQuiet p.front
+    pub travels : AllQuiet p.travels
+    pub indent : AllQuiet p.indent
 
   quiet_lead : (groups : Bool) (pin : Option ℕ) (lead : List ℕ) → AllQuiet lead → QuietLead (lead_parts at groups pin lead)
   quiet_lead groups pin lead h =
@@ -100,11 +100,11 @@ module _ (o : Options) (kind : RowKind) (top : ℕ → Top) where
           }
 
   -- entries
-  record IsEntry (e : Entry) : Type 0 where
-    lead : QuietLead e.lead
-    element : IsWhole o kind top (top e.element)
-    to : Last
-    tail : Gap o kind top rows.an_element e.tail to
+  pub record IsEntry (e : Entry) : Type 0 where
+    pub lead : QuietLead e.lead
+    pub element : IsWhole o kind top (top e.element)
+    pub to : Last
+    pub tail : Gap o kind top rows.an_element e.tail to
 
   quiet_travelling : (first : Bool) (row : List ℕ) → AllQuiet row → AllQuiet (travelling at first row)
   quiet_travelling true row h = each_drop Quiet (blank_lines at row) row h
@@ -193,19 +193,26 @@ module _ (o : Options) (kind : RowKind) (top : ℕ → Top) where
   end_may true (p ∷ ps) h = h refl
   end_may false (p ∷ ps) h = refl
 
-  pub row_rearranges : (newline_kind : CstNewlineKind) (h : Headers) (row order : List ℕ) → IsRow rows.nothing_yet (parts at row) → IsPermutation (range_with_len 0 (length (entries at h row))) order
-      → Rearranges (lines_ended at newline_kind (rearranged at (entries at h row) order ++ all_stay (row_end at row)))
-  row_rearranges k h row order r p =
-      let lead : AllQuiet (parts at row).lead = (quiet_gap o kind top tt r.lead).0 in
-      let are = entries_are h.groups h.pinned (parts at row).lead (parts at row).rest lead r.rest in
+  pub entries_in : (h : Headers) (row : List ℕ) → IsRow rows.nothing_yet (parts at row) → Each IsEntry (entries at h row) × AllQuiet (row_end at row)
+  entries_in h row r = entries_are h.groups h.pinned (parts at row).lead (parts at row).rest (quiet_gap o kind top tt r.lead).0 r.rest
+
+  -- before lines end behind its comments
+  pub row_moves : (h : Headers) (row order : List ℕ) → IsRow rows.nothing_yet (parts at row) → IsPermutation (range_with_len 0 (length (entries at h row))) order
+      → Rearranges (rearranged at (entries at h row) order ++ all_stay (row_end at row))
+  row_moves h row order r p =
+      let are = entries_in h row r in
       let es : List Entry = entries at h row in
       let xs : List Entry = map (entry_at es) order in
       let commas : Bool = ends_with_comma at es in
       let moved : Each IsEntry xs = each_moved IsEntry es xs (all_moved no_entry es order p) are.0 in
-      let body = placed_runs true commas (zip es xs) (zipped es xs are.0 moved) in
-      let to : Last = ended true commas (zip es xs) in
       record {
-        to = to;
+        to = ended true commas (zip es xs);
         ends = end_may commas (zip es xs) (last_comma h.groups h.pinned (parts at row).lead (parts at row).rest r.rest);
-        runs = lines_run k (runs_joined o kind top body (runs_quiets o kind top (row_end at row) are.1));
+        runs = runs_joined o kind top (placed_runs true commas (zip es xs) (zipped es xs are.0 moved)) (runs_quiets o kind top (row_end at row) are.1);
       }
+
+  pub row_rearranges : (newline_kind : CstNewlineKind) (h : Headers) (row order : List ℕ) → IsRow rows.nothing_yet (parts at row) → IsPermutation (range_with_len 0 (length (entries at h row))) order
+      → Rearranges (lines_ended at newline_kind (rearranged at (entries at h row) order ++ all_stay (row_end at row)))
+  row_rearranges k h row order r p =
+      let before = row_moves h row order r p in
+      record { to = before.to; ends = before.ends; runs = lines_run k before.runs }

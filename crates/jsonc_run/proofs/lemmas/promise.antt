@@ -34,6 +34,9 @@ pub mod Trailing
 pub mod Lines
 pub mod NamedProperties
 pub mod Properties
+pub mod SortedParts
+pub mod SortedEntries
+pub mod SortedTexts
 pub mod Sorting
 pub mod Chains
 pub mod Leads

@@ -1,6 +1,5 @@
 -- Literals and comments of a document parted at a place, and stretches of text that edits speak of.
 use Rattle.std.specs.Prelude.{ℕ, ◌≡◌, Bool, not, ◌&&◌, List, [], ◌∷◌, ◌++◌, IsTrue}
-use Rattle.jsonc_text.specs.Options.{Options}
 use Rattle.jsonc_text.specs.Text.{Many, is_line_end}
 use Rattle.jsonc_text.specs.Gaps.{IsComment, is_blank}
 use Rattle.jsonc_text.specs.Spelling.{spelled}
