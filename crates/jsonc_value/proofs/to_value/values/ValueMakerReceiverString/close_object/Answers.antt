@@ -24,3 +24,14 @@ returns-clause-made g c = λ s ms h.
       collapsed = c.object_of.ensures.plain ∙ ap (λ ps. object (members_plain ps)) same ∙ ap object h.are.0;
       lent = subst (AreLent (source_in s)) (sym (c.object_of.ensures.texts ∙ ap texts_in_properties same)) (all_lent (source_in s) [] h.properties (All-nil (IsLent (source_in s))) h.lent);
     }
+
+pub returns-then-are_few_distinct-clause-made : goal.returns-then-are_few_distinct-clause-made
+returns-then-are_few_distinct-clause-made g c = λ s ms h.
+    let apart : Parted c.args.self.now.properties.items s.properties.items h.properties c.args.object = parted c.args.self.now.properties.items s.properties.items h.properties c.args.object h.begins h.stacked in
+    let same = c.of_few.ensures ∙ ap (insert_all same_name []) (c.in_ok-properties.ensures.taken ∙ apart.taken) in
+    record {
+      source = h.source;
+      stacks = (h.same, c.in_ok-properties.ensures.left ∙ apart.left);
+      collapsed = c.object_of.ensures.plain ∙ ap (λ ps. object (members_plain ps)) same ∙ ap object h.are.0;
+      lent = subst (AreLent (source_in s)) (sym (c.object_of.ensures.texts ∙ ap texts_in_properties same)) (all_lent (source_in s) [] h.properties (All-nil (IsLent (source_in s))) h.lent);
+    }
