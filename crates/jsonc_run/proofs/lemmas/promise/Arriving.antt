@@ -1,6 +1,7 @@
 -- What an element that comes into a container of a sound tree adds to the text.
 use Rattle.std.proofs.Common.{◌||◌, ◌==◌, inr, inl, ◌⊎◌, arith, ℕ, ◌+◌, ◌≡◌, ◌≢◌, ◌∙◌, sym, ap, subst, refl, Bool, true, false, not, List, [], ◌∷◌, ◌++◌, length, IsTrue, Option}
 use Rattle.std.proofs.lemmas.List.{append_assoc, append-nil}
+use Rattle.std.proofs.lemmas.Str.{chars-nil}
 use Rattle.jsonc_text.specs.Options.{Options}
 use Rattle.jsonc_text.specs.Plain.{Plain}
 use Rattle.jsonc_tree.specs.Content.{Content, token, newline}
@@ -39,12 +40,12 @@ use Rattle.jsonc_run.proofs.lemmas.promise.Stretches.{marks_in, marks_in_both, p
 use Rattle.jsonc_sound.specs.Documents.{all_marks, document_of}
 use Rattle.jsonc_run.proofs.lemmas.promise.Values.{at_the_place, node_leaves}
 use Rattle.jsonc_run.proofs.lemmas.promise.Insides.{as_many, comma_comes, gap_trivia, goes_on, inside_so, texts_followed, texts_past}
-use Rattle.jsonc_run.proofs.lemmas.promise.Joined.{EntriesOf, Good, none_behind, bracket_follows, close_text, gap_blanks, good_as, good_first, good_second, good_tree, led_so, lines_behind, lines_past, lines_trimmed, no_comma_closes, one_token, onward, open_text, past_some, past_stretch, with_row}
+use Rattle.jsonc_run.proofs.lemmas.promise.Joined.{EntriesOf, Good, blanks_are_trivia, none_behind, bracket_follows, close_text, gap_blanks, good_as, good_first, good_second, good_tree, led_so, lines_behind, lines_past, lines_trimmed, no_comma_closes, one_token, onward, open_text, past_some, past_stretch, with_row}
 use Rattle.jsonc_sound.proofs.RowParts.{leaves_followed}
 use Rattle.jsonc_tree.proofs.Rows.{followed_by-assoc}
 use Rattle.jsonc_run.proofs.lemmas.promise.Values.{ValueHere}
 use Rattle.jsonc_run.proofs.lemmas.promise.CommentTexts.{blanks_text}
-use Rattle.jsonc_run.proofs.lemmas.promise.LooseRows.{AreLeaves, Ended, all_trivia, behind_one, Reads, behind_entry, entry_read, reads_on, closing_gap, ended, kind_of_row, none_comes, row_reads}
+use Rattle.jsonc_run.proofs.lemmas.promise.LooseRows.{AreLeaves, Ended, all_trivia, behind_one, Reads, behind_entry, entry_read, reads_on, closing_gap, ended, kind_of_row, none_comes, row_reads, trivia_leaves}
 use Rattle.jsonc_run.proofs.lemmas.promise.Closing.{count_followed}
 use Rattle.jsonc_sound.proofs.LooseLines.{Stops, trivia_gap}
 use Rattle.jsonc_sound.specs.Rows as rows
@@ -85,11 +86,15 @@ regroup_marks f a b c = simp (append_assoc) refl
 -- what a new element adds to a text, its place there, and its marks
 abbrev pub TextComes : RowKind → List ℕ → ℕ → List Mark → Document → Document → Type 0
 TextComes kind path n come d e = (before behind : List (List ℕ)) × (length before ≡ n) × (text rest : List ℕ) × Inside path (before ++ behind) (before ++ text ∷ behind) d e
-    × Entry (path ++ length before ∷ []) e.options e.text (text ++ rest) rest × Come come (text ++ rest) rest d e × Joins (kind_of_row kind) behind text rest d e
+    × Entry (path ++ length before ∷ []) e.options e.text (text ++ rest) rest × Come come (text ++ rest) rest d e × Joins (kind_of_row kind) before behind text rest d e
 
 opening_so : (kind : RowKind) → IsTrue (places.opening (kind_of_row kind) == 0x2C || places.opening (kind_of_row kind) == places.opening (kind_of_row kind))
 opening_so of_values = refl
 opening_so of_properties = refl
+
+no_length : (l : List (List ℕ)) → length l ≡ 0 → l ≡ []
+no_length [] e = refl
+no_length (x ∷ l) e = absurd (omega (arith, e))
 
 element_stops : (content : Content) (below after : OrderedTree) → IsElement content → Stops (more content below after)
 element_stops (Content.whitespace s) below after h = cc
@@ -202,7 +207,7 @@ module _ (o : Options) (kind : RowKind) (row middle kept new : OrderedTree) {pat
   row_regroup : (l g a b h : List Content) → l ++ (g ++ (a ++ (b ++ h))) ≡ l ++ (g ++ ((a ++ b) ++ h))
   row_regroup l g a b h = simp (append_assoc) refl
 
-  module _ (spreads : Spreading) (top : Top) (element : IsElement top.content) (front back led behind : OrderedTree) (gap : List Content) (c : CommaInserted front led) (taken : IsTrue (coming.takes_element (rows.last_behind rows.nothing_yet led))) (no_comma : IsTrue (not (leaving.comma_comes back))) {must : Bool} (g : Gap must gap) (must_is : must ≡ has_newline (followed_by front back)) (on : GoesOn o gap back behind)
+  module _ (spreads : Spreading) (top : Top) (element : IsElement top.content) (front back led behind : OrderedTree) (gap : List Content) (c : CommaInserted front led) (taken : IsTrue (coming.takes_element (rows.last_behind rows.nothing_yet led))) (no_comma : IsTrue (not (leaving.comma_comes back))) {must : Bool} (g : Gap must gap) (must_is : must ≡ has_newline (followed_by front back)) (on : GoesOn o gap back behind) (stands : coming.Follows gap led (element_count (followed_by front back))) (ends : coming.EndsRow behind (element_count (followed_by front back)))
       (kept_is : followed_by front back ≡ kept) (new_is : followed_by led (leaves_then gap (more top.content top.below behind)) ≡ new) (w x : Option Plain) where
     abbrev own : List Content
     own = leaves_of top
@@ -345,17 +350,17 @@ module _ (o : Options) (kind : RowKind) (row middle kept new : OrderedTree) {pat
     no_line_led : must ≡ false → has_newline led ≡ false
     no_line_led e = led_lacks c (both_lack front back (sym must_is ∙ e)).0
 
-    abbrev Ready : List ℕ → List ℕ → Type 0
-    Ready lead rest = (y z : List ℕ) × (c : ℕ) × (lead ≡ y ++ c ∷ z) × IsTrue (c == 0x2C || c == places.opening k) × text_gaps.Gap o (z ++ (text_of_leaves gap ++ (node_chars top ++ rest))) (node_chars top ++ rest) × (documents.InLine z ⊎ StartsLine)
+    abbrev Reaches : List ℕ → List ℕ → Type 0
+    Reaches lead rest = (y z : List ℕ) × (c : ℕ) × (lead ≡ y ++ c ∷ z) × IsTrue (c == 0x2C || c == places.opening k) × text_gaps.Gap o (z ++ (text_of_leaves gap ++ (node_chars top ++ rest))) (node_chars top ++ rest) × (documents.InLine z ⊎ StartsLine)
 
-    ready : (rest : List ℕ) → rest ≡ text_of_leaves (leaves behind) ++ (places.closing k ∷ B) → Ready (F ++ (places.opening k ∷ text_of_leaves (leaves led))) rest
-    ready rest e =
+    reaches : (rest : List ℕ) → rest ≡ text_of_leaves (leaves behind) ++ (places.closing k ∷ B) → Reaches (F ++ (places.opening k ∷ text_of_leaves (leaves led))) rest
+    reaches rest e =
         let all = row_reads o B kind here_new in
         let r0 = subst (Reads o k B) whole_row all.0 in
         let l0 = subst (LinesEndLoosely true false) whole_row all.1 in
         by (ended o k B gap (gap_trivia g) top.content top.below (followed_by behind bracket) led rows.nothing_yet r0 taken) l0
       where
-        by : Ended o k B gap (gap_trivia g) top.content top.below (followed_by behind bracket) rows.nothing_yet led → LinesEndLoosely true false (followed_by led (leaves_then gap next_row)) → Ready (F ++ (places.opening k ∷ text_of_leaves (leaves led))) rest
+        by : Ended o k B gap (gap_trivia g) top.content top.below (followed_by behind bracket) rows.nothing_yet led → LinesEndLoosely true false (followed_by led (leaves_then gap next_row)) → Reaches (F ++ (places.opening k ∷ text_of_leaves (leaves led))) rest
         by (all_trivia h f a) l0 =
             (F, text_of_leaves (leaves led), places.opening k, refl, opening_so kind, subst (λ y. text_gaps.Gap o y (node_chars top ++ rest)) (next_text rest e led g_led) (subst (text_gaps.Gap o (printed_text (followed_by led (leaves_then gap next_row)) ++ B)) (first_text rest e) (trivia_gap o B true false (λ w. cc) (element_stops top.content top.below (followed_by behind bracket) element) f l0).0), started g led g_led a no_line_led (good_first o gap (own ++ leaves behind) g1).utf8)
         by (behind_one s1 s2 q f a) l0 =
@@ -376,6 +381,55 @@ module _ (o : Options) (kind : RowKind) (row middle kept new : OrderedTree) {pat
               subst (λ y. text_gaps.Gap o y (node_chars top ++ rest)) (next_text rest e s2 h2) (subst (text_gaps.Gap o (printed_text (followed_by s2 (leaves_then gap next_row)) ++ B)) (first_text rest e) (trivia_gap o B true false (λ w. cc) (element_stops top.content top.below (followed_by behind bracket) element) f l1).0),
               started g s2 (good_second o (token 0x2C ∷ []) (leaves s2) h1) a (λ e2. (both_lack s1 (token_then 0x2C s2) (ap has_newline (sym q) ∙ no_line_led e2)).1) (good_first o gap (own ++ leaves behind) g1).utf8,
             )
+
+    -- or nothing stands between
+    gap_here : (rest : List ℕ) → rest ≡ text_of_leaves (leaves behind) ++ (places.closing k ∷ B) → text_gaps.Gap o (text_of_leaves gap ++ (node_chars top ++ rest)) (node_chars top ++ rest)
+    gap_here rest e =
+        let all = row_reads o B kind here_new in
+        let r0 = subst (Reads o k B) whole_row all.0 in
+        let l0 = subst (LinesEndLoosely true false) whole_row all.1 in
+        let r1 = past_stretch o k B led (leaves_then gap next_row) some_tail r0 in
+        let l1 = lines_behind led (leaves_then gap next_row) l0 in
+        let f = trivia_leaves o k B gap (gap_trivia g) top.content top.below (followed_by behind bracket) gap (gap_trivia g) r1 in
+        let good : Good o [] = good_first o [] (leaves led) g_led in
+        let text = next_text rest e none good ∙ ap (λ l. l ++ (text_of_leaves gap ++ (node_chars top ++ rest))) chars-nil in
+        subst (λ y. text_gaps.Gap o y (node_chars top ++ rest)) text
+        (subst (text_gaps.Gap o (printed_text (leaves_then gap next_row) ++ B)) (first_text rest e) (trivia_gap o B true false (λ w. cc) (element_stops top.content top.below (followed_by behind bracket) element) f l1).0)
+
+    abbrev Alone : Type 0
+    Alone = texts_of front ++ texts_of back ≡ []
+
+    abbrev Ready : List ℕ → List ℕ → Type 0
+    Ready lead rest = (y z : List ℕ) × (c : ℕ) × (lead ≡ y ++ c ∷ z) × IsTrue (c == 0x2C || c == places.opening k) × text_gaps.Gap o (z ++ (text_of_leaves gap ++ (node_chars top ++ rest))) (node_chars top ++ rest)
+        × ((z ≡ []) ⊎ (StartsLine ⊎ (Alone × documents.InLine z)))
+
+    ready : (rest : List ℕ) → rest ≡ text_of_leaves (leaves behind) ++ (places.closing k ∷ B) → Ready (F ++ (places.opening k ∷ text_of_leaves (leaves led))) rest
+    ready rest e = by stands
+      where
+        by : coming.Follows gap led (element_count (followed_by front back)) → Ready (F ++ (places.opening k ∷ text_of_leaves (leaves led))) rest
+        by (coming.behind_line_end b) = let y = reaches rest e in (y.0, y.1, y.2, y.3, y.4, y.5, inr (inl (starts_line b refl (good_first o gap (own ++ leaves behind) g1).utf8)))
+        by (coming.behind_bracket q) = (F, [], places.opening k, ap (λ z. F ++ (places.opening k ∷ text_of_leaves (leaves z))) q ∙ ap (λ l. F ++ (places.opening k ∷ l)) chars-nil, opening_so kind, gap_here rest e, inl refl)
+        by (coming.behind_comma first q) =
+            let parts2 : leaves led ≡ leaves first ++ (token 0x2C ∷ []) = ap leaves q ∙ leaves-followed_by first (token_then 0x2C none) in
+            let text : text_of_leaves (leaves led) ≡ text_of_leaves (leaves first) ++ (0x2C ∷ []) =
+            ap text_of_leaves parts2 ∙ text_joined (leaves first) (token 0x2C ∷ []) (good_first o (leaves first) (token 0x2C ∷ []) (good_as o parts2 g_led)).utf8 ∙ ap (λ l. text_of_leaves (leaves first) ++ l) (one_token comma_mark) in
+            (F ++ (places.opening k ∷ text_of_leaves (leaves first)), [], 0x2C, ap (λ l. F ++ (places.opening k ∷ l)) text ∙ sym (append_assoc F (places.opening k ∷ text_of_leaves (leaves first)) (0x2C ∷ [])), refl, gap_here rest e, inl refl)
+        by (coming.no_others n) =
+            let y = reaches rest e in
+            let none_there : Alone = sym (texts_followed front back) ∙ no_length (texts_of (followed_by front back)) (sym (as_many (followed_by front back)) ∙ n) in
+            (y.0, y.1, y.2, y.3, y.4, y.5, elim y.6 [ inl i ↦ inr (inr (none_there, i)) | inr l ↦ inr (inl l) ])
+
+    -- blanks alone stand behind the only entry
+    ends_alone : (rest : List ℕ) → rest ≡ text_of_leaves (leaves behind) ++ (places.closing k ∷ B) → Alone → (z y : List ℕ) × documents.AreBlanks z × (rest ≡ z ++ places.closing k ∷ y)
+    ends_alone rest e none_there =
+        let counted : element_count (followed_by front back) ≡ 0 = as_many (followed_by front back) ∙ ap (λ (l : List (List ℕ)). length l) (texts_followed front back ∙ none_there) in
+        let a = ends counted in
+        let is : leaves behind ≡ a.0 = ap leaves a.2 ∙ none_behind a.0 (blanks_are_trivia a.0 a.1) in (
+          text_of_leaves a.0,
+          B,
+          blanks_text o a.0 a.1 (good_as o is g3).pieces,
+          e ∙ ap (λ l. text_of_leaves l ++ (places.closing k ∷ B)) is,
+        )
 
     -- the entry that a comma has come behind
     comma_entry : (rest : List ℕ) → rest ≡ text_of_leaves (leaves behind) ++ (places.closing k ∷ B) → EntriesOf o kind F B led (text_of_leaves gap ++ (node_chars top ++ rest))
@@ -407,7 +461,7 @@ module _ (o : Options) (kind : RowKind) (row middle kept new : OrderedTree) {pat
         let u = (good_first o (leaves front) (leaves back) (good_as o split h)).utf8 in
         ap (with_row o kind F B) (ap text_of_leaves split ∙ text_joined (leaves front) (leaves back) u) ∙ kept_regroup (places.opening k) (places.closing k) F (text_of_leaves (leaves front)) (text_of_leaves (leaves back)) B
 
-    pub joins_so : (rest : List ℕ) → rest ≡ text_of_leaves (leaves behind) ++ (places.closing k ∷ B) → Joins k (texts_of back) (node_chars top) rest (document_of o t w) (document_of o u x)
+    pub joins_so : (rest : List ℕ) → rest ≡ text_of_leaves (leaves behind) ++ (places.closing k ∷ B) → Joins k (texts_of front) (texts_of back) (node_chars top) rest (document_of o t w) (document_of o u x)
     joins_so rest e =
         let m = spreads (row_good row old_good) in
         let l = lines_trimmed o kind F B leave m.0 in
@@ -439,6 +493,7 @@ module _ (o : Options) (kind : RowKind) (row middle kept new : OrderedTree) {pat
           y.4,
           y.5,
           y.6,
+          ends_alone rest e,
         )
 
     pub rest_is : (b : List Content) → b ≡ back_of d → text_of_leaves ((leaves behind ++ leaves bracket) ++ b) ≡ text_of_leaves (leaves behind) ++ (places.closing k ∷ B)
@@ -456,7 +511,7 @@ module _ (o : Options) (kind : RowKind) (row kept new : OrderedTree) {path : Lis
   text_comes c = by c refl refl
     where
       by : {n : ℕ} {k now : OrderedTree} → ElementInserted o top n k now → k ≡ kept → now ≡ new → TextComes kind path n come (document_of o t w) (document_of o u x)
-      by (coming.comes front back led behind gap c taken no_comma g on) e f =
+      by (coming.comes front back led behind gap c taken no_comma g on stands ends) e f =
           let bracket : OrderedTree = token_then (closing kind) none in
           let around : DocumentChanged (bracketed kind new) (bracketed kind row) path u t = flip d in
           let tail : OrderedTree = more top.content top.below behind in
@@ -505,5 +560,5 @@ module _ (o : Options) (kind : RowKind) (row kept new : OrderedTree) {path : Lis
             subst (λ ts. Inside path (texts_of front ++ texts_of back) ts (document_of o t w) (document_of o u x)) new_texts (subst (λ ts. Inside path ts (texts_of (followed_by new bracket)) (document_of o t w) (document_of o u x)) old_texts (inside_so o kind s r d w x)),
             entry,
             (marks_in ahead, marks_in back_leaves, parted_as refl is refl new_parted, old_marks),
-            joins_so o kind row middle kept new s r d leave spreads top element front back led behind gap c taken no_comma g refl on e f w x (text_of_leaves back_leaves) (rest_is o kind row middle kept new s r d leave spreads top element front back led behind gap c taken no_comma g refl on e f w x (back_of around) (back_same d)),
+            joins_so o kind row middle kept new s r d leave spreads top element front back led behind gap c taken no_comma g refl on stands ends e f w x (text_of_leaves back_leaves) (rest_is o kind row middle kept new s r d leave spreads top element front back led behind gap c taken no_comma g refl on stands ends e f w x (back_of around) (back_same d)),
           )

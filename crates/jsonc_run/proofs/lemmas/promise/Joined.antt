@@ -68,7 +68,7 @@ module _ (o : Options) where
   pub good_tree : {t : OrderedTree} → SoundTree o t → Good o (leaves t)
   good_tree s = record { pieces = document_pieces o (document_alone o s.shaped); utf8 = document_utf8 o s.shaped }
 
-blanks_are_trivia : (ls : List Content) → AreBlanks ls → AreTrivia ls
+pub blanks_are_trivia : (ls : List Content) → AreBlanks ls → AreTrivia ls
 blanks_are_trivia [] h = tt
 blanks_are_trivia (whitespace s ∷ ls) h = (refl, blanks_are_trivia ls h.1)
 blanks_are_trivia (newline k ∷ ls) h = (refl, blanks_are_trivia ls h.1)

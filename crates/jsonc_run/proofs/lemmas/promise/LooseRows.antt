@@ -264,7 +264,7 @@ module _ (o : Options) (kind : Kind) (z : List ℕ) (ls : List Content) (are : A
     all_trivia : IsTrue (takes_element last) → Trivia o (followed_by s Tail) Target → AreLeaves s → Ended last s
     behind_one : (s1 s2 : OrderedTree) → s ≡ followed_by s1 (token_then 0x2C s2) → Trivia o (followed_by s2 Tail) Target → AreLeaves s2 → Ended last s
 
-  trivia_leaves : (l : List Content) → AreTrivia l → Reads o kind z (leaves_then l Target) → Trivia o (leaves_then l Target) Target
+  pub trivia_leaves : (l : List Content) → AreTrivia l → Reads o kind z (leaves_then l Target) → Trivia o (leaves_then l Target) Target
   trivia_leaves [] h k = shape.nothing
   trivia_leaves (x ∷ l) h (inl m) = absurd (never_ends none l c b r m.2)
   trivia_leaves (x ∷ l) h (inr (is_a_leaf t e, k)) = shape.trivia t (trivia_leaves l h.1 k)
