@@ -5,6 +5,7 @@ pub mod Reversed
 pub mod Plains
 pub mod MarkLists
 pub mod Stretches
+pub mod LaidTexts
 pub mod ReplacedTexts
 pub mod StretchElements
 pub mod Trivia

@@ -7,6 +7,7 @@ use Rattle.jsonc_run.specs.texts.Paths.{Kind, an_array, an_object, opening, clos
 use Rattle.jsonc_run.specs.texts.Entries.{Named, of, Becomes}
 use Rattle.jsonc_text.specs.Documents.{Document}
 use Rattle.jsonc_run.specs.texts.Stretches.{IsLineEnd, AreBlanks, InLine, Without, written, Come, Inside}
+use Rattle.jsonc_run.specs.texts.Layout.{IsLaidEntry}
 
 -- blanks alone come, and leave, and of those that leave none ends a line
 abbrev pub is_space : ℕ → Bool
@@ -63,8 +64,9 @@ Joins kind before follow new rest d e = (spread shorter front led gap comma behi
     × ((t ≡ []) ⊎ (StartsLine gap ⊎ ((before ++ follow ≡ []) × InLine t)))
     × ((before ++ follow ≡ []) → (z r : List ℕ) × AreBlanks z × (rest ≡ z ++ closing kind ∷ r))
 
--- Between these and those an entry comes into the container at the path, and its marks with its text; each other keeps its text.
+-- Between these and those an entry comes into the container at the path, in one of the layouts, and its marks with its text; each other keeps its text.
 abbrev pub Gains : Kind → List ℕ → (front back : List Named) → Named → Document → Document → Type 0
 Gains kind path front back new d e = Becomes (of kind (front ++ back)) (of kind (front ++ new ∷ back)) path d.value e.value
     × (before behind : List (List ℕ)) × (length before ≡ length front) × (text rest : List ℕ) × Inside path (before ++ behind) (before ++ text ∷ behind) d e
     × Entry (path ++ length before ∷ []) e.options e.text (text ++ rest) rest × Come (written kind new) (text ++ rest) rest d e × Joins kind before behind text rest d e
+    × IsLaidEntry kind new text

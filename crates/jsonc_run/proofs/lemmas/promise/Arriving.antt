@@ -17,6 +17,8 @@ use Rattle.jsonc_sound.specs.Rows.{RowKind, of_values, of_properties, closing, o
 use Rattle.jsonc_sound.specs.SoundTrees.{SoundTree}
 use Rattle.jsonc_sound.specs.Marks.{marks, marks_of}
 use Rattle.jsonc_sound.specs.TreeChanges.{IsElement, leaves_of, ElementChanged, this_element, passed, later_element, DocumentChanged}
+use Rattle.jsonc_sound.proofs.NodesAlone.{document_alone}
+use Rattle.jsonc_sound.proofs.Pieces.{Pieces, document_pieces}
 use Rattle.jsonc_sound.proofs.Texts.{AllUtf8}
 use Rattle.jsonc_sound.proofs.TriviaLeaves.{front_leaves}
 use Rattle.jsonc_edit.specs.multiline.Laws.{bracketed}
@@ -36,7 +38,7 @@ use Rattle.jsonc_run.proofs.lemmas.promise.Reversed.{flip, front_same, back_same
 use Rattle.jsonc_run.proofs.lemmas.promise.Leaves.{row_back, front_of, back_of, document_parts, document_utf8, text_joined, utf8_first, utf8_joined, utf8_second}
 use Rattle.jsonc_run.proofs.lemmas.promise.StretchElements.{Reached, at_first, past_leaves, past_row}
 use Rattle.jsonc_run.proofs.lemmas.promise.RemovedTexts.{container_leaves, entry_begins, entry_there, none_more}
-use Rattle.jsonc_run.proofs.lemmas.promise.Stretches.{marks_in, marks_in_both, parted, parted_as}
+use Rattle.jsonc_run.proofs.lemmas.promise.Stretches.{marks_in, marks_in_both, parted, parted_as, pieces_first, pieces_second}
 use Rattle.jsonc_sound.specs.Documents.{all_marks, document_of}
 use Rattle.jsonc_run.proofs.lemmas.promise.Values.{at_the_place, node_leaves}
 use Rattle.jsonc_run.proofs.lemmas.promise.Insides.{as_many, comma_comes, gap_trivia, goes_on, inside_so, texts_followed, texts_past}
@@ -83,10 +85,11 @@ regroup f ld ow bh br b c = simp (append_assoc) refl
 regroup_marks : (f a b c : List Mark) → f ++ ((a ++ b) ++ c) ≡ (f ++ a) ++ (b ++ c)
 regroup_marks f a b c = simp (append_assoc) refl
 
--- what a new element adds to a text, its place there, and its marks
-abbrev pub TextComes : RowKind → List ℕ → ℕ → List Mark → Document → Document → Type 0
-TextComes kind path n come d e = (before behind : List (List ℕ)) × (length before ≡ n) × (text rest : List ℕ) × Inside path (before ++ behind) (before ++ text ∷ behind) d e
+-- what a new element adds to a text, which is such a one, its place there, and its marks
+abbrev pub TextComes : RowKind → List ℕ → ℕ → (List ℕ → Type 0) → List Mark → Document → Document → Type 0
+TextComes kind path n Is come d e = (before behind : List (List ℕ)) × (length before ≡ n) × (text rest : List ℕ) × Inside path (before ++ behind) (before ++ text ∷ behind) d e
     × Entry (path ++ length before ∷ []) e.options e.text (text ++ rest) rest × Come come (text ++ rest) rest d e × Joins (kind_of_row kind) before behind text rest d e
+    × Is text
 
 opening_so : (kind : RowKind) → IsTrue (places.opening (kind_of_row kind) == 0x2C || places.opening (kind_of_row kind) == places.opening (kind_of_row kind))
 opening_so of_values = refl
@@ -506,11 +509,12 @@ module _ (o : Options) (kind : RowKind) (row middle kept new : OrderedTree) {pat
 
 module _ (o : Options) (kind : RowKind) (row kept new : OrderedTree) {path : List ℕ} {t u : OrderedTree} (s : SoundTree o t) (r : SoundTree o u) (d : DocumentChanged (bracketed kind row) (bracketed kind new) path t u)
     (w x : Option Plain) (same_texts : texts_of row ≡ texts_of kept) (same_marks : marks kept ≡ marks row) {top : Top} (element : IsElement top.content) (come : List Mark) (is : marks_in (leaves_of top) ≡ come)
+    (Is : List ℕ → Type 0) (laid_so : Pieces o (leaves_of top) → AllUtf8 (leaves_of top) → Is (text_of_leaves (leaves_of top)))
     (middle : OrderedTree) (leave : BlankLinesLeave middle kept) (spreads : Spreading o kind row middle kept new s r d leave) where
-  pub text_comes : {n : ℕ} → ElementInserted o top n kept new → TextComes kind path n come (document_of o t w) (document_of o u x)
+  pub text_comes : {n : ℕ} → ElementInserted o top n kept new → TextComes kind path n Is come (document_of o t w) (document_of o u x)
   text_comes c = by c refl refl
     where
-      by : {n : ℕ} {k now : OrderedTree} → ElementInserted o top n k now → k ≡ kept → now ≡ new → TextComes kind path n come (document_of o t w) (document_of o u x)
+      by : {n : ℕ} {k now : OrderedTree} → ElementInserted o top n k now → k ≡ kept → now ≡ new → TextComes kind path n Is come (document_of o t w) (document_of o u x)
       by (coming.comes front back led behind gap c taken no_comma g on stands ends) e f =
           let bracket : OrderedTree = token_then (closing kind) none in
           let around : DocumentChanged (bracketed kind new) (bracketed kind row) path u t = flip d in
@@ -534,6 +538,7 @@ module _ (o : Options) (kind : RowKind) (row kept new : OrderedTree) {path : Lis
           let u2 = utf8_second own back_leaves u1 in
           let rest_text : text_of_leaves back_leaves ≡ text_of_leaves rest ++ text_of_leaves (back_of around) = text_joined rest (back_of around) (utf8_first rest (back_of around) u2) in
           let own_text : text_of_leaves own ≡ node_chars top = sym (node_leaves o top) in
+          let own_pieces : Pieces o own = pieces_first o own back_leaves (pieces_second o ahead (own ++ back_leaves) (subst (Pieces o) whole (document_pieces o (document_alone o r.shaped)))) in
           let entry = subst (λ b. Entry (path ++ length (texts_of front) ∷ []) o (printed_text u) (node_chars top ++ b) b) (sym rest_text)
           (subst (λ l. Entry (path ++ length (texts_of front) ∷ []) o (printed_text u) (l ++ (text_of_leaves rest ++ text_of_leaves (back_of around))) (text_of_leaves rest ++ text_of_leaves (back_of around))) own_text
           (subst (λ k. Entry (path ++ k ∷ []) o (printed_text u) (text_of_leaves own ++ (text_of_leaves rest ++ text_of_leaves (back_of around))) (text_of_leaves rest ++ text_of_leaves (back_of around))) number (entry_there o kind r around reach_new))) in
@@ -561,4 +566,5 @@ module _ (o : Options) (kind : RowKind) (row kept new : OrderedTree) {path : Lis
             entry,
             (marks_in ahead, marks_in back_leaves, parted_as refl is refl new_parted, old_marks),
             joins_so o kind row middle kept new s r d leave spreads top element front back led behind gap c taken no_comma g refl on stands ends e f w x (text_of_leaves back_leaves) (rest_is o kind row middle kept new s r d leave spreads top element front back led behind gap c taken no_comma g refl on stands ends e f w x (back_of around) (back_same d)),
+            subst Is own_text (laid_so own_pieces (utf8_first own back_leaves u1)),
           )
