@@ -1,18 +1,15 @@
 -- What is said of a text when an entry comes into a row, or when the row is put on several lines.
-use Rattle.std.specs.Prelude.{ℕ, ◌≡◌, ◌≢◌, ◌⊎◌, Bool, not, ◌&&◌, ◌||◌, ◌==◌, List, [], ◌∷◌, ◌++◌, length, IsTrue}
+use Rattle.std.specs.Prelude.{ℕ, ◌≡◌, ◌≢◌, ◌⊎◌, ◌||◌, ◌==◌, List, [], ◌∷◌, ◌++◌, length, IsTrue}
 use Rattle.jsonc_text.specs.Options.{Options}
 use Rattle.jsonc_text.specs.Text.{is_line_end}
 use Rattle.jsonc_text.specs.Gaps.{Gap, is_blank}
 use Rattle.jsonc_run.specs.texts.Paths.{Kind, an_array, an_object, opening, closing, IsEntry, Value, Entry}
 use Rattle.jsonc_run.specs.texts.Entries.{Named, of, Becomes}
 use Rattle.jsonc_text.specs.Documents.{Document}
-use Rattle.jsonc_run.specs.texts.Stretches.{IsLineEnd, AreBlanks, InLine, Without, written, Come, Inside}
+use Rattle.jsonc_run.specs.texts.Stretches.{IsLineEnd, AreBlanks, is_space, InLine, Without, written, Come, Inside}
 use Rattle.jsonc_run.specs.texts.Layout.{IsLaidEntry}
 
 -- blanks alone come, and leave, and of those that leave none ends a line
-abbrev pub is_space : ℕ → Bool
-is_space c = is_blank c && not (is_line_end c)
-
 abbrev pub Reflows : List ℕ → List ℕ → Type 0
 Reflows x y = (z : List ℕ) × Without is_space x z × Without is_blank y z
 

@@ -1,13 +1,11 @@
 -- How a value is laid out that an edit writes.
-use Rattle.std.specs.Prelude.{ℕ, ◌≡◌, Bool, true, false, not, ◌&&◌, ◌||◌, List, [], ◌∷◌, ◌++◌, if◌then◌else◌}
-use Rattle.jsonc_text.specs.Text.{Many, is_line_end}
-use Rattle.jsonc_text.specs.Gaps.{is_blank}
+use Rattle.std.specs.Prelude.{ℕ, ◌≡◌, Bool, true, false, ◌||◌, List, [], ◌∷◌, ◌++◌, if◌then◌else◌}
 use Rattle.jsonc_text.specs.Words.{Keyword, keyword_text}
 use Rattle.jsonc_text.specs.Plain.{Plain, Items, no_items, item, Members, no_members, member}
 use Rattle.jsonc_text.specs.Spelling.{spelled}
 use Rattle.jsonc_run.specs.texts.Paths.{Kind, an_array, an_object}
 use Rattle.jsonc_run.specs.texts.Entries.{Named}
-use Rattle.jsonc_run.specs.texts.Stretches.{IsLineEnd}
+use Rattle.jsonc_run.specs.texts.Stretches.{AreSpaces, IsLineEnd}
 
 -- how lines end, the indent of the line that a value begins on, what one level more adds, and whether a comma stands behind a last entry on a line of its own
 pub record Layout : Type 0 where
@@ -69,10 +67,6 @@ abbrev mutual
   pub laid_members : Layout → Members → List (List ℕ)
   laid_members l no_members = []
   laid_members l (member name v ms) = named name (laid_text l v) ∷ laid_members l ms
-
--- blanks that end no line
-abbrev pub AreSpaces : List ℕ → Type 0
-AreSpaces s = Many (λ c. is_blank c && not (is_line_end c)) s []
 
 -- the text is the value's in some layout, whose line end is one and whose indents are spaces
 abbrev pub IsLaid : Plain → List ℕ → Type 0

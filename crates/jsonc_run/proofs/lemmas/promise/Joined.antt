@@ -32,8 +32,8 @@ use Rattle.jsonc_insert.specs.elements.Coming.{FirstLinesLeave, LastLinesLeave, 
 use Rattle.jsonc_run.specs.promise.PlaceLaws.{text_of_leaves}
 use Rattle.jsonc_run.specs.texts.Stretches as documents
 use Rattle.jsonc_run.specs.texts.Entering as entering
-use Rattle.jsonc_run.specs.texts.Stretches.{Without}
-use Rattle.jsonc_run.specs.texts.Entering.{Led, NoCommaComes, Spreads, Trims, is_space}
+use Rattle.jsonc_run.specs.texts.Stretches.{Without, is_space}
+use Rattle.jsonc_run.specs.texts.Entering.{Led, NoCommaComes, Spreads, Trims}
 use Rattle.jsonc_run.proofs.lemmas.promise.CommaTexts.{all_same, same_before}
 use Rattle.jsonc_run.proofs.lemmas.promise.CommentTexts.{blanks_text}
 use Rattle.jsonc_run.proofs.lemmas.promise.Leaves.{document_utf8, text_joined, utf8_first, utf8_joined, utf8_second}

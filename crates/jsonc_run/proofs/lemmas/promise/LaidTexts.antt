@@ -25,8 +25,8 @@ use Rattle.jsonc_sound.proofs.Texts.{AllUtf8}
 use Rattle.jsonc_run.specs.promise.PlaceLaws.{text_of_leaves}
 use Rattle.jsonc_run.specs.texts.Paths.{an_object}
 use Rattle.jsonc_run.specs.texts.Stretches as documents
-use Rattle.jsonc_run.specs.texts.Stretches.{IsLineEnd}
-use Rattle.jsonc_run.specs.texts.Layout.{Layout, deeper, on_one_line, on_lines, spread, is_filled, holds_filled, named, laid_text, laid_items, laid_members, AreSpaces, IsLaid, IsLaidEntry}
+use Rattle.jsonc_run.specs.texts.Stretches.{IsLineEnd, AreSpaces}
+use Rattle.jsonc_run.specs.texts.Layout.{Layout, deeper, on_one_line, on_lines, spread, is_filled, holds_filled, named, laid_text, laid_items, laid_members, IsLaid, IsLaidEntry}
 use Rattle.jsonc_run.proofs.lemmas.promise.Leaves.{text_joined, utf8_first, utf8_second}
 use Rattle.jsonc_run.proofs.lemmas.promise.Plains.{entry_of}
 use Rattle.jsonc_run.proofs.lemmas.promise.Stretches.{pieces_first, pieces_second}

@@ -27,8 +27,7 @@ use Rattle.jsonc_run.specs.Edits.{ensure_multiline, set_commas, set_some_commas}
 use Rattle.jsonc_run.specs.Written.{IsChanged, by_lines, by_commas, by_some_commas}
 use Rattle.jsonc_run.specs.texts.Stretches as documents
 use Rattle.jsonc_run.specs.texts.Edits as texts
-use Rattle.jsonc_run.specs.texts.Stretches.{Inside, Without}
-use Rattle.jsonc_run.specs.texts.Entering.{is_space}
+use Rattle.jsonc_run.specs.texts.Stretches.{Inside, Without, is_space}
 use Rattle.jsonc_run.specs.texts.Edits.{Commas, Makes, SetsCommas}
 use Rattle.jsonc_sound.specs.Leaves.{is_inner_blank}
 use Rattle.std.proofs.lemmas.Str.{chars-nil}

@@ -25,11 +25,14 @@ use Rattle.jsonc_sort.specs.Leads.{first_line}
 use Rattle.jsonc_sort.proofs.Choices.{Each}
 use Rattle.jsonc_sort.proofs.Runs.{IsQuiet, IsComma, Quiets}
 use Rattle.jsonc_run.specs.texts.Stretches as documents
-use Rattle.jsonc_run.specs.texts.Stretches.{IsLineEnd, Trivia, InLine}
-use Rattle.jsonc_run.specs.texts.Sorting.{AreSpaces, AreTrivia}
+use Rattle.jsonc_run.specs.texts.Stretches.{IsLineEnd, Trivia, InLine, AreSpaces}
 use Rattle.jsonc_run.specs.promise.PlaceLaws.{node_chars, text_of_leaves}
 use Rattle.jsonc_run.proofs.lemmas.promise.Joined.{one_token}
 use Rattle.jsonc_run.proofs.lemmas.promise.Trivia.{beside_text, line_end_text, trivia_text}
+
+-- any trivia
+abbrev pub AreTrivia : List ℕ → Type 0
+AreTrivia s = Trivia (λ c. true) s
 
 -- stretches of text that are put together
 pub trivia_joined : {p : ℕ → Bool} {x y : List ℕ} → Trivia p x → Trivia p y → Trivia p (x ++ y)
