@@ -31,6 +31,7 @@ pub mod Members
 pub mod Ensured
 pub mod Roots
 pub mod Trailing
+pub mod PartLines
 pub mod Lines
 pub mod NamedProperties
 pub mod Properties
