@@ -32,6 +32,7 @@ pub mod Members
 pub mod Ensured
 pub mod Roots
 pub mod Trailing
+pub mod PartLines
 pub mod Lines
 pub mod NamedProperties
 pub mod Properties
