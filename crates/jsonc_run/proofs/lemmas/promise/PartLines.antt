@@ -35,8 +35,7 @@ use Rattle.jsonc_run.proofs.lemmas.promise.Leaves.{back_of, front_of, document_p
 use Rattle.jsonc_run.proofs.lemmas.promise.LinesInside.{opened}
 use Rattle.jsonc_run.proofs.lemmas.promise.LooseRows.{LooseTo, Reads, is_a_comma, is_a_leaf, is_entry, kind_of_row, leaf_as, loose_text, past, row_reads, there}
 use Rattle.jsonc_run.proofs.lemmas.promise.Reversed.{flip}
-use Rattle.jsonc_run.proofs.lemmas.promise.SortedParts.{many_joined}
-use Rattle.jsonc_run.proofs.lemmas.promise.Trivia.{line_end_text}
+use Rattle.jsonc_run.proofs.lemmas.promise.Trivia.{line_end_text, many_joined}
 use Rattle.jsonc_run.proofs.lemmas.promise.Values.{at_the_place}
 
 trivia_no_comma : (o : Options) (c : Content) → IsTrivia o c → is_comma c ≡ false
