@@ -215,9 +215,9 @@ bracket_text rows.of_values z = closing_text close_bracket_mark z
 bracket_text rows.of_properties z = closing_text close_brace_mark z
 
 -- the container that has been put on several lines
-pub parts_on_lines : (o : Options) (k : RowKind) {row new : OrderedTree} {path : List ℕ} {t u : OrderedTree} → SoundTree o u → (d : DocumentChanged (bracketed k row) (bracketed k new) path t u) → IsTrue (is_on_lines new) → (w : Option Plain)
+pub parts_on_lines : (o : Options) (k : RowKind) (row new : OrderedTree) {path : List ℕ} {t u : OrderedTree} → SoundTree o u → (d : DocumentChanged (bracketed k row) (bracketed k new) path t u) → IsTrue (is_on_lines new) → (w : Option Plain)
     → IsOnLines path (document_of o u w)
-parts_on_lines o k {new = new} {path} {u = u} r d h w =
+parts_on_lines o k was new {path} {u = u} r d h w =
     let row : OrderedTree = followed_by new (token_then (rows.closing k) none) in
     let kind : Kind = kind_of_row k in
     let place = at_the_place o r (flip d) in
