@@ -1,5 +1,5 @@
 -- Laws of arrays and objects that are put on several lines: what becomes of the document.
-use Rattle.std.specs.Prelude.{◌≡◌, ℕ, ◌||◌, List, [], ◌∷◌, Option, IsTrue, if◌then◌else◌}
+use Rattle.std.specs.Prelude.{◌≡◌, ℕ, false, ◌||◌, List, [], ◌∷◌, Option, IsTrue, if◌then◌else◌}
 use Rattle.jsonc_text.specs.Options.{Options}
 use Rattle.jsonc_text.specs.Plain.{Plain}
 use Rattle.jsonc_text.specs.Grammar.{IsDocument}
@@ -16,18 +16,19 @@ use Rattle.jsonc_sound.specs.TreeChanges.{leaves_of, DocumentChanged}
 use Rattle.jsonc_edit.specs.Paths.{IsAt}
 use Rattle.jsonc_edit.specs.remove.Removed.{has_brackets}
 use Rattle.jsonc_edit.specs.multiline.Multiline.{has_line_end, MadeMultiline}
-use Rattle.jsonc_edit.specs.multiline.Reflows.{SpreadsOut}
+use Rattle.jsonc_edit.specs.multiline.Reflows.{has_newline, is_on_lines, SpreadsOut}
 
 -- the array or object with this row between its brackets
 abbrev pub bracketed : RowKind → OrderedTree → Top
 bracketed kind row = container_of kind (followed_by row (token_then (closing kind) none))
 
--- the row of the array or object at the path has been spread out, and nothing outside of it has changed
+-- The row of the array or object at the path has been spread out, and nothing outside of it has changed. Where no line ended in it each part is on a line of its own.
 pub record SpreadAt (path : List ℕ) (t u : OrderedTree) : Type 0 where
   pub kind : RowKind
   pub row : OrderedTree
   pub new : OrderedTree
   pub spreads : SpreadsOut row new
+  pub lines : has_newline row ≡ false → IsTrue (is_on_lines new)
   pub changed : DocumentChanged (bracketed kind row) (bracketed kind new) path t u
 
 -- so it is where c, at a path of a sound document, is put on several lines

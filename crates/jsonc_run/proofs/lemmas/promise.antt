@@ -5,6 +5,7 @@ pub mod Reversed
 pub mod Plains
 pub mod MarkLists
 pub mod Stretches
+pub mod LaidTexts
 pub mod ReplacedTexts
 pub mod StretchElements
 pub mod Trivia
@@ -31,6 +32,7 @@ pub mod Members
 pub mod Ensured
 pub mod Roots
 pub mod Trailing
+pub mod PartLines
 pub mod Lines
 pub mod NamedProperties
 pub mod Properties

@@ -1,17 +1,15 @@
 -- What is said of a text when an entry comes into a row, or when the row is put on several lines.
-use Rattle.std.specs.Prelude.{ℕ, ◌≡◌, ◌≢◌, ◌⊎◌, Bool, not, ◌&&◌, ◌||◌, ◌==◌, List, [], ◌∷◌, ◌++◌, length, IsTrue}
+use Rattle.std.specs.Prelude.{ℕ, ◌≡◌, ◌≢◌, ◌⊎◌, ◌||◌, ◌==◌, List, [], ◌∷◌, ◌++◌, length, IsTrue}
 use Rattle.jsonc_text.specs.Options.{Options}
 use Rattle.jsonc_text.specs.Text.{is_line_end}
 use Rattle.jsonc_text.specs.Gaps.{Gap, is_blank}
 use Rattle.jsonc_run.specs.texts.Paths.{Kind, an_array, an_object, opening, closing, IsEntry, Value, Entry}
 use Rattle.jsonc_run.specs.texts.Entries.{Named, of, Becomes}
 use Rattle.jsonc_text.specs.Documents.{Document}
-use Rattle.jsonc_run.specs.texts.Stretches.{IsLineEnd, AreBlanks, InLine, Without, written, Come, Inside}
+use Rattle.jsonc_run.specs.texts.Stretches.{IsLineEnd, AreBlanks, is_space, InLine, Without, written, Come, Inside}
+use Rattle.jsonc_run.specs.texts.Layout.{IsLaidEntry}
 
 -- blanks alone come, and leave, and of those that leave none ends a line
-abbrev pub is_space : ℕ → Bool
-is_space c = is_blank c && not (is_line_end c)
-
 abbrev pub Reflows : List ℕ → List ℕ → Type 0
 Reflows x y = (z : List ℕ) × Without is_space x z × Without is_blank y z
 
@@ -50,20 +48,27 @@ pub data Led (o : Options) (kind : Kind) (r : List ℕ) : List ℕ → List ℕ 
 abbrev pub StartsLine : List ℕ → Type 0
 StartsLine s = (line t : List ℕ) × (s ≡ line ++ t) × IsLineEnd line
 
--- An entry with this text comes before those that follow and the rest. All around it stays but blanks directly inside of the brackets; at most a comma comes
--- before it, directly behind an entry, and blanks, and behind it a comma and blanks. A gap leads to it from the first bracket or a comma, and where a line ends in
--- that, one ends directly before it. Where no comma comes behind it a gap leads from there to the last bracket; where one comes, entries follow, or a line ends
--- directly before it.
-abbrev pub Joins : Kind → (follow : List (List ℕ)) → (new rest : List ℕ) → Document → Document → Type 0
-Joins kind follow new rest d e = (spread shorter front led gap comma behind back : List ℕ) × Spreads kind d.text spread × Trims kind spread shorter × Trims kind shorter (front ++ back)
+-- blanks, and then the end of their line
+abbrev pub EndsLine : List ℕ → Type 0
+EndsLine s = (blanks r : List ℕ) × (s ≡ blanks ++ r) × AreBlanks blanks × InLine blanks × StartsLine r
+
+-- An entry with this text comes between others, those that stand before it and those that follow, before the rest. All around it stays but blanks directly inside of
+-- the brackets; at most a comma comes before it, directly behind an entry, and blanks, and behind it a comma and blanks. A gap leads to it from the first bracket or
+-- a comma, which is these blanks alone. Or, where a line ends directly before it, comments on the comma's line are part of that, and with them that line ended. Or it
+-- is the only entry, and the gap is trivia on the bracket's line, or a line ends directly before it. Where no comma comes behind it a gap leads from there to the last
+-- bracket; where one comes, entries follow, or a line ends directly before it. From the only entry blanks alone lead to the last bracket.
+abbrev pub Joins : Kind → (before follow : List (List ℕ)) → (new rest : List ℕ) → Document → Document → Type 0
+Joins kind before follow new rest d e = (spread shorter front led gap comma behind back : List ℕ) × Spreads kind d.text spread × Trims kind spread shorter × Trims kind shorter (front ++ back)
     × Led d.options kind (gap ++ (new ++ rest)) front led × AreBlanks gap
     × (((comma ≡ 0x2C ∷ []) × ((follow ≢ []) ⊎ StartsLine gap)) ⊎ ((comma ≡ []) × (r : List ℕ) × Gap d.options back (closing kind ∷ r))) × AreBlanks behind
     × NoCommaComes d.options back × (e.text ≡ led ++ (gap ++ (new ++ rest))) × (rest ≡ comma ++ (behind ++ back))
     × (x t : List ℕ) × (c : ℕ) × (led ≡ x ++ c ∷ t) × IsTrue (c == 0x2C || c == opening kind) × Gap d.options (t ++ (gap ++ (new ++ rest))) (new ++ rest)
-    × (InLine t ⊎ StartsLine gap)
+    × ((t ≡ []) ⊎ ((IsTrue (c == 0x2C) × InLine t × StartsLine gap × EndsLine back) ⊎ ((before ++ follow ≡ []) × (InLine t ⊎ StartsLine gap))))
+    × ((before ++ follow ≡ []) → (z r : List ℕ) × AreBlanks z × (rest ≡ z ++ closing kind ∷ r))
 
--- Between these and those an entry comes into the container at the path, and its marks with its text; each other keeps its text.
+-- Between these and those an entry comes into the container at the path, in one of the layouts, and its marks with its text; each other keeps its text.
 abbrev pub Gains : Kind → List ℕ → (front back : List Named) → Named → Document → Document → Type 0
 Gains kind path front back new d e = Becomes (of kind (front ++ back)) (of kind (front ++ new ∷ back)) path d.value e.value
     × (before behind : List (List ℕ)) × (length before ≡ length front) × (text rest : List ℕ) × Inside path (before ++ behind) (before ++ text ∷ behind) d e
-    × Entry (path ++ length before ∷ []) e.options e.text (text ++ rest) rest × Come (written kind new) (text ++ rest) rest d e × Joins kind behind text rest d e
+    × Entry (path ++ length before ∷ []) e.options e.text (text ++ rest) rest × Come (written kind new) (text ++ rest) rest d e × Joins kind before behind text rest d e
+    × IsLaidEntry kind new text

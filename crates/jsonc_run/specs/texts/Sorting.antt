@@ -1,22 +1,14 @@
 -- What a sort makes of a document: what goes with an entry, and what stays where it is.
 use Rattle.std.specs.Prelude.{ℕ, ◌≡◌, ◌⊎◌, Bool, true, false, List, [], ◌∷◌, ◌++◌, length, map, get_or, count_by, IsPermutation}
 use Rattle.std.specs.List.{range_with_len}
-use Rattle.jsonc_text.specs.Text.{Many}
 use Rattle.jsonc_text.specs.Gaps.{IsComment}
 use Rattle.jsonc_text.specs.Plain.{null}
 use Rattle.jsonc_text.specs.Marks.{Mark}
 use Rattle.jsonc_text.specs.Documents.{Document}
 use Rattle.jsonc_run.specs.texts.Paths.{Kind, opening, closing, Value, HasEntries}
 use Rattle.jsonc_run.specs.texts.Entries.{Named, of, Becomes}
-use Rattle.jsonc_run.specs.texts.Stretches.{AreBlanks, IsLineEnd, Trivia, InLine}
-use Rattle.jsonc_run.specs.texts.Entering.{is_space, StartsLine}
-
--- blanks in a line, and any trivia
-abbrev pub AreSpaces : List ℕ → Type 0
-AreSpaces s = Many is_space s []
-
-abbrev pub AreTrivia : List ℕ → Type 0
-AreTrivia s = Trivia (λ c. true) s
+use Rattle.jsonc_run.specs.texts.Stretches.{AreBlanks, AreSpaces, IsLineEnd, Trivia, InLine}
+use Rattle.jsonc_run.specs.texts.Entering.{StartsLine}
 
 -- An entry with what stands before it: what stays in its place, what goes with the entry, and an indent, which stays; and with what goes with it behind it, a
 -- comma in that or none.
@@ -45,13 +37,13 @@ ends_with_comma (h ∷ g ∷ hs) = ends_with_comma (g ∷ hs)
 -- what stands before an entry: on one line, blanks and what goes with it; or the end of a line, which stays with what is before it, and lines that stay or go
 pub data Ahead (Rest : List ℕ → Type 0) : (lines : Bool) → (stays above indent : List ℕ) → Type 0 where
   on_one_line : {blanks above : List ℕ} → AreSpaces blanks → InLine above → Ahead Rest false blanks above []
-  on_lines : {rest line header above indent : List ℕ} → Rest rest → IsLineEnd line → AreTrivia header → AreTrivia above → AreSpaces indent
+  on_lines : {rest line header above indent : List ℕ} → Rest rest → IsLineEnd line → Trivia (λ c. true) header → Trivia (λ c. true) above → AreSpaces indent
       → Ahead Rest true (rest ++ (line ++ header)) above indent
 
 -- what goes with an entry behind it: all up to its comma; and where its line ends then, the comments on that
 pub data Beside : (lines comma : Bool) → List ℕ → Type 0 where
   nothing : Beside false false []
-  up_to_comma : {s : List ℕ} → AreTrivia s → Beside false true (s ++ 0x2C ∷ [])
+  up_to_comma : {s : List ℕ} → Trivia (λ c. true) s → Beside false true (s ++ 0x2C ∷ [])
   and_line : {comma : Bool} {s t : List ℕ} → Beside false comma s → InLine t → Beside true comma (s ++ t)
 
 -- the entries from one on, and what stands behind the last

@@ -24,6 +24,13 @@ EndsInComment s = (t comment : List ℕ) × (s ≡ t ++ comment) × IsComment co
 abbrev pub AreBlanks : List ℕ → Type 0
 AreBlanks s = Many is_blank s []
 
+-- blanks that end no line
+abbrev pub is_space : ℕ → Bool
+is_space c = is_blank c && not (is_line_end c)
+
+abbrev pub AreSpaces : List ℕ → Type 0
+AreSpaces s = Many is_space s []
+
 -- blanks that pass the test, and comments
 pub data Trivia (p : ℕ → Bool) : List ℕ → Type 0 where
   nothing : Trivia p []

@@ -243,7 +243,11 @@ fn is_map_unasked(heap: &Refusing<Global>) -> Result<bool, AllocError> {
     let (kept, emptied) = (inserted(heap)?, some_pairs(heap)?);
     let asked = heap.asked();
     let new: Map<char, u32, &Refusing<Global>> = Map::new(heap);
-    let are_told = new.is_empty() && is_told(&keys);
+    let is_copied = match new.try_clone() {
+        Ok(copy) => copy.is_empty(),
+        Err(_) => false,
+    };
+    let are_told = new.is_empty() && is_copied && is_told(&keys);
     let are_given_up = keys.into_keys().nth(1) == Some('b')
         && values.into_values().nth(2) == Some(3)
         && pairs.into_iter().next() == Some(('a', 1));

@@ -1,12 +1,13 @@
 //! Calls on texts alone, and values read by reference.
 
-use failing_alloc::Refusing;
 use failing_alloc::in_turn::is_refused_in_turn;
 use failing_alloc::outcome::Outcome;
+use failing_alloc::{Bounded, Refusing};
 use jsonc_parser::common::Range;
+use jsonc_parser::cst::CstRootNode;
 use jsonc_parser::{
-    JsonObject, JsonValue, LineAndColumn, LineIndex, ParseOptions, line_and_column,
-    line_and_column_utf16, parse_to_value, place_of, place_of_utf16, text_change,
+    CollectOptions, JsonObject, JsonValue, LineAndColumn, LineIndex, ParseOptions, line_and_column,
+    line_and_column_utf16, parse_to_ast, parse_to_value, place_of, place_of_utf16, text_change,
 };
 use std::alloc::{AllocError, Allocator};
 use std::test::Fail;
@@ -192,4 +193,28 @@ fn values_are_read_by_reference(rt: HostRuntime) {
     };
     assert!(rt; elements_of(&object) == 3);
     assert!(rt; lent_elements_of(&object) == 3);
+}
+
+/// An array of two strings, the second of so many characters.
+fn array_of_strings<A: Allocator>(alloc: A, length: usize) -> Result<String<A>, AllocError> {
+    let mut text = String::new(alloc);
+    text.push_str("[\"a\", \"")?;
+    for _ in 0..length {
+        text.push('b')?;
+    }
+    text.push_str("\"]")?;
+    Ok(text)
+}
+
+#[test]
+fn long_strings_want_no_room_for_entries(rt: HostRuntime) -> Result<(), Fail> {
+    let text = array_of_strings(rt.alloc(), 100_000)?;
+    let options = ParseOptions::json();
+    let small = Bounded::new(rt.alloc(), 1_024);
+    assert!(rt; parse_to_value(&small, text.as_str(), &options).is_ok());
+    let collect = CollectOptions::default();
+    assert!(rt; parse_to_ast(&small, text.as_str(), &collect, &options).is_ok());
+    let large = Bounded::new(rt.alloc(), text.len());
+    assert!(rt; CstRootNode::parse(&large, text.as_str(), &options).is_ok());
+    Ok(())
 }

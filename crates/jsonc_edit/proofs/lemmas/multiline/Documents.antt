@@ -40,7 +40,7 @@ use Rattle.jsonc_edit.specs.multiline.Lines.{Lines, between, indent_if_any, line
 use Rattle.jsonc_edit.specs.multiline.Multiline.{has_line_end, TakesRow, MadeMultiline}
 use Rattle.jsonc_edit.specs.multiline.Reflows.{has_newline, Reflows, SpreadsOut, reflows}
 use Rattle.jsonc_edit.specs.multiline.Slots.{Slot, AreFilled, no_more, stayed, came, row_in}
-use Rattle.jsonc_edit.proofs.lemmas.multiline.OnLines.{standing, bare_below, standing_newline, row_newline, row_reflows, AllFit, on_lines_fit}
+use Rattle.jsonc_edit.proofs.lemmas.multiline.OnLines.{standing, bare_below, standing_newline, row_newline, row_on_lines, row_reflows, AllFit, on_lines_fit}
 
 -- one indent after another
 indent_joined : (s t : List ℕ) → IsIndent s → IsIndent t → IsIndent (s ++ t)
@@ -166,6 +166,7 @@ module _ (o : Options) (old new : List Node) (path : List ℕ) (c : ℕ) (tree :
         row = standing old b.inner;
         new = standing old b.inner;
         spreads = SpreadsOut.stays (line_ends ∙ h);
+        lines = λ e. let ends : has_newline (standing old b.inner) ≡ true = line_ends ∙ h in cc;
         changed = subst (λ (w : Top). DocumentChanged w w path (ordered_tree old 0) (ordered_tree old 0)) was_top changed;
       }
 
@@ -178,10 +179,11 @@ module _ (o : Options) (old new : List Node) (path : List ℕ) (c : ℕ) (tree :
   slots_fit : AllFit old slots
   slots_fit = on_lines_fit lines old (between kids) (subst (All (λ n. n < length old)) (sym inside) (all_front (λ n. n < length old) b.inner (b.last ∷ []) rest_there))
 
+  fits : IsIndent (indents_at old c).current × IsIndent (indents_at old c).single
+  fits = indents_fit old tree o sound.shaped c over
+
   row_now : Reflows (standing old b.inner) (row_in old slots)
-  row_now =
-      let fit = indents_fit old tree o sound.shaped c over in
-      subst (λ (l : List ℕ). Reflows (standing old l) (row_in old slots)) inside (row_reflows old tree lines (indent_joined (indents_at old c).current (indents_at old c).single fit.0 fit.1) fit.0 (between kids))
+  row_now = subst (λ (l : List ℕ). Reflows (standing old l) (row_in old slots)) inside (row_reflows old tree lines (indent_joined (indents_at old c).current (indents_at old c).single fits.0 fits.1) fits.0 (between kids))
 
   -- the row has taken its place
   module _ (r : TakesRow old new c slots) where
@@ -224,6 +226,7 @@ module _ (o : Options) (old new : List Node) (path : List ℕ) (c : ℕ) (tree :
       row = standing old b.inner;
       new = row_in old slots;
       spreads = reflows (line_ends ∙ h) (row_newline old lines.newline (indent_if_any lines.outer) (flat_map (λ part. on_line lines (without_front old part)) (parts old (without_back old (between kids))))) row_now;
+      lines = λ e. row_on_lines old tree lines (indent_joined (indents_at old c).current (indents_at old c).single fits.0 fits.1) fits.0 (between kids);
       changed = changed;
     }
 

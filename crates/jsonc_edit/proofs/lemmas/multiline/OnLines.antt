@@ -1,5 +1,5 @@
 -- A row on several lines is the row, in which ends of lines have come and whitespace has left.
-use Rattle.std.proofs.Common.{◌≡◌, ◌∙◌, ℕ, zero, suc, ◌+◌, ◌-◌, ◌<◌, ◌≤◌, Bool, true, false, ◌||◌, List, [], ◌∷◌, ◌++◌, All, length, take, drop, reverse, slice_index, IsTrue, refl, sym, ap, subst, arith, length-drop, get_or-drop}
+use Rattle.std.proofs.Common.{◌≡◌, ◌∙◌, ℕ, zero, suc, ◌+◌, ◌-◌, ◌<◌, ◌≤◌, Bool, true, false, ◌&&◌, ◌||◌, List, [], ◌∷◌, ◌++◌, All, length, take, drop, reverse, slice_index, IsTrue, refl, sym, ap, subst, arith, length-drop, get_or-drop}
 use Rattle.std.specs.List.{flat_map, list_any, suffix_len}
 use Rattle.std.proofs.lemmas.List.{get_or-reverse, take-append-drop}
 use Rattle.std.proofs.lemmas.List.Elements.{All-from_get_or, All-head, All-tail, All-take}
@@ -8,13 +8,13 @@ use Rattle.jsonc_tree.specs.Content.{Content, is_container, newline}
 use Rattle.jsonc_tree.specs.OrderedTree.{OrderedTree, none, more, grown, plant}
 use Rattle.jsonc_tree.specs.Tree.{Node, content_at, children_at, IsTree}
 use Rattle.jsonc_tree.specs.declared.node.CstNewlineKind.{CstNewlineKind}
-use Rattle.jsonc_layout.specs.nodes.Kinds.{is_newline, is_newline_at, is_whitespace, is_whitespace_at, is_comma_at}
+use Rattle.jsonc_layout.specs.nodes.Kinds.{is_comma, is_newline, is_newline_at, is_whitespace, is_whitespace_at, is_comma_at}
 use Rattle.jsonc_edit.specs.Changes.{row_below}
 use Rattle.jsonc_edit.specs.Writing.{IsIndent}
 use Rattle.jsonc_edit.specs.multiline.Slots.{Slot, stays, comes, top_in, row_in}
 use Rattle.jsonc_edit.specs.multiline.Lines.{Lines, last_line, indent_if_any, on_line, on_lines, parts, without_back, without_front}
 use Rattle.jsonc_edit.specs.multiline.Plans.{child_slots, begins_behind}
-use Rattle.jsonc_edit.specs.multiline.Reflows.{starts_line, has_newline, Reflows, ended, kept, gone, line, line_end}
+use Rattle.jsonc_edit.specs.multiline.Reflows.{starts_line, has_newline, parts_begin_lines, ends_with_line, is_on_lines, Reflows, ended, kept, gone, line, line_end}
 use Rattle.jsonc_edit.proofs.lemmas.multiline.RowByNode.{woven, both_woven}
 
 -- the row of trees that these nodes stand for
@@ -113,6 +113,42 @@ module _ (old : List Node) (tree : IsTree old) (lines : Lines) (inner : IsIndent
       let all : Reflows (standing old (take k row ++ drop k row)) (Then (woven lines old true (take k row))) = woven_reflows true (take k row) (drop k row) (blanks_reflow (drop k row) (suffix_all (is_whitespace_at old) row)) in
       subst (λ (l : List ℕ). Reflows (standing old l) (row_in old (on_lines lines old row))) (take-append-drop k row)
       (subst (λ (l : List Slot). Reflows (standing old (take k row ++ drop k row)) (Then l)) (sym (both_woven lines old (without_back old row)).0) all)
+
+  -- each part begins a line, and so does the last bracket
+  last_begins : (begins : Bool) → parts_begin_lines begins (Then []) ≡ true
+  last_begins begins = by begins lines.outer
+    where
+      by : (begins : Bool) (s : List ℕ) → parts_begin_lines begins (row_in old (comes (newline lines.newline) ∷ indent_if_any s)) ≡ true
+      by true [] = refl
+      by false [] = refl
+      by true (c ∷ s) = refl
+      by false (c ∷ s) = refl
+
+  woven_begins : (begins : Bool) (row : List ℕ) → parts_begin_lines begins (Then (woven lines old begins row)) ≡ true
+  woven_begins begins [] = last_begins begins
+  woven_begins begins (n ∷ row) = by begins (is_whitespace_at old n) (is_comma_at old n) refl (woven_begins true row) (woven_begins false row)
+    where
+      by : (begins blank comma : Bool) → is_comma (content_at old n) ≡ comma → parts_begin_lines true (Then (woven lines old true row)) ≡ true → parts_begin_lines false (Then (woven lines old false row)) ≡ true
+          → parts_begin_lines begins (Then (child_slots lines begins blank n ++ woven lines old (begins_behind begins blank comma) row)) ≡ true
+      by true true comma e t f = t
+      by true false true e t f = ap (λ b. parts_begin_lines b (Then (woven lines old true row))) e ∙ t
+      by true false false e t f = ap (λ b. parts_begin_lines b (Then (woven lines old false row))) e ∙ f
+      by false blank true e t f = ap (λ b. parts_begin_lines b (Then (woven lines old true row))) e ∙ t
+      by false blank false e t f = ap (λ b. parts_begin_lines b (Then (woven lines old false row))) e ∙ f
+
+  last_ends : (own : Bool) (slots : List Slot) → ends_with_line own (Then slots) ≡ true
+  last_ends own [] = by lines.outer
+    where
+      by : (s : List ℕ) → ends_with_line own (row_in old (comes (newline lines.newline) ∷ indent_if_any s)) ≡ true
+      by [] = refl
+      by (c ∷ s) = refl
+  last_ends own (slot ∷ slots) = last_ends (is_newline (top_in old slot).content || (own && is_whitespace (top_in old slot).content)) slots
+
+  pub row_on_lines : (row : List ℕ) → IsTrue (is_on_lines (row_in old (on_lines lines old row)))
+  row_on_lines row =
+      let slots : List Slot = woven lines old true (without_back old row) in
+      let both : is_on_lines (Then slots) ≡ true = ap (λ b. b && ends_with_line false (Then slots)) (woven_begins true (without_back old row)) ∙ last_ends false slots in
+      subst (λ (l : List Slot). IsTrue (is_on_lines (Then l))) (sym (both_woven lines old (without_back old row)).0) both
 
 -- what a row on several lines is made of: children that are there, and leaves
 abbrev pub Fits : List Node → Slot → Type 0

@@ -104,7 +104,7 @@ module _ (o : Options) (kind : RowKind) where
     marks_come {top} kept e was ms literals = by e refl was
       where
         by : {n : ℕ} {k now : OrderedTree} → ElementInserted o top n k now → marks new ≡ marks now → marks row ≡ marks k → GainsMarks ms n k t u
-        by (comes front back led behind gap c takes none_comes w g) is had =
+        by (comes front back led behind gap c takes none_comes w g q alone) is had =
             let d = values_marks t (bracketed kind row) (bracketed kind new) path u changed in
             record {
               front = front;

@@ -87,7 +87,7 @@ module _ (o : Options) where
   behind_items (comma_last t b n) g = comma_before g
 
   pub items_come : {top : Top} {i : ℕ} {row new : OrderedTree} {v : Plain} {us : Items} → ElementInserted o top i row new → HasValue o top v → ItemsOf o row us → (ws : Items) × ItemInserted v i us ws × ItemsOf o new ws
-  items_come {v = v} (comes front back led behind gap c t n w g) h r =
+  items_come {v = v} (comes front back led behind gap c t n w g q e) h r =
       let d = parted_items o front back r in
       let number : ItemInserted v (element_count front) (items_then d.0 d.1) (items_then d.0 (item v d.1)) =
       subst (λ j. ItemInserted v j (items_then d.0 d.1) (items_then d.0 (item v d.1))) (counted d.2) (comes_behind v d.0 d.1) in (

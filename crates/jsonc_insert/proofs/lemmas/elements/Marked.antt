@@ -102,4 +102,4 @@ all_behind {rest = rest} (none_follow gap w n) = all_gap w (all_same rest)
 all_behind {rest = rest} (comma_last t b n) = comes_in (all_same rest)
 
 pub all_stay : {o : Options} {top : Top} {i : ℕ} {row new : OrderedTree} → ElementInserted o top i row new → HasAll row new
-all_stay (comes front back led behind gap c t n w g) = all_then (all_led c) (all_gap w (comes_in (all_behind g)))
+all_stay (comes front back led behind gap c t n w g q e) = all_then (all_led c) (all_gap w (comes_in (all_behind g)))

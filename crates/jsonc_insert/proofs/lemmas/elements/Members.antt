@@ -80,7 +80,7 @@ module _ (o : Options) where
 
   pub members_come : {held : OrderedTree} {i : ℕ} {row new : OrderedTree} {name : List ℕ} {v : Plain} {ls : Members} → ElementInserted o (property_of held) i row new → PropertyOf o held name v → MembersOf o row ls
       → (ns : Members) × MemberInserted name v i ls ns × MembersOf o new ns
-  members_come {name = name} {v = v} (comes front back led behind gap c t n w g) h r =
+  members_come {name = name} {v = v} (comes front back led behind gap c t n w g q e) h r =
       let d = parted_members o front back r in
       let all : Members = members_then d.0 (member name v d.1) in
       let number : MemberInserted name v (element_count front) (members_then d.0 d.1) all = subst (λ j. MemberInserted name v j (members_then d.0 d.1) all) (members_counted d.2) (comes_behind name v d.0 d.1) in (

@@ -7,14 +7,17 @@ use Rattle.jsonc_text.specs.Options.{Options}
 use Rattle.jsonc_tree.specs.Content.{Content, is_container, token}
 use Rattle.jsonc_tree.specs.OrderedTree.{OrderedTree, Top, none, more, followed_by}
 use Rattle.jsonc_tree.specs.Tree.{Node, content_at, IsTree}
+use Rattle.jsonc_tree.proofs.Rows.{followed_by-assoc}
 use Rattle.jsonc_tree.specs.declared.node.CstNewlineKind.{CstNewlineKind}
-use Rattle.jsonc_layout.specs.nodes.Kinds.{is_inline_trivia}
+use Rattle.jsonc_layout.specs.nodes.Kinds.{is_inline_trivia, is_inline_trivia_at}
 use Rattle.jsonc_sound.specs.Shape.{token_then}
 use Rattle.jsonc_layout.specs.from_input.Layout.{Layout}
 use Rattle.jsonc_sound.specs.InRows.{row_around}
 use Rattle.jsonc_sound.specs.Leaving.{AreInlineTrivia, element_count}
+use Rattle.jsonc_sound.specs.MarkChanges.{AreBlanks}
 use Rattle.jsonc_sound.specs.Rows.{RowKind, opening, closing, nothing_yet, a_comma, last_behind}
 use Rattle.jsonc_sound.specs.TriviaChanges.{leaves_then}
+use Rattle.jsonc_sound.proofs.RootRows.{leaves_then_joined}
 use Rattle.jsonc_edit.specs.Changes.{row_below, top_at}
 use Rattle.jsonc_edit.specs.Put.{Extends}
 use Rattle.jsonc_edit.specs.Writing.{FitsLayout, IsIndent}
@@ -28,11 +31,11 @@ use Rattle.jsonc_insert.specs.Trimmed.{with_at}
 use Rattle.jsonc_insert.specs.declared.plan.Gap as written
 use Rattle.jsonc_insert.specs.declared.plan.Gap.TheVariants.{Nothing, Space, Line}
 use Rattle.jsonc_insert.specs.declared.plan.Plan.{Plan}
-use Rattle.jsonc_insert.specs.elements.Coming.{CommaInserted, none_comes, one_comes, ElementInserted, comes, Gap, nothing, a_space, a_line, GoesOn, elements_follow, none_follow, comma_last, takes_element}
+use Rattle.jsonc_insert.specs.elements.Coming.{CommaInserted, none_comes, one_comes, ElementInserted, comes, Gap, nothing, a_space, a_line, GoesOn, elements_follow, none_follow, comma_last, takes_element, Follows, behind_bracket, behind_comma, behind_comments, no_others, EndsRow}
 use Rattle.jsonc_insert.proofs.lemmas.elements.Plans as plans
 use Rattle.jsonc_insert.proofs.lemmas.elements.Plans.{last_then}
 use Rattle.jsonc_insert.proofs.lemmas.elements.Rows.{IsRow}
-use Rattle.jsonc_insert.proofs.lemmas.elements.RowsOfTrees.{beside_alone, beside_are, standing_count, standing_then, token_first}
+use Rattle.jsonc_insert.proofs.lemmas.elements.RowsOfTrees.{AllAre, beside_alone, beside_are, blanks_alone, blanks_are, blanks_row, comma_first, line_first, newline_is, standing_count, standing_then, token_first}
 
 -- what a plan writes for its gaps
 gap_any : (kind : CstNewlineKind) (s : List ℕ) (g : written.Gap) → IsIndent s → Gap false (gap_leaves kind s g)
@@ -64,6 +67,16 @@ comma_are false = tt
 both_are : (xs ys : List Content) → AreLeaves xs → AreLeaves ys → AreLeaves (xs ++ ys)
 both_are [] ys a b = b
 both_are (content ∷ xs) ys a b = (a.0, both_are xs ys a.1 b)
+
+-- they are blanks
+gap_blank : (kind : CstNewlineKind) (s : List ℕ) (g : written.Gap) → AreBlanks (gap_leaves kind s g)
+gap_blank kind s Nothing = tt
+gap_blank kind s Space = (refl, tt)
+gap_blank kind s Line = (refl, (refl, tt))
+
+blanks_both : (xs ys : List Content) → AreBlanks xs → AreBlanks ys → AreBlanks (xs ++ ys)
+blanks_both [] ys a b = b
+blanks_both (content ∷ xs) ys a b = (a.0, blanks_both xs ys a.1 b)
 
 -- what comes behind the element
 goes_on : (o : Options) (kind : CstNewlineKind) (s : List ℕ) (comma commas : Bool) (g : written.Gap) (before : List Content) (rest : OrderedTree) → IsIndent s → (commas ≡ true → IsTrue o.trailing_commas)
@@ -179,6 +192,24 @@ module _ (o : Options) (kind : RowKind) (old ready : List Node) (tree : IsTree o
   stand : (xs : List ℕ) → AreOld xs → standing ready xs ≡ standing old xs
   stand = old_stand old ready tree prepared
 
+  -- where the element comes on a line of its own behind comments
+  with_line : (led first : OrderedTree) (mid : List ℕ) {others : ℕ} → FitsLayout o layout → plan.before ≡ Line → led ≡ followed_by first (token_then 0x2C (leaves_then (map (content_at old) mid) none)) → AllAre (is_inline_trivia_at old) mid
+      → plans.EndsLine o kind old tree x y left opens closes row_now back → Follows (leaves_before layout plan) led (standing old back) others
+  with_line led first mid layout_fits w is are ends =
+      let line = newline_is (content_at old ends.end_node) ends.line in
+      behind_comments (subst (λ v. Gap true (gap_leaves layout.newline layout.current v)) (sym w) (a_line layout_fits.current)) first (standing old ends.rest) (map (content_at old) mid) (map (content_at old) ends.spaces) line.0 (beside_are old mid are)
+      (beside_are old ends.spaces ends.beside) (blanks_are old ends.spaces ends.blanks) is
+      (ap (standing old) ends.is ∙ blanks_row old tree ends.spaces (ends.end_node ∷ ends.rest) ends.blanks ∙ ap (leaves_then (map (content_at old) ends.spaces)) (line_first old tree ends.end_node (standing old ends.rest) line.0 line.1))
+
+  with_none : FitsLayout o layout → plans.Behind o kind old tree x y left opens closes row_now plan → Follows (leaves_before layout plan) (standing old front) (standing old back) (element_count (standing old left))
+  with_none layout_fits (plans.the_bracket w) = behind_bracket (ap (standing old) w)
+  with_none layout_fits (plans.the_comma first n w h) = behind_comma (standing old first) (ap (standing old) w ∙ standing_then old first (n ∷ []) ∙ ap (followed_by (standing old first)) (comma_first old tree n none h))
+  with_none layout_fits (plans.the_comments l first n mid w h are ends) =
+      let is : standing old front ≡ followed_by (standing old first) (token_then 0x2C (leaves_then (map (content_at old) mid) none)) =
+      ap (standing old) w ∙ standing_then old first (n ∷ mid) ∙ ap (followed_by (standing old first)) (comma_first old tree n (standing old mid) h ∙ ap (token_then 0x2C) (beside_alone old tree mid are)) in
+      with_line (standing old front) (standing old first) mid layout_fits l is are ends
+  with_none layout_fits (plans.no_others w) = no_others (standing_count old left ∙ w)
+
   -- the front of the new row, with a comma where one comes
   record Led : Type 0 where
     list : List ℕ
@@ -186,21 +217,23 @@ module _ (o : Options) (kind : RowKind) (old ready : List Node) (tree : IsTree o
     led : OrderedTree
     stands : standing ready list ≡ led
     comes_so : CommaInserted (standing old front) led
+    follows : plans.Lines o kind old tree x y left opens closes row_now several → FitsLayout o layout → Follows (leaves_before layout plan) led (standing old back) (element_count (standing old left))
     takes : IsTrue (takes_element (last_behind nothing_yet led))
 
   led : Led
   led = by fits.comma
     where
-      by : plans.CommaAt o kind old tree x y left opens closes row_now plan → Led
-      by (plans.none_due e t) = record {
+      by : plans.CommaAt o kind old tree x y left opens closes row_now several plan → Led
+      by (plans.none_due e t q) = record {
         list = front;
         row_from = made.row ∙ ap (λ w. with_comma w made.comma (with_at plan.place written_list (x ∷ (left ++ y ∷ [])))) e ∙ wide_is;
         led = standing old front;
         stands = stand front front_old;
         comes_so = none_comes;
+        follows = λ lines layout_fits. with_none layout_fits (q lines);
         takes = t;
       }
-      by (plans.one_due first n mid f e el be) =
+      by (plans.one_due first n mid f e el be q) =
           let comma : List ℕ = made.comma in
           let rest : List ℕ = (written_list ++ back) ++ y ∷ [] in
           let all : AreOld (first ++ n ∷ mid) = subst AreOld f front_old in
@@ -224,12 +257,18 @@ module _ (o : Options) (kind : RowKind) (old ready : List Node) (tree : IsTree o
           let front_is : standing old front ≡ row_around (standing old first) (top_at old n) (leaves_then beside none) =
           ap (standing old) f ∙ standing_then old first (n ∷ mid) ∙ ap (λ r. followed_by (standing old first) (more (content_at old n) (row_below old n) r)) (beside_alone old tree mid be) in
           let new_front : OrderedTree = row_around (standing old first) (top_at old n) (token_then 0x2C (leaves_then beside none)) in
+          let named : OrderedTree = followed_by (standing old first) (more (content_at old n) (row_below old n) none) in
+          let named_then = λ (z : OrderedTree). followed_by-assoc (standing old first) (more (content_at old n) (row_below old n) none) z in
           record {
             list = first ++ n ∷ (comma ++ mid);
             row_from = with_wide ∙ ap (with_at (length first + 2) comma) with_first ∙ comma_list x n first mid comma rest ∙ back_again;
             led = new_front;
             stands = standing_then ready first (n ∷ (comma ++ mid)) ∙ ap (λ r. followed_by r (standing ready (n ∷ (comma ++ mid)))) (stand first first_old)
                 ∙ ap (followed_by (standing old first)) (ap (more (content_at ready n) (row_below ready n)) mid_stands ∙ n_stands (token_then 0x2C (leaves_then beside none)));
+            follows = λ lines layout_fits. elim (q lines) [
+              | inl w ↦ behind_comma named (ap (λ z. row_around (standing old first) (top_at old n) (token_then 0x2C (leaves_then (map (content_at old) z) none))) w ∙ sym (named_then (token_then 0x2C none)))
+              | inr w ↦ with_line new_front named mid layout_fits w.0 (sym (named_then (token_then 0x2C (leaves_then beside none)))) be w.1
+            ];
             comes_so = subst (λ r. CommaInserted r new_front) (sym front_is) (one_comes (standing old first) (top_at old n) beside el are);
             takes = comma_takes (standing old first) (top_at old n) beside are;
           }
@@ -286,10 +325,23 @@ module _ (o : Options) (kind : RowKind) (old ready : List Node) (tree : IsTree o
         by (plans.none_go e n) = inr (inl (e, counted ∙ n))
         by (plans.last_goes e t b w n) = inr (inr (e, t, subst (λ v. Gap true (gap_leaves layout.newline layout.current v)) (sym b) (a_line fits_layout.current), w, counted ∙ n))
 
+    -- the only element is followed by blanks alone
+    ends_row : EndsRow behind (element_count (standing old left))
+    ends_row empty =
+        let a = fits.alone (sym (standing_count old left) ∙ empty) in
+        let gap_behind : List Content = gap_leaves layout.newline outer plan.behind in
+        let blanks : List Content = map (content_at old) back in
+        let back_is : standing old back ≡ leaves_then blanks none = blanks_alone old tree back a.1 in (
+          gap_behind ++ blanks,
+          blanks_both gap_behind blanks (gap_blank layout.newline outer plan.behind) (blanks_are old back a.1),
+          ap (λ v. leaves_then (comma_leaf v ++ gap_behind) (standing old back)) a.0 ∙ ap (leaves_then gap_behind) back_is ∙ sym (leaves_then_joined gap_behind blanks none),
+        )
+
     pub comes_into : (n : ℕ) → length (elements old front) ≡ n → ElementInserted o top n (standing old left) new_row
     unfolding new_row
     comes_into n number =
         subst (λ k. ElementInserted o top k (standing old left) new_row) (standing_count old front ∙ number)
         (subst (λ r. ElementInserted o top (element_count (standing old front)) r new_row) (sym parts_are)
         (comes (standing old front) (standing old back) led.led behind gap led.comes_so led.takes fits.none
-        (gap_before layout.newline layout.current plan.before (has_newline (followed_by (standing old front) (standing old back))) several fits_layout.current (λ h. lines (ap has_newline parts_are ∙ h)) fits.before_is) goes))
+        (gap_before layout.newline layout.current plan.before (has_newline (followed_by (standing old front) (standing old back))) several fits_layout.current (λ h. lines (ap has_newline parts_are ∙ h)) fits.before_is) goes
+        (subst (λ r. Follows gap led.led (standing old back) (element_count r)) parts_are (led.follows lines fits_layout)) (subst (λ r. EndsRow behind (element_count r)) parts_are ends_row)))

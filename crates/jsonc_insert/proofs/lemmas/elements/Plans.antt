@@ -3,18 +3,19 @@ use Rattle.std.proofs.Common.{◌≡◌, ◌≢◌, ◌∙◌, ◌<◌, ◌≤�
 use Rattle.std.specs.List.{list_all, prefix_len}
 use Rattle.std.specs.Option.{option_or}
 use Rattle.std.proofs.lemmas.Bool.{and_parts, cases_Bool, cases_lt, eqb-true, false≢true}
-use Rattle.std.proofs.lemmas.List.{drop-append-le, get_or-append-add, get_or-drop, get_or-reverse, get_or-take, get_or_append_left, take-append-drop, take-append-le, take_at, take_more}
+use Rattle.std.proofs.lemmas.List.{drop-append-le, get_or-append-add, get_or-drop, get_or-reverse, get_or-take, get_or_append_left, length-reverse, take-append-drop, take-append-le, take_at, take_more}
 use Rattle.std.proofs.lemmas.List.Edits.{get_or-between, length-between, split_between}
 use Rattle.std.proofs.lemmas.List.Elements.{All-from_get_or, All-head, All-tail, filter-append, filter_passes}
 use Rattle.std.proofs.lemmas.List.Folds.{drop_split, length-prefix_len, list_all_at}
 use Rattle.std.proofs.lemmas.List.Sums.{prefix_len_passes, prefix_len_stops, prefix_len-le-length}
 use Rattle.std.proofs.lemmas.Option.{slice_get_cases}
+use Rattle.std.proofs.Math.Seq.{drop-cons, split_at}
 use Rattle.jsonc_text.specs.Options.{Options}
 use Rattle.jsonc_tree.specs.Changes.{EachOnce}
 use Rattle.jsonc_tree.specs.Content.{Content, token}
 use Rattle.jsonc_tree.specs.OrderedTree.{OrderedTree, none, more, followed_by}
 use Rattle.jsonc_tree.specs.Tree.{Node, content_at, IsTree}
-use Rattle.jsonc_layout.specs.nodes.Kinds.{is_inline_trivia, is_inline_trivia_at, is_element, is_element_at, is_newline, is_trivia, is_whitespace, is_comma_at, is_comma, is_blank_at}
+use Rattle.jsonc_layout.specs.nodes.Kinds.{is_inline_trivia, is_inline_trivia_at, is_element, is_element_at, is_newline, is_trivia, is_whitespace, is_comma_at, is_comma, is_blank_at, is_newline_at, is_whitespace_at}
 use Rattle.jsonc_layout.specs.nodes.Siblings.{is_no_newline_at}
 use Rattle.jsonc_layout.specs.lines.Breadth.{last_element}
 use Rattle.jsonc_sound.specs.Alone.{StretchAlone}
@@ -23,6 +24,7 @@ use Rattle.jsonc_sound.specs.Leaving.{element_count}
 use Rattle.jsonc_sound.specs.Rows.{RowKind, of_values, of_properties, opening, closing, Last, nothing_yet, a_comma, last_after, last_behind}
 use Rattle.jsonc_sound.proofs.SeamStretches.{last_is, parted_stretch}
 use Rattle.jsonc_edit.specs.Changes.{row_below}
+use Rattle.jsonc_edit.specs.multiline.Reflows.{has_newline}
 use Rattle.jsonc_insert.specs.Planned.{behind_comma, begins_with_comma, comma_comes, comma_wanted, element_before, elements, has_brackets, has_comma, is_other, line, line_if, parting, past_comments, place_in, plan_alone, plan_behind, plan_by, plan_first, planned, trivia}
 use Rattle.jsonc_insert.specs.Trimmed.{last_blanks, last_spaces}
 use Rattle.jsonc_insert.specs.declared.plan.Gap.TheVariants.{Line, Nothing}
@@ -63,7 +65,25 @@ through_node row g k low high =
     let long : length (front ++ mid) ≡ k = omega (arith, length-append front mid, mid_long, length-take (g + 1) row, low, high) in
     ap (take k) whole ∙ take_at (front ++ mid) (drop k row) k long ∙ ap (λ l. l ++ mid) (take_more row g 0 (omega (arith, low, high))) ∙ append_assoc (take g row) (slice_index row g ∷ []) mid
 
+white_beside : (content : Content) → is_whitespace content ≡ true → is_inline_trivia content ≡ true
+white_beside (Content.whitespace s) h = refl
+white_beside content h = cc
+
+no_length : (xs : List ℕ) → length xs ≡ 0 → xs ≡ []
+no_length [] e = refl
+no_length (n ∷ xs) e = absurd (omega (arith, e))
+
+either_false : (x y : Bool) → x || y ≡ false → (x ≡ false) × (y ≡ false)
+either_false true y e = cc
+either_false false y e = (refl, e)
+
 module _ (ns : List Node) where
+  -- in a row without the end of a line no node is one
+  no_line_at : (xs : List ℕ) (k : ℕ) → k < length xs → has_newline (standing ns xs) ≡ false → is_newline_at ns (slice_index xs k) ≡ false
+  no_line_at [] k h e = absurd (omega (arith, h))
+  no_line_at (n ∷ xs) zero h e = (either_false (is_newline_at ns n) (has_newline (standing ns xs)) e).0
+  no_line_at (n ∷ xs) (suc k) h e = no_line_at xs k (omega (arith, h)) (either_false (is_newline_at ns n) (has_newline (standing ns xs)) e).1
+
   -- whitespace and comments leave what stands last, and no comma is among them
   beside_stays : (last : Last) (xs : List ℕ) → AllAre (is_inline_trivia_at ns) xs → last_behind last (standing ns xs) ≡ last
   beside_stays last [] all = refl
@@ -110,10 +130,32 @@ module _ (o : Options) (kind : RowKind) (ns : List Node) (tree : IsTree ns) (x y
   abbrev pub behind : Plan → List ℕ
   behind p = drop (p.place - 1) inner
 
+  -- spaces stand on a line, and it ends
+  pub record EndsLine (xs : List ℕ) : Type 0 where
+    pub spaces : List ℕ
+    pub end_node : ℕ
+    pub rest : List ℕ
+    pub is : xs ≡ spaces ++ end_node ∷ rest
+    pub blanks : AllAre (is_blank_at ns) spaces
+    pub beside : AllAre (is_inline_trivia_at ns) spaces
+    pub line : is_newline_at ns end_node ≡ true
+
+  -- what a plan puts the element behind: the first bracket or a comma, or on a line of its own the comments on the comma's line, where others are
+  pub data Behind (p : Plan) : Type 0 where
+    the_bracket : before p ≡ [] → Behind p
+    the_comma : (front : List ℕ) (n : ℕ) → before p ≡ front ++ n ∷ [] → is_comma_at ns n ≡ true → Behind p
+    the_comments : p.before ≡ Line → (front : List ℕ) (n : ℕ) (mid : List ℕ) → before p ≡ front ++ n ∷ mid → is_comma_at ns n ≡ true → AllAre (is_inline_trivia_at ns) mid → EndsLine (behind p) → Behind p
+    no_others : length (elements ns inner) ≡ 0 → Behind p
+
+  -- where a line ends in the row, the element is put on one of its own
+  abbrev pub Lines : Bool → Type 0
+  Lines several = has_newline (standing ns inner) ≡ true → several ≡ true
+
   -- the comma that a plan wants: none where none is due, else directly behind the last element
-  pub data CommaAt (p : Plan) : Type 0 where
-    none_due : p.comma ≡ None → IsTrue (takes_element (last_behind nothing_yet (standing ns (before p)))) → CommaAt p
-    one_due : (front : List ℕ) (n : ℕ) (mid : List ℕ) → before p ≡ front ++ n ∷ mid → p.comma ≡ Some (length front + 2) → is_element_at ns n ≡ true → AllAre (is_inline_trivia_at ns) mid → CommaAt p
+  pub data CommaAt (several : Bool) (p : Plan) : Type 0 where
+    none_due : p.comma ≡ None → IsTrue (takes_element (last_behind nothing_yet (standing ns (before p)))) → (Lines several → Behind p) → CommaAt several p
+    one_due : (front : List ℕ) (n : ℕ) (mid : List ℕ) → before p ≡ front ++ n ∷ mid → p.comma ≡ Some (length front + 2) → is_element_at ns n ≡ true → AllAre (is_inline_trivia_at ns) mid
+        → (Lines several → (mid ≡ []) ⊎ ((p.before ≡ Line) × EndsLine (behind p))) → CommaAt several p
 
   -- what a plan writes behind the element
   pub data Goes (commas : Bool) (p : Plan) : Type 0 where
@@ -124,10 +166,11 @@ module _ (o : Options) (kind : RowKind) (ns : List Node) (tree : IsTree ns) (x y
   pub record PlanFits (several commas : Bool) (p : Plan) : Type 0 where
     pub low : 1 ≤ p.place
     pub high : p.place ≤ length inner + 1
-    pub comma : CommaAt p
+    pub comma : CommaAt several p
     pub none : IsTrue (not (leaving.comma_comes (standing ns (behind p))))
     pub before_is : (p.before ≡ line_if several) ⊎ (p.before ≡ parting several)
     pub goes : Goes commas p
+    pub alone : length (elements ns inner) ≡ 0 → (p.comma_behind ≡ false) × AllAre (is_blank_at ns) (behind p)
 
   -- the row taken apart at a place
   apart : (k : ℕ) → (mid : Last) × StretchAlone o kind nothing_yet (standing ns (take k inner)) mid × StretchAlone o kind mid (standing ns (drop k inner)) r.to
@@ -188,6 +231,27 @@ module _ (o : Options) (kind : RowKind) (ns : List Node) (tree : IsTree ns) (x y
             absurd (false≢true (sym (ap (λ w. is_whitespace w || is_newline w) opens) ∙ blank)))
       ]
 
+  -- behind such a place blanks alone stand
+  last_are_blank : AllAre (is_blank_at ns) (drop (length row - 1 - last_blanks ns inside - 1) inner)
+  last_are_blank =
+      let place : ℕ = length row - 1 - last_blanks ns inside in
+      let rest : List ℕ = drop (place - 1) inner in
+      let rest_long : length rest ≡ last_blanks ns inside = omega (arith, length-drop (place - 1) inner, few, long) in
+      let counted : last_blanks ns inside ≡ prefix_len (is_blank_at ns) (reverse inside) = length-prefix_len (is_blank_at ns) (reverse inside) in
+      All-from_get_or (λ m. is_blank_at ns m ≡ true) rest 0
+      (λ j h.
+      let back : ℕ = length inside - 1 - (place + j) in
+      let low : back < last_blanks ns inside = omega (arith, h, rest_long, inside_long, long, few) in
+      let passes : is_blank_at ns (slice_index (reverse inside) back) ≡ true = prefix_len_passes (is_blank_at ns) (reverse inside) back 0 (omega (arith, low, counted)) in
+      let again : length inside - 1 - back ≡ place + j = omega (arith, h, rest_long, inside_long, long, few) in
+      let in_inner : slice_index rest j ≡ slice_index inner (place - 1 + j) = get_or-drop (place - 1) inner j 0 in
+      let in_row : slice_index inner (place - 1 + j) ≡ slice_index row (place + j) =
+      sym (at (place - 1 + j) (omega (arith, h, rest_long, long, few))) ∙ ap (slice_index row) (let z : suc (place - 1 + j) ≡ place + j = omega (arith, few, long) in z) in
+      let in_side : slice_index (reverse inside) back ≡ slice_index row (place + j) =
+      get_or-reverse inside back 0 (omega (arith, low, few, inside_long, long)) ∙ ap (slice_index inside) again ∙ get_or-between row 0 (length row - 1) (place + j) 0 (omega (arith, h, rest_long, long, few))
+      ∙ ap (slice_index row) (let z : 0 + (place + j) ≡ place + j = omega arith in z) in
+      ap (is_blank_at ns) (in_inner ∙ in_row ∙ sym in_side) ∙ passes)
+
   -- no element is in the row: it comes before the last blanks
   module _ (several commas : Bool) where
     alone_fits : count inner ≡ 0 → PlanFits several commas (plan_alone ns several row)
@@ -203,10 +267,11 @@ module _ (o : Options) (kind : RowKind) (ns : List Node) (tree : IsTree ns) (x y
         record {
           low = omega (arith, few, long);
           high = omega (arith, long);
-          comma = none_due refl takes;
+          comma = none_due refl takes (λ lines. no_others empty);
           none = no_comma_behind k takes;
           before_is = inl refl;
           goes = none_go refl (omega (arith, sums, empty));
+          alone = λ none. (refl, last_are_blank);
         }
 
     -- before the first element
@@ -214,10 +279,11 @@ module _ (o : Options) (kind : RowKind) (ns : List Node) (tree : IsTree ns) (x y
     first_fits some = record {
       low = omega arith;
       high = omega arith;
-      comma = none_due refl refl;
+      comma = none_due refl refl (λ lines. the_bracket refl);
       none = none_comes_first o kind refl r.stretch;
       before_is = inl refl;
       goes = more_go refl some;
+      alone = λ none. absurd (some none);
     }
 
     -- behind an element of the row
@@ -241,6 +307,16 @@ module _ (o : Options) (kind : RowKind) (ns : List Node) (tree : IsTree ns) (x y
           by : (k : ℕ) → slice_index row k ≡ n → 1 ≤ k
           by zero same = absurd (let wrong : is_element_at ns x ≡ true = ap (is_element_at ns) same ∙ element in false≢true (sym (ap is_element opens) ∙ wrong))
           by (suc k) same = omega arith
+
+      some_inner : 1 ≤ count inner
+      some_inner =
+          let front : List ℕ = take (place_in n row) row in
+          let rest : List ℕ = drop (suc (place_in n row)) row in
+          let parts : row ≡ front ++ slice_index row (place_in n row) ∷ rest = split_at row (place_in n row) 0 (omega (arith, there)) in
+          let more = count_then front (n ∷ rest) in
+          let one : count (n ∷ rest) ≡ suc (count rest) = ap (λ w. length (cond w (n ∷ elements ns rest) (elements ns rest))) element in
+          let whole : count row ≡ count (front ++ n ∷ rest) = ap count (parts ∙ ap (λ m. front ++ m ∷ rest) n_there) in
+          omega (arith, more, one, whole, count_row)
 
       -- the nodes on the line behind a place
       module _ (b : ℕ) where
@@ -276,6 +352,105 @@ module _ (o : Options) (kind : RowKind) (ns : List Node) (tree : IsTree ns) (x y
                   | inl found ↦ sym (ap (is_inline_trivia_at ns) same) ∙ found
                   | inr not_so ↦ absurd (false≢true (sym (list_all_at (is_inline_trivia_at ns) on k 0 h not_so) ∙ so))
                 ]
+
+      -- such a line ends in the row
+      module _ (b : ℕ) (low : 1 ≤ b) (high : b ≤ length inner + 1) where
+        past_off : list_all (is_inline_trivia_at ns) (on b) ≡ false → past_comments ns row b ≡ b
+        past_off off = ap (λ v. b + cond v (length (on b) - last_spaces ns (on b)) 0) off ∙ omega arith
+
+        module _ (all : list_all (is_inline_trivia_at ns) (on b) ≡ true) where
+          abbrev onward : List ℕ
+          onward = slice_range row b (length row)
+
+          onward_long : length onward ≡ length row - b
+          onward_long = length-between row b (length row) (omega arith)
+
+          ends_before : b + length (on b) < length row
+          ends_before =
+              elim (cases_lt (b + length (on b)) (length row)) [
+                | inl h ↦ h
+                | inr h ↦ (
+                    let k : ℕ = length row - 1 - b in
+                    let there : k < length (on b) = omega (arith, h, long, high) in
+                    let is_y : slice_index (on b) k ≡ y = on_at b k there ∙ ap (slice_index row) (let z : b + k ≡ length inner + 1 = omega (arith, long, high) in z) ∙ at_last in
+                    absurd (false≢true (sym (list_all_at (is_inline_trivia_at ns) (on b) k 0 there (ap (is_inline_trivia_at ns) is_y ∙ ap is_inline_trivia closes)) ∙ all)))
+              ]
+
+          line_there : is_newline_at ns (slice_index row (b + length (on b))) ≡ true
+          line_there =
+              let k : ℕ = prefix_len (is_no_newline_at ns) onward in
+              let h : k < length onward = omega (arith, ends_before, onward_long, on_is b) in
+              let stops : is_no_newline_at ns (slice_index onward k) ≡ false = prefix_len_stops (is_no_newline_at ns) onward 0 h in
+              let same : slice_index onward k ≡ slice_index row (b + length (on b)) =
+              get_or-between row b (length row) k 0 (omega (arith, h, onward_long)) ∙ ap (slice_index row) (let z : b + k ≡ b + length (on b) = omega (arith, on_is b) in z) in
+              elim (cases_Bool (is_newline_at ns (slice_index onward k))) [
+                | inl so ↦ sym (ap (is_newline_at ns) same) ∙ so
+                | inr off ↦ absurd (false≢true (sym stops ∙ ap not off))
+              ]
+
+          line_inside : b + length (on b) ≤ length inner
+          line_inside =
+              elim (cases_lt (length inner) (b + length (on b))) [
+                | inr h ↦ h
+                | inl h ↦ (
+                    let last : b + length (on b) ≡ length inner + 1 = omega (arith, h, ends_before, long) in
+                    absurd (false≢true (sym (ap (is_newline_at ns) (ap (slice_index row) last ∙ at_last) ∙ ap is_newline closes) ∙ line_there)))
+              ]
+
+          many_past : past_comments ns row b ≡ b + (length (on b) - last_spaces ns (on b))
+          many_past = ap (λ v. b + cond v (length (on b) - last_spaces ns (on b)) 0) all
+
+          spaces_are : last_spaces ns (on b) ≡ prefix_len (is_whitespace_at ns) (reverse (on b))
+          spaces_are = length-prefix_len (is_whitespace_at ns) (reverse (on b))
+
+          few_spaces : last_spaces ns (on b) ≤ length (on b)
+          few_spaces = omega (arith, spaces_are, prefix_len-le-length (is_whitespace_at ns) (reverse (on b)), length-reverse (on b))
+
+          abbrev spaces_on : List ℕ
+          spaces_on = slice_range inner (past_comments ns row b - 1) (b + length (on b) - 1)
+
+          spaces_long : length spaces_on ≡ last_spaces ns (on b)
+          spaces_long =
+              let l : length spaces_on ≡ b + length (on b) - 1 - (past_comments ns row b - 1) = length-between inner (past_comments ns row b - 1) (b + length (on b) - 1) (omega (arith, line_inside)) in
+              omega (arith, l, many_past, few_spaces, low)
+
+          white : (i : ℕ) → i < length spaces_on → is_whitespace_at ns (slice_index spaces_on i) ≡ true
+          white i h =
+              let p : ℕ = past_comments ns row b in
+              let q : ℕ = p + i - b in
+              let back : ℕ = length (on b) - 1 - q in
+              let q_there : q < length (on b) = omega (arith, h, spaces_long, many_past, few_spaces) in
+              let in_inner : slice_index spaces_on i ≡ slice_index inner (p - 1 + i) = get_or-between inner (p - 1) (b + length (on b) - 1) i 0 (omega (arith, h, spaces_long, many_past, few_spaces, low)) in
+              let in_row : slice_index inner (p - 1 + i) ≡ slice_index row (p + i) =
+              sym (at (p - 1 + i) (omega (arith, h, spaces_long, many_past, few_spaces, low, line_inside))) ∙ ap (slice_index row) (let z : suc (p - 1 + i) ≡ p + i = omega (arith, many_past, low) in z) in
+              let on_line : slice_index (on b) q ≡ slice_index row (p + i) = on_at b q q_there ∙ ap (slice_index row) (let z : b + q ≡ p + i = omega (arith, many_past) in z) in
+              let again : length (on b) - 1 - back ≡ q = omega (arith, q_there) in
+              let turned : slice_index (reverse (on b)) back ≡ slice_index (on b) q = get_or-reverse (on b) back 0 (omega (arith, q_there)) ∙ ap (slice_index (on b)) again in
+              let passes : is_whitespace_at ns (slice_index (reverse (on b)) back) ≡ true =
+              prefix_len_passes (is_whitespace_at ns) (reverse (on b)) back 0 (omega (arith, h, spaces_long, spaces_are, many_past, few_spaces)) in
+              ap (is_whitespace_at ns) (in_inner ∙ in_row ∙ sym on_line ∙ sym turned) ∙ passes
+
+          line_ends_there : EndsLine (drop (past_comments ns row b - 1) inner)
+          line_ends_there =
+              let j : ℕ = b + length (on b) - 1 in
+              let h : j < length inner = omega (arith, line_inside, low) in
+              let node : slice_index inner j ≡ slice_index row (b + length (on b)) = sym (at j h) ∙ ap (slice_index row) (let z : suc j ≡ b + length (on b) = omega (arith, low) in z) in record {
+                spaces = spaces_on;
+                end_node = slice_index inner j;
+                rest = drop (suc j) inner;
+                is = drop_split inner (past_comments ns row b - 1) j (omega (arith, many_past, low)) ∙ ap (λ l. spaces_on ++ l) (drop-cons inner j 0 h);
+                blanks = All-from_get_or (λ m. is_blank_at ns m ≡ true) spaces_on 0 (λ i g. ap (λ v. v || is_newline_at ns (slice_index spaces_on i)) (white i g));
+                beside = All-from_get_or (λ m. is_inline_trivia_at ns m ≡ true) spaces_on 0 (λ i g. white_beside (content_at ns (slice_index spaces_on i)) (white i g));
+                line = ap (is_newline_at ns) node ∙ line_there;
+              }
+
+          -- so there is the end of a line
+          not_quiet : has_newline (standing ns inner) ≡ false → ⊥
+          not_quiet quiet =
+              let j : ℕ = b + length (on b) - 1 in
+              let h : j < length inner = omega (arith, line_inside, low) in
+              let node : slice_index inner j ≡ slice_index row (b + length (on b)) = sym (at j h) ∙ ap (slice_index row) (let z : suc j ≡ b + length (on b) = omega (arith, low) in z) in
+              false≢true (sym (no_line_at ns inner j h quiet) ∙ ap (is_newline_at ns) node ∙ line_there)
 
       from_place : (b : ℕ) → b ≤ past_comments ns row b
       from_place b = omega arith
@@ -371,18 +546,19 @@ module _ (o : Options) (kind : RowKind) (ns : List Node) (tree : IsTree ns) (x y
       end_high : end ≤ length inner + 1
       end_high = before_last b b_high
 
+      comma_stands : has_comma ns row e ≡ true → is_comma_at ns (slice_index row (b - 1)) ≡ true
+      comma_stands h = ap (λ k. is_comma_at ns (slice_index row k)) (let z : b - 1 ≡ e + trivia ns after = omega (arith, b_with h) in z) ∙ (comma_there h).1
+
       -- where a comma stands behind it, that is what stood last
       comma_last : has_comma ns row e ≡ true → last_behind nothing_yet (standing ns (take (end - 1) inner)) ≡ a_comma
       comma_last h =
-          let c = comma_there h in
           let mid : List ℕ = slice_range inner (b - 1) (end - 1) in
           let m : ℕ = slice_index row (b - 1) in
-          let is_comma : is_comma_at ns m ≡ true = ap (λ k. is_comma_at ns (slice_index row k)) (let z : b - 1 ≡ e + trivia ns after = omega (arith, b_with h) in z) ∙ c.1 in
           let front : Last = last_behind nothing_yet (standing ns (take (b - 2) inner)) in
           ap (λ l. last_behind nothing_yet (standing ns l)) (front_through b b_low b_high)
           ∙ ap (last_behind nothing_yet) (standing_then ns (take (b - 2) inner) (m ∷ mid))
           ∙ last_then nothing_yet (standing ns (take (b - 2) inner)) (standing ns (m ∷ mid))
-          ∙ ap (last_behind front) (comma_first ns tree m (standing ns mid) is_comma)
+          ∙ ap (last_behind front) (comma_first ns tree m (standing ns mid) (comma_stands h))
           ∙ beside_stays ns a_comma mid (mid_beside b b_low b_high)
 
       -- where none does, none comes behind the line's comments
@@ -426,22 +602,50 @@ module _ (o : Options) (kind : RowKind) (ns : List Node) (tree : IsTree ns) (x y
           by (inl h) = let parts = and_parts several commas h in last_goes h parts.1 (before_end false ∙ ap parting parts.0) refl (g refl)
           by (inr h) = none_go h (g refl)
 
-      comma_fits : (follow : Bool) → CommaAt (at_end follow)
+      -- nothing stands between, or the element is on a line of its own behind comments
+      at_once : Lines several → (end ≡ b) ⊎ ((parting several ≡ Line) × EndsLine (drop (end - 1) inner))
+      at_once lines =
+          elim (cases_Bool (list_all (is_inline_trivia_at ns) (on b))) [
+            | inr off ↦ inl (past_off b (omega (arith, b_low)) b_high off)
+            | inl so ↦
+                elim (cases_Bool (has_newline (standing ns inner))) [
+                  | inr quiet ↦ absurd (not_quiet b (omega (arith, b_low)) b_high so quiet)
+                  | inl some ↦ inr (ap parting (lines some), line_ends_there b (omega (arith, b_low)) b_high so)
+                ]
+          ]
+
+      none_between : end ≡ b → slice_range inner (b - 1) (end - 1) ≡ []
+      none_between e =
+          let l : length (slice_range inner (b - 1) (end - 1)) ≡ end - 1 - (b - 1) = length-between inner (b - 1) (end - 1) (omega (arith, end_high)) in
+          no_length (slice_range inner (b - 1) (end - 1)) (omega (arith, l, e))
+
+      comma_fits : (follow : Bool) → CommaAt several (at_end follow)
       comma_fits follow = by (cases_Bool (has_comma ns row e))
         where
           here : take ((at_end follow).place - 1) inner ≡ take (end - 1) inner
           here = ap (λ k. take (k - 1) inner) (place_end follow)
 
-          by : (has_comma ns row e ≡ true) ⊎ (has_comma ns row e ≡ false) → CommaAt (at_end follow)
+          ends_here : EndsLine (drop (end - 1) inner) → EndsLine (drop ((at_end follow).place - 1) inner)
+          ends_here w = subst (λ k. EndsLine (drop (k - 1) inner)) (sym (place_end follow)) w
+
+          by : (has_comma ns row e ≡ true) ⊎ (has_comma ns row e ≡ false) → CommaAt several (at_end follow)
           by (inl h) =
               none_due (comma_end follow ∙ ap (λ v. cond v None (Some e)) h)
               (subst (λ l. IsTrue (takes_element (last_behind nothing_yet (standing ns l)))) (sym here) (subst (λ l. IsTrue (takes_element l)) (sym (comma_last h)) refl))
+              (λ lines.
+              elim (at_once lines) [
+                | inl once ↦
+                    the_comma (take (b - 2) inner) (slice_index row (b - 1)) (here ∙ front_through b b_low b_high ∙ ap (λ l. take (b - 2) inner ++ slice_index row (b - 1) ∷ l) (none_between once)) (comma_stands h)
+                | inr w ↦
+                    the_comments (before_end follow ∙ w.0) (take (b - 2) inner) (slice_index row (b - 1)) (slice_range inner (b - 1) (end - 1)) (here ∙ front_through b b_low b_high) (comma_stands h) (mid_beside b b_low b_high) (ends_here w.1)
+              ])
           by (inr h) =
               let front : List ℕ = take (b - 2) inner in
               let mid : List ℕ = slice_range inner (b - 1) (end - 1) in
               let counted : e ≡ length front + 2 = omega (arith, length-take (b - 2) inner, b_low, b_high, b_without h) in
               one_due front n mid (here ∙ front_through b b_low b_high ∙ ap (λ m. front ++ m ∷ mid) (n_before h))
               (comma_end follow ∙ ap (λ v. cond v None (Some e)) h ∙ ap Some counted) element (mid_beside b b_low b_high)
+              (λ lines. elim (at_once lines) [ inl once ↦ inl (none_between once) | inr w ↦ inr (before_end follow ∙ w.0, ends_here w.1) ])
 
       none_fits : (follow : Bool) → IsTrue (not (leaving.comma_comes (standing ns (behind (at_end follow)))))
       none_fits follow = subst (λ k. IsTrue (not (leaving.comma_comes (standing ns (drop (k - 1) inner))))) (sym (place_end follow)) (by (cases_Bool (has_comma ns row e)))
@@ -458,6 +662,7 @@ module _ (o : Options) (kind : RowKind) (ns : List Node) (tree : IsTree ns) (x y
         none = none_fits follow;
         before_is = inr (before_end follow);
         goes = goes_end follow f g;
+        alone = λ none. absurd (omega (arith, none, some_inner));
       }
 
     -- what an element comes behind is one

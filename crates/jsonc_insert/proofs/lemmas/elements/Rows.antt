@@ -241,7 +241,7 @@ module _ (o : Options) (kind : RowKind) where
     one_ends = subst (λ l. LeavesEnd o (own_leaf top.content ++ l) None) (sym (append-nil (leaves top.below))) whole.ends
 
     pub new_row : {i : ℕ} {row new : OrderedTree} → ElementInserted o top i row new → IsRow o kind row → IsRow o kind new
-    new_row (comes front back led behind gap c t n w g) r =
+    new_row (comes front back led behind gap c t n w g q e) r =
         let parts = parted_stretch o kind front back r.stretch in
         let lines = parted_loosely true false front back r.lines in
         let ends = parted_leaves o (leaves front) (leaves back) None (subst (λ l. LeavesEnd o l None) (leaves-followed_by front back) r.ends) in

@@ -1,6 +1,7 @@
 -- What an element that comes into a container of a sound tree adds to the text.
 use Rattle.std.proofs.Common.{◌||◌, ◌==◌, inr, inl, ◌⊎◌, arith, ℕ, ◌+◌, ◌≡◌, ◌≢◌, ◌∙◌, sym, ap, subst, refl, Bool, true, false, not, List, [], ◌∷◌, ◌++◌, length, IsTrue, Option}
 use Rattle.std.proofs.lemmas.List.{append_assoc, append-nil}
+use Rattle.std.proofs.lemmas.Str.{chars-nil}
 use Rattle.jsonc_text.specs.Options.{Options}
 use Rattle.jsonc_text.specs.Plain.{Plain}
 use Rattle.jsonc_tree.specs.Content.{Content, token, newline}
@@ -16,6 +17,8 @@ use Rattle.jsonc_sound.specs.Rows.{RowKind, of_values, of_properties, closing, o
 use Rattle.jsonc_sound.specs.SoundTrees.{SoundTree}
 use Rattle.jsonc_sound.specs.Marks.{marks, marks_of}
 use Rattle.jsonc_sound.specs.TreeChanges.{IsElement, leaves_of, ElementChanged, this_element, passed, later_element, DocumentChanged}
+use Rattle.jsonc_sound.proofs.NodesAlone.{document_alone}
+use Rattle.jsonc_sound.proofs.Pieces.{Pieces, document_pieces}
 use Rattle.jsonc_sound.proofs.Texts.{AllUtf8}
 use Rattle.jsonc_sound.proofs.TriviaLeaves.{front_leaves}
 use Rattle.jsonc_edit.specs.multiline.Laws.{bracketed}
@@ -35,16 +38,19 @@ use Rattle.jsonc_run.proofs.lemmas.promise.Reversed.{flip, front_same, back_same
 use Rattle.jsonc_run.proofs.lemmas.promise.Leaves.{row_back, front_of, back_of, document_parts, document_utf8, text_joined, utf8_first, utf8_joined, utf8_second}
 use Rattle.jsonc_run.proofs.lemmas.promise.StretchElements.{Reached, at_first, past_leaves, past_row}
 use Rattle.jsonc_run.proofs.lemmas.promise.RemovedTexts.{container_leaves, entry_begins, entry_there, none_more}
-use Rattle.jsonc_run.proofs.lemmas.promise.Stretches.{marks_in, marks_in_both, parted, parted_as}
+use Rattle.jsonc_run.proofs.lemmas.promise.Stretches.{marks_in, marks_in_both, parted, parted_as, pieces_first, pieces_second}
 use Rattle.jsonc_sound.specs.Documents.{all_marks, document_of}
 use Rattle.jsonc_run.proofs.lemmas.promise.Values.{at_the_place, node_leaves}
 use Rattle.jsonc_run.proofs.lemmas.promise.Insides.{as_many, comma_comes, gap_trivia, goes_on, inside_so, texts_followed, texts_past}
-use Rattle.jsonc_run.proofs.lemmas.promise.Joined.{EntriesOf, Good, none_behind, bracket_follows, close_text, gap_blanks, good_as, good_first, good_second, good_tree, led_so, lines_behind, lines_past, lines_trimmed, no_comma_closes, one_token, onward, open_text, past_some, past_stretch, with_row}
-use Rattle.jsonc_sound.proofs.RowParts.{leaves_followed}
-use Rattle.jsonc_tree.proofs.Rows.{followed_by-assoc}
+use Rattle.jsonc_run.proofs.lemmas.promise.Joined.{EntriesOf, Good, blanks_are_trivia, none_behind, bracket_follows, close_text, gap_blanks, good_as, good_first, good_second, good_tree, led_so, lines_behind, lines_past, lines_trimmed, no_comma_closes, one_token, onward, open_text, past_some, past_stretch, with_row}
+use Rattle.jsonc_sound.proofs.RowParts.{beside_trivia, leaves_followed}
+use Rattle.jsonc_sound.proofs.RootRows.{joined_trivia, leaves_then_joined}
+use Rattle.jsonc_sound.specs.MarkChanges.{AreBlanks}
+use Rattle.jsonc_tree.specs.declared.node.CstNewlineKind.{CstNewlineKind}
+use Rattle.jsonc_tree.proofs.Rows.{followed_by-assoc, followed_by-none}
 use Rattle.jsonc_run.proofs.lemmas.promise.Values.{ValueHere}
 use Rattle.jsonc_run.proofs.lemmas.promise.CommentTexts.{blanks_text}
-use Rattle.jsonc_run.proofs.lemmas.promise.LooseRows.{AreLeaves, Ended, all_trivia, behind_one, Reads, behind_entry, entry_read, reads_on, closing_gap, ended, kind_of_row, none_comes, row_reads}
+use Rattle.jsonc_run.proofs.lemmas.promise.LooseRows.{AreLeaves, Ended, all_trivia, behind_one, Reads, behind_entry, entry_read, reads_on, closing_gap, ended, kind_of_row, none_comes, row_reads, trivia_leaves}
 use Rattle.jsonc_run.proofs.lemmas.promise.Closing.{count_followed}
 use Rattle.jsonc_sound.proofs.LooseLines.{Stops, trivia_gap}
 use Rattle.jsonc_sound.specs.Rows as rows
@@ -82,14 +88,19 @@ regroup f ld ow bh br b c = simp (append_assoc) refl
 regroup_marks : (f a b c : List Mark) → f ++ ((a ++ b) ++ c) ≡ (f ++ a) ++ (b ++ c)
 regroup_marks f a b c = simp (append_assoc) refl
 
--- what a new element adds to a text, its place there, and its marks
-abbrev pub TextComes : RowKind → List ℕ → ℕ → List Mark → Document → Document → Type 0
-TextComes kind path n come d e = (before behind : List (List ℕ)) × (length before ≡ n) × (text rest : List ℕ) × Inside path (before ++ behind) (before ++ text ∷ behind) d e
-    × Entry (path ++ length before ∷ []) e.options e.text (text ++ rest) rest × Come come (text ++ rest) rest d e × Joins (kind_of_row kind) behind text rest d e
+-- what a new element adds to a text, which is such a one, its place there, and its marks
+abbrev pub TextComes : RowKind → List ℕ → ℕ → (List ℕ → Type 0) → List Mark → Document → Document → Type 0
+TextComes kind path n Is come d e = (before behind : List (List ℕ)) × (length before ≡ n) × (text rest : List ℕ) × Inside path (before ++ behind) (before ++ text ∷ behind) d e
+    × Entry (path ++ length before ∷ []) e.options e.text (text ++ rest) rest × Come come (text ++ rest) rest d e × Joins (kind_of_row kind) before behind text rest d e
+    × Is text
 
 opening_so : (kind : RowKind) → IsTrue (places.opening (kind_of_row kind) == 0x2C || places.opening (kind_of_row kind) == places.opening (kind_of_row kind))
 opening_so of_values = refl
 opening_so of_properties = refl
+
+no_length : (l : List (List ℕ)) → length l ≡ 0 → l ≡ []
+no_length [] e = refl
+no_length (x ∷ l) e = absurd (omega (arith, e))
 
 element_stops : (content : Content) (below after : OrderedTree) → IsElement content → Stops (more content below after)
 element_stops (Content.whitespace s) below after h = cc
@@ -202,7 +213,7 @@ module _ (o : Options) (kind : RowKind) (row middle kept new : OrderedTree) {pat
   row_regroup : (l g a b h : List Content) → l ++ (g ++ (a ++ (b ++ h))) ≡ l ++ (g ++ ((a ++ b) ++ h))
   row_regroup l g a b h = simp (append_assoc) refl
 
-  module _ (spreads : Spreading) (top : Top) (element : IsElement top.content) (front back led behind : OrderedTree) (gap : List Content) (c : CommaInserted front led) (taken : IsTrue (coming.takes_element (rows.last_behind rows.nothing_yet led))) (no_comma : IsTrue (not (leaving.comma_comes back))) {must : Bool} (g : Gap must gap) (must_is : must ≡ has_newline (followed_by front back)) (on : GoesOn o gap back behind)
+  module _ (spreads : Spreading) (top : Top) (element : IsElement top.content) (front back led behind : OrderedTree) (gap : List Content) (c : CommaInserted front led) (taken : IsTrue (coming.takes_element (rows.last_behind rows.nothing_yet led))) (no_comma : IsTrue (not (leaving.comma_comes back))) {must : Bool} (g : Gap must gap) (must_is : must ≡ has_newline (followed_by front back)) (on : GoesOn o gap back behind) (stands : coming.Follows gap led back (element_count (followed_by front back))) (ends : coming.EndsRow behind (element_count (followed_by front back)))
       (kept_is : followed_by front back ≡ kept) (new_is : followed_by led (leaves_then gap (more top.content top.below behind)) ≡ new) (w x : Option Plain) where
     abbrev own : List Content
     own = leaves_of top
@@ -250,12 +261,9 @@ module _ (o : Options) (kind : RowKind) (row middle kept new : OrderedTree) {pat
     whole_row : followed_by new bracket ≡ followed_by led (leaves_then gap (more top.content top.below (followed_by behind bracket)))
     whole_row = ap (λ z. followed_by z bracket) (sym new_is) ∙ followed_by-assoc led (leaves_then gap tail) bracket ∙ ap (followed_by led) (leaves_followed gap tail bracket)
 
-    some_tail : leaves_then gap (more top.content top.below (followed_by behind bracket)) ≡ none → ⊥
-    some_tail = some gap
-      where
-        some : (ls : List Content) → leaves_then ls (more top.content top.below (followed_by behind bracket)) ≡ none → ⊥
-        some [] e = cc
-        some (l ∷ ls) e = cc
+    some_row : (ls : List Content) → leaves_then ls (more top.content top.below (followed_by behind bracket)) ≡ none → ⊥
+    some_row [] e = cc
+    some_row (l ∷ ls) e = cc
 
     -- what is behind it, with the last bracket
     abbrev BehindIt : Type 0
@@ -267,7 +275,7 @@ module _ (o : Options) (kind : RowKind) (row middle kept new : OrderedTree) {pat
         let next : OrderedTree = more top.content top.below (followed_by behind bracket) in
         let r0 = subst (Reads o k B) whole_row all.0 in
         let l0 = subst (LinesEndLoosely true false) whole_row all.1 in
-        let r1 = past_stretch o k B led (leaves_then gap next) some_tail r0 in
+        let r1 = past_stretch o k B led (leaves_then gap next) (some_row gap) r0 in
         let r2 = past_some o k B gap next (λ e. cc) r1 in
         let r3 = behind_entry o k B top.content top.below (followed_by behind bracket) element r2 in
         let l3 = (lines_past gap next (lines_behind led (leaves_then gap next) l0)).2 in
@@ -345,17 +353,17 @@ module _ (o : Options) (kind : RowKind) (row middle kept new : OrderedTree) {pat
     no_line_led : must ≡ false → has_newline led ≡ false
     no_line_led e = led_lacks c (both_lack front back (sym must_is ∙ e)).0
 
-    abbrev Ready : List ℕ → List ℕ → Type 0
-    Ready lead rest = (y z : List ℕ) × (c : ℕ) × (lead ≡ y ++ c ∷ z) × IsTrue (c == 0x2C || c == places.opening k) × text_gaps.Gap o (z ++ (text_of_leaves gap ++ (node_chars top ++ rest))) (node_chars top ++ rest) × (documents.InLine z ⊎ StartsLine)
+    abbrev Reaches : List ℕ → List ℕ → Type 0
+    Reaches lead rest = (y z : List ℕ) × (c : ℕ) × (lead ≡ y ++ c ∷ z) × IsTrue (c == 0x2C || c == places.opening k) × text_gaps.Gap o (z ++ (text_of_leaves gap ++ (node_chars top ++ rest))) (node_chars top ++ rest) × (documents.InLine z ⊎ StartsLine)
 
-    ready : (rest : List ℕ) → rest ≡ text_of_leaves (leaves behind) ++ (places.closing k ∷ B) → Ready (F ++ (places.opening k ∷ text_of_leaves (leaves led))) rest
-    ready rest e =
+    reaches : (rest : List ℕ) → rest ≡ text_of_leaves (leaves behind) ++ (places.closing k ∷ B) → Reaches (F ++ (places.opening k ∷ text_of_leaves (leaves led))) rest
+    reaches rest e =
         let all = row_reads o B kind here_new in
         let r0 = subst (Reads o k B) whole_row all.0 in
         let l0 = subst (LinesEndLoosely true false) whole_row all.1 in
         by (ended o k B gap (gap_trivia g) top.content top.below (followed_by behind bracket) led rows.nothing_yet r0 taken) l0
       where
-        by : Ended o k B gap (gap_trivia g) top.content top.below (followed_by behind bracket) rows.nothing_yet led → LinesEndLoosely true false (followed_by led (leaves_then gap next_row)) → Ready (F ++ (places.opening k ∷ text_of_leaves (leaves led))) rest
+        by : Ended o k B gap (gap_trivia g) top.content top.below (followed_by behind bracket) rows.nothing_yet led → LinesEndLoosely true false (followed_by led (leaves_then gap next_row)) → Reaches (F ++ (places.opening k ∷ text_of_leaves (leaves led))) rest
         by (all_trivia h f a) l0 =
             (F, text_of_leaves (leaves led), places.opening k, refl, opening_so kind, subst (λ y. text_gaps.Gap o y (node_chars top ++ rest)) (next_text rest e led g_led) (subst (text_gaps.Gap o (printed_text (followed_by led (leaves_then gap next_row)) ++ B)) (first_text rest e) (trivia_gap o B true false (λ w. cc) (element_stops top.content top.below (followed_by behind bracket) element) f l0).0), started g led g_led a no_line_led (good_first o gap (own ++ leaves behind) g1).utf8)
         by (behind_one s1 s2 q f a) l0 =
@@ -376,6 +384,113 @@ module _ (o : Options) (kind : RowKind) (row middle kept new : OrderedTree) {pat
               subst (λ y. text_gaps.Gap o y (node_chars top ++ rest)) (next_text rest e s2 h2) (subst (text_gaps.Gap o (printed_text (followed_by s2 (leaves_then gap next_row)) ++ B)) (first_text rest e) (trivia_gap o B true false (λ w. cc) (element_stops top.content top.below (followed_by behind bracket) element) f l1).0),
               started g s2 (good_second o (token 0x2C ∷ []) (leaves s2) h1) a (λ e2. (both_lack s1 (token_then 0x2C s2) (ap has_newline (sym q) ∙ no_line_led e2)).1) (good_first o gap (own ++ leaves behind) g1).utf8,
             )
+
+    -- and from the last comma of the front, past comments beside it
+    gap_from : (before : OrderedTree) (beside : List Content) → AreTrivia beside → led ≡ followed_by before (leaves_then beside none) → Good o beside → (rest : List ℕ) → rest ≡ text_of_leaves (leaves behind) ++ (places.closing k ∷ B)
+        → text_gaps.Gap o (text_of_leaves beside ++ (text_of_leaves gap ++ (node_chars top ++ rest))) (node_chars top ++ rest)
+    gap_from before beside are is good rest e =
+        let all = row_reads o B kind here_new in
+        let after : OrderedTree = leaves_then gap next_row in
+        let joined : leaves_then (beside ++ gap) next_row ≡ leaves_then beside after = leaves_then_joined beside gap next_row in
+        let row_is : followed_by new bracket ≡ followed_by before (leaves_then (beside ++ gap) next_row) =
+        whole_row ∙ ap (λ z. followed_by z after) is ∙ followed_by-assoc before (leaves_then beside none) after ∙ ap (followed_by before) (leaves_followed beside none after ∙ sym joined) in
+        let r0 = subst (Reads o k B) row_is all.0 in
+        let l0 = subst (LinesEndLoosely true false) row_is all.1 in
+        let r1 = past_stretch o k B before (leaves_then (beside ++ gap) next_row) (some_row (beside ++ gap)) r0 in
+        let l1 = lines_behind before (leaves_then (beside ++ gap) next_row) l0 in
+        let f = trivia_leaves o k B gap (gap_trivia g) top.content top.below (followed_by behind bracket) (beside ++ gap) (joined_trivia beside gap are (gap_trivia g)) r1 in
+        let leaves_are : leaves (leaves_then beside none) ≡ beside = none_behind beside are in
+        let text : printed_text (leaves_then (beside ++ gap) next_row) ++ B ≡ text_of_leaves beside ++ (text_of_leaves gap ++ (node_chars top ++ rest)) =
+        ap (λ z. printed_text z ++ B) (joined ∙ sym (leaves_followed beside none after)) ∙ next_text rest e (leaves_then beside none) (good_as o (sym leaves_are) good)
+        ∙ ap (λ l. text_of_leaves l ++ (text_of_leaves gap ++ (node_chars top ++ rest))) leaves_are in
+        subst (λ y. text_gaps.Gap o y (node_chars top ++ rest)) text
+        (subst (text_gaps.Gap o (printed_text (leaves_then (beside ++ gap) next_row) ++ B)) (first_text rest e) (trivia_gap o B true false (λ w. cc) (element_stops top.content top.below (followed_by behind bracket) element) f l1).0)
+
+    gap_here : (rest : List ℕ) → rest ≡ text_of_leaves (leaves behind) ++ (places.closing k ∷ B) → text_gaps.Gap o (text_of_leaves gap ++ (node_chars top ++ rest)) (node_chars top ++ rest)
+    gap_here rest e =
+        subst (λ y. text_gaps.Gap o (y ++ (text_of_leaves gap ++ (node_chars top ++ rest))) (node_chars top ++ rest)) chars-nil
+        (gap_from led [] tt (sym (followed_by-none led)) (good_first o [] (leaves led) g_led) rest e)
+
+    -- the line that the row goes on with ends
+    g_back : Good o (leaves back)
+    g_back =
+        let n = onward o comma_mark on in
+        good_second o n.gap (leaves back) (good_second o n.leaf (n.gap ++ leaves back) (good_as o n.parts g3))
+
+    line_ends : (rest : OrderedTree) (spaces : List Content) (kind_of_end : CstNewlineKind) → AreInlineTrivia spaces → AreBlanks spaces → back ≡ leaves_then spaces (more (newline kind_of_end) none rest) → entering.EndsLine back_text
+    line_ends rest spaces n inline blank is =
+        let line : List Content = newline n ∷ [] in
+        let last : List ℕ = places.closing k ∷ B in
+        let parts2 : leaves back ≡ spaces ++ (line ++ leaves rest) = ap leaves is ∙ front_leaves spaces (more (newline n) none rest) (blanks_are_trivia spaces blank) in
+        let h = good_as o parts2 g_back in
+        let spaces_good = good_first o spaces (line ++ leaves rest) h in
+        let h1 = good_second o spaces (line ++ leaves rest) h in
+        let text : text_of_leaves (leaves back) ≡ text_of_leaves spaces ++ (text_of_leaves line ++ text_of_leaves (leaves rest)) =
+        ap text_of_leaves parts2 ∙ text_joined spaces (line ++ leaves rest) spaces_good.utf8 ∙ ap (λ l. text_of_leaves spaces ++ l) (text_joined line (leaves rest) (good_first o line (leaves rest) h1).utf8) in (
+          text_of_leaves spaces,
+          text_of_leaves line ++ (text_of_leaves (leaves rest) ++ last),
+          ap (λ l. l ++ last) text ∙ append_assoc (text_of_leaves spaces) (text_of_leaves line ++ text_of_leaves (leaves rest)) last ∙ ap (λ l. text_of_leaves spaces ++ l) (append_assoc (text_of_leaves line) (text_of_leaves (leaves rest)) last),
+          blanks_text o spaces blank spaces_good.pieces,
+          beside_text o spaces inline spaces_good.pieces,
+          (text_of_leaves line, text_of_leaves (leaves rest) ++ last, refl, line_end_text n),
+        )
+
+    abbrev Alone : Type 0
+    Alone = texts_of front ++ texts_of back ≡ []
+
+    abbrev Ready : List ℕ → List ℕ → Type 0
+    Ready lead rest = (y z : List ℕ) × (c : ℕ) × (lead ≡ y ++ c ∷ z) × IsTrue (c == 0x2C || c == places.opening k) × text_gaps.Gap o (z ++ (text_of_leaves gap ++ (node_chars top ++ rest))) (node_chars top ++ rest)
+        × ((z ≡ []) ⊎ ((IsTrue (c == 0x2C) × documents.InLine z × entering.StartsLine (text_of_leaves gap) × entering.EndsLine back_text) ⊎ (Alone × (documents.InLine z ⊎ StartsLine))))
+
+    -- the text through a comma, and beside it
+    comma_text : (first : OrderedTree) (beside : List Content) → AreTrivia beside → led ≡ followed_by first (token_then 0x2C (leaves_then beside none))
+        → Good o beside × (F ++ (places.opening k ∷ text_of_leaves (leaves led)) ≡ (F ++ (places.opening k ∷ text_of_leaves (leaves first))) ++ 0x2C ∷ text_of_leaves beside)
+    comma_text first beside are q =
+        let parts2 : leaves led ≡ leaves first ++ (token 0x2C ∷ beside) = ap leaves q ∙ leaves-followed_by first (token_then 0x2C (leaves_then beside none)) ∙ ap (λ l. leaves first ++ (token 0x2C ∷ l)) (none_behind beside are) in
+        let h0 = good_as o parts2 g_led in
+        let h1 = good_second o (leaves first) (token 0x2C ∷ beside) h0 in
+        let text : text_of_leaves (leaves led) ≡ text_of_leaves (leaves first) ++ (0x2C ∷ text_of_leaves beside) =
+        ap text_of_leaves parts2 ∙ text_joined (leaves first) (token 0x2C ∷ beside) (good_first o (leaves first) (token 0x2C ∷ beside) h0).utf8
+        ∙ ap (λ l. text_of_leaves (leaves first) ++ l) (text_joined (token 0x2C ∷ []) beside (good_first o (token 0x2C ∷ []) beside h1).utf8 ∙ ap (λ l. l ++ text_of_leaves beside) (one_token comma_mark)) in
+        (good_second o (token 0x2C ∷ []) beside h1, ap (λ l. F ++ (places.opening k ∷ l)) text ∙ sym (append_assoc F (places.opening k ∷ text_of_leaves (leaves first)) (0x2C ∷ text_of_leaves beside)))
+
+    ready : (rest : List ℕ) → rest ≡ text_of_leaves (leaves behind) ++ (places.closing k ∷ B) → Ready (F ++ (places.opening k ∷ text_of_leaves (leaves led))) rest
+    ready rest e = by stands
+      where
+        by : coming.Follows gap led back (element_count (followed_by front back)) → Ready (F ++ (places.opening k ∷ text_of_leaves (leaves led))) rest
+        by (coming.behind_bracket q) = (F, [], places.opening k, ap (λ z. F ++ (places.opening k ∷ text_of_leaves (leaves z))) q ∙ ap (λ l. F ++ (places.opening k ∷ l)) chars-nil, opening_so kind, gap_here rest e, inl refl)
+        by (coming.behind_comma first q) =
+            let t = comma_text first [] tt q in
+            (F ++ (places.opening k ∷ text_of_leaves (leaves first)), [], 0x2C, t.1 ∙ ap (λ l. (F ++ (places.opening k ∷ text_of_leaves (leaves first))) ++ 0x2C ∷ l) chars-nil, refl, gap_here rest e, inl refl)
+        by (coming.behind_comments b first after beside spaces n inline in_spaces blank q is) =
+            let are = beside_trivia beside inline in
+            let t = comma_text first beside are q in
+            let through : OrderedTree = followed_by first (token_then 0x2C none) in
+            let led_is : led ≡ followed_by through (leaves_then beside none) = q ∙ sym (followed_by-assoc first (token_then 0x2C none) (leaves_then beside none)) in (
+              F ++ (places.opening k ∷ text_of_leaves (leaves first)),
+              text_of_leaves beside,
+              0x2C,
+              t.1,
+              refl,
+              gap_from through beside are led_is t.0 rest e,
+              inr (inl (refl, beside_text o beside inline t.0.pieces, starts_line b refl (good_first o gap (own ++ leaves behind) g1).utf8, line_ends after spaces n in_spaces blank is)),
+            )
+        by (coming.no_others n) =
+            let y = reaches rest e in
+            let none_there : Alone = sym (texts_followed front back) ∙ no_length (texts_of (followed_by front back)) (sym (as_many (followed_by front back)) ∙ n) in
+            (y.0, y.1, y.2, y.3, y.4, y.5, inr (inr (none_there, y.6)))
+
+    -- blanks alone stand behind the only entry
+    ends_alone : (rest : List ℕ) → rest ≡ text_of_leaves (leaves behind) ++ (places.closing k ∷ B) → Alone → (z y : List ℕ) × documents.AreBlanks z × (rest ≡ z ++ places.closing k ∷ y)
+    ends_alone rest e none_there =
+        let counted : element_count (followed_by front back) ≡ 0 = as_many (followed_by front back) ∙ ap (λ (l : List (List ℕ)). length l) (texts_followed front back ∙ none_there) in
+        let a = ends counted in
+        let is : leaves behind ≡ a.0 = ap leaves a.2 ∙ none_behind a.0 (blanks_are_trivia a.0 a.1) in (
+          text_of_leaves a.0,
+          B,
+          blanks_text o a.0 a.1 (good_as o is g3).pieces,
+          e ∙ ap (λ l. text_of_leaves l ++ (places.closing k ∷ B)) is,
+        )
 
     -- the entry that a comma has come behind
     comma_entry : (rest : List ℕ) → rest ≡ text_of_leaves (leaves behind) ++ (places.closing k ∷ B) → EntriesOf o kind F B led (text_of_leaves gap ++ (node_chars top ++ rest))
@@ -407,7 +522,7 @@ module _ (o : Options) (kind : RowKind) (row middle kept new : OrderedTree) {pat
         let u = (good_first o (leaves front) (leaves back) (good_as o split h)).utf8 in
         ap (with_row o kind F B) (ap text_of_leaves split ∙ text_joined (leaves front) (leaves back) u) ∙ kept_regroup (places.opening k) (places.closing k) F (text_of_leaves (leaves front)) (text_of_leaves (leaves back)) B
 
-    pub joins_so : (rest : List ℕ) → rest ≡ text_of_leaves (leaves behind) ++ (places.closing k ∷ B) → Joins k (texts_of back) (node_chars top) rest (document_of o t w) (document_of o u x)
+    pub joins_so : (rest : List ℕ) → rest ≡ text_of_leaves (leaves behind) ++ (places.closing k ∷ B) → Joins k (texts_of front) (texts_of back) (node_chars top) rest (document_of o t w) (document_of o u x)
     joins_so rest e =
         let m = spreads (row_good row old_good) in
         let l = lines_trimmed o kind F B leave m.0 in
@@ -439,6 +554,7 @@ module _ (o : Options) (kind : RowKind) (row middle kept new : OrderedTree) {pat
           y.4,
           y.5,
           y.6,
+          ends_alone rest e,
         )
 
     pub rest_is : (b : List Content) → b ≡ back_of d → text_of_leaves ((leaves behind ++ leaves bracket) ++ b) ≡ text_of_leaves (leaves behind) ++ (places.closing k ∷ B)
@@ -451,12 +567,13 @@ module _ (o : Options) (kind : RowKind) (row middle kept new : OrderedTree) {pat
 
 module _ (o : Options) (kind : RowKind) (row kept new : OrderedTree) {path : List ℕ} {t u : OrderedTree} (s : SoundTree o t) (r : SoundTree o u) (d : DocumentChanged (bracketed kind row) (bracketed kind new) path t u)
     (w x : Option Plain) (same_texts : texts_of row ≡ texts_of kept) (same_marks : marks kept ≡ marks row) {top : Top} (element : IsElement top.content) (come : List Mark) (is : marks_in (leaves_of top) ≡ come)
+    (Is : List ℕ → Type 0) (laid_so : Pieces o (leaves_of top) → AllUtf8 (leaves_of top) → Is (text_of_leaves (leaves_of top)))
     (middle : OrderedTree) (leave : BlankLinesLeave middle kept) (spreads : Spreading o kind row middle kept new s r d leave) where
-  pub text_comes : {n : ℕ} → ElementInserted o top n kept new → TextComes kind path n come (document_of o t w) (document_of o u x)
+  pub text_comes : {n : ℕ} → ElementInserted o top n kept new → TextComes kind path n Is come (document_of o t w) (document_of o u x)
   text_comes c = by c refl refl
     where
-      by : {n : ℕ} {k now : OrderedTree} → ElementInserted o top n k now → k ≡ kept → now ≡ new → TextComes kind path n come (document_of o t w) (document_of o u x)
-      by (coming.comes front back led behind gap c taken no_comma g on) e f =
+      by : {n : ℕ} {k now : OrderedTree} → ElementInserted o top n k now → k ≡ kept → now ≡ new → TextComes kind path n Is come (document_of o t w) (document_of o u x)
+      by (coming.comes front back led behind gap c taken no_comma g on stands ends) e f =
           let bracket : OrderedTree = token_then (closing kind) none in
           let around : DocumentChanged (bracketed kind new) (bracketed kind row) path u t = flip d in
           let tail : OrderedTree = more top.content top.below behind in
@@ -479,6 +596,7 @@ module _ (o : Options) (kind : RowKind) (row kept new : OrderedTree) {path : Lis
           let u2 = utf8_second own back_leaves u1 in
           let rest_text : text_of_leaves back_leaves ≡ text_of_leaves rest ++ text_of_leaves (back_of around) = text_joined rest (back_of around) (utf8_first rest (back_of around) u2) in
           let own_text : text_of_leaves own ≡ node_chars top = sym (node_leaves o top) in
+          let own_pieces : Pieces o own = pieces_first o own back_leaves (pieces_second o ahead (own ++ back_leaves) (subst (Pieces o) whole (document_pieces o (document_alone o r.shaped)))) in
           let entry = subst (λ b. Entry (path ++ length (texts_of front) ∷ []) o (printed_text u) (node_chars top ++ b) b) (sym rest_text)
           (subst (λ l. Entry (path ++ length (texts_of front) ∷ []) o (printed_text u) (l ++ (text_of_leaves rest ++ text_of_leaves (back_of around))) (text_of_leaves rest ++ text_of_leaves (back_of around))) own_text
           (subst (λ k. Entry (path ++ k ∷ []) o (printed_text u) (text_of_leaves own ++ (text_of_leaves rest ++ text_of_leaves (back_of around))) (text_of_leaves rest ++ text_of_leaves (back_of around))) number (entry_there o kind r around reach_new))) in
@@ -505,5 +623,6 @@ module _ (o : Options) (kind : RowKind) (row kept new : OrderedTree) {path : Lis
             subst (λ ts. Inside path (texts_of front ++ texts_of back) ts (document_of o t w) (document_of o u x)) new_texts (subst (λ ts. Inside path ts (texts_of (followed_by new bracket)) (document_of o t w) (document_of o u x)) old_texts (inside_so o kind s r d w x)),
             entry,
             (marks_in ahead, marks_in back_leaves, parted_as refl is refl new_parted, old_marks),
-            joins_so o kind row middle kept new s r d leave spreads top element front back led behind gap c taken no_comma g refl on e f w x (text_of_leaves back_leaves) (rest_is o kind row middle kept new s r d leave spreads top element front back led behind gap c taken no_comma g refl on e f w x (back_of around) (back_same d)),
+            joins_so o kind row middle kept new s r d leave spreads top element front back led behind gap c taken no_comma g refl on stands ends e f w x (text_of_leaves back_leaves) (rest_is o kind row middle kept new s r d leave spreads top element front back led behind gap c taken no_comma g refl on stands ends e f w x (back_of around) (back_same d)),
+            subst Is own_text (laid_so own_pieces (utf8_first own back_leaves u1)),
           )

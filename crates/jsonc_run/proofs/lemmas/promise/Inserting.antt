@@ -16,7 +16,9 @@ use Rattle.jsonc_sound.specs.SoundTrees.{SoundTree}
 use Rattle.jsonc_sound.proofs.FirstNodes.{value_of_element}
 use Rattle.jsonc_run.specs.texts.Paths.{an_array}
 use Rattle.jsonc_run.specs.texts.Entries.{Named, items, of, Changed}
+use Rattle.jsonc_run.specs.texts.Layout.{IsLaidEntry}
 use Rattle.jsonc_run.specs.texts.Entering.{Gains}
+use Rattle.jsonc_run.proofs.lemmas.promise.LaidTexts.{is_laid}
 use Rattle.jsonc_run.proofs.lemmas.promise.Insides.{kept_texts}
 use Rattle.jsonc_run.proofs.lemmas.promise.Arriving.{text_comes}
 use Rattle.jsonc_run.proofs.lemmas.promise.Stretches.{laid_literals}
@@ -53,7 +55,7 @@ module _ (o : Options) {t u : OrderedTree} (s : SoundTree o t) (r : SoundTree o 
 
   pub gains_so : (k : ItemGained v (min i (item_count g.old)) g.old g.new) → min j (item_count g.old) ≡ length k.front → Gains an_array path k.front k.back (entry_of [] v) (document_of o t (Some x)) (document_of o u (Some y))
   gains_so k number =
-      let comes = text_comes o of_values c.row c.kept c.new s r c.changed (Some x) (Some y) (kept_texts c.leave) (kept_marks c.leave) (value_of_element (laid_value o c.layout v texts)) (literals_of v) (laid_literals c.layout v texts) c.row c.leave (λ g. (g, refl)) c.comes in (
+      let comes = text_comes o of_values c.row c.kept c.new s r c.changed (Some x) (Some y) (kept_texts c.leave) (kept_marks c.leave) (value_of_element (laid_value o c.layout v texts)) (literals_of v) (laid_literals c.layout v texts) (IsLaidEntry an_array (entry_of [] v)) (is_laid o c.layout v texts) c.row c.leave (λ g. (g, refl)) c.comes in (
         subst (λ (p : Items). Changed (of an_array (k.front ++ k.back)) (plain.array p) path x y) k.after (subst (λ (p : Items). Changed (plain.array p) (plain.array g.new) path x y) k.before (changed g.changed)),
         comes.0,
         comes.1,
@@ -64,6 +66,7 @@ module _ (o : Options) {t u : OrderedTree} (s : SoundTree o t) (r : SoundTree o 
         comes.6,
         comes.7,
         comes.8,
+        comes.9,
       )
 
   -- at its number, or behind all

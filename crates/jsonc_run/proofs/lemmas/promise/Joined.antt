@@ -32,8 +32,8 @@ use Rattle.jsonc_insert.specs.elements.Coming.{FirstLinesLeave, LastLinesLeave, 
 use Rattle.jsonc_run.specs.promise.PlaceLaws.{text_of_leaves}
 use Rattle.jsonc_run.specs.texts.Stretches as documents
 use Rattle.jsonc_run.specs.texts.Entering as entering
-use Rattle.jsonc_run.specs.texts.Stretches.{Without}
-use Rattle.jsonc_run.specs.texts.Entering.{Led, NoCommaComes, Spreads, Trims, is_space}
+use Rattle.jsonc_run.specs.texts.Stretches.{Without, is_space}
+use Rattle.jsonc_run.specs.texts.Entering.{Led, NoCommaComes, Spreads, Trims}
 use Rattle.jsonc_run.proofs.lemmas.promise.CommaTexts.{all_same, same_before}
 use Rattle.jsonc_run.proofs.lemmas.promise.CommentTexts.{blanks_text}
 use Rattle.jsonc_run.proofs.lemmas.promise.Leaves.{document_utf8, text_joined, utf8_first, utf8_joined, utf8_second}
@@ -68,7 +68,7 @@ module _ (o : Options) where
   pub good_tree : {t : OrderedTree} → SoundTree o t → Good o (leaves t)
   good_tree s = record { pieces = document_pieces o (document_alone o s.shaped); utf8 = document_utf8 o s.shaped }
 
-blanks_are_trivia : (ls : List Content) → AreBlanks ls → AreTrivia ls
+pub blanks_are_trivia : (ls : List Content) → AreBlanks ls → AreTrivia ls
 blanks_are_trivia [] h = tt
 blanks_are_trivia (whitespace s ∷ ls) h = (refl, blanks_are_trivia ls h.1)
 blanks_are_trivia (newline k ∷ ls) h = (refl, blanks_are_trivia ls h.1)

@@ -1,5 +1,5 @@
 -- Where an array or object is put on several lines, in a text; and where commas are set.
-use Rattle.std.proofs.Common.{ℕ, ◌≡◌, ◌∙◌, sym, ap, subst, refl, ◌||◌, List, inl, inr, ◌⊎◌, [], ◌∷◌, ◌++◌, IsTrue, Option, chars}
+use Rattle.std.proofs.Common.{ℕ, ◌≡◌, ◌∙◌, sym, ap, subst, refl, false, ◌||◌, List, inl, inr, ◌⊎◌, [], ◌∷◌, ◌++◌, IsTrue, Option, chars}
 use Rattle.jsonc_text.specs.Options.{Options}
 use Rattle.jsonc_text.specs.Grammar.{IsDocument}
 use Rattle.jsonc_text.specs.Plain.{Plain}
@@ -10,10 +10,10 @@ use Rattle.jsonc_tree.specs.OrderedTree.{OrderedTree, none, own_leaf, leaves, fo
 use Rattle.jsonc_tree.proofs.OrderedTrees.{leaves-followed_by}
 use Rattle.jsonc_sound.specs.Shape.{token_then, printed_text}
 use Rattle.jsonc_layout.specs.nodes.Kinds.{is_whitespace, is_newline}
-use Rattle.jsonc_sound.specs.Rows.{opening, closing}
+use Rattle.jsonc_sound.specs.Rows.{RowKind, opening, closing}
 use Rattle.jsonc_sound.specs.Marks as tree_marks
 use Rattle.jsonc_sound.specs.SoundTrees.{SoundTree}
-use Rattle.jsonc_sound.specs.TreeChanges.{leaves_of}
+use Rattle.jsonc_sound.specs.TreeChanges.{leaves_of, DocumentChanged}
 use Rattle.jsonc_sound.proofs.NodesAlone.{document_alone}
 use Rattle.jsonc_sound.proofs.Pieces.{Pieces, document_pieces}
 use Rattle.jsonc_sound.proofs.Texts.{AllUtf8}
@@ -22,14 +22,13 @@ use Rattle.jsonc_text.specs.declared.edit.TrailingCommaMode.{TrailingCommaMode}
 use Rattle.jsonc_text.specs.declared.edit.TrailingCommaMode.TheVariants.{Never, IfMultiline}
 use Rattle.jsonc_edit.specs.multiline.Laws.{bracketed, SpreadAt}
 use Rattle.jsonc_edit.specs.multiline.Reflows as reflows
-use Rattle.jsonc_edit.specs.multiline.Reflows.{Reflows, SpreadsOut}
+use Rattle.jsonc_edit.specs.multiline.Reflows.{has_newline, is_on_lines, Reflows, SpreadsOut}
 use Rattle.jsonc_run.specs.Edits.{ensure_multiline, set_commas, set_some_commas}
 use Rattle.jsonc_run.specs.Written.{IsChanged, by_lines, by_commas, by_some_commas}
 use Rattle.jsonc_run.specs.texts.Stretches as documents
 use Rattle.jsonc_run.specs.texts.Edits as texts
-use Rattle.jsonc_run.specs.texts.Stretches.{Inside, Without}
-use Rattle.jsonc_run.specs.texts.Entering.{is_space}
-use Rattle.jsonc_run.specs.texts.Edits.{Commas, Makes, SetsCommas}
+use Rattle.jsonc_run.specs.texts.Stretches.{Inside, Without, is_space}
+use Rattle.jsonc_run.specs.texts.Edits.{Commas, IsOnLines, Makes, SetsCommas}
 use Rattle.jsonc_sound.specs.Leaves.{is_inner_blank}
 use Rattle.std.proofs.lemmas.Str.{chars-nil}
 use Rattle.std.proofs.lemmas.List.{append-nil}
@@ -43,6 +42,8 @@ use Rattle.jsonc_run.proofs.lemmas.promise.NoneLeft.{none_left, NoneLeft}
 use Rattle.jsonc_run.proofs.lemmas.promise.NoneMissing as missing
 use Rattle.jsonc_run.proofs.lemmas.promise.NoneMissing.{all_trailing, NoneMissing}
 use Rattle.jsonc_run.proofs.lemmas.promise.LinesInside.{line_inside}
+use Rattle.jsonc_run.proofs.lemmas.promise.PartLines.{parts_on_lines}
+use Rattle.jsonc_sort.proofs.Same.{document_same}
 use Rattle.jsonc_run.proofs.lemmas.promise.Leaves.{front_of, back_of, document_parts, document_parts_then, document_utf8, text_joined}
 use Rattle.jsonc_sound.specs.Documents.{all_marks}
 use Rattle.jsonc_run.proofs.lemmas.promise.RemovedTexts.{container_leaves}
@@ -140,6 +141,12 @@ spaces_leave o (solid_stays {c = c} {x = x} {y = y} h) p u =
 spaces_leave o (space_leaves {c = c} {x = x} {y = y} q h) p u =
     subst (λ a. Without is_space a (text_of_leaves y)) (sym (text_joined (c ∷ []) x (u.0, tt))) (whitespace_leaves o c q (p.0, tt) (spaces_leave o h p.1 u.1))
 
+-- where a line ended already nothing has changed, and else each part is on a line of its own
+lines_so : (o : Options) {t u : OrderedTree} {path : List ℕ} → SoundTree o u → (kind : RowKind) {row new : OrderedTree} → SpreadsOut row new → (has_newline row ≡ false → IsTrue (is_on_lines new)) → DocumentChanged (bracketed kind row) (bracketed kind new) path t u
+    → (w : Option Plain) → (printed_text u ≡ printed_text t) ⊎ IsOnLines path (document_of o u w)
+lines_so o r kind (reflows.stays h) f d w = inl (ap printed_text (sym (document_same refl d)))
+lines_so o r kind {row} {new} (reflows.reflows e h k) f d w = inr (parts_on_lines o kind row new r d (f e) w)
+
 pub multiline_made : (o : Options) (t u : OrderedTree) (w x : Option Plain) (path : List ℕ) → SoundTree o t → SoundTree o u → IsChanged w (ensure_multiline path) x → tree_marks.marks u ≡ tree_marks.marks t → SpreadAt path t u
     → Makes (document_of o t w) (texts.ensure_multiline path) (document_of o u x)
 multiline_made o t u w _ path s r by_lines m a =
@@ -164,6 +171,7 @@ multiline_made o t u w _ path s r by_lines m a =
         blanks_leave o (subst (λ l. WithoutBlanks l kept) (sym of_u) second) (document_pieces o (document_alone o r.shaped)) (document_utf8 o r.shaped),
       ),
       line_inside o r a w,
+      lines_so o r a.kind a.spreads a.lines a.changed w,
     )
 
 -- commas alone have left, or come

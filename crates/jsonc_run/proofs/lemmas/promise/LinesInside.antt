@@ -134,7 +134,7 @@ spread_line : {x y : OrderedTree} → SpreadsOut x y → has_newline y ≡ true
 spread_line (reflows.stays h) = h
 spread_line (reflows.reflows e h k) = h
 
-opened : (kind : RowKind) (row : OrderedTree) → text_of_leaves (leaves_of (container_of kind row)) ≡ places.opening (kind_of_row kind) ∷ printed_text row
+pub opened : (kind : RowKind) (row : OrderedTree) → text_of_leaves (leaves_of (container_of kind row)) ≡ places.opening (kind_of_row kind) ∷ printed_text row
 opened of_values row = mark_text bracket_mark row
 opened of_properties row = mark_text brace_mark row
 

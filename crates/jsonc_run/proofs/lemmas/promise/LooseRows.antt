@@ -104,11 +104,11 @@ module _ (o : Options) (kind : Kind) (z : List ℕ) where
     past : {t : OrderedTree} {content : Content} {below after : OrderedTree} → Trivia o t (more content below after) → Stops (more content below after)
         → IsEntry o kind (printed_text (more content below after) ++ z) (printed_text after ++ z) → LooseTo target after → LooseTo target t
 
-  leaf_first : {content : Content} {after target : OrderedTree} → IsTrivia o content → LooseTo target after → LooseTo target (more content none after)
+  pub leaf_first : {content : Content} {after target : OrderedTree} → IsTrivia o content → LooseTo target after → LooseTo target (more content none after)
   leaf_first h (there g) = there (shape.trivia h g)
   leaf_first h (past g s e k) = past (shape.trivia h g) s e k
 
-  leaf_as : {content : Content} {below after target : OrderedTree} → IsTrivia o content → below ≡ none → LooseTo target after → LooseTo target (more content below after)
+  pub leaf_as : {content : Content} {below after target : OrderedTree} → IsTrivia o content → below ≡ none → LooseTo target after → LooseTo target (more content below after)
   leaf_as {content} {below} {after} {target} h e k = subst (λ w. LooseTo target (more content w after)) (sym e) (leaf_first h k)
 
   pub trivia_no_token : (content : Content) → IsTrue (is_trivia content) → content ≡ token 0x2C → ⊥
@@ -264,7 +264,7 @@ module _ (o : Options) (kind : Kind) (z : List ℕ) (ls : List Content) (are : A
     all_trivia : IsTrue (takes_element last) → Trivia o (followed_by s Tail) Target → AreLeaves s → Ended last s
     behind_one : (s1 s2 : OrderedTree) → s ≡ followed_by s1 (token_then 0x2C s2) → Trivia o (followed_by s2 Tail) Target → AreLeaves s2 → Ended last s
 
-  trivia_leaves : (l : List Content) → AreTrivia l → Reads o kind z (leaves_then l Target) → Trivia o (leaves_then l Target) Target
+  pub trivia_leaves : (l : List Content) → AreTrivia l → Reads o kind z (leaves_then l Target) → Trivia o (leaves_then l Target) Target
   trivia_leaves [] h k = shape.nothing
   trivia_leaves (x ∷ l) h (inl m) = absurd (never_ends none l c b r m.2)
   trivia_leaves (x ∷ l) h (inr (is_a_leaf t e, k)) = shape.trivia t (trivia_leaves l h.1 k)

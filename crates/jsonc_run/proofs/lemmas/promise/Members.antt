@@ -18,7 +18,9 @@ use Rattle.jsonc_run.specs.texts.Paths.{an_object}
 use Rattle.jsonc_run.specs.texts.Entries.{Named, members, of, Changed}
 use Rattle.jsonc_run.specs.texts.Edits as texts
 use Rattle.jsonc_run.specs.texts.Stretches.{written}
+use Rattle.jsonc_run.specs.texts.Layout.{IsLaidEntry}
 use Rattle.jsonc_run.specs.texts.Entering.{Gains}
+use Rattle.jsonc_run.proofs.lemmas.promise.LaidTexts.{is_laid_property}
 use Rattle.jsonc_run.specs.texts.Edits.{Makes}
 use Rattle.jsonc_run.proofs.lemmas.promise.Insides.{kept_texts}
 use Rattle.jsonc_run.proofs.lemmas.promise.Joined.{spread_good, spread_reflows}
@@ -59,7 +61,7 @@ module _ (o : Options) {t u : OrderedTree} (s : SoundTree o t) (r : SoundTree o 
 
   pub member_gains : {n : ℕ} {old new : Members} → trees.Changed (plain.object old) (plain.object new) path x y → (k : MemberGained name v n old new) → min j (member_count old) ≡ length k.front → Gains an_object path k.front k.back (entry_of name v) (document_of o t (Some x)) (document_of o u (Some y))
   member_gains {old = old} {new = new} g k number =
-      let comes = text_comes o of_properties c.row c.kept c.new s r c.changed (Some x) (Some y) (spread_texts c.spreads ∙ kept_texts c.leave) (kept_marks c.leave ∙ spread_marks o c.spreads) refl (written an_object (entry_of name v)) (laid_property_literals c.layout name v f.0 f.1) c.spread c.leave
+      let comes = text_comes o of_properties c.row c.kept c.new s r c.changed (Some x) (Some y) (spread_texts c.spreads ∙ kept_texts c.leave) (kept_marks c.leave ∙ spread_marks o c.spreads) refl (written an_object (entry_of name v)) (laid_property_literals c.layout name v f.0 f.1) (IsLaidEntry an_object (entry_of name v)) (is_laid_property o c.layout name v f.0 f.1) c.spread c.leave
       (λ g. (spread_good o of_properties (text_of_leaves (front_of c.changed)) (text_of_leaves (back_of c.changed)) c.spreads g, spread_reflows o of_properties (text_of_leaves (front_of c.changed)) (text_of_leaves (back_of c.changed)) c.spreads g)) c.comes in (
         subst (λ (p : Members). Changed (of an_object (k.front ++ k.back)) (plain.object p) path x y) k.after (subst (λ (p : Members). Changed (plain.object p) (plain.object new) path x y) k.before (changed g)),
         comes.0,
@@ -71,6 +73,7 @@ module _ (o : Options) {t u : OrderedTree} (s : SoundTree o t) (r : SoundTree o 
         comes.6,
         comes.7,
         comes.8,
+        comes.9,
       )
 
 behind_all : (n c : ℕ) → min (n + c) c ≡ c

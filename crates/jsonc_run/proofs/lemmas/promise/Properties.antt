@@ -12,7 +12,8 @@ use Rattle.jsonc_sound.specs.SoundTrees.{SoundTree}
 use Rattle.jsonc_sound.specs.TreeChanges.{IsElement, leaves_of, property_of, ElementChanged, this_element, passed, later_element}
 use Rattle.jsonc_sound.specs.Values as replaced
 use Rattle.jsonc_sound.specs.Values.{MemberReplaced}
-use Rattle.jsonc_sound.proofs.NodesAlone.{value_alone}
+use Rattle.jsonc_sound.proofs.NodesAlone.{document_alone, value_alone}
+use Rattle.jsonc_sound.proofs.Pieces.{Pieces, document_pieces}
 use Rattle.jsonc_sound.proofs.HeldValues.{document_held}
 use Rattle.jsonc_sound.proofs.Texts.{AllUtf8}
 use Rattle.jsonc_run.specs.Edits.{replace_property}
@@ -33,11 +34,13 @@ use Rattle.jsonc_run.specs.texts.Stretches.{written}
 use Rattle.jsonc_run.specs.texts.Edits.{Anything, IsSeam, Makes, Puts, Text}
 use Rattle.jsonc_run.specs.promise.PlaceLaws.{text_of_leaves}
 use Rattle.jsonc_run.proofs.lemmas.promise.Leaves.{back_of, document_parts, document_utf8, text_joined, utf8_first, utf8_second}
+use Rattle.jsonc_run.specs.texts.Layout.{IsLaidEntry}
+use Rattle.jsonc_run.proofs.lemmas.promise.LaidTexts.{is_laid_property}
 use Rattle.jsonc_run.proofs.lemmas.promise.Plains.{changed, entry_of, list_of_members, same_members}
 use Rattle.jsonc_run.proofs.lemmas.promise.StretchElements.{Reached}
 use Rattle.jsonc_run.proofs.lemmas.promise.RemovedTexts.{entry_begins, entry_there}
 use Rattle.jsonc_sound.specs.Documents.{document_of}
-use Rattle.jsonc_run.proofs.lemmas.promise.Stretches.{Begins, laid_property_literals, marks_in, parted, parted_as, seam_unmarked}
+use Rattle.jsonc_run.proofs.lemmas.promise.Stretches.{Begins, laid_property_literals, marks_in, parted, parted_as, pieces_first, pieces_second, seam_unmarked}
 use Rattle.jsonc_run.proofs.lemmas.promise.Places.{document_itself, silent_then, seam_if, space_text}
 use Rattle.jsonc_run.proofs.lemmas.promise.Bare.{AllSpelled, BeginsBare, EndsBareWith, begins_so, ends_behind, ends_with, meets, seam_due, spelled, spelled_first, spelled_second}
 
@@ -149,8 +152,14 @@ module _ (o : Options) where
         let begins = begins_so (g.quiet ++ g.rest) (utf8_second old (g.quiet ++ g.rest) (utf8_second g.front (old ++ (g.quiet ++ g.rest)) first.utf8)) (spelled_second old (g.quiet ++ g.rest) (spelled_second g.front (old ++ (g.quiet ++ g.rest)) was_spelled)) (g.parts_behind o s e) in
         meets (ends_behind (text_of_leaves g.front) (ends_with (bare e) new_utf8 new_spelled)) (subst BeginsBare old_back begins))
 
-    pub property_puts : (w x : Option Plain) (come : List Mark) → marks_in (leaves_of (property_of now)) ≡ come → (g.behind ≡ true → EndsBareWith (leaves_of (property_of now))) → Puts Anything (Entry (path ++ i ∷ [])) come (document_of o t w) (document_of o u x)
-    property_puts w x come is bare =
+    new_pieces : Pieces o (leaves_of (property_of now))
+    new_pieces =
+        let behind_new : List Content = g.quiet ++ (space_if g.behind ++ g.rest) in
+        pieces_first o (leaves_of (property_of now)) behind_new (pieces_second o g.front (leaves_of (property_of now) ++ behind_new) (subst (Pieces o) second.whole (document_pieces o (document_alone o r.shaped))))
+
+    pub property_puts : (w x : Option Plain) (come : List Mark) → marks_in (leaves_of (property_of now)) ≡ come → {Is : List ℕ → Type 0} → (Pieces o (leaves_of (property_of now)) → AllUtf8 (leaves_of (property_of now)) → Is new_own)
+        → (g.behind ≡ true → EndsBareWith (leaves_of (property_of now))) → Puts Anything (Entry (path ++ i ∷ [])) Is come (document_of o t w) (document_of o u x)
+    property_puts w x come is {Is} laid_so bare =
         let text : Text (text_of_leaves g.front) old_own [] new_own (seam_if g.behind) (text_of_leaves g.rest) (document_of o t w) (document_of o u x) =
         record {
           before = first.text ∙ ap (λ l. text_of_leaves g.front ++ (old_own ++ l)) old_back;
@@ -172,6 +181,7 @@ module _ (o : Options) where
           text_of_leaves g.rest,
           text,
           tt,
+          laid_so new_pieces new_utf8,
           subst (λ l. Entry (path ++ i ∷ []) o (printed_text t) (old_own ++ l) l) old_back first.stands,
           subst (λ l. Entry (path ++ i ∷ []) o (printed_text u) (new_own ++ l) l) new_back second.stands,
           marks_in g.front,
@@ -214,9 +224,9 @@ gives {name = name} {v = v} (by_property path i {x = x} {y = y} g) =
     )
 
 puts : (o : Options) (t u : OrderedTree) (w x : Option Plain) (path name : List ℕ) (v : Plain) → IsCharacters name × IsOfTexts v → SoundTree o t → SoundTree o u → ReplacesProperty name v t u path
-    → Puts Anything (Entry path) (written an_object (entry_of name v)) (document_of o t w) (document_of o u x)
+    → Puts Anything (Entry path) (IsLaidEntry an_object (entry_of name v)) (written an_object (entry_of name v)) (document_of o t w) (document_of o u x)
 puts o t u w x _ name v f s r (property_given path i layout spaced front old back p c d seam bare) =
-    property_puts o s r seam w x (written an_object (entry_of name v)) (laid_property_literals layout name v f.0 f.1) (λ e. property_ends layout name v (bare e))
+    property_puts o s r seam w x (written an_object (entry_of name v)) (laid_property_literals layout name v f.0 f.1) (is_laid_property o layout name v f.0 f.1) (λ e. property_ends layout name v (bare e))
 
 pub property_replaced : (o : Options) (t u : OrderedTree) (w x : Option Plain) (path name : List ℕ) (v : Plain) → IsCharacters name × IsOfTexts v → SoundTree o t → SoundTree o u → IsChanged w (replace_property path name v) x
     → ReplacesProperty name v t u path → Makes (document_of o t w) (texts.replace_property path name v) (document_of o u x)

@@ -16,7 +16,8 @@ use Rattle.jsonc_sound.specs.Spaces.{is_bare, is_bare_leaf}
 use Rattle.jsonc_sound.specs.TreeChanges.{leaves_of}
 use Rattle.jsonc_sound.specs.Sound.{HasValue}
 use Rattle.jsonc_sound.proofs.Values.{document_change}
-use Rattle.jsonc_sound.proofs.NodesAlone.{value_alone}
+use Rattle.jsonc_sound.proofs.NodesAlone.{document_alone, value_alone}
+use Rattle.jsonc_sound.proofs.Pieces.{Pieces, document_pieces}
 use Rattle.jsonc_sound.proofs.Texts.{AllUtf8}
 use Rattle.jsonc_edit.proofs.NearestLeaves.{value_first, value_last}
 use Rattle.jsonc_edit.proofs.OneValue.{document_once}
@@ -27,16 +28,18 @@ use Rattle.jsonc_edit.specs.Seams.{space_if}
 use Rattle.jsonc_text.specs.Marks.{Mark, literals_of}
 use Rattle.jsonc_run.specs.texts.Paths.{Value}
 use Rattle.jsonc_run.specs.texts.Entries.{Becomes}
+use Rattle.jsonc_run.specs.texts.Layout.{IsLaid}
 use Rattle.jsonc_run.specs.texts.Edits.{BesideTruth, EndsInHexadecimal, IsSeam, Puts, PutsValue, Text}
 use Rattle.jsonc_run.specs.promise.PlaceLaws.{text_of_leaves}
 use Rattle.jsonc_sound.specs.Adjacent.{last_printed}
 use Rattle.jsonc_sound.specs.Booleans.{is_hex_leaf}
 use Rattle.jsonc_run.proofs.lemmas.promise.Hexadecimal.{ends_in_hex, hex_front, hex_leaves, AllHex}
 use Rattle.jsonc_run.proofs.lemmas.promise.Leaves.{back_of, document_parts, document_utf8, text_joined, utf8_first, utf8_second}
+use Rattle.jsonc_run.proofs.lemmas.promise.LaidTexts.{is_laid}
 use Rattle.jsonc_run.proofs.lemmas.promise.Plains.{changed}
 use Rattle.jsonc_sound.specs.Documents.{document_of}
 use Rattle.jsonc_run.proofs.lemmas.promise.ReplacedTexts.{some_value}
-use Rattle.jsonc_run.proofs.lemmas.promise.Stretches.{Begins, laid_literals, marks_in, parted, parted_as, seam_unmarked, space_behind_unmarked, value_begins}
+use Rattle.jsonc_run.proofs.lemmas.promise.Stretches.{Begins, laid_literals, marks_in, parted, parted_as, pieces_first, pieces_second, seam_unmarked, space_behind_unmarked, value_begins}
 use Rattle.jsonc_run.proofs.lemmas.promise.Values.{at_the_place}
 use Rattle.jsonc_run.proofs.lemmas.promise.Places.{document_itself, silent_then, seam_if, space_text}
 use Rattle.jsonc_run.proofs.lemmas.promise.Bare.{AllSpelled, BeginsBare, EndsBare, begins_before, begins_so, ends_behind, ends_so, meets, seam_due, spelled, spelled_first, spelled_second}
@@ -126,9 +129,15 @@ module _ (o : Options) where
         (spelled_second (leaves_of was) (g.quiet ++ g.rest) (spelled_second g.front (leaves_of was ++ (g.quiet ++ g.rest)) was_spelled)) parts.1 in
         meets (ends_behind (text_of_leaves g.front) (ends_behind (seam_if g.before) (own_ends parts.0))) (subst BeginsBare old_back begins))
 
+    own_pieces : Pieces o (leaves_of now)
+    own_pieces =
+        let behind_new : List Content = g.quiet ++ (space_if g.behind ++ g.rest) in
+        pieces_first o (leaves_of now) behind_new (pieces_second o (g.front ++ space_if g.before) (leaves_of now ++ behind_new) (subst (Pieces o) second.whole (document_pieces o (document_alone o r.shaped))))
+
     -- the stretch of the text that is replaced, with its seams
-    pub puts_with_seams : (w x : Option Plain) (come : List Mark) → marks_in (leaves_of now) ≡ come → {Beside : List ℕ → List ℕ → List ℕ → Type 0} → Beside (text_of_leaves g.front) (seam_if g.before) (seam_if g.behind) → Puts Beside (Value path) come (document_of o t w) (document_of o u x)
-    puts_with_seams w x come is {Beside} beside =
+    pub puts_with_seams : (w x : Option Plain) (come : List Mark) → marks_in (leaves_of now) ≡ come → {Is : List ℕ → Type 0} → (Pieces o (leaves_of now) → AllUtf8 (leaves_of now) → Is new_own)
+        → {Beside : List ℕ → List ℕ → List ℕ → Type 0} → Beside (text_of_leaves g.front) (seam_if g.before) (seam_if g.behind) → Puts Beside (Value path) Is come (document_of o t w) (document_of o u x)
+    puts_with_seams w x come is {Is} laid_so {Beside} beside =
         let text : Text (text_of_leaves g.front) old_own (seam_if g.before) new_own (seam_if g.behind) (text_of_leaves g.rest) (document_of o t w) (document_of o u x) =
         record {
           before = first.text ∙ ap (λ l. text_of_leaves g.front ++ (old_own ++ l)) old_back;
@@ -151,6 +160,7 @@ module _ (o : Options) where
           text_of_leaves g.rest,
           text,
           beside,
+          laid_so own_pieces own_utf8,
           subst (λ l. Value path o (printed_text t) (old_own ++ l) l) old_back first.stands,
           subst (λ l. Value path o (printed_text u) (new_own ++ l) l) new_back second.stands,
           marks_in g.front,
@@ -183,7 +193,7 @@ value_changed o {u = u} x y h k path v texts given =
 pub value_put_so : (o : Options) {t u : OrderedTree} → SoundTree o t → SoundTree o u → (w x : Option Plain) → (path : List ℕ) (v : Plain) → IsOfTexts v → ReplacesValue path v t u
     → (was : Plain) → Becomes was v path w x → PutsValue was v path (document_of o t w) (document_of o u x)
 value_put_so o {t} {u} s r w x path v texts given was becomes =
-    (puts_with_seams o s r given.seams w x (literals_of v) (laid_literals given.layout v texts) tt, becomes)
+    (puts_with_seams o s r given.seams w x (literals_of v) (laid_literals given.layout v texts) (is_laid o given.layout v texts) tt, becomes)
 
 no_true : (b : Bool) → (b ≡ true → false ≡ true) → b ≡ false
 no_true true h = sym (h refl)
@@ -191,9 +201,9 @@ no_true false h = refl
 
 -- a truth value, behind which no space comes, nor before it but behind a hexadecimal number
 pub boolean_put_so : (o : Options) {t u : OrderedTree} → SoundTree o t → SoundTree o u → (w x : Option Plain) → (path : List ℕ) (b : Bool) → (given : ReplacesValue path (Plain.boolean b) t u)
-    → given.seams.behind ≡ false → (b ≡ true → given.seams.before ≡ false) → (given.seams.before ≡ true → is_hex_leaf (last_printed given.seams.front) ≡ true) → Puts (BesideTruth b) (Value path) (literals_of (Plain.boolean b)) (document_of o t w) (document_of o u x)
+    → given.seams.behind ≡ false → (b ≡ true → given.seams.before ≡ false) → (given.seams.before ≡ true → is_hex_leaf (last_printed given.seams.front) ≡ true) → Puts (BesideTruth b) (Value path) (IsLaid (Plain.boolean b)) (literals_of (Plain.boolean b)) (document_of o t w) (document_of o u x)
 boolean_put_so o s r w x path b given behind before hex =
-    puts_with_seams o s r given.seams w x (literals_of (Plain.boolean b)) (laid_literals given.layout (Plain.boolean b) tt) (ap seam_if behind, beside given.seams.before refl)
+    puts_with_seams o s r given.seams w x (literals_of (Plain.boolean b)) (laid_literals given.layout (Plain.boolean b) tt) (is_laid o given.layout (Plain.boolean b) tt) (ap seam_if behind, beside given.seams.before refl)
   where
     beside : (c : Bool) → given.seams.before ≡ c → (seam_if given.seams.before ≡ []) ⊎ ((b ≡ false) × EndsInHexadecimal (text_of_leaves given.seams.front))
     beside false e = inl (ap seam_if e)

@@ -40,6 +40,7 @@ use Rattle.jsonc_run.specs.texts.Entries as values
 use Rattle.jsonc_run.specs.texts.Entries.{of}
 use Rattle.jsonc_run.specs.texts.Edits as texts
 use Rattle.jsonc_run.specs.texts.Stretches.{EndsInComment, IsLineEnd}
+use Rattle.jsonc_run.specs.texts.Layout.{IsLaid}
 use Rattle.jsonc_run.specs.texts.Edits.{ComesFirst, Makes}
 use Rattle.jsonc_run.specs.promise.PlaceLaws.{text_of_leaves}
 use Rattle.jsonc_run.proofs.lemmas.promise.Leaves.{text_joined, utf8_first, utf8_second}
@@ -48,6 +49,7 @@ use Rattle.jsonc_sound.specs.Documents.{document_of}
 use Rattle.jsonc_run.proofs.lemmas.promise.Stretches.{pieces_first, pieces_second, blanks_behind_unmarked, laid_literals, marks_in, marks_in_both, parted, parted_as}
 use Rattle.jsonc_run.proofs.lemmas.promise.Trivia.{first_text, line_end_text, piece_trivia}
 use Rattle.jsonc_run.specs.promise.Words.{kind_of, yields}
+use Rattle.jsonc_run.proofs.lemmas.promise.LaidTexts.{is_laid}
 use Rattle.jsonc_run.proofs.lemmas.promise.Ensured.{empty_same, empty_texts, given_so, stays_so}
 use Rattle.jsonc_run.proofs.lemmas.promise.Replacing.{Printed, printed, value_put}
 
@@ -110,8 +112,8 @@ module _ (o : Options) (top : Top) (v : Plain) where
 
   -- a value has come into the row of a root that had none
   first_come : {row next : OrderedTree} → ValueInserted top row next → IsElement top.content → SoundTree o (root_with row) → SoundTree o (root_with next) → (w x : Option Plain) → w ≡ None → x ≡ Some v
-      → marks_in (leaves_of top) ≡ literals_of v → ComesFirst v (document_of o (root_with row) w) (document_of o (root_with next) x)
-  first_come (coming.value_comes front back before behind ft bt bl el quiet begins leads ends) element s r w x old new is =
+      → marks_in (leaves_of top) ≡ literals_of v → (Pieces o (leaves_of top) → AllUtf8 (leaves_of top) → IsLaid v (text_of_leaves (leaves_of top))) → ComesFirst v (document_of o (root_with row) w) (document_of o (root_with next) x)
+  first_come (coming.value_comes front back before behind ft bt bl el quiet begins leads ends) element s r w x old new is laid_so =
       let row : OrderedTree = leaves_then (front ++ back) none in
       let next : OrderedTree = leaves_then (front ++ before) (more top.content top.below (leaves_then (behind ++ back) none)) in
       let own : List Content = leaves_of top in
@@ -131,7 +133,10 @@ module _ (o : Options) (top : Top) (v : Plain) where
       let second : printed_text (root_with next) ≡ text_of_leaves front ++ (text_of_leaves before ++ (text_of_leaves own ++ (text_of_leaves behind ++ text_of_leaves back))) =
       p.text ∙ ap (λ l. l ++ (text_of_leaves own ++ text_of_leaves (behind ++ back))) t_front ∙ ap (λ l. (text_of_leaves front ++ text_of_leaves before) ++ (text_of_leaves own ++ l)) t_back
       ∙ append_assoc (text_of_leaves front) (text_of_leaves before) (text_of_leaves own ++ (text_of_leaves behind ++ text_of_leaves back)) in
-      let pieces : Pieces o front = pieces_first o front before (pieces_first o (front ++ before) (own ++ (behind ++ back)) (subst (Pieces o) p.whole (document_pieces o (document_alone o r.shaped)))) in
+      let all_pieces : Pieces o ((front ++ before) ++ (own ++ (behind ++ back))) = subst (Pieces o) p.whole (document_pieces o (document_alone o r.shaped)) in
+      let pieces : Pieces o front = pieces_first o front before (pieces_first o (front ++ before) (own ++ (behind ++ back)) all_pieces) in
+      let own_pieces : Pieces o own = pieces_first o own (behind ++ back) (pieces_second o (front ++ before) (own ++ (behind ++ back)) all_pieces) in
+      let own_utf8 : AllUtf8 own = utf8_first own (behind ++ back) (utf8_second (front ++ before) (own ++ (behind ++ back)) p.utf8) in
       let ended = one_end behind back ends in
       let new_parted = parted o r x (front ++ before) own (behind ++ back) p.whole p.begins
       (text_joined own (behind ++ back) (utf8_first own (behind ++ back) (utf8_second (front ++ before) (own ++ (behind ++ back)) p.utf8)) ∙ ap (λ l. text_of_leaves own ++ l) t_back) t_back in
@@ -147,6 +152,7 @@ module _ (o : Options) (top : Top) (v : Plain) where
         led_by front before leads pieces (utf8_first front before u_front),
         ended.0,
         ended.1,
+        laid_so own_pieces own_utf8,
         subst (λ l. Value [] o (printed_text (root_with next)) (text_of_leaves own ++ l) l) t_back p.stands,
         old,
         new,
@@ -163,7 +169,7 @@ module _ (o : Options) {t u : OrderedTree} (s : SoundTree o t) (r : SoundTree o 
       let both = has_first o top v row next value element comes in
       let old : w ≡ None = document_once o t w None h (subst (λ z. DocumentValueOf o z None) (sym was) both.0) in
       let new : x ≡ Some v = document_once o u x (Some v) k (subst (λ z. DocumentValueOf o z (Some v)) (sym is) both.1) in
-      let come = first_come o top v comes element (subst (SoundTree o) was s) (subst (SoundTree o) is r) w x old new (laid_literals layout v texts) in
+      let come = first_come o top v comes element (subst (SoundTree o) was s) (subst (SoundTree o) is r) w x old new (laid_literals layout v texts) (is_laid o layout v texts) in
       subst (λ (z : OrderedTree). ComesFirst v (document_of o z w) (document_of o u x)) (sym was) (subst (λ (z : OrderedTree). ComesFirst v (document_of o (root_with row) w) (document_of o z x)) (sym is) come)
 
 pub root_set : (o : Options) (t u : OrderedTree) (w x : Option Plain) (v : Plain) → IsOfTexts v → SoundTree o t → SoundTree o u → DocumentValueOf o t w → DocumentValueOf o u x → RootValueSet v t u

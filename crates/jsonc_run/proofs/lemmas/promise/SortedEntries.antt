@@ -21,12 +21,12 @@ use Rattle.jsonc_sort.proofs.Runs as runs
 use Rattle.jsonc_sort.proofs.Runs.{IsQuiet, IsComma, Gap, Quiets, comma_is, cut_gap, no_comma_gap, other_no_comma, quiet_gap}
 use Rattle.jsonc_sort.proofs.Stretches.{take_both}
 use Rattle.jsonc_run.specs.texts.Stretches as documents
-use Rattle.jsonc_run.specs.texts.Stretches.{InLine}
+use Rattle.jsonc_run.specs.texts.Stretches.{InLine, AreSpaces}
 use Rattle.jsonc_run.specs.texts.Entering.{StartsLine}
 use Rattle.jsonc_run.specs.texts.Sorting as sorting
-use Rattle.jsonc_run.specs.texts.Sorting.{AreSpaces, AreTrivia, Held, Ahead, Beside, AreHeld, AreEntries, row}
+use Rattle.jsonc_run.specs.texts.Sorting.{Held, Ahead, Beside, AreHeld, AreEntries, row}
 use Rattle.jsonc_run.specs.promise.PlaceLaws.{node_chars}
-use Rattle.jsonc_run.proofs.lemmas.promise.SortedParts.{EndsNone, Lined, Spaces, any_none, any_there, comma_one, each_prefix, first_dropped, first_taken, inline_said, line_end_one, line_none, line_there, lined, none_ends, one_ends, say, say_cut, say_joined, spaces_last, spaces_said, trivia_joined, trivia_one, trivia_said}
+use Rattle.jsonc_run.proofs.lemmas.promise.SortedParts.{AreTrivia, EndsNone, Lined, Spaces, any_none, any_there, comma_one, each_prefix, first_dropped, first_taken, inline_said, line_end_one, line_none, line_there, lined, none_ends, one_ends, say, say_cut, say_joined, spaces_last, spaces_said, trivia_joined, trivia_one, trivia_said}
 
 module _ (o : Options) (kind : RowKind) (top : ℕ → Top) where
   abbrev at : ℕ → Content

@@ -26,13 +26,14 @@ use Rattle.jsonc_sort.proofs.Choices.{Each, choose_by, each_take}
 use Rattle.jsonc_sort.proofs.Entries.{IsEntry}
 use Rattle.jsonc_sort.proofs.Runs as runs
 use Rattle.jsonc_sort.proofs.Runs.{IsQuiet, Gap, Quiets, Runs, comma_is, other_no_comma}
-use Rattle.jsonc_run.specs.texts.Stretches.{AreBlanks, IsLineEnd}
+use Rattle.jsonc_run.specs.texts.Stretches.{AreBlanks, IsLineEnd, AreSpaces}
 use Rattle.jsonc_run.specs.texts.Sorting as sorting
-use Rattle.jsonc_run.specs.texts.Sorting.{AreSpaces, Arrives, LinesEnd, Placed, Punctuated}
+use Rattle.jsonc_run.specs.texts.Sorting.{Arrives, LinesEnd, Placed, Punctuated}
 use Rattle.jsonc_run.specs.promise.PlaceLaws.{node_chars}
 use Rattle.jsonc_run.proofs.lemmas.promise.CommentTexts.{blanks_text}
 use Rattle.jsonc_run.proofs.lemmas.promise.SortedEntries.{held_of}
-use Rattle.jsonc_run.proofs.lemmas.promise.SortedParts.{comma_one, comment_one, each_prefix, line_end_one, many_joined, one_text, said, said_joined, said_nodes, say, say_cut, slot_text, spaces_said}
+use Rattle.jsonc_run.proofs.lemmas.promise.SortedParts.{comma_one, comment_one, each_prefix, line_end_one, one_text, said, said_joined, said_nodes, say, say_cut, slot_text, spaces_said}
+use Rattle.jsonc_run.proofs.lemmas.promise.Trivia.{many_joined}
 
 module _ (o : Options) (kind : RowKind) (top : ℕ → Top) where
   abbrev at : ℕ → Content
