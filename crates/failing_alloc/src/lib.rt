@@ -1,6 +1,5 @@
 //! What crates of tests share: an allocator that refuses some requests for memory, so that each request of
-//! a call can be refused in turn; one that refuses large requests; what came of a call; flags of which one
-//! is up; and a writer that takes no memory.
+//! a call can be refused in turn; what came of a call; flags of which one is up; and a writer that takes no memory.
 #![tactic(auto)]
 
 pub mod awaited;
@@ -82,34 +81,6 @@ unsafe impl<A: Allocator> Allocator for Refusing<A> {
 
     fn allocate(&self, size: usize, align: usize) -> Result<*mut u8, AllocError> {
         if self.turns.refuses() {
-            return Err(AllocError);
-        }
-        self.heap.allocate(size, align)
-    }
-
-    unsafe fn deallocate(&self, ptr: *mut u8, size: usize, align: usize) {
-        self.heap.deallocate(ptr, size, align);
-    }
-}
-
-/// Passes requests for at most so many bytes on to another allocator, and refuses larger ones.
-#[derive(Drop)]
-pub struct Bounded<A: Allocator> {
-    heap: A,
-    most: usize,
-}
-
-impl<A: Allocator> Bounded<A> {
-    pub fn new(heap: A, most: usize) -> Bounded<A> {
-        Bounded { heap, most }
-    }
-}
-
-unsafe impl<A: Allocator> Allocator for Bounded<A> {
-    ghost dealloc_token = { λ bounded. A.dealloc_token bounded.heap };
-
-    fn allocate(&self, size: usize, align: usize) -> Result<*mut u8, AllocError> {
-        if size > self.most {
             return Err(AllocError);
         }
         self.heap.allocate(size, align)

@@ -1,8 +1,9 @@
 //! Calls on texts alone, and values read by reference.
 
+use bumpalo::Bump;
+use failing_alloc::Refusing;
 use failing_alloc::in_turn::is_refused_in_turn;
 use failing_alloc::outcome::Outcome;
-use failing_alloc::{Bounded, Refusing};
 use jsonc_parser::common::Range;
 use jsonc_parser::cst::CstRootNode;
 use jsonc_parser::{
@@ -206,15 +207,22 @@ fn array_of_strings<A: Allocator>(alloc: A, length: usize) -> Result<String<A>, 
     Ok(text)
 }
 
+/// Whether a text is parsed to its value, and to a syntax tree, by an arena of 4,096 bytes, and to a document by one of so many.
+fn is_parsed_within<A: Allocator + Copy>(alloc: A, text: &str, room: usize) -> bool {
+    let options = ParseOptions::json();
+    let (values, trees, documents) = (Bump::new(alloc), Bump::new(alloc), Bump::new(alloc));
+    values.set_allocation_limit(Some(4_096));
+    trees.set_allocation_limit(Some(4_096));
+    documents.set_allocation_limit(Some(room));
+    parse_to_value(&values, text, &options).is_ok()
+        && parse_to_ast(&trees, text, &CollectOptions::default(), &options).is_ok()
+        && CstRootNode::parse(&documents, text, &options).is_ok()
+}
+
 #[test]
 fn long_strings_want_no_room_for_entries(rt: HostRuntime) -> Result<(), Fail> {
     let text = array_of_strings(rt.alloc(), 100_000)?;
-    let options = ParseOptions::json();
-    let small = Bounded::new(rt.alloc(), 1_024);
-    assert!(rt; parse_to_value(&small, text.as_str(), &options).is_ok());
-    let collect = CollectOptions::default();
-    assert!(rt; parse_to_ast(&small, text.as_str(), &collect, &options).is_ok());
-    let large = Bounded::new(rt.alloc(), text.len());
-    assert!(rt; CstRootNode::parse(&large, text.as_str(), &options).is_ok());
+    let room = text.len().saturating_add(8_192);
+    assert!(rt; is_parsed_within(rt.alloc(), text.as_str(), room));
     Ok(())
 }
