@@ -7,8 +7,8 @@ use failing_alloc::outcome::Outcome;
 use jsonc_parser::common::Range;
 use jsonc_parser::cst::CstRootNode;
 use jsonc_parser::{
-    CollectOptions, JsonObject, JsonValue, LineAndColumn, LineIndex, ParseOptions, line_and_column,
-    line_and_column_utf16, parse_to_ast, parse_to_value, place_of, place_of_utf16, text_change,
+    JsonObject, JsonValue, LineAndColumn, LineIndex, ParseOptions, line_and_column,
+    line_and_column_utf16, parse_to_value, place_of, place_of_utf16, text_change,
 };
 use std::alloc::{AllocError, Allocator};
 use std::test::Fail;
@@ -207,15 +207,13 @@ fn array_of_strings<A: Allocator>(alloc: A, length: usize) -> Result<String<A>, 
     Ok(text)
 }
 
-/// Whether a text is parsed to its value, and to a syntax tree, by an arena of 4,096 bytes, and to a document by one of so many.
+/// Whether a text is parsed to its value by an arena of 4,096 bytes, and to a document by one of so many.
 fn is_parsed_within<A: Allocator + Copy>(alloc: A, text: &str, room: usize) -> bool {
     let options = ParseOptions::json();
-    let (values, trees, documents) = (Bump::new(alloc), Bump::new(alloc), Bump::new(alloc));
+    let (values, documents) = (Bump::new(alloc), Bump::new(alloc));
     values.set_allocation_limit(Some(4_096));
-    trees.set_allocation_limit(Some(4_096));
     documents.set_allocation_limit(Some(room));
     parse_to_value(&values, text, &options).is_ok()
-        && parse_to_ast(&trees, text, &CollectOptions::default(), &options).is_ok()
         && CstRootNode::parse(&documents, text, &options).is_ok()
 }
 
