@@ -1,0 +1,2 @@
+-- The texts of pointers.
+use Rattle.std.proofs.Common.{ℕ, ◌≡◌, refl}

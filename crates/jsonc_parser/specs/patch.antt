@@ -1,0 +1,6 @@
+pub mod Pointer
+pub mod Reading
+pub mod References
+pub mod Found
+pub mod Messages
+pub mod Laws

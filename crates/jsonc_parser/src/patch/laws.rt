@@ -1,0 +1,19 @@
+//! Laws of pointers: each is the contract of a function that does nothing.
+
+ghost use Rattle.std.specs.Prelude.{◌≡◌, ℕ, List};
+ghost use Rattle.jsonc_parser.specs.patch.Laws.{IsReadBack};
+ghost use Rattle.jsonc_parser.specs.patch.Pointer.{pointer_text, HasLooseTilde, LacksSlash};
+
+/// What a pointer prints is parsed as the same tokens.
+pub fn pointers_are_read_back()
+    ensures { (tokens others : List (List ℕ)) → IsReadBack tokens others }
+{}
+
+/// A text is that of one pointer at most, and then it has no fault; and at most one fault.
+pub fn pointers_are_read_in_one_way()
+    ensures tokens { (s t : List (List ℕ)) → pointer_text s ≡ pointer_text t → s ≡ t }
+    ensures slash { (t : List (List ℕ)) → LacksSlash (pointer_text t) → ⊥ }
+    ensures tilde { (t : List (List ℕ)) (place : ℕ) → HasLooseTilde (pointer_text t) place → ⊥ }
+    ensures either { (text : List ℕ) (place : ℕ) → LacksSlash text → HasLooseTilde text place → ⊥ }
+    ensures first { (text : List ℕ) (k l : ℕ) → HasLooseTilde text k → HasLooseTilde text l → k ≡ l }
+{}
