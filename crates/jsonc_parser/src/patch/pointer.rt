@@ -116,13 +116,17 @@ fn read_tokens<A: Allocator + Copy>(
     let mut tokens = Vec::new(alloc);
     let mut token = String::new(alloc);
     let mut tilde = false;
-    let mut place = 1;
+    // As many bytes were read, and so many stand before a `~` read last, with the first `/`.
+    let mut place = 0;
     for c in text.chars() {
-        tilde = read_char(alloc, &mut tokens, &mut token, tilde, place - 1, c)?;
+        match read_char(alloc, &mut tokens, &mut token, tilde, place, c) {
+            Ok(now) => tilde = now,
+            Err(error) => return Err(error),
+        }
         place += c.len_utf8();
     }
     if tilde {
-        return Err(PointerError::InvalidEscape(place - 1));
+        return Err(PointerError::InvalidEscape(place));
     }
     end_token(alloc, &mut tokens, &mut token)?;
     Ok(tokens)

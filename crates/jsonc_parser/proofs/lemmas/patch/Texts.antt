@@ -1,18 +1,23 @@
 -- The texts of pointers: each is that of one list of tokens, and has no `~` of its own.
-use Rattle.std.proofs.Common.{ℕ, ◌≡◌, ◌≢◌, ◌∙◌, ◌++◌, ◌+◌, ◌-◌, ◌<◌, ◌≤◌, ◌&&◌, sym, ap, subst, refl, Bool, true, false, cond, not, ◌==◌, List, [], ◌∷◌, length, map, flat_map, Option, Some, None, IsTrue, inl, inr, arith, if◌then◌else◌, chars, string_bytes, encode_utf8, encode_utf8_all}
-use Rattle.std.proofs.lemmas.Bool.{cases_Bool, false≢true}
+use Rattle.std.proofs.Common.{ℕ, suc, ◌≡◌, ◌≢◌, ◌∙◌, ◌++◌, ◌+◌, ◌-◌, ◌<◌, ◌≤◌, ◌&&◌, sym, ap, subst, refl, Bool, true, false, cond, not, ◌==◌, List, [], ◌∷◌, length, map, flat_map, take, drop, get_or, Option, Some, None, IsTrue, inl, inr, arith, if◌then◌else◌, chars, string_bytes, encode_utf8, encode_utf8_all}
+use Rattle.std.proofs.lemmas.Bool.{cases_Bool, eq-eqb, eqb-true, false≢true}
 use Rattle.std.proofs.lemmas.Grind.{flat_map-append}
-use Rattle.std.proofs.lemmas.List.{append-nil, append_assoc, flat_map_more, length-append}
+use Rattle.std.proofs.lemmas.List.{append-nil, append_assoc, drop_more, length-append, map-append, take-append-drop, take_more}
 use Rattle.std.proofs.lemmas.List.Folds.{list_all-append}
-use Rattle.std.proofs.lemmas.Str.{chars-append, chars-encodes, encodes-append, length-encode}
+use Rattle.std.proofs.lemmas.Str.{chars-append, chars-encodes, chars-nil, encodes-append, encodes-chars, length-encode, chars_past_char}
+use Rattle.std.proofs.lemmas.Str.Ascii.{encode_ascii}
 use Rattle.std.specs.List.{All}
 use Rattle.std.specs.Str.{IsUtf8, all_scalars}
 use Rattle.std.specs.Char.{IsScalar, len_utf8}
+use Rattle.std.specs.declared.string.String.{String}
 use Rattle.jsonc_text.specs.Text.{byte_length, next, no}
 use Rattle.jsonc_text.proofs.Basics.{heads, tails, test_eq}
+use Rattle.jsonc_parser.specs.paths.Found.{names_of}
 use Rattle.jsonc_parser.specs.patch.Laws.{IsReadBack}
-use Rattle.jsonc_parser.specs.patch.Pointer.{escaped, is_escape, pointer_text, token_text, HasLooseTilde, LacksSlash}
-use Rattle.jsonc_parser.specs.patch.Reading.{text_so_far}
+use Rattle.jsonc_parser.specs.patch.Pointer.{escaped, is_escape, pointer_text, token_text, HasLooseTilde, IsPointerFault, LacksSlash}
+use Rattle.jsonc_parser.specs.patch.Reading.{text_so_far, IsFaultOfChar}
+use Rattle.jsonc_parser.specs.declared.patch.pointer.PointerError.{PointerError}
+use Rattle.jsonc_parser.specs.declared.patch.pointer.PointerError.TheVariants.{InvalidEscape, NoLeadingSlash, OutOfMemory}
 
 -- the characters before the first loose `~`; a `~` stands before the text, or not
 abbrev front : Bool → List ℕ → List ℕ
@@ -152,27 +157,61 @@ pointer_scalars : (ts : List (List ℕ)) → All (λ t. IsTrue (all_scalars t)) 
 pointer_scalars [] h = refl
 pointer_scalars (t ∷ ts) h =
     joined (token_text t) (pointer_text ts) (token_scalars t (h 0 [] (omega arith)))
-    (pointer_scalars ts (λ k d l. h (k + 1) d (omega (arith, l))))
+    (pointer_scalars ts (λ k d l. h (suc k) d (omega (arith, l))))
 
 pub read_back : (tokens others : List (List ℕ)) → IsReadBack tokens others
 read_back tokens others texts e = pointer_once others tokens (e ∙ chars-encodes (pointer_text tokens) (pointer_scalars tokens texts))
 
--- one more character, or one more token, was read
+-- what tokens that ended, and the one that is read, are the text of
 so_far_ended : (tokens : List (List ℕ)) (token : List ℕ) → pointer_text (tokens ++ token ∷ []) ≡ pointer_text tokens ++ token_text token
 so_far_ended tokens token = flat_map-append token_text tokens (token ∷ []) ∙ ap (λ l. pointer_text tokens ++ l) (append-nil (token_text token))
 
 token_more : (token : List ℕ) (c : ℕ) → token_text (token ++ c ∷ []) ≡ token_text token ++ escaped c
 token_more token c = ap (λ l. 0x2F ∷ l) (flat_map-append escaped token (c ∷ []) ∙ ap (λ l. flat_map escaped token ++ l) (append-nil (escaped c)))
 
-pub char_read : (tokens : List (List ℕ)) (token : List ℕ) (c : ℕ) → pointer_text (tokens ++ (token ++ c ∷ []) ∷ []) ≡ pointer_text (tokens ++ token ∷ []) ++ escaped c
-char_read tokens token c =
-    so_far_ended tokens (token ++ c ∷ [])
-    ∙ ap (λ l. pointer_text tokens ++ l) (token_more token c)
-    ∙ sym (append_assoc (pointer_text tokens) (token_text token) (escaped c))
-    ∙ ap (λ l. l ++ escaped c) (sym (so_far_ended tokens token))
+module _ {A : Type 0} where
+  names_more : (names more : List (String A)) (s : String A) → more ≡ names ++ s ∷ [] → names_of more ≡ names_of names ++ chars (string_bytes s) ∷ []
+  names_more names more s e = ap names_of e ∙ map-append (λ (t : String A). chars (string_bytes t)) names (s ∷ [])
 
-pub token_read : (tokens : List (List ℕ)) (token : List ℕ) → pointer_text ((tokens ++ token ∷ []) ++ [] ∷ []) ≡ pointer_text (tokens ++ token ∷ []) ++ 0x2F ∷ []
-token_read tokens token = so_far_ended (tokens ++ token ∷ []) []
+  -- a token has ended, and another begins
+  pub end_read : (tokens more : List (String A)) (token next_one : String A) (tilde : Bool) (c : ℕ) → more ≡ tokens ++ token ∷ [] → string_bytes next_one ≡ [] → tilde ≡ false → c ≡ 0x2F
+      → text_so_far (names_of more) (chars (string_bytes next_one)) false ≡ text_so_far (names_of tokens) (chars (string_bytes token)) tilde ++ c ∷ []
+  end_read tokens more token next_one tilde c e empty t is =
+      let before = names_of tokens ++ chars (string_bytes token) ∷ [] in
+      append-nil (pointer_text (names_of more ++ chars (string_bytes next_one) ∷ []))
+      ∙ ap (λ l. pointer_text (names_of more ++ l ∷ [])) (ap chars empty ∙ chars-nil)
+      ∙ ap (λ l. pointer_text (l ++ [] ∷ [])) (names_more tokens more token e)
+      ∙ so_far_ended before []
+      ∙ ap (λ l. l ++ 0x2F ∷ []) (sym (append-nil (pointer_text before)))
+      ∙ ap (λ k. (pointer_text before ++ []) ++ k ∷ []) (sym is)
+      ∙ ap (λ b. text_so_far (names_of tokens) (chars (string_bytes token)) b ++ c ∷ []) (sym t)
+
+  -- nothing was read but the first `/`
+  pub nothing_read : (tokens : List (String A)) (token : String A) → tokens ≡ [] → string_bytes token ≡ [] → text_so_far (names_of tokens) (chars (string_bytes token)) false ≡ 0x2F ∷ []
+  nothing_read tokens token e empty =
+      ap (λ l. text_so_far l (chars (string_bytes token)) false) (ap names_of e)
+      ∙ ap (λ l. text_so_far [] l false) (ap chars empty ∙ chars-nil)
+
+  -- all was read
+  pub all_read : (tokens more : List (String A)) (token : String A) (tilde : Bool) (text yielded : List ℕ) → more ≡ tokens ++ token ∷ [] → tilde ≡ false → yielded ≡ text
+      → text_so_far (names_of tokens) (chars (string_bytes token)) tilde ≡ 0x2F ∷ yielded → pointer_text (names_of more) ≡ 0x2F ∷ text
+  all_read tokens more token tilde text yielded e t all so_far =
+      ap pointer_text (names_more tokens more token e)
+      ∙ sym (append-nil (pointer_text (names_of tokens ++ chars (string_bytes token) ∷ [])))
+      ∙ ap (λ b. text_so_far (names_of tokens) (chars (string_bytes token)) b) (sym t)
+      ∙ so_far
+      ∙ ap (λ l. 0x2F ∷ l) all
+
+  -- tokens were written, one after another
+  pub names_written : (names : List (String A)) (k : ℕ) (d : String A) → k < length names
+      → encode_utf8_all (pointer_text (names_of (take k names))) ++ encode_utf8_all (token_text (chars (string_bytes (get_or names k d)))) ≡ encode_utf8_all (pointer_text (names_of (take (k + 1) names)))
+  names_written names k d h =
+      let token = chars (string_bytes (get_or names k d)) in
+      sym (encodes-append (pointer_text (names_of (take k names))) (token_text token))
+      ∙ ap encode_utf8_all (sym (so_far_ended (names_of (take k names)) token) ∙ ap pointer_text (sym (names_more (take k names) (take (k + 1) names) (get_or names k d) (take_more names k d h))))
+
+pub token_written : (token : List ℕ) (c : ℕ) → encode_utf8_all (token_text token) ++ encode_utf8_all (escaped c) ≡ encode_utf8_all (token_text (token ++ c ∷ []))
+token_written token c = sym (encodes-append (token_text token) (escaped c)) ∙ ap encode_utf8_all (sym (token_more token c))
 
 -- a character behind a text
 pub char_behind : (bytes more : List ℕ) (c : ℕ) → IsUtf8 bytes → IsScalar c → more ≡ bytes ++ encode_utf8 c → chars more ≡ chars bytes ++ c ∷ []
@@ -181,8 +220,81 @@ char_behind bytes more c utf8 scalar e =
     ∙ chars-append bytes (encode_utf8_all (c ∷ [])) utf8
     ∙ ap (λ l. chars bytes ++ l) (chars-encodes (c ∷ []) (both _ _ scalar refl))
 
-pub byte_length_more : (cs : List ℕ) (c : ℕ) → byte_length (cs ++ c ∷ []) ≡ byte_length cs + len_utf8 c
-byte_length_more cs c =
-    ap length (encodes-append cs (c ∷ []))
-    ∙ length-append (encode_utf8_all cs) (encode_utf8_all (c ∷ []))
-    ∙ ap (λ n. byte_length cs + n) (ap length (append-nil (encode_utf8 c)) ∙ length-encode c)
+-- the lengths of texts
+char_length : (c : ℕ) → byte_length (c ∷ []) ≡ len_utf8 c
+char_length c = ap length (append-nil (encode_utf8 c)) ∙ length-encode c
+
+joined_length : (s t : List ℕ) → byte_length (s ++ t) ≡ byte_length s + byte_length t
+joined_length s t = ap length (encodes-append s t) ∙ length-append (encode_utf8_all s) (encode_utf8_all t)
+
+pub length_more : (cs : List ℕ) (c : ℕ) → byte_length (cs ++ c ∷ []) ≡ byte_length cs + len_utf8 c
+length_more cs c = joined_length cs (c ∷ []) ∙ ap (λ n. byte_length cs + n) (char_length c)
+
+-- characters that were read stand at the front of the text, and behind them the next
+pub record ReadSoFar (all yielded : List ℕ) (c : ℕ) : Type 0 where
+  pub rest : List ℕ
+  pub is : all ≡ yielded ++ c ∷ rest
+
+pub read_so_far : (all yielded : List ℕ) (c : ℕ) → yielded ≡ take (length yielded) all → length yielded < length all → c ≡ get_or all (length yielded) c → ReadSoFar all yielded c
+read_so_far all yielded c e h g = record {
+  rest = drop (length yielded + 1) all;
+  is =
+      sym (take-append-drop (length yielded) all)
+      ∙ ap (λ l. l ++ drop (length yielded) all) (sym e)
+      ∙ ap (λ l. yielded ++ l) (drop_more all (length yielded) c h ∙ ap (λ k. k ∷ drop (length yielded + 1) all) (sym g));
+}
+
+pub within : (text yielded : List ℕ) (c : ℕ) → IsUtf8 text → ReadSoFar (chars text) yielded c → byte_length yielded + len_utf8 c ≤ length text
+within text yielded c utf8 r =
+    let whole : byte_length (chars text) ≡ length text = ap length (encodes-chars text utf8) in
+    let split : byte_length (chars text) ≡ byte_length yielded + byte_length (c ∷ r.rest) = ap byte_length r.is ∙ joined_length yielded (c ∷ r.rest) in
+    let behind : byte_length (c ∷ r.rest) ≡ byte_length (c ∷ []) + byte_length r.rest = joined_length (c ∷ []) r.rest in
+    omega (arith, whole, split, behind, char_length c)
+
+-- a `~` stands before the place, and neither `0` nor `1` behind it
+pub loose_tilde : (tokens : List (List ℕ)) (token yielded text behind : List ℕ) (tilde : Bool) (place : ℕ) → text_so_far tokens token tilde ≡ 0x2F ∷ yielded → tilde ≡ true → place ≡ byte_length yielded
+    → text ≡ yielded ++ behind → IsTrue (no is_escape (next behind)) → HasLooseTilde (0x2F ∷ text) place
+loose_tilde tokens token yielded text behind tilde place so_far t at is loose =
+    let before = pointer_text (tokens ++ token ∷ []) in
+    let read : before ++ 0x7E ∷ [] ≡ 0x2F ∷ yielded = ap (λ b. text_so_far tokens token b) (sym t) ∙ so_far in
+    let counted = sym (joined_length before (0x7E ∷ [])) ∙ ap byte_length read ∙ joined_length (0x2F ∷ []) yielded in
+    record {
+      tokens = tokens ++ token ∷ [];
+      behind = behind;
+      is = ap (λ l. 0x2F ∷ l) is ∙ ap (λ l. l ++ behind) (sym read) ∙ append_assoc before (0x7E ∷ []) behind;
+      in_token = not_empty tokens token;
+      at = omega (arith, at, counted, char_length 0x7E, char_length 0x2F);
+      loose = loose;
+    }
+  where
+    not_empty : (ts : List (List ℕ)) (t : List ℕ) → ts ++ t ∷ [] ≢ []
+    not_empty [] t e = cc
+    not_empty (s ∷ ts) t e = cc
+
+-- why a character was refused
+pub char_fault : (tokens : List (List ℕ)) (token yielded text : List ℕ) (tilde : Bool) (place c : ℕ) (e : PointerError) → text_so_far tokens token tilde ≡ 0x2F ∷ yielded → place ≡ byte_length yielded → ReadSoFar text yielded c
+    → IsFaultOfChar tilde place c e → IsPointerFault (0x2F ∷ text) e
+char_fault tokens token yielded text tilde place c NoLeadingSlash so_far at r fault = absurd fault
+char_fault tokens token yielded text tilde place c (InvalidEscape k) so_far at r fault = loose_tilde tokens token yielded text (c ∷ r.rest) tilde k so_far fault.0 (fault.2 ∙ at) r.is fault.1
+char_fault tokens token yielded text tilde place c OutOfMemory so_far at r fault = (text, refl)
+
+slash_first : (cs : List ℕ) → encode_utf8_all (0x2F ∷ cs) ≡ 0x2F ∷ encode_utf8_all cs
+slash_first cs = ap (λ l. l ++ encode_utf8_all cs) (encode_ascii 0x2F (omega arith))
+
+-- the text does not begin with a `/`
+pub lacks_slash : (bytes : List ℕ) → IsUtf8 bytes → ((rest : List ℕ) → bytes ≡ 0x2F ∷ rest → ⊥) → length bytes == 0 ≡ false → LacksSlash (chars bytes)
+lacks_slash bytes utf8 none some = go (chars bytes) (encodes-chars bytes utf8)
+  where
+    go : (cs : List ℕ) → encode_utf8_all cs ≡ bytes → LacksSlash cs
+    go [] e = absurd (let empty : length bytes ≡ 0 = ap length (sym e) in false≢true (sym some ∙ eq-eqb (length bytes) 0 empty))
+    go (c ∷ cs) e = record { first = c; rest = cs; is = refl; another = λ slash. none (encode_utf8_all cs) (sym e ∙ ap (λ k. encode_utf8_all (k ∷ cs)) slash ∙ slash_first cs) }
+
+pub slash_first_chars : (bytes rest : List ℕ) → IsUtf8 bytes → bytes ≡ 0x2F ∷ rest → chars bytes ≡ 0x2F ∷ chars rest
+slash_first_chars bytes rest utf8 e = chars_past_char bytes rest 0x2F utf8 (e ∙ ap (λ l. l ++ rest) (sym (encode_ascii 0x2F (omega arith))))
+
+pub empty_parsed : {A : Type 0} (items : List (String A)) (bytes : List ℕ) → items ≡ [] → true ≡ (length bytes == 0) → pointer_text (names_of items) ≡ chars bytes
+empty_parsed items bytes none empty = ap (λ l. pointer_text (names_of l)) none ∙ sym (ap chars (no_bytes bytes (eqb-true (length bytes) 0 (sym empty))) ∙ chars-nil)
+  where
+    no_bytes : (bs : List ℕ) → length bs ≡ 0 → bs ≡ []
+    no_bytes [] e = refl
+    no_bytes (b ∷ bs) e = absurd (omega (arith, e))

@@ -1,0 +1,4 @@
+pub mod Texts
+pub mod Evaluation
+pub mod Rows
+pub mod Nodes
