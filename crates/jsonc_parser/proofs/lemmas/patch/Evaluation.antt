@@ -1,5 +1,5 @@
 -- What tokens refer to in a value: one value at most, and none where a name on the way stands twice.
-use Rattle.std.proofs.Common.{ℕ, suc, ◌≡◌, ◌≢◌, ◌∙◌, ◌++◌, sym, ap, subst, refl, List, [], ◌∷◌, Option, Some, None}
+use Rattle.std.proofs.Common.{ℕ, suc, ◌≡◌, ◌≢◌, ◌∙◌, ◌⊎◌, inl, inr, ◌++◌, sym, ap, subst, refl, List, [], ◌∷◌, Option, Some, None}
 use Rattle.jsonc_text.specs.Plain.{Plain, array, object, Items, item, Members, member}
 use Rattle.jsonc_sound.specs.Changes as changes
 use Rattle.jsonc_sound.specs.Changes.{Changed, ItemChanged, MemberChanged}
@@ -25,23 +25,49 @@ pub repeated_lacks : {name : List ℕ} {ms : Members} → IsRepeated name ms →
 repeated_lacks (this_again f) (other_name ne l) = ne refl
 repeated_lacks (later_again ne r) (other_name other l) = repeated_lacks r l
 
+-- a member of a name in a list that begins with this one: it, or one behind it
+only_of_more : {name : List ℕ} {v : Plain} {i : ℕ} {all : Members} → IsOnly name v i all → (n : List ℕ) (w : Plain) (ms : Members) → all ≡ member n w ms
+    → ((n ≡ name) × (w ≡ v) × (i ≡ 0)) ⊎ ((j : ℕ) × (i ≡ suc j) × (n ≢ name) × IsOnly name v j ms)
+only_of_more {name} {v} (this_only {ms = rest} l) n w ms e = let a : n ≡ name = cc in let b : w ≡ v = cc in inl (a, b, refl)
+only_of_more {name} {v} (later_only {i = i} {n = m} {w = x} {ms = rest} ne p) n w ms e =
+    let a : n ≡ m = cc in
+    let b : rest ≡ ms = cc in
+    inr (i, refl, (λ s. ne (sym a ∙ s)), subst (IsOnly name v i) b p)
+
+repeated_of_more : {name : List ℕ} {all : Members} → IsRepeated name all → (n : List ℕ) (w : Plain) (ms : Members) → all ≡ member n w ms
+    → ((n ≡ name) × ((j : ℕ) × IsFirstMember name j ms)) ⊎ ((n ≢ name) × IsRepeated name ms)
+repeated_of_more {name} (this_again {i = i} {v = v} {ms = rest} f) n w ms e =
+    let a : n ≡ name = cc in
+    let b : rest ≡ ms = cc in
+    inl (a, (i, subst (IsFirstMember name i) b f))
+repeated_of_more {name} (later_again {n = m} {v = v} {ms = rest} ne r) n w ms e =
+    let a : n ≡ m = cc in
+    let b : rest ≡ ms = cc in
+    inr (λ s. ne (sym a ∙ s), subst (IsRepeated name) b r)
+
 only_repeated : {name : List ℕ} {v : Plain} {i : ℕ} {ms : Members} → IsOnly name v i ms → IsRepeated name ms → ⊥
-only_repeated (this_only l) (this_again f) = first_lacks f l
-only_repeated (this_only l) (later_again ne r) = ne refl
-only_repeated (later_only ne p) (this_again f) = ne refl
-only_repeated (later_only ne p) (later_again other r) = only_repeated p r
+only_repeated {name} {v} (this_only {ms = rest} l) r =
+    elim (repeated_of_more r name v rest refl) [
+      | inl again ↦ first_lacks again.1.1 l
+      | inr other ↦ other.0 refl
+    ]
+only_repeated {name} {v} (later_only {n = n} {w = w} {ms = rest} ne p) r =
+    elim (repeated_of_more r n w rest refl) [
+      | inl again ↦ ne again.0
+      | inr other ↦ only_repeated p other.1
+    ]
 
-only_place : {name : List ℕ} {v w : Plain} {i j : ℕ} {ms : Members} → IsOnly name v i ms → IsOnly name w j ms → i ≡ j
-only_place (this_only k) (this_only l) = refl
-only_place (this_only k) (later_only ne q) = absurd (ne refl)
-only_place (later_only ne p) (this_only l) = absurd (ne refl)
-only_place (later_only ne p) (later_only other q) = ap suc (only_place p q)
-
-only_value : {name : List ℕ} {v w : Plain} {i j : ℕ} {ms : Members} → IsOnly name v i ms → IsOnly name w j ms → v ≡ w
-only_value (this_only k) (this_only l) = refl
-only_value (this_only k) (later_only ne q) = absurd (ne refl)
-only_value (later_only ne p) (this_only l) = absurd (ne refl)
-only_value (later_only ne p) (later_only other q) = only_value p q
+only_once : {name : List ℕ} {v w : Plain} {i j : ℕ} {ms : Members} → IsOnly name v i ms → IsOnly name w j ms → v ≡ w
+only_once {name} {v} {w} (this_only {ms = rest} l) q =
+    elim (only_of_more q name v rest refl) [
+      | inl is ↦ is.1
+      | inr other ↦ absurd (other.2 refl)
+    ]
+only_once {name} {v} {w} (later_only {n = n} {w = x} {ms = rest} ne p) q =
+    elim (only_of_more q n x rest refl) [
+      | inl is ↦ absurd (ne is.0)
+      | inr other ↦ only_once p other.3
+    ]
 
 -- what is replaced by itself
 only_itself : {name : List ℕ} {v : Plain} {i : ℕ} {ms : Members} → IsOnly name v i ms → MemberChanged v v i ms ms
@@ -102,7 +128,7 @@ pub behind : {x v u : Plain} {tokens : List (List ℕ)} {path whole_path : List 
 behind {whole_path = q} rest whole a = (q, a)
 behind {u = u} rest (to_member {tokens = tokens} p r) a =
     let i = in_object a in
-    behind rest r (subst (λ k. Refers k (tokens ++ rest) i.path u) (only_value i.only p) i.refers)
+    behind rest r (subst (λ k. Refers k (tokens ++ rest) i.path u) (only_once i.only p) i.refers)
 behind {u = u} rest (to_element {tokens = tokens} {vs = vs} {x = x} k p r) a =
     let i = in_array a in
     let same : IsItem i.x _ vs = subst (λ n. IsItem i.x n vs) (index_once i.index k) i.item in
@@ -129,7 +155,7 @@ fails_in_array (in_element {i = i} {x = x} k p m) = record { i = i; x = x; index
 
 not_here : {name token : List ℕ} {tokens : List (List ℕ)} {ms : Members} {i : ℕ} {x : Plain} → IsOnly token x i ms → FailsInside name token tokens ms → MeetsRepeated name x tokens
 not_here {ms = ms} p (fails_here e r) = absurd (only_repeated p (subst (λ n. IsRepeated n ms) e r))
-not_here {name = name} {tokens = tokens} p (fails_later q m) = subst (λ k. MeetsRepeated name k tokens) (only_value q p) m
+not_here {name = name} {tokens = tokens} p (fails_later q m) = subst (λ k. MeetsRepeated name k tokens) (only_once q p) m
 
 pub fails_behind : {name : List ℕ} {x v : Plain} {tokens : List (List ℕ)} {path : List ℕ} (rest : List (List ℕ)) → Refers x tokens path v → MeetsRepeated name x (tokens ++ rest) → MeetsRepeated name v rest
 fails_behind rest whole m = m
@@ -148,7 +174,7 @@ fails_further rest (to_element k p r) m = in_element k p (fails_further rest r m
 pub one_value : {x v w : Plain} {tokens : List (List ℕ)} {p q : List ℕ} → Refers x tokens p v → Refers x tokens q w → v ≡ w
 one_value whole whole = refl
 one_value {w = w} (to_member {tokens = tokens} p r) a =
-    let i = in_object a in one_value r (subst (λ k. Refers k tokens i.path w) (only_value i.only p) i.refers)
+    let i = in_object a in one_value r (subst (λ k. Refers k tokens i.path w) (only_once i.only p) i.refers)
 one_value {w = w} (to_element {tokens = tokens} {vs = vs} k p r) a =
     let i = in_array a in
     let same : IsItem i.x _ vs = subst (λ n. IsItem i.x n vs) (index_once i.index k) i.item in
