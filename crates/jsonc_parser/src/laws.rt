@@ -37,6 +37,10 @@
 //! container, with its brackets, while comments deeper stand where they stood
 //! ([`sorted_containers_keep_their_children`]); and a second sort changes no byte
 //! ([`second_sorts_change_no_byte`], [`second_sorts_by_key_change_no_byte`]).
+//!
+//! The laws of trees of nodes, on which these rest, are in [`nodes`].
+
+pub mod nodes;
 
 pub use crate::numbers::laws::numbers_have_one_value;
 pub use crate::paths::laws::{

@@ -1,3 +1,4 @@
+pub mod Blanks
 pub mod NumberParts
 pub mod NoLexemes
 pub mod NoNumbers

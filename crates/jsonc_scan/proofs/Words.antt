@@ -1,5 +1,5 @@
 -- Texts of ASCII, keywords and the characters of words at a place.
-use Rattle.std.proofs.Common.{ℕ, ◌+◌, ◌<◌, ◌≤◌, ◌≡◌, ◌∙◌, sym, ap, refl, List, [], ◌∷◌, ◌++◌, length, drop, take, arith, IsUtf8, IsTrue, Bool, true, false, not, IsCharBoundary, chars, encode_utf8_all, ◌||◌, ◌==◌}
+use Rattle.std.proofs.Common.{ℕ, ◌+◌, ◌<◌, ◌≤◌, ◌≡◌, ◌∙◌, sym, ap, refl, List, [], ◌∷◌, ◌++◌, length, drop, take, get_or, arith, IsUtf8, IsTrue, Bool, true, false, not, IsCharBoundary, chars, encode_utf8_all, ◌||◌, ◌==◌}
 use Rattle.std.specs.Str.{IsAscii}
 use Rattle.std.proofs.Math.Seq.{take-append_seam}
 use Rattle.std.proofs.lemmas.List.{take-append-drop, drop-drop, length-take, append_cancel_left}
@@ -9,6 +9,7 @@ use Rattle.jsonc_text.specs.Chars.{Steps}
 use Rattle.jsonc_text.specs.string.Between.{Between, LacksAt}
 use Rattle.jsonc_scan.specs.Between.{IsAlone, PassesWord}
 use Rattle.jsonc_text.specs.Words.{goes_on, EndsWord, begins_word, is_in_word}
+use Rattle.jsonc_text.proofs.CharacterSteps.{steps_ascii}
 use Rattle.jsonc_text.proofs.Cuts.{rest_encodes}
 use Rattle.jsonc_text.proofs.Basics.{or_left, no_starts, starts_also, tails}
 use Rattle.jsonc_text.proofs.UniqueGaps.{many_unique}
@@ -45,6 +46,14 @@ not_alone bytes w r i j k c e s g h =
 pub alone_before : (bytes w : List ℕ) (i j k c : ℕ) → i < j → IsCharBoundary bytes j → rest bytes i ≡ w ++ rest bytes j → Steps bytes j c k → goes_on c ≡ false → Between (IsAlone w) bytes i j
 alone_before bytes w i j k c l b e s g =
     record { boundary = b; order = l; piece = (e, rw s.0 (ap not g)) }
+
+-- the same, where the byte after it is one of ASCII
+pub alone_before_byte : (text bytes w : List ℕ) (i : ℕ) → bytes ≡ text → IsUtf8 text → (rest text i ≡ w ++ rest text (i + length w)) × IsCharBoundary text (i + length w) → 0 < length w
+    → i + length w < length bytes → get_or bytes (i + length w) 0 < 128 → goes_on (get_or bytes (i + length w) 0) ≡ false → Between (IsAlone w) text i (i + length w)
+alone_before_byte text bytes w i same u here some more small ends =
+    let byte = get_or text (i + length w) 0 in
+    let steps : Steps text (i + length w) byte (i + length w + 1) = steps_ascii text (i + length w) u (rw same at more) (rw same at small) in
+    alone_before text w i (i + length w) (i + length w + 1) byte (omega arith) here.1 here.0 steps (rw same at ends)
 
 pub alone_at_end : (bytes w : List ℕ) (i j : ℕ) → i < j → IsCharBoundary bytes j → rest bytes i ≡ w ++ rest bytes j → rest bytes j ≡ [] → Between (IsAlone w) bytes i j
 alone_at_end bytes w i j l b e z = record { boundary = b; order = l; piece = (e, rw z refl) }

@@ -1,3 +1,4 @@
+pub mod Blanks
 pub mod Between
 pub mod Found
 pub mod Laws

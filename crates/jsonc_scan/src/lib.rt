@@ -7,6 +7,7 @@
 mod comment;
 mod faults;
 pub mod found;
+mod gap;
 pub mod laws;
 mod lexeme;
 mod number;

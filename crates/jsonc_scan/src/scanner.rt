@@ -3,10 +3,12 @@ ghost use Rattle.std.specs.Prelude.{◌≡◌, ◌≢◌, ◌≤◌, ◌<◌, �
 
 use crate::faults::out_of_memory;
 use crate::found::{TokenContent, TokenKind};
+use crate::gap::gap_end;
 use crate::plain::plain_number;
 use crate::reads::{quote_at, read_lexeme, read_punctuation};
 use crate::string::{pass_string_at, plain_string, read_string};
-use jsonc_text::chars::{blanks_end, has_byte};
+use crate::word::plain_keyword_end;
+use jsonc_text::chars::has_byte;
 use jsonc_text::errors::{ParseError, ParseErrorKind};
 use jsonc_text::options::{ParseOptions, ScannerOptions};
 use jsonc_text::tokens::Token;
@@ -169,7 +171,7 @@ impl<'a, A: Allocator + Copy> Scanner<'a, A> {
         ensures keeps { last_token self.new ≡ last_token self.old }
         ensures stays { OnErr result (end_of self.new ≡ start_of self.new) }
     {
-        let start = blanks_end(self.file_text, self.byte_index);
+        let start = gap_end(self.file_text, self.byte_index);
         self.byte_index = start;
         self.token_start = start;
         if start == self.file_text.len() {
@@ -192,8 +194,8 @@ impl<'a, A: Allocator + Copy> Scanner<'a, A> {
         self.step_other(content, decodes)
     }
 
-    /// Moves to the next token, where that is punctuation, or a string or a number that is read by its lanes, and
-    /// answers its kind. Else nothing changes.
+    /// Moves to the next token, where that is punctuation, a keyword, or a string or a number that is read by its
+    /// lanes, and answers its kind. Else nothing changes.
     #[doc(hidden)]
     #[inline(always)]
     pub fn step_plain(&mut self, content: &mut TokenContent<'a, A>) -> Option<TokenKind>
@@ -203,8 +205,11 @@ impl<'a, A: Allocator + Copy> Scanner<'a, A> {
         ensures lexeme { IfSome result (λ k. is_comment (scanned_seen self.new content.new k) ≡ false) }
         ensures none { IfNone result (self.new ≡ self.old) }
     {
-        let start = blanks_end(self.file_text, self.byte_index);
-        if let Some(plain) = plain_string(self.file_text, start) {
+        let start = gap_end(self.file_text, self.byte_index);
+        if has_byte(self.file_text, start, b'"') {
+            let Some(plain) = plain_string(self.file_text, start) else {
+                return None;
+            };
             self.token_start = start;
             self.byte_index = plain.end;
             content.string = plain.string;
@@ -220,6 +225,21 @@ impl<'a, A: Allocator + Copy> Scanner<'a, A> {
             self.byte_index = number.end;
             content.text = number.text;
             return Some(TokenKind::Number);
+        }
+        if let Some(end) = plain_keyword_end(self.file_text, start, "true") {
+            self.token_start = start;
+            self.byte_index = end;
+            return Some(TokenKind::True);
+        }
+        if let Some(end) = plain_keyword_end(self.file_text, start, "false") {
+            self.token_start = start;
+            self.byte_index = end;
+            return Some(TokenKind::False);
+        }
+        if let Some(end) = plain_keyword_end(self.file_text, start, "null") {
+            self.token_start = start;
+            self.byte_index = end;
+            return Some(TokenKind::Null);
         }
         None
     }

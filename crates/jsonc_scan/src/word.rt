@@ -56,6 +56,7 @@ fn is_in_word(c: char) -> bool
 }
 
 /// Whether these bytes stand at a place.
+#[inline(always)]
 fn has_text(text: &str, start: usize, word: &str) -> bool
     requires { start ≤ length text.now }
     ensures { IsTrue result ↔ (take (length word.now) (drop start text.now) ≡ word.now) }
@@ -173,6 +174,33 @@ pub(crate) fn word_end(text: &str, start: usize) -> Result<usize, ParseError>
         return Ok(end);
     }
     Err(fault(text, start, end, ParseErrorKind::UnexpectedToken))
+}
+
+/// The place after the text `word` at a place, if a character of ASCII ends it there as a keyword. In line its bytes
+/// are compared at once.
+#[inline(always)]
+pub(crate) fn plain_keyword_end(text: &str, start: usize, word: &str) -> Option<usize>
+    requires boundary { IsCharBoundary text.now start }
+    requires ascii { IsAscii word.now }
+    requires nonempty { 0 < length word.now }
+    ensures { IfSome result (Between (IsAlone word.now) text.now start) }
+{
+    if !has_text(text, start, word) {
+        return None;
+    }
+    let end = start + word.len();
+    let bytes = text.as_bytes();
+    if end >= bytes.len() {
+        return None;
+    }
+    let byte = bytes[end];
+    if byte >= 0x80 {
+        return None;
+    }
+    if goes_on(byte as char) {
+        return None;
+    }
+    Some(end)
 }
 
 /// The keyword at a place, or none.

@@ -30,10 +30,10 @@ equality_of eq o = record { reflexive = o.refl; mirrored = o.symm; transitive = 
 key : {A : Type 0} → List ℕ → CowStr A
 key name = Borrowed (record { ref_ptr = (0, 0); now = name })
 
-abbrev same_key : {A : Type 0} → CowStr A → CowStr A → Bool
+abbrev pub same_key : {A : Type 0} → CowStr A → CowStr A → Bool
 same_key k l = bytes_eq (cow_str_bytes k) (cow_str_bytes l)
 
-key_equiv : {A : Type 0} → IsEquivalence (same_key {A = A})
+pub key_equiv : {A : Type 0} → IsEquivalence (same_key {A = A})
 key_equiv = on_equiv cow_str_bytes nat_list_eq_equiv
 
 module _ (T : RattleType) (heap : alloc.Ghosts T.Denot) (d e : Dict) where

@@ -21,9 +21,10 @@ mod lists;
 mod retain;
 mod search;
 
+pub(crate) use hashes::FEW;
 #[doc(hidden)]
 pub use hashes::Hashes;
-use hashes::{FEW, empty_hashes, push_hash, reserve_hashes};
+use hashes::{empty_hashes, push_hash, reserve_hashes};
 use indexmap::Equivalent;
 pub use iter::{IntoIter, IntoKeys, IntoValues, Iter, Keys, Values};
 pub use lends::Entry;

@@ -3,7 +3,7 @@
 use crate::tests::reading::{read, value_of};
 use failing_alloc::in_turn::refused_in_turn;
 use failing_alloc::outcome::Outcome;
-use jsonc_parser::cst::{CstRootNode, EditError, Over, TypedNode};
+use jsonc_parser::cst::{CstLeafNode, CstNode, CstRootNode, EditError, Over, TypedNode};
 use jsonc_parser::settings::{find_at, read_at, remove_at, set_at};
 use std::alloc::Allocator;
 use std::test::Fail;
@@ -145,11 +145,8 @@ fn found<A: Allocator + Copy>(
     read.then(printed)
 }
 
-fn outcome<A: Allocator + Copy>(alloc: A, row: &Row<'_>) -> Outcome {
-    let mut doc = match read(alloc, row.2) {
-        Ok(doc) => doc,
-        Err(outcome) => return outcome,
-    };
+fn at_names<A: Allocator + Copy>(alloc: A, doc: CstRootNode<A>, row: &Row<'_>) -> Outcome {
+    let mut doc = doc;
     let names = match names_of(alloc, row.0) {
         Ok(names) => names,
         Err(outcome) => return outcome,
@@ -170,6 +167,13 @@ fn outcome<A: Allocator + Copy>(alloc: A, row: &Row<'_>) -> Outcome {
     }
 }
 
+fn outcome<A: Allocator + Copy>(alloc: A, row: &Row<'_>) -> Outcome {
+    match read(alloc, row.2) {
+        Ok(doc) => at_names(alloc, doc, row),
+        Err(outcome) => outcome,
+    }
+}
+
 #[test]
 fn settings_are_put_and_found_with_each_request_refused_in_turn(
     rt: HostRuntime,
@@ -180,6 +184,73 @@ fn settings_are_put_and_found_with_each_request_refused_in_turn(
             refused_in_turn(alloc, |heap| outcome(heap, row)).is_some(),
             "{}",
             row.2
+        );
+    }
+    Ok(())
+}
+
+/// The same of `{"a":1,"b":2}`, whose first number is no number any more.
+static DAMAGED: [Row; 6] = [
+    (
+        &["b"],
+        Call::Put("3", KEEP),
+        BROKEN,
+        Some("{\"a\":1 2,\"b\":3}"),
+    ),
+    (
+        &["a"],
+        Call::Put("3", KEEP),
+        BROKEN,
+        Some("{\"a\":3,\"b\":2}"),
+    ),
+    (
+        &["c"],
+        Call::Put("3", KEEP),
+        BROKEN,
+        Some("{\n  \"a\":1 2,\n  \"b\":2,\n  \"c\": 3\n}"),
+    ),
+    (&["a", "b"], Call::Put("3", KEEP), BROKEN, None),
+    (&["a"], Call::Drop, BROKEN, Some("{\"b\":2}")),
+    (&["b"], Call::Find, BROKEN, Some("2")),
+];
+
+const BROKEN: &str = "{\"a\":1 2,\"b\":2}";
+
+/// The document of that text, which is not in the grammar.
+fn broken<A: Allocator + Copy>(alloc: A) -> Result<CstRootNode<A>, Outcome> {
+    let mut doc = read(alloc, "{\"a\":1,\"b\":2}")?;
+    let Ok(word) = format!(in alloc; "1 2") else {
+        return Err(Outcome::Wanted);
+    };
+    let Some(object) = doc.object_value() else {
+        return Err(Outcome::Other);
+    };
+    let property = match object.get(&doc, "a") {
+        Ok(Some(property)) => property,
+        Ok(None) => return Err(Outcome::Other),
+        Err(error) => return Err(Outcome::from(error)),
+    };
+    let Some(CstNode::Leaf(CstLeafNode::NumberLit(number))) = property.value(&doc) else {
+        return Err(Outcome::Other);
+    };
+    number.set_raw_value(&mut doc, word);
+    Ok(doc)
+}
+
+fn outcome_of_broken<A: Allocator + Copy>(alloc: A, row: &Row<'_>) -> Outcome {
+    match broken(alloc) {
+        Ok(doc) => at_names(alloc, doc, row),
+        Err(outcome) => outcome,
+    }
+}
+
+#[test]
+fn damaged_documents_are_changed_at_names(rt: HostRuntime) -> Result<(), Fail> {
+    for row in &DAMAGED {
+        assert!(rt;
+            outcome_of_broken(rt.alloc(), row) == Outcome::Answered,
+            "{:?}",
+            row.0
         );
     }
     Ok(())

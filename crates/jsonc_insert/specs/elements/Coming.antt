@@ -58,12 +58,14 @@ pub data GoesOn (o : Options) (before : List Content) (rest : OrderedTree) : Ord
   none_follow : (gap : List Content) → Gap false gap → element_count rest ≡ 0 → GoesOn o before rest (leaves_then gap rest)
   comma_last : IsTrue o.trailing_commas → Gap true before → element_count rest ≡ 0 → GoesOn o before rest (token_then 0x2C rest)
 
--- what the new element follows: the end of a line directly before it; else the first bracket or a comma, with nothing between, where other elements are
-pub data Follows (gap : List Content) (led : OrderedTree) (others : ℕ) : Type 0 where
-  behind_line_end : Gap true gap → Follows gap led others
-  behind_bracket : led ≡ none → Follows gap led others
-  behind_comma : (front : OrderedTree) → led ≡ followed_by front (token_then 0x2C none) → Follows gap led others
-  no_others : others ≡ 0 → Follows gap led others
+-- What the new element follows, where other elements are: the first bracket or a comma, with nothing between; or on a line of its own the comments on a comma's line,
+-- where spaces alone end that.
+pub data Follows (gap : List Content) (led back : OrderedTree) (others : ℕ) : Type 0 where
+  behind_bracket : led ≡ none → Follows gap led back others
+  behind_comma : (front : OrderedTree) → led ≡ followed_by front (token_then 0x2C none) → Follows gap led back others
+  behind_comments : Gap true gap → (front rest : OrderedTree) (beside spaces : List Content) (k : CstNewlineKind) → AreInlineTrivia beside → AreInlineTrivia spaces → AreBlanks spaces
+      → led ≡ followed_by front (token_then 0x2C (leaves_then beside none)) → back ≡ leaves_then spaces (more (newline k) none rest) → Follows gap led back others
+  no_others : others ≡ 0 → Follows gap led back others
 
 -- where no others are, it stands behind all comments
 abbrev pub EndsRow : OrderedTree → ℕ → Type 0
@@ -73,5 +75,5 @@ EndsRow behind others = others ≡ 0 → (blanks : List Content) × AreBlanks bl
 pub data ElementInserted (o : Options) (top : Top) : ℕ → OrderedTree → OrderedTree → Type 0 where
   comes : (front back led behind : OrderedTree) (gap : List Content) → CommaInserted front led → IsTrue (takes_element (last_behind nothing_yet led))
       → IsTrue (not (comma_comes back)) → Gap (has_newline (followed_by front back)) gap → GoesOn o gap back behind
-      → Follows gap led (element_count (followed_by front back)) → EndsRow behind (element_count (followed_by front back))
+      → Follows gap led back (element_count (followed_by front back)) → EndsRow behind (element_count (followed_by front back))
       → ElementInserted o top (element_count front) (followed_by front back) (followed_by led (leaves_then gap (more top.content top.below behind)))

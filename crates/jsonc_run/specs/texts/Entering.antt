@@ -48,17 +48,22 @@ pub data Led (o : Options) (kind : Kind) (r : List ℕ) : List ℕ → List ℕ 
 abbrev pub StartsLine : List ℕ → Type 0
 StartsLine s = (line t : List ℕ) × (s ≡ line ++ t) × IsLineEnd line
 
+-- blanks, and then the end of their line
+abbrev pub EndsLine : List ℕ → Type 0
+EndsLine s = (blanks r : List ℕ) × (s ≡ blanks ++ r) × AreBlanks blanks × InLine blanks × StartsLine r
+
 -- An entry with this text comes between others, those that stand before it and those that follow, before the rest. All around it stays but blanks directly inside of
 -- the brackets; at most a comma comes before it, directly behind an entry, and blanks, and behind it a comma and blanks. A gap leads to it from the first bracket or
--- a comma: blanks alone, unless a line ends directly before it, or it is the only entry, and on the bracket's line. Where no comma comes behind it a gap leads from
--- there to the last bracket; where one comes, entries follow, or a line ends directly before it. From the only entry blanks alone lead to the last bracket.
+-- a comma, which is these blanks alone. Or, where a line ends directly before it, comments on the comma's line are part of that, and with them that line ended. Or it
+-- is the only entry, and the gap is trivia on the bracket's line, or a line ends directly before it. Where no comma comes behind it a gap leads from there to the last
+-- bracket; where one comes, entries follow, or a line ends directly before it. From the only entry blanks alone lead to the last bracket.
 abbrev pub Joins : Kind → (before follow : List (List ℕ)) → (new rest : List ℕ) → Document → Document → Type 0
 Joins kind before follow new rest d e = (spread shorter front led gap comma behind back : List ℕ) × Spreads kind d.text spread × Trims kind spread shorter × Trims kind shorter (front ++ back)
     × Led d.options kind (gap ++ (new ++ rest)) front led × AreBlanks gap
     × (((comma ≡ 0x2C ∷ []) × ((follow ≢ []) ⊎ StartsLine gap)) ⊎ ((comma ≡ []) × (r : List ℕ) × Gap d.options back (closing kind ∷ r))) × AreBlanks behind
     × NoCommaComes d.options back × (e.text ≡ led ++ (gap ++ (new ++ rest))) × (rest ≡ comma ++ (behind ++ back))
     × (x t : List ℕ) × (c : ℕ) × (led ≡ x ++ c ∷ t) × IsTrue (c == 0x2C || c == opening kind) × Gap d.options (t ++ (gap ++ (new ++ rest))) (new ++ rest)
-    × ((t ≡ []) ⊎ (StartsLine gap ⊎ ((before ++ follow ≡ []) × InLine t)))
+    × ((t ≡ []) ⊎ ((IsTrue (c == 0x2C) × InLine t × StartsLine gap × EndsLine back) ⊎ ((before ++ follow ≡ []) × (InLine t ⊎ StartsLine gap))))
     × ((before ++ follow ≡ []) → (z r : List ℕ) × AreBlanks z × (rest ≡ z ++ closing kind ∷ r))
 
 -- Between these and those an entry comes into the container at the path, in one of the layouts, and its marks with its text; each other keeps its text.

@@ -60,6 +60,17 @@ fn hashes_if_distinct<K: Eq + Hash, V, A: Allocator + Copy>(
 }
 
 impl<K: Eq + Hash + Drop, V: Drop, A: Allocator + Copy> Map<K, V, A> {
+    /// A map of these pairs, few of them and no two of the same key: the vector itself is taken.
+    pub(crate) fn of_few(pairs: Vec<(K, V), A>) -> Self
+        requires { IsDistinct K.eq (keys_of pairs.items) }
+        ensures { result ≡ insert_all K.eq [] pairs.items }
+    {
+        Map {
+            pairs,
+            hashes: None,
+        }
+    }
+
     /// A map of these pairs, inserted one after another. Where the keys are distinct, the vector
     /// itself is taken.
     pub(crate) fn from_vec(pairs: Vec<(K, V), A>) -> Result<Self, AllocError>

@@ -11,6 +11,7 @@ ghost use Rattle.jsonc_text.specs.Faults.{IsFault};
 ghost use Rattle.jsonc_text.specs.OptionsOf.{parse_options};
 ghost use Rattle.jsonc_text.specs.Plain.{array, object};
 
+use crate::to_value::names::are_few_distinct;
 use crate::{JsonArray, JsonObject, JsonValue, Map};
 use jsonc_ast::to_ast::collect::CollectOptions;
 use jsonc_ast::to_ast::context::Context;
@@ -204,6 +205,9 @@ impl<'a, A: Allocator + Copy> Receiver<String<A>> for ValueMaker<'a, A> {
         _range: Range,
     ) -> Result<JsonValue<'a, A>, AllocError> {
         let properties = taken_from(&mut self.properties, object)?;
+        if are_few_distinct(properties.as_slice()) {
+            return Ok(object_of(Map::of_few(properties)));
+        }
         Ok(object_of(Map::from_vec(properties)?))
     }
 }

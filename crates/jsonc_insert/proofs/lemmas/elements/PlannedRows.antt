@@ -9,7 +9,7 @@ use Rattle.jsonc_tree.specs.OrderedTree.{OrderedTree, Top, none, more, followed_
 use Rattle.jsonc_tree.specs.Tree.{Node, content_at, IsTree}
 use Rattle.jsonc_tree.proofs.Rows.{followed_by-assoc}
 use Rattle.jsonc_tree.specs.declared.node.CstNewlineKind.{CstNewlineKind}
-use Rattle.jsonc_layout.specs.nodes.Kinds.{is_inline_trivia}
+use Rattle.jsonc_layout.specs.nodes.Kinds.{is_inline_trivia, is_inline_trivia_at}
 use Rattle.jsonc_sound.specs.Shape.{token_then}
 use Rattle.jsonc_layout.specs.from_input.Layout.{Layout}
 use Rattle.jsonc_sound.specs.InRows.{row_around}
@@ -31,11 +31,11 @@ use Rattle.jsonc_insert.specs.Trimmed.{with_at}
 use Rattle.jsonc_insert.specs.declared.plan.Gap as written
 use Rattle.jsonc_insert.specs.declared.plan.Gap.TheVariants.{Nothing, Space, Line}
 use Rattle.jsonc_insert.specs.declared.plan.Plan.{Plan}
-use Rattle.jsonc_insert.specs.elements.Coming.{CommaInserted, none_comes, one_comes, ElementInserted, comes, Gap, nothing, a_space, a_line, GoesOn, elements_follow, none_follow, comma_last, takes_element, Follows, behind_line_end, behind_bracket, behind_comma, no_others, EndsRow}
+use Rattle.jsonc_insert.specs.elements.Coming.{CommaInserted, none_comes, one_comes, ElementInserted, comes, Gap, nothing, a_space, a_line, GoesOn, elements_follow, none_follow, comma_last, takes_element, Follows, behind_bracket, behind_comma, behind_comments, no_others, EndsRow}
 use Rattle.jsonc_insert.proofs.lemmas.elements.Plans as plans
 use Rattle.jsonc_insert.proofs.lemmas.elements.Plans.{last_then}
 use Rattle.jsonc_insert.proofs.lemmas.elements.Rows.{IsRow}
-use Rattle.jsonc_insert.proofs.lemmas.elements.RowsOfTrees.{beside_alone, beside_are, blanks_alone, blanks_are, comma_first, standing_count, standing_then, token_first}
+use Rattle.jsonc_insert.proofs.lemmas.elements.RowsOfTrees.{AllAre, beside_alone, beside_are, blanks_alone, blanks_are, blanks_row, comma_first, line_first, newline_is, standing_count, standing_then, token_first}
 
 -- what a plan writes for its gaps
 gap_any : (kind : CstNewlineKind) (s : List ℕ) (g : written.Gap) → IsIndent s → Gap false (gap_leaves kind s g)
@@ -192,13 +192,22 @@ module _ (o : Options) (kind : RowKind) (old ready : List Node) (tree : IsTree o
   stand : (xs : List ℕ) → AreOld xs → standing ready xs ≡ standing old xs
   stand = old_stand old ready tree prepared
 
-  on_a_line : {led : OrderedTree} {others : ℕ} → FitsLayout o layout → plan.before ≡ Line → Follows (leaves_before layout plan) led others
-  on_a_line layout_fits w = behind_line_end (subst (λ v. Gap true (gap_leaves layout.newline layout.current v)) (sym w) (a_line layout_fits.current))
+  -- where the element comes on a line of its own behind comments
+  with_line : (led first : OrderedTree) (mid : List ℕ) {others : ℕ} → FitsLayout o layout → plan.before ≡ Line → led ≡ followed_by first (token_then 0x2C (leaves_then (map (content_at old) mid) none)) → AllAre (is_inline_trivia_at old) mid
+      → plans.EndsLine o kind old tree x y left opens closes row_now back → Follows (leaves_before layout plan) led (standing old back) others
+  with_line led first mid layout_fits w is are ends =
+      let line = newline_is (content_at old ends.end_node) ends.line in
+      behind_comments (subst (λ v. Gap true (gap_leaves layout.newline layout.current v)) (sym w) (a_line layout_fits.current)) first (standing old ends.rest) (map (content_at old) mid) (map (content_at old) ends.spaces) line.0 (beside_are old mid are)
+      (beside_are old ends.spaces ends.beside) (blanks_are old ends.spaces ends.blanks) is
+      (ap (standing old) ends.is ∙ blanks_row old tree ends.spaces (ends.end_node ∷ ends.rest) ends.blanks ∙ ap (leaves_then (map (content_at old) ends.spaces)) (line_first old tree ends.end_node (standing old ends.rest) line.0 line.1))
 
-  with_none : FitsLayout o layout → plans.Behind o kind old tree x y left opens closes row_now plan → Follows (leaves_before layout plan) (standing old front) (element_count (standing old left))
-  with_none layout_fits (plans.a_line_end w) = on_a_line layout_fits w
+  with_none : FitsLayout o layout → plans.Behind o kind old tree x y left opens closes row_now plan → Follows (leaves_before layout plan) (standing old front) (standing old back) (element_count (standing old left))
   with_none layout_fits (plans.the_bracket w) = behind_bracket (ap (standing old) w)
   with_none layout_fits (plans.the_comma first n w h) = behind_comma (standing old first) (ap (standing old) w ∙ standing_then old first (n ∷ []) ∙ ap (followed_by (standing old first)) (comma_first old tree n none h))
+  with_none layout_fits (plans.the_comments l first n mid w h are ends) =
+      let is : standing old front ≡ followed_by (standing old first) (token_then 0x2C (leaves_then (map (content_at old) mid) none)) =
+      ap (standing old) w ∙ standing_then old first (n ∷ mid) ∙ ap (followed_by (standing old first)) (comma_first old tree n (standing old mid) h ∙ ap (token_then 0x2C) (beside_alone old tree mid are)) in
+      with_line (standing old front) (standing old first) mid layout_fits l is are ends
   with_none layout_fits (plans.no_others w) = no_others (standing_count old left ∙ w)
 
   -- the front of the new row, with a comma where one comes
@@ -208,7 +217,7 @@ module _ (o : Options) (kind : RowKind) (old ready : List Node) (tree : IsTree o
     led : OrderedTree
     stands : standing ready list ≡ led
     comes_so : CommaInserted (standing old front) led
-    follows : plans.Lines o kind old tree x y left opens closes row_now several → FitsLayout o layout → Follows (leaves_before layout plan) led (element_count (standing old left))
+    follows : plans.Lines o kind old tree x y left opens closes row_now several → FitsLayout o layout → Follows (leaves_before layout plan) led (standing old back) (element_count (standing old left))
     takes : IsTrue (takes_element (last_behind nothing_yet led))
 
   led : Led
@@ -248,6 +257,8 @@ module _ (o : Options) (kind : RowKind) (old ready : List Node) (tree : IsTree o
           let front_is : standing old front ≡ row_around (standing old first) (top_at old n) (leaves_then beside none) =
           ap (standing old) f ∙ standing_then old first (n ∷ mid) ∙ ap (λ r. followed_by (standing old first) (more (content_at old n) (row_below old n) r)) (beside_alone old tree mid be) in
           let new_front : OrderedTree = row_around (standing old first) (top_at old n) (token_then 0x2C (leaves_then beside none)) in
+          let named : OrderedTree = followed_by (standing old first) (more (content_at old n) (row_below old n) none) in
+          let named_then = λ (z : OrderedTree). followed_by-assoc (standing old first) (more (content_at old n) (row_below old n) none) z in
           record {
             list = first ++ n ∷ (comma ++ mid);
             row_from = with_wide ∙ ap (with_at (length first + 2) comma) with_first ∙ comma_list x n first mid comma rest ∙ back_again;
@@ -255,9 +266,8 @@ module _ (o : Options) (kind : RowKind) (old ready : List Node) (tree : IsTree o
             stands = standing_then ready first (n ∷ (comma ++ mid)) ∙ ap (λ r. followed_by r (standing ready (n ∷ (comma ++ mid)))) (stand first first_old)
                 ∙ ap (followed_by (standing old first)) (ap (more (content_at ready n) (row_below ready n)) mid_stands ∙ n_stands (token_then 0x2C (leaves_then beside none)));
             follows = λ lines layout_fits. elim (q lines) [
-              | inl w ↦ on_a_line layout_fits w
-              | inr w ↦ behind_comma (followed_by (standing old first) (more (content_at old n) (row_below old n) none))
-                  (ap (λ z. row_around (standing old first) (top_at old n) (token_then 0x2C (leaves_then (map (content_at old) z) none))) w ∙ sym (followed_by-assoc (standing old first) (more (content_at old n) (row_below old n) none) (token_then 0x2C none)))
+              | inl w ↦ behind_comma named (ap (λ z. row_around (standing old first) (top_at old n) (token_then 0x2C (leaves_then (map (content_at old) z) none))) w ∙ sym (named_then (token_then 0x2C none)))
+              | inr w ↦ with_line new_front named mid layout_fits w.0 (sym (named_then (token_then 0x2C (leaves_then beside none)))) be w.1
             ];
             comes_so = subst (λ r. CommaInserted r new_front) (sym front_is) (one_comes (standing old first) (top_at old n) beside el are);
             takes = comma_takes (standing old first) (top_at old n) beside are;
@@ -334,4 +344,4 @@ module _ (o : Options) (kind : RowKind) (old ready : List Node) (tree : IsTree o
         (subst (λ r. ElementInserted o top (element_count (standing old front)) r new_row) (sym parts_are)
         (comes (standing old front) (standing old back) led.led behind gap led.comes_so led.takes fits.none
         (gap_before layout.newline layout.current plan.before (has_newline (followed_by (standing old front) (standing old back))) several fits_layout.current (λ h. lines (ap has_newline parts_are ∙ h)) fits.before_is) goes
-        (subst (λ r. Follows gap led.led (element_count r)) parts_are (led.follows lines fits_layout)) (subst (λ r. EndsRow behind (element_count r)) parts_are ends_row)))
+        (subst (λ r. Follows gap led.led (standing old back) (element_count r)) parts_are (led.follows lines fits_layout)) (subst (λ r. EndsRow behind (element_count r)) parts_are ends_row)))

@@ -3,19 +3,19 @@ use Rattle.std.proofs.Common.{◌≡◌, ◌≢◌, ◌∙◌, ◌<◌, ◌≤�
 use Rattle.std.specs.List.{list_all, prefix_len}
 use Rattle.std.specs.Option.{option_or}
 use Rattle.std.proofs.lemmas.Bool.{and_parts, cases_Bool, cases_lt, eqb-true, false≢true}
-use Rattle.std.proofs.lemmas.List.{drop-append-le, get_or-append-add, get_or-drop, get_or-reverse, get_or-take, get_or_append_left, take-append-drop, take-append-le, take_at, take_more}
+use Rattle.std.proofs.lemmas.List.{drop-append-le, get_or-append-add, get_or-drop, get_or-reverse, get_or-take, get_or_append_left, length-reverse, take-append-drop, take-append-le, take_at, take_more}
 use Rattle.std.proofs.lemmas.List.Edits.{get_or-between, length-between, split_between}
 use Rattle.std.proofs.lemmas.List.Elements.{All-from_get_or, All-head, All-tail, filter-append, filter_passes}
 use Rattle.std.proofs.lemmas.List.Folds.{drop_split, length-prefix_len, list_all_at}
 use Rattle.std.proofs.lemmas.List.Sums.{prefix_len_passes, prefix_len_stops, prefix_len-le-length}
 use Rattle.std.proofs.lemmas.Option.{slice_get_cases}
-use Rattle.std.proofs.Math.Seq.{split_at}
+use Rattle.std.proofs.Math.Seq.{drop-cons, split_at}
 use Rattle.jsonc_text.specs.Options.{Options}
 use Rattle.jsonc_tree.specs.Changes.{EachOnce}
 use Rattle.jsonc_tree.specs.Content.{Content, token}
 use Rattle.jsonc_tree.specs.OrderedTree.{OrderedTree, none, more, followed_by}
 use Rattle.jsonc_tree.specs.Tree.{Node, content_at, IsTree}
-use Rattle.jsonc_layout.specs.nodes.Kinds.{is_inline_trivia, is_inline_trivia_at, is_element, is_element_at, is_newline, is_trivia, is_whitespace, is_comma_at, is_comma, is_blank_at, is_newline_at}
+use Rattle.jsonc_layout.specs.nodes.Kinds.{is_inline_trivia, is_inline_trivia_at, is_element, is_element_at, is_newline, is_trivia, is_whitespace, is_comma_at, is_comma, is_blank_at, is_newline_at, is_whitespace_at}
 use Rattle.jsonc_layout.specs.nodes.Siblings.{is_no_newline_at}
 use Rattle.jsonc_layout.specs.lines.Breadth.{last_element}
 use Rattle.jsonc_sound.specs.Alone.{StretchAlone}
@@ -64,6 +64,10 @@ through_node row g k low high =
     let whole : row ≡ (front ++ mid) ++ drop k row = split_between row (g + 1) k (omega (arith, low)) ∙ sym (append_assoc front mid (drop k row)) in
     let long : length (front ++ mid) ≡ k = omega (arith, length-append front mid, mid_long, length-take (g + 1) row, low, high) in
     ap (take k) whole ∙ take_at (front ++ mid) (drop k row) k long ∙ ap (λ l. l ++ mid) (take_more row g 0 (omega (arith, low, high))) ∙ append_assoc (take g row) (slice_index row g ∷ []) mid
+
+white_beside : (content : Content) → is_whitespace content ≡ true → is_inline_trivia content ≡ true
+white_beside (Content.whitespace s) h = refl
+white_beside content h = cc
 
 no_length : (xs : List ℕ) → length xs ≡ 0 → xs ≡ []
 no_length [] e = refl
@@ -126,11 +130,21 @@ module _ (o : Options) (kind : RowKind) (ns : List Node) (tree : IsTree ns) (x y
   abbrev pub behind : Plan → List ℕ
   behind p = drop (p.place - 1) inner
 
-  -- what a plan puts the element behind: the end of a line, the first bracket or a comma, where others are
+  -- spaces stand on a line, and it ends
+  pub record EndsLine (xs : List ℕ) : Type 0 where
+    pub spaces : List ℕ
+    pub end_node : ℕ
+    pub rest : List ℕ
+    pub is : xs ≡ spaces ++ end_node ∷ rest
+    pub blanks : AllAre (is_blank_at ns) spaces
+    pub beside : AllAre (is_inline_trivia_at ns) spaces
+    pub line : is_newline_at ns end_node ≡ true
+
+  -- what a plan puts the element behind: the first bracket or a comma, or on a line of its own the comments on the comma's line, where others are
   pub data Behind (p : Plan) : Type 0 where
-    a_line_end : p.before ≡ Line → Behind p
     the_bracket : before p ≡ [] → Behind p
     the_comma : (front : List ℕ) (n : ℕ) → before p ≡ front ++ n ∷ [] → is_comma_at ns n ≡ true → Behind p
+    the_comments : p.before ≡ Line → (front : List ℕ) (n : ℕ) (mid : List ℕ) → before p ≡ front ++ n ∷ mid → is_comma_at ns n ≡ true → AllAre (is_inline_trivia_at ns) mid → EndsLine (behind p) → Behind p
     no_others : length (elements ns inner) ≡ 0 → Behind p
 
   -- where a line ends in the row, the element is put on one of its own
@@ -141,7 +155,7 @@ module _ (o : Options) (kind : RowKind) (ns : List Node) (tree : IsTree ns) (x y
   pub data CommaAt (several : Bool) (p : Plan) : Type 0 where
     none_due : p.comma ≡ None → IsTrue (takes_element (last_behind nothing_yet (standing ns (before p)))) → (Lines several → Behind p) → CommaAt several p
     one_due : (front : List ℕ) (n : ℕ) (mid : List ℕ) → before p ≡ front ++ n ∷ mid → p.comma ≡ Some (length front + 2) → is_element_at ns n ≡ true → AllAre (is_inline_trivia_at ns) mid
-        → (Lines several → (p.before ≡ Line) ⊎ (mid ≡ [])) → CommaAt several p
+        → (Lines several → (mid ≡ []) ⊎ ((p.before ≡ Line) × EndsLine (behind p))) → CommaAt several p
 
   -- what a plan writes behind the element
   pub data Goes (commas : Bool) (p : Plan) : Type 0 where
@@ -339,47 +353,104 @@ module _ (o : Options) (kind : RowKind) (ns : List Node) (tree : IsTree ns) (x y
                   | inr not_so ↦ absurd (false≢true (sym (list_all_at (is_inline_trivia_at ns) on k 0 h not_so) ∙ so))
                 ]
 
-      -- where no line ends in the row, the last bracket stands on that line
-      module _ (b : ℕ) (low : 1 ≤ b) (high : b ≤ length inner + 1) (quiet : has_newline (standing ns inner) ≡ false) where
-        abbrev rest : List ℕ
-        rest = slice_range row b (length row)
+      -- such a line ends in the row
+      module _ (b : ℕ) (low : 1 ≤ b) (high : b ≤ length inner + 1) where
+        past_off : list_all (is_inline_trivia_at ns) (on b) ≡ false → past_comments ns row b ≡ b
+        past_off off = ap (λ v. b + cond v (length (on b) - last_spaces ns (on b)) 0) off ∙ omega arith
 
-        rest_long : length rest ≡ length row - b
-        rest_long = length-between row b (length row) (omega arith)
+        module _ (all : list_all (is_inline_trivia_at ns) (on b) ≡ true) where
+          abbrev onward : List ℕ
+          onward = slice_range row b (length row)
 
-        no_line : (j : ℕ) → 1 ≤ j → j ≤ length inner + 1 → is_newline_at ns (slice_index row j) ≡ false
-        no_line j from to =
-            elim (cases_lt (j - 1) (length inner)) [
-              | inl h ↦ (
-                  let in_inner : slice_index row j ≡ slice_index inner (j - 1) = ap (slice_index row) (let z : j ≡ suc (j - 1) = omega (arith, from) in z) ∙ at (j - 1) h in
-                  ap (is_newline_at ns) in_inner ∙ no_line_at ns inner (j - 1) h quiet)
-              | inr h ↦ (
-                  let last : j ≡ length inner + 1 = omega (arith, from, to, h) in
-                  ap (is_newline_at ns) (ap (slice_index row) last ∙ at_last) ∙ ap is_newline closes)
-            ]
+          onward_long : length onward ≡ length row - b
+          onward_long = length-between row b (length row) (omega arith)
 
-        whole_line : length (on b) ≡ length rest
-        whole_line =
-            elim (cases_lt (prefix_len (is_no_newline_at ns) rest) (length rest)) [
-              | inr h ↦ omega (arith, h, on_is b, prefix_len-le-length (is_no_newline_at ns) rest)
-              | inl h ↦ (
-                  let k : ℕ = prefix_len (is_no_newline_at ns) rest in
-                  let stops : is_no_newline_at ns (slice_index rest k) ≡ false = prefix_len_stops (is_no_newline_at ns) rest 0 h in
-                  let same : slice_index rest k ≡ slice_index row (b + k) = get_or-between row b (length row) k 0 (omega (arith, h, rest_long)) in
-                  let off : is_newline_at ns (slice_index rest k) ≡ false = ap (is_newline_at ns) same ∙ no_line (b + k) (omega (arith, low)) (omega (arith, h, rest_long, long)) in
-                  absurd (false≢true (sym stops ∙ ap not off)))
-            ]
+          ends_before : b + length (on b) < length row
+          ends_before =
+              elim (cases_lt (b + length (on b)) (length row)) [
+                | inl h ↦ h
+                | inr h ↦ (
+                    let k : ℕ = length row - 1 - b in
+                    let there : k < length (on b) = omega (arith, h, long, high) in
+                    let is_y : slice_index (on b) k ≡ y = on_at b k there ∙ ap (slice_index row) (let z : b + k ≡ length inner + 1 = omega (arith, long, high) in z) ∙ at_last in
+                    absurd (false≢true (sym (list_all_at (is_inline_trivia_at ns) (on b) k 0 there (ap (is_inline_trivia_at ns) is_y ∙ ap is_inline_trivia closes)) ∙ all)))
+              ]
 
-        past_none : past_comments ns row b ≡ b
-        past_none = by (cases_Bool (list_all (is_inline_trivia_at ns) (on b)))
-          where
-            by : (list_all (is_inline_trivia_at ns) (on b) ≡ true) ⊎ (list_all (is_inline_trivia_at ns) (on b) ≡ false) → past_comments ns row b ≡ b
-            by (inr off) = ap (λ v. b + cond v (length (on b) - last_spaces ns (on b)) 0) off ∙ omega arith
-            by (inl so) =
-                let k : ℕ = length rest - 1 in
-                let h : k < length (on b) = omega (arith, whole_line, rest_long, long, high) in
-                let is_y : slice_index (on b) k ≡ y = on_at b k h ∙ ap (slice_index row) (let z : b + k ≡ length inner + 1 = omega (arith, rest_long, long, high) in z) ∙ at_last in
-                absurd (false≢true (sym (list_all_at (is_inline_trivia_at ns) (on b) k 0 h (ap (is_inline_trivia_at ns) is_y ∙ ap is_inline_trivia closes)) ∙ so))
+          line_there : is_newline_at ns (slice_index row (b + length (on b))) ≡ true
+          line_there =
+              let k : ℕ = prefix_len (is_no_newline_at ns) onward in
+              let h : k < length onward = omega (arith, ends_before, onward_long, on_is b) in
+              let stops : is_no_newline_at ns (slice_index onward k) ≡ false = prefix_len_stops (is_no_newline_at ns) onward 0 h in
+              let same : slice_index onward k ≡ slice_index row (b + length (on b)) =
+              get_or-between row b (length row) k 0 (omega (arith, h, onward_long)) ∙ ap (slice_index row) (let z : b + k ≡ b + length (on b) = omega (arith, on_is b) in z) in
+              elim (cases_Bool (is_newline_at ns (slice_index onward k))) [
+                | inl so ↦ sym (ap (is_newline_at ns) same) ∙ so
+                | inr off ↦ absurd (false≢true (sym stops ∙ ap not off))
+              ]
+
+          line_inside : b + length (on b) ≤ length inner
+          line_inside =
+              elim (cases_lt (length inner) (b + length (on b))) [
+                | inr h ↦ h
+                | inl h ↦ (
+                    let last : b + length (on b) ≡ length inner + 1 = omega (arith, h, ends_before, long) in
+                    absurd (false≢true (sym (ap (is_newline_at ns) (ap (slice_index row) last ∙ at_last) ∙ ap is_newline closes) ∙ line_there)))
+              ]
+
+          many_past : past_comments ns row b ≡ b + (length (on b) - last_spaces ns (on b))
+          many_past = ap (λ v. b + cond v (length (on b) - last_spaces ns (on b)) 0) all
+
+          spaces_are : last_spaces ns (on b) ≡ prefix_len (is_whitespace_at ns) (reverse (on b))
+          spaces_are = length-prefix_len (is_whitespace_at ns) (reverse (on b))
+
+          few_spaces : last_spaces ns (on b) ≤ length (on b)
+          few_spaces = omega (arith, spaces_are, prefix_len-le-length (is_whitespace_at ns) (reverse (on b)), length-reverse (on b))
+
+          abbrev spaces_on : List ℕ
+          spaces_on = slice_range inner (past_comments ns row b - 1) (b + length (on b) - 1)
+
+          spaces_long : length spaces_on ≡ last_spaces ns (on b)
+          spaces_long =
+              let l : length spaces_on ≡ b + length (on b) - 1 - (past_comments ns row b - 1) = length-between inner (past_comments ns row b - 1) (b + length (on b) - 1) (omega (arith, line_inside)) in
+              omega (arith, l, many_past, few_spaces, low)
+
+          white : (i : ℕ) → i < length spaces_on → is_whitespace_at ns (slice_index spaces_on i) ≡ true
+          white i h =
+              let p : ℕ = past_comments ns row b in
+              let q : ℕ = p + i - b in
+              let back : ℕ = length (on b) - 1 - q in
+              let q_there : q < length (on b) = omega (arith, h, spaces_long, many_past, few_spaces) in
+              let in_inner : slice_index spaces_on i ≡ slice_index inner (p - 1 + i) = get_or-between inner (p - 1) (b + length (on b) - 1) i 0 (omega (arith, h, spaces_long, many_past, few_spaces, low)) in
+              let in_row : slice_index inner (p - 1 + i) ≡ slice_index row (p + i) =
+              sym (at (p - 1 + i) (omega (arith, h, spaces_long, many_past, few_spaces, low, line_inside))) ∙ ap (slice_index row) (let z : suc (p - 1 + i) ≡ p + i = omega (arith, many_past, low) in z) in
+              let on_line : slice_index (on b) q ≡ slice_index row (p + i) = on_at b q q_there ∙ ap (slice_index row) (let z : b + q ≡ p + i = omega (arith, many_past) in z) in
+              let again : length (on b) - 1 - back ≡ q = omega (arith, q_there) in
+              let turned : slice_index (reverse (on b)) back ≡ slice_index (on b) q = get_or-reverse (on b) back 0 (omega (arith, q_there)) ∙ ap (slice_index (on b)) again in
+              let passes : is_whitespace_at ns (slice_index (reverse (on b)) back) ≡ true =
+              prefix_len_passes (is_whitespace_at ns) (reverse (on b)) back 0 (omega (arith, h, spaces_long, spaces_are, many_past, few_spaces)) in
+              ap (is_whitespace_at ns) (in_inner ∙ in_row ∙ sym on_line ∙ sym turned) ∙ passes
+
+          line_ends_there : EndsLine (drop (past_comments ns row b - 1) inner)
+          line_ends_there =
+              let j : ℕ = b + length (on b) - 1 in
+              let h : j < length inner = omega (arith, line_inside, low) in
+              let node : slice_index inner j ≡ slice_index row (b + length (on b)) = sym (at j h) ∙ ap (slice_index row) (let z : suc j ≡ b + length (on b) = omega (arith, low) in z) in record {
+                spaces = spaces_on;
+                end_node = slice_index inner j;
+                rest = drop (suc j) inner;
+                is = drop_split inner (past_comments ns row b - 1) j (omega (arith, many_past, low)) ∙ ap (λ l. spaces_on ++ l) (drop-cons inner j 0 h);
+                blanks = All-from_get_or (λ m. is_blank_at ns m ≡ true) spaces_on 0 (λ i g. ap (λ v. v || is_newline_at ns (slice_index spaces_on i)) (white i g));
+                beside = All-from_get_or (λ m. is_inline_trivia_at ns m ≡ true) spaces_on 0 (λ i g. white_beside (content_at ns (slice_index spaces_on i)) (white i g));
+                line = ap (is_newline_at ns) node ∙ line_there;
+              }
+
+          -- so there is the end of a line
+          not_quiet : has_newline (standing ns inner) ≡ false → ⊥
+          not_quiet quiet =
+              let j : ℕ = b + length (on b) - 1 in
+              let h : j < length inner = omega (arith, line_inside, low) in
+              let node : slice_index inner j ≡ slice_index row (b + length (on b)) = sym (at j h) ∙ ap (slice_index row) (let z : suc j ≡ b + length (on b) = omega (arith, low) in z) in
+              false≢true (sym (no_line_at ns inner j h quiet) ∙ ap (is_newline_at ns) node ∙ line_there)
 
       from_place : (b : ℕ) → b ≤ past_comments ns row b
       from_place b = omega arith
@@ -531,15 +602,15 @@ module _ (o : Options) (kind : RowKind) (ns : List Node) (tree : IsTree ns) (x y
           by (inl h) = let parts = and_parts several commas h in last_goes h parts.1 (before_end false ∙ ap parting parts.0) refl (g refl)
           by (inr h) = none_go h (g refl)
 
-      -- on one line nothing stands between
-      at_once : Lines several → (parting several ≡ Line) ⊎ (end ≡ b)
+      -- nothing stands between, or the element is on a line of its own behind comments
+      at_once : Lines several → (end ≡ b) ⊎ ((parting several ≡ Line) × EndsLine (drop (end - 1) inner))
       at_once lines =
-          elim (cases_Bool several) [
-            | inl so ↦ inl (ap parting so)
-            | inr off ↦
+          elim (cases_Bool (list_all (is_inline_trivia_at ns) (on b))) [
+            | inr off ↦ inl (past_off b (omega (arith, b_low)) b_high off)
+            | inl so ↦
                 elim (cases_Bool (has_newline (standing ns inner))) [
-                  | inl some ↦ absurd (false≢true (sym off ∙ lines some))
-                  | inr quiet ↦ inr (past_none b (omega (arith, b_low)) b_high quiet)
+                  | inr quiet ↦ absurd (not_quiet b (omega (arith, b_low)) b_high so quiet)
+                  | inl some ↦ inr (ap parting (lines some), line_ends_there b (omega (arith, b_low)) b_high so)
                 ]
           ]
 
@@ -554,15 +625,19 @@ module _ (o : Options) (kind : RowKind) (ns : List Node) (tree : IsTree ns) (x y
           here : take ((at_end follow).place - 1) inner ≡ take (end - 1) inner
           here = ap (λ k. take (k - 1) inner) (place_end follow)
 
+          ends_here : EndsLine (drop (end - 1) inner) → EndsLine (drop ((at_end follow).place - 1) inner)
+          ends_here w = subst (λ k. EndsLine (drop (k - 1) inner)) (sym (place_end follow)) w
+
           by : (has_comma ns row e ≡ true) ⊎ (has_comma ns row e ≡ false) → CommaAt several (at_end follow)
           by (inl h) =
               none_due (comma_end follow ∙ ap (λ v. cond v None (Some e)) h)
               (subst (λ l. IsTrue (takes_element (last_behind nothing_yet (standing ns l)))) (sym here) (subst (λ l. IsTrue (takes_element l)) (sym (comma_last h)) refl))
               (λ lines.
               elim (at_once lines) [
-                | inl on_line ↦ a_line_end (before_end follow ∙ on_line)
-                | inr once ↦
+                | inl once ↦
                     the_comma (take (b - 2) inner) (slice_index row (b - 1)) (here ∙ front_through b b_low b_high ∙ ap (λ l. take (b - 2) inner ++ slice_index row (b - 1) ∷ l) (none_between once)) (comma_stands h)
+                | inr w ↦
+                    the_comments (before_end follow ∙ w.0) (take (b - 2) inner) (slice_index row (b - 1)) (slice_range inner (b - 1) (end - 1)) (here ∙ front_through b b_low b_high) (comma_stands h) (mid_beside b b_low b_high) (ends_here w.1)
               ])
           by (inr h) =
               let front : List ℕ = take (b - 2) inner in
@@ -570,7 +645,7 @@ module _ (o : Options) (kind : RowKind) (ns : List Node) (tree : IsTree ns) (x y
               let counted : e ≡ length front + 2 = omega (arith, length-take (b - 2) inner, b_low, b_high, b_without h) in
               one_due front n mid (here ∙ front_through b b_low b_high ∙ ap (λ m. front ++ m ∷ mid) (n_before h))
               (comma_end follow ∙ ap (λ v. cond v None (Some e)) h ∙ ap Some counted) element (mid_beside b b_low b_high)
-              (λ lines. elim (at_once lines) [ inl on_line ↦ inl (before_end follow ∙ on_line) | inr once ↦ inr (none_between once) ])
+              (λ lines. elim (at_once lines) [ inl once ↦ inl (none_between once) | inr w ↦ inr (before_end follow ∙ w.0, ends_here w.1) ])
 
       none_fits : (follow : Bool) → IsTrue (not (leaving.comma_comes (standing ns (behind (at_end follow)))))
       none_fits follow = subst (λ k. IsTrue (not (leaving.comma_comes (standing ns (drop (k - 1) inner))))) (sym (place_end follow)) (by (cases_Bool (has_comma ns row e)))

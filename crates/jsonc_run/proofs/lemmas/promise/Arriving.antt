@@ -43,8 +43,11 @@ use Rattle.jsonc_sound.specs.Documents.{all_marks, document_of}
 use Rattle.jsonc_run.proofs.lemmas.promise.Values.{at_the_place, node_leaves}
 use Rattle.jsonc_run.proofs.lemmas.promise.Insides.{as_many, comma_comes, gap_trivia, goes_on, inside_so, texts_followed, texts_past}
 use Rattle.jsonc_run.proofs.lemmas.promise.Joined.{EntriesOf, Good, blanks_are_trivia, none_behind, bracket_follows, close_text, gap_blanks, good_as, good_first, good_second, good_tree, led_so, lines_behind, lines_past, lines_trimmed, no_comma_closes, one_token, onward, open_text, past_some, past_stretch, with_row}
-use Rattle.jsonc_sound.proofs.RowParts.{leaves_followed}
-use Rattle.jsonc_tree.proofs.Rows.{followed_by-assoc}
+use Rattle.jsonc_sound.proofs.RowParts.{beside_trivia, leaves_followed}
+use Rattle.jsonc_sound.proofs.RootRows.{joined_trivia, leaves_then_joined}
+use Rattle.jsonc_sound.specs.MarkChanges.{AreBlanks}
+use Rattle.jsonc_tree.specs.declared.node.CstNewlineKind.{CstNewlineKind}
+use Rattle.jsonc_tree.proofs.Rows.{followed_by-assoc, followed_by-none}
 use Rattle.jsonc_run.proofs.lemmas.promise.Values.{ValueHere}
 use Rattle.jsonc_run.proofs.lemmas.promise.CommentTexts.{blanks_text}
 use Rattle.jsonc_run.proofs.lemmas.promise.LooseRows.{AreLeaves, Ended, all_trivia, behind_one, Reads, behind_entry, entry_read, reads_on, closing_gap, ended, kind_of_row, none_comes, row_reads, trivia_leaves}
@@ -210,7 +213,7 @@ module _ (o : Options) (kind : RowKind) (row middle kept new : OrderedTree) {pat
   row_regroup : (l g a b h : List Content) → l ++ (g ++ (a ++ (b ++ h))) ≡ l ++ (g ++ ((a ++ b) ++ h))
   row_regroup l g a b h = simp (append_assoc) refl
 
-  module _ (spreads : Spreading) (top : Top) (element : IsElement top.content) (front back led behind : OrderedTree) (gap : List Content) (c : CommaInserted front led) (taken : IsTrue (coming.takes_element (rows.last_behind rows.nothing_yet led))) (no_comma : IsTrue (not (leaving.comma_comes back))) {must : Bool} (g : Gap must gap) (must_is : must ≡ has_newline (followed_by front back)) (on : GoesOn o gap back behind) (stands : coming.Follows gap led (element_count (followed_by front back))) (ends : coming.EndsRow behind (element_count (followed_by front back)))
+  module _ (spreads : Spreading) (top : Top) (element : IsElement top.content) (front back led behind : OrderedTree) (gap : List Content) (c : CommaInserted front led) (taken : IsTrue (coming.takes_element (rows.last_behind rows.nothing_yet led))) (no_comma : IsTrue (not (leaving.comma_comes back))) {must : Bool} (g : Gap must gap) (must_is : must ≡ has_newline (followed_by front back)) (on : GoesOn o gap back behind) (stands : coming.Follows gap led back (element_count (followed_by front back))) (ends : coming.EndsRow behind (element_count (followed_by front back)))
       (kept_is : followed_by front back ≡ kept) (new_is : followed_by led (leaves_then gap (more top.content top.below behind)) ≡ new) (w x : Option Plain) where
     abbrev own : List Content
     own = leaves_of top
@@ -258,12 +261,9 @@ module _ (o : Options) (kind : RowKind) (row middle kept new : OrderedTree) {pat
     whole_row : followed_by new bracket ≡ followed_by led (leaves_then gap (more top.content top.below (followed_by behind bracket)))
     whole_row = ap (λ z. followed_by z bracket) (sym new_is) ∙ followed_by-assoc led (leaves_then gap tail) bracket ∙ ap (followed_by led) (leaves_followed gap tail bracket)
 
-    some_tail : leaves_then gap (more top.content top.below (followed_by behind bracket)) ≡ none → ⊥
-    some_tail = some gap
-      where
-        some : (ls : List Content) → leaves_then ls (more top.content top.below (followed_by behind bracket)) ≡ none → ⊥
-        some [] e = cc
-        some (l ∷ ls) e = cc
+    some_row : (ls : List Content) → leaves_then ls (more top.content top.below (followed_by behind bracket)) ≡ none → ⊥
+    some_row [] e = cc
+    some_row (l ∷ ls) e = cc
 
     -- what is behind it, with the last bracket
     abbrev BehindIt : Type 0
@@ -275,7 +275,7 @@ module _ (o : Options) (kind : RowKind) (row middle kept new : OrderedTree) {pat
         let next : OrderedTree = more top.content top.below (followed_by behind bracket) in
         let r0 = subst (Reads o k B) whole_row all.0 in
         let l0 = subst (LinesEndLoosely true false) whole_row all.1 in
-        let r1 = past_stretch o k B led (leaves_then gap next) some_tail r0 in
+        let r1 = past_stretch o k B led (leaves_then gap next) (some_row gap) r0 in
         let r2 = past_some o k B gap next (λ e. cc) r1 in
         let r3 = behind_entry o k B top.content top.below (followed_by behind bracket) element r2 in
         let l3 = (lines_past gap next (lines_behind led (leaves_then gap next) l0)).2 in
@@ -385,42 +385,100 @@ module _ (o : Options) (kind : RowKind) (row middle kept new : OrderedTree) {pat
               started g s2 (good_second o (token 0x2C ∷ []) (leaves s2) h1) a (λ e2. (both_lack s1 (token_then 0x2C s2) (ap has_newline (sym q) ∙ no_line_led e2)).1) (good_first o gap (own ++ leaves behind) g1).utf8,
             )
 
-    -- or nothing stands between
+    -- and from the last comma of the front, past comments beside it
+    gap_from : (before : OrderedTree) (beside : List Content) → AreTrivia beside → led ≡ followed_by before (leaves_then beside none) → Good o beside → (rest : List ℕ) → rest ≡ text_of_leaves (leaves behind) ++ (places.closing k ∷ B)
+        → text_gaps.Gap o (text_of_leaves beside ++ (text_of_leaves gap ++ (node_chars top ++ rest))) (node_chars top ++ rest)
+    gap_from before beside are is good rest e =
+        let all = row_reads o B kind here_new in
+        let after : OrderedTree = leaves_then gap next_row in
+        let joined : leaves_then (beside ++ gap) next_row ≡ leaves_then beside after = leaves_then_joined beside gap next_row in
+        let row_is : followed_by new bracket ≡ followed_by before (leaves_then (beside ++ gap) next_row) =
+        whole_row ∙ ap (λ z. followed_by z after) is ∙ followed_by-assoc before (leaves_then beside none) after ∙ ap (followed_by before) (leaves_followed beside none after ∙ sym joined) in
+        let r0 = subst (Reads o k B) row_is all.0 in
+        let l0 = subst (LinesEndLoosely true false) row_is all.1 in
+        let r1 = past_stretch o k B before (leaves_then (beside ++ gap) next_row) (some_row (beside ++ gap)) r0 in
+        let l1 = lines_behind before (leaves_then (beside ++ gap) next_row) l0 in
+        let f = trivia_leaves o k B gap (gap_trivia g) top.content top.below (followed_by behind bracket) (beside ++ gap) (joined_trivia beside gap are (gap_trivia g)) r1 in
+        let leaves_are : leaves (leaves_then beside none) ≡ beside = none_behind beside are in
+        let text : printed_text (leaves_then (beside ++ gap) next_row) ++ B ≡ text_of_leaves beside ++ (text_of_leaves gap ++ (node_chars top ++ rest)) =
+        ap (λ z. printed_text z ++ B) (joined ∙ sym (leaves_followed beside none after)) ∙ next_text rest e (leaves_then beside none) (good_as o (sym leaves_are) good)
+        ∙ ap (λ l. text_of_leaves l ++ (text_of_leaves gap ++ (node_chars top ++ rest))) leaves_are in
+        subst (λ y. text_gaps.Gap o y (node_chars top ++ rest)) text
+        (subst (text_gaps.Gap o (printed_text (leaves_then (beside ++ gap) next_row) ++ B)) (first_text rest e) (trivia_gap o B true false (λ w. cc) (element_stops top.content top.below (followed_by behind bracket) element) f l1).0)
+
     gap_here : (rest : List ℕ) → rest ≡ text_of_leaves (leaves behind) ++ (places.closing k ∷ B) → text_gaps.Gap o (text_of_leaves gap ++ (node_chars top ++ rest)) (node_chars top ++ rest)
     gap_here rest e =
-        let all = row_reads o B kind here_new in
-        let r0 = subst (Reads o k B) whole_row all.0 in
-        let l0 = subst (LinesEndLoosely true false) whole_row all.1 in
-        let r1 = past_stretch o k B led (leaves_then gap next_row) some_tail r0 in
-        let l1 = lines_behind led (leaves_then gap next_row) l0 in
-        let f = trivia_leaves o k B gap (gap_trivia g) top.content top.below (followed_by behind bracket) gap (gap_trivia g) r1 in
-        let good : Good o [] = good_first o [] (leaves led) g_led in
-        let text = next_text rest e none good ∙ ap (λ l. l ++ (text_of_leaves gap ++ (node_chars top ++ rest))) chars-nil in
-        subst (λ y. text_gaps.Gap o y (node_chars top ++ rest)) text
-        (subst (text_gaps.Gap o (printed_text (leaves_then gap next_row) ++ B)) (first_text rest e) (trivia_gap o B true false (λ w. cc) (element_stops top.content top.below (followed_by behind bracket) element) f l1).0)
+        subst (λ y. text_gaps.Gap o (y ++ (text_of_leaves gap ++ (node_chars top ++ rest))) (node_chars top ++ rest)) chars-nil
+        (gap_from led [] tt (sym (followed_by-none led)) (good_first o [] (leaves led) g_led) rest e)
+
+    -- the line that the row goes on with ends
+    g_back : Good o (leaves back)
+    g_back =
+        let n = onward o comma_mark on in
+        good_second o n.gap (leaves back) (good_second o n.leaf (n.gap ++ leaves back) (good_as o n.parts g3))
+
+    line_ends : (rest : OrderedTree) (spaces : List Content) (kind_of_end : CstNewlineKind) → AreInlineTrivia spaces → AreBlanks spaces → back ≡ leaves_then spaces (more (newline kind_of_end) none rest) → entering.EndsLine back_text
+    line_ends rest spaces n inline blank is =
+        let line : List Content = newline n ∷ [] in
+        let last : List ℕ = places.closing k ∷ B in
+        let parts2 : leaves back ≡ spaces ++ (line ++ leaves rest) = ap leaves is ∙ front_leaves spaces (more (newline n) none rest) (blanks_are_trivia spaces blank) in
+        let h = good_as o parts2 g_back in
+        let spaces_good = good_first o spaces (line ++ leaves rest) h in
+        let h1 = good_second o spaces (line ++ leaves rest) h in
+        let text : text_of_leaves (leaves back) ≡ text_of_leaves spaces ++ (text_of_leaves line ++ text_of_leaves (leaves rest)) =
+        ap text_of_leaves parts2 ∙ text_joined spaces (line ++ leaves rest) spaces_good.utf8 ∙ ap (λ l. text_of_leaves spaces ++ l) (text_joined line (leaves rest) (good_first o line (leaves rest) h1).utf8) in (
+          text_of_leaves spaces,
+          text_of_leaves line ++ (text_of_leaves (leaves rest) ++ last),
+          ap (λ l. l ++ last) text ∙ append_assoc (text_of_leaves spaces) (text_of_leaves line ++ text_of_leaves (leaves rest)) last ∙ ap (λ l. text_of_leaves spaces ++ l) (append_assoc (text_of_leaves line) (text_of_leaves (leaves rest)) last),
+          blanks_text o spaces blank spaces_good.pieces,
+          beside_text o spaces inline spaces_good.pieces,
+          (text_of_leaves line, text_of_leaves (leaves rest) ++ last, refl, line_end_text n),
+        )
 
     abbrev Alone : Type 0
     Alone = texts_of front ++ texts_of back ≡ []
 
     abbrev Ready : List ℕ → List ℕ → Type 0
     Ready lead rest = (y z : List ℕ) × (c : ℕ) × (lead ≡ y ++ c ∷ z) × IsTrue (c == 0x2C || c == places.opening k) × text_gaps.Gap o (z ++ (text_of_leaves gap ++ (node_chars top ++ rest))) (node_chars top ++ rest)
-        × ((z ≡ []) ⊎ (StartsLine ⊎ (Alone × documents.InLine z)))
+        × ((z ≡ []) ⊎ ((IsTrue (c == 0x2C) × documents.InLine z × entering.StartsLine (text_of_leaves gap) × entering.EndsLine back_text) ⊎ (Alone × (documents.InLine z ⊎ StartsLine))))
+
+    -- the text through a comma, and beside it
+    comma_text : (first : OrderedTree) (beside : List Content) → AreTrivia beside → led ≡ followed_by first (token_then 0x2C (leaves_then beside none))
+        → Good o beside × (F ++ (places.opening k ∷ text_of_leaves (leaves led)) ≡ (F ++ (places.opening k ∷ text_of_leaves (leaves first))) ++ 0x2C ∷ text_of_leaves beside)
+    comma_text first beside are q =
+        let parts2 : leaves led ≡ leaves first ++ (token 0x2C ∷ beside) = ap leaves q ∙ leaves-followed_by first (token_then 0x2C (leaves_then beside none)) ∙ ap (λ l. leaves first ++ (token 0x2C ∷ l)) (none_behind beside are) in
+        let h0 = good_as o parts2 g_led in
+        let h1 = good_second o (leaves first) (token 0x2C ∷ beside) h0 in
+        let text : text_of_leaves (leaves led) ≡ text_of_leaves (leaves first) ++ (0x2C ∷ text_of_leaves beside) =
+        ap text_of_leaves parts2 ∙ text_joined (leaves first) (token 0x2C ∷ beside) (good_first o (leaves first) (token 0x2C ∷ beside) h0).utf8
+        ∙ ap (λ l. text_of_leaves (leaves first) ++ l) (text_joined (token 0x2C ∷ []) beside (good_first o (token 0x2C ∷ []) beside h1).utf8 ∙ ap (λ l. l ++ text_of_leaves beside) (one_token comma_mark)) in
+        (good_second o (token 0x2C ∷ []) beside h1, ap (λ l. F ++ (places.opening k ∷ l)) text ∙ sym (append_assoc F (places.opening k ∷ text_of_leaves (leaves first)) (0x2C ∷ text_of_leaves beside)))
 
     ready : (rest : List ℕ) → rest ≡ text_of_leaves (leaves behind) ++ (places.closing k ∷ B) → Ready (F ++ (places.opening k ∷ text_of_leaves (leaves led))) rest
     ready rest e = by stands
       where
-        by : coming.Follows gap led (element_count (followed_by front back)) → Ready (F ++ (places.opening k ∷ text_of_leaves (leaves led))) rest
-        by (coming.behind_line_end b) = let y = reaches rest e in (y.0, y.1, y.2, y.3, y.4, y.5, inr (inl (starts_line b refl (good_first o gap (own ++ leaves behind) g1).utf8)))
+        by : coming.Follows gap led back (element_count (followed_by front back)) → Ready (F ++ (places.opening k ∷ text_of_leaves (leaves led))) rest
         by (coming.behind_bracket q) = (F, [], places.opening k, ap (λ z. F ++ (places.opening k ∷ text_of_leaves (leaves z))) q ∙ ap (λ l. F ++ (places.opening k ∷ l)) chars-nil, opening_so kind, gap_here rest e, inl refl)
         by (coming.behind_comma first q) =
-            let parts2 : leaves led ≡ leaves first ++ (token 0x2C ∷ []) = ap leaves q ∙ leaves-followed_by first (token_then 0x2C none) in
-            let text : text_of_leaves (leaves led) ≡ text_of_leaves (leaves first) ++ (0x2C ∷ []) =
-            ap text_of_leaves parts2 ∙ text_joined (leaves first) (token 0x2C ∷ []) (good_first o (leaves first) (token 0x2C ∷ []) (good_as o parts2 g_led)).utf8 ∙ ap (λ l. text_of_leaves (leaves first) ++ l) (one_token comma_mark) in
-            (F ++ (places.opening k ∷ text_of_leaves (leaves first)), [], 0x2C, ap (λ l. F ++ (places.opening k ∷ l)) text ∙ sym (append_assoc F (places.opening k ∷ text_of_leaves (leaves first)) (0x2C ∷ [])), refl, gap_here rest e, inl refl)
+            let t = comma_text first [] tt q in
+            (F ++ (places.opening k ∷ text_of_leaves (leaves first)), [], 0x2C, t.1 ∙ ap (λ l. (F ++ (places.opening k ∷ text_of_leaves (leaves first))) ++ 0x2C ∷ l) chars-nil, refl, gap_here rest e, inl refl)
+        by (coming.behind_comments b first after beside spaces n inline in_spaces blank q is) =
+            let are = beside_trivia beside inline in
+            let t = comma_text first beside are q in
+            let through : OrderedTree = followed_by first (token_then 0x2C none) in
+            let led_is : led ≡ followed_by through (leaves_then beside none) = q ∙ sym (followed_by-assoc first (token_then 0x2C none) (leaves_then beside none)) in (
+              F ++ (places.opening k ∷ text_of_leaves (leaves first)),
+              text_of_leaves beside,
+              0x2C,
+              t.1,
+              refl,
+              gap_from through beside are led_is t.0 rest e,
+              inr (inl (refl, beside_text o beside inline t.0.pieces, starts_line b refl (good_first o gap (own ++ leaves behind) g1).utf8, line_ends after spaces n in_spaces blank is)),
+            )
         by (coming.no_others n) =
             let y = reaches rest e in
             let none_there : Alone = sym (texts_followed front back) ∙ no_length (texts_of (followed_by front back)) (sym (as_many (followed_by front back)) ∙ n) in
-            (y.0, y.1, y.2, y.3, y.4, y.5, elim y.6 [ inl i ↦ inr (inr (none_there, i)) | inr l ↦ inr (inl l) ])
+            (y.0, y.1, y.2, y.3, y.4, y.5, inr (inr (none_there, y.6)))
 
     -- blanks alone stand behind the only entry
     ends_alone : (rest : List ℕ) → rest ≡ text_of_leaves (leaves behind) ++ (places.closing k ∷ B) → Alone → (z y : List ℕ) × documents.AreBlanks z × (rest ≡ z ++ places.closing k ∷ y)

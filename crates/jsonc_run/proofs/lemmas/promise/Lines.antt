@@ -145,7 +145,7 @@ spaces_leave o (space_leaves {c = c} {x = x} {y = y} q h) p u =
 lines_so : (o : Options) {t u : OrderedTree} {path : List ℕ} → SoundTree o u → (kind : RowKind) {row new : OrderedTree} → SpreadsOut row new → (has_newline row ≡ false → IsTrue (is_on_lines new)) → DocumentChanged (bracketed kind row) (bracketed kind new) path t u
     → (w : Option Plain) → (printed_text u ≡ printed_text t) ⊎ IsOnLines path (document_of o u w)
 lines_so o r kind (reflows.stays h) f d w = inl (ap printed_text (sym (document_same refl d)))
-lines_so o r kind (reflows.reflows e h k) f d w = inr (parts_on_lines o kind r d (f e) w)
+lines_so o r kind {row} {new} (reflows.reflows e h k) f d w = inr (parts_on_lines o kind row new r d (f e) w)
 
 pub multiline_made : (o : Options) (t u : OrderedTree) (w x : Option Plain) (path : List ℕ) → SoundTree o t → SoundTree o u → IsChanged w (ensure_multiline path) x → tree_marks.marks u ≡ tree_marks.marks t → SpreadAt path t u
     → Makes (document_of o t w) (texts.ensure_multiline path) (document_of o u x)

@@ -35,8 +35,7 @@ use Rattle.jsonc_run.proofs.lemmas.promise.Leaves.{back_of, front_of, document_p
 use Rattle.jsonc_run.proofs.lemmas.promise.LinesInside.{opened}
 use Rattle.jsonc_run.proofs.lemmas.promise.LooseRows.{LooseTo, Reads, is_a_comma, is_a_leaf, is_entry, kind_of_row, leaf_as, loose_text, past, row_reads, there}
 use Rattle.jsonc_run.proofs.lemmas.promise.Reversed.{flip}
-use Rattle.jsonc_run.proofs.lemmas.promise.SortedParts.{many_joined}
-use Rattle.jsonc_run.proofs.lemmas.promise.Trivia.{line_end_text}
+use Rattle.jsonc_run.proofs.lemmas.promise.Trivia.{line_end_text, many_joined}
 use Rattle.jsonc_run.proofs.lemmas.promise.Values.{at_the_place}
 
 trivia_no_comma : (o : Options) (c : Content) → IsTrivia o c → is_comma c ≡ false
@@ -216,9 +215,9 @@ bracket_text rows.of_values z = closing_text close_bracket_mark z
 bracket_text rows.of_properties z = closing_text close_brace_mark z
 
 -- the container that has been put on several lines
-pub parts_on_lines : (o : Options) (k : RowKind) {row new : OrderedTree} {path : List ℕ} {t u : OrderedTree} → SoundTree o u → (d : DocumentChanged (bracketed k row) (bracketed k new) path t u) → IsTrue (is_on_lines new) → (w : Option Plain)
+pub parts_on_lines : (o : Options) (k : RowKind) (row new : OrderedTree) {path : List ℕ} {t u : OrderedTree} → SoundTree o u → (d : DocumentChanged (bracketed k row) (bracketed k new) path t u) → IsTrue (is_on_lines new) → (w : Option Plain)
     → IsOnLines path (document_of o u w)
-parts_on_lines o k {new = new} {path} {u = u} r d h w =
+parts_on_lines o k was new {path} {u = u} r d h w =
     let row : OrderedTree = followed_by new (token_then (rows.closing k) none) in
     let kind : Kind = kind_of_row k in
     let place = at_the_place o r (flip d) in

@@ -28,7 +28,7 @@ use Rattle.jsonc_run.specs.texts.Stretches as documents
 use Rattle.jsonc_run.specs.texts.Stretches.{IsLineEnd, Trivia, InLine, AreSpaces}
 use Rattle.jsonc_run.specs.promise.PlaceLaws.{node_chars, text_of_leaves}
 use Rattle.jsonc_run.proofs.lemmas.promise.Joined.{one_token}
-use Rattle.jsonc_run.proofs.lemmas.promise.Trivia.{beside_text, line_end_text, trivia_text}
+use Rattle.jsonc_run.proofs.lemmas.promise.Trivia.{beside_text, line_end_text, many_joined, trivia_text}
 
 -- any trivia
 abbrev pub AreTrivia : List ℕ → Type 0
@@ -39,10 +39,6 @@ pub trivia_joined : {p : ℕ → Bool} {x y : List ℕ} → Trivia p x → Trivi
 trivia_joined documents.nothing k = k
 trivia_joined (documents.blank b h) k = documents.blank b (trivia_joined h k)
 trivia_joined {p} {y = y} (documents.comment {c = c} {s = s} b h) k = subst (Trivia p) (sym (append_assoc c s y)) (documents.comment b (trivia_joined h k))
-
-pub many_joined : {p : ℕ → Bool} {x r y : List ℕ} → Many p x r → r ≡ [] → Many p y [] → Many p (x ++ y) []
-many_joined {p} {y = y} many.stop e k = subst (λ r. Many p (r ++ y) []) (sym e) k
-many_joined (many.step b h) e k = many.step b (many_joined h e k)
 
 -- what holds of the members of a list by their places
 each_from : (P : ℕ → Type 0) (k : ℕ) (xs : List ℕ) → ((i : ℕ) → k ≤ i → i < length xs → P (slice_index xs i)) → Each P (drop k xs)

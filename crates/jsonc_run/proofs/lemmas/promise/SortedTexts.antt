@@ -32,7 +32,8 @@ use Rattle.jsonc_run.specs.texts.Sorting.{Arrives, LinesEnd, Placed, Punctuated}
 use Rattle.jsonc_run.specs.promise.PlaceLaws.{node_chars}
 use Rattle.jsonc_run.proofs.lemmas.promise.CommentTexts.{blanks_text}
 use Rattle.jsonc_run.proofs.lemmas.promise.SortedEntries.{held_of}
-use Rattle.jsonc_run.proofs.lemmas.promise.SortedParts.{comma_one, comment_one, each_prefix, line_end_one, many_joined, one_text, said, said_joined, said_nodes, say, say_cut, slot_text, spaces_said}
+use Rattle.jsonc_run.proofs.lemmas.promise.SortedParts.{comma_one, comment_one, each_prefix, line_end_one, one_text, said, said_joined, said_nodes, say, say_cut, slot_text, spaces_said}
+use Rattle.jsonc_run.proofs.lemmas.promise.Trivia.{many_joined}
 
 module _ (o : Options) (kind : RowKind) (top : ℕ → Top) where
   abbrev at : ℕ → Content

@@ -27,6 +27,11 @@ newline_chars LineFeed = chars-IsAscii (10 ∷ []) (search rules)
 newline_chars CarriageReturnLineFeed = chars-IsAscii (13 ∷ 10 ∷ []) (search rules)
 newline_chars CarriageReturn = chars-IsAscii (13 ∷ []) (search rules)
 
+-- one run of characters after another
+pub many_joined : {p : ℕ → Bool} {x r y : List ℕ} → Many p x r → r ≡ [] → Many p y [] → Many p (x ++ y) []
+many_joined {p} {y = y} stop e k = subst (λ r. Many p (r ++ y) []) (sym e) k
+many_joined (step b h) e k = step b (many_joined h e k)
+
 -- the first of some leaves prints before the others
 pub first_text : (content : Content) (rest : List Content) → IsUtf8 (text_of content) → text_of_leaves (content ∷ rest) ≡ chars (text_of content) ++ text_of_leaves rest
 first_text content rest u = chars-append (text_of content) (flat_map text_of rest) u

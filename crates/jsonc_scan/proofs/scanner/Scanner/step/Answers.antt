@@ -5,7 +5,7 @@ use Rattle.jsonc_scan.proofs.scanner.Scanner.step.Goals as goal
 pub invariant_of-self-in-Some : goal.invariant_of-self-in-Some
 invariant_of-self-in-Some g c =
     let stands = (c.in-Some.ensures all_on).stands in
-    record { at_place = stands.boundary; starts_at_place = c.blanks_end-start.ensures.boundary; order = omega (arith, stands.order) }
+    record { at_place = stands.boundary; starts_at_place = c.gap_end-start.ensures.boundary; order = omega (arith, stands.order) }
 
 pub returns-in-Some-clause-found : goal.returns-in-Some-clause-found
 returns-in-Some-clause-found g c = let stands = (c.in-Some.ensures _).stands in (stands.order, stands.piece)
@@ -19,7 +19,7 @@ returns-in-Some-clause-escaped g c = (c.in-Some.ensures all_on).escaped
 pub invariant_of-self-in-Some-plain_number : goal.invariant_of-self-in-Some-plain_number
 invariant_of-self-in-Some-plain_number g c =
     let n = c.in-Some-plain_number.ensures all_on in
-    record { at_place = n.boundary; starts_at_place = c.blanks_end-start.ensures.boundary; order = omega (arith, n.order) }
+    record { at_place = n.boundary; starts_at_place = c.gap_end-start.ensures.boundary; order = omega (arith, n.order) }
 
 pub returns-in-Some-plain_number-clause-found : goal.returns-in-Some-plain_number-clause-found
 returns-in-Some-plain_number-clause-found g c = let n = c.in-Some-plain_number.ensures _ in (n.order, n.piece)
