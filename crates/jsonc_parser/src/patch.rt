@@ -4,9 +4,9 @@
 //! A [`Pointer`] is such a text, parsed, or made of its tokens. [`find`] finds the node that it refers to in a document,
 //! and [`read`] takes its value.
 
-mod find;
 pub mod laws;
 mod pointer;
+mod reference;
 
-pub use find::{FindError, find, read};
 pub use pointer::{Pointer, PointerError};
+pub use reference::{FindError, find, read};

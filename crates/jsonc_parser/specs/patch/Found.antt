@@ -16,8 +16,8 @@ use Rattle.jsonc_cst.specs.declared.cst.node.CstNode.{CstNode}
 use Rattle.jsonc_cst.specs.Document.{nodes_of}
 use Rattle.jsonc_cst.specs.Nodes.{number_of}
 use Rattle.jsonc_parser.specs.patch.References.{FailsAt, Refers, RefersTo}
-use Rattle.jsonc_parser.specs.declared.patch.find.FindError.{FindError}
-use Rattle.jsonc_parser.specs.declared.patch.find.FindError.TheVariants as error
+use Rattle.jsonc_parser.specs.declared.patch.reference.FindError.{FindError}
+use Rattle.jsonc_parser.specs.declared.patch.reference.FindError.TheVariants as error
 
 -- In the document's value the tokens refer to v; and at the positions that they lead over stands the node n, which has v.
 pub record RefersToNode (d : Document) (ns : List Node) (tokens : List (List ℕ)) (n : ℕ) : Type 0 where

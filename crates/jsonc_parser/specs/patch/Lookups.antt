@@ -13,10 +13,10 @@ use Rattle.jsonc_cst.specs.Document.{nodes_of}
 use Rattle.jsonc_cst.specs.Nodes.{number_of}
 use Rattle.jsonc_parser.specs.patch.Found.{RefersToNode, RefersToNothing}
 use Rattle.jsonc_parser.specs.patch.References.{FailsAt, IsIndex}
-use Rattle.jsonc_parser.specs.declared.patch.find.FindError.{FindError}
-use Rattle.jsonc_parser.specs.declared.patch.find.FindError.TheVariants as error
-use Rattle.jsonc_parser.specs.declared.patch.find.Lookup.{Lookup}
-use Rattle.jsonc_parser.specs.declared.patch.find.Lookup.TheVariants.{Missing, Once, Twice}
+use Rattle.jsonc_parser.specs.declared.patch.reference.FindError.{FindError}
+use Rattle.jsonc_parser.specs.declared.patch.reference.FindError.TheVariants as error
+use Rattle.jsonc_parser.specs.declared.patch.reference.Lookup.{Lookup}
+use Rattle.jsonc_parser.specs.declared.patch.reference.Lookup.TheVariants.{Missing, Once, Twice}
 
 -- which of these nodes is the one property of this name: none, this one, or none since there are two
 pub data IsLookedUp (ns : List Node) (name : List ℕ) : List ℕ → Lookup → Type 0 where

@@ -1,8 +1,8 @@
 -- The printed text of faults of pointers.
 use Rattle.std.specs.Prelude.{◌++◌, ℕ, List, codes, string_bytes}
 use Rattle.std.specs.Fmt.{decimal}
-use Rattle.jsonc_parser.specs.declared.patch.find.FindError.{FindError}
-use Rattle.jsonc_parser.specs.declared.patch.find.FindError.TheVariants as find
+use Rattle.jsonc_parser.specs.declared.patch.reference.FindError.{FindError}
+use Rattle.jsonc_parser.specs.declared.patch.reference.FindError.TheVariants as find
 use Rattle.jsonc_parser.specs.declared.patch.pointer.PointerError.{PointerError}
 use Rattle.jsonc_parser.specs.declared.patch.pointer.PointerError.TheVariants.{InvalidEscape, NoLeadingSlash, OutOfMemory}
 

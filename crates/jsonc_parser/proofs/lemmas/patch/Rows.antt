@@ -27,8 +27,8 @@ use Rattle.jsonc_insert.proofs.lemmas.named.PropertyValues.{first_shown}
 use Rattle.jsonc_parser.specs.patch.Lookups as lookups
 use Rattle.jsonc_parser.specs.patch.Lookups.{IsLookedUp}
 use Rattle.jsonc_parser.specs.patch.References.{IsOnly, this_only, later_only, IsRepeated, this_again, later_again}
-use Rattle.jsonc_parser.specs.declared.patch.find.Lookup.{Lookup}
-use Rattle.jsonc_parser.specs.declared.patch.find.Lookup.TheVariants.{Missing, Once, Twice}
+use Rattle.jsonc_parser.specs.declared.patch.reference.Lookup.{Lookup}
+use Rattle.jsonc_parser.specs.declared.patch.reference.Lookup.TheVariants.{Missing, Once, Twice}
 
 -- a leaf that names a property is a string or a word, and its name is the one that it means (as in jsonc_insert/proofs/lemmas/named/Names.antt, up to `has_no_other`)
 leaf_named : (o : Options) (leaf : Content) (name : List ℕ) → IsNameBefore o leaf [] → IsNameLeaf o leaf name → (is_name leaf ≡ true) × Names leaf name

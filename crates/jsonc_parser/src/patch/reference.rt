@@ -50,7 +50,7 @@ impl<A: Allocator> fmt::Display for FindError<A> {
     }
 }
 
-impl<A: Allocator> Error for FindError<A> {}
+impl<A: Allocator + fmt::Debug> Error for FindError<A> {}
 
 // Which child of an object is its one property of a name.
 #[derive(Clone, Copy)]
@@ -120,12 +120,13 @@ fn look_up<A: Allocator + Copy>(
 {
     let mut found = None;
     for child in children_from(doc.tree(), object, 0) {
-        if is_named(doc, child, name)? {
-            if found.is_some() {
-                return Ok(Lookup::Twice);
-            }
-            found = Some(child);
+        if !is_named(doc, child, name)? {
+            continue;
         }
+        if found.is_some() {
+            return Ok(Lookup::Twice);
+        }
+        found = Some(child);
     }
     match found {
         Some(child) => Ok(Lookup::Once(child)),
