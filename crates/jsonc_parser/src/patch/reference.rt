@@ -1,7 +1,9 @@
 //! What a pointer refers to in a document.
 
-ghost use Rattle.std.specs.Prelude.{◌≡◌, ◌<◌, ◌≤◌, ℕ, length, chars, IfErr, IfNone, IfOk, IfSome, OnErr, Some};
+ghost use Rattle.std.specs.Prelude.{◌≡◌, ◌<◌, ◌≤◌, ◌↔◌, ◌^◌, ℕ, length, chars, slice_index, IfErr, IfNone, IfOk, IfSome, IsTrue, OnErr, Some};
 ghost use Rattle.std.specs.Bool.{Decides};
+ghost use Rattle.std.specs.Option.{SomeIff};
+ghost use Rattle.std.specs.Str.Parse.{IsNumeral, digits_value};
 ghost use Rattle.jsonc_layout.specs.nodes.Names.{HasEscapedName, HoldsEscapedName, IsEscaped, IsNamed};
 ghost use Rattle.jsonc_layout.specs.nodes.Siblings.{IsThere};
 ghost use Rattle.jsonc_tree.specs.Content.{Content};
@@ -160,17 +162,39 @@ fn member<A: Allocator + Copy>(
     }
 }
 
+// The number that digits alone write, if a usize holds it.
+fn digits_usize(text: &str) -> Option<usize>
+    ensures { SomeIff result (IsNumeral 10 text.now × (digits_value 10 text.now < 2 ^ 64)) (digits_value 10 text.now) }
+{
+    if text.starts_with('+') {
+        return None;
+    }
+    usize::from_str_radix(text, 10).ok()
+}
+
+// Whether a 0 stands first and not alone.
+fn is_padded(text: &str) -> bool
+    ensures { IsTrue result ↔ ((1 < length text.now) × (slice_index text.now 0 ≡ 0x30)) }
+{
+    let bytes = text.as_bytes();
+    bytes.len() > 1 && bytes[0] == b'0'
+}
+
 // The index that a token is, where it is below a limit.
 fn index_below(token: &str, limit: usize) -> Option<usize>
     ensures some { IfSome result (λ i. IsIndex (chars token.now) i × (i < limit)) }
     ensures none { IfNone result ((i : ℕ) → IsIndex (chars token.now) i → limit ≤ i) }
 {
-    let index = match token.as_bytes() {
-        [b'0'] => 0,
-        [b'1'..=b'9', ..] => token.parse().ok()?,
-        _ => return None,
+    let Some(index) = digits_usize(token) else {
+        return None;
     };
-    if index < limit { Some(index) } else { None }
+    if is_padded(token) {
+        return None;
+    }
+    if index >= limit {
+        return None;
+    }
+    Some(index)
 }
 
 // The element of an array whose index a token is.
@@ -180,7 +204,9 @@ fn element<A: Allocator>(doc: &CstRootNode<A>, node: usize, token: &str) -> Opti
     ensures in_tree { IsThere (nodes_of doc.now) result }
 {
     let tree = doc.tree();
-    let index = index_below(token, tree.len())?;
+    let Some(index) = index_below(token, tree.len()) else {
+        return None;
+    };
     element_at(tree, node, index)
 }
 

@@ -4,6 +4,7 @@ use Rattle.jsonc_text.specs.Plain.{Plain, array, object, Items, item, Members, m
 use Rattle.jsonc_sound.specs.Changes as changes
 use Rattle.jsonc_sound.specs.Changes.{Changed, ItemChanged, MemberChanged}
 use Rattle.jsonc_insert.specs.named.Members.{LacksMember, no_more, other_name, IsFirstMember, first_is, first_later}
+use Rattle.jsonc_parser.specs.patch.Laws.{FailsWithNone, RefersToOne}
 use Rattle.jsonc_parser.specs.patch.References.{IsIndex, IsItem, this_item, later_item, IsOnly, this_only, later_only, IsRepeated, this_again, later_again, Refers, whole, to_member, to_element, MeetsRepeated, here, in_member, in_element, RefersTo, FailsAt}
 
 pub index_once : {token : List ℕ} {i j : ℕ} → IsIndex token i → IsIndex token j → i ≡ j
@@ -220,3 +221,13 @@ other_stops {token} {w} non not_array rest = (λ u q r. refers_no (token ∷ res
     fails_no name _ _ (here {ms = ms} r) same = non ms (sym same)
     fails_no name _ _ (in_member {ms = ms} p m) same = non ms (sym same)
     fails_no name _ _ (in_element {vs = vs} k p m) same = not_array vs (sym same)
+
+-- so it is in a document
+same_top : (x y : Plain) (w : Option Plain) → w ≡ Some x → w ≡ Some y → x ≡ y
+same_top x y w e f = cc
+
+pub refers_to_one : (w : Option Plain) (tokens : List (List ℕ)) → RefersToOne w tokens
+refers_to_one w tokens u v (x, e, p, r) (y, f, q, s) = one_value r (subst (λ k. Refers k tokens q v) (same_top y x w f e) s)
+
+pub fails_with_none : (w : Option Plain) (tokens : List (List ℕ)) → FailsWithNone w tokens
+fails_with_none w tokens v name (x, e, p, r) (y, f, m) = never_both r (subst (λ k. MeetsRepeated name k tokens) (same_top y x w f e) m)

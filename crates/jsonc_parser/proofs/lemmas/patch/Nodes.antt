@@ -1,5 +1,5 @@
 -- One token further from a node of a document that a tree shows.
-use Rattle.std.proofs.Common.{ℕ, suc, ◌≡◌, ◌<◌, ◌∙◌, ◌++◌, sym, ap, subst, refl, true, Bool, List, [], ◌∷◌, length, filter, get_or, slice_get, Option, Some, None, zero, inl, inr, arith}
+use Rattle.std.proofs.Common.{ℕ, suc, ◌≡◌, ◌<◌, ◌∙◌, ◌++◌, sym, ap, subst, refl, true, Bool, List, [], ◌∷◌, length, filter, get_or, slice_get, option_map, Option, Some, None, zero, inl, inr, arith}
 use Rattle.std.proofs.lemmas.Bool.{cases_Bool}
 use Rattle.std.specs.List.{All}
 use Rattle.jsonc_text.specs.Documents.{Document}
@@ -14,6 +14,9 @@ use Rattle.jsonc_tree.specs.Values as values
 use Rattle.jsonc_tree.specs.Values.{ItemsOf, MembersOf, ValueOf}
 use Rattle.jsonc_tree.proofs.Order.{parent_there}
 use Rattle.jsonc_tree.proofs.OrderedTrees.{Shows-unique}
+use Rattle.jsonc_layout.specs.declared.input.value.CstInputValue.{CstInputValue}
+use Rattle.jsonc_layout.specs.input.Views as views
+use Rattle.jsonc_layout.specs.to_input.Taken.{IsTaken}
 use Rattle.jsonc_layout.specs.nodes.Kinds.{is_element, is_element_at}
 use Rattle.jsonc_layout.specs.nodes.Properties.{value_at}
 use Rattle.jsonc_layout.specs.nodes.Siblings.{elements_at}
@@ -129,6 +132,14 @@ module _ (d : Document) (ns : List Node) (tree : IsTree ns) (shown : Shows d (or
       let top : h.x ≡ x = some_same h.x x (sym h.is ∙ is) in
       let same : v ≡ h.v = value_once (refers_changed refers) (subst (λ k. Changed h.v h.v path k k) top h.stands) in
       record { value = x; is = is; v = v; path = path; refers = refers; at = at; has = subst (HasValue d.options (top_at ns n)) (sym same) h.has }
+
+  -- what is taken of the node is the value
+  pub taken_there : {A : Type 0} (tokens : List (List ℕ)) (n : ℕ) (w : RefersToNode d ns tokens n) (taken : Option (CstInputValue A)) → IsTaken (ordered_tree ns n) taken → option_map views.plain taken ≡ Some (plain.collapse w.v)
+  taken_there {A} tokens n w taken is =
+      let h = nodes_have_values {A = A} d ns w.path n tree shown w.at in
+      let top : h.x ≡ w.value = some_same h.x w.value (sym h.is ∙ w.is) in
+      let same : w.v ≡ h.v = value_once (refers_changed w.refers) (subst (λ k. Changed h.v h.v w.path k k) top h.stands) in
+      h.taken taken is ∙ ap (λ v. Some (plain.collapse v)) (sym same)
 
   pub begins : (n : ℕ) → value_at ns 0 ≡ Some n → RefersToNode d ns [] n
   begins n e =
