@@ -4,7 +4,7 @@
 //! A [`Pointer`] is such a text, parsed, or made of its tokens. [`find`] finds the node that it refers to in a document,
 //! and [`read`] takes its value.
 
-pub mod laws;
+pub(crate) mod laws;
 mod pointer;
 mod reference;
 
