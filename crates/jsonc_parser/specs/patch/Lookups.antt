@@ -36,6 +36,11 @@ IsElementBy ns n token None = (i q : ℕ) → IsIndex token i → IsElementOf ns
 IsElementBy ns n token (Some q) = (i : ℕ) × IsIndex token i × IsElementOf ns n i q
 
 module _ {A : Type 0} where
+  -- the error has the name, or says that there was no memory for it
+  abbrev pub SaysRepeated : List ℕ → FindError A → Type 0
+  SaysRepeated name (error.RepeatedName s) = chars_of s ≡ name
+  SaysRepeated name error.OutOfMemory = Unit {0}
+
   -- to a node to which tokens lead
   abbrev pub IsOfNode : CstRootNode A → CstNode → (Document → List (List ℕ) → Type 0) → Type 0
   IsOfNode doc node P =

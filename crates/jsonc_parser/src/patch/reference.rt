@@ -10,9 +10,10 @@ ghost use Rattle.jsonc_tree.specs.Content.{Content};
 ghost use Rattle.jsonc_tree.specs.Tree.{children_at};
 ghost use Rattle.jsonc_cst.specs.Document.{content_of, nodes_of, HasNode};
 ghost use Rattle.jsonc_cst.specs.Nodes.{name_node, number_of};
-ghost use Rattle.jsonc_cst.specs.Readings.{NameStandsFor};
+ghost use Rattle.jsonc_cst.specs.Readings.{value_under as value_of_property, NameStandsFor};
+ghost use Rattle.jsonc_parser.specs.paths.Found.{names_of};
 ghost use Rattle.jsonc_parser.specs.patch.Found.{FindFails, Finds, IsOfShown, ReadFails, Reads};
-ghost use Rattle.jsonc_parser.specs.patch.Lookups.{found_once, IsElementBy, IsLookedUp, StepFails, StepsTo};
+ghost use Rattle.jsonc_parser.specs.patch.Lookups.{found_once, IsElementBy, IsLookedUp, SaysRepeated, StepFails, StepsTo};
 ghost use Rattle.jsonc_parser.specs.patch.Messages.{find_error_text};
 ghost use Rattle.jsonc_parser.specs.patch.Pointer.{tokens_of};
 ghost use Rattle.jsonc_parser.specs.patch.References.{IsIndex};
@@ -22,7 +23,6 @@ use jsonc_cst::cst::{CstInputValue, CstNode, CstRootNode, ObjectPropName, TypedN
 use jsonc_layout::nodes::{children_from, element_at, value_of};
 use jsonc_text::errors::ParseStringErrorKind;
 use jsonc_text::string::provider::parse_string;
-use jsonc_tree::Kind;
 use std::alloc::{AllocError, Allocator};
 use std::error::Error;
 use std::fmt;
@@ -136,6 +136,28 @@ fn look_up<A: Allocator + Copy>(
     }
 }
 
+// The value of a property, if it has one.
+fn value_under<A: Allocator>(doc: &CstRootNode<A>, property: usize) -> Option<CstNode>
+    requires { property < length (nodes_of doc.now) }
+    ensures value { result ≡ value_of_property doc.now property }
+    ensures in_document { IfSome result (HasNode doc.now) }
+{
+    let Some(value) = value_of(doc.tree(), property) else {
+        return None;
+    };
+    Some(node_at(doc.tree(), value))
+}
+
+// The error of a name that stands twice, or of no memory for it.
+fn repeated<A: Allocator>(alloc: A, name: &str) -> FindError<A>
+    ensures { SaysRepeated (chars name.now) result }
+{
+    match String::from_str(alloc, name) {
+        Ok(name) => FindError::RepeatedName(name),
+        Err(_) => FindError::OutOfMemory,
+    }
+}
+
 // The value of the one property of a name in an object.
 fn member<A: Allocator + Copy>(
     doc: &CstRootNode<A>,
@@ -150,14 +172,8 @@ fn member<A: Allocator + Copy>(
 {
     match look_up(doc, node.number(), name) {
         Ok(Lookup::Missing) => Ok(None),
-        Ok(Lookup::Once(property)) => match value_of(doc.tree(), property) {
-            Some(value) => Ok(Some(node_at(doc.tree(), value))),
-            None => Ok(None),
-        },
-        Ok(Lookup::Twice) => match String::from_str(*doc.allocator(), name) {
-            Ok(name) => Err(FindError::RepeatedName(name)),
-            Err(_) => Err(FindError::OutOfMemory),
-        },
+        Ok(Lookup::Once(property)) => Ok(value_under(doc, property)),
+        Ok(Lookup::Twice) => Err(repeated(*doc.allocator(), name)),
         Err(_) => Err(FindError::OutOfMemory),
     }
 }
@@ -221,14 +237,39 @@ fn step<A: Allocator + Copy>(
     ensures in_document { IfOk result (λ o. IfSome o (HasNode doc.now)) }
     ensures fails { IfErr result (StepFails doc.now node (chars token.now)) }
 {
-    match doc.tree().kind(node.number()) {
-        Kind::Object(_) => member(doc, node, token),
-        Kind::Array(_) => match element(doc, node.number(), token) {
-            Some(inner) => Ok(Some(node_at(doc.tree(), inner))),
-            None => Ok(None),
-        },
-        _ => Ok(None),
+    if node.as_object().is_some() {
+        return member(doc, node, token);
     }
+    if node.as_array().is_none() {
+        return Ok(None);
+    }
+    match element(doc, node.number(), token) {
+        Some(inner) => Ok(Some(node_at(doc.tree(), inner))),
+        None => Ok(None),
+    }
+}
+
+// The value that tokens refer to, if there is one.
+fn follow<A: Allocator + Copy>(
+    doc: &CstRootNode<A>,
+    tokens: &[String<A>],
+) -> Result<Option<CstNode>, FindError<A>>
+    ensures found { IfOk result (λ found. IsOfShown doc.now (λ d. Finds d doc.now (names_of tokens.now) found)) }
+    ensures in_document { IfOk result (λ o. IfSome o (HasNode doc.now)) }
+    ensures fails { IfErr result (λ e. IsOfShown doc.now (λ d. FindFails d doc.now (names_of tokens.now) e)) }
+{
+    let Some(value) = doc.value() else {
+        return Ok(None);
+    };
+    let mut node = value;
+    for token in tokens {
+        match step(doc, node, token) {
+            Ok(Some(inner)) => node = inner,
+            Ok(None) => return Ok(None),
+            Err(error) => return Err(error),
+        }
+    }
+    Ok(Some(node))
 }
 
 /// The value that a pointer refers to, if there is one.
@@ -248,18 +289,7 @@ pub fn find<A: Allocator + Copy>(
     ensures in_document { IfOk result (λ o. IfSome o (HasNode doc.now)) }
     ensures fails { IfErr result (λ e. IsOfShown doc.now (λ d. FindFails d doc.now (tokens_of pointer.now) e)) }
 {
-    let Some(value) = doc.value() else {
-        return Ok(None);
-    };
-    let mut node = value;
-    for token in pointer.tokens() {
-        match step(doc, node, token) {
-            Ok(Some(inner)) => node = inner,
-            Ok(None) => return Ok(None),
-            Err(error) => return Err(error),
-        }
-    }
-    Ok(Some(node))
+    follow(doc, pointer.tokens())
 }
 
 /// The value that a pointer refers to, as a value for edits.

@@ -1,9 +1,10 @@
 -- One token further from a node of a document, and all tokens of a pointer.
-use Rattle.std.proofs.Common.{ℕ, ◌≡◌, ◌<◌, ◌≤◌, ◌+◌, ◌++◌, ◌∙◌, sym, ap, subst, refl, inl, inr, List, [], ◌∷◌, Option, Some, None, length, take, drop, get_or, option_map}
+use Rattle.std.proofs.Common.{ℕ, ◌≡◌, ◌<◌, ◌≤◌, ◌+◌, ◌++◌, ◌∙◌, sym, ap, subst, refl, true, false, inl, inr, List, [], ◌∷◌, Option, Some, None, length, take, drop, get_or, option_map, is_some, is_none}
+use Rattle.std.proofs.lemmas.Bool.{false≢true}
 use Rattle.std.proofs.lemmas.List.{take_all}
 use Rattle.std.specs.declared.string.String.{String}
 use Rattle.jsonc_text.specs.Documents.{Document}
-use Rattle.jsonc_tree.specs.Content.{object, array}
+use Rattle.jsonc_tree.specs.Content.{Content, object, array}
 use Rattle.jsonc_tree.specs.OrderedTree.{ordered_tree}
 use Rattle.jsonc_tree.specs.Tree.{children_at, content_at, IsTree}
 use Rattle.jsonc_text.specs.Plain.{collapse}
@@ -14,24 +15,30 @@ use Rattle.jsonc_layout.specs.nodes.Properties.{value_at}
 use Rattle.jsonc_sound.specs.Documents.{Shows}
 use Rattle.jsonc_cst.specs.declared.cst.CstRootNode.{CstRootNode}
 use Rattle.jsonc_cst.specs.declared.cst.node.CstNode.{CstNode}
-use Rattle.jsonc_cst.specs.Document.{nodes_of}
-use Rattle.jsonc_cst.specs.Nodes.{number_of, typed_at}
+use Rattle.jsonc_cst.specs.declared.cst.node.CstArray.{CstArray}
+use Rattle.jsonc_cst.specs.declared.cst.node.CstObject.{CstObject}
+use Rattle.jsonc_cst.specs.Document.{nodes_of, HasNode}
+use Rattle.jsonc_cst.specs.Nodes.{array_node, number_of, object_node, typed, typed_at, IsAs}
 use Rattle.jsonc_cst.specs.Readings.{value_under}
 use Rattle.jsonc_cst.specs.Values.{IsValueTaken}
 use Rattle.jsonc_cst.proofs.Family.{number_of-typed}
 use Rattle.jsonc_parser.specs.paths.Found.{names_of}
 use Rattle.jsonc_parser.specs.patch.Found.{FindFails, Finds, IsOfShown, PassesEscaped, ReadFails, Reads, RefersToNode, RefersToNothing}
-use Rattle.jsonc_parser.specs.patch.Lookups.{FailsThere, IsElementBy, IsLookedUp, StepFails, StepsTo}
+use Rattle.jsonc_parser.specs.patch.Lookups.{FailsThere, IsElementBy, IsLookedUp, SaysRepeated, StepFails, StepsTo}
 use Rattle.jsonc_parser.specs.patch.References.{FailsAt}
 use Rattle.jsonc_parser.specs.declared.patch.reference.FindError.{FindError}
 use Rattle.jsonc_parser.specs.declared.patch.reference.FindError.TheVariants as error
 use Rattle.jsonc_parser.specs.declared.patch.reference.Lookup.TheVariants.{Missing, Once, Twice}
-use Rattle.jsonc_parser.proofs.lemmas.paths.Found.{one_more, split_at}
+use Rattle.jsonc_parser.proofs.lemmas.paths.Found.{object_content, one_more, split_at}
 use Rattle.jsonc_parser.proofs.lemmas.patch.Nodes.{begins, begins_nowhere, element_found, element_missing, member_found, member_missing, member_repeated, stops_here, taken_there}
 
 -- so far the tokens refer to this node
 abbrev pub RefersWhatShown : {A : Type 0} → CstRootNode A → List (List ℕ) → CstNode → Type 0
 RefersWhatShown doc tokens node = IsOfShown doc (λ d. RefersToNode d (nodes_of doc) tokens (number_of node))
+
+array_content : (c : Content) (n : ℕ) (x : CstArray) → typed c n ≡ array_node x → c ≡ array
+array_content array n x e = refl
+array_content c n x e = cc
 
 module _ {A : Type 0} (doc : CstRootNode A) (tree : IsTree (nodes_of doc)) where
   pub begins_with : (node : CstNode) → Some node ≡ value_under doc 0 → RefersWhatShown doc [] node
@@ -86,8 +93,45 @@ module _ {A : Type 0} (doc : CstRootNode A) (tree : IsTree (nodes_of doc)) where
           no_some : {n : ℕ} → Some n ≡ None → ⊥
           no_some e = cc
 
+      pub step_once : (r : ℕ) → IsLookedUp (nodes_of doc) token (children_at (nodes_of doc) (number_of node)) (Once r) → (found : Option CstNode) → found ≡ value_under doc r → StepsTo doc node token found
+      step_once r once found e = go (value_at (nodes_of doc) r) refl found e
+        where
+          go : (q : Option ℕ) → value_at (nodes_of doc) r ≡ q → (found : Option CstNode) → found ≡ option_map (typed_at (nodes_of doc)) q → StepsTo doc node token found
+          go None is None same = step_valueless r once is
+          go None is (Some inner) same = cc
+          go (Some q) is None same = cc
+          go (Some q) is (Some inner) same = step_member r q once is inner cc
+
       pub step_fails : IsLookedUp (nodes_of doc) token (children_at (nodes_of doc) (number_of node)) Twice → FailsThere doc node token
       step_fails found d tokens shown w = member_repeated d (nodes_of doc) tree shown tokens (number_of node) w token is found
+
+  pub says_so : (node : CstNode) (token : List ℕ) (e : FindError A) → SaysRepeated token e → FailsThere doc node token → StepFails doc node token e
+  says_so node token (error.RepeatedName name) same fails = (same, fails)
+  says_so node token error.OutOfMemory same fails = inr fails
+
+  -- what a node is, by its kind
+  module _ (node : CstNode) (held : HasNode doc node) where
+    pub object_by : (o : Option CstObject) → IsAs object_node node o → is_some o ≡ true → content_at (nodes_of doc) (number_of node) ≡ object
+    object_by None is e = absurd (false≢true e)
+    object_by (Some x) is e = object_content (content_at (nodes_of doc) (number_of node)) (number_of node) x (held.1 ∙ (is x).0 refl)
+
+    pub no_object_by : (o : Option CstObject) → IsAs object_node node o → is_some o ≡ false → content_at (nodes_of doc) (number_of node) ≡ object → ⊥
+    no_object_by (Some x) is e k = false≢true (sym e)
+    no_object_by None is e k =
+        let x : CstObject = record { number = number_of node } in
+        let wrong : None ≡ Some x = (is x).1 (sym held.1 ∙ ap (λ c. typed c (number_of node)) k) in
+        cc
+
+    pub array_by : (o : Option CstArray) → IsAs array_node node o → is_none o ≡ false → content_at (nodes_of doc) (number_of node) ≡ array
+    array_by None is e = absurd (false≢true (sym e))
+    array_by (Some x) is e = array_content (content_at (nodes_of doc) (number_of node)) (number_of node) x (held.1 ∙ (is x).0 refl)
+
+    pub no_array_by : (o : Option CstArray) → IsAs array_node node o → is_none o ≡ true → content_at (nodes_of doc) (number_of node) ≡ array → ⊥
+    no_array_by (Some x) is e k = false≢true e
+    no_array_by None is e k =
+        let x : CstArray = record { number = number_of node } in
+        let wrong : None ≡ Some x = (is x).1 (sym held.1 ∙ ap (λ c. typed c (number_of node)) k) in
+        cc
 
   -- so many tokens refer to a node
   module _ (names : List (String A)) (k : ℕ) (node : CstNode) (so_far : RefersWhatShown doc (names_of (take k names)) node) where
