@@ -9,7 +9,8 @@ use std::alloc::Allocator;
 use std::test::Fail;
 
 /// The document of RFC 6901, section 5.
-const EXAMPLE: &str = "{\n  \"foo\": [\"bar\", \"baz\"],\n  \"\": 0,\n  \"a/b\": 1,\n  \"c%d\": 2,\n  \"e^f\": 3,\n  \
+const EXAMPLE: &str =
+    "{\n  \"foo\": [\"bar\", \"baz\"],\n  \"\": 0,\n  \"a/b\": 1,\n  \"c%d\": 2,\n  \"e^f\": 3,\n  \
 \"g|h\": 4,\n  \"i\\\\j\": 5,\n  \"k\\\"l\": 6,\n  \" \": 7,\n  \"m~n\": 8\n}";
 
 /// Names that stand twice, one of them under an escape.
@@ -68,7 +69,11 @@ static ROWS: [Row; 41] = [
         Answer::Found("1"),
     ),
     ("/~01", "{\"~1\": 1}", Answer::Found("1")),
-    ("/\u{e9}~1\u{1d11e}", "{\"\u{e9}/\\ud834\\udd1e\": 1}", Answer::Found("1")),
+    (
+        "/\u{e9}~1\u{1d11e}",
+        "{\"\u{e9}/\\ud834\\udd1e\": 1}",
+        Answer::Found("1"),
+    ),
     ("/0", "{\"0\": 1}", Answer::Found("1")),
     ("", "// none", Answer::Nothing),
     ("/a", "", Answer::Nothing),
@@ -78,7 +83,11 @@ static ROWS: [Row; 41] = [
     ("/b/0/d", TWICE, Answer::Found("4")),
     ("/b/1/c", TWICE, Answer::Nothing),
     ("a", "1", Answer::Fault(PointerError::NoLeadingSlash)),
-    ("/\u{e9}/~2", "1", Answer::Fault(PointerError::InvalidEscape(4))),
+    (
+        "/\u{e9}/~2",
+        "1",
+        Answer::Fault(PointerError::InvalidEscape(4)),
+    ),
     ("/a~", "1", Answer::Fault(PointerError::InvalidEscape(2))),
     ("/~1/~~", "1", Answer::Fault(PointerError::InvalidEscape(4))),
 ];
@@ -188,7 +197,10 @@ fn faults_of_pointers_are_printed(rt: HostRuntime) -> Result<(), Fail> {
     let twice = format!(in alloc; "{}", FindError::RepeatedName(name))?;
     assert_eq!(rt; twice.as_str(), "Name stands twice: a b");
     let escape = format!(in alloc; "{}", PointerError::InvalidEscape(7))?;
-    assert_eq!(rt; escape.as_str(), "Neither 0 nor 1 after the tilde at byte 7");
+    assert_eq!(rt;
+        escape.as_str(),
+        "Neither 0 nor 1 after the tilde at byte 7"
+    );
     let slash = format!(in alloc; "{}", PointerError::NoLeadingSlash)?;
     assert_eq!(rt; slash.as_str(), "Pointer does not begin with a slash");
     assert_eq!(rt; PointerError::NoLeadingSlash.place(), Some(0));

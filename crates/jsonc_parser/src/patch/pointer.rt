@@ -10,8 +10,7 @@ ghost use Rattle.jsonc_parser.specs.patch.Reading.{text_so_far, IsFaultOfChar};
 
 use std::alloc::Allocator;
 use std::error::Error;
-use std::fmt;
-use std::mem;
+use std::{fmt, mem};
 
 /// A JSON Pointer: tokens that lead from a value to one inside it, each a name or an index.
 ///
@@ -106,10 +105,7 @@ impl<A: Allocator> Pointer<A> {
 }
 
 // The tokens of a text behind its first `/`.
-fn read_tokens<A: Allocator + Copy>(
-    alloc: A,
-    text: &str,
-) -> Result<Vec<String<A>, A>, PointerError>
+fn read_tokens<A: Allocator + Copy>(alloc: A, text: &str) -> Result<Vec<String<A>, A>, PointerError>
     ensures read { IfOk result (λ v. pointer_text (names_of v.items) ≡ 0x2F ∷ chars text.now) }
     ensures fault { IfErr result (IsPointerFault (0x2F ∷ chars text.now)) }
 {

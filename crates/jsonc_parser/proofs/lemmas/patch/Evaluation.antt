@@ -197,7 +197,7 @@ pub object_stops : {token : List ℕ} {ms : Members} {w : Plain} → w ≡ objec
 object_stops {token} {ms} {w} e lacks rest = (
   λ u q r. only_lacks (in_object (subst (λ k. Refers k (token ∷ rest) q u) e r)).only lacks,
   λ name m. (let f : FailsInside name token rest ms = fails_inside (subst (λ k. MeetsRepeated name k (token ∷ rest)) e m) in
-    inside name f)
+      inside name f),
 )
   where
     inside : (name : List ℕ) → FailsInside name token rest ms → ⊥
@@ -207,7 +207,7 @@ object_stops {token} {ms} {w} e lacks rest = (
 pub array_stops : {token : List ℕ} {vs : Items} {w : Plain} → w ≡ array vs → ((i : ℕ) (x : Plain) → IsIndex token i → IsItem x i vs → ⊥) → Stops w token
 array_stops {token} {vs} {w} e none rest = (
   λ u q r. (let i = in_array (subst (λ k. Refers k (token ∷ rest) q u) e r) in none i.i i.x i.index i.item),
-  λ name m. (let f = fails_in_array (subst (λ k. MeetsRepeated name k (token ∷ rest)) e m) in none f.i f.x f.index f.item)
+  λ name m. (let f = fails_in_array (subst (λ k. MeetsRepeated name k (token ∷ rest)) e m) in none f.i f.x f.index f.item),
 )
 
 pub other_stops : {token : List ℕ} {w : Plain} → ((ms : Members) → w ≡ object ms → ⊥) → ((vs : Items) → w ≡ array vs → ⊥) → Stops w token
@@ -217,6 +217,7 @@ other_stops {token} {w} non not_array rest = (λ u q r. refers_no (token ∷ res
     refers_no _ e _ whole same = cc
     refers_no _ e _ (to_member {ms = ms} p r) same = non ms (sym same)
     refers_no _ e _ (to_element {vs = vs} k p r) same = not_array vs (sym same)
+
     fails_no : (name : List ℕ) (x : Plain) (tokens : List (List ℕ)) → MeetsRepeated name x tokens → x ≡ w → ⊥
     fails_no name _ _ (here {ms = ms} r) same = non ms (sym same)
     fails_no name _ _ (in_member {ms = ms} p m) same = non ms (sym same)

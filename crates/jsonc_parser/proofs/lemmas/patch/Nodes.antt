@@ -160,10 +160,10 @@ module _ (d : Document) (ns : List Node) (tree : IsTree ns) (shown : Shows d (or
     leads_nowhere : Stops w.v token → (rest : List (List ℕ)) → RefersToNothing d (tokens ++ token ∷ rest)
     leads_nowhere stops rest = record {
       nothing = λ u r. (let top : r.0 ≡ w.value = some_same r.0 w.value (sym r.1 ∙ w.is) in
-        let b = behind (token ∷ rest) w.refers (subst (λ x. Refers x (tokens ++ token ∷ rest) r.2 u) top r.3) in
-        (stops rest).0 u b.0 b.1);
+          let b = behind (token ∷ rest) w.refers (subst (λ x. Refers x (tokens ++ token ∷ rest) r.2 u) top r.3) in
+          (stops rest).0 u b.0 b.1);
       unique = λ name f. (let top : f.0 ≡ w.value = some_same f.0 w.value (sym f.1 ∙ w.is) in
-        (stops rest).1 name (fails_behind (token ∷ rest) w.refers (subst (λ x. MeetsRepeated name x (tokens ++ token ∷ rest)) top f.2)));
+          (stops rest).1 name (fails_behind (token ∷ rest) w.refers (subst (λ x. MeetsRepeated name x (tokens ++ token ∷ rest)) top f.2)));
     }
 
     fails_there : (ms : Members) → w.v ≡ plain.object ms → (rest : List (List ℕ)) → MeetsRepeated token (plain.object ms) (token ∷ rest) → FailsAt d.value (tokens ++ token ∷ rest) token
@@ -194,8 +194,8 @@ module _ (d : Document) (ns : List Node) (tree : IsTree ns) (shown : Shows d (or
           let its = array_value d.options (content_at ns n) (row_below ns n) w.v is w.has in
           let count : item_count its.0 ≡ length (elements_at ns n) = counted d.options its.2 ∙ counted_elements (Shows-row_below ns tree n there) in
           leads_nowhere (array_stops its.1 (λ i x index item. (let within = item_within item in
-            let q = get_within (elements_at ns n) i (omega (arith, within, count)) in
-            none i q.0 index q.1)))
+          let q = get_within (elements_at ns n) i (omega (arith, within, count)) in
+          none i q.0 index q.1)))
 
     -- an object
     module _ (is : content_at ns n ≡ content.object) where

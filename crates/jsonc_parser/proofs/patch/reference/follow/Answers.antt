@@ -19,10 +19,9 @@ pub loop-token-preserved : goal.loop-token-preserved
 loop-token-preserved g c =
     let doc = c.args.doc.now in
     let inner = c.in-Ok-Some.inner in
-    let found = subst (StepsTo doc c.loop-token.node (chars c.deref.result.now)) c.in-Ok-Some.field-0-is c.in-Ok-Some.ensures.found in
-    (
+    let found = subst (StepsTo doc c.loop-token.node (chars c.deref.result.now)) c.in-Ok-Some.field-0-is c.in-Ok-Some.ensures.found in (
       one_leads doc doc.tree.tree c.args.tokens.now c.loop-token.token-index c.loop-token.node c.loop-token.invariant.0 c.token-item.result c.loop-token-test.true inner
-      (subst (λ (s : List ℕ). StepsTo doc c.loop-token.node s (Some inner)) (ap chars c.deref.ensures ∙ ap chars_of c.token-item.is) found),
+          (subst (λ (s : List ℕ). StepsTo doc c.loop-token.node s (Some inner)) (ap chars c.deref.ensures ∙ ap chars_of c.token-item.is) found),
       subst (λ o. IfSome o (HasNode doc)) c.in-Ok-Some.field-0-is c.in-Ok-Some.ensures.in_document,
     )
 

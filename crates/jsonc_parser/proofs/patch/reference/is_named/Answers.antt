@@ -14,7 +14,7 @@ returns-in_default-clause-named g c =
     let ns = nodes_of c.args.doc.now in
     let n = c.args.node in
     no_property ns (chars c.args.name.now) n (λ k. c.in_default.not-Some (record { number = n })
-        ((c.as_object_prop.ensures (record { number = n })).1 (c.node_at.ensures.node ∙ ap (λ l. typed_at l n) c.tree.ensures ∙ ap (λ (w : Content). typed w n) k)))
+    ((c.as_object_prop.ensures (record { number = n })).1 (c.node_at.ensures.node ∙ ap (λ l. typed_at l n) c.tree.ensures ∙ ap (λ (w : Content). typed w n) k)))
 
 pub name-requires : goal.name-requires
 name-requires g c =
