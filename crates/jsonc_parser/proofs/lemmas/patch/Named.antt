@@ -1,5 +1,5 @@
 -- Whether a node is a property of a name, by the typed node of its name; and the one property of a name in a row.
-use Rattle.std.proofs.Common.{ℕ, ◌≡◌, ◌∙◌, sym, ap, subst, refl, Bool, true, false, List, [], ◌∷◌, Option, Some, None, Result, Ok, Err, IfOk, OnErr, chars}
+use Rattle.std.proofs.Common.{ℕ, ◌≡◌, ◌∙◌, sym, ap, subst, refl, Bool, true, false, List, [], ◌∷◌, Option, Some, None, is_some, Result, Ok, Err, IfOk, OnErr, chars}
 use Rattle.std.proofs.lemmas.Bool.{false≢true}
 use Rattle.std.specs.Bool.{Decides}
 use Rattle.std.specs.Str.{IsUtf8, bytes_eq}
@@ -174,6 +174,16 @@ module _ (ns : List Node) (name row : List ℕ) (n : ℕ) (rest : List ℕ) (e :
 
   pub further_again : IsNamed ns name n → (m : ℕ) → IsLookedFurther ns name (Some m) row Twice
   further_again named m = (Some n, subst (λ l. FirstNamed ns name l (Some n)) (sym e) (names.here named), refl)
+
+module _ (ns : List Node) (name row : List ℕ) (n : ℕ) (rest : List ℕ) (e : row ≡ n ∷ rest) (named : IsNamed ns name n) where
+  -- it is the second one, or the first
+  pub further_second : (o : Option ℕ) → is_some o ≡ true → IsLookedFurther ns name o row Twice
+  further_second None there = absurd (false≢true there)
+  further_second (Some m) there = further_again ns name row n rest e named m
+
+  pub further_once : (o : Option ℕ) → is_some o ≡ false → (found : Lookup) → IsLookedFurther ns name (Some n) rest found → IsLookedFurther ns name o row found
+  further_once None none found k = further_first ns name row n rest e named found k
+  further_once (Some m) none found k = absurd (false≢true (sym none))
 
 pub further_none : (ns : List Node) (name row : List ℕ) → row ≡ [] → IsLookedFurther ns name None row Missing
 further_none ns name row e = subst (λ l. IsLookedUp ns name l Missing) (sym e) no_more
