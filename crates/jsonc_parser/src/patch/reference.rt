@@ -304,12 +304,13 @@ pub fn read<A: Allocator + Copy>(
     ensures read { IfOk result (λ taken. IsOfShown doc.now (λ d. Reads d (tokens_of pointer.now) taken)) }
     ensures fails { IfErr result (λ e. IsOfShown doc.now (λ d. ReadFails d doc.now (tokens_of pointer.now) e)) }
 {
-    match find(doc, pointer) {
-        Ok(Some(node)) => match node.to_value(doc) {
-            Ok(value) => Ok(value),
-            Err(_) => Err(FindError::OutOfMemory),
-        },
-        Ok(None) => Ok(None),
-        Err(error) => Err(error),
+    let node = match find(doc, pointer) {
+        Ok(Some(node)) => node,
+        Ok(None) => return Ok(None),
+        Err(error) => return Err(error),
+    };
+    match node.to_value(doc) {
+        Ok(value) => Ok(value),
+        Err(_) => Err(FindError::OutOfMemory),
     }
 }

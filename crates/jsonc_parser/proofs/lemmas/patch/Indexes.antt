@@ -32,9 +32,9 @@ abbrev pub IsPadded : List ℕ → Type 0
 IsPadded bytes = (1 < length bytes) × (slice_index bytes 0 ≡ 0x30)
 
 leading : (bytes : List ℕ) → (IsPadded bytes → ⊥) → next bytes ≡ Some 0x30 → length bytes ≡ 1
-leading [] no e = cc
-leading (c ∷ []) no e = refl
-leading (c ∷ d ∷ r) no e = absurd (no (omega arith, (let same : c ≡ 0x30 = cc in same)))
+leading [] free e = cc
+leading (c ∷ []) free e = refl
+leading (c ∷ d ∷ r) free e = absurd (free (omega arith, (let same : c ≡ 0x30 = cc in same)))
 
 begins_so : (bytes : List ℕ) → IsPadded bytes → next bytes ≡ Some 0x30
 begins_so [] p = absurd (omega (arith, p.0))
@@ -70,9 +70,9 @@ element_beyond ns tree n i q beyond is =
     let short = row_short ns tree n in
     omega (arith, within, fewer, short, beyond)
 
+no_element : (q : ℕ) → None ≡ Some q → ⊥
+no_element q wrong = cc
+
 pub element_told : (ns : List Node) (n index : ℕ) (token : List ℕ) (found : Option ℕ) → found ≡ slice_get (elements_at ns n) index → IsIndex token index → IsElementBy ns n token found
-element_told ns n index token None e x i q y is = none_some (e ∙ ap (λ k. slice_get (elements_at ns n) k) (index_once x y) ∙ is)
-  where
-    none_some : None ≡ Some q → ⊥
-    none_some wrong = cc
+element_told ns n index token None e x = λ i q y is. no_element q (e ∙ ap (λ k. slice_get (elements_at ns n) k) (index_once x y) ∙ is)
 element_told ns n index token (Some q) e x = (index, x, sym e)

@@ -1,5 +1,5 @@
 -- One token further from a node of a document, and all tokens of a pointer.
-use Rattle.std.proofs.Common.{ℕ, ◌≡◌, ◌<◌, ◌≤◌, ◌+◌, ◌++◌, ◌∙◌, sym, ap, subst, refl, true, false, inl, inr, List, [], ◌∷◌, Option, Some, None, length, take, drop, get_or, option_map, is_some, is_none}
+use Rattle.std.proofs.Common.{ℕ, ◌≡◌, ◌<◌, ◌≤◌, ◌+◌, ◌++◌, ◌∙◌, sym, ap, subst, refl, true, false, inl, inr, List, [], ◌∷◌, Option, Some, None, length, take, drop, get_or, option_map, is_some}
 use Rattle.std.proofs.lemmas.Bool.{false≢true}
 use Rattle.std.proofs.lemmas.List.{take_all}
 use Rattle.std.specs.declared.string.String.{String}
@@ -122,12 +122,12 @@ module _ {A : Type 0} (doc : CstRootNode A) (tree : IsTree (nodes_of doc)) where
         let wrong : None ≡ Some x = (is x).1 (sym held.1 ∙ ap (λ c. typed c (number_of node)) k) in
         cc
 
-    pub array_by : (o : Option CstArray) → IsAs array_node node o → is_none o ≡ false → content_at (nodes_of doc) (number_of node) ≡ array
-    array_by None is e = absurd (false≢true (sym e))
+    pub array_by : (o : Option CstArray) → IsAs array_node node o → is_some o ≡ true → content_at (nodes_of doc) (number_of node) ≡ array
+    array_by None is e = absurd (false≢true e)
     array_by (Some x) is e = array_content (content_at (nodes_of doc) (number_of node)) (number_of node) x (held.1 ∙ (is x).0 refl)
 
-    pub no_array_by : (o : Option CstArray) → IsAs array_node node o → is_none o ≡ true → content_at (nodes_of doc) (number_of node) ≡ array → ⊥
-    no_array_by (Some x) is e k = false≢true e
+    pub no_array_by : (o : Option CstArray) → IsAs array_node node o → is_some o ≡ false → content_at (nodes_of doc) (number_of node) ≡ array → ⊥
+    no_array_by (Some x) is e k = false≢true (sym e)
     no_array_by None is e k =
         let x : CstArray = record { number = number_of node } in
         let wrong : None ≡ Some x = (is x).1 (sym held.1 ∙ ap (λ c. typed c (number_of node)) k) in
