@@ -4,7 +4,7 @@ use failing_alloc::Refusing;
 use failing_alloc::awaited::Awaited;
 use failing_alloc::in_turn::refused_in_turn;
 use failing_alloc::outcome::Outcome;
-use jsonc_parser::{JsonObject, JsonValue, Map, ParseOptions, parse_to_value};
+use jsonc_parser::{JsonObject, JsonValue, Map};
 use std::alloc::{AllocError, AllocFailed, Allocator, Global};
 use std::borrow::CowStr;
 use std::fmt::Write;
@@ -357,54 +357,6 @@ fn keeps_its_room(heap: &Refusing<Global>) -> Result<bool, AllocError> {
 fn maps_in_use_keep_their_room(rt: HostRuntime) -> Result<(), Fail> {
     let heap = Refusing::at(rt.alloc(), u64::MAX);
     assert!(rt; keeps_its_room(&heap)?);
-    Ok(())
-}
-
-/// Objects of three and of nine properties. Of more than 8 the hashes are kept.
-static OBJECTS: [(&str, usize); 2] = [
-    ("{\"a\":1,\"b\":2,\"c\":3}", 3),
-    (
-        "{\"a\":1,\"b\":2,\"c\":3,\"d\":4,\"e\":5,\"f\":6,\"g\":7,\"h\":8,\"i\":9}",
-        9,
-    ),
-];
-
-/// Names that they do not have.
-static OTHERS: [&str; 16] = [
-    "A", "B", "C", "D", "E", "F", "G", "H", "I", "J", "K", "L", "M", "N", "O", "P",
-];
-
-/// The map of an object, as it was read, takes as many properties as it says that it can hold, and asks for nothing.
-fn is_object_filled_up<'a>(
-    heap: &'a Refusing<Global>,
-    object: JsonObject<'a, &'a Refusing<Global>>,
-    count: usize,
-) -> bool {
-    let asked = heap.asked();
-    let mut map = object.take_inner();
-    let capacity = map.capacity();
-    let is_whole = map.len() == count && capacity <= count.saturating_add(OTHERS.len());
-    for name in OTHERS.iter().take(capacity.saturating_sub(count)) {
-        if map
-            .insert(CowStr::Borrowed(*name), JsonValue::Null)
-            .is_err()
-        {
-            return false;
-        }
-    }
-    is_whole && map.len() == capacity && heap.asked() == asked
-}
-
-#[test]
-fn read_objects_are_filled_to_their_capacity_unasked(rt: HostRuntime) -> Result<(), Fail> {
-    for (text, count) in &OBJECTS {
-        let heap = Refusing::at(rt.alloc(), u64::MAX);
-        let is_filled = match parse_to_value(&heap, text, &ParseOptions::json()) {
-            Ok(Some(JsonValue::Object(object))) => is_object_filled_up(&heap, object, *count),
-            _ => false,
-        };
-        assert!(rt; is_filled, "{text}");
-    }
     Ok(())
 }
 
