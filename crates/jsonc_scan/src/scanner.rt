@@ -1,16 +1,17 @@
 //! Turning a text into tokens.
-ghost use Rattle.std.specs.Prelude.{◌≡◌, ◌≢◌, ◌≤◌, ◌<◌, ◌↔◌, IsCharBoundary, IsTrue, IfOk, IfErr, IfSome, IfNone, OnOk, OnErr, None, Some, true, false, option_map, option_copied};
+ghost use Rattle.std.specs.Prelude.{◌≡◌, ◌≢◌, ◌≤◌, ◌<◌, ◌+◌, ◌↔◌, IsCharBoundary, IsTrue, IfOk, IfErr, IfSome, IfNone, OnOk, OnErr, None, Some, true, false, option_map, option_copied};
 
 use crate::faults::out_of_memory;
 use crate::found::{TokenContent, TokenKind};
 use crate::gap::gap_end;
 use crate::plain::plain_number;
 use crate::reads::{quote_at, read_lexeme, read_punctuation};
-use crate::string::{pass_string_at, plain_string, read_string};
+use crate::string::{escaped_end, pass_string_at, plain_string, read_string};
 use crate::word::plain_keyword_end;
 use jsonc_text::chars::has_byte;
 use jsonc_text::errors::{ParseError, ParseErrorKind};
 use jsonc_text::options::{ParseOptions, ScannerOptions};
+use jsonc_text::string::stops::stop_place;
 use jsonc_text::tokens::Token;
 use std::alloc::Allocator;
 use std::borrow::CowStr;
@@ -96,9 +97,9 @@ impl<'a, A: Allocator + Copy> Scanner<'a, A> {
     ghost use Rattle.jsonc_text.specs.Faults.{IsFault, kind_of};
     ghost use Rattle.jsonc_scan.specs.Scanner.{text_of, start_of, end_of, options_of, token_of, last_token, KeepsLent, PassesBlanks, StandsAt, IsThere, seen, NothingStands, GoesOn, IsLent, IsLentSeen, HoldsEscape, IsTrueThere, ComesNext, IsMarkHere};
     ghost use Rattle.jsonc_scan.specs.Found.{token_found, LeavesOthers};
-    ghost use Rattle.jsonc_text.specs.string.Between.{LacksAt};
+    ghost use Rattle.jsonc_text.specs.string.Between.{LacksAt, Reaches, is_neither};
     ghost use Rattle.jsonc_text.specs.Lexemes.{is_punctuation};
-    ghost use Rattle.jsonc_text.specs.Text.{Spans};
+    ghost use Rattle.jsonc_text.specs.Text.{Many, Spans};
     ghost use Rattle.jsonc_text.specs.string.Quotes.{OpensString};
     ghost use Rattle.jsonc_text.specs.Tokens.{IsOwned, scanned_of};
     ghost use Rattle.jsonc_text.specs.Places.{is_comment};
@@ -177,10 +178,14 @@ impl<'a, A: Allocator + Copy> Scanner<'a, A> {
         if start == self.file_text.len() {
             return Ok(None);
         }
-        if let Some(plain) = plain_string(self.file_text, start) {
-            self.byte_index = plain.end;
-            content.string = plain.string;
-            return Ok(Some(TokenKind::String));
+        if has_byte(self.file_text, start, b'"') {
+            let stop = stop_place(self.file_text, start + 1, b'"', b'\\');
+            if let Some(plain) = plain_string(self.file_text, start, stop) {
+                self.byte_index = plain.end;
+                content.string = plain.string;
+                return Ok(Some(TokenKind::String));
+            }
+            return self.step_string(content, b'"', stop, decodes);
         }
         if let Some(mark) = read_punctuation(self.file_text, start) {
             self.byte_index = start + 1;
@@ -194,26 +199,39 @@ impl<'a, A: Allocator + Copy> Scanner<'a, A> {
         self.step_other(content, decodes)
     }
 
-    /// Moves to the next token, where that is punctuation, a keyword, or a string or a number that is read by its
-    /// lanes, and answers its kind. Else nothing changes.
+    /// Moves to the next token, where that is punctuation, a keyword, a string in double quotes, or a number of JSON,
+    /// and answers its kind. Else nothing changes. A string with a backslash is not read where strings are decoded.
     #[doc(hidden)]
     #[inline(always)]
-    pub fn step_plain(&mut self, content: &mut TokenContent<'a, A>) -> Option<TokenKind>
+    pub fn step_plain(
+        &mut self,
+        content: &mut TokenContent<'a, A>,
+        decodes: &bool,
+    ) -> Option<TokenKind>
         ensures blanks { IfSome result (λ _. PassesBlanks self.old self.new) }
         ensures found { IfSome result (λ k. IsThere self.new (seen self.new content.new (Some k))) }
         ensures lent { IfSome result (IsLentSeen self.new content.new) }
+        ensures passed { result ≡ Some TokenKind.Passed → decodes.now ≡ false }
         ensures lexeme { IfSome result (λ k. is_comment (scanned_seen self.new content.new k) ≡ false) }
         ensures none { IfNone result (self.new ≡ self.old) }
     {
         let start = gap_end(self.file_text, self.byte_index);
         if has_byte(self.file_text, start, b'"') {
-            let Some(plain) = plain_string(self.file_text, start) else {
-                return None;
-            };
-            self.token_start = start;
-            self.byte_index = plain.end;
-            content.string = plain.string;
-            return Some(TokenKind::String);
+            let stop = stop_place(self.file_text, start + 1, b'"', b'\\');
+            if let Some(plain) = plain_string(self.file_text, start, stop) {
+                self.token_start = start;
+                self.byte_index = plain.end;
+                content.string = plain.string;
+                return Some(TokenKind::String);
+            }
+            if !*decodes && has_byte(self.file_text, stop, b'\\') {
+                if let Some(end) = escaped_end(self.file_text, start, stop, &self.options) {
+                    self.token_start = start;
+                    self.byte_index = end;
+                    return Some(TokenKind::Passed);
+                }
+            }
+            return None;
         }
         if let Some(mark) = read_punctuation(self.file_text, start) {
             self.token_start = start;
@@ -272,7 +290,8 @@ impl<'a, A: Allocator + Copy> Scanner<'a, A> {
     {
         let start = self.token_start;
         if let Some(quote) = quote_at(self.file_text, start, &self.options) {
-            return self.step_string(content, quote, decodes);
+            let stop = stop_place(self.file_text, start + 1, quote, b'\\');
+            return self.step_string(content, quote, stop, decodes);
         }
         let read = read_lexeme(self.file_text, start, &self.options)?;
         self.byte_index = read.end;
@@ -285,10 +304,13 @@ impl<'a, A: Allocator + Copy> Scanner<'a, A> {
         &mut self,
         content: &mut TokenContent<'a, A>,
         quote: u8,
+        stop: usize,
         decodes: bool,
     ) -> Result<Option<TokenKind>, ParseError>
         requires quote { OpensString (options_of self.old) (text_of self.old) (start_of self.old) quote }
         requires here { end_of self.old ≡ start_of self.old }
+        requires run { Reaches (Many (is_neither quote 0x5C)) (text_of self.old) (start_of self.old + 1) stop }
+        requires stops { LacksAt (is_neither quote 0x5C) (text_of self.old) stop }
         ensures text { text_of self.new ≡ text_of self.old }
         ensures options { options_of self.new ≡ options_of self.old }
         ensures start { start_of self.new ≡ start_of self.old }
@@ -306,13 +328,14 @@ impl<'a, A: Allocator + Copy> Scanner<'a, A> {
         ensures stays { OnErr result (end_of self.new ≡ start_of self.new) }
     {
         let start = self.token_start;
+        let text = self.file_text;
         if decodes {
-            let read = read_string(self.alloc, self.file_text, start, quote, &self.options)?;
+            let read = read_string(self.alloc, text, start, quote, stop, &self.options)?;
             self.byte_index = read.end;
             content.string = read.string;
             return Ok(Some(TokenKind::String));
         }
-        let passed = pass_string_at(self.file_text, start, quote, &self.options)?;
+        let passed = pass_string_at(text, start, quote, stop, &self.options)?;
         self.byte_index = passed.end;
         if passed.escaped {
             return Ok(Some(TokenKind::Passed));

@@ -1,9 +1,13 @@
 //! String tokens.
-ghost use Rattle.std.specs.Prelude.{◌≡◌, ◌≢◌, ◌↔◌, IsCharBoundary, IfOk, IfErr, IfSome};
+ghost use Rattle.std.specs.Prelude.{◌≡◌, ◌≢◌, ◌↔◌, ◌+◌, IsCharBoundary, IfOk, IfErr, IfSome};
 ghost use Rattle.jsonc_text.specs.Faults.{IsFault, kind_of};
 ghost use Rattle.jsonc_text.specs.OptionsOf.{parse_options};
-ghost use Rattle.jsonc_text.specs.Text.{Spans};
-ghost use Rattle.jsonc_text.specs.string.Escapes.{StringHoldsBackslash};
+ghost use Rattle.jsonc_text.specs.Chars.{Steps};
+ghost use Rattle.jsonc_text.specs.Lexemes.{IsScanned, lexeme, string};
+ghost use Rattle.jsonc_text.specs.StringValue.{string_value};
+ghost use Rattle.jsonc_text.specs.Text.{Many, Spans};
+ghost use Rattle.jsonc_text.specs.string.Between.{Between, LacksAt, Reaches, is_neither};
+ghost use Rattle.jsonc_text.specs.string.Escapes.{HoldsBackslash, StringHoldsBackslash};
 ghost use Rattle.jsonc_scan.specs.Reads.{IsStringAnyhow, IsStringPassed, IsStringRead, NothingAt};
 ghost use Rattle.jsonc_scan.specs.Refusals.{IsFaultOfString, IsFaultOfStringToken, IsTextFault};
 ghost use Rattle.jsonc_scan.specs.Faults.{IsTrueOf};
@@ -13,23 +17,24 @@ use crate::faults::out_of_memory;
 use jsonc_text::chars::has_byte;
 use jsonc_text::errors::{ParseError, ParseErrorKind, ParseStringErrorKind};
 use jsonc_text::options::ParseOptions;
-use jsonc_text::string::decode::{Decoded, decode_string};
+use jsonc_text::string::decode::{Decoded, decode_from};
 use jsonc_text::string::escape::{Literal, StringFault};
-use jsonc_text::string::pass::{PassedString, pass_string};
-use jsonc_text::string::stops::stop_place;
+use jsonc_text::string::pass::{PassedString, pass_escaped, pass_from};
 use std::alloc::Allocator;
 use std::borrow::CowStr;
 
-/// The string between double quotes at a place, if one without a backslash stands there.
+/// The string between double quotes at a place, if no backslash stands in it. Its first quote or backslash is known.
 #[inline(always)]
-pub(crate) fn plain_string<'a, A: Allocator>(text: &'a str, start: usize) -> Option<Decoded<'a, A>>
-    requires { IsCharBoundary text.now start }
+pub(crate) fn plain_string<'a, A: Allocator>(
+    text: &'a str,
+    start: usize,
+    stop: usize,
+) -> Option<Decoded<'a, A>>
+    requires boundary { IsCharBoundary text.now start }
+    requires opens { Steps text.now start 0x22 (start + 1) }
+    requires run { Reaches (Many (is_neither 0x22 0x5C)) text.now (start + 1) stop }
     ensures { IfSome result (IsStringAnyhow text.now start) }
 {
-    if !has_byte(text, start, b'"') {
-        return None;
-    }
-    let stop = stop_place(text, start + 1, b'"', b'\\');
     if !has_byte(text, stop, b'"') {
         return None;
     }
@@ -39,16 +44,47 @@ pub(crate) fn plain_string<'a, A: Allocator>(text: &'a str, start: usize) -> Opt
     })
 }
 
-/// The string at a place, where its quote stands.
+/// The place after a string between double quotes whose first backslash is known, if all is right with it.
+#[inline(never)]
+pub(crate) fn escaped_end(
+    text: &str,
+    start: usize,
+    stop: usize,
+    options: &ParseOptions,
+) -> Option<usize>
+    requires boundary { IsCharBoundary text.now start }
+    requires opens { Steps text.now start 0x22 (start + 1) }
+    requires run { Reaches (Many (is_neither 0x22 0x5C)) text.now (start + 1) stop }
+    requires backslash { Steps text.now stop 0x5C (stop + 1) }
+    ensures stands { IfSome result (λ end. Between (IsScanned (parse_options options.now)
+        (lexeme (string (string_value text.now start end)))) text.now start end) }
+    ensures holds { IfSome result (HoldsBackslash text.now start) }
+{
+    let literal = Literal {
+        start,
+        quote: b'"',
+        extended: options.allow_extended_string_escapes,
+    };
+    match pass_escaped(text, literal, stop) {
+        Ok(passed) => Some(passed.end),
+        Err(_) => None,
+    }
+}
+
+/// The string at a place, where its quote stands, and whose first backslash or such quote is known.
+#[inline(never)]
 pub(crate) fn read_string<'a, A: Allocator + Copy>(
     alloc: A,
     text: &'a str,
     start: usize,
     quote: u8,
+    stop: usize,
     options: &ParseOptions,
 ) -> Result<Decoded<'a, A>, ParseError>
     requires boundary { IsCharBoundary text.now start }
     requires quote { OpensString (parse_options options.now) text.now start quote }
+    requires run { Reaches (Many (is_neither quote 0x5C)) text.now (start + 1) stop }
+    requires stops { LacksAt (is_neither quote 0x5C) text.now stop }
     ensures found { IfOk result (IsStringRead (parse_options options.now) text.now start) }
     ensures none { IfErr result (λ e. kind_of e ≢ ParseErrorKind.OutOfMemory
         → NothingAt (parse_options options.now) text.now start) }
@@ -61,21 +97,24 @@ pub(crate) fn read_string<'a, A: Allocator + Copy>(
         quote,
         extended: options.allow_extended_string_escapes,
     };
-    match decode_string(alloc, text, literal) {
+    match decode_from(alloc, text, literal, stop) {
         Ok(decoded) => Ok(decoded),
         Err(fault) => Err(string_error(text, fault)),
     }
 }
 
-/// The string at a place, where its quote stands, passed without decoding it.
+/// The same, passed without decoding it.
 pub(crate) fn pass_string_at(
     text: &str,
     start: usize,
     quote: u8,
+    stop: usize,
     options: &ParseOptions,
 ) -> Result<PassedString, ParseError>
     requires boundary { IsCharBoundary text.now start }
     requires quote { OpensString (parse_options options.now) text.now start quote }
+    requires run { Reaches (Many (is_neither quote 0x5C)) text.now (start + 1) stop }
+    requires stops { LacksAt (is_neither quote 0x5C) text.now stop }
     ensures found { IfOk result (IsStringPassed (parse_options options.now) text.now start) }
     ensures none { IfErr result (λ _. NothingAt (parse_options options.now) text.now start) }
     ensures fault { IfErr result (IsTextFault text.now) }
@@ -86,13 +125,14 @@ pub(crate) fn pass_string_at(
         quote,
         extended: options.allow_extended_string_escapes,
     };
-    match pass_string(text, literal) {
+    match pass_from(text, literal, stop) {
         Ok(passed) => Ok(passed),
         Err(fault) => Err(string_error(text, fault)),
     }
 }
 
 /// A string's fault as a fault of its text.
+#[cold]
 fn string_error(text: &str, fault: StringFault) -> ParseError
     requires { Spans text.now fault.range.start fault.range.end }
     ensures fault { IsFault text.now result }

@@ -6,5 +6,6 @@ pub mod decode;
 pub mod escape;
 pub mod laws;
 pub mod pass;
+mod plain;
 pub mod provider;
 pub mod stops;

@@ -162,7 +162,7 @@ impl<'a, A: Allocator + Copy> Context<'a, A> {
         if self.collects() {
             return None;
         }
-        self.scanner.step_plain(&mut self.content)
+        self.scanner.step_plain(&mut self.content, &self.decodes)
     }
 
     // Passes a gap of which the receiver knows, and answers the kind of the token after it, or none at the end of the text.

@@ -1,5 +1,5 @@
 -- Escapes, and strings in their quotes, by the places where they stand.
-use Rattle.std.specs.Prelude.{ℕ, ◌+◌, ◌≡◌, ◌≢◌, ◌≤◌, ◌<◌, ◌↔◌, Bool, true, false, List, [], ◌∷◌, ◌++◌, Option, Some, None, IsCharBoundary, slice_range, ◌-◌}
+use Rattle.std.specs.Prelude.{ℕ, ◌+◌, ◌≡◌, ◌≢◌, ◌≤◌, ◌<◌, ◌↔◌, Bool, true, false, List, [], ◌∷◌, ◌++◌, Option, Some, None, IsCharBoundary, IsTrue, slice_range, ◌-◌}
 use Rattle.std.specs.declared.borrow.CowStr.{CowStr}
 use Rattle.std.specs.Cow.{cow_str_bytes, IsBorrowedStr, IsOwnedStr}
 use Rattle.jsonc_text.specs.declared.string.escape.Escape.{Escape}
@@ -8,7 +8,8 @@ use Rattle.jsonc_text.specs.declared.string.escape.Meaning.TheVariants as read
 use Rattle.jsonc_text.specs.declared.string.escape.StringFault.{StringFault}
 use Rattle.jsonc_text.specs.declared.errors.ParseStringErrorKind.TheVariants.{OutOfMemory}
 use Rattle.jsonc_text.specs.Options.{Options, all_on}
-use Rattle.jsonc_text.specs.Text.{Many, Spans}
+use Rattle.std.specs.Char.{digit_value}
+use Rattle.jsonc_text.specs.Text.{Many, Spans, is_hex_digit}
 use Rattle.jsonc_text.specs.Chars.{Steps}
 use Rattle.jsonc_text.specs.Strings.{IsQuote, Meaning, gives, extended, code_unit, code_byte, nul, line_end, carriage_return, refused, AreHex4, hex4, Piece, Pieces, Decodes}
 use Rattle.jsonc_text.specs.string.Between.{Between, NoneFrom, Reaches, is_neither}
@@ -37,6 +38,13 @@ is_plain _ = false
 -- t is `\u` and four hex digits that write the number n, and then r
 pub data IsUnit (n : ℕ) : List ℕ → List ℕ → Type 0 where
   unit_of : {a b c d : ℕ} {r : List ℕ} → AreHex4 a b c d → n ≡ hex4 a b c d → IsUnit n (0x5C ∷ 0x75 ∷ a ∷ b ∷ c ∷ d ∷ r) r
+
+-- a hex digit that writes this number stands at a place
+pub record HasHexDigit (bytes : List ℕ) (place value : ℕ) : Type 0 where
+  pub digit : ℕ
+  pub is_hex : IsTrue (is_hex_digit digit)
+  pub here : Steps bytes place digit (place + 1)
+  pub writes : value ≡ digit_value digit
 
 -- t is one piece between quotes q that stands for the characters p, and then r
 abbrev pub IsPiece : Bool → ℕ → List ℕ → List ℕ → List ℕ → Type 0

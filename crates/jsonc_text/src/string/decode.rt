@@ -6,7 +6,7 @@ ghost use Rattle.jsonc_text.specs.Chars.{Steps};
 ghost use Rattle.jsonc_text.specs.Options.{all_on};
 ghost use Rattle.jsonc_text.specs.Strings.{IsQuote};
 ghost use Rattle.jsonc_text.specs.Text.{Many};
-ghost use Rattle.jsonc_text.specs.string.Between.{Between, Reaches, is_neither};
+ghost use Rattle.jsonc_text.specs.string.Between.{Between, LacksAt, Reaches, is_neither};
 ghost use Rattle.jsonc_text.specs.string.Escapes.{IsQuoted, NoQuoted, IsLentUnescaped, StringHoldsBackslash, IsStringRefusal, given};
 ghost use Rattle.jsonc_text.specs.string.Faults.{IsStringFault};
 
@@ -15,6 +15,7 @@ use crate::common::Range;
 use crate::errors::ParseStringErrorKind;
 use crate::runs::byte_stop;
 use crate::string::escape::{Literal, StringFault, read_escape, unterminated};
+use crate::string::plain::plain_escape;
 use crate::string::stops::stop_place;
 use std::alloc::{AllocError, Allocator};
 use std::borrow::CowStr;
@@ -50,11 +51,40 @@ pub fn decode_string<'a, A: Allocator>(
         → StringHoldsBackslash text.now literal.start) }
     ensures escaped { IfOk result (λ d. IsOwnedStr d.string → StringHoldsBackslash text.now literal.start) }
 {
-    let first = literal.start + 1;
-    let stop = stop_place(text, first, literal.quote, b'\\');
+    let stop = stop_place(text, literal.start + 1, literal.quote, b'\\');
+    decode_from(alloc, text, literal, stop)
+}
+
+/// The same, of a string whose first backslash or quote stands at a place, or the end of the text.
+#[inline(always)]
+pub fn decode_from<'a, A: Allocator>(
+    alloc: A,
+    text: &'a str,
+    literal: Literal,
+    stop: usize,
+) -> Result<Decoded<'a, A>, StringFault>
+    requires boundary { IsCharBoundary text.now literal.start }
+    requires opens { Steps text.now literal.start literal.quote (literal.start + 1) }
+    requires quote { IsQuote all_on literal.quote }
+    requires run { Reaches (Many (is_neither literal.quote 0x5C)) text.now (literal.start + 1) stop }
+    requires stops { LacksAt (is_neither literal.quote 0x5C) text.now stop }
+    ensures found { IfOk result
+        (λ d. Between (IsQuoted literal.extended literal.quote
+        (chars (cow_str_bytes d.string))) text.now literal.start d.end) }
+    ensures lent { IfOk result (λ d. IsLentUnescaped text.now literal.start d.end d.string) }
+    ensures none { IfErr result (λ f. f.kind ≢ ParseStringErrorKind.OutOfMemory
+        → NoQuoted literal.extended literal.quote text.now literal.start) }
+    ensures places { IfErr result (IsStringRefusal text.now literal.start) }
+    ensures error { IfErr result (IsStringFault literal.extended literal.quote text.now literal.start) }
+    ensures place { IfErr result (λ f. f.kind ≡ ParseStringErrorKind.OutOfMemory
+        → f.range ≡ record { start = literal.start; end = literal.start }) }
+    ensures memory { IfErr result (λ f. f.kind ≡ ParseStringErrorKind.OutOfMemory
+        → StringHoldsBackslash text.now literal.start) }
+    ensures escaped { IfOk result (λ d. IsOwnedStr d.string → StringHoldsBackslash text.now literal.start) }
+{
     if has_byte(text, stop, literal.quote) {
         return Ok(Decoded {
-            string: CowStr::Borrowed(&text[first..stop]),
+            string: CowStr::Borrowed(&text[literal.start + 1..stop]),
             end: stop + 1,
         });
     }
@@ -65,6 +95,7 @@ pub fn decode_string<'a, A: Allocator>(
 }
 
 /// Appends a part of a text, and the character of an escape, if it stands for one.
+#[inline(always)]
 fn append<A: Allocator>(
     copy: &mut String<A>,
     front: &str,
@@ -99,6 +130,7 @@ fn closing_place(bytes: &[u8], first_stop: usize, quote: u8) -> usize
 }
 
 /// The same, of a string whose first backslash stands at a place: a copy.
+#[inline(always)]
 fn decode_escaped<'a, A: Allocator>(
     alloc: A,
     text: &'a str,
@@ -135,9 +167,12 @@ fn decode_escaped<'a, A: Allocator>(
     let mut from = literal.start + 1;
     let mut place = first_stop;
     while has_byte(text, place, b'\\') {
-        let escape = match read_escape(text, place, literal) {
-            Ok(escape) => escape,
-            Err(fault) => return Err(fault),
+        let escape = match plain_escape(text, place, literal) {
+            Some(escape) => escape,
+            None => match read_escape(text, place, literal) {
+                Ok(escape) => escape,
+                Err(fault) => return Err(fault),
+            },
         };
         let Ok(()) = append(&mut copy, &text[from..place], escape.character) else {
             return Err(no_memory);

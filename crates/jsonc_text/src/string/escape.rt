@@ -57,7 +57,8 @@ struct CodeUnit {
 }
 
 /// What a backslash before `c` means between these quotes.
-fn escape_meaning(quote: u8, c: char) -> Meaning
+#[inline(always)]
+pub(crate) fn escape_meaning(quote: u8, c: char) -> Meaning
     ensures meaning { meaning_of result ≡ meaning quote c }
     ensures unit { result ≡ Meaning.CodeUnit → c ≡ 0x75 }
     ensures byte { result ≡ Meaning.CodeByte → c ≡ 0x78 }
@@ -209,7 +210,8 @@ pub(crate) fn unterminated(text: &str, start: usize) -> StringFault
 }
 
 /// The character that two surrogates stand for.
-fn pair(high: u32, low: u32) -> char
+#[inline(always)]
+pub(crate) fn pair(high: u32, low: u32) -> char
     requires high { IsTrue (is_high_surrogate high) }
     requires low { IsTrue (is_low_surrogate low) }
     ensures { result ≡ pair_char high low }
@@ -378,7 +380,8 @@ fn refusal(c: char) -> ParseStringErrorKind
 }
 
 /// The escape whose backslash stands at a place.
-#[inline(always)]
+#[cold]
+#[inline(never)]
 pub(crate) fn read_escape(text: &str, place: usize, literal: Literal) -> Result<Escape, StringFault>
     requires spans { Spans text.now literal.start place }
     requires backslash { Steps text.now place 0x5C (place + 1) }

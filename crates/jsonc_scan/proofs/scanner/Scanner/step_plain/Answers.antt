@@ -7,11 +7,11 @@ invariant_of-self g c =
     let stands = (c.in-Some.ensures all_on).stands in
     record { at_place = stands.boundary; starts_at_place = c.gap_end-start.ensures.boundary; order = omega (arith, stands.order) }
 
-pub returns-then-has_byte-clause-found : goal.returns-then-has_byte-clause-found
-returns-then-has_byte-clause-found g c = let stands = (c.in-Some.ensures _).stands in (stands.order, stands.piece)
+pub returns-in-Some-clause-found : goal.returns-in-Some-clause-found
+returns-in-Some-clause-found g c = let stands = (c.in-Some.ensures _).stands in (stands.order, stands.piece)
 
-pub returns-then-has_byte-clause-lent : goal.returns-then-has_byte-clause-lent
-returns-then-has_byte-clause-lent g c = (c.in-Some.ensures all_on).lent
+pub returns-in-Some-clause-lent : goal.returns-in-Some-clause-lent
+returns-in-Some-clause-lent g c = (c.in-Some.ensures all_on).lent
 
 pub invariant_of-self-in-Some-plain_number : goal.invariant_of-self-in-Some-plain_number
 invariant_of-self-in-Some-plain_number g c =

@@ -1,7 +1,9 @@
-use Rattle.std.proofs.Common.{arith, refl}
+use Rattle.std.proofs.Common.{arith, refl, subst, sym}
 use Rattle.jsonc_text.proofs.lemmas.string.Decoding.{decoding_start, decoding_more, quoted_copy, no_escape, no_close}
 use Rattle.jsonc_text.proofs.lemmas.string.Faults.{read_decoding, told_unclosed}
+use Rattle.jsonc_text.specs.string.Escapes.{IsEscape}
 use Rattle.jsonc_text.proofs.string.decode.decode_escaped.Goals as goal
+use Rattle.jsonc_text.proofs.string.decode.decode_escaped.Goals.{in-Some, in-None+in-Ok-read_escape}
 
 pub loop-escape-init : goal.loop-escape-init
 loop-escape-init g c = record {
@@ -16,9 +18,15 @@ returns-in-Err-clause-none g c = λ k.
 pub loop-escape-preserved : goal.loop-escape-preserved
 loop-escape-preserved g c =
     let next = c.stop_place-place.ensures in
+    let literal = c.args.literal in
+    let escape = c.match-plain_escape.escape in
+    let found : IsEscape literal.extended literal.quote c.args.text.now c.loop-escape.place escape = elim c.match-plain_escape.branch [
+      | in-Some w ↦ subst (IsEscape literal.extended literal.quote c.args.text.now c.loop-escape.place) (sym w.escape-is) w.in-Some.ensures
+      | in-None+in-Ok-read_escape w ↦ subst (IsEscape literal.extended literal.quote c.args.text.now c.loop-escape.place) (sym w.escape-is) w.in-Ok-read_escape.ensures.found
+    ] in
     record {
-      past = omega (arith, c.loop-escape.invariant.past, c.in-Ok-read_escape.ensures.found.order, next.passed.order);
-      decoding = decoding_more _ _ _ _ _ _ c.in-Ok-read_escape.escape.character _ _ _ _ _ c.utf8.text c.loop-escape.invariant.decoding c.range.ensures.value c.in-Ok-read_escape.ensures.found c.in-Ok-append.ensures next.passed next.stops;
+      past = omega (arith, c.loop-escape.invariant.past, found.order, next.passed.order);
+      decoding = decoding_more _ _ _ _ _ _ escape.character _ _ _ _ _ c.utf8.text c.loop-escape.invariant.decoding c.range.ensures.value found c.in-Ok-append.ensures next.passed next.stops;
     }
 
 pub returns-then-not-has_byte-clause-none : goal.returns-then-not-has_byte-clause-none

@@ -1,7 +1,9 @@
-use Rattle.std.proofs.Common.{arith, refl}
+use Rattle.std.proofs.Common.{arith, refl, subst, sym}
 use Rattle.jsonc_text.proofs.lemmas.string.Faults.{told_unclosed}
 use Rattle.jsonc_text.proofs.lemmas.string.Passing.{passing_start, passing_more, read_passing, passed_quoted, no_escape_passed, no_close_passed}
+use Rattle.jsonc_text.specs.string.Escapes.{IsEscape}
 use Rattle.jsonc_text.proofs.string.pass.pass_escaped.Goals as goal
+use Rattle.jsonc_text.proofs.string.pass.pass_escaped.Goals.{in-Some, in-None+in-Ok}
 
 pub loop-place-init : goal.loop-place-init
 loop-place-init c = record { past = omega arith; passing = passing_start _ _ _ _ _ c.requires.run c.requires.backslash }
@@ -16,9 +18,14 @@ returns-in-Err-clause-error c = c.in-Err.ensures.error (read_passing _ _ _ _ _ c
 pub loop-place-preserved : goal.loop-place-preserved
 loop-place-preserved c =
     let next = c.stop_place-place.ensures in
+    let literal = c.args.literal in
+    let found : IsEscape literal.extended literal.quote c.args.text.now c.loop-place.place c.match-plain_escape.escape = elim c.match-plain_escape.branch [
+      | in-Some w ↦ subst (IsEscape literal.extended literal.quote c.args.text.now c.loop-place.place) (sym w.escape-is) w.in-Some.ensures
+      | in-None+in-Ok w ↦ subst (IsEscape literal.extended literal.quote c.args.text.now c.loop-place.place) (sym w.escape-is) w.in-Ok.ensures.found
+    ] in
     record {
-      past = omega (arith, c.loop-place.invariant.past, c.in-Ok.ensures.found.order, next.passed.order);
-      passing = passing_more _ _ _ _ _ _ _ _ c.loop-place.invariant.passing c.in-Ok.ensures.found next.passed next.stops;
+      past = omega (arith, c.loop-place.invariant.past, found.order, next.passed.order);
+      passing = passing_more _ _ _ _ _ _ _ _ c.loop-place.invariant.passing found next.passed next.stops;
     }
 
 pub returns-then-not-has_byte-clause-none : goal.returns-then-not-has_byte-clause-none
