@@ -1,29 +1,12 @@
 //! Strings at the front of a text, checked without memory.
 
-ghost use Rattle.std.specs.Prelude.{◌≡◌, ◌≢◌, IfErr, IfNone, IfOk, IfSome, IsCharBoundary};
-ghost use Rattle.jsonc_text.specs.Options.{all_on};
-ghost use Rattle.jsonc_text.specs.string.Quotes.{OpensNoString, OpensString};
+ghost use Rattle.std.specs.Prelude.{◌≡◌, ◌≢◌, IfErr, IfOk};
 ghost use Rattle.jsonc_layout.specs.nodes.Names.{HoldsString, IsNoString};
 
-use jsonc_text::chars::has_byte;
 use jsonc_text::errors::ParseStringErrorKind;
 use jsonc_text::string::escape::Literal;
 use jsonc_text::string::pass::pass_string;
-
-// The quote of either kind at a place, or none.
-fn opening_quote(text: &str, place: usize) -> Option<u8>
-    requires { IsCharBoundary text.now place }
-    ensures found { IfSome result (OpensString all_on text.now place) }
-    ensures none { IfNone result (OpensNoString all_on text.now place) }
-{
-    if has_byte(text, place, b'"') {
-        return Some(b'"');
-    }
-    if has_byte(text, place, b'\'') {
-        return Some(b'\'');
-    }
-    None
-}
+use jsonc_text::string::provider::opening_quote;
 
 // Whether a string stands at the front of a text, or why none does.
 fn check_string(text: &str) -> Result<(), ParseStringErrorKind>

@@ -127,7 +127,7 @@ fn pass_to<'a, T: CharProvider<'a>>(chars: &mut T, text: &'a str, end: usize)
 }
 
 /// The quote of either kind at a place, or none.
-fn opening_quote(text: &str, place: usize) -> Option<u8>
+pub fn opening_quote(text: &str, place: usize) -> Option<u8>
     requires { IsCharBoundary text.now place }
     ensures found { IfSome result (OpensString all_on text.now place) }
     ensures none { IfNone result (OpensNoString all_on text.now place) }
