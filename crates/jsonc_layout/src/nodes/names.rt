@@ -153,8 +153,8 @@ fn has_name<A: Allocator, B: Allocator>(
     }
 }
 
-// Whether a node is there and is a property that has this name.
-fn is_named<A: Allocator, B: Allocator>(
+/// Whether a node is a property that has this name. Memory is wanted only for a name with a backslash.
+pub fn is_named<A: Allocator, B: Allocator>(
     alloc: B,
     tree: &Tree<A>,
     node: usize,
