@@ -1,16 +1,15 @@
 //! What a pointer refers to in a document.
 
 ghost use Rattle.std.specs.Prelude.{◌≡◌, ◌<◌, ◌≤◌, ◌↔◌, ◌^◌, ℕ, length, chars, slice_index, IfErr, IfNone, IfOk, IfSome, IsTrue, OnErr, Some};
-ghost use Rattle.std.specs.Bool.{Decides};
 ghost use Rattle.std.specs.Option.{SomeIff};
 ghost use Rattle.std.specs.Str.Parse.{IsNumeral, digits_value};
-ghost use Rattle.jsonc_layout.specs.nodes.Names.{HasEscapedName, HoldsEscapedName, IsEscaped, IsNamed};
+ghost use Rattle.jsonc_layout.specs.nodes.Names.{HoldsEscapedName};
 ghost use Rattle.jsonc_layout.specs.nodes.Siblings.{IsThere};
 ghost use Rattle.jsonc_tree.specs.Content.{Content};
 ghost use Rattle.jsonc_tree.specs.Tree.{children_at};
 ghost use Rattle.jsonc_cst.specs.Document.{content_of, nodes_of, HasNode};
-ghost use Rattle.jsonc_cst.specs.Nodes.{name_node, number_of};
-ghost use Rattle.jsonc_cst.specs.Readings.{value_under as value_of_property, NameStandsFor};
+ghost use Rattle.jsonc_cst.specs.Nodes.{number_of};
+ghost use Rattle.jsonc_cst.specs.Readings.{value_under as value_of_property};
 ghost use Rattle.jsonc_parser.specs.paths.Found.{names_of};
 ghost use Rattle.jsonc_parser.specs.patch.Found.{FindFails, Finds, IsOfShown, ReadFails, Reads};
 ghost use Rattle.jsonc_parser.specs.patch.Lookups.{found_once, IsElementBy, IsLookedUp, SaysRepeated, StepFails, StepsTo};
@@ -19,10 +18,8 @@ ghost use Rattle.jsonc_parser.specs.patch.Pointer.{tokens_of};
 ghost use Rattle.jsonc_parser.specs.patch.References.{IsIndex};
 
 use super::pointer::Pointer;
-use jsonc_cst::cst::{CstInputValue, CstNode, CstRootNode, ObjectPropName, TypedNode, node_at};
-use jsonc_layout::nodes::{children_from, element_at, value_of};
-use jsonc_text::errors::ParseStringErrorKind;
-use jsonc_text::string::provider::parse_string;
+use jsonc_cst::cst::{CstInputValue, CstNode, CstRootNode, TypedNode, node_at};
+use jsonc_layout::nodes::{children_from, element_at, is_named, value_of};
 use std::alloc::{AllocError, Allocator};
 use std::error::Error;
 use std::fmt;
@@ -65,49 +62,6 @@ pub(crate) enum Lookup {
     Twice,
 }
 
-// Whether a property's name stands for a text.
-fn stands_for<A: Allocator + Copy>(
-    doc: &CstRootNode<A>,
-    name: ObjectPropName,
-    text: &str,
-) -> Result<bool, AllocError>
-    requires { HasNode doc.now (name_node name) }
-    ensures named { IfOk result (λ b. Decides b (NameStandsFor doc.now name (chars text.now))) }
-    ensures memory { OnErr result (IsEscaped (content_of doc.now (name_node name))) }
-{
-    match name {
-        ObjectPropName::Word(word) => Ok(word.raw_value(doc) == text),
-        ObjectPropName::String(string) => {
-            match parse_string(*doc.allocator(), string.raw_value(doc)) {
-                Ok(decoded) => Ok(decoded.as_str() == text),
-                Err(fault) => match fault.kind {
-                    ParseStringErrorKind::OutOfMemory => Err(AllocError),
-                    _ => Ok(false),
-                },
-            }
-        }
-    }
-}
-
-// Whether a node is a property of a name.
-fn is_named<A: Allocator + Copy>(
-    doc: &CstRootNode<A>,
-    node: usize,
-    name: &str,
-) -> Result<bool, AllocError>
-    requires { node < length (nodes_of doc.now) }
-    ensures named { IfOk result (λ b. Decides b (IsNamed (nodes_of doc.now) (chars name.now) node)) }
-    ensures memory { OnErr result (HasEscapedName (nodes_of doc.now) node) }
-{
-    let Some(property) = node_at(doc.tree(), node).as_object_prop() else {
-        return Ok(false);
-    };
-    match property.name(doc) {
-        Some(its_name) => stands_for(doc, its_name, name),
-        None => Ok(false),
-    }
-}
-
 // The one property of a name among the children of an object. Memory is wanted only for a name with a
 // backslash.
 fn look_up<A: Allocator + Copy>(
@@ -122,7 +76,7 @@ fn look_up<A: Allocator + Copy>(
 {
     let mut found = None;
     for child in children_from(doc.tree(), object, 0) {
-        if !is_named(doc, child, name)? {
+        if !is_named(*doc.allocator(), doc.tree(), child, name)? {
             continue;
         }
         if found.is_some() {
