@@ -5,3 +5,6 @@ pub mod Found
 pub mod Lookups
 pub mod Messages
 pub mod Laws
+pub mod Numbers
+pub mod Digits
+pub mod Values

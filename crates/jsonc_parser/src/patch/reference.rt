@@ -74,9 +74,10 @@ fn look_up<A: Allocator + Copy>(
     ensures in_tree { IfOk result (λ found. IsThere (nodes_of doc.now) (found_once found)) }
     ensures memory { OnErr result (HoldsEscapedName (nodes_of doc.now) object) }
 {
+    let tree = doc.tree();
     let mut found = None;
-    for child in children_from(doc.tree(), object, 0) {
-        if !is_named(*doc.allocator(), doc.tree(), child, name)? {
+    for child in children_from(tree, object, 0) {
+        if !is_named(*doc.allocator(), tree, child, name)? {
             continue;
         }
         if found.is_some() {
