@@ -7,3 +7,4 @@ pub mod LineStarts
 pub mod Places
 pub mod Numbers
 pub mod Checker
+pub mod patch

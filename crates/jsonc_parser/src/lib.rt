@@ -13,6 +13,7 @@ pub mod cst;
 pub mod laws;
 mod line_index;
 pub mod numbers;
+pub mod patch;
 mod paths;
 mod places;
 pub mod settings;

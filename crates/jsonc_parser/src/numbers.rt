@@ -4,7 +4,7 @@
 //! [`NumberLit::value`](crate::ast::NumberLit::value) hands it out, in each form that the options allow: a
 //! decimal number with a fraction and an exponent, `0x1F`, `1.`, `.5`, `+1`, `Infinity` and `NaN`.
 
-ghost use Rattle.std.specs.Prelude.{◌≡◌, ℕ, ◌*◌, ◌^◌, ◌<◌, ◌≤◌, ◌∷◌, ◌++◌, IfNone, IfSome, chars, pos, FitsSigned, ℤ, Bool, List, IsTrue};
+ghost use Rattle.std.specs.Prelude.{◌≡◌, ℕ, ◌+◌, ◌*◌, ◌^◌, ◌<◌, ◌≤◌, ◌∷◌, ◌++◌, IfNone, IfSome, chars, pos, FitsSigned, ℤ, Bool, List, IsTrue, length};
 ghost use Rattle.std.specs.Float.Ieee.{Float, binary64, round, inf};
 ghost use Rattle.std.specs.Int.{w64};
 ghost use Rattle.std.specs.Option.{SomeIff};
@@ -71,8 +71,8 @@ pub fn parse_f64(text: &str) -> Option<f64>
     nearest_f64(negative, unsigned)
 }
 
-// Whether a minus is first, and what follows the sign, if there is one.
-fn split_sign(text: &str) -> (bool, &str)
+// Whether a minus stands first, and what follows the sign, if there is one.
+pub(crate) fn split_sign(text: &str) -> (bool, &str)
     ensures sign { Sign text.now result.0 result.1.now }
     ensures only { (negative : Bool) (u : List ℕ) → Sign text.now negative u → IsTrue (no is_sign (next u))
         → (result.0 ≡ negative) × (result.1.now ≡ u) }
@@ -87,7 +87,7 @@ fn split_sign(text: &str) -> (bool, &str)
 }
 
 // What follows `0x` or `0X`.
-fn after_hex_prefix(unsigned: &str) -> Option<&str>
+pub(crate) fn after_hex_prefix(unsigned: &str) -> Option<&str>
     ensures some { IfSome result (λ ds. (x : ℕ) × IsTrue (is_x x) × (unsigned.now ≡ 0x30 ∷ x ∷ ds.now)) }
     ensures none { IfNone result ((x : ℕ) (ds : List ℕ) → IsTrue (is_x x) → unsigned.now ≡ 0x30 ∷ x ∷ ds → ⊥) }
 {
@@ -109,9 +109,10 @@ fn hex_u64(digits: &str) -> Option<u64>
 }
 
 // The parts of a decimal number with no sign.
-fn decimal_parts(unsigned: &str) -> Option<Numeral<'_>>
+pub(crate) fn decimal_parts(unsigned: &str) -> Option<Numeral<'_>>
     ensures some { IfSome result (λ p. Decimal unsigned.now (digits_of p * 10 ^ tens_up p) (10 ^ tens_down p)) }
     ensures digits { IfSome result (λ p. AllDigits 10 (p.whole ++ p.fraction)) }
+    ensures within { IfSome result (λ p. length p.whole + length p.fraction ≤ length unsigned.now) }
     ensures only { IfSome result (λ p. (m d : ℕ) → Decimal unsigned.now m d → (digits_of p * 10 ^ tens_up p ≡ m) × (10 ^ tens_down p ≡ d)) }
     ensures none { IfNone result ((m d : ℕ) → Decimal unsigned.now m d → ⊥) }
 {

@@ -1,0 +1,11 @@
+pub mod Texts
+pub mod Evaluation
+pub mod Indexes
+pub mod Rows
+pub mod Nodes
+pub mod Named
+pub mod Steps
+pub mod Digits
+pub mod HexRows
+pub mod NumberRows
+pub mod SameNumbers

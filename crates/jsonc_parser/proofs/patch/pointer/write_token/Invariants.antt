@@ -1,0 +1,7 @@
+use Rattle.std.proofs.Common.{◌∷◌, encode_utf8_all, flat_map}
+use Rattle.std.specs.Fmt.{HasWrittenStyled, IsFlush}
+use Rattle.jsonc_parser.specs.patch.Pointer.{token_text}
+use Rattle.jsonc_parser.proofs.patch.pointer.write_token.Given as goal
+
+abbrev pub invariant-loop-c : goal.invariant-loop-c
+invariant-loop-c g l = IsFlush l.fn.f → HasWrittenStyled g.W.Write.write_str_gives l.fn.f (encode_utf8_all (token_text l.yielded)) l.f

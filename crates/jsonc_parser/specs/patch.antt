@@ -1,0 +1,10 @@
+pub mod Pointer
+pub mod Reading
+pub mod References
+pub mod Found
+pub mod Lookups
+pub mod Messages
+pub mod Laws
+pub mod Numbers
+pub mod Digits
+pub mod Values

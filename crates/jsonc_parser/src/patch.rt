@@ -1,0 +1,16 @@
+//! JSON Pointers (RFC 6901): texts that lead from a document's value to one inside it, through objects by names and
+//! through arrays by indexes.
+//!
+//! A [`Pointer`] is such a text, parsed, or made of its tokens. [`find`] finds the node that it refers to in a document,
+//! and [`read`] takes its value.
+//!
+//! [`same_number`] tells whether two texts of numbers have one value, as a JSON Patch (RFC 6902) asks.
+
+pub(crate) mod laws;
+mod numbers;
+mod pointer;
+mod reference;
+
+pub use numbers::same_number;
+pub use pointer::{Pointer, PointerError};
+pub use reference::{FindError, find, read};

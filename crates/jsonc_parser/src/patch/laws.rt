@@ -1,0 +1,26 @@
+//! Laws of pointers: each is the contract of a function that does nothing.
+
+ghost use Rattle.std.specs.Prelude.{◌≡◌, ℕ, List, Option};
+ghost use Rattle.jsonc_text.specs.Plain.{Plain};
+ghost use Rattle.jsonc_parser.specs.patch.Laws.{FailsWithNone, IsReadBack, RefersToOne};
+ghost use Rattle.jsonc_parser.specs.patch.Pointer.{pointer_text, HasLooseTilde, LacksSlash};
+
+/// What a pointer prints is parsed as the same tokens.
+pub fn pointers_are_read_back()
+    ensures { (tokens others : List (List ℕ)) → IsReadBack tokens others }
+{}
+
+/// A text is that of one pointer at most, and then it has no fault; and at most one fault.
+pub fn pointers_are_read_in_one_way()
+    ensures tokens { (s t : List (List ℕ)) → pointer_text s ≡ pointer_text t → s ≡ t }
+    ensures slash { (t : List (List ℕ)) → LacksSlash (pointer_text t) → ⊥ }
+    ensures tilde { (t : List (List ℕ)) (place : ℕ) → HasLooseTilde (pointer_text t) place → ⊥ }
+    ensures either { (text : List ℕ) (place : ℕ) → LacksSlash text → HasLooseTilde text place → ⊥ }
+    ensures first { (text : List ℕ) (k l : ℕ) → HasLooseTilde text k → HasLooseTilde text l → k ≡ l }
+{}
+
+/// A pointer refers to one value at most, and to none where a name on the way stands twice.
+pub fn pointers_refer_to_one_value()
+    ensures one { (w : Option Plain) (tokens : List (List ℕ)) → RefersToOne w tokens }
+    ensures fails { (w : Option Plain) (tokens : List (List ℕ)) → FailsWithNone w tokens }
+{}
