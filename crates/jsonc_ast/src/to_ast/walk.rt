@@ -141,6 +141,13 @@ fn parse_name<'a, A: Allocator + Copy, R: Receiver<String<A>>>(
         };
         return Ok(named);
     }
+    if let TokenKind::Plain = token {
+        let range = context.range();
+        let Ok(named) = to.string_name(range) else {
+            return Err(context.stop_for_memory());
+        };
+        return Ok(named);
+    }
     let name = context.name(token)?;
     let Ok(named) = hand_name(to, name) else {
         return Err(context.stop_for_memory());
@@ -177,6 +184,10 @@ fn leaf<'a, A: Allocator + Copy, R: Receiver<String<A>>>(
         }
         TokenKind::Passed => {
             let item = to.passed(range)?;
+            Ok(Some(item))
+        }
+        TokenKind::Plain => {
+            let item = to.string(range)?;
             Ok(Some(item))
         }
         TokenKind::Number => {
@@ -224,8 +235,7 @@ fn parse_leaf<'a, A: Allocator + Copy, R: Receiver<String<A>>>(
         return Err(context.stop_for_memory());
     };
     let Some(value) = found else {
-        let kind = context.unexpected(token);
-        return Err(context.stop_here(kind));
+        return Err(context.stop_unexpected(token));
     };
     Ok(value)
 }
@@ -301,6 +311,16 @@ fn parse_element<'a, A: Allocator + Copy, R: Receiver<String<A>>>(
         TokenKind::Number => {
             let range = context.range();
             let Ok(item) = to.number(range) else {
+                return Err(context.stop_for_memory());
+            };
+            let Ok(()) = to.element(elements, item) else {
+                return Err(context.stop_for_memory());
+            };
+            Ok(())
+        }
+        TokenKind::Plain => {
+            let range = context.range();
+            let Ok(item) = to.string(range) else {
                 return Err(context.stop_for_memory());
             };
             let Ok(()) = to.element(elements, item) else {
@@ -425,7 +445,7 @@ fn parse_property<'a, A: Allocator + Copy, R: Receiver<String<A>>>(
         return Err(context.stop_too_deep(start));
     }
     let Some(token) = found else {
-        return Err(context.stop_here(ParseErrorKind::ExpectedObjectValue));
+        return Err(context.stop_without_value());
     };
     let around = around_value(to, count);
     let value = parse_value(context, to, token, around)?;
@@ -460,7 +480,7 @@ fn read_text<'a, A: Allocator + Copy, R: Receiver<String<A>>>(
     };
     let value = parse_value(context, to, token, 0)?;
     let None = context.scan(to)? else {
-        return Err(context.stop_here(ParseErrorKind::MultipleRootJsonValues));
+        return Err(context.stop_behind_value());
     };
     Ok(Some(value))
 }
