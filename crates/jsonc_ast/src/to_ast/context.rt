@@ -13,7 +13,7 @@ use crate::to_ast::stops::Stopped;
 use jsonc_scan::found::{TokenContent, TokenKind};
 use jsonc_scan::scanner::Scanner;
 use jsonc_text::common::Range;
-use jsonc_text::errors::{ParseError, ParseErrorKind};
+use jsonc_text::errors::ParseError;
 use jsonc_text::options::ParseOptions;
 use jsonc_text::tokens::TokenAndRange;
 use std::alloc::Allocator;
@@ -395,7 +395,7 @@ impl<'a, A: Allocator + Copy> Context<'a, A> {
     /// The name that the last token is, no string whose place alone is known, where the options allow it. A
     /// string is given away.
     #[inline(always)]
-    pub fn name(&mut self, token: TokenKind) -> Result<ObjectPropName<'a, A>, Stopped>
+    pub(crate) fn name(&mut self, token: TokenKind) -> Result<ObjectPropName<'a, A>, Stopped>
         requires token { IsToken self.old (last self.old token) }
         requires plain { token ≢ TokenKind.Plain }
         requires kept { token ≢ TokenKind.Passed }

@@ -5,7 +5,7 @@ ghost use Rattle.std.specs.Str.{IsUtf8};
 ghost use Rattle.jsonc_text.specs.Faults.{IsFault};
 ghost use Rattle.jsonc_text.specs.Plain.{string};
 ghost use Rattle.jsonc_ast.specs.Located.{Located, leaf_at};
-ghost use Rattle.jsonc_ast.specs.Views.{LocatedMember, name_at};
+ghost use Rattle.jsonc_ast.specs.Views.{LocatedMember};
 ghost use Rattle.jsonc_ast.specs.declared.ast.ObjectPropName.TheVariants.{String as quoted};
 ghost use Rattle.jsonc_ast.specs.declared.to_ast.container.Container.TheVariants.{Object};
 ghost use Rattle.jsonc_ast.specs.to_ast.Collected.{Collects};
@@ -18,14 +18,14 @@ ghost use Rattle.jsonc_ast.specs.to_ast.Scanned.{leaf_value};
 ghost use Rattle.jsonc_ast.specs.to_ast.Walked.{IsRead, IsRefused};
 ghost use Rattle.jsonc_ast.specs.to_ast.Written.{IsLentHere, IsWritten};
 
-use crate::ast::{ObjectPropName, StringLit};
 use crate::to_ast::container::Container;
 use crate::to_ast::context::{Context, MAXIMUM_NESTING};
+use crate::to_ast::names::hand_name;
 use crate::to_ast::receiver::Receiver;
 use crate::to_ast::stops::Stopped;
 use jsonc_scan::found::TokenKind;
 use jsonc_text::common::Range;
-use jsonc_text::errors::{ParseError, ParseErrorKind};
+use jsonc_text::errors::ParseError;
 use std::alloc::Allocator;
 use std::borrow::CowStr;
 
@@ -87,31 +87,6 @@ fn hand_string<'a, A: Allocator, R: Receiver<String<A>>>(
     match value {
         CowStr::Borrowed(_) => to.string(range),
         CowStr::Owned(value) => to.decoded(range, value),
-    }
-}
-
-// A name, handed over so.
-#[inline(always)]
-fn hand_name<'a, A: Allocator, R: Receiver<String<A>>>(
-    to: &mut R,
-    name: ObjectPropName<'a, A>,
-) -> Result<R::Property, R::Error>
-    requires utf8 { IsUtf8 (R.source to.old).bytes }
-    requires written { IsWritten (R.source to.old).options (R.source to.old).bytes name }
-    requires follows { Follows (R.source to.old) (R.reached to.old) (name_at name).range.start }
-    ensures source { OnOk result (R.source to.new ≡ R.source to.old) }
-    ensures reached { OnOk result (R.reached to.new (name_at name.entry).range.end) }
-    ensures named { IfOk result (λ p. R.names to.old to.new p (name_at name.entry)) }
-{
-    match name {
-        ObjectPropName::Word(word) => to.word_name(word.range),
-        ObjectPropName::String(string) => {
-            let StringLit { range, value } = string;
-            match value {
-                CowStr::Borrowed(_) => to.string_name(range),
-                CowStr::Owned(value) => to.decoded_name(range, value),
-            }
-        }
     }
 }
 

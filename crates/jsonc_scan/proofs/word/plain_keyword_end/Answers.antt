@@ -12,5 +12,5 @@ pub returns : goal.returns
 returns c =
     let bytes = c.as_bytes-bytes.result.now in
     let here = text_here c.args.text.now c.args.word.now c.args.start c.utf8.text c.requires.ascii c.requires.boundary
-        (same_word c.args.text.now c.args.word.now bytes (take (length bytes - c.args.start) (drop c.args.start bytes)) c.as_bytes.result.now c.args.start c.as_bytes-bytes.ensures.value (take_rest bytes c.args.start) c.as_bytes.ensures.value (c.if-not-begin_with.ensures refl)) in
+    (same_word c.args.text.now c.args.word.now bytes (take (length bytes - c.args.start) (drop c.args.start bytes)) c.as_bytes.result.now c.args.start c.as_bytes-bytes.ensures.value (take_rest bytes c.args.start) c.as_bytes.ensures.value (c.if-not-begin_with.ensures refl)) in
     alone_before_byte _ _ _ _ c.as_bytes-bytes.ensures.value c.utf8.text here c.requires.nonempty (omega (arith, c.if-bytes-start.false)) (omega (arith, c.if-byte-ge128.false)) (sym c.goes_on.ensures ∙ c.if-goes_on.false)
