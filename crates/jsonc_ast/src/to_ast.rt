@@ -6,6 +6,7 @@ pub mod comments;
 pub mod container;
 pub mod context;
 pub mod laws;
+mod names;
 pub mod passed;
 pub mod receiver;
 mod room;

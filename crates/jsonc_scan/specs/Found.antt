@@ -7,7 +7,7 @@ use Rattle.jsonc_text.specs.declared.tokens.Token.{Token}
 use Rattle.jsonc_text.specs.declared.tokens.Token.TheVariants as token
 
 module _ {A : Type 0} where
-  -- the token of this kind that holds this; of a string that was passed nothing is held
+  -- the token of this kind that holds this; of a string whose place alone is known nothing is held
   abbrev pub token_held : TokenKind → TokenContent A → Token A
   token_held kind.OpenBrace x = token.OpenBrace
   token_held kind.CloseBrace x = token.CloseBrace
@@ -16,6 +16,7 @@ module _ {A : Type 0} where
   token_held kind.Comma x = token.Comma
   token_held kind.Colon x = token.Colon
   token_held kind.String x = token.String x.string
+  token_held kind.Plain x = token.Null
   token_held kind.Passed x = token.Null
   token_held kind.Word x = token.Word x.text
   token_held kind.True x = token.Boolean true

@@ -66,6 +66,11 @@ IsNumberAnyhow bytes start end = (o : Options) → Between (IsNumber o) bytes st
 abbrev pub IsPlainNumber : List ℕ → ℕ → PlainNumber → Type 0
 IsPlainNumber bytes start n = (o : Options) → Between (IsScanned o (lexeme (number (chars n.text.now)))) bytes start n.end
 
+-- a string without a backslash stands from one place to another, under all options: it means what stands between its quotes
+pub record IsPlainString (bytes : List ℕ) (start end : ℕ) : Type 0 where
+  pub stands : (o : Options) → Between (IsScanned o (lexeme (string (chars (slice_range bytes (start + 1) (end - 1)))))) bytes start end
+  pub plain : HoldsBackslash bytes start end → ⊥
+
 -- `Infinity` or `NaN` after a sign, under all options that allow them
 abbrev pub IsSignedName : List ℕ → ℕ → ℕ → Type 0
 IsSignedName bytes start end = (o : Options) → IsTrue o.non_finite_numbers → Between (Unsigned o true) bytes start end

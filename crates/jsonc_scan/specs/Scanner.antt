@@ -1,5 +1,5 @@
 -- What a scanner has before it.
-use Rattle.std.specs.Prelude.{ℕ, ◌+◌, ◌≡◌, ◌≤◌, ◌<◌, List, Option, Some, None, option_map, length, IsTrue}
+use Rattle.std.specs.Prelude.{ℕ, ◌+◌, ◌-◌, ◌≡◌, ◌≤◌, ◌<◌, List, Option, Some, None, option_map, length, IsTrue, chars, slice_range}
 use Rattle.jsonc_scan.specs.declared.scanner.Scanner.{Scanner}
 use Rattle.jsonc_scan.specs.declared.found.TokenContent.{TokenContent}
 use Rattle.jsonc_scan.specs.declared.found.TokenKind.{TokenKind}
@@ -64,8 +64,9 @@ module _ {A : Type 0} where
   abbrev pub StandsAt : Scanner A → Option (Token A) → Type 0
   StandsAt s t = IsThere s (option_map scanned_of t)
 
-  -- what a token of this kind is: a string that was passed is what its literal stands for
+  -- what a token of this kind is: a string that was passed is what its literal stands for, without a backslash what is between its quotes
   abbrev pub scanned_seen : Scanner A → TokenContent A → TokenKind → Scanned
+  scanned_seen s x kind.Plain = lexeme (string (chars (slice_range (text_of s) (start_of s + 1) (end_of s - 1))))
   scanned_seen s x kind.Passed = lexeme (string (string_value (text_of s) (start_of s) (end_of s)))
   scanned_seen s x k = scanned_of (token_held k x)
 
@@ -86,8 +87,9 @@ module _ {A : Type 0} where
   IsLent s (Some (String v)) = IsLentUnescaped (text_of s) (start_of s) (end_of s) v
   IsLent s _ = Unit {0}
 
-  -- and a string was passed only where its literal holds one
+  -- and a string that was passed holds one, or none, as its kind says
   abbrev pub IsLentSeen : Scanner A → TokenContent A → TokenKind → Type 0
+  IsLentSeen s x kind.Plain = HoldsBackslash (text_of s) (start_of s) (end_of s) → ⊥
   IsLentSeen s x kind.Passed = HoldsBackslash (text_of s) (start_of s) (end_of s)
   IsLentSeen s x k = IsLent s (Some (token_held k x))
 

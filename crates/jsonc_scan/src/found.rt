@@ -21,6 +21,8 @@ pub enum TokenKind {
     Comma,
     Colon,
     String,
+    /// A string without a backslash that was passed: it stands for what is between its quotes, which is not kept.
+    Plain,
     /// A string with a backslash in it that was passed: what it stands for is not kept.
     Passed,
     Word,
@@ -66,6 +68,7 @@ impl<'a, A: Allocator> TokenContent<'a, A> {
     #[inline(always)]
     pub(crate) fn mark_kind(&self, mark: Mark) -> TokenKind
         ensures held { scanned_of (token_held result self.now) ≡ mark_of mark }
+        ensures plain { result ≢ TokenKind.Plain }
         ensures kept { result ≢ TokenKind.Passed }
         ensures others { LeavesOthers self.now self.now (Some result) }
     {
@@ -83,6 +86,7 @@ impl<'a, A: Allocator> TokenContent<'a, A> {
     #[inline(always)]
     pub(crate) fn hold(&mut self, lexeme: Lexeme<'a>) -> TokenKind
         ensures held { scanned_of (token_held result self.new) ≡ what_of lexeme.entry }
+        ensures plain { result ≢ TokenKind.Plain }
         ensures kept { result ≢ TokenKind.Passed }
         ensures others { LeavesOthers self.old self.new (Some result) }
     {
@@ -122,6 +126,7 @@ impl<'a, A: Allocator> TokenContent<'a, A> {
             TokenKind::Comma => Token::Comma,
             TokenKind::Colon => Token::Colon,
             TokenKind::String => Token::String(self.string),
+            TokenKind::Plain => Token::Null,
             TokenKind::Passed => Token::Null,
             TokenKind::Word => Token::Word(self.text),
             TokenKind::True => Token::Boolean(true),

@@ -6,7 +6,7 @@ use crate::found::{TokenContent, TokenKind};
 use crate::gap::gap_end;
 use crate::plain::plain_number;
 use crate::reads::{quote_at, read_lexeme, read_punctuation};
-use crate::string::{escaped_end, pass_string_at, plain_string, read_string};
+use crate::string::{escaped_end, pass_string_at, plain_end, plain_string, read_string};
 use crate::word::plain_keyword_end;
 use jsonc_text::chars::has_byte;
 use jsonc_text::errors::{ParseError, ParseErrorKind};
@@ -160,6 +160,7 @@ impl<'a, A: Allocator + Copy> Scanner<'a, A> {
         ensures blanks { PassesBlanks self.old self.new }
         ensures found { IfOk result (λ f. IsThere self.new (seen self.new content.new f)) }
         ensures lent { IfOk result (λ f. IfSome f (IsLentSeen self.new content.new)) }
+        ensures plain { IfOk result (λ f. f ≢ Some TokenKind.Plain) }
         ensures passed { IfOk result (λ f. f ≡ Some TokenKind.Passed → decodes ≡ false) }
         ensures escaped { IfOk result (λ f. IfSome (token_found content.new f) (λ t. IsOwned t → HoldsEscape self.new)) }
         ensures others { IfOk result (LeavesOthers content.old content.new) }
@@ -218,11 +219,10 @@ impl<'a, A: Allocator + Copy> Scanner<'a, A> {
         let start = gap_end(self.file_text, self.byte_index);
         if has_byte(self.file_text, start, b'"') {
             let stop = stop_place(self.file_text, start + 1, b'"', b'\\');
-            if let Some(plain) = plain_string(self.file_text, start, stop) {
+            if let Some(end) = plain_end(self.file_text, start, stop) {
                 self.token_start = start;
-                self.byte_index = plain.end;
-                content.string = plain.string;
-                return Some(TokenKind::String);
+                self.byte_index = end;
+                return Some(TokenKind::Plain);
             }
             if !*decodes && has_byte(self.file_text, stop, b'\\') {
                 if let Some(end) = escaped_end(self.file_text, start, stop, &self.options) {
@@ -277,6 +277,7 @@ impl<'a, A: Allocator + Copy> Scanner<'a, A> {
         ensures start { start_of self.new ≡ start_of self.old }
         ensures found { IfOk result (λ f. IsThere self.new (seen self.new content.new f)) }
         ensures lent { IfOk result (λ f. IfSome f (IsLentSeen self.new content.new)) }
+        ensures plain { IfOk result (λ f. f ≢ Some TokenKind.Plain) }
         ensures passed { IfOk result (λ f. f ≡ Some TokenKind.Passed → decodes ≡ false) }
         ensures escaped { IfOk result (λ f. IfSome (token_found content.new f) (λ t. IsOwned t → HoldsEscape self.new)) }
         ensures others { IfOk result (LeavesOthers content.old content.new) }
@@ -316,6 +317,7 @@ impl<'a, A: Allocator + Copy> Scanner<'a, A> {
         ensures start { start_of self.new ≡ start_of self.old }
         ensures found { IfOk result (λ f. IsThere self.new (seen self.new content.new f)) }
         ensures lent { IfOk result (λ f. IfSome f (IsLentSeen self.new content.new)) }
+        ensures plain { IfOk result (λ f. f ≢ Some TokenKind.Plain) }
         ensures passed { IfOk result (λ f. f ≡ Some TokenKind.Passed → decodes ≡ false) }
         ensures escaped { IfOk result (λ f. IfSome (token_found content.new f) (λ t. IsOwned t → HoldsEscape self.new)) }
         ensures others { IfOk result (LeavesOthers content.old content.new) }

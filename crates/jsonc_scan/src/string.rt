@@ -8,7 +8,7 @@ ghost use Rattle.jsonc_text.specs.StringValue.{string_value};
 ghost use Rattle.jsonc_text.specs.Text.{Many, Spans};
 ghost use Rattle.jsonc_text.specs.string.Between.{Between, LacksAt, Reaches, is_neither};
 ghost use Rattle.jsonc_text.specs.string.Escapes.{HoldsBackslash, StringHoldsBackslash};
-ghost use Rattle.jsonc_scan.specs.Reads.{IsStringAnyhow, IsStringPassed, IsStringRead, NothingAt};
+ghost use Rattle.jsonc_scan.specs.Reads.{IsPlainString, IsStringAnyhow, IsStringPassed, IsStringRead, NothingAt};
 ghost use Rattle.jsonc_scan.specs.Refusals.{IsFaultOfString, IsFaultOfStringToken, IsTextFault};
 ghost use Rattle.jsonc_scan.specs.Faults.{IsTrueOf};
 ghost use Rattle.jsonc_text.specs.string.Quotes.{OpensString};
@@ -42,6 +42,21 @@ pub(crate) fn plain_string<'a, A: Allocator>(
         string: CowStr::Borrowed(&text[start + 1..stop]),
         end: stop + 1,
     })
+}
+
+/// The place after the string between double quotes at a place, if no backslash stands in it. Its first quote or backslash
+/// is known.
+#[inline(always)]
+pub(crate) fn plain_end(text: &str, start: usize, stop: usize) -> Option<usize>
+    requires boundary { IsCharBoundary text.now start }
+    requires opens { Steps text.now start 0x22 (start + 1) }
+    requires run { Reaches (Many (is_neither 0x22 0x5C)) text.now (start + 1) stop }
+    ensures { IfSome result (IsPlainString text.now start) }
+{
+    if !has_byte(text, stop, b'"') {
+        return None;
+    }
+    Some(stop + 1)
 }
 
 /// The place after a string between double quotes whose first backslash is known, if all is right with it.

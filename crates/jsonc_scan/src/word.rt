@@ -68,6 +68,20 @@ fn has_text(text: &str, start: usize, word: &str) -> bool
     &bytes[start..start + word.len()] == word.as_bytes()
 }
 
+/// Whether bytes begin with others, compared in line.
+#[inline(always)]
+fn begin_with(bytes: &[u8], others: &[u8]) -> bool
+    requires { length others.now ≤ length bytes.now }
+    ensures { IsTrue result → take (length others.now) bytes.now ≡ others.now }
+{
+    for place in 0..others.len() {
+        if bytes[place] != others[place] {
+            return false;
+        }
+    }
+    true
+}
+
 /// The place after the text `word` at a place, where it ends as a keyword does, or none.
 pub(crate) fn keyword_end(text: &str, start: usize, word: &str) -> Option<usize>
     requires boundary { IsCharBoundary text.now start }
@@ -185,14 +199,14 @@ pub(crate) fn plain_keyword_end(text: &str, start: usize, word: &str) -> Option<
     requires nonempty { 0 < length word.now }
     ensures { IfSome result (Between (IsAlone word.now) text.now start) }
 {
-    if !has_text(text, start, word) {
+    let bytes = text.as_bytes();
+    if bytes.len() - start <= word.len() {
+        return None;
+    }
+    if !begin_with(&bytes[start..], word.as_bytes()) {
         return None;
     }
     let end = start + word.len();
-    let bytes = text.as_bytes();
-    if end >= bytes.len() {
-        return None;
-    }
     let byte = bytes[end];
     if byte >= 0x80 {
         return None;

@@ -33,7 +33,8 @@ impl<'a, A: Allocator + Copy> Context<'a, A> {
     /// Collects the last token, where tokens are asked for.
     #[inline(always)]
     pub(crate) fn collect(&mut self, token: TokenKind) -> Result<(), AllocError>
-        requires { IsTrue (tokens_asked self.old) → token ≢ TokenKind.Passed }
+        requires plain { token ≢ TokenKind.Plain }
+        requires passed { IsTrue (tokens_asked self.old) → token ≢ TokenKind.Passed }
         ensures scanner { self.new.scanner ≡ self.old.scanner }
         ensures content { self.new.content ≡ self.old.content }
         ensures tokens { tokens_asked self.new ≡ tokens_asked self.old }
@@ -128,7 +129,8 @@ impl<'a, A: Allocator + Copy> Context<'a, A> {
     /// Passes a comment, the last token, where comments are allowed.
     #[cold]
     pub(crate) fn pass_comment(&mut self, comment: TokenKind) -> Result<(), Stopped>
-        requires { comment ≢ TokenKind.Passed }
+        requires plain { comment ≢ TokenKind.Plain }
+        requires passed { comment ≢ TokenKind.Passed }
         ensures scanner { OnOk result (self.new.scanner ≡ self.old.scanner) }
         ensures content { OnOk result (self.new.content ≡ self.old.content) }
         ensures tokens { OnOk result (tokens_asked self.new ≡ tokens_asked self.old) }
@@ -144,7 +146,7 @@ impl<'a, A: Allocator + Copy> Context<'a, A> {
         ensures fault { OnErr result (IsFaultHere self.old ⊥ self.new.fault) }
     {
         if !self.options.allow_comments {
-            return Err(self.stop_here(ParseErrorKind::CommentsNotAllowed));
+            return Err(self.stop_at_comment());
         }
         let Ok(()) = self.note(comment) else {
             return Err(self.stop_for_memory());

@@ -73,6 +73,7 @@ impl<'a, A: Allocator> Context<'a, A> {
             TokenKind::OpenBrace => true,
             TokenKind::OpenBracket => true,
             TokenKind::String => true,
+            TokenKind::Plain => true,
             TokenKind::Passed => true,
             TokenKind::Number => true,
             TokenKind::True => true,
@@ -88,6 +89,7 @@ impl<'a, A: Allocator> Context<'a, A> {
     {
         match token {
             TokenKind::String => true,
+            TokenKind::Plain => true,
             TokenKind::Passed => true,
             TokenKind::Word => true,
             TokenKind::Number => true,

@@ -13,7 +13,7 @@ use crate::to_ast::stops::Stopped;
 use jsonc_scan::found::{TokenContent, TokenKind};
 use jsonc_scan::scanner::Scanner;
 use jsonc_text::common::Range;
-use jsonc_text::errors::{ParseError, ParseErrorKind};
+use jsonc_text::errors::ParseError;
 use jsonc_text::options::ParseOptions;
 use jsonc_text::tokens::TokenAndRange;
 use std::alloc::Allocator;
@@ -341,7 +341,7 @@ impl<'a, A: Allocator + Copy> Context<'a, A> {
             return Ok(Some(token));
         }
         if !self.options.allow_trailing_commas {
-            return Err(self.stop_at(comma, ParseErrorKind::TrailingCommasNotAllowed));
+            return Err(self.stop_at_comma(comma));
         }
         Ok(None)
     }
@@ -392,11 +392,12 @@ impl<'a, A: Allocator + Copy> Context<'a, A> {
         Ok(Some(token))
     }
 
-    /// The name that the last token is, no string that was passed, where the options allow it. A
+    /// The name that the last token is, no string whose place alone is known, where the options allow it. A
     /// string is given away.
     #[inline(always)]
-    pub fn name(&mut self, token: TokenKind) -> Result<ObjectPropName<'a, A>, Stopped>
+    pub(crate) fn name(&mut self, token: TokenKind) -> Result<ObjectPropName<'a, A>, Stopped>
         requires token { IsToken self.old (last self.old token) }
+        requires plain { token ≢ TokenKind.Plain }
         requires kept { token ≢ TokenKind.Passed }
         ensures gives { OnOk result (GivesAway self.old self.new) }
         ensures name { IfOk result (λ n. IsNameHere self.old (name_at n)) }
@@ -415,10 +416,10 @@ impl<'a, A: Allocator + Copy> Context<'a, A> {
             }
             token => {
                 let Some(value) = self.loose_name(token) else {
-                    return Err(self.stop_here(ParseErrorKind::UnexpectedTokenInObject));
+                    return Err(self.stop_without_name());
                 };
                 if !self.options.allow_loose_object_property_names {
-                    return Err(self.stop_here(ParseErrorKind::ExpectedStringObjectProperty));
+                    return Err(self.stop_at_loose_name());
                 }
                 Ok(ObjectPropName::Word(WordLit { range, value }))
             }
@@ -445,10 +446,10 @@ impl<'a, A: Allocator + Copy> Context<'a, A> {
             return Ok(());
         }
         let Some(token) = self.scan(to)? else {
-            return Err(self.stop_here(ParseErrorKind::ExpectedColonAfterObjectKey));
+            return Err(self.stop_without_colon());
         };
         if !self.is_colon(token) {
-            return Err(self.stop_here(ParseErrorKind::ExpectedColonAfterObjectKey));
+            return Err(self.stop_without_colon());
         }
         Ok(())
     }

@@ -5,6 +5,7 @@ ghost use Rattle.jsonc_text.specs.Faults.{IsFault, IsOutOfMemory, range_of, kind
 ghost use Rattle.jsonc_text.specs.Text.{Spans};
 ghost use Rattle.jsonc_ast.specs.to_ast.Context.{text_in, token_end, token_range, last, AtEnd};
 ghost use Rattle.jsonc_ast.specs.to_ast.Containers.{misplaced_kind, begins};
+ghost use Rattle.jsonc_ast.specs.to_ast.Scanned.{unexpected_kind};
 
 use crate::to_ast::container::Container;
 use crate::to_ast::context::Context;
@@ -60,7 +61,89 @@ impl<'a, A: Allocator + Copy> Context<'a, A> {
         self.stop_at(here, kind)
     }
 
-    /// The same, told of the bytes from a place through the last token.
+    /// Reading stops at the last token, where a name must stand.
+    #[cold]
+    pub(crate) fn stop_without_name(&mut self) -> Stopped
+        ensures fault { IsFaultHere self.old ⊥ self.new.fault }
+        ensures range { range_of self.new.fault ≡ token_range self.old }
+        ensures kind { kind_of self.new.fault ≡ ParseErrorKind.UnexpectedTokenInObject }
+    {
+        self.stop_here(ParseErrorKind::UnexpectedTokenInObject)
+    }
+
+    /// Reading stops at the last token, a name without quotes, where none is allowed.
+    #[cold]
+    pub(crate) fn stop_at_loose_name(&mut self) -> Stopped
+        ensures fault { IsFaultHere self.old ⊥ self.new.fault }
+        ensures range { range_of self.new.fault ≡ token_range self.old }
+        ensures kind { kind_of self.new.fault ≡ ParseErrorKind.ExpectedStringObjectProperty }
+    {
+        self.stop_here(ParseErrorKind::ExpectedStringObjectProperty)
+    }
+
+    /// Reading stops at the last token, where a colon must stand.
+    #[cold]
+    pub(crate) fn stop_without_colon(&mut self) -> Stopped
+        ensures fault { IsFaultHere self.old ⊥ self.new.fault }
+        ensures range { range_of self.new.fault ≡ token_range self.old }
+        ensures kind { kind_of self.new.fault ≡ ParseErrorKind.ExpectedColonAfterObjectKey }
+    {
+        self.stop_here(ParseErrorKind::ExpectedColonAfterObjectKey)
+    }
+
+    /// Reading stops at the end of the text, where the value of a property must stand.
+    #[cold]
+    pub(crate) fn stop_without_value(&mut self) -> Stopped
+        ensures fault { IsFaultHere self.old ⊥ self.new.fault }
+        ensures range { range_of self.new.fault ≡ token_range self.old }
+        ensures kind { kind_of self.new.fault ≡ ParseErrorKind.ExpectedObjectValue }
+    {
+        self.stop_here(ParseErrorKind::ExpectedObjectValue)
+    }
+
+    /// Reading stops at the last token, behind the value of the text.
+    #[cold]
+    pub(crate) fn stop_behind_value(&mut self) -> Stopped
+        ensures fault { IsFaultHere self.old ⊥ self.new.fault }
+        ensures range { range_of self.new.fault ≡ token_range self.old }
+        ensures kind { kind_of self.new.fault ≡ ParseErrorKind.MultipleRootJsonValues }
+    {
+        self.stop_here(ParseErrorKind::MultipleRootJsonValues)
+    }
+
+    /// Reading stops at a comment, the last token, where none is allowed.
+    #[cold]
+    pub(crate) fn stop_at_comment(&mut self) -> Stopped
+        ensures fault { IsFaultHere self.old ⊥ self.new.fault }
+        ensures range { range_of self.new.fault ≡ token_range self.old }
+        ensures kind { kind_of self.new.fault ≡ ParseErrorKind.CommentsNotAllowed }
+    {
+        self.stop_here(ParseErrorKind::CommentsNotAllowed)
+    }
+
+    /// Reading stops at the last token, where a value must stand.
+    #[cold]
+    pub(crate) fn stop_unexpected(&mut self, token: TokenKind) -> Stopped
+        ensures fault { IsFaultHere self.old ⊥ self.new.fault }
+        ensures range { range_of self.new.fault ≡ token_range self.old }
+        ensures kind { kind_of self.new.fault ≡ unexpected_kind (last self.old token) }
+    {
+        let kind = self.unexpected(token);
+        self.stop_here(kind)
+    }
+
+    /// Reading stops at a closing bracket behind a comma in this range, where none is allowed there.
+    #[cold]
+    pub(crate) fn stop_at_comma(&mut self, comma: Range) -> Stopped
+        requires { Spans (text_in self.old) comma.start comma.end }
+        ensures fault { IsFaultHere self.old ⊥ self.new.fault }
+        ensures range { range_of self.new.fault ≡ comma }
+        ensures kind { kind_of self.new.fault ≡ ParseErrorKind.TrailingCommasNotAllowed }
+    {
+        self.stop_at(comma, ParseErrorKind::TrailingCommasNotAllowed)
+    }
+
+    /// Reading stops with a fault told of the bytes from a place through the last token.
     #[cold]
     pub(crate) fn stop_from(&mut self, start: usize, kind: ParseErrorKind) -> Stopped
         requires start { Spans (text_in self.old) start (token_end self.old) }

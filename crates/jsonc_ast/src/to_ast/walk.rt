@@ -5,7 +5,7 @@ ghost use Rattle.std.specs.Str.{IsUtf8};
 ghost use Rattle.jsonc_text.specs.Faults.{IsFault};
 ghost use Rattle.jsonc_text.specs.Plain.{string};
 ghost use Rattle.jsonc_ast.specs.Located.{Located, leaf_at};
-ghost use Rattle.jsonc_ast.specs.Views.{LocatedMember, name_at};
+ghost use Rattle.jsonc_ast.specs.Views.{LocatedMember};
 ghost use Rattle.jsonc_ast.specs.declared.ast.ObjectPropName.TheVariants.{String as quoted};
 ghost use Rattle.jsonc_ast.specs.declared.to_ast.container.Container.TheVariants.{Object};
 ghost use Rattle.jsonc_ast.specs.to_ast.Collected.{Collects};
@@ -18,14 +18,14 @@ ghost use Rattle.jsonc_ast.specs.to_ast.Scanned.{leaf_value};
 ghost use Rattle.jsonc_ast.specs.to_ast.Walked.{IsRead, IsRefused};
 ghost use Rattle.jsonc_ast.specs.to_ast.Written.{IsLentHere, IsWritten};
 
-use crate::ast::{ObjectPropName, StringLit};
 use crate::to_ast::container::Container;
 use crate::to_ast::context::{Context, MAXIMUM_NESTING};
+use crate::to_ast::names::hand_name;
 use crate::to_ast::receiver::Receiver;
 use crate::to_ast::stops::Stopped;
 use jsonc_scan::found::TokenKind;
 use jsonc_text::common::Range;
-use jsonc_text::errors::{ParseError, ParseErrorKind};
+use jsonc_text::errors::ParseError;
 use std::alloc::Allocator;
 use std::borrow::CowStr;
 
@@ -90,31 +90,6 @@ fn hand_string<'a, A: Allocator, R: Receiver<String<A>>>(
     }
 }
 
-// A name, handed over so.
-#[inline(always)]
-fn hand_name<'a, A: Allocator, R: Receiver<String<A>>>(
-    to: &mut R,
-    name: ObjectPropName<'a, A>,
-) -> Result<R::Property, R::Error>
-    requires utf8 { IsUtf8 (R.source to.old).bytes }
-    requires written { IsWritten (R.source to.old).options (R.source to.old).bytes name }
-    requires follows { Follows (R.source to.old) (R.reached to.old) (name_at name).range.start }
-    ensures source { OnOk result (R.source to.new ≡ R.source to.old) }
-    ensures reached { OnOk result (R.reached to.new (name_at name.entry).range.end) }
-    ensures named { IfOk result (λ p. R.names to.old to.new p (name_at name.entry)) }
-{
-    match name {
-        ObjectPropName::Word(word) => to.word_name(word.range),
-        ObjectPropName::String(string) => {
-            let StringLit { range, value } = string;
-            match value {
-                CowStr::Borrowed(_) => to.string_name(range),
-                CowStr::Owned(value) => to.decoded_name(range, value),
-            }
-        }
-    }
-}
-
 // The name that the last token is, where the options allow it, handed over. A string is given away.
 #[inline(always)]
 fn parse_name<'a, A: Allocator + Copy, R: Receiver<String<A>>>(
@@ -137,6 +112,13 @@ fn parse_name<'a, A: Allocator + Copy, R: Receiver<String<A>>>(
     if let TokenKind::Passed = token {
         let range = context.range();
         let Ok(named) = to.passed_name(range) else {
+            return Err(context.stop_for_memory());
+        };
+        return Ok(named);
+    }
+    if let TokenKind::Plain = token {
+        let range = context.range();
+        let Ok(named) = to.string_name(range) else {
             return Err(context.stop_for_memory());
         };
         return Ok(named);
@@ -177,6 +159,10 @@ fn leaf<'a, A: Allocator + Copy, R: Receiver<String<A>>>(
         }
         TokenKind::Passed => {
             let item = to.passed(range)?;
+            Ok(Some(item))
+        }
+        TokenKind::Plain => {
+            let item = to.string(range)?;
             Ok(Some(item))
         }
         TokenKind::Number => {
@@ -224,8 +210,7 @@ fn parse_leaf<'a, A: Allocator + Copy, R: Receiver<String<A>>>(
         return Err(context.stop_for_memory());
     };
     let Some(value) = found else {
-        let kind = context.unexpected(token);
-        return Err(context.stop_here(kind));
+        return Err(context.stop_unexpected(token));
     };
     Ok(value)
 }
@@ -301,6 +286,16 @@ fn parse_element<'a, A: Allocator + Copy, R: Receiver<String<A>>>(
         TokenKind::Number => {
             let range = context.range();
             let Ok(item) = to.number(range) else {
+                return Err(context.stop_for_memory());
+            };
+            let Ok(()) = to.element(elements, item) else {
+                return Err(context.stop_for_memory());
+            };
+            Ok(())
+        }
+        TokenKind::Plain => {
+            let range = context.range();
+            let Ok(item) = to.string(range) else {
                 return Err(context.stop_for_memory());
             };
             let Ok(()) = to.element(elements, item) else {
@@ -425,7 +420,7 @@ fn parse_property<'a, A: Allocator + Copy, R: Receiver<String<A>>>(
         return Err(context.stop_too_deep(start));
     }
     let Some(token) = found else {
-        return Err(context.stop_here(ParseErrorKind::ExpectedObjectValue));
+        return Err(context.stop_without_value());
     };
     let around = around_value(to, count);
     let value = parse_value(context, to, token, around)?;
@@ -460,7 +455,7 @@ fn read_text<'a, A: Allocator + Copy, R: Receiver<String<A>>>(
     };
     let value = parse_value(context, to, token, 0)?;
     let None = context.scan(to)? else {
-        return Err(context.stop_here(ParseErrorKind::MultipleRootJsonValues));
+        return Err(context.stop_behind_value());
     };
     Ok(Some(value))
 }

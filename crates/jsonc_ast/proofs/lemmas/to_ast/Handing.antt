@@ -143,7 +143,45 @@ module _ {A : Type 0} where
     made = made;
   }
 
-  -- a string that was passed
+  -- a string without a backslash that was passed
+  plain_stands : (c : Context A) (k : TokenKind) → k ≡ kind.Plain → IsToken c (last c k) → IsLentHere c (Some k) → HasPlainString (source_of c) (token_range c)
+  plain_stands c k is at lent =
+      let r = token_range c in
+      let found = subst (IsToken c) (ap (last c) is) at in record {
+        stands = stands (text_in c) (options_in c) c.scanner (lexeme (LexemeKind.string (chars_between (source_of c) (r.start + 1) (r.end - 1)))) refl refl found;
+        plain = subst (λ k. IsLentHere c (Some k)) is lent;
+      }
+
+  pub plain_here : (c : Context A) (s : Source) (k : TokenKind) (r : Range) → k ≡ kind.Plain → s ≡ source_of c → IsToken c (last c k) → IsLentHere c (Some k) → r ≡ token_range c → HasPlainString s r
+  plain_here c s k r is e at lent place = subst (λ x. HasPlainString x r) (sym e) (subst (HasPlainString (source_of c)) (sym place) (plain_stands c k is at lent))
+
+  pub plain_inside : (c : Context A) (s : Source) (k : TokenKind) (r : Range) → k ≡ kind.Plain → s ≡ source_of c → IsToken c (last c k) → IsLentHere c (Some k) → r ≡ token_range c → Spans s.bytes (r.start + 1) (r.end - 1)
+  plain_inside c s k r is e at lent place = inside s.options s.bytes (chars_between s (r.start + 1) (r.end - 1)) r (utf8_there c s e) (plain_here c s k r is e at lent place).stands
+
+  pub plain_means : (c : Context A) (s : Source) (k : TokenKind) (r : Range) → k ≡ kind.Plain → s ≡ source_of c → r ≡ token_range c → last c k ≡ lexeme (LexemeKind.string (chars_between s (r.start + 1) (r.end - 1)))
+  plain_means c s k r is e place =
+      ap (last c) is ∙ ap (λ q. lexeme (LexemeKind.string (chars_between (source_of c) (q.start + 1) (q.end - 1)))) (sym place) ∙ ap (λ x. lexeme (LexemeKind.string (chars_between x (r.start + 1) (r.end - 1)))) (sym e)
+
+  pub plain_made : (c : Context A) (s : Source) (k : TokenKind) (r : Range) (is_made : Located → Type 0) → k ≡ kind.Plain → s ≡ source_of c → r ≡ token_range c
+      → is_made (leaf_at r (string (chars_between s (r.start + 1) (r.end - 1)))) → LeafMade r (last c k) is_made
+  plain_made c s k r is_made is e place made = record {
+    leaf = leaf_at r (string (chars_between s (r.start + 1) (r.end - 1)));
+    is = ap (λ w. option_map (leaf_at r) (leaf_value w)) (sym (plain_means c s k r is e place));
+    made = made;
+  }
+
+  pub plain_named : (c : Context A) (s : Source) (k : TokenKind) (r : Range) (is_made : LocatedName → Type 0) → k ≡ kind.Plain → s ≡ source_of c → IsToken c (last c k) → r ≡ token_range c
+      → is_made (record { range = r; name = chars_between s (r.start + 1) (r.end - 1) }) → NameMade c is_made
+  plain_named c s k r is_made is e at place made =
+      let between : Source → Range → List ℕ = λ x q. chars_between x (q.start + 1) (q.end - 1) in
+      let n : LocatedName = record { range = token_range c; name = between (source_of c) (token_range c) } in record {
+        name = n;
+        stands = string_name_here c (last c k) at (between (source_of c) (token_range c)) (ap (last c) is);
+        range = refl;
+        made = subst is_made (ap (λ q. record { range = q; name = between s q }) place ∙ ap (λ x. record { range = token_range c; name = between x (token_range c) }) e) made;
+      }
+
+  -- a string with a backslash that was passed
   passed_stands : (c : Context A) (k : TokenKind) → k ≡ kind.Passed → IsToken c (last c k) → IsLentHere c (Some k) → HasEscapedString (source_of c) (token_range c) (value_in (source_of c) (token_range c))
   passed_stands c k is at lent =
       let found = subst (IsToken c) (ap (last c) is) at in record {

@@ -46,6 +46,7 @@ module _ {A : Type 0} where
     is_bracket kind.Comma e = absurd (mark_apart 0x2C 0x5B refl e)
     is_bracket kind.Colon e = absurd (mark_apart 0x3A 0x5B refl e)
     is_bracket kind.String e = cc
+    is_bracket kind.Plain e = cc
     is_bracket kind.Passed e = cc
     is_bracket kind.Word e = cc
     is_bracket kind.True e = cc
@@ -63,6 +64,7 @@ module _ {A : Type 0} where
     is_brace kind.Comma e = absurd (mark_apart 0x2C 0x7B refl e)
     is_brace kind.Colon e = absurd (mark_apart 0x3A 0x7B refl e)
     is_brace kind.String e = cc
+    is_brace kind.Plain e = cc
     is_brace kind.Passed e = cc
     is_brace kind.Word e = cc
     is_brace kind.True e = cc
@@ -72,35 +74,41 @@ module _ {A : Type 0} where
     is_brace kind.CommentLine e = cc
     is_brace kind.CommentBlock e = cc
 
-    pub no_string : (k : TokenKind) → k ≢ kind.String → k ≢ kind.Passed → (v : List ℕ) → scanned_seen s x k ≡ lexeme (string v) → ⊥
-    no_string kind.String n m v e = n refl
-    no_string kind.Passed n m v e = m refl
-    no_string kind.OpenBracket n m v e = cc
-    no_string kind.OpenBrace n m v e = cc
-    no_string kind.CloseBrace n m v e = cc
-    no_string kind.CloseBracket n m v e = cc
-    no_string kind.Comma n m v e = cc
-    no_string kind.Colon n m v e = cc
-    no_string kind.Word n m v e = cc
-    no_string kind.True n m v e = cc
-    no_string kind.False n m v e = cc
-    no_string kind.Number n m v e = cc
-    no_string kind.Null n m v e = cc
-    no_string kind.CommentLine n m v e = cc
-    no_string kind.CommentBlock n m v e = cc
+    pub no_string : (k : TokenKind) → k ≢ kind.String → k ≢ kind.Plain → k ≢ kind.Passed → (v : List ℕ) → scanned_seen s x k ≡ lexeme (string v) → ⊥
+    no_string kind.String n p m v e = n refl
+    no_string kind.Plain n p m v e = p refl
+    no_string kind.Passed n p m v e = m refl
+    no_string kind.OpenBracket n p m v e = cc
+    no_string kind.OpenBrace n p m v e = cc
+    no_string kind.CloseBrace n p m v e = cc
+    no_string kind.CloseBracket n p m v e = cc
+    no_string kind.Comma n p m v e = cc
+    no_string kind.Colon n p m v e = cc
+    no_string kind.Word n p m v e = cc
+    no_string kind.True n p m v e = cc
+    no_string kind.False n p m v e = cc
+    no_string kind.Number n p m v e = cc
+    no_string kind.Null n p m v e = cc
+    no_string kind.CommentLine n p m v e = cc
+    no_string kind.CommentBlock n p m v e = cc
 
-    -- what is no string that was passed is the token that is held
-    pub seen_held : (k : TokenKind) → k ≢ kind.Passed → scanned_seen s x k ≡ scanned_of (token_held k x)
-    seen_held kind.Passed n = absurd (n refl)
-    seen_held k n = refl
+    -- what is no string whose place alone is known is the token that is held
+    pub seen_held : (k : TokenKind) → k ≢ kind.Plain → k ≢ kind.Passed → scanned_seen s x k ≡ scanned_of (token_held k x)
+    seen_held kind.Plain p n = absurd (p refl)
+    seen_held kind.Passed p n = absurd (n refl)
+    seen_held k p n = refl
 
-    pub lent_held : (k : TokenKind) → k ≢ kind.Passed → IsLentSeen s x k → IsLent s (Some (token_held k x))
-    lent_held kind.Passed n h = absurd (n refl)
-    lent_held k n h = h
+    pub lent_held : (k : TokenKind) → k ≢ kind.Plain → k ≢ kind.Passed → IsLentSeen s x k → IsLent s (Some (token_held k x))
+    lent_held kind.Plain p n h = absurd (p refl)
+    lent_held kind.Passed p n h = absurd (n refl)
+    lent_held k p n h = h
 
     -- a comment is none
     pub comment_kept : (k : TokenKind) → is_comment (scanned_seen s x k) ≡ true → k ≢ kind.Passed
     comment_kept k h e = let both : false ≡ true = subst (λ k. is_comment (scanned_seen s x k) ≡ true) e h in cc
+
+    pub comment_held : (k : TokenKind) → is_comment (scanned_seen s x k) ≡ true → k ≢ kind.Plain
+    comment_held k h e = let both : false ≡ true = subst (λ k. is_comment (scanned_seen s x k) ≡ true) e h in cc
 
   -- a token is the same where nothing has changed
   pub seen_same : (s t : Scanner A) (x y : TokenContent A) (k : TokenKind) → t ≡ s → y ≡ x → scanned_seen t y k ≡ scanned_seen s x k

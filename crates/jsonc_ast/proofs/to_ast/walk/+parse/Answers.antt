@@ -1,4 +1,4 @@
-use Rattle.std.proofs.Common.{◌+◌, ◌≤◌, ◌≢◌, ◌∙◌, ◌++◌, ◌∷◌, [], ap, sym, subst, refl, arith, inl, inr, Some}
+use Rattle.std.proofs.Common.{◌+◌, ◌-◌, ◌≤◌, ◌≢◌, ◌∙◌, ◌++◌, ◌∷◌, [], ap, sym, subst, refl, arith, inl, inr, Some}
 use Rattle.jsonc_text.specs.Lexemes.{lexeme, punctuation}
 use Rattle.jsonc_text.specs.Plain.{string, number}
 use Rattle.jsonc_ast.specs.to_ast.Scanned.{leaf_value}
@@ -19,7 +19,7 @@ use Rattle.jsonc_ast.proofs.lemmas.to_ast.NoValues.{value_read, property_read, E
 use Rattle.jsonc_ast.proofs.lemmas.to_ast.Refusals.{stop_all, on_err, ok_all, still}
 use Rattle.jsonc_ast.proofs.lemmas.to_ast.OpenContainers.{GoesOn, count_property, goes_first, elements_go_on, first_stops, next_stops, element_comes, element_stops, properties_go_on, property_comes, property_stops, name_stops, colon_missing_stops, no_token_stops, no_value_stops, value_told_stops, has_room, from_old}
 use Rattle.jsonc_ast.proofs.lemmas.to_ast.Walks.{element_deep, element_deep_stops, from_here, from_spans, from_start, leaf_told, less_left, member_reads, no_memory, opening_stops, property_deep, property_deep_stops}
-use Rattle.jsonc_ast.proofs.lemmas.to_ast.Handing.{number_here, number_means, string_here, utf8_there}
+use Rattle.jsonc_ast.proofs.lemmas.to_ast.Handing.{number_here, number_means, plain_here, plain_inside, plain_means, string_here, utf8_there}
 use Rattle.std.specs.Cow.{cow_str_bytes}
 use Rattle.std.specs.Prelude.{chars}
 use Rattle.jsonc_ast.specs.to_ast.Handed.{chars_between, Covers}
@@ -314,8 +314,8 @@ parse_property-returns-in_default-clause-refused g t c =
     let kept_at = kept_on c.args.context.now c.pass_colon.new.self c.scan.new.self kept_mid c.in_ok-found.ensures.kept in
     record {
       refused = inr (end_for_value whole old mid c.in_ok-named.ensures.named.name c.args.count name (kept_given c.args.context.now c.parse_name.new.context c.pass_colon.new.self c.in_ok-named.ensures.gives c.in_ok-pass_colon.ensures.kept) (colon_given c.args.context.now c.parse_name.new.context c.pass_colon.new.self c.in_ok-named.ensures.gives c.in_ok-pass_colon.ensures.found) c.scan.new.self (found_in c.scan.new.self c.in_ok-found.found) found.kept found.found found.lexeme (ap (found_in c.scan.new.self) c.in_default.is));
-      fault = fault_before c.args.context.now c.scan.new.self _ kept_at (told_anyhow c.stop_here.ensures.fault);
-      error = λ q d s many starts. let whole = g.R.Receiver.whole in let old = c.args.context.now in let found = c.in_ok-found.ensures in let small = c.holds_too_deep.ensures.within c.if-holds_too_deep.false in no_value_stops whole old (last c.args.context.now c.args.token) q d s c.requires.token starts c.in_ok-named.ensures.named.name c.in_ok-named.ensures.named.stands c.pass_colon.new.self (kept_given c.args.context.now c.parse_name.new.context c.pass_colon.new.self c.in_ok-named.ensures.gives c.in_ok-pass_colon.ensures.kept) (colon_given c.args.context.now c.parse_name.new.context c.pass_colon.new.self c.in_ok-named.ensures.gives c.in_ok-pass_colon.ensures.found) c.scan.new.self (found_in c.scan.new.self c.in_ok-found.found) found.kept found.found found.lexeme (ap (found_in c.scan.new.self) c.in_default.is) c.stop_here.new.self.fault (let one = count_property whole (here old) q in omega (arith, one, many, small)) c.stop_here.ensures.kind c.stop_here.ensures.range;
+      fault = fault_before c.args.context.now c.scan.new.self _ kept_at (told_anyhow c.stop_without_value.ensures.fault);
+      error = λ q d s many starts. let whole = g.R.Receiver.whole in let old = c.args.context.now in let found = c.in_ok-found.ensures in let small = c.holds_too_deep.ensures.within c.if-holds_too_deep.false in no_value_stops whole old (last c.args.context.now c.args.token) q d s c.requires.token starts c.in_ok-named.ensures.named.name c.in_ok-named.ensures.named.stands c.pass_colon.new.self (kept_given c.args.context.now c.parse_name.new.context c.pass_colon.new.self c.in_ok-named.ensures.gives c.in_ok-pass_colon.ensures.kept) (colon_given c.args.context.now c.parse_name.new.context c.pass_colon.new.self c.in_ok-named.ensures.gives c.in_ok-pass_colon.ensures.found) c.scan.new.self (found_in c.scan.new.self c.in_ok-found.found) found.kept found.found found.lexeme (ap (found_in c.scan.new.self) c.in_default.is) c.stop_without_value.new.self.fault (let one = count_property whole (here old) q in omega (arith, one, many, small)) c.stop_without_value.ensures.kind c.stop_without_value.ensures.range;
     }
 
 pub parse_value-returns-in-Err-clause-refused : goal.parse_value-returns-in-Err-clause-refused
@@ -383,6 +383,12 @@ parse_element-hand_string-requires-clause-written g t c = string_here c.args.con
 
 pub parse_element-number-requires-clause-stands : goal.parse_element-number-requires-clause-stands
 parse_element-number-requires-clause-stands g t c = number_here c.args.context.now (g.R.Receiver.source c.args.to.now) c.args.token c.range-range-in-Number.result c.in-Number.is c.requires.source c.requires.token c.range-range-in-Number.ensures
+
+pub parse_element-string-requires-clause-inside : goal.parse_element-string-requires-clause-inside
+parse_element-string-requires-clause-inside g t c = plain_inside c.args.context.now (g.R.Receiver.source c.args.to.now) c.args.token c.range-range-in-Plain.result c.in-Plain.is c.requires.source c.requires.token c.requires.lent c.range-range-in-Plain.ensures
+
+pub parse_element-string-requires-clause-stands : goal.parse_element-string-requires-clause-stands
+parse_element-string-requires-clause-stands g t c = plain_here c.args.context.now (g.R.Receiver.source c.args.to.now) c.args.token c.range-range-in-Plain.result c.in-Plain.is c.requires.source c.requires.token c.requires.lent c.range-range-in-Plain.ensures
 
 pub parse_property-parse_value-requires : goal.parse_property-parse_value-requires
 parse_property-parse_value-requires g t c κs within =
@@ -552,18 +558,35 @@ parse_element-returns-in-Ok-element-2-clause-read g t c =
 
 pub parse_element-returns-in-Ok-element-3-clause-read : goal.parse_element-returns-in-Ok-element-3-clause-read
 parse_element-returns-in-Ok-element-3-clause-read g t c =
+    let whole = g.R.Receiver.whole in
+    let old = c.args.context.now in
+    let source = g.R.Receiver.source c.args.to.now in
+    let r = c.range-range-in-Plain.result in
+    let gives = gives_nothing old in
+    record {
+      source = c.in-Ok-element-3.ensures.kept ∙ c.in-Ok-string.ensures.kept;
+      reached = c.in-Ok-element-3.ensures.reached _ (subst (λ r. g.R.Receiver.reached c.string.new.self r.end) c.range-range-in-Plain.ensures c.in-Ok-string.ensures.reached);
+      kept = kept_self old old gives;
+      collects = collects_self old old gives;
+      found = λ s i. element_put old old (last old c.args.token) r (string (chars_between source (r.start + 1) (r.end - 1))) whole c.args.count (g.R.Receiver.holds_elements s c.args.to.now c.args.elements.now i) _
+          c.requires.token (ap leaf_value (plain_means old source c.args.token r c.in-Plain.is c.requires.source c.range-range-in-Plain.ensures)) c.range-range-in-Plain.ensures gives c.requires.around
+          (λ xs held. c.in-Ok-element-3.ensures.held s c.args.to.now i xs _ held c.in-Ok-string.ensures.made);
+    }
+
+pub parse_element-returns-in-Ok-element-4-clause-read : goal.parse_element-returns-in-Ok-element-4-clause-read
+parse_element-returns-in-Ok-element-4-clause-read g t c =
     let read = c.in_ok-value-in_default.ensures.read in
     let made = read.found in
     record {
-      source = c.in-Ok-element-3.ensures.kept ∙ read.source;
-      reached = c.in-Ok-element-3.ensures.reached _ read.reached;
+      source = c.in-Ok-element-4.ensures.kept ∙ read.source;
+      reached = c.in-Ok-element-4.ensures.reached _ read.reached;
       kept = read.kept;
       collects = read.collects;
       found = λ s i. record {
         element = made.value;
         reads = made.reads;
         within = made.within;
-        put = λ xs held. c.in-Ok-element-3.ensures.held s c.args.to.now i xs made.value held made.made;
+        put = λ xs held. c.in-Ok-element-4.ensures.held s c.args.to.now i xs made.value held made.made;
       };
     }
 
@@ -641,9 +664,17 @@ pub parse_element-returns-in_default-element-2-clause-refused : goal.parse_eleme
 parse_element-returns-in_default-element-2-clause-refused g t c =
     no_memory c.args.context.now c.args.context.now _ (kept_same _) c.stop_for_memory-in_default-element-2.ensures.fault c.stop_for_memory-in_default-element-2.ensures.memory (failure _ c.in_default-element-2.not-Ok) (λ m q d s many starts. inl m)
 
+pub parse_element-returns-in_default-string-clause-refused : goal.parse_element-returns-in_default-string-clause-refused
+parse_element-returns-in_default-string-clause-refused g t c =
+    no_memory c.args.context.now c.args.context.now _ (kept_same _) c.stop_for_memory-in_default-string.ensures.fault c.stop_for_memory-in_default-string.ensures.memory (failure _ c.in_default-string.not-Ok) (λ m q d s many starts. inl m)
+
 pub parse_element-returns-in_default-element-3-clause-refused : goal.parse_element-returns-in_default-element-3-clause-refused
 parse_element-returns-in_default-element-3-clause-refused g t c =
-    no_memory c.args.context.now c.parse_value.new.context _ c.in_ok-value-in_default.ensures.read.kept c.stop_for_memory-in_default-element-3.ensures.fault c.stop_for_memory-in_default-element-3.ensures.memory (failure _ c.in_default-element-3.not-Ok) (λ m q d s many starts. inl m)
+    no_memory c.args.context.now c.args.context.now _ (kept_same _) c.stop_for_memory-in_default-element-3.ensures.fault c.stop_for_memory-in_default-element-3.ensures.memory (failure _ c.in_default-element-3.not-Ok) (λ m q d s many starts. inl m)
+
+pub parse_element-returns-in_default-element-4-clause-refused : goal.parse_element-returns-in_default-element-4-clause-refused
+parse_element-returns-in_default-element-4-clause-refused g t c =
+    no_memory c.args.context.now c.parse_value.new.context _ c.in_ok-value-in_default.ensures.read.kept c.stop_for_memory-in_default-element-4.ensures.fault c.stop_for_memory-in_default-element-4.ensures.memory (failure _ c.in_default-element-4.not-Ok) (λ m q d s many starts. inl m)
 
 pub parse_property-returns-in_default-property-clause-refused : goal.parse_property-returns-in_default-property-clause-refused
 parse_property-returns-in_default-property-clause-refused g t c =

@@ -1,4 +1,4 @@
-use Rattle.jsonc_ast.proofs.lemmas.to_ast.Handing.{number_here, number_made, passed_here, passed_made, string_here, utf8_there}
+use Rattle.jsonc_ast.proofs.lemmas.to_ast.Handing.{number_here, number_made, passed_here, passed_made, plain_here, plain_inside, plain_made, string_here, utf8_there}
 use Rattle.jsonc_ast.proofs.to_ast.walk.leaf.Goals as goal
 
 pub hand_string-requires-clause-utf8 : goal.hand_string-requires-clause-utf8
@@ -20,3 +20,13 @@ passed-requires-clause-stands g c = passed_here c.args.context.now (g.R.Receiver
 pub returns-in_ok-item-in-Passed-clause-made : goal.returns-in_ok-item-in-Passed-clause-made
 returns-in_ok-item-in-Passed-clause-made g c =
     passed_made c.args.context.now (g.R.Receiver.source c.args.to.now) c.args.token c.args.range (g.R.Receiver.makes c.args.to.now c.passed.new.self c.in_ok-item-in-Passed.item) c.in-Passed.is c.requires.source c.requires.place c.in_ok-item-in-Passed.ensures.made
+
+pub string-requires-clause-inside : goal.string-requires-clause-inside
+string-requires-clause-inside g c = plain_inside c.args.context.now (g.R.Receiver.source c.args.to.now) c.args.token c.args.range c.in-Plain.is c.requires.source c.requires.token c.requires.lent c.requires.place
+
+pub string-requires-clause-stands : goal.string-requires-clause-stands
+string-requires-clause-stands g c = plain_here c.args.context.now (g.R.Receiver.source c.args.to.now) c.args.token c.args.range c.in-Plain.is c.requires.source c.requires.token c.requires.lent c.requires.place
+
+pub returns-in_ok-item-in-Plain-clause-made : goal.returns-in_ok-item-in-Plain-clause-made
+returns-in_ok-item-in-Plain-clause-made g c =
+    plain_made c.args.context.now (g.R.Receiver.source c.args.to.now) c.args.token c.args.range (g.R.Receiver.makes c.args.to.now c.string.new.self c.in_ok-item-in-Plain.item) c.in-Plain.is c.requires.source c.requires.place c.in_ok-item-in-Plain.ensures.made

@@ -23,9 +23,9 @@ returns-in_default-found-clause-error g c = λ opens.
     let t = last old c.args.token in
     let none = rw c.in_default-found.is at c.in-Ok.ensures.none in
     let stays = rw c.in_default-found.is at c.in-Ok.ensures.stays in
-    inr (is_unexpected old t c.stop_here.new.self.fault opens none
-    (c.stop_here.ensures.kind ∙ c.unexpected-kind.ensures.kind ∙ ap unexpected_kind (last_same old c.leaf.new.context c.args.token c.leaf.ensures.gives.scanner stays))
-    (c.stop_here.ensures.range ∙ ap (λ s. record { start = start_of s; end = end_of s }) c.leaf.ensures.gives.scanner))
+    inr (is_unexpected old t c.stop_unexpected.new.self.fault opens none
+    (c.stop_unexpected.ensures.kind ∙ ap unexpected_kind (last_same old c.leaf.new.context c.args.token c.leaf.ensures.gives.scanner stays))
+    (c.stop_unexpected.ensures.range ∙ ap (λ s. record { start = start_of s; end = end_of s }) c.leaf.ensures.gives.scanner))
 
 pub returns-clause-found : goal.returns-clause-found
 returns-clause-found g c =
@@ -41,4 +41,4 @@ returns-in_default-clause-fault g c =
 pub returns-in_default-found-clause-fault : goal.returns-in_default-found-clause-fault
 returns-in_default-found-clause-fault g c =
     let old = c.args.context.now in
-    fault_before old c.leaf.new.context _ (kept_self old c.leaf.new.context c.leaf.ensures.gives) (told_anyhow c.stop_here.ensures.fault)
+    fault_before old c.leaf.new.context _ (kept_self old c.leaf.new.context c.leaf.ensures.gives) (told_anyhow c.stop_unexpected.ensures.fault)

@@ -1,4 +1,4 @@
-use Rattle.jsonc_ast.proofs.lemmas.to_ast.Handing.{name_here, utf8_there}
+use Rattle.jsonc_ast.proofs.lemmas.to_ast.Handing.{name_here, plain_here, plain_inside, plain_named, utf8_there}
 use Rattle.jsonc_ast.proofs.lemmas.to_ast.MovedTokens.{kept_self}
 use Rattle.jsonc_ast.proofs.lemmas.to_ast.Refusals.{on_err}
 use Rattle.jsonc_ast.proofs.lemmas.to_ast.Scans.{failure, kept_same, starved, told_anyhow}
@@ -23,3 +23,14 @@ pub returns-in_default-hand_name-clause-fault : goal.returns-in_default-hand_nam
 returns-in_default-hand_name-clause-fault g c =
     let old = c.args.context.now in
     starved old _ _ (kept_self old _ c.in_ok-name.ensures.gives) c.stop_for_memory-in_default-hand_name.ensures.fault (inr (failure _ c.in_default-hand_name.not-Ok))
+
+pub string_name-requires-clause-inside : goal.string_name-requires-clause-inside
+string_name-requires-clause-inside g c = plain_inside c.args.context.now (g.R.Receiver.source c.args.to.now) c.args.token c.range-range-in-Plain.result c.in-Plain.is c.requires.source c.requires.token c.requires.lent c.range-range-in-Plain.ensures
+
+pub string_name-requires-clause-stands : goal.string_name-requires-clause-stands
+string_name-requires-clause-stands g c = plain_here c.args.context.now (g.R.Receiver.source c.args.to.now) c.args.token c.range-range-in-Plain.result c.in-Plain.is c.requires.source c.requires.token c.requires.lent c.range-range-in-Plain.ensures
+
+pub returns-in_default-string_name-clause-fault : goal.returns-in_default-string_name-clause-fault
+returns-in_default-string_name-clause-fault g c =
+    let old = c.args.context.now in
+    starved old old _ (kept_same old) c.stop_for_memory-in_default-string_name.ensures.fault (inr (failure _ c.in_default-string_name.not-Ok))

@@ -111,9 +111,9 @@ returns-in_default-2-clause-error g c =
     let over = c.in_ok-scan.ensures in
     let x = value.found.value in
     let mid = c.parse_value.new.context in
-    text_stops g.R.Receiver.whole old _ _ c.stop_here.new.self.fault refl refl c.requires.start
+    text_stops g.R.Receiver.whole old _ _ c.stop_behind_value.new.self.fault refl refl c.requires.start
     (second_stops g.R.Receiver.whole old c.scan.new.self (found_in c.scan.new.self c.in_ok-token.field-0) c.in_ok-token.ensures.kept read.found read.lexeme (last c.scan.new.self c.in-Some.token) (ap (found_in c.scan.new.self) c.in-Some.is) mid (value_at x) value.kept (value_read c.scan.new.self mid x value.found.reads) (root_fits g.R.Receiver.whole _ value.found.within)
-    c.scan-2.new.self (found_in c.scan-2.new.self c.in_ok-scan.field-0) c.in_ok-scan.ensures.kept over.found over.lexeme (λ e. c.in_default-2.not-None (none_found (last c.scan-2.new.self) c.in_ok-scan.field-0 e)) c.stop_here.new.self.fault c.stop_here.ensures.kind c.stop_here.ensures.range)
+    c.scan-2.new.self (found_in c.scan-2.new.self c.in_ok-scan.field-0) c.in_ok-scan.ensures.kept over.found over.lexeme (λ e. c.in_default-2.not-None (none_found (last c.scan-2.new.self) c.in_ok-scan.field-0 e)) c.stop_behind_value.new.self.fault c.stop_behind_value.ensures.kind c.stop_behind_value.ensures.range)
 
 pub returns-in_err-token-clause-fault : goal.returns-in_err-token-clause-fault
 returns-in_err-token-clause-fault g c = on_err c.from_residual.result c.in_err-token.ensures.fault
@@ -131,12 +131,12 @@ returns-in_err-scan-clause-fault g c =
 
 pub returns-in_default-2-clause-fault : goal.returns-in_default-2-clause-fault
 returns-in_default-2-clause-fault g c =
-    let e = c.stop_here.new.self.fault in
+    let e = c.stop_behind_value.new.self.fault in
     let old = c.args.context.now in
     let now = c.scan.new.self in
     let mid = c.parse_value.new.context in
     let end = c.scan-2.new.self in
-    fault_before old end e (kept_on old now end c.in_ok-token.ensures.kept (kept_on now mid end c.in_ok-value.ensures.read.kept c.in_ok-scan.ensures.kept)) (told_anyhow c.stop_here.ensures.fault)
+    fault_before old end e (kept_on old now end c.in_ok-token.ensures.kept (kept_on now mid end c.in_ok-value.ensures.read.kept c.in_ok-scan.ensures.kept)) (told_anyhow c.stop_behind_value.ensures.fault)
 
 pub returns-in_default-clause-end : goal.returns-in_default-clause-end
 returns-in_default-clause-end g c = subst (IsThere c.scan.new.self.scanner) (ap (found_in c.scan.new.self) c.in_default.is) c.in_ok-token.ensures.found.1

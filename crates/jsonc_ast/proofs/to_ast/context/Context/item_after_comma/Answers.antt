@@ -61,11 +61,11 @@ pub returns-then-not-self-clause-error : goal.returns-then-not-self-clause-error
 returns-then-not-self-clause-error g c = λ one q a from.
     let read = c.in_ok-token.ensures in
     let new = c.scan.new.self in
-    trailing_stops c.args.self.now new (found_in c.scan.new.self c.in_ok-token.field-0) c.in_ok-token.ensures.kept read.found read.lexeme (last c.scan.new.self c.in-Some.token) (ap (found_in c.scan.new.self) c.in-Some.is) c.args.container (c.closes.ensures.0 c.if-not-closes.false) c.stop_at.new.self.fault
-    (ap (λ p. p.trailing_commas) (sym (new.same ∙ c.in_ok-token.ensures.kept.options)) ∙ c.if-not-self.true) c.stop_at.ensures.kind (c.stop_at.ensures.range ∙ c.range-comma.ensures) (is_some c.args.start) (container c.args.container a ∷ q) one
+    trailing_stops c.args.self.now new (found_in c.scan.new.self c.in_ok-token.field-0) c.in_ok-token.ensures.kept read.found read.lexeme (last c.scan.new.self c.in-Some.token) (ap (found_in c.scan.new.self) c.in-Some.is) c.args.container (c.closes.ensures.0 c.if-not-closes.false) c.stop_at_comma.new.self.fault
+    (ap (λ p. p.trailing_commas) (sym (new.same ∙ c.in_ok-token.ensures.kept.options)) ∙ c.if-not-self.true) c.stop_at_comma.ensures.kind (c.stop_at_comma.ensures.range ∙ c.range-comma.ensures) (is_some c.args.start) (container c.args.container a ∷ q) one
 
 pub returns-in_default-clause-fault : goal.returns-in_default-clause-fault
 returns-in_default-clause-fault g c = fault_before c.args.self.now c.scan.new.self _ c.in_ok-token.ensures.kept (told_anyhow c.stop_in.ensures.fault)
 
 pub returns-then-not-self-clause-fault : goal.returns-then-not-self-clause-fault
-returns-then-not-self-clause-fault g c = fault_before c.args.self.now c.scan.new.self _ c.in_ok-token.ensures.kept (told_anyhow c.stop_at.ensures.fault)
+returns-then-not-self-clause-fault g c = fault_before c.args.self.now c.scan.new.self _ c.in_ok-token.ensures.kept (told_anyhow c.stop_at_comma.ensures.fault)

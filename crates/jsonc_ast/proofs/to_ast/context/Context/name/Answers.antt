@@ -16,7 +16,7 @@ returns-else-not-self g c =
 pub returns-in_default-loose_name-clause-refused : goal.returns-in_default-loose_name-clause-refused
 returns-in_default-loose_name-clause-refused g c =
     let e : loose_text (last c.args.self.now c.args.token) ≡ None = cc c.in_default-loose_name.ensures in
-    name_refused c.args.self.now (last c.args.self.now c.args.token) c.requires.token e (no_string c.args.self.now.scanner c.args.self.now.content c.args.token c.in_default.not-String c.requires.kept)
+    name_refused c.args.self.now (last c.args.self.now c.args.token) c.requires.token e (no_string c.args.self.now.scanner c.args.self.now.content c.args.token c.in_default.not-String c.requires.plain c.requires.kept)
 
 pub returns-then-not-self-clause-refused : goal.returns-then-not-self-clause-refused
 returns-then-not-self-clause-refused g c =
@@ -27,10 +27,10 @@ returns-then-not-self-clause-refused g c =
 pub returns-in_default-loose_name-clause-error : goal.returns-in_default-loose_name-clause-error
 returns-in_default-loose_name-clause-error g c =
     let e : loose_text (last c.args.self.now c.args.token) ≡ None = cc c.in_default-loose_name.ensures in
-    no_name_stops c.args.self.now (last c.args.self.now c.args.token) c.stop_here.new.self.fault e (no_string c.args.self.now.scanner c.args.self.now.content c.args.token c.in_default.not-String c.requires.kept) c.stop_here.ensures.kind c.stop_here.ensures.range
+    no_name_stops c.args.self.now (last c.args.self.now c.args.token) c.stop_without_name.new.self.fault e (no_string c.args.self.now.scanner c.args.self.now.content c.args.token c.in_default.not-String c.requires.plain c.requires.kept) c.stop_without_name.ensures.kind c.stop_without_name.ensures.range
 
 pub returns-then-not-self-clause-error : goal.returns-then-not-self-clause-error
 returns-then-not-self-clause-error g c =
     let context = c.args.self.now in
     let e : loose_text (last c.args.self.now c.args.token) ≡ Some (chars c.in-Some.value.now) = cc c.in-Some.ensures in
-    loose_stops context (last c.args.self.now c.args.token) c.stop_here-then-not-self.new.self.fault (chars c.in-Some.value.now) e (ap (λ p. p.loose_names) (sym context.same) ∙ c.if-not-self.true) c.stop_here-then-not-self.ensures.kind c.stop_here-then-not-self.ensures.range
+    loose_stops context (last c.args.self.now c.args.token) c.stop_at_loose_name.new.self.fault (chars c.in-Some.value.now) e (ap (λ p. p.loose_names) (sym context.same) ∙ c.if-not-self.true) c.stop_at_loose_name.ensures.kind c.stop_at_loose_name.ensures.range

@@ -4,14 +4,14 @@ use Rattle.jsonc_ast.specs.to_ast.Context.{last}
 use Rattle.jsonc_ast.specs.to_ast.Collected.{last_placed}
 use Rattle.jsonc_scan.specs.Found.{token_held}
 use Rattle.jsonc_text.specs.Tokens.{scanned_of}
-use Rattle.jsonc_ast.proofs.lemmas.to_ast.MovedTokens.{seen_held, comment_kept}
+use Rattle.jsonc_ast.proofs.lemmas.to_ast.MovedTokens.{seen_held, comment_held, comment_kept}
 use Rattle.jsonc_ast.proofs.to_ast.context.Context.note.Goals as goal
 
 pub returns-clause-noted : goal.returns-clause-noted
 returns-clause-noted g c = λ comment ts h.
     let self = c.args.self.now in
     let held = scanned_of (token_held c.args.comment self.content) in
-    let same : last self c.args.comment ≡ held = seen_held self.scanner self.content c.args.comment (comment_kept self.scanner self.content c.args.comment comment) in
+    let same : last self c.args.comment ≡ held = seen_held self.scanner self.content c.args.comment (comment_held self.scanner self.content c.args.comment comment) (comment_kept self.scanner self.content c.args.comment comment) in
     subst (λ p. HasPassed (ts ++ p ∷ []) c.pass_comment.new.self) (c.in-Some.ensures.some ∙ ap (placed_from held) c.range.ensures ∙ ap (λ w. last_placed self w) (sym same))
     (c.in-Ok.ensures ts (subst (λ f. IfSome f (HasPassed ts)) c.in-Some-comments.is h))
 

@@ -37,19 +37,19 @@ returns-in_err-token-clause-error g c =
 pub returns-in_default-clause-error : goal.returns-in_default-clause-error
 returns-in_default-clause-error g c =
     let read = c.in_ok-token.ensures in
-    colon_end_stops c.args.self.now c.scan.new.self (found_in c.scan.new.self c.in_ok-token.field-0) c.in_ok-token.ensures.kept read.found read.lexeme (ap (found_in c.scan.new.self) c.in_default.is) c.stop_here.new.self.fault c.stop_here.ensures.kind c.stop_here.ensures.range
+    colon_end_stops c.args.self.now c.scan.new.self (found_in c.scan.new.self c.in_ok-token.field-0) c.in_ok-token.ensures.kept read.found read.lexeme (ap (found_in c.scan.new.self) c.in_default.is) c.stop_without_colon.new.self.fault c.stop_without_colon.ensures.kind c.stop_without_colon.ensures.range
 
 pub returns-then-not-is_colon-clause-error : goal.returns-then-not-is_colon-clause-error
 returns-then-not-is_colon-clause-error g c =
     let read = c.in_ok-token.ensures in
-    colon_stops c.args.self.now c.scan.new.self (found_in c.scan.new.self c.in_ok-token.field-0) c.in_ok-token.ensures.kept read.found read.lexeme (last c.scan.new.self c.in-Some.token) (ap (found_in c.scan.new.self) c.in-Some.is) c.stop_here-then-not-is_colon.new.self.fault
-    (refuted c.is_colon.ensures.1 c.if-not-is_colon.true) c.stop_here-then-not-is_colon.ensures.kind c.stop_here-then-not-is_colon.ensures.range
+    colon_stops c.args.self.now c.scan.new.self (found_in c.scan.new.self c.in_ok-token.field-0) c.in_ok-token.ensures.kept read.found read.lexeme (last c.scan.new.self c.in-Some.token) (ap (found_in c.scan.new.self) c.in-Some.is) c.stop_without_colon-then-not-is_colon.new.self.fault
+    (refuted c.is_colon.ensures.1 c.if-not-is_colon.true) c.stop_without_colon-then-not-is_colon.ensures.kind c.stop_without_colon-then-not-is_colon.ensures.range
 
 pub returns-in_default-clause-fault : goal.returns-in_default-clause-fault
-returns-in_default-clause-fault g c = fault_before c.args.self.now c.scan.new.self _ c.in_ok-token.ensures.kept (told_anyhow c.stop_here.ensures.fault)
+returns-in_default-clause-fault g c = fault_before c.args.self.now c.scan.new.self _ c.in_ok-token.ensures.kept (told_anyhow c.stop_without_colon.ensures.fault)
 
 pub returns-then-not-is_colon-clause-fault : goal.returns-then-not-is_colon-clause-fault
-returns-then-not-is_colon-clause-fault g c = fault_before c.args.self.now c.scan.new.self _ c.in_ok-token.ensures.kept (told_anyhow c.stop_here-then-not-is_colon.ensures.fault)
+returns-then-not-is_colon-clause-fault g c = fault_before c.args.self.now c.scan.new.self _ c.in_ok-token.ensures.kept (told_anyhow c.stop_without_colon-then-not-is_colon.ensures.fault)
 
 pub scan-requires-clause-behind : goal.scan-requires-clause-behind
 scan-requires-clause-behind g c = at_place c.requires.reached

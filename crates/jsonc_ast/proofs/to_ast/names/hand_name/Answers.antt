@@ -2,7 +2,7 @@ use Rattle.std.proofs.Common.{ap, sym, subst, ◌∙◌}
 use Rattle.jsonc_ast.specs.Views.{name_at}
 use Rattle.jsonc_ast.specs.to_ast.Written.{IsWritten}
 use Rattle.jsonc_ast.proofs.lemmas.to_ast.Handing.{is_lent, not_owned, string_inside, string_plain, word_loose, word_means, named_alike}
-use Rattle.jsonc_ast.proofs.to_ast.walk.hand_name.Goals as goal
+use Rattle.jsonc_ast.proofs.to_ast.names.hand_name.Goals as goal
 
 pub word_name-requires-clause-stands : goal.word_name-requires-clause-stands
 word_name-requires-clause-stands g c =
