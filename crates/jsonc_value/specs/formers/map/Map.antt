@@ -156,10 +156,10 @@ module _ (K A : RattleType) (L : alloc.Ghosts A.Denot) (R R' : RattleType) (h : 
   unfolding part_of
   box_placed a =
       let T = hashed.the_row K R A L in record {
-      mir_same = λ i. (box_of (one_value T (a.mir_same i) (λ _. ftrue) (λ _ _. nothing) gnil)).mir;
-      own_same = λ b i. (box_of (one_value T (a.mir_same i) (a.own_same b.value i) (a.shr_same b.value i) gnil)).own_val (record { ptr = b.ptr; alloc = b.alloc; value = tt });
-      shr_same = λ b i. (box_of (one_value T (a.mir_same i) (a.own_same b.value i) (a.shr_same b.value i) gnil)).shr_at (record { ptr = b.ptr; alloc = b.alloc; value = tt });
-    }
+        mir_same = λ i. (box_of (one_value T (a.mir_same i) (λ _. ftrue) (λ _ _. nothing) gnil)).mir;
+        own_same = λ b i. (box_of (one_value T (a.mir_same i) (a.own_same b.value i) (a.shr_same b.value i) gnil)).own_val (record { ptr = b.ptr; alloc = b.alloc; value = tt });
+        shr_same = λ b i. (box_of (one_value T (a.mir_same i) (a.own_same b.value i) (a.shr_same b.value i) gnil)).shr_at (record { ptr = b.ptr; alloc = b.alloc; value = tt });
+      }
 
   pub store_placed : Alike R R' h → Alike (store.the_row K R A L) (store.the_row K R' A L) (store_over h)
   store_placed a = enum_places (store.enum K R A L) (store.enum K R' A L) ((vec.mapped (on_value h), tt), ((box_over h, tt), tt)) (store_over h) variant refl

@@ -14,13 +14,19 @@ invariant_of-self g c =
       | in-Few w ↦
           let es = w.in-Few.pairs.items in
           let distinct = few_distinct c.self.inside.store eq g.K.Hash.hash_input c.self.invariant w.in-Few.pairs w.in-Few.is in
-          rw w.self-inside-is (let long = ap length (few_pairs c.self.inside.store c.args.self.now w.in-Few.pairs w.in-Few.is c.self.view_is) in swap_distinct eq g.met.K.Eq.laws c.args.first c.args.second (keys_of es) (keys_of w.swap.new.self.items)
-              (omega (arith, c.requires.first, long, length-keys_of es)) (omega (arith, c.requires.second, long, length-keys_of es)) (ap keys_of w.swap.ensures.items ∙ map-swap (λ e. e.0) es c.args.first c.args.second) distinct, tt)
+          rw w.self-inside-is (
+            let long = ap length (few_pairs c.self.inside.store c.args.self.now w.in-Few.pairs w.in-Few.is c.self.view_is) in swap_distinct eq g.met.K.Eq.laws c.args.first c.args.second (keys_of es) (keys_of w.swap.new.self.items)
+                (omega (arith, c.requires.first, long, length-keys_of es)) (omega (arith, c.requires.second, long, length-keys_of es)) (ap keys_of w.swap.ensures.items ∙ map-swap (λ e. e.0) es c.args.first c.args.second) distinct,
+            tt,
+          )
       | in-Many w ↦
           let es = w.deref_mut.result.now.pairs.items in
           let holds = many_hold c.self.inside.store eq g.K.Hash.hash_input c.self.invariant w.in-Many.both w.deref_mut.result.now w.in-Many.is w.deref_mut.ensures.value in
-          rw w.self-inside-is (let long = ap length (many_pairs c.self.inside.store c.args.self.now w.in-Many.both w.deref_mut.result.now w.in-Many.is w.deref_mut.ensures.value c.self.view_is) in swap_distinct eq g.met.K.Eq.laws c.args.first c.args.second (keys_of es) (keys_of w.swap-in-Many.new.self.pairs.items)
-              (omega (arith, c.requires.first, long, length-keys_of es)) (omega (arith, c.requires.second, long, length-keys_of es)) (ap keys_of w.swap-in-Many.ensures.pairs ∙ map-swap (λ e. e.0) es c.args.first c.args.second) holds.0, w.swap-in-Many.ensures.hashes)
+          rw w.self-inside-is (
+            let long = ap length (many_pairs c.self.inside.store c.args.self.now w.in-Many.both w.deref_mut.result.now w.in-Many.is w.deref_mut.ensures.value c.self.view_is) in swap_distinct eq g.met.K.Eq.laws c.args.first c.args.second (keys_of es) (keys_of w.swap-in-Many.new.self.pairs.items)
+                (omega (arith, c.requires.first, long, length-keys_of es)) (omega (arith, c.requires.second, long, length-keys_of es)) (ap keys_of w.swap-in-Many.ensures.pairs ∙ map-swap (λ e. e.0) es c.args.first c.args.second) holds.0,
+            w.swap-in-Many.ensures.hashes,
+          )
     ]
 
 pub swap-requires-in-Many-clause-hashes : goal.swap-requires-in-Many-clause-hashes

@@ -23,15 +23,15 @@ invariant_of-self g c =
 
 pub returns-clause-pair : goal.returns-clause-pair
 returns-clause-pair g c = elim c.match-self.branch [
-      | in-Few w ↦
-          let es = w.in-Few.pairs.items in
-          let seen = few_pairs c.self.inside.store c.args.self.now w.in-Few.pairs w.in-Few.is c.self.view_is in
-          let within : c.args.place < length es = subst (λ l. c.args.place < length l) (sym seen) c.requires in
-          rw w.result-is (ap (λ l. slice_get l c.args.place) (sym seen) ∙ slice_get_read es (length es) c.args.place w.remove.result refl within w.remove.ensures.value)
-      | in-Many w ↦
-          let seen = many_pairs c.self.inside.store c.args.self.now w.in-Many.both w.deref_mut.result.now w.in-Many.is w.deref_mut.ensures.value c.self.view_is in
-          rw w.result-is (ap (λ l. slice_get l c.args.place) (sym seen) ∙ w.remove-in-Many.ensures.pair)
-    ]
+  | in-Few w ↦
+      let es = w.in-Few.pairs.items in
+      let seen = few_pairs c.self.inside.store c.args.self.now w.in-Few.pairs w.in-Few.is c.self.view_is in
+      let within : c.args.place < length es = subst (λ l. c.args.place < length l) (sym seen) c.requires in
+      rw w.result-is (ap (λ l. slice_get l c.args.place) (sym seen) ∙ slice_get_read es (length es) c.args.place w.remove.result refl within w.remove.ensures.value)
+  | in-Many w ↦
+      let seen = many_pairs c.self.inside.store c.args.self.now w.in-Many.both w.deref_mut.result.now w.in-Many.is w.deref_mut.ensures.value c.self.view_is in
+      rw w.result-is (ap (λ l. slice_get l c.args.place) (sym seen) ∙ w.remove-in-Many.ensures.pair)
+]
 
 pub remove-requires-in-Many-clause-within : goal.remove-requires-in-Many-clause-within
 remove-requires-in-Many-clause-within g c =

@@ -11,9 +11,11 @@ invariant_of-result g c =
     let eq = g.K.PartialEq.eq in
     let old = c.in-Few.pairs.items in
     let new = c.in_ok-copies-in-Few.copies.items in
-    let all = cloned_keys g.K.Clone.is_clone g.V.Clone.is_clone old new c.in_ok-copies-in-Few.ensures.cases.0 in
-    (copied_distinct g.K.Hash.hash_input eq g.met.K.Eq.laws g.met.K.Hash.respects_eq g.K.Clone.is_clone c.requires (keys_of old) (keys_of new) all
-        (few_distinct c.self.inside.store eq g.K.Hash.hash_input c.self.invariant c.in-Few.pairs c.in-Few.is), tt)
+    let all = cloned_keys g.K.Clone.is_clone g.V.Clone.is_clone old new c.in_ok-copies-in-Few.ensures.cases.0 in (
+      copied_distinct g.K.Hash.hash_input eq g.met.K.Eq.laws g.met.K.Hash.respects_eq g.K.Clone.is_clone c.requires (keys_of old) (keys_of new) all
+          (few_distinct c.self.inside.store eq g.K.Hash.hash_input c.self.invariant c.in-Few.pairs c.in-Few.is),
+      tt,
+    )
 
 pub invariant_of-result-in-Many : goal.invariant_of-result-in-Many
 invariant_of-result-in-Many g c =
@@ -28,7 +30,8 @@ invariant_of-result-in-Many g c =
     let ls = keys_of copy.value.pairs.items in
     let cloned : AllZip is_clone ks (keys_of copies) = cloned_keys is_clone g.V.Clone.is_clone both.pairs.items copies c.in_ok-copies-in-Many.ensures.cases.0 in
     let all : AllZip is_clone ks ls = subst (AllZip is_clone ks) (sym (ap (λ v. keys_of v.items) said.pairs)) cloned in
-    let holds = many_hold c.self.inside.store eq input c.self.invariant c.in-Many.both both c.in-Many.is c.deref.ensures in
-    (copied_distinct input eq g.met.K.Eq.laws g.met.K.Hash.respects_eq is_clone c.requires ks ls all holds.0,
-        copied_hashes input eq g.met.K.Eq.laws g.met.K.Hash.respects_eq is_clone c.requires ks ls both.hashes.keys copy.value.hashes.keys all
-        (said.hashes ∙ sym (ap (λ h. h.hashes.keys) c.deref.ensures)) holds.1)
+    let holds = many_hold c.self.inside.store eq input c.self.invariant c.in-Many.both both c.in-Many.is c.deref.ensures in (
+      copied_distinct input eq g.met.K.Eq.laws g.met.K.Hash.respects_eq is_clone c.requires ks ls all holds.0,
+      copied_hashes input eq g.met.K.Eq.laws g.met.K.Hash.respects_eq is_clone c.requires ks ls both.hashes.keys copy.value.hashes.keys all
+          (said.hashes ∙ sym (ap (λ h. h.hashes.keys) c.deref.ensures)) holds.1,
+    )
