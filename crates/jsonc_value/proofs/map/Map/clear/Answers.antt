@@ -1,4 +1,4 @@
-use Rattle.std.proofs.Common.{[], length, ap}
+use Rattle.std.proofs.Common.{length, ap}
 use Rattle.std.specs.Map.{keys_of}
 use Rattle.jsonc_value.proofs.DistinctKeys.{none_distinct}
 use Rattle.jsonc_value.proofs.Stores.{empty_holds}

@@ -1,4 +1,4 @@
-use Rattle.std.proofs.Common.{◌≡◌, ◌<◌, ap, sym, length, refl, subst, slice_get, ◌∙◌}
+use Rattle.std.proofs.Common.{◌<◌, ap, sym, length, refl, subst, slice_get, ◌∙◌}
 use Rattle.std.specs.Map.{keys_of}
 use Rattle.std.proofs.lemmas.Option.{slice_get_read}
 use Rattle.indexmap.proofs.SetLemmas.{map-remove}

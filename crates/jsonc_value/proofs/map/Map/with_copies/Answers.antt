@@ -1,4 +1,4 @@
-use Rattle.std.proofs.Common.{◌≡◌, refl, sym, ap, subst, ◌∙◌}
+use Rattle.std.proofs.Common.{◌≡◌, refl, sym, ap, subst}
 use Rattle.std.specs.List.{AllZip, IsDistinct}
 use Rattle.std.specs.Map.{keys_of}
 use Rattle.jsonc_value.proofs.CopiedKeys.{copied_distinct, copied_hashes}
