@@ -1,14 +1,12 @@
 -- A map whose keys are clones of another's: it keeps the hashes.
-use Rattle.std.proofs.Common.{◌≡◌, ℕ, nat_eq, Bool, true, List, [], ◌∷◌, map, Option, Some, None, refl, sym, ap, ◌∙◌}
+use Rattle.std.proofs.Common.{◌≡◌, ℕ, nat_eq, Bool, true, List, [], ◌∷◌, map, refl, sym, ap, subst, ◌∙◌}
 use Rattle.std.specs.Cmp.{IsEquivalence}
 use Rattle.std.specs.Cmp.Lexicographic.{pointwise, nat_list_eq_equiv}
 use Rattle.std.specs.List.{AllZip, IsDistinct}
-use Rattle.std.specs.declared.boxed.Box.{Box}
 use Rattle.std_collections.proofs.HashLookup.{IsDistinct-equal_keys, map_equal_keys}
-use Rattle.indexmap.specs.IndexSet.{IndexSet}
 use Rattle.jsonc_value.specs.Copies.{EqualsItsClones}
 use Rattle.jsonc_value.specs.Hashes.{hashed, AreHashesOf}
-use Rattle.jsonc_value.proofs.HashedKeys.{hash, cloned_numbers}
+use Rattle.jsonc_value.proofs.HashedKeys.{hash}
 
 -- clones of keys equal them, place by place, where each clone of a key does
 clones_equal : {K : Type 0} (eq : K → K → Bool) (is_key : K → K → Type 0) → EqualsItsClones eq is_key → (ks ls : List K) → AllZip is_key ks ls → pointwise eq ls ks ≡ true
@@ -21,25 +19,17 @@ clones_equal eq is_key h (k ∷ ks) (l ∷ ls) a = rw (h k l a.0, clones_equal e
 pub texts_equal_clones : {K : Type 0} (bytes : K → List ℕ) → EqualsItsClones (λ k l. pointwise nat_eq (bytes k) (bytes l)) (λ k l. bytes l ≡ bytes k)
 texts_equal_clones bytes key copy same = rw same (nat_list_eq_equiv.refl (bytes key))
 
--- a copy of hashes, or none of none
-abbrev pub AreCopied : {S A : Type 0} → Option (Box (IndexSet ℕ S) A) → Option (Box (IndexSet ℕ S) A) → Type 0
-AreCopied None None = Unit {0}
-AreCopied None (Some new) = ⊥
-AreCopied (Some old) None = ⊥
-AreCopied (Some old) (Some new) = AllZip (λ m n. n ≡ m) old.value.keys new.value.keys
-
 module _ {K : Type 0} (input : K → List (List ℕ)) where
-  copied_hashes : {S A : Type 0} (ks ls : List K) (old new : Option (Box (IndexSet ℕ S) A)) → map (hash input) ks ≡ map (hash input) ls
-      → AreCopied old new → AreHashesOf input ks old → AreHashesOf input ls new
-  copied_hashes ks ls None None same cloned kept = tt
-  copied_hashes ks ls None (Some new) same cloned kept = absurd cloned
-  copied_hashes ks ls (Some old) None same cloned kept = absurd cloned
-  copied_hashes ks ls (Some old) (Some new) same cloned kept = cloned_numbers old.value.keys new.value.keys cloned ∙ kept ∙ same
+  same_hashes : (ks ls : List K) (hs : List ℕ) → map (hash input) ks ≡ map (hash input) ls → AreHashesOf input ks hs → AreHashesOf input ls hs
+  same_hashes ks ls [] same kept = tt
+  same_hashes ks ls (h ∷ hs) same kept = kept ∙ same
 
   module _ (eq : K → K → Bool) (laws : IsEquivalence eq) (respects : (k l : K) → eq k l ≡ true → input k ≡ input l) (is_key : K → K → Type 0) (equal : EqualsItsClones eq is_key) where
-    pub copied_keys : {S A : Type 0} (ks ls : List K) (old new : Option (Box (IndexSet ℕ S) A)) → AllZip is_key ks ls
-        → AreCopied old new → IsDistinct eq ks × AreHashesOf input ks old → IsDistinct eq ls × AreHashesOf input ls new
-    copied_keys ks ls old new all cloned kept =
+    pub copied_distinct : (ks ls : List K) → AllZip is_key ks ls → IsDistinct eq ks → IsDistinct eq ls
+    copied_distinct ks ls all distinct = IsDistinct-equal_keys eq laws ls ks (clones_equal eq is_key equal ks ls all) distinct
+
+    pub copied_hashes : (ks ls : List K) (old new : List ℕ) → AllZip is_key ks ls → new ≡ old → AreHashesOf input ks old → AreHashesOf input ls new
+    copied_hashes ks ls old new all cloned kept =
         let same : pointwise eq ls ks ≡ true = clones_equal eq is_key equal ks ls all in
         let hashes : map (hash input) ks ≡ map (hash input) ls = sym (map_equal_keys eq laws (hash input) (λ k l e. ap hashed (respects k l e)) ls ks same) in
-        (IsDistinct-equal_keys eq laws ls ks same kept.0, copied_hashes ks ls old new hashes cloned kept.1)
+        same_hashes ks ls new hashes (subst (AreHashesOf input ks) (sym cloned) kept)

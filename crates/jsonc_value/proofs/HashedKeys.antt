@@ -1,15 +1,14 @@
 -- Keys that are found by their hashes, and hashes that go with their keys.
-use Rattle.std.proofs.Common.{◌≡◌, ℕ, zero, suc, ◌+◌, ◌<◌, nat_eq, Bool, true, false, cond, not, List, [], ◌∷◌, ◌++◌, map, length, get_or, take, swap, position, Option, Some, None, refl, sym, ap, subst, ◌∙◌, arith, true≢false}
+use Rattle.std.proofs.Common.{◌≡◌, ℕ, zero, suc, ◌+◌, ◌<◌, nat_eq, Bool, true, false, cond, not, List, [], ◌∷◌, ◌++◌, map, length, get_or, take, swap, position, Some, None, refl, sym, ap, subst, ◌∙◌, arith, true≢false}
 use Rattle.std.proofs.Math.ListN.{get_or-map}
 use Rattle.std.proofs.lemmas.List.{length-map, map-append, take-map}
 use Rattle.std.specs.Cmp.{nat_eq_equiv}
 use Rattle.std.specs.List.{remove, list_any, AllByRecursion, AllZip, IsDistinct}
 use Rattle.std.proofs.Math.Seq.{take-length}
-use Rattle.indexmap.specs.IndexSet.{IndexSet, insert_key}
+use Rattle.indexmap.specs.IndexSet.{insert_key}
 use Rattle.indexmap.proofs.SetLemmas.{map-remove}
 use Rattle.indexmap.proofs.ReorderLemmas.{map-swap}
-use Rattle.std.specs.declared.boxed.Box.{Box}
-use Rattle.jsonc_value.specs.Hashes.{hashed, AreHashesOf, HasOneMore}
+use Rattle.jsonc_value.specs.Hashes.{hashed, AreHashesOf}
 use Rattle.jsonc_value.proofs.Firsts.{apart, First, first_at, FailsBefore, Searched, found_at, found_none}
 
 fails_too : (b c : Bool) → (b ≡ true → c ≡ true) → c ≡ false → b ≡ false
@@ -27,6 +26,10 @@ taken_suc (y ∷ xs) (suc i) x lt at = ap (λ l. y ∷ l) (taken_suc xs i x (ome
 
 pub taken_more : {X : Type 0} (xs : List X) (i : ℕ) (x : X) → i < length xs → get_or xs i x ≡ x → take (i + 1) xs ≡ take i xs ++ x ∷ []
 taken_more xs i x lt at = ap (λ n. take n xs) (let one : i + 1 ≡ suc i = omega arith in one) ∙ taken_suc xs i x lt at
+
+none_taken : (n : ℕ) → take {A = ℕ} n [] ≡ []
+none_taken zero = refl
+none_taken (suc n) = refl
 
 module _ {K : Type 0} (input : K → List (List ℕ)) where
   abbrev pub hash : K → ℕ
@@ -50,17 +53,47 @@ module _ {K : Type 0} (input : K → List (List ℕ)) where
     pub not_found : (ks : List K) → list_any (nat_eq h) (map hash ks) ≡ false → Searched p ks None
     not_found ks none = found_none p ks (absent ks none)
 
-  pub removed_hash : (ks : List K) (hs : List ℕ) (i : ℕ) → hs ≡ map hash ks → remove hs i ≡ map hash (remove ks i)
-  removed_hash ks hs i e = ap (λ l. remove l i) e ∙ sym (map-remove hash ks i)
+  pub kept_whole : (ks : List K) (hs : List ℕ) → hs ≡ map hash ks → AreHashesOf input ks hs
+  kept_whole ks [] e = tt
+  kept_whole ks (h ∷ hs) e = e
 
-  pub swapped_hashes : (ks : List K) (hs : List ℕ) (i j : ℕ) → hs ≡ map hash ks → swap hs i j ≡ map hash (swap ks i j)
-  swapped_hashes ks hs i j e = ap (λ l. swap l i j) e ∙ sym (map-swap hash ks i j)
+  -- where hashes are kept, they are those of all keys
+  pub whole : (ks : List K) (hs : List ℕ) → AreHashesOf input ks hs → (length hs ≡ 0 → ⊥) → hs ≡ map hash ks
+  whole ks [] kept some = absurd (some refl)
+  whole ks (h ∷ hs) kept some = kept
 
-  pub taken_hashes : (ks : List K) (hs : List ℕ) (n : ℕ) → hs ≡ map hash ks → take n hs ≡ map hash (take n ks)
-  taken_hashes ks hs n e = ap (take n) e ∙ take-map hash n ks
+  -- no hashes are those of any keys
+  pub unhashed : (ks : List K) (hs : List ℕ) → length hs ≡ 0 → AreHashesOf input ks hs
+  unhashed ks [] none = tt
+  unhashed ks (h ∷ hs) none = let never : ⊥ = omega (arith, none) in absurd never
 
-  pub one_hash_more : (ks : List K) (hs : List ℕ) (k : K) → hs ≡ map hash ks → hs ++ hash k ∷ [] ≡ map hash (ks ++ k ∷ [])
-  one_hash_more ks hs k e = ap (λ l. l ++ hash k ∷ []) e ∙ sym (map-append hash ks (k ∷ []))
+  pub removed_hash : (ks ls : List K) (hs new : List ℕ) (i : ℕ) → AreHashesOf input ks hs → new ≡ remove hs i → ls ≡ remove ks i → AreHashesOf input ls new
+  removed_hash ks ls [] new i kept e same = subst (AreHashesOf input ls) (sym (e ∙ ap (λ l. l ++ []) (none_taken i))) tt
+  removed_hash ks ls (h ∷ hs) new i kept e same = kept_whole ls new (e ∙ ap (λ l. remove l i) kept ∙ sym (map-remove hash ks i) ∙ ap (map hash) (sym same))
+
+  pub swapped_hashes : (ks ls : List K) (hs new : List ℕ) (i j : ℕ) → AreHashesOf input ks hs → (length hs ≡ 0 → ⊥) → new ≡ swap hs i j → ls ≡ swap ks i j → AreHashesOf input ls new
+  swapped_hashes ks ls hs new i j kept some e same = kept_whole ls new (e ∙ ap (λ l. swap l i j) (whole ks hs kept some) ∙ sym (map-swap hash ks i j) ∙ ap (map hash) (sym same))
+
+  pub taken_hashes : (ks ls : List K) (hs new : List ℕ) (n : ℕ) → AreHashesOf input ks hs → new ≡ take n hs → ls ≡ take n ks → AreHashesOf input ls new
+  taken_hashes ks ls [] new n kept e same = subst (AreHashesOf input ls) (sym (e ∙ none_taken n)) tt
+  taken_hashes ks ls (h ∷ hs) new n kept e same = kept_whole ls new (e ∙ ap (take n) kept ∙ take-map hash n ks ∙ ap (map hash) (sym same))
+
+  all_kept : (ks : List K) (hs : List ℕ) → AreHashesOf input ks hs → length hs ≡ length ks → hs ≡ map hash ks
+  all_kept [] [] kept e = refl
+  all_kept (k ∷ ks) [] kept e = let never : ⊥ = omega (arith, e) in absurd never
+  all_kept ks (h ∷ hs) kept e = kept
+
+  pub one_hash_more : (ks : List K) (hs new : List ℕ) (k : K) (h : ℕ) → AreHashesOf input ks hs → length hs ≡ length ks → h ≡ hash k
+      → true ≡ not (list_any (nat_eq h) hs) → new ≡ insert_key nat_eq hs h → AreHashesOf input (ks ++ k ∷ []) new
+  one_hash_more ks hs new k h kept long same added put =
+      let none : list_any (nat_eq h) hs ≡ false = not_true (list_any (nat_eq h) hs) added in
+      let last : new ≡ hs ++ h ∷ [] = put ∙ ap (λ b. cond b hs (hs ++ h ∷ [])) none in
+      kept_whole (ks ++ k ∷ []) new (last ∙ ap (λ n. hs ++ n ∷ []) same ∙ ap (λ l. l ++ hash k ∷ []) (all_kept ks hs kept long) ∙ sym (map-append hash ks (k ∷ [])))
+
+  -- where there are not as many hashes as keys there are none
+  pub none_kept : (ks ls : List K) (hs : List ℕ) → AreHashesOf input ks hs → (length hs ≡ length ks → ⊥) → AreHashesOf input ls hs
+  none_kept ks ls [] kept other = tt
+  none_kept ks ls (h ∷ hs) kept other = absurd (other (ap length kept ∙ length-map ks hash))
 
   pub none_hashed : (ks : List K) (hs : List ℕ) → hs ≡ [] → hs ≡ map hash (take 0 ks)
   none_hashed ks hs e = e
@@ -73,16 +106,6 @@ module _ {K : Type 0} (input : K → List (List ℕ)) where
 
   pub all_hashed : (ks : List K) (i : ℕ) (hs : List ℕ) → i ≡ length ks → hs ≡ map hash (take i ks) → hs ≡ map hash ks
   all_hashed ks i hs end e = e ∙ ap (λ n. map hash (take n ks)) end ∙ ap (map hash) (take-length ks)
-
-  -- what has no hashes has those of any keys
-  pub unhashed : {S A : Type 0} (ks : List K) (kept : Option (Box (IndexSet ℕ S) A)) → ((set : Box (IndexSet ℕ S) A) → kept ≡ Some set → ⊥) → AreHashesOf input ks kept
-  unhashed ks None none = tt
-  unhashed ks (Some set) none = absurd (none set refl)
-
-  pub pushed_hash : {S A : Type 0} (ks : List K) (k : K) (old new : Option (Box (IndexSet ℕ S) A)) → AreHashesOf input ks old → HasOneMore old (hash k) new → AreHashesOf input (ks ++ k ∷ []) new
-  pushed_hash ks k old None h more = tt
-  pushed_hash ks k None (Some new) h more = absurd more
-  pushed_hash ks k (Some old) (Some new) h more = more ∙ one_hash_more ks old.value.keys k h
 
 -- the same writes have the same hash
 pub same_hash : (h : ℕ) (a b : List (List ℕ)) → h ≡ hashed a → a ≡ b → nat_eq h (hashed b) ≡ true

@@ -2,6 +2,7 @@ pub mod Firsts
 pub mod Pairs
 pub mod DistinctKeys
 pub mod HashedKeys
+pub mod Stores
 pub mod CopiedKeys
 pub mod Lists
 pub mod RetainedEntries

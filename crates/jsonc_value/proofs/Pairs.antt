@@ -34,6 +34,16 @@ module _ {K V : Type 0} (p : K → Bool) where
     set_first (x ∷ es) zero w f at = let same : x ≡ e = cc in rw (f.1 x.0) (ap (λ y. (y.0, w) ∷ es) same)
     set_first (x ∷ es) (suc i) w f at = rw (f.2 0 x.0 (omega arith)) (ap (λ l. x ∷ l) (set_first es i w (first_later p x.0 (keys_of es) i f) at))
 
+  value_set_first : (es : List (K × V)) (i : ℕ) (w : V) → First p (keys_of es) i → set_value p es w ≡ set_value_at es i w
+  value_set_first [] i w f = absurd (omega (arith, f.0))
+  value_set_first (x ∷ es) zero w f = rw (f.1 x.0) refl
+  value_set_first (x ∷ es) (suc i) w f = rw (f.2 0 x.0 (omega arith)) (ap (λ l. x ∷ l) (value_set_first es i w (first_later p x.0 (keys_of es) i f)))
+
+  value_first : (es : List (K × V)) (i : ℕ) (v : V) → First p (keys_of es) i → slice_get (values_of es) i ≡ Some v → lookup p es ≡ Some v
+  value_first [] i v f at = absurd (omega (arith, f.0))
+  value_first (x ∷ es) zero v f at = rw (f.1 x.0) at
+  value_first (x ∷ es) (suc i) v f at = rw (f.2 0 x.0 (omega arith)) (value_first es i v (first_later p x.0 (keys_of es) i f) at)
+
   remove_first : (es : List (K × V)) (i : ℕ) → First p (keys_of es) i → remove_entry p es ≡ remove es i
   remove_first [] i f = absurd (omega (arith, f.0))
   remove_first (x ∷ es) zero f = rw (f.1 x.0) refl
@@ -50,6 +60,13 @@ module _ {K V : Type 0} (p : K → Bool) where
 
   pub set_there : (es : List (K × V)) (i : ℕ) (e : K × V) (w : V) → i < length es → Some i ≡ position p (keys_of es) → slice_get es i ≡ Some e → set es i (e.0, w) ≡ set_value p es w
   set_there es i e w lt at here = sym (set_first e es i w (first_place es i lt at) here)
+
+  -- the value at the place of a key, as it is read and written
+  pub value_at_place : (es : List (K × V)) (i : ℕ) (v : V) → i < length es → Some i ≡ position p (keys_of es) → slice_get (values_of es) i ≡ Some v → Some v ≡ lookup p es
+  value_at_place es i v lt at here = sym (value_first es i v (first_place es i lt at) here)
+
+  pub set_at_place : (es : List (K × V)) (i : ℕ) (w : V) → i < length es → Some i ≡ position p (keys_of es) → set_value_at es i w ≡ set_value p es w
+  set_at_place es i w lt at = sym (value_set_first es i w (first_place es i lt at))
 
   pub entry_none : (es : List (K × V)) → false ≡ list_any p (keys_of es) → None ≡ lookup_entry p es
   entry_none [] e = refl

@@ -1,7 +1,8 @@
 -- What a map ends as, once a value of it is no longer lent.
-use Rattle.std.specs.Prelude.{◌≡◌, Bool, List, Option, Result}
-use Rattle.std.specs.Borrow.{Fml, RattleType, MutBor, LendsIf, LendsIfOk, RestsIfErr}
+use Rattle.std.specs.Prelude.{◌≡◌, ℕ, Bool, List, Option, Result}
+use Rattle.std.specs.Borrow.{Fml, RattleType, MutBor, Lends, LendsIf, LendsIfOk, RestsIfErr}
 use Rattle.indexmap.specs.IndexMap.{insert_entry}
+use Rattle.indexmap.specs.Layout.{set_value_at}
 use Rattle.std.specs.HashMap.Lent.{HashMembers}
 use Rattle.std.specs.Map.{set_value}
 use Rattle.std.specs.declared.alloc.Allocator as alloc
@@ -13,6 +14,10 @@ module _ (K V A : RattleType) (key : HashMembers K.Denot) (heap : alloc.Ghosts A
   -- the map's type, as the logic holds it
   abbrev pub map_row : RattleType
   map_row = the_row K V A (record { eq = key.eq }) (record { hash_input = key.hash_input }) heap
+
+  -- the value at this place ends as the last one written through r
+  abbrev pub lends_at : MutBor (List (K.Denot × V.Denot)) → ℕ → MutBor V.Denot → Fml
+  lends_at m i r = Lends map_row V m r (set_value_at m.now i)
 
   -- the key that passes the test gets the last value written through r; at `None` the map stays
   abbrev pub lends_value : MutBor (List (K.Denot × V.Denot)) → (K.Denot → Bool) → Option (MutBor V.Denot) → Fml

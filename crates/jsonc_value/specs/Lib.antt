@@ -1,5 +1,6 @@
 pub mod formers
 pub mod Hashes
+pub mod Stores
 pub mod Equal
 pub mod Names
 pub mod Kinds

@@ -20,43 +20,42 @@ mod lends;
 mod lists;
 mod retain;
 mod search;
+mod store;
 
 pub(crate) use hashes::FEW;
-#[doc(hidden)]
-pub use hashes::Hashes;
-use hashes::{empty_hashes, push_hash, reserve_hashes};
-use indexmap::Equivalent;
+use hashes::hashes_of;
+use indexmap::{Equivalent, IndexSet};
 pub use iter::{IntoIter, IntoKeys, IntoValues, Iter, Keys, Values};
 pub use lends::Entry;
-use search::place_of;
+use search::search;
 use std::alloc::{AllocError, AllocFailed, Allocator};
 use std::borrow::CowStr;
 use std::hash::Hash;
 use std::marker::Model;
 use std::mem;
+#[doc(hidden)]
+pub use store::{Hashed, Store};
 
 /// A map whose pairs keep the order in which their keys were first inserted.
 #[derive(Drop)]
 pub struct Map<K: Eq + Hash, V, A: Allocator> {
-    pairs: Vec<(K, V), A>,
-    // Of more than a few pairs the hashes of the keys.
-    hashes: Hashes<A>,
+    store: Store<K, V, A>,
 }
 
 impl<K: Eq + Hash, V, A: Allocator> Model for Map<K, V, A> {
     ghost use Rattle.std.specs.Prelude.{List};
     ghost use Rattle.std.specs.Map.{keys_of};
     ghost use Rattle.std.specs.List.{IsDistinct};
-    ghost use Rattle.jsonc_value.specs.Hashes.{AreHashesOf};
+    ghost use Rattle.jsonc_value.specs.Stores.{pairs_in, KeepsHashes};
     ghost use base.Stored.{coded×, coded_list};
 
     ghost Value = { List (K × V) };
 
     ghost coded = { coded_list (coded× K.code V.code) };
 
-    ghost view = { λ m. m.pairs.items };
+    ghost view = { λ m. pairs_in m.store };
 
-    ghost invariant = { λ m. IsDistinct K.eq (keys_of m.pairs.items) × AreHashesOf K.hash_input (keys_of m.pairs.items) m.hashes };
+    ghost invariant = { λ m. IsDistinct K.eq (keys_of (pairs_in m.store)) × KeepsHashes K.hash_input m.store };
 }
 
 impl<K: Eq + Hash, V, A: Allocator + Copy> Map<K, V, A> {
@@ -65,8 +64,7 @@ impl<K: Eq + Hash, V, A: Allocator + Copy> Map<K, V, A> {
         ensures { result ≡ [] }
     {
         Map {
-            pairs: Vec::new(alloc),
-            hashes: None,
+            store: Store::Few(Vec::new(alloc)),
         }
     }
 
@@ -76,9 +74,18 @@ impl<K: Eq + Hash, V, A: Allocator + Copy> Map<K, V, A> {
         K: Drop,
         ensures { IfOk result (λ m. m ≡ []) }
     {
-        let hashes = empty_hashes::<K, A>(alloc, capacity)?;
+        if capacity <= FEW {
+            let pairs = Vec::with_capacity(alloc, capacity)?;
+            return Ok(Map {
+                store: Store::Few(pairs),
+            });
+        }
+        let hashes = IndexSet::with_capacity(alloc, capacity)?;
         let pairs = Vec::with_capacity(alloc, capacity)?;
-        Ok(Map { pairs, hashes })
+        let both = Hashed::without_pairs(alloc, pairs, hashes)?;
+        Ok(Map {
+            store: Store::Many(both),
+        })
     }
 }
 
@@ -88,7 +95,7 @@ impl<K: Eq + Hash, V, A: Allocator> Map<K, V, A> {
         ensures len { result ≡ length self.now }
         ensures unique { IsDistinct K.eq (keys_of self.now) }
     {
-        self.pairs.len()
+        self.store.as_slice().len()
     }
 
     /// Whether there are no pairs.
@@ -102,11 +109,11 @@ impl<K: Eq + Hash, V, A: Allocator> Map<K, V, A> {
     pub fn capacity(&self) -> usize
         ensures { length self.now ≤ result }
     {
-        let hashed = match &self.hashes {
-            Some(set) => set.capacity(),
-            None => FEW,
+        let room = match &self.store {
+            Store::Few(pairs) => pairs.capacity().min(FEW),
+            Store::Many(both) => both.pairs.capacity().min(both.hashes.capacity()),
         };
-        self.pairs.capacity().min(hashed).max(self.pairs.len())
+        room.max(self.len())
     }
 
     /// Makes room for this many more pairs. On an error the pairs stay as they are.
@@ -116,8 +123,37 @@ impl<K: Eq + Hash, V, A: Allocator> Map<K, V, A> {
         A: Copy,
         ensures { self.new ≡ self.old }
     {
-        reserve_hashes(&mut self.hashes, &self.pairs, additional)?;
-        self.pairs.reserve(additional)
+        self.keep_hashes(additional)?;
+        match &mut self.store {
+            Store::Few(pairs) => pairs.reserve(additional),
+            Store::Many(both) => both.reserve(additional),
+        }
+    }
+
+    // Keeps hashes from now on, where keys that were few are to be more.
+    fn keep_hashes(&mut self, additional: usize) -> Result<(), AllocError>
+    where
+        K: Drop,
+        A: Copy,
+        ensures { self.new ≡ self.old }
+    {
+        let Store::Few(pairs) = &mut self.store else {
+            return Ok(());
+        };
+        let len = pairs.len();
+        if len > FEW || additional <= FEW - len {
+            return Ok(());
+        }
+        let alloc = *pairs.allocator();
+        let room = len.saturating_add(additional);
+        let Some(hashes) = hashes_of(alloc, pairs.as_slice(), room)? else {
+            return Ok(());
+        };
+        let mut both = Hashed::without_pairs(alloc, Vec::new(alloc), hashes)?;
+        mem::swap(&mut both.pairs, pairs);
+        let emptied = mem::replace(&mut self.store, Store::Many(both));
+        emptied.into_vec().destroy_empty();
+        Ok(())
     }
 
     /// Removes all pairs.
@@ -127,9 +163,9 @@ impl<K: Eq + Hash, V, A: Allocator> Map<K, V, A> {
         V: Drop,
         ensures { self.new ≡ [] }
     {
-        self.pairs.clear();
-        if let Some(set) = &mut self.hashes {
-            set.clear();
+        match &mut self.store {
+            Store::Few(pairs) => pairs.clear(),
+            Store::Many(both) => both.clear(),
         }
     }
 
@@ -139,7 +175,10 @@ impl<K: Eq + Hash, V, A: Allocator> Map<K, V, A> {
         ensures found { is_some result ≡ list_any (Q.equivalent key) (keys_of self.now) }
         ensures within { IfSome result (λ i. i < length self.now) }
     {
-        place_of(self.pairs.as_slice(), &self.hashes, key)
+        match &self.store {
+            Store::Few(pairs) => search(pairs.as_slice(), key),
+            Store::Many(both) => both.find(key),
+        }
     }
 
     // Takes out the pair at this place. The pairs after it close up.
@@ -148,11 +187,10 @@ impl<K: Eq + Hash, V, A: Allocator> Map<K, V, A> {
         ensures pair { slice_get self.old place ≡ Some result }
         ensures pairs { self.new ≡ remove self.old place }
     {
-        let pair = self.pairs.remove(place);
-        if let Some(set) = &mut self.hashes {
-            let _hash = set.shift_remove_index(place);
+        match &mut self.store {
+            Store::Few(pairs) => pairs.remove(place),
+            Store::Many(both) => both.remove(place),
         }
-        pair
     }
 
     // The pair at this place.
@@ -160,7 +198,7 @@ impl<K: Eq + Hash, V, A: Allocator> Map<K, V, A> {
         requires { index < length self.now }
         ensures { slice_get self.now index ≡ Some (result.0.now, result.1.now) }
     {
-        let (key, value) = &self.pairs[index];
+        let (key, value) = &self.pairs_slice()[index];
         (key, value)
     }
 
@@ -219,21 +257,21 @@ impl<K: Eq + Hash, V, A: Allocator> Map<K, V, A> {
     pub fn iter(&self) -> Iter<'_, K, V>
         ensures { result ≡ self.now }
     {
-        Iter::new(self.pairs.as_slice())
+        Iter::new(self.pairs_slice())
     }
 
     /// The keys, in their order.
     pub fn keys(&self) -> Keys<'_, K, V>
         ensures { result ≡ keys_of self.now }
     {
-        Keys::new(self.pairs.as_slice())
+        Keys::new(self.pairs_slice())
     }
 
     /// The values, in their order.
     pub fn values(&self) -> Values<'_, K, V>
         ensures { result ≡ values_of self.now }
     {
-        Values::new(self.pairs.as_slice())
+        Values::new(self.pairs_slice())
     }
 
     /// The keys, in their order, by value.
@@ -243,8 +281,7 @@ impl<K: Eq + Hash, V, A: Allocator> Map<K, V, A> {
         V: Drop,
         ensures { result ≡ keys_of self }
     {
-        let Map { pairs, hashes: _ } = self;
-        IntoKeys::new(pairs.into_iter())
+        IntoKeys::new(self.store.into_vec().into_iter())
     }
 
     /// The values, in their order, by value.
@@ -253,8 +290,7 @@ impl<K: Eq + Hash, V, A: Allocator> Map<K, V, A> {
         K: Drop,
         ensures { result ≡ values_of self }
     {
-        let Map { pairs, hashes: _ } = self;
-        IntoValues::new(pairs.into_iter())
+        IntoValues::new(self.store.into_vec().into_iter())
     }
 }
 
@@ -289,15 +325,15 @@ impl<K: Eq + Hash + Drop, V, A: Allocator + Copy> Map<K, V, A> {
         ensures value_returned { IfErr result (λ y. y.value ≡ (key, value)) }
         ensures err { OnErr result (self.new ≡ self.old) }
     {
-        let has_room = reserve_hashes(&mut self.hashes, &self.pairs, 1).is_ok();
-        if !has_room || self.pairs.reserve(1).is_err() {
+        if self.keep_hashes(1).is_err() {
             return Err(AllocFailed {
                 value: (key, value),
             });
         }
-        push_hash(&mut self.hashes, &key);
-        self.pairs.push_reserved((key, value));
-        Ok(())
+        match &mut self.store {
+            Store::Few(pairs) => pairs.push((key, value)),
+            Store::Many(both) => both.push(key, value),
+        }
     }
 
     /// Sets the value of this key, and answers the old one.
@@ -312,7 +348,7 @@ impl<K: Eq + Hash + Drop, V, A: Allocator + Copy> Map<K, V, A> {
         ensures memory { OnErr result (lookup (K.eq key) self.old ≡ None) }
     {
         match self.find(&key) {
-            Some(index) => Ok(Some(mem::replace(&mut self.pairs[index].1, value))),
+            Some(index) => Ok(Some(mem::replace(self.value_mut(index), value))),
             None => match self.push(key, value) {
                 Ok(()) => Ok(None),
                 Err(failed) => Err(failed),

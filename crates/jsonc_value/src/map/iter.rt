@@ -236,9 +236,8 @@ impl<K: Eq + Hash + Drop, V: Drop, A: Allocator> IntoIterator for Map<K, V, A> {
     ghost into_iter_gives = { λ m r. r ≡ m };
 
     fn into_iter(self) -> IntoIter<K, V, A> {
-        let Map { pairs, hashes: _ } = self;
         IntoIter {
-            pairs: pairs.into_iter(),
+            pairs: self.store.into_vec().into_iter(),
         }
     }
 }

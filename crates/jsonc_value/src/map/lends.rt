@@ -5,7 +5,7 @@ ghost use Rattle.std.specs.Option.{option_copied_mut, unwrap_or};
 ghost use Rattle.std.specs.Map.{lookup, values_of};
 ghost use Rattle.jsonc_value.specs.Lists.{IsPlaceOf};
 
-use super::Map;
+use super::{Map, Store};
 use std::alloc::{AllocError, AllocFailed, Allocator};
 use std::hash::Hash;
 
@@ -17,7 +17,19 @@ pub struct Entry<'a, K: Eq + Hash, V, A: Allocator> {
 }
 
 impl<K: Eq + Hash, V, A: Allocator> Map<K, V, A> {
-    ghost use Rattle.jsonc_value.specs.Lends.{lends_value, rests_if_refused};
+    ghost use Rattle.jsonc_value.specs.Lends.{lends_at, lends_value, rests_if_refused};
+
+    // The value at this place, to write.
+    pub(crate) fn value_mut(&mut self, index: usize) -> &mut V
+        requires { index < length self.old }
+        ensures* writes_back { sem 𝓛 (lends_at K.row V.row A.row K.Hash A.Allocator self.entry index result) }
+        ensures value { slice_get (values_of self.old) index ≡ Some result.now }
+    {
+        match &mut self.store {
+            Store::Few(pairs) => &mut pairs[index].1,
+            Store::Many(both) => &mut both.pairs[index].1,
+        }
+    }
 
     /// The value of this key, to write.
     pub fn get_mut(&mut self, key: &K) -> Option<&mut V>
@@ -26,7 +38,7 @@ impl<K: Eq + Hash, V, A: Allocator> Map<K, V, A> {
         ensures value { option_copied_mut result ≡ lookup (K.eq key.now) self.old }
     {
         match self.find(key) {
-            Some(index) => Some(&mut self.pairs[index].1),
+            Some(index) => Some(self.value_mut(index)),
             None => None,
         }
     }
@@ -105,7 +117,7 @@ impl<'a, K: Eq + Hash + Drop, V: Drop, A: Allocator + Copy> Entry<'a, K, V, A> {
     {
         let Entry { map, key } = self;
         match map.place_or_insert(key, value) {
-            Ok(index) => Ok(&mut map.pairs[index].1),
+            Ok(index) => Ok(map.value_mut(index)),
             Err(failed) => Err(failed),
         }
     }

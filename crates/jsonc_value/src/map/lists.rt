@@ -10,6 +10,7 @@ ghost use Rattle.jsonc_value.specs.Lists.{BeginsWithNew, InsertsUpTo};
 use super::Map;
 use super::hashes::{FEW, Hashes, hashes_of};
 use super::search::search;
+use super::store::{Hashed, Store};
 use std::alloc::{AllocError, AllocFailed, Allocator};
 use std::hash::Hash;
 
@@ -42,9 +43,9 @@ fn are_distinct<K: Eq + Hash, V>(pairs: &[(K, V)]) -> bool
 fn hashes_if_distinct<K: Eq + Hash, V, A: Allocator + Copy>(
     alloc: A,
     pairs: &[(K, V)],
-) -> Result<Option<Hashes<A>>, AllocError>
+) -> Result<Option<Option<Hashes<A>>>, AllocError>
     ensures distinct { IfOk result (λ r. IfSome r (λ _. IsDistinct K.eq (keys_of pairs.now))) }
-    ensures hashes { IfOk result (λ r. IfSome r (AreHashesOf K.hash_input (keys_of pairs.now))) }
+    ensures hashes { IfOk result (λ r. IfSome r (λ h. IfSome h (λ set. AreHashesOf K.hash_input (keys_of pairs.now) set.keys))) }
 {
     if pairs.len() <= FEW {
         return Ok(if are_distinct(pairs) {
@@ -66,8 +67,7 @@ impl<K: Eq + Hash + Drop, V: Drop, A: Allocator + Copy> Map<K, V, A> {
         ensures { result ≡ insert_all K.eq [] pairs.items }
     {
         Map {
-            pairs,
-            hashes: None,
+            store: Store::Few(pairs),
         }
     }
 
@@ -77,8 +77,17 @@ impl<K: Eq + Hash + Drop, V: Drop, A: Allocator + Copy> Map<K, V, A> {
         ensures { IfOk result (λ m. m ≡ insert_all K.eq [] pairs.items) }
     {
         let alloc = *pairs.allocator();
-        match hashes_if_distinct(alloc, pairs.as_slice())? {
-            Some(hashes) => Ok(Map { pairs, hashes }),
+        let kept = hashes_if_distinct(alloc, pairs.as_slice())?;
+        match kept {
+            Some(Some(hashes)) => {
+                let both = Box::new(alloc, Hashed { pairs, hashes })?;
+                Ok(Map {
+                    store: Store::Many(both),
+                })
+            }
+            Some(None) => Ok(Map {
+                store: Store::Few(pairs),
+            }),
             None => Map::from_list(alloc, pairs),
         }
     }
@@ -121,9 +130,21 @@ impl<K: Eq + Hash + Clone + Drop, V: Clone, A: Allocator + Clone> Map<K, V, A> {
         requires { EqualsItsClones K.eq K.is_clone }
         ensures { IfOk result (AllZip (IsPairClone K.is_clone V.is_clone) self.now) }
     {
-        let hashes = self.hashes.clone()?;
-        let pairs = self.pairs.clone()?;
-        Ok(Map { pairs, hashes })
+        match &self.store {
+            Store::Few(pairs) => {
+                let copies = pairs.clone()?;
+                Ok(Map {
+                    store: Store::Few(copies),
+                })
+            }
+            Store::Many(both) => {
+                let copies = both.pairs.clone()?;
+                let copy = Hashed::with_pairs(both, copies)?;
+                Ok(Map {
+                    store: Store::Many(copy),
+                })
+            }
+        }
     }
 }
 
@@ -132,12 +153,15 @@ impl<K: Eq + Hash, V, A: Allocator> Map<K, V, A> {
     pub(crate) fn pairs_slice(&self) -> &[(K, V)]
         ensures { result.now ≡ self.now }
     {
-        self.pairs.as_slice()
+        self.store.as_slice()
     }
 
     /// What the map takes its memory from.
     pub(crate) fn allocator(&self) -> &A {
-        self.pairs.allocator()
+        match &self.store {
+            Store::Few(pairs) => pairs.allocator(),
+            Store::Many(both) => both.pairs.allocator(),
+        }
     }
 }
 
@@ -148,7 +172,16 @@ impl<K: Eq + Hash + Clone + Drop, V: Drop, A: Allocator + Clone> Map<K, V, A> {
         requires equal { EqualsItsClones K.eq K.is_clone }
         ensures { IfOk result (λ m. m ≡ pairs.items) }
     {
-        let hashes = self.hashes.clone()?;
-        Ok(Map { pairs, hashes })
+        match &self.store {
+            Store::Few(_) => Ok(Map {
+                store: Store::Few(pairs),
+            }),
+            Store::Many(both) => {
+                let copy = Hashed::with_pairs(both, pairs)?;
+                Ok(Map {
+                    store: Store::Many(copy),
+                })
+            }
+        }
     }
 }

@@ -2,7 +2,7 @@
 ghost use Rattle.std.specs.Prelude.{◌≡◌, ◌<◌, length, take, swap};
 ghost use Rattle.jsonc_value.specs.Retained.{Retains, AnswersAt};
 
-use super::Map;
+use super::{Map, Store};
 use std::alloc::Allocator;
 use std::hash::Hash;
 
@@ -13,9 +13,9 @@ impl<K: Eq + Hash, V, A: Allocator> Map<K, V, A> {
         requires second { second < length self.old }
         ensures { self.new ≡ swap self.old first second }
     {
-        self.pairs.swap(first, second);
-        if let Some(set) = &mut self.hashes {
-            set.swap_indices(first, second);
+        match &mut self.store {
+            Store::Few(pairs) => pairs.swap(first, second),
+            Store::Many(both) => both.swap(first, second),
         }
     }
 
@@ -26,9 +26,9 @@ impl<K: Eq + Hash, V, A: Allocator> Map<K, V, A> {
         V: Drop,
         ensures { self.new ≡ take len self.old }
     {
-        self.pairs.truncate(len);
-        if let Some(set) = &mut self.hashes {
-            set.truncate(len);
+        match &mut self.store {
+            Store::Few(pairs) => pairs.truncate(len),
+            Store::Many(both) => both.truncate(len),
         }
     }
 }

@@ -29,13 +29,13 @@ pub(crate) fn place_of<K: Eq + Hash, V, Q: Equivalent<K>, A: Allocator>(
     hashes: &Hashes<A>,
     key: Q,
 ) -> Option<usize>
-    requires { AreHashesOf K.hash_input (keys_of pairs.now) hashes.now }
+    requires { AreHashesOf K.hash_input (keys_of pairs.now) hashes.now.keys }
     ensures index { result ≡ position (Q.equivalent key) (keys_of pairs.now) }
     ensures found { is_some result ≡ list_any (Q.equivalent key) (keys_of pairs.now) }
     ensures within { IfSome result (λ i. i < length pairs.now) }
 {
-    if let Some(set) = hashes {
-        let Some(place) = set.get_index_of(&hash_of(key)) else {
+    if !hashes.is_empty() {
+        let Some(place) = hashes.get_index_of(&hash_of(key)) else {
             return None;
         };
         if key.equivalent(&pairs[place].0) {

@@ -1,8 +1,6 @@
 -- Strings and names that are lent by their text.
-use Rattle.std.proofs.Common.{ℕ, ◌≡◌, ◌∙◌, ◌++◌, sym, ap, subst, refl, Bool, true, false, cond, List, [], ◌∷◌, map, Option, Some, None, IfSome, chars, rules}
-use denote.Bor.{Bor}
-use Rattle.std.specs.Cow.{IsOwnedStr}
-use Rattle.std.specs.List.{All, flat_map}
+use Rattle.std.proofs.Common.{ℕ, ◌≡◌, ◌∙◌, ◌++◌, sym, ap, subst, refl, Bool, true, false, cond, List, [], ◌∷◌, map, Option, Some, None, IfSome, rules}
+use Rattle.std.specs.List.{flat_map}
 use Rattle.std.specs.declared.borrow.CowStr.{CowStr}
 use Rattle.std.proofs.lemmas.List.{append-nil, map_push}
 use Rattle.std.proofs.lemmas.List.Elements.{All-append, All-cons, All-nil, All-head, All-tail}
@@ -18,7 +16,7 @@ use Rattle.jsonc_value.specs.declared.to_value.values.ValueMaker.{ValueMaker}
 use Rattle.jsonc_value.specs.declared.value.JsonArray.{JsonArray}
 use Rattle.jsonc_value.specs.declared.value.JsonObject.{JsonObject}
 use Rattle.jsonc_value.specs.declared.value.JsonValue.{JsonValue, the_lemmas}
-use Rattle.jsonc_value.specs.declared.value.JsonValue.TheVariants.{String, Number, Boolean, Null, Array, Object}
+use Rattle.jsonc_value.specs.declared.value.JsonValue.TheVariants.{String, Array, Object}
 use Rattle.jsonc_value.specs.to_value.Lent.{AreLent, IsLent, texts, texts_in_elements, texts_in_properties}
 use Rattle.jsonc_value.specs.to_value.Made.{IsCollapsed, IsMade, source_in}
 use Rattle.jsonc_value.specs.to_value.Views.{plain, name_of, same_name, inserted}

@@ -1,26 +1,33 @@
-use Rattle.std.proofs.Common.{◌≡◌, ap, sym, map, length, subst, swap, ◌∙◌, arith}
+use Rattle.std.proofs.Common.{length, ap, ◌∙◌, arith}
 use Rattle.std.specs.Map.{keys_of}
 use Rattle.std.proofs.lemmas.Map.Entries.{length-keys_of}
 use Rattle.indexmap.proofs.ReorderLemmas.{map-swap}
-use Rattle.jsonc_value.specs.Hashes.{AreHashesOf}
 use Rattle.jsonc_value.proofs.DistinctKeys.{swap_distinct}
-use Rattle.jsonc_value.proofs.HashedKeys.{hash, unhashed, swapped_hashes}
+use Rattle.jsonc_value.proofs.Stores.{few_pairs, few_distinct, many_pairs, many_hold}
 use Rattle.jsonc_value.proofs.map.Map.swap_pairs.Goals as goal
-use Rattle.jsonc_value.proofs.map.Map.swap_pairs.Goals.{in-Some, in_default}
+use Rattle.jsonc_value.proofs.map.Map.swap_pairs.Goals.{in-Few, in-Many}
 
 pub invariant_of-self : goal.invariant_of-self
 invariant_of-self g c =
-    let input = g.K.Hash.hash_input in
-    let old = c.self.inside.pairs.items in
-    let i = c.args.first in
-    let j = c.args.second in
-    let keys : keys_of c.swap.new.self.items ≡ swap (keys_of old) i j = ap keys_of c.swap.ensures.items ∙ map-swap (λ e. e.0) old i j in
-    let long = ap length c.self.view_is in
-    let distinct = swap_distinct g.K.PartialEq.eq g.met.K.Eq.laws i j (keys_of old) (keys_of c.swap.new.self.items)
-    (omega (arith, c.requires.first, long, length-keys_of old)) (omega (arith, c.requires.second, long, length-keys_of old)) keys c.self.invariant.0 in
+    let eq = g.K.PartialEq.eq in
     elim c.match-self.branch [
-      | in-Some w ↦
-          let kept = ap (λ s. s.keys) w.deref_mut.ensures.value ∙ subst (AreHashesOf input (keys_of old)) w.in-Some.is c.self.invariant.1 in
-          rw w.self-inside-is (distinct, w.swap_indices.ensures.keys ∙ swapped_hashes input (keys_of old) w.deref_mut.result.now.keys i j kept ∙ ap (map (hash input)) (sym keys))
-      | in_default w ↦ rw w.self-inside-is (distinct, unhashed input (keys_of c.swap.new.self.items) c.self.inside.hashes w.in_default.not-Some)
+      | in-Few w ↦
+          let es = w.in-Few.pairs.items in
+          let distinct = few_distinct c.self.inside.store eq g.K.Hash.hash_input c.self.invariant w.in-Few.pairs w.in-Few.is in
+          rw w.self-inside-is (
+            let long = ap length (few_pairs c.self.inside.store c.args.self.now w.in-Few.pairs w.in-Few.is c.self.view_is) in swap_distinct eq g.met.K.Eq.laws c.args.first c.args.second (keys_of es) (keys_of w.swap.new.self.items)
+                (omega (arith, c.requires.first, long, length-keys_of es)) (omega (arith, c.requires.second, long, length-keys_of es)) (ap keys_of w.swap.ensures.items ∙ map-swap (λ e. e.0) es c.args.first c.args.second) distinct,
+            tt,
+          )
+      | in-Many w ↦
+          let es = w.deref_mut.result.now.pairs.items in
+          let holds = many_hold c.self.inside.store eq g.K.Hash.hash_input c.self.invariant w.in-Many.both w.deref_mut.result.now w.in-Many.is w.deref_mut.ensures.value in
+          rw w.self-inside-is (
+            let long = ap length (many_pairs c.self.inside.store c.args.self.now w.in-Many.both w.deref_mut.result.now w.in-Many.is w.deref_mut.ensures.value c.self.view_is) in swap_distinct eq g.met.K.Eq.laws c.args.first c.args.second (keys_of es) (keys_of w.swap-in-Many.new.self.pairs.items)
+                (omega (arith, c.requires.first, long, length-keys_of es)) (omega (arith, c.requires.second, long, length-keys_of es)) (ap keys_of w.swap-in-Many.ensures.pairs ∙ map-swap (λ e. e.0) es c.args.first c.args.second) holds.0,
+            w.swap-in-Many.ensures.hashes,
+          )
     ]
+
+pub swap-requires-in-Many-clause-hashes : goal.swap-requires-in-Many-clause-hashes
+swap-requires-in-Many-clause-hashes g c = (many_hold c.self.inside.store g.K.PartialEq.eq g.K.Hash.hash_input c.self.invariant c.in-Many.both c.deref_mut.result.now c.in-Many.is c.deref_mut.ensures.value).1

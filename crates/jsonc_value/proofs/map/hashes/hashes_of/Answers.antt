@@ -1,10 +1,8 @@
-use Rattle.std.proofs.Common.{◌<◌, not, nat_eq, length, get_or, ap, sym, ◌∙◌, arith}
-use Rattle.std.specs.List.{list_any}
+use Rattle.std.proofs.Common.{◌<◌, length, get_or, sym, ◌∙◌, arith}
 use Rattle.std.specs.Map.{keys_of}
 use Rattle.std.proofs.lemmas.Map.Entries.{length-keys_of}
-use Rattle.indexmap.specs.IndexSet.{insert_key}
 use Rattle.jsonc_value.proofs.Pairs.{key_at}
-use Rattle.jsonc_value.proofs.HashedKeys.{next_hashed, all_hashed, distinct_by_hash}
+use Rattle.jsonc_value.proofs.HashedKeys.{kept_whole, next_hashed, all_hashed, distinct_by_hash}
 use Rattle.jsonc_value.proofs.map.hashes.hashes_of.Goals as goal
 
 pub loop-place-preserved : goal.loop-place-preserved
@@ -12,23 +10,23 @@ loop-place-preserved g c =
     let pairs = c.args.pairs.now in
     let i = c.loop-place.place in
     let key = (get_or pairs i c.index-pairs-place.result).0 in
-    let hs = c.loop-place.set.value.keys in
-    let now = ap (λ s. s.keys) c.deref_mut.ensures.value in
+    let hs = c.loop-place.set.keys in
     let h = c.hash_of.result in
     let within : i < length (keys_of pairs) = omega (arith, c.loop-place-test.true, length-keys_of pairs) in (
       next_hashed g.K.Hash.hash_input (keys_of pairs) i key h hs c.insert.new.self.keys within (key_at pairs i c.index-pairs-place.result key c.loop-place-test.true) c.hash_of.ensures c.loop-place.invariant.0
-          (sym c.if-not-branch.false ∙ c.in_ok-insert.ensures.added ∙ ap (λ l. not (list_any (nat_eq h) l)) now)
-          (c.in_ok-insert.ensures.keys ∙ ap (λ l. insert_key nat_eq l h) now),
+          (sym c.if-not-branch.false ∙ c.in_ok-insert.ensures.added)
+          c.in_ok-insert.ensures.keys,
       c.insert.ensures.unique,
     )
 
 pub returns-clause-hashes : goal.returns-clause-hashes
 returns-clause-hashes g c =
     let pairs = c.args.pairs.now in
-    all_hashed g.K.Hash.hash_input (keys_of pairs) c.loop-place.place c.loop-place.set.value.keys (omega (arith, c.loop-place-test.false, c.loop-place.auto.place-end, length-keys_of pairs)) c.loop-place.invariant.0
+    kept_whole g.K.Hash.hash_input (keys_of pairs) c.loop-place.set.keys
+    (all_hashed g.K.Hash.hash_input (keys_of pairs) c.loop-place.place c.loop-place.set.keys (omega (arith, c.loop-place-test.false, c.loop-place.auto.place-end, length-keys_of pairs)) c.loop-place.invariant.0)
 
 pub returns-clause-distinct : goal.returns-clause-distinct
 returns-clause-distinct g c =
     let pairs = c.args.pairs.now in
-    let all = all_hashed g.K.Hash.hash_input (keys_of pairs) c.loop-place.place c.loop-place.set.value.keys (omega (arith, c.loop-place-test.false, c.loop-place.auto.place-end, length-keys_of pairs)) c.loop-place.invariant.0 in
-    distinct_by_hash g.K.Hash.hash_input g.K.PartialEq.eq g.met.K.Hash.respects_eq (keys_of pairs) c.loop-place.set.value.keys all c.loop-place.invariant.1
+    let all = all_hashed g.K.Hash.hash_input (keys_of pairs) c.loop-place.place c.loop-place.set.keys (omega (arith, c.loop-place-test.false, c.loop-place.auto.place-end, length-keys_of pairs)) c.loop-place.invariant.0 in
+    distinct_by_hash g.K.Hash.hash_input g.K.PartialEq.eq g.met.K.Hash.respects_eq (keys_of pairs) c.loop-place.set.keys all c.loop-place.invariant.1
