@@ -7,11 +7,10 @@ ghost use Rattle.jsonc_tree.specs.Content.{Content};
 ghost use Rattle.jsonc_tree.specs.OrderedTree.{OrderedTree};
 ghost use Rattle.jsonc_text.specs.declared.edit.TrailingCommaMode.{TrailingCommaMode};
 ghost use Rattle.jsonc_text.specs.declared.edit.Over.{Over};
+ghost use Rattle.jsonc_text.specs.declared.edit.Shape.{Shape};
 ghost use Rattle.jsonc_sort.specs.Sorting.{Headers};
 ghost use Rattle.jsonc_cst.specs.declared.cst.CstRootNode.{CstRootNode};
-ghost use Rattle.jsonc_cst.specs.declared.cst.node.CstArray.{CstArray};
 ghost use Rattle.jsonc_cst.specs.declared.cst.node.CstNode.{CstNode};
-ghost use Rattle.jsonc_cst.specs.declared.cst.node.CstObject.{CstObject};
 ghost use Rattle.jsonc_cst.specs.declared.cst.node.CstObjectProp.{CstObjectProp};
 ghost use Rattle.jsonc_cst.specs.Descendants.{AreAllBelow};
 ghost use Rattle.jsonc_cst.specs.Document.{nodes_of, HasNode};
@@ -20,18 +19,17 @@ ghost use Rattle.jsonc_cst.specs.Nodes.{number_of, object_prop_node};
 ghost use Rattle.jsonc_cst.specs.Readings.{descendants_of};
 ghost use Rattle.jsonc_cst.specs.Values.{GivesTheValue};
 ghost use Rattle.jsonc_cst.specs.objects.Members.{HasNamedComeIn};
-ghost use Rattle.jsonc_cst.specs.objects.Named.{HasEnsuredArray, HasEnsuredObject};
+ghost use Rattle.jsonc_cst.specs.objects.Named.{HasEnsured};
 ghost use Rattle.jsonc_cst.specs.sorting.Sorted.{IsPlaced};
 ghost use Rattle.jsonc_cst.specs.typed.AsCalls.{IsCallIf, IsRootCallIf, LoneRemovalIsCall, RemovalIsCall};
-ghost use Rattle.jsonc_cst.specs.typed.Commas.{HasSetCommas, HasSetCommasInPart};
+ghost use Rattle.jsonc_cst.specs.typed.Commas.{CommasSet, CommasSetInPart};
 ghost use Rattle.jsonc_cst.specs.typed.Edits.{IsReplacedBy, IsUntouched, Unchanged};
 ghost use Rattle.jsonc_cst.specs.typed.Inserting.{HasComeIn};
 ghost use Rattle.jsonc_cst.specs.typed.Lines.{HasSpreadOut};
 ghost use Rattle.jsonc_cst.specs.typed.Raw.{HasBecome};
 ghost use Rattle.jsonc_cst.specs.typed.Removing.{IsCleared};
-ghost use Rattle.jsonc_cst.specs.typed.Setting.{FindsOrCreatesArray, FindsOrCreatesObject, FindsOrSetsArray};
-ghost use Rattle.jsonc_cst.specs.typed.Setting.{FindsOrSetsObject, HasBecomeProperty, RootBecomes};
-ghost use Rattle.jsonc_cst.specs.typed.Values.{HasSetBoolean, NodeValueIs, NowHoldsArray, NowHoldsObject};
+ghost use Rattle.jsonc_cst.specs.typed.Setting.{FindsOrCreates, FindsOrSets, HasBecomeProperty, RootBecomes};
+ghost use Rattle.jsonc_cst.specs.typed.Values.{HasSetBoolean, NodeValueIs, NowHolds};
 
 use std::alloc::Allocator;
 
@@ -53,8 +51,8 @@ pub fn entries_move_their_comments<A: Allocator>()
     ensures { (d : CstRootNode A) (node : CstNode) → MoveTheirComments d node }
 {}
 
-/// What typed calls say is what lists of calls are made of: from the clause that each has of the nodes, word
-/// for word, to a call of its node, of which `jsonc_run`'s law of lists speaks. `kept` is what each refusal says,
+/// What typed calls say is what lists of calls are made of: from what each says of the nodes, word for word,
+/// to a call of its node, of which `jsonc_run`'s law of lists speaks. `kept` is what each refusal says,
 /// and `untouched` what is said where nothing changes. That a document's nodes are a tree is a field of its
 /// value.
 pub fn typed_calls_are_calls<A: Allocator>()
@@ -71,20 +69,14 @@ pub fn typed_calls_are_calls<A: Allocator>()
     ensures cleared { (old new : CstRootNode A) → IsRootCallIf old new (IsCleared (nodes_of old) (nodes_of new)) }
     ensures root { (old new : CstRootNode A) (v : Plain) (now : CstNode)
         → IsRootCallIf old new (RootBecomes (nodes_of old) (nodes_of new) v now) }
-    ensures object_created { (old new : CstRootNode A) (x : Option CstObject)
-        → IsRootCallIf old new (FindsOrCreatesObject (nodes_of old) (nodes_of new) x) }
-    ensures object_set { (old new : CstRootNode A) (x : CstObject)
-        → IsRootCallIf old new (FindsOrSetsObject (nodes_of old) (nodes_of new) x) }
-    ensures array_created { (old new : CstRootNode A) (x : Option CstArray)
-        → IsRootCallIf old new (FindsOrCreatesArray (nodes_of old) (nodes_of new) x) }
-    ensures array_set { (old new : CstRootNode A) (x : CstArray)
-        → IsRootCallIf old new (FindsOrSetsArray (nodes_of old) (nodes_of new) x) }
+    ensures root_created { (old new : CstRootNode A) (shape : Shape) (x : Option ℕ)
+        → IsRootCallIf old new (FindsOrCreates (nodes_of old) (nodes_of new) shape x) }
+    ensures root_set { (old new : CstRootNode A) (shape : Shape) (x : ℕ)
+        → IsRootCallIf old new (FindsOrSets (nodes_of old) (nodes_of new) shape x) }
     ensures value { (old new : CstRootNode A) (p : CstObjectProp) (v : Plain) (now : CstNode)
         → IsCallIf old new (object_prop_node p) (NodeValueIs old new (object_prop_node p) v now) }
-    ensures object_held { (old new : CstRootNode A) (p : CstObjectProp) (x : CstObject)
-        → IsCallIf old new (object_prop_node p) (NowHoldsObject old new (object_prop_node p) x) }
-    ensures array_held { (old new : CstRootNode A) (p : CstObjectProp) (x : CstArray)
-        → IsCallIf old new (object_prop_node p) (NowHoldsArray old new (object_prop_node p) x) }
+    ensures held { (old new : CstRootNode A) (p : CstObjectProp) (shape : Shape) (x : ℕ)
+        → IsCallIf old new (object_prop_node p) (NowHolds old new shape (object_prop_node p) x) }
     ensures boolean { (old new : CstRootNode A) (node : CstNode) (b : Bool)
         → IsCallIf old new node (HasSetBoolean old new node b) }
     ensures lines { (old new : CstRootNode A) (node : CstNode) → IsCallIf old new node (HasSpreadOut old new node) }
@@ -92,14 +84,12 @@ pub fn typed_calls_are_calls<A: Allocator>()
         → IsCallIf old new node (HasComeIn old new node i v now) }
     ensures named { (old new : CstRootNode A) (node : CstNode) (i : ℕ) (name : List ℕ) (v : Plain) (now : CstObjectProp)
         → IsCallIf old new node (HasNamedComeIn old new node i name v now) }
-    ensures object_named { (old new : CstRootNode A) (node : CstNode) (how : Over) (name : List ℕ) (x : Option CstObject)
-        → IsCallIf old new node (HasEnsuredObject old new how node name x) }
-    ensures array_named { (old new : CstRootNode A) (node : CstNode) (how : Over) (name : List ℕ) (x : Option CstArray)
-        → IsCallIf old new node (HasEnsuredArray old new how node name x) }
+    ensures ensured { (old new : CstRootNode A) (node : CstNode) (shape : Shape) (how : Over) (name : List ℕ) (x : Option ℕ)
+        → IsCallIf old new node (HasEnsured old new shape how node name x) }
     ensures commas { (old new : CstRootNode A) (node : CstNode) (mode : TrailingCommaMode)
-        → IsCallIf old new node (HasSetCommas old new mode node) }
+        → IsCallIf old new node (CommasSet (nodes_of old) (nodes_of new) mode (number_of node)) }
     ensures some_commas { (old new : CstRootNode A) (node : CstNode) (mode : TrailingCommaMode)
-        → IsCallIf old new node (HasSetCommasInPart old new mode node) }
+        → IsCallIf old new node (CommasSetInPart (nodes_of old) (nodes_of new) mode (number_of node)) }
     ensures sorted { (old new : CstRootNode A) (node : CstNode) (h : Headers) (order : List ℕ)
         → IsCallIf old new node (IsPlaced (nodes_of old) (nodes_of new) (number_of node) h order) }
 {}

@@ -1,5 +1,5 @@
 -- The array or object that a document has, or that comes first, and what is put into it.
-use Rattle.std.proofs.Common.{◌≡◌, ℕ, Bool, true, false, List, [], ◌∷◌, length, Option, Some, None, IfSome, if◌then◌else◌, refl, sym, ap, subst, ◌∙◌}
+use Rattle.std.proofs.Common.{◌≡◌, ℕ, Bool, true, false, List, [], ◌∷◌, length, Option, Some, None, option_map, IfSome, if◌then◌else◌, refl, sym, ap, subst, ◌∙◌}
 use Rattle.jsonc_text.specs.Options.{Options}
 use Rattle.jsonc_text.specs.Plain.{Plain}
 use Rattle.jsonc_tree.specs.Content.{array, object, property}
@@ -33,7 +33,7 @@ use Rattle.jsonc_cst.specs.Readings.{array_if, object_if, typed_if}
 use Rattle.jsonc_cst.specs.typed.Inserting.{InsertedAt, PutsAtItsPath}
 use Rattle.jsonc_cst.specs.typed.Removing.{OnlyOutOfMemory}
 use Rattle.jsonc_cst.specs.objects.Members.{NamedInsertedAt, PutsNamedAtItsPath}
-use Rattle.jsonc_cst.specs.typed.Setting.{FindsOrCreatesArray, FindsOrCreatesObject, FirstArrayAround, FirstArrayWritten, FirstObjectAround, FirstObjectWritten, FirstOrSame}
+use Rattle.jsonc_cst.specs.typed.Setting.{FindsOrCreates, FirstAround, FirstOrSame, FirstWritten}
 use Rattle.jsonc_cst.specs.typed.Values.{HeldIsMarked, HeldIsWritten, ValueIs}
 use Rattle.jsonc_engine.specs.declared.fault.Fault.TheVariants.{Edit, NotArray, NotObject}
 use Rattle.jsonc_engine.specs.Appending.{AppendsLast}
@@ -52,7 +52,14 @@ pub object_stands : (ns : List Node) (found : Option CstObject) (x : CstObject) 
     → typed_if ns (value_at ns 0) ≡ Some (object_node x)
 object_stands ns found x e h = subst (λ (f : Option CstObject). IfSome f (λ a. typed_if ns (value_at ns 0) ≡ Some (object_node a))) e h
 
--- and so is what is said of it
+-- the value is an array, or an object, that was there or has come first; it is answered
+abbrev pub CreatesArray : List Node → List Node → Option CstArray → Type 0
+CreatesArray old made answer = FindsOrCreates old made Array (option_map (λ (x : CstArray). x.number) answer)
+
+abbrev pub CreatesObject : List Node → List Node → Option CstObject → Type 0
+CreatesObject old made answer = FindsOrCreates old made Object (option_map (λ (x : CstObject). x.number) answer)
+
+-- what is said of an answer is so of what it holds
 pub said_of : {T : Type 0} (found : Option T) (x : T) (P : Option T → Type 0) → found ≡ Some x → P found → P (Some x)
 said_of found x P e h = subst P e h
 
@@ -75,21 +82,21 @@ module _ (o : Options) (old made : List Node) where
       let h = held o old tree s n e in
       (h.value, h.text, sym (h.error shape) ∙ if_none (is_of shape (content_at old n)) n told)
 
-  pub sound_array : FirstArrayWritten old made o → SoundTree o (ordered_tree old 0) → SoundTree o (ordered_tree made 0)
+  pub sound_array : FirstWritten old made Array o → SoundTree o (ordered_tree old 0) → SoundTree o (ordered_tree made 0)
   sound_array first s = sound_by (empty_of Array) (value_at old 0) first s
 
-  pub sound_object : FirstObjectWritten old made o → SoundTree o (ordered_tree old 0) → SoundTree o (ordered_tree made 0)
+  pub sound_object : FirstWritten old made Object o → SoundTree o (ordered_tree old 0) → SoundTree o (ordered_tree made 0)
   sound_object first s = sound_by (empty_of Object) (value_at old 0) first s
 
-  pub no_array : IsTree old → SoundTree o (ordered_tree old 0) → (found : Option CstArray) → found ≡ None → FindsOrCreatesArray old made found
+  pub no_array : IsTree old → SoundTree o (ordered_tree old 0) → (found : Option CstArray) → found ≡ None → CreatesArray old made found
       → EndsAppending o (printed (ordered_tree old 0)) NotArray
   no_array tree s found none h =
-      another_by Array tree s (value_at old 0) refl (subst (λ (f : Option CstArray). FindsOrCreatesArray old made f) none h)
+      another_by Array tree s (value_at old 0) refl (subst (λ (f : Option CstArray). CreatesArray old made f) none h)
 
-  pub no_object : IsTree old → SoundTree o (ordered_tree old 0) → (found : Option CstObject) → found ≡ None → FindsOrCreatesObject old made found
+  pub no_object : IsTree old → SoundTree o (ordered_tree old 0) → (found : Option CstObject) → found ≡ None → CreatesObject old made found
       → EndsSetting o (printed (ordered_tree old 0)) NotObject
   no_object tree s found none h =
-      another_by Object tree s (value_at old 0) refl (subst (λ (f : Option CstObject). FindsOrCreatesObject old made f) none h)
+      another_by Object tree s (value_at old 0) refl (subst (λ (f : Option CstObject). CreatesObject old made f) none h)
 
 -- allocation failure can end an edit, where the value is of the kind that is wanted
 pub memory_appending : (o : Options) (bytes : List ℕ) (e : EditError) → e ≡ OutOfMemory → MayHave is_array o bytes → EndsAppending o bytes (Edit e)
@@ -111,7 +118,7 @@ module _ (o : Options) (old : List Node) (tree : IsTree old) (s : SoundTree o (o
 
 -- what is put into the array
 module _ (o : Options) (old made : List Node) (tree : IsTree made) (x : CstArray) (stands : typed_if made (value_at made 0) ≡ Some (array_node x))
-    (first : FirstArrayWritten old made o) (s : SoundTree o (ordered_tree old 0)) where
+    (first : FirstWritten old made Array o) (s : SoundTree o (ordered_tree old 0)) where
   abbrev c : ℕ
   c = x.number
 
@@ -121,7 +128,7 @@ module _ (o : Options) (old made : List Node) (tree : IsTree made) (x : CstArray
   at : IsAt made [] c
   at = value_stands made tree c is.0
 
-  pub appends_last : (new : List Node) (v : Plain) → FindsOrCreatesArray old made (Some x) → FirstArrayAround old made o → (now : CstNode)
+  pub appends_last : (new : List Node) (v : Plain) → CreatesArray old made (Some x) → FirstAround old made Array o → (now : CstNode)
       → InsertedAt made new c (length (elements_at made c)) v now → PutsAtItsPath o made new c (length (elements_at made c)) v → AppendsLast o v old new
   appends_last new v found around now comes put = record {
     made = made;
@@ -136,7 +143,7 @@ module _ (o : Options) (old made : List Node) (tree : IsTree made) (x : CstArray
     put = λ may. put (sound_array o old made first s) may [] at;
   }
 
-  pub array_memory : IsTree old → FindsOrCreatesArray old made (Some x) → (e : EditError) → OnlyOutOfMemory o made c e → EndsAppending o (printed (ordered_tree old 0)) (Edit e)
+  pub array_memory : IsTree old → CreatesArray old made (Some x) → (e : EditError) → OnlyOutOfMemory o made c e → EndsAppending o (printed (ordered_tree old 0)) (Edit e)
   array_memory before found e told =
       memory_appending o (printed (ordered_tree old 0)) e (told (sound_array o old made first s) (over_at made tree [] c at)) (of_found o old before s Array made c found)
 
@@ -153,7 +160,7 @@ found_property ns v _ _ (names.later {rest = rest} {found = found} other f) = fo
 
 -- what is set in the object
 module _ (o : Options) (old made : List Node) (tree : IsTree made) (x : CstObject) (stands : typed_if made (value_at made 0) ≡ Some (object_node x))
-    (first : FirstObjectWritten old made o) (s : SoundTree o (ordered_tree old 0)) where
+    (first : FirstWritten old made Object o) (s : SoundTree o (ordered_tree old 0)) where
   abbrev k : ℕ
   k = x.number
 
@@ -166,7 +173,7 @@ module _ (o : Options) (old made : List Node) (tree : IsTree made) (x : CstObjec
   sound : SoundTree o (ordered_tree made 0)
   sound = sound_object o old made first s
 
-  module _ (new : List Node) (name : List ℕ) (v : Plain) (found : FindsOrCreatesObject old made (Some x)) (around : FirstObjectAround old made o) where
+  module _ (new : List Node) (name : List ℕ) (v : Plain) (found : CreatesObject old made (Some x)) (around : FirstAround old made Object o) where
     sets_by : (p : Option ℕ) → FirstInObject made k name p → SetOrAppended o name v made new k p → SetsFirst o name v old new
     sets_by p named set = record {
       made = made;
@@ -210,8 +217,8 @@ module _ (o : Options) (old made : List Node) (tree : IsTree made) (x : CstObjec
       pub sets_property : ValueIs made new p v now → HeldIsWritten made new o p v now → HeldIsMarked made new p v → SetsFirst o name v old new
       sets_property becomes written marked = sets_by (Some p) named (sets_value becomes written marked)
 
-  pub object_memory : IsTree old → FindsOrCreatesObject old made (Some x) → (e : EditError) → e ≡ OutOfMemory → EndsSetting o (printed (ordered_tree old 0)) (Edit e)
+  pub object_memory : IsTree old → CreatesObject old made (Some x) → (e : EditError) → e ≡ OutOfMemory → EndsSetting o (printed (ordered_tree old 0)) (Edit e)
   object_memory before found e is = memory_setting o (printed (ordered_tree old 0)) e is (of_found o old before s Object made k found)
 
-  pub append_memory : IsTree old → FindsOrCreatesObject old made (Some x) → (e : EditError) → OnlyOutOfMemory o made k e → EndsSetting o (printed (ordered_tree old 0)) (Edit e)
+  pub append_memory : IsTree old → CreatesObject old made (Some x) → (e : EditError) → OnlyOutOfMemory o made k e → EndsSetting o (printed (ordered_tree old 0)) (Edit e)
   append_memory before found e told = object_memory before found e (told sound (over_at made tree [] k stands_there))

@@ -2,6 +2,7 @@
 use Rattle.std.specs.Prelude.{◌≡◌, ℕ, List, [], ◌∷◌, Option, Some, None, length}
 use Rattle.jsonc_text.specs.Options.{Options}
 use Rattle.jsonc_text.specs.Plain.{Plain}
+use Rattle.jsonc_text.specs.declared.edit.Shape.TheVariants.{Object}
 use Rattle.jsonc_tree.specs.Content.{object}
 use Rattle.jsonc_tree.specs.OrderedTree.{ordered_tree}
 use Rattle.jsonc_tree.specs.Tree.{Node, content_at}
@@ -21,7 +22,7 @@ use Rattle.jsonc_cst.specs.declared.cst.node.CstObjectProp.{CstObjectProp}
 use Rattle.jsonc_cst.specs.Nodes.{number_of}
 use Rattle.jsonc_cst.specs.typed.Marked.{MarksReplaced}
 use Rattle.jsonc_cst.specs.objects.Members.{IsNamedPutIn, NamedInsertedAt}
-use Rattle.jsonc_cst.specs.typed.Setting.{FindsOrCreatesObject, FirstObjectAround, FirstObjectWritten}
+use Rattle.jsonc_cst.specs.typed.Setting.{FindsOrCreates, FirstAround, FirstWritten}
 use Rattle.jsonc_cst.specs.typed.Values.{ValueIs}
 
 -- The value of the property p, an element of the object c that is the document's value, has been replaced by v, and nothing else has changed. Where v may be written
@@ -54,9 +55,9 @@ SetOrAppended o name v old new c (Some p) = HasSet o v old new c p
 pub record SetsFirst (o : Options) (name : List ℕ) (v : Plain) (old new : List Node) : Type 0 where
   pub made : List Node
   pub x : CstObject
-  pub found : FindsOrCreatesObject old made (Some x)
-  pub first : FirstObjectWritten old made o
-  pub around : FirstObjectAround old made o
+  pub found : FindsOrCreates old made Object (Some x.number)
+  pub first : FirstWritten old made Object o
+  pub around : FirstAround old made Object o
   pub value : value_at made 0 ≡ Some x.number
   pub is_object : content_at made x.number ≡ object
   pub property : Option ℕ

@@ -1,3 +1,4 @@
 pub mod InsertedProperties
 pub mod ByName
 pub mod Steps
+pub mod NamedCalls

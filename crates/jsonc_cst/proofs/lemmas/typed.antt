@@ -15,3 +15,5 @@ pub mod Multiline
 pub mod InsertedElements
 pub mod Trailing
 pub mod Calls
+pub mod RootShapes
+pub mod HeldShapes

@@ -1,5 +1,5 @@
 -- Values of properties by name: found, or set.
-use Rattle.std.specs.Prelude.{ℕ, List, Option, Some, None}
+use Rattle.std.specs.Prelude.{ℕ, List, Option}
 use Rattle.jsonc_text.specs.Options.{Options}
 use Rattle.jsonc_tree.specs.OrderedTree.{ordered_tree}
 use Rattle.jsonc_tree.specs.Tree.{Node}
@@ -8,37 +8,17 @@ use Rattle.jsonc_sound.specs.SoundTrees.{SoundTree}
 use Rattle.jsonc_edit.specs.Paths.{IsAt}
 use Rattle.jsonc_text.specs.declared.edit.EditError.{EditError}
 use Rattle.jsonc_text.specs.declared.edit.Over.{Over}
-use Rattle.jsonc_text.specs.declared.edit.Over.TheVariants.{Replace}
 use Rattle.jsonc_text.specs.declared.edit.Shape.{Shape}
-use Rattle.jsonc_text.specs.declared.edit.Shape.TheVariants.{Object, Array}
 use Rattle.jsonc_insert.specs.named.Laws.{IsNamedWritten}
 use Rattle.jsonc_insert.specs.named.Named.{EnsureError, NamedEnsured}
 use Rattle.jsonc_cst.specs.declared.cst.CstRootNode.{CstRootNode}
-use Rattle.jsonc_cst.specs.declared.cst.node.CstArray.{CstArray}
 use Rattle.jsonc_cst.specs.declared.cst.node.CstNode.{CstNode}
-use Rattle.jsonc_cst.specs.declared.cst.node.CstObject.{CstObject}
 use Rattle.jsonc_cst.specs.Document.{nodes_of}
 use Rattle.jsonc_run.specs.promise.Steps.{IsStep}
 use Rattle.jsonc_run.specs.Edits.{ensure_property}
 use Rattle.jsonc_cst.specs.Nodes.{number_of}
 
-abbrev pub object_number : Option CstObject → Option ℕ
-object_number None = None
-object_number (Some x) = Some x.number
-
-abbrev pub array_number : Option CstArray → Option ℕ
-array_number None = None
-array_number (Some x) = Some x.number
-
 module _ (old new : List Node) where
-  -- the first property of the name in c has an object as its value, or another that was to stay; the object is answered
-  abbrev pub ObjectEnsured : Over → ℕ → List ℕ → Option CstObject → Type 0
-  ObjectEnsured how c name answer = NamedEnsured Object how old new c name (object_number answer)
-
-  -- or an array
-  abbrev pub ArrayEnsured : Over → ℕ → List ℕ → Option CstArray → Type 0
-  ArrayEnsured how c name answer = NamedEnsured Array how old new c name (array_number answer)
-
   -- If c stands at a path of a sound document, that may hold the name, the text is a document again, in which that property alone has changed, or has come
   -- last; and the document is sound.
   abbrev pub NamedIsWritten : Options → ℕ → List ℕ → Shape → Over → Type 0
@@ -52,18 +32,9 @@ module _ (old new : List Node) where
 
 -- the same of a document
 module _ {A : Type 0} (old new : CstRootNode A) where
-  abbrev pub HasEnsuredObject : Over → CstNode → List ℕ → Option CstObject → Type 0
-  HasEnsuredObject how node name answer = ObjectEnsured (nodes_of old) (nodes_of new) how (number_of node) name answer
-
-  abbrev pub HasEnsuredArray : Over → CstNode → List ℕ → Option CstArray → Type 0
-  HasEnsuredArray how node name answer = ArrayEnsured (nodes_of old) (nodes_of new) how (number_of node) name answer
-
-  -- where another is replaced there is always one
-  abbrev pub HasSetObject : CstNode → List ℕ → CstObject → Type 0
-  HasSetObject node name x = HasEnsuredObject Replace node name (Some x)
-
-  abbrev pub HasSetArray : CstNode → List ℕ → CstArray → Type 0
-  HasSetArray node name x = HasEnsuredArray Replace node name (Some x)
+  -- the first property of the name has a value of the shape, or another that was to stay; the value of the shape is answered, if there is one
+  abbrev pub HasEnsured : Shape → Over → CstNode → List ℕ → Option ℕ → Type 0
+  HasEnsured shape how node name answer = NamedEnsured shape how (nodes_of old) (nodes_of new) (number_of node) name answer
 
   abbrev pub HasWrittenNamed : Options → CstNode → List ℕ → Shape → Over → Type 0
   HasWrittenNamed o node name shape how = NamedIsWritten (nodes_of old) (nodes_of new) o (number_of node) name shape how

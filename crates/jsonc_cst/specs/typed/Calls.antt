@@ -1,18 +1,24 @@
--- What the edits that nodes of many kinds have make of a document, and what they answer.
-use Rattle.std.specs.Prelude.{◌≡◌, None, Option, Result, IfErr, IfNone, IfOk, IfSome, OnErr, OnOk}
+-- What the edits of typed nodes make of a document, and what they answer: each record is the one clause of its calls. SetCalls.antt has those that set a value.
+use Rattle.std.specs.Prelude.{◌≡◌, ℕ, None, Option, Result, IfErr, IfNone, IfOk, IfSome, OnErr, OnOk}
 use Rattle.jsonc_text.specs.Options.{Options}
 use Rattle.jsonc_text.specs.Plain.{Plain}
 use Rattle.jsonc_text.specs.declared.edit.EditError.{EditError}
 use Rattle.jsonc_text.specs.declared.edit.EditError.TheVariants.{OutOfMemory}
+use Rattle.jsonc_text.specs.declared.edit.TrailingCommaMode.{TrailingCommaMode}
+use Rattle.jsonc_text.specs.declared.edit.TrailingCommaMode.TheVariants.{IfMultiline}
+use Rattle.jsonc_edit.specs.commas.InTurn.{CommaIsDue}
 use Rattle.jsonc_cst.specs.declared.cst.CstRootNode.{CstRootNode}
 use Rattle.jsonc_cst.specs.declared.cst.node.CstNode.{CstNode}
 use Rattle.jsonc_cst.specs.Document.{nodes_of, parent_of, tree_of, HasNode}
 use Rattle.jsonc_cst.specs.Nodes.{number_of}
+use Rattle.jsonc_cst.specs.typed.Commas.{CommasSaid, CommasSet, CommasSetInPart, CommasStand, CommasStay, CommasWritten}
 use Rattle.jsonc_cst.specs.typed.Edits.{IsReplacedBy, NodeIsDetached, HasMarked, HasStayedAround, HasWritten, IsUntouched}
-use Rattle.jsonc_cst.specs.typed.Edits.{KeepsDocument, Unchanged, HandlesStay}
+use Rattle.jsonc_cst.specs.typed.Edits.{KeepsDocument, KeepsDocumentOf, Unchanged, HandlesStay}
+use Rattle.jsonc_cst.specs.typed.Inserting.{HasComeIn, InsertError, IsItsElement, IsPutAtItsPath, KeepsOthers}
+use Rattle.jsonc_cst.specs.typed.Lines.{HasSpreadOut, IsOnLines, LinesWritten, StaysUnspread}
 use Rattle.jsonc_cst.specs.typed.Removing.{removal_of, NodeRemoved, IsKeptForMemory, IsKeptIn, IsLoose}
 use Rattle.jsonc_cst.specs.typed.Removing.{RemovalAround, RemovalKeepsDocument, RemovedIsDetached, RemovalWritten}
-use Rattle.jsonc_cst.specs.typed.Steps.{IsRemoving, IsReplacing, IsValueIn}
+use Rattle.jsonc_cst.specs.typed.Steps.{IsHolder, IsRemoving, IsReplacing, IsSettingCommas, IsSettingSomeCommas, IsSpreading, IsValueIn}
 
 -- The node has been taken out with what leaves with it, and is detached. If the document was sound, it is so without that entry, value or comment, and what
 -- stands around stays. Or an error has left every node as it was, for the memory of a space or for brackets that are missing.
@@ -48,3 +54,58 @@ pub record IsReplacement {A : Type 0} (old new : CstRootNode A) (node : CstNode)
   pub child : OnErr r (parent_of old node ≡ None → ⊥)
   pub kept : OnErr r (Unchanged old new)
   pub document : OnErr r (tree_of new ≡ tree_of old)
+
+-- The value has come into the array, as its element of the number i, or behind its last, and its node is answered. If the document was sound, it is so with the
+-- value there; the call is the step that is named; all other nodes stay. Or an error has left every node as it was, for memory or for brackets that are missing.
+pub record IsInsertion {A : Type 0} (old new : CstRootNode A) (node : CstNode) (i place : ℕ) (v : Plain) (is_step : Type 0) (r : Result CstNode EditError) : Type 0 where
+  pub put : IfOk r (HasComeIn old new node place v)
+  pub element : IfOk r (IsItsElement old new node i)
+  pub written : (o : Options) → OnOk r (IsPutAtItsPath old new o node place v)
+  pub step : OnOk r is_step
+  pub others : OnOk r (KeepsOthers old new node)
+  pub detached : OnOk r (KeepsDocument old new node)
+  pub error : IfErr r (InsertError old node)
+  pub memory : (o : Options) → IfErr r (IsKeptForMemory old o node)
+  pub in_document : IfOk r (HasNode new)
+  pub handles : HandlesStay old new
+  pub kept : OnErr r (Unchanged old new)
+  pub document : OnErr r (tree_of new ≡ tree_of old)
+
+-- The array or object has been put on several lines, or was on several. If the document was sound, it is so, with the value, the literals and the comments that it
+-- had. Or an error has left every node as it was, for memory or for brackets that are missing.
+pub record IsPutOnLines {A : Type 0} (old new : CstRootNode A) (node : CstNode) (r : Result (Unit {0}) EditError) : Type 0 where
+  pub made : OnOk r (HasSpreadOut old new node)
+  pub written : (o : Options) → OnOk r (LinesWritten old new o node)
+  pub step : OnOk r (IsSpreading (nodes_of old) (nodes_of new) (number_of node))
+  pub lines : OnOk r (IsOnLines new node)
+  pub detached : OnOk r (KeepsDocument old new node)
+  pub error : IfErr r (StaysUnspread old node)
+  pub memory : (o : Options) → IfErr r (IsKeptForMemory old o node)
+  pub handles : HandlesStay old new
+  pub kept : OnErr r (Unchanged old new)
+  pub document : OnErr r (tree_of new ≡ tree_of old)
+
+-- what is said of the node if it is the root, an array or an object, and what is said of the document in any case
+abbrev pub IfHolder : CstNode → Type 0 → Type 0
+IfHolder node Said = IsHolder node → Said
+
+abbrev pub InAnyCase : Type 0 → Type 0
+InAnyCase Said = Said
+
+-- The trailing commas of the node n, and of all arrays and objects below it, have been set. If n stands in a sound document, this is sound, with the value, the
+-- literals and the comments that it had; a further call changes nothing. Or an error has left the first of them set, for the memory of a comma. Each is a step,
+-- where a step is told. A document that n does not stand in is what it was.
+pub record AreCommasSet {A : Type 0} (old new : CstRootNode A) (mode : TrailingCommaMode) (n : ℕ) (is_told : Type 0 → Type 0) (r : Result (Unit {0}) EditError) : Type 0 where
+  pub set : OnOk r (CommasSet (nodes_of old) (nodes_of new) mode n)
+  pub said : OnOk r (CommasSaid (nodes_of old) (nodes_of new) mode n)
+  pub part : OnErr r (CommasSetInPart (nodes_of old) (nodes_of new) mode n)
+  pub written : (o : Options) → CommasWritten (nodes_of old) (nodes_of new) mode o n
+  pub stand : (o : Options) → OnOk r (CommasStand (nodes_of old) (nodes_of new) mode o n)
+  pub once : (o : Options) → OnOk r (CommasStay (nodes_of old) (nodes_of new) mode o n)
+  pub step : OnOk r (is_told (IsSettingCommas (nodes_of old) (nodes_of new) mode n))
+  pub begun : OnErr r (is_told (IsSettingSomeCommas (nodes_of old) (nodes_of new) mode n))
+  pub detached : KeepsDocumentOf (nodes_of old) (nodes_of new) n
+  pub oom_only_if : OnErr r (mode ≡ IfMultiline)
+  pub due : OnErr r (CommaIsDue (nodes_of old) n)
+  pub memory : IfErr r (λ e. e ≡ OutOfMemory)
+  pub handles : HandlesStay old new

@@ -8,10 +8,6 @@ use Rattle.jsonc_sound.specs.SoundTrees.{SoundTree}
 use Rattle.jsonc_text.specs.declared.edit.TrailingCommaMode.{TrailingCommaMode}
 use Rattle.jsonc_edit.specs.commas.InTurn.{holders, AreSetInPart, AreSetInTurn}
 use Rattle.jsonc_edit.specs.commas.Laws.{AreAsSaid, IsSet, SaysTheSame}
-use Rattle.jsonc_cst.specs.declared.cst.CstRootNode.{CstRootNode}
-use Rattle.jsonc_cst.specs.declared.cst.node.CstNode.{CstNode}
-use Rattle.jsonc_cst.specs.Document.{nodes_of}
-use Rattle.jsonc_cst.specs.Nodes.{number_of}
 
 module _ (old new : List Node) where
   -- the trailing comma of n, and of each array and object below it, has been set, one after another
@@ -38,23 +34,3 @@ module _ (old new : List Node) where
   -- so a further call by the same mode changes nothing
   abbrev pub CommasStay : TrailingCommaMode → Options → ℕ → Type 0
   CommasStay mode o n = SoundTree o (ordered_tree old 0) → IsOver old 0 n → (later : List Node) → AreSetInTurn mode new (holders new n) later → later ≡ new
-
--- the same of a document
-module _ {A : Type 0} (old new : CstRootNode A) where
-  abbrev pub HasSetCommas : TrailingCommaMode → CstNode → Type 0
-  HasSetCommas mode node = CommasSet (nodes_of old) (nodes_of new) mode (number_of node)
-
-  abbrev pub HasSetCommasInPart : TrailingCommaMode → CstNode → Type 0
-  HasSetCommasInPart mode node = CommasSetInPart (nodes_of old) (nodes_of new) mode (number_of node)
-
-  abbrev pub HasCommasAsSaid : TrailingCommaMode → CstNode → Type 0
-  HasCommasAsSaid mode node = CommasSaid (nodes_of old) (nodes_of new) mode (number_of node)
-
-  abbrev pub HasWrittenCommas : TrailingCommaMode → Options → CstNode → Type 0
-  HasWrittenCommas mode o node = CommasWritten (nodes_of old) (nodes_of new) mode o (number_of node)
-
-  abbrev pub HasCommasAsSet : TrailingCommaMode → Options → CstNode → Type 0
-  HasCommasAsSet mode o node = CommasStand (nodes_of old) (nodes_of new) mode o (number_of node)
-
-  abbrev pub HasCommasThatStay : TrailingCommaMode → Options → CstNode → Type 0
-  HasCommasThatStay mode o node = CommasStay (nodes_of old) (nodes_of new) mode o (number_of node)

@@ -1,7 +1,8 @@
 -- What sets a document's value, and replaces a property by another.
-use Rattle.std.specs.Prelude.{◌≡◌, ℕ, Bool, true, false, List, [], Option, Some, None, option_map}
+use Rattle.std.specs.Prelude.{◌≡◌, ℕ, Bool, true, false, List, [], Option, Some, None}
 use Rattle.jsonc_text.specs.Options.{Options}
-use Rattle.jsonc_text.specs.Plain.{Plain, array, object, no_items, no_members}
+use Rattle.jsonc_text.specs.Plain.{Plain}
+use Rattle.jsonc_text.specs.declared.edit.Shape.{Shape}
 use Rattle.jsonc_tree.specs.Content.{Content}
 use Rattle.jsonc_tree.specs.OrderedTree.{ordered_tree}
 use Rattle.jsonc_tree.specs.Tree.{Node, content_at}
@@ -15,14 +16,13 @@ use Rattle.jsonc_edit.specs.Reading.{layout_for, IsReplaced}
 use Rattle.jsonc_edit.specs.Writing.{IsWritable}
 use Rattle.jsonc_edit.specs.Written.{IsWrittenAt, Writes}
 use Rattle.jsonc_edit.specs.set.Giving.{IsPropertyReplaced}
-use Rattle.jsonc_edit.specs.set.Kinds.{is_array, is_object, FoundOrCreated, FoundOrSet}
+use Rattle.jsonc_edit.specs.set.Kinds.{FoundOrCreated, FoundOrSet}
 use Rattle.jsonc_edit.specs.set.Laws.{InsertsValue}
 use Rattle.jsonc_edit.specs.set.Properties.{IsPropertyWritten}
 use Rattle.jsonc_edit.specs.set.RootSet.{FirstValue}
+use Rattle.jsonc_edit.specs.set.Shapes.{empty_of, is_of}
 use Rattle.jsonc_cst.specs.declared.cst.CstRootNode.{CstRootNode}
-use Rattle.jsonc_cst.specs.declared.cst.node.CstArray.{CstArray}
 use Rattle.jsonc_cst.specs.declared.cst.node.CstNode.{CstNode}
-use Rattle.jsonc_cst.specs.declared.cst.node.CstObject.{CstObject}
 use Rattle.jsonc_cst.specs.Document.{nodes_of}
 use Rattle.jsonc_cst.specs.Nodes.{number_of}
 use Rattle.jsonc_cst.specs.Readings.{typed_if}
@@ -82,54 +82,32 @@ module _ (old new : List Node) where
   abbrev pub RootStaysAround : Options → Plain → Type 0
   RootStaysAround o v = StaysAroundRoot old new o v (value_at old 0)
 
-  -- the root's value, if it is an object; an empty one has come where there was none; and there is none where the value is another
-  abbrev pub FindsOrCreatesObject : Option CstObject → Type 0
-  FindsOrCreatesObject answer = FoundOrCreated is_object (object no_members) old new (value_at old 0) (option_map (λ x. x.number) answer)
+  -- the root's value, if it is of the shape; an empty one has come where there was none; and there is none where the value is another
+  abbrev pub FindsOrCreates : Shape → Option ℕ → Type 0
+  FindsOrCreates shape answer = FoundOrCreated (is_of shape) (empty_of shape) old new (value_at old 0) answer
 
-  -- the root's value, if it is an object; else an empty one has become it
-  abbrev pub FindsOrSetsObject : CstObject → Type 0
-  FindsOrSetsObject answer = FoundOrSet is_object (object no_members) old new (value_at old 0) answer.number
-
-  -- the same of an array
-  abbrev pub FindsOrCreatesArray : Option CstArray → Type 0
-  FindsOrCreatesArray answer = FoundOrCreated is_array (array no_items) old new (value_at old 0) (option_map (λ x. x.number) answer)
-
-  abbrev pub FindsOrSetsArray : CstArray → Type 0
-  FindsOrSetsArray answer = FoundOrSet is_array (array no_items) old new (value_at old 0) answer.number
+  -- the root's value, if it is of the shape; else an empty one has become it
+  abbrev pub FindsOrSets : Shape → ℕ → Type 0
+  FindsOrSets shape answer = FoundOrSet (is_of shape) (empty_of shape) old new (value_at old 0) answer
 
   -- what that makes of the text: an empty one comes first, or nothing changes
-  abbrev pub FirstObjectWritten : Options → Type 0
-  FirstObjectWritten o = FirstOrSame old new o (object no_members) (value_at old 0)
-
-  abbrev pub FirstArrayWritten : Options → Type 0
-  FirstArrayWritten o = FirstOrSame old new o (array no_items) (value_at old 0)
+  abbrev pub FirstWritten : Shape → Options → Type 0
+  FirstWritten shape o = FirstOrSame old new o (empty_of shape) (value_at old 0)
 
   -- or takes the place of another value
-  abbrev pub EmptyObjectWritten : Options → CstObject → Type 0
-  EmptyObjectWritten o answer = EmptyWritten old new is_object o (object no_members) (value_at old 0) answer.number
-
-  abbrev pub EmptyArrayWritten : Options → CstArray → Type 0
-  EmptyArrayWritten o answer = EmptyWritten old new is_array o (array no_items) (value_at old 0) answer.number
+  abbrev pub ShapeWritten : Shape → Options → ℕ → Type 0
+  ShapeWritten shape o answer = EmptyWritten old new (is_of shape) o (empty_of shape) (value_at old 0) answer
 
   -- all leaves around stay where an empty one has come, or taken the place of another value
-  abbrev pub FirstObjectAround : Options → Type 0
-  FirstObjectAround o = FirstStaysAround old new o (object no_members) (value_at old 0)
+  abbrev pub FirstAround : Shape → Options → Type 0
+  FirstAround shape o = FirstStaysAround old new o (empty_of shape) (value_at old 0)
 
-  abbrev pub FirstArrayAround : Options → Type 0
-  FirstArrayAround o = FirstStaysAround old new o (array no_items) (value_at old 0)
-
-  abbrev pub EmptyObjectAround : Options → Type 0
-  EmptyObjectAround o = EmptyStaysAround old new is_object o (object no_members) (value_at old 0)
-
-  abbrev pub EmptyArrayAround : Options → Type 0
-  EmptyArrayAround o = EmptyStaysAround old new is_array o (array no_items) (value_at old 0)
+  abbrev pub ShapeAround : Shape → Options → Type 0
+  ShapeAround shape o = EmptyStaysAround old new (is_of shape) o (empty_of shape) (value_at old 0)
 
   -- which takes its literals and comments along, and no others
-  abbrev pub EmptyObjectMarked : Options → Type 0
-  EmptyObjectMarked o = EmptyMarked old new is_object o (value_at old 0)
-
-  abbrev pub EmptyArrayMarked : Options → Type 0
-  EmptyArrayMarked o = EmptyMarked old new is_array o (value_at old 0)
+  abbrev pub ShapeMarked : Shape → Options → Type 0
+  ShapeMarked shape o = EmptyMarked old new (is_of shape) o (value_at old 0)
 
   -- the property n has been replaced by one of this name and value, which is this node
   abbrev pub PropertyBecomes : ℕ → List ℕ → Plain → CstNode → Type 0

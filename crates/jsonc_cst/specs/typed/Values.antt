@@ -1,7 +1,8 @@
 -- What sets the value of a property, and a truth value.
 use Rattle.std.specs.Prelude.{◌≡◌, ℕ, Bool, false, List, Option, Some, None}
 use Rattle.jsonc_text.specs.Options.{Options}
-use Rattle.jsonc_text.specs.Plain.{Plain, array, object, no_items, no_members}
+use Rattle.jsonc_text.specs.Plain.{Plain}
+use Rattle.jsonc_text.specs.declared.edit.Shape.{Shape}
 use Rattle.jsonc_tree.specs.OrderedTree.{ordered_tree}
 use Rattle.jsonc_tree.specs.Tree.{Node, content_at, parent_at}
 use Rattle.jsonc_layout.specs.nodes.Properties.{value_at}
@@ -12,12 +13,10 @@ use Rattle.jsonc_edit.specs.Paths.{IsAt}
 use Rattle.jsonc_edit.specs.Reading.{IsReplaced}
 use Rattle.jsonc_edit.specs.Written.{IsWrittenAt, Writes}
 use Rattle.jsonc_edit.specs.set.Booleans.{BooleanSet}
-use Rattle.jsonc_edit.specs.set.Kinds.{is_array, is_object}
 use Rattle.jsonc_edit.specs.set.PropertyValues.{HeldOrSet, LastValue}
+use Rattle.jsonc_edit.specs.set.Shapes.{empty_of, is_of}
 use Rattle.jsonc_cst.specs.declared.cst.CstRootNode.{CstRootNode}
-use Rattle.jsonc_cst.specs.declared.cst.node.CstArray.{CstArray}
 use Rattle.jsonc_cst.specs.declared.cst.node.CstNode.{CstNode}
-use Rattle.jsonc_cst.specs.declared.cst.node.CstObject.{CstObject}
 use Rattle.jsonc_cst.specs.Document.{nodes_of}
 use Rattle.jsonc_cst.specs.Nodes.{number_of}
 use Rattle.jsonc_cst.specs.typed.Around.{StaysAroundValue}
@@ -49,28 +48,17 @@ module _ (old new : List Node) where
   abbrev pub HeldStaysAround : ℕ → Plain → Type 0
   HeldStaysAround p v = (n : ℕ) → value_at old p ≡ Some n → StaysAroundValue old new n v
 
-  -- the value of the property p, if it is an object; else an empty one has become it
-  abbrev pub FindsOrSetsHeldObject : ℕ → CstObject → Type 0
-  FindsOrSetsHeldObject p answer = HeldOrSet is_object (object no_members) old new p (value_at old p) answer.number
+  -- the value of the property p, if it is of the shape; else an empty one has become it
+  abbrev pub FindsOrSetsHeld : Shape → ℕ → ℕ → Type 0
+  FindsOrSetsHeld shape p answer = HeldOrSet (is_of shape) (empty_of shape) old new p (value_at old p) answer
 
   -- where another value was there, the empty one is written as any new value is
-  abbrev pub HeldObjectIsWritten : Options → ℕ → CstObject → Type 0
-  HeldObjectIsWritten o p answer = (n : ℕ) → value_at old p ≡ Some n → is_object (content_at old n) ≡ false
-      → Writes o old new n answer.number (object no_members)
+  abbrev pub HeldShapeIsWritten : Shape → Options → ℕ → ℕ → Type 0
+  HeldShapeIsWritten shape o p answer = (n : ℕ) → value_at old p ≡ Some n → is_of shape (content_at old n) ≡ false → Writes o old new n answer (empty_of shape)
 
   -- and takes the literals and comments of that value along, and no others
-  abbrev pub HeldObjectIsMarked : ℕ → Type 0
-  HeldObjectIsMarked p = (n : ℕ) → value_at old p ≡ Some n → is_object (content_at old n) ≡ false → IsMarkedFor old new n (object no_members)
-
-  -- the same of an array
-  abbrev pub FindsOrSetsHeldArray : ℕ → CstArray → Type 0
-  FindsOrSetsHeldArray p answer = HeldOrSet is_array (array no_items) old new p (value_at old p) answer.number
-
-  abbrev pub HeldArrayIsWritten : Options → ℕ → CstArray → Type 0
-  HeldArrayIsWritten o p answer = (n : ℕ) → value_at old p ≡ Some n → is_array (content_at old n) ≡ false → Writes o old new n answer.number (array no_items)
-
-  abbrev pub HeldArrayIsMarked : ℕ → Type 0
-  HeldArrayIsMarked p = (n : ℕ) → value_at old p ≡ Some n → is_array (content_at old n) ≡ false → IsMarkedFor old new n (array no_items)
+  abbrev pub HeldShapeIsMarked : Shape → ℕ → Type 0
+  HeldShapeIsMarked shape p = (n : ℕ) → value_at old p ≡ Some n → is_of shape (content_at old n) ≡ false → IsMarkedFor old new n (empty_of shape)
 
   -- if the old document was sound, and the truth value n stood in it at a path, the text is a document again, with this truth value at that path
   abbrev pub BooleanIsWritten : Options → ℕ → Bool → Type 0
@@ -94,23 +82,14 @@ module _ {A : Type 0} (old new : CstRootNode A) where
   abbrev pub HasStayedAroundValue : CstNode → Plain → Type 0
   HasStayedAroundValue node v = HeldStaysAround (nodes_of old) (nodes_of new) (number_of node) v
 
-  abbrev pub NowHoldsObject : CstNode → CstObject → Type 0
-  NowHoldsObject node answer = FindsOrSetsHeldObject (nodes_of old) (nodes_of new) (number_of node) answer
+  abbrev pub NowHolds : Shape → CstNode → ℕ → Type 0
+  NowHolds shape node answer = FindsOrSetsHeld (nodes_of old) (nodes_of new) shape (number_of node) answer
 
-  abbrev pub HasWrittenObject : Options → CstNode → CstObject → Type 0
-  HasWrittenObject o node answer = HeldObjectIsWritten (nodes_of old) (nodes_of new) o (number_of node) answer
+  abbrev pub HasWrittenShape : Shape → Options → CstNode → ℕ → Type 0
+  HasWrittenShape shape o node answer = HeldShapeIsWritten (nodes_of old) (nodes_of new) shape o (number_of node) answer
 
-  abbrev pub HasMarkedObject : CstNode → Type 0
-  HasMarkedObject node = HeldObjectIsMarked (nodes_of old) (nodes_of new) (number_of node)
-
-  abbrev pub NowHoldsArray : CstNode → CstArray → Type 0
-  NowHoldsArray node answer = FindsOrSetsHeldArray (nodes_of old) (nodes_of new) (number_of node) answer
-
-  abbrev pub HasWrittenArray : Options → CstNode → CstArray → Type 0
-  HasWrittenArray o node answer = HeldArrayIsWritten (nodes_of old) (nodes_of new) o (number_of node) answer
-
-  abbrev pub HasMarkedArray : CstNode → Type 0
-  HasMarkedArray node = HeldArrayIsMarked (nodes_of old) (nodes_of new) (number_of node)
+  abbrev pub HasMarkedShape : Shape → CstNode → Type 0
+  HasMarkedShape shape node = HeldShapeIsMarked (nodes_of old) (nodes_of new) shape (number_of node)
 
   abbrev pub HasSetBoolean : CstNode → Bool → Type 0
   HasSetBoolean node b = BooleanSet (nodes_of old) (nodes_of new) (number_of node) b

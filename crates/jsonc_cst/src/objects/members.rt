@@ -1,17 +1,14 @@
 //! Properties that come into objects.
 
-ghost use Rattle.std.specs.Prelude.{◌≡◌, ◌<◌, IfErr, IfOk, OnErr, OnOk, chars, length, min};
-ghost use Rattle.jsonc_text.specs.Options.{Options};
+ghost use Rattle.std.specs.Prelude.{◌≡◌, ◌<◌, chars, length, min};
 ghost use Rattle.jsonc_layout.specs.input.Views.{plain};
 ghost use Rattle.jsonc_tree.specs.Content.{Content};
 ghost use Rattle.jsonc_tree.specs.Tree.{content_at};
-ghost use Rattle.jsonc_cst.specs.Document.{nodes_of, tree_of, HasNode};
+ghost use Rattle.jsonc_cst.specs.Document.{nodes_of, HasNode};
 ghost use Rattle.jsonc_cst.specs.Nodes.{number_of, object_node, object_prop_node, IsNodeOf};
-ghost use Rattle.jsonc_cst.specs.typed.Edits.{KeepsDocument, Unchanged, HandlesStay};
-ghost use Rattle.jsonc_cst.specs.typed.Inserting.{element_count, InsertError, KeepsOthers};
-ghost use Rattle.jsonc_cst.specs.typed.Removing.{IsKeptForMemory};
-ghost use Rattle.jsonc_cst.specs.objects.Members.{HasNamedComeIn, IsAppendingNamed, IsInsertingNamed};
-ghost use Rattle.jsonc_cst.specs.objects.Members.{IsItsProperty, IsNamedAtItsPath};
+ghost use Rattle.jsonc_cst.specs.objects.Calls.{IsNamedInsertion};
+ghost use Rattle.jsonc_cst.specs.objects.Members.{IsAppendingNamed, IsInsertingNamed};
+ghost use Rattle.jsonc_cst.specs.typed.Inserting.{element_count};
 
 use crate::cst::{
     CstContainerNode, CstNode, CstObject, CstObjectProp, CstRootNode, EditError, TypedNode, node_at,
@@ -46,25 +43,10 @@ impl CstObject {
         value: CstInputValue<A>,
     ) -> Result<CstObjectProp, EditError>
         requires { HasNode doc.old (object_node self) }
-        ensures put { IfOk result
-            (HasNamedComeIn doc.old doc.new (object_node self) (element_count doc.old (object_node self))
-            (chars name.now) (plain value)) }
-        ensures property { IfOk result
-            (IsItsProperty doc.old doc.new (object_node self) (element_count doc.old (object_node self))) }
-        ensures written { (o : Options)
-            → OnOk result
-            (IsNamedAtItsPath doc.old doc.new o (object_node self) (element_count doc.old (object_node self))
-            (chars name.now) (plain value)) }
-        ensures step { OnOk result (IsAppendingNamed (nodes_of doc.old) (nodes_of doc.new) (number_of (object_node self))
-            (chars name.now) (plain value)) }
-        ensures others { OnOk result (KeepsOthers doc.old doc.new (object_node self)) }
-        ensures detached { OnOk result (KeepsDocument doc.old doc.new (object_node self)) }
-        ensures error { IfErr result (InsertError doc.old (object_node self)) }
-        ensures memory { (o : Options) → IfErr result (IsKeptForMemory doc.old o (object_node self)) }
-        ensures in_document { IfOk result (λ p. HasNode doc.new (object_prop_node p)) }
-        ensures handles { HandlesStay doc.old doc.new }
-        ensures kept { OnErr result (Unchanged doc.old doc.new) }
-        ensures document { OnErr result (tree_of doc.new ≡ tree_of doc.old) }
+        ensures { IsNamedInsertion doc.old doc.new (object_node self) (element_count doc.old (object_node self))
+            (element_count doc.old (object_node self)) (chars name.now) (plain value)
+            (IsAppendingNamed (nodes_of doc.old) (nodes_of doc.new) (number_of (object_node self)) (chars name.now)
+            (plain value)) result }
     {
         // There are fewer properties than nodes.
         let count = doc.tree.len();
@@ -102,24 +84,10 @@ impl CstObject {
         value: CstInputValue<A>,
     ) -> Result<CstObjectProp, EditError>
         requires { HasNode doc.old (object_node self) }
-        ensures put { IfOk result
-            (HasNamedComeIn doc.old doc.new (object_node self) (min index (element_count doc.old (object_node self)))
-            (chars name.now) (plain value)) }
-        ensures property { IfOk result (IsItsProperty doc.old doc.new (object_node self) index) }
-        ensures written { (o : Options)
-            → OnOk result
-            (IsNamedAtItsPath doc.old doc.new o (object_node self)
-            (min index (element_count doc.old (object_node self))) (chars name.now) (plain value)) }
-        ensures step { OnOk result (IsInsertingNamed (nodes_of doc.old) (nodes_of doc.new) (number_of (object_node self))
-            index (chars name.now) (plain value)) }
-        ensures others { OnOk result (KeepsOthers doc.old doc.new (object_node self)) }
-        ensures detached { OnOk result (KeepsDocument doc.old doc.new (object_node self)) }
-        ensures error { IfErr result (InsertError doc.old (object_node self)) }
-        ensures memory { (o : Options) → IfErr result (IsKeptForMemory doc.old o (object_node self)) }
-        ensures in_document { IfOk result (λ p. HasNode doc.new (object_prop_node p)) }
-        ensures handles { HandlesStay doc.old doc.new }
-        ensures kept { OnErr result (Unchanged doc.old doc.new) }
-        ensures document { OnErr result (tree_of doc.new ≡ tree_of doc.old) }
+        ensures { IsNamedInsertion doc.old doc.new (object_node self) index
+            (min index (element_count doc.old (object_node self))) (chars name.now) (plain value)
+            (IsInsertingNamed (nodes_of doc.old) (nodes_of doc.new) (number_of (object_node self)) index (chars name.now)
+            (plain value)) result }
     {
         let number = self.node().number();
         match insert_property(doc.alloc, &mut doc.tree, number, index, name, &value) {

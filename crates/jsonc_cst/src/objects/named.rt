@@ -1,13 +1,11 @@
 //! Values of properties by the properties' names: found, or set.
 
-ghost use Rattle.std.specs.Prelude.{◌≡◌, IfErr, IfOk, IfSome, OnErr, OnOk, Some, chars};
-ghost use Rattle.jsonc_text.specs.Options.{Options};
-ghost use Rattle.jsonc_cst.specs.Document.{nodes_of, tree_of, HasNode};
-ghost use Rattle.jsonc_cst.specs.Nodes.{array_node, number_of, object_node};
-ghost use Rattle.jsonc_cst.specs.typed.Edits.{KeepsDocument, Unchanged, HandlesStay};
-ghost use Rattle.jsonc_cst.specs.typed.Removing.{IsKeptForMemory};
-ghost use Rattle.jsonc_cst.specs.objects.Named.{HasEnsuredArray, HasEnsuredObject, HasSetArray, HasSetObject};
-ghost use Rattle.jsonc_cst.specs.objects.Named.{HasWrittenNamed, IsEnsuringNamed, EnsureErrorIn};
+ghost use Rattle.std.specs.Prelude.{chars};
+ghost use Rattle.jsonc_text.specs.declared.edit.Over.{Over};
+ghost use Rattle.jsonc_text.specs.declared.edit.Shape.{Shape};
+ghost use Rattle.jsonc_cst.specs.Document.{HasNode};
+ghost use Rattle.jsonc_cst.specs.Nodes.{array_node, object_node};
+ghost use Rattle.jsonc_cst.specs.objects.Calls.{number_if, number_in, IsNamedEnsured, IsSaidIf, IsSaidOf};
 
 use crate::cst::{CstArray, CstObject, CstRootNode, EditError, TypedNode};
 use crate::typed::{array_at, object_at};
@@ -33,20 +31,8 @@ impl CstObject {
         name: &str,
     ) -> Result<Option<CstObject>, EditError>
         requires { HasNode doc.old (object_node self) }
-        ensures ensured { IfOk result
-            (HasEnsuredObject doc.old doc.new Over.Keep (object_node self) (chars name.now)) }
-        ensures written { (o : Options)
-            → OnOk result
-            (HasWrittenNamed doc.old doc.new o (object_node self) (chars name.now) Shape.Object Over.Keep) }
-        ensures step { OnOk result (IsEnsuringNamed (nodes_of doc.old) (nodes_of doc.new) (number_of (object_node self))
-            (chars name.now) Shape.Object Over.Keep) }
-        ensures detached { OnOk result (KeepsDocument doc.old doc.new (object_node self)) }
-        ensures error { IfErr result (EnsureErrorIn doc.old Shape.Object Over.Keep (object_node self) (chars name.now)) }
-        ensures memory { (o : Options) → IfErr result (IsKeptForMemory doc.old o (object_node self)) }
-        ensures in_document { IfOk result (λ a. IfSome a (λ x. HasNode doc.new (object_node x))) }
-        ensures handles { HandlesStay doc.old doc.new }
-        ensures kept { OnErr result (Unchanged doc.old doc.new) }
-        ensures document { OnErr result (tree_of doc.new ≡ tree_of doc.old) }
+        ensures { IsNamedEnsured doc.old doc.new Shape.Object Over.Keep (object_node self) (chars name.now)
+            (number_if object_node) (IsSaidIf object_node) result }
     {
         let number = self.node().number();
         let tree = &mut doc.tree;
@@ -75,19 +61,8 @@ impl CstObject {
         name: &str,
     ) -> Result<CstObject, EditError>
         requires { HasNode doc.old (object_node self) }
-        ensures ensured { IfOk result (HasSetObject doc.old doc.new (object_node self) (chars name.now)) }
-        ensures written { (o : Options)
-            → OnOk result
-            (HasWrittenNamed doc.old doc.new o (object_node self) (chars name.now) Shape.Object Over.Replace) }
-        ensures step { OnOk result (IsEnsuringNamed (nodes_of doc.old) (nodes_of doc.new) (number_of (object_node self))
-            (chars name.now) Shape.Object Over.Replace) }
-        ensures detached { OnOk result (KeepsDocument doc.old doc.new (object_node self)) }
-        ensures error { IfErr result (EnsureErrorIn doc.old Shape.Object Over.Replace (object_node self) (chars name.now)) }
-        ensures memory { (o : Options) → IfErr result (IsKeptForMemory doc.old o (object_node self)) }
-        ensures in_document { IfOk result (λ x. HasNode doc.new (object_node x)) }
-        ensures handles { HandlesStay doc.old doc.new }
-        ensures kept { OnErr result (Unchanged doc.old doc.new) }
-        ensures document { OnErr result (tree_of doc.new ≡ tree_of doc.old) }
+        ensures { IsNamedEnsured doc.old doc.new Shape.Object Over.Replace (object_node self) (chars name.now)
+            (number_in object_node) (IsSaidOf object_node) result }
     {
         let number = self.node().number();
         let tree = &mut doc.tree;
@@ -115,19 +90,8 @@ impl CstObject {
         name: &str,
     ) -> Result<Option<CstArray>, EditError>
         requires { HasNode doc.old (object_node self) }
-        ensures ensured { IfOk result (HasEnsuredArray doc.old doc.new Over.Keep (object_node self) (chars name.now)) }
-        ensures written { (o : Options)
-            → OnOk result
-            (HasWrittenNamed doc.old doc.new o (object_node self) (chars name.now) Shape.Array Over.Keep) }
-        ensures step { OnOk result (IsEnsuringNamed (nodes_of doc.old) (nodes_of doc.new) (number_of (object_node self))
-            (chars name.now) Shape.Array Over.Keep) }
-        ensures detached { OnOk result (KeepsDocument doc.old doc.new (object_node self)) }
-        ensures error { IfErr result (EnsureErrorIn doc.old Shape.Array Over.Keep (object_node self) (chars name.now)) }
-        ensures memory { (o : Options) → IfErr result (IsKeptForMemory doc.old o (object_node self)) }
-        ensures in_document { IfOk result (λ a. IfSome a (λ x. HasNode doc.new (array_node x))) }
-        ensures handles { HandlesStay doc.old doc.new }
-        ensures kept { OnErr result (Unchanged doc.old doc.new) }
-        ensures document { OnErr result (tree_of doc.new ≡ tree_of doc.old) }
+        ensures { IsNamedEnsured doc.old doc.new Shape.Array Over.Keep (object_node self) (chars name.now)
+            (number_if array_node) (IsSaidIf array_node) result }
     {
         let number = self.node().number();
         let tree = &mut doc.tree;
@@ -156,19 +120,8 @@ impl CstObject {
         name: &str,
     ) -> Result<CstArray, EditError>
         requires { HasNode doc.old (object_node self) }
-        ensures ensured { IfOk result (HasSetArray doc.old doc.new (object_node self) (chars name.now)) }
-        ensures written { (o : Options)
-            → OnOk result
-            (HasWrittenNamed doc.old doc.new o (object_node self) (chars name.now) Shape.Array Over.Replace) }
-        ensures step { OnOk result (IsEnsuringNamed (nodes_of doc.old) (nodes_of doc.new) (number_of (object_node self))
-            (chars name.now) Shape.Array Over.Replace) }
-        ensures detached { OnOk result (KeepsDocument doc.old doc.new (object_node self)) }
-        ensures error { IfErr result (EnsureErrorIn doc.old Shape.Array Over.Replace (object_node self) (chars name.now)) }
-        ensures memory { (o : Options) → IfErr result (IsKeptForMemory doc.old o (object_node self)) }
-        ensures in_document { IfOk result (λ x. HasNode doc.new (array_node x)) }
-        ensures handles { HandlesStay doc.old doc.new }
-        ensures kept { OnErr result (Unchanged doc.old doc.new) }
-        ensures document { OnErr result (tree_of doc.new ≡ tree_of doc.old) }
+        ensures { IsNamedEnsured doc.old doc.new Shape.Array Over.Replace (object_node self) (chars name.now)
+            (number_in array_node) (IsSaidOf array_node) result }
     {
         let number = self.node().number();
         let tree = &mut doc.tree;

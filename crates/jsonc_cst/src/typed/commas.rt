@@ -1,16 +1,9 @@
 //! Trailing commas that are set, or taken away.
 
-ghost use Rattle.std.specs.Prelude.{◌≡◌, IfErr, OnErr, OnOk};
-ghost use Rattle.jsonc_text.specs.Options.{Options};
-ghost use Rattle.jsonc_cst.specs.Document.{nodes_of, HasNode};
+ghost use Rattle.jsonc_cst.specs.Document.{HasNode};
 ghost use Rattle.jsonc_cst.specs.Nodes.{array_node, number_of, object_node, root_node};
 ghost use Rattle.jsonc_cst.specs.Tree.{NodesAreTree};
-ghost use Rattle.jsonc_edit.specs.commas.InTurn.{CommaIsDue};
-ghost use Rattle.jsonc_cst.specs.typed.Commas.{CommasSaid, CommasSet, CommasSetInPart, CommasStand, CommasStay, CommasWritten};
-ghost use Rattle.jsonc_cst.specs.typed.Commas.{HasCommasAsSaid, HasCommasAsSet, HasCommasThatStay};
-ghost use Rattle.jsonc_cst.specs.typed.Commas.{HasSetCommas, HasSetCommasInPart, HasWrittenCommas};
-ghost use Rattle.jsonc_cst.specs.typed.Steps.{IsHolder, IsSettingCommas, IsSettingSomeCommas};
-ghost use Rattle.jsonc_cst.specs.typed.Edits.{KeepsDocument, HandlesStay};
+ghost use Rattle.jsonc_cst.specs.typed.Calls.{AreCommasSet, IfHolder, InAnyCase};
 
 use crate::cst::{
     CstArray, CstObject, CstRoot, CstRootNode, EditError, TrailingCommaMode, TypedNode,
@@ -24,21 +17,7 @@ fn set_commas_of<A: Allocator, N: TypedNode>(
     mode: TrailingCommaMode,
 ) -> Result<(), EditError>
     requires { HasNode doc.old (N.node_of node) }
-    ensures set { OnOk result (HasSetCommas doc.old doc.new mode (N.node_of node)) }
-    ensures said { OnOk result (HasCommasAsSaid doc.old doc.new mode (N.node_of node)) }
-    ensures part { OnErr result (HasSetCommasInPart doc.old doc.new mode (N.node_of node)) }
-    ensures written { (o : Options) → HasWrittenCommas doc.old doc.new mode o (N.node_of node) }
-    ensures stand { (o : Options) → OnOk result (HasCommasAsSet doc.old doc.new mode o (N.node_of node)) }
-    ensures once { (o : Options) → OnOk result (HasCommasThatStay doc.old doc.new mode o (N.node_of node)) }
-    ensures step { OnOk result (IsHolder (N.node_of node)
-        → IsSettingCommas (nodes_of doc.old) (nodes_of doc.new) mode (number_of (N.node_of node))) }
-    ensures begun { OnErr result (IsHolder (N.node_of node)
-        → IsSettingSomeCommas (nodes_of doc.old) (nodes_of doc.new) mode (number_of (N.node_of node))) }
-    ensures detached { KeepsDocument doc.old doc.new (N.node_of node) }
-    ensures oom_only_if { OnErr result (mode ≡ TrailingCommaMode.IfMultiline) }
-    ensures due { OnErr result (CommaIsDue (nodes_of doc.old) (number_of (N.node_of node))) }
-    ensures memory { IfErr result (λ e. e ≡ EditError.OutOfMemory) }
-    ensures handles { HandlesStay doc.old doc.new }
+    ensures { AreCommasSet doc.old doc.new mode (number_of (N.node_of node)) (IfHolder (N.node_of node)) result }
 {
     let number = node.node().number();
     match jsonc_edit::commas::set_trailing_commas(&mut doc.tree, number, mode) {
@@ -52,18 +31,7 @@ impl<A: Allocator> CstRootNode<A> {
     ///
     /// It does what [`CstRoot::set_trailing_commas`] of its root does.
     pub fn set_trailing_commas(&mut self, mode: TrailingCommaMode) -> Result<(), EditError>
-        ensures set { OnOk result (CommasSet (nodes_of self.old) (nodes_of self.new) mode 0) }
-        ensures said { OnOk result (CommasSaid (nodes_of self.old) (nodes_of self.new) mode 0) }
-        ensures part { OnErr result (CommasSetInPart (nodes_of self.old) (nodes_of self.new) mode 0) }
-        ensures written { (o : Options) → CommasWritten (nodes_of self.old) (nodes_of self.new) mode o 0 }
-        ensures stand { (o : Options) → OnOk result (CommasStand (nodes_of self.old) (nodes_of self.new) mode o 0) }
-        ensures once { (o : Options) → OnOk result (CommasStay (nodes_of self.old) (nodes_of self.new) mode o 0) }
-        ensures step { OnOk result (IsSettingCommas (nodes_of self.old) (nodes_of self.new) mode 0) }
-        ensures begun { OnErr result (IsSettingSomeCommas (nodes_of self.old) (nodes_of self.new) mode 0) }
-        ensures oom_only_if { OnErr result (mode ≡ TrailingCommaMode.IfMultiline) }
-        ensures due { OnErr result (CommaIsDue (nodes_of self.old) 0) }
-        ensures memory { IfErr result (λ e. e ≡ EditError.OutOfMemory) }
-        ensures handles { HandlesStay self.old self.new }
+        ensures { AreCommasSet self.old self.new mode 0 InAnyCase result }
     {
         let root = self.root();
         set_commas_of(self, root, mode)
@@ -94,21 +62,7 @@ impl CstRoot {
         mode: TrailingCommaMode,
     ) -> Result<(), EditError>
         requires { HasNode doc.old (root_node self) }
-        ensures set { OnOk result (HasSetCommas doc.old doc.new mode (root_node self)) }
-        ensures said { OnOk result (HasCommasAsSaid doc.old doc.new mode (root_node self)) }
-        ensures part { OnErr result (HasSetCommasInPart doc.old doc.new mode (root_node self)) }
-        ensures written { (o : Options) → HasWrittenCommas doc.old doc.new mode o (root_node self) }
-        ensures stand { (o : Options) → OnOk result (HasCommasAsSet doc.old doc.new mode o (root_node self)) }
-        ensures once { (o : Options) → OnOk result (HasCommasThatStay doc.old doc.new mode o (root_node self)) }
-        ensures step { OnOk result (IsHolder (root_node self)
-            → IsSettingCommas (nodes_of doc.old) (nodes_of doc.new) mode (number_of (root_node self))) }
-        ensures begun { OnErr result (IsHolder (root_node self)
-            → IsSettingSomeCommas (nodes_of doc.old) (nodes_of doc.new) mode (number_of (root_node self))) }
-        ensures detached { KeepsDocument doc.old doc.new (root_node self) }
-        ensures oom_only_if { OnErr result (mode ≡ TrailingCommaMode.IfMultiline) }
-        ensures due { OnErr result (CommaIsDue (nodes_of doc.old) (number_of (root_node self))) }
-        ensures memory { IfErr result (λ e. e ≡ EditError.OutOfMemory) }
-        ensures handles { HandlesStay doc.old doc.new }
+        ensures { AreCommasSet doc.old doc.new mode (number_of (root_node self)) (IfHolder (root_node self)) result }
     {
         set_commas_of(doc, self, mode)
     }
@@ -124,21 +78,7 @@ impl CstArray {
         mode: TrailingCommaMode,
     ) -> Result<(), EditError>
         requires { HasNode doc.old (array_node self) }
-        ensures set { OnOk result (HasSetCommas doc.old doc.new mode (array_node self)) }
-        ensures said { OnOk result (HasCommasAsSaid doc.old doc.new mode (array_node self)) }
-        ensures part { OnErr result (HasSetCommasInPart doc.old doc.new mode (array_node self)) }
-        ensures written { (o : Options) → HasWrittenCommas doc.old doc.new mode o (array_node self) }
-        ensures stand { (o : Options) → OnOk result (HasCommasAsSet doc.old doc.new mode o (array_node self)) }
-        ensures once { (o : Options) → OnOk result (HasCommasThatStay doc.old doc.new mode o (array_node self)) }
-        ensures step { OnOk result (IsHolder (array_node self)
-            → IsSettingCommas (nodes_of doc.old) (nodes_of doc.new) mode (number_of (array_node self))) }
-        ensures begun { OnErr result (IsHolder (array_node self)
-            → IsSettingSomeCommas (nodes_of doc.old) (nodes_of doc.new) mode (number_of (array_node self))) }
-        ensures detached { KeepsDocument doc.old doc.new (array_node self) }
-        ensures oom_only_if { OnErr result (mode ≡ TrailingCommaMode.IfMultiline) }
-        ensures due { OnErr result (CommaIsDue (nodes_of doc.old) (number_of (array_node self))) }
-        ensures memory { IfErr result (λ e. e ≡ EditError.OutOfMemory) }
-        ensures handles { HandlesStay doc.old doc.new }
+        ensures { AreCommasSet doc.old doc.new mode (number_of (array_node self)) (IfHolder (array_node self)) result }
     {
         set_commas_of(doc, self, mode)
     }
@@ -154,21 +94,7 @@ impl CstObject {
         mode: TrailingCommaMode,
     ) -> Result<(), EditError>
         requires { HasNode doc.old (object_node self) }
-        ensures set { OnOk result (HasSetCommas doc.old doc.new mode (object_node self)) }
-        ensures said { OnOk result (HasCommasAsSaid doc.old doc.new mode (object_node self)) }
-        ensures part { OnErr result (HasSetCommasInPart doc.old doc.new mode (object_node self)) }
-        ensures written { (o : Options) → HasWrittenCommas doc.old doc.new mode o (object_node self) }
-        ensures stand { (o : Options) → OnOk result (HasCommasAsSet doc.old doc.new mode o (object_node self)) }
-        ensures once { (o : Options) → OnOk result (HasCommasThatStay doc.old doc.new mode o (object_node self)) }
-        ensures step { OnOk result (IsHolder (object_node self)
-            → IsSettingCommas (nodes_of doc.old) (nodes_of doc.new) mode (number_of (object_node self))) }
-        ensures begun { OnErr result (IsHolder (object_node self)
-            → IsSettingSomeCommas (nodes_of doc.old) (nodes_of doc.new) mode (number_of (object_node self))) }
-        ensures detached { KeepsDocument doc.old doc.new (object_node self) }
-        ensures oom_only_if { OnErr result (mode ≡ TrailingCommaMode.IfMultiline) }
-        ensures due { OnErr result (CommaIsDue (nodes_of doc.old) (number_of (object_node self))) }
-        ensures memory { IfErr result (λ e. e ≡ EditError.OutOfMemory) }
-        ensures handles { HandlesStay doc.old doc.new }
+        ensures { AreCommasSet doc.old doc.new mode (number_of (object_node self)) (IfHolder (object_node self)) result }
     {
         set_commas_of(doc, self, mode)
     }

@@ -1,14 +1,11 @@
 //! Elements that come into arrays.
 
-ghost use Rattle.std.specs.Prelude.{◌≡◌, IfErr, IfOk, OnErr, OnOk, min};
-ghost use Rattle.jsonc_text.specs.Options.{Options};
+ghost use Rattle.std.specs.Prelude.{min};
 ghost use Rattle.jsonc_layout.specs.input.Views.{plain};
-ghost use Rattle.jsonc_cst.specs.Document.{nodes_of, tree_of, HasNode};
+ghost use Rattle.jsonc_cst.specs.Document.{nodes_of, HasNode};
 ghost use Rattle.jsonc_cst.specs.Nodes.{array_node, number_of};
-ghost use Rattle.jsonc_cst.specs.typed.Edits.{KeepsDocument, Unchanged, HandlesStay};
-ghost use Rattle.jsonc_cst.specs.typed.Inserting.{element_count, HasComeIn, IsItsElement};
-ghost use Rattle.jsonc_cst.specs.typed.Inserting.{IsPutAtItsPath, InsertError, KeepsOthers};
-ghost use Rattle.jsonc_cst.specs.typed.Removing.{IsKeptForMemory};
+ghost use Rattle.jsonc_cst.specs.typed.Calls.{IsInsertion};
+ghost use Rattle.jsonc_cst.specs.typed.Inserting.{element_count};
 ghost use Rattle.jsonc_cst.specs.typed.Steps.{IsAppending, IsInserting};
 
 use crate::cst::{CstArray, CstNode, CstRootNode, EditError, TypedNode, node_at};
@@ -26,24 +23,9 @@ impl CstArray {
         value: CstInputValue<A>,
     ) -> Result<CstNode, EditError>
         requires { HasNode doc.old (array_node self) }
-        ensures put { IfOk result
-            (HasComeIn doc.old doc.new (array_node self) (element_count doc.old (array_node self)) (plain value)) }
-        ensures element { IfOk result
-            (IsItsElement doc.old doc.new (array_node self) (element_count doc.old (array_node self))) }
-        ensures written { (o : Options)
-            → OnOk result
-            (IsPutAtItsPath doc.old doc.new o (array_node self)
-            (element_count doc.old (array_node self)) (plain value)) }
-        ensures step { OnOk result (IsAppending (nodes_of doc.old) (nodes_of doc.new) (number_of (array_node self))
-            (plain value)) }
-        ensures others { OnOk result (KeepsOthers doc.old doc.new (array_node self)) }
-        ensures detached { OnOk result (KeepsDocument doc.old doc.new (array_node self)) }
-        ensures error { IfErr result (InsertError doc.old (array_node self)) }
-        ensures memory { (o : Options) → IfErr result (IsKeptForMemory doc.old o (array_node self)) }
-        ensures in_document { IfOk result (HasNode doc.new) }
-        ensures handles { HandlesStay doc.old doc.new }
-        ensures kept { OnErr result (Unchanged doc.old doc.new) }
-        ensures document { OnErr result (tree_of doc.new ≡ tree_of doc.old) }
+        ensures { IsInsertion doc.old doc.new (array_node self) (element_count doc.old (array_node self))
+            (element_count doc.old (array_node self)) (plain value)
+            (IsAppending (nodes_of doc.old) (nodes_of doc.new) (number_of (array_node self)) (plain value)) result }
     {
         // There are fewer elements than nodes.
         let count = doc.tree.len();
@@ -72,24 +54,9 @@ impl CstArray {
         value: CstInputValue<A>,
     ) -> Result<CstNode, EditError>
         requires { HasNode doc.old (array_node self) }
-        ensures put { IfOk result
-            (HasComeIn doc.old doc.new (array_node self) (min index (element_count doc.old (array_node self)))
-            (plain value)) }
-        ensures element { IfOk result (IsItsElement doc.old doc.new (array_node self) index) }
-        ensures written { (o : Options)
-            → OnOk result
-            (IsPutAtItsPath doc.old doc.new o (array_node self)
-            (min index (element_count doc.old (array_node self))) (plain value)) }
-        ensures step { OnOk result (IsInserting (nodes_of doc.old) (nodes_of doc.new) (number_of (array_node self)) index
-            (plain value)) }
-        ensures others { OnOk result (KeepsOthers doc.old doc.new (array_node self)) }
-        ensures detached { OnOk result (KeepsDocument doc.old doc.new (array_node self)) }
-        ensures error { IfErr result (InsertError doc.old (array_node self)) }
-        ensures memory { (o : Options) → IfErr result (IsKeptForMemory doc.old o (array_node self)) }
-        ensures in_document { IfOk result (HasNode doc.new) }
-        ensures handles { HandlesStay doc.old doc.new }
-        ensures kept { OnErr result (Unchanged doc.old doc.new) }
-        ensures document { OnErr result (tree_of doc.new ≡ tree_of doc.old) }
+        ensures { IsInsertion doc.old doc.new (array_node self) index (min index (element_count doc.old (array_node self)))
+            (plain value)
+            (IsInserting (nodes_of doc.old) (nodes_of doc.new) (number_of (array_node self)) index (plain value)) result }
     {
         let number = self.node().number();
         match insert_element(doc.alloc, &mut doc.tree, number, index, &value) {

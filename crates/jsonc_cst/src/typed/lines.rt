@@ -1,14 +1,9 @@
 //! Arrays and objects that are put on several lines.
 
-ghost use Rattle.std.specs.Prelude.{◌≡◌, IfErr, OnErr, OnOk};
-ghost use Rattle.jsonc_text.specs.Options.{Options};
-ghost use Rattle.jsonc_cst.specs.Document.{nodes_of, tree_of, HasNode};
-ghost use Rattle.jsonc_cst.specs.Nodes.{array_node, number_of, object_node};
+ghost use Rattle.jsonc_cst.specs.Document.{HasNode};
+ghost use Rattle.jsonc_cst.specs.Nodes.{array_node, object_node};
 ghost use Rattle.jsonc_cst.specs.Tree.{NodesAreTree};
-ghost use Rattle.jsonc_cst.specs.typed.Edits.{KeepsDocument, Unchanged, HandlesStay};
-ghost use Rattle.jsonc_cst.specs.typed.Lines.{HasSpreadOut, IsOnLines, LinesWritten, StaysUnspread};
-ghost use Rattle.jsonc_cst.specs.typed.Removing.{IsKeptForMemory};
-ghost use Rattle.jsonc_cst.specs.typed.Steps.{IsSpreading};
+ghost use Rattle.jsonc_cst.specs.typed.Calls.{IsPutOnLines};
 
 use crate::cst::{CstArray, CstObject, CstRootNode, EditError, TypedNode};
 use std::alloc::Allocator;
@@ -37,16 +32,7 @@ impl CstArray {
         doc: &mut CstRootNode<A>,
     ) -> Result<(), EditError>
         requires { HasNode doc.old (array_node self) }
-        ensures made { OnOk result (HasSpreadOut doc.old doc.new (array_node self)) }
-        ensures written { (o : Options) → OnOk result (LinesWritten doc.old doc.new o (array_node self)) }
-        ensures step { OnOk result (IsSpreading (nodes_of doc.old) (nodes_of doc.new) (number_of (array_node self))) }
-        ensures lines { OnOk result (IsOnLines doc.new (array_node self)) }
-        ensures detached { OnOk result (KeepsDocument doc.old doc.new (array_node self)) }
-        ensures error { IfErr result (StaysUnspread doc.old (array_node self)) }
-        ensures memory { (o : Options) → IfErr result (IsKeptForMemory doc.old o (array_node self)) }
-        ensures handles { HandlesStay doc.old doc.new }
-        ensures kept { OnErr result (Unchanged doc.old doc.new) }
-        ensures document { OnErr result (tree_of doc.new ≡ tree_of doc.old) }
+        ensures { IsPutOnLines doc.old doc.new (array_node self) result }
     {
         let array = self.node().number();
         jsonc_edit::multiline::ensure_multiline(doc.alloc, &mut doc.tree, array)
@@ -77,16 +63,7 @@ impl CstObject {
         doc: &mut CstRootNode<A>,
     ) -> Result<(), EditError>
         requires { HasNode doc.old (object_node self) }
-        ensures made { OnOk result (HasSpreadOut doc.old doc.new (object_node self)) }
-        ensures written { (o : Options) → OnOk result (LinesWritten doc.old doc.new o (object_node self)) }
-        ensures step { OnOk result (IsSpreading (nodes_of doc.old) (nodes_of doc.new) (number_of (object_node self))) }
-        ensures lines { OnOk result (IsOnLines doc.new (object_node self)) }
-        ensures detached { OnOk result (KeepsDocument doc.old doc.new (object_node self)) }
-        ensures error { IfErr result (StaysUnspread doc.old (object_node self)) }
-        ensures memory { (o : Options) → IfErr result (IsKeptForMemory doc.old o (object_node self)) }
-        ensures handles { HandlesStay doc.old doc.new }
-        ensures kept { OnErr result (Unchanged doc.old doc.new) }
-        ensures document { OnErr result (tree_of doc.new ≡ tree_of doc.old) }
+        ensures { IsPutOnLines doc.old doc.new (object_node self) result }
     {
         let object = self.node().number();
         jsonc_edit::multiline::ensure_multiline(doc.alloc, &mut doc.tree, object)

@@ -1,29 +1,18 @@
 //! A document's value is set, and a property is replaced by another.
 
-ghost use Rattle.std.specs.Prelude.{◌≡◌, IfErr, IfNone, IfOk, IfSome, None, OnErr, OnOk, Some, chars};
+ghost use Rattle.std.specs.Prelude.{◌≡◌, chars};
 ghost use Rattle.jsonc_text.specs.Options.{Options};
+ghost use Rattle.jsonc_text.specs.declared.edit.Shape.{Shape};
 ghost use Rattle.jsonc_layout.specs.input.Views.{plain};
 ghost use Rattle.jsonc_tree.specs.Content.{Content};
 ghost use Rattle.jsonc_tree.specs.Tree.{content_at};
-ghost use Rattle.jsonc_layout.specs.nodes.Properties.{value_at};
-ghost use Rattle.jsonc_edit.specs.set.Kinds.{is_array, is_object, LacksKind};
 ghost use Rattle.jsonc_edit.specs.set.Laws.{IsBareDocument};
-ghost use Rattle.jsonc_text.specs.declared.edit.Over.{Over};
-ghost use Rattle.jsonc_text.specs.declared.edit.Shape.{Shape};
-ghost use Rattle.jsonc_cst.specs.Document.{nodes_of, parent_of, tree_of, HasNode};
-ghost use Rattle.jsonc_cst.specs.Nodes.{array_node, number_of, object_node, object_prop_node, IsNodeOf};
-ghost use Rattle.jsonc_cst.specs.Readings.{value_under};
-ghost use Rattle.jsonc_cst.specs.typed.Edits.{NodeIsDetached, IsUntouched, KeepsDocument, Unchanged, HandlesStay};
-ghost use Rattle.jsonc_cst.specs.typed.Marked.{MarksStay};
+ghost use Rattle.jsonc_cst.specs.Document.{nodes_of, tree_of, HasNode};
+ghost use Rattle.jsonc_cst.specs.Nodes.{array_node, object_node, object_prop_node, IsNodeOf};
+ghost use Rattle.jsonc_cst.specs.typed.Edits.{HandlesStay};
 ghost use Rattle.jsonc_cst.specs.typed.Removing.{IsCleared};
-ghost use Rattle.jsonc_cst.specs.typed.Setting.{EmptyArrayAround, EmptyArrayMarked, EmptyArrayWritten};
-ghost use Rattle.jsonc_cst.specs.typed.Setting.{EmptyObjectAround, EmptyObjectMarked, EmptyObjectWritten};
-ghost use Rattle.jsonc_cst.specs.typed.Setting.{FirstArrayAround, FirstObjectAround};
-ghost use Rattle.jsonc_cst.specs.typed.Setting.{FindsOrCreatesArray, FindsOrCreatesObject, FindsOrSetsArray};
-ghost use Rattle.jsonc_cst.specs.typed.Setting.{FindsOrSetsObject, FirstArrayWritten, FirstObjectWritten};
-ghost use Rattle.jsonc_cst.specs.typed.Setting.{HasBecomeProperty, HasWrittenProperty, IsLaidAsProperty};
-ghost use Rattle.jsonc_cst.specs.typed.Setting.{RootBecomes, RootIsMarked, RootIsWritten, RootStaysAround};
-ghost use Rattle.jsonc_cst.specs.typed.Steps.{IsClearing, IsEnsuringRoot, IsReplacingProperty, IsSettingRoot};
+ghost use Rattle.jsonc_cst.specs.typed.SetCalls.{IsPropertyReplacement, IsRootCreated, IsRootEnsured, IsRootSet};
+ghost use Rattle.jsonc_cst.specs.typed.Steps.{IsClearing};
 
 use crate::cst::{
     CstArray, CstNode, CstObject, CstObjectProp, CstRootNode, EditError, TypedNode, node_at,
@@ -76,20 +65,7 @@ impl<A: Allocator + Copy> CstRootNode<A> {
     /// If the document is sound, it is sound again, and its value is the new one: one step, the
     /// edit that sets the document's value. On an error the document stays as it was.
     pub fn set_value(&mut self, value: CstInputValue<A>) -> Result<CstNode, EditError>
-        ensures set { IfOk result (RootBecomes (nodes_of self.old) (nodes_of self.new) (plain value)) }
-        ensures written { (p : Options)
-            → IfOk result (RootIsWritten (nodes_of self.old) (nodes_of self.new) p (plain value)) }
-        ensures marked { (p : Options)
-            → OnOk result (RootIsMarked (nodes_of self.old) (nodes_of self.new) p (plain value)) }
-        ensures around { (p : Options)
-            → OnOk result (RootStaysAround (nodes_of self.old) (nodes_of self.new) p (plain value)) }
-        ensures step { OnOk result (IsSettingRoot (nodes_of self.old) (nodes_of self.new) (plain value)) }
-        ensures stands { IfOk result (λ m. value_under self.new 0 ≡ Some m) }
-        ensures in_document { IfOk result (HasNode self.new) }
-        ensures handles { HandlesStay self.old self.new }
-        ensures memory { IfErr result (λ e. e ≡ EditError.OutOfMemory) }
-        ensures kept { OnErr result (Unchanged self.old self.new) }
-        ensures document { OnErr result (tree_of self.new ≡ tree_of self.old) }
+        ensures { IsRootSet self.old self.new (plain value) result }
     {
         let number = jsonc_edit::set::set_root(self.alloc, &mut self.tree, &value)?;
         Ok(node_at(&self.tree, number))
@@ -113,18 +89,7 @@ impl<A: Allocator + Copy> CstRootNode<A> {
     /// It is set as by [`CstRootNode::set_value`]. For a sound document the call is one step. On an
     /// error the document stays as it was.
     pub fn object_value_or_create(&mut self) -> Result<Option<CstObject>, EditError>
-        ensures value { IfOk result (FindsOrCreatesObject (nodes_of self.old) (nodes_of self.new)) }
-        ensures written { (p : Options) → OnOk result (FirstObjectWritten (nodes_of self.old) (nodes_of self.new) p) }
-        ensures marked { (p : Options) → OnOk result (MarksStay (nodes_of self.old) (nodes_of self.new) p) }
-        ensures around { (p : Options) → OnOk result (FirstObjectAround (nodes_of self.old) (nodes_of self.new) p) }
-        ensures step { OnOk result (IsEnsuringRoot (nodes_of self.old) (nodes_of self.new) Shape.Object Over.Keep) }
-        ensures stands { IfOk result (λ o. IfSome o (λ x. value_under self.new 0 ≡ Some (object_node x))) }
-        ensures in_document { IfOk result (λ o. IfSome o (λ x. HasNode self.new (object_node x))) }
-        ensures handles { HandlesStay self.old self.new }
-        ensures memory { IfErr result (λ e. e ≡ EditError.OutOfMemory) }
-        ensures oom_only_if { OnErr result (value_at (nodes_of self.old) 0 ≡ None) }
-        ensures kept { OnErr result (Unchanged self.old self.new) }
-        ensures document { OnErr result (tree_of self.new ≡ tree_of self.old) }
+        ensures { IsRootCreated self.old self.new Shape.Object object_node result }
     {
         let Some(number) = root_value_or_create(self.alloc, &mut self.tree, Shape::Object)? else {
             return Ok(None);
@@ -138,18 +103,7 @@ impl<A: Allocator + Copy> CstRootNode<A> {
     /// It is set as by [`CstRootNode::set_value`]. For a sound document the call is one step. On an
     /// error the document stays as it was.
     pub fn object_value_or_set(&mut self) -> Result<CstObject, EditError>
-        ensures value { IfOk result (FindsOrSetsObject (nodes_of self.old) (nodes_of self.new)) }
-        ensures written { (p : Options) → IfOk result (EmptyObjectWritten (nodes_of self.old) (nodes_of self.new) p) }
-        ensures marked { (p : Options) → OnOk result (EmptyObjectMarked (nodes_of self.old) (nodes_of self.new) p) }
-        ensures around { (p : Options) → OnOk result (EmptyObjectAround (nodes_of self.old) (nodes_of self.new) p) }
-        ensures step { OnOk result (IsEnsuringRoot (nodes_of self.old) (nodes_of self.new) Shape.Object Over.Replace) }
-        ensures stands { IfOk result (λ x. value_under self.new 0 ≡ Some (object_node x)) }
-        ensures in_document { IfOk result (λ x. HasNode self.new (object_node x)) }
-        ensures handles { HandlesStay self.old self.new }
-        ensures memory { IfErr result (λ e. e ≡ EditError.OutOfMemory) }
-        ensures oom_only_if { OnErr result (LacksKind is_object (nodes_of self.old) (value_at (nodes_of self.old) 0)) }
-        ensures kept { OnErr result (Unchanged self.old self.new) }
-        ensures document { OnErr result (tree_of self.new ≡ tree_of self.old) }
+        ensures { IsRootEnsured self.old self.new Shape.Object object_node result }
     {
         let number = root_value_or_set(self.alloc, &mut self.tree, Shape::Object)?;
         Ok(object_at(&self.tree, number))
@@ -161,18 +115,7 @@ impl<A: Allocator + Copy> CstRootNode<A> {
     /// It is set as by [`CstRootNode::set_value`]. For a sound document the call is one step. On an
     /// error the document stays as it was.
     pub fn array_value_or_create(&mut self) -> Result<Option<CstArray>, EditError>
-        ensures value { IfOk result (FindsOrCreatesArray (nodes_of self.old) (nodes_of self.new)) }
-        ensures written { (p : Options) → OnOk result (FirstArrayWritten (nodes_of self.old) (nodes_of self.new) p) }
-        ensures marked { (p : Options) → OnOk result (MarksStay (nodes_of self.old) (nodes_of self.new) p) }
-        ensures around { (p : Options) → OnOk result (FirstArrayAround (nodes_of self.old) (nodes_of self.new) p) }
-        ensures step { OnOk result (IsEnsuringRoot (nodes_of self.old) (nodes_of self.new) Shape.Array Over.Keep) }
-        ensures stands { IfOk result (λ o. IfSome o (λ x. value_under self.new 0 ≡ Some (array_node x))) }
-        ensures in_document { IfOk result (λ o. IfSome o (λ x. HasNode self.new (array_node x))) }
-        ensures handles { HandlesStay self.old self.new }
-        ensures memory { IfErr result (λ e. e ≡ EditError.OutOfMemory) }
-        ensures oom_only_if { OnErr result (value_at (nodes_of self.old) 0 ≡ None) }
-        ensures kept { OnErr result (Unchanged self.old self.new) }
-        ensures document { OnErr result (tree_of self.new ≡ tree_of self.old) }
+        ensures { IsRootCreated self.old self.new Shape.Array array_node result }
     {
         let Some(number) = root_value_or_create(self.alloc, &mut self.tree, Shape::Array)? else {
             return Ok(None);
@@ -186,18 +129,7 @@ impl<A: Allocator + Copy> CstRootNode<A> {
     /// It is set as by [`CstRootNode::set_value`]. For a sound document the call is one step. On an
     /// error the document stays as it was.
     pub fn array_value_or_set(&mut self) -> Result<CstArray, EditError>
-        ensures value { IfOk result (FindsOrSetsArray (nodes_of self.old) (nodes_of self.new)) }
-        ensures written { (p : Options) → IfOk result (EmptyArrayWritten (nodes_of self.old) (nodes_of self.new) p) }
-        ensures marked { (p : Options) → OnOk result (EmptyArrayMarked (nodes_of self.old) (nodes_of self.new) p) }
-        ensures around { (p : Options) → OnOk result (EmptyArrayAround (nodes_of self.old) (nodes_of self.new) p) }
-        ensures step { OnOk result (IsEnsuringRoot (nodes_of self.old) (nodes_of self.new) Shape.Array Over.Replace) }
-        ensures stands { IfOk result (λ x. value_under self.new 0 ≡ Some (array_node x)) }
-        ensures in_document { IfOk result (λ x. HasNode self.new (array_node x)) }
-        ensures handles { HandlesStay self.old self.new }
-        ensures memory { IfErr result (λ e. e ≡ EditError.OutOfMemory) }
-        ensures oom_only_if { OnErr result (LacksKind is_array (nodes_of self.old) (value_at (nodes_of self.old) 0)) }
-        ensures kept { OnErr result (Unchanged self.old self.new) }
-        ensures document { OnErr result (tree_of self.new ≡ tree_of self.old) }
+        ensures { IsRootEnsured self.old self.new Shape.Array array_node result }
     {
         let number = root_value_or_set(self.alloc, &mut self.tree, Shape::Array)?;
         Ok(array_at(&self.tree, number))
@@ -229,25 +161,7 @@ impl CstObjectProp {
         value: CstInputValue<A>,
     ) -> Result<Option<CstNode>, EditError>
         requires { HasNode doc.old (object_prop_node self) }
-        ensures replaced { IfOk result
-            (λ o. IfSome o (HasBecomeProperty doc.old doc.new (object_prop_node self) (chars name.now) (plain value))) }
-        ensures written { (p : Options)
-            → IfOk result (λ o. IfSome o
-            (HasWrittenProperty doc.old doc.new p (object_prop_node self) (chars name.now) (plain value))) }
-        ensures laid { IfOk result
-            (λ o. IfSome o (IsLaidAsProperty doc.old doc.new (object_prop_node self) (chars name.now) (plain value))) }
-        ensures step { IfOk result (λ o. IfSome o (λ m. IsReplacingProperty (nodes_of doc.old) (nodes_of doc.new)
-            (number_of (object_prop_node self)) (chars name.now) (plain value))) }
-        ensures detached { IfOk result (λ o. IfSome o (λ m. KeepsDocument doc.old doc.new (object_prop_node self))) }
-        ensures gone { IfOk result (λ o. IfSome o (λ m. NodeIsDetached doc.old doc.new (object_prop_node self))) }
-        ensures none { IfOk result (λ o. IfNone o (parent_of doc.old (object_prop_node self) ≡ None)) }
-        ensures untouched { IfOk result (λ o. IfNone o (IsUntouched doc.old doc.new)) }
-        ensures in_document { IfOk result (λ o. IfSome o (HasNode doc.new)) }
-        ensures handles { HandlesStay doc.old doc.new }
-        ensures memory { IfErr result (λ e. e ≡ EditError.OutOfMemory) }
-        ensures child { OnErr result (¬ (parent_of doc.old (object_prop_node self) ≡ None)) }
-        ensures kept { OnErr result (Unchanged doc.old doc.new) }
-        ensures document { OnErr result (tree_of doc.new ≡ tree_of doc.old) }
+        ensures { IsPropertyReplacement doc.old doc.new (object_prop_node self) (chars name.now) (plain value) result }
     {
         let Some(_) = self.parent(doc) else {
             return Ok(None);

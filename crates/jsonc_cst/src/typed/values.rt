@@ -1,21 +1,10 @@
 //! A property's value is set, and a truth value.
 
-ghost use Rattle.std.specs.Prelude.{◌≡◌, IfErr, IfOk, OnErr, OnOk, false, true};
-ghost use Rattle.jsonc_text.specs.Options.{Options};
-ghost use Rattle.jsonc_layout.specs.input.Views.{plain};
-ghost use Rattle.jsonc_edit.specs.set.Booleans.{WantsSpaceFor};
-ghost use Rattle.jsonc_edit.specs.set.Kinds.{is_array, is_object};
-ghost use Rattle.jsonc_layout.specs.nodes.Properties.{lacks_name_at};
-ghost use Rattle.jsonc_edit.specs.set.PropertyValues.{EnsureValueError};
 ghost use Rattle.jsonc_text.specs.declared.edit.Shape.{Shape};
-ghost use Rattle.jsonc_cst.specs.Document.{nodes_of, tree_of, HasNode};
-ghost use Rattle.jsonc_cst.specs.Nodes.{array_node, boolean_lit_node, number_of, object_node, object_prop_node};
-ghost use Rattle.jsonc_cst.specs.typed.Edits.{KeepsDocument, Unchanged, HandlesStay};
-ghost use Rattle.jsonc_cst.specs.typed.Removing.{IsKeptForMemory};
-ghost use Rattle.jsonc_cst.specs.typed.Steps.{IsEnsuringValue, IsSettingBoolean, IsSettingValue};
-ghost use Rattle.jsonc_cst.specs.typed.Values.{HasMarkedArray, HasMarkedObject, HasMarkedValue, HasSetBoolean};
-ghost use Rattle.jsonc_cst.specs.typed.Values.{HasWrittenArray, HasWrittenBoolean, HasWrittenObject, HasWrittenValue};
-ghost use Rattle.jsonc_cst.specs.typed.Values.{HasStayedAroundValue, IsChildOf, NodeValueIs, NowHoldsArray, NowHoldsObject};
+ghost use Rattle.jsonc_layout.specs.input.Views.{plain};
+ghost use Rattle.jsonc_cst.specs.Document.{HasNode};
+ghost use Rattle.jsonc_cst.specs.Nodes.{array_node, boolean_lit_node, object_node, object_prop_node};
+ghost use Rattle.jsonc_cst.specs.typed.SetCalls.{IsBooleanSet, IsValueEnsured, IsValueSet};
 
 use crate::cst::{
     CstArray, CstBooleanLit, CstNode, CstObject, CstObjectProp, CstRootNode, EditError, TypedNode,
@@ -44,20 +33,7 @@ impl CstObjectProp {
         value: CstInputValue<A>,
     ) -> Result<CstNode, EditError>
         requires { HasNode doc.old (object_prop_node self) }
-        ensures set { IfOk result (NodeValueIs doc.old doc.new (object_prop_node self) (plain value)) }
-        ensures written { (p : Options)
-            → IfOk result (HasWrittenValue doc.old doc.new p (object_prop_node self) (plain value)) }
-        ensures marked { OnOk result (HasMarkedValue doc.old doc.new (object_prop_node self) (plain value)) }
-        ensures around { OnOk result (HasStayedAroundValue doc.old doc.new (object_prop_node self) (plain value)) }
-        ensures step { OnOk result (IsSettingValue (nodes_of doc.old) (nodes_of doc.new) (number_of (object_prop_node self))
-            (plain value)) }
-        ensures detached { OnOk result (KeepsDocument doc.old doc.new (object_prop_node self)) }
-        ensures child { IfOk result (IsChildOf doc.new (object_prop_node self)) }
-        ensures in_document { IfOk result (HasNode doc.new) }
-        ensures handles { HandlesStay doc.old doc.new }
-        ensures memory { IfErr result (λ e. e ≡ EditError.OutOfMemory) }
-        ensures kept { OnErr result (Unchanged doc.old doc.new) }
-        ensures document { OnErr result (tree_of doc.new ≡ tree_of doc.old) }
+        ensures { IsValueSet doc.old doc.new (object_prop_node self) (plain value) result }
     {
         let number = self.node().number();
         let new = jsonc_edit::set::set_property_value(doc.alloc, &mut doc.tree, number, &value)?;
@@ -76,22 +52,7 @@ impl CstObjectProp {
         doc: &mut CstRootNode<A>,
     ) -> Result<CstObject, EditError>
         requires { HasNode doc.old (object_prop_node self) }
-        ensures value { IfOk result (NowHoldsObject doc.old doc.new (object_prop_node self)) }
-        ensures written { (p : Options) → IfOk result (HasWrittenObject doc.old doc.new p (object_prop_node self)) }
-        ensures marked { OnOk result (HasMarkedObject doc.old doc.new (object_prop_node self)) }
-        ensures step { OnOk result (IsEnsuringValue (nodes_of doc.old) (nodes_of doc.new) (number_of (object_prop_node self))
-            Shape.Object) }
-        ensures detached { OnOk result (KeepsDocument doc.old doc.new (object_prop_node self)) }
-        ensures named { OnOk result (lacks_name_at (nodes_of doc.old) (number_of (object_prop_node self)) ≡ false) }
-        ensures child { IfOk result (λ x. IsChildOf doc.new (object_prop_node self) (object_node x)) }
-        ensures in_document { IfOk result (λ x. HasNode doc.new (object_node x)) }
-        ensures handles { HandlesStay doc.old doc.new }
-        ensures error { IfErr result (EnsureValueError is_object (nodes_of doc.old) (number_of (object_prop_node self))) }
-        ensures missing { IfErr result (λ e. lacks_name_at (nodes_of doc.old) (number_of (object_prop_node self)) ≡ true
-            → e ≡ EditError.MissingName) }
-        ensures memory { (o : Options) → IfErr result (IsKeptForMemory doc.old o (object_prop_node self)) }
-        ensures kept { OnErr result (Unchanged doc.old doc.new) }
-        ensures document { OnErr result (tree_of doc.new ≡ tree_of doc.old) }
+        ensures { IsValueEnsured doc.old doc.new Shape.Object (object_prop_node self) object_node result }
     {
         let number = self.node().number();
         match property_value_or_set(doc.alloc, &mut doc.tree, number, Shape::Object) {
@@ -112,22 +73,7 @@ impl CstObjectProp {
         doc: &mut CstRootNode<A>,
     ) -> Result<CstArray, EditError>
         requires { HasNode doc.old (object_prop_node self) }
-        ensures value { IfOk result (NowHoldsArray doc.old doc.new (object_prop_node self)) }
-        ensures written { (p : Options) → IfOk result (HasWrittenArray doc.old doc.new p (object_prop_node self)) }
-        ensures marked { OnOk result (HasMarkedArray doc.old doc.new (object_prop_node self)) }
-        ensures step { OnOk result (IsEnsuringValue (nodes_of doc.old) (nodes_of doc.new) (number_of (object_prop_node self))
-            Shape.Array) }
-        ensures detached { OnOk result (KeepsDocument doc.old doc.new (object_prop_node self)) }
-        ensures named { OnOk result (lacks_name_at (nodes_of doc.old) (number_of (object_prop_node self)) ≡ false) }
-        ensures child { IfOk result (λ x. IsChildOf doc.new (object_prop_node self) (array_node x)) }
-        ensures in_document { IfOk result (λ x. HasNode doc.new (array_node x)) }
-        ensures handles { HandlesStay doc.old doc.new }
-        ensures error { IfErr result (EnsureValueError is_array (nodes_of doc.old) (number_of (object_prop_node self))) }
-        ensures missing { IfErr result (λ e. lacks_name_at (nodes_of doc.old) (number_of (object_prop_node self)) ≡ true
-            → e ≡ EditError.MissingName) }
-        ensures memory { (o : Options) → IfErr result (IsKeptForMemory doc.old o (object_prop_node self)) }
-        ensures kept { OnErr result (Unchanged doc.old doc.new) }
-        ensures document { OnErr result (tree_of doc.new ≡ tree_of doc.old) }
+        ensures { IsValueEnsured doc.old doc.new Shape.Array (object_prop_node self) array_node result }
     {
         let number = self.node().number();
         match property_value_or_set(doc.alloc, &mut doc.tree, number, Shape::Array) {
@@ -151,16 +97,7 @@ impl CstBooleanLit {
         value: bool,
     ) -> Result<(), EditError>
         requires { HasNode doc.old (boolean_lit_node self) }
-        ensures set { OnOk result (HasSetBoolean doc.old doc.new (boolean_lit_node self) value) }
-        ensures written { (p : Options) → OnOk result (HasWrittenBoolean doc.old doc.new p (boolean_lit_node self) value) }
-        ensures step { OnOk result (IsSettingBoolean (nodes_of doc.old) (nodes_of doc.new)
-            (number_of (boolean_lit_node self)) value) }
-        ensures detached { OnOk result (KeepsDocument doc.old doc.new (boolean_lit_node self)) }
-        ensures handles { HandlesStay doc.old doc.new }
-        ensures memory { IfErr result (λ e. e ≡ EditError.OutOfMemory) }
-        ensures oom_only_if { OnErr result (WantsSpaceFor (nodes_of doc.old) (number_of (boolean_lit_node self)) value) }
-        ensures kept { OnErr result (Unchanged doc.old doc.new) }
-        ensures document { OnErr result (tree_of doc.new ≡ tree_of doc.old) }
+        ensures { IsBooleanSet doc.old doc.new (boolean_lit_node self) value result }
     {
         let number = self.node().number();
         jsonc_edit::set::set_boolean(doc.alloc, &mut doc.tree, number, value)

@@ -28,26 +28,17 @@ returns-clause-cleared g c = calls.clearing_is_call
 pub returns-clause-root : goal.returns-clause-root
 returns-clause-root g c = calls.root_is_call
 
-pub returns-clause-object_created : goal.returns-clause-object_created
-returns-clause-object_created g c = calls.object_created
+pub returns-clause-root_created : goal.returns-clause-root_created
+returns-clause-root_created g c = calls.root_created
 
-pub returns-clause-object_set : goal.returns-clause-object_set
-returns-clause-object_set g c = calls.object_set
-
-pub returns-clause-array_created : goal.returns-clause-array_created
-returns-clause-array_created g c = calls.array_created
-
-pub returns-clause-array_set : goal.returns-clause-array_set
-returns-clause-array_set g c = calls.array_set
+pub returns-clause-root_set : goal.returns-clause-root_set
+returns-clause-root_set g c = calls.root_set
 
 pub returns-clause-value : goal.returns-clause-value
 returns-clause-value g c = calls.value_is_call
 
-pub returns-clause-object_held : goal.returns-clause-object_held
-returns-clause-object_held g c = calls.object_held
-
-pub returns-clause-array_held : goal.returns-clause-array_held
-returns-clause-array_held g c = calls.array_held
+pub returns-clause-held : goal.returns-clause-held
+returns-clause-held g c = calls.held_is_call
 
 pub returns-clause-boolean : goal.returns-clause-boolean
 returns-clause-boolean g c = calls.boolean_is_call
@@ -61,11 +52,8 @@ returns-clause-element g c = calls.element_is_call
 pub returns-clause-named : goal.returns-clause-named
 returns-clause-named g c = calls.named_is_call
 
-pub returns-clause-object_named : goal.returns-clause-object_named
-returns-clause-object_named g c = calls.object_named
-
-pub returns-clause-array_named : goal.returns-clause-array_named
-returns-clause-array_named g c = calls.array_named
+pub returns-clause-ensured : goal.returns-clause-ensured
+returns-clause-ensured g c = calls.ensured_is_call
 
 pub returns-clause-commas : goal.returns-clause-commas
 returns-clause-commas g c = calls.commas_are_call

@@ -1,41 +1,38 @@
 -- What the clauses of typed calls say is a call.
 use Rattle.std.proofs.Common.{◌≡◌, ℕ, ◌<◌, Bool, true, false, List, length, Option, Some, None, option_map, refl, ap}
-use Rattle.jsonc_text.specs.Plain.{Plain, array, object, no_items, no_members}
+use Rattle.jsonc_text.specs.Plain.{Plain}
 use Rattle.jsonc_layout.specs.nodes.Properties.{value_at}
 use Rattle.jsonc_tree.specs.Content.{Content}
 use Rattle.jsonc_tree.specs.Tree.{Node, parent_at, IsTree}
 use Rattle.jsonc_edit.specs.Comments.{TakesOut}
-use Rattle.jsonc_edit.specs.set.Kinds.{is_array, is_object}
+use Rattle.jsonc_edit.specs.set.Shapes.{empty_of, is_of}
 use Rattle.jsonc_text.specs.declared.edit.TrailingCommaMode.{TrailingCommaMode}
 use Rattle.jsonc_edit.specs.remove.Removed.{TakesElement}
 use Rattle.jsonc_text.specs.declared.edit.Over.{Over}
 use Rattle.jsonc_text.specs.declared.edit.Shape.{Shape}
-use Rattle.jsonc_text.specs.declared.edit.Shape.TheVariants.{Array, Object}
 use Rattle.jsonc_insert.specs.named.Named.{NamedEnsured}
 use Rattle.jsonc_sort.specs.Sorting.{Headers}
 use Rattle.jsonc_run.specs.Parents.{all_stay, boolean_set, children_leave, comes_on_lines, comment_leaves, commas_set, element_comes, element_leaves, gives_way, gives_way_raw, leaf_leaves, leaf_set, property_comes, property_gives_way, some_commas_set, sorted, IsCallOf}
 use Rattle.jsonc_run.proofs.Calls.{call_of, call_of_same, found_or_created, found_or_set, held_given, held_last, held_or_set, named_ensured, root_first, root_given}
 use Rattle.jsonc_cst.specs.declared.cst.CstRootNode.{CstRootNode}
-use Rattle.jsonc_cst.specs.declared.cst.node.CstArray.{CstArray}
 use Rattle.jsonc_cst.specs.declared.cst.node.CstNode.{CstNode}
-use Rattle.jsonc_cst.specs.declared.cst.node.CstObject.{CstObject}
 use Rattle.jsonc_cst.specs.declared.cst.node.CstObjectProp.{CstObjectProp}
 use Rattle.jsonc_cst.specs.declared.typed.removing.Removal.{Removal}
 use Rattle.jsonc_cst.specs.declared.typed.removing.Removal.TheVariants.{Clearing, OfComment, OfElement, OfLeaf}
 use Rattle.jsonc_cst.specs.Document.{nodes_of, HasNode}
 use Rattle.jsonc_cst.specs.Nodes.{container_of, number_of, object_prop_node}
 use Rattle.jsonc_cst.specs.objects.Members.{HasNamedComeIn}
-use Rattle.jsonc_cst.specs.objects.Named.{HasEnsuredArray, HasEnsuredObject}
+use Rattle.jsonc_cst.specs.objects.Named.{HasEnsured}
 use Rattle.jsonc_cst.specs.sorting.Sorted.{IsPlaced}
 use Rattle.jsonc_cst.specs.typed.AsCalls.{number_taken, IsCallIf, IsRootCallIf, LoneRemovalIsCall, RemovalIsCall}
-use Rattle.jsonc_cst.specs.typed.Commas.{HasSetCommas, HasSetCommasInPart}
+use Rattle.jsonc_cst.specs.typed.Commas.{CommasSet, CommasSetInPart}
 use Rattle.jsonc_cst.specs.typed.Edits.{is_name_in, IsReplacedBy, IsReplacedAs, IsUntouched, Unchanged}
 use Rattle.jsonc_cst.specs.typed.Inserting.{HasComeIn}
 use Rattle.jsonc_cst.specs.typed.Lines.{HasSpreadOut}
 use Rattle.jsonc_cst.specs.typed.Raw.{HasBecome}
 use Rattle.jsonc_cst.specs.typed.Removing.{removal_of, IsCleared, IsLooseFor, IsTakenBy, RemovedAlone}
-use Rattle.jsonc_cst.specs.typed.Setting.{FindsOrCreatesArray, FindsOrCreatesObject, FindsOrSetsArray, FindsOrSetsObject, HasBecomeProperty, RootBecomes, ValueBecomes}
-use Rattle.jsonc_cst.specs.typed.Values.{HasSetBoolean, HeldBecomes, NodeValueIs, NowHoldsArray, NowHoldsObject}
+use Rattle.jsonc_cst.specs.typed.Setting.{FindsOrCreates, FindsOrSets, HasBecomeProperty, RootBecomes, ValueBecomes}
+use Rattle.jsonc_cst.specs.typed.Values.{HasSetBoolean, HeldBecomes, NodeValueIs, NowHolds}
 use Rattle.jsonc_cst.proofs.lemmas.typed.PropertyValues.{held_property}
 
 -- what the nodes are, by numbers
@@ -103,17 +100,11 @@ module _ {A : Type 0} (old new : CstRootNode A) where
   pub root_is_call : (v : Plain) (now : CstNode) → IsRootCallIf old new (RootBecomes (nodes_of old) (nodes_of new) v now)
   root_is_call v now = λ tree set. root_becomes (nodes_of old) (nodes_of new) tree v (value_at (nodes_of old) 0) (number_of now) refl set
 
-  pub object_created : (x : Option CstObject) → IsRootCallIf old new (FindsOrCreatesObject (nodes_of old) (nodes_of new) x)
-  object_created x = λ tree found. found_or_created (nodes_of old) (nodes_of new) tree is_object (object no_members) (value_at (nodes_of old) 0) _ found
+  pub root_created : (shape : Shape) (x : Option ℕ) → IsRootCallIf old new (FindsOrCreates (nodes_of old) (nodes_of new) shape x)
+  root_created shape x = λ tree found. found_or_created (nodes_of old) (nodes_of new) tree (is_of shape) (empty_of shape) (value_at (nodes_of old) 0) x found
 
-  pub object_set : (x : CstObject) → IsRootCallIf old new (FindsOrSetsObject (nodes_of old) (nodes_of new) x)
-  object_set x = λ tree found. found_or_set (nodes_of old) (nodes_of new) tree is_object (object no_members) (value_at (nodes_of old) 0) x.number refl found
-
-  pub array_created : (x : Option CstArray) → IsRootCallIf old new (FindsOrCreatesArray (nodes_of old) (nodes_of new) x)
-  array_created x = λ tree found. found_or_created (nodes_of old) (nodes_of new) tree is_array (array no_items) (value_at (nodes_of old) 0) _ found
-
-  pub array_set : (x : CstArray) → IsRootCallIf old new (FindsOrSetsArray (nodes_of old) (nodes_of new) x)
-  array_set x = λ tree found. found_or_set (nodes_of old) (nodes_of new) tree is_array (array no_items) (value_at (nodes_of old) 0) x.number refl found
+  pub root_set : (shape : Shape) (x : ℕ) → IsRootCallIf old new (FindsOrSets (nodes_of old) (nodes_of new) shape x)
+  root_set shape x = λ tree found. found_or_set (nodes_of old) (nodes_of new) tree (is_of shape) (empty_of shape) (value_at (nodes_of old) 0) x refl found
 
   module _ (p : CstObjectProp) where
     becomes : (v : Plain) (o : Option ℕ) (m : ℕ) → IsTree (nodes_of old) → HasNode old (object_prop_node p) → value_at (nodes_of old) p.number ≡ o
@@ -124,13 +115,9 @@ module _ {A : Type 0} (old new : CstRootNode A) where
     pub value_is_call : (v : Plain) (now : CstNode) → IsCallIf old new (object_prop_node p) (NodeValueIs old new (object_prop_node p) v now)
     value_is_call v now = λ tree held set. becomes v (value_at (nodes_of old) p.number) (number_of now) tree held refl set
 
-    pub object_held : (x : CstObject) → IsCallIf old new (object_prop_node p) (NowHoldsObject old new (object_prop_node p) x)
-    object_held x = λ tree held set.
-        held_or_set (nodes_of old) (nodes_of new) tree p.number held.0 (held_property (nodes_of old) p held) is_object (object no_members) (value_at (nodes_of old) p.number) x.number refl set
-
-    pub array_held : (x : CstArray) → IsCallIf old new (object_prop_node p) (NowHoldsArray old new (object_prop_node p) x)
-    array_held x = λ tree held set.
-        held_or_set (nodes_of old) (nodes_of new) tree p.number held.0 (held_property (nodes_of old) p held) is_array (array no_items) (value_at (nodes_of old) p.number) x.number refl set
+    pub held_is_call : (shape : Shape) (x : ℕ) → IsCallIf old new (object_prop_node p) (NowHolds old new shape (object_prop_node p) x)
+    held_is_call shape x = λ tree held set.
+        held_or_set (nodes_of old) (nodes_of new) tree p.number held.0 (held_property (nodes_of old) p held) (is_of shape) (empty_of shape) (value_at (nodes_of old) p.number) x refl set
 
   module _ (node : CstNode) where
     pub boolean_is_call : (b : Bool) → IsCallIf old new node (HasSetBoolean old new node b)
@@ -145,16 +132,13 @@ module _ {A : Type 0} (old new : CstRootNode A) where
     pub named_is_call : (i : ℕ) (name : List ℕ) (v : Plain) (now : CstObjectProp) → IsCallIf old new node (HasNamedComeIn old new node i name v now)
     named_is_call i name v now = λ tree held put. call_of (nodes_of old) (nodes_of new) tree (number_of node) held.0 (property_comes (number_of node) i now.number name v put)
 
-    pub object_named : (how : Over) (name : List ℕ) (x : Option CstObject) → IsCallIf old new node (HasEnsuredObject old new how node name x)
-    object_named how name x = λ tree held e. ensured (nodes_of old) (nodes_of new) tree (number_of node) held.0 name Object how _ e
+    pub ensured_is_call : (shape : Shape) (how : Over) (name : List ℕ) (x : Option ℕ) → IsCallIf old new node (HasEnsured old new shape how node name x)
+    ensured_is_call shape how name x = λ tree held e. ensured (nodes_of old) (nodes_of new) tree (number_of node) held.0 name shape how x e
 
-    pub array_named : (how : Over) (name : List ℕ) (x : Option CstArray) → IsCallIf old new node (HasEnsuredArray old new how node name x)
-    array_named how name x = λ tree held e. ensured (nodes_of old) (nodes_of new) tree (number_of node) held.0 name Array how _ e
-
-    pub commas_are_call : (mode : TrailingCommaMode) → IsCallIf old new node (HasSetCommas old new mode node)
+    pub commas_are_call : (mode : TrailingCommaMode) → IsCallIf old new node (CommasSet (nodes_of old) (nodes_of new) mode (number_of node))
     commas_are_call mode = λ tree held set. call_of (nodes_of old) (nodes_of new) tree (number_of node) held.0 (commas_set mode (number_of node) set)
 
-    pub some_commas_are_call : (mode : TrailingCommaMode) → IsCallIf old new node (HasSetCommasInPart old new mode node)
+    pub some_commas_are_call : (mode : TrailingCommaMode) → IsCallIf old new node (CommasSetInPart (nodes_of old) (nodes_of new) mode (number_of node))
     some_commas_are_call mode = λ tree held part. call_of (nodes_of old) (nodes_of new) tree (number_of node) held.0 (some_commas_set mode (number_of node) part)
 
     pub sort_is_call : (h : Headers) (order : List ℕ) → IsCallIf old new node (IsPlaced (nodes_of old) (nodes_of new) (number_of node) h order)

@@ -1,7 +1,9 @@
 -- What becomes of a document's literals and comments where a value is set, and what is written where an empty one is.
-use Rattle.std.proofs.Common.{◌≡◌, ℕ, Bool, true, false, List, [], Option, Some, None, ap, sym, subst, ◌∙◌, IfSome, IfNone}
+use Rattle.std.proofs.Common.{◌≡◌, ℕ, Bool, true, false, List, [], Option, Some, None, refl, ap, sym, subst, ◌∙◌, IfSome, IfNone}
 use Rattle.jsonc_text.specs.Options.{Options}
-use Rattle.jsonc_text.specs.Plain.{Plain, array, object, no_items, no_members}
+use Rattle.jsonc_text.specs.Plain.{Plain}
+use Rattle.jsonc_text.specs.declared.edit.Shape.{Shape}
+use Rattle.jsonc_text.specs.declared.edit.Shape.TheVariants.{Array, Object}
 use Rattle.jsonc_tree.specs.Content.{Content}
 use Rattle.jsonc_tree.specs.OrderedTree.{ordered_tree, Top}
 use Rattle.jsonc_tree.specs.Tree.{Node, content_at, children_at, IsTree}
@@ -23,6 +25,7 @@ use Rattle.jsonc_edit.proofs.Spacing.{spaces_marks}
 use Rattle.jsonc_edit.specs.set.Kinds.{FoundOrCreated, FoundOrSet, KeptOrReplaced}
 use Rattle.jsonc_edit.specs.set.PropertyValues.{HeldOrSet}
 use Rattle.jsonc_edit.specs.set.RootSet.{FirstValue}
+use Rattle.jsonc_edit.specs.set.Shapes.{empty_of}
 use Rattle.jsonc_edit.proofs.lemmas.set.FirstValueSet.{gives_first_value}
 use Rattle.jsonc_cst.specs.typed.Marked.{EmptyMarked, IsMarkedFor, KeptOrMarked, MarksReplaced, MarksStay, RootMarkedFor}
 use Rattle.jsonc_cst.specs.typed.Setting.{EmptyWritten, KeptOrWritten, FirstOrSame}
@@ -94,9 +97,11 @@ module _ (o : Options) (kind : Content → Bool) (v : Plain) (writable : IsWrita
   set_marked None m e f = stay_with_first m e f
   set_marked (Some n) m e r = kept_marked n m (kind (content_at old n)) e r
 
--- documents can hold an empty object, and an empty array
-pub empty_object_writable : (o : Options) → IsWritable o (object no_members)
-empty_object_writable o = record { texts = tt; numbers = tt }
+-- documents can hold an empty value of each shape, which has no literals
+pub empty_writable : (shape : Shape) (o : Options) → IsWritable o (empty_of shape)
+empty_writable Object o = record { texts = tt; numbers = tt }
+empty_writable Array o = record { texts = tt; numbers = tt }
 
-pub empty_array_writable : (o : Options) → IsWritable o (array no_items)
-empty_array_writable o = record { texts = tt; numbers = tt }
+pub empty_bare : (shape : Shape) → written (empty_of shape) ≡ []
+empty_bare Object = refl
+empty_bare Array = refl

@@ -13,9 +13,17 @@ use Rattle.jsonc_edit.specs.multiline.Multiline.{has_line_end, IsUnspread, MadeM
 use Rattle.jsonc_edit.proofs.lemmas.multiline.Documents.{spread_at}
 use Rattle.jsonc_edit.proofs.lemmas.multiline.LineEnds.{has_end, has_its_brackets}
 use Rattle.jsonc_edit.proofs.lemmas.multiline.SameDocument.{keeps_document}
+use Rattle.jsonc_cst.specs.declared.cst.CstRootNode.{CstRootNode}
+use Rattle.jsonc_cst.specs.declared.cst.node.CstNode.{CstNode}
+use Rattle.jsonc_cst.specs.Document.{nodes_of, tree_of}
+use Rattle.jsonc_cst.specs.Nodes.{number_of}
+use Rattle.jsonc_cst.specs.typed.Calls.{IsPutOnLines}
+use Rattle.jsonc_cst.specs.typed.Edits.{Unchanged}
 use Rattle.jsonc_cst.specs.typed.Lines.{SpreadsAtItsPath}
 use Rattle.jsonc_cst.specs.typed.Removing.{OnlyOutOfMemory}
-use Rattle.jsonc_cst.proofs.lemmas.typed.HandlesKept.{Stays, stay_both, stay_kept, stay_same, stay_spliced}
+use Rattle.jsonc_cst.proofs.lemmas.typed.DetachedNodes.{spread_elsewhere}
+use Rattle.jsonc_cst.proofs.lemmas.typed.HandlesKept.{Stays, nodes_stay, stay_both, stay_kept, stay_same, stay_spliced}
+use Rattle.jsonc_cst.proofs.lemmas.typed.Steps.{ok_then, spread_step}
 
 -- what is so is not otherwise
 contradicts : (b : Bool) → IsTrue b → IsTrue (not b) → ⊥
@@ -59,3 +67,20 @@ module _ (old new : List Node) (n : ℕ) (before : IsTree old) (after : IsTree n
   pub nodes_spread : {T E : Type 0} (r : Result T E) → OnOk r (MadeMultiline old new n) → OnErr r (Keeps (length old) old new) → Stays old new
   nodes_spread (Ok x) made kept = spread_stays made
   nodes_spread (Err e) made kept = stay_kept old new kept
+
+-- what the calls say of that
+pub put_on_lines : {A : Type 0} (old new : CstRootNode A) (node : CstNode) → IsTrue (is_array_or_object (content_at (nodes_of old) (number_of node))) → (r : Result (Unit {0}) EditError)
+    → OnOk r (MadeMultiline (nodes_of old) (nodes_of new) (number_of node)) → IfErr r (IsUnspread (nodes_of old) (number_of node))
+    → OnErr r (Unchanged old new) → OnErr r (tree_of new ≡ tree_of old) → IsPutOnLines old new node r
+put_on_lines old new node holds r made told kept same = record {
+  made = made;
+  written = λ o. lines_written (nodes_of old) (nodes_of new) (number_of node) old.tree.tree new.tree.tree holds o r made;
+  step = ok_then r (λ spread. spread_step (nodes_of old) (nodes_of new) old.tree.tree new.tree.tree (number_of node) spread holds) made;
+  lines = on_lines (nodes_of old) (nodes_of new) (number_of node) old.tree.tree new.tree.tree holds r made;
+  detached = spread_elsewhere (nodes_of old) old.tree.tree (nodes_of new) (number_of node) new.tree.tree r made;
+  error = told;
+  memory = λ o. but_for_memory (nodes_of old) (nodes_of new) (number_of node) old.tree.tree new.tree.tree holds o r told;
+  handles = nodes_stay (nodes_of old) (nodes_of new) (nodes_spread (nodes_of old) (nodes_of new) (number_of node) old.tree.tree new.tree.tree holds r made kept);
+  kept = kept;
+  document = same;
+}

@@ -1,11 +1,10 @@
 -- The nodes that set a document's value, or a property: they are there, of their kind, and every other node stays.
-use Rattle.std.proofs.Common.{◌≡◌, ℕ, ◌<◌, ◌++◌, Bool, true, false, inl, inr, List, ◌∷◌, length, get_or, Option, Some, None, Result, Ok, Err, OnErr, IfOk, IfSome, IfNone, cond, refl, ap, ◌∙◌, arith, length-append}
+use Rattle.std.proofs.Common.{◌≡◌, ℕ, ◌<◌, ◌++◌, Bool, true, false, inl, inr, List, ◌∷◌, length, get_or, Option, Some, None, IfSome, IfNone, cond, refl, ap, ◌∙◌, arith, length-append}
 use Rattle.std.proofs.Math.Seq.{get_or-append_seam}
 use Rattle.std.proofs.lemmas.Bool.{cases_lt, false≢true}
 use Rattle.std.proofs.lemmas.List.{get_or_past}
 use Rattle.jsonc_text.specs.Options.{Options}
 use Rattle.jsonc_text.specs.Plain.{Plain}
-use Rattle.jsonc_tree.specs.Building.{Keeps}
 use Rattle.jsonc_tree.specs.Content.{Content}
 use Rattle.jsonc_tree.specs.OrderedTree.{Top}
 use Rattle.jsonc_tree.specs.Tree.{Node, nowhere, content_at, IsTree}
@@ -66,7 +65,7 @@ is_written p old new v (Some n) m tree e r f = r
 
 -- an array or object that was found, or has been set
 module _ (kind : Content → Bool) (v : Plain) (old new : List Node) where
-  stay_created : (o answer : Option ℕ) → FoundOrCreated kind v old new o answer → Stays old new
+  pub stay_created : (o answer : Option ℕ) → FoundOrCreated kind v old new o answer → Stays old new
   stay_created None answer (m, said, f) = stay_first old new v m f
   stay_created (Some n) answer (said, same) = stay_same old new same
 
@@ -74,20 +73,9 @@ module _ (kind : Content → Bool) (v : Plain) (old new : List Node) where
   kept_stays n m true (here, same) = stay_same old new same
   kept_stays n m false r = stay_replaced old new n v m r
 
-  stay_found : (o : Option ℕ) (m : ℕ) → FoundOrSet kind v old new o m → Stays old new
+  pub stay_found : (o : Option ℕ) (m : ℕ) → FoundOrSet kind v old new o m → Stays old new
   stay_found None m f = stay_first old new v m f
   stay_found (Some n) m r = kept_stays n m (kind (content_at old n)) r
-
-  -- or allocation failure was told
-  pub created_or_kept : {E : Type 0} (o : Option ℕ) (r : Result (Option ℕ) E) → IfOk r (FoundOrCreated kind v old new o)
-      → OnErr r (Keeps (length old) old new) → Stays old new
-  created_or_kept o (Ok answer) found kept = stay_created o answer found
-  created_or_kept o (Err e) found kept = stay_kept old new kept
-
-  pub set_or_kept : {E : Type 0} (o : Option ℕ) (r : Result ℕ E) → IfOk r (FoundOrSet kind v old new o)
-      → OnErr r (Keeps (length old) old new) → Stays old new
-  set_or_kept o (Ok m) found kept = stay_found o m found
-  set_or_kept o (Err e) found kept = stay_kept old new kept
 
 -- it is of its kind
 module _ (kind : Content → Bool) (v : Plain) (content : Content) (made : (l : Layout) → (laid l v).content ≡ content)

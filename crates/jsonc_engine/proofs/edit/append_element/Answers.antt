@@ -2,8 +2,7 @@ use Rattle.std.proofs.Common.{Option}
 use Rattle.jsonc_layout.specs.input.Views.{plain}
 use Rattle.jsonc_cst.specs.declared.cst.node.CstArray.{CstArray}
 use Rattle.jsonc_cst.specs.Document.{nodes_of}
-use Rattle.jsonc_cst.specs.typed.Setting.{FindsOrCreatesArray}
-use Rattle.jsonc_engine.proofs.PuttingInContainers.{appends_last, array_memory, array_stands, array_wanted, no_array, said_of}
+use Rattle.jsonc_engine.proofs.PuttingInContainers.{appends_last, array_memory, array_stands, array_wanted, no_array, said_of, CreatesArray}
 use Rattle.jsonc_engine.proofs.edit.append_element.Goals as goal
 
 pub returns-in-Ok-None-clause-error : goal.returns-in-Ok-None-clause-error
@@ -15,7 +14,7 @@ returns-in-Ok-clause-appended g c = λ o sound.
     let made = nodes_of c.array_value_or_create.new.self in
     appends_last o (nodes_of c.args.document.now) made c.array_value_or_create.new.self.tree.tree c.in-Ok-Some.array (array_stands (nodes_of c.array_value_or_create.new.self) c.in-Ok-Some.field-0 c.in-Ok-Some.array c.in-Ok-Some.field-0-is c.in-Ok-Some.ensures.stands)
     (c.in-Ok-Some.ensures.written o) sound (nodes_of c.append.new.doc) (plain c.args.value)
-    (said_of c.in-Ok-Some.field-0 c.in-Ok-Some.array (λ (f : Option CstArray). FindsOrCreatesArray (nodes_of c.args.document.now) made f) c.in-Ok-Some.field-0-is c.in-Ok-Some.ensures.value)
+    (said_of c.in-Ok-Some.field-0 c.in-Ok-Some.array (λ (f : Option CstArray). CreatesArray (nodes_of c.args.document.now) made f) c.in-Ok-Some.field-0-is c.in-Ok-Some.ensures.value)
     (c.in-Ok-Some.ensures.around o) c.in-Ok.field-0 c.in-Ok.ensures.put (c.in-Ok.ensures.written o)
 
 pub returns-in-Err-append-clause-error : goal.returns-in-Err-append-clause-error
@@ -23,7 +22,7 @@ returns-in-Err-append-clause-error g c = λ o sound.
     let made = nodes_of c.array_value_or_create.new.self in
     array_memory o (nodes_of c.args.document.now) made c.array_value_or_create.new.self.tree.tree c.in-Ok-Some.array (array_stands (nodes_of c.array_value_or_create.new.self) c.in-Ok-Some.field-0 c.in-Ok-Some.array c.in-Ok-Some.field-0-is c.in-Ok-Some.ensures.stands)
     (c.in-Ok-Some.ensures.written o) sound c.args.document.now.tree.tree
-    (said_of c.in-Ok-Some.field-0 c.in-Ok-Some.array (λ (f : Option CstArray). FindsOrCreatesArray (nodes_of c.args.document.now) made f) c.in-Ok-Some.field-0-is c.in-Ok-Some.ensures.value)
+    (said_of c.in-Ok-Some.field-0 c.in-Ok-Some.array (λ (f : Option CstArray). CreatesArray (nodes_of c.args.document.now) made f) c.in-Ok-Some.field-0-is c.in-Ok-Some.ensures.value)
     c.in-Err-append.error (c.in-Err-append.ensures.memory o)
 
 pub returns-in-Err-clause-error : goal.returns-in-Err-clause-error

@@ -3,8 +3,7 @@ use Rattle.std.proofs.lemmas.Str.{scalars-chars}
 use Rattle.jsonc_layout.specs.input.Views.{plain}
 use Rattle.jsonc_cst.specs.declared.cst.node.CstObject.{CstObject}
 use Rattle.jsonc_cst.specs.Document.{nodes_of}
-use Rattle.jsonc_cst.specs.typed.Setting.{FindsOrCreatesObject}
-use Rattle.jsonc_engine.proofs.PuttingInContainers.{append_memory, appends_property, no_object, object_memory, object_stands, object_wanted, said_of, sets_property}
+use Rattle.jsonc_engine.proofs.PuttingInContainers.{append_memory, appends_property, no_object, object_memory, object_stands, object_wanted, said_of, sets_property, CreatesObject}
 use Rattle.jsonc_engine.proofs.Removing.{first_found, none_found}
 use Rattle.jsonc_engine.proofs.edit.set_property.Goals as goal
 
@@ -19,7 +18,7 @@ returns-in-Ok-set_value-clause-set g c = λ o sound.
     sets_property o (nodes_of c.args.document.now) (nodes_of document) c.object_value_or_create.new.self.tree.tree c.in-Ok-Some.object
     (object_stands (nodes_of c.object_value_or_create.new.self) c.in-Ok-Some.field-0 c.in-Ok-Some.object c.in-Ok-Some.field-0-is c.in-Ok-Some.ensures.stands) (c.in-Ok-Some.ensures.written o) sound (nodes_of c.set_value.new.doc)
     (chars c.args.name.now) (plain c.args.value)
-    (said_of c.in-Ok-Some.field-0 c.in-Ok-Some.object (λ (f : Option CstObject). FindsOrCreatesObject (nodes_of c.args.document.now) (nodes_of document) f) c.in-Ok-Some.field-0-is c.in-Ok-Some.ensures.value)
+    (said_of c.in-Ok-Some.field-0 c.in-Ok-Some.object (λ (f : Option CstObject). CreatesObject (nodes_of c.args.document.now) (nodes_of document) f) c.in-Ok-Some.field-0-is c.in-Ok-Some.ensures.value)
     (c.in-Ok-Some.ensures.around o) c.in-Some.property.number c.in-Ok-set_value.field-0 named c.in-Ok-set_value.ensures.set (c.in-Ok-set_value.ensures.written o) c.in-Ok-set_value.ensures.marked
 
 pub returns-in-Ok-append-clause-set : goal.returns-in-Ok-append-clause-set
@@ -29,28 +28,28 @@ returns-in-Ok-append-clause-set g c = λ o sound.
     appends_property o (nodes_of c.args.document.now) (nodes_of document) c.object_value_or_create.new.self.tree.tree c.in-Ok-Some.object
     (object_stands (nodes_of c.object_value_or_create.new.self) c.in-Ok-Some.field-0 c.in-Ok-Some.object c.in-Ok-Some.field-0-is c.in-Ok-Some.ensures.stands) (c.in-Ok-Some.ensures.written o) sound (nodes_of c.append.new.doc)
     (chars c.args.name.now) (plain c.args.value)
-    (said_of c.in-Ok-Some.field-0 c.in-Ok-Some.object (λ (f : Option CstObject). FindsOrCreatesObject (nodes_of c.args.document.now) (nodes_of document) f) c.in-Ok-Some.field-0-is c.in-Ok-Some.ensures.value)
+    (said_of c.in-Ok-Some.field-0 c.in-Ok-Some.object (λ (f : Option CstObject). CreatesObject (nodes_of c.args.document.now) (nodes_of document) f) c.in-Ok-Some.field-0-is c.in-Ok-Some.ensures.value)
     (c.in-Ok-Some.ensures.around o) named (scalars-chars c.args.name.now c.utf8.name) c.in-Ok-append.field-0 c.in-Ok-append.ensures.put (c.in-Ok-append.ensures.written o)
 
 pub returns-in-Err-append-clause-error : goal.returns-in-Err-append-clause-error
 returns-in-Err-append-clause-error g c = λ o sound.
     append_memory o (nodes_of c.args.document.now) (nodes_of c.object_value_or_create.new.self) c.object_value_or_create.new.self.tree.tree c.in-Ok-Some.object
     (object_stands (nodes_of c.object_value_or_create.new.self) c.in-Ok-Some.field-0 c.in-Ok-Some.object c.in-Ok-Some.field-0-is c.in-Ok-Some.ensures.stands) (c.in-Ok-Some.ensures.written o) sound c.args.document.now.tree.tree
-    (said_of c.in-Ok-Some.field-0 c.in-Ok-Some.object (λ (f : Option CstObject). FindsOrCreatesObject (nodes_of c.args.document.now) (nodes_of c.object_value_or_create.new.self) f) c.in-Ok-Some.field-0-is c.in-Ok-Some.ensures.value)
+    (said_of c.in-Ok-Some.field-0 c.in-Ok-Some.object (λ (f : Option CstObject). CreatesObject (nodes_of c.args.document.now) (nodes_of c.object_value_or_create.new.self) f) c.in-Ok-Some.field-0-is c.in-Ok-Some.ensures.value)
     c.in-Err-append.error (c.in-Err-append.ensures.memory o)
 
 pub returns-in-Err-set_value-clause-error : goal.returns-in-Err-set_value-clause-error
 returns-in-Err-set_value-clause-error g c = λ o sound.
     object_memory o (nodes_of c.args.document.now) (nodes_of c.object_value_or_create.new.self) c.object_value_or_create.new.self.tree.tree c.in-Ok-Some.object
     (object_stands (nodes_of c.object_value_or_create.new.self) c.in-Ok-Some.field-0 c.in-Ok-Some.object c.in-Ok-Some.field-0-is c.in-Ok-Some.ensures.stands) (c.in-Ok-Some.ensures.written o) sound c.args.document.now.tree.tree
-    (said_of c.in-Ok-Some.field-0 c.in-Ok-Some.object (λ (f : Option CstObject). FindsOrCreatesObject (nodes_of c.args.document.now) (nodes_of c.object_value_or_create.new.self) f) c.in-Ok-Some.field-0-is c.in-Ok-Some.ensures.value)
+    (said_of c.in-Ok-Some.field-0 c.in-Ok-Some.object (λ (f : Option CstObject). CreatesObject (nodes_of c.args.document.now) (nodes_of c.object_value_or_create.new.self) f) c.in-Ok-Some.field-0-is c.in-Ok-Some.ensures.value)
     c.in-Err-set_value.error c.in-Err-set_value.ensures.memory
 
 pub returns-in-Err-get-clause-error : goal.returns-in-Err-get-clause-error
 returns-in-Err-get-clause-error g c = λ o sound.
     object_memory o (nodes_of c.args.document.now) (nodes_of c.object_value_or_create.new.self) c.object_value_or_create.new.self.tree.tree c.in-Ok-Some.object
     (object_stands (nodes_of c.object_value_or_create.new.self) c.in-Ok-Some.field-0 c.in-Ok-Some.object c.in-Ok-Some.field-0-is c.in-Ok-Some.ensures.stands) (c.in-Ok-Some.ensures.written o) sound c.args.document.now.tree.tree
-    (said_of c.in-Ok-Some.field-0 c.in-Ok-Some.object (λ (f : Option CstObject). FindsOrCreatesObject (nodes_of c.args.document.now) (nodes_of c.object_value_or_create.new.self) f) c.in-Ok-Some.field-0-is c.in-Ok-Some.ensures.value)
+    (said_of c.in-Ok-Some.field-0 c.in-Ok-Some.object (λ (f : Option CstObject). CreatesObject (nodes_of c.args.document.now) (nodes_of c.object_value_or_create.new.self) f) c.in-Ok-Some.field-0-is c.in-Ok-Some.ensures.value)
     c.in-Err-get.error c.in-Err-get.ensures.memory
 
 pub returns-in-Err-clause-error : goal.returns-in-Err-clause-error

@@ -1,16 +1,14 @@
-use Rattle.std.proofs.Common.{refl, subst}
+use Rattle.std.proofs.Common.{None, Some, refl, ap, subst, sym, ◌∙◌}
 use Rattle.jsonc_text.specs.Plain.{object, no_members}
+use Rattle.jsonc_text.specs.declared.edit.Shape.TheVariants.{Object}
 use Rattle.jsonc_tree.specs.Content.{Content}
 use Rattle.jsonc_layout.specs.nodes.Properties.{value_at}
 use Rattle.jsonc_edit.specs.set.Kinds.{is_object, FoundOrCreated}
+use Rattle.jsonc_edit.proofs.lemmas.set.PropertyKinds.{none_found}
 use Rattle.jsonc_cst.specs.Nodes.{object_node}
-use Rattle.jsonc_cst.proofs.lemmas.typed.Found.{created_found, stands_as}
-use Rattle.jsonc_cst.proofs.lemmas.typed.HandlesKept.{nodes_stay}
-use Rattle.jsonc_cst.proofs.lemmas.typed.Roots.{created_is, created_or_kept, object_is}
-use Rattle.jsonc_cst.proofs.lemmas.typed.Around.{created_around}
-use Rattle.jsonc_cst.proofs.lemmas.typed.Marked.{created_marked, created_written, empty_object_writable}
-use Rattle.jsonc_text.specs.declared.edit.Shape.TheVariants.{Object}
-use Rattle.jsonc_cst.proofs.lemmas.typed.Steps.{created_step}
+use Rattle.jsonc_cst.specs.typed.Setting.{FindsOrCreates}
+use Rattle.jsonc_cst.proofs.lemmas.typed.RootShapes.{root_created}
+use Rattle.jsonc_cst.proofs.lemmas.typed.Roots.{created_is, object_is}
 use Rattle.jsonc_cst.proofs.cst.CstRootNode.object_value_or_create.Goals as goal
 
 pub object_at-requires : goal.object_at-requires
@@ -20,67 +18,13 @@ object_at-requires g c =
     created_is is_object (object no_members) Content.object (λ l. refl) object_is old new (value_at old 0) c.in-Some.number
     (subst (λ o. FoundOrCreated is_object (object no_members) old new (value_at old 0) o) c.in-Some.is c.in_ok-number.ensures.value)
 
-pub returns-clause-handles : goal.returns-clause-handles
-returns-clause-handles g c =
-    let old = c.args.self.now.tree.nodes in
-    let new = c.root_value_or_create.new.tree.nodes in
-    nodes_stay old new (created_or_kept is_object (object no_members) old new (value_at old 0) c.root_value_or_create.result c.root_value_or_create.ensures.value c.root_value_or_create.ensures.kept)
+pub returns : goal.returns
+returns g c =
+    root_created c.args.self.now _ Object object_node (Some c.object_at.result)
+    (subst (FindsOrCreates c.args.self.now.tree.nodes c.root_value_or_create.new.tree.nodes Object) (c.in-Some.is ∙ ap Some (sym c.object_at.ensures.number)) c.in_ok-number.ensures.value)
+    c.object_at.ensures.in_document
 
-pub returns-in_default-clause-handles : goal.returns-in_default-clause-handles
-returns-in_default-clause-handles g c =
-    let old = c.args.self.now.tree.nodes in
-    let new = c.root_value_or_create.new.tree.nodes in
-    nodes_stay old new (created_or_kept is_object (object no_members) old new (value_at old 0) c.root_value_or_create.result c.root_value_or_create.ensures.value c.root_value_or_create.ensures.kept)
-
-pub returns-clause-stands : goal.returns-clause-stands
-returns-clause-stands g c =
-    let old = c.args.self.now.tree.nodes in
-    let new = c.root_value_or_create.new.tree.nodes in
-    stands_as new c.in-Some.number (object_node c.object_at.result)
-    (created_found is_object (object no_members) old new c.args.self.now.tree.tree c.root_value_or_create.new.tree.tree (value_at old 0) c.in-Some.number refl
-    (subst (λ o. FoundOrCreated is_object (object no_members) old new (value_at old 0) o) c.in-Some.is c.in_ok-number.ensures.value))
-    c.object_at.ensures.number c.object_at.ensures.in_document
-
-pub returns-clause-written : goal.returns-clause-written
-returns-clause-written g c = λ p.
-    let old = c.args.self.now.tree.nodes in
-    let new = c.root_value_or_create.new.tree.nodes in
-    created_written p is_object (object no_members) (empty_object_writable p) refl old new c.args.self.now.tree.tree (value_at old 0) c.in_ok-number.field-0 refl c.in_ok-number.ensures.value
-
-pub returns-clause-marked : goal.returns-clause-marked
-returns-clause-marked g c = λ p.
-    let old = c.args.self.now.tree.nodes in
-    let new = c.root_value_or_create.new.tree.nodes in
-    created_marked p is_object (object no_members) (empty_object_writable p) refl old new c.args.self.now.tree.tree (value_at old 0) c.in_ok-number.field-0 refl c.in_ok-number.ensures.value
-
-pub returns-in_default-clause-written : goal.returns-in_default-clause-written
-returns-in_default-clause-written g c = λ p.
-    let old = c.args.self.now.tree.nodes in
-    let new = c.root_value_or_create.new.tree.nodes in
-    created_written p is_object (object no_members) (empty_object_writable p) refl old new c.args.self.now.tree.tree (value_at old 0) c.in_ok-number.field-0 refl c.in_ok-number.ensures.value
-
-pub returns-in_default-clause-marked : goal.returns-in_default-clause-marked
-returns-in_default-clause-marked g c = λ p.
-    let old = c.args.self.now.tree.nodes in
-    let new = c.root_value_or_create.new.tree.nodes in
-    created_marked p is_object (object no_members) (empty_object_writable p) refl old new c.args.self.now.tree.tree (value_at old 0) c.in_ok-number.field-0 refl c.in_ok-number.ensures.value
-
-pub returns-clause-around : goal.returns-clause-around
-returns-clause-around g c = λ p.
-    let old = c.args.self.now.tree.nodes in
-    let new = c.root_value_or_create.new.tree.nodes in
-    created_around old new (object no_members) c.args.self.now.tree.tree is_object p (value_at old 0) c.in_ok-number.field-0 refl c.in_ok-number.ensures.value
-
-pub returns-in_default-clause-around : goal.returns-in_default-clause-around
-returns-in_default-clause-around g c = λ p.
-    let old = c.args.self.now.tree.nodes in
-    let new = c.root_value_or_create.new.tree.nodes in
-    created_around old new (object no_members) c.args.self.now.tree.tree is_object p (value_at old 0) c.in_ok-number.field-0 refl c.in_ok-number.ensures.value
-
-pub returns-clause-step : goal.returns-clause-step
-returns-clause-step g c =
-    created_step c.args.self.now.tree.nodes c.root_value_or_create.new.tree.nodes c.args.self.now.tree.tree c.root_value_or_create.new.tree.tree Object c.in_ok-number.field-0 c.in_ok-number.ensures.value
-
-pub returns-in_default-clause-step : goal.returns-in_default-clause-step
-returns-in_default-clause-step g c =
-    created_step c.args.self.now.tree.nodes c.root_value_or_create.new.tree.nodes c.args.self.now.tree.tree c.root_value_or_create.new.tree.tree Object c.in_ok-number.field-0 c.in_ok-number.ensures.value
+pub returns-in_default : goal.returns-in_default
+returns-in_default g c =
+    root_created c.args.self.now _ Object object_node None
+    (subst (FindsOrCreates c.args.self.now.tree.nodes c.root_value_or_create.new.tree.nodes Object) (none_found c.in_ok-number.field-0 c.in_default.not-Some) c.in_ok-number.ensures.value) tt

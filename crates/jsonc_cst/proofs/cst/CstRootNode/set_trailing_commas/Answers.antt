@@ -14,6 +14,7 @@ returns g c =
       once = λ o. rw first at (made.once o);
       step = ok_then c.set_commas_of.result (λ step. step tt) (rw first at made.step);
       begun = err_then c.set_commas_of.result (λ step. step tt) (rw first at made.begun);
+      detached = rw first at made.detached;
       oom_only_if = made.oom_only_if;
       due = rw first at made.due;
       memory = made.memory;

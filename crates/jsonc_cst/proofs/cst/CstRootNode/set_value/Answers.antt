@@ -21,55 +21,29 @@ node_at-requires g c =
     let v = plain c.args.value in
     set_there old new v (value_at old 0) c.in_ok-number.number (becomes old new v (value_at old 0) c.in_ok-number.number c.in_ok-number.ensures.replaced c.in_ok-number.ensures.first)
 
-pub returns-clause-set : goal.returns-clause-set
-returns-clause-set g c =
+pub returns : goal.returns
+returns g c =
     let old = c.args.self.now.tree.nodes in
+    let tree = c.args.self.now.tree.tree in
     let new = c.set_root.new.tree.nodes in
+    let after = c.set_root.new.tree.tree in
     let v = plain c.args.value in
-    as_typed (ValueBecomes old new v (value_at old 0)) new c.in_ok-number.number c.node_at.result c.node_at.ensures.node
-    (becomes old new v (value_at old 0) c.in_ok-number.number c.in_ok-number.ensures.replaced c.in_ok-number.ensures.first)
-
-pub returns-clause-written : goal.returns-clause-written
-returns-clause-written g c = λ p.
-    let old = c.args.self.now.tree.nodes in
-    let new = c.set_root.new.tree.nodes in
-    let v = plain c.args.value in
-    as_typed (ValueIsWritten p old new v (value_at old 0)) new c.in_ok-number.number c.node_at.result c.node_at.ensures.node
-    (is_written p old new v (value_at old 0) c.in_ok-number.number c.args.self.now.tree.tree refl (c.in_ok-number.ensures.written p) c.in_ok-number.ensures.first)
-
-pub returns-clause-handles : goal.returns-clause-handles
-returns-clause-handles g c =
-    let old = c.args.self.now.tree.nodes in
-    let new = c.set_root.new.tree.nodes in
-    let v = plain c.args.value in
-    nodes_stay old new (stay_set old new v (value_at old 0) c.in_ok-number.number (becomes old new v (value_at old 0) c.in_ok-number.number c.in_ok-number.ensures.replaced c.in_ok-number.ensures.first))
-
-pub returns-clause-stands : goal.returns-clause-stands
-returns-clause-stands g c =
-    let old = c.args.self.now.tree.nodes in
-    let new = c.set_root.new.tree.nodes in
-    let v = plain c.args.value in
-    stands_as new c.in_ok-number.number c.node_at.result
-    (value_found old new v (value_at old 0) c.in_ok-number.number c.args.self.now.tree.tree c.set_root.new.tree.tree refl
-    (becomes old new v (value_at old 0) c.in_ok-number.number c.in_ok-number.ensures.replaced c.in_ok-number.ensures.first))
-    (ap number_of c.node_at.ensures.node ∙ number_of-typed (content_at new c.in_ok-number.number) c.in_ok-number.number) c.node_at.ensures.in_document
-
-pub returns-clause-marked : goal.returns-clause-marked
-returns-clause-marked g c = λ p.
-    let old = c.args.self.now.tree.nodes in
-    let new = c.set_root.new.tree.nodes in
-    root_marked old new (plain c.args.value) c.args.self.now.tree.tree p (value_at old 0) c.in_ok-number.number refl c.in_ok-number.ensures.replaced c.in_ok-number.ensures.first
-
-pub returns-clause-around : goal.returns-clause-around
-returns-clause-around g c = λ p.
-    let old = c.args.self.now.tree.nodes in
-    let new = c.set_root.new.tree.nodes in
-    root_around old new (plain c.args.value) c.args.self.now.tree.tree p (value_at old 0) c.in_ok-number.number refl c.in_ok-number.ensures.replaced c.in_ok-number.ensures.first
-
-pub returns-clause-step : goal.returns-clause-step
-returns-clause-step g c =
-    let old = c.args.self.now.tree.nodes in
-    let new = c.set_root.new.tree.nodes in
-    let v = plain c.args.value in
-    root_step old new c.args.self.now.tree.tree c.set_root.new.tree.tree v c.in_ok-number.number (of_texts _ c.args.value)
-    (becomes old new v (value_at old 0) c.in_ok-number.number c.in_ok-number.ensures.replaced c.in_ok-number.ensures.first)
+    let was = value_at old 0 in
+    let m = c.in_ok-number.number in
+    let is = c.node_at.ensures.node in
+    let replaced = c.in_ok-number.ensures.replaced in
+    let first = c.in_ok-number.ensures.first in
+    let set = becomes old new v was m replaced first in
+    record {
+      set = as_typed (ValueBecomes old new v was) new m c.node_at.result is set;
+      written = λ p. as_typed (ValueIsWritten p old new v was) new m c.node_at.result is (is_written p old new v was m tree refl (c.in_ok-number.ensures.written p) first);
+      marked = λ p. root_marked old new v tree p was m refl replaced first;
+      around = λ p. root_around old new v tree p was m refl replaced first;
+      step = root_step old new tree after v m (of_texts _ c.args.value) set;
+      stands = stands_as new m c.node_at.result (value_found old new v was m tree after refl set) (ap number_of is ∙ number_of-typed (content_at new m) m) c.node_at.ensures.in_document;
+      in_document = c.node_at.ensures.in_document;
+      handles = nodes_stay old new (stay_set old new v was m set);
+      memory = tt;
+      kept = tt;
+      document = tt;
+    }

@@ -8,7 +8,7 @@ use Rattle.jsonc_cst.specs.Nodes.{number_of}
 use Rattle.jsonc_cst.proofs.lemmas.typed.InsertedElements.{put_at_place, put_element, put_for_memory, put_others, put_stays, put_there, put_written}
 use Rattle.jsonc_run.proofs.DetachedNodes.{row_elsewhere}
 use Rattle.jsonc_cst.proofs.lemmas.typed.PropertyValues.{held_array}
-use Rattle.jsonc_cst.proofs.lemmas.typed.HandlesKept.{as_typed, nodes_stay}
+use Rattle.jsonc_cst.proofs.lemmas.typed.HandlesKept.{as_typed, nodes_stay, stay_kept}
 use Rattle.jsonc_cst.proofs.lemmas.typed.Steps.{inserted_step}
 use Rattle.jsonc_layout.proofs.lemmas.from_input.Texts.{of_texts}
 use Rattle.jsonc_cst.proofs.cst.node.CstArray.insert.Goals as goal
@@ -54,8 +54,22 @@ returns-in-Ok g c =
       document = tt;
     }
 
-pub returns-clause-memory : goal.returns-clause-memory
-returns-clause-memory g c = λ o.
+pub returns : goal.returns
+returns g c =
     let old = c.args.doc.now.tree.nodes in
-    put_for_memory old c.insert_element.new.tree.nodes c.args.self.number (plain c.args.value) c.args.doc.now.tree.tree (held_array old c.args.self c.requires) o c.in-Err.error
-    (rw (c.number-number.ensures ∙ ap number_of c.node.ensures) at c.in-Err.ensures.error)
+    let new = c.insert_element.new.tree.nodes in
+    let told = rw (c.number-number.ensures ∙ ap number_of c.node.ensures) at c.in-Err.ensures.error in
+    record {
+      put = tt;
+      element = tt;
+      written = λ o. tt;
+      step = tt;
+      others = tt;
+      detached = tt;
+      error = told;
+      memory = λ o. put_for_memory old new c.args.self.number (plain c.args.value) c.args.doc.now.tree.tree (held_array old c.args.self c.requires) o c.in-Err.error told;
+      in_document = tt;
+      handles = nodes_stay old new (stay_kept old new c.in-Err.ensures.kept);
+      kept = c.in-Err.ensures.kept;
+      document = c.in-Err.ensures.document;
+    }

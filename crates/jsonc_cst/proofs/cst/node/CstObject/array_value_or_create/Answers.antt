@@ -1,16 +1,15 @@
-use Rattle.std.proofs.Common.{◌≡◌, IfSome, Some, true, chars, ap, sym, subst, ◌∙◌}
+use Rattle.std.proofs.Common.{◌≡◌, IfSome, None, Some, true, chars, ap, sym, subst, ◌∙◌}
+use Rattle.std.proofs.lemmas.Str.{scalars-chars}
 use Rattle.jsonc_tree.specs.Tree.{content_at}
 use Rattle.jsonc_text.specs.declared.edit.Over.TheVariants.{Keep}
 use Rattle.jsonc_text.specs.declared.edit.Shape.TheVariants.{Array}
 use Rattle.jsonc_edit.specs.set.Shapes.{is_of}
 use Rattle.jsonc_insert.specs.named.Named.{NamedEnsured}
-use Rattle.jsonc_cst.proofs.lemmas.typed.Roots.{array_is}
-use Rattle.jsonc_cst.specs.Nodes.{number_of}
-use Rattle.jsonc_cst.proofs.lemmas.objects.ByName.{named_elsewhere, named_for_memory, named_stays, named_written}
+use Rattle.jsonc_cst.specs.Nodes.{number_of, array_node}
+use Rattle.jsonc_cst.specs.objects.Calls.{number_if, IsSaidIf}
+use Rattle.jsonc_cst.proofs.lemmas.objects.NamedCalls.{named_ensured, named_refused}
 use Rattle.jsonc_cst.proofs.lemmas.typed.PropertyValues.{held_object}
-use Rattle.jsonc_cst.proofs.lemmas.typed.HandlesKept.{nodes_stay}
-use Rattle.jsonc_cst.proofs.lemmas.objects.Steps.{ensured_step}
-use Rattle.std.proofs.lemmas.Str.{scalars-chars}
+use Rattle.jsonc_cst.proofs.lemmas.typed.Roots.{array_is}
 use Rattle.jsonc_cst.proofs.cst.node.CstObject.array_value_or_create.Goals as goal
 
 pub ensure_property-requires-clause-object : goal.ensure_property-requires-clause-object
@@ -25,54 +24,18 @@ array_at-requires g c =
 
 pub returns-in-Ok-Some : goal.returns-in-Ok-Some
 returns-in-Ok-Some g c =
-    let old = c.args.doc.now.tree.nodes in
-    let tree = c.args.doc.now.tree.tree in
-    let new = c.ensure_property.new.tree.nodes in
-    let after = c.ensure_property.new.tree.tree in
-    let n = c.args.self.number in
-    let name = chars c.args.name.now in
-    let answer = c.in-Ok-Some.field-0 in
-    let object = held_object old c.args.self c.requires in
     let ensured = rw (c.number-number.ensures ∙ ap number_of c.node.ensures) at c.in-Ok-Some.ensures.ensured in
-    record {
-      ensured = subst (NamedEnsured Array Keep old new n name) (c.in-Ok-Some.field-0-is ∙ ap Some (sym c.array_at.ensures.number)) ensured;
-      written = λ o. named_written old new n name Array Keep tree object o answer ensured;
-      step = ensured_step old new tree after n name (scalars-chars c.args.name.now c.utf8.name) object Array Keep answer ensured;
-      detached = named_elsewhere old new n name Array tree after c.requires.0 Keep answer ensured;
-      error = tt;
-      memory = λ o. tt;
-      in_document = c.array_at.ensures.in_document;
-      handles = nodes_stay old new (named_stays old new n name Array Keep tree c.requires.0 answer ensured);
-      kept = tt;
-      document = tt;
-    }
+    named_ensured c.args.doc.now _ Array Keep c.args.self c.requires (chars c.args.name.now) (number_if array_node) (IsSaidIf array_node) (Some c.array_at.result) (scalars-chars c.args.name.now c.utf8.name)
+    (subst (NamedEnsured Array Keep c.args.doc.now.tree.nodes c.ensure_property.new.tree.nodes c.args.self.number (chars c.args.name.now)) (c.in-Ok-Some.field-0-is ∙ ap Some (sym c.array_at.ensures.number)) ensured)
+    c.array_at.ensures.in_document
 
 pub returns-in-Ok-None : goal.returns-in-Ok-None
 returns-in-Ok-None g c =
-    let old = c.args.doc.now.tree.nodes in
-    let tree = c.args.doc.now.tree.tree in
-    let new = c.ensure_property.new.tree.nodes in
-    let after = c.ensure_property.new.tree.tree in
-    let n = c.args.self.number in
-    let name = chars c.args.name.now in
-    let answer = c.in-Ok-None.field-0 in
-    let object = held_object old c.args.self c.requires in
     let ensured = rw (c.number-number.ensures ∙ ap number_of c.node.ensures) at c.in-Ok-None.ensures.ensured in
-    record {
-      ensured = subst (NamedEnsured Array Keep old new n name) c.in-Ok-None.field-0-is ensured;
-      written = λ o. named_written old new n name Array Keep tree object o answer ensured;
-      step = ensured_step old new tree after n name (scalars-chars c.args.name.now c.utf8.name) object Array Keep answer ensured;
-      detached = named_elsewhere old new n name Array tree after c.requires.0 Keep answer ensured;
-      error = tt;
-      memory = λ o. tt;
-      in_document = tt;
-      handles = nodes_stay old new (named_stays old new n name Array Keep tree c.requires.0 answer ensured);
-      kept = tt;
-      document = tt;
-    }
+    named_ensured c.args.doc.now _ Array Keep c.args.self c.requires (chars c.args.name.now) (number_if array_node) (IsSaidIf array_node) None (scalars-chars c.args.name.now c.utf8.name)
+    (subst (NamedEnsured Array Keep c.args.doc.now.tree.nodes c.ensure_property.new.tree.nodes c.args.self.number (chars c.args.name.now)) c.in-Ok-None.field-0-is ensured) tt
 
-pub returns-in-Err-clause-memory : goal.returns-in-Err-clause-memory
-returns-in-Err-clause-memory g c = λ o.
-    let old = c.args.doc.now.tree.nodes in
-    named_for_memory old c.ensure_property.new.tree.nodes c.args.self.number (chars c.args.name.now) Array Keep c.args.doc.now.tree.tree (held_object old c.args.self c.requires) o c.in-Err.error
-    (rw (c.number-number.ensures ∙ ap number_of c.node.ensures) at c.in-Err.ensures.error)
+pub returns-in-Err : goal.returns-in-Err
+returns-in-Err g c =
+    named_refused c.args.doc.now _ Array Keep c.args.self c.requires (chars c.args.name.now) (number_if array_node) (IsSaidIf array_node) c.in-Err.error
+    (rw (c.number-number.ensures ∙ ap number_of c.node.ensures) at c.in-Err.ensures.error) c.in-Err.ensures.kept c.in-Err.ensures.document

@@ -8,7 +8,7 @@ use Rattle.jsonc_cst.specs.Nodes.{number_of}
 use Rattle.jsonc_run.proofs.DetachedNodes.{put_elsewhere}
 use Rattle.jsonc_cst.proofs.lemmas.objects.InsertedProperties.{put_at_place, put_element, put_for_memory, put_others, put_property, put_stays, put_there, put_written}
 use Rattle.jsonc_cst.proofs.lemmas.typed.PropertyValues.{held_object}
-use Rattle.jsonc_cst.proofs.lemmas.typed.HandlesKept.{nodes_stay}
+use Rattle.jsonc_cst.proofs.lemmas.typed.HandlesKept.{nodes_stay, stay_kept}
 use Rattle.jsonc_cst.proofs.lemmas.objects.Steps.{inserted_step}
 use Rattle.jsonc_layout.proofs.lemmas.from_input.Texts.{of_texts}
 use Rattle.std.proofs.lemmas.Str.{scalars-chars}
@@ -62,8 +62,22 @@ returns-in-Ok g c =
       document = tt;
     }
 
-pub returns-clause-memory : goal.returns-clause-memory
-returns-clause-memory g c = λ o.
+pub returns : goal.returns
+returns g c =
     let old = c.args.doc.now.tree.nodes in
-    put_for_memory old c.insert_property.new.tree.nodes c.args.self.number (chars c.args.name.now) (plain c.args.value) c.args.doc.now.tree.tree (held_object old c.args.self c.requires) o c.in-Err.error
-    (rw (c.number-number.ensures ∙ ap number_of c.node.ensures) at c.in-Err.ensures.error)
+    let new = c.insert_property.new.tree.nodes in
+    let told = rw (c.number-number.ensures ∙ ap number_of c.node.ensures) at c.in-Err.ensures.error in
+    record {
+      put = tt;
+      property = tt;
+      written = λ o. tt;
+      step = tt;
+      others = tt;
+      detached = tt;
+      error = told;
+      memory = λ o. put_for_memory old new c.args.self.number (chars c.args.name.now) (plain c.args.value) c.args.doc.now.tree.tree (held_object old c.args.self c.requires) o c.in-Err.error told;
+      in_document = tt;
+      handles = nodes_stay old new (stay_kept old new c.in-Err.ensures.kept);
+      kept = c.in-Err.ensures.kept;
+      document = c.in-Err.ensures.document;
+    }
