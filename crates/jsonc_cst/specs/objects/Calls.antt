@@ -16,7 +16,7 @@ use Rattle.jsonc_cst.specs.typed.Edits.{KeepsDocument, Unchanged, HandlesStay}
 use Rattle.jsonc_cst.specs.typed.Inserting.{InsertError, KeepsOthers}
 use Rattle.jsonc_cst.specs.typed.Removing.{IsKeptForMemory}
 
--- The property has come into the object, as its property of the number i, or behind its last, and is answered. If the document was sound, it is so with the
+-- The property has come into the object at the place, as its property of the number i or its last, and is answered. If the document was sound, it is so with the
 -- property there; the call is the step that is named; all other nodes stay. Or an error has left every node as it was, for memory or for brackets that are missing.
 pub record IsNamedInsertion {A : Type 0} (old new : CstRootNode A) (node : CstNode) (i place : ℕ) (name : List ℕ) (v : Plain) (is_step : Type 0) (r : Result CstObjectProp EditError) : Type 0 where
   pub put : IfOk r (HasNamedComeIn old new node place name v)

@@ -55,8 +55,8 @@ pub record IsReplacement {A : Type 0} (old new : CstRootNode A) (node : CstNode)
   pub kept : OnErr r (Unchanged old new)
   pub document : OnErr r (tree_of new ≡ tree_of old)
 
--- The value has come into the array, as its element of the number i, or behind its last, and its node is answered. If the document was sound, it is so with the
--- value there; the call is the step that is named; all other nodes stay. Or an error has left every node as it was, for memory or for brackets that are missing.
+-- The value has come into the array at the place, as its element of the number i or its last, and its node is answered. If the document was sound, it is so with
+-- the value there; the call is the step that is named; all other nodes stay. Or an error has left every node as it was, for memory or for brackets that are missing.
 pub record IsInsertion {A : Type 0} (old new : CstRootNode A) (node : CstNode) (i place : ℕ) (v : Plain) (is_step : Type 0) (r : Result CstNode EditError) : Type 0 where
   pub put : IfOk r (HasComeIn old new node place v)
   pub element : IfOk r (IsItsElement old new node i)
@@ -93,8 +93,8 @@ abbrev pub InAnyCase : Type 0 → Type 0
 InAnyCase Said = Said
 
 -- The trailing commas of the node n, and of all arrays and objects below it, have been set. If n stands in a sound document, this is sound, with the value, the
--- literals and the comments that it had; a further call changes nothing. Or an error has left the first of them set, for the memory of a comma. Each is a step,
--- where a step is told. A document that n does not stand in is what it was.
+-- literals and the comments that it had; a further call changes nothing. Or an error has left the first of them set, for the memory of a comma. A document that
+-- n does not stand in is what it was. In which case either is a step says `is_told`.
 pub record AreCommasSet {A : Type 0} (old new : CstRootNode A) (mode : TrailingCommaMode) (n : ℕ) (is_told : Type 0 → Type 0) (r : Result (Unit {0}) EditError) : Type 0 where
   pub set : OnOk r (CommasSet (nodes_of old) (nodes_of new) mode n)
   pub said : OnOk r (CommasSaid (nodes_of old) (nodes_of new) mode n)
