@@ -1,16 +1,16 @@
 -- From a text that is parsed to the text after edits.
-use Rattle.std.proofs.Common.{◌≡◌, ◌<◌, ◌∙◌, ℕ, List, Some, Option, inl, inr, chars, length, take, refl, sym, ap, subst}
+use Rattle.std.proofs.Common.{◌≡◌, ◌∙◌, ℕ, List, Some, inl, inr, chars, length, take, sym, ap, subst}
 use Rattle.std.specs.List.{slice_get, All}
 use Rattle.std.proofs.lemmas.Option.{slice_get_within}
-use Rattle.jsonc_text.specs.Documents.{Document, IsOne}
+use Rattle.jsonc_text.specs.Documents.{Document}
 use Rattle.jsonc_text.specs.Options.{Options}
 use Rattle.jsonc_tree.specs.OrderedTree.{OrderedTree, printed}
-use Rattle.jsonc_sound.specs.Documents.{Shows, ShowsText}
+use Rattle.jsonc_sound.specs.Documents.{ShowsText}
 use Rattle.jsonc_text.specs.declared.edit.EditError.{EditError}
 use Rattle.jsonc_text.specs.declared.edit.EditError.TheVariants.{OutOfMemory}
 use Rattle.jsonc_run.specs.declared.edit.Edit.{Edit}
 use Rattle.jsonc_run.specs.Steps.{Fits}
-use Rattle.jsonc_run.specs.promise.Asked.{EditsTheText, EditsTo, IsStopped, StopsInText}
+use Rattle.jsonc_run.specs.promise.Asked.{EditsTheText, StopsInText}
 use Rattle.jsonc_run.proofs.lemmas.promise.Leads.{shown_are_documents}
 use Rattle.jsonc_parser.specs.Promise.{IsEditedText, StopsText}
 

@@ -1,11 +1,11 @@
 -- What tokens refer to in a value: one value at most, and none where a name on the way stands twice.
-use Rattle.std.proofs.Common.{ℕ, suc, ◌≡◌, ◌≢◌, ◌∙◌, ◌⊎◌, inl, inr, ◌++◌, sym, ap, subst, refl, List, [], ◌∷◌, Option, Some, None}
-use Rattle.jsonc_text.specs.Plain.{Plain, array, object, Items, item, Members, member}
+use Rattle.std.proofs.Common.{ℕ, suc, ◌≡◌, ◌≢◌, ◌∙◌, ◌⊎◌, inl, inr, ◌++◌, sym, subst, refl, List, [], ◌∷◌, Option, Some}
+use Rattle.jsonc_text.specs.Plain.{Plain, array, object, Items, Members, member}
 use Rattle.jsonc_sound.specs.Changes as changes
 use Rattle.jsonc_sound.specs.Changes.{Changed, ItemChanged, MemberChanged}
-use Rattle.jsonc_insert.specs.named.Members.{LacksMember, no_more, other_name, IsFirstMember, first_is, first_later}
+use Rattle.jsonc_insert.specs.named.Members.{LacksMember, other_name, IsFirstMember, first_is, first_later}
 use Rattle.jsonc_parser.specs.patch.Laws.{FailsWithNone, RefersToOne}
-use Rattle.jsonc_parser.specs.patch.References.{IsIndex, IsItem, this_item, later_item, IsOnly, this_only, later_only, IsRepeated, this_again, later_again, Refers, whole, to_member, to_element, MeetsRepeated, here, in_member, in_element, RefersTo, FailsAt}
+use Rattle.jsonc_parser.specs.patch.References.{IsIndex, IsItem, this_item, later_item, IsOnly, this_only, later_only, IsRepeated, this_again, later_again, Refers, whole, to_member, to_element, MeetsRepeated, here, in_member, in_element}
 
 pub index_once : {token : List ℕ} {i j : ℕ} → IsIndex token i → IsIndex token j → i ≡ j
 index_once p q = sym p.is ∙ q.is

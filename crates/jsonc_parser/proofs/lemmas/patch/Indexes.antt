@@ -1,5 +1,5 @@
 -- The indexes that tokens are, and the elements there.
-use Rattle.std.proofs.Common.{ℕ, ◌≡◌, ◌<◌, ◌≤◌, ◌^◌, ◌+◌, ◌∙◌, ◌↔◌, sym, ap, subst, refl, inl, inr, Bool, true, false, not, IsTrue, List, [], ◌∷◌, Option, Some, None, length, filter, slice_get, slice_index, chars, arith}
+use Rattle.std.proofs.Common.{ℕ, ◌≡◌, ◌<◌, ◌≤◌, ◌^◌, ◌∙◌, ◌↔◌, sym, ap, subst, refl, inl, inr, Bool, true, false, not, IsTrue, List, [], ◌∷◌, Option, Some, None, length, slice_get, slice_index, chars, arith}
 use Rattle.std.proofs.lemmas.Bool.{cases_lt, false≢true}
 use Rattle.std.proofs.lemmas.Fmt.{IsAscii-from_digits}
 use Rattle.std.proofs.lemmas.List.Filters.{length-filter_both}

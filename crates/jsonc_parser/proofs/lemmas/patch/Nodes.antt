@@ -43,8 +43,7 @@ use Rattle.jsonc_parser.proofs.lemmas.paths.AtPaths.{root_holds}
 use Rattle.jsonc_parser.proofs.lemmas.paths.TakenValues.{nodes_have_values}
 use Rattle.jsonc_parser.specs.patch.Found.{RefersToNode, RefersToNothing}
 use Rattle.jsonc_parser.specs.patch.Lookups.{IsLookedUp}
-use Rattle.jsonc_parser.specs.patch.References.{IsIndex, IsItem, this_item, later_item, IsOnly, Refers, whole, MeetsRepeated, here, RefersTo, FailsAt}
-use Rattle.jsonc_parser.specs.declared.patch.reference.Lookup.{Lookup}
+use Rattle.jsonc_parser.specs.patch.References.{IsIndex, IsItem, this_item, later_item, Refers, whole, MeetsRepeated, here, FailsAt}
 use Rattle.jsonc_parser.specs.declared.patch.reference.Lookup.TheVariants.{Missing, Once, Twice}
 use Rattle.jsonc_parser.proofs.lemmas.patch.Evaluation.{array_stops, behind, element_further, fails_behind, fails_further, member_further, object_stops, other_stops, refers_changed, Stops}
 use Rattle.jsonc_parser.proofs.lemmas.patch.Rows.{looked_up}

@@ -14,8 +14,7 @@ use Rattle.jsonc_sound.specs.Alone.{PropertyAlone}
 use Rattle.jsonc_sound.specs.Shape.{IsNameBefore}
 use Rattle.jsonc_sound.proofs.FirstNodes.{name_element, no_element}
 use Rattle.jsonc_layout.specs.nodes.Kinds.{is_element, is_element_at}
-use Rattle.jsonc_layout.specs.nodes.Names as names
-use Rattle.jsonc_layout.specs.nodes.Names.{FirstNamed, HasName, IsNamed, Names}
+use Rattle.jsonc_layout.specs.nodes.Names.{FirstNamed, HasName, Names}
 use Rattle.jsonc_layout.specs.nodes.Properties.{is_name, is_name_at}
 use Rattle.jsonc_layout.proofs.lemmas.nodes.NodeNames.{names_once}
 use Rattle.jsonc_layout.proofs.lemmas.to_input.ReadValues.{stands_for}

@@ -1,9 +1,8 @@
 -- The texts of pointers: each is that of one list of tokens, and has no `~` of its own.
-use Rattle.std.proofs.Common.{ℕ, suc, ◌≡◌, ◌≢◌, ◌∙◌, ◌++◌, ◌+◌, ◌-◌, ◌<◌, ◌≤◌, ◌&&◌, sym, ap, subst, refl, Bool, true, false, cond, not, ◌==◌, List, [], ◌∷◌, length, map, flat_map, take, drop, get_or, Option, Some, None, IsTrue, inl, inr, arith, if◌then◌else◌, chars, string_bytes, encode_utf8, encode_utf8_all}
+use Rattle.std.proofs.Common.{ℕ, suc, ◌≡◌, ◌≢◌, ◌∙◌, ◌++◌, ◌+◌, ◌<◌, ◌≤◌, ◌&&◌, sym, ap, subst, refl, Bool, true, false, cond, not, ◌==◌, List, [], ◌∷◌, length, flat_map, take, drop, get_or, IsTrue, inl, inr, arith, chars, string_bytes, encode_utf8, encode_utf8_all}
 use Rattle.std.proofs.lemmas.Bool.{cases_Bool, eq-eqb, eqb-true, false≢true}
 use Rattle.std.proofs.lemmas.Grind.{flat_map-append}
 use Rattle.std.proofs.lemmas.List.{append-nil, append_assoc, drop_more, length-append, map-append, take-append-drop, take_more}
-use Rattle.std.proofs.lemmas.List.Folds.{list_all-append}
 use Rattle.std.proofs.lemmas.Str.{chars-append, chars-encodes, chars-nil, encodes-append, encodes-chars, length-encode, chars_past_char}
 use Rattle.std.proofs.lemmas.Str.Ascii.{encode_ascii}
 use Rattle.std.specs.List.{All}
@@ -11,7 +10,7 @@ use Rattle.std.specs.Str.{IsUtf8, all_scalars}
 use Rattle.std.specs.Char.{IsScalar, len_utf8}
 use Rattle.std.specs.declared.string.String.{String}
 use Rattle.jsonc_text.specs.Text.{byte_length, next, no}
-use Rattle.jsonc_text.proofs.Basics.{heads, tails, test_eq}
+use Rattle.jsonc_text.proofs.Basics.{heads, test_eq}
 use Rattle.jsonc_parser.specs.paths.Found.{names_of}
 use Rattle.jsonc_parser.specs.patch.Laws.{IsReadBack}
 use Rattle.jsonc_parser.specs.patch.Pointer.{escaped, is_escape, pointer_text, token_text, HasLooseTilde, IsPointerFault, LacksSlash}

@@ -1,4 +1,4 @@
-use Rattle.std.proofs.Common.{◌∙◌, ap, encode_utf8_all, map-id, refl, subst, sym, List, ℕ}
+use Rattle.std.proofs.Common.{◌∙◌, encode_utf8_all, map-id, refl, subst, sym, List, ℕ}
 use Rattle.std.proofs.Output.{has_written_styled_append}
 use Rattle.std.proofs.lemmas.Iterator.{YieldsList-from_chars}
 use Rattle.std.proofs.lemmas.Iterator.Consumers.{YieldsList-end}

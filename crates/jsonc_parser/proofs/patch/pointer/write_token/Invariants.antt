@@ -1,4 +1,4 @@
-use Rattle.std.proofs.Common.{◌∷◌, encode_utf8_all, flat_map}
+use Rattle.std.proofs.Common.{encode_utf8_all}
 use Rattle.std.specs.Fmt.{HasWrittenStyled, IsFlush}
 use Rattle.jsonc_parser.specs.patch.Pointer.{token_text}
 use Rattle.jsonc_parser.proofs.patch.pointer.write_token.Given as goal

@@ -1,4 +1,4 @@
-use Rattle.std.proofs.Common.{◌<◌, ◌^◌, ◌≡◌, ℕ, Option, length, subst}
+use Rattle.std.proofs.Common.{◌<◌, ◌^◌, ℕ, Option, subst}
 use Rattle.std.specs.Option.{SomeIff}
 use Rattle.std.specs.Str.Parse.{IsNumeral, digits_value}
 use Rattle.jsonc_parser.proofs.lemmas.patch.Indexes.{index_beyond, index_large, index_padded, index_there}

@@ -1,4 +1,4 @@
-use Rattle.std.proofs.Common.{◌∙◌, List, Option, Some, None, arith, chars, is_some, subst, sym, ℕ}
+use Rattle.std.proofs.Common.{◌∙◌, List, Option, arith, chars, subst, sym, ℕ}
 use Rattle.std.proofs.lemmas.Bool.{false≢true}
 use Rattle.jsonc_tree.specs.Tree.{Node, children_at}
 use Rattle.jsonc_layout.specs.nodes.Names.{HasEscapedName, IsNamed}
