@@ -6,6 +6,7 @@ mod commas;
 mod lists;
 mod nested;
 mod nodes;
+mod patches;
 mod paths;
 mod pieces;
 mod reading;

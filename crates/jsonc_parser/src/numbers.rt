@@ -72,7 +72,7 @@ pub fn parse_f64(text: &str) -> Option<f64>
 }
 
 // Whether a minus stands first, and what follows the sign, if there is one.
-fn split_sign(text: &str) -> (bool, &str)
+pub(crate) fn split_sign(text: &str) -> (bool, &str)
     ensures sign { Sign text.now result.0 result.1.now }
     ensures only { (negative : Bool) (u : List ℕ) → Sign text.now negative u → IsTrue (no is_sign (next u))
         → (result.0 ≡ negative) × (result.1.now ≡ u) }
@@ -87,7 +87,7 @@ fn split_sign(text: &str) -> (bool, &str)
 }
 
 // What follows `0x` or `0X`.
-fn after_hex_prefix(unsigned: &str) -> Option<&str>
+pub(crate) fn after_hex_prefix(unsigned: &str) -> Option<&str>
     ensures some { IfSome result (λ ds. (x : ℕ) × IsTrue (is_x x) × (unsigned.now ≡ 0x30 ∷ x ∷ ds.now)) }
     ensures none { IfNone result ((x : ℕ) (ds : List ℕ) → IsTrue (is_x x) → unsigned.now ≡ 0x30 ∷ x ∷ ds → ⊥) }
 {
@@ -109,7 +109,7 @@ fn hex_u64(digits: &str) -> Option<u64>
 }
 
 // The parts of a decimal number with no sign.
-fn decimal_parts(unsigned: &str) -> Option<Numeral<'_>>
+pub(crate) fn decimal_parts(unsigned: &str) -> Option<Numeral<'_>>
     ensures some { IfSome result (λ p. Decimal unsigned.now (digits_of p * 10 ^ tens_up p) (10 ^ tens_down p)) }
     ensures digits { IfSome result (λ p. AllDigits 10 (p.whole ++ p.fraction)) }
     ensures only { IfSome result (λ p. (m d : ℕ) → Decimal unsigned.now m d → (digits_of p * 10 ^ tens_up p ≡ m) × (10 ^ tens_down p ≡ d)) }
