@@ -17,7 +17,7 @@ ghost use Rattle.jsonc_ast.specs.to_ast.Faults.{ParseFault};
 ghost use Rattle.jsonc_sound.specs.Lines.{DocumentLinesEnd};
 ghost use Rattle.jsonc_sound.specs.Shape.{DocumentShaped};
 ghost use Rattle.jsonc_sound.specs.Documents.{ShowsText};
-ghost use Rattle.jsonc_cst.specs.Document.{printed_of, tree_of, HasNoDeeperValue, LiesIn};
+ghost use Rattle.jsonc_cst.specs.Document.{allocator_of, nodes_of, printed_of, tree_of, HasNoDeeperValue, LiesIn};
 ghost use Rattle.jsonc_cst.specs.Tree.{NodesAreTree};
 
 mod access;
@@ -54,7 +54,7 @@ pub use node::{
     CstWhitespace, CstWordLit, ObjectPropName,
 };
 pub use siblings::{NextSiblingIterator, PreviousSiblingIterator};
-use std::alloc::Allocator;
+use std::alloc::{AllocError, Allocator};
 use std::fmt;
 
 /// A document, which keeps every byte of its text, comments and blanks too.
@@ -105,6 +105,20 @@ impl<A: Allocator + Copy> CstRootNode<A> {
             return Err(EditError::OutOfMemory);
         };
         Ok(text)
+    }
+
+    /// A copy of the document, with the same nodes under the same numbers.
+    ///
+    /// An edit of the one leaves the other as it is. What was parsed shares its text with the copy.
+    pub fn try_clone(&self) -> Result<CstRootNode<A>, AllocError>
+        ensures nodes { IfOk result (λ d. nodes_of d ≡ nodes_of self.now) }
+        ensures allocator { IfOk result (λ d. allocator_of d ≡ allocator_of self.now) }
+    {
+        let tree = self.tree.try_clone()?;
+        Ok(CstRootNode {
+            tree,
+            alloc: self.alloc,
+        })
     }
 }
 

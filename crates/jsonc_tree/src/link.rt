@@ -44,6 +44,14 @@ impl Link {
             Some(self.number as usize)
         }
     }
+
+    pub(crate) fn copied(&self) -> Link
+        ensures { result ≡ self.now }
+    {
+        Link {
+            number: self.number,
+        }
+    }
 }
 
 // The same in eight bytes, for what stands beside a text: words of one size are moved at once.
@@ -81,6 +89,14 @@ impl WideLink {
             None
         } else {
             Some(self.number)
+        }
+    }
+
+    pub(crate) fn copied(&self) -> WideLink
+        ensures { result ≡ self.now }
+    {
+        WideLink {
+            number: self.number,
         }
     }
 }

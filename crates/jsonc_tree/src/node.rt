@@ -1,8 +1,10 @@
 //! What a node is.
 
 ghost use Rattle.std.specs.Prelude.{◌≡◌, ◌≤◌, ◌<◌, ◌+◌, ◌-◌, ◌^◌, true, false, None, Some, option_map, IfSome};
-ghost use Rattle.jsonc_tree.specs.Content.{is_container, is_newline, kept_text};
+ghost use Rattle.jsonc_tree.specs.Content.{is_container, is_newline, kept_text, newline_text};
 ghost use Rattle.jsonc_tree.specs.Stored.{bare, content_of, first_end, last_end, no_ends};
+
+mod copies;
 
 use crate::link::{Link, WideLink};
 use crate::part::Part;
@@ -26,6 +28,20 @@ impl Default for CstNewlineKind {
     }
 }
 
+impl CstNewlineKind {
+    /// The text of this end of a line: `"\n"`, `"\r\n"` or `"\r"`.
+    #[inline(always)]
+    pub fn as_str(self) -> &'static str
+        ensures { result.now ≡ newline_text self }
+    {
+        match self {
+            CstNewlineKind::LineFeed => "\n",
+            CstNewlineKind::CarriageReturnLineFeed => "\r\n",
+            CstNewlineKind::CarriageReturn => "\r",
+        }
+    }
+}
+
 /// The first and the last child of a container, where it has any.
 #[derive(Drop)]
 pub struct Ends {
@@ -41,6 +57,15 @@ impl Ends {
         Ends {
             first: WideLink::from_option(None),
             last: WideLink::from_option(None),
+        }
+    }
+
+    fn copied(&self) -> Ends
+        ensures { result ≡ self.now }
+    {
+        Ends {
+            first: self.first.copied(),
+            last: self.last.copied(),
         }
     }
 

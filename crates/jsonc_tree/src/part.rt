@@ -41,6 +41,18 @@ impl<A: Allocator> Part<A> {
         Ok(Part { whole, start, end })
     }
 
+    /// One more part of the same text, between the same places.
+    pub fn try_clone(&self) -> Result<Part<A>, AllocError>
+        ensures { IfOk result (λ part. part ≡ self.now) }
+    {
+        let whole = self.whole.clone()?;
+        Ok(Part {
+            whole,
+            start: self.start,
+            end: self.end,
+        })
+    }
+
     /// The text of the part.
     pub fn as_str(&self) -> &str
         ensures { result.now ≡ self.now }

@@ -9,7 +9,7 @@ ghost use Rattle.jsonc_tree.specs.OrderedTree.{leaves, ordered_tree, pieces, pri
 ghost use Rattle.jsonc_tree.specs.Stored.{content_of, nodes_in, IsStored};
 ghost use Rattle.jsonc_tree.specs.Tree.{is_container_at, IsOver};
 
-use crate::node::{CstNewlineKind, Kind, Node};
+use crate::node::{Kind, Node};
 use crate::tree::Tree;
 use crate::walk::{kind_of, node_after};
 use std::alloc::Allocator;
@@ -29,9 +29,7 @@ fn own_bytes<A: Allocator>(kind: &Kind<A>) -> &[u8]
         Kind::Null => "null".as_bytes(),
         Kind::Token(c) => c.as_bytes(),
         Kind::Whitespace(s) => s.as_str().as_bytes(),
-        Kind::Newline(CstNewlineKind::LineFeed) => "\n".as_bytes(),
-        Kind::Newline(CstNewlineKind::CarriageReturnLineFeed) => "\r\n".as_bytes(),
-        Kind::Newline(CstNewlineKind::CarriageReturn) => "\r".as_bytes(),
+        Kind::Newline(kind) => kind.as_str().as_bytes(),
         Kind::Comment(s) => s.as_str().as_bytes(),
         Kind::StringPart(s) => s.as_str().as_bytes(),
         Kind::WordPart(s) => s.as_str().as_bytes(),

@@ -6,7 +6,7 @@ ghost use Rattle.jsonc_tree.specs.Content.{text_of};
 ghost use Rattle.jsonc_tree.specs.OrderedTree.{ordered_tree, printed};
 ghost use Rattle.jsonc_tree.specs.Stored.{content_of, nodes_in, IsStored};
 
-use crate::node::{CstNewlineKind, Kind, Node};
+use crate::node::{Kind, Node};
 use crate::tree::Tree;
 use crate::walk::{kind_of, node_after};
 use std::alloc::Allocator;
@@ -26,9 +26,7 @@ fn write_own<A: Allocator, W: fmt::Write>(kind: &Kind<A>, f: &mut fmt::Formatter
         Kind::Null => f.write_str("null"),
         Kind::Token(c) => f.write_char(c.get()),
         Kind::Whitespace(s) => f.write_str(s.as_str()),
-        Kind::Newline(CstNewlineKind::LineFeed) => f.write_str("\n"),
-        Kind::Newline(CstNewlineKind::CarriageReturnLineFeed) => f.write_str("\r\n"),
-        Kind::Newline(CstNewlineKind::CarriageReturn) => f.write_str("\r"),
+        Kind::Newline(kind) => f.write_str(kind.as_str()),
         Kind::Comment(s) => f.write_str(s.as_str()),
         Kind::StringPart(s) => f.write_str(s.as_str()),
         Kind::WordPart(s) => f.write_str(s.as_str()),

@@ -43,6 +43,16 @@ impl TokenChar {
         TokenChar { c, bytes, len }
     }
 
+    pub(crate) fn copied(&self) -> TokenChar
+        ensures { result ≡ self.now }
+    {
+        TokenChar {
+            c: self.c,
+            bytes: self.bytes,
+            len: self.len,
+        }
+    }
+
     /// The character.
     pub fn get(&self) -> char
         ensures { result ≡ self.now }

@@ -181,3 +181,25 @@ impl<A: Allocator> Tree<A> {
         Ok(child)
     }
 }
+
+// Copies of nodes, each under its number.
+fn copied_nodes<A: Allocator + Copy>(nodes: &Vec<Node<A>, A>) -> Result<Vec<Node<A>, A>, AllocError>
+    ensures { IfOk result (λ copies. copies.items ≡ nodes.now.items) }
+{
+    let mut copies = Vec::with_capacity(*nodes.allocator(), nodes.len())?;
+    for node in nodes {
+        copies.push(node.try_clone()?)?;
+    }
+    Ok(copies)
+}
+
+impl<A: Allocator + Copy> Tree<A> {
+    /// A copy of the tree, with the same nodes under the same numbers. What was parsed shares its text
+    /// with the copy; only texts that were made anew are copied.
+    pub fn try_clone(&self) -> Result<Tree<A>, AllocError>
+        ensures { IfOk result (λ t. t.nodes ≡ self.now.nodes) }
+    {
+        let nodes = copied_nodes(&self.nodes)?;
+        Ok(Tree { nodes })
+    }
+}

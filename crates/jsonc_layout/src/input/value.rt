@@ -13,7 +13,7 @@ use std::alloc::{AllocError, Allocator};
 ///
 /// `docs/EDITS.md` says how each is written.
 #[derive(Drop)]
-#[derive_where(Debug)]
+#[derive_where(Debug, PartialEq, Eq)]
 pub enum CstInputValue<A: Allocator> {
     Null,
     Bool(bool),
