@@ -115,12 +115,12 @@ exponent_ascii (Exponent.minus {e = e} {ds = ds} is n) = IsAscii-cons e (0x2D �
 hexadecimal_ascii : {u : List ℕ} {n : ℕ} → Hexadecimal u n → IsAscii u
 hexadecimal_ascii (Hexadecimal.hexadecimal {x = x} {ds = ds} is n) = IsAscii-cons 0x30 (x ∷ ds) (omega arith) (IsAscii-cons x ds (x_ascii x is) (digits_ascii 16 ds (omega arith) n.1))
 
-unsigned_ascii : {u : List ℕ} {m d : ℕ} → Unsigned u m d → IsAscii u
+pub unsigned_ascii : {u : List ℕ} {m d : ℕ} → Unsigned u m d → IsAscii u
 unsigned_ascii (Unsigned.decimal (Decimal.decimal {w = w} {p = p} {f = f} {x = x} h fraction exponent some)) =
     append_ascii w (p ++ x) (digits_ascii 10 w (omega arith) h.digits) (append_ascii p x (fraction_ascii fraction) (exponent_ascii exponent))
 unsigned_ascii (Unsigned.hexadecimal h) = hexadecimal_ascii h
 
-sign_ascii : {s u : List ℕ} {b : Bool} → Sign s b u → IsAscii u → IsAscii s
+pub sign_ascii : {s u : List ℕ} {b : Bool} → Sign s b u → IsAscii u → IsAscii s
 sign_ascii Sign.none h = h
 sign_ascii (Sign.plus {u = u}) h = IsAscii-cons 0x2B u (omega arith) h
 sign_ascii (Sign.minus {u = u}) h = IsAscii-cons 0x2D u (omega arith) h
@@ -128,11 +128,11 @@ sign_ascii (Sign.minus {u = u}) h = IsAscii-cons 0x2D u (omega arith) h
 pub integer_ascii : (s : List ℕ) (z : ℤ) → WritesInteger s z → IsAscii s
 integer_ascii s z h = let p = integer_parts h in sign_ascii p.sign (unsigned_ascii p.whole.2)
 
-abbrev are_small : List ℕ → Bool
+abbrev pub are_small : List ℕ → Bool
 are_small [] = true
 are_small (w ∷ ws) = ltb w 128 && are_small ws
 
-small_ascii : (bs : List ℕ) → are_small bs ≡ true → IsAscii bs
+pub small_ascii : (bs : List ℕ) → are_small bs ≡ true → IsAscii bs
 small_ascii [] h = IsAscii-nil
 small_ascii (b ∷ bs) h = IsAscii-cons b bs (ltb-true b 128 (and_parts _ _ h).0) (small_ascii bs (and_parts _ _ h).1)
 

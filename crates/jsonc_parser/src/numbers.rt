@@ -4,7 +4,7 @@
 //! [`NumberLit::value`](crate::ast::NumberLit::value) hands it out, in each form that the options allow: a
 //! decimal number with a fraction and an exponent, `0x1F`, `1.`, `.5`, `+1`, `Infinity` and `NaN`.
 
-ghost use Rattle.std.specs.Prelude.{◌≡◌, ℕ, ◌*◌, ◌^◌, ◌<◌, ◌≤◌, ◌∷◌, ◌++◌, IfNone, IfSome, chars, pos, FitsSigned, ℤ, Bool, List, IsTrue};
+ghost use Rattle.std.specs.Prelude.{◌≡◌, ℕ, ◌+◌, ◌*◌, ◌^◌, ◌<◌, ◌≤◌, ◌∷◌, ◌++◌, IfNone, IfSome, chars, pos, FitsSigned, ℤ, Bool, List, IsTrue, length};
 ghost use Rattle.std.specs.Float.Ieee.{Float, binary64, round, inf};
 ghost use Rattle.std.specs.Int.{w64};
 ghost use Rattle.std.specs.Option.{SomeIff};
@@ -112,6 +112,7 @@ fn hex_u64(digits: &str) -> Option<u64>
 pub(crate) fn decimal_parts(unsigned: &str) -> Option<Numeral<'_>>
     ensures some { IfSome result (λ p. Decimal unsigned.now (digits_of p * 10 ^ tens_up p) (10 ^ tens_down p)) }
     ensures digits { IfSome result (λ p. AllDigits 10 (p.whole ++ p.fraction)) }
+    ensures within { IfSome result (λ p. length p.whole + length p.fraction ≤ length unsigned.now) }
     ensures only { IfSome result (λ p. (m d : ℕ) → Decimal unsigned.now m d → (digits_of p * 10 ^ tens_up p ≡ m) × (10 ^ tens_down p ≡ d)) }
     ensures none { IfNone result ((m d : ℕ) → Decimal unsigned.now m d → ⊥) }
 {

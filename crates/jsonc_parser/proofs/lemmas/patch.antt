@@ -5,3 +5,8 @@ pub mod Rows
 pub mod Nodes
 pub mod Named
 pub mod Steps
+pub mod Digits
+pub mod HexRows
+pub mod NumberRows
+pub mod SameNumbers
+pub mod Equality

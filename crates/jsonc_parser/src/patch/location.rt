@@ -1,5 +1,8 @@
 //! The pointer that leads to a node.
 
+ghost use Rattle.std.specs.Prelude.{◌<◌, length, IfOk, IfSome};
+ghost use Rattle.jsonc_cst.specs.Document.{nodes_of, HasNode};
+
 use super::pointer::Pointer;
 use super::reference::{Lookup, look_up, value_under};
 use jsonc_cst::cst::{CstNode, CstRootNode, EditError, TypedNode, node_at};
@@ -11,7 +14,11 @@ fn name_to<A: Allocator + Copy>(
     doc: &CstRootNode<A>,
     object: usize,
     property: usize,
-) -> Result<Option<(String<A>, CstNode)>, EditError> {
+) -> Result<Option<(String<A>, CstNode)>, EditError>
+    requires object { object < length (nodes_of doc.now) }
+    requires property { property < length (nodes_of doc.now) }
+    ensures { IfOk result (λ o. IfSome o (λ p. HasNode doc.now p.1)) }
+{
     let name = match decoded_name(*doc.allocator(), doc.tree(), property) {
         Ok(Some(name)) => name,
         Ok(None) => return Ok(None),
@@ -32,7 +39,10 @@ fn token_to<A: Allocator + Copy>(
     doc: &CstRootNode<A>,
     node: CstNode,
     place: usize,
-) -> Result<Option<(String<A>, CstNode)>, EditError> {
+) -> Result<Option<(String<A>, CstNode)>, EditError>
+    requires { HasNode doc.now node }
+    ensures { IfOk result (λ o. IfSome o (λ p. HasNode doc.now p.1)) }
+{
     let Some(entry) = element_at(doc.tree(), node.number(), place) else {
         return Ok(None);
     };
@@ -78,7 +88,9 @@ fn tokens_over<A: Allocator + Copy>(
 pub fn pointer_of<A: Allocator + Copy>(
     doc: &CstRootNode<A>,
     node: CstNode,
-) -> Result<Option<Pointer<A>>, EditError> {
+) -> Result<Option<Pointer<A>>, EditError>
+    requires { HasNode doc.now node }
+{
     let path = match doc.path(node) {
         Ok(Some(path)) => path,
         Ok(None) => return Ok(None),

@@ -1,5 +1,9 @@
 //! Merge patches, made on a document whole or not at all.
 
+ghost use Rattle.std.specs.Prelude.{◌≡◌, ◌<◌, false, length, OnErr};
+ghost use Rattle.jsonc_run.specs.Edits.{is_sort};
+ghost use Rattle.jsonc_cst.specs.Document.{nodes_of, HasNode};
+
 use super::equality::{Numbers, are_equal};
 use super::reference::{Lookup, look_up, value_under};
 use jsonc_cst::cst::{CstInputValue, CstNode, CstRootNode, EditError, TypedNode, node_at};
@@ -130,7 +134,9 @@ fn copy_of<A: Allocator + Copy>(alloc: A, path: &[usize]) -> Result<Vec<usize, A
 }
 
 // Makes an edit.
-fn edit<A: Allocator + Copy>(doc: &mut CstRootNode<A>, edit: Edit<A>) -> Result<(), MergeFault<A>> {
+fn edit<A: Allocator + Copy>(doc: &mut CstRootNode<A>, edit: Edit<A>) -> Result<(), MergeFault<A>>
+    requires { is_sort edit ≡ false }
+{
     match doc.make(&edit) {
         Ok(()) => Ok(()),
         Err(error) => Err(MergeFault::Edit(error)),
@@ -143,13 +149,15 @@ fn put<A: Allocator + Copy>(
     path: &[usize],
     node: CstNode,
     patch: &CstInputValue<A>,
-) -> Result<(), MergeFault<A>> {
+) -> Result<(), MergeFault<A>>
+    requires { HasNode doc.old node }
+{
     let alloc = *doc.allocator();
     let Ok(value) = merged_into_nothing(alloc, patch) else {
         return Err(no_memory());
     };
     match node.to_value(doc) {
-        Ok(Some(there)) => match are_equal(&there, &value, Numbers::ByText) {
+        Ok(Some(there)) => match are_equal(&value, &there, Numbers::ByText) {
             Ok(true) => return Ok(()),
             Ok(false) => {}
             Err(_) => return Err(no_memory()),
@@ -219,7 +227,9 @@ fn merge_property<A: Allocator + Copy>(
     path: &mut Vec<usize, A>,
     property: usize,
     patch: &CstInputValue<A>,
-) -> Result<(), MergeFault<A>> {
+) -> Result<(), MergeFault<A>>
+    requires { property < length (nodes_of doc.old) }
+{
     let Some(property) = node_at(doc.tree(), property).as_object_prop() else {
         return Err(MergeFault::Edit(EditError::NoSuchPlace));
     };
@@ -287,7 +297,9 @@ fn merge_root<A: Allocator + Copy>(
 pub fn merge<A: Allocator + Copy>(
     doc: &mut CstRootNode<A>,
     patch: &CstInputValue<A>,
-) -> Result<(), MergeFault<A>> {
+) -> Result<(), MergeFault<A>>
+    ensures { OnErr result (nodes_of doc.new ≡ nodes_of doc.old) }
+{
     if let Some(name) = repeated_name(patch) {
         return Err(repeated(*doc.allocator(), name));
     }

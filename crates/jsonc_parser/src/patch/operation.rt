@@ -1,5 +1,9 @@
 //! The operations of a patch, and how they are read from a document.
 
+ghost use Rattle.std.specs.Prelude.{IfOk};
+ghost use Rattle.jsonc_cst.specs.Document.{HasNode};
+ghost use Rattle.jsonc_cst.specs.Nodes.{object_node};
+
 use super::pointer::{Pointer, PointerError};
 use jsonc_cst::cst::{CstInputValue, CstNode, CstObject, CstRootNode, TypedNode};
 use jsonc_text::errors::ParseStringErrorKind;
@@ -60,7 +64,7 @@ pub enum OperationFault<A: Allocator> {
     Wrong(Member),
     /// This member's text is no pointer.
     Pointer(Member, PointerError),
-    /// More than one member of the operation, or of an object in it, has this name.
+    /// More than one member of the operation, or of an object in its value, has this name.
     RepeatedName(String<A>),
     /// An allocation failed.
     OutOfMemory,
@@ -120,7 +124,9 @@ fn kind_of(name: &str) -> Option<Kind> {
 fn first_repeated<A: Allocator + Copy>(
     doc: &CstRootNode<A>,
     object: CstObject,
-) -> Result<(), OperationFault<A>> {
+) -> Result<(), OperationFault<A>>
+    requires { HasNode doc.now (object_node object) }
+{
     let Ok(repeated) = object.repeated_names(doc) else {
         return Err(OperationFault::OutOfMemory);
     };
@@ -139,7 +145,9 @@ fn first_repeated<A: Allocator + Copy>(
 fn see_unique_names<A: Allocator + Copy>(
     doc: &CstRootNode<A>,
     value: CstNode,
-) -> Result<(), OperationFault<A>> {
+) -> Result<(), OperationFault<A>>
+    requires { HasNode doc.now value }
+{
     for node in doc.descendants(value) {
         if let Some(object) = node.as_object() {
             first_repeated(doc, object)?;
@@ -153,7 +161,10 @@ fn member_value<A: Allocator + Copy>(
     doc: &CstRootNode<A>,
     object: CstObject,
     member: Member,
-) -> Result<CstNode, OperationFault<A>> {
+) -> Result<CstNode, OperationFault<A>>
+    requires { HasNode doc.now (object_node object) }
+    ensures { IfOk result (HasNode doc.now) }
+{
     match object.get(doc, member.name()) {
         Ok(Some(property)) => property.value(doc).ok_or(OperationFault::Missing(member)),
         Ok(None) => Err(OperationFault::Missing(member)),
@@ -166,7 +177,9 @@ fn member_text<A: Allocator + Copy>(
     doc: &CstRootNode<A>,
     object: CstObject,
     member: Member,
-) -> Result<String<A>, OperationFault<A>> {
+) -> Result<String<A>, OperationFault<A>>
+    requires { HasNode doc.now (object_node object) }
+{
     let Some(string) = member_value(doc, object, member)?.as_string_lit() else {
         return Err(OperationFault::Wrong(member));
     };
@@ -182,7 +195,9 @@ fn member_pointer<A: Allocator + Copy>(
     doc: &CstRootNode<A>,
     object: CstObject,
     member: Member,
-) -> Result<Pointer<A>, OperationFault<A>> {
+) -> Result<Pointer<A>, OperationFault<A>>
+    requires { HasNode doc.now (object_node object) }
+{
     let text = member_text(doc, object, member)?;
     match Pointer::parse(*doc.allocator(), &text) {
         Ok(pointer) => Ok(pointer),
@@ -195,8 +210,12 @@ fn member_pointer<A: Allocator + Copy>(
 fn operand<A: Allocator + Copy>(
     doc: &CstRootNode<A>,
     object: CstObject,
-) -> Result<CstInputValue<A>, OperationFault<A>> {
-    match member_value(doc, object, Member::Value)?.to_value(doc) {
+) -> Result<CstInputValue<A>, OperationFault<A>>
+    requires { HasNode doc.now (object_node object) }
+{
+    let value = member_value(doc, object, Member::Value)?;
+    see_unique_names(doc, value)?;
+    match value.to_value(doc) {
         Ok(Some(value)) => Ok(value),
         Ok(None) => Err(OperationFault::Wrong(Member::Value)),
         Err(_) => Err(OperationFault::OutOfMemory),
@@ -208,7 +227,9 @@ fn of_kind<A: Allocator + Copy>(
     doc: &CstRootNode<A>,
     object: CstObject,
     kind: Kind,
-) -> Result<Operation<A>, OperationFault<A>> {
+) -> Result<Operation<A>, OperationFault<A>>
+    requires { HasNode doc.now (object_node object) }
+{
     let path = member_pointer(doc, object, Member::Path)?;
     match kind {
         Kind::Add => Ok(Operation::Add(path, operand(doc, object)?)),
@@ -224,11 +245,13 @@ fn of_kind<A: Allocator + Copy>(
 pub(crate) fn read_operation<A: Allocator + Copy>(
     doc: &CstRootNode<A>,
     value: CstNode,
-) -> Result<Operation<A>, OperationFault<A>> {
+) -> Result<Operation<A>, OperationFault<A>>
+    requires { HasNode doc.now value }
+{
     let Some(object) = value.as_object() else {
         return Err(OperationFault::NotAnObject);
     };
-    see_unique_names(doc, value)?;
+    first_repeated(doc, object)?;
     let name = member_text(doc, object, Member::Op)?;
     match kind_of(&name) {
         Some(kind) => of_kind(doc, object, kind),

@@ -1,5 +1,10 @@
 //! Patches: lists of operations, made on a document whole or not at all.
 
+ghost use Rattle.std.specs.Prelude.{◌≡◌, false, IfOk, OnErr};
+ghost use Rattle.std.specs.List.{All};
+ghost use Rattle.jsonc_run.specs.Edits.{is_sort};
+ghost use Rattle.jsonc_cst.specs.Document.{nodes_of, HasNode};
+
 use super::equality::{Numbers, are_equal};
 use super::operation::{Operation, OperationFault, read_operation};
 use super::pointer::Pointer;
@@ -130,7 +135,9 @@ impl<A: Allocator + Copy> Patch<A> {
     /// On an error the answer is which operation was not made, and why, and the document is as it was.
     ///
     /// The operations are made on a copy of the document's nodes, which share its text.
-    pub fn apply(&self, doc: &mut CstRootNode<A>) -> Result<(), PatchFault<A>> {
+    pub fn apply(&self, doc: &mut CstRootNode<A>) -> Result<(), PatchFault<A>>
+        ensures { OnErr result (nodes_of doc.new ≡ nodes_of doc.old) }
+    {
         if self.operations.is_empty() {
             return Ok(());
         }
@@ -157,7 +164,9 @@ impl<A: Allocator> Patch<A> {
 fn read_operations<A: Allocator + Copy>(
     doc: &CstRootNode<A>,
     values: &[CstNode],
-) -> Result<Patch<A>, PatchError<A>> {
+) -> Result<Patch<A>, PatchError<A>>
+    requires { All (HasNode doc.now) values.now }
+{
     let mut operations = Vec::new(*doc.allocator());
     for (number, value) in values.iter().enumerate() {
         match read_operation(doc, *value) {
@@ -225,7 +234,9 @@ fn copy_of<A: Allocator + Copy>(value: &CstInputValue<A>) -> Result<CstInputValu
 fn target<A: Allocator + Copy>(
     doc: &CstRootNode<A>,
     tokens: &[String<A>],
-) -> Result<CstNode, PatchCause<A>> {
+) -> Result<CstNode, PatchCause<A>>
+    ensures { IfOk result (HasNode doc.now) }
+{
     match follow(doc, tokens) {
         Ok(Some(node)) => Ok(node),
         Ok(None) => Err(PatchCause::NoTarget),
@@ -237,7 +248,9 @@ fn target<A: Allocator + Copy>(
 fn path_to<A: Allocator + Copy>(
     doc: &CstRootNode<A>,
     node: CstNode,
-) -> Result<Vec<usize, A>, PatchCause<A>> {
+) -> Result<Vec<usize, A>, PatchCause<A>>
+    requires { HasNode doc.now node }
+{
     match doc.path(node) {
         Ok(Some(path)) => Ok(path),
         Ok(None) => Err(PatchCause::NoTarget),
@@ -267,7 +280,9 @@ fn value_at<A: Allocator + Copy>(
 }
 
 // Makes an edit.
-fn edit<A: Allocator + Copy>(doc: &mut CstRootNode<A>, edit: Edit<A>) -> Result<(), PatchCause<A>> {
+fn edit<A: Allocator + Copy>(doc: &mut CstRootNode<A>, edit: Edit<A>) -> Result<(), PatchCause<A>>
+    requires { is_sort edit ≡ false }
+{
     match doc.make(&edit) {
         Ok(()) => Ok(()),
         Err(error) => Err(PatchCause::Edit(error)),
@@ -316,7 +331,9 @@ fn add_element<A: Allocator + Copy>(
     array: CstNode,
     token: &str,
     value: CstInputValue<A>,
-) -> Result<(), PatchCause<A>> {
+) -> Result<(), PatchCause<A>>
+    requires { HasNode doc.old array }
+{
     let Some(place) = element_place(doc, array.number(), token) else {
         return Err(PatchCause::NoTarget);
     };
@@ -334,7 +351,9 @@ fn add_member<A: Allocator + Copy>(
     pointer: &Pointer<A>,
     name: &str,
     value: CstInputValue<A>,
-) -> Result<(), PatchCause<A>> {
+) -> Result<(), PatchCause<A>>
+    requires { HasNode doc.old object }
+{
     match follow(doc, pointer.tokens()) {
         Ok(Some(node)) => {
             let path = path_to(doc, node)?;
@@ -391,7 +410,7 @@ fn test<A: Allocator + Copy>(
     value: &CstInputValue<A>,
 ) -> Result<(), PatchCause<A>> {
     let found = value_at(doc, pointer)?;
-    match are_equal(&found, value, Numbers::ByValue) {
+    match are_equal(value, &found, Numbers::ByValue) {
         Ok(true) => Ok(()),
         Ok(false) => Err(PatchCause::NotEqual),
         Err(_) => Err(PatchCause::Edit(EditError::OutOfMemory)),

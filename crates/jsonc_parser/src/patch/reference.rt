@@ -187,7 +187,9 @@ pub(super) fn element_place<A: Allocator>(
     doc: &CstRootNode<A>,
     node: usize,
     token: &str,
-) -> Option<Option<usize>> {
+) -> Option<Option<usize>>
+    requires { node < length (nodes_of doc.now) }
+{
     if token == "-" {
         return Some(None);
     }
