@@ -1,5 +1,6 @@
 //! The tests, and what they share.
 
+mod copies;
 mod edits;
 mod entry_comments;
 mod inputs;

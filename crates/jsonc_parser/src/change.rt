@@ -36,7 +36,7 @@ fn after_common_start<'o, 'n>(old: &'o str, new: &'n str) -> (&'o str, &'n str)
     }
 }
 
-// What stands before the longest common end of two texts, in each.
+// What is before the longest common end of two texts, in each.
 fn before_common_end<'o, 'n>(old: &'o str, new: &'n str) -> (&'o str, &'n str)
     ensures utf8 { IsUtf8 result.0.now × IsUtf8 result.1.now }
     ensures parts { EndsApart (chars old.now) (chars new.now) (chars result.0.now) (chars result.1.now) }

@@ -1,4 +1,4 @@
-//! The document: the tree of a text, in which every byte of it stands, and its edits.
+//! The document: the tree of a text, which has every byte of it, and its edits.
 //!
 //! A [`CstRootNode`] owns its nodes and names each by a number. A caller holds a [`CstNode`], or a
 //! node of one kind as [`CstObject`]: a number that says what it is the number of, and can be copied.

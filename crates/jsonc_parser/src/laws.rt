@@ -1,19 +1,19 @@
-//! Laws that lead from one call to the next, and from names and paths to what stands there; and those that
+//! Laws that lead from one call to the next, and from names and paths to what is there; and those that
 //! lead from what a call says to what users rely on.
 //!
 //! The texts that write a float are the numbers of the grammar, and each writes one
 //! ([`numbers_have_one_value`]).
 //!
-//! At a place of a text stands at most one lexeme or comment ([`one_lexeme`]), and a text has at most one list of
+//! At a place of a text there is at most one lexeme or comment ([`one_lexeme`]), and a text has at most one list of
 //! them ([`one_list_of_tokens`]). Comments, strings and numbers end where they must ([`block_comment_ends_first`],
 //! [`strings_end_at_their_quote`], [`numbers_end_at_their_followers`]), and no lexeme depends on what follows it, beyond
 //! the next character ([`lexemes_stand_alone`]). Lexemes look at six options ([`lexemes_look_at_six_options`]), and a
-//! document stays one where more is allowed ([`documents_stay_where_more_is_allowed`]). A string stands for what is
+//! document stays one where more is allowed ([`documents_stay_where_more_is_allowed`]). A string represents what is
 //! computed of its characters ([`strings_are_computed`]), and what is spelled for one is such a string
 //! ([`spelled_strings_are_strings`]).
 //!
-//! Of a lexeme, a string or a text at most one fault can be told ([`one_fault`], [`one_fault_of_a_string`],
-//! [`one_reading`]), and where one is told, there is no document ([`faults_are_of_no_document`]); where reading comes to
+//! Of a lexeme, a string or a text at most one fault can be reported ([`one_fault`], [`one_fault_of_a_string`],
+//! [`one_reading`]), and where one is reported, there is no document ([`faults_are_of_no_document`]); where reading comes to
 //! the end, there is one ([`reading_to_the_end`]).
 //!
 //! A text has at most one value ([`one_value`]), and what is at most 256 levels deep has at most 512
@@ -26,15 +26,15 @@
 //!
 //! Edits that are made are named in the document before them, one after another ([`edits_make_steps`]), and
 //! have their place exactly where the document's value has it ([`places_are_named`]). No call moves a node
-//! from one parent to another, and behind any list of calls the nodes are a tree; calls that are refused, or
-//! of nodes that do not stand in the document, leave it as it was ([`calls_keep_parents`]); and what each call
+//! from one parent to another, and after any list of calls the nodes are a tree; calls that are refused, or
+//! of nodes that are not in the document, leave it as it was ([`calls_keep_parents`]); and what each call
 //! of a typed node says is such a call ([`typed_calls_are_calls`]).
-//! Where commas may not be missing no space is due where children leave ([`nearest_tell`]), so a removal from
+//! Where commas may not be missing no space is due where children are removed ([`nearest_tell`]), so a removal from
 //! a sound document wants no memory, of a value, a property or a comment ([`removals_want_no_memory`]).
 //!
 //! The groups of a sort keep their places ([`groups_keep_their_places`], [`blank_lines_part_groups`]); a
-//! sorted row has each comment and each element once ([`sorted_rows_keep_their_nodes`]), and so has the sorted
-//! container, with its brackets, while comments deeper stand where they stood
+//! sorted list of children has each comment and each element once ([`sorted_rows_keep_their_nodes`]), and so has the sorted
+//! container, with its brackets, while comments deeper are where they were
 //! ([`sorted_containers_keep_their_children`]); and a second sort changes no byte
 //! ([`second_sorts_change_no_byte`], [`second_sorts_by_key_change_no_byte`]).
 //!

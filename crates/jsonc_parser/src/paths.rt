@@ -1,8 +1,8 @@
 //! Settings: values at paths of names, which lead from an object to the value of its first property of a name.
 //!
-//! What is put there, and what leaves with a path, is said of plain values (`specs/paths/Settings.antt`); [`find_at`]
-//! and [`read_at`] say what stands there in a document, and [`reach`] how far names lead. [`set_at`] and
-//! [`remove_at`] put a value there, or drop it, by one edit of `jsonc_run` each (`specs/paths/Calls.antt`).
+//! What is put there, and what is removed with a path, is said of plain values (`specs/paths/Settings.antt`); [`find_at`]
+//! and [`read_at`] say what is there in a document, and [`reach`] how far names lead. [`set_at`] and
+//! [`remove_at`] put a value there, or remove it, by one edit of `jsonc_run` each (`specs/paths/Calls.antt`).
 
 mod find;
 pub mod laws;

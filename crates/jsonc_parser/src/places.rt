@@ -29,7 +29,7 @@ impl ColumnUnit {
     }
 }
 
-/// The line and column behind the character `c`, which stands at `at` and in front of `rest`.
+/// The line and column after the character `c`, which is at `at` and before `rest`.
 fn past(at: LineAndColumn, c: char, rest: &str, unit: ColumnUnit) -> LineAndColumn
     requires line { at.line + 1 < 2 ^ 64 }
     requires column { at.column + 2 < 2 ^ 64 }
@@ -71,7 +71,7 @@ pub(crate) fn walk_to(
     here
 }
 
-/// The place of a line and column, looked for from a place that is in the line and column `at` and not behind it.
+/// The place of a line and column, looked for from a place that is in the line and column `at` and not after it.
 pub(crate) fn place_from(
     text: &str,
     from: usize,

@@ -122,12 +122,13 @@ fn some_object<A: Allocator + Copy>(alloc: A) -> Result<CstInputValue<A>, AllocE
 /// That object, written on its lines.
 const OBJECT: &str = "{\n\"first\": [true, \"a\\n\"],\n\"second\": null\n}";
 
-/// An object and its copy are as they were made.
+/// An object and its copy are as they were made, and equal.
 fn object<A: Allocator + Copy>(alloc: A) -> Outcome {
     match some_object(alloc) {
         Ok(object) => {
             let copy = is_made(alloc, object.try_clone(), OBJECT);
             copy.then(Outcome::of_answer(is_laid_out(alloc, &object, OBJECT), &true))
+                .then(Outcome::of_answer(object.try_clone(), &object))
         }
         Err(error) => Outcome::from(error),
     }
@@ -163,6 +164,23 @@ fn values_are_made_and_strings_spelled(rt: HostRuntime) {
 
 fn is_copied(value: CstInputValue<&Refusing<Global>>) -> bool {
     value.try_clone().is_ok()
+}
+
+/// Whether values of other kinds, texts and names are not equal.
+fn others_differ<A: Allocator + Copy>(alloc: A) -> Result<bool, AllocError> {
+    let string = CstInputValue::from_str(alloc, "1")?;
+    let number = CstInputValue::from_usize(alloc, 1)?;
+    let other = CstInputValue::Number(String::from_str(alloc, "1.0")?);
+    let mut renamed = Vec::new(alloc);
+    push_property(alloc, &mut renamed, "first", some_array(alloc)?)?;
+    push_property(alloc, &mut renamed, "third", CstInputValue::Null)?;
+    let object = CstInputValue::from(renamed);
+    Ok(string != number && number != other && some_object(alloc)? != object)
+}
+
+#[test]
+fn values_are_compared_by_their_texts(rt: HostRuntime) {
+    assert!(rt; others_differ::<Global>(rt.alloc()) == Ok(true));
 }
 
 #[test]

@@ -78,7 +78,7 @@ fn make_all<A: Allocator + Copy, D: DocumentArg<A>, C: Fn(&D, CstNode, CstNode) 
 ///
 /// The path of an edit, or its number of a comment, is one of that document. `compare` says how the
 /// elements or properties are ordered that an edit sorts; it is asked with the document as it
-/// stands before that edit. [`Edit`] says what each edit does.
+/// is before that edit. [`Edit`] says what each edit does.
 ///
 /// On an error the answer is how many edits were made, each whole, and why the next was not, and
 /// the document is as those left it; where the next was to set trailing commas, those of some

@@ -53,8 +53,8 @@ impl Error for EditTextError {}
 /// Makes edits of a text, in order, and answers the text after them.
 ///
 /// It parses the text as [`CstRootNode::parse`] does, makes the edits as [`run`] does, and answers
-/// what the document then prints. All that stands outside of what an edit works on stays, byte for
-/// byte, and so do the comments. `compare` says how the elements or properties are ordered that an
+/// what the document then prints. All that is outside of what an edit works on stays, byte for byte,
+/// and so do the comments. `compare` says how the elements or properties are ordered that an
 /// edit sorts.
 ///
 /// A text that is no document is the error of parsing. Of an edit that failed, the error has its

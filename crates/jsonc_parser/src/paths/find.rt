@@ -1,4 +1,4 @@
-//! What stands at names.
+//! What is at a path of names.
 
 ghost use Rattle.std.specs.Prelude.{◌≡◌, chars, IfErr, IfOk, IfSome, OnErr};
 ghost use Rattle.jsonc_layout.specs.nodes.Names.{HoldsEscapedName};
@@ -32,7 +32,7 @@ fn find_inside<A: Allocator + Copy>(
     }
 }
 
-/// The value at a path of names, if one stands there.
+/// The value at a path of names, if there is one.
 ///
 /// From the document's value each name leads on, in an object to the value of its first property of
 /// that name. None where a step finds no object, or none of its name.
@@ -63,10 +63,10 @@ pub fn find_at<A: Allocator + Copy>(
 
 /// The value at a path of names, as a value for edits.
 ///
-/// Of equal names in it the last value stands at the first place. None where [`find_at`] answers
+/// Of equal names in it the last value is at the first place. None where [`find_at`] answers
 /// none.
 ///
-/// Memory is allocated only as by [`find_at`], or for a value that stands there.
+/// Memory is allocated only as by [`find_at`], or for a value that is there.
 pub fn read_at<A: Allocator + Copy>(
     doc: &CstRootNode<A>,
     names: &[String<A>],

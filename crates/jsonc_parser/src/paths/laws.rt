@@ -18,21 +18,21 @@ ghost use Rattle.jsonc_parser.specs.paths.Laws.{NeverBoth, PutsInOneWay, PutsOrM
 
 use std::alloc::Allocator;
 
-/// At a path of names stands at most one value.
+/// At a path of names there is at most one value.
 pub fn one_value_at_names()
     ensures { (w : Option Plain) (names : List (List ℕ)) → HasOneAt w names }
 {}
 
-/// A value can be put at every path of names, but where one of another kind than an object stands on the way and is to
-/// stay; and in one way alone.
+/// A value can be put at every path of names, unless one of another kind than an object is on the way and is to stay;
+/// and in one way alone.
 pub fn values_are_put()
     ensures puts { (v : Plain) (how : Over) (w : Option Plain) (names : List (List ℕ)) → PutsOrMustStay v how w names }
     ensures never_both { (v : Plain) (how : Over) (w : Option Plain) (names : List (List ℕ)) → NeverBoth v how w names }
     ensures one_way { (v : Plain) (how : Over) (w : Option Plain) (names : List (List ℕ)) → PutsInOneWay v how w names }
 {}
 
-/// A value that was put at names stands there, and what stood there already is put there by no change; at each path
-/// that differs from the names at a step that both have stands what stood there before.
+/// A value that was put at names is there, and what was there already is put there by no change; at each path that
+/// differs from the names at a step that both have is what was there before.
 pub fn what_was_put_stands_there()
     ensures there { (v : Plain) (how : Over) (w x : Option Plain) (names : List (List ℕ))
         → Put v how w names x → At x names v }
@@ -42,16 +42,16 @@ pub fn what_was_put_stands_there()
         → Put v how w names x → IsSameElsewhere names w x }
 {}
 
-/// What stands at names can leave, exactly where something stands there, and in one way alone; at each path that
-/// differs from the names at a step that both have stands what stood there before.
+/// What is at names can be removed, exactly where something is there, and in one way alone; at each path that differs
+/// from the names at a step that both have is what was there before.
 pub fn what_stands_can_leave()
     ensures exactly { (w : Option Plain) (names : List (List ℕ)) → DropsWhatStands w names }
     ensures one_way { (w : Option Plain) (names : List (List ℕ)) → DropsInOneWay w names }
     ensures elsewhere { (w x : Option Plain) (names : List (List ℕ)) → Dropped w names x → IsSameElsewhere names w x }
 {}
 
-/// Names lead over positions to what stands at them; and one operation at such positions puts a value at the names, or
-/// takes out what stands there: it has its place, and makes what is put, or dropped, and nothing else.
+/// Names lead over positions to what is at them; and one operation at such positions puts a value at the names, or
+/// removes what is there: it has its place, and makes what is put, or removed, and nothing else.
 pub fn one_operation_puts_or_drops()
     ensures leads { (w : Option Plain) (names : List (List ℕ)) (v : Plain) → LeadToWhatStands w names v }
     ensures reaches { (x : Plain) (names : List (List ℕ)) → Reaches x names }
@@ -61,8 +61,8 @@ pub fn one_operation_puts_or_drops()
     ensures drops { (w : Option Plain) (names : List (List ℕ)) (e : Operation) → DropsByIt w names e }
 {}
 
-/// Worked rows: of two properties of one name the first is put, and not the last; where the first leaves, the second
-/// stands there.
+/// Worked rows: of two properties of one name the first is put, and not the last; where the first is removed, the
+/// second is there.
 pub fn worked_equal_names()
     ensures first { (u v w : Plain) (how : Over) → Put u how (both v w) a (both u w) }
     ensures not_last { (how : Over) → Put (Plain.boolean true) how (both Plain.null Plain.null) a
@@ -82,7 +82,7 @@ pub fn names_lead_over_nodes()
 {}
 
 /// In a document that nodes show, the node at a path has the value that the document's value has there, and what is
-/// taken of it as a value for edits stands for that.
+/// taken of it as a value for edits represents that.
 pub fn nodes_have_their_values<A: Allocator>()
     ensures { (d : Document) (ns : List Node) (path : List ℕ) (n : ℕ) → NodesHaveValues A d ns path n }
 {}
@@ -97,15 +97,15 @@ pub fn what_is_read_stands_at_paths()
         → FindsFirst d ns path n name found }
 {}
 
-/// Each node that stands in a document that nodes show is its root, a value at a path, a property of an object at a path,
-/// the name of a property, trivia or a token.
+/// Each node in a document that nodes show is its root, a value at a path, a property of an object at a path, the name
+/// of a property, trivia or a token.
 pub fn each_node_stands_at_its_place()
     ensures { (d : Document) (ns : List Node) (n : ℕ) → StandsThere d ns n }
 {}
 
-/// The one edit that puts a value at names, or drops what stands there, was made. Then the nodes show a document to which
-/// it leads, in whose value the value is put there, or dropped; and at any path that differs stands what stood there
-/// before. Where it was refused, allocation failed.
+/// The one edit that puts a value at names, or removes what is there, was made. Then the nodes show a document to which
+/// it leads, in whose value the value is put there, or removed; and at any path that differs is what was there before.
+/// Where it was refused, allocation failed.
 pub fn one_edit_puts_or_drops()
     ensures puts { (d : Document) (v : Plain) (how : Over) (names : List (List ℕ)) (operation : Operation)
         (old new : List Node) → PutsByOneEdit d v how names operation old new }

@@ -126,7 +126,7 @@ fn choose<A: Allocator + Copy>(
     }
 }
 
-// Whether a value of another kind than an object stands in the way of names, and is to stay.
+// Whether a value of another kind than an object is in the way of names, and is to stay.
 fn must_stay<A: Allocator + Copy>(
     doc: &CstRootNode<A>,
     names: &[String<A>],
@@ -197,14 +197,14 @@ pub fn set_at<A: Allocator + Copy>(
     }
 }
 
-/// Removes what stands at a path of names, and answers whether something stood there.
+/// Removes what is at a path of names, and answers whether something was there.
 ///
 /// That is the first property of the last name, in the object that those before it lead to, or with
-/// no names the document's value. `{ "a": 1, "b": 2 }` without what stands at `b` is `{ "a": 1 }`.
+/// no names the document's value. `{ "a": 1, "b": 2 }` without what is at `b` is `{ "a": 1 }`.
 ///
 /// In a document that was parsed, and changed by no edit of single leaves, the one error is an
 /// allocation failure. Memory is allocated only to look up a name in an object that has a name with
-/// a backslash, or where something stands there. On an error the document stays as it was.
+/// a backslash, or where something is there. On an error the document stays as it was.
 pub fn remove_at<A: Allocator + Copy>(
     doc: &mut CstRootNode<A>,
     names: &[String<A>],
@@ -216,7 +216,7 @@ pub fn remove_at<A: Allocator + Copy>(
     ensures oom_only_if { OnErr result (WantsForSomething (nodes_of doc.old) (names_of names.now)) }
     ensures document { OnErr result (tree_of doc.new ≡ tree_of doc.old) }
 {
-    // Whether something stands there is seen before memory is wanted for the edit.
+    // Whether something is there is seen before memory is wanted for the edit.
     match find_at(doc, names) {
         Ok(Some(_)) => {}
         Ok(None) => return Ok(false),

@@ -92,7 +92,7 @@ pub fn reach<A: Allocator + Copy>(
     Ok(Reached::Value(path))
 }
 
-/// Whether a value of another kind than an object stands in the way of names.
+/// Whether a value of another kind than an object is in the way of names.
 ///
 /// Memory is wanted only to look up a name in an object that has a name with a backslash.
 pub fn is_in_the_way<A: Allocator + Copy>(

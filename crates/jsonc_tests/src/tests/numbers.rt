@@ -1,6 +1,10 @@
-//! Numbers read from their texts.
+//! Numbers read from their texts, and compared.
 
+use failing_alloc::in_turn::refused_in_turn;
+use failing_alloc::outcome::Outcome;
 use jsonc_parser::numbers::{parse_f64, parse_i64, parse_u64};
+use jsonc_parser::patch::same_number;
+use std::alloc::Allocator;
 use std::num::f64_to_bits_with_nan;
 
 /// A number's text, and the `u64` and the `i64` that it writes.
@@ -104,5 +108,64 @@ fn other_texts_are_no_numbers(rt: HostRuntime) {
         assert_eq!(rt; parse_u64(text), None, "{text}");
         assert_eq!(rt; parse_i64(text), None, "{text}");
         assert!(rt; parse_f64(text).is_none(), "{text}");
+    }
+}
+
+/// Two texts of numbers, and whether they have one value.
+type Pair<'a> = (&'a str, &'a str, bool);
+
+static PAIRS: [Pair; 27] = [
+    ("1", "1.0", true),
+    ("1", "1e0", true),
+    ("10", "1e1", true),
+    ("100e-2", "1", true),
+    ("1.50", "15e-1", true),
+    (".5", "+5.e-1", true),
+    ("1", "-1", false),
+    ("1", "10", false),
+    ("12", "21", false),
+    ("-0", "0", true),
+    ("0.00", "-0e5", true),
+    ("0", "1e-99999999999999999999", false),
+    ("1e99999999999999999999", "0.1e100000000000000000000", true),
+    ("1e99999999999999999999", "1e99999999999999999998", false),
+    ("1e-99999999999999999999", "10e-100000000000000000000", true),
+    ("1e5", "1e-5", false),
+    ("0x1F", "31", true),
+    ("-0X1f", "-3.1e1", true),
+    ("0xF", "0x00f", true),
+    ("0xF", "0x1F", false),
+    (
+        "340282366920938463463374607431768211456",
+        "0x100000000000000000000000000000000",
+        true,
+    ),
+    (
+        "340282366920938463463374607431768211457",
+        "0x100000000000000000000000000000000",
+        false,
+    ),
+    ("Infinity", "+Infinity", true),
+    ("Infinity", "-Infinity", false),
+    ("NaN", "-NaN", true),
+    ("NaN", "Infinity", false),
+    ("one", "one", true),
+];
+
+fn compared<A: Allocator + Copy>(alloc: A, pair: &Pair<'_>) -> Outcome {
+    Outcome::of_answer(same_number(alloc, pair.0, pair.1), &pair.2)
+        .then(Outcome::of_answer(same_number(alloc, pair.1, pair.0), &pair.2))
+}
+
+#[test]
+fn numbers_are_compared_with_each_request_refused_in_turn(rt: HostRuntime) {
+    let alloc = rt.alloc();
+    for pair in &PAIRS {
+        assert!(rt;
+            refused_in_turn(alloc, |heap| compared(heap, pair)).is_some(),
+            "{} {}",
+            pair.0,
+            pair.1
+        );
     }
 }
