@@ -7,21 +7,20 @@
 //! A [`Patch`] is a list of operations at pointers, and [`merge`] merges a value into a document. Both are made whole
 //! or not at all, and keep every comment and byte outside what they change.
 
+mod apply;
 mod equality;
 pub(crate) mod laws;
 mod location;
-mod merge;
+mod merging;
 mod numbers;
 mod operation;
-#[allow(clippy::module_inception)]
-mod patch;
 mod pointer;
 mod reference;
 
+pub use apply::{Patch, PatchCause, PatchError, PatchFault};
 pub use location::pointer_of;
-pub use merge::{MergeFault, merge};
+pub use merging::{MergeFault, merge};
 pub use numbers::same_number;
 pub use operation::{Member, Operation, OperationFault};
-pub use patch::{Patch, PatchCause, PatchError, PatchFault};
 pub use pointer::{Pointer, PointerError};
 pub use reference::{FindError, find, read};

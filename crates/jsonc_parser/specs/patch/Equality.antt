@@ -12,20 +12,20 @@ pub data HasMember (name : List ℕ) (v : Plain) : Members → Type 0 where
 mutual
   -- no name stands twice in an object of the value
   pub data HasUniqueNames : Plain → Type 0 where
-    null : HasUniqueNames Plain.null
-    boolean : {b : Bool} → HasUniqueNames (Plain.boolean b)
-    number : {s : List ℕ} → HasUniqueNames (Plain.number s)
-    string : {s : List ℕ} → HasUniqueNames (Plain.string s)
-    array : {vs : Items} → ItemsHaveUniqueNames vs → HasUniqueNames (Plain.array vs)
-    object : {ms : Members} → MembersHaveUniqueNames ms → HasUniqueNames (Plain.object ms)
+    unique_null : HasUniqueNames null
+    unique_boolean : {b : Bool} → HasUniqueNames (boolean b)
+    unique_number : {s : List ℕ} → HasUniqueNames (number s)
+    unique_string : {s : List ℕ} → HasUniqueNames (string s)
+    unique_array : {vs : Items} → ItemsHaveUniqueNames vs → HasUniqueNames (array vs)
+    unique_object : {ms : Members} → MembersHaveUniqueNames ms → HasUniqueNames (object ms)
 
   pub data ItemsHaveUniqueNames : Items → Type 0 where
-    no_items : ItemsHaveUniqueNames Items.no_items
-    item : {v : Plain} {vs : Items} → HasUniqueNames v → ItemsHaveUniqueNames vs → ItemsHaveUniqueNames (Items.item v vs)
+    unique_end : ItemsHaveUniqueNames no_items
+    unique_item : {v : Plain} {vs : Items} → HasUniqueNames v → ItemsHaveUniqueNames vs → ItemsHaveUniqueNames (item v vs)
 
   pub data MembersHaveUniqueNames : Members → Type 0 where
-    no_members : MembersHaveUniqueNames Members.no_members
-    member : {name : List ℕ} {v : Plain} {ms : Members} → LacksMember name ms → HasUniqueNames v → MembersHaveUniqueNames ms → MembersHaveUniqueNames (Members.member name v ms)
+    unique_last : MembersHaveUniqueNames no_members
+    unique_member : {name : List ℕ} {v : Plain} {ms : Members} → LacksMember name ms → HasUniqueNames v → MembersHaveUniqueNames ms → MembersHaveUniqueNames (member name v ms)
 
 module _ (Same : List ℕ → List ℕ → Type 0) where
   mutual
@@ -42,7 +42,7 @@ module _ (Same : List ℕ → List ℕ → Type 0) where
       no_more : AreItemsEqual no_items no_items
       both : {v w : Plain} {vs ws : Items} → AreEqual v w → AreItemsEqual vs ws → AreItemsEqual (item v vs) (item w ws)
 
-    -- each of these members is equal to one of the first ones: it has its name, and a value that is equal
-    pub data AreMembersIn (ns : Members) : Members → Type 0 where
-      none : AreMembersIn ns no_members
-      one : {name : List ℕ} {v w : Plain} {ms : Members} → HasMember name w ns → AreEqual v w → AreMembersIn ns ms → AreMembersIn ns (member name v ms)
+    -- each of the second members is equal to one of the first: it has its name, and a value that is equal
+    pub data AreMembersIn : Members → Members → Type 0 where
+      none : {ns : Members} → AreMembersIn ns no_members
+      one : {ns : Members} {name : List ℕ} {v w : Plain} {ms : Members} → HasMember name w ns → AreEqual v w → AreMembersIn ns ms → AreMembersIn ns (member name v ms)

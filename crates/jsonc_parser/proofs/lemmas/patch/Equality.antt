@@ -147,13 +147,13 @@ module _ (S : List ℕ → List ℕ → Type 0) where
 -- an element of a value without repeated names has none either
 pub unique_item : {A : Type 0} (ws : List (CstInputValue A)) (i : ℕ) (w : CstInputValue A) → ItemsHaveUniqueNames (items_plain ws) → i < length ws → w ≡ get_or ws i w → HasUniqueNames (plain w)
 unique_item [] i w h l e = absurd (omega (arith, l))
-unique_item (x ∷ ws) zero w (equal.item h k) l e = subst (λ v. HasUniqueNames (plain v)) (sym e) h
-unique_item (x ∷ ws) (suc i) w (equal.item h k) l e = unique_item ws i w k (omega (arith, l)) e
+unique_item (x ∷ ws) zero w (equal.unique_item h k) l e = subst (λ v. HasUniqueNames (plain v)) (sym e) h
+unique_item (x ∷ ws) (suc i) w (equal.unique_item h k) l e = unique_item ws i w k (omega (arith, l)) e
 
 pub unique_member : {A : Type 0} (ps : List (String A × CstInputValue A)) (i : ℕ) (p : String A × CstInputValue A) → MembersHaveUniqueNames (members_plain ps) → i < length ps → p ≡ get_or ps i p → HasUniqueNames (plain p.1)
 unique_member [] i p h l e = absurd (omega (arith, l))
-unique_member (x ∷ ps) zero p (equal.member f h k) l e = subst (λ q. HasUniqueNames (plain q.1)) (sym e) h
-unique_member (x ∷ ps) (suc i) p (equal.member f h k) l e = unique_member ps i p k (omega (arith, l)) e
+unique_member (x ∷ ps) zero p (equal.unique_member f h k) l e = subst (λ q. HasUniqueNames (plain q.1)) (sym e) h
+unique_member (x ∷ ps) (suc i) p (equal.unique_member f h k) l e = unique_member ps i p k (omega (arith, l)) e
 
 has_member : {A : Type 0} (ps : List (String A × CstInputValue A)) (i : ℕ) (p : String A × CstInputValue A) → i < length ps → p ≡ get_or ps i p → HasMember (chars_of p.0) (plain p.1) (members_plain ps)
 has_member [] i p l e = absurd (omega (arith, l))
@@ -165,10 +165,10 @@ lacks_it (lacks.other_name other h) this_has = other refl
 lacks_it (lacks.other_name other h) (later_has k) = lacks_it h k
 
 only_one : {name : List ℕ} {v w : Plain} {ns : Members} → MembersHaveUniqueNames ns → HasMember name v ns → HasMember name w ns → v ≡ w
-only_one (equal.member f h k) this_has this_has = refl
-only_one (equal.member f h k) this_has (later_has q) = absurd (lacks_it f q)
-only_one (equal.member f h k) (later_has p) this_has = absurd (lacks_it f p)
-only_one (equal.member f h k) (later_has p) (later_has q) = only_one k p q
+only_one (equal.unique_member f h k) this_has this_has = refl
+only_one (equal.unique_member f h k) this_has (later_has q) = absurd (lacks_it f q)
+only_one (equal.unique_member f h k) (later_has p) this_has = absurd (lacks_it f p)
+only_one (equal.unique_member f h k) (later_has p) (later_has q) = only_one k p q
 
 module _ (S : List ℕ → List ℕ → Type 0) {A : Type 0} where
   -- what is told of the members from this place on is told of all
