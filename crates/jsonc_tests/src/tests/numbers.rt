@@ -153,8 +153,10 @@ static PAIRS: [Pair; 27] = [
 ];
 
 fn compared<A: Allocator + Copy>(alloc: A, pair: &Pair<'_>) -> Outcome {
-    Outcome::of_answer(same_number(alloc, pair.0, pair.1), &pair.2)
-        .then(Outcome::of_answer(same_number(alloc, pair.1, pair.0), &pair.2))
+    Outcome::of_answer(same_number(alloc, pair.0, pair.1), &pair.2).then(Outcome::of_answer(
+        same_number(alloc, pair.1, pair.0),
+        &pair.2,
+    ))
 }
 
 #[test]
