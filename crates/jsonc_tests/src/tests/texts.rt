@@ -10,7 +10,7 @@ use jsonc_parser::{
     JsonObject, JsonValue, LineAndColumn, LineIndex, ParseOptions, line_and_column,
     line_and_column_utf16, parse_to_value, place_of, place_of_utf16, text_change,
 };
-use std::alloc::{AllocError, Allocator};
+use std::alloc::{AllocError, Allocator, Global};
 use std::test::Fail;
 
 /// An old text, a new one, and the change between them.
@@ -208,7 +208,7 @@ fn array_of_strings<A: Allocator>(alloc: A, length: usize) -> Result<String<A>, 
 }
 
 /// Whether a text is parsed to its value by an arena of 4,096 bytes, and to a document by one of so many.
-fn is_parsed_within<A: Allocator + Copy>(alloc: A, text: &str, room: usize) -> bool {
+fn is_parsed_within(alloc: Global, text: &str, room: usize) -> bool {
     let options = ParseOptions::json();
     let (values, documents) = (Bump::new(alloc), Bump::new(alloc));
     values.set_allocation_limit(Some(4_096));
