@@ -21,13 +21,9 @@ import documents
 
 HERE = os.path.dirname(os.path.abspath(__file__))
 REPORT = os.path.join(HERE, "..", "..", "docs", "proofs", "SPEED.md")
-CALLS = ['scan', 'check', 'ast', 'tokens', 'value', 'document', 'print', 'program', 'replaced', 'siblings', 'appended']
+CALLS = ['scan', 'check', 'ast', 'tokens', 'value', 'document', 'print', 'program', 'siblings']
 # Those that are made of an array of numbers, with the kinds of document that they are made of.
-OF_ARRAYS = {'replaced': documents.ARRAYS, 'siblings': documents.ARRAYS, 'appended': ('array',)}
-# How often in a row both programs make a call that lets its document grow.
-IN_A_ROW = {'appended': 1000}
-# So many calls take long, so that this many rounds are enough.
-ROUNDS_IN_A_ROW = 2
+OF_ARRAYS = {'siblings': documents.ARRAYS}
 TARGETS = {'scan': 1, 'ast': 1, 'tokens': 1, 'value': 1, 'document': 4, 'print': 2}
 # What is counted of a call.
 COUNTS = ['instructions', 'misses of 1 MB', 'misses of 32 MB', 'own time', "the system's", 'page faults']
@@ -88,7 +84,7 @@ def calls(program, call, path, settings):
 def taken(runs, rounds, settings=None, falls_short=lambda found: False):
     """What one call took of each run, a program, its call and a text, made in turn, so that all meet what others do on the
     machine. Where they fall short they are made again as often, and once more; of all of them the least counts."""
-    counts = [IN_A_ROW.get(call) or calls(program, call, path, settings) for program, call, path in runs]
+    counts = [calls(program, call, path, settings) for program, call, path in runs]
     found = [([], []) for _ in runs]
     for _ in range(TURNS):
         for _ in range(rounds):
@@ -106,7 +102,6 @@ def timed(programs, call, path, rounds, settings=None):
     if len({run(program, call, 1, path)[1] for program in programs}) > 1:
         sys.exit('the answers of %s differ on %s' % (call, path))
     falls_short = lambda pair: ratio(pair) < TARGETS.get(call, 0)
-    rounds = min(rounds, ROUNDS_IN_A_ROW) if call in IN_A_ROW else rounds
     return taken([(program, call, path) for program in programs], rounds, settings, falls_short)
 
 
