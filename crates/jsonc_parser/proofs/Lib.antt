@@ -3,6 +3,7 @@ pub mod Sorts
 pub mod Promise
 pub mod lemmas
 pub mod Changes
+pub mod ChangesOutside
 pub mod LineIndexing
 pub mod LineWalk
 pub mod NumberLaws
