@@ -6,6 +6,7 @@ pub mod Changes
 pub mod ChangesOutside
 pub mod LineIndexing
 pub mod LineWalk
+pub mod OnePlace
 pub mod NumberLaws
 pub mod NumberScan
 pub mod NumberSigns

@@ -86,8 +86,8 @@ pub fn text_change<'n>(old: &str, new: &'n str) -> TextChange<'n>
 
 /// A stretch of a text by lines and columns, and the text that replaces it.
 ///
-/// Lines and columns count from 1, and a column counts UTF-16 code units. A language server counts both from 0, so take
-/// 1 off each.
+/// Lines and columns count from 1, and a column counts UTF-16 code units. A language server counts both
+/// from 0, so take 1 off each.
 #[derive(Clone, Copy, Debug, PartialEq, Eq)]
 pub struct Utf16Change<'n> {
     /// Where in the old text the stretch begins.
@@ -148,15 +148,17 @@ fn change_outside_cr_lf<'n>(old: &str, new: &'n str) -> TextChange<'n>
     }
 }
 
-/// The smallest change that makes the new text of the old one, by lines and UTF-16 columns.
+/// The change that makes the new text of the old one, by lines and UTF-16 columns, as a language server sends it.
 ///
-/// With the text from `start` to `end` of `old` replaced by `new_text` it is `new`. Lines and columns count from 1, a
-/// column in UTF-16 code units; a line ends at an LF, a CR LF or a CR, as in the Language Server Protocol. The
-/// change neither begins nor ends within a character, or between the CR and the LF of a CR LF, which is no
-/// position there. No other such change begins later, and none that begins there ends earlier. Nothing is allocated, and each text is
-/// passed a few times.
+/// With the text from `start` to `end` of `old` replaced by `new_text` it is `new`. Lines and columns count
+/// from 1, a column in UTF-16 code units. A line ends at an LF, a CR LF or a CR, as in the Language Server
+/// Protocol.
 ///
-/// From `{"a": 1}` to `{"a": 12}` it is `2` from line 1, column 8 to the same.
+/// It neither begins nor ends within a character, or between the CR and the LF of a CR LF, which is no
+/// position there. No other such change begins later, and none that begins at the same place ends
+/// earlier. Nothing is allocated. The time is linear in the texts.
+///
+/// From `{"a": 1}` to `{"a": 12}` it is `2` from line 1, column 8 to the same place.
 pub fn utf16_change<'n>(old: &str, new: &'n str) -> Utf16Change<'n>
     ensures { IsUtf16Change (chars old.now) (chars new.now) result.start result.end (chars result.new_text.now) }
 {
