@@ -1,8 +1,12 @@
 pub mod AtPaths
 pub mod Calls
+pub mod Chosen
 pub mod ChosenEdit
+pub mod ChosenNodes
+pub mod Collapsed
 pub mod Found
 pub mod Index
+pub mod LastNames
 pub mod Leading
 pub mod EditOutcome
 pub mod Members
