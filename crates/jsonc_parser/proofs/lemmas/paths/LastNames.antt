@@ -55,7 +55,7 @@ property_node ns n e = ap (λ c. typed c n) e
 module _ {A : Type 0} (doc : CstRootNode A) (x : CstObject) (name : List ℕ) where
   pub found_typed : (n : ℕ) (node : CstNode) (p : Option CstObjectProp) → LastNamed (nodes_of doc) name (children_at (nodes_of doc) x.number) (Some n) → node ≡ typed_at (nodes_of doc) n → IsAs object_prop_node node p
       → IsChosenNamed Last doc x name p
-  found_typed n node p last is as =
+  found_typed n node p last is kind_of =
       let kind : node ≡ object_prop_node (record { number = n }) = is ∙ property_node (nodes_of doc) n (last_has (nodes_of doc) name (children_at (nodes_of doc) x.number) (Some n) n refl last).0 in
-      let there : p ≡ Some (record { number = n }) = (as (record { number = n })).1 kind in
+      let there : p ≡ Some (record { number = n }) = (kind_of (record { number = n })).1 kind in
       subst (λ (q : Option CstObjectProp). IsChosenNamed Last doc x name q) (sym there) last

@@ -152,7 +152,7 @@ module _ (which : Which) (d : Document) (ns : List Node) (tree : IsTree ns) (sho
       misses first rest =
           let l = lacks first in
           none_behind (name ∷ rest) (λ u a.
-              (let i = in_members (subst (λ k. At (Some k) (name ∷ rest) u) (seen_object which l.0) (subst (λ k. At (Some (seen which k)) (name ∷ rest) u) l.1 a)) in lacking (seen_lacks which l.2) i.1))
+          (let i = in_members (subst (λ k. At (Some k) (name ∷ rest) u) (seen_object which l.0) (subst (λ k. At (Some (seen which k)) (name ∷ rest) u) l.1 a)) in lacking (seen_lacks which l.2) i.1))
 
       -- the property of the name, its number and its value
       pub record Chosen (r : ℕ) : Type 0 where
