@@ -48,9 +48,6 @@ err_always (Ok x) h = tt
 err_always (Err e) h = h
 
 module _ {A : Type 0} (which : Which) (doc : CstRootNode A) where
-  pub escaped_here : (node : CstNode) (x : CstObject) → node ≡ object_node x → HoldsEscapedName (nodes_of doc) x.number → HoldsEscapedName (nodes_of doc) (number_of node)
-  escaped_here node x is h = subst (λ (k : CstNode). HoldsEscapedName (nodes_of doc) (number_of k)) (sym is) h
-
   pub way_without_value : IsTree (nodes_of doc) → None ≡ value_under doc 0 → (names : List (List ℕ)) → TellsTheWay which (nodes_of doc) names false
   way_without_value tree e names d shown = decides_no (λ s. blocked_none s (ap (seen_if which) (reached_nothing which doc tree e d shown) ∙ seen_none which))
 
@@ -105,6 +102,9 @@ module _ {A : Type 0} (which : Which) (doc : CstRootNode A) where
         (subst (λ (v : Option Plain). StandsInTheWay v (names_of names)) (seen_some which w.value) (subst (λ (v : Option Plain). StandsInTheWay (seen_if which v) (names_of names)) w.is stands)))))
 
 module _ {A : Type 0} (doc : CstRootNode A) where
+  pub escaped_here : (node : CstNode) (x : CstObject) → node ≡ object_node x → HoldsEscapedName (nodes_of doc) x.number → HoldsEscapedName (nodes_of doc) (number_of node)
+  escaped_here node x is h = subst (λ (k : CstNode). HoldsEscapedName (nodes_of doc) (number_of k)) (sym is) h
+
   -- what stands at names where they lead to a node
   pub something_found : (names : List (List ℕ)) (node : CstNode) → FindsWhatShown doc names (Some node) → WantsForSomething (nodes_of doc) names
   something_found names node found d shown = (let w = found d shown in inr (w.v, w.stands))

@@ -30,4 +30,4 @@ returns-in-None-clause-step g c =
     (sym c.in-None.is ∙ c.value.ensures.value)
 
 pub returns-in-Err-clause-escaped : goal.returns-in-Err-clause-escaped
-returns-in-Err-clause-escaped g c = escaped_here c.args.which c.args.doc.now c.args.node c.in-Some.object ((c.as_object.ensures c.in-Some.object).0 c.in-Some.is) c.in-Err.ensures.escaped
+returns-in-Err-clause-escaped g c = escaped_here c.args.doc.now c.args.node c.in-Some.object ((c.as_object.ensures c.in-Some.object).0 c.in-Some.is) c.in-Err.ensures.escaped
