@@ -53,9 +53,9 @@ last_first : {name : List ℕ} {v : Plain} {i : ℕ} {ms : Members} → LastAt n
 last_first {v = v} (last_one l) = first_alone v l
 last_first (last_later {n = n} {w = w} {ms = ms} f) = first_behind n w ms (last_first f)
 
-pub chosen_first : (which : Which) {name : List ℕ} {v : Plain} {i : ℕ} {ms : Members} → IsChosenAt which name v i ms → FirstIs name (seen which v) (seen_members which ms)
-chosen_first First f = at_first f
-chosen_first Last f = last_first f
+pub chosen_first : (which : Which) (name : List ℕ) (v : Plain) (i : ℕ) (ms : Members) → IsChosenAt which name v i ms → FirstIs name (seen which v) (seen_members which ms)
+chosen_first First name v i ms f = at_first f
+chosen_first Last name v i ms f = last_first f
 
 -- where it has become another
 pub at_changes : {name : List ℕ} {v was now : Plain} {i : ℕ} {ms ns : Members} → FirstAt name v i ms → MemberChanged was now i ms ns → (v ≡ was) × FirstBecomes name was now ms ns
@@ -81,9 +81,9 @@ last_itself : {name : List ℕ} {v : Plain} {i : ℕ} {ms : Members} → LastAt 
 last_itself (last_one l) = this_member
 last_itself (last_later f) = later_member (last_itself f)
 
-pub chosen_itself : (which : Which) {name : List ℕ} {v : Plain} {i : ℕ} {ms : Members} → IsChosenAt which name v i ms → MemberChanged v v i ms ms
-chosen_itself First f = at_itself f
-chosen_itself Last f = last_itself f
+pub chosen_itself : (which : Which) (name : List ℕ) (v : Plain) (i : ℕ) (ms : Members) → IsChosenAt which name v i ms → MemberChanged v v i ms ms
+chosen_itself First name v i ms f = at_itself f
+chosen_itself Last name v i ms f = last_itself f
 
 at_within : {name : List ℕ} {v : Plain} {i : ℕ} {ms : Members} → FirstAt name v i ms → i < member_count ms
 at_within (this_at {ms = ms}) = omega arith
@@ -93,9 +93,9 @@ last_within : {name : List ℕ} {v : Plain} {i : ℕ} {ms : Members} → LastAt 
 last_within (last_one {ms = ms} l) = omega arith
 last_within (last_later {i = i} {ms = ms} f) = let h = last_within f in omega (arith, h)
 
-pub chosen_within : (which : Which) {name : List ℕ} {v : Plain} {i : ℕ} {ms : Members} → IsChosenAt which name v i ms → i < member_count ms
-chosen_within First f = at_within f
-chosen_within Last f = last_within f
+pub chosen_within : (which : Which) (name : List ℕ) (v : Plain) (i : ℕ) (ms : Members) → IsChosenAt which name v i ms → i < member_count ms
+chosen_within First name v i ms f = at_within f
+chosen_within Last name v i ms f = last_within f
 
 -- one of a name that none had, put behind all, comes last
 comes_behind_all : {name : List ℕ} {v : Plain} {ms ns : Members} {i : ℕ} → i ≡ member_count ms → LacksMember name ms → MemberInserted name v i ms ns → ComesLast name v ms ns

@@ -1,5 +1,5 @@
 -- What is found of a name among the children of an object, the first property of it or the last, and the properties of the object's value.
-use Rattle.std.proofs.Common.{ℕ, suc, ◌≡◌, ◌≢◌, ◌<◌, ◌∙◌, ◌++◌, sym, ap, subst, refl, true, List, [], ◌∷◌, length, take, filter, slice_get, get_or, Option, Some, None, IsTrue, Unit, inl, inr, arith}
+use Rattle.std.proofs.Common.{ℕ, zero, suc, ◌≡◌, ◌≢◌, ◌<◌, ◌∙◌, ◌++◌, sym, ap, subst, refl, Bool, true, List, [], ◌∷◌, length, filter, slice_get, get_or, Option, Some, None, IsTrue, inl, inr, arith}
 use Rattle.std.proofs.lemmas.Bool.{cases_Bool}
 use Rattle.std.specs.List.{All}
 use Rattle.jsonc_text.specs.Options.{Options}
@@ -19,18 +19,30 @@ use Rattle.jsonc_sound.specs.SoundTrees.{SoundTree}
 use Rattle.jsonc_sound.proofs.FirstNodes.{no_element}
 use Rattle.jsonc_edit.specs.Changes.{row_below}
 use Rattle.jsonc_edit.specs.Paths.{IsAt, IsElementOf}
-use Rattle.jsonc_edit.proofs.Elements.{found_among, taken, left}
+use Rattle.jsonc_edit.proofs.Elements.{taken, left}
 use Rattle.jsonc_edit.proofs.FittingNodes.{over_there}
 use Rattle.jsonc_edit.proofs.Uniqueness.{element_parent}
 use Rattle.jsonc_edit.proofs.ChangesUpward.{Shows-row_below}
 use Rattle.jsonc_edit.proofs.lemmas.set.PropertyRows.{over_at}
-use Rattle.jsonc_insert.specs.named.Members.{LacksMember, IsFirstMember, first_is, first_later, other_name}
+use Rattle.jsonc_insert.specs.named.Members.{LacksMember, IsFirstMember, first_is, first_later, no_more, other_name}
 use Rattle.jsonc_insert.proofs.lemmas.named.Names.{Among, IsWhole, members_found}
 use Rattle.jsonc_insert.proofs.lemmas.named.PropertyValues.{property_row}
 use Rattle.jsonc_parser.specs.paths.Settings.{FirstAt, this_at, later_at}
 use Rattle.jsonc_parser.specs.paths.Which.{IsChosenAt, IsChosenIn, LastAt, last_one, last_later, LastNamed, none_named, last_named}
 use Rattle.jsonc_parser.specs.declared.paths.which.Which.{Which}
 use Rattle.jsonc_parser.specs.declared.paths.which.Which.TheVariants.{First, Last}
+
+-- a node that passes is one of those that pass (as in jsonc_insert/proofs/lemmas/named/Writing.antt)
+module _ (test : ℕ → Bool) where
+  at_filter : (xs : List ℕ) (k d : ℕ) → k < length xs → test (get_or xs k d) ≡ true → (i : ℕ) × (slice_get (filter test xs) i ≡ Some (get_or xs k d))
+  at_filter [] k d h is = absurd (omega (arith, h))
+  at_filter (x ∷ xs) zero d h is = (0, ap (λ l. slice_get l 0) (taken test x xs is))
+  at_filter (x ∷ xs) (suc k) d h is =
+      let later = at_filter xs k d (omega (arith, h)) is in
+      elim (cases_Bool (test x)) [
+        | inl p ↦ (suc later.0, ap (λ l. slice_get l (suc later.0)) (taken test x xs p) ∙ later.1)
+        | inr p ↦ (later.0, ap (λ l. slice_get l later.0) (left test x xs p) ∙ later.1)
+      ]
 
 -- the first member of a name has a value
 pub value_of_first : {name : List ℕ} {i : ℕ} {ms : Members} → IsFirstMember name i ms → (v : Plain) × FirstAt name v i ms
@@ -45,6 +57,7 @@ first_named ns name _ _ r e (names.later {rest = rest} {found = found} other f) 
 
 -- a member that none is
 none_first : {name : List ℕ} {i : ℕ} {ms : Members} → LacksMember name ms → IsFirstMember name i ms → ⊥
+none_first no_more f = elim f [ ]
 none_first (other_name ne l) first_is = ne refl
 none_first (other_name ne l) (first_later other f) = none_first l f
 
@@ -73,25 +86,25 @@ module _ (o : Options) (ns : List Node) (name : List ℕ) where
 
   here : (n : ℕ) (rest : List ℕ) (row same : OrderedTree) (ms : Members) → Shows ns (n ∷ rest) row → MembersOf o same ms → row ≡ same → All (IsWhole o ns) (n ∷ rest) → IsNamed ns name n → FirstNamed ns name rest None
       → LastInRow (n ∷ rest) n ms
-  here n rest _ _ _ (shows_more p q) values.no_more_members e whole is none = cc
+  here n rest _ _ _ (shows_more p q) values.no_more_members e whole is alone = cc
   here n rest _ _ _ (shows_more p q) (values.pass_to_members {content = w} h g) e whole is none =
       let kind : content_at ns n ≡ w = cc in
       absurd (no_element w (ap is_element (sym kind ∙ is.0)) h)
   here n rest _ _ _ (shows_more {below = below} {after = after} p q) (values.one_member {below = b} {after = a} {name = m} {v = v} {ms = ms} h g) e whole is none =
       let tail : after ≡ a = cc in
-      let lacks : LacksMember name ms = members_found o ns rest after a ms name None q g tail (others_whole n rest whole) none in
+      let lacks : LacksMember name ms = members_found o ns rest after a ms name None q g tail (others_whole n rest whole) alone in
       let first = members_found o ns (n ∷ rest) _ _ (member m v ms) name (Some n) (shows_more p q) (values.one_member {below = b} {after = a} {name = m} {v = v} {ms = ms} h g) e whole (names.here is) in
       let same : m ≡ name = has_name m v ms first.0 lacks first.2 in
       (0, ap (λ l. slice_get l 0) (taken (is_element_at ns) n rest (ap is_element is.0)), v, subst (λ k. LastAt name v 0 (member k v ms)) (sym same) (last_one lacks))
 
   in_row : (front : List ℕ) (n : ℕ) (rest : List ℕ) (row same : OrderedTree) (ms : Members) → Shows ns (front ++ n ∷ rest) row → MembersOf o same ms → row ≡ same → All (IsWhole o ns) (front ++ n ∷ rest)
       → IsNamed ns name n → FirstNamed ns name rest None → LastInRow (front ++ n ∷ rest) n ms
-  in_row [] n rest row same ms shows members e whole is none = here n rest row same ms shows members e whole is none
-  in_row (k ∷ front) n rest _ _ _ (shows_more p q) values.no_more_members e whole is none = cc
+  in_row [] n rest row same ms shows members e whole is alone = here n rest row same ms shows members e whole is alone
+  in_row (k ∷ front) n rest _ _ _ (shows_more p q) values.no_more_members e whole is alone = cc
   in_row (k ∷ front) n rest _ _ ms (shows_more {after = after} p q) (values.pass_to_members {content = w} {after = a} h g) e whole is none =
       let kind : content_at ns k ≡ w = cc in
       let tail : after ≡ a = cc in
-      let inner = in_row front n rest after a ms q g tail (others_whole k (front ++ n ∷ rest) whole) is none in
+      let inner = in_row front n rest after a ms q g tail (others_whole k (front ++ n ∷ rest) whole) is alone in
       elim (cases_Bool (is_element_at ns k)) [
         | inl element ↦ absurd (no_element w (sym (ap is_element kind) ∙ element) h)
         | inr other ↦ (inner.0, ap (λ l. slice_get l inner.0) (left (is_element_at ns) k (front ++ n ∷ rest) other) ∙ inner.1, inner.2, inner.3)
@@ -99,7 +112,7 @@ module _ (o : Options) (ns : List Node) (name : List ℕ) where
   in_row (k ∷ front) n rest _ _ _ (shows_more {after = after} p q) (values.one_member {after = a} {ms = ms} h g) e whole is none =
       let kind : content_at ns k ≡ property = cc in
       let tail : after ≡ a = cc in
-      let inner = in_row front n rest after a ms q g tail (others_whole k (front ++ n ∷ rest) whole) is none in
+      let inner = in_row front n rest after a ms q g tail (others_whole k (front ++ n ∷ rest) whole) is alone in
       (suc inner.0, ap (λ l. slice_get l (suc inner.0)) (taken (is_element_at ns) k (front ++ n ∷ rest) (ap is_element kind)) ∙ inner.1, inner.2, last_later inner.3)
 
 module _ (o : Options) (ns : List Node) (path : List ℕ) (c : ℕ) (tree : IsTree ns) (sound : SoundTree o (ordered_tree ns 0)) (at : IsAt ns path c) (is : content_at ns c ≡ object) (ms : Members)
@@ -110,10 +123,9 @@ module _ (o : Options) (ns : List Node) (path : List ℕ) (c : ℕ) (tree : IsTr
   whole : All (IsWhole o ns) (children_at ns c)
   whole = λ k d h kind row p.
       let r = get_or (children_at ns c) k d in
-      let element = found_among (is_element_at ns) (children_at ns c) k h (ap is_element kind) in
-      let i = length (filter (is_element_at ns) (take k (children_at ns c))) in
-      let alone = property_row o ns tree sound path c i r at (record { of_object = is; element = element; is = kind }) in
-      subst (PropertyAlone o) (Shows-unique ns (children_at ns r) (row_below ns r) row (Shows-row_below ns tree r ((parent_there ns tree r c (element_parent ns tree c i r element)).0)) p) alone
+      let element = at_filter (is_element_at ns) (children_at ns c) k d h (ap is_element kind) in
+      let alone = property_row o ns tree sound path c element.0 r at (record { of_object = is; element = element.1; is = kind }) in
+      subst (PropertyAlone o) (Shows-unique ns (children_at ns r) (row_below ns r) row (Shows-row_below ns tree r ((parent_there ns tree r c (element_parent ns tree c element.0 r element.1)).0)) p) alone
 
   first_among : (found : Option ℕ) → FirstNamed ns name (children_at ns c) found → Among o ns (children_at ns c) name found ms
   first_among found first = members_found o ns (children_at ns c) (row_below ns c) (row_below ns c) ms name found (Shows-row_below ns tree c there) below refl whole first
@@ -127,9 +139,9 @@ module _ (o : Options) (ns : List Node) (path : List ℕ) (c : ℕ) (tree : IsTr
 
   last_chosen : (found : Option ℕ) (xs : List ℕ) → xs ≡ children_at ns c → LastNamed ns name xs found → ChosenAmong ns c name Last found ms
   last_chosen _ xs e (none_named first) = first_among None (subst (λ l. FirstNamed ns name l None) e first)
-  last_chosen _ _ e (last_named front {n = n} {rest = rest} named none) =
+  last_chosen _ _ e (last_named front {n = n} {rest = rest} named alone) =
       let shows = subst (λ l. Shows ns l (row_below ns c)) (sym e) (Shows-row_below ns tree c there) in
-      let found = in_row o ns name front n rest (row_below ns c) (row_below ns c) ms shows below refl (subst (λ l. All (IsWhole o ns) l) (sym e) whole) named none in
+      let found = in_row o ns name front n rest (row_below ns c) (row_below ns c) ms shows below refl (subst (λ l. All (IsWhole o ns) l) (sym e) whole) named alone in
       (found.0, ap (λ l. slice_get (filter (is_element_at ns) l) found.0) (sym e) ∙ found.1, found.2, found.3)
 
   pub chosen_among : (which : Which) (found : Option ℕ) → IsChosenIn which ns c name found → ChosenAmong ns c name which found ms
@@ -139,7 +151,7 @@ module _ (o : Options) (ns : List Node) (path : List ℕ) (c : ℕ) (tree : IsTr
 -- what is found has the name
 pub last_has : (ns : List Node) (name xs : List ℕ) (found : Option ℕ) (r : ℕ) → found ≡ Some r → LastNamed ns name xs found → IsNamed ns name r
 last_has ns name _ _ r e (none_named first) = let wrong : None ≡ Some r = e in cc
-last_has ns name _ _ r e (last_named front {n = n} named none) = let same : n ≡ r = cc in subst (IsNamed ns name) same named
+last_has ns name _ _ r e (last_named front {n = n} named alone) = let same : n ≡ r = cc in subst (IsNamed ns name) same named
 
 pub chosen_named : (which : Which) (ns : List Node) (c : ℕ) (name : List ℕ) (r : ℕ) → IsChosenIn which ns c name (Some r) → IsNamed ns name r
 chosen_named First ns c name r first = first_named ns name (children_at ns c) (Some r) r refl first

@@ -1,5 +1,5 @@
 -- What an operation at the positions that names lead over makes of a value.
-use Rattle.std.proofs.Common.{ℕ, suc, min, ◌≡◌, ◌≤◌, ◌<◌, sym, ap, subst, refl, List, [], ◌∷◌, ◌++◌, Option, Some, None, arith}
+use Rattle.std.proofs.Common.{ℕ, suc, min, ◌≡◌, ◌∙◌, ◌≤◌, ◌<◌, sym, ap, subst, refl, List, [], ◌∷◌, ◌++◌, Option, Some, None, arith}
 use Rattle.jsonc_text.specs.Plain.{Plain, Items, Members, no_members, member}
 use Rattle.jsonc_text.specs.Plain as plain
 use Rattle.jsonc_text.specs.declared.edit.Over.{Over}
@@ -32,8 +32,8 @@ first_at (later_one ne f) = let g = first_at f in (suc g.0, later_at ne g.1)
 -- what names lead to stands there, and the other way round
 pub leads_at : {which : Which} {names : List (List ℕ)} {path : List ℕ} {x v : Plain} → Leads which names path x v → At (Some (seen which x)) names (seen which v)
 leads_at leads_nowhere = settings.itself
-leads_at {which} {v = v} (leads_on {name = name} {names = names} {ms = ms} f l) =
-    subst (λ x. At (Some x) (name ∷ names) (seen which v)) (sym (seen_object which ms)) (settings.in_object (chosen_first which f) (leads_at l))
+leads_at {which} {v = v} (leads_on {name = name} {names = names} {i = i} {ms = ms} {x = x} f l) =
+    subst (λ x. At (Some x) (name ∷ names) (seen which v)) (sym (seen_object which ms)) (settings.in_object (chosen_first which name x i ms f) (leads_at l))
 
 at_leads : {names : List (List ℕ)} {w : Option Plain} {v : Plain} → At w names v → (x : Plain) × (w ≡ Some x) × (path : List ℕ) × Leads First names path x v
 at_leads (settings.itself {v = v}) = (v, refl, [], leads_nowhere)
@@ -46,7 +46,7 @@ at_leads (settings.in_object {names = names} {ms = ms} {x = x} {v = v} f a) =
 -- at the positions that names lead over stands what they lead to
 pub leads_changed : {which : Which} {names : List (List ℕ)} {path : List ℕ} {x v : Plain} → Leads which names path x v → Changed v v path x x
 leads_changed leads_nowhere = itself
-leads_changed {which} (leads_on f l) = in_object (chosen_itself which f) (leads_changed l)
+leads_changed {which} (leads_on {name = name} {i = i} {ms = ms} {x = x} f l) = in_object (chosen_itself which name x i ms f) (leads_changed l)
 
 pub leads_value : {which : Which} {names : List (List ℕ)} {path : List ℕ} {x y v was now : Plain} → Leads which names path x v → Changed was now path x y → v ≡ was
 leads_value leads_nowhere itself = refl
@@ -290,10 +290,10 @@ last_step (leads_on {i = i} f (leads_on {name = n} {names = ns} g l)) name rest 
 put_named : {which : Which} {v : Plain} {over : Over} {w : Option Plain} {names : List (List ℕ)} {e : Operation} (count : ℕ) → IsPutBy which v over w names e → IsNamed w count e
 put_named count sets_root = tt
 put_named count sets_first = tt
-put_named {which} count (sets_value {name = name} {names = names} {path = path} {x = x} l) =
+put_named {which} count (sets_value {name = name} {names = names} {path = path} {x = x} {was = was} l) =
     let p = last_step l name names refl in
     let n = last_name l p.0 p.1 p.2 in
-    (p.0, p.1, n.ms, p.2, stands n.leads, chosen_within which n.at)
+    (p.0, p.1, n.ms, p.2, stands n.leads, chosen_within which n.name was p.1 n.ms n.at)
 put_named count (appends front rest {ms = ms} l lacks) = (ms, stands l)
 put_named count (replaces front rest {other = other} l non how) = (other, stands l)
 

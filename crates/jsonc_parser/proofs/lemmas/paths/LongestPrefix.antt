@@ -47,8 +47,8 @@ reaches x (name ∷ names) =
 pub in_the_way : {which : Which} {front : List (List ℕ)} {path : List ℕ} {x other : Plain} (name : List ℕ) (rest : List (List ℕ)) → Leads which front path x other → IsNoObject other
     → StandsInTheWay (Some (seen which x)) (front ++ name ∷ rest)
 in_the_way {which} name rest leads_nowhere non = this_stands (seen_other which non)
-in_the_way {which} name rest (leads_on {name = n} {names = names} {ms = ms} f l) non =
-    subst (λ k. StandsInTheWay (Some k) (n ∷ names ++ name ∷ rest)) (sym (seen_object which ms)) (inner_stands (chosen_first which f) (in_the_way name rest l non))
+in_the_way {which} name rest (leads_on {name = n} {names = names} {i = i} {ms = ms} {x = x} f l) non =
+    subst (λ k. StandsInTheWay (Some k) (n ∷ names ++ name ∷ rest)) (sym (seen_object which ms)) (inner_stands (chosen_first which n x i ms f) (in_the_way name rest l non))
 
 by_reach : (v : Plain) (over : Over) {x : Plain} {names : List (List ℕ)} → Reaches x names → IsPutByOne v over (Some x) names
 by_reach v over (to_value leads_nowhere) = inl (set_root v, sets_root)
@@ -73,16 +73,16 @@ lacking (other_name ne l) (later_one other f) = lacking l f
 
 pub led_all : {which : Which} {names : List (List ℕ)} {path : List ℕ} {x v : Plain} → Leads which names path x v → StandsInTheWay (Some (seen which x)) names → ⊥
 led_all leads_nowhere s = blocked_end s refl
-led_all {which} (leads_on {name = name} {names = names} {ms = ms} f l) s =
-    let b = blocked s name names (seen_members which ms) refl (ap (λ x. Some x) (seen_object which ms)) in
-    led_all l (subst (λ (k : Plain). StandsInTheWay (Some k) names) (first_once b.first (chosen_first which f)) b.rest)
+led_all {which} (leads_on {name = name} {names = names} {i = i} {ms = ms} {x = x} f l) s =
+    let b = blocked s name names (seen_members which ms) refl (ap (λ k. Some k) (seen_object which ms)) in
+    led_all l (subst (λ (k : Plain). StandsInTheWay (Some k) names) (first_once b.first (chosen_first which name x i ms f)) b.rest)
 
 led_there : {which : Which} {front : List (List ℕ)} {path : List ℕ} {x v : Plain} (rest : List (List ℕ)) → Leads which front path x v → StandsInTheWay (Some (seen which x)) (front ++ rest)
     → StandsInTheWay (Some (seen which v)) rest
 led_there rest leads_nowhere s = s
-led_there {which} rest (leads_on {name = name} {names = names} {ms = ms} f l) s =
-    let b = blocked s name (names ++ rest) (seen_members which ms) refl (ap (λ x. Some x) (seen_object which ms)) in
-    led_there rest l (subst (λ (k : Plain). StandsInTheWay (Some k) (names ++ rest)) (first_once b.first (chosen_first which f)) b.rest)
+led_there {which} rest (leads_on {name = name} {names = names} {i = i} {ms = ms} {x = x} f l) s =
+    let b = blocked s name (names ++ rest) (seen_members which ms) refl (ap (λ k. Some k) (seen_object which ms)) in
+    led_there rest l (subst (λ (k : Plain). StandsInTheWay (Some k) (names ++ rest)) (first_once b.first (chosen_first which name x i ms f)) b.rest)
 
 -- in the value of a document
 in_value : (which : Which) (x : Plain) (names : List (List ℕ)) → StandsInTheWay (seen_if which (Some x)) names → StandsInTheWay (Some (seen which x)) names

@@ -54,9 +54,9 @@ leads_further (leads_on g l) f = leads_on g (leads_further l f)
 pub behind : {which : Which} {front : List (List ℕ)} {path : List ℕ} {x v u : Plain} (rest : List (List ℕ)) → Leads which front path x v → At (Some (seen which x)) (front ++ rest) u
     → At (Some (seen which v)) rest u
 behind rest leads_nowhere a = a
-behind {which} {u = u} rest (leads_on {name = name} {names = names} {ms = ms} f l) a =
-    let i = in_members (subst (λ k. At (Some k) (name ∷ names ++ rest) u) (seen_object which ms) a) in
-    behind rest l (subst (λ k. At (Some k) (names ++ rest) u) (first_once i.1 (chosen_first which f)) i.2)
+behind {which} {u = u} rest (leads_on {name = name} {names = names} {i = k} {ms = ms} {x = x} f l) a =
+    let i = in_members (subst (λ y. At (Some y) (name ∷ names ++ rest) u) (seen_object which ms) a) in
+    behind rest l (subst (λ y. At (Some y) (names ++ rest) u) (first_once i.1 (chosen_first which name x k ms f)) i.2)
 
 -- an object's node has an object's value
 object_members : {o : Options} {c : Content} {below : OrderedTree} {v : Plain} → c ≡ content.object → ValueOf o c below v → (ms : Members) × (v ≡ plain.object ms) × MembersOf o below ms
