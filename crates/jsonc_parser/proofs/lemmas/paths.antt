@@ -13,6 +13,7 @@ pub mod Members
 pub mod UniqueValues
 pub mod Paths
 pub mod LongestPrefix
+pub mod ReadBack
 pub mod Routes
 pub mod NodesAtNames
 pub mod OneName

@@ -87,10 +87,10 @@ module _ (o : Options) (ns : List Node) (name : List ℕ) where
   here : (n : ℕ) (rest : List ℕ) (row same : OrderedTree) (ms : Members) → Shows ns (n ∷ rest) row → MembersOf o same ms → row ≡ same → All (IsWhole o ns) (n ∷ rest) → IsNamed ns name n → FirstNamed ns name rest None
       → LastInRow (n ∷ rest) n ms
   here n rest _ _ _ (shows_more p q) values.no_more_members e whole is alone = cc
-  here n rest _ _ _ (shows_more p q) (values.pass_to_members {content = w} h g) e whole is none =
+  here n rest _ _ _ (shows_more p q) (values.pass_to_members {content = w} h g) e whole is alone =
       let kind : content_at ns n ≡ w = cc in
       absurd (no_element w (ap is_element (sym kind ∙ is.0)) h)
-  here n rest _ _ _ (shows_more {below = below} {after = after} p q) (values.one_member {below = b} {after = a} {name = m} {v = v} {ms = ms} h g) e whole is none =
+  here n rest _ _ _ (shows_more {below = below} {after = after} p q) (values.one_member {below = b} {after = a} {name = m} {v = v} {ms = ms} h g) e whole is alone =
       let tail : after ≡ a = cc in
       let lacks : LacksMember name ms = members_found o ns rest after a ms name None q g tail (others_whole n rest whole) alone in
       let first = members_found o ns (n ∷ rest) _ _ (member m v ms) name (Some n) (shows_more p q) (values.one_member {below = b} {after = a} {name = m} {v = v} {ms = ms} h g) e whole (names.here is) in
@@ -101,7 +101,7 @@ module _ (o : Options) (ns : List Node) (name : List ℕ) where
       → IsNamed ns name n → FirstNamed ns name rest None → LastInRow (front ++ n ∷ rest) n ms
   in_row [] n rest row same ms shows members e whole is alone = here n rest row same ms shows members e whole is alone
   in_row (k ∷ front) n rest _ _ _ (shows_more p q) values.no_more_members e whole is alone = cc
-  in_row (k ∷ front) n rest _ _ ms (shows_more {after = after} p q) (values.pass_to_members {content = w} {after = a} h g) e whole is none =
+  in_row (k ∷ front) n rest _ _ ms (shows_more {after = after} p q) (values.pass_to_members {content = w} {after = a} h g) e whole is alone =
       let kind : content_at ns k ≡ w = cc in
       let tail : after ≡ a = cc in
       let inner = in_row front n rest after a ms q g tail (others_whole k (front ++ n ∷ rest) whole) is alone in
@@ -109,7 +109,7 @@ module _ (o : Options) (ns : List Node) (name : List ℕ) where
         | inl element ↦ absurd (no_element w (sym (ap is_element kind) ∙ element) h)
         | inr other ↦ (inner.0, ap (λ l. slice_get l inner.0) (left (is_element_at ns) k (front ++ n ∷ rest) other) ∙ inner.1, inner.2, inner.3)
       ]
-  in_row (k ∷ front) n rest _ _ _ (shows_more {after = after} p q) (values.one_member {after = a} {ms = ms} h g) e whole is none =
+  in_row (k ∷ front) n rest _ _ _ (shows_more {after = after} p q) (values.one_member {after = a} {ms = ms} h g) e whole is alone =
       let kind : content_at ns k ≡ property = cc in
       let tail : after ≡ a = cc in
       let inner = in_row front n rest after a ms q g tail (others_whole k (front ++ n ∷ rest) whole) is alone in
