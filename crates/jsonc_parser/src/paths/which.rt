@@ -51,7 +51,7 @@ fn last_property<A: Allocator + Copy>(
     name: &str,
 ) -> Result<Option<CstObjectProp>, EditError>
     requires { HasNode doc.now (object_node object) }
-    ensures found { IfOk result (IsChosenNamed Last doc.now object (chars name.now)) }
+    ensures found { IfOk result (IsChosenNamed Which.Last doc.now object (chars name.now)) }
     ensures in_document { IfOk result (λ o. IfSome o (λ p. HasNode doc.now (object_prop_node p))) }
     ensures memory { IfErr result (λ e. e ≡ EditError.OutOfMemory) }
     ensures escaped { OnErr result (HoldsEscapedName (nodes_of doc.now) object.number) }

@@ -22,14 +22,14 @@ module _ (ns : List Node) (v : List ℕ) where
 
   -- behind one more node
   one_more : (n : ℕ) (rest : List ℕ) (last : Option ℕ) (m : ℕ) → last ≡ Some m → LastNamed ns v rest last → LastNamed ns v (n ∷ rest) (Some m)
-  one_more n rest _ m e (none_named none) = let wrong : None ≡ Some m = e in cc
-  one_more n _ _ m e (last_named front {n = k} {rest = rest} named none) =
+  one_more n rest _ m e (none_named alone) = let wrong : None ≡ Some m = e in cc
+  one_more n _ _ m e (last_named front {n = k} {rest = rest} named alone) =
       let same : k ≡ m = cc in
-      subst (λ l. LastNamed ns v (n ∷ (front ++ k ∷ rest)) (Some l)) same (last_named (n ∷ front) named none)
+      subst (λ l. LastNamed ns v (n ∷ (front ++ k ∷ rest)) (Some l)) same (last_named (n ∷ front) named alone)
 
   -- at the front of all
   pub last_of_all : (row : List ℕ) (last : Option ℕ) → LastFrom None row last → LastNamed ns v row last
-  last_of_all row _ (no_later none) = none_named none
+  last_of_all row _ (no_later alone) = none_named alone
   last_of_all row _ (later l) = l
 
   -- no more nodes come
@@ -39,12 +39,12 @@ module _ (ns : List Node) (v : List ℕ) where
   module _ (row : List ℕ) (n : ℕ) (rest : List ℕ) (e : row ≡ n ∷ rest) where
     -- past a node without the name
     pub past_another : (IsNamed ns v n → ⊥) → (found last : Option ℕ) → LastFrom found rest last → LastFrom found row last
-    past_another other found _ (no_later none) = no_later (subst (λ l. FirstNamed ns v l None) (sym e) (names.later other none))
+    past_another other found _ (no_later alone) = no_later (subst (λ l. FirstNamed ns v l None) (sym e) (names.later other alone))
     past_another other found _ (later {last = m} l) = subst (λ r. LastFrom found r (Some m)) (sym e) (later (one_more n rest (Some m) m refl l))
 
     -- past one with it, which is found then
     pub past_named : IsNamed ns v n → (found last : Option ℕ) → LastFrom (Some n) rest last → LastFrom found row last
-    past_named named found _ (no_later none) = subst (λ r. LastFrom found r (Some n)) (sym e) (later (last_named [] named none))
+    past_named named found _ (no_later alone) = subst (λ r. LastFrom found r (Some n)) (sym e) (later (last_named [] named alone))
     past_named named found _ (later {last = m} l) = subst (λ r. LastFrom found r (Some m)) (sym e) (later (one_more n rest (Some m) m refl l))
 
 -- a node that has a name is a property

@@ -45,10 +45,10 @@ use Rattle.jsonc_parser.proofs.lemmas.paths.LongestPrefix.{lacking}
 use Rattle.jsonc_parser.specs.paths.Standing.{NamesNode, NamesNothing, BeginsThere, StopsThere, LeadsOn}
 
 -- names lead further
-leads_further : {which : Which} {front : List (List ℕ)} {path : List ℕ} {x y : Plain} {name : List ℕ} {i : ℕ} {ms : Members} → Leads which front path x (plain.object ms) → IsChosenAt which name y i ms
+leads_further : {which : Which} {front : List (List ℕ)} {path : List ℕ} {x y : Plain} (name : List ℕ) (i : ℕ) {ms : Members} → Leads which front path x (plain.object ms) → IsChosenAt which name y i ms
     → Leads which (front ++ name ∷ []) (path ++ i ∷ []) x y
-leads_further leads_nowhere f = leads_on f leads_nowhere
-leads_further (leads_on g l) f = leads_on g (leads_further l f)
+leads_further name i leads_nowhere f = leads_on f leads_nowhere
+leads_further name i (leads_on g l) f = leads_on g (leads_further name i l f)
 
 -- what stands behind the names that lead to a value stands at the others in it
 pub behind : {which : Which} {front : List (List ℕ)} {path : List ℕ} {x v u : Plain} (rest : List (List ℕ)) → Leads which front path x v → At (Some (seen which x)) (front ++ rest) u
@@ -146,7 +146,7 @@ module _ (which : Which) (d : Document) (ns : List Node) (tree : IsTree ns) (sho
       among found = chosen_among d.options ns w.path n tree shown.sound w.at is its_members.0 its_members.2 name which found
 
       pub lacks : IsChosenIn which ns n name None → (ms : Members) × (w.v ≡ plain.object ms) × LacksMember name ms
-      lacks none = (its_members.0, its_members.1, among None none)
+      lacks missing = (its_members.0, its_members.1, among None missing)
 
       pub misses : IsChosenIn which ns n name None → (rest : List (List ℕ)) → NamesNothing which d (names ++ name ∷ rest)
       misses first rest =
@@ -187,7 +187,7 @@ module _ (which : Which) (d : Document) (ns : List Node) (tree : IsTree ns) (sho
           let both : Some held.value ≡ Some q = sym held.holds ∙ e in
           let same : held.value ≡ q = cc in
           let further = named (names ++ name ∷ []) (w.path ++ f.number ∷ []) q (subst (IsAt ns (w.path ++ f.number ∷ [])) same held.at) w.value f.v w.is
-          (leads_further (subst (Leads which names w.path w.value) f.its w.leads) f.first) in
+          (leads_further name f.number (subst (Leads which names w.path w.value) f.its w.leads) f.first) in
           (f.number, f.inside.element, further, refl)
 
       pub holds_some : (r : ℕ) → IsChosenIn which ns n name (Some r) → value_at ns r ≡ None → ⊥

@@ -37,14 +37,14 @@ one_led : {d e : Document} {op : texts.Operation} {ops : List texts.Operation} �
 one_led (one_made one same makes rest) is = ap (λ f. f.options) (sym (nowhere rest is)) ∙ same
 
 read_back : (v : Plain) (over : Over) (names : List (List ℕ)) (old new : List Node) (done : Bool) → PutsWhatShown Last v over names old new done → IsReadThere v names old new done
-read_back v over names old new true puts d shown numbers w text =
-    let put = puts d shown in
+read_back v over names old new true puts = λ d shown numbers w text.
+    (let put = puts d shown in
     let made = put.4 numbers in
     let e : Document = made.0 in
     let options : e.options ≡ d.options = one_led made.2.edited refl ∙ put_options d.options put.2 in
     let says : IsDocument e.options (printed_text (ordered_tree new 0)) e.value = prints_value e.options (ordered_tree new 0) e.value made.1.sound made.1.value in
     let same : e.value ≡ w = document_unique d.options (printed_text (ordered_tree new 0)) e.value w (subst (λ o. IsDocument o (printed_text (ordered_tree new 0)) e.value) options says) text in
-    subst (λ x. At (option_map collapse x) names (collapse v)) same made.2.there
+    subst (λ x. At (option_map collapse x) names (collapse v)) same made.2.there)
 read_back v over names old new false puts = tt
 
 pub read_result : {E : Type 0} (v : Plain) (over : Over) (names : List (List ℕ)) (old new : List Node) (r : Result Bool E) → IfOk r (PutsWhatShown Last v over names old new) → IfOk r (IsReadThere v names old new)

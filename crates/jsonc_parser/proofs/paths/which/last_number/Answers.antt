@@ -1,13 +1,25 @@
-use Rattle.std.proofs.Common.{◌∙◌, List, arith, chars, subst, sym}
+use Rattle.std.proofs.Common.{◌∙◌, ℕ, List, None, ap, arith, chars, subst, sym}
 use Rattle.std.proofs.lemmas.Bool.{false≢true}
 use Rattle.jsonc_tree.specs.Tree.{Node, children_at}
 use Rattle.jsonc_layout.specs.nodes.Names.{HasEscapedName, IsNamed}
 use Rattle.jsonc_layout.specs.nodes.Siblings.{AreThere}
 use Rattle.jsonc_layout.proofs.lemmas.nodes.InTree.{rest_there}
-use Rattle.jsonc_layout.proofs.lemmas.nodes.NodeNames.{escaped_later, escaped_refused}
+use Rattle.jsonc_layout.proofs.lemmas.nodes.NodeNames.{AnyEscaped, escaped_later, escaped_refused}
 use Rattle.jsonc_cst.specs.Document.{nodes_of}
-use Rattle.jsonc_parser.proofs.lemmas.paths.LastNames.{none_to_come, past_another, past_named}
+use Rattle.jsonc_parser.proofs.lemmas.paths.LastNames.{LastFrom, last_of_all, none_to_come, past_another, past_named}
 use Rattle.jsonc_parser.proofs.paths.which.last_number.Goals as goal
+
+pub loop-child-init : goal.loop-child-init
+loop-child-init g c =
+    let ns = nodes_of c.args.doc.now in
+    let v = chars c.args.name.now in
+    let row = c.into_iter-child-iterator.ensures.into_iter_gives ∙ c.children_from-child-items.ensures.children ∙ ap (λ (l : List Node). children_at l c.args.object) c.tree-tree.ensures in
+    record {
+      in_tree = subst (λ (l : List Node). AreThere l c.into_iter-child-iterator.result) c.tree-tree.ensures (subst (AreThere c.tree-tree.result.now.nodes) (sym c.into_iter-child-iterator.ensures.into_iter_gives) c.children_from-child-items.ensures.in_tree);
+      held = tt;
+      told = λ last further. last_of_all ns v (children_at ns c.args.object) last (subst (λ (r : List ℕ). LastFrom ns v None r last) row further);
+      escaped = λ any. subst (AnyEscaped ns) row any;
+    }
 
 pub returns-in_err-is_named-clause-memory : goal.returns-in_err-is_named-clause-memory
 returns-in_err-is_named-clause-memory g c =
