@@ -1,5 +1,5 @@
 -- The last property of a name in a row, found by a walk over the row.
-use Rattle.std.proofs.Common.{ℕ, ◌≡◌, ◌∙◌, ◌++◌, sym, ap, subst, refl, List, [], ◌∷◌, Option, Some, None, option_map}
+use Rattle.std.proofs.Common.{ℕ, ◌≡◌, ◌∙◌, ◌++◌, sym, ap, subst, refl, List, [], ◌∷◌, Option, Some, None, IfSome, option_map}
 use Rattle.jsonc_tree.specs.Content.{property}
 use Rattle.jsonc_tree.specs.Tree.{Node, content_at, children_at}
 use Rattle.jsonc_layout.specs.nodes.Names as names
@@ -9,7 +9,7 @@ use Rattle.jsonc_cst.specs.declared.cst.node.CstNode.{CstNode}
 use Rattle.jsonc_cst.specs.declared.cst.node.CstObject.{CstObject}
 use Rattle.jsonc_cst.specs.declared.cst.node.CstObjectProp.{CstObjectProp}
 use Rattle.jsonc_cst.specs.Document.{nodes_of}
-use Rattle.jsonc_cst.specs.Nodes.{object_prop_node, typed, typed_at, IsAs}
+use Rattle.jsonc_cst.specs.Nodes.{object_prop_node, typed, typed_at, IsAs, IsNodeOf}
 use Rattle.jsonc_parser.specs.paths.Which.{IsChosenNamed, LastNamed, none_named, last_named}
 use Rattle.jsonc_parser.specs.declared.paths.which.Which.TheVariants.{Last}
 use Rattle.jsonc_parser.proofs.lemmas.paths.ChosenNodes.{last_has}
@@ -50,6 +50,11 @@ module _ (ns : List Node) (v : List ℕ) where
 -- a node that has a name is a property
 pub property_node : (ns : List Node) (n : ℕ) → content_at ns n ≡ property → typed_at ns n ≡ object_prop_node (record { number = n })
 property_node ns n e = ap (λ c. typed c n) e
+
+-- a property that a node is, is there where the node is
+pub property_there : (ns : List Node) (node : CstNode) (p : Option CstObjectProp) → IsNodeOf ns node → IsAs object_prop_node node p → IfSome p (λ q. IsNodeOf ns (object_prop_node q))
+property_there ns node None there kind_of = tt
+property_there ns node (Some q) there kind_of = subst (IsNodeOf ns) ((kind_of q).0 refl) there
 
 -- the property that was found, as a node of its kind
 module _ {A : Type 0} (doc : CstRootNode A) (x : CstObject) (name : List ℕ) where
