@@ -1,6 +1,6 @@
 -- Names as positions: which positions names lead over, and which one edit at these puts a value, or takes it out.
-use Rattle.std.specs.Prelude.{◌≡◌, ◌≢◌, ◌⊎◌, ℕ, suc, List, [], ◌∷◌, ◌++◌, Option, Some, None}
-use Rattle.jsonc_text.specs.Plain.{Plain, object, Members, member}
+use Rattle.std.specs.Prelude.{◌≡◌, ◌⊎◌, ℕ, List, [], ◌∷◌, ◌++◌, Option, Some, None}
+use Rattle.jsonc_text.specs.Plain.{Plain, object, Members}
 use Rattle.jsonc_text.specs.declared.edit.Over.{Over}
 use Rattle.jsonc_text.specs.declared.edit.Over.TheVariants.{Replace}
 use Rattle.jsonc_parser.specs.paths.Operations.{IsChanged, IsNamed, LacksMember, Operation, append_property, remove, replace, set_root, set_value}

@@ -1,5 +1,5 @@
 -- The property that is chosen of several of one name, the first or the last: as it is seen it is the first.
-use Rattle.std.proofs.Common.{ℕ, suc, ◌≡◌, ◌<◌, ◌∙◌, ap, refl, List, [], ◌∷◌, Option, Some, None, arith}
+use Rattle.std.proofs.Common.{ℕ, ◌≡◌, ◌<◌, ap, refl, List, [], ◌∷◌, Some, None, arith}
 use Rattle.jsonc_text.specs.Plain.{Plain, Members, no_members, member, collapse}
 use Rattle.jsonc_text.specs.Plain as plain
 use Rattle.jsonc_parser.specs.paths.Operations.{MemberChanged, this_member, later_member, MemberInserted, member_count, LacksMember, no_more, other_name}

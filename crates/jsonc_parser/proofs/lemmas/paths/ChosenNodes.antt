@@ -1,11 +1,11 @@
 -- What is found of a name among the children of an object, the first property of it or the last, and the properties of the object's value.
-use Rattle.std.proofs.Common.{ℕ, zero, suc, ◌≡◌, ◌≢◌, ◌<◌, ◌∙◌, ◌++◌, sym, ap, subst, refl, Bool, true, List, [], ◌∷◌, length, filter, slice_get, get_or, Option, Some, None, IsTrue, inl, inr, arith}
+use Rattle.std.proofs.Common.{ℕ, zero, suc, ◌≡◌, ◌<◌, ◌∙◌, ◌++◌, sym, ap, subst, refl, Bool, true, List, [], ◌∷◌, length, filter, slice_get, get_or, Option, Some, None, inl, inr, arith}
 use Rattle.std.proofs.lemmas.Bool.{cases_Bool}
 use Rattle.std.specs.List.{All}
 use Rattle.jsonc_text.specs.Options.{Options}
 use Rattle.jsonc_text.specs.Plain.{Plain, Members, member}
-use Rattle.jsonc_tree.specs.Content.{Content, object, property}
-use Rattle.jsonc_tree.specs.OrderedTree.{OrderedTree, ordered_tree, Shows, shows_none, shows_more}
+use Rattle.jsonc_tree.specs.Content.{object, property}
+use Rattle.jsonc_tree.specs.OrderedTree.{OrderedTree, ordered_tree, Shows, shows_more}
 use Rattle.jsonc_tree.specs.Tree.{Node, content_at, children_at, IsTree}
 use Rattle.jsonc_tree.specs.Values as values
 use Rattle.jsonc_tree.specs.Values.{is_passed_over, MembersOf}

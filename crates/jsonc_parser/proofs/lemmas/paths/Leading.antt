@@ -1,18 +1,17 @@
 -- What an operation at the positions that names lead over makes of a value.
-use Rattle.std.proofs.Common.{ℕ, suc, min, ◌≡◌, ◌∙◌, ◌≤◌, ◌<◌, sym, ap, subst, refl, List, [], ◌∷◌, ◌++◌, Option, Some, None, arith}
+use Rattle.std.proofs.Common.{ℕ, suc, min, ◌≡◌, ◌∙◌, ◌≤◌, sym, ap, subst, refl, List, [], ◌∷◌, ◌++◌, Option, Some, None, arith}
 use Rattle.jsonc_text.specs.Plain.{Plain, Items, Members, no_members, member}
 use Rattle.jsonc_text.specs.Plain as plain
 use Rattle.jsonc_text.specs.declared.edit.Over.{Over}
 use Rattle.jsonc_text.specs.declared.edit.Over.TheVariants.{Replace}
-use Rattle.jsonc_parser.specs.paths.Operations.{MemberChanged, this_member, later_member, Changed, itself, in_array, in_object, MemberRemoved, LosesEntry, loses_item, loses_member, MemberInserted, member_count, LacksMember, no_more, other_name, Operation, append_property, remove, replace, set_root, set_value, IsChanged, by_value, by_entry, by_all, by_root, by_setting, by_appending_member, StandsAt, IsNamed}
+use Rattle.jsonc_parser.specs.paths.Operations.{MemberChanged, Changed, itself, in_array, in_object, MemberRemoved, LosesEntry, loses_item, loses_member, MemberInserted, member_count, LacksMember, Operation, append_property, remove, replace, set_root, set_value, IsChanged, by_value, by_entry, by_all, by_root, by_setting, by_appending_member, StandsAt, IsNamed}
 use Rattle.jsonc_sound.specs.Values as removed
-use Rattle.jsonc_insert.specs.elements.Members as inserted
 use Rattle.jsonc_parser.specs.paths.Settings as settings
 use Rattle.jsonc_parser.specs.paths.Settings.{FirstAt, this_at, later_at, FirstIs, this_one, later_one, FirstBecomes, this_becomes, later_becomes, FirstLeaves, this_leaves, later_leaves, ComesLast, comes_alone, comes_behind, At, nest, IsNoObject, Put, is_there, changes_inside, comes_last, comes_first, gives_way, Dropped, value_leaves, entry_leaves, leaves_inside}
 use Rattle.jsonc_parser.specs.paths.Which.{IsChosenAt, seen, seen_if, seen_members}
 use Rattle.jsonc_parser.specs.declared.paths.which.Which.{Which}
 use Rattle.jsonc_parser.specs.declared.paths.which.Which.TheVariants.{First}
-use Rattle.jsonc_parser.proofs.lemmas.paths.Chosen.{at_changes, at_first, chosen_changes, chosen_comes, chosen_first, chosen_itself, chosen_within, seen_nest, seen_none, seen_object, seen_other, seen_some}
+use Rattle.jsonc_parser.proofs.lemmas.paths.Chosen.{at_changes, chosen_changes, chosen_comes, chosen_first, chosen_itself, chosen_within, seen_nest, seen_none, seen_object, seen_other, seen_some}
 use Rattle.jsonc_parser.specs.paths.Positions.{Leads, leads_nowhere, leads_on, IsPutBy, sets_root, sets_first, sets_value, appends, replaces, IsDroppedBy, removes, LeadToWhatStands, PutsByIt, DropsByIt}
 
 -- no names lead over no positions

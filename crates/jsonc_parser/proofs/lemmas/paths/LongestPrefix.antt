@@ -8,7 +8,6 @@ use Rattle.jsonc_parser.specs.paths.Operations.{Operation, LacksMember, no_more,
 use Rattle.jsonc_parser.specs.paths.Settings.{FirstAt, this_at, later_at, FirstIs, this_one, later_one, nest, IsNoObject, StandsInTheWay, this_stands, inner_stands}
 use Rattle.jsonc_parser.specs.paths.Which.{seen, seen_if, seen_members}
 use Rattle.jsonc_parser.specs.declared.paths.which.Which.{Which}
-use Rattle.jsonc_parser.specs.declared.paths.which.Which.TheVariants.{First}
 use Rattle.jsonc_parser.specs.paths.Positions.{Leads, leads_nowhere, leads_on, sets_root, sets_first, sets_value, appends, replaces, IsPutBy, IsPutByOne, Reaches, to_value, to_missing, to_another}
 use Rattle.jsonc_parser.proofs.lemmas.paths.Chosen.{chosen_first, seen_lacks, seen_none, seen_object, seen_other, seen_some}
 use Rattle.jsonc_parser.proofs.lemmas.paths.Members.{first_once, same_or_not}
