@@ -1,5 +1,5 @@
 -- The tokens that refer to a node of a document, step by step along the path that leads to it.
-use Rattle.std.proofs.Common.{ℕ, ◌≡◌, ◌<◌, ◌^◌, ◌++◌, ◌∙◌, sym, ap, subst, refl, inl, inr, List, [], ◌∷◌, Option, Some, None, length, slice_get, string_bytes, chars, option_map}
+use Rattle.std.proofs.Common.{ℕ, zero, suc, ◌≡◌, ◌<◌, ◌^◌, ◌++◌, ◌∙◌, sym, ap, subst, refl, inl, inr, List, [], ◌∷◌, Option, Some, None, length, slice_get, slice_index, string_bytes, chars, option_map, arith}
 use Rattle.std.specs.Fmt.{decimal}
 use Rattle.std.specs.declared.string.String.{String}
 use Rattle.std.specs.declared.vec.Vec.{Vec}
@@ -46,6 +46,12 @@ has_name_once : (ns : List Node) (r : ℕ) (a b : List ℕ) → HasName ns r a �
 has_name_once ns r a b (m, e, is) (n, f, so) =
     let same : m ≡ n = let both : Some m ≡ Some n = sym e ∙ f in cc in
     names_once (content_at ns n) a b (subst (λ k. Names (content_at ns k) a) same is) so
+
+-- what is found in a list at a place
+got_at : (xs : List ℕ) (k r : ℕ) → k < length xs → slice_index xs k ≡ r → slice_get xs k ≡ Some r
+got_at [] k r h is = absurd (omega (arith, h))
+got_at (x ∷ xs) zero r h is = ap (λ n. Some n) is
+got_at (x ∷ xs) (suc k) r h is = got_at xs k r (omega (arith, h)) is
 
 -- the next step of a path
 next_step : {ns : List Node} {n v place : ℕ} {rest : List ℕ} → LeadsTo ns n v (place ∷ rest) → (q : ℕ) × paths.StepsTo ns v place q × LeadsTo ns n q rest
@@ -145,7 +151,7 @@ module _ {A : Type 0} (doc : CstRootNode A) (tree : IsTree (nodes_of doc)) (node
         only_this : (i q : ℕ) → IsElementOf (nodes_of doc) (number_of node) i property → IsHeldBy (nodes_of doc) property q → only ≡ property
         only_this i q e h =
             let at = stands_at (is_element_at (nodes_of doc)) (children_at (nodes_of doc) (number_of node)) i property e in
-            only_named (nodes_of doc) name only found at.0 property at.1 at.2 (h.0, named)
+            only_named (nodes_of doc) name only found at.0 property (got_at (children_at (nodes_of doc) (number_of node)) at.0 property at.1 at.2) (h.0, named)
 
         pub told_name : (value : CstNode) → Some value ≡ value_under doc only → (token : String A) → chars_of token ≡ name
             → (i q : ℕ) → IsElementOf (nodes_of doc) (number_of node) i property → IsHeldBy (nodes_of doc) property q → TellsToken doc node i q (Some (token, value))
