@@ -8,6 +8,12 @@ pub mod Laws
 pub mod Numbers
 pub mod Equality
 pub mod Operations
+pub mod Asked
+pub mod PatchTexts
+pub mod Patches
+pub mod PatchFaults
+pub mod PatchReading
+pub mod PatchMessages
 pub mod Merging
 pub mod Comparing
 pub mod Digits

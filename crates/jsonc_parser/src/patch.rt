@@ -15,12 +15,15 @@ mod merging;
 mod numbers;
 mod operation;
 mod pointer;
+mod reading;
 mod reference;
+mod values;
 
-pub use apply::{Patch, PatchCause, PatchError, PatchFault};
+pub use apply::{Patch, PatchCause, PatchFault};
 pub use location::pointer_of;
 pub use merging::{MergeFault, merge};
 pub use numbers::same_number;
 pub use operation::{Member, Operation, OperationFault};
 pub use pointer::{Pointer, PointerError};
+pub use reading::PatchError;
 pub use reference::{FindError, find, read};

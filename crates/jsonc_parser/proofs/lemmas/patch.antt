@@ -10,3 +10,4 @@ pub mod HexRows
 pub mod NumberRows
 pub mod SameNumbers
 pub mod Equality
+pub mod SeenNames

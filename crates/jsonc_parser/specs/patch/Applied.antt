@@ -13,22 +13,12 @@ use Rattle.jsonc_cst.specs.declared.cst.CstRootNode.{CstRootNode}
 use Rattle.jsonc_cst.specs.Document.{tree_of}
 use Rattle.jsonc_parser.specs.patch.Equality.{AreEqual}
 use Rattle.jsonc_parser.specs.patch.Merging.{merged}
-use Rattle.jsonc_parser.specs.patch.Operations as value
+use Rattle.jsonc_parser.specs.patch.Asked.{asked}
 use Rattle.jsonc_parser.specs.patch.Operations.{MakesAll}
-use Rattle.jsonc_parser.specs.patch.Pointer.{tokens_of}
 use Rattle.jsonc_parser.specs.declared.patch.operation.Operation.{Operation}
-use Rattle.jsonc_parser.specs.declared.patch.operation.Operation.TheVariants.{Add, Remove, Replace, Move, Copy, Test}
+use Rattle.jsonc_parser.specs.declared.patch.operation.Operation.TheVariants.{Add, Replace}
 
 module _ {A : Type 0} where
-  -- what an operation asks for
-  abbrev pub asked : Operation A → value.Operation
-  asked (Add path v) = value.add (tokens_of path) (plain v)
-  asked (Remove path) = value.remove (tokens_of path)
-  asked (Replace path v) = value.replace (tokens_of path) (plain v)
-  asked (Move from path) = value.move (tokens_of from) (tokens_of path)
-  asked (Copy from path) = value.copy (tokens_of from) (tokens_of path)
-  asked (Test path v) = value.test (tokens_of path) (plain v)
-
   -- the numbers that it writes are, whole, numbers of these options
   abbrev pub FitsIn : Options → Operation A → Type 0
   FitsIn o (Add path v) = IsOfNumbers o (plain v)

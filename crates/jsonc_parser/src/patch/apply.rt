@@ -1,17 +1,21 @@
 //! Patches: lists of operations, made on a document whole or not at all.
 
-ghost use Rattle.std.specs.Prelude.{◌≡◌, false, IfOk, OnErr};
-ghost use Rattle.std.specs.List.{All};
+ghost use Rattle.std.specs.Prelude.{◌≡◌, chars, false, map, IfErr, IfOk, OnErr};
 ghost use Rattle.jsonc_run.specs.Edits.{is_sort};
 ghost use Rattle.jsonc_cst.specs.Document.{nodes_of, HasNode};
+ghost use Rattle.jsonc_parser.specs.patch.Asked.{asked};
+ghost use Rattle.jsonc_parser.specs.patch.Patches.{operations_of};
+ghost use Rattle.jsonc_parser.specs.patch.PatchFaults.{IsFaultOfPatch};
+ghost use Rattle.jsonc_parser.specs.patch.PatchTexts.{IsPatch};
+ghost use Rattle.jsonc_text.specs.OptionsOf.{parse_options};
 
 use super::equality::{Numbers, are_equal};
-use super::operation::{Operation, OperationFault, read_operation};
+use super::operation::Operation;
 use super::pointer::Pointer;
+use super::reading::{PatchError, read_patch};
 use super::reference::{FindError, element_place, follow};
 use jsonc_cst::cst::{CstInputValue, CstNode, CstRootNode, EditError, TypedNode};
 use jsonc_run::Edit;
-use jsonc_text::errors::ParseError;
 use jsonc_text::options::ParseOptions;
 use std::alloc::Allocator;
 use std::error::Error;
@@ -22,35 +26,6 @@ use std::fmt;
 pub struct Patch<A: Allocator> {
     operations: Vec<Operation<A>, A>,
 }
-
-/// Why a text is no patch.
-#[derive(Debug, Drop)]
-pub enum PatchError<A: Allocator> {
-    /// The text is refused under its options.
-    Parse(ParseError),
-    /// The text's value is no array, or it has none.
-    NotAnArray,
-    /// The operation of this number, counted from 0, is none.
-    Operation(usize, OperationFault<A>),
-    /// An allocation failed.
-    OutOfMemory,
-}
-
-impl<A: Allocator> fmt::Display for PatchError<A> {
-    fn fmt<W: fmt::Write>(&self, f: &mut fmt::Formatter<W>) -> fmt::Result {
-        match self {
-            PatchError::Parse(error) => error.fmt(f),
-            PatchError::NotAnArray => f.write_str("Patch is no array"),
-            PatchError::Operation(number, fault) => {
-                write_number(*number, f)?;
-                fault.fmt(f)
-            }
-            PatchError::OutOfMemory => f.write_str("Out of memory"),
-        }
-    }
-}
-
-impl<A: Allocator + fmt::Debug> Error for PatchError<A> {}
 
 /// Why an operation was not made.
 #[derive(Debug, Drop)]
@@ -115,18 +90,14 @@ impl<A: Allocator + Copy> Patch<A> {
     /// where its operation has one. Other members are ignored. No name may stand twice in an operation, or in
     /// a value that it has.
     ///
-    /// The text is parsed under the options as by `CstRootNode::parse`, with the same errors.
-    pub fn from_json(alloc: A, text: &str, options: &ParseOptions) -> Result<Patch<A>, PatchError<A>> {
-        let doc = match CstRootNode::parse(alloc, text, options) {
-            Ok(doc) => doc,
-            Err(error) => return Err(PatchError::Parse(error)),
-        };
-        let Some(array) = doc.array_value() else {
-            return Err(PatchError::NotAnArray);
-        };
-        match array.elements(&doc) {
-            Ok(elements) => read_operations(&doc, &elements),
-            Err(_) => Err(PatchError::OutOfMemory),
+    /// The text is parsed under the options as by `parse_to_ast`, with the same errors.
+    pub fn from_json(alloc: A, text: &str, options: &ParseOptions) -> Result<Patch<A>, PatchError<A>>
+        ensures patch { IfOk result (λ p. IsPatch (parse_options options.now) (chars text.now) (operations_of p)) }
+        ensures fault { IfErr result (IsFaultOfPatch (parse_options options.now) text.now) }
+    {
+        match read_patch(alloc, text, options) {
+            Ok(operations) => Ok(Patch { operations }),
+            Err(error) => Err(error),
         }
     }
 
@@ -155,30 +126,11 @@ impl<A: Allocator + Copy> Patch<A> {
 
 impl<A: Allocator> Patch<A> {
     /// Its operations.
-    pub fn operations(&self) -> &[Operation<A>] {
+    pub fn operations(&self) -> &[Operation<A>]
+        ensures { map asked result.now ≡ operations_of self.now }
+    {
         &self.operations
     }
-}
-
-// The operations that these values are.
-fn read_operations<A: Allocator + Copy>(
-    doc: &CstRootNode<A>,
-    values: &[CstNode],
-) -> Result<Patch<A>, PatchError<A>>
-    requires { All (HasNode doc.now) values.now }
-{
-    let mut operations = Vec::new(*doc.allocator());
-    for (number, value) in values.iter().enumerate() {
-        match read_operation(doc, *value) {
-            Ok(operation) => {
-                let Ok(()) = operations.push(operation) else {
-                    return Err(PatchError::OutOfMemory);
-                };
-            }
-            Err(fault) => return Err(PatchError::Operation(number, fault)),
-        }
-    }
-    Ok(Patch { operations })
 }
 
 // Makes operations in order.
@@ -410,7 +362,7 @@ fn test<A: Allocator + Copy>(
     value: &CstInputValue<A>,
 ) -> Result<(), PatchCause<A>> {
     let found = value_at(doc, pointer)?;
-    match are_equal(value, &found, Numbers::ByValue) {
+    match are_equal(&found, value, Numbers::ByValue) {
         Ok(true) => Ok(()),
         Ok(false) => Err(PatchCause::NotEqual),
         Err(_) => Err(PatchCause::Edit(EditError::OutOfMemory)),

@@ -1,16 +1,20 @@
 //! Whether values are equal.
 
-ghost use Rattle.std.specs.Prelude.{◌≡◌, ◌<◌, ℕ, Bool, List, chars, length, IfNone, IfOk, IfSome};
+ghost use Rattle.std.specs.Prelude.{◌≡◌, ℕ, Bool, List, map, slice_get, string_bytes, Contains, IfNone, IfOk, IfSome, Some};
 ghost use Rattle.std.specs.Bool.{Decides};
 ghost use Rattle.jsonc_text.specs.Plain.{null, boolean, number, string, array, object, Items, Members};
 ghost use Rattle.jsonc_layout.specs.input.Views.{chars_of, items_plain, members_plain, plain};
-ghost use Rattle.jsonc_parser.specs.patch.Comparing.{HasNameAt, same_by};
+ghost use Rattle.jsonc_parser.specs.patch.Comparing.{same_by};
 ghost use Rattle.jsonc_parser.specs.patch.Equality.{AreEqual, AreItemsEqual, HasUniqueNames, ItemsHaveUniqueNames, MembersHaveUniqueNames};
-ghost use Rattle.jsonc_insert.specs.named.Members.{LacksMember};
 
 use super::numbers::same_number;
+use indexmap::IndexSet;
 use jsonc_cst::cst::CstInputValue;
 use std::alloc::{AllocError, Allocator};
+use std::hash::{BuildHasherDefault, FoldHasher};
+
+// The names of an object's members, in their order.
+type Names<'a, A> = IndexSet<&'a str, BuildHasherDefault<FoldHasher>, A>;
 
 /// When two numbers are equal.
 #[derive(Clone, Copy)]
@@ -97,21 +101,32 @@ fn are_numbers_equal<A: Allocator + Copy>(
     }
 }
 
-// The place of the first member of a name.
-fn place_of_name<A: Allocator>(
-    members: &[(String<A>, CstInputValue<A>)],
-    name: &str,
-) -> Option<usize>
-    ensures some { IfSome result (HasNameAt members.now (chars name.now)) }
-    ensures none { IfNone result (LacksMember (chars name.now) (members_plain members.now)) }
-    ensures inside { IfSome result (λ i. i < length members.now) }
+// The names of members, or none where one stands twice.
+fn names_of<'a, A: Allocator + Copy>(
+    alloc: A,
+    members: &'a [(String<A>, CstInputValue<A>)],
+) -> Result<Option<Names<'a, A>>, AllocError>
+    ensures names { IfOk result (λ o. IfSome o (λ names. map (λ name. name.now) names.keys ≡ map (λ p. string_bytes p.0) members.now)) }
+    ensures repeated { IfOk result (λ o. IfNone o (MembersHaveUniqueNames (members_plain members.now) → ⊥)) }
 {
-    for (index, member) in members.iter().enumerate() {
-        if member.0.as_str() == name {
-            return Some(index);
+    let mut names = IndexSet::new(alloc);
+    for member in members {
+        let Ok(added) = names.insert(member.0.as_str()) else {
+            return Err(AllocError);
+        };
+        if !added {
+            return Ok(None);
         }
     }
-    None
+    Ok(Some(names))
+}
+
+// The place of a name.
+fn place_of_name<A: Allocator>(names: &Names<'_, A>, name: &str) -> Option<usize>
+    ensures some { IfSome result (λ i. slice_get (map (λ n. n.now) names.now.keys) i ≡ Some name.now) }
+    ensures none { IfNone result (Contains (map (λ n. n.now) names.now.keys) name.now → ⊥) }
+{
+    names.get_index_of(name)
 }
 
 // Whether two lists of values are equal, one by one.
@@ -138,6 +153,7 @@ fn are_elements_equal<A: Allocator + Copy>(
 // Whether two lists of members are equal up to their order.
 #[cycle(equality)]
 fn are_members_equal<A: Allocator + Copy>(
+    alloc: A,
     left: &[(String<A>, CstInputValue<A>)],
     right: &[(String<A>, CstInputValue<A>)],
     numbers: Numbers,
@@ -148,8 +164,11 @@ fn are_members_equal<A: Allocator + Copy>(
     if left.len() != right.len() {
         return Ok(false);
     }
+    let Some(names) = names_of(alloc, right)? else {
+        return Ok(false);
+    };
     for member in left {
-        let Some(index) = place_of_name(right, &member.0) else {
+        let Some(index) = place_of_name(&names, &member.0) else {
             return Ok(false);
         };
         if !are_equal(&member.1, &right[index].1, numbers)? {
@@ -190,7 +209,7 @@ pub(crate) fn are_equal<A: Allocator + Copy>(
             None => Ok(false),
         },
         CstInputValue::Object(left) => match members_in(right) {
-            Some(right) => are_members_equal(left.as_slice(), right, numbers),
+            Some(right) => are_members_equal(*left.allocator(), left.as_slice(), right, numbers),
             None => Ok(false),
         },
     }

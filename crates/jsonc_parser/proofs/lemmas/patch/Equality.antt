@@ -1,8 +1,7 @@
 -- Equal values, kind by kind, and lists of them from the first to the last.
-use Rattle.std.proofs.Common.{◌≡◌, ◌∙◌, ℕ, zero, suc, ◌+◌, ◌<◌, ◌≤◌, Bool, true, false, List, [], ◌∷◌, length, get_or, drop, map, refl, sym, ap, subst, arith, rules, add-one}
-use Rattle.std.proofs.Math.Seq.{drop-cons}
+use Rattle.std.proofs.Common.{◌≡◌, ◌∙◌, ℕ, zero, suc, ◌+◌, ◌<◌, ◌≤◌, Bool, true, false, List, [], ◌∷◌, length, get_or, drop, map, chars, string_bytes, refl, sym, ap, subst, arith, rules}
 use Rattle.std.proofs.lemmas.Bool.{false≢true}
-use Rattle.std.proofs.lemmas.List.{drop_all}
+use Rattle.std.proofs.lemmas.List.{at_drop_more, drop_all}
 use Rattle.std.specs.Bool.{Decides}
 use Rattle.std.specs.declared.string.String.{String}
 use Rattle.jsonc_text.specs.Plain.{Plain, null, boolean, number, string, array, object, Items, no_items, item, Members, no_members, member}
@@ -15,12 +14,11 @@ use Rattle.jsonc_layout.specs.input.Views.{chars_of, items_plain, members_plain,
 use Rattle.jsonc_parser.specs.patch.Equality as equal
 use Rattle.jsonc_parser.specs.patch.Equality.{AreEqual, AreItemsEqual, AreMembersIn, HasMember, HasUniqueNames, ItemsHaveUniqueNames, MembersHaveUniqueNames, this_has, later_has}
 
-module _ {A : Type 0} where
-  pub plain-Null : plain {A = A} value.Null ≡ null
-  plain-Null = search (rules, the_lemmas)
+pub plain-Null : (A : Type 0) → plain {A = A} value.Null ≡ null
+plain-Null A = search (rules, the_lemmas)
 
-  pub plain-Bool : (b : Bool) → plain {A = A} (value.Bool b) ≡ boolean b
-  plain-Bool b = search (rules, the_lemmas)
+pub plain-Bool : (A : Type 0) (b : Bool) → plain {A = A} (value.Bool b) ≡ boolean b
+plain-Bool A b = search (rules, the_lemmas)
 
 no : {P : Type 0} → (P → ⊥) → Decides false P
 no f = (λ e. absurd (false≢true e), λ h. absurd (f h))
@@ -117,7 +115,7 @@ module _ (S : List ℕ → List ℕ → Type 0) where
     AreTold vs ws i = (b : Bool) → Decides b (AreItemsEqual S (items_plain (drop i vs)) (items_plain (drop i ws))) → Decides b (AreItemsEqual S (items_plain vs) (items_plain ws))
 
     row_at : (vs : List (CstInputValue A)) (i : ℕ) (v : CstInputValue A) → i < length vs → v ≡ get_or vs i v → items_plain (drop i vs) ≡ item (plain v) (items_plain (drop (i + 1) vs))
-    row_at vs i v l e = ap items_plain (rw add-one (drop-cons vs i v l)) ∙ ap (λ x. item (plain x) (items_plain (drop (i + 1) vs))) (sym e)
+    row_at vs i v l e = at_drop_more items_plain vs i v l ∙ ap (λ x. item (plain x) (items_plain (drop (i + 1) vs))) (sym e)
 
     module _ (vs ws : List (CstInputValue A)) (i : ℕ) (v w : CstInputValue A) (lv : i < length vs) (lw : i < length ws) (ev : v ≡ get_or vs i v) (ew : w ≡ get_or ws i w) (h : AreTold vs ws i) where
       pub one_differs : Decides false (AreEqual S (plain v) (plain w)) → Decides false (AreItemsEqual S (items_plain vs) (items_plain ws))
@@ -161,14 +159,23 @@ has_member (x ∷ ps) zero p l e = subst (λ q. HasMember (chars_of q.0) (plain 
 has_member (x ∷ ps) (suc i) p l e = later_has (has_member ps i p (omega (arith, l)) e)
 
 lacks_it : {name : List ℕ} {v : Plain} {ns : Members} → LacksMember name ns → HasMember name v ns → ⊥
+lacks_it lacks.no_more k = elim k [ ]
 lacks_it (lacks.other_name other h) this_has = other refl
 lacks_it (lacks.other_name other h) (later_has k) = lacks_it h k
 
-only_one : {name : List ℕ} {v w : Plain} {ns : Members} → MembersHaveUniqueNames ns → HasMember name v ns → HasMember name w ns → v ≡ w
-only_one (equal.unique_member f h k) this_has this_has = refl
-only_one (equal.unique_member f h k) this_has (later_has q) = absurd (lacks_it f q)
-only_one (equal.unique_member f h k) (later_has p) this_has = absurd (lacks_it f p)
-only_one (equal.unique_member f h k) (later_has p) (later_has q) = only_one k p q
+only_one : {name other : List ℕ} {v w : Plain} {ns : Members} → name ≡ other → MembersHaveUniqueNames ns → HasMember name v ns → HasMember other w ns → v ≡ w
+only_one e equal.unique_last p q = elim p [ ]
+only_one e (equal.unique_member f h k) this_has this_has = refl
+only_one {w = w} e (equal.unique_member {ms = ms} f h k) this_has (later_has q) = absurd (lacks_it f (subst (λ n. HasMember n w ms) (sym e) q))
+only_one {v = v} e (equal.unique_member {ms = ms} f h k) (later_has p) this_has = absurd (lacks_it f (subst (λ n. HasMember n v ms) e p))
+only_one e (equal.unique_member f h k) (later_has p) (later_has q) = only_one e k p q
+
+module _ (S : List ℕ → List ℕ → Type 0) where
+  rest_in : {name : List ℕ} {v : Plain} {ms ns : Members} → AreMembersIn S ns (member name v ms) → AreMembersIn S ns ms
+  rest_in (equal.one h e k) = k
+
+  first_in : {name : List ℕ} {v : Plain} {ms ns : Members} → AreMembersIn S ns (member name v ms) → (w : Plain) × HasMember name w ns × AreEqual S v w
+  first_in (equal.one {w = w} h e k) = (w, h, e)
 
 module _ (S : List ℕ → List ℕ → Type 0) {A : Type 0} where
   -- what is told of the members from this place on is told of all
@@ -177,17 +184,11 @@ module _ (S : List ℕ → List ℕ → Type 0) {A : Type 0} where
 
   members_at : (ps : List (String A × CstInputValue A)) (i : ℕ) (p : String A × CstInputValue A) → i < length ps → p ≡ get_or ps i p
       → members_plain (drop i ps) ≡ member (chars_of p.0) (plain p.1) (members_plain (drop (i + 1) ps))
-  members_at ps i p l e = ap members_plain (rw add-one (drop-cons ps i p l)) ∙ ap (λ q. member (chars_of q.0) (plain q.1) (members_plain (drop (i + 1) ps))) (sym e)
-
-  rest_in : {name : List ℕ} {v : Plain} {ms ns : Members} → AreMembersIn S ns (member name v ms) → AreMembersIn S ns ms
-  rest_in (equal.one h e k) = k
-
-  first_in : {name : List ℕ} {v : Plain} {ms ns : Members} → AreMembersIn S ns (member name v ms) → (w : Plain) × HasMember name w ns × AreEqual S v w
-  first_in (equal.one {w = w} h e k) = (w, h, e)
+  members_at ps i p l e = at_drop_more members_plain ps i p l ∙ ap (λ q. member (chars_of q.0) (plain q.1) (members_plain (drop (i + 1) ps))) (sym e)
 
   module _ (ps qs : List (String A × CstInputValue A)) (i : ℕ) (p : String A × CstInputValue A) (lp : i < length ps) (ep : p ≡ get_or ps i p) (h : AreMembersTold ps qs i) where
     pub none_named : LacksMember (chars_of p.0) (members_plain qs) → Decides false (AreMembersIn S (members_plain qs) (members_plain ps))
-    none_named f = h false (rw (members_at ps i p lp ep) (no (λ k. (let n = first_in k in lacks_it f n.1))))
+    none_named f = h false (rw (members_at ps i p lp ep) (no (λ k. (let n = first_in S k in lacks_it f n.1))))
 
     module _ (j : ℕ) (q : String A × CstInputValue A) (lq : j < length qs) (eq : q ≡ get_or qs j q) (named : chars_of q.0 ≡ chars_of p.0) where
       there : HasMember (chars_of p.0) (plain q.1) (members_plain qs)
@@ -195,10 +196,10 @@ module _ (S : List ℕ → List ℕ → Type 0) {A : Type 0} where
 
       pub value_differs : MembersHaveUniqueNames (members_plain qs) → Decides false (AreEqual S (plain p.1) (plain q.1)) → Decides false (AreMembersIn S (members_plain qs) (members_plain ps))
       value_differs unique d =
-          h false (rw (members_at ps i p lp ep) (no (λ k. (let n = first_in k in false≢true (d.1 (subst (AreEqual S (plain p.1)) (only_one unique n.1 there) n.2))))))
+          h false (rw (members_at ps i p lp ep) (no (λ k. (let n = first_in S k in false≢true (d.1 (subst (AreEqual S (plain p.1)) (only_one refl unique n.1 there) n.2))))))
 
       pub value_equal : Decides true (AreEqual S (plain p.1) (plain q.1)) → AreMembersTold ps qs (i + 1)
-      value_equal d = λ b k. h b (rw (members_at ps i p lp ep) (λ t. equal.one there (d.0 refl) (k.0 t), λ m. k.1 (rest_in m)))
+      value_equal d = λ b k. h b (rw (members_at ps i p lp ep) (λ t. equal.one there (d.0 refl) (k.0 t), λ m. k.1 (rest_in S m)))
 
   pub all_in : (ps qs : List (String A × CstInputValue A)) (i : ℕ) → length ps ≤ i → AreMembersTold ps qs i → Decides true (AreMembersIn S (members_plain qs) (members_plain ps))
   all_in ps qs i past h = h true (rw (drop_all i ps past) (yes equal.none))
@@ -214,3 +215,22 @@ module _ (S : List ℕ → List ℕ → Type 0) {A : Type 0} where
   pub counts_differ : (ps qs : List (String A × CstInputValue A)) → (length ps ≡ length qs → ⊥) → Decides false (AreEqual S (object (members_plain ps)) (object (members_plain qs)))
   counts_differ ps qs f =
       no (λ h. (let n = only_object S h in let o : object (members_plain qs) ≡ object n.0 = n.1 in let e : members_plain qs ≡ n.0 = cc in f (sym (count_is S ps) ∙ n.2 ∙ ap member_count (sym e) ∙ count_is S qs)))
+
+-- the bytes of a member's name
+abbrev pub name_bytes : {A : Type 0} → String A × CstInputValue A → List ℕ
+name_bytes p = string_bytes p.0
+
+module _ {A : Type 0} where
+  named_there : (ps : List (String A × CstInputValue A)) (i : ℕ) → i < length ps → (v : Plain) × HasMember (chars (get_or (map name_bytes ps) i [])) v (members_plain ps)
+  named_there [] i l = absurd (omega (arith, l))
+  named_there (p ∷ ps) zero l = (plain p.1, this_has)
+  named_there (p ∷ ps) (suc i) l = (let n = named_there ps i (omega (arith, l)) in (n.0, later_has n.1))
+
+  -- where a name stands twice, names are not unique
+  pub twice_named : (ps : List (String A × CstInputValue A)) (i j : ℕ) → j < i → i < length ps → get_or (map name_bytes ps) j [] ≡ get_or (map name_bytes ps) i []
+      → MembersHaveUniqueNames (members_plain ps) → ⊥
+  twice_named [] i j below l e h = absurd (omega (arith, l))
+  twice_named (p ∷ ps) zero j below l e h = absurd (omega (arith, below))
+  twice_named (p ∷ ps) (suc i) zero below l e (equal.unique_member f h k) =
+      let n = named_there ps i (omega (arith, l)) in lacks_it f (subst (λ s. HasMember (chars s) n.0 (members_plain ps)) (sym e) n.1)
+  twice_named (p ∷ ps) (suc i) (suc j) below l e (equal.unique_member f h k) = twice_named ps i j (omega (arith, below)) (omega (arith, l)) e k
