@@ -1,7 +1,13 @@
 -- Equal values, kind by kind, and lists of them from the first to the last.
-use Rattle.std.proofs.Common.{◌≡◌, ◌∙◌, ℕ, zero, suc, ◌+◌, ◌<◌, ◌≤◌, Bool, true, false, List, [], ◌∷◌, length, get_or, drop, map, chars, string_bytes, refl, sym, ap, subst, arith, rules}
+use Rattle.std.proofs.Common.{◌≡◌, ◌∙◌, ℕ, zero, suc, ◌+◌, ◌<◌, ◌≤◌, Bool, true, false, List, [], ◌∷◌, length, get_or, drop, map, chars, string_bytes, Contains, Option, Some, IfSome, slice_get, refl, sym, ap, subst, arith, rules}
 use Rattle.std.proofs.lemmas.Bool.{false≢true}
-use Rattle.std.proofs.lemmas.List.{at_drop_more, drop_all}
+use Rattle.std.proofs.lemmas.List.{at_drop_more, drop_all, length-map}
+use Rattle.std.proofs.lemmas.List.Elements.{Contains-append_right}
+use Rattle.std.proofs.lemmas.Option.{get_or_from_slice_get, slice_get_within}
+use Rattle.std.proofs.lemmas.Slice.Eq.{bytes_eq-Decides}
+use Rattle.std.proofs.lemmas.Str.{IsUtf8-string_bytes}
+use Rattle.std.specs.Str.{bytes_eq}
+use mathlib.Core.Bool.{beq}
 use Rattle.std.specs.Bool.{Decides}
 use Rattle.std.specs.declared.string.String.{String}
 use Rattle.jsonc_text.specs.Plain.{Plain, null, boolean, number, string, array, object, Items, no_items, item, Members, no_members, member}
@@ -11,6 +17,8 @@ use Rattle.jsonc_insert.specs.named.Members.{LacksMember}
 use Rattle.jsonc_layout.specs.declared.input.value.CstInputValue.{CstInputValue, the_lemmas}
 use Rattle.jsonc_layout.specs.declared.input.value.CstInputValue as value
 use Rattle.jsonc_layout.specs.input.Views.{chars_of, items_plain, members_plain, plain}
+use Rattle.jsonc_layout.proofs.lemmas.nodes.NodeNames.{same_text}
+use Rattle.jsonc_parser.proofs.lemmas.patch.SeenNames.{name_at}
 use Rattle.jsonc_parser.specs.patch.Equality as equal
 use Rattle.jsonc_parser.specs.patch.Equality.{AreEqual, AreItemsEqual, AreMembersIn, HasMember, HasUniqueNames, ItemsHaveUniqueNames, MembersHaveUniqueNames, this_has, later_has}
 
@@ -234,3 +242,43 @@ module _ {A : Type 0} where
   twice_named (p ∷ ps) (suc i) zero below l e (equal.unique_member f h k) =
       let n = named_there ps i (omega (arith, l)) in lacks_it f (subst (λ s. HasMember (chars s) n.0 (members_plain ps)) (sym e) n.1)
   twice_named (p ∷ ps) (suc i) (suc j) below l e (equal.unique_member f h k) = twice_named ps i j (omega (arith, below)) (omega (arith, l)) e k
+
+  -- a name that is not among those of members is that of none
+  pub lacks_from : (qs : List (String A × CstInputValue A)) (s : String A) → (Contains (map name_bytes qs) (string_bytes s) → ⊥) → LacksMember (chars_of s) (members_plain qs)
+  lacks_from [] s h = lacks.no_more
+  lacks_from (q ∷ qs) s h =
+      lacks.other_name
+      (λ e. h (0, omega arith, same_text (string_bytes q.0) (string_bytes s) (IsUtf8-string_bytes q.0) (IsUtf8-string_bytes s) e))
+      (lacks_from qs s (λ k. h (Contains-append_right (name_bytes q ∷ []) (map name_bytes qs) (string_bytes s) k)))
+
+  -- what stands at the place of a name
+  module _ (qs : List (String A × CstInputValue A)) (keys : List (List ℕ)) (name : List ℕ) (i : ℕ) (are : keys ≡ map name_bytes qs) (at : slice_get keys i ≡ Some name) where
+    pub place_within : i < length qs
+    place_within = omega (arith, slice_get_within keys i name at, ap length are, length-map qs name_bytes)
+
+    pub place_named : (q : String A × CstInputValue A) → q ≡ get_or qs i q → string_bytes q.0 ≡ name
+    place_named q e = sym (name_at name_bytes qs i q place_within e) ∙ ap (λ l. get_or l i []) (sym are) ∙ get_or_from_slice_get keys i name [] at
+
+-- texts are equal where their bytes are
+pub texts_told : {A B : Type 0} (s : String A) (t : String B) (x y : List ℕ) (b : Bool) → x ≡ string_bytes s → y ≡ string_bytes t → b ≡ bytes_eq x y → Decides b (chars_of s ≡ chars_of t)
+texts_told s t x y b e f is =
+    let same = bytes_eq-Decides x y in (
+      λ h. ap chars (sym e ∙ same.0 (sym is ∙ h) ∙ f),
+      λ h. is ∙ same.1 (e ∙ same_text (string_bytes s) (string_bytes t) (IsUtf8-string_bytes s) (IsUtf8-string_bytes t) h ∙ sym f),
+    )
+
+pub beq_told : (x y : Bool) → Decides (beq x y) (x ≡ y)
+beq_told true true = (λ e. refl, λ e. refl)
+beq_told true false = (λ e. absurd (false≢true e), λ e. sym e)
+beq_told false true = (λ e. absurd (false≢true e), λ e. e)
+beq_told false false = (λ e. refl, λ e. refl)
+
+pub of_some : {X : Type 0} (P : X → Type 0) (o : Option X) (x : X) → o ≡ Some x → IfSome o P → P x
+of_some P o x e h = subst (λ r. IfSome r P) e h
+
+-- in an array and an object
+pub unique_in_array : {vs : Items} → HasUniqueNames (array vs) → ItemsHaveUniqueNames vs
+unique_in_array (equal.unique_array h) = h
+
+pub unique_in_object : {ms : Members} → HasUniqueNames (object ms) → MembersHaveUniqueNames ms
+unique_in_object (equal.unique_object h) = h
