@@ -11,3 +11,4 @@ pub mod NumberRows
 pub mod SameNumbers
 pub mod Equality
 pub mod SeenNames
+pub mod PatchValues

@@ -1,10 +1,13 @@
 -- How the objects of a patch's text are read.
-use Rattle.std.specs.Prelude.{ℕ, List, codes, ◌≢◌}
+use Rattle.std.specs.Prelude.{◌≡◌, ◌≢◌, ℕ, List, codes}
 use Rattle.jsonc_ast.specs.Access.{properties}
 use Rattle.jsonc_ast.specs.Located.{members_at}
 use Rattle.jsonc_ast.specs.Views.{members_located}
 use Rattle.jsonc_ast.specs.declared.ast.Object.{Object}
+use Rattle.jsonc_layout.specs.input.Views.{chars_of}
 use Rattle.jsonc_text.specs.Plain.{Members}
+use Rattle.jsonc_parser.specs.declared.patch.operation.OperationFault.{OperationFault}
+use Rattle.jsonc_parser.specs.declared.patch.operation.OperationFault.TheVariants.{RepeatedName, OutOfMemory}
 use Rattle.jsonc_parser.specs.declared.patch.reading.Kind.{Kind}
 use Rattle.jsonc_parser.specs.declared.patch.reading.Kind.TheVariants.{Add, Remove, Replace, Move, Copy, Test}
 
@@ -24,3 +27,9 @@ kind_name Test = codes "test"
 -- no kind has this name
 abbrev pub IsNoKind : List ℕ → Type 0
 IsNoKind name = (kind : Kind) → name ≢ kind_name kind
+
+-- the fault has this name, or tells that there was no memory for it
+abbrev pub TellsRepeated : {A : Type 0} → List ℕ → OperationFault A → Type 0
+TellsRepeated name (RepeatedName s) = chars_of s ≡ name
+TellsRepeated name OutOfMemory = Unit {0}
+TellsRepeated name other = ⊥

@@ -1,12 +1,13 @@
 //! Values of a parsed text, taken as values for edits.
 
-ghost use Rattle.std.specs.Prelude.{◌≡◌, IfErr, IfOk, OnOk};
+ghost use Rattle.std.specs.Prelude.{◌≡◌, chars, string_bytes, IfErr, IfOk, OnOk};
 ghost use Rattle.jsonc_ast.specs.Located.{items_at, members_at};
 ghost use Rattle.jsonc_ast.specs.Views as ast;
 ghost use Rattle.jsonc_ast.specs.Views.{items_located, members_located};
 ghost use Rattle.jsonc_layout.specs.input.Views.{items_plain, members_plain, plain};
 ghost use Rattle.jsonc_parser.specs.patch.Equality.{HasUniqueNames, ItemsHaveUniqueNames, MembersHaveUniqueNames};
 ghost use Rattle.jsonc_parser.specs.patch.PatchFaults.{IsFaultOfNames, IsFaultOfValue};
+ghost use Rattle.jsonc_parser.specs.patch.PatchReading.{TellsRepeated};
 ghost use Rattle.jsonc_parser.specs.patch.PatchTexts.{NamesDiffer};
 ghost use Rattle.jsonc_text.specs.Plain.{array, object};
 
@@ -21,7 +22,9 @@ use std::hash::{BuildHasherDefault, FoldHasher};
 type Names<'a, A> = IndexSet<&'a str, BuildHasherDefault<FoldHasher>, A>;
 
 // The fault of a name that stands twice.
-fn repeated<A: Allocator>(alloc: A, name: &str) -> OperationFault<A> {
+fn repeated<A: Allocator>(alloc: A, name: &str) -> OperationFault<A>
+    ensures { TellsRepeated (chars name.now) result }
+{
     match String::from_str(alloc, name) {
         Ok(name) => OperationFault::RepeatedName(name),
         Err(_) => OperationFault::OutOfMemory,
@@ -50,7 +53,10 @@ pub(super) fn see_names<A: Allocator + Copy>(
 }
 
 // A text of its own.
-fn owned<A: Allocator>(alloc: A, text: &str) -> Result<String<A>, OperationFault<A>> {
+fn owned<A: Allocator>(alloc: A, text: &str) -> Result<String<A>, OperationFault<A>>
+    ensures text { IfOk result (λ s. string_bytes s ≡ text.now) }
+    ensures memory { IfErr result (λ fault. fault ≡ OperationFault.OutOfMemory) }
+{
     match String::from_str(alloc, text) {
         Ok(text) => Ok(text),
         Err(_) => Err(OperationFault::OutOfMemory),

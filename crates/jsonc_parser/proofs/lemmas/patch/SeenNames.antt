@@ -1,6 +1,6 @@
 -- Names that are seen one after another, by their bytes.
-use Rattle.std.proofs.Common.{◌≡◌, ◌∙◌, ℕ, ◌+◌, ◌<◌, ◌≤◌, Bool, true, false, not, List, [], ◌∷◌, ◌++◌, length, get_or, take, map, Contains, Option, Some, None, slice_get, position, IfNone, IfSome, is_some, refl, sym, ap, subst, arith, if◌then◌else◌}
-use Rattle.std.proofs.lemmas.Bool.{false≢true}
+use Rattle.std.proofs.Common.{◌≡◌, ◌∙◌, ◌⊎◌, inl, inr, ℕ, ◌+◌, ◌<◌, ◌≤◌, Bool, true, false, not, List, [], ◌∷◌, ◌++◌, length, get_or, take, map, Contains, IsUtf8, Option, Some, None, slice_get, position, IfNone, IfSome, is_some, refl, sym, ap, subst, arith, if◌then◌else◌}
+use Rattle.std.proofs.lemmas.Bool.{cases_lt, false≢true}
 use Rattle.std.proofs.lemmas.List.{get_or-map, get_or-take, length-map, length-take-le, map_push, take_more}
 use Rattle.std.proofs.lemmas.List.Folds.{Any-from_list_any, list_any_at}
 use Rattle.std.proofs.lemmas.List.Quantifiers.{position-Some}
@@ -80,3 +80,25 @@ module _ (q : Bor (List ℕ)) (names : List (Bor (List ℕ))) where
         where
           read : get_or (bytes_of names) k q.now ≡ q.now → get_or (bytes_of names) k [] ≡ q.now
           read f = get_or_from_slice_get (bytes_of names) k q.now [] (slice_get-get_or (bytes_of names) k q.now l ∙ ap Some f)
+
+-- no two of the first names are the same, and each is of characters
+abbrev pub Distinct : List (List ℕ) → ℕ → Type 0
+Distinct xs i = (j k : ℕ) → j < k → k < i → get_or xs j [] ≡ get_or xs k [] → ⊥
+
+abbrev pub AreTexts : List (List ℕ) → ℕ → Type 0
+AreTexts xs i = (j : ℕ) → j < i → IsUtf8 (get_or xs j [])
+
+module _ (xs : List (List ℕ)) (i : ℕ) (name : List ℕ) (at : get_or xs i [] ≡ name) where
+  pub one_distinct : Distinct xs i → ((j : ℕ) → j < i → get_or xs j [] ≡ name → ⊥) → Distinct xs (i + 1)
+  one_distinct h other j k below l e =
+      elim (cases_lt k i) [
+        | inl m ↦ h j k below m e
+        | inr m ↦ let same : k ≡ i = omega (arith, l, m) in other j (omega (arith, below, same)) (e ∙ ap (λ n. get_or xs n []) same ∙ at)
+      ]
+
+  pub one_text : AreTexts xs i → IsUtf8 name → AreTexts xs (i + 1)
+  one_text h text j l =
+      elim (cases_lt j i) [
+        | inl m ↦ h j m
+        | inr m ↦ let same : j ≡ i = omega (arith, l, m) in subst IsUtf8 (sym (ap (λ n. get_or xs n []) same ∙ at)) text
+      ]
