@@ -12,3 +12,4 @@ pub mod SameNumbers
 pub mod Equality
 pub mod SeenNames
 pub mod PatchValues
+pub mod PatchReads

@@ -1,9 +1,8 @@
 -- How the objects of a patch's text are read.
 use Rattle.std.specs.Prelude.{◌≡◌, ◌≢◌, ℕ, List, codes}
-use Rattle.jsonc_ast.specs.Access.{properties}
 use Rattle.jsonc_ast.specs.Located.{members_at}
 use Rattle.jsonc_ast.specs.Views.{members_located}
-use Rattle.jsonc_ast.specs.declared.ast.Object.{Object}
+use Rattle.jsonc_ast.specs.declared.ast.ObjectProp.{ObjectProp}
 use Rattle.jsonc_layout.specs.input.Views.{chars_of}
 use Rattle.jsonc_text.specs.Plain.{Members}
 use Rattle.jsonc_parser.specs.declared.patch.operation.OperationFault.{OperationFault}
@@ -11,9 +10,9 @@ use Rattle.jsonc_parser.specs.declared.patch.operation.OperationFault.TheVariant
 use Rattle.jsonc_parser.specs.declared.patch.reading.Kind.{Kind}
 use Rattle.jsonc_parser.specs.declared.patch.reading.Kind.TheVariants.{Add, Remove, Replace, Move, Copy, Test}
 
--- the members of an object
-abbrev pub members_in : {A : Type 0} → Object A → Members
-members_in o = members_at (members_located (properties o))
+-- the members that properties say
+abbrev pub said : {A : Type 0} → List (ObjectProp A) → Members
+said ps = members_at (members_located ps)
 
 -- the name of operations of a kind
 abbrev pub kind_name : Kind → List ℕ

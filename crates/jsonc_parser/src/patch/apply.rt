@@ -91,7 +91,11 @@ impl<A: Allocator + Copy> Patch<A> {
     /// a value that it has.
     ///
     /// The text is parsed under the options as by `parse_to_ast`, with the same errors.
-    pub fn from_json(alloc: A, text: &str, options: &ParseOptions) -> Result<Patch<A>, PatchError<A>>
+    pub fn from_json(
+        alloc: A,
+        text: &str,
+        options: &ParseOptions,
+    ) -> Result<Patch<A>, PatchError<A>>
         ensures patch { IfOk result (λ p. IsPatch (parse_options options.now) (chars text.now) (operations_of p)) }
         ensures fault { IfErr result (IsFaultOfPatch (parse_options options.now) text.now) }
     {
@@ -175,7 +179,9 @@ fn cause_of<A: Allocator>(error: FindError<A>) -> PatchCause<A> {
     }
 }
 
-fn copy_of<A: Allocator + Copy>(value: &CstInputValue<A>) -> Result<CstInputValue<A>, PatchCause<A>> {
+fn copy_of<A: Allocator + Copy>(
+    value: &CstInputValue<A>,
+) -> Result<CstInputValue<A>, PatchCause<A>> {
     match value.try_clone() {
         Ok(copy) => Ok(copy),
         Err(_) => Err(PatchCause::Edit(EditError::OutOfMemory)),
@@ -242,7 +248,10 @@ fn edit<A: Allocator + Copy>(doc: &mut CstRootNode<A>, edit: Edit<A>) -> Result<
 }
 
 // Removes the value that a pointer refers to.
-fn remove<A: Allocator + Copy>(doc: &mut CstRootNode<A>, pointer: &Pointer<A>) -> Result<(), PatchCause<A>> {
+fn remove<A: Allocator + Copy>(
+    doc: &mut CstRootNode<A>,
+    pointer: &Pointer<A>,
+) -> Result<(), PatchCause<A>> {
     let path = target_path(doc, pointer)?;
     edit(doc, Edit::Remove(path))
 }

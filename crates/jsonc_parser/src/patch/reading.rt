@@ -9,7 +9,7 @@ ghost use Rattle.jsonc_parser.specs.patch.Asked.{asked};
 ghost use Rattle.jsonc_parser.specs.patch.Equality.{HasMember};
 ghost use Rattle.jsonc_parser.specs.patch.PatchMessages.{patch_error_text};
 ghost use Rattle.jsonc_parser.specs.patch.PatchFaults.{member_name, IsFaultOfItems, IsFaultOfMembers, IsFaultOfOperation, IsFaultOfPatch, IsForText, Needs};
-ghost use Rattle.jsonc_parser.specs.patch.PatchReading.{kind_name, members_in, IsNoKind};
+ghost use Rattle.jsonc_parser.specs.patch.PatchReading.{kind_name, said, IsNoKind};
 ghost use Rattle.jsonc_parser.specs.patch.PatchTexts.{AreOperations, HasOperand, IsNamed, IsOperation, IsPatch, PointsTo, Says};
 ghost use Rattle.jsonc_parser.specs.patch.Pointer.{tokens_of};
 ghost use Rattle.jsonc_text.specs.OptionsOf.{parse_options};
@@ -17,8 +17,8 @@ ghost use Rattle.jsonc_text.specs.Plain.{string};
 
 use super::operation::{Member, Operation, OperationFault};
 use super::pointer::{Pointer, PointerError};
-use super::values::{see_names, value_of};
-use jsonc_ast::ast::{Object, Value};
+use super::values::{elements_in, properties_of, see_names, text_of, value_of};
+use jsonc_ast::ast::{ObjectProp, Value};
 use jsonc_ast::to_ast::collect::CollectOptions;
 use jsonc_ast::to_ast::parse_to_ast;
 use jsonc_cst::cst::CstInputValue;
@@ -90,31 +90,34 @@ fn kind_of(name: &str) -> Option<Kind>
 
 // The value of a member.
 fn member_value<'b, 'a, A: Allocator>(
-    object: &'b Object<'a, A>,
+    members: &'b [ObjectProp<'a, A>],
     member: Member,
 ) -> Result<&'b Value<'a, A>, OperationFault<A>>
-    ensures found { IfOk result (λ v. HasMember (member_name member) (ast.plain v.now) (members_in object.now)) }
-    ensures fault { IfErr result (λ fault. Needs member (members_in object.now) → IsFaultOfMembers (members_in object.now) fault) }
+    ensures found { IfOk result (λ v. HasMember (member_name member) (ast.plain v.now) (said members.now)) }
+    ensures fault { IfErr result (λ fault. Needs member (said members.now) → IsFaultOfMembers (said members.now) fault) }
 {
-    match object.get(member.name()) {
-        Some(property) => Ok(&property.value),
-        None => Err(OperationFault::Missing(member)),
+    let name = member.name();
+    for property in members {
+        if property.name.as_str() == name {
+            return Ok(&property.value);
+        }
     }
+    Err(OperationFault::Missing(member))
 }
 
 // The text of a member that is a string.
 fn member_text<'b, A: Allocator>(
-    object: &'b Object<'_, A>,
+    members: &'b [ObjectProp<'_, A>],
     member: Member,
 ) -> Result<&'b str, OperationFault<A>>
     requires { IsForText member }
-    ensures found { IfOk result (λ text. HasMember (member_name member) (string (chars text.now)) (members_in object.now)) }
-    ensures fault { IfErr result (λ fault. Needs member (members_in object.now) → IsFaultOfMembers (members_in object.now) fault) }
+    ensures found { IfOk result (λ text. HasMember (member_name member) (string (chars text.now)) (said members.now)) }
+    ensures fault { IfErr result (λ fault. Needs member (said members.now) → IsFaultOfMembers (said members.now) fault) }
 {
-    match member_value(object, member) {
-        Ok(value) => match value {
-            Value::StringLit(string) => Ok(string.value.as_str()),
-            _ => Err(OperationFault::Wrong(member)),
+    match member_value(members, member) {
+        Ok(value) => match text_of(value) {
+            Some(text) => Ok(text),
+            None => Err(OperationFault::Wrong(member)),
         },
         Err(fault) => Err(fault),
     }
@@ -123,14 +126,14 @@ fn member_text<'b, A: Allocator>(
 // The pointer whose text is that of a member.
 fn member_pointer<A: Allocator + Copy>(
     alloc: A,
-    object: &Object<'_, A>,
+    members: &[ObjectProp<'_, A>],
     member: Member,
 ) -> Result<Pointer<A>, OperationFault<A>>
     requires { IsForText member }
-    ensures points { IfOk result (λ pointer. PointsTo (member_name member) (tokens_of pointer) (members_in object.now)) }
-    ensures fault { IfErr result (λ fault. Needs member (members_in object.now) → IsFaultOfMembers (members_in object.now) fault) }
+    ensures points { IfOk result (λ pointer. PointsTo (member_name member) (tokens_of pointer) (said members.now)) }
+    ensures fault { IfErr result (λ fault. Needs member (said members.now) → IsFaultOfMembers (said members.now) fault) }
 {
-    match member_text(object, member) {
+    match member_text(members, member) {
         Ok(text) => match Pointer::parse(alloc, text) {
             Ok(pointer) => Ok(pointer),
             Err(PointerError::OutOfMemory) => Err(OperationFault::OutOfMemory),
@@ -143,13 +146,16 @@ fn member_pointer<A: Allocator + Copy>(
 // The value of the member `value`.
 fn operand<A: Allocator + Copy>(
     alloc: A,
-    object: &Object<'_, A>,
+    members: &[ObjectProp<'_, A>],
 ) -> Result<CstInputValue<A>, OperationFault<A>>
-    ensures value { IfOk result (λ value. HasOperand (plain value) (members_in object.now)) }
-    ensures fault { IfErr result (λ fault. Needs Member.Value (members_in object.now) → IsFaultOfMembers (members_in object.now) fault) }
+    ensures value { IfOk result (λ value. HasOperand (plain value) (said members.now)) }
+    ensures fault { IfErr result (λ fault. Needs Member.Value (said members.now) → IsFaultOfMembers (said members.now) fault) }
 {
-    match member_value(object, Member::Value) {
-        Ok(value) => value_of(alloc, value),
+    match member_value(members, Member::Value) {
+        Ok(value) => match value_of(alloc, value) {
+            Ok(value) => Ok(value),
+            Err(fault) => Err(fault),
+        },
         Err(fault) => Err(fault),
     }
 }
@@ -157,41 +163,35 @@ fn operand<A: Allocator + Copy>(
 // The operation of a kind, with what the other members say.
 fn of_kind<A: Allocator + Copy>(
     alloc: A,
-    object: &Object<'_, A>,
+    members: &[ObjectProp<'_, A>],
     kind: Kind,
 ) -> Result<Operation<A>, OperationFault<A>>
-    requires { IsNamed (kind_name kind) (members_in object.now) }
-    ensures says { IfOk result (λ operation. Says (members_in object.now) (asked operation)) }
-    ensures fault { IfErr result (IsFaultOfMembers (members_in object.now)) }
+    requires { IsNamed (kind_name kind) (said members.now) }
+    ensures says { IfOk result (λ operation. Says (said members.now) (asked operation)) }
+    ensures fault { IfErr result (IsFaultOfMembers (said members.now)) }
 {
-    let path = member_pointer(alloc, object, Member::Path)?;
+    let path = member_pointer(alloc, members, Member::Path)?;
     match kind {
-        Kind::Add => Ok(Operation::Add(path, operand(alloc, object)?)),
+        Kind::Add => Ok(Operation::Add(path, operand(alloc, members)?)),
         Kind::Remove => Ok(Operation::Remove(path)),
-        Kind::Replace => Ok(Operation::Replace(path, operand(alloc, object)?)),
-        Kind::Move => Ok(Operation::Move(
-            member_pointer(alloc, object, Member::From)?,
-            path,
-        )),
-        Kind::Copy => Ok(Operation::Copy(
-            member_pointer(alloc, object, Member::From)?,
-            path,
-        )),
-        Kind::Test => Ok(Operation::Test(path, operand(alloc, object)?)),
+        Kind::Replace => Ok(Operation::Replace(path, operand(alloc, members)?)),
+        Kind::Move => Ok(Operation::Move(member_pointer(alloc, members, Member::From)?, path)),
+        Kind::Copy => Ok(Operation::Copy(member_pointer(alloc, members, Member::From)?, path)),
+        Kind::Test => Ok(Operation::Test(path, operand(alloc, members)?)),
     }
 }
 
-// The operation that an object says, no two of whose members have one name.
+// The operation that members say.
 fn of_members<A: Allocator + Copy>(
     alloc: A,
-    object: &Object<'_, A>,
+    members: &[ObjectProp<'_, A>],
 ) -> Result<Operation<A>, OperationFault<A>>
-    ensures says { IfOk result (λ operation. Says (members_in object.now) (asked operation)) }
-    ensures fault { IfErr result (IsFaultOfMembers (members_in object.now)) }
+    ensures says { IfOk result (λ operation. Says (said members.now) (asked operation)) }
+    ensures fault { IfErr result (IsFaultOfMembers (said members.now)) }
 {
-    match member_text(object, Member::Op) {
+    match member_text(members, Member::Op) {
         Ok(name) => match kind_of(name) {
-            Some(kind) => of_kind(alloc, object, kind),
+            Some(kind) => of_kind(alloc, members, kind),
             None => Err(OperationFault::Wrong(Member::Op)),
         },
         Err(fault) => Err(fault),
@@ -206,11 +206,11 @@ fn read_operation<A: Allocator + Copy>(
     ensures operation { IfOk result (λ operation. IsOperation (ast.plain value.now) (asked operation)) }
     ensures fault { IfErr result (IsFaultOfOperation (ast.plain value.now)) }
 {
-    let Value::Object(object) = value else {
+    let Some(members) = properties_of(value) else {
         return Err(OperationFault::NotAnObject);
     };
-    see_names(alloc, object.properties.as_slice())?;
-    of_members(alloc, object)
+    see_names(alloc, members)?;
+    of_members(alloc, members)
 }
 
 // The operations that these values are.
@@ -247,8 +247,11 @@ pub(super) fn read_patch<A: Allocator + Copy>(
         Ok(read) => read,
         Err(error) => return Err(PatchError::Parse(error)),
     };
-    match &read.value {
-        Some(Value::Array(array)) => read_operations(alloc, array.elements.as_slice()),
-        _ => Err(PatchError::NotAnArray),
+    let Some(value) = &read.value else {
+        return Err(PatchError::NotAnArray);
+    };
+    match elements_in(value) {
+        Some(values) => read_operations(alloc, values),
+        None => Err(PatchError::NotAnArray),
     }
 }

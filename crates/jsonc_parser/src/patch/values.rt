@@ -1,15 +1,15 @@
 //! Values of a parsed text, taken as values for edits.
 
-ghost use Rattle.std.specs.Prelude.{◌≡◌, chars, string_bytes, IfErr, IfOk, OnOk};
-ghost use Rattle.jsonc_ast.specs.Located.{items_at, members_at};
+ghost use Rattle.std.specs.Prelude.{◌≡◌, ◌≢◌, ℕ, List, chars, string_bytes, IfErr, IfNone, IfOk, IfSome, OnOk};
+ghost use Rattle.jsonc_ast.specs.Located.{items_at};
 ghost use Rattle.jsonc_ast.specs.Views as ast;
-ghost use Rattle.jsonc_ast.specs.Views.{items_located, members_located};
+ghost use Rattle.jsonc_ast.specs.Views.{items_located};
 ghost use Rattle.jsonc_layout.specs.input.Views.{items_plain, members_plain, plain};
 ghost use Rattle.jsonc_parser.specs.patch.Equality.{HasUniqueNames, ItemsHaveUniqueNames, MembersHaveUniqueNames};
 ghost use Rattle.jsonc_parser.specs.patch.PatchFaults.{IsFaultOfNames, IsFaultOfValue};
-ghost use Rattle.jsonc_parser.specs.patch.PatchReading.{TellsRepeated};
+ghost use Rattle.jsonc_parser.specs.patch.PatchReading.{said, TellsRepeated};
 ghost use Rattle.jsonc_parser.specs.patch.PatchTexts.{NamesDiffer};
-ghost use Rattle.jsonc_text.specs.Plain.{array, object};
+ghost use Rattle.jsonc_text.specs.Plain.{array, object, string, Items, Members};
 
 use super::operation::OperationFault;
 use indexmap::IndexSet;
@@ -20,6 +20,55 @@ use std::hash::{BuildHasherDefault, FoldHasher};
 
 // Names that were seen, each once.
 type Names<'a, A> = IndexSet<&'a str, BuildHasherDefault<FoldHasher>, A>;
+
+/// The text of a value that is a string.
+pub(super) fn text_of<'b, A: Allocator>(value: &'b Value<'_, A>) -> Option<&'b str>
+    ensures some { IfSome result (λ s. ast.plain value.now ≡ string (chars s.now)) }
+    ensures none { IfNone result ((s : List ℕ) → ast.plain value.now ≢ string s) }
+{
+    match value {
+        Value::StringLit(string) => Some(string.value.as_str()),
+        Value::NumberLit(_) => None,
+        Value::BooleanLit(_) => None,
+        Value::Object(_) => None,
+        Value::Array(_) => None,
+        Value::NullKeyword(_) => None,
+    }
+}
+
+/// The properties of a value that is an object.
+pub(super) fn properties_of<'b, 'a, A: Allocator>(
+    value: &'b Value<'a, A>,
+) -> Option<&'b [ObjectProp<'a, A>]>
+    ensures some { IfSome result (λ ps. ast.plain value.now ≡ object (said ps.now)) }
+    ensures none { IfNone result ((ms : Members) → ast.plain value.now ≢ object ms) }
+{
+    match value {
+        Value::StringLit(_) => None,
+        Value::NumberLit(_) => None,
+        Value::BooleanLit(_) => None,
+        Value::Object(object) => Some(object.properties.as_slice()),
+        Value::Array(_) => None,
+        Value::NullKeyword(_) => None,
+    }
+}
+
+/// The elements of a value that is an array.
+pub(super) fn elements_in<'b, 'a, A: Allocator>(
+    value: &'b Value<'a, A>,
+) -> Option<&'b [Value<'a, A>]>
+    ensures some { IfSome result (λ vs. ast.plain value.now ≡ array (items_at (items_located vs.now))) }
+    ensures none { IfNone result ((vs : Items) → ast.plain value.now ≢ array vs) }
+{
+    match value {
+        Value::StringLit(_) => None,
+        Value::NumberLit(_) => None,
+        Value::BooleanLit(_) => None,
+        Value::Object(_) => None,
+        Value::Array(array) => Some(array.elements.as_slice()),
+        Value::NullKeyword(_) => None,
+    }
+}
 
 // The fault of a name that stands twice.
 fn repeated<A: Allocator>(alloc: A, name: &str) -> OperationFault<A>
@@ -36,8 +85,8 @@ pub(super) fn see_names<A: Allocator + Copy>(
     alloc: A,
     properties: &[ObjectProp<'_, A>],
 ) -> Result<(), OperationFault<A>>
-    ensures differ { OnOk result (NamesDiffer (members_at (members_located properties.now))) }
-    ensures repeated { IfErr result (IsFaultOfNames (members_at (members_located properties.now))) }
+    ensures differ { OnOk result (NamesDiffer (said properties.now)) }
+    ensures repeated { IfErr result (IsFaultOfNames (said properties.now)) }
 {
     let mut seen: Names<'_, A> = IndexSet::new(alloc);
     for property in properties {
@@ -89,9 +138,9 @@ fn members_of<A: Allocator + Copy>(
     alloc: A,
     properties: &[ObjectProp<'_, A>],
 ) -> Result<Vec<(String<A>, CstInputValue<A>), A>, OperationFault<A>>
-    ensures value { IfOk result (λ v. members_plain v.items ≡ members_at (members_located properties.now)) }
-    ensures unique { OnOk result (MembersHaveUniqueNames (members_at (members_located properties.now))) }
-    ensures fault { IfErr result (IsFaultOfValue (object (members_at (members_located properties.now)))) }
+    ensures value { IfOk result (λ v. members_plain v.items ≡ said properties.now) }
+    ensures unique { OnOk result (MembersHaveUniqueNames (said properties.now)) }
+    ensures fault { IfErr result (IsFaultOfValue (object (said properties.now))) }
 {
     see_names(alloc, properties)?;
     let mut members = Vec::new(alloc);

@@ -9,7 +9,7 @@ use Rattle.std.specs.declared.string.String.{String as Text}
 use Rattle.jsonc_text.specs.Plain.{Plain, null, boolean, number, string, array, object, Items, no_items, item, Members, no_members, member}
 use Rattle.jsonc_ast.specs.Access.{name_text}
 use Rattle.jsonc_ast.specs.Located.{array_at, items_at, leaf_at, members_at, object_at, value_at}
-use Rattle.jsonc_ast.specs.Views.{LocatedMember, items_located, located, member_of, members_located, name_at}
+use Rattle.jsonc_ast.specs.Views.{LocatedMember, items_located, located, member_of, name_at, members_located}
 use Rattle.jsonc_ast.specs.Views as ast
 use Rattle.jsonc_ast.specs.declared.ast.Array.{Array}
 use Rattle.jsonc_ast.specs.declared.ast.BooleanLit.{BooleanLit}
@@ -33,7 +33,7 @@ use Rattle.jsonc_parser.proofs.lemmas.patch.SeenNames.{AreTexts, Distinct}
 use Rattle.jsonc_parser.specs.patch.Equality as equal
 use Rattle.jsonc_parser.specs.patch.Equality.{HasMember, HasUniqueNames, ItemsHaveUniqueNames, MembersHaveUniqueNames, this_has, later_has}
 use Rattle.jsonc_parser.specs.patch.PatchFaults.{IsFaultOfNames, IsFaultOfValue, RepeatsName, repeats_here, repeats_in_element, repeats_in_member}
-use Rattle.jsonc_parser.specs.patch.PatchReading.{TellsRepeated, members_in}
+use Rattle.jsonc_parser.specs.patch.PatchReading.{TellsRepeated, said}
 use Rattle.jsonc_parser.specs.patch.PatchTexts.{NamesDiffer}
 use Rattle.jsonc_parser.specs.patch.References.{IsItem, this_item, later_item, IsRepeated, this_again, later_again}
 use Rattle.jsonc_parser.specs.declared.patch.operation.OperationFault.{OperationFault}
@@ -44,10 +44,6 @@ to_members [] = no_members
 to_members (p ∷ ps) = member p.0 p.1 (to_members ps)
 
 module _ {A : Type 0} where
-  -- the members that properties say
-  abbrev pub said : List (ObjectProp A) → Members
-  said ps = members_at (members_located ps)
-
   abbrev pub prop_name : ObjectProp A → List ℕ
   prop_name p = name_text p.name
 
@@ -73,7 +69,7 @@ module _ {A : Type 0} where
   view-StringLit : (s : StringLit A) → located (value.StringLit s) ≡ leaf_at s.range (string (chars (cow_str_bytes s.value)))
   view-StringLit s = search (rules, the_lemmas)
 
-  pub plain-Object : (o : Object A) → ast.plain (value.Object o) ≡ object (members_in o)
+  pub plain-Object : (o : Object A) → ast.plain (value.Object o) ≡ object (said (object_parts.out-Object A o).properties.items)
   plain-Object o = ap value_at (view-Object o)
 
   pub plain-Array : (a : Array A) → ast.plain (value.Array a) ≡ array (items_at (items_located a.elements.items))
