@@ -1,10 +1,12 @@
 -- How the objects of a patch's text are read.
-use Rattle.std.specs.Prelude.{◌≡◌, ◌≢◌, ℕ, List, codes}
+use Rattle.std.specs.Prelude.{◌≡◌, ◌≢◌, ℕ, List, chars, codes}
+use Rattle.jsonc_ast.specs.Access.{name_text}
 use Rattle.jsonc_ast.specs.Located.{members_at}
+use Rattle.jsonc_ast.specs.Views as ast
 use Rattle.jsonc_ast.specs.Views.{members_located}
 use Rattle.jsonc_ast.specs.declared.ast.ObjectProp.{ObjectProp}
 use Rattle.jsonc_layout.specs.input.Views.{chars_of}
-use Rattle.jsonc_text.specs.Plain.{Members}
+use Rattle.jsonc_text.specs.Plain.{Plain, Members}
 use Rattle.jsonc_parser.specs.declared.patch.operation.OperationFault.{OperationFault}
 use Rattle.jsonc_parser.specs.declared.patch.operation.OperationFault.TheVariants.{RepeatedName, OutOfMemory}
 use Rattle.jsonc_parser.specs.declared.patch.reading.Kind.{Kind}
@@ -13,6 +15,10 @@ use Rattle.jsonc_parser.specs.declared.patch.reading.Kind.TheVariants.{Add, Remo
 -- the members that properties say
 abbrev pub said : {A : Type 0} → List (ObjectProp A) → Members
 said ps = members_at (members_located ps)
+
+-- the name and the value of a property
+abbrev pub pair_of : {A : Type 0} → ObjectProp A → List ℕ × Plain
+pair_of p = (chars (name_text p.name), ast.plain p.value)
 
 -- the name of operations of a kind
 abbrev pub kind_name : Kind → List ℕ

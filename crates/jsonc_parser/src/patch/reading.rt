@@ -170,14 +170,32 @@ fn of_kind<A: Allocator + Copy>(
     ensures says { IfOk result (λ operation. Says (said members.now) (asked operation)) }
     ensures fault { IfErr result (IsFaultOfMembers (said members.now)) }
 {
-    let path = member_pointer(alloc, members, Member::Path)?;
+    let path = match member_pointer(alloc, members, Member::Path) {
+        Ok(path) => path,
+        Err(fault) => return Err(fault),
+    };
     match kind {
-        Kind::Add => Ok(Operation::Add(path, operand(alloc, members)?)),
+        Kind::Add => match operand(alloc, members) {
+            Ok(value) => Ok(Operation::Add(path, value)),
+            Err(fault) => Err(fault),
+        },
         Kind::Remove => Ok(Operation::Remove(path)),
-        Kind::Replace => Ok(Operation::Replace(path, operand(alloc, members)?)),
-        Kind::Move => Ok(Operation::Move(member_pointer(alloc, members, Member::From)?, path)),
-        Kind::Copy => Ok(Operation::Copy(member_pointer(alloc, members, Member::From)?, path)),
-        Kind::Test => Ok(Operation::Test(path, operand(alloc, members)?)),
+        Kind::Replace => match operand(alloc, members) {
+            Ok(value) => Ok(Operation::Replace(path, value)),
+            Err(fault) => Err(fault),
+        },
+        Kind::Move => match member_pointer(alloc, members, Member::From) {
+            Ok(from) => Ok(Operation::Move(from, path)),
+            Err(fault) => Err(fault),
+        },
+        Kind::Copy => match member_pointer(alloc, members, Member::From) {
+            Ok(from) => Ok(Operation::Copy(from, path)),
+            Err(fault) => Err(fault),
+        },
+        Kind::Test => match operand(alloc, members) {
+            Ok(value) => Ok(Operation::Test(path, value)),
+            Err(fault) => Err(fault),
+        },
     }
 }
 
@@ -209,8 +227,10 @@ fn read_operation<A: Allocator + Copy>(
     let Some(members) = properties_of(value) else {
         return Err(OperationFault::NotAnObject);
     };
-    see_names(alloc, members)?;
-    of_members(alloc, members)
+    match see_names(alloc, members) {
+        Ok(()) => of_members(alloc, members),
+        Err(fault) => Err(fault),
+    }
 }
 
 // The operations that these values are.

@@ -4,10 +4,10 @@ ghost use Rattle.std.specs.Prelude.{◌≡◌, ◌≢◌, ℕ, List, chars, stri
 ghost use Rattle.jsonc_ast.specs.Located.{items_at};
 ghost use Rattle.jsonc_ast.specs.Views as ast;
 ghost use Rattle.jsonc_ast.specs.Views.{items_located};
-ghost use Rattle.jsonc_layout.specs.input.Views.{items_plain, members_plain, plain};
+ghost use Rattle.jsonc_layout.specs.input.Views.{items_plain, members_plain, named, plain};
 ghost use Rattle.jsonc_parser.specs.patch.Equality.{HasUniqueNames, ItemsHaveUniqueNames, MembersHaveUniqueNames};
 ghost use Rattle.jsonc_parser.specs.patch.PatchFaults.{IsFaultOfNames, IsFaultOfValue};
-ghost use Rattle.jsonc_parser.specs.patch.PatchReading.{said, TellsRepeated};
+ghost use Rattle.jsonc_parser.specs.patch.PatchReading.{pair_of, said, TellsRepeated};
 ghost use Rattle.jsonc_parser.specs.patch.PatchTexts.{NamesDiffer};
 ghost use Rattle.jsonc_text.specs.Plain.{array, object, string, Items, Members};
 
@@ -124,12 +124,35 @@ fn elements_of<A: Allocator + Copy>(
 {
     let mut elements = Vec::new(alloc);
     for value in values {
-        let element = value_of(alloc, value)?;
+        let element = match value_of(alloc, value) {
+            Ok(element) => element,
+            Err(fault) => return Err(fault),
+        };
         let Ok(()) = elements.push(element) else {
             return Err(OperationFault::OutOfMemory);
         };
     }
     Ok(elements)
+}
+
+// A name with its value.
+#[cycle(values)]
+fn member_of<A: Allocator + Copy>(
+    alloc: A,
+    property: &ObjectProp<'_, A>,
+) -> Result<(String<A>, CstInputValue<A>), OperationFault<A>>
+    ensures value { IfOk result (λ member. named member ≡ pair_of property.now) }
+    ensures unique { OnOk result (HasUniqueNames (ast.plain property.now.value)) }
+    ensures fault { IfErr result (IsFaultOfValue (ast.plain property.now.value)) }
+{
+    let name = match owned(alloc, property.name.as_str()) {
+        Ok(name) => name,
+        Err(fault) => return Err(fault),
+    };
+    match value_of(alloc, &property.value) {
+        Ok(value) => Ok((name, value)),
+        Err(fault) => Err(fault),
+    }
 }
 
 // The names with their values, no name twice.
@@ -142,19 +165,23 @@ fn members_of<A: Allocator + Copy>(
     ensures unique { OnOk result (MembersHaveUniqueNames (said properties.now)) }
     ensures fault { IfErr result (IsFaultOfValue (object (said properties.now))) }
 {
-    see_names(alloc, properties)?;
+    if let Err(fault) = see_names(alloc, properties) {
+        return Err(fault);
+    }
     let mut members = Vec::new(alloc);
     for property in properties {
-        let name = owned(alloc, property.name.as_str())?;
-        let value = value_of(alloc, &property.value)?;
-        let Ok(()) = members.push((name, value)) else {
+        let member = match member_of(alloc, property) {
+            Ok(member) => member,
+            Err(fault) => return Err(fault),
+        };
+        let Ok(()) = members.push(member) else {
             return Err(OperationFault::OutOfMemory);
         };
     }
     Ok(members)
 }
 
-// The value, if no name stands twice in an object in it.
+/// The value, if no name stands twice in an object in it.
 #[cycle(values)]
 pub(super) fn value_of<A: Allocator + Copy>(
     alloc: A,
@@ -167,15 +194,21 @@ pub(super) fn value_of<A: Allocator + Copy>(
     match value {
         Value::NullKeyword(_) => Ok(CstInputValue::Null),
         Value::BooleanLit(boolean) => Ok(CstInputValue::Bool(boolean.value)),
-        Value::NumberLit(number) => Ok(CstInputValue::Number(owned(alloc, number.value)?)),
-        Value::StringLit(string) => Ok(CstInputValue::String(owned(alloc, string.value.as_str())?)),
-        Value::Array(array) => Ok(CstInputValue::Array(elements_of(
-            alloc,
-            array.elements.as_slice(),
-        )?)),
-        Value::Object(object) => Ok(CstInputValue::Object(members_of(
-            alloc,
-            object.properties.as_slice(),
-        )?)),
+        Value::NumberLit(number) => match owned(alloc, number.value) {
+            Ok(text) => Ok(CstInputValue::Number(text)),
+            Err(fault) => Err(fault),
+        },
+        Value::StringLit(string) => match owned(alloc, string.value.as_str()) {
+            Ok(text) => Ok(CstInputValue::String(text)),
+            Err(fault) => Err(fault),
+        },
+        Value::Array(array) => match elements_of(alloc, array.elements.as_slice()) {
+            Ok(elements) => Ok(CstInputValue::Array(elements)),
+            Err(fault) => Err(fault),
+        },
+        Value::Object(object) => match members_of(alloc, object.properties.as_slice()) {
+            Ok(members) => Ok(CstInputValue::Object(members)),
+            Err(fault) => Err(fault),
+        },
     }
 }

@@ -1,6 +1,7 @@
 -- Values of a syntax tree, level by level, with the names in them.
-use Rattle.std.proofs.Common.{◌≡◌, ◌≢◌, ◌∙◌, ℕ, zero, suc, ◌+◌, ◌<◌, ◌≤◌, Bool, true, false, List, [], ◌∷◌, length, get_or, take, map, chars, IsUtf8, All, Vec, refl, sym, ap, subst, arith, rules}
-use Rattle.std.proofs.lemmas.List.Elements.{All-head, All-tail}
+use Rattle.std.proofs.Common.{◌≡◌, ◌≢◌, ◌∙◌, ℕ, zero, suc, ◌+◌, ◌<◌, ◌≤◌, Bool, true, false, List, [], ◌∷◌, ◌++◌, length, get_or, take, map, chars, IsUtf8, All, Vec, refl, sym, ap, subst, arith, rules}
+use Rattle.std.proofs.lemmas.List.Elements.{All-head, All-more, All-tail}
+use Rattle.std.proofs.lemmas.List.{map_push, take_all, take_more}
 use Rattle.std.proofs.lemmas.Bool.{false≢true}
 use Rattle.std.proofs.lemmas.Slice.Eq.{bytes_eq-Decides}
 use Rattle.std.specs.Cow.{cow_str_bytes}
@@ -33,7 +34,7 @@ use Rattle.jsonc_parser.proofs.lemmas.patch.SeenNames.{AreTexts, Distinct}
 use Rattle.jsonc_parser.specs.patch.Equality as equal
 use Rattle.jsonc_parser.specs.patch.Equality.{HasMember, HasUniqueNames, ItemsHaveUniqueNames, MembersHaveUniqueNames, this_has, later_has}
 use Rattle.jsonc_parser.specs.patch.PatchFaults.{IsFaultOfNames, IsFaultOfValue, RepeatsName, repeats_here, repeats_in_element, repeats_in_member}
-use Rattle.jsonc_parser.specs.patch.PatchReading.{TellsRepeated, said}
+use Rattle.jsonc_parser.specs.patch.PatchReading.{TellsRepeated, pair_of, said}
 use Rattle.jsonc_parser.specs.patch.PatchTexts.{NamesDiffer}
 use Rattle.jsonc_parser.specs.patch.References.{IsItem, this_item, later_item, IsRepeated, this_again, later_again}
 use Rattle.jsonc_parser.specs.declared.patch.operation.OperationFault.{OperationFault}
@@ -145,9 +146,6 @@ module _ {A : Type 0} where
   items_said [] = refl
   items_said (v ∷ vs) = ap (item (ast.plain v)) (items_said vs)
 
-  abbrev pub pair_of : ObjectProp A → List ℕ × Plain
-  pair_of p = (chars (prop_name p), prop_value p)
-
   said_pairs : (ps : List (ObjectProp A)) → said ps ≡ to_members (map pair_of ps)
   said_pairs [] = refl
   said_pairs (p ∷ ps) = said-cons p ps ∙ ap (member (chars (prop_name p)) (prop_value p)) (said_pairs ps)
@@ -224,3 +222,19 @@ plain-NullKeyword A n = ap value_at (view A n)
   where
     view : (A : Type 0) (n : NullKeyword) → located {A = A} (value.NullKeyword n) ≡ leaf_at n.range null
     view A n = search (rules, the_lemmas)
+
+-- one more is taken, and all are
+pub one_taken : {X Y Z : Type 0} (f : X → Z) (h : Y → Z) (ys : List Y) (taken new : List X) (i : ℕ) (y : Y) (x : X) → map f taken ≡ map h (take i ys) → i < length ys → y ≡ get_or ys i y → f x ≡ h y → new ≡ taken ++ x ∷ []
+    → map f new ≡ map h (take (i + 1) ys)
+one_taken f h ys taken new i y x so_far l at same pushed =
+    ap (map f) pushed ∙ map_push f taken x ∙ (λ j. so_far j ++ same j ∷ []) ∙ ap (λ z. map h (take i ys) ++ h z ∷ []) at
+    ∙ sym (map_push h (take i ys) (get_or ys i y)) ∙ ap (map h) (sym (take_more ys i y l))
+
+pub all_taken : {X Y Z : Type 0} (f : X → Z) (h : Y → Z) (ys : List Y) (taken : List X) (i : ℕ) → map f taken ≡ map h (take i ys) → length ys ≤ i → map f taken ≡ map h ys
+all_taken f h ys taken i so_far past = so_far ∙ ap (map h) (take_all i ys past)
+
+pub one_holds : {Y : Type 0} (P : Y → Type 0) (ys : List Y) (i : ℕ) (y : Y) → All P (take i ys) → i < length ys → y ≡ get_or ys i y → P y → All P (take (i + 1) ys)
+one_holds P ys i y so_far l at h = All-more P ys i y l so_far (subst P at h)
+
+pub all_hold : {Y : Type 0} (P : Y → Type 0) (ys : List Y) (i : ℕ) → All P (take i ys) → length ys ≤ i → All P ys
+all_hold P ys i so_far past = subst (All P) (take_all i ys past) so_far
