@@ -96,9 +96,9 @@ fn member_value<'b, 'a, A: Allocator>(
     ensures found { IfOk result (λ v. HasMember (member_name member) (ast.plain v.now) (said members.now)) }
     ensures fault { IfErr result (λ fault. Needs member (said members.now) → IsFaultOfMembers (said members.now) fault) }
 {
-    let name = member.name();
+    let wanted = member.name();
     for property in members {
-        if property.name.as_str() == name {
+        if property.name.as_str() == wanted {
             return Ok(&property.value);
         }
     }

@@ -165,8 +165,9 @@ fn members_of<A: Allocator + Copy>(
     ensures unique { OnOk result (MembersHaveUniqueNames (said properties.now)) }
     ensures fault { IfErr result (IsFaultOfValue (object (said properties.now))) }
 {
-    if let Err(fault) = see_names(alloc, properties) {
-        return Err(fault);
+    match see_names(alloc, properties) {
+        Ok(()) => {}
+        Err(fault) => return Err(fault),
     }
     let mut members = Vec::new(alloc);
     for property in properties {

@@ -1,5 +1,6 @@
 -- How the members of an operation are read.
 use Rattle.std.proofs.Common.{◌≡◌, ◌≢◌, ◌∙◌, ◌⊎◌, inl, inr, ℕ, zero, suc, ◌+◌, ◌<◌, ◌++◌, List, [], ◌∷◌, length, get_or, take, map, chars, codes, Contains, Option, Some, None, option_map, refl, sym, ap, subst, arith}
+use Rattle.std.proofs.lemmas.List.{map_push, take_more}
 use Rattle.jsonc_text.specs.Plain.{Plain, string, array, object, Items, item, Members}
 use Rattle.jsonc_text.specs.Grammar.{IsDocument}
 use Rattle.jsonc_text.specs.Options.{Options}
@@ -110,3 +111,20 @@ module _ {A : Type 0} where
 -- the text's value is that of its tree
 pub document_is : {A : Type 0} (o : Options) (text : List ℕ) (read : Option (Value A)) (v : Value A) (p : Plain) → read ≡ Some v → ast.plain v ≡ p → IsDocument o text (option_map ast.plain read) → IsDocument o text (Some p)
 document_is o text read v p e is d = subst (λ w. IsDocument o text (Some w)) is (subst (λ r. IsDocument o text (option_map ast.plain r)) e d)
+
+-- a text whose value is no array, or that has none
+pub no_value : {A : Type 0} (read : Option (Value A)) → ((v : Value A) → read ≡ Some v → ⊥) → (o : Options) (text : List ℕ) → IsDocument o text (option_map ast.plain read)
+    → (w : Option Plain) × IsDocument o text w × ((vs : Items) → w ≢ Some (array vs))
+no_value None h o text d = (None, d, λ vs e. cc)
+no_value (Some v) h o text d = absurd (h v refl)
+
+pub no_array : {A : Type 0} (read : Option (Value A)) (v : Value A) → read ≡ Some v → ((vs : Items) → ast.plain v ≢ array vs) → (o : Options) (text : List ℕ) → IsDocument o text (option_map ast.plain read)
+    → (w : Option Plain) × IsDocument o text w × ((vs : Items) → w ≢ Some (array vs))
+no_array read v e h o text d = (Some (ast.plain v), subst (λ r. IsDocument o text (option_map ast.plain r)) e d, λ vs f. (let same : ast.plain v ≡ array vs = cc in h vs same))
+
+-- operations, one value further
+pub operations_so_far : {A X : Type 0} (f : X → value.Operation) (vs : List (Value A)) (done new : List X) (i : ℕ) (v : Value A) (x : X) → i < length vs → v ≡ get_or vs i v
+    → AreOperations (items_at (items_located (take i vs))) (map f done) → IsOperation (ast.plain v) (f x) → new ≡ done ++ x ∷ [] → AreOperations (items_at (items_located (take (i + 1) vs))) (map f new)
+operations_so_far f vs done new i v x l is h one pushed =
+    subst (λ ws. AreOperations (items_at (items_located ws)) (map f new)) (sym (take_more vs i v l ∙ ap (λ w. take i vs ++ w ∷ []) (sym is)))
+    (subst (AreOperations (items_at (items_located (take i vs ++ v ∷ [])))) (sym (ap (map f) pushed ∙ map_push f done x)) (one_more (take i vs) (map f done) v (f x) h one))

@@ -238,3 +238,26 @@ one_holds P ys i y so_far l at h = All-more P ys i y l so_far (subst P at h)
 
 pub all_hold : {Y : Type 0} (P : Y → Type 0) (ys : List Y) (i : ℕ) → All P (take i ys) → length ys ≤ i → All P ys
 all_hold P ys i so_far past = subst (All P) (take_all i ys past) so_far
+
+-- leaves have no names
+module _ {A : Type 0} where
+  pub leaf_unique_null : (v : Value A) → ast.plain v ≡ null → HasUniqueNames (ast.plain v)
+  leaf_unique_null v e = subst HasUniqueNames (sym e) equal.unique_null
+
+  pub leaf_unique_boolean : (v : Value A) (b : Bool) → ast.plain v ≡ boolean b → HasUniqueNames (ast.plain v)
+  leaf_unique_boolean v b e = subst HasUniqueNames (sym e) equal.unique_boolean
+
+  pub leaf_unique_number : (v : Value A) (s : List ℕ) → ast.plain v ≡ number s → HasUniqueNames (ast.plain v)
+  leaf_unique_number v s e = subst HasUniqueNames (sym e) equal.unique_number
+
+  pub leaf_unique_string : (v : Value A) (s : List ℕ) → ast.plain v ≡ string s → HasUniqueNames (ast.plain v)
+  leaf_unique_string v s e = subst HasUniqueNames (sym e) equal.unique_string
+
+  pub array_unique : (v : Value A) (vs : Items) → ast.plain v ≡ array vs → ItemsHaveUniqueNames vs → HasUniqueNames (ast.plain v)
+  array_unique v vs e h = subst HasUniqueNames (sym e) (equal.unique_array h)
+
+  pub object_unique : (v : Value A) (ms : Members) → ast.plain v ≡ object ms → MembersHaveUniqueNames ms → HasUniqueNames (ast.plain v)
+  object_unique v ms e h = subst HasUniqueNames (sym e) (equal.unique_object h)
+
+  pub fault_moved : (v : Value A) (p : Plain) (e : OperationFault A) → ast.plain v ≡ p → IsFaultOfValue p e → IsFaultOfValue (ast.plain v) e
+  fault_moved v p e is h = subst (λ q. IsFaultOfValue q e) (sym is) h

@@ -102,3 +102,11 @@ module _ (xs : List (List ℕ)) (i : ℕ) (name : List ℕ) (at : get_or xs i []
         | inl m ↦ h j m
         | inr m ↦ let same : j ≡ i = omega (arith, l, m) in subst IsUtf8 (sym (ap (λ n. get_or xs n []) same ∙ at)) text
       ]
+
+-- one more is another
+pub other_there : (xs : List (List ℕ)) (i : ℕ) (name : List ℕ) → ((j : ℕ) → j < i → get_or xs j [] ≡ name → ⊥) → (get_or xs i [] ≡ name → ⊥) → (j : ℕ) → j < i + 1 → get_or xs j [] ≡ name → ⊥
+other_there xs i name h other j l e =
+    elim (cases_lt j i) [
+      | inl m ↦ h j m e
+      | inr m ↦ let same : j ≡ i = omega (arith, l, m) in other (sym (ap (λ n. get_or xs n []) same) ∙ e)
+    ]
