@@ -165,9 +165,8 @@ fn members_of<A: Allocator + Copy>(
     ensures unique { OnOk result (MembersHaveUniqueNames (said properties.now)) }
     ensures fault { IfErr result (IsFaultOfValue (object (said properties.now))) }
 {
-    match see_names(alloc, properties) {
-        Ok(()) => {}
-        Err(fault) => return Err(fault),
+    if let Err(fault) = see_names(alloc, properties) {
+        return Err(fault);
     }
     let mut members = Vec::new(alloc);
     for property in properties {
