@@ -1,6 +1,9 @@
 -- How the members of an operation are read.
-use Rattle.std.proofs.Common.{◌≡◌, ◌≢◌, ◌∙◌, ◌⊎◌, inl, inr, ℕ, zero, suc, ◌+◌, ◌<◌, ◌++◌, List, [], ◌∷◌, length, get_or, take, map, chars, codes, Contains, Option, Some, None, option_map, refl, sym, ap, subst, arith}
+use Rattle.std.proofs.Common.{◌≡◌, ◌≢◌, ◌∙◌, ◌⊎◌, inl, inr, ℕ, zero, suc, ◌+◌, ◌<◌, ◌++◌, List, [], ◌∷◌, length, get_or, take, map, chars, codes, Contains, Option, Some, None, option_map, refl, sym, ap, subst, arith, rules, IsUtf8}
 use Rattle.std.proofs.lemmas.List.{map_push, take_more}
+use Rattle.std.proofs.lemmas.Str.{IsUtf8-from_ascii, chars-IsAscii}
+use Rattle.std.specs.Str.{IsAscii}
+use Rattle.jsonc_layout.proofs.lemmas.nodes.NodeNames.{same_text}
 use Rattle.jsonc_text.specs.Plain.{Plain, string, array, object, Items, item, Members}
 use Rattle.jsonc_text.specs.Grammar.{IsDocument}
 use Rattle.jsonc_text.specs.Options.{Options}
@@ -24,10 +27,25 @@ use Rattle.jsonc_parser.specs.declared.patch.reading.PatchError.TheVariants as e
 
 -- the names of members are their characters
 pub ascii_name : (member : Member) → chars (member_name member) ≡ member_name member
-ascii_name m.Op = refl
-ascii_name m.Path = refl
-ascii_name m.From = refl
-ascii_name m.Value = refl
+ascii_name m.Op = chars-IsAscii (codes "op") (search rules)
+ascii_name m.Path = chars-IsAscii (codes "path") (search rules)
+ascii_name m.From = chars-IsAscii (codes "from") (search rules)
+ascii_name m.Value = chars-IsAscii (codes "value") (search rules)
+
+-- a text whose characters are these is these
+ascii_text : (s t : List ℕ) → IsUtf8 s → IsAscii t → chars s ≡ t → s ≡ t
+ascii_text s t u a e = same_text s t u (IsUtf8-from_ascii t a) (e ∙ sym (chars-IsAscii t a))
+
+pub text_is : (s t : List ℕ) → s ≡ t → IsAscii t → chars s ≡ t
+text_is s t e a = ap chars e ∙ chars-IsAscii t a
+
+pub no_kind : (s : List ℕ) → IsUtf8 s → s ≢ codes "add" → s ≢ codes "remove" → s ≢ codes "replace" → s ≢ codes "move" → s ≢ codes "copy" → s ≢ codes "test" → IsNoKind (chars s)
+no_kind s u a r p m c t kind.Add e = a (ascii_text s (codes "add") u (search rules) e)
+no_kind s u a r p m c t kind.Remove e = r (ascii_text s (codes "remove") u (search rules) e)
+no_kind s u a r p m c t kind.Replace e = p (ascii_text s (codes "replace") u (search rules) e)
+no_kind s u a r p m c t kind.Move e = m (ascii_text s (codes "move") u (search rules) e)
+no_kind s u a r p m c t kind.Copy e = c (ascii_text s (codes "copy") u (search rules) e)
+no_kind s u a r p m c t kind.Test e = t (ascii_text s (codes "test") u (search rules) e)
 
 -- what is no string is wrong for a member that is one
 pub wrong_kind : (member : Member) (v : Plain) → IsForText member → ((s : List ℕ) → v ≢ string s) → IsWrong member v
@@ -97,7 +115,7 @@ module _ {A : Type 0} where
 
   -- no memory for what is an operation
   pub no_room : (w : Plain) (o : value.Operation) → IsOperation w o → IsFaultOfOperation {A = A} w fault.OutOfMemory
-  no_room w o h = subst (λ v. IsFaultOfOperation v fault.OutOfMemory) (sym h.is) (of_members tt)
+  no_room w o h = subst (λ v. IsFaultOfOperation {A = A} v fault.OutOfMemory) (sym h.is) (of_members tt)
 
   pub fault_of_object : (w : Plain) (ms : Members) (e : OperationFault A) → w ≡ object ms → IsFaultOfMembers ms e → IsFaultOfOperation w e
   fault_of_object w ms e is h = subst (λ v. IsFaultOfOperation v e) (sym is) (of_members h)

@@ -13,17 +13,17 @@ loop-number-init g c = subst (λ os. AreOperations (items_at (items_located (tak
 
 pub returns-in-Err-clause-fault : goal.returns-in-Err-clause-fault
 returns-in-Err-clause-fault g c =
-    first_fault c.args.values.now (map asked c.loop-number.operations.items) c.loop-number.number c.value-item.result c.in-Err.fault c.loop-number-test.true c.value-item.is c.loop-number.invariant c.in-Err.ensures.fault
+    first_fault c.args.values.now (map asked c.loop-number.operations.items) c.loop-number.number c.index-values-number.result c.in-Err.fault c.loop-number-test.true c.index-values-number.is c.loop-number.invariant c.in-Err.ensures.fault
 
 pub returns-in_default-clause-fault : goal.returns-in_default-clause-fault
 returns-in_default-clause-fault g c =
-    first_fault c.args.values.now (map asked c.loop-number.operations.items) c.loop-number.number c.value-item.result _ c.loop-number-test.true c.value-item.is c.loop-number.invariant
-    (no_room (ast.plain c.value-item.result) (asked c.in-Ok.operation) c.in-Ok.ensures.operation)
+    first_fault c.args.values.now (map asked c.loop-number.operations.items) c.loop-number.number c.index-values-number.result _ c.loop-number-test.true c.index-values-number.is c.loop-number.invariant
+    (no_room (ast.plain c.index-values-number.result) (asked c.in-Ok.operation) c.in-Ok.ensures.operation)
 
 pub loop-number-preserved : goal.loop-number-preserved
 loop-number-preserved g c =
-    operations_so_far asked c.args.values.now c.loop-number.operations.items c.push.new.self.items c.loop-number.number c.value-item.result c.in-Ok.operation
-    c.loop-number-test.true c.value-item.is c.loop-number.invariant c.in-Ok.ensures.operation c.in-Ok-push.ensures.items
+    operations_so_far asked c.args.values.now c.loop-number.operations.items c.push.new.self.items c.loop-number.number c.index-values-number.result c.in-Ok.operation
+    c.loop-number-test.true c.index-values-number.is c.loop-number.invariant c.in-Ok.ensures.operation c.in-Ok-push.ensures.items
 
 pub returns-clause-operations : goal.returns-clause-operations
 returns-clause-operations g c =

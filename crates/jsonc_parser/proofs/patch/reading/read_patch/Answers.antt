@@ -4,7 +4,7 @@ use Rattle.jsonc_text.specs.OptionsOf.{parse_options}
 use Rattle.jsonc_ast.specs.Located.{items_at}
 use Rattle.jsonc_ast.specs.Views.{items_located}
 use Rattle.jsonc_ast.specs.Views as ast
-use Rattle.jsonc_parser.proofs.lemmas.patch.PatchReads.{document_is, fault_of_text, no_array, no_value}
+use Rattle.jsonc_parser.proofs.lemmas.patch.PatchReads.{document_is, fault_of_text, no_value}
 use Rattle.jsonc_parser.proofs.patch.reading.read_patch.Goals as goal
 
 pub returns-in-Err-clause-fault : goal.returns-in-Err-clause-fault
@@ -24,7 +24,3 @@ returns-in-Some-elements_in-clause-fault g c =
     let o = parse_options c.args.options.now in
     let document = document_is o (chars c.args.text.now) c.in-Ok.read.value c.in-Some.value _ c.in-Some.is c.in-Some-elements_in.ensures.some c.in-Ok.ensures.accepted in
     IfErr-weaker c.read_operations.result _ _ (λ e h. fault_of_text o c.args.text.now (items_at (items_located c.in-Some-elements_in.values.now)) e document h) c.read_operations.ensures.fault
-
-pub returns-in-None-clause-fault : goal.returns-in-None-clause-fault
-returns-in-None-clause-fault g c =
-    no_array c.in-Ok.read.value c.in-Some.value c.in-Some.is c.in-None.ensures.none (parse_options c.args.options.now) (chars c.args.text.now) c.in-Ok.ensures.accepted
