@@ -6,5 +6,10 @@ pub mod Lookups
 pub mod Messages
 pub mod Laws
 pub mod Numbers
+pub mod Equality
+pub mod Operations
+pub mod Merging
+pub mod Comparing
 pub mod Digits
 pub mod Values
+pub mod Applied

@@ -124,6 +124,27 @@ fn found<A: Allocator + Copy>(
     }
 }
 
+/// Where a node was found, its pointer is that which found it.
+fn told<A: Allocator + Copy>(
+    alloc: A,
+    doc: &CstRootNode<A>,
+    pointer: &Pointer<A>,
+    text: &str,
+) -> Outcome {
+    let node = match patch::find(doc, pointer) {
+        Ok(Some(node)) => node,
+        _ => return Outcome::Answered,
+    };
+    match patch::pointer_of(doc, node) {
+        Ok(Some(told)) => match format!(in alloc; "{told}") {
+            Ok(printed) => Outcome::of(printed.as_str() == text),
+            Err(_) => Outcome::Wanted,
+        },
+        Ok(None) => Outcome::Other,
+        Err(error) => Outcome::from(error),
+    }
+}
+
 /// A value is read exactly where one was found.
 fn value_read<A: Allocator + Copy>(
     doc: &CstRootNode<A>,
@@ -166,7 +187,8 @@ fn outcome<A: Allocator + Copy>(alloc: A, row: &Row<'_>) -> Outcome {
     match Pointer::parse(alloc, row.0) {
         Ok(pointer) => printed(alloc, &pointer, row.0)
             .then(found(alloc, &doc, &pointer, row.2))
-            .then(value_read(&doc, &pointer, row.2)),
+            .then(value_read(&doc, &pointer, row.2))
+            .then(told(alloc, &doc, &pointer, row.0)),
         Err(PointerError::OutOfMemory) => Outcome::Wanted,
         Err(error) => match row.2 {
             Answer::Fault(wanted) => Outcome::of(error == wanted),

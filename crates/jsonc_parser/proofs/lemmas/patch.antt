@@ -9,3 +9,4 @@ pub mod Digits
 pub mod HexRows
 pub mod NumberRows
 pub mod SameNumbers
+pub mod Equality

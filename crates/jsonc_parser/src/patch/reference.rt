@@ -64,7 +64,7 @@ pub(crate) enum Lookup {
 
 // The one property of a name among the children of an object. Memory is wanted only for a name with a
 // backslash.
-fn look_up<A: Allocator + Copy>(
+pub(super) fn look_up<A: Allocator + Copy>(
     doc: &CstRootNode<A>,
     object: usize,
     name: &str,
@@ -92,7 +92,7 @@ fn look_up<A: Allocator + Copy>(
 }
 
 // The value of a property, if it has one.
-fn value_under<A: Allocator>(doc: &CstRootNode<A>, property: usize) -> Option<CstNode>
+pub(super) fn value_under<A: Allocator>(doc: &CstRootNode<A>, property: usize) -> Option<CstNode>
     requires { property < length (nodes_of doc.now) }
     ensures value { result ≡ value_of_property doc.now property }
     ensures in_document { IfSome result (HasNode doc.now) }
@@ -181,6 +181,26 @@ fn element<A: Allocator>(doc: &CstRootNode<A>, node: usize, token: &str) -> Opti
     element_at(tree, node, index)
 }
 
+// The element of an array before which a token says that another is to come; none of the two where it says
+// behind the last.
+pub(super) fn element_place<A: Allocator>(
+    doc: &CstRootNode<A>,
+    node: usize,
+    token: &str,
+) -> Option<Option<usize>>
+    requires { node < length (nodes_of doc.now) }
+{
+    if token == "-" {
+        return Some(None);
+    }
+    let tree = doc.tree();
+    let index = index_below(token, tree.len())?;
+    if index == 0 || element_at(tree, node, index - 1).is_some() {
+        return Some(Some(index));
+    }
+    None
+}
+
 // Where a token leads from a node.
 fn step<A: Allocator + Copy>(
     doc: &CstRootNode<A>,
@@ -205,7 +225,7 @@ fn step<A: Allocator + Copy>(
 }
 
 // The value that tokens refer to, if there is one.
-fn follow<A: Allocator + Copy>(
+pub(super) fn follow<A: Allocator + Copy>(
     doc: &CstRootNode<A>,
     tokens: &[String<A>],
 ) -> Result<Option<CstNode>, FindError<A>>
