@@ -1,7 +1,12 @@
-//! The pointer that leads to a node.
+//! The pointer that refers to a node.
 
-ghost use Rattle.std.specs.Prelude.{◌<◌, length, IfOk, IfSome};
-ghost use Rattle.jsonc_cst.specs.Document.{nodes_of, HasNode};
+ghost use Rattle.std.specs.Prelude.{◌≡◌, ◌<◌, ℕ, length, IfErr, IfOk, IfSome};
+ghost use Rattle.jsonc_tree.specs.Content.{Content};
+ghost use Rattle.jsonc_edit.specs.Paths.{IsAt, IsElementOf, IsHeldBy, StepsTo};
+ghost use Rattle.jsonc_cst.specs.Document.{content_of, nodes_of, HasNode};
+ghost use Rattle.jsonc_cst.specs.Nodes.{number_of};
+ghost use Rattle.jsonc_parser.specs.patch.Found.{IsOfShown};
+ghost use Rattle.jsonc_parser.specs.patch.Locations.{TellsPointer, TellsToken, TellsTokens};
 
 use super::pointer::Pointer;
 use super::reference::{Lookup, look_up, value_under};
@@ -12,19 +17,23 @@ use std::alloc::Allocator;
 // The name that leads from an object to the value of its property, and that value.
 fn name_to<A: Allocator + Copy>(
     doc: &CstRootNode<A>,
-    object: usize,
+    object: CstNode,
     property: usize,
 ) -> Result<Option<(String<A>, CstNode)>, EditError>
-    requires object { object < length (nodes_of doc.now) }
+    requires in_document { HasNode doc.now object }
+    requires object { content_of doc.now object ≡ Content.object }
     requires property { property < length (nodes_of doc.now) }
-    ensures { IfOk result (λ o. IfSome o (λ p. HasNode doc.now p.1)) }
+    ensures told { IfOk result (λ told. (i q : ℕ) → IsElementOf (nodes_of doc.now) (number_of object) i property
+        → IsHeldBy (nodes_of doc.now) property q → TellsToken doc.now object i q told) }
+    ensures in_document { IfOk result (λ told. IfSome told (λ t. HasNode doc.now t.1)) }
+    ensures memory { IfErr result (λ e. e ≡ EditError.OutOfMemory) }
 {
     let name = match decoded_name(*doc.allocator(), doc.tree(), property) {
         Ok(Some(name)) => name,
         Ok(None) => return Ok(None),
         Err(_) => return Err(EditError::OutOfMemory),
     };
-    match look_up(doc, object, &name) {
+    match look_up(doc, object.number(), &name) {
         Ok(Lookup::Once(only)) => match value_under(doc, only) {
             Some(value) => Ok(Some((name, value))),
             None => Ok(None),
@@ -34,20 +43,23 @@ fn name_to<A: Allocator + Copy>(
     }
 }
 
-// The token that leads from a container to its entry at a place, and the value there.
+// The token that leads from a node to what is at a place there, and the node of that.
 fn token_to<A: Allocator + Copy>(
     doc: &CstRootNode<A>,
     node: CstNode,
     place: usize,
 ) -> Result<Option<(String<A>, CstNode)>, EditError>
     requires { HasNode doc.now node }
-    ensures { IfOk result (λ o. IfSome o (λ p. HasNode doc.now p.1)) }
+    ensures told { IfOk result (λ told. (q : ℕ) → StepsTo (nodes_of doc.now) (number_of node) place q
+        → TellsToken doc.now node place q told) }
+    ensures in_document { IfOk result (λ told. IfSome told (λ t. HasNode doc.now t.1)) }
+    ensures memory { IfErr result (λ e. e ≡ EditError.OutOfMemory) }
 {
     let Some(entry) = element_at(doc.tree(), node.number(), place) else {
         return Ok(None);
     };
     if node.as_object().is_some() {
-        return name_to(doc, node.number(), entry);
+        return name_to(doc, node, entry);
     }
     match place.to_string(*doc.allocator()) {
         Ok(token) => Ok(Some((token, node_at(doc.tree(), entry)))),
@@ -55,11 +67,15 @@ fn token_to<A: Allocator + Copy>(
     }
 }
 
-// The tokens that lead over these places, from the document's value.
+// The tokens that lead over the places of a path.
 fn tokens_over<A: Allocator + Copy>(
     doc: &CstRootNode<A>,
     path: &[usize],
-) -> Result<Option<Vec<String<A>, A>>, EditError> {
+) -> Result<Option<Vec<String<A>, A>>, EditError>
+    ensures told { IfOk result (λ told. (n : ℕ) → IsAt (nodes_of doc.now) path.now n
+        → IsOfShown doc.now (TellsTokens doc.now n told)) }
+    ensures memory { IfErr result (λ e. e ≡ EditError.OutOfMemory) }
+{
     let Some(value) = doc.value() else {
         return Ok(None);
     };
@@ -80,16 +96,18 @@ fn tokens_over<A: Allocator + Copy>(
     Ok(Some(tokens))
 }
 
-/// The pointer that refers to a node.
+/// The pointer that refers to a node: [`find`](super::find) finds the node by it.
 ///
-/// [`find`](super::find) leads back to the node with it. None where a name on the way stands twice in its
-/// object or does not decode, and of a node that is no value of the document: a property, a name, a comment,
-/// blanks, a token, and what was removed or replaced.
+/// None where no pointer refers to the node: a name on the way stands twice in its object, or the node is
+/// no value of the document, but a property, a name, a comment, blanks, a token, or what was removed or
+/// replaced.
 pub fn pointer_of<A: Allocator + Copy>(
     doc: &CstRootNode<A>,
     node: CstNode,
 ) -> Result<Option<Pointer<A>>, EditError>
     requires { HasNode doc.now node }
+    ensures told { IfOk result (λ told. IsOfShown doc.now (TellsPointer doc.now (number_of node) told)) }
+    ensures memory { IfErr result (λ e. e ≡ EditError.OutOfMemory) }
 {
     let path = match doc.path(node) {
         Ok(Some(path)) => path,
