@@ -11,14 +11,16 @@ mod apply;
 mod equality;
 pub(crate) mod laws;
 mod location;
+mod making;
 mod merging;
 mod numbers;
 mod operation;
 mod pointer;
 mod reference;
 
-pub use apply::{Patch, PatchCause, PatchError, PatchFault};
+pub use apply::{Patch, PatchError, PatchFault};
 pub use location::pointer_of;
+pub use making::PatchCause;
 pub use merging::{MergeFault, merge};
 pub use numbers::same_number;
 pub use operation::{Member, Operation, OperationFault};

@@ -91,7 +91,11 @@ impl<A: Allocator> fmt::Display for OperationFault<A> {
 }
 
 // Writes a text, and then a member's name.
-fn write_named<W: fmt::Write>(text: &str, member: Member, f: &mut fmt::Formatter<W>) -> fmt::Result {
+fn write_named<W: fmt::Write>(
+    text: &str,
+    member: Member,
+    f: &mut fmt::Formatter<W>,
+) -> fmt::Result {
     f.write_str(text)?;
     f.write_str(member.name())
 }

@@ -205,11 +205,10 @@ module _ (S : List ℕ → List ℕ → Type 0) {A : Type 0} where
 
   -- as many members, each in the other
   pub objects_told : (ps qs : List (String A × CstInputValue A)) (b : Bool) → length ps ≡ length qs → Decides b (AreMembersIn S (members_plain qs) (members_plain ps)) → Decides b (AreEqual S (object (members_plain ps)) (object (members_plain qs)))
-  objects_told ps qs b same d =
-      (
-        λ t. equal.objects (count_is S ps ∙ same ∙ sym (count_is S qs)) (d.0 t),
-        λ h. (let n = only_object S h in let o : object (members_plain qs) ≡ object n.0 = n.1 in let e : members_plain qs ≡ n.0 = cc in d.1 (subst (λ ns. AreMembersIn S ns (members_plain ps)) (sym e) n.3)),
-      )
+  objects_told ps qs b same d = (
+    λ t. equal.objects (count_is S ps ∙ same ∙ sym (count_is S qs)) (d.0 t),
+    λ h. (let n = only_object S h in let o : object (members_plain qs) ≡ object n.0 = n.1 in let e : members_plain qs ≡ n.0 = cc in d.1 (subst (λ ns. AreMembersIn S ns (members_plain ps)) (sym e) n.3)),
+  )
 
   pub counts_differ : (ps qs : List (String A × CstInputValue A)) → (length ps ≡ length qs → ⊥) → Decides false (AreEqual S (object (members_plain ps)) (object (members_plain qs)))
   counts_differ ps qs f =

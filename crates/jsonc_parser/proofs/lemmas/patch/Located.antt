@@ -1,5 +1,5 @@
 -- The tokens that refer to a node of a document, step by step along the path that leads to it.
-use Rattle.std.proofs.Common.{ℕ, ◌≡◌, ◌<◌, ◌^◌, ◌++◌, ◌∙◌, sym, ap, subst, refl, inl, inr, List, [], ◌∷◌, Option, Some, None, length, slice_get, string_bytes, chars, option_map}
+use Rattle.std.proofs.Common.{ℕ, zero, suc, ◌≡◌, ◌<◌, ◌^◌, ◌++◌, ◌∙◌, sym, ap, subst, refl, inl, inr, List, [], ◌∷◌, Option, Some, None, length, slice_get, slice_index, string_bytes, chars, option_map, arith}
 use Rattle.std.specs.Fmt.{decimal}
 use Rattle.std.specs.declared.string.String.{String}
 use Rattle.std.specs.declared.vec.Vec.{Vec}
@@ -46,6 +46,12 @@ has_name_once : (ns : List Node) (r : ℕ) (a b : List ℕ) → HasName ns r a �
 has_name_once ns r a b (m, e, is) (n, f, so) =
     let same : m ≡ n = let both : Some m ≡ Some n = sym e ∙ f in cc in
     names_once (content_at ns n) a b (subst (λ k. Names (content_at ns k) a) same is) so
+
+-- what is found in a list at a place
+got_at : (xs : List ℕ) (k r : ℕ) → k < length xs → slice_index xs k ≡ r → slice_get xs k ≡ Some r
+got_at [] k r h is = absurd (omega (arith, h))
+got_at (x ∷ xs) zero r h is = ap (λ n. Some n) is
+got_at (x ∷ xs) (suc k) r h is = got_at xs k r (omega (arith, h)) is
 
 -- the next step of a path
 next_step : {ns : List Node} {n v place : ℕ} {rest : List ℕ} → LeadsTo ns n v (place ∷ rest) → (q : ℕ) × paths.StepsTo ns v place q × LeadsTo ns n q rest
@@ -145,7 +151,7 @@ module _ {A : Type 0} (doc : CstRootNode A) (tree : IsTree (nodes_of doc)) (node
         only_this : (i q : ℕ) → IsElementOf (nodes_of doc) (number_of node) i property → IsHeldBy (nodes_of doc) property q → only ≡ property
         only_this i q e h =
             let at = stands_at (is_element_at (nodes_of doc)) (children_at (nodes_of doc) (number_of node)) i property e in
-            only_named (nodes_of doc) name only found at.0 property at.1 at.2 (h.0, named)
+            only_named (nodes_of doc) name only found at.0 property (got_at (children_at (nodes_of doc) (number_of node)) at.0 property at.1 at.2) (h.0, named)
 
         pub told_name : (value : CstNode) → Some value ≡ value_under doc only → (token : String A) → chars_of token ≡ name
             → (i q : ℕ) → IsElementOf (nodes_of doc) (number_of node) i property → IsHeldBy (nodes_of doc) property q → TellsToken doc node i q (Some (token, value))
@@ -163,12 +169,12 @@ module _ {A : Type 0} (doc : CstRootNode A) (tree : IsTree (nodes_of doc)) (node
             let held : value_at ns only ≡ Some q = ap (value_at ns) (only_this i q e h) ∙ h.2 in
             absurd (let wrong : None ≡ Some (typed_at ns q) = is ∙ ap (option_map (typed_at ns)) held in cc)
 
-module _ {A : Type 0} (doc : CstRootNode A) (tree : IsTree (nodes_of doc)) where
-  -- so far the tokens refer to this node, from which the rest of the path leads to that of the number
-  abbrev pub IsOnTheWay : ℕ → List (String A) → CstNode → List ℕ → Type 0
-  IsOnTheWay n tokens node rest = IsOfShown doc (λ d. RefersToNode d (nodes_of doc) (names_of tokens) (number_of node) × LeadsTo (nodes_of doc) n (number_of node) rest)
+-- so far the tokens refer to this node, from which the rest of the path leads to that of the number
+abbrev pub IsOnTheWay : {A : Type 0} → CstRootNode A → ℕ → List (String A) → CstNode → List ℕ → Type 0
+IsOnTheWay doc n tokens node rest = IsOfShown doc (λ d. RefersToNode d (nodes_of doc) (names_of tokens) (number_of node) × LeadsTo (nodes_of doc) n (number_of node) rest)
 
-  pub starts : (node : CstNode) → Some node ≡ value_under doc 0 → (path : List ℕ) (n : ℕ) → IsAt (nodes_of doc) path n → IsOnTheWay n [] node path
+module _ {A : Type 0} (doc : CstRootNode A) (tree : IsTree (nodes_of doc)) where
+  pub starts : (node : CstNode) → Some node ≡ value_under doc 0 → (path : List ℕ) (n : ℕ) → IsAt (nodes_of doc) path n → IsOnTheWay doc n [] node path
   starts node is path n at d shown =
       let w = begins_with doc tree node is d shown in
       let here : IsAt (nodes_of doc) [] (number_of node) = subst (λ p. IsAt (nodes_of doc) p (number_of node)) (no_tokens w.refers) w.at in
@@ -178,8 +184,8 @@ module _ {A : Type 0} (doc : CstRootNode A) (tree : IsTree (nodes_of doc)) where
   pub starts_nowhere : None ≡ value_under doc 0 → (n : ℕ) → IsOfShown doc (TellsTokens doc n None)
   starts_nowhere is n d shown tokens u = (begins_without doc tree is tokens d shown).nothing u.v (u.value, u.is, u.path, u.refers)
 
-  module _ (n : ℕ) (tokens : List (String A)) (node : CstNode) (place : ℕ) (rest : List ℕ) (way : IsOnTheWay n tokens node (place ∷ rest)) where
-    pub goes_on : (token : String A) (inner : CstNode) → ((q : ℕ) → paths.StepsTo (nodes_of doc) (number_of node) place q → TellsToken doc node place q (Some (token, inner))) → IsOnTheWay n (tokens ++ token ∷ []) inner rest
+  module _ (n : ℕ) (tokens : List (String A)) (node : CstNode) (place : ℕ) (rest : List ℕ) (way : IsOnTheWay doc n tokens node (place ∷ rest)) where
+    pub goes_on : (token : String A) (inner : CstNode) → ((q : ℕ) → paths.StepsTo (nodes_of doc) (number_of node) place q → TellsToken doc node place q (Some (token, inner))) → IsOnTheWay doc n (tokens ++ token ∷ []) inner rest
     goes_on token inner told d shown =
         let so = way d shown in
         let s = next_step so.1 in
@@ -193,7 +199,7 @@ module _ {A : Type 0} (doc : CstRootNode A) (tree : IsTree (nodes_of doc)) where
         let s = next_step so.1 in
         none_over d (nodes_of doc) tree shown (names_of tokens) (number_of node) n place rest so.0 so.1 (told s.0 s.1 d (names_of tokens) shown so.0) others u
 
-  pub arrives : (n : ℕ) (tokens : Vec (String A) A) (node : CstNode) → IsOnTheWay n tokens.items node [] → IsOfShown doc (TellsTokens doc n (Some tokens))
+  pub arrives : (n : ℕ) (tokens : Vec (String A) A) (node : CstNode) → IsOnTheWay doc n tokens.items node [] → IsOfShown doc (TellsTokens doc n (Some tokens))
   arrives n tokens node way d shown =
       let so = way d shown in subst (RefersToNode d (nodes_of doc) (names_of tokens.items)) (no_step so.1) so.0
 

@@ -1,7 +1,7 @@
 -- From a node of a document by the token that leads to the next one on its path.
 use Rattle.std.proofs.Common.{ℕ, zero, suc, ◌≡◌, ◌<◌, ◌≤◌, ◌+◌, ◌^◌, ◌++◌, ◌∙◌, sym, ap, subst, refl, true, false, inl, inr, List, [], ◌∷◌, Option, Some, None, length, map, drop, filter, get_or, slice_get, slice_index, string_bytes, chars, arith}
 use Rattle.std.specs.Fmt.{decimal, digits}
-use Rattle.std.specs.Int.{digits_of}
+use Rattle.std.specs.Int.Digits.{digits_of}
 use Rattle.std.specs.List.{All}
 use Rattle.std.proofs.lemmas.Bool.{cases_lt}
 use Rattle.std.proofs.lemmas.Fmt.{decimal-digits_of, decimal_is_IsNumeral, IsAscii-decimal}
@@ -184,7 +184,7 @@ module _ (o : Options) (ns : List Node) where
       let tail : after ≡ a = cc in
       let inner : below ≡ b = cc in
       let whole_here : PropertyAlone o below = all 0 n (omega arith) kind below p in
-      let leaf : NameLeaf ns (children_at ns n) m = name_leaf o ns (children_at ns n) below m u p whole_here (subst (λ t. PropertyOf o t m u) (sym inner) h) in
+      let leaf : NameLeaf o ns (children_at ns n) m = name_leaf o ns (children_at ns n) below m u p whole_here (subst (λ t. PropertyOf o t m u) (sym inner) h) in
       elim (only_of_more only m u ms refl) [
         | inl is ↦ subst (NamedThere (n ∷ rest) name) (sym is.2) (first_named n rest name (ap is_element kind) (subst (HasName ns n) is.0 (has_name o ns n m leaf)))
         | inr other ↦ subst (NamedThere (n ∷ rest) name) (sym other.1) (behind_one n rest name other.0 (ap is_element kind) (named_there rest after a ms name v other.0 q g tail (others_whole o ns n rest all) other.3))
