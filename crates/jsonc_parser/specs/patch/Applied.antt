@@ -1,11 +1,12 @@
 -- What a patch, or a merge patch, makes of a document.
-use Rattle.std.specs.Prelude.{◌≡◌, ◌≤◌, ◌∷◌, [], ℕ, Bool, true, false, List, length, map, Option, Some, None}
+use Rattle.std.specs.Prelude.{◌≡◌, ◌≤◌, ◌∷◌, ◌++◌, [], ℕ, Bool, true, false, List, length, map, Option, Some, None}
 use Rattle.std.specs.List.{All}
 use Rattle.jsonc_text.specs.Documents.{Document}
 use Rattle.jsonc_text.specs.Options.{Options}
 use Rattle.jsonc_text.specs.Plain.{Plain, collapse}
 use Rattle.jsonc_tree.specs.Building.{Keeps}
-use Rattle.jsonc_tree.specs.Tree.{Node}
+use Rattle.jsonc_tree.specs.Content.{object}
+use Rattle.jsonc_tree.specs.Tree.{Node, content_at}
 use Rattle.jsonc_edit.specs.Paths.{IsAt}
 use Rattle.jsonc_edit.specs.Writing.{IsOfNumbers}
 use Rattle.jsonc_layout.specs.input.Views.{plain}
@@ -14,9 +15,11 @@ use Rattle.jsonc_sound.specs.Documents.{Shows}
 use Rattle.jsonc_run.specs.declared.edit.Edit.{Edit}
 use Rattle.jsonc_run.specs.promise.Asked.{EditsTo}
 use Rattle.jsonc_cst.specs.declared.cst.CstRootNode.{CstRootNode}
+use Rattle.jsonc_cst.specs.declared.cst.node.CstNode.{CstNode}
 use Rattle.jsonc_cst.specs.Document.{nodes_of, tree_of}
+use Rattle.jsonc_cst.specs.Nodes.{number_of}
 use Rattle.jsonc_parser.specs.patch.Equality.{AreEqual}
-use Rattle.jsonc_parser.specs.patch.Found.{IsOfShown, RefersToNode}
+use Rattle.jsonc_parser.specs.patch.Found.{IsOfShown, RefersToNode, RefersToNothing}
 use Rattle.jsonc_parser.specs.patch.Merging.{merged}
 use Rattle.jsonc_parser.specs.patch.Operations as value
 use Rattle.jsonc_parser.specs.patch.Operations.{MakesAll, Makes}
@@ -30,6 +33,10 @@ abbrev pub IsPlaceBy : List Node → ℕ → List ℕ → Option (Option ℕ) �
 IsPlaceBy ns n token None = Unit {0}
 IsPlaceBy ns n token (Some None) = token ≡ 0x2D ∷ []
 IsPlaceBy ns n token (Some (Some i)) = IsIndex token i × (i ≤ length (elements_at ns n))
+
+-- the first tokens begin the others, or are they all
+abbrev pub LeadsOn : List (List ℕ) → List (List ℕ) → Type 0
+LeadsOn front tokens = (rest : List (List ℕ)) × (tokens ≡ front ++ rest)
 
 -- the value that the tokens refer to was taken, of equal names the last at the first place
 abbrev pub Takes : Document → List (List ℕ) → Plain → Type 0
@@ -78,6 +85,23 @@ module _ {A : Type 0} where
   -- so it is of whatever document the old one shows, if the numbers that are written fit
   abbrev pub MakesWhatShown : CstRootNode A → value.Operation → (Options → Type 0) → CstRootNode A → Type 0
   MakesWhatShown old operation Fit new = (d : Document) → Shows d (tree_of old) → Fit d.options → (e : Document) × Shows e (tree_of new) × IsMade A d operation e
+
+  -- the value is added where these tokens lead, of which all but the last refer to the node
+  abbrev pub AddsMember : CstRootNode A → CstNode → List (List ℕ) → List ℕ → Plain → CstRootNode A → Type 0
+  AddsMember old node all last v new =
+      (tokens : List (List ℕ)) → all ≡ tokens ++ last ∷ [] → IsOfShown old (λ d. RefersToNode d (nodes_of old) tokens (number_of node)) → MakesWhatShown old (value.add all v) (λ o. IsOfNumbers o v) new
+
+  -- the value is put in the place of the one at the node, where tokens refer to it behind an object
+  abbrev pub PutsAt : CstRootNode A → CstNode → Plain → CstRootNode A → Type 0
+  PutsAt old node v new =
+      (n : ℕ) (tokens : List (List ℕ)) (name : List ℕ) → content_at (nodes_of old) n ≡ object → IsOfShown old (λ d. RefersToNode d (nodes_of old) tokens n)
+      → IsOfShown old (λ d. RefersToNode d (nodes_of old) (tokens ++ name ∷ []) (number_of node)) → MakesWhatShown old (value.add (tokens ++ name ∷ []) v) (λ o. IsOfNumbers o v) new
+
+  -- the member comes into the object, where tokens refer to it and to nothing with the name behind them
+  abbrev pub AppendsTo : CstRootNode A → CstNode → List ℕ → Plain → CstRootNode A → Type 0
+  AppendsTo old node name v new =
+      (tokens : List (List ℕ)) → IsOfShown old (λ d. RefersToNode d (nodes_of old) tokens (number_of node)) → IsOfShown old (λ d. RefersToNothing d (tokens ++ name ∷ []))
+      → MakesWhatShown old (value.add (tokens ++ name ∷ []) v) (λ o. IsOfNumbers o v) new
 
   -- the document, and each node that was there, is as it was
   pub record IsKept (old new : CstRootNode A) : Type 0 where

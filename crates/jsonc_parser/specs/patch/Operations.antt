@@ -58,7 +58,7 @@ Copies from to w y = (x : Plain) × RefersTo w from x × Adds (collapse x) to w 
 
 -- 4.6: the value that the tokens refer to is equal to this one, and nothing changes
 abbrev pub Tests : List (List ℕ) → Plain → Option Plain → Option Plain → Type 0
-Tests tokens v w y = (x : Plain) × RefersTo w tokens x × AreEqual SameNumber (collapse x) v × (y ≡ w)
+Tests tokens v w y = (x : Plain) × RefersTo w tokens x × AreEqual SameNumber v (collapse x) × (y ≡ w)
 
 -- the operation leads from the one value to the other
 abbrev pub Makes : Operation → Option Plain → Option Plain → Type 0

@@ -1,23 +1,24 @@
 //! The operations of a patch, made on a document.
 
-ghost use Rattle.std.specs.Prelude.{◌≡◌, ◌<◌, ◌++◌, ◌∷◌, [], chars, length, true, IfOk, OnErr, OnOk, Unit};
-ghost use Rattle.jsonc_text.specs.Plain.{collapse};
+ghost use Rattle.std.specs.Prelude.{◌≡◌, [], chars, true, IfOk, OnErr, OnOk};
+ghost use Rattle.std.specs.Bool.{Decides};
 ghost use Rattle.jsonc_tree.specs.Content.{Content};
+ghost use Rattle.jsonc_edit.specs.Paths.{IsAt};
 ghost use Rattle.jsonc_edit.specs.Writing.{IsOfNumbers};
-ghost use Rattle.jsonc_layout.specs.input.Views.{chars_of, plain};
+ghost use Rattle.jsonc_layout.specs.input.Views.{plain};
 ghost use Rattle.jsonc_run.specs.Edits.{is_whole, operation_of, unsorted, EditStep};
 ghost use Rattle.jsonc_cst.specs.Document.{content_of, nodes_of, HasNode};
 ghost use Rattle.jsonc_cst.specs.Nodes.{number_of};
 ghost use Rattle.jsonc_parser.specs.paths.Found.{names_of};
-ghost use Rattle.jsonc_parser.specs.patch.Applied.{asked, is_one_edit, FitsIn, IsKept, LeadsOver, MakesWhatShown, Takes};
-ghost use Rattle.jsonc_parser.specs.patch.Found.{IsOfShown, RefersToNode, RefersToNothing};
+ghost use Rattle.jsonc_parser.specs.patch.Applied.{asked, is_one_edit, AddsMember, AppendsTo, FitsIn, IsKept, LeadsOn, LeadsOver, MakesWhatShown, PutsAt, Takes};
+ghost use Rattle.jsonc_parser.specs.patch.Found.{IsOfShown, RefersToNode};
 ghost use Rattle.jsonc_parser.specs.patch.Operations as value;
 ghost use Rattle.jsonc_parser.specs.patch.Pointer.{tokens_of};
 
 use super::equality::{Numbers, are_equal};
 use super::operation::Operation;
 use super::pointer::Pointer;
-use super::reference::{FindError, element_place, follow};
+use super::reference::{FindError, element_place, follow, read};
 use jsonc_cst::cst::{CstInputValue, CstNode, CstRootNode, EditError, TypedNode};
 use jsonc_run::Edit;
 use std::alloc::Allocator;
@@ -62,14 +63,17 @@ pub(super) fn make<A: Allocator + Copy>(
     ensures kept { OnErr result (is_one_edit operation.now ≡ true → IsKept doc.old doc.new) }
 {
     match operation {
-        Operation::Add(path, value) => add(doc, path, copy_of(value)?),
+        Operation::Add(path, value) => match value.try_clone() {
+            Ok(value) => add(doc, path, value),
+            Err(_) => Err(PatchCause::Edit(EditError::OutOfMemory)),
+        },
         Operation::Remove(path) => remove(doc, path),
-        Operation::Replace(path, value) => replace(doc, path, copy_of(value)?),
+        Operation::Replace(path, value) => match value.try_clone() {
+            Ok(value) => replace(doc, path, value),
+            Err(_) => Err(PatchCause::Edit(EditError::OutOfMemory)),
+        },
         Operation::Move(from, path) => move_value(doc, from, path),
-        Operation::Copy(from, path) => {
-            let value = value_at(doc, from)?;
-            add(doc, path, value)
-        }
+        Operation::Copy(from, path) => copy_value(doc, from, path),
         Operation::Test(path, value) => test(doc, path, value),
     }
 }
@@ -79,16 +83,6 @@ fn cause_of<A: Allocator>(error: FindError<A>) -> PatchCause<A> {
     match error {
         FindError::RepeatedName(name) => PatchCause::RepeatedName(name),
         FindError::OutOfMemory => PatchCause::Edit(EditError::OutOfMemory),
-    }
-}
-
-// The same value again.
-fn copy_of<A: Allocator + Copy>(value: &CstInputValue<A>) -> Result<CstInputValue<A>, PatchCause<A>>
-    ensures { IfOk result (λ v. plain v ≡ plain value.now) }
-{
-    match value.try_clone() {
-        Ok(copy) => Ok(copy),
-        Err(_) => Err(PatchCause::Edit(EditError::OutOfMemory)),
     }
 }
 
@@ -129,8 +123,14 @@ fn target_path<A: Allocator + Copy>(
 ) -> Result<Vec<usize, A>, PatchCause<A>>
     ensures { IfOk result (λ path. LeadsOver doc.now (tokens_of pointer.now) path.items) }
 {
-    let node = target(doc, pointer.tokens())?;
-    path_to(doc, node)
+    let node = match target(doc, pointer.tokens()) {
+        Ok(node) => node,
+        Err(cause) => return Err(cause),
+    };
+    match path_to(doc, node) {
+        Ok(path) => Ok(path),
+        Err(cause) => Err(cause),
+    }
 }
 
 // The value that a pointer refers to, taken.
@@ -140,10 +140,10 @@ fn value_at<A: Allocator + Copy>(
 ) -> Result<CstInputValue<A>, PatchCause<A>>
     ensures { IfOk result (λ v. IsOfShown doc.now (λ d. Takes d (tokens_of pointer.now) (plain v))) }
 {
-    match target(doc, pointer.tokens())?.to_value(doc) {
+    match read(doc, pointer) {
         Ok(Some(value)) => Ok(value),
         Ok(None) => Err(PatchCause::NoTarget),
-        Err(error) => Err(PatchCause::Edit(error)),
+        Err(error) => Err(cause_of(error)),
     }
 }
 
@@ -167,8 +167,14 @@ fn remove<A: Allocator + Copy>(
     ensures made { OnOk result (MakesWhatShown doc.old (value.remove (tokens_of pointer.now)) (λ o. Unit {0}) doc.new) }
     ensures kept { OnErr result (IsKept doc.old doc.new) }
 {
-    let path = target_path(doc, pointer)?;
-    edit(doc, Edit::Remove(path))
+    let path = match target_path(doc, pointer) {
+        Ok(path) => path,
+        Err(cause) => return Err(cause),
+    };
+    match edit(doc, Edit::Remove(path)) {
+        Ok(()) => Ok(()),
+        Err(cause) => Err(cause),
+    }
 }
 
 // Replaces the value that a pointer refers to.
@@ -180,8 +186,28 @@ fn replace<A: Allocator + Copy>(
     ensures made { OnOk result (MakesWhatShown doc.old (value.replace (tokens_of pointer.now) (plain value)) (λ o. IsOfNumbers o (plain value)) doc.new) }
     ensures kept { OnErr result (IsKept doc.old doc.new) }
 {
-    let path = target_path(doc, pointer)?;
-    edit(doc, Edit::Replace(path, value))
+    let path = match target_path(doc, pointer) {
+        Ok(path) => path,
+        Err(cause) => return Err(cause),
+    };
+    match edit(doc, Edit::Replace(path, value)) {
+        Ok(()) => Ok(()),
+        Err(cause) => Err(cause),
+    }
+}
+
+// Sets the document's value.
+fn add_whole<A: Allocator + Copy>(
+    doc: &mut CstRootNode<A>,
+    value: CstInputValue<A>,
+) -> Result<(), PatchCause<A>>
+    ensures made { OnOk result (MakesWhatShown doc.old (value.add [] (plain value)) (λ o. IsOfNumbers o (plain value)) doc.new) }
+    ensures kept { OnErr result (IsKept doc.old doc.new) }
+{
+    match edit(doc, Edit::SetRoot(value)) {
+        Ok(()) => Ok(()),
+        Err(cause) => Err(cause),
+    }
 }
 
 // Adds a value where a pointer leads.
@@ -189,37 +215,71 @@ fn add<A: Allocator + Copy>(
     doc: &mut CstRootNode<A>,
     pointer: &Pointer<A>,
     value: CstInputValue<A>,
-) -> Result<(), PatchCause<A>> {
-    let tokens = pointer.tokens();
-    let Some((last, front)) = tokens.split_last() else {
-        return edit(doc, Edit::SetRoot(value));
+) -> Result<(), PatchCause<A>>
+    ensures made { OnOk result (MakesWhatShown doc.old (value.add (tokens_of pointer.now) (plain value)) (λ o. IsOfNumbers o (plain value)) doc.new) }
+    ensures kept { OnErr result (IsKept doc.old doc.new) }
+{
+    let Some((last, front)) = pointer.tokens().split_last() else {
+        return add_whole(doc, value);
     };
-    let container = target(doc, front)?;
+    let container = match target(doc, front) {
+        Ok(container) => container,
+        Err(cause) => return Err(cause),
+    };
+    match add_below(doc, container, pointer, last, value) {
+        Ok(()) => Ok(()),
+        Err(cause) => Err(cause),
+    }
+}
+
+// Adds a value where the last token of a pointer leads from a node.
+fn add_below<A: Allocator + Copy>(
+    doc: &mut CstRootNode<A>,
+    container: CstNode,
+    pointer: &Pointer<A>,
+    token: &str,
+    value: CstInputValue<A>,
+) -> Result<(), PatchCause<A>>
+    requires in_document { HasNode doc.old container }
+    ensures made { OnOk result (AddsMember doc.old container (tokens_of pointer.now) (chars token.now) (plain value) doc.new) }
+    ensures kept { OnErr result (IsKept doc.old doc.new) }
+{
     if container.as_array().is_some() {
-        return add_element(doc, container, last, value);
+        return add_element(doc, container, pointer, token, value);
     }
-    if container.as_object().is_none() {
-        return Err(PatchCause::NoTarget);
+    if container.as_object().is_some() {
+        return add_member(doc, container, pointer, token, value);
     }
-    add_member(doc, container, pointer, last, value)
+    Err(PatchCause::NoTarget)
 }
 
 // Adds an element to an array.
 fn add_element<A: Allocator + Copy>(
     doc: &mut CstRootNode<A>,
     array: CstNode,
+    pointer: &Pointer<A>,
     token: &str,
     value: CstInputValue<A>,
 ) -> Result<(), PatchCause<A>>
-    requires { HasNode doc.old array }
+    requires in_document { HasNode doc.old array }
+    requires array { content_of doc.old array ≡ Content.array }
+    ensures made { OnOk result (AddsMember doc.old array (tokens_of pointer.now) (chars token.now) (plain value) doc.new) }
+    ensures kept { OnErr result (IsKept doc.old doc.new) }
 {
     let Some(place) = element_place(doc, array.number(), token) else {
         return Err(PatchCause::NoTarget);
     };
-    let path = path_to(doc, array)?;
-    match place {
-        Some(index) => edit(doc, Edit::InsertElement(path, index, value)),
-        None => edit(doc, Edit::AppendElement(path, value)),
+    let path = match path_to(doc, array) {
+        Ok(path) => path,
+        Err(cause) => return Err(cause),
+    };
+    let adding = match place {
+        Some(index) => Edit::InsertElement(path, index, value),
+        None => Edit::AppendElement(path, value),
+    };
+    match edit(doc, adding) {
+        Ok(()) => Ok(()),
+        Err(cause) => Err(cause),
     }
 }
 
@@ -231,26 +291,66 @@ fn add_member<A: Allocator + Copy>(
     name: &str,
     value: CstInputValue<A>,
 ) -> Result<(), PatchCause<A>>
-    requires { HasNode doc.old object }
+    requires in_document { HasNode doc.old object }
+    requires object { content_of doc.old object ≡ Content.object }
+    ensures made { OnOk result (AddsMember doc.old object (tokens_of pointer.now) (chars name.now) (plain value) doc.new) }
+    ensures kept { OnErr result (IsKept doc.old doc.new) }
 {
     match follow(doc, pointer.tokens()) {
-        Ok(Some(node)) => {
-            let path = path_to(doc, node)?;
-            edit(doc, Edit::Replace(path, value))
-        }
-        Ok(None) => {
-            let path = path_to(doc, object)?;
-            let Ok(name) = String::from_str(*doc.allocator(), name) else {
-                return Err(PatchCause::Edit(EditError::OutOfMemory));
-            };
-            edit(doc, Edit::AppendProperty(path, name, value))
-        }
+        Ok(Some(node)) => put_value(doc, node, value),
+        Ok(None) => append_member(doc, object, name, value),
         Err(error) => Err(cause_of(error)),
     }
 }
 
+// Replaces the value of a member.
+fn put_value<A: Allocator + Copy>(
+    doc: &mut CstRootNode<A>,
+    node: CstNode,
+    value: CstInputValue<A>,
+) -> Result<(), PatchCause<A>>
+    requires in_document { HasNode doc.old node }
+    ensures made { OnOk result (PutsAt doc.old node (plain value) doc.new) }
+    ensures kept { OnErr result (IsKept doc.old doc.new) }
+{
+    let path = match path_to(doc, node) {
+        Ok(path) => path,
+        Err(cause) => return Err(cause),
+    };
+    match edit(doc, Edit::Replace(path, value)) {
+        Ok(()) => Ok(()),
+        Err(cause) => Err(cause),
+    }
+}
+
+// Appends a member to an object.
+fn append_member<A: Allocator + Copy>(
+    doc: &mut CstRootNode<A>,
+    object: CstNode,
+    name: &str,
+    value: CstInputValue<A>,
+) -> Result<(), PatchCause<A>>
+    requires in_document { HasNode doc.old object }
+    ensures made { OnOk result (AppendsTo doc.old object (chars name.now) (plain value) doc.new) }
+    ensures kept { OnErr result (IsKept doc.old doc.new) }
+{
+    let path = match path_to(doc, object) {
+        Ok(path) => path,
+        Err(cause) => return Err(cause),
+    };
+    let Ok(name) = String::from_str(*doc.allocator(), name) else {
+        return Err(PatchCause::Edit(EditError::OutOfMemory));
+    };
+    match edit(doc, Edit::AppendProperty(path, name, value)) {
+        Ok(()) => Ok(()),
+        Err(cause) => Err(cause),
+    }
+}
+
 // Whether the tokens of one pointer are the first of another's.
-fn leads_on<A: Allocator>(front: &[String<A>], tokens: &[String<A>]) -> bool {
+fn leads_on<A: Allocator>(front: &[String<A>], tokens: &[String<A>]) -> bool
+    ensures { Decides result (LeadsOn (names_of front.now) (names_of tokens.now)) }
+{
     if front.len() > tokens.len() {
         return false;
     }
@@ -262,24 +362,67 @@ fn leads_on<A: Allocator>(front: &[String<A>], tokens: &[String<A>]) -> bool {
     true
 }
 
+// Sees that a value that is to be moved to where it stands, or into itself, stays.
+fn stay<A: Allocator + Copy>(
+    doc: &CstRootNode<A>,
+    from: &Pointer<A>,
+    path: &Pointer<A>,
+) -> Result<(), PatchCause<A>>
+    requires { LeadsOn (tokens_of from.now) (tokens_of path.now) }
+    ensures { OnOk result (IsOfShown doc.now (λ d. value.Moves (tokens_of from.now) (tokens_of path.now) d.value d.value)) }
+{
+    match target(doc, from.tokens()) {
+        Ok(_) => {}
+        Err(cause) => return Err(cause),
+    }
+    if from.tokens().len() == path.tokens().len() {
+        return Ok(());
+    }
+    Err(PatchCause::IntoItself)
+}
+
 // Removes the value that a pointer refers to, and adds it where another leads.
 fn move_value<A: Allocator + Copy>(
     doc: &mut CstRootNode<A>,
     from: &Pointer<A>,
     path: &Pointer<A>,
-) -> Result<(), PatchCause<A>> {
-    let (tokens, to) = (from.tokens(), path.tokens());
-    if leads_on(tokens, to) {
-        target(doc, tokens)?;
-        // A value that is moved to its own place stays.
-        if tokens.len() == to.len() {
-            return Ok(());
-        }
-        return Err(PatchCause::IntoItself);
+) -> Result<(), PatchCause<A>>
+    ensures { OnOk result (MakesWhatShown doc.old (value.move (tokens_of from.now) (tokens_of path.now)) (λ o. Unit {0}) doc.new) }
+{
+    if leads_on(from.tokens(), path.tokens()) {
+        return stay(doc, from, path);
     }
-    let value = value_at(doc, from)?;
-    remove(doc, from)?;
-    add(doc, path, value)
+    let value = match value_at(doc, from) {
+        Ok(value) => value,
+        Err(cause) => return Err(cause),
+    };
+    match remove(doc, from) {
+        Ok(()) => {}
+        Err(cause) => return Err(cause),
+    }
+    match add(doc, path, value) {
+        Ok(()) => Ok(()),
+        Err(cause) => Err(cause),
+    }
+}
+
+// Adds the value that a pointer refers to where another leads.
+fn copy_value<A: Allocator + Copy>(
+    doc: &mut CstRootNode<A>,
+    from: &Pointer<A>,
+    path: &Pointer<A>,
+) -> Result<(), PatchCause<A>>
+    ensures made { OnOk result (MakesWhatShown doc.old (value.copy (tokens_of from.now) (tokens_of path.now)) (λ o. Unit {0}) doc.new) }
+    ensures kept { OnErr result (IsKept doc.old doc.new) }
+{
+    let value = match value_at(doc, from) {
+        Ok(value) => value,
+        Err(cause) => return Err(cause),
+    };
+    match add(doc, path, value) {
+        Ok(()) => Ok(()),
+        Err(cause) => Err(cause),
+    }
 }
 
 // Sees that the value that a pointer refers to is equal to another.
@@ -287,8 +430,13 @@ fn test<A: Allocator + Copy>(
     doc: &CstRootNode<A>,
     pointer: &Pointer<A>,
     value: &CstInputValue<A>,
-) -> Result<(), PatchCause<A>> {
-    let found = value_at(doc, pointer)?;
+) -> Result<(), PatchCause<A>>
+    ensures { OnOk result (IsOfShown doc.now (λ d. value.Tests (tokens_of pointer.now) (plain value.now) d.value d.value)) }
+{
+    let found = match value_at(doc, pointer) {
+        Ok(found) => found,
+        Err(cause) => return Err(cause),
+    };
     match are_equal(value, &found, Numbers::ByValue) {
         Ok(true) => Ok(()),
         Ok(false) => Err(PatchCause::NotEqual),

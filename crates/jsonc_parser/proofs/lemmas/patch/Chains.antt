@@ -1,7 +1,7 @@
 -- Operations of a patch, one after another.
 use Rattle.std.proofs.Common.{ℕ, ◌≡◌, ◌<◌, ◌≤◌, ◌+◌, ◌∙◌, ◌++◌, sym, ap, subst, refl, List, [], ◌∷◌, length, take, drop, map, get_or, Option, Some, None, arith}
 use Rattle.std.specs.List.{All}
-use Rattle.std.proofs.lemmas.List.{append_assoc, append-nil, map-append, take_all, take_more}
+use Rattle.std.proofs.lemmas.List.{append-nil, length-append, map-append, take_all, take_more}
 use Rattle.std.proofs.lemmas.List.Elements.{All-cons, All-head, All-tail}
 use Rattle.jsonc_text.specs.Documents.{Document}
 use Rattle.jsonc_text.specs.Grammar.{IsDocument}
@@ -17,10 +17,10 @@ use Rattle.jsonc_run.proofs.lemmas.promise.Leads.{shown_are_documents}
 use Rattle.jsonc_cst.specs.declared.cst.CstRootNode.{CstRootNode}
 use Rattle.jsonc_cst.specs.Document.{nodes_of, tree_of}
 use Rattle.jsonc_cst.proofs.JsonValues.{collapsed_numbers, document_numbers}
-use Rattle.jsonc_parser.specs.patch.Applied.{asked, FitsIn, IsMade, IsPatched, MakesWhatShown, PatchesWhatShown, Takes}
+use Rattle.jsonc_parser.specs.patch.Applied.{asked, FitsIn, IsMade, IsPatched, LeadsOn, MakesWhatShown, PatchesWhatShown, Takes}
 use Rattle.jsonc_parser.specs.patch.Found.{IsOfShown}
 use Rattle.jsonc_parser.specs.patch.Operations as value
-use Rattle.jsonc_parser.specs.patch.Operations.{none_made, one_made, moved, stays, LeadsElsewhere, MakesAll, Makes}
+use Rattle.jsonc_parser.specs.patch.Operations.{none_made, one_made, moved, stays, LeadsElsewhere, MakesAll, Makes, Moves}
 use Rattle.jsonc_parser.specs.patch.References.{IsItem, this_item, later_item, IsOnly, this_only, later_only, Refers, RefersTo, whole, to_member, to_element}
 use Rattle.jsonc_parser.specs.declared.patch.operation.Operation.{Operation}
 
@@ -125,5 +125,16 @@ pub unchanged : {A : Type 0} (old new : CstRootNode A) (operation : value.Operat
 unchanged {A} old new operation Fit same makes d shown fit =
     (d, subst (Shows d) (sym same) shown, record { edits = []; edited = none_asked (shown_are_documents (tree_of old) d shown); options = refl; made = makes d shown })
 
-pub stays_so : (d : Document) (from : List (List ℕ)) (x : Plain) → RefersTo d.value from x → Makes (value.move from from) d.value d.value
-stays_so d from x r = stays r
+-- where a value is moved to its own place
+nothing_more : {T : Type 0} (xs ys : List T) → length xs ≡ length (xs ++ ys) → ys ≡ []
+nothing_more xs [] e = refl
+nothing_more {T} xs (y ∷ ys) e = absurd (omega (arith, e, length-append xs (y ∷ ys)))
+
+pub stays_there : (from to : List (List ℕ)) (w : Option Plain) (x : Plain) → LeadsOn from to → length from ≡ length to → RefersTo w from x → Moves from to w w
+stays_there from to w x on count r =
+    let rest : on.0 ≡ [] = nothing_more from on.0 (count ∙ ap length on.1) in
+    let same : to ≡ from = on.1 ∙ ap (λ l. from ++ l) rest ∙ append-nil from in
+    subst (λ t. Moves from t w w) (sym same) (stays r)
+
+pub leads_elsewhere : (from to : List (List ℕ)) → (LeadsOn from to → ⊥) → LeadsElsewhere from to
+leads_elsewhere from to none token rest is = none (token ∷ rest, is)

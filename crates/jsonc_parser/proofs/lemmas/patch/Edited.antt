@@ -1,5 +1,5 @@
 -- One edit of a document, as an operation of a patch.
-use Rattle.std.proofs.Common.{ℕ, ◌≡◌, ◌≤◌, ◌∙◌, ◌++◌, ◌⊎◌, inl, inr, sym, ap, subst, refl, List, [], ◌∷◌, length, min, Option, Some, None, arith}
+use Rattle.std.proofs.Common.{ℕ, ◌≡◌, ◌≤◌, ◌∙◌, ◌++◌, ◌⊎◌, inl, inr, sym, ap, subst, refl, List, [], ◌∷◌, length, min, true, Option, Some, None, Result, Ok, Err, OnErr, arith}
 use Rattle.std.specs.declared.string.String.{String}
 use Rattle.std.specs.declared.vec.Vec.{Vec}
 use Rattle.jsonc_text.specs.Documents.{Document}
@@ -9,6 +9,7 @@ use Rattle.jsonc_tree.specs.Content as content
 use Rattle.jsonc_tree.specs.OrderedTree.{ordered_tree}
 use Rattle.jsonc_tree.specs.Tree.{Node, content_at, IsTree}
 use Rattle.jsonc_edit.specs.Changes.{row_below}
+use Rattle.jsonc_edit.specs.Paths.{IsAt}
 use Rattle.jsonc_edit.specs.Writing.{IsOfNumbers}
 use Rattle.jsonc_edit.proofs.ChangesUpward.{Shows-row_below}
 use Rattle.jsonc_edit.proofs.Uniqueness.{path_once}
@@ -20,7 +21,8 @@ use Rattle.jsonc_layout.specs.input.Views.{chars_of, plain}
 use Rattle.jsonc_layout.specs.nodes.Siblings.{elements_at}
 use Rattle.jsonc_run.specs.declared.edit.Edit.{Edit}
 use Rattle.jsonc_run.specs.declared.edit.Edit.TheVariants.{Replace, Remove, SetRoot, InsertElement, AppendElement, AppendProperty}
-use Rattle.jsonc_run.specs.Edits.{operation_of, unsorted, EditStep}
+use Rattle.jsonc_run.specs.Edits.{is_whole, operation_of, unsorted, EditStep, Operation}
+use Rattle.jsonc_run.specs.Refusals.{as_it_was, set_in_part, IsLeft}
 use Rattle.jsonc_run.specs.texts.Edits.{ComesFirst, PutsValue}
 use Rattle.jsonc_run.specs.texts.Entries as entries
 use Rattle.jsonc_run.specs.texts.Entries.{of, Becomes, Named}
@@ -29,12 +31,15 @@ use Rattle.jsonc_run.proofs.lemmas.promise.Inserting.{counted}
 use Rattle.jsonc_run.proofs.lemmas.promise.Plains.{list_of_members, same_members}
 use Rattle.jsonc_sound.specs.Documents.{Shows}
 use Rattle.jsonc_cst.specs.declared.cst.CstRootNode.{CstRootNode}
+use Rattle.jsonc_cst.specs.declared.cst.node.CstNode.{CstNode}
 use Rattle.jsonc_cst.specs.Document.{nodes_of, tree_of}
-use Rattle.jsonc_parser.specs.patch.Applied.{IsPlaceBy, LeadsOver, MakesWhatShown}
+use Rattle.jsonc_cst.specs.Nodes.{number_of}
+use Rattle.jsonc_parser.specs.patch.Applied.{AddsMember, AppendsTo, IsKept, IsPlaceBy, LeadsOver, MakesWhatShown, PutsAt}
 use Rattle.jsonc_parser.specs.patch.Found.{IsOfShown, RefersToNode, RefersToNothing}
 use Rattle.jsonc_parser.specs.patch.Operations as value
 use Rattle.jsonc_parser.specs.patch.Operations.{as_whole, in_member, Adds}
 use Rattle.jsonc_parser.specs.patch.References.{IsIndex}
+use Rattle.jsonc_parser.proofs.lemmas.paths.EditOutcome.{whole_no_commas}
 use Rattle.jsonc_parser.proofs.lemmas.patch.Made.{led, Led}
 use Rattle.jsonc_parser.proofs.lemmas.patch.Nodes.{array_value, its, there}
 use Rattle.jsonc_parser.proofs.lemmas.patch.Operating.{element_added, member_added, removed, replaced, stands, was_referred}
@@ -132,3 +137,49 @@ module _ {A : Type 0} (old new : CstRootNode A) (tree : IsTree (nodes_of old)) (
       set : (e : Document) → ComesFirst (plain v) d e ⊎ ((was : Plain) × PutsValue was (plain v) [] d e) → e.value ≡ Some (plain v)
       set e (inl first) = first.13
       set e (inr put) = root_becomes put.0 (plain v) d.value e.value put.1.1
+
+-- what is kept
+pub kept_same : {A : Type 0} (doc : CstRootNode A) → IsKept doc doc
+kept_same doc = record { tree = refl; nodes = record { len = omega arith; content = λ n h. refl; parent = λ n h. refl; children = λ n h. refl } }
+
+left_kept : {A : Type 0} (edit : Edit A) (old new : CstRootNode A) (op : Operation) → is_whole edit ≡ true → operation_of unsorted edit ≡ op → IsLeft (nodes_of old) op (nodes_of new) → IsKept old new
+left_kept edit old new op all is (as_it_was kept same) = record { tree = same; nodes = kept }
+left_kept edit old new _ all is (set_in_part {path = path} {mode = mode} n at part) = absurd (whole_no_commas edit path mode all is)
+
+pub refused_kept : {A E : Type 0} (edit : Edit A) (old new : CstRootNode A) (r : Result (Unit {0}) E) → is_whole edit ≡ true → OnErr r (IsLeft (nodes_of old) (operation_of unsorted edit) (nodes_of new)) → OnErr r (IsKept old new)
+refused_kept edit old new (Ok x) all left = tt
+refused_kept edit old new (Err x) all left = left_kept edit old new (operation_of unsorted edit) all refl left
+
+module _ {A : Type 0} (old new : CstRootNode A) (object_node : CstNode) (all : List (List ℕ)) (name : List ℕ) (v : Plain) where
+  -- the member is there, or comes
+  pub member_put : (node : CstNode) → content_at (nodes_of old) (number_of object_node) ≡ content.object → IsOfShown old (λ d. RefersToNode d (nodes_of old) all (number_of node)) → PutsAt old node v new
+      → AddsMember old object_node all name v new
+  member_put node kind found puts tokens is container =
+      subst (λ l. MakesWhatShown old (value.add l v) (λ o. IsOfNumbers o v) new) (sym is)
+      (puts (number_of object_node) tokens name kind container (λ d shown. subst (λ l. RefersToNode d (nodes_of old) l (number_of node)) is (found d shown)))
+
+  pub member_appended : IsOfShown old (λ d. RefersToNothing d all) → AppendsTo old object_node name v new → AddsMember old object_node all name v new
+  member_appended none appends tokens is container =
+      subst (λ l. MakesWhatShown old (value.add l v) (λ o. IsOfNumbers o v) new) (sym is)
+      (appends tokens container (λ d shown. subst (RefersToNothing d) is (none d shown)))
+
+module _ {A : Type 0} (old new : CstRootNode A) (tree : IsTree (nodes_of old)) (after : IsTree (nodes_of new)) (node : CstNode) (path : Vec ℕ A) (at : IsAt (nodes_of old) path.items (number_of node)) (v : CstInputValue A) where
+  pub puts_at : EditStep (nodes_of old) (operation_of unsorted (Replace path v)) (nodes_of new) → PutsAt old node (plain v) new
+  puts_at made n tokens name kind container found = in_member_so old new tree after path tokens name (number_of node, at, found) n kind container v made
+
+  pub appends_to : (name : String A) (last : List ℕ) → chars_of name ≡ last → EditStep (nodes_of old) (operation_of unsorted (AppendProperty path name v)) (nodes_of new) → AppendsTo old node last (plain v) new
+  appends_to name last is made tokens container none =
+      subst (λ l. MakesWhatShown old (value.add (tokens ++ l ∷ []) (plain v)) (λ o. IsOfNumbers o (plain v)) new) is
+      (member_so old new tree after path tokens (number_of node, at, container) v name (λ d shown. subst (λ l. RefersToNothing d (tokens ++ l ∷ [])) (sym is) (none d shown)) made)
+
+  module _ (all : List (List ℕ)) (token : List ℕ) where
+    pub inserts_at : (index : ℕ) → content_at (nodes_of old) (number_of node) ≡ content.array → IsPlaceBy (nodes_of old) (number_of node) token (Some (Some index))
+        → EditStep (nodes_of old) (operation_of unsorted (InsertElement path index v)) (nodes_of new) → AddsMember old node all token (plain v) new
+    inserts_at index kind place made tokens is container =
+        subst (λ l. MakesWhatShown old (value.add l (plain v)) (λ o. IsOfNumbers o (plain v)) new) (sym is)
+        (inserts_so old new tree after path tokens (number_of node, at, container) v token index kind place.0 place.1 made)
+
+    pub appends_at : IsPlaceBy (nodes_of old) (number_of node) token (Some None) → EditStep (nodes_of old) (operation_of unsorted (AppendElement path v)) (nodes_of new) → AddsMember old node all token (plain v) new
+    appends_at place made tokens is container =
+        subst (λ l. MakesWhatShown old (value.add l (plain v)) (λ o. IsOfNumbers o (plain v)) new) (sym is)
+        (appends_so old new tree after path tokens (number_of node, at, container) v token place made)
