@@ -11,6 +11,7 @@ pub mod Made
 pub mod Operating
 pub mod Edited
 pub mod Chains
+pub mod Unique
 pub mod Digits
 pub mod HexRows
 pub mod NumberRows

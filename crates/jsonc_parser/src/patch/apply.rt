@@ -112,20 +112,10 @@ impl<A: Allocator + Copy> Patch<A> {
         ensures patched { OnOk result (PatchesWhatShown doc.old self.now.operations.items doc.new) }
         ensures kept { OnErr result (IsKept doc.old doc.new) }
     {
-        if let [operation] = self.operations.as_slice() {
-            if is_one_edit(operation) {
-                return make_first(doc, operation);
-            }
+        match self.operations.as_slice() {
+            [operation] if is_one_edit(operation) => make_first(doc, operation),
+            operations => make_on_copy(doc, operations),
         }
-        let Ok(mut copy) = doc.try_clone() else {
-            return Err(PatchFault {
-                operation: 0,
-                cause: PatchCause::Edit(EditError::OutOfMemory),
-            });
-        };
-        make_all(&mut copy, &self.operations)?;
-        *doc = copy;
-        Ok(())
     }
 }
 
@@ -197,5 +187,27 @@ fn make_all<A: Allocator + Copy>(
             });
         }
     }
+    Ok(())
+}
+
+// Makes operations in order on a copy, which takes the place of the document.
+fn make_on_copy<A: Allocator + Copy>(
+    doc: &mut CstRootNode<A>,
+    operations: &[Operation<A>],
+) -> Result<(), PatchFault<A>>
+    ensures patched { OnOk result (PatchesWhatShown doc.old operations.now doc.new) }
+    ensures kept { OnErr result (IsKept doc.old doc.new) }
+{
+    let Ok(mut copy) = doc.try_clone() else {
+        return Err(PatchFault {
+            operation: 0,
+            cause: PatchCause::Edit(EditError::OutOfMemory),
+        });
+    };
+    match make_all(&mut copy, operations) {
+        Ok(()) => {}
+        Err(fault) => return Err(fault),
+    }
+    *doc = copy;
     Ok(())
 }

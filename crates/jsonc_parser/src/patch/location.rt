@@ -38,7 +38,8 @@ fn name_to<A: Allocator + Copy>(
             Some(value) => Ok(Some((name, value))),
             None => Ok(None),
         },
-        Ok(_) => Ok(None),
+        Ok(Lookup::Missing) => Ok(None),
+        Ok(Lookup::Twice) => Ok(None),
         Err(_) => Err(EditError::OutOfMemory),
     }
 }

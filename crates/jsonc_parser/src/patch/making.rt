@@ -12,7 +12,7 @@ ghost use Rattle.jsonc_cst.specs.Nodes.{number_of};
 ghost use Rattle.jsonc_parser.specs.paths.Found.{names_of};
 ghost use Rattle.jsonc_parser.specs.patch.Applied.{asked, is_one_edit, AddsMember, AppendsTo, FitsIn, IsKept, LeadsOn, LeadsOver, MakesWhatShown, PutsAt, Takes};
 ghost use Rattle.jsonc_parser.specs.patch.Found.{IsOfShown, RefersToNode};
-ghost use Rattle.jsonc_parser.specs.patch.Operations as value;
+ghost use Rattle.jsonc_parser.specs.patch.Operations as standard;
 ghost use Rattle.jsonc_parser.specs.patch.Pointer.{tokens_of};
 
 use super::equality::{Numbers, are_equal};
@@ -164,7 +164,7 @@ fn remove<A: Allocator + Copy>(
     doc: &mut CstRootNode<A>,
     pointer: &Pointer<A>,
 ) -> Result<(), PatchCause<A>>
-    ensures made { OnOk result (MakesWhatShown doc.old (value.remove (tokens_of pointer.now)) (λ o. Unit {0}) doc.new) }
+    ensures made { OnOk result (MakesWhatShown doc.old (standard.remove (tokens_of pointer.now)) (λ o. Unit {0}) doc.new) }
     ensures kept { OnErr result (IsKept doc.old doc.new) }
 {
     let path = match target_path(doc, pointer) {
@@ -183,7 +183,7 @@ fn replace<A: Allocator + Copy>(
     pointer: &Pointer<A>,
     value: CstInputValue<A>,
 ) -> Result<(), PatchCause<A>>
-    ensures made { OnOk result (MakesWhatShown doc.old (value.replace (tokens_of pointer.now) (plain value)) (λ o. IsOfNumbers o (plain value)) doc.new) }
+    ensures made { OnOk result (MakesWhatShown doc.old (standard.replace (tokens_of pointer.now) (plain value)) (λ o. IsOfNumbers o (plain value)) doc.new) }
     ensures kept { OnErr result (IsKept doc.old doc.new) }
 {
     let path = match target_path(doc, pointer) {
@@ -201,7 +201,7 @@ fn add_whole<A: Allocator + Copy>(
     doc: &mut CstRootNode<A>,
     value: CstInputValue<A>,
 ) -> Result<(), PatchCause<A>>
-    ensures made { OnOk result (MakesWhatShown doc.old (value.add [] (plain value)) (λ o. IsOfNumbers o (plain value)) doc.new) }
+    ensures made { OnOk result (MakesWhatShown doc.old (standard.add [] (plain value)) (λ o. IsOfNumbers o (plain value)) doc.new) }
     ensures kept { OnErr result (IsKept doc.old doc.new) }
 {
     match edit(doc, Edit::SetRoot(value)) {
@@ -216,11 +216,14 @@ fn add<A: Allocator + Copy>(
     pointer: &Pointer<A>,
     value: CstInputValue<A>,
 ) -> Result<(), PatchCause<A>>
-    ensures made { OnOk result (MakesWhatShown doc.old (value.add (tokens_of pointer.now) (plain value)) (λ o. IsOfNumbers o (plain value)) doc.new) }
+    ensures made { OnOk result (MakesWhatShown doc.old (standard.add (tokens_of pointer.now) (plain value)) (λ o. IsOfNumbers o (plain value)) doc.new) }
     ensures kept { OnErr result (IsKept doc.old doc.new) }
 {
     let Some((last, front)) = pointer.tokens().split_last() else {
-        return add_whole(doc, value);
+        return match add_whole(doc, value) {
+            Ok(()) => Ok(()),
+            Err(cause) => Err(cause),
+        };
     };
     let container = match target(doc, front) {
         Ok(container) => container,
@@ -273,13 +276,15 @@ fn add_element<A: Allocator + Copy>(
         Ok(path) => path,
         Err(cause) => return Err(cause),
     };
-    let adding = match place {
-        Some(index) => Edit::InsertElement(path, index, value),
-        None => Edit::AppendElement(path, value),
-    };
-    match edit(doc, adding) {
-        Ok(()) => Ok(()),
-        Err(cause) => Err(cause),
+    match place {
+        Some(index) => match edit(doc, Edit::InsertElement(path, index, value)) {
+            Ok(()) => Ok(()),
+            Err(cause) => Err(cause),
+        },
+        None => match edit(doc, Edit::AppendElement(path, value)) {
+            Ok(()) => Ok(()),
+            Err(cause) => Err(cause),
+        },
     }
 }
 
@@ -369,7 +374,7 @@ fn stay<A: Allocator + Copy>(
     path: &Pointer<A>,
 ) -> Result<(), PatchCause<A>>
     requires { LeadsOn (tokens_of from.now) (tokens_of path.now) }
-    ensures { OnOk result (IsOfShown doc.now (λ d. value.Moves (tokens_of from.now) (tokens_of path.now) d.value d.value)) }
+    ensures { OnOk result (IsOfShown doc.now (λ d. standard.Moves (tokens_of from.now) (tokens_of path.now) d.value d.value)) }
 {
     match target(doc, from.tokens()) {
         Ok(_) => {}
@@ -387,7 +392,7 @@ fn move_value<A: Allocator + Copy>(
     from: &Pointer<A>,
     path: &Pointer<A>,
 ) -> Result<(), PatchCause<A>>
-    ensures { OnOk result (MakesWhatShown doc.old (value.move (tokens_of from.now) (tokens_of path.now)) (λ o. Unit {0}) doc.new) }
+    ensures { OnOk result (MakesWhatShown doc.old (standard.move (tokens_of from.now) (tokens_of path.now)) (λ o. Unit {0}) doc.new) }
 {
     if leads_on(from.tokens(), path.tokens()) {
         return stay(doc, from, path);
@@ -412,7 +417,7 @@ fn copy_value<A: Allocator + Copy>(
     from: &Pointer<A>,
     path: &Pointer<A>,
 ) -> Result<(), PatchCause<A>>
-    ensures made { OnOk result (MakesWhatShown doc.old (value.copy (tokens_of from.now) (tokens_of path.now)) (λ o. Unit {0}) doc.new) }
+    ensures made { OnOk result (MakesWhatShown doc.old (standard.copy (tokens_of from.now) (tokens_of path.now)) (λ o. Unit {0}) doc.new) }
     ensures kept { OnErr result (IsKept doc.old doc.new) }
 {
     let value = match value_at(doc, from) {
@@ -431,7 +436,7 @@ fn test<A: Allocator + Copy>(
     pointer: &Pointer<A>,
     value: &CstInputValue<A>,
 ) -> Result<(), PatchCause<A>>
-    ensures { OnOk result (IsOfShown doc.now (λ d. value.Tests (tokens_of pointer.now) (plain value.now) d.value d.value)) }
+    ensures { OnOk result (IsOfShown doc.now (λ d. standard.Tests (tokens_of pointer.now) (plain value.now) d.value d.value)) }
 {
     let found = match value_at(doc, pointer) {
         Ok(found) => found,

@@ -1,7 +1,9 @@
 -- Operations of a patch, one after another.
-use Rattle.std.proofs.Common.{ℕ, ◌≡◌, ◌<◌, ◌≤◌, ◌+◌, ◌∙◌, ◌++◌, sym, ap, subst, refl, List, [], ◌∷◌, length, take, drop, map, get_or, Option, Some, None, arith}
+use Rattle.std.proofs.Common.{ℕ, ◌≡◌, ◌<◌, ◌≤◌, ◌+◌, ◌∙◌, ◌++◌, sym, ap, subst, refl, List, [], ◌∷◌, length, take, map, get_or, true, false, Bool, Option, Some, None, Result, Ok, Err, OnErr, OnOk, arith}
+use Rattle.std.specs.Bool.{Decides}
 use Rattle.std.specs.List.{All}
-use Rattle.std.proofs.lemmas.List.{append-nil, length-append, map-append, take_all, take_more}
+use Rattle.std.specs.declared.string.String.{String}
+use Rattle.std.proofs.lemmas.List.{append-nil, length-append, length-map, map-append, take_all, take_more}
 use Rattle.std.proofs.lemmas.List.Elements.{All-cons, All-head, All-tail}
 use Rattle.jsonc_text.specs.Documents.{Document}
 use Rattle.jsonc_text.specs.Grammar.{IsDocument}
@@ -9,7 +11,7 @@ use Rattle.jsonc_text.specs.Options.{Options}
 use Rattle.jsonc_text.specs.Plain.{Plain, Items, Members, collapse}
 use Rattle.jsonc_edit.specs.Writing.{IsOfNumbers, AreOfNumbers, AreNamedOfNumbers}
 use Rattle.jsonc_layout.specs.declared.input.value.CstInputValue.{CstInputValue}
-use Rattle.jsonc_layout.specs.input.Views.{plain}
+use Rattle.jsonc_layout.specs.input.Views.{chars_of, plain}
 use Rattle.jsonc_sound.specs.Documents.{Shows}
 use Rattle.jsonc_run.specs.declared.edit.Edit.{Edit}
 use Rattle.jsonc_run.specs.promise.Asked.{none_asked, one_asked, EditsTo}
@@ -17,12 +19,18 @@ use Rattle.jsonc_run.proofs.lemmas.promise.Leads.{shown_are_documents}
 use Rattle.jsonc_cst.specs.declared.cst.CstRootNode.{CstRootNode}
 use Rattle.jsonc_cst.specs.Document.{nodes_of, tree_of}
 use Rattle.jsonc_cst.proofs.JsonValues.{collapsed_numbers, document_numbers}
-use Rattle.jsonc_parser.specs.patch.Applied.{asked, FitsIn, IsMade, IsPatched, LeadsOn, MakesWhatShown, PatchesWhatShown, Takes}
-use Rattle.jsonc_parser.specs.patch.Found.{IsOfShown}
+use Rattle.jsonc_parser.specs.patch.Applied.{asked, is_one_edit, FitsIn, IsKept, IsMade, IsPatched, LeadsOn, MakesWhatShown, PatchesWhatShown, Takes}
+use Rattle.jsonc_parser.specs.patch.Found.{IsOfShown, RefersToNode}
+use Rattle.jsonc_parser.specs.paths.Found.{names_of}
+use Rattle.jsonc_parser.specs.patch.Equality.{AreEqual, HasUniqueNames}
+use Rattle.jsonc_parser.specs.patch.Numbers.{SameNumber}
+use Rattle.jsonc_parser.specs.declared.patch.pointer.Pointer.{Pointer}
 use Rattle.jsonc_parser.specs.patch.Operations as value
 use Rattle.jsonc_parser.specs.patch.Operations.{none_made, one_made, moved, stays, LeadsElsewhere, MakesAll, Makes, Moves}
 use Rattle.jsonc_parser.specs.patch.References.{IsItem, this_item, later_item, IsOnly, this_only, later_only, Refers, RefersTo, whole, to_member, to_element}
 use Rattle.jsonc_parser.specs.declared.patch.operation.Operation.{Operation}
+use Rattle.jsonc_parser.specs.declared.patch.operation.Operation.TheVariants.{Move}
+use Rattle.jsonc_parser.proofs.lemmas.patch.Unique.{unique_collapse}
 
 joined : {A : Type 0} {d e f : Document} {es fs : List (Edit A)} → EditsTo d es e → EditsTo e fs f → EditsTo d (es ++ fs) f
 joined (none_asked one) k = k
@@ -138,3 +146,59 @@ stays_there from to w x on count r =
 
 pub leads_elsewhere : (from to : List (List ℕ)) → (LeadsOn from to → ⊥) → LeadsElsewhere from to
 leads_elsewhere from to none token rest is = none (token ∷ rest, is)
+
+-- the tokens of a pointer: all but the last, and the last; or none
+pub all_but_last : {A : Type 0} (all : List (List ℕ)) (names front : List (String A)) (last : String A) → names_of names ≡ all → names ≡ front ++ last ∷ [] → all ≡ names_of front ++ chars_of last ∷ []
+all_but_last all names front last is parts = sym is ∙ ap names_of parts ∙ map-append chars_of front (last ∷ [])
+
+pub none_at_all : {A : Type 0} (all : List (List ℕ)) (names : List (String A)) → names_of names ≡ all → length names ≡ 0 → all ≡ []
+none_at_all all [] is none = sym is
+none_at_all all (x ∷ names) is none = absurd (omega (arith, none))
+
+pub as_many : {A B : Type 0} (one other : List (List ℕ)) (names : List (String A)) (others : List (String B)) → names_of names ≡ one → names_of others ≡ other → length names ≡ length others → length one ≡ length other
+as_many one other names others is so count = ap length (sym is) ∙ length-map chars_of names ∙ count ∙ sym (length-map chars_of others) ∙ ap length so
+
+-- what is found by the tokens of a pointer stays
+pub stays_shown : {A : Type 0} (doc : CstRootNode A) (from to names : List (List ℕ)) (n : ℕ) → names ≡ from → LeadsOn from to → length from ≡ length to → IsOfShown doc (λ d. RefersToNode d (nodes_of doc) names n) → IsOfShown doc (λ d. Moves from to d.value d.value)
+stays_shown doc from to names n is on count found d shown =
+    let w = found d shown in stays_there from to d.value w.v on count (w.value, w.is, w.path, subst (λ l. Refers w.value l w.path w.v) is w.refers)
+
+-- a value that was taken is equal to the one that was asked for
+pub tests_so : {A : Type 0} (doc : CstRootNode A) (tokens : List (List ℕ)) (v taken : Plain) (b : Bool) → IsOfShown doc (λ d. Takes d tokens taken) → (HasUniqueNames taken → Decides b (AreEqual SameNumber v taken)) → b ≡ true
+    → IsOfShown doc (λ d. value.Tests tokens v d.value d.value)
+tests_so doc tokens v taken b takes decides is d shown =
+    let t = takes d shown in
+    let unique : HasUniqueNames taken = subst HasUniqueNames (sym t.2) (unique_collapse t.0) in
+    (t.0, t.1, subst (AreEqual SameNumber v) t.2 ((decides unique).0 is), refl)
+
+-- what a call says of an operation, of the one that was asked for
+module _ {A E : Type 0} (old new : CstRootNode A) (r : Result (Unit {0}) E) where
+  pub as_asked : (op other : Operation A) → op ≡ other → OnOk r (MakesWhatShown old (asked other) (λ o. FitsIn o other) new) → OnOk r (MakesWhatShown old (asked op) (λ o. FitsIn o op) new)
+  as_asked op other is made = subst (λ k. OnOk r (MakesWhatShown old (asked k) (λ o. FitsIn o k) new)) (sym is) made
+
+  pub added_value : (tokens : List (List ℕ)) (v w : Plain) → w ≡ v → OnOk r (MakesWhatShown old (value.add tokens w) (λ o. IsOfNumbers o w) new) → OnOk r (MakesWhatShown old (value.add tokens v) (λ o. IsOfNumbers o v) new)
+  added_value tokens v w is made = subst (λ k. OnOk r (MakesWhatShown old (value.add tokens k) (λ o. IsOfNumbers o k) new)) is made
+
+  pub replaced_value : (tokens : List (List ℕ)) (v w : Plain) → w ≡ v → OnOk r (MakesWhatShown old (value.replace tokens w) (λ o. IsOfNumbers o w) new) → OnOk r (MakesWhatShown old (value.replace tokens v) (λ o. IsOfNumbers o v) new)
+  replaced_value tokens v w is made = subst (λ k. OnOk r (MakesWhatShown old (value.replace tokens k) (λ o. IsOfNumbers o k) new)) is made
+
+  pub kept_anyhow : (op : Operation A) → OnErr r (IsKept old new) → OnErr r (is_one_edit op ≡ true → IsKept old new)
+  kept_anyhow op kept = go r kept
+    where
+      go : (r : Result (Unit {0}) E) → OnErr r (IsKept old new) → OnErr r (is_one_edit op ≡ true → IsKept old new)
+      go (Ok x) kept = tt
+      go (Err e) kept = λ one. kept
+
+  pub moves_anyhow : (op : Operation A) (from path : Pointer A) → op ≡ Move from path → OnErr r (is_one_edit op ≡ true → IsKept old new)
+  moves_anyhow op from path is = go r
+    where
+      go : (r : Result (Unit {0}) E) → OnErr r (is_one_edit op ≡ true → IsKept old new)
+      go (Ok x) = tt
+      go (Err e) = λ one. let wrong : false ≡ true = sym (ap is_one_edit is) ∙ one in cc
+
+  pub tested : (operation : value.Operation) (Fit : Options → Type 0) → tree_of new ≡ tree_of old → OnOk r (IsOfShown old (λ d. Makes operation d.value d.value)) → OnOk r (MakesWhatShown old operation Fit new)
+  tested operation Fit same made = go r made
+    where
+      go : (r : Result (Unit {0}) E) → OnOk r (IsOfShown old (λ d. Makes operation d.value d.value)) → OnOk r (MakesWhatShown old operation Fit new)
+      go (Ok x) made = unchanged old new operation Fit same made
+      go (Err e) made = tt

@@ -142,7 +142,7 @@ module _ {A : Type 0} (old new : CstRootNode A) (tree : IsTree (nodes_of old)) (
 pub kept_same : {A : Type 0} (doc : CstRootNode A) → IsKept doc doc
 kept_same doc = record { tree = refl; nodes = record { len = omega arith; content = λ n h. refl; parent = λ n h. refl; children = λ n h. refl } }
 
-left_kept : {A : Type 0} (edit : Edit A) (old new : CstRootNode A) (op : Operation) → is_whole edit ≡ true → operation_of unsorted edit ≡ op → IsLeft (nodes_of old) op (nodes_of new) → IsKept old new
+pub left_kept : {A : Type 0} (edit : Edit A) (old new : CstRootNode A) (op : Operation) → is_whole edit ≡ true → operation_of unsorted edit ≡ op → IsLeft (nodes_of old) op (nodes_of new) → IsKept old new
 left_kept edit old new op all is (as_it_was kept same) = record { tree = same; nodes = kept }
 left_kept edit old new _ all is (set_in_part {path = path} {mode = mode} n at part) = absurd (whole_no_commas edit path mode all is)
 

@@ -1,9 +1,9 @@
 -- The tokens that refer to a node of a document, step by step along the path that leads to it.
-use Rattle.std.proofs.Common.{ℕ, zero, suc, ◌≡◌, ◌<◌, ◌^◌, ◌++◌, ◌∙◌, sym, ap, subst, refl, inl, inr, List, [], ◌∷◌, Option, Some, None, length, slice_get, slice_index, string_bytes, chars, option_map, arith}
+use Rattle.std.proofs.Common.{ℕ, zero, suc, ◌≡◌, ◌<◌, ◌^◌, ◌+◌, ◌++◌, ◌∙◌, sym, ap, subst, refl, inl, inr, List, [], ◌∷◌, Option, Some, None, Result, Ok, Err, IfNone, IfOk, IfSome, length, drop, get_or, slice_get, slice_index, string_bytes, chars, option_map, arith}
 use Rattle.std.specs.Fmt.{decimal}
 use Rattle.std.specs.declared.string.String.{String}
 use Rattle.std.specs.declared.vec.Vec.{Vec}
-use Rattle.std.proofs.lemmas.List.{map-append}
+use Rattle.std.proofs.lemmas.List.{drop_more, map-append}
 use Rattle.jsonc_text.specs.Documents.{Document}
 use Rattle.jsonc_text.specs.Plain.{Plain}
 use Rattle.jsonc_tree.specs.Content as content
@@ -30,9 +30,11 @@ use Rattle.jsonc_cst.specs.Readings.{value_under}
 use Rattle.jsonc_cst.proofs.Family.{number_of-typed}
 use Rattle.jsonc_parser.specs.paths.Found.{names_of}
 use Rattle.jsonc_parser.specs.patch.Found.{IsOfShown, RefersToNode}
-use Rattle.jsonc_parser.specs.patch.Locations.{HasNoToken, LeadsBack, TellsToken, TellsTokens}
+use Rattle.jsonc_parser.specs.patch.Locations.{HasNoToken, LeadsBack, TellsPointer, TellsToken, TellsTokens}
 use Rattle.jsonc_parser.specs.patch.Lookups as lookups
 use Rattle.jsonc_parser.specs.patch.Lookups.{IsLookedUp}
+use Rattle.jsonc_parser.specs.patch.Pointer.{tokens_of}
+use Rattle.jsonc_parser.specs.declared.patch.pointer.Pointer.{Pointer}
 use Rattle.jsonc_parser.specs.patch.References.{IsOnly, Refers, whole}
 use Rattle.jsonc_parser.specs.declared.patch.reference.Lookup.TheVariants.{Missing, Once, Twice}
 use Rattle.jsonc_parser.proofs.lemmas.patch.Evaluation.{only_lacks, only_repeated}
@@ -100,6 +102,12 @@ module _ {A : Type 0} (doc : CstRootNode A) (tree : IsTree (nodes_of doc)) (node
     told_property object entry is told by q (paths.in_object {r = r} other e h) =
         let same : r ≡ entry = element_once (nodes_of doc) (number_of node) place r entry e (sym is) in
         by place q (sym is) (subst (λ k. IsHeldBy (nodes_of doc) k q) same h)
+
+    pub told_by_name : {E : Type 0} → content_at (nodes_of doc) (number_of node) ≡ content.object → (entry : ℕ) → Some entry ≡ slice_get (elements_at (nodes_of doc) (number_of node)) place → (r : Result (Option (String A × CstNode)) E)
+        → IfOk r (λ told. (i q : ℕ) → IsElementOf (nodes_of doc) (number_of node) i entry → IsHeldBy (nodes_of doc) entry q → TellsToken doc node i q told)
+        → IfOk r (λ told. (q : ℕ) → paths.StepsTo (nodes_of doc) (number_of node) place q → TellsToken doc node place q told)
+    told_by_name object entry is (Ok told) by = told_property object entry is told by
+    told_by_name object entry is (Err e) by = tt
 
   -- a property of an object, by its name
   module _ (object : content_at (nodes_of doc) (number_of node) ≡ content.object) (property : ℕ) where
@@ -199,6 +207,17 @@ module _ {A : Type 0} (doc : CstRootNode A) (tree : IsTree (nodes_of doc)) where
         let s = next_step so.1 in
         none_over d (nodes_of doc) tree shown (names_of tokens) (number_of node) n place rest so.0 so.1 (told s.0 s.1 d (names_of tokens) shown so.0) others u
 
+  module _ (n : ℕ) (tokens : List (String A)) (node : CstNode) (path : List ℕ) (k : ℕ) (h : k < length path) (way : IsOnTheWay doc n tokens node (drop k path)) (told : Option (String A × CstNode))
+      (by : (q : ℕ) → paths.StepsTo (nodes_of doc) (number_of node) (get_or path k 0) q → TellsToken doc node (get_or path k 0) q told) where
+    further : IsOnTheWay doc n tokens node (get_or path k 0 ∷ drop (k + 1) path)
+    further = subst (IsOnTheWay doc n tokens node) (drop_more path k 0 h) way
+
+    pub goes_on_by : (token : String A) (inner : CstNode) → told ≡ Some (token, inner) → IsOnTheWay doc n (tokens ++ token ∷ []) inner (drop (k + 1) path)
+    goes_on_by token inner is = goes_on n tokens node (get_or path k 0) (drop (k + 1) path) further token inner (λ q s. subst (TellsToken doc node (get_or path k 0) q) is (by q s))
+
+    pub stops_here_by : told ≡ None → IsOfShown doc (TellsTokens doc n None)
+    stops_here_by is = stops n tokens node (get_or path k 0) (drop (k + 1) path) further (λ q s. subst (TellsToken doc node (get_or path k 0) q) is (by q s))
+
   pub arrives : (n : ℕ) (tokens : Vec (String A) A) (node : CstNode) → IsOnTheWay doc n tokens.items node [] → IsOfShown doc (TellsTokens doc n (Some tokens))
   arrives n tokens node way d shown =
       let so = way d shown in subst (RefersToNode d (nodes_of doc) (names_of tokens.items)) (no_step so.1) so.0
@@ -206,6 +225,22 @@ module _ {A : Type 0} (doc : CstRootNode A) (tree : IsTree (nodes_of doc)) where
   -- a node of no path is one that no tokens refer to
   pub nowhere : (n : ℕ) → ((path : List ℕ) → IsAt (nodes_of doc) path n → ⊥) → IsOfShown doc (TellsTokens doc n None)
   nowhere n none d shown tokens u = none u.path u.at
+
+  module _ (n : ℕ) (found : Option (Vec ℕ A)) where
+    pub nowhere_by : found ≡ None → IfNone found ((path : List ℕ) → IsAt (nodes_of doc) path n → ⊥) → IsOfShown doc (TellsPointer doc n None)
+    nowhere_by is none = nowhere n (subst (λ (o : Option (Vec ℕ A)). IfNone o ((path : List ℕ) → IsAt (nodes_of doc) path n → ⊥)) is none)
+
+    -- a path was found, and tokens over it
+    module _ (path : Vec ℕ A) (is : found ≡ Some path) (at : IfSome found (λ path. IsAt (nodes_of doc) path.items n)) (slice : List ℕ) (same : slice ≡ path.items) (told : Option (Vec (String A) A))
+        (by : (n : ℕ) → IsAt (nodes_of doc) slice n → IsOfShown doc (TellsTokens doc n told)) where
+      over_path_there : IsOfShown doc (TellsTokens doc n told)
+      over_path_there = by n (subst (λ l. IsAt (nodes_of doc) l n) (sym same) (subst (λ (o : Option (Vec ℕ A)). IfSome o (λ path. IsAt (nodes_of doc) path.items n)) is at))
+
+      pub no_pointer : told ≡ None → IsOfShown doc (TellsPointer doc n None)
+      no_pointer none d shown = subst (λ o. TellsTokens doc n o d) none (over_path_there d shown)
+
+      pub a_pointer : (tokens : Vec (String A) A) (pointer : Pointer A) → told ≡ Some tokens → tokens_of pointer ≡ names_of tokens.items → IsOfShown doc (TellsPointer doc n (Some pointer))
+      a_pointer tokens pointer some text d shown = subst (λ l. RefersToNode d (nodes_of doc) l n) (sym text) (subst (λ o. TellsTokens doc n o d) some (over_path_there d shown))
 
 -- what tokens refer to is one node
 pub one_node : (d : Document) (ns : List Node) (tokens : List (List ℕ)) (n m : ℕ) → RefersToNode d ns tokens n → RefersToNode d ns tokens m → n ≡ m
