@@ -13,12 +13,14 @@
 mod booleans;
 mod first;
 pub mod laws;
+mod names;
 mod properties;
 mod root;
 mod shapes;
 mod values;
 
 pub use booleans::set_boolean;
+pub use names::rename_property;
 pub use properties::replace_property;
 pub use root::{clear_root, set_root};
 pub use shapes::{empty_value, has_shape, root_value_or_create, root_value_or_set};
