@@ -19,3 +19,4 @@ pub mod Shaped
 pub mod Renaming
 pub mod RenamedTrees
 pub mod RenamedProperty
+pub mod RenamedPlace

@@ -1,6 +1,6 @@
 -- A property has been given another name: what the document is then.
-use Rattle.std.proofs.Common.{◌≡◌, ◌≢◌, ℕ, ◌+◌, ◌<◌, true, cond, List, [], ◌∷◌, ◌++◌, length, take, drop, filter, slice_get, slice_index, Some, refl, sym, ap, subst, ◌∙◌, arith}
-use Rattle.std.specs.List.{find}
+use Rattle.std.proofs.Common.{◌≡◌, ◌≢◌, ℕ, ◌+◌, ◌<◌, true, cond, List, [], ◌∷◌, ◌++◌, length, take, drop, encode_utf8_all, filter, slice_get, slice_index, Some, refl, sym, ap, subst, ◌∙◌, arith}
+use Rattle.std.specs.List.{find, splice}
 use Rattle.std.proofs.lemmas.List.{append_assoc}
 use Rattle.jsonc_text.specs.Options.{Options}
 use Rattle.jsonc_text.specs.Plain.{Plain}
@@ -43,6 +43,7 @@ use Rattle.jsonc_edit.specs.set.Names.{IsRenamed, IsNameWritten, RenamesMember, 
 use Rattle.jsonc_edit.proofs.ChangesUpward.{Shows-row_below, ChangedIn, RowChanged, row_above}
 use Rattle.jsonc_edit.proofs.Elements.{Some_same, stands_at}
 use Rattle.jsonc_edit.proofs.NodesKept.{at_kept, filter_same, place_kept, row_kept, top_stays, tree_stays}
+use Rattle.jsonc_edit.proofs.PathsKept.{at_over}
 use Rattle.jsonc_edit.proofs.ShapedProperties.{Parts, firsts, name_is_name}
 use Rattle.jsonc_edit.proofs.Splices.{respliced_over, respliced_row, spliced_in}
 use Rattle.jsonc_edit.proofs.Uniqueness.{element_parent}
@@ -59,7 +60,14 @@ node_leaves : (front back : OrderedTree) (top : Top) → leaves (row_around fron
 node_leaves front back top =
     leaves-followed_by front (more top.content top.below back) ∙ ap (λ l. leaves front ++ l) (sym (append_assoc _ (leaves top.below) (leaves back)))
 
--- the name of p has been replaced by a new node
+-- the name n of p has been replaced by m: nodes are what they were, and others than p have the children that they had
+pub record Renamed (old new : List Node) (p m n : ℕ) : Type 0 where
+  pub contents : (k : ℕ) → k < length old → content_at new k ≡ content_at old k
+  pub name : (s : List ℕ) × (content_at new m ≡ Content.string s)
+  pub row : children_at new p ≡ splice (children_at old p) (place_at old n) (place_at old n + 1) (m ∷ [])
+  pub others : (k : ℕ) → k < length old → k ≢ p → children_at new k ≡ children_at old k
+  pub still_at : (k : ℕ) (path : List ℕ) → IsOver old k p → IsAt old path k → IsAt new path k
+
 module _ (old new : List Node) (p m : ℕ) (name : List ℕ) (tree : IsTree old) (given : IsRenamed old new p name m) where
   abbrev pub n : ℕ
   n = given.0
@@ -124,13 +132,13 @@ module _ (old new : List Node) (p m : ℕ) (name : List ℕ) (tree : IsTree old)
       Replaced-splice ready new g.prepared.tree after p (place_at ready n) (place_at ready n + 1) (m ∷ []) spliced (row_below ready p) (row_below new p)
       (Shows-row_below ready g.prepared.tree p p_ready) (Shows-row_below new after p (omega (arith, p_ready, spliced.len))) 0 g.prepared.tree.first over
 
-  over_ready : (x : ℕ) → x < length old → IsOver old 0 x → IsOver ready 0 x
-  over_ready _ h IsOver.itself = IsOver.itself
-  over_ready x h (IsOver.above {c = q} told rest) = IsOver.above (kept.parent x h ∙ told) (over_ready q (parent_there old tree x q told).1 rest)
+  over_also : (k x : ℕ) → x < length old → IsOver old k x → IsOver ready k x
+  over_also k _ h IsOver.itself = IsOver.itself
+  over_also k x h (IsOver.above {c = q} told rest) = IsOver.above (kept.parent x h ∙ told) (over_also k q (parent_there old tree x q told).1 rest)
 
   differs : IsOver old 0 p → DiffersIn (leaves_of (top_at old n)) (string_leaf name ∷ []) (leaves (ordered_tree old 0)) (leaves (ordered_tree new 0))
   differs over =
-      let w = both_within (replaced (over_ready p p_there over)) in
+      let w = both_within (replaced (over_also 0 p p_there over)) in
       let was : Top = top_at ready n in
       let now : Top = record { content = string_leaf name; below = none } in
       let fr : List Content = leaves around_name.front in
@@ -154,6 +162,18 @@ module _ (old new : List Node) (p m : ℕ) (name : List ℕ) (tree : IsTree old)
       subst (λ l. MarksDifferIn (marks_under (top_at old k)) l (marks (ordered_tree old 0)) (marks (ordered_tree new 0)))
       (laid_as_written (layout_for old p p) (Plain.string name) texts)
       (marks_differ (leaves_of (top_at old k)) (string_leaf name ∷ []) (leaves (ordered_tree old 0)) (leaves (ordered_tree new 0)) (stays_around k told over))
+
+  -- what the nodes are then
+  pub renamed_nodes : Renamed old new p m n
+  renamed_nodes = record {
+    contents = λ k h. spliced.content k ∙ kept.content k h;
+    name = (encode_utf8_all (spelled name), spliced.content m ∙ ap (λ (t : Top). t.content) g.place.is);
+    row = spliced.children ∙ ap (λ l. splice l (place_at ready n) (place_at ready n + 1) (m ∷ [])) (kept.children p p_there)
+        ∙ ap (λ k. splice (children_at old p) k (k + 1) (m ∷ [])) (place_kept old ready tree kept n p child);
+    others = λ k h ne. spliced.others k ne ∙ kept.children k h;
+    still_at = λ k path over at.
+        at_over ready new p g.prepared.tree (λ j. spliced.content j) (λ j ne. spliced.others j ne) k (over_also k p p_there over) path (at_kept old ready tree kept path k at);
+  }
 
   -- p is the property number i of the object c, which stands at a path of a sound document
   module _ (o : Options) (path : List ℕ) (c i : ℕ) (sound : SoundTree o (ordered_tree old 0)) (at : IsAt old path c) (is_object : content_at old c ≡ object) (element : IsElementOf old c i p) (texts : IsCharacters name) where
