@@ -5,7 +5,8 @@
 //! [`root_value_or_create`] and [`root_value_or_set`] answer the document's object or array, and set an
 //! empty one where there is none (`specs/set/Kinds.antt`).
 //!
-//! [`replace_property`] replaces a property by one of another name and value (`specs/set/Giving.antt`).
+//! [`replace_property`] replaces a property by one of another name and value (`specs/set/Giving.antt`), and
+//! [`rename_property`] gives it another name (`specs/set/Names.antt`).
 //! [`set_property_value`] sets the value of a property, and [`property_value_or_set`] answers its object
 //! or array, and sets an empty one where there is none (`specs/set/PropertyValues.antt`). [`set_boolean`] lets a truth value become another in its place
 //! (`specs/set/Booleans.antt`). An error leaves the document, and every node that was there, as it was.

@@ -57,7 +57,7 @@ pub fn properties_are_renamed()
         → WritesName o old new path c i p m name }
     ensures around { (old new : List Node) (p m : ℕ) (name : List ℕ)
         → IsTree old → IsRenamed old new p name m → StaysAroundName old new p name }
-    ensures marked { (o : Options) (old new : List Node) (p m : ℕ) (name : List ℕ)
+    ensures marked { (old new : List Node) (p m : ℕ) (name : List ℕ)
         → IsTree old → IsRenamed old new p name m → IsMarkedForName old new p name }
     ensures place { (old new : List Node) (path : List ℕ) (c i p m : ℕ) (name : List ℕ)
         → KeepsPropertysPlace old new path c i p m name }

@@ -157,8 +157,8 @@ module _ (old new : List Node) (p m : ℕ) (name : List ℕ) (tree : IsTree old)
       let it : n ≡ k = Some_same n k (sym given.1 ∙ told) in
       subst (λ j. DiffersIn (leaves_of (top_at old j)) (string_leaf name ∷ []) (leaves (ordered_tree old 0)) (leaves (ordered_tree new 0))) it (differs over)
 
-  pub is_marked : Options → IsMarkedForName old new p name
-  is_marked o k told over texts =
+  pub is_marked : IsMarkedForName old new p name
+  is_marked k told over texts =
       subst (λ l. MarksDifferIn (marks_under (top_at old k)) l (marks (ordered_tree old 0)) (marks (ordered_tree new 0)))
       (laid_as_written (layout_for old p p) (Plain.string name) texts)
       (marks_differ (leaves_of (top_at old k)) (string_leaf name ∷ []) (leaves (ordered_tree old 0)) (leaves (ordered_tree new 0)) (stays_around k told over))

@@ -9,7 +9,7 @@ pub returns-clause-around : goal.returns-clause-around
 returns-clause-around c = λ old new p m name tree given. stays_around old new p m name tree given
 
 pub returns-clause-marked : goal.returns-clause-marked
-returns-clause-marked c = λ o old new p m name tree given. is_marked old new p m name tree given o
+returns-clause-marked c = λ old new p m name tree given. is_marked old new p m name tree given
 
 pub returns-clause-place : goal.returns-clause-place
 returns-clause-place c = keeps_propertys_place
