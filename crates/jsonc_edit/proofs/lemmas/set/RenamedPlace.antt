@@ -27,11 +27,11 @@ found_at test [] n e = absurd (let wrong : None ≡ Some n = e in cc)
 found_at test (x ∷ xs) n e =
     elim (cases_Bool (test x)) [
       | inl h ↦ record {
-          place = 0;
-          within = omega arith;
-          is = Some_same x n (sym (ap (λ b. cond b (Some x) (find test xs)) h) ∙ e);
-          instead = λ other m back same passes. ap (λ b. cond b (Some m) (find other back)) passes;
-        }
+        place = 0;
+        within = omega arith;
+        is = Some_same x n (sym (ap (λ b. cond b (Some x) (find test xs)) h) ∙ e);
+        instead = λ other m back same passes. ap (λ b. cond b (Some m) (find other back)) passes;
+      }
       | inr h ↦
           let rest : FoundAt test xs n = found_at test xs n (sym (ap (λ b. cond b (Some x) (find test xs)) h) ∙ e) in
           record {
@@ -60,7 +60,7 @@ keeps_propertys_place old new path c i p m name tree at element given =
     let apart : c ≢ p = λ e. not_over_parent old tree p c said (subst (IsOver old p) (sym e) IsOver.itself) in (
       r.still_at c path (IsOver.above said IsOver.itself) at,
       ap (λ l. slice_get l i)
-      (ap (filter (is_element_at new)) (r.others c there apart)
-      ∙ filter_same (is_element_at new) (is_element_at old) (children_at old c) (λ k h. ap is_element (r.contents (slice_index (children_at old c) k) (tree.in_tree c k h))))
-      ∙ element,
+          (ap (filter (is_element_at new)) (r.others c there apart)
+          ∙ filter_same (is_element_at new) (is_element_at old) (children_at old c) (λ k h. ap is_element (r.contents (slice_index (children_at old c) k) (tree.in_tree c k h))))
+          ∙ element,
     )
