@@ -30,14 +30,14 @@ module _ (old new : List Node) where
   NameIsDetached p = (n : ℕ) → name_at old p ≡ Some n → IsDetached new n
 
 -- the property has this name, which is the other node
-abbrev pub HasNewName : {A : Type 0} → CstRootNode A → CstRootNode A → CstNode → List ℕ → CstNode → Type 0
-HasNewName old new node name now = IsRenamed (nodes_of old) (nodes_of new) (number_of node) name (number_of now)
+abbrev pub HasBeenRenamed : {A : Type 0} → CstRootNode A → CstRootNode A → CstNode → List ℕ → CstNode → Type 0
+HasBeenRenamed old new node name now = IsRenamed (nodes_of old) (nodes_of new) (number_of node) name (number_of now)
 
 -- The property has this name, whose node is answered, and the old one is detached. If the document was sound, it is so with that name there. Sound or not, of its
 -- leaves that name alone is another, and of its literals and comments. Or an error has left every node as it was: for memory, or since the name or the colon is
 -- missing.
 pub record IsRenaming {A : Type 0} (old new : CstRootNode A) (node : CstNode) (name : List ℕ) (r : Result CstNode EditError) : Type 0 where
-  pub renamed : IfOk r (HasNewName old new node name)
+  pub renamed : IfOk r (HasBeenRenamed old new node name)
   pub written : (o : Options) → OnOk r (NameIsWritten (nodes_of old) (nodes_of new) o (number_of node) name)
   pub marked : OnOk r (IsMarkedForName (nodes_of old) (nodes_of new) (number_of node) name)
   pub around : OnOk r (StaysAroundName (nodes_of old) (nodes_of new) (number_of node) name)

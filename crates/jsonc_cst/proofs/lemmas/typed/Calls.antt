@@ -32,7 +32,7 @@ use Rattle.jsonc_cst.specs.typed.Inserting.{HasComeIn}
 use Rattle.jsonc_cst.specs.typed.Lines.{HasSpreadOut}
 use Rattle.jsonc_cst.specs.typed.Raw.{HasBecome}
 use Rattle.jsonc_cst.specs.typed.Removing.{removal_of, IsCleared, IsLooseFor, IsTakenBy, RemovedAlone}
-use Rattle.jsonc_cst.specs.typed.Renaming.{HasNewName}
+use Rattle.jsonc_cst.specs.typed.Renaming.{HasBeenRenamed}
 use Rattle.jsonc_cst.specs.typed.Setting.{FindsOrCreates, FindsOrSets, HasBecomeProperty, RootBecomes, ValueBecomes}
 use Rattle.jsonc_cst.specs.typed.Values.{HasSetBoolean, HeldBecomes, NodeValueIs, NowHolds}
 use Rattle.jsonc_cst.proofs.lemmas.typed.PropertyValues.{held_property}
@@ -97,7 +97,7 @@ module _ {A : Type 0} (old new : CstRootNode A) where
   property_is_call node name v now = λ tree held given. call_of (nodes_of old) (nodes_of new) tree (number_of node) held.0 (property_gives_way (number_of node) (number_of now) name v given)
 
   -- of the name, which stands in the property
-  pub renamed_is_call : (node : CstNode) (name : List ℕ) (now : CstNode) → IsCallIf old new node (HasNewName old new node name now)
+  pub renamed_is_call : (node : CstNode) (name : List ℕ) (now : CstNode) → IsCallIf old new node (HasBeenRenamed old new node name now)
   renamed_is_call node name now = λ tree held given.
       record {
         in_tree = held.0;
