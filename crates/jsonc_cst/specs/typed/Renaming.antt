@@ -18,12 +18,12 @@ use Rattle.jsonc_cst.specs.typed.Edits.{HandlesStay, IsDetached, IsUntouched, Ke
 use Rattle.jsonc_cst.specs.typed.Removing.{IsKeptForMemory}
 
 module _ (old new : List Node) where
-  -- If the old document was sound, and p the property number i of the object at the path, the text is a document again, whose value has changed in that name
-  -- alone, and sound.
+  -- If the old document was sound, and p the property number i of the object at the path, the text is a document again, whose value has
+  -- changed in that name alone, and sound.
   abbrev pub NameIsWritten : Options → ℕ → List ℕ → Type 0
   NameIsWritten o p name =
-      (path : List ℕ) (c i : ℕ) → SoundTree o (ordered_tree old 0) → IsAt old path c → content_at old c ≡ object → IsElementOf old c i p → IsCharacters name
-      → IsNameWritten o path i name (ordered_tree old 0) (ordered_tree new 0)
+      (path : List ℕ) (c i : ℕ) → SoundTree o (ordered_tree old 0) → IsAt old path c → content_at old c ≡ object → IsElementOf old c i p
+      → IsCharacters name → IsNameWritten o path i name (ordered_tree old 0) (ordered_tree new 0)
 
   -- the node that was the name of the property p is detached
   abbrev pub NameIsDetached : ℕ → Type 0
@@ -33,9 +33,9 @@ module _ (old new : List Node) where
 abbrev pub HasBeenRenamed : {A : Type 0} → CstRootNode A → CstRootNode A → CstNode → List ℕ → CstNode → Type 0
 HasBeenRenamed old new node name now = IsRenamed (nodes_of old) (nodes_of new) (number_of node) name (number_of now)
 
--- The property has this name, whose node is answered, and the old one is detached. If the document was sound, it is so with that name there. Sound or not, of its
--- leaves that name alone is another, and of its literals and comments. Or an error has left every node as it was: for memory, or since the name or the colon is
--- missing.
+-- The property has this name, whose node is answered, and the old one is detached. If the document was sound, it is so with that name
+-- there. Sound or not, of its leaves that name alone is another, and of its literals and comments. Or an error has left every node as it
+-- was: for memory, or since the name or the colon is missing.
 pub record IsRenaming {A : Type 0} (old new : CstRootNode A) (node : CstNode) (name : List ℕ) (r : Result CstNode EditError) : Type 0 where
   pub renamed : IfOk r (HasBeenRenamed old new node name)
   pub written : (o : Options) → OnOk r (NameIsWritten (nodes_of old) (nodes_of new) o (number_of node) name)

@@ -47,9 +47,9 @@ pub record RenamesMember (path : List ℕ) (i : ℕ) (name : List ℕ) (x y : Pl
   pub renamed : MemberRenamed name i old new
   pub changed : Changed (object old) (object new) path x y
 
--- The property number i of the object at the path has this name: the old text is a document, the new text is one, and its value is the old one's, but
--- for that name; in the object's row the name of one property has been replaced, and all else of it stays. The new document is sound, so it may be
--- edited again.
+-- The property number i of the object at the path has this name: the old text is a document, the new text is one, and its value is the
+-- old one's, but for that name; in the object's row the name of one property has been replaced, and all else of it stays. The new
+-- document is sound, so it may be edited again.
 pub record IsNameWritten (o : Options) (path : List ℕ) (i : ℕ) (name : List ℕ) (old new : OrderedTree) : Type 0 where
   pub given_up : Content
   pub front : OrderedTree
@@ -66,11 +66,11 @@ pub record IsNameWritten (o : Options) (path : List ℕ) (i : ℕ) (name : List 
 -- so it is where a property, element number i of an object at a path of a sound document, has been given another name
 abbrev pub WritesName : Options → List Node → List Node → List ℕ → ℕ → ℕ → ℕ → ℕ → List ℕ → Type 0
 WritesName o old new path c i p m name =
-    IsTree old → SoundTree o (ordered_tree old 0) → IsAt old path c → content_at old c ≡ Content.object → IsElementOf old c i p → IsCharacters name
-    → IsRenamed old new p name m → IsNameWritten o path i name (ordered_tree old 0) (ordered_tree new 0)
+    IsTree old → SoundTree o (ordered_tree old 0) → IsAt old path c → content_at old c ≡ Content.object → IsElementOf old c i p
+    → IsCharacters name → IsRenamed old new p name m → IsNameWritten o path i name (ordered_tree old 0) (ordered_tree new 0)
 
--- Where a property of a document, sound or not, has another name, of the document's leaves that name alone has been replaced by the new one: all before
--- and all behind it stay.
+-- Where a property of a document, sound or not, has another name, of the document's leaves that name alone has been replaced by the new
+-- one: all before and all behind it stay.
 abbrev pub StaysAroundName : List Node → List Node → ℕ → List ℕ → Type 0
 StaysAroundName old new p name = (n : ℕ) → name_at old p ≡ Some n → IsOver old 0 p
     → DiffersIn (leaves_of (top_at old n)) (string_leaf name ∷ []) (leaves (ordered_tree old 0)) (leaves (ordered_tree new 0))
@@ -78,7 +78,8 @@ StaysAroundName old new p name = (n : ℕ) → name_at old p ≡ Some n → IsOv
 -- and of its literals and comments
 abbrev pub IsMarkedForName : List Node → List Node → ℕ → List ℕ → Type 0
 IsMarkedForName old new p name = (n : ℕ) → name_at old p ≡ Some n → IsOver old 0 p → IsCharacters name
-    → MarksDifferIn (marks_under (top_at old n)) (Mark.literal (spelled name) ∷ []) (marks (ordered_tree old 0)) (marks (ordered_tree new 0))
+    → MarksDifferIn (marks_under (top_at old n)) (Mark.literal (spelled name) ∷ [])
+    (marks (ordered_tree old 0)) (marks (ordered_tree new 0))
 
 -- the object and the property are where they were
 abbrev pub KeepsPropertysPlace : List Node → List Node → List ℕ → ℕ → ℕ → ℕ → ℕ → List ℕ → Type 0
