@@ -1,16 +1,14 @@
 -- Where a property has been given another name, it stands where it stood, and the new name is its name.
-use Rattle.std.proofs.Common.{◌≡◌, ◌≢◌, ℕ, suc, ◌+◌, ◌<◌, Bool, true, false, cond, List, [], ◌∷◌, ◌++◌, length, take, drop, filter, slice_get, slice_index, Some, None, inl, inr, refl, sym, ap, subst, ◌∙◌, arith}
+use Rattle.std.proofs.Common.{◌≡◌, ◌≢◌, ℕ, suc, ◌+◌, ◌<◌, Bool, true, cond, List, [], ◌∷◌, ◌++◌, length, take, drop, filter, slice_get, slice_index, Some, None, inl, inr, sym, ap, subst, ◌∙◌, arith}
 use Rattle.std.specs.List.{find, splice}
 use Rattle.std.proofs.lemmas.Bool.{cases_Bool}
-use Rattle.jsonc_tree.specs.Tree.{Node, content_at, parent_at, children_at, place_at, IsTree, IsOver}
+use Rattle.jsonc_tree.specs.Tree.{Node, parent_at, children_at, place_at, IsOver}
 use Rattle.jsonc_tree.proofs.Order.{not_over_parent, parent_there}
 use Rattle.jsonc_layout.specs.nodes.Kinds.{is_element, is_element_at}
-use Rattle.jsonc_layout.specs.nodes.Properties.{is_name, is_name_at, name_at}
-use Rattle.jsonc_edit.specs.Paths.{IsAt, IsElementOf}
-use Rattle.jsonc_edit.specs.set.Names.{IsRenamed, HasNewName, KeepsPropertysPlace}
+use Rattle.jsonc_layout.specs.nodes.Properties.{is_name, is_name_at}
+use Rattle.jsonc_edit.specs.set.Names.{HasNewName, KeepsPropertysPlace}
 use Rattle.jsonc_edit.proofs.Elements.{Some_same}
-use Rattle.jsonc_edit.proofs.NodesKept.{at_kept, filter_same}
-use Rattle.jsonc_edit.proofs.PathsKept.{at_over}
+use Rattle.jsonc_edit.proofs.NodesKept.{filter_same}
 use Rattle.jsonc_edit.proofs.Uniqueness.{element_parent}
 use Rattle.jsonc_edit.proofs.lemmas.set.RenamedProperty.{Renamed, renamed_nodes}
 

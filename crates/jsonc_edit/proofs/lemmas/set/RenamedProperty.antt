@@ -1,5 +1,5 @@
 -- A property has been given another name: what the document is then.
-use Rattle.std.proofs.Common.{◌≡◌, ◌≢◌, ℕ, ◌+◌, ◌<◌, true, cond, List, [], ◌∷◌, ◌++◌, length, take, drop, encode_utf8_all, filter, slice_get, slice_index, Some, refl, sym, ap, subst, ◌∙◌, arith}
+use Rattle.std.proofs.Common.{◌≡◌, ◌≢◌, ℕ, ◌+◌, ◌<◌, cond, List, [], ◌∷◌, ◌++◌, length, take, drop, encode_utf8_all, filter, slice_get, slice_index, Some, sym, ap, subst, ◌∙◌, arith}
 use Rattle.std.specs.List.{find, splice}
 use Rattle.std.proofs.lemmas.List.{append_assoc}
 use Rattle.jsonc_text.specs.Options.{Options}
@@ -16,18 +16,18 @@ use Rattle.jsonc_tree.proofs.SplicedTrees.{Replaced-splice}
 use Rattle.jsonc_layout.specs.from_input.Laid.{string_leaf}
 use Rattle.jsonc_layout.specs.from_input.Texts.{IsCharacters}
 use Rattle.jsonc_layout.specs.nodes.Kinds.{is_element, is_element_at}
-use Rattle.jsonc_layout.specs.nodes.Properties.{is_name, is_name_at, name_at}
+use Rattle.jsonc_layout.specs.nodes.Properties.{is_name, is_name_at}
 use Rattle.jsonc_sound.specs.ChangeLaws.{DiffersIn}
 use Rattle.jsonc_sound.specs.InRows.{row_around}
 use Rattle.jsonc_sound.specs.Leaving.{element_count}
 use Rattle.jsonc_sound.specs.MarkChanges.{MarksDifferIn, marks_under}
-use Rattle.jsonc_sound.specs.Marks.{Mark, marks, marks_of}
+use Rattle.jsonc_sound.specs.Marks.{marks}
 use Rattle.jsonc_sound.specs.Properties.{among_properties, object_of, PropertyChanged}
 use Rattle.jsonc_sound.specs.Rows as rows
 use Rattle.jsonc_sound.specs.Alone.{RowAlone}
-use Rattle.jsonc_sound.specs.Shape.{IsNameBefore, token_then}
+use Rattle.jsonc_sound.specs.Shape.{token_then}
 use Rattle.jsonc_sound.specs.SoundTrees.{SoundTree}
-use Rattle.jsonc_sound.specs.TreeChanges.{IsElement, leaves_of, property_of, DocumentChanged}
+use Rattle.jsonc_sound.specs.TreeChanges.{IsElement, leaves_of, DocumentChanged}
 use Rattle.jsonc_sound.proofs.HeldValues.{document_held}
 use Rattle.jsonc_sound.proofs.Laid.{laid_as_written}
 use Rattle.jsonc_sound.proofs.NodesAlone.{value_alone}
@@ -38,18 +38,18 @@ use Rattle.jsonc_sound.proofs.ShapeValues.{document_printed}
 use Rattle.jsonc_edit.specs.Changes.{row_below, top_at, Respliced}
 use Rattle.jsonc_edit.specs.Paths.{IsAt, IsElementOf}
 use Rattle.jsonc_edit.specs.Reading.{layout_for}
-use Rattle.jsonc_edit.specs.Replacing.{ReplacedByRaw, TakesPlace}
-use Rattle.jsonc_edit.specs.set.Names.{IsRenamed, IsNameWritten, RenamesMember, WritesName, StaysAroundName, IsMarkedForName, KeepsPropertysPlace, HasNewName}
-use Rattle.jsonc_edit.proofs.ChangesUpward.{Shows-row_below, ChangedIn, RowChanged, row_above}
+use Rattle.jsonc_edit.specs.Replacing.{ReplacedByRaw}
+use Rattle.jsonc_edit.specs.set.Names.{IsRenamed, IsNameWritten, RenamesMember, WritesName, StaysAroundName, IsMarkedForName}
+use Rattle.jsonc_edit.proofs.ChangesUpward.{Shows-row_below, RowChanged, row_above}
 use Rattle.jsonc_edit.proofs.Elements.{Some_same, stands_at}
 use Rattle.jsonc_edit.proofs.NodesKept.{at_kept, filter_same, place_kept, row_kept, top_stays, tree_stays}
 use Rattle.jsonc_edit.proofs.PathsKept.{at_over}
 use Rattle.jsonc_edit.proofs.ShapedProperties.{Parts, firsts, name_is_name}
 use Rattle.jsonc_edit.proofs.Splices.{respliced_over, respliced_row, spliced_in}
 use Rattle.jsonc_edit.proofs.Uniqueness.{element_parent}
-use Rattle.jsonc_edit.proofs.lemmas.set.PropertyRows.{over_at, Parted, parted, ObjectRow, object_row, Inside, inside_of, property_here, some_value_of, prints_value}
+use Rattle.jsonc_edit.proofs.lemmas.set.PropertyRows.{Parted, parted, ObjectRow, object_row, Inside, inside_of, property_here, some_value_of, prints_value}
 use Rattle.jsonc_edit.proofs.lemmas.set.Renaming.{named_child}
-use Rattle.jsonc_edit.proofs.lemmas.set.RenamedTrees.{Around, element_around, Here, property_there, NameFirst, name_first, sound_renamed, value_renamed}
+use Rattle.jsonc_edit.proofs.lemmas.set.RenamedTrees.{Around, element_around, property_there, NameFirst, name_first, sound_renamed, value_renamed}
 
 -- leaves around a node, in a row and then around that
 around_node : (f x y z b : List Content) → f ++ ((x ++ (y ++ z)) ++ b) ≡ (f ++ x) ++ (y ++ (z ++ b))

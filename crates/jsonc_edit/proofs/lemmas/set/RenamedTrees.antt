@@ -1,5 +1,5 @@
 -- The name of a property of an object is replaced by another, between quotes: what becomes of the document, by its tree alone.
-use Rattle.std.proofs.Common.{◌≡◌, ◌∙◌, ℕ, suc, Bool, true, false, not, List, [], ◌∷◌, ◌++◌, Option, Some, None, IsTrue, chars, encode_utf8_all, if◌then◌else◌, refl, sym, ap, subst}
+use Rattle.std.proofs.Common.{◌≡◌, ◌∙◌, ℕ, suc, true, false, not, List, [], ◌∷◌, ◌++◌, Option, Some, None, IsTrue, encode_utf8_all, if◌then◌else◌, refl, sym, ap, subst}
 use Rattle.std.proofs.lemmas.List.{append-nil, append_assoc}
 use Rattle.std.proofs.lemmas.Str.{chars-encodes}
 use Rattle.jsonc_text.specs.Options.{Options}
@@ -8,7 +8,7 @@ use Rattle.jsonc_text.specs.Spelling.{spelled}
 use Rattle.jsonc_text.specs.Strings.{IsString}
 use Rattle.jsonc_text.specs.Text.{next, starts}
 use Rattle.jsonc_tree.specs.Content.{Content, property, token}
-use Rattle.jsonc_tree.specs.OrderedTree.{OrderedTree, none, more, own_leaf, leaves, followed_by}
+use Rattle.jsonc_tree.specs.OrderedTree.{OrderedTree, none, more, own_leaf, leaves, Top}
 use Rattle.jsonc_tree.specs.Values as values
 use Rattle.jsonc_tree.specs.Values.{is_passed_over, IsStringText, MembersOf, PropertyOf, DocumentValueOf}
 use Rattle.jsonc_tree.proofs.OrderedTrees.{leaves-followed_by}
@@ -32,7 +32,6 @@ use Rattle.jsonc_sound.specs.Shape.{IsNameBefore, token_then}
 use Rattle.jsonc_sound.specs.Sound.{HasValue}
 use Rattle.jsonc_sound.specs.SoundTrees.{SoundTree}
 use Rattle.jsonc_sound.specs.TreeChanges.{IsElement, leaves_of, ElementChanged, this_element, passed, later_element}
-use Rattle.jsonc_tree.specs.OrderedTree.{Top}
 use Rattle.jsonc_sound.proofs.Changed.{document_changed}
 use Rattle.jsonc_sound.proofs.FirstNodes.{no_element, trivia_over, name_element}
 use Rattle.jsonc_sound.proofs.GivenProperties.{lines_held}

@@ -1,5 +1,5 @@
 -- A property gets another name: what is known at each step.
-use Rattle.std.proofs.Common.{◌≡◌, ℕ, ◌+◌, cond, not, All, List, [], ◌∷◌, length, Option, Some, None, Bool, true, inl, inr, refl, sym, ap, subst, ◌∙◌}
+use Rattle.std.proofs.Common.{◌≡◌, ℕ, ◌+◌, cond, not, All, List, [], ◌∷◌, length, Some, None, Bool, true, inl, inr, refl, sym, ap, subst, ◌∙◌}
 use Rattle.std.specs.List.{find, list_any}
 use Rattle.std.proofs.lemmas.Bool.{cases_Bool}
 use Rattle.std.proofs.lemmas.List.{get_or_default}
