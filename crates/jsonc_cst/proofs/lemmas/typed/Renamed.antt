@@ -1,12 +1,12 @@
 -- A property was given another name, or was refused it: what the call says.
-use Rattle.std.proofs.Common.{◌≡◌, ℕ, ◌<◌, false, true, List, length, Some, Ok, Err, refl, sym, subst, ◌∙◌}
+use Rattle.std.proofs.Common.{◌≡◌, ℕ, ◌<◌, false, true, List, length, Ok, Err, refl, sym, subst, ◌∙◌}
 use Rattle.jsonc_text.specs.Options.{Options}
 use Rattle.jsonc_text.specs.Plain.{Plain}
 use Rattle.jsonc_text.specs.declared.edit.EditError.{EditError}
 use Rattle.jsonc_text.specs.declared.edit.EditError.TheVariants.{OutOfMemory, MissingBrackets, MissingName, NoSuchPlace}
 use Rattle.jsonc_tree.specs.Content.{property}
 use Rattle.jsonc_tree.specs.Tree.{Node, content_at, IsTree}
-use Rattle.jsonc_layout.specs.nodes.Properties.{lacks_name_at, name_at}
+use Rattle.jsonc_layout.specs.nodes.Properties.{lacks_name_at}
 use Rattle.jsonc_edit.specs.set.Names.{IsRenamed, RenameError}
 use Rattle.jsonc_edit.proofs.Elements.{Some_same}
 use Rattle.jsonc_edit.proofs.lemmas.set.RenamedPlace.{has_new_name}

@@ -1,5 +1,4 @@
 use Rattle.std.proofs.Common.{ap, chars, ◌∙◌}
-use Rattle.jsonc_tree.specs.Tree.{content_at}
 use Rattle.jsonc_edit.specs.set.Names.{IsRenamed}
 use Rattle.jsonc_cst.specs.Nodes.{number_of}
 use Rattle.jsonc_cst.proofs.lemmas.typed.HandlesKept.{as_typed}
