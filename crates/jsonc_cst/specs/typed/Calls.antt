@@ -38,8 +38,9 @@ pub record IsRemoval {A : Type 0} (old new : CstRootNode A) (node : CstNode) (r 
   pub kept : OnErr r (Unchanged old new)
   pub document : OnErr r (tree_of new ≡ tree_of old)
 
--- So an entry has been taken out, and then those of its comments that stood still; a node of no container, and one that is no entry, as ever. If the document was
--- sound, it is so without that entry, and of its marks the entry's and comments beside these have left. Or an error has left every node as it was.
+-- So an entry has been taken out, and then its comments that were still there; a node that is no entry as by the call before. If the
+-- document was sound, it is so without that entry, and of its marks the entry's and comments beside these have left. Or an error has left
+-- every node as it was.
 pub record IsRemovalWithComments {A : Type 0} (old new : CstRootNode A) (node : CstNode) (r : Result (Unit {0}) EditError) : Type 0 where
   pub removed : OnOk r (EntryCleared old new node)
   pub written : (o : Options) → OnOk r (RemovalWritten old new o node)

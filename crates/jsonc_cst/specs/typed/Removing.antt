@@ -158,4 +158,5 @@ module _ {A : Type 0} where
   -- the node has been taken out, and then those of its comments that its container had still, each that was alone on its line with the line
   abbrev pub EntryCleared : CstRootNode A → CstRootNode A → CstNode → Type 0
   EntryCleared old new node = (c : ℕ) → parent_at (nodes_of old) (number_of node) ≡ Some c
-      → (mid : List Node) × IsTakenBy (removal_of node) (nodes_of old) mid (number_of node) × AreCleared mid (nodes_of new) c (map (λ k. k.number) (comments_of_entry old node))
+      → (mid : List Node) × IsTakenBy (removal_of node) (nodes_of old) mid (number_of node)
+      × AreCleared mid (nodes_of new) c (map (λ k. k.number) (comments_of_entry old node))

@@ -1,5 +1,5 @@
 -- What the nodes are where the comments of an element that has been taken out leave.
-use Rattle.std.specs.Prelude.{◌≡◌, ◌≢◌, ℕ, ◌+◌, Bool, false, ◌&&◌, List, [], ◌∷◌, Option, Some, None, if◌then◌else◌}
+use Rattle.std.specs.Prelude.{◌≡◌, ◌≢◌, ℕ, ◌+◌, Bool, false, List, [], ◌∷◌, Option, Some, None, if◌then◌else◌}
 use Rattle.jsonc_tree.specs.Changes.{Splices}
 use Rattle.jsonc_tree.specs.Siblings.{siblings_after, siblings_before}
 use Rattle.jsonc_tree.specs.Tree.{Node, parent_at, place_at}
@@ -41,7 +41,8 @@ abbrev pub IsCleared : List Node → List Node → ℕ → ℕ → Type 0
 IsCleared old new c n = Splices old new c (place_at old (blank_before old n)) (place_at old (last_cleared old n (line_behind old n)) + 1) []
 
 -- so have those of these comments that the container has, one after another; and then blanks that were left alone
-pub data AreCleared (old new : List Node) (c : ℕ) : List ℕ → Type 0 where
-  none_left : IsClosedUp old new c → AreCleared old new c []
-  not_there : {n : ℕ} {rest : List ℕ} → parent_at old n ≢ Some c → AreCleared old new c rest → AreCleared old new c (n ∷ rest)
-  one_cleared : {n : ℕ} {rest : List ℕ} (mid : List Node) → parent_at old n ≡ Some c → IsCleared old mid c n → AreCleared mid new c rest → AreCleared old new c (n ∷ rest)
+pub data AreCleared : List Node → List Node → ℕ → List ℕ → Type 0 where
+  none_left : {old new : List Node} {c : ℕ} → IsClosedUp old new c → AreCleared old new c []
+  not_there : {old new : List Node} {c n : ℕ} {rest : List ℕ} → parent_at old n ≢ Some c → AreCleared old new c rest → AreCleared old new c (n ∷ rest)
+  one_cleared : {old new : List Node} {c n : ℕ} {rest : List ℕ} (mid : List Node) → parent_at old n ≡ Some c → IsCleared old mid c n
+      → AreCleared mid new c rest → AreCleared old new c (n ∷ rest)
