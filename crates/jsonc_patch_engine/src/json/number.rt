@@ -1,0 +1,86 @@
+//! Numbers as JSON writes them (RFC 8259, 6).
+ghost use Rattle.std.specs.Prelude.{◌≡◌};
+
+use super::decimal::push_decimal;
+use std::alloc::{AllocError, Allocator};
+
+// What follows the sign of a number.
+fn unsigned(number: &str) -> &str {
+    if let Some(rest) = number.strip_prefix('-') {
+        rest
+    } else if let Some(rest) = number.strip_prefix('+') {
+        rest
+    } else {
+        number
+    }
+}
+
+// Whether a number is `Infinity` or `NaN`, perhaps with a sign.
+pub(super) fn is_non_finite(number: &str) -> bool {
+    let name = unsigned(number);
+    name == "Infinity" || name == "NaN"
+}
+
+// Writes a number, which is neither.
+pub(super) fn push_number<A: Allocator + Copy>(
+    alloc: A,
+    written: &mut String<A>,
+    number: &str,
+) -> Result<(), AllocError> {
+    push_sign(written, number)?;
+    push_unsigned(alloc, written, unsigned(number))
+}
+
+// Writes a number's minus, if it has one.
+fn push_sign<A: Allocator>(written: &mut String<A>, number: &str) -> Result<(), AllocError> {
+    if number.starts_with('-') {
+        written.push('-')
+    } else {
+        Ok(())
+    }
+}
+
+// Writes a number without a sign.
+fn push_unsigned<A: Allocator + Copy>(
+    alloc: A,
+    written: &mut String<A>,
+    number: &str,
+) -> Result<(), AllocError> {
+    if let Some(digits) = number.strip_prefix("0x") {
+        return push_decimal(alloc, written, digits);
+    }
+    if let Some(digits) = number.strip_prefix("0X") {
+        return push_decimal(alloc, written, digits);
+    }
+    let Some((whole, behind)) = number.split_once('.') else {
+        return written.push_str(number);
+    };
+    push_whole(written, whole)?;
+    push_behind_point(written, behind)
+}
+
+// Writes the digits before a point, or a zero where there are none.
+fn push_whole<A: Allocator>(written: &mut String<A>, digits: &str) -> Result<(), AllocError> {
+    if digits.is_empty() {
+        written.push('0')
+    } else {
+        written.push_str(digits)
+    }
+}
+
+// Writes what stands behind a point, and the point where a digit does.
+fn push_behind_point<A: Allocator>(
+    written: &mut String<A>,
+    behind: &str,
+) -> Result<(), AllocError> {
+    if has_digit(behind) {
+        written.push('.')?;
+    }
+    written.push_str(behind)
+}
+
+// Whether a text begins with a digit.
+fn has_digit(text: &str) -> bool {
+    let bytes = text.as_bytes();
+    bytes.len() > 0 && bytes[0].is_ascii_digit()
+}
