@@ -1,3 +1,4 @@
 pub mod Json
+pub mod Plain
 pub mod Same
 pub mod Rewritten

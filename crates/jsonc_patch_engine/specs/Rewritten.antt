@@ -1,6 +1,6 @@
 -- What is written of a document as JSON: lexeme by lexeme, the blanks between them, and no comment.
 use Rattle.std.specs.Prelude.{ℕ, ◌≡◌, ◌⊎◌, ◌&&◌, ◌||◌, ◌==◌, Bool, true, false, not, List, [], ◌∷◌, ◌++◌, Option, Some, None, IsTrue, if◌then◌else◌}
-use Rattle.jsonc_text.specs.Gaps.{Gap, is_blank}
+use Rattle.jsonc_text.specs.Gaps.{Gap, IsComment, is_blank}
 use Rattle.jsonc_text.specs.Lexemes.{LexemeKind, Scanned, lexeme, line_comment, block_comment, IsScanned}
 use Rattle.jsonc_text.specs.Options.{all_on}
 use Rattle.jsonc_text.specs.Spelling.{spelled}
@@ -12,13 +12,13 @@ use Rattle.jsonc_patch_engine.specs.Json.{Number, Quoted, is_ws}
 abbrev pub written_blank : ℕ → ℕ
 written_blank c = if is_ws c then c else 0x20
 
--- a blank, or the first character of a comment
-abbrev pub begins_gap : ℕ → Bool
-begins_gap c = is_blank c || c == 0x2F
-
 -- n is the first character behind the gap at the front of t, or there is none
-abbrev pub ComesNext : List ℕ → Option ℕ → Type 0
-ComesNext t n = (r : List ℕ) × Gap all_on t r × IsTrue (no begins_gap (next r)) × (n ≡ next r)
+pub record ComesNext (t : List ℕ) (n : Option ℕ) : Type 0 where
+  pub behind : List ℕ
+  pub gap : Gap all_on t behind
+  pub no_blank : IsTrue (no is_blank (next behind))
+  pub no_comment : (r : List ℕ) → IsComment behind r → ⊥
+  pub is : n ≡ next behind
 
 -- `:` comes next, and what stands before it is a name
 abbrev pub is_named : Option ℕ → Bool
@@ -70,5 +70,5 @@ IsWrittenFor (block_comment c) s n w = w ≡ []
 pub data Rewritten (r : List ℕ) : List ℕ → List ℕ → Type 0 where
   no_more : Rewritten r r []
   blank : {c : ℕ} {t w : List ℕ} → IsTrue (is_blank c) → Rewritten r t w → Rewritten r (c ∷ t) (written_blank c ∷ w)
-  one : (k : Scanned) (s : List ℕ) (n : Option ℕ) {t u x w : List ℕ} → IsScanned all_on k t u → t ≡ s ++ u → ComesNext u n
+  one : (k : Scanned) (s x : List ℕ) (n : Option ℕ) {t u w : List ℕ} → IsScanned all_on k t u → t ≡ s ++ u → ComesNext u n
       → IsWrittenFor k s n x → Rewritten r u w → Rewritten r t (x ++ w)

@@ -14,11 +14,11 @@ mutual
     object : {ms ns : Members} → SameMembers ms ns → SameValue (Plain.object ms) (Plain.object ns)
 
   pub data SameItems : Items → Items → Type 0 where
-    no_items : SameItems no_items no_items
-    item : {v w : Plain} {vs ws : Items} → SameValue v w → SameItems vs ws → SameItems (item v vs) (item w ws)
+    end_items : SameItems no_items no_items
+    next_item : {v w : Plain} {vs ws : Items} → SameValue v w → SameItems vs ws → SameItems (item v vs) (item w ws)
 
   -- names stay, in their order, as often as they stand
   pub data SameMembers : Members → Members → Type 0 where
-    no_members : SameMembers no_members no_members
-    member : (name : List ℕ) {v w : Plain} {ms ns : Members} → SameValue v w → SameMembers ms ns
+    end_members : SameMembers no_members no_members
+    next_member : (name : List ℕ) {v w : Plain} {ms ns : Members} → SameValue v w → SameMembers ms ns
         → SameMembers (member name v ms) (member name w ns)

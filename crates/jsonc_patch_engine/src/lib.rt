@@ -7,3 +7,4 @@ pub mod engine;
 pub mod fault;
 mod find;
 pub mod json;
+pub mod laws;
