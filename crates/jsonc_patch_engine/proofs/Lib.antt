@@ -1,2 +1,6 @@
 pub mod Strings
+pub mod Numbers
 pub mod Rewriting
+pub mod Gaps
+pub mod ToldTokens
+pub mod WrittenTokens

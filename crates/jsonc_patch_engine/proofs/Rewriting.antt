@@ -17,10 +17,11 @@ use Rattle.jsonc_text.proofs.UniqueTokens.{not_blank, scanned_no_blank}
 use Rattle.jsonc_text.proofs.UniqueValues.{elements_begin, not_gap, properties_begin, value_begins}
 use Rattle.jsonc_patch_engine.specs.Json as rfc
 use Rattle.jsonc_patch_engine.specs.Json.{IsJson, Quoted, Value, Elements, Properties, Member, is_ws, keyword_value}
-use Rattle.jsonc_patch_engine.specs.Rewritten.{ComesNext, IsLiteralFor, IsNumberFor, IsStringFor, IsWrittenFor, Rewritten, is_closed, is_named, mark_for, missing_comma, written_blank}
+use Rattle.jsonc_patch_engine.specs.Rewritten.{ComesNext, IsLiteralFor, IsStringFor, IsWrittenFor, Rewritten, is_closed, is_named, mark_for, missing_comma, written_blank}
 use Rattle.jsonc_patch_engine.specs.Rewritten as written
 use Rattle.jsonc_parser.specs.patch.Numbers.{SameNumber}
 use Rattle.jsonc_patch_engine.specs.Same.{SameItems, SameMembers, SameValue}
+use Rattle.jsonc_patch_engine.proofs.Numbers.{number_json, number_same}
 use Rattle.jsonc_patch_engine.proofs.Strings.{quoted_before, spelled_quoted}
 
 -- what is written from t to the end of the text
@@ -125,9 +126,9 @@ gap_once : {t r s : List ℕ} → Gap all_on t r → Gap all_on t s → IsTrue (
     → ((x : List ℕ) → IsComment r x → ⊥) → ((x : List ℕ) → IsComment s x → ⊥) → r ≡ s
 gap_once none none a b f g = refl
 gap_once none (blank {c} h k) a b f g = absurd (clash (is_blank c) a h)
-gap_once none (comment h {u = u} k l) a b f g = absurd (f u k)
+gap_once none (comment {u = u} h k l) a b f g = absurd (f u k)
 gap_once (blank {c} h k) none a b f g = absurd (clash (is_blank c) b h)
-gap_once (comment h {u = u} k l) none a b f g = absurd (g u k)
+gap_once (comment {u = u} h k l) none a b f g = absurd (g u k)
 gap_once (blank h k) (blank i l) a b f g = gap_once k l a b f g
 gap_once (blank h k) (comment i l m) a b f g = absurd (comment_no_blank l h)
 gap_once (comment i l m) (blank h k) a b f g = absurd (comment_no_blank l h)
@@ -434,8 +435,8 @@ literal_after (LexemeKind.number s) {v} {n} {t} {r} {w} a e c f m =
     (record {
       value = Plain.number l.x;
       y = l.y;
-      json = Value.number l.is (subst (λ w. rfc.Number w x) (sym l.is) (number_before x l.form.json));
-      same = SameValue.number (subst (λ s. SameNumber s l.x) (sym whole) l.form.same);
+      json = Value.number l.is (subst (λ w. rfc.Number w x) (sym l.is) (number_before x (number_json l.form)));
+      same = SameValue.number (subst (λ s. SameNumber s l.x) (sym whole) (number_same l.form));
       rest = l.rest;
     })
 literal_after (LexemeKind.word s) a e c f m = cc

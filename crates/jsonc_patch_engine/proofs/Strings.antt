@@ -1,7 +1,8 @@
 -- Which strings are those of JSON, and what is spelled is one.
-use Rattle.std.proofs.Common.{ℕ, ◌≡◌, ◌≢◌, ◌+◌, ◌/◌, ◌%◌, ◌<◌, ◌≤◌, ◌∙◌, sym, ap, refl, Bool, true, false, not, ◌&&◌, ◌||◌, ◌==◌, List, [], ◌∷◌, ◌++◌, append_assoc, Option, Some, None, IsTrue, arith, inl, inr, ◌⊎◌, subst, if◌then◌else◌}
+use Rattle.std.proofs.Common.{ℕ, ◌≡◌, ◌≢◌, ◌+◌, ◌/◌, ◌%◌, ◌<◌, ◌≤◌, ◌∙◌, sym, ap, refl, Bool, true, false, not, ◌&&◌, ◌||◌, ◌==◌, List, [], ◌∷◌, ◌++◌, append_assoc, Option, Some, None, IsTrue, append-nil, arith, inl, inr, ◌⊎◌, subst, chars, encode_utf8_all, IsAscii, IsUtf8, if◌then◌else◌}
 use Rattle.std.specs.Prelude.{nat_lt}
-use Rattle.std.proofs.lemmas.Bool.{cases_lt}
+use Rattle.std.proofs.lemmas.Str.{IsUtf8-from_ascii, chars-IsAscii, chars-append, encodes-chars}
+use Rattle.std.proofs.lemmas.Str.Ascii.{IsAscii-cons, IsAscii-nil, encode_ascii}
 use Rattle.std.specs.Char.{is_control}
 use Rattle.std.specs.Fmt.{digit_glyph}
 use Rattle.jsonc_text.specs.Options.{all_on}
@@ -13,7 +14,7 @@ use Rattle.jsonc_text.proofs.Basics.{and_both, clash, heads, or_cases, tails, te
 use Rattle.jsonc_text.proofs.lemmas.string.Escapes.{hex_parts}
 use Rattle.jsonc_layout.proofs.lemmas.input.Spelled.{control_small, inside_decodes}
 use Rattle.jsonc_patch_engine.specs.Json.{Character, Characters, Quoted, is_unescaped}
-use Rattle.jsonc_patch_engine.specs.Plain.{is_json, plain_from}
+use Rattle.jsonc_patch_engine.specs.Plain.{is_json, may_stand, plain_from}
 
 -- no control character and no backslash
 record Passes (c : ℕ) : Type 0 where
@@ -184,3 +185,42 @@ chars_before x (Characters.char c m) = Characters.char (char_before x c) (chars_
 
 pub quoted_before : {s v : List ℕ} (x : List ℕ) → Quoted s v [] → Quoted (s ++ x) v x
 quoted_before x (Quoted.quoted m) = Quoted.quoted (chars_before x m)
+
+-- a text that is passed one character after another
+abbrev pub IsWalked : List ℕ → Bool → Type 0
+IsWalked yielded escaped = (rest : List ℕ) → plain_from false (yielded ++ rest) ≡ plain_from escaped rest
+
+pub plain_step : (yielded : List ℕ) (c : ℕ) (escaped next : Bool) → IsWalked yielded escaped → true ≡ may_stand escaped c → next ≡ (not escaped && c == 0x5C) → IsWalked (yielded ++ c ∷ []) next
+plain_step yielded c escaped next h m e rest =
+    ap (plain_from false) (append_assoc yielded (c ∷ []) rest) ∙ h (c ∷ rest)
+    ∙ ap (λ b. b && plain_from (not escaped && c == 0x5C) rest) (sym m) ∙ ap (λ b. plain_from b rest) (sym e)
+
+pub plain_stop : (all yielded rest : List ℕ) (c : ℕ) (escaped : Bool) → IsWalked yielded escaped → all ≡ yielded ++ c ∷ rest → false ≡ may_stand escaped c → false ≡ plain_from false all
+plain_stop all yielded rest c escaped h e m =
+    sym (ap (plain_from false) e ∙ h (c ∷ rest) ∙ ap (λ b. b && plain_from (not escaped && c == 0x5C) rest) (sym m))
+
+pub plain_end : (all yielded : List ℕ) (escaped : Bool) → IsWalked yielded escaped → yielded ≡ all → true ≡ plain_from false all
+plain_end all yielded escaped h e = sym (ap (plain_from false) (sym e ∙ sym (append-nil yielded)) ∙ h [])
+
+-- the quote, by its byte
+pub quote_some : (bs rest : List ℕ) → bs ≡ 0x22 ∷ rest → is_json (chars bs) ≡ plain_from false (chars rest)
+quote_some bs rest e =
+    ap is_json (ap chars e ∙ chars-append (0x22 ∷ []) rest (IsUtf8-from_ascii (0x22 ∷ []) quote) ∙ ap (λ l. l ++ chars rest) (chars-IsAscii (0x22 ∷ []) quote))
+  where
+    quote : IsAscii (0x22 ∷ [])
+    quote = IsAscii-cons 0x22 [] (omega arith) IsAscii-nil
+
+pub quote_none : (bs : List ℕ) → IsUtf8 bs → ((rest : List ℕ) → bs ≢ 0x22 ∷ rest) → is_json (chars bs) ≡ false
+quote_none bs utf8 n = go (chars bs) refl
+  where
+    go : (cs : List ℕ) → chars bs ≡ cs → is_json cs ≡ false
+    go [] e = refl
+    go (c ∷ r) e = by (c == 0x22) refl
+      where
+        by : (b : Bool) → (c == 0x22) ≡ b → (b && plain_from false r) ≡ false
+        by false q = refl
+        by true q =
+            absurd (n (encode_utf8_all r) (
+              sym (encodes-chars bs utf8) ∙ ap encode_utf8_all (e ∙ ap (λ c. c ∷ r) (test_eq c 0x22 q))
+              ∙ ap (λ x. x ++ encode_utf8_all r) (encode_ascii 0x22 (omega arith))
+            ))

@@ -1,12 +1,14 @@
 -- What is written of a document as JSON: lexeme by lexeme, the blanks between them, and no comment.
-use Rattle.std.specs.Prelude.{ℕ, ◌≡◌, ◌⊎◌, ◌&&◌, ◌||◌, ◌==◌, Bool, true, false, not, List, [], ◌∷◌, ◌++◌, Option, Some, None, IsTrue, if◌then◌else◌}
+use Rattle.std.specs.Prelude.{ℕ, ◌≡◌, ◌<◌, length, ◌⊎◌, ◌&&◌, ◌||◌, ◌==◌, Bool, true, false, not, List, [], ◌∷◌, ◌++◌, codes, Option, Some, None, IsTrue, if◌then◌else◌}
+use Rattle.std.specs.Str.Parse.{IsNumeral, digits_value}
 use Rattle.jsonc_text.specs.Gaps.{Gap, IsComment, is_blank}
 use Rattle.jsonc_text.specs.Lexemes.{LexemeKind, Scanned, lexeme, line_comment, block_comment, IsScanned}
+use Rattle.jsonc_text.specs.Numbers.{is_x}
 use Rattle.jsonc_text.specs.Options.{all_on}
 use Rattle.jsonc_text.specs.Spelling.{spelled}
 use Rattle.jsonc_text.specs.Text.{next, no}
-use Rattle.jsonc_parser.specs.patch.Numbers.{SameNumber}
-use Rattle.jsonc_patch_engine.specs.Json.{Number, Quoted, is_ws}
+use Rattle.jsonc_parser.specs.Numbers.{Exponent, Fraction, Sign, Whole}
+use Rattle.jsonc_patch_engine.specs.Json.{Quoted, is_ws}
 
 -- a blank of JSON stays, and any other becomes a space
 abbrev pub written_blank : ℕ → ℕ
@@ -39,11 +41,35 @@ missing_comma (Some c) = if c == 0x2C || c == 0x3A || c == 0x5D || c == 0x7D the
 abbrev pub IsStringFor : List ℕ → List ℕ → List ℕ → Type 0
 IsStringFor s v w = (Quoted s v [] × (w ≡ s)) ⊎ ((Quoted s v [] → ⊥) × (w ≡ spelled v))
 
--- a number is written as one of JSON of the same value, and one of JSON stays
-pub record IsNumberFor (s w : List ℕ) : Type 0 where
-  pub json : Number w []
-  pub same : SameNumber s w
-  pub stays : Number s [] → w ≡ s
+-- a minus, or nothing
+abbrev pub minus_of : Bool → List ℕ
+minus_of true = 0x2D ∷ []
+minus_of false = []
+
+-- a zero where there are no digits
+abbrev pub or_zero : List ℕ → List ℕ
+or_zero [] = 0x30 ∷ []
+or_zero (c ∷ w) = c ∷ w
+
+-- a point before digits, where there are some
+abbrev pub with_point : List ℕ → List ℕ
+with_point [] = []
+with_point (c ∷ f) = 0x2E ∷ c ∷ f
+
+-- a number with no sign is written with a digit on both sides of its point, and hexadecimal digits in decimal, with no zero ahead
+pub data IsUnsignedFor : List ℕ → List ℕ → Type 0 where
+  decimal : {w p f x : List ℕ} {up down : ℕ} → Whole w → Fraction p f → Exponent x up down → 0 < length (w ++ f)
+      → IsUnsignedFor (w ++ (p ++ x)) (or_zero w ++ (with_point f ++ x))
+  hexadecimal : {x : ℕ} {ds row : List ℕ} → IsTrue (is_x x) → IsNumeral 16 ds → Whole row → 0 < length row
+      → digits_value 10 row ≡ digits_value 16 ds → IsUnsignedFor (0x30 ∷ x ∷ ds) row
+
+-- and a sign only where it is a minus
+pub data IsNumberFor : List ℕ → List ℕ → Type 0 where
+  number : {s u w : List ℕ} {negative : Bool} → Sign s negative u → IsUnsignedFor u w → IsNumberFor s (minus_of negative ++ w)
+
+-- `Infinity` or `NaN`, perhaps with a sign, which JSON has not
+abbrev pub IsNonFinite : List ℕ → Type 0
+IsNonFinite s = (negative : Bool) × (u : List ℕ) × Sign s negative u × ((u ≡ codes "Infinity") ⊎ (u ≡ codes "NaN"))
 
 -- what is written for a literal s of this kind, as a name or as a value
 abbrev pub IsLiteralFor : LexemeKind → Bool → List ℕ → List ℕ → Type 0
@@ -59,10 +85,14 @@ mark_for c n =
     else (if c == 0x5D || c == 0x7D then c ∷ missing_comma n
     else c ∷ [])
 
+-- with the comma that is missing behind it before n
+abbrev pub IsEntryFor : LexemeKind → List ℕ → Option ℕ → List ℕ → Type 0
+IsEntryFor kind s n w = (x : List ℕ) × IsLiteralFor kind (is_named n) s x × (w ≡ x ++ missing_comma n)
+
 -- for a lexeme or comment s before n
 abbrev pub IsWrittenFor : Scanned → List ℕ → Option ℕ → List ℕ → Type 0
 IsWrittenFor (lexeme (LexemeKind.punctuation c)) s n w = w ≡ mark_for c n
-IsWrittenFor (lexeme kind) s n w = (x : List ℕ) × IsLiteralFor kind (is_named n) s x × (w ≡ x ++ missing_comma n)
+IsWrittenFor (lexeme kind) s n w = IsEntryFor kind s n w
 IsWrittenFor (line_comment c) s n w = w ≡ []
 IsWrittenFor (block_comment c) s n w = w ≡ []
 

@@ -3,12 +3,22 @@
 //! Its comments go, each without the end of its line, and so do trailing commas; a comma that is missing is written
 //! directly behind its entry. Names and strings are in double quotes, and numbers as JSON writes them, with the same
 //! value. Each other byte stays, but a blank that is none of JSON becomes a space.
-ghost use Rattle.std.specs.Prelude.{◌≡◌, IfErr, IfOk, Some, chars, string_bytes};
+ghost use Rattle.std.specs.Prelude.{◌≡◌, ◌≢◌, ◌++◌, ◌∷◌, [], ℕ, List, IfErr, IfOk, OnOk, Some, chars, false, true, string_bytes};
+ghost use Rattle.std.specs.Cow.{cow_str_bytes};
+ghost use Rattle.jsonc_scan.specs.Scanner.{options_of, seen, IsThere, PassesBlanks};
+ghost use Rattle.jsonc_text.specs.Lexemes.{LexemeKind, Scanned, IsScanned, Lexeme, lexeme};
+ghost use Rattle.jsonc_text.specs.Options.{all_on};
+ghost use Rattle.jsonc_patch_engine.specs.Causes.{HasValue, IsJsonOf, Stops};
+ghost use Rattle.jsonc_patch_engine.specs.declared.json.JsonError.TheVariants.{OutOfMemory};
+ghost use Rattle.jsonc_patch_engine.specs.Output.{text_of, Adds};
+ghost use Rattle.jsonc_patch_engine.specs.Rewritten.{IsNonFinite, IsWrittenFor, Rewritten, is_closed, is_named, mark_for, missing_comma, IsEntryFor};
+ghost use Rattle.jsonc_patch_engine.specs.Tokens.{IsLiteralOf, IsTokenOf};
 
 mod decimal;
 mod gap;
 mod literal;
 mod number;
+mod output;
 
 use gap::{mark_behind, push_blanks};
 use jsonc_parser::check_document;
@@ -18,6 +28,7 @@ use jsonc_scan::scanner::Scanner;
 use jsonc_text::options::ParseOptions;
 use literal::{Literal, push_literal};
 use number::is_non_finite;
+use output::put;
 use std::alloc::{AllocError, AllocFailed, Allocator};
 
 /// Why a text is not written as JSON.
@@ -34,7 +45,7 @@ pub enum JsonError {
 }
 
 impl<T: Drop> From<AllocFailed<T>> for JsonError {
-    ghost from_gives = { λ _ error. error ≡ JsonError.OutOfMemory };
+    ghost from_gives = { λ _ error. error ≡ OutOfMemory };
 
     fn from(_error: AllocFailed<T>) -> JsonError {
         JsonError::OutOfMemory
@@ -42,7 +53,7 @@ impl<T: Drop> From<AllocFailed<T>> for JsonError {
 }
 
 impl From<AllocError> for JsonError {
-    ghost from_gives = { λ _ error. error ≡ JsonError.OutOfMemory };
+    ghost from_gives = { λ _ error. error ≡ OutOfMemory };
 
     fn from(_error: AllocError) -> JsonError {
         JsonError::OutOfMemory
@@ -64,12 +75,15 @@ pub fn to_json<A: Allocator + Copy>(alloc: A, text: &str) -> Result<String<A>, J
 }
 
 // What is written for the tokens of a document, and the blanks between them.
-fn write_tokens<A: Allocator + Copy>(alloc: A, text: &str) -> Result<String<A>, JsonError> {
+fn write_tokens<A: Allocator + Copy>(alloc: A, text: &str) -> Result<String<A>, JsonError>
+    ensures written { IfOk result (λ s. Rewritten [] (chars text.now) (text_of s)) }
+    ensures stops { IfErr result (Stops text.now) }
+{
     let mut scanner = Scanner::with_options(alloc, text, ParseOptions::default());
     let mut content = TokenContent::new();
-    let mut written = String::with_capacity(alloc, text.len())?;
+    let mut written = String::new(alloc);
     let mut place = 0;
-    while let Some(kind) = next_token(&mut scanner, &mut content)? {
+    'tokens: while let Some(kind) = next_token(&mut scanner, &mut content)? {
         let start = scanner.token_start();
         push_blanks(&mut written, &text[place..start])?;
         place = scanner.token_end();
@@ -87,11 +101,16 @@ fn write_tokens<A: Allocator + Copy>(alloc: A, text: &str) -> Result<String<A>, 
     Ok(written)
 }
 
-// The next token of a document, or none at its end.
+// The next token of a document, or none at its end. It is refused for want of memory alone.
 fn next_token<'a, A: Allocator + Copy>(
     scanner: &mut Scanner<'a, A>,
     content: &mut TokenContent<'a, A>,
-) -> Result<Option<TokenKind>, AllocError> {
+) -> Result<Option<TokenKind>, AllocError>
+    ensures blanks { OnOk result (PassesBlanks scanner.old scanner.new) }
+    ensures found { IfOk result (λ f. IsThere scanner.new (seen scanner.new content.new f)) }
+    ensures plain { IfOk result (λ f. f ≢ Some TokenKind.Plain) }
+    ensures passed { IfOk result (λ f. f ≢ Some TokenKind.Passed) }
+{
     match scanner.step(content, true) {
         Ok(found) => Ok(found),
         Err(_) => Err(AllocError),
@@ -99,10 +118,25 @@ fn next_token<'a, A: Allocator + Copy>(
 }
 
 // Whether a token is a number that JSON has not.
-fn is_refused(kind: TokenKind, literal: &Literal<'_>, mark: Option<char>) -> bool {
+fn is_refused(kind: TokenKind, literal: &Literal<'_>, mark: Option<char>) -> bool
+    ensures number { result ≡ true → kind ≡ TokenKind.Number }
+    ensures value { result ≡ true → is_named mark ≡ false }
+    ensures non_finite { result ≡ true → IsNonFinite (chars literal.now.written.now) }
+    ensures other { result ≡ false → kind ≡ TokenKind.Number → is_named mark ≡ false → IsNonFinite (chars literal.now.written.now) → ⊥ }
+{
     match kind {
-        TokenKind::Number => mark != Some(':') && is_non_finite(literal.written),
+        TokenKind::Number => !is_colon(mark) && is_non_finite(literal.written),
         _ => false,
+    }
+}
+
+// Whether a colon comes next.
+fn is_colon(mark: Option<char>) -> bool
+    ensures { result ≡ is_named mark }
+{
+    match mark {
+        Some(c) => c == ':',
+        None => false,
     }
 }
 
@@ -113,38 +147,74 @@ fn push_token<A: Allocator + Copy>(
     kind: TokenKind,
     literal: &Literal<'_>,
     mark: Option<char>,
-) -> Result<(), AllocError> {
+) -> Result<(), AllocError>
+    ensures { (w : Scanned) → IsTokenOf (chars literal.now.string.now) kind w
+        → IsScanned all_on w (chars literal.now.written.now) []
+        → (is_named mark ≡ false → (s : List ℕ) → w ≡ lexeme (LexemeKind.number s) → IsNonFinite s → ⊥)
+        → OnOk result (Adds (IsWrittenFor w (chars literal.now.written.now) mark) (text_of written.old) (text_of written.new)) }
+{
     match kind {
         TokenKind::CommentLine => Ok(()),
         TokenKind::CommentBlock => Ok(()),
-        TokenKind::OpenBrace => written.push('{'),
-        TokenKind::OpenBracket => written.push('['),
-        TokenKind::Colon => written.push(':'),
+        TokenKind::OpenBrace => put(written, '{'),
+        TokenKind::OpenBracket => put(written, '['),
+        TokenKind::Colon => put(written, ':'),
         TokenKind::Comma => push_comma(written, mark),
-        TokenKind::CloseBrace => {
-            written.push('}')?;
-            push_missing_comma(written, mark)
-        }
-        TokenKind::CloseBracket => {
-            written.push(']')?;
-            push_missing_comma(written, mark)
-        }
-        kind => {
-            push_literal(alloc, written, kind, literal, mark == Some(':'))?;
-            push_missing_comma(written, mark)
-        }
+        TokenKind::CloseBrace => push_close(written, '}', mark),
+        TokenKind::CloseBracket => push_close(written, ']', mark),
+        kind => push_entry(alloc, written, kind, literal, mark),
     }
+}
+
+// Writes a literal, and the comma that is missing behind it.
+fn push_entry<A: Allocator + Copy>(
+    alloc: A,
+    written: &mut String<A>,
+    kind: TokenKind,
+    literal: &Literal<'_>,
+    mark: Option<char>,
+) -> Result<(), AllocError>
+    ensures { (k : LexemeKind) → IsLiteralOf (chars literal.now.string.now) kind k
+        → Lexeme all_on k (chars literal.now.written.now) []
+        → (is_named mark ≡ false → (s : List ℕ) → k ≡ LexemeKind.number s → IsNonFinite s → ⊥)
+        → OnOk result (Adds (IsEntryFor k (chars literal.now.written.now) mark) (text_of written.old) (text_of written.new)) }
+{
+    push_literal(alloc, written, kind, literal, is_colon(mark))?;
+    push_missing_comma(written, mark)
+}
+
+// Writes a closing bracket, and the comma that is missing behind it.
+fn push_close<A: Allocator>(
+    written: &mut String<A>,
+    bracket: char,
+    mark: Option<char>,
+) -> Result<(), AllocError>
+    ensures { OnOk result (text_of written.new ≡ text_of written.old ++ bracket ∷ missing_comma mark) }
+{
+    put(written, bracket)?;
+    push_missing_comma(written, mark)
 }
 
 // Writes a comma, but before a closing bracket.
 fn push_comma<A: Allocator>(
     written: &mut String<A>,
     mark: Option<char>,
-) -> Result<(), AllocError> {
+) -> Result<(), AllocError>
+    ensures { OnOk result (text_of written.new ≡ text_of written.old ++ mark_for 0x2C mark) }
+{
+    if is_closed(mark) {
+        return Ok(());
+    }
+    put(written, ',')
+}
+
+// Whether a closing bracket comes next.
+fn is_closed(mark: Option<char>) -> bool
+    ensures { result ≡ is_closed mark }
+{
     match mark {
-        Some(']') => Ok(()),
-        Some('}') => Ok(()),
-        _ => written.push(','),
+        Some(c) => (c == ']') | (c == '}'),
+        None => false,
     }
 }
 
@@ -152,13 +222,14 @@ fn push_comma<A: Allocator>(
 fn push_missing_comma<A: Allocator>(
     written: &mut String<A>,
     mark: Option<char>,
-) -> Result<(), AllocError> {
-    match mark {
-        None => Ok(()),
-        Some(',') => Ok(()),
-        Some(':') => Ok(()),
-        Some(']') => Ok(()),
-        Some('}') => Ok(()),
-        Some(_) => written.push(','),
+) -> Result<(), AllocError>
+    ensures { OnOk result (text_of written.new ≡ text_of written.old ++ missing_comma mark) }
+{
+    let Some(c) = mark else {
+        return Ok(());
+    };
+    if (c == ',') | (c == ':') | (c == ']') | (c == '}') {
+        return Ok(());
     }
+    put(written, ',')
 }

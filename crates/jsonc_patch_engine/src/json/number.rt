@@ -1,7 +1,13 @@
 //! Numbers as JSON writes them (RFC 8259, 6).
-ghost use Rattle.std.specs.Prelude.{◌≡◌};
+ghost use Rattle.std.specs.Prelude.{◌≡◌, ◌++◌, [], ◌∷◌, ℕ, Bool, List, IsTrue, OnOk, chars, true};
+ghost use Rattle.std.specs.Bool.{Decides};
+ghost use Rattle.jsonc_text.specs.Numbers.{NumberLit};
+ghost use Rattle.jsonc_text.specs.Options.{all_on};
+ghost use Rattle.jsonc_patch_engine.specs.Output.{text_of, Adds};
+ghost use Rattle.jsonc_patch_engine.specs.Rewritten.{IsNonFinite, IsNumberFor};
 
 use super::decimal::push_decimal;
+use super::output::{put, put_all};
 use std::alloc::{AllocError, Allocator};
 
 // What follows the sign of a number.
@@ -16,7 +22,9 @@ fn unsigned(number: &str) -> &str {
 }
 
 // Whether a number is `Infinity` or `NaN`, perhaps with a sign.
-pub(super) fn is_non_finite(number: &str) -> bool {
+pub(super) fn is_non_finite(number: &str) -> bool
+    ensures { Decides result (IsNonFinite (chars number.now)) }
+{
     let name = unsigned(number);
     name == "Infinity" || name == "NaN"
 }
@@ -26,7 +34,10 @@ pub(super) fn push_number<A: Allocator + Copy>(
     alloc: A,
     written: &mut String<A>,
     number: &str,
-) -> Result<(), AllocError> {
+) -> Result<(), AllocError>
+    ensures { NumberLit all_on (chars number.now) → (IsNonFinite (chars number.now) → ⊥)
+        → OnOk result (Adds (IsNumberFor (chars number.now)) (text_of written.old) (text_of written.new)) }
+{
     push_sign(written, number)?;
     push_unsigned(alloc, written, unsigned(number))
 }
@@ -34,7 +45,7 @@ pub(super) fn push_number<A: Allocator + Copy>(
 // Writes a number's minus, if it has one.
 fn push_sign<A: Allocator>(written: &mut String<A>, number: &str) -> Result<(), AllocError> {
     if number.starts_with('-') {
-        written.push('-')
+        put(written, '-')
     } else {
         Ok(())
     }
@@ -53,7 +64,7 @@ fn push_unsigned<A: Allocator + Copy>(
         return push_decimal(alloc, written, digits);
     }
     let Some((whole, behind)) = number.split_once('.') else {
-        return written.push_str(number);
+        return put_all(written, number);
     };
     push_whole(written, whole)?;
     push_behind_point(written, behind)
@@ -62,9 +73,9 @@ fn push_unsigned<A: Allocator + Copy>(
 // Writes the digits before a point, or a zero where there are none.
 fn push_whole<A: Allocator>(written: &mut String<A>, digits: &str) -> Result<(), AllocError> {
     if digits.is_empty() {
-        written.push('0')
+        put(written, '0')
     } else {
-        written.push_str(digits)
+        put_all(written, digits)
     }
 }
 
@@ -74,9 +85,9 @@ fn push_behind_point<A: Allocator>(
     behind: &str,
 ) -> Result<(), AllocError> {
     if has_digit(behind) {
-        written.push('.')?;
+        put(written, '.')?;
     }
-    written.push_str(behind)
+    put_all(written, behind)
 }
 
 // Whether a text begins with a digit.
