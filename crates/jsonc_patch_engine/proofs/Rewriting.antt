@@ -134,7 +134,7 @@ gap_once (blank h k) (comment i l m) a b f g = absurd (comment_no_blank l h)
 gap_once (comment i l m) (blank h k) a b f g = absurd (comment_no_blank l h)
 gap_once {s = s} (comment i k l) (comment j m n) a b f g = gap_once l (subst (λ u. Gap all_on u s) (comment_unique m k) n) a b f g
 
-comes_once : {t : List ℕ} {n m : Option ℕ} → ComesNext t n → ComesNext t m → n ≡ m
+pub comes_once : {t : List ℕ} {n m : Option ℕ} → ComesNext t n → ComesNext t m → n ≡ m
 comes_once a b = a.is ∙ ap next (gap_once a.gap b.gap a.no_blank b.no_blank a.no_comment b.no_comment) ∙ sym b.is
 
 -- what begins a blank or a comment
@@ -165,7 +165,7 @@ no_slash_there : (n : Option ℕ) → IsTrue (no begins_gap n) → IsTrue (start
 no_slash_there None h g = cc
 no_slash_there (Some c) h g = slash_begins c h g
 
-comes : {t : List ℕ} (r : List ℕ) → Gap all_on t r → IsTrue (no begins_gap (next r)) → ComesNext t (next r)
+pub comes : {t : List ℕ} (r : List ℕ) → Gap all_on t r → IsTrue (no begins_gap (next r)) → ComesNext t (next r)
 comes r g h = record { behind = r; gap = g; no_blank = no_blank_there (next r) h; no_comment = λ x k. no_slash_there (next r) h (comment_begins k); is = refl }
 
 abbrev comma_unless : Bool → List ℕ

@@ -1,16 +1,27 @@
 -- One token after another is written.
 use Rattle.std.proofs.Common.{ℕ, ◌+◌, ◌≡◌, ◌≤◌, ◌<◌, ◌∙◌, ap, refl, sym, subst, Bool, false, List, [], ◌∷◌, ◌++◌, append_assoc, append-nil, map, Option, Some, None, IsTrue, IsCharBoundary, IsUtf8, arith, chars, length, slice_range}
+use Rattle.jsonc_scan.specs.declared.scanner.Scanner.{Scanner}
+use Rattle.jsonc_scan.specs.Scanner.{IsThere, PassesBlanks, end_of, options_of, start_of, text_of}
 use Rattle.jsonc_text.specs.Gaps.{is_blank}
 use Rattle.jsonc_text.specs.Lexemes.{IsScanned, Lexeme, LexemeKind, Scanned, lexeme, number}
 use Rattle.jsonc_text.specs.Options.{Options, all_on}
 use Rattle.jsonc_text.specs.Text.{Many, Spans, rest}
 use Rattle.jsonc_text.proofs.Basics.{front_same}
+use Rattle.jsonc_text.proofs.CharacterSteps.{rest_end}
 use Rattle.jsonc_text.proofs.Cuts.{chars_between}
 use Rattle.jsonc_text.proofs.LexemesAlone.{scanned_alone}
 use Rattle.jsonc_patch_engine.specs.Causes.{HasNonFinite}
 use Rattle.jsonc_patch_engine.specs.Output.{Adds}
 use Rattle.jsonc_patch_engine.specs.Rewritten.{ComesNext, IsNonFinite, IsWrittenFor, Rewritten, is_named, written_blank}
 use Rattle.jsonc_patch_engine.proofs.Gaps.{blanks_of, rewritten_append}
+
+-- up to the place where the scanner is all is written
+pub record IsSoFar {A : Type 0} (text : List ℕ) (s : Scanner A) (place : ℕ) (written : List ℕ) : Type 0 where
+  pub text_is : text_of s ≡ text
+  pub options : options_of s ≡ all_on
+  pub at : end_of s ≡ place
+  pub boundary : IsCharBoundary text place
+  pub so_far : Rewritten (rest text place) (chars text) written
 
 module _ (text : List ℕ) (utf8 : IsUtf8 text) where
   spans_of : (i j : ℕ) → IsCharBoundary text i → IsCharBoundary text j → i ≤ j → Spans text i j
@@ -62,3 +73,97 @@ module _ (text : List ℕ) (utf8 : IsUtf8 text) where
         comes = c;
         value = f;
       }
+
+-- a token of a text, the blanks before it from a place on, and what was written up to there
+pub record Stands (text : List ℕ) (place start end : ℕ) (w : Scanned) (old : List ℕ) : Type 0 where
+  pub at : IsCharBoundary text place
+  pub from : IsCharBoundary text start
+  pub to : IsCharBoundary text end
+  pub before : place ≤ start
+  pub order : start ≤ end
+  pub blanks : Many is_blank (rest text place) (rest text start)
+  pub there : IsScanned all_on w (rest text start) (rest text end)
+  pub so_far : Rewritten (rest text place) (chars text) old
+
+pub stands : {A : Type 0} (s : Scanner A) (text : List ℕ) (place start end : ℕ) (w : Scanned) (old : List ℕ) → text ≡ text_of s → start ≡ start_of s → end ≡ end_of s → options_of s ≡ all_on → IsCharBoundary (text_of s) place
+    → place ≤ start_of s → Many is_blank (rest (text_of s) place) (rest (text_of s) (start_of s)) → IsThere s (Some w) → Rewritten (rest (text_of s) place) (chars (text_of s)) old → Stands text place start end w old
+stands s text place start end w old e f g o b l m t r =
+    let here : Stands (text_of s) place (start_of s) (end_of s) w old = record {
+      at = b;
+      from = s.starts_at_place;
+      to = s.at_place;
+      before = l;
+      order = s.order;
+      blanks = m;
+      there = subst (λ o. IsScanned o w (rest (text_of s) (start_of s)) (rest (text_of s) (end_of s))) o t.1;
+      so_far = r;
+    } in
+    subst (λ t. Stands t place start end w old) (sym e) (subst (λ i. Stands (text_of s) place i end w old) (sym f) (subst (λ j. Stands (text_of s) place (start_of s) j w old) (sym g) here))
+
+module _ {A : Type 0} (text : List ℕ) (utf8 : IsUtf8 text) (place start end : ℕ) (w : Scanned) (old mid blanks literal : List ℕ) (h : Stands text place start end w old) (b : blanks ≡ slice_range text place start)
+    (m : mid ≡ old ++ map written_blank (chars blanks)) (l : literal ≡ slice_range text start end) where
+  blanks_written : Rewritten (rest text start) (chars text) mid
+  blanks_written = blanks_step text utf8 place start old mid blanks h.at h.from h.before h.so_far h.blanks b m
+
+  pub by_itself : IsScanned all_on w (chars literal) []
+  by_itself = token_alone text utf8 start end literal w h.from h.to h.order l h.there
+
+  pub all_written : (new : List ℕ) (n : Option ℕ) → ComesNext (rest text end) n → Adds (IsWrittenFor w (chars literal) n) mid new → Rewritten (rest text end) (chars text) new
+  all_written new n c a = token_step text utf8 start end mid new literal w n h.from h.to h.order l blanks_written h.there c a
+
+  pub refused : (s : List ℕ) (n : Option ℕ) → w ≡ lexeme (number s) → ComesNext (rest text end) n → is_named n ≡ false → IsNonFinite (chars literal) → HasNonFinite text start
+  refused s n e c f k = non_finite_here text utf8 start end mid literal w s n h.from h.to h.order l blanks_written e h.there c f k
+
+-- what is asked of the next token
+pub record IsReady {A : Type 0} (s : Scanner A) (place : ℕ) (written : List ℕ) : Type 0 where
+  pub options : options_of s ≡ all_on
+  pub boundary : IsCharBoundary (text_of s) place
+  pub order : place ≤ start_of s
+  pub blanks : Many is_blank (rest (text_of s) place) (rest (text_of s) (start_of s))
+  pub so_far : Rewritten (rest (text_of s) place) (chars (text_of s)) written
+
+pub is_ready : {A : Type 0} (text : List ℕ) (old new : Scanner A) (place : ℕ) (written : List ℕ) → IsSoFar text old place written → PassesBlanks old new → IsReady new place written
+is_ready text old new place written h p =
+    let same : text ≡ text_of new = sym h.text_is ∙ sym p.text in
+    record {
+      options = p.options ∙ h.options;
+      boundary = subst (λ t. IsCharBoundary t place) same h.boundary;
+      order = omega (arith, p.order.0, h.at);
+      blanks = subst (λ t. Many is_blank (rest t place) (rest (text_of new) (start_of new))) (h.text_is ∙ same) (subst (λ i. Many is_blank (rest (text_of old) i) (rest (text_of new) (start_of new))) h.at p.blanks);
+      so_far = subst (λ t. Rewritten (rest t place) (chars t) written) same h.so_far;
+    }
+
+pub so_far_next : {A : Type 0} (text : List ℕ) (old new : Scanner A) (place end : ℕ) (written more : List ℕ) → IsSoFar text old place written → PassesBlanks old new → end ≡ end_of new
+    → Rewritten (rest (text_of new) (end_of new)) (chars (text_of new)) more → IsSoFar text new end more
+so_far_next text old new place end written more h p e r =
+    let same : text_of new ≡ text = p.text ∙ h.text_is in
+    record {
+      text_is = same;
+      options = p.options ∙ h.options;
+      at = sym e;
+      boundary = subst (λ t. IsCharBoundary t end) same (subst (λ i. IsCharBoundary (text_of new) i) (sym e) new.at_place);
+      so_far = subst (λ t. Rewritten (rest t end) (chars t) more) same (subst (λ i. Rewritten (rest (text_of new) i) (chars (text_of new)) more) (sym e) r);
+    }
+
+-- and at the end
+pub written_whole : {A : Type 0} (text : List ℕ) (utf8 : IsUtf8 text) (old new : Scanner A) (place start : ℕ) (written more blanks : List ℕ) → IsSoFar text old place written → PassesBlanks old new → IsThere new None
+    → start ≡ start_of new → blanks ≡ slice_range text place start → more ≡ written ++ map written_blank (chars blanks) → Rewritten [] (chars text) more
+written_whole text utf8 old new place start written more blanks h p t e b m =
+    let ready = is_ready text old new place written h p in
+    let same : text_of new ≡ text = p.text ∙ h.text_is in
+    let end : start ≡ length text = e ∙ t.0 ∙ ap length same in
+    let from : IsCharBoundary text start = subst (λ t. IsCharBoundary t start) same (subst (λ i. IsCharBoundary (text_of new) i) (sym e) new.starts_at_place) in
+    let passes : Many is_blank (rest text place) (rest text start) = subst (λ t. Many is_blank (rest t place) (rest t start)) same (subst (λ i. Many is_blank (rest (text_of new) place) (rest (text_of new) i)) (sym e) ready.blanks) in
+    let r = blanks_step text utf8 place start written more blanks h.boundary from (omega (arith, ready.order, e)) h.so_far passes b m in
+    subst (λ u. Rewritten u (chars text) more) (rest_end text start (omega (arith, end))) r
+
+-- at the start
+pub begun : {A : Type 0} (text : List ℕ) (s : Scanner A) (written : List ℕ) → text_of s ≡ text → options_of s ≡ all_on → end_of s ≡ 0 → IsUtf8 text → written ≡ [] → IsSoFar text s 0 written
+begun text s written e o z utf8 w =
+    record {
+      text_is = e;
+      options = o;
+      at = z;
+      boundary = subst (λ t. IsCharBoundary t 0) e (subst (λ i. IsCharBoundary (text_of s) i) z s.at_place);
+      so_far = subst (λ w. Rewritten (chars text) (chars text) w) (sym w) Rewritten.no_more;
+    }

@@ -5,3 +5,6 @@ pub mod Rewritten
 pub mod Output
 pub mod Tokens
 pub mod Causes
+pub mod Points
+pub mod Command
+pub mod FaultLines

@@ -1,27 +1,28 @@
 -- What a token of a kind is.
-use Rattle.std.specs.Prelude.{ℕ, ◌≡◌, Bool, true, false, List}
+use Rattle.std.specs.Prelude.{ℕ, ◌≡◌, true, false, List}
 use Rattle.jsonc_scan.specs.declared.found.TokenKind.{TokenKind}
 use Rattle.jsonc_scan.specs.declared.found.TokenKind.TheVariants as kind
 use Rattle.jsonc_text.specs.Lexemes.{LexemeKind, Scanned, lexeme, line_comment, block_comment, punctuation, string, word, number, keyword}
 use Rattle.jsonc_text.specs.Words.{boolean, null}
 
 -- the literal is of this kind, and a string stands for v
-pub data IsLiteralOf (v : List ℕ) : TokenKind → LexemeKind → Type 0 where
-  a_string : IsLiteralOf v kind.String (string v)
-  a_word : {s : List ℕ} → IsLiteralOf v kind.Word (word s)
-  a_number : {s : List ℕ} → IsLiteralOf v kind.Number (number s)
-  a_true : IsLiteralOf v kind.True (keyword (boolean true))
-  a_false : IsLiteralOf v kind.False (keyword (boolean false))
-  a_null : IsLiteralOf v kind.Null (keyword null)
+abbrev pub IsLiteralOf : List ℕ → TokenKind → LexemeKind → Type 0
+IsLiteralOf v kind.String l = l ≡ string v
+IsLiteralOf v kind.Word l = (s : List ℕ) × (l ≡ word s)
+IsLiteralOf v kind.Number l = (s : List ℕ) × (l ≡ number s)
+IsLiteralOf v kind.True l = l ≡ keyword (boolean true)
+IsLiteralOf v kind.False l = l ≡ keyword (boolean false)
+IsLiteralOf v kind.Null l = l ≡ keyword null
+IsLiteralOf v other l = ⊥
 
 -- the token is
-pub data IsTokenOf (v : List ℕ) : TokenKind → Scanned → Type 0 where
-  a_literal : {k : TokenKind} {l : LexemeKind} → IsLiteralOf v k l → IsTokenOf v k (lexeme l)
-  open_brace : IsTokenOf v kind.OpenBrace (lexeme (punctuation 0x7B))
-  close_brace : IsTokenOf v kind.CloseBrace (lexeme (punctuation 0x7D))
-  open_bracket : IsTokenOf v kind.OpenBracket (lexeme (punctuation 0x5B))
-  close_bracket : IsTokenOf v kind.CloseBracket (lexeme (punctuation 0x5D))
-  a_comma : IsTokenOf v kind.Comma (lexeme (punctuation 0x2C))
-  a_colon : IsTokenOf v kind.Colon (lexeme (punctuation 0x3A))
-  a_line_comment : {s : List ℕ} → IsTokenOf v kind.CommentLine (line_comment s)
-  a_block_comment : {s : List ℕ} → IsTokenOf v kind.CommentBlock (block_comment s)
+abbrev pub IsTokenOf : List ℕ → TokenKind → Scanned → Type 0
+IsTokenOf v kind.OpenBrace w = w ≡ lexeme (punctuation 0x7B)
+IsTokenOf v kind.CloseBrace w = w ≡ lexeme (punctuation 0x7D)
+IsTokenOf v kind.OpenBracket w = w ≡ lexeme (punctuation 0x5B)
+IsTokenOf v kind.CloseBracket w = w ≡ lexeme (punctuation 0x5D)
+IsTokenOf v kind.Comma w = w ≡ lexeme (punctuation 0x2C)
+IsTokenOf v kind.Colon w = w ≡ lexeme (punctuation 0x3A)
+IsTokenOf v kind.CommentLine w = (s : List ℕ) × (w ≡ line_comment s)
+IsTokenOf v kind.CommentBlock w = (s : List ℕ) × (w ≡ block_comment s)
+IsTokenOf v k w = (l : LexemeKind) × IsLiteralOf v k l × (w ≡ lexeme l)

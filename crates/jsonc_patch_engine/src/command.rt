@@ -12,8 +12,14 @@ pub enum Command<'a> {
 }
 
 impl<'a> Command<'a> {
+    ghost use Rattle.jsonc_patch_engine.specs.Command.{Name, Request, request_of};
+
     /// The command that the words name, or `None` where they name none.
-    pub fn from_words(words: &[&'a str]) -> Option<Command<'a>> {
+    pub fn from_words(words: &[&'a str]) -> Option<Command<'a>>
+        ensures { MatchOption result
+            ((request : Request) → ¬ (Name words.now request))
+            (λ command. Name words.now (request_of command)) }
+    {
         match words {
             ["find", pointer] => Some(Command::Find(pointer)),
             ["json"] => Some(Command::Json),

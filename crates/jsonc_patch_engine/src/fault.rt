@@ -1,5 +1,6 @@
 //! Why a run of the program ended without success.
 ghost use Rattle.std.specs.Prelude.{◌≡◌, Some};
+ghost use Rattle.jsonc_patch_engine.specs.declared.fault.Fault.TheVariants.{OutOfMemory};
 
 use jsonc_parser::LineAndColumn;
 use jsonc_parser::errors::ParseError;
@@ -37,7 +38,10 @@ pub enum Fault<A: Allocator> {
 
 impl<A: Allocator> Fault<A> {
     /// The status that the program ends with: 2 where the words name no command, else 1.
-    pub fn status(&self) -> u8 {
+    pub fn status(&self) -> u8
+        ensures usage { self.now ≡ Fault.Usage → result ≡ 2 }
+        ensures other { ¬ (self.now ≡ Fault.Usage) → result ≡ 1 }
+    {
         match self {
             Fault::Usage => 2,
             _ => 1,
@@ -46,6 +50,12 @@ impl<A: Allocator> Fault<A> {
 }
 
 impl<A: Allocator> fmt::Display for Fault<A> {
+    ghost use Rattle.jsonc_patch_engine.specs.FaultLines.{fault_line};
+
+    ghost output = { λ f. Some (fault_line f) };
+
+    ghost styled_output = { λ f _. Some (fault_line f) };
+
     fn fmt<W: fmt::Write>(&self, f: &mut fmt::Formatter<W>) -> fmt::Result {
         match self {
             Fault::Input(error) => {
@@ -82,12 +92,16 @@ impl<A: Allocator> fmt::Display for Fault<A> {
 impl<A: Allocator + fmt::Debug> Error for Fault<A> {}
 
 impl<A: Allocator, T: Drop> From<AllocFailed<T>> for Fault<A> {
+    ghost from_gives = { λ _ fault. fault ≡ OutOfMemory };
+
     fn from(_error: AllocFailed<T>) -> Fault<A> {
         Fault::OutOfMemory
     }
 }
 
 impl<A: Allocator> From<AllocError> for Fault<A> {
+    ghost from_gives = { λ _ fault. fault ≡ OutOfMemory };
+
     fn from(_error: AllocError) -> Fault<A> {
         Fault::OutOfMemory
     }

@@ -3,12 +3,17 @@
 //! Its comments go, each without the end of its line, and so do trailing commas; a comma that is missing is written
 //! directly behind its entry. Names and strings are in double quotes, and numbers as JSON writes them, with the same
 //! value. Each other byte stays, but a blank that is none of JSON becomes a space.
-ghost use Rattle.std.specs.Prelude.{◌≡◌, ◌≢◌, ◌++◌, ◌∷◌, [], ℕ, List, IfErr, IfOk, OnOk, Some, chars, false, true, string_bytes};
+ghost use Rattle.std.specs.Prelude.{◌≡◌, ◌≢◌, ◌≤◌, ◌++◌, ◌∷◌, [], ℕ, List, IfErr, IsCharBoundary, Option, IfOk, OnOk, Some, chars, false, true, string_bytes};
 ghost use Rattle.std.specs.Cow.{cow_str_bytes};
-ghost use Rattle.jsonc_scan.specs.Scanner.{options_of, seen, IsThere, PassesBlanks};
+ghost use Rattle.jsonc_scan.specs.Scanner as scan;
+ghost use Rattle.jsonc_scan.specs.Scanner.{options_of, scanned_seen, seen, IsThere, PassesBlanks};
+ghost use Rattle.jsonc_text.specs.Gaps.{is_blank};
+ghost use Rattle.jsonc_text.specs.Grammar.{IsDocument};
+ghost use Rattle.jsonc_text.specs.Plain.{Plain};
+ghost use Rattle.jsonc_text.specs.Text.{Many, rest};
 ghost use Rattle.jsonc_text.specs.Lexemes.{LexemeKind, Scanned, IsScanned, Lexeme, lexeme};
 ghost use Rattle.jsonc_text.specs.Options.{all_on};
-ghost use Rattle.jsonc_patch_engine.specs.Causes.{HasValue, IsJsonOf, Stops};
+ghost use Rattle.jsonc_patch_engine.specs.Causes.{IsCause, IsJsonOf, Stops};
 ghost use Rattle.jsonc_patch_engine.specs.declared.json.JsonError.TheVariants.{OutOfMemory};
 ghost use Rattle.jsonc_patch_engine.specs.Output.{text_of, Adds};
 ghost use Rattle.jsonc_patch_engine.specs.Rewritten.{IsNonFinite, IsWrittenFor, Rewritten, is_closed, is_named, mark_for, missing_comma, IsEntryFor};
@@ -63,15 +68,26 @@ impl From<AllocError> for JsonError {
 /// The text of a document as JSON.
 ///
 /// The text may hold all that options allow. Memory is wanted for what is written, and for a string with a backslash.
-pub fn to_json<A: Allocator + Copy>(alloc: A, text: &str) -> Result<String<A>, JsonError> {
-    let options = ParseOptions::default();
-    if let Err(error) = check_document(alloc, text, &options) {
-        return Err(JsonError::Text(error));
+pub fn to_json<A: Allocator + Copy>(alloc: A, text: &str) -> Result<String<A>, JsonError>
+    ensures written { IfOk result (λ s. IsJsonOf (chars text.now) (text_of s)) }
+    ensures refused { IfErr result (IsCause text.now) }
+{
+    match check_document(alloc, text, &ParseOptions::default()) {
+        Ok(()) => write_value(alloc, text),
+        Err(error) => Err(JsonError::Text(error)),
     }
-    if mark_behind(text, 0).is_none() {
-        return Err(JsonError::NoValue);
+}
+
+// What is written for a document, where it has a value.
+fn write_value<A: Allocator + Copy>(alloc: A, text: &str) -> Result<String<A>, JsonError>
+    requires { (w : Option Plain) × IsDocument all_on (chars text.now) w }
+    ensures written { IfOk result (λ s. IsJsonOf (chars text.now) (text_of s)) }
+    ensures refused { IfErr result (IsCause text.now) }
+{
+    match mark_behind(text, 0) {
+        Some(_) => write_tokens(alloc, text),
+        None => Err(JsonError::NoValue),
     }
-    write_tokens(alloc, text)
 }
 
 // What is written for the tokens of a document, and the blanks between them.
@@ -84,21 +100,47 @@ fn write_tokens<A: Allocator + Copy>(alloc: A, text: &str) -> Result<String<A>, 
     let mut written = String::new(alloc);
     let mut place = 0;
     'tokens: while let Some(kind) = next_token(&mut scanner, &mut content)? {
-        let start = scanner.token_start();
-        push_blanks(&mut written, &text[place..start])?;
+        write_token(alloc, &mut written, place, &scanner, &content, kind)?;
         place = scanner.token_end();
-        let literal = Literal {
-            written: &text[start..place],
-            string: content.string.as_str(),
-        };
-        let mark = mark_behind(text, place);
-        if is_refused(kind, &literal, mark) {
-            return Err(JsonError::NonFinite(start));
-        }
-        push_token(alloc, &mut written, kind, &literal, mark)?;
     }
     push_blanks(&mut written, &text[place..scanner.token_start()])?;
     Ok(written)
+}
+
+// Writes the last token, and the blanks before it, from a place on.
+fn write_token<'a, A: Allocator + Copy>(
+    alloc: A,
+    written: &mut String<A>,
+    place: usize,
+    scanner: &Scanner<'a, A>,
+    content: &TokenContent<'a, A>,
+    kind: TokenKind,
+) -> Result<(), JsonError>
+    requires options { options_of scanner.now ≡ all_on }
+    requires boundary { IsCharBoundary (scan.text_of scanner.now) place }
+    requires order { place ≤ scan.start_of scanner.now }
+    requires blanks { Many is_blank (rest (scan.text_of scanner.now) place) (rest (scan.text_of scanner.now) (scan.start_of scanner.now)) }
+    requires there { IsThere scanner.now (Some (scanned_seen scanner.now content.now kind)) }
+    requires plain { kind ≢ TokenKind.Plain }
+    requires passed { kind ≢ TokenKind.Passed }
+    requires so_far { Rewritten (rest (scan.text_of scanner.now) place) (chars (scan.text_of scanner.now)) (text_of written.old) }
+    ensures written { OnOk result (Rewritten (scan.left scanner.now) (chars (scan.text_of scanner.now)) (text_of written.new)) }
+    ensures stops { IfErr result (Stops (scan.text_of scanner.now)) }
+{
+    let text = scanner.file_text();
+    let start = scanner.token_start();
+    let end = scanner.token_end();
+    push_blanks(written, &text[place..start])?;
+    let literal = Literal {
+        written: &text[start..end],
+        string: content.string.as_str(),
+    };
+    let mark = mark_behind(text, end);
+    if is_refused(kind, &literal, mark) {
+        return Err(JsonError::NonFinite(start));
+    }
+    push_token(alloc, written, kind, &literal, mark)?;
+    Ok(())
 }
 
 // The next token of a document, or none at its end. It is refused for want of memory alone.
@@ -162,7 +204,7 @@ fn push_token<A: Allocator + Copy>(
         TokenKind::Comma => push_comma(written, mark),
         TokenKind::CloseBrace => push_close(written, '}', mark),
         TokenKind::CloseBracket => push_close(written, ']', mark),
-        kind => push_entry(alloc, written, kind, literal, mark),
+        _ => push_entry(alloc, written, kind, literal, mark),
     }
 }
 
