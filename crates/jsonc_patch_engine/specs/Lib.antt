@@ -8,3 +8,4 @@ pub mod Causes
 pub mod Points
 pub mod Command
 pub mod FaultLines
+pub mod Results

@@ -1,9 +1,13 @@
 -- What a run of the program writes, and why it ends without success.
-use Rattle.std.specs.Prelude.{◌≡◌, ◌≢◌, ◌⊎◌, ◌×◌, ◌++◌, ◌∷◌, [], ℕ, List, Option, IfSome, IsUtf8, chars}
-use Rattle.std.specs.Io.KnownBytes.{Appends}
+use Rattle.std.specs.Prelude.{◌≡◌, ◌≢◌, ◌⊎◌, ◌++◌, ◌∷◌, [], ℕ, true, List, None, IsUtf8, chars}
 use Rattle.jsonc_text.specs.Documents.{Document}
 use Rattle.jsonc_text.specs.Options.{all_on}
+use Rattle.jsonc_text.specs.Faults.{IsFault}
+use Rattle.jsonc_text.specs.Grammar.{IsDocument}
 use Rattle.jsonc_text.specs.Places.{LineColumn}
+use Rattle.jsonc_text.specs.declared.errors.ParseError.{ParseError}
+use Rattle.jsonc_ast.specs.to_ast.Faults.{ParseFault}
+use Rattle.jsonc_ast.specs.to_ast.Refusals.{Refuses}
 use Rattle.jsonc_tree.specs.OrderedTree.{ordered_tree, printed}
 use Rattle.jsonc_tree.specs.Tree.{Node}
 use Rattle.jsonc_sound.specs.Documents.{Shows}
@@ -15,7 +19,7 @@ use Rattle.jsonc_layout.specs.input.Views.{chars_of}
 use Rattle.jsonc_patch_engine.specs.Causes.{HasNonFinite, HasValue, IsJsonOf, IsRefusal}
 use Rattle.jsonc_patch_engine.specs.Command.{Request, find, json}
 use Rattle.jsonc_patch_engine.specs.declared.fault.Fault.{Fault}
-use Rattle.jsonc_patch_engine.specs.declared.fault.Fault.TheVariants.{Input, NoSuchValue, NoValue, NonFinite, NotUtf8, OutOfMemory, Pointer, Read, RepeatedName, Usage, Write}
+use Rattle.jsonc_patch_engine.specs.declared.fault.Fault.TheVariants.{Input, NoSuchValue, NoValue, NonFinite, NotUtf8, OutOfMemory, Pointer, RepeatedName}
 
 -- the text is a pointer of these tokens
 abbrev pub IsPointer : List ℕ → List (List ℕ) → Type 0
@@ -42,3 +46,38 @@ pub record IsFound (text input output : List ℕ) : Type 0 where
 abbrev pub IsWritten : Request → List ℕ → List ℕ → Type 0
 IsWritten (find pointer) input output = IsFound pointer input output
 IsWritten json input output = IsUtf8 input × IsJsonOf (chars input) (chars output)
+
+-- what a parse tells of the input; only where a document is made may it be an allocation failure
+abbrev pub IsRefusedText : Request → List ℕ → ParseError → Type 0
+IsRefusedText (find text) input e = IsFault input e × Refuses all_on true input e × ParseFault all_on input true e
+IsRefusedText json input e = IsRefusal input e
+
+-- the pointer is one of these tokens, and this is so of the document of the input and its nodes
+pub record OfPointer (text input : List ℕ) (is_so : Document → List Node → List (List ℕ) → Type 0) : Type 0 where
+  pub tokens : List (List ℕ)
+  pub pointer : IsPointer text tokens
+  pub document : Document
+  pub nodes : List Node
+  pub parsed : IsParsed input document nodes
+  pub so : is_so document nodes tokens
+
+-- the number there is none of JSON
+pub record IsNonFiniteAt (input : List ℕ) (line column : ℕ) : Type 0 where
+  pub value : HasValue (chars input)
+  pub place : ℕ
+  pub there : HasNonFinite input place
+  pub at : LineColumn (chars input) place line column
+
+-- the fault is true of the pointer, or of the input, and what the command makes of them can end with it
+abbrev pub IsFaultOn : {A : Type 0} → Request → List ℕ → Fault A → Type 0
+IsFaultOn (find text) input (Pointer e) = IsPointerFault (chars text) e × (e ≢ pointer.OutOfMemory)
+IsFaultOn (find text) input (RepeatedName name) = OfPointer text input (λ d ns tokens. FailsAt d.value tokens (chars_of name))
+IsFaultOn (find text) input NoSuchValue = OfPointer text input (λ d ns tokens. RefersToNothing d tokens)
+IsFaultOn (find text) input OutOfMemory = IsPointerFault (chars text) pointer.OutOfMemory
+    ⊎ OfPointer text input (λ d ns tokens. WantsToFind d ns tokens ⊎ ((n : ℕ) × RefersToNode d ns tokens n))
+IsFaultOn json input NoValue = IsDocument all_on (chars input) None
+IsFaultOn json input (NonFinite at) = IsNonFiniteAt input at.line at.column
+IsFaultOn json input OutOfMemory = HasValue (chars input)
+IsFaultOn request input (Input e) = IsRefusedText request input e
+IsFaultOn request input NotUtf8 = ¬ (IsUtf8 input)
+IsFaultOn request input other = ⊥

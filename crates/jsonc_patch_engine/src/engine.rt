@@ -1,5 +1,7 @@
 //! One run of the program, over any source and sink.
-ghost use Rattle.std.specs.Prelude.{◌≡◌};
+ghost use Rattle.std.specs.Prelude.{◌≡◌, IfErr, IfOk, string_bytes};
+ghost use Rattle.jsonc_patch_engine.specs.Command.{request_of};
+ghost use Rattle.jsonc_patch_engine.specs.Results.{IsFaultOn, IsWritten};
 
 use crate::command::Command;
 use crate::fault::Fault;
@@ -66,7 +68,10 @@ pub fn run_on<A: Allocator + Copy>(
     alloc: A,
     command: Command,
     input: &[u8],
-) -> Result<String<A>, Fault<A>> {
+) -> Result<String<A>, Fault<A>>
+    ensures written { IfOk result (λ s. IsWritten (request_of command.entry) input.now (string_bytes s)) }
+    ensures refused { IfErr result (IsFaultOn (request_of command.entry) input.now) }
+{
     match request_of(alloc, command) {
         Ok(request) => output_of(alloc, &request, input),
         Err(fault) => Err(fault),

@@ -167,9 +167,21 @@ fn is_refused(kind: TokenKind, literal: &Literal<'_>, mark: Option<char>) -> boo
     ensures other { result ≡ false → kind ≡ TokenKind.Number → is_named mark ≡ false → IsNonFinite (chars literal.now.written.now) → ⊥ }
 {
     match kind {
-        TokenKind::Number => !is_colon(mark) && is_non_finite(literal.written),
+        TokenKind::Number => is_refused_number(literal.written, mark),
         _ => false,
     }
+}
+
+// Whether a number is one that JSON has not, and no name.
+fn is_refused_number(number: &str, mark: Option<char>) -> bool
+    ensures value { result ≡ true → is_named mark ≡ false }
+    ensures non_finite { result ≡ true → IsNonFinite (chars number.now) }
+    ensures other { result ≡ false → is_named mark ≡ false → IsNonFinite (chars number.now) → ⊥ }
+{
+    if is_colon(mark) {
+        return false;
+    }
+    is_non_finite(number)
 }
 
 // Whether a colon comes next.

@@ -130,9 +130,17 @@ fn push_behind<A: Allocator>(written: &mut String<A>, behind: &str) -> Result<()
     ensures { OnOk result (text_of written.new ≡ text_of written.old ++ from_point (chars behind.now)) }
 {
     if has_digit(behind) {
-        put(written, '.')?;
-        return put_all(written, behind);
+        push_pointed(written, behind)
+    } else {
+        put_all(written, behind)
     }
+}
+
+// Writes a point and what stands behind it.
+fn push_pointed<A: Allocator>(written: &mut String<A>, behind: &str) -> Result<(), AllocError>
+    ensures { OnOk result (text_of written.new ≡ text_of written.old ++ 0x2E ∷ chars behind.now) }
+{
+    put(written, '.')?;
     put_all(written, behind)
 }
 
