@@ -1,5 +1,5 @@
 -- What a token of a kind is.
-use Rattle.std.proofs.Common.{ℕ, ◌≡◌, ◌≢◌, ◌∙◌, ap, append-nil, refl, subst, sym, List, [], Option, Result, Ok, Err, OnOk, chars, true, false}
+use Rattle.std.proofs.Common.{ℕ, ◌≡◌, ◌≢◌, ◌∙◌, ap, append-nil, refl, subst, sym, List, [], Option, Result, Ok, Err, IfErr, IfOk, OnOk, chars, true, false}
 use Rattle.std.specs.Cow.{cow_str_bytes}
 use Rattle.jsonc_scan.specs.declared.found.TokenContent.{TokenContent}
 use Rattle.jsonc_scan.specs.declared.found.TokenKind.{TokenKind}
@@ -17,6 +17,14 @@ use Rattle.jsonc_patch_engine.specs.Tokens.{IsLiteralOf, IsTokenOf}
 pub on_ok : {T E : Type 0} (r : Result T E) {P Q : Type 0} → (P → Q) → OnOk r P → OnOk r Q
 on_ok (Ok x) f p = f p
 on_ok (Err e) f p = tt
+
+pub if_ok : {T E : Type 0} (r : Result T E) {P Q : T → Type 0} → ((x : T) → P x → Q x) → IfOk r P → IfOk r Q
+if_ok (Ok x) f p = f x p
+if_ok (Err e) f p = tt
+
+pub if_err : {T E : Type 0} (r : Result T E) {P Q : E → Type 0} → ((e : E) → P e → Q e) → IfErr r P → IfErr r Q
+if_err (Ok x) f p = tt
+if_err (Err e) f p = f e p
 
 -- it is no punctuation
 pub is_literal : (v : List ℕ) (k : TokenKind) (l : LexemeKind) → IsLiteralOf v k l → IsLiteral l

@@ -1,5 +1,5 @@
 -- One token after another is written.
-use Rattle.std.proofs.Common.{ℕ, ◌+◌, ◌≡◌, ◌≤◌, ◌<◌, ◌∙◌, ap, refl, sym, subst, Bool, false, List, [], ◌∷◌, ◌++◌, append_assoc, append-nil, map, Option, Some, None, IsTrue, IsCharBoundary, IsUtf8, arith, chars, length, slice_range}
+use Rattle.std.proofs.Common.{ℕ, ◌+◌, ◌-◌, ◌≡◌, ◌≤◌, ◌<◌, ◌∙◌, ap, refl, sym, subst, Bool, false, List, [], ◌∷◌, ◌++◌, append_assoc, append-nil, map, Option, Some, None, IsTrue, IsCharBoundary, IsUtf8, arith, chars, length, slice_range}
 use Rattle.jsonc_scan.specs.declared.scanner.Scanner.{Scanner}
 use Rattle.jsonc_scan.specs.Scanner.{IsThere, PassesBlanks, end_of, options_of, start_of, text_of}
 use Rattle.jsonc_text.specs.Gaps.{is_blank}
@@ -167,3 +167,10 @@ begun text s written e o z utf8 w =
       boundary = subst (λ t. IsCharBoundary t 0) e (subst (λ i. IsCharBoundary (text_of s) i) z s.at_place);
       so_far = subst (λ w. Rewritten (chars text) (chars text) w) (sym w) Rewritten.no_more;
     }
+
+-- each token leads further
+pub smaller : {A : Type 0} (text : List ℕ) (old new : Scanner A) (place end : ℕ) (written : List ℕ) → IsSoFar text old place written → PassesBlanks old new → start_of new < end_of new → end ≡ end_of new
+    → length text - end < length text - place
+smaller text old new place end written h p l e =
+    let b : end_of new ≤ length text = subst (λ t. end_of new ≤ length t) (p.text ∙ h.text_is) new.at_place.0 in
+    omega (arith, p.order.0, h.at, l, e, b)

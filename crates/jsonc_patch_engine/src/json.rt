@@ -3,7 +3,7 @@
 //! Its comments go, each without the end of its line, and so do trailing commas; a comma that is missing is written
 //! directly behind its entry. Names and strings are in double quotes, and numbers as JSON writes them, with the same
 //! value. Each other byte stays, but a blank that is none of JSON becomes a space.
-ghost use Rattle.std.specs.Prelude.{◌≡◌, ◌≢◌, ◌≤◌, ◌++◌, ◌∷◌, [], ℕ, List, IfErr, IsCharBoundary, Option, IfOk, OnOk, Some, chars, false, true, string_bytes};
+ghost use Rattle.std.specs.Prelude.{◌≡◌, ◌≢◌, ◌≤◌, ◌++◌, ◌∷◌, [], ℕ, List, IfErr, IsCharBoundary, Option, IfOk, OnOk, Some, chars, map, false, true, string_bytes};
 ghost use Rattle.std.specs.Cow.{cow_str_bytes};
 ghost use Rattle.jsonc_scan.specs.Scanner as scan;
 ghost use Rattle.jsonc_scan.specs.Scanner.{options_of, scanned_seen, seen, IsThere, PassesBlanks};
@@ -16,7 +16,7 @@ ghost use Rattle.jsonc_text.specs.Options.{all_on};
 ghost use Rattle.jsonc_patch_engine.specs.Causes.{IsCause, IsJsonOf, Stops};
 ghost use Rattle.jsonc_patch_engine.specs.declared.json.JsonError.TheVariants.{OutOfMemory};
 ghost use Rattle.jsonc_patch_engine.specs.Output.{text_of, Adds};
-ghost use Rattle.jsonc_patch_engine.specs.Rewritten.{IsNonFinite, IsWrittenFor, Rewritten, is_closed, is_named, mark_for, missing_comma, IsEntryFor};
+ghost use Rattle.jsonc_patch_engine.specs.Rewritten.{IsNonFinite, IsWrittenFor, Rewritten, is_closed, is_named, mark_for, missing_comma, written_blank, IsEntryFor};
 ghost use Rattle.jsonc_patch_engine.specs.Tokens.{IsLiteralOf, IsTokenOf};
 
 mod decimal;
@@ -99,11 +99,24 @@ fn write_tokens<A: Allocator + Copy>(alloc: A, text: &str) -> Result<String<A>, 
     let mut content = TokenContent::new();
     let mut written = String::new(alloc);
     let mut place = 0;
-    'tokens: while let Some(kind) = next_token(&mut scanner, &mut content)? {
+    'tokens: loop {
+        let found = next_token(&mut scanner, &mut content)?;
+        let start = scanner.token_start();
+        let Some(kind) = found else {
+            return end_with(written, &text[place..start]);
+        };
         write_token(alloc, &mut written, place, &scanner, &content, kind)?;
         place = scanner.token_end();
     }
-    push_blanks(&mut written, &text[place..scanner.token_start()])?;
+}
+
+// What is written, with the blanks that end the text.
+fn end_with<A: Allocator>(written: String<A>, blanks: &str) -> Result<String<A>, JsonError>
+    ensures written { IfOk result (λ s. text_of s ≡ text_of written.entry ++ map written_blank (chars blanks.now)) }
+    ensures memory { IfErr result (λ e. e ≡ OutOfMemory) }
+{
+    let mut written = written;
+    push_blanks(&mut written, blanks)?;
     Ok(written)
 }
 

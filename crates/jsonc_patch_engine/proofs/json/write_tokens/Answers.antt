@@ -1,9 +1,11 @@
-use Rattle.std.proofs.Common.{None, ap, arith, chars, refl, subst, sym, ◌∙◌, ◌≡◌, ◌<◌, length, ℕ, List}
+use Rattle.std.proofs.Common.{None, Some, ap, chars, subst, sym, ◌∙◌, ◌≡◌, IfSome, Option}
 use Rattle.std.proofs.lemmas.Str.{chars-nil}
-use Rattle.jsonc_text.specs.Text.{rest}
+use Rattle.jsonc_scan.specs.Scanner.{IsThere, seen}
+use Rattle.jsonc_patch_engine.specs.Causes.{Stops}
 use Rattle.jsonc_patch_engine.specs.Output.{text_of}
-use Rattle.jsonc_patch_engine.specs.Rewritten.{Rewritten}
-use Rattle.jsonc_patch_engine.proofs.WrittenTokens.{begun, is_ready, so_far_next, written_whole}
+use Rattle.jsonc_patch_engine.specs.declared.json.JsonError.TheVariants.{OutOfMemory}
+use Rattle.jsonc_patch_engine.proofs.ToldTokens.{if_err, if_ok}
+use Rattle.jsonc_patch_engine.proofs.WrittenTokens.{begun, is_ready, smaller, so_far_next, written_whole}
 use Rattle.jsonc_patch_engine.proofs.json.write_tokens.Goals as goal
 
 pub tokens-init : goal.tokens-init
@@ -13,24 +15,39 @@ tokens-init g c =
 
 pub write_token-requires : goal.write_token-requires
 write_token-requires g c =
-    let h = is_ready c.args.text.now c.tokens.scanner c.next_token.new.scanner c.tokens.place (text_of c.tokens.written) c.tokens.invariant c.in_ok-next_token.ensures.blanks in
+    let n = c.in_ok-found.ensures in
+    let new = c.next_token.new.scanner in
+    let h = is_ready c.args.text.now c.tokens.scanner new c.tokens.place (text_of c.tokens.written) c.tokens.invariant n.blanks in
     record {
       options = h.options;
       boundary = h.boundary;
       order = h.order;
       blanks = h.blanks;
-      there = c.in-Some.ensures.found;
-      plain = λ e. c.in-Some.ensures.plain (ap Some e);
-      passed = λ e. c.in-Some.ensures.passed (ap Some e);
+      there = subst (λ f. IsThere new (seen new c.next_token.new.content f)) c.in-Some.is n.found;
+      plain = λ e. n.plain (c.in-Some.is ∙ ap Some e);
+      passed = λ e. n.passed (c.in-Some.is ∙ ap Some e);
       so_far = h.so_far;
     }
 
 pub tokens-preserved : goal.tokens-preserved
 tokens-preserved g c =
-    so_far_next c.args.text.now c.tokens.scanner c.next_token.new.scanner c.tokens.place c.token_end-place.result (text_of c.tokens.written) (text_of c.write_token.new.written) c.tokens.invariant c.in_ok-next_token.ensures.blanks c.token_end-place.ensures
+    so_far_next c.args.text.now c.tokens.scanner c.next_token.new.scanner c.tokens.place c.token_end-place.result (text_of c.tokens.written) (text_of c.write_token.new.written) c.tokens.invariant c.in_ok-found.ensures.blanks c.token_end-place.ensures
     c.in_ok-write_token.ensures.written
 
-pub returns-clause-written : goal.returns-clause-written
-returns-clause-written g c =
-    written_whole c.args.text.now c.utf8.text c.tokens.scanner c.next_token.new.scanner c.tokens.place c.token_start.result (text_of c.tokens.written) (text_of c.push_blanks.new.written) c.range.result.now c.tokens.invariant c.in_ok-next_token.ensures.blanks
-    c.in-None.ensures.found c.token_start.ensures c.range.ensures.value c.in_ok-push_blanks.ensures
+pub tokens-smaller : goal.tokens-smaller
+tokens-smaller g c =
+    let n = c.in_ok-found.ensures in
+    let new = c.next_token.new.scanner in
+    let there = subst (λ f. IsThere new (seen new c.next_token.new.content f)) c.in-Some.is n.found in
+    smaller c.args.text.now c.tokens.scanner new c.tokens.place c.token_end-place.result (text_of c.tokens.written) c.tokens.invariant n.blanks there.0 c.token_end-place.ensures
+
+pub returns-in_default-clause-written : goal.returns-in_default-clause-written
+returns-in_default-clause-written g c =
+    let new = c.next_token.new.scanner in
+    let n = c.in_ok-found.ensures in
+    let none = subst (λ f. IsThere new (seen new c.next_token.new.content f)) c.in_default.is n.found in
+    if_ok c.end_with.result (λ s e. written_whole c.args.text.now c.utf8.text c.tokens.scanner new c.tokens.place c.token_start-start.result (text_of c.tokens.written) (text_of s) c.range.result.now c.tokens.invariant n.blanks none c.token_start-start.ensures
+    c.range.ensures.value e) c.end_with.ensures.written
+
+pub returns-in_default-clause-stops : goal.returns-in_default-clause-stops
+returns-in_default-clause-stops g c = if_err c.end_with.result (λ e p. subst (Stops c.args.text.now) (sym p) tt) c.end_with.ensures.memory
