@@ -221,6 +221,6 @@ quote_none bs utf8 n = go (chars bs) refl
         by false q = refl
         by true q =
             absurd (n (encode_utf8_all r) (
-              sym (encodes-chars bs utf8) ∙ ap encode_utf8_all (e ∙ ap (λ c. c ∷ r) (test_eq c 0x22 q))
-              ∙ ap (λ x. x ++ encode_utf8_all r) (encode_ascii 0x22 (omega arith))
+            sym (encodes-chars bs utf8) ∙ ap encode_utf8_all (e ∙ ap (λ c. c ∷ r) (test_eq c 0x22 q))
+            ∙ ap (λ x. x ++ encode_utf8_all r) (encode_ascii 0x22 (omega arith))
             ))

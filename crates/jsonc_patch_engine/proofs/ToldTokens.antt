@@ -114,26 +114,28 @@ told s x kind.CommentLine a b = (chars x.text.now, refl)
 told s x kind.CommentBlock a b = (chars x.text.now, refl)
 
 -- a number, by its kind and by its text
-pub number_told : {A : Type 0} (s : Scanner A) (x : TokenContent A) (k : TokenKind) → k ≡ kind.Number → (n : List ℕ) × (scanned_seen s x k ≡ lexeme (number n))
-number_told s x k e = (chars x.text.now, ap (scanned_seen s x) e)
+pub number_told : (v : List ℕ) (k : TokenKind) (w : Scanned) → IsTokenOf v k w → k ≡ kind.Number → (n : List ℕ) × (w ≡ lexeme (number n))
+number_told v k w h e =
+    let t : (l : LexemeKind) × ((s : List ℕ) × (l ≡ number s)) × (w ≡ lexeme l) = subst (λ k. IsTokenOf v k w) e h in
+    (t.1.0, t.2 ∙ ap lexeme t.1.1)
 
-pub number_kind : {A : Type 0} (s : Scanner A) (x : TokenContent A) (k : TokenKind) (n : List ℕ) → scanned_seen s x k ≡ lexeme (number n) → k ≡ kind.Number
-number_kind s x kind.OpenBrace n e = cc
-number_kind s x kind.CloseBrace n e = cc
-number_kind s x kind.OpenBracket n e = cc
-number_kind s x kind.CloseBracket n e = cc
-number_kind s x kind.Comma n e = cc
-number_kind s x kind.Colon n e = cc
-number_kind s x kind.String n e = cc
-number_kind s x kind.Plain n e = cc
-number_kind s x kind.Passed n e = cc
-number_kind s x kind.Word n e = cc
-number_kind s x kind.True n e = cc
-number_kind s x kind.False n e = cc
-number_kind s x kind.Number n e = refl
-number_kind s x kind.Null n e = cc
-number_kind s x kind.CommentLine n e = cc
-number_kind s x kind.CommentBlock n e = cc
+pub number_kind : (v : List ℕ) (k : TokenKind) (w : Scanned) (n : List ℕ) → IsTokenOf v k w → w ≡ lexeme (number n) → k ≡ kind.Number
+number_kind v kind.OpenBrace w n h e = cc
+number_kind v kind.CloseBrace w n h e = cc
+number_kind v kind.OpenBracket w n h e = cc
+number_kind v kind.CloseBracket w n h e = cc
+number_kind v kind.Comma w n h e = cc
+number_kind v kind.Colon w n h e = cc
+number_kind v kind.String w n h e = let p = h.1 in let q = h.2 in cc
+number_kind v kind.Plain w n h e = absurd h.1
+number_kind v kind.Passed w n h e = absurd h.1
+number_kind v kind.Word w n h e = let p = h.1.1 in let q = h.2 in cc
+number_kind v kind.True w n h e = let p = h.1 in let q = h.2 in cc
+number_kind v kind.False w n h e = let p = h.1 in let q = h.2 in cc
+number_kind v kind.Number w n h e = refl
+number_kind v kind.Null w n h e = let p = h.1 in let q = h.2 in cc
+number_kind v kind.CommentLine w n h e = let p = h.1 in cc
+number_kind v kind.CommentBlock w n h e = let p = h.1 in cc
 
 pub number_text : (w : Scanned) (cs n : List ℕ) → w ≡ lexeme (number n) → IsScanned all_on w cs [] → IsNonFinite n → IsNonFinite cs
 number_text w cs n e a i =

@@ -13,6 +13,7 @@ use Rattle.jsonc_text.proofs.LexemesAlone.{scanned_alone}
 use Rattle.jsonc_patch_engine.specs.Causes.{HasNonFinite}
 use Rattle.jsonc_patch_engine.specs.Output.{Adds}
 use Rattle.jsonc_patch_engine.specs.Rewritten.{ComesNext, IsNonFinite, IsWrittenFor, Rewritten, is_named, written_blank}
+use Rattle.jsonc_patch_engine.specs.Standing.{Stands}
 use Rattle.jsonc_patch_engine.proofs.Gaps.{blanks_of, rewritten_append}
 
 -- up to the place where the scanner is all is written
@@ -74,17 +75,7 @@ module _ (text : List ℕ) (utf8 : IsUtf8 text) where
         value = f;
       }
 
--- a token of a text, the blanks before it from a place on, and what was written up to there
-pub record Stands (text : List ℕ) (place start end : ℕ) (w : Scanned) (old : List ℕ) : Type 0 where
-  pub at : IsCharBoundary text place
-  pub from : IsCharBoundary text start
-  pub to : IsCharBoundary text end
-  pub before : place ≤ start
-  pub order : start ≤ end
-  pub blanks : Many is_blank (rest text place) (rest text start)
-  pub there : IsScanned all_on w (rest text start) (rest text end)
-  pub so_far : Rewritten (rest text place) (chars text) old
-
+-- what a scanner stands at
 pub stands : {A : Type 0} (s : Scanner A) (text : List ℕ) (place start end : ℕ) (w : Scanned) (old : List ℕ) → text ≡ text_of s → start ≡ start_of s → end ≡ end_of s → options_of s ≡ all_on → IsCharBoundary (text_of s) place
     → place ≤ start_of s → Many is_blank (rest (text_of s) place) (rest (text_of s) (start_of s)) → IsThere s (Some w) → Rewritten (rest (text_of s) place) (chars (text_of s)) old → Stands text place start end w old
 stands s text place start end w old e f g o b l m t r =
@@ -134,7 +125,7 @@ is_ready text old new place written h p =
     }
 
 pub so_far_next : {A : Type 0} (text : List ℕ) (old new : Scanner A) (place end : ℕ) (written more : List ℕ) → IsSoFar text old place written → PassesBlanks old new → end ≡ end_of new
-    → Rewritten (rest (text_of new) (end_of new)) (chars (text_of new)) more → IsSoFar text new end more
+    → Rewritten (rest text end) (chars text) more → IsSoFar text new end more
 so_far_next text old new place end written more h p e r =
     let same : text_of new ≡ text = p.text ∙ h.text_is in
     record {
@@ -142,7 +133,7 @@ so_far_next text old new place end written more h p e r =
       options = p.options ∙ h.options;
       at = sym e;
       boundary = subst (λ t. IsCharBoundary t end) same (subst (λ i. IsCharBoundary (text_of new) i) (sym e) new.at_place);
-      so_far = subst (λ t. Rewritten (rest t end) (chars t) more) same (subst (λ i. Rewritten (rest (text_of new) i) (chars (text_of new)) more) (sym e) r);
+      so_far = r;
     }
 
 -- and at the end

@@ -4,6 +4,7 @@ pub mod Same
 pub mod Rewritten
 pub mod Output
 pub mod Tokens
+pub mod Standing
 pub mod Causes
 pub mod Points
 pub mod Command

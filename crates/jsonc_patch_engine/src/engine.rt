@@ -24,10 +24,7 @@ enum Request<A: Allocator> {
 }
 
 // What a command asks for, its text read as a pointer.
-fn request_of<A: Allocator + Copy>(
-    alloc: A,
-    command: Command<'_>,
-) -> Result<Request<A>, Fault<A>> {
+fn request_of<A: Allocator + Copy>(alloc: A, command: Command<'_>) -> Result<Request<A>, Fault<A>> {
     match command {
         Command::Find(text) => match pointer_of(alloc, text) {
             Ok(pointer) => Ok(Request::Find(pointer)),

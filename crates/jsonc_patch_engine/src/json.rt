@@ -5,18 +5,17 @@
 //! value. Each other byte stays, but a blank that is none of JSON becomes a space.
 ghost use Rattle.std.specs.Prelude.{◌≡◌, ◌≢◌, ◌≤◌, ◌++◌, ◌∷◌, [], ℕ, List, IfErr, IsCharBoundary, Option, IfOk, OnOk, Some, chars, map, false, true, string_bytes};
 ghost use Rattle.std.specs.Cow.{cow_str_bytes};
-ghost use Rattle.jsonc_scan.specs.Scanner as scan;
-ghost use Rattle.jsonc_scan.specs.Scanner.{options_of, scanned_seen, seen, IsThere, PassesBlanks};
-ghost use Rattle.jsonc_text.specs.Gaps.{is_blank};
+ghost use Rattle.jsonc_scan.specs.Scanner.{seen, IsThere, PassesBlanks};
 ghost use Rattle.jsonc_text.specs.Grammar.{IsDocument};
 ghost use Rattle.jsonc_text.specs.Plain.{Plain};
-ghost use Rattle.jsonc_text.specs.Text.{Many, rest};
+ghost use Rattle.jsonc_text.specs.Text.{rest};
 ghost use Rattle.jsonc_text.specs.Lexemes.{LexemeKind, Scanned, IsScanned, Lexeme, lexeme};
 ghost use Rattle.jsonc_text.specs.Options.{all_on};
 ghost use Rattle.jsonc_patch_engine.specs.Causes.{IsCause, IsJsonOf, Stops};
 ghost use Rattle.jsonc_patch_engine.specs.declared.json.JsonError.TheVariants.{OutOfMemory};
 ghost use Rattle.jsonc_patch_engine.specs.Output.{text_of, Adds};
 ghost use Rattle.jsonc_patch_engine.specs.Rewritten.{IsNonFinite, IsWrittenFor, Rewritten, is_closed, is_named, mark_for, missing_comma, written_blank, IsEntryFor};
+ghost use Rattle.jsonc_patch_engine.specs.Standing.{IsFound};
 ghost use Rattle.jsonc_patch_engine.specs.Tokens.{IsLiteralOf, IsTokenOf};
 
 mod decimal;
@@ -65,6 +64,16 @@ impl From<AllocError> for JsonError {
     }
 }
 
+// A token of a text from one place to another, and the place before its blanks. A string stands for this.
+#[derive(Clone, Copy)]
+struct Found<'a> {
+    place: usize,
+    start: usize,
+    end: usize,
+    kind: TokenKind,
+    string: &'a str,
+}
+
 /// The text of a document as JSON.
 ///
 /// The text may hold all that options allow. Memory is wanted for what is written, and for a string with a backslash.
@@ -105,8 +114,16 @@ fn write_tokens<A: Allocator + Copy>(alloc: A, text: &str) -> Result<String<A>, 
         let Some(kind) = found else {
             return end_with(written, &text[place..start]);
         };
-        write_token(alloc, &mut written, place, &scanner, &content, kind)?;
-        place = scanner.token_end();
+        let end = scanner.token_end();
+        let token = Found {
+            place,
+            start,
+            end,
+            kind,
+            string: content.string.as_str(),
+        };
+        write_token(alloc, &mut written, text, &token)?;
+        place = end;
     }
 }
 
@@ -120,39 +137,27 @@ fn end_with<A: Allocator>(written: String<A>, blanks: &str) -> Result<String<A>,
     Ok(written)
 }
 
-// Writes the last token, and the blanks before it, from a place on.
-fn write_token<'a, A: Allocator + Copy>(
+// Writes a token, and the blanks before it.
+fn write_token<A: Allocator + Copy>(
     alloc: A,
     written: &mut String<A>,
-    place: usize,
-    scanner: &Scanner<'a, A>,
-    content: &TokenContent<'a, A>,
-    kind: TokenKind,
+    text: &str,
+    found: &Found<'_>,
 ) -> Result<(), JsonError>
-    requires options { options_of scanner.now ≡ all_on }
-    requires boundary { IsCharBoundary (scan.text_of scanner.now) place }
-    requires order { place ≤ scan.start_of scanner.now }
-    requires blanks { Many is_blank (rest (scan.text_of scanner.now) place) (rest (scan.text_of scanner.now) (scan.start_of scanner.now)) }
-    requires there { IsThere scanner.now (Some (scanned_seen scanner.now content.now kind)) }
-    requires plain { kind ≢ TokenKind.Plain }
-    requires passed { kind ≢ TokenKind.Passed }
-    requires so_far { Rewritten (rest (scan.text_of scanner.now) place) (chars (scan.text_of scanner.now)) (text_of written.old) }
-    ensures written { OnOk result (Rewritten (scan.left scanner.now) (chars (scan.text_of scanner.now)) (text_of written.new)) }
-    ensures stops { IfErr result (Stops (scan.text_of scanner.now)) }
+    requires { IsFound text.now found.now (text_of written.old) }
+    ensures written { OnOk result (Rewritten (rest text.now found.now.end) (chars text.now) (text_of written.new)) }
+    ensures stops { IfErr result (Stops text.now) }
 {
-    let text = scanner.file_text();
-    let start = scanner.token_start();
-    let end = scanner.token_end();
-    push_blanks(written, &text[place..start])?;
+    push_blanks(written, &text[found.place..found.start])?;
     let literal = Literal {
-        written: &text[start..end],
-        string: content.string.as_str(),
+        written: &text[found.start..found.end],
+        string: found.string,
     };
-    let mark = mark_behind(text, end);
-    if is_refused(kind, &literal, mark) {
-        return Err(JsonError::NonFinite(start));
+    let mark = mark_behind(text, found.end);
+    if is_refused(found.kind, &literal, mark) {
+        return Err(JsonError::NonFinite(found.start));
     }
-    push_token(alloc, written, kind, &literal, mark)?;
+    push_token(alloc, written, found.kind, &literal, mark)?;
     Ok(())
 }
 
@@ -263,10 +268,7 @@ fn push_close<A: Allocator>(
 }
 
 // Writes a comma, but before a closing bracket.
-fn push_comma<A: Allocator>(
-    written: &mut String<A>,
-    mark: Option<char>,
-) -> Result<(), AllocError>
+fn push_comma<A: Allocator>(written: &mut String<A>, mark: Option<char>) -> Result<(), AllocError>
     ensures { OnOk result (text_of written.new ≡ text_of written.old ++ mark_for 0x2C mark) }
 {
     if is_closed(mark) {

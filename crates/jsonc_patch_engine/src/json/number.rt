@@ -67,11 +67,7 @@ pub(super) fn push_number<A: Allocator + Copy>(
 fn push_sign<A: Allocator>(written: &mut String<A>, negative: bool) -> Result<(), AllocError>
     ensures { OnOk result (text_of written.new ≡ text_of written.old ++ minus_of negative) }
 {
-    if negative {
-        put(written, '-')
-    } else {
-        Ok(())
-    }
+    if negative { put(written, '-') } else { Ok(()) }
 }
 
 // Writes a number with no sign.

@@ -15,10 +15,7 @@ pub(super) fn put<A: Allocator>(written: &mut String<A>, c: char) -> Result<(), 
 }
 
 // Writes characters.
-pub(super) fn put_all<A: Allocator>(
-    written: &mut String<A>,
-    text: &str,
-) -> Result<(), AllocError>
+pub(super) fn put_all<A: Allocator>(written: &mut String<A>, text: &str) -> Result<(), AllocError>
     ensures { OnOk result (text_of written.new ≡ text_of written.old ++ chars text.now) }
 {
     match written.push_str(text) {
