@@ -91,7 +91,7 @@ stands s text place start end w old e f g o b l m t r =
     } in
     subst (λ t. Stands t place start end w old) (sym e) (subst (λ i. Stands (text_of s) place i end w old) (sym f) (subst (λ j. Stands (text_of s) place (start_of s) j w old) (sym g) here))
 
-module _ {A : Type 0} (text : List ℕ) (utf8 : IsUtf8 text) (place start end : ℕ) (w : Scanned) (old mid blanks literal : List ℕ) (h : Stands text place start end w old) (b : blanks ≡ slice_range text place start)
+module _ (text : List ℕ) (utf8 : IsUtf8 text) (place start end : ℕ) (w : Scanned) (old mid blanks literal : List ℕ) (h : Stands text place start end w old) (b : blanks ≡ slice_range text place start)
     (m : mid ≡ old ++ map written_blank (chars blanks)) (l : literal ≡ slice_range text start end) where
   blanks_written : Rewritten (rest text start) (chars text) mid
   blanks_written = blanks_step text utf8 place start old mid blanks h.at h.from h.before h.so_far h.blanks b m

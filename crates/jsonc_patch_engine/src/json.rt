@@ -129,7 +129,7 @@ fn write_tokens<A: Allocator + Copy>(alloc: A, text: &str) -> Result<String<A>, 
 
 // What is written, with the blanks that end the text.
 fn end_with<A: Allocator>(written: String<A>, blanks: &str) -> Result<String<A>, JsonError>
-    ensures written { IfOk result (λ s. text_of s ≡ text_of written.entry ++ map written_blank (chars blanks.now)) }
+    ensures written { IfOk result (λ s. text_of s ≡ text_of written ++ map written_blank (chars blanks.now)) }
     ensures memory { IfErr result (λ e. e ≡ OutOfMemory) }
 {
     let mut written = written;

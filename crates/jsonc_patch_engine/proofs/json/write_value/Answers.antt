@@ -1,6 +1,10 @@
 use Rattle.std.proofs.Common.{None, Some, ◌≡◌}
+use Rattle.std.proofs.lemmas.Str.{IsCharBoundary-start}
 use Rattle.jsonc_patch_engine.proofs.Documents.{err_caused, no_value, ok_written, some_value}
 use Rattle.jsonc_patch_engine.proofs.json.write_value.Goals as goal
+
+pub mark_behind-requires : goal.mark_behind-requires
+mark_behind-requires g c = IsCharBoundary-start c.args.text.now c.utf8.text
 
 pub returns-in-Some-clause-written : goal.returns-in-Some-clause-written
 returns-in-Some-clause-written g c =
