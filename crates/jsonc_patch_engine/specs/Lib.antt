@@ -10,3 +10,4 @@ pub mod Points
 pub mod Command
 pub mod FaultLines
 pub mod Results
+pub mod Runs

@@ -68,16 +68,28 @@ pub record IsNonFiniteAt (input : List ℕ) (line column : ℕ) : Type 0 where
   pub there : HasNonFinite input place
   pub at : LineColumn (chars input) place line column
 
--- the fault is true of the pointer, or of the input, and what the command makes of them can end with it
+-- the command wants memory for what it makes of the input
+abbrev pub WantsMemory : Request → List ℕ → Type 0
+WantsMemory (find text) input = OfPointer text input (λ d ns tokens. WantsToFind d ns tokens ⊎ ((n : ℕ) × RefersToNode d ns tokens n))
+WantsMemory json input = HasValue (chars input)
+
+-- the fault is true of the command's pointer
+abbrev pub IsFaultOfWords : {A : Type 0} → Request → Fault A → Type 0
+IsFaultOfWords (find text) (Pointer e) = IsPointerFault (chars text) e × (e ≢ pointer.OutOfMemory)
+IsFaultOfWords (find text) OutOfMemory = IsPointerFault (chars text) pointer.OutOfMemory
+IsFaultOfWords request other = ⊥
+
+-- it is true of the input, and what the command makes of it can end with it
+abbrev pub IsFaultOfInput : {A : Type 0} → Request → List ℕ → Fault A → Type 0
+IsFaultOfInput (find text) input (RepeatedName name) = OfPointer text input (λ d ns tokens. FailsAt d.value tokens (chars_of name))
+IsFaultOfInput (find text) input NoSuchValue = OfPointer text input (λ d ns tokens. RefersToNothing d tokens)
+IsFaultOfInput json input NoValue = IsDocument all_on (chars input) None
+IsFaultOfInput json input (NonFinite at) = IsNonFiniteAt input at.line at.column
+IsFaultOfInput request input (Input e) = IsRefusedText request input e
+IsFaultOfInput request input NotUtf8 = ¬ (IsUtf8 input)
+IsFaultOfInput request input OutOfMemory = WantsMemory request input
+IsFaultOfInput request input other = ⊥
+
+-- one of both
 abbrev pub IsFaultOn : {A : Type 0} → Request → List ℕ → Fault A → Type 0
-IsFaultOn (find text) input (Pointer e) = IsPointerFault (chars text) e × (e ≢ pointer.OutOfMemory)
-IsFaultOn (find text) input (RepeatedName name) = OfPointer text input (λ d ns tokens. FailsAt d.value tokens (chars_of name))
-IsFaultOn (find text) input NoSuchValue = OfPointer text input (λ d ns tokens. RefersToNothing d tokens)
-IsFaultOn (find text) input OutOfMemory = IsPointerFault (chars text) pointer.OutOfMemory
-    ⊎ OfPointer text input (λ d ns tokens. WantsToFind d ns tokens ⊎ ((n : ℕ) × RefersToNode d ns tokens n))
-IsFaultOn json input NoValue = IsDocument all_on (chars input) None
-IsFaultOn json input (NonFinite at) = IsNonFiniteAt input at.line at.column
-IsFaultOn json input OutOfMemory = HasValue (chars input)
-IsFaultOn request input (Input e) = IsRefusedText request input e
-IsFaultOn request input NotUtf8 = ¬ (IsUtf8 input)
-IsFaultOn request input other = ⊥
+IsFaultOn request input fault = IsFaultOfWords request fault ⊎ IsFaultOfInput request input fault

@@ -1,7 +1,9 @@
 //! One run of the program, over any source and sink.
-ghost use Rattle.std.specs.Prelude.{◌≡◌, IfErr, IfOk, string_bytes};
-ghost use Rattle.jsonc_patch_engine.specs.Command.{request_of};
-ghost use Rattle.jsonc_patch_engine.specs.Results.{IsFaultOn, IsWritten};
+ghost use Rattle.std.specs.Prelude.{◌≡◌, ◌↔◌, ℕ, List, IfErr, IfOk, IfSome, IsErrOf, OnErr, OnOk, string_bytes};
+ghost use Rattle.jsonc_engine.specs.Calls.{one_more};
+ghost use Rattle.jsonc_patch_engine.specs.Command.{Name, json, request_of, Request as Asked};
+ghost use Rattle.jsonc_patch_engine.specs.Results.{IsFaultOfInput, IsFaultOfWords, IsFaultOn, IsWritten};
+ghost use Rattle.jsonc_patch_engine.specs.Runs.{Asks, EndsBehindInput, IsBeforeOrForMemory, Puts, Tells, TellsOfWords};
 
 use crate::command::Command;
 use crate::fault::Fault;
@@ -24,7 +26,10 @@ enum Request<A: Allocator> {
 }
 
 // What a command asks for, its text read as a pointer.
-fn request_of<A: Allocator + Copy>(alloc: A, command: Command<'_>) -> Result<Request<A>, Fault<A>> {
+fn read_request<A: Allocator + Copy>(alloc: A, command: Command<'_>) -> Result<Request<A>, Fault<A>>
+    ensures asked { IfOk result (Asks (request_of command)) }
+    ensures refused { IfErr result (IsFaultOfWords (request_of command)) }
+{
     match command {
         Command::Find(text) => match pointer_of(alloc, text) {
             Ok(pointer) => Ok(Request::Find(pointer)),
@@ -35,7 +40,10 @@ fn request_of<A: Allocator + Copy>(alloc: A, command: Command<'_>) -> Result<Req
 }
 
 // The document of a text as JSON.
-fn json_of<A: Allocator + Copy>(alloc: A, text: &str) -> Result<String<A>, Fault<A>> {
+fn json_of<A: Allocator + Copy>(alloc: A, text: &str) -> Result<String<A>, Fault<A>>
+    ensures written { IfOk result (λ s. IsWritten json text.now (string_bytes s)) }
+    ensures refused { IfErr result (IsFaultOfInput json text.now) }
+{
     match to_json(alloc, text) {
         Ok(written) => Ok(written),
         Err(JsonError::Text(error)) => Err(Fault::Input(error)),
@@ -50,7 +58,10 @@ fn output_of<A: Allocator + Copy>(
     alloc: A,
     request: &Request<A>,
     input: &[u8],
-) -> Result<String<A>, Fault<A>> {
+) -> Result<String<A>, Fault<A>>
+    ensures written { (asked : Asked) → Asks asked request.now → IfOk result (λ s. IsWritten asked input.now (string_bytes s)) }
+    ensures refused { (asked : Asked) → Asks asked request.now → IfErr result (IsFaultOfInput asked input.now) }
+{
     let Ok(text) = str::from_utf8(input) else {
         return Err(Fault::NotUtf8);
     };
@@ -66,10 +77,10 @@ pub fn run_on<A: Allocator + Copy>(
     command: Command,
     input: &[u8],
 ) -> Result<String<A>, Fault<A>>
-    ensures written { IfOk result (λ s. IsWritten (request_of command.entry) input.now (string_bytes s)) }
-    ensures refused { IfErr result (IsFaultOn (request_of command.entry) input.now) }
+    ensures written { IfOk result (λ s. IsWritten (request_of command) input.now (string_bytes s)) }
+    ensures refused { IfErr result (IsFaultOn (request_of command) input.now) }
 {
-    match request_of(alloc, command) {
+    match read_request(alloc, command) {
         Ok(request) => output_of(alloc, &request, input),
         Err(fault) => Err(fault),
     }
@@ -84,11 +95,42 @@ pub fn engine<A: Allocator + Copy, S: Source, K: Sink>(
     words: &[&str],
     source: &mut S,
     sink: &mut K,
-) -> Result<(), Fault<A>> {
+) -> Result<(), Fault<A>>
+    // Words that name no command are refused, and no others; and they, and a pointer, before anything is read.
+    ensures usage { IsErrOf result Fault.Usage ↔ ((asked : Asked) → ¬ (Name words.now asked)) }
+    ensures unread { IfErr result (λ fault. TellsOfWords fault → source.new ≡ source.old) }
+
+    // What a success wrote.
+    ensures written { (asked : Asked)
+        → OnOk result (Name words.now asked
+        → IfSome (S.remaining source.old) (Puts asked (K.contents sink.old) (K.contents sink.new))) }
+    ensures flushed { OnOk result (K.is_flushed sink.new) }
+
+    // The cause that an error names holds, and it names no other.
+    ensures refused { (asked : Asked) → Name words.now asked
+        → IfErr result (λ fault. IfSome (S.remaining source.old) (λ input. Tells asked input fault)) }
+    ensures memory { (asked : Asked) → Name words.now asked → IsErrOf result Fault.OutOfMemory
+        → IsBeforeOrForMemory asked (S.empty_reads source.old) (S.empty_reads source.new) (S.remaining source.old) }
+    ensures read { IsErrOf result Fault.Read → S.failed_reads source.new ≡ one_more (S.failed_reads source.old) }
+    ensures write { IsErrOf result Fault.Write → K.failed_writes sink.new ≡ one_more (K.failed_writes sink.old) }
+
+    // The source is read until one read gives nothing, and no further.
+    ensures ended { OnOk result (S.empty_reads source.new ≡ one_more (S.empty_reads source.old)) }
+    ensures behind { IfErr result (λ fault. EndsBehindInput fault
+        → S.empty_reads source.new ≡ one_more (S.empty_reads source.old)) }
+    ensures not_ended { IsErrOf result Fault.Read → S.empty_reads source.new ≡ S.empty_reads source.old }
+
+    // A failed call is told as such, and as nothing else.
+    ensures no_failed_read { ¬ (IsErrOf result Fault.Read) → S.failed_reads source.new ≡ S.failed_reads source.old }
+    ensures no_failed_write { ¬ (IsErrOf result Fault.Write) → K.failed_writes sink.new ≡ K.failed_writes sink.old }
+
+    // Only a failed write leaves anything written.
+    ensures unwritten { OnErr result (¬ (IsErrOf result Fault.Write) → sink.new ≡ sink.old) }
+{
     let Some(command) = Command::from_words(words) else {
         return Err(Fault::Usage);
     };
-    let request = match request_of(alloc, command) {
+    let request = match read_request(alloc, command) {
         Ok(request) => request,
         Err(fault) => return Err(fault),
     };
