@@ -27,8 +27,8 @@ enum Request<A: Allocator> {
 
 // What a command asks for, its text read as a pointer.
 fn read_request<A: Allocator + Copy>(alloc: A, command: Command<'_>) -> Result<Request<A>, Fault<A>>
-    ensures asked { IfOk result (Asks (request_of command)) }
-    ensures refused { IfErr result (IsFaultOfWords (request_of command)) }
+    ensures asked { IfOk result (Asks (request_of command.entry)) }
+    ensures refused { IfErr result (IsFaultOfWords (request_of command.entry)) }
 {
     match command {
         Command::Find(text) => match pointer_of(alloc, text) {
@@ -77,8 +77,8 @@ pub fn run_on<A: Allocator + Copy>(
     command: Command,
     input: &[u8],
 ) -> Result<String<A>, Fault<A>>
-    ensures written { IfOk result (λ s. IsWritten (request_of command) input.now (string_bytes s)) }
-    ensures refused { IfErr result (IsFaultOn (request_of command) input.now) }
+    ensures written { IfOk result (λ s. IsWritten (request_of command.entry) input.now (string_bytes s)) }
+    ensures refused { IfErr result (IsFaultOn (request_of command.entry) input.now) }
 {
     match read_request(alloc, command) {
         Ok(request) => output_of(alloc, &request, input),
