@@ -1,5 +1,7 @@
 //! Why a run of the program ended without success.
 ghost use Rattle.std.specs.Prelude.{◌≡◌, Some};
+ghost use Rattle.std.specs.Fmt.{decimal, WritesOnOk, WritesStyledOnOk};
+ghost use Rattle.jsonc_patch_engine.specs.FaultLines.{place_text};
 ghost use Rattle.jsonc_patch_engine.specs.declared.fault.Fault.TheVariants.{OutOfMemory};
 
 use jsonc_parser::LineAndColumn;
@@ -73,12 +75,8 @@ impl<A: Allocator> fmt::Display for Fault<A> {
             Fault::NoSuchValue => f.write_str("jsonc_patch: no such value"),
             Fault::NoValue => f.write_str("jsonc_patch: root value is missing"),
             Fault::NonFinite(at) => {
-                f.write_str("jsonc_patch: number is not finite on line ")?;
-                let mut digits = itoa::Buffer::new();
-                f.write_str(digits.format(at.line))?;
-                f.write_str(" column ")?;
-                let mut digits = itoa::Buffer::new();
-                f.write_str(digits.format(at.column))
+                f.write_str("jsonc_patch: number is not finite")?;
+                write_place(at.line, at.column, f)
             }
             Fault::OutOfMemory => f.write_str("jsonc_patch: Out of memory"),
             Fault::NotUtf8 => f.write_str("jsonc_patch: input is not UTF-8"),
@@ -87,6 +85,26 @@ impl<A: Allocator> fmt::Display for Fault<A> {
             Fault::Usage => f.write_str("usage: jsonc_patch find POINTER|json"),
         }
     }
+}
+
+// Writes a line and a column.
+fn write_place<W: fmt::Write>(line: usize, column: usize, f: &mut fmt::Formatter<W>) -> fmt::Result
+    ensures writes { WritesOnOk W.write_str_gives f.old result (place_text line column) f.new }
+    ensures styled { WritesStyledOnOk W.write_str_gives f.old result (place_text line column) f.new }
+{
+    f.write_str(" on line ")?;
+    write_number(line, f)?;
+    f.write_str(" column ")?;
+    write_number(column, f)
+}
+
+// Writes a number in decimal, whatever the options of the format.
+fn write_number<W: fmt::Write>(number: usize, f: &mut fmt::Formatter<W>) -> fmt::Result
+    ensures writes { WritesOnOk W.write_str_gives f.old result (decimal number) f.new }
+    ensures styled { WritesStyledOnOk W.write_str_gives f.old result (decimal number) f.new }
+{
+    let mut digits = itoa::Buffer::new();
+    f.write_str(digits.format(number))
 }
 
 impl<A: Allocator + fmt::Debug> Error for Fault<A> {}
