@@ -18,7 +18,6 @@ pub mod ValueNodes
 pub mod CommentCount
 pub mod NamedPlaces
 pub mod Numbered
-pub mod Marking
 pub mod SoundChain
 pub mod Parents
 pub mod DetachedNodes

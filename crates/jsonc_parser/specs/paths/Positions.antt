@@ -3,7 +3,7 @@ use Rattle.std.specs.Prelude.{◌≡◌, ◌≢◌, ◌⊎◌, ℕ, suc, List, [
 use Rattle.jsonc_text.specs.Plain.{Plain, object, Members, member}
 use Rattle.jsonc_text.specs.declared.edit.Over.{Over}
 use Rattle.jsonc_text.specs.declared.edit.Over.TheVariants.{Replace}
-use Rattle.jsonc_parser.specs.paths.Operations.{IsChanged, IsNamed, LacksMember, Operation, append_property, remove, replace, set_root, set_value}
+use Rattle.jsonc_parser.specs.paths.Operations.{Asks, IsChanged, IsNamed, LacksMember, Operation, PlainEdit, append_property, remove, replace, set_root, set_value}
 use Rattle.jsonc_parser.specs.paths.Laws.{MustStay}
 use Rattle.jsonc_parser.specs.paths.Settings.{nest, IsNoObject, At, Dropped, Put}
 
@@ -18,10 +18,10 @@ pub data Leads : List (List ℕ) → List ℕ → Plain → Plain → Type 0 whe
   leads_on : {name : List ℕ} {names : List (List ℕ)} {i : ℕ} {path : List ℕ} {ms : Members} {x v : Plain} → FirstAt name x i ms → Leads names path x v
       → Leads (name ∷ names) (i ∷ path) (object ms) v
 
--- The one operation that puts v at the names: the document's value is set, where there is no name; it is set to v nested, where there was none; the value of the
+-- The one edit that puts v at the names: the document's value is set, where there is no name; it is set to v nested, where there was none; the value of the
 -- property that all names lead to is set; where one name is missing in the object that those before it lead to, a property of it comes last, with the rest nested;
 -- and where those before it lead to a value of another kind, the rest nested is written in its place, if it may be.
-pub data IsPutBy (v : Plain) (over : Over) : Option Plain → List (List ℕ) → Operation → Type 0 where
+pub data IsPutBy (v : Plain) (over : Over) : Option Plain → List (List ℕ) → PlainEdit → Type 0 where
   sets_root : {w : Option Plain} → IsPutBy v over w [] (set_root v)
   sets_first : {name : List ℕ} {names : List (List ℕ)} → IsPutBy v over None (name ∷ names) (set_root (nest (name ∷ names) v))
   sets_value : {name : List ℕ} {names : List (List ℕ)} {path : List ℕ} {x was : Plain} → Leads (name ∷ names) path x was
@@ -31,20 +31,20 @@ pub data IsPutBy (v : Plain) (over : Over) : Option Plain → List (List ℕ) �
   replaces : (front rest : List (List ℕ)) {name : List ℕ} {path : List ℕ} {x other : Plain} → Leads front path x other → IsNoObject other
       → over ≡ Replace → IsPutBy v over (Some x) (front ++ name ∷ rest) (replace path (nest (name ∷ rest) v))
 
--- the one operation that takes out what stands at the names: that which removes the entry that they lead to, or the document's value
-pub data IsDroppedBy : Option Plain → List (List ℕ) → Operation → Type 0 where
+-- the one edit that takes out what stands at the names: that which removes the entry that they lead to, or the document's value
+pub data IsDroppedBy : Option Plain → List (List ℕ) → PlainEdit → Type 0 where
   removes : {names : List (List ℕ)} {path : List ℕ} {x was : Plain} → Leads names path x was → IsDroppedBy (Some x) names (remove path)
 
 -- names lead to a value exactly where it stands at them
 abbrev pub LeadToWhatStands : Option Plain → List (List ℕ) → Plain → Type 0
 LeadToWhatStands w names v = At w names v → (x : Plain) × (w ≡ Some x) × (path : List ℕ) × Leads names path x v
 
--- the operation has its place, and what it makes of a value is that which has v put at the names
-abbrev pub PutsByIt : Plain → Over → Option Plain → List (List ℕ) → Operation → Type 0
-PutsByIt v over w names e = IsPutBy v over w names e → ((count : ℕ) → IsNamed w count e) × ((x : Option Plain) → IsChanged w e x → Put v over w names x)
+-- the edit has its place, and what the operation that it asks for makes of a value is that which has v put at the names
+abbrev pub PutsByIt : Plain → Over → Option Plain → List (List ℕ) → PlainEdit → Type 0
+PutsByIt v over w names e = IsPutBy v over w names e → ((count : ℕ) → IsNamed w count e) × ((x : Option Plain) (op : Operation) → Asks w e op → IsChanged w op x → Put v over w names x)
 
-abbrev pub DropsByIt : Option Plain → List (List ℕ) → Operation → Type 0
-DropsByIt w names e = IsDroppedBy w names e → ((count : ℕ) → IsNamed w count e) × ((x : Option Plain) → IsChanged w e x → Dropped w names x)
+abbrev pub DropsByIt : Option Plain → List (List ℕ) → PlainEdit → Type 0
+DropsByIt w names e = IsDroppedBy w names e → ((count : ℕ) → IsNamed w count e) × ((x : Option Plain) (op : Operation) → Asks w e op → IsChanged w op x → Dropped w names x)
 
 -- how far names lead from a value: all the way; or in the object that those before it lead to no property has the next name; or those before it lead to a value of
 -- another kind
@@ -55,6 +55,6 @@ pub data Reaches (x : Plain) : List (List ℕ) → Type 0 where
   to_another : (front : List (List ℕ)) (name : List ℕ) (rest : List (List ℕ)) {path : List ℕ} {other : Plain} → Leads front path x other → IsNoObject other
       → Reaches x (front ++ name ∷ rest)
 
--- one of the operations puts v at the names, or else something must stay that stands in the way
+-- one of the edits puts v at the names, or else something must stay that stands in the way
 abbrev pub IsPutByOne : Plain → Over → Option Plain → List (List ℕ) → Type 0
-IsPutByOne v over w names = ((e : Operation) × IsPutBy v over w names e) ⊎ MustStay over w names
+IsPutByOne v over w names = ((e : PlainEdit) × IsPutBy v over w names e) ⊎ MustStay over w names

@@ -29,12 +29,10 @@ pub mod CommasLeft
 pub mod Removing
 pub mod ReflowedRows
 pub mod Members
-pub mod Ensured
 pub mod Roots
 pub mod Trailing
 pub mod PartLines
 pub mod Lines
-pub mod NamedProperties
 pub mod Properties
 pub mod SortedParts
 pub mod SortedEntries

@@ -15,7 +15,7 @@ use Rattle.jsonc_text.specs.declared.edit.Over.TheVariants.{Keep, Replace}
 use Rattle.jsonc_insert.specs.named.Members.{LacksMember}
 use Rattle.jsonc_run.specs.declared.edit.Edit.{Edit}
 use Rattle.jsonc_run.specs.declared.edit.Edit.TheVariants as edits
-use Rattle.jsonc_run.specs.Edits.{Operation, append_property, replace, set_root, set_value}
+use Rattle.jsonc_run.specs.Edits.{PlainEdit, append_property, replace, set_root, set_value}
 use Rattle.jsonc_cst.specs.declared.cst.CstRootNode.{CstRootNode}
 use Rattle.jsonc_cst.specs.Document.{tree_of}
 use Rattle.jsonc_parser.specs.paths.Choices.{Chooses, IsAppending}
@@ -44,14 +44,14 @@ module _ (v : Plain) (over : Over) where
   appends_by : (d : Document) (names : List (List ℕ)) (path : List ℕ) (count : ℕ) (ms : Members) (to : ReachesTo d names path count (plains.object ms)) → LacksMember to.name ms
       → IsPutBy v over d.value names (append_property path to.name (nest (drop (count + 1) names) v))
   appends_by d names path count ms to lacks =
-      let op : Operation = append_property path to.name (nest (drop (count + 1) names) v) in
+      let op : PlainEdit = append_property path to.name (nest (drop (count + 1) names) v) in
       subst (λ (k : Option Plain). IsPutBy v over k names op) (sym to.is)
       (subst (λ (l : List (List ℕ)). IsPutBy v over (Some to.x) l op) (split_to d names path count (plains.object ms) to) (appends (take count names) (drop (count + 1) names) to.leads lacks))
 
   replaces_by : (d : Document) (names : List (List ℕ)) (path : List ℕ) (count : ℕ) (z : Plain) → ReachesTo d names path count z → IsNoObject z → over ≡ Replace
       → IsPutBy v over d.value names (replace path (nest (drop count names) v))
   replaces_by d names path count z to non how =
-      let op : Operation = replace path (nest (to.name ∷ drop (count + 1) names) v) in
+      let op : PlainEdit = replace path (nest (to.name ∷ drop (count + 1) names) v) in
       subst (λ (l : List (List ℕ)). IsPutBy v over d.value names (replace path (nest l v))) (sym to.next)
       (subst (λ (k : Option Plain). IsPutBy v over k names op) (sym to.is)
       (subst (λ (l : List (List ℕ)). IsPutBy v over (Some to.x) l op) (split_to d names path count z to) (replaces (take count names) (drop (count + 1) names) to.leads non how)))
@@ -80,7 +80,7 @@ module _ {A : Type 0} (doc : CstRootNode A) (v : Plain) (over : Over) (names : L
   chosen_append path count (Some edit) appending reached = (
     appending.0,
     λ d shown. (let r = reached d shown in
-        subst (λ (op : Operation). IsPutBy v over d.value names op) (sym (appending.1 r.1.name r.1.next)) (appends_by v over d names path count r.0 r.1 r.2)),
+        subst (λ (op : PlainEdit). IsPutBy v over d.value names op) (sym (appending.1 r.1.name r.1.next)) (appends_by v over d names path count r.0 r.1 r.2)),
   )
 
   pub chosen_kept : (path : List ℕ) (count : ℕ) → over ≡ Keep → ((d : Document) → Shows d (tree_of doc) → (z : Plain) × ReachesTo d names path count z × IsNoObject z) → Chooses doc v over names None

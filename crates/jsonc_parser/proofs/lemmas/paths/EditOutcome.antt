@@ -14,7 +14,7 @@ use Rattle.jsonc_text.specs.declared.edit.Over.{Over}
 use Rattle.jsonc_run.specs.declared.edit.Edit.{Edit}
 use Rattle.jsonc_run.specs.declared.edit.Edit.TheVariants.{Remove, Sort, SetTrailingCommas}
 use Rattle.jsonc_text.specs.declared.edit.TrailingCommaMode.{TrailingCommaMode}
-use Rattle.jsonc_run.specs.Edits.{Operation, is_sort, is_whole, operation_of, set_commas, unsorted, EditStep}
+use Rattle.jsonc_run.specs.Edits.{PlainEdit, is_sort, is_whole, operation_of, set_commas, unsorted, EditStep}
 use Rattle.jsonc_run.specs.Refusals.{IsLeft, as_it_was, set_in_part, FailsWith}
 use Rattle.jsonc_run.proofs.SoundChain.{of_characters}
 use Rattle.jsonc_cst.specs.declared.cst.CstRootNode.{CstRootNode}
@@ -35,7 +35,7 @@ whole_no_commas : {A : Type 0} (e : Edit A) (path : List ℕ) (mode : TrailingCo
 whole_no_commas (SetTrailingCommas path mode) q m whole is = let wrong : false ≡ true = whole in cc
 whole_no_commas e q m whole is = cc
 
-left_whole : {A : Type 0} (e : Edit A) (old new : List Node) (op : Operation) → is_whole e ≡ true → operation_of unsorted e ≡ op → IsLeft old op new → ordered_tree new 0 ≡ ordered_tree old 0
+left_whole : {A : Type 0} (e : Edit A) (old new : List Node) (op : PlainEdit) → is_whole e ≡ true → operation_of unsorted e ≡ op → IsLeft old op new → ordered_tree new 0 ≡ ordered_tree old 0
 left_whole e old new op whole is (as_it_was kept same) = same
 left_whole e old new _ whole is (set_in_part {path = path} {mode = mode} n at part) = absurd (whole_no_commas e path mode whole is)
 

@@ -1,11 +1,16 @@
 -- What an operation at the positions that names lead over makes of a value.
-use Rattle.std.proofs.Common.{ℕ, suc, min, ◌≡◌, ◌≤◌, ◌<◌, sym, ap, subst, refl, List, [], ◌∷◌, ◌++◌, Option, Some, None, arith}
+use Rattle.std.proofs.Common.{ℕ, suc, min, ◌≡◌, ◌≤◌, ◌<◌, ◌∙◌, sym, ap, subst, refl, List, [], ◌∷◌, ◌++◌, Option, Some, None, arith}
 use Rattle.jsonc_text.specs.Plain.{Plain, Items, Members, no_members, member}
 use Rattle.jsonc_text.specs.Plain as plain
 use Rattle.jsonc_text.specs.declared.edit.Over.{Over}
-use Rattle.jsonc_parser.specs.paths.Operations.{MemberChanged, this_member, later_member, Changed, itself, in_array, in_object, MemberRemoved, LosesEntry, loses_item, loses_member, MemberInserted, member_count, LacksMember, no_more, other_name, Operation, append_property, remove, replace, set_root, set_value, IsChanged, by_value, by_entry, by_all, by_root, by_setting, by_appending_member, StandsAt, IsNamed}
+use Rattle.jsonc_parser.specs.paths.Operations.{MemberChanged, this_member, later_member, Changed, itself, in_array, in_object, MemberRemoved, LosesEntry, loses_item, loses_member, MemberInserted, member_count, InsertsMemberAt, LacksMember, no_more, other_name, Operation, PlainEdit, append_property, Asks, IsChanged, by_value, by_first, by_inserting_member, by_entry, by_all, StandsAt, IsNamed}
 use Rattle.jsonc_sound.specs.Values as removed
 use Rattle.jsonc_insert.specs.elements.Members as inserted
+use Rattle.jsonc_insert.proofs.lemmas.named.PathValues.{value_once}
+use Rattle.jsonc_run.specs.Named as asks
+use Rattle.jsonc_run.specs.texts.Edits as texts
+use Rattle.jsonc_run.specs.texts.Entries.{Named}
+use Rattle.jsonc_run.specs.texts.Paths.{an_object}
 use Rattle.jsonc_parser.specs.paths.Settings as settings
 use Rattle.jsonc_parser.specs.paths.Settings.{FirstIs, this_one, later_one, FirstBecomes, this_becomes, later_becomes, FirstLeaves, this_leaves, later_leaves, ComesLast, comes_alone, comes_behind, At, nest, IsNoObject, Put, is_there, changes_inside, comes_last, comes_first, gives_way, Dropped, value_leaves, entry_leaves, leaves_inside}
 use Rattle.jsonc_parser.specs.paths.Positions.{FirstAt, this_at, later_at, Leads, leads_nowhere, leads_on, IsPutBy, sets_root, sets_first, sets_value, appends, replaces, IsDroppedBy, removes, LeadToWhatStands, PutsByIt, DropsByIt}
@@ -94,14 +99,6 @@ put_there {v} {over} {was = was} (leads_on {names = names} {path = path} f l) (i
     let g = at_changes f m in
     changes_inside g.1 (subst (λ k. Put v over (Some k) names (Some z)) g.0 (put_there l (subst (λ k. Changed was v path k z) (sym g.0) c)))
 
--- a change of the value of a property is a change at its path
-held_changed : {a b was now x y : Plain} {path : List ℕ} {i : ℕ} {ms ns : Members} → Changed a b path x y → a ≡ plain.object ms → b ≡ plain.object ns → MemberChanged was now i ms ns
-    → Changed was now (path ++ i ∷ []) x y
-held_changed {a = a} {b = b} {was = was} {now = now} {i = i} {ms = ms} {ns = ns} itself p q m =
-    subst (λ k. Changed was now (i ∷ []) k b) (sym p) (subst (λ k. Changed was now (i ∷ []) (plain.object ms) k) (sym q) (in_object m itself))
-held_changed (in_array h c) p q m = in_array h (held_changed c p q m)
-held_changed (in_object h c) p q m = in_object h (held_changed c p q m)
-
 -- the last of the names, where they lead over a path with a last step
 record LastName (names : List (List ℕ)) (path : List ℕ) (i : ℕ) (x v : Plain) : Type 0 where
   front : List (List ℕ)
@@ -154,24 +151,25 @@ record ByValue (path : List ℕ) (v : Plain) (w y : Option Plain) : Type 0 where
   now : y ≡ Some new
   changed : Changed was v path old new
 
-replaced : {w y : Option Plain} {e : Operation} → IsChanged w e y → (path : List ℕ) (v : Plain) → e ≡ replace path v → ByValue path v w y
+replaced : {w y : Option Plain} {op : Operation} → IsChanged w op y → (path : List ℕ) (v : Plain) → op ≡ texts.replace path v → ByValue path v w y
 replaced (by_value {given_up = was} {v = u} {x = x} {y = y} {path = p} c) path v e =
     let a : p ≡ path = cc in
     let b : u ≡ v = cc in
     record { old = x; new = y; was = was; is = refl; now = refl; changed = subst (λ k. Changed was k path x y) b (subst (λ k. Changed was u k x y) a c) }
 replaced c path v e = cc
 
-value_set : {w y : Option Plain} {e : Operation} → IsChanged w e y → (path : List ℕ) (v : Plain) → e ≡ set_value path v → ByValue path v w y
-value_set (by_setting p i {was = was} {v = u} {x = x} {y = y} h) path v e =
-    let a : p ++ i ∷ [] ≡ path = cc in
-    let b : u ≡ v = cc in
-    let c = held_changed h.inside refl refl h.changed in
-    record { old = x; new = y; was = was; is = refl; now = refl; changed = subst (λ k. Changed was k path x y) b (subst (λ k. Changed was u k x y) a c) }
-value_set c path v e = cc
+whole : {was now : Plain} {path : List ℕ} {x y : Plain} → Changed was now path x y → path ≡ [] → y ≡ now
+whole itself e = refl
+whole (in_array h c) e = cc
+whole (in_object h c) e = cc
 
-root_set : {w y : Option Plain} {e : Operation} → IsChanged w e y → (v : Plain) → e ≡ set_root v → y ≡ Some v
-root_set (by_root {v = u}) v e = let b : u ≡ v = cc in ap Some b
-root_set c v e = cc
+first_set : {w y : Option Plain} {op : Operation} → IsChanged w op y → (v : Plain) → op ≡ texts.come_first v → y ≡ Some v
+first_set (by_first {v = u}) v e = let b : u ≡ v = cc in ap Some b
+first_set c v e = cc
+
+root_set : (w : Option Plain) {y : Option Plain} {op : Operation} → IsChanged w op y → (v : Plain) → op ≡ asks.sets_root w v → y ≡ Some v
+root_set None c v e = first_set c v e
+root_set (Some x) c v e = let b = replaced c [] v e in b.now ∙ ap Some (whole b.changed refl)
 
 record ByMember (path name : List ℕ) (v : Plain) (w y : Option Plain) : Type 0 where
   old : Plain
@@ -186,65 +184,86 @@ record ByMember (path name : List ℕ) (v : Plain) (w y : Option Plain) : Type 0
 least : (i n : ℕ) → n ≤ i → min i n ≡ n
 least i n h = omega (arith, h)
 
-appended : {w y : Option Plain} {e : Operation} → IsChanged w e y → (path name : List ℕ) (v : Plain) → e ≡ append_property path name v → ByMember path name v w y
-appended (by_appending_member {i = i} {name = n} {v = u} {x = x} {y = y} {path = p} g h) path name v e =
+record Inserted (path : List ℕ) (i : ℕ) (name : List ℕ) (v : Plain) (w y : Option Plain) : Type 0 where
+  old : Plain
+  new : Plain
+  is : w ≡ Some old
+  now : y ≡ Some new
+  gains : InsertsMemberAt path i name v old new
+
+inserted_there : {w y : Option Plain} {op : Operation} → IsChanged w op y → (path : List ℕ) (i : ℕ) (name : List ℕ) (v : Plain) → op ≡ texts.insert an_object path i (asks.entry name v) → Inserted path i name v w y
+inserted_there (by_inserting_member {i = j} {new = new} {x = x} {y = y} {path = p} g) path i name v e =
     let a : p ≡ path = cc in
-    let b : n ≡ name = cc in
-    let c : u ≡ v = cc in
-    let last = subst (λ k. MemberInserted n u k g.old g.new) (least i (member_count g.old) h) g.comes in
+    let b : j ≡ i = cc in
+    let c : new ≡ asks.entry name v = cc in
     record {
       old = x;
       new = y;
-      ms = g.old;
-      ns = g.new;
       is = refl;
       now = refl;
-      comes = subst (λ k. MemberInserted name k (member_count g.old) g.old g.new) c (subst (λ k. MemberInserted k u (member_count g.old) g.old g.new) b last);
-      changed = subst (λ k. Changed (plain.object g.old) (plain.object g.new) k x y) a g.changed;
+      gains = subst (λ (k : Named). InsertsMemberAt path i k.name k.value x y) c (subst (λ k. InsertsMemberAt path k new.name new.value x y) b (subst (λ k. InsertsMemberAt k j new.name new.value x y) a g));
     }
-appended c path name v e = cc
+inserted_there c path i name v e = cc
+
+some_same : (x y : Plain) → Some x ≡ Some y → x ≡ y
+some_same x y e = cc
+
+appended : (path name : List ℕ) (v : Plain) {w y : Option Plain} {op : Operation} → Asks w (append_property path name v) op → IsChanged w op y → ByMember path name v w y
+appended path name v (ms, i, stands, far, is) c =
+    let m = inserted_there c path i name v is in
+    let g = m.gains in
+    let same : stands.0 ≡ m.old = some_same stands.0 m.old (sym stands.1 ∙ m.is) in
+    let rows : ms ≡ g.old = object_same ms g.old (value_once (subst (λ k. Changed (plain.object ms) (plain.object ms) path k k) same stands.2) g.changed) in
+    let behind : member_count g.old ≤ i = subst (λ l. member_count l ≤ i) rows far in
+    record {
+      old = m.old;
+      new = m.new;
+      ms = g.old;
+      ns = g.new;
+      is = m.is;
+      now = m.now;
+      comes = subst (λ k. MemberInserted name v k g.old g.new) (least i (member_count g.old) behind) g.comes;
+      changed = g.changed;
+    }
 
 data Removed (path : List ℕ) (w y : Option Plain) : Type 0 where
   value_removed : path ≡ [] → y ≡ None → Removed path w y
   entry_removed : (front : List ℕ) (i : ℕ) (old new : Plain) → path ≡ front ++ i ∷ [] → w ≡ Some old → y ≡ Some new → LosesEntry front i old new → Removed path w y
 
-was_removed : {w y : Option Plain} {e : Operation} → IsChanged w e y → (path : List ℕ) → e ≡ remove path → Removed path w y
+was_removed : {w y : Option Plain} {op : Operation} → IsChanged w op y → (path : List ℕ) → op ≡ texts.remove path → Removed path w y
 was_removed (by_entry p i {x = x} {y = y} l) path e = let a : path ≡ p ++ i ∷ [] = cc in entry_removed p i x y a refl refl l
 was_removed by_all path e = let a : path ≡ [] = cc in value_removed a refl
 was_removed c path e = cc
-
-some_same : (x y : Plain) → Some x ≡ Some y → x ≡ y
-some_same x y e = cc
 
 no_names : {path : List ℕ} {names : List (List ℕ)} {x v : Plain} → Leads names path x v → path ≡ [] → names ≡ []
 no_names leads_nowhere e = refl
 no_names (leads_on {i = i} {path = p} f l) e = cc
 
--- each operation makes what is put
-put_by : {v : Plain} {over : Over} {w : Option Plain} {names : List (List ℕ)} {e : Operation} → IsPutBy v over w names e → (y : Option Plain) → IsChanged w e y → Put v over w names y
-put_by {v} {over} (sets_root {w = w}) y c = subst (Put v over w []) (sym (root_set c v refl)) is_there
-put_by {v} {over} (sets_first {name = name} {names = names}) y c = subst (Put v over None (name ∷ names)) (sym (root_set c (nest (name ∷ names) v) refl)) comes_first
-put_by {v} {over} (sets_value {name = name} {names = names} {path = path} {x = x} l) y c =
-    let b = value_set c path v refl in
+-- what each edit asks for makes what is put
+put_by : {v : Plain} {over : Over} {w : Option Plain} {names : List (List ℕ)} {e : PlainEdit} → IsPutBy v over w names e → (y : Option Plain) (op : Operation) → Asks w e op → IsChanged w op y → Put v over w names y
+put_by {v} {over} (sets_root {w = w}) y op a c = subst (Put v over w []) (sym (root_set w c v a)) is_there
+put_by {v} {over} (sets_first {name = name} {names = names}) y op a c = subst (Put v over None (name ∷ names)) (sym (root_set None c (nest (name ∷ names) v) a)) comes_first
+put_by {v} {over} (sets_value {name = name} {names = names} {path = path} {x = x} l) y op a c =
+    let b = replaced c path v a in
     let same : b.old ≡ x = sym (some_same x b.old b.is) in
     subst (Put v over (Some x) (name ∷ names)) (sym b.now) (put_there l (subst (λ k. Changed b.was v path k b.new) same b.changed))
-put_by {v} {over} (appends front rest {name = name} {path = path} {x = x} {ms = ms} l lacks) y c =
-    let b = appended c path name (nest rest v) refl in
+put_by {v} {over} (appends front rest {name = name} {path = path} {x = x} {ms = ms} l lacks) y op a c =
+    let b = appended path name (nest rest v) a c in
     let same : b.old ≡ x = sym (some_same x b.old b.is) in
     let changed = subst (λ k. Changed (plain.object b.ms) (plain.object b.ns) path k b.new) same b.changed in
     let inner : ms ≡ b.ms = object_same ms b.ms (leads_value l changed) in
     let last = comes_behind_all refl (subst (LacksMember name) inner lacks) b.comes in
     subst (Put v over (Some x) (front ++ name ∷ rest)) (sym b.now) (put_inside v over (name ∷ rest) l changed (comes_last last))
-put_by {v} {over} (replaces front rest {name = name} {path = path} {x = x} {other = other} l non how) y c =
-    let b = replaced c path (nest (name ∷ rest) v) refl in
+put_by {v} {over} (replaces front rest {name = name} {path = path} {x = x} {other = other} l non how) y op a c =
+    let b = replaced c path (nest (name ∷ rest) v) a in
     let same : b.old ≡ x = sym (some_same x b.old b.is) in
     let changed = subst (λ k. Changed b.was (nest (name ∷ rest) v) path k b.new) same b.changed in
     let inner : other ≡ b.was = leads_value l changed in
     subst (Put v over (Some x) (front ++ name ∷ rest)) (sym b.now) (put_inside v over (name ∷ rest) l changed (gives_way (subst IsNoObject inner non) how))
 
-drop_by : {w : Option Plain} {names : List (List ℕ)} {e : Operation} → IsDroppedBy w names e → (y : Option Plain) → IsChanged w e y → Dropped w names y
-drop_by (removes {names = names} {path = path} {x = x} {was = was} l) y c =
-    elim (was_removed c path refl) [
+drop_by : {w : Option Plain} {names : List (List ℕ)} {e : PlainEdit} → IsDroppedBy w names e → (y : Option Plain) (op : Operation) → Asks w e op → IsChanged w op y → Dropped w names y
+drop_by (removes {names = names} {path = path} {x = x} {was = was} l) y op a c =
+    elim (was_removed c path a) [
       | value_removed e now ↦ subst (λ k. Dropped (Some x) k y) (sym (no_names l e)) (subst (Dropped (Some x) []) (sym now) value_leaves)
       | entry_removed front i old new e is now loses ↦
           subst (Dropped (Some x) names) (sym now) (entry_dropped (last_name l front i e) (subst (λ k. LosesEntry front i k new) (sym (some_same x old is)) loses))
@@ -259,7 +278,7 @@ last_step leads_nowhere name rest e = cc
 last_step (leads_on {i = i} f leads_nowhere) name rest e = ([], i, refl)
 last_step (leads_on {i = i} f (leads_on {name = n} {names = ns} g l)) name rest e = let inner = last_step (leads_on g l) n ns refl in (i ∷ inner.0, inner.1, ap (λ r. i ∷ r) inner.2)
 
-put_named : {v : Plain} {over : Over} {w : Option Plain} {names : List (List ℕ)} {e : Operation} (count : ℕ) → IsPutBy v over w names e → IsNamed w count e
+put_named : {v : Plain} {over : Over} {w : Option Plain} {names : List (List ℕ)} {e : PlainEdit} (count : ℕ) → IsPutBy v over w names e → IsNamed w count e
 put_named count sets_root = tt
 put_named count sets_first = tt
 put_named count (sets_value {name = name} {names = names} {path = path} {x = x} l) =
@@ -269,14 +288,14 @@ put_named count (sets_value {name = name} {names = names} {path = path} {x = x} 
 put_named count (appends front rest {ms = ms} l lacks) = (ms, stands l)
 put_named count (replaces front rest {other = other} l non how) = (other, stands l)
 
-drop_named : {w : Option Plain} {names : List (List ℕ)} {e : Operation} (count : ℕ) → IsDroppedBy w names e → IsNamed w count e
+drop_named : {w : Option Plain} {names : List (List ℕ)} {e : PlainEdit} (count : ℕ) → IsDroppedBy w names e → IsNamed w count e
 drop_named count (removes {was = was} l) = (was, stands l)
 
-pub puts_by_it : (v : Plain) (over : Over) (w : Option Plain) (names : List (List ℕ)) (e : Operation) → PutsByIt v over w names e
-puts_by_it v over w names e p = (λ count. put_named count p, put_by p)
+pub puts_by_it : (v : Plain) (over : Over) (w : Option Plain) (names : List (List ℕ)) (e : PlainEdit) → PutsByIt v over w names e
+puts_by_it v over w names e p = (λ count. put_named count p, λ y op. put_by p y op)
 
-pub drops_by_it : (w : Option Plain) (names : List (List ℕ)) (e : Operation) → DropsByIt w names e
-drops_by_it w names e d = (λ count. drop_named count d, drop_by d)
+pub drops_by_it : (w : Option Plain) (names : List (List ℕ)) (e : PlainEdit) → DropsByIt w names e
+drops_by_it w names e d = (λ count. drop_named count d, λ y op. drop_by d y op)
 
 pub lead_to_what_stands : (w : Option Plain) (names : List (List ℕ)) (v : Plain) → LeadToWhatStands w names v
 lead_to_what_stands w names v a = at_leads a

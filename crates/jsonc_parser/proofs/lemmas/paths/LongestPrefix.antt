@@ -4,7 +4,7 @@ use Rattle.jsonc_text.specs.Plain.{Plain, Members, no_members, member}
 use Rattle.jsonc_text.specs.Plain as plain
 use Rattle.jsonc_text.specs.declared.edit.Over.{Over}
 use Rattle.jsonc_text.specs.declared.edit.Over.TheVariants.{Keep, Replace}
-use Rattle.jsonc_parser.specs.paths.Operations.{Operation, LacksMember, no_more, other_name, append_property, replace, set_root, set_value}
+use Rattle.jsonc_parser.specs.paths.Operations.{PlainEdit, LacksMember, no_more, other_name, append_property, replace, set_root, set_value}
 use Rattle.jsonc_parser.specs.paths.Settings.{FirstIs, this_one, later_one, nest, IsNoObject, StandsInTheWay, this_stands, inner_stands}
 use Rattle.jsonc_parser.specs.paths.Positions.{FirstAt, this_at, later_at, Leads, leads_nowhere, leads_on, sets_root, sets_first, sets_value, appends, replaces, IsPutBy, IsPutByOne, Reaches, to_value, to_missing, to_another}
 use Rattle.jsonc_parser.proofs.lemmas.paths.Leading.{at_first}
@@ -79,7 +79,7 @@ led_there rest (leads_on {name = name} {names = names} {ms = ms} f l) s =
     let b = blocked s name (names ++ rest) ms refl refl in
     led_there rest l (subst (λ (k : Plain). StandsInTheWay (Some k) (names ++ rest)) (first_once b.first (at_first f)) b.rest)
 
-pub put_is_free : {v : Plain} {over : Over} {w : Option Plain} {names : List (List ℕ)} {e : Operation} → IsPutBy v over w names e → over ≡ Keep → StandsInTheWay w names → ⊥
+pub put_is_free : {v : Plain} {over : Over} {w : Option Plain} {names : List (List ℕ)} {e : PlainEdit} → IsPutBy v over w names e → over ≡ Keep → StandsInTheWay w names → ⊥
 put_is_free sets_root keep s = blocked_end s refl
 put_is_free sets_first keep s = blocked_none s refl
 put_is_free (sets_value l) keep s = led_all l s

@@ -16,7 +16,6 @@ use Rattle.jsonc_sound.proofs.NodesAlone.{document_alone, value_alone}
 use Rattle.jsonc_sound.proofs.Pieces.{Pieces, document_pieces}
 use Rattle.jsonc_sound.proofs.HeldValues.{document_held}
 use Rattle.jsonc_sound.proofs.Texts.{AllUtf8}
-use Rattle.jsonc_run.specs.Edits.{replace_property}
 use Rattle.jsonc_run.specs.Written.{IsChanged, by_property, ReplacesProperty, property_given}
 use Rattle.jsonc_edit.specs.SeamEntries.{PropertyHolds, PropertyReplacedWithSeam}
 use Rattle.jsonc_edit.specs.SeamPlaces.{RowHolds, this_element, past_other, past_element, DocumentHolds}
@@ -212,8 +211,8 @@ abbrev Gives : List ℕ → List ℕ → Plain → Option Plain → Option Plain
 Gives path name v w x = (holder : List ℕ) × (front back : List Named) × (old : Named) × (path ≡ holder ++ length front ∷ [])
     × Becomes (of an_object (front ++ old ∷ back)) (of an_object (front ++ entry_of name v ∷ back)) holder w x
 
-gives : {path name : List ℕ} {v : Plain} {w x : Option Plain} → IsChanged w (replace_property path name v) x → Gives path name v w x
-gives {name = name} {v = v} (by_property path i {x = x} {y = y} g) =
+gives : {path : List ℕ} {new : Named} {w x : Option Plain} → IsChanged w (texts.replace_property path new) x → Gives path new.name new.value w x
+gives (by_property path i {x = x} {y = y} g) =
     let m = member_given g.replaced in (
       path,
       m.front,
@@ -228,8 +227,8 @@ puts : (o : Options) (t u : OrderedTree) (w x : Option Plain) (path name : List 
 puts o t u w x _ name v f s r (property_given path i layout spaced front old back p c d seam bare) =
     property_puts o s r seam w x (written an_object (entry_of name v)) (laid_property_literals layout name v f.0 f.1) (is_laid_property o layout name v f.0 f.1) (λ e. property_ends layout name v (bare e))
 
-pub property_replaced : (o : Options) (t u : OrderedTree) (w x : Option Plain) (path name : List ℕ) (v : Plain) → IsCharacters name × IsOfTexts v → SoundTree o t → SoundTree o u → IsChanged w (replace_property path name v) x
-    → ReplacesProperty name v t u path → Makes (document_of o t w) (texts.replace_property path name v) (document_of o u x)
+pub property_replaced : (o : Options) (t u : OrderedTree) (w x : Option Plain) (path name : List ℕ) (v : Plain) → IsCharacters name × IsOfTexts v → SoundTree o t → SoundTree o u → IsChanged w (texts.replace_property path (entry_of name v)) x
+    → ReplacesProperty name v t u path → Makes (document_of o t w) (texts.replace_property path (entry_of name v)) (document_of o u x)
 property_replaced o t u w x path name v f s r c given =
     let k = gives c in
     (puts o t u w x path name v f s r given, k.0, k.1, k.2, k.3, k.4, k.5)
