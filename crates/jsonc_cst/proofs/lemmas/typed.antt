@@ -17,3 +17,4 @@ pub mod Trailing
 pub mod Calls
 pub mod RootShapes
 pub mod HeldShapes
+pub mod Renamed
