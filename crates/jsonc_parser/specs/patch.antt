@@ -3,6 +3,7 @@ pub mod Reading
 pub mod References
 pub mod Found
 pub mod Lookups
+pub mod Locations
 pub mod Messages
 pub mod Laws
 pub mod Numbers

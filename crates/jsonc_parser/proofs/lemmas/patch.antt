@@ -5,6 +5,8 @@ pub mod Rows
 pub mod Nodes
 pub mod Named
 pub mod Steps
+pub mod Locations
+pub mod Located
 pub mod Digits
 pub mod HexRows
 pub mod NumberRows

@@ -64,7 +64,7 @@ pub(crate) enum Lookup {
 
 // The one property of a name among the children of an object. Memory is wanted only for a name with a
 // backslash.
-fn look_up<A: Allocator + Copy>(
+pub(super) fn look_up<A: Allocator + Copy>(
     doc: &CstRootNode<A>,
     object: usize,
     name: &str,
@@ -92,7 +92,7 @@ fn look_up<A: Allocator + Copy>(
 }
 
 // The value of a property, if it has one.
-fn value_under<A: Allocator>(doc: &CstRootNode<A>, property: usize) -> Option<CstNode>
+pub(super) fn value_under<A: Allocator>(doc: &CstRootNode<A>, property: usize) -> Option<CstNode>
     requires { property < length (nodes_of doc.now) }
     ensures value { result ≡ value_of_property doc.now property }
     ensures in_document { IfSome result (HasNode doc.now) }

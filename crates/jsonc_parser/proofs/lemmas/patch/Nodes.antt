@@ -121,7 +121,7 @@ module _ (test : ℕ → Bool) where
       ]
 
 module _ (d : Document) (ns : List Node) (tree : IsTree ns) (shown : Shows d (ordered_tree ns 0)) where
-  some_same : (x y : Plain) → Some x ≡ Some y → x ≡ y
+  pub some_same : (x y : Plain) → Some x ≡ Some y → x ≡ y
   some_same x y e = cc
 
   -- a node at positions that tokens lead over is what they refer to
@@ -174,7 +174,7 @@ module _ (d : Document) (ns : List Node) (tree : IsTree ns) (shown : Shows d (or
         (λ ms e. no_object (object_content d.options (content_at ns n) (row_below ns n) ms (subst (HasValue d.options (top_at ns n)) e w.has)))
         (λ vs e. no_array (array_content d.options (content_at ns n) (row_below ns n) vs (subst (HasValue d.options (top_at ns n)) e w.has))))
 
-    there : n < length ns
+    pub there : n < length ns
     there = over_there ns tree n (over_at ns tree w.path n w.at)
 
     -- an array
@@ -198,10 +198,10 @@ module _ (d : Document) (ns : List Node) (tree : IsTree ns) (shown : Shows d (or
 
     -- an object
     module _ (is : content_at ns n ≡ content.object) where
-      its : (ms : Members) × (w.v ≡ plain.object ms) × MembersOf d.options (row_below ns n) ms
+      pub its : (ms : Members) × (w.v ≡ plain.object ms) × MembersOf d.options (row_below ns n) ms
       its = object_value d.options (content_at ns n) (row_below ns n) w.v is w.has
 
-      all_whole : All (IsWhole d.options ns) (children_at ns n)
+      pub all_whole : All (IsWhole d.options ns) (children_at ns n)
       all_whole = λ k e h kind row p.
           let r = get_or (children_at ns n) k e in
           let element = at_filter (is_element_at ns) (children_at ns n) k e h (ap is_element kind) in
