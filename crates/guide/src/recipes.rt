@@ -4,7 +4,7 @@ use jsonc_parser::cst::{
     CstComment, CstInputValue, CstObjectProp, CstRootNode, Edit, EditError, Over,
     TrailingCommaMode, TypedNode, run_unsorted,
 };
-use jsonc_parser::settings::{find_at, set_at};
+use jsonc_parser::settings::{find_at, set_at, set_last_at};
 use std::alloc::{AllocError, Allocator};
 
 /// A path of names.
@@ -149,40 +149,15 @@ pub(crate) fn sort_under_headers<A: Allocator + Copy>(
     )
 }
 
-/// Sets the value of the last property of a name, which VS Code reads.
-fn set_last<A: Allocator + Copy>(
-    doc: &mut CstRootNode<A>,
-    name: &str,
-    value: CstInputValue<A>,
-) -> Result<(), EditError> {
-    let object = doc.object_value_or_set()?;
-    let mut last = None;
-    for property in object.properties(doc)? {
-        if !doc.holds(property.node()) {
-            continue;
-        }
-        match property.decoded_name(doc) {
-            Ok(Some(found)) if found.as_str() == name => last = Some(property),
-            Ok(_) => {}
-            Err(_) => return Err(EditError::OutOfMemory),
-        }
-    }
-    if let Some(property) = last
-        && doc.holds(property.node())
-    {
-        property.set_value(doc, value)?;
-    } else if doc.holds(object.node()) {
-        object.append(doc, name, value)?;
-    }
-    Ok(())
-}
-
-/// Sets the last font size to 16.
+/// Sets the last font size to 16, which VS Code reads.
 pub(crate) fn set_last_font_size<A: Allocator + Copy>(
     doc: &mut CstRootNode<A>,
 ) -> Result<(), EditError> {
     let alloc = *doc.allocator();
-    set_last(doc, "editor.fontSize", CstInputValue::from_u32(alloc, 16)?)
+    let size = CstInputValue::from_u32(alloc, 16)?;
+    let names = path(alloc, &["editor.fontSize"])?;
+    set_last_at(doc, &names, size, Over::Replace)?;
+    Ok(())
 }
 
 /// Sets a trailing comma wherever an array or object stands on several lines.

@@ -6,6 +6,7 @@ ghost use Rattle.jsonc_text.specs.Plain.{Plain};
 ghost use Rattle.jsonc_tree.specs.Tree.{Node};
 ghost use Rattle.jsonc_text.specs.declared.edit.EditError.{EditError};
 ghost use Rattle.jsonc_text.specs.declared.edit.Over.{Over};
+ghost use Rattle.jsonc_parser.specs.declared.paths.which.Which.TheVariants.{First};
 ghost use Rattle.jsonc_parser.specs.paths.Operations.{PlainEdit};
 ghost use Rattle.jsonc_parser.specs.paths.Positions.{DropsByIt, IsPutByOne, LeadToWhatStands, PutsByIt, Reaches};
 ghost use Rattle.jsonc_parser.specs.paths.Worked.{a, both, one};
@@ -57,7 +58,7 @@ pub fn one_operation_puts_or_drops()
     ensures reaches { (x : Plain) (names : List (List ℕ)) → Reaches x names }
     ensures one { (v : Plain) (how : Over) (w : Option Plain) (names : List (List ℕ)) → IsPutByOne v how w names }
     ensures puts { (v : Plain) (how : Over) (w : Option Plain) (names : List (List ℕ)) (e : PlainEdit)
-        → PutsByIt v how w names e }
+        → PutsByIt First v how w names e }
     ensures drops { (w : Option Plain) (names : List (List ℕ)) (e : PlainEdit) → DropsByIt w names e }
 {}
 
@@ -74,10 +75,10 @@ pub fn worked_equal_names()
 /// In a document that nodes show, no names lead to the value's node; a name leads on from an object's node to the value
 /// of what is found as the first property of the name, whose number it counts, and from nothing else.
 pub fn names_lead_over_nodes()
-    ensures begins { (d : Document) (ns : List Node) → BeginsThere d ns }
-    ensures stops { (d : Document) (ns : List Node) (names : List (List ℕ)) (n : ℕ) → StopsThere d ns names n }
+    ensures begins { (d : Document) (ns : List Node) → BeginsThere First d ns }
+    ensures stops { (d : Document) (ns : List Node) (names : List (List ℕ)) (n : ℕ) → StopsThere First d ns names n }
     ensures on { (d : Document) (ns : List Node) (names : List (List ℕ)) (n : ℕ) (name : List ℕ)
-        → LeadsOn d ns names n name }
+        → LeadsOn First d ns names n name }
     ensures numbers { (d : Document) (ns : List Node) (path : List ℕ) (c i r : ℕ) → CountsItsNumber d ns path c i r }
 {}
 
@@ -108,9 +109,9 @@ pub fn each_node_stands_at_its_place()
 /// Where it was refused, allocation failed.
 pub fn one_edit_puts_or_drops()
     ensures puts { (d : Document) (v : Plain) (how : Over) (names : List (List ℕ)) (edit : PlainEdit)
-        (old new : List Node) → PutsByOneEdit d v how names edit old new }
+        (old new : List Node) → PutsByOneEdit First d v how names edit old new }
     ensures put_memory { (d : Document) (v : Plain) (how : Over) (names : List (List ℕ)) (edit : PlainEdit)
-        (old : List Node) (why : EditError) → PutsUnlessOutOfMemory d v how names edit old why }
+        (old : List Node) (why : EditError) → PutsUnlessOutOfMemory First d v how names edit old why }
     ensures drops { (d : Document) (names : List (List ℕ)) (edit : PlainEdit) (old new : List Node)
         → DropsByOneEdit d names edit old new }
     ensures drop_memory { (d : Document) (names : List (List ℕ)) (edit : PlainEdit) (old : List Node)

@@ -25,6 +25,7 @@ use Rattle.jsonc_run.proofs.lemmas.promise.Chains.{steps_are_run}
 use Rattle.jsonc_parser.specs.paths.Calls.{DropsButForMemory, DropsByOneEdit, PutsUnlessOutOfMemory, PutsByOneEdit}
 use Rattle.jsonc_parser.specs.paths.Positions.{IsDroppedBy, removes, IsPutBy, sets_root, sets_first, sets_value, appends, replaces}
 use Rattle.jsonc_parser.specs.paths.Settings.{nest}
+use Rattle.jsonc_parser.specs.declared.paths.which.Which.{Which}
 use Rattle.jsonc_parser.proofs.lemmas.paths.Leading.{drops_by_it, puts_by_it}
 use Rattle.jsonc_parser.proofs.lemmas.paths.Paths.{dropped_same, put_at, put_same}
 use Rattle.jsonc_parser.proofs.lemmas.paths.LongestPrefix.{put_is_free}
@@ -34,7 +35,7 @@ nest_numbers : (o : Options) (names : List (List ℕ)) (v : Plain) → IsOfNumbe
 nest_numbers o [] v h = h
 nest_numbers o (name ∷ names) v h = (nest_numbers o names v h, tt)
 
-put_numbers : (o : Options) {v : Plain} {over : Over} {w : Option Plain} {names : List (List ℕ)} {e : PlainEdit} → IsPutBy v over w names e → IsOfNumbers o v → NumbersFit o e
+put_numbers : (o : Options) {which : Which} {v : Plain} {over : Over} {w : Option Plain} {names : List (List ℕ)} {e : PlainEdit} → IsPutBy which v over w names e → IsOfNumbers o v → NumbersFit o e
 put_numbers o sets_root m = m
 put_numbers o {v} (sets_first {name = name} {names = names}) m = nest_numbers o (name ∷ names) v m
 put_numbers o (sets_value l) m = m
@@ -86,15 +87,15 @@ module _ (d : Document) (asked : PlainEdit) (old new : List Node) (tree : IsTree
         changed = subst (λ (w : Option Plain). IsChanged w op chain.1) (sym same) step.changed;
       }
 
-pub puts_by_one_edit : (d : Document) (v : Plain) (over : Over) (names : List (List ℕ)) (op : PlainEdit) (old new : List Node) → PutsByOneEdit d v over names op old new
-puts_by_one_edit d v over names op old new tree after shown by characters made = (
+pub puts_by_one_edit : (which : Which) (d : Document) (v : Plain) (over : Over) (names : List (List ℕ)) (op : PlainEdit) (old new : List Node) → PutsByOneEdit which d v over names op old new
+puts_by_one_edit which d v over names op old new tree after shown by characters made = (
   λ m. put_is_free by m.0 m.1,
   op,
   by,
   made,
   λ numbers.
       let l = led d op old new tree after shown characters (put_numbers d.options by numbers) made in
-      let put = (puts_by_it v over d.value names op by).1 l.e.value l.op l.asks l.changed in
+      let put = (puts_by_it which v over d.value names op by).1 l.e.value l.op l.asks l.changed in
       (l.e, l.shown, record { op = l.op; asked = l.asks; edited = l.edited; put = put; there = put_at put; elsewhere = λ path u k. put_same put path u k }),
 )
 
@@ -111,8 +112,8 @@ for_memory d old op NoSuchPlace tree shown named told = absurd ((tells_unnamed o
 for_memory d old op MissingBrackets tree shown named told = absurd (refused_so d.options old tree shown.sound op MissingBrackets told)
 for_memory d old op MissingName tree shown named told = absurd (refused_so d.options old tree shown.sound op MissingName told)
 
-pub puts_but_for_memory : (d : Document) (v : Plain) (over : Over) (names : List (List ℕ)) (op : PlainEdit) (old : List Node) (why : EditError) → PutsUnlessOutOfMemory d v over names op old why
-puts_but_for_memory d v over names op old why tree shown by = for_memory d old op why tree shown ((puts_by_it v over d.value names op by).0 (comment_count (ordered_tree old 0)))
+pub puts_but_for_memory : (which : Which) (d : Document) (v : Plain) (over : Over) (names : List (List ℕ)) (op : PlainEdit) (old : List Node) (why : EditError) → PutsUnlessOutOfMemory which d v over names op old why
+puts_but_for_memory which d v over names op old why tree shown by = for_memory d old op why tree shown ((puts_by_it which v over d.value names op by).0 (comment_count (ordered_tree old 0)))
 
 pub drops_but_for_memory : (d : Document) (names : List (List ℕ)) (op : PlainEdit) (old : List Node) (why : EditError) → DropsButForMemory d names op old why
 drops_but_for_memory d names op old why tree shown by = for_memory d old op why tree shown ((drops_by_it d.value names op by).0 (comment_count (ordered_tree old 0)))
