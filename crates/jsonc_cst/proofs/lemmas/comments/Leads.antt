@@ -1,5 +1,5 @@
 -- Which comments of what stands before an entry a sort moves where those above the last blank line are pinned: those that belong to the entry.
-use Rattle.std.proofs.Common.{◌≡◌, ℕ, zero, suc, ◌+◌, ◌-◌, ◌<◌, ◌≤◌, Bool, true, false, not, ◌&&◌, ◌||◌, inl, inr, ◌⊎◌, List, [], ◌∷◌, ◌++◌, length, take, drop, max, refl, sym, ap, subst, ◌∙◌, arith, Some, nat_le, reverse, filter, length-take, length-drop}
+use Rattle.std.proofs.Common.{◌≡◌, ℕ, zero, suc, ◌+◌, ◌-◌, ◌<◌, ◌≤◌, Bool, true, false, not, ◌&&◌, ◌||◌, inl, inr, ◌⊎◌, List, [], ◌∷◌, ◌++◌, length, take, drop, max, refl, sym, ap, subst, ◌∙◌, arith, Option, Some, nat_le, reverse, filter, length-take, length-drop}
 use Rattle.std.specs.Prelude.{if◌then◌else◌, slice_index}
 use Rattle.std.specs.List.{list_any, prefix_len, suffix_len, position_or_len}
 use Rattle.std.proofs.lemmas.Bool.{cases_Bool, cases_lt, leb-true, leb-false}
@@ -282,9 +282,9 @@ module _ (at : ℕ → Content) where
   abbrev pub pin_above : List ℕ → Option ℕ
   pin_above lead = Some (header at lead)
 
-  pub travels_own : (lead : List ℕ) → filter rem (lead_parts at false (pin_above at lead) lead).travels ≡ filter rem (own_lead at lead)
+  pub travels_own : (lead : List ℕ) → filter rem (lead_parts at false (pin_above lead) lead).travels ≡ filter rem (own_lead at lead)
   travels_own lead = by (list_any nl lead) refl
     where
-      by : (b : Bool) → list_any nl lead ≡ b → filter rem (if b then parts_of_lines at false (pin_above at lead) lead else parts_of_line at lead).travels ≡ filter rem (if b then below at lead else lead)
+      by : (b : Bool) → list_any nl lead ≡ b → filter rem (if b then parts_of_lines at false (pin_above lead) lead else parts_of_line at lead).travels ≡ filter rem (if b then below at lead else lead)
       by true e = lines_own lead e
       by false e = line_own lead
