@@ -132,7 +132,7 @@ entry_parent ns tree _ n (the_value at) = value_parent n at.0 at.1 at.2
 entry_parent ns tree _ n (an_entry front c i at (in_array is e)) = (c, element_parent ns tree c i n e, over_at ns tree front c at)
 entry_parent ns tree _ n (an_entry front c i at (in_object p)) = (c, element_parent ns tree c i n p.element, over_at ns tree front c at)
 
-property_over : (ns : List Node) → IsTree ns → (path : List ℕ) (r : ℕ) → IsPropertyAt ns path r → IsOver ns 0 r × (content_at ns r ≡ property)
+pub property_over : (ns : List Node) → IsTree ns → (path : List ℕ) (r : ℕ) → IsPropertyAt ns path r → IsOver ns 0 r × (content_at ns r ≡ property)
 property_over ns tree _ r (a_property front c i at is) = (IsOver.above (element_parent ns tree c i r is.element) (over_at ns tree front c at), is.is)
 
 module _ (old : List Node) (tree : IsTree old) where
