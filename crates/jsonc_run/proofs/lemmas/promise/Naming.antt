@@ -1,5 +1,5 @@
 -- Where a property of a sound tree gets another name, it gets it so in the text.
-use Rattle.std.proofs.Common.{ℕ, suc, ◌<◌, ◌≡◌, ◌∙◌, sym, ap, subst, refl, inl, true, false, List, [], ◌∷◌, ◌++◌, length, Option, chars, encode_utf8_all}
+use Rattle.std.proofs.Common.{ℕ, suc, ◌<◌, ◌≡◌, ◌∙◌, sym, ap, subst, refl, inl, false, List, [], ◌∷◌, ◌++◌, length, Option, chars, encode_utf8_all}
 use Rattle.std.proofs.lemmas.List.{append-nil}
 use Rattle.std.proofs.lemmas.Str.{chars-encodes}
 use Rattle.jsonc_text.specs.Options.{Options}
