@@ -125,7 +125,6 @@ def one_line(folder):
         'comments': (row('{0} /* c */'.format, '[]'), each('RemoveComment %d', reversed(everywhere)) + each('Replace /%d N') + each('Remove /%d', reversed(everywhere))),
         'object': (names, each('SetValue /%d #7') + each('EnsureValue /%d arr', range(1, 2000, 40)) + each('Replace /%d N')
                    + each("ReplaceProperty /%d 'new #1") + each("EnsureProperty / 'k%d obj replace", range(2, 2000, 40))
-                   + each("RenameProperty /%d 'other", range(3, 2000, 40))
                    + ['EnsureRoot obj keep'] * 50 + each('Remove /%d', reversed(everywhere)) + ['Sort / 0 0'] * 3),
         'appended': (names, ["AppendProperty / 'end #1"] * 50),
         'inserted': (names, each("InsertProperty / %d 'in #1")),
