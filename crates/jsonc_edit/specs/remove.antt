@@ -1,3 +1,4 @@
 pub mod Leaving
 pub mod Removed
 pub mod Laws
+pub mod Comments

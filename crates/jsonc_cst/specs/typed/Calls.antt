@@ -1,5 +1,6 @@
 -- What the edits of typed nodes make of a document, and what they answer: each record is the one clause of its calls. SetCalls.antt has those that set a value.
 use Rattle.std.specs.Prelude.{◌≡◌, ℕ, None, Option, Result, IfErr, IfNone, IfOk, IfSome, OnErr, OnOk}
+use Rattle.std.specs.List.{All}
 use Rattle.jsonc_text.specs.Options.{Options}
 use Rattle.jsonc_text.specs.Plain.{Plain}
 use Rattle.jsonc_text.specs.declared.edit.EditError.{EditError}
@@ -10,13 +11,14 @@ use Rattle.jsonc_edit.specs.commas.InTurn.{CommaIsDue}
 use Rattle.jsonc_cst.specs.declared.cst.CstRootNode.{CstRootNode}
 use Rattle.jsonc_cst.specs.declared.cst.node.CstNode.{CstNode}
 use Rattle.jsonc_cst.specs.Document.{nodes_of, parent_of, tree_of, HasNode}
-use Rattle.jsonc_cst.specs.Nodes.{number_of}
+use Rattle.jsonc_cst.specs.EntryComments.{comments_of_entry}
+use Rattle.jsonc_cst.specs.Nodes.{comment_node, number_of}
 use Rattle.jsonc_cst.specs.typed.Commas.{CommasSaid, CommasSet, CommasSetInPart, CommasStand, CommasStay, CommasWritten}
 use Rattle.jsonc_cst.specs.typed.Edits.{IsReplacedBy, NodeIsDetached, HasMarked, HasStayedAround, HasWritten, IsUntouched}
 use Rattle.jsonc_cst.specs.typed.Edits.{KeepsDocument, KeepsDocumentOf, Unchanged, HandlesStay}
 use Rattle.jsonc_cst.specs.typed.Inserting.{HasComeIn, InsertError, IsItsElement, IsPutAtItsPath, KeepsOthers}
 use Rattle.jsonc_cst.specs.typed.Lines.{HasSpreadOut, IsOnLines, LinesWritten, StaysUnspread}
-use Rattle.jsonc_cst.specs.typed.Removing.{removal_of, NodeRemoved, IsKeptForMemory, IsKeptIn, IsLoose}
+use Rattle.jsonc_cst.specs.typed.Removing.{removal_of, EntryCleared, NodeRemoved, IsKeptForMemory, IsKeptIn, IsLoose}
 use Rattle.jsonc_cst.specs.typed.Removing.{RemovalAround, RemovalKeepsDocument, RemovedIsDetached, RemovalWritten}
 use Rattle.jsonc_cst.specs.typed.Steps.{IsHolder, IsRemoving, IsReplacing, IsSettingCommas, IsSettingSomeCommas, IsSpreading, IsValueIn}
 
@@ -33,6 +35,19 @@ pub record IsRemoval {A : Type 0} (old new : CstRootNode A) (node : CstNode) (r 
   pub handles : HandlesStay old new
   pub error : IfErr r (IsKeptIn old node)
   pub memory : (o : Options) → IfErr r (IsKeptForMemory old o node)
+  pub kept : OnErr r (Unchanged old new)
+  pub document : OnErr r (tree_of new ≡ tree_of old)
+
+-- So an entry has been taken out, and then its comments that were still there; a node that is no entry as by the call before. If the
+-- document was sound, it is so without that entry, and of its marks the entry's and comments beside these have left. Or an error has left
+-- every node as it was.
+pub record IsRemovalWithComments {A : Type 0} (old new : CstRootNode A) (node : CstNode) (r : Result (Unit {0}) EditError) : Type 0 where
+  pub removed : OnOk r (EntryCleared old new node)
+  pub written : (o : Options) → OnOk r (RemovalWritten old new o node)
+  pub gone : OnOk r (RemovedIsDetached new node)
+  pub comments : OnOk r (All (λ c. NodeIsDetached old new (comment_node c)) (comments_of_entry old node))
+  pub untouched : IsLoose old node → IsUntouched old new
+  pub handles : HandlesStay old new
   pub kept : OnErr r (Unchanged old new)
   pub document : OnErr r (tree_of new ≡ tree_of old)
 

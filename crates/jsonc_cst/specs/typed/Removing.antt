@@ -1,5 +1,5 @@
 -- What is taken out with a node, by its kind, and why it is not.
-use Rattle.std.specs.Prelude.{◌≡◌, ℕ, ◌+◌, List, [], length, Some, None, IsTrue}
+use Rattle.std.specs.Prelude.{◌≡◌, ℕ, ◌+◌, List, [], length, map, Some, None, IsTrue}
 use Rattle.jsonc_text.specs.Options.{Options}
 use Rattle.jsonc_tree.specs.Changes.{Splices}
 use Rattle.jsonc_tree.specs.OrderedTree.{ordered_tree}
@@ -12,6 +12,7 @@ use Rattle.jsonc_edit.specs.Changes.{top_at}
 use Rattle.jsonc_edit.specs.Comments.{RemovesComment, RemovesCommentAlone, TakesOut, WantsSpace}
 use Rattle.jsonc_edit.specs.Paths.{IsAt, IsElementOf}
 use Rattle.jsonc_edit.specs.remove.Laws.{EntryTaken, IsEntryRemoved, IsValueRemoved, ValueTaken}
+use Rattle.jsonc_edit.specs.remove.Comments.{AreCleared}
 use Rattle.jsonc_edit.specs.remove.Removed.{IsKeptFor, TakesElement}
 use Rattle.jsonc_edit.specs.set.Laws.{IsBareDocument}
 use Rattle.jsonc_cst.specs.declared.cst.CstRootNode.{CstRootNode}
@@ -20,6 +21,7 @@ use Rattle.jsonc_cst.specs.declared.cst.node.CstContainerNode.TheVariants.{Root,
 use Rattle.jsonc_cst.specs.declared.cst.node.CstLeafNode.TheVariants.{BooleanLit, NullKeyword, NumberLit, StringLit, WordLit, Token, Whitespace, Newline, Comment}
 use Rattle.jsonc_cst.specs.declared.cst.node.CstNode.TheVariants.{Container, Leaf}
 use Rattle.jsonc_cst.specs.Document.{nodes_of}
+use Rattle.jsonc_cst.specs.EntryComments.{comments_of_entry}
 use Rattle.jsonc_cst.specs.Nodes.{number_of}
 use Rattle.jsonc_cst.specs.typed.Edits.{IsDetached, KeepsDocumentOf}
 use Rattle.jsonc_cst.specs.declared.typed.removing.Removal.{Removal}
@@ -152,3 +154,9 @@ module _ {A : Type 0} where
   -- if the node is one of the document, and this sound, only allocation failed
   abbrev pub IsKeptForMemory : CstRootNode A → Options → CstNode → EditError → Type 0
   IsKeptForMemory d o node e = OnlyOutOfMemory o (nodes_of d) (number_of node) e
+
+  -- the node has been taken out, and then those of its comments that its container had still, each that was alone on its line with the line
+  abbrev pub EntryCleared : CstRootNode A → CstRootNode A → CstNode → Type 0
+  EntryCleared old new node = (c : ℕ) → parent_at (nodes_of old) (number_of node) ≡ Some c
+      → (mid : List Node) × IsTakenBy (removal_of node) (nodes_of old) mid (number_of node)
+      × AreCleared mid (nodes_of new) c (map (λ k. k.number) (comments_of_entry old node))

@@ -1,13 +1,14 @@
 //! Nodes that are taken out of a document.
 
-ghost use Rattle.std.specs.Prelude.{◌≡◌, ◌<◌, None, length};
+ghost use Rattle.std.specs.Prelude.{◌≡◌, ◌<◌, None, length, map, IfErr, IfOk};
 ghost use Rattle.jsonc_tree.specs.Tree.{parent_at};
 ghost use Rattle.jsonc_cst.specs.Document.{parent_of, HasNode};
 ghost use Rattle.jsonc_cst.specs.Nodes.{comment_node, newline_node, object_prop_node, token_node, whitespace_node};
 ghost use Rattle.jsonc_cst.specs.Nodes.{array_node, boolean_lit_node, name_node, null_keyword_node, number_lit_node};
 ghost use Rattle.jsonc_cst.specs.Nodes.{object_node, string_lit_node, word_lit_node};
 ghost use Rattle.jsonc_cst.specs.Tree.{NodesAreTree};
-ghost use Rattle.jsonc_cst.specs.typed.Calls.{IsRemoval};
+ghost use Rattle.jsonc_cst.specs.EntryComments.{comments_of_entry};
+ghost use Rattle.jsonc_cst.specs.typed.Calls.{IsRemoval, IsRemovalWithComments};
 ghost use Rattle.jsonc_cst.specs.typed.Edits.{NodeIsDetached, IsDetached, IsUntouched, KeepsDocument};
 ghost use Rattle.jsonc_cst.specs.typed.Edits.{KeepsDocumentOf, HandlesStay, NodesStillThere};
 ghost use Rattle.jsonc_cst.specs.declared.typed.removing.Removal.{Removal};
@@ -82,6 +83,46 @@ fn remove_node<A: Allocator + Copy, N: TypedNode>(
     }
 }
 
+// Takes a node out of the document, and with an entry the comments that belong to it.
+fn remove_entry<A: Allocator + Copy, N: TypedNode>(
+    doc: &mut CstRootNode<A>,
+    node: N,
+) -> Result<(), EditError>
+    requires { HasNode doc.old (N.node_of node) }
+    ensures { IsRemovalWithComments doc.old doc.new (N.node_of node) result }
+{
+    let node = node.node();
+    let number = node.number();
+    let Some(container) = doc.tree.parent(number) else {
+        return remove_node(doc, node);
+    };
+    // All memory is wanted before the first node leaves.
+    let comments = numbers_of(doc, node)?;
+    remove_node(doc, node)?;
+    jsonc_edit::remove::clear_comments(&mut doc.tree, container, &comments);
+    Ok(())
+}
+
+// The numbers of the comments that belong to an entry, and none of another node.
+fn numbers_of<A: Allocator + Copy>(
+    doc: &CstRootNode<A>,
+    node: CstNode,
+) -> Result<Vec<usize, A>, EditError>
+    requires { HasNode doc.now node }
+    ensures numbers { IfOk result (λ v. v.items ≡ map (λ c. c.number) (comments_of_entry doc.now node)) }
+    ensures memory { IfErr result (λ e. e ≡ EditError.OutOfMemory) }
+{
+    let comments = doc.comments_of(node)?;
+    let Ok(numbers) = comments
+        .iter()
+        .map(|comment| comment.number)
+        .collect(doc.alloc)
+    else {
+        return Err(EditError::OutOfMemory);
+    };
+    Ok(numbers)
+}
+
 impl CstNode {
     /// Removes it from the document.
     ///
@@ -108,6 +149,21 @@ impl CstNode {
         ensures { IsRemoval doc.old doc.new self result }
     {
         remove_node(doc, self)
+    }
+
+    /// Removes it from the document, and with an entry the comments that belong to it.
+    ///
+    /// These are those that [`CstRootNode::comments_of`] answers. Each that is alone on its line is removed
+    /// with the line. All else is as [`CstNode::remove`] says; of a node that is no entry it is that. On an
+    /// error the document stays as it was.
+    pub fn remove_with_comments<A: Allocator + Copy>(
+        self,
+        doc: &mut CstRootNode<A>,
+    ) -> Result<(), EditError>
+        requires { HasNode doc.old self }
+        ensures { IsRemovalWithComments doc.old doc.new self result }
+    {
+        remove_entry(doc, self)
     }
 }
 
@@ -158,6 +214,17 @@ impl CstObjectProp {
         ensures { IsRemoval doc.old doc.new (object_prop_node self) result }
     {
         remove_node(doc, self)
+    }
+
+    /// Removes it from the document with the comments that belong to it. [`CstNode::remove_with_comments`] says which.
+    pub fn remove_with_comments<A: Allocator + Copy>(
+        self,
+        doc: &mut CstRootNode<A>,
+    ) -> Result<(), EditError>
+        requires { HasNode doc.old (object_prop_node self) }
+        ensures { IsRemovalWithComments doc.old doc.new (object_prop_node self) result }
+    {
+        remove_entry(doc, self)
     }
 }
 
