@@ -115,7 +115,7 @@ fn numbers_of<A: Allocator + Copy>(
     let comments = doc.comments_of(node)?;
     let Ok(numbers) = comments
         .iter()
-        .map(|comment| comment.number)
+        .map(|comment| comment.node().number())
         .collect(doc.alloc)
     else {
         return Err(EditError::OutOfMemory);

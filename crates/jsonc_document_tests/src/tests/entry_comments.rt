@@ -38,7 +38,7 @@ static ROWS: [(&str, [&str; 2]); 8] = [
 
 /// Texts, which of its entries is removed with its comments, and the text behind that: each comment that is alone on its
 /// line is removed with the line.
-static REMOVED: [(&str, usize, &str); 8] = [
+static REMOVED: [(&str, usize, &str); 11] = [
     (
         "{\n  // all\n\n  // on b\n  \"b\": 1, // one\n  \"a\": 2\n}",
         0,
@@ -59,6 +59,9 @@ static REMOVED: [(&str, usize, &str); 8] = [
     ),
     ("[\n  // c\n  1\n]", 0, "[]"),
     ("[1\n, // d\n2]", 0, "[\n2]"),
+    ("[1/*a*/2/*b*/3]", 1, "[1/*b*/3]"),
+    ("[1 2\n, // c\n3]", 1, "[1\n3]"),
+    ("[\n/*a*/ /*b*/  \n1]", 0, "[]"),
 ];
 
 /// An object with a comment before its property, whose value has one before it and one behind it.

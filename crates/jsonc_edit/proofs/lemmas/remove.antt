@@ -20,3 +20,4 @@ pub mod Entries
 pub mod RemovedElement
 pub mod RemovedValue
 pub mod Roots
+pub mod ClearedComments

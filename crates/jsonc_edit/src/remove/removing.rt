@@ -124,7 +124,7 @@ fn take_child<A: Allocator>(tree: &mut Tree<A>, container: usize, child: Option<
 }
 
 // Whether it is this node.
-fn is_node(found: Option<usize>, node: usize) -> bool
+pub(crate) fn is_node(found: Option<usize>, node: usize) -> bool
     ensures { result ≡ is_node found node }
 {
     match found {
