@@ -1,24 +1,23 @@
 -- What the edits of typed nodes make of a document, and what they answer: each record is the one clause of its calls. SetCalls.antt has those that set a value.
 use Rattle.std.specs.Prelude.{◌≡◌, ℕ, None, Option, Result, IfErr, IfNone, IfOk, IfSome, OnErr, OnOk}
-use Rattle.std.specs.List.{All}
 use Rattle.jsonc_text.specs.Options.{Options}
 use Rattle.jsonc_text.specs.Plain.{Plain}
 use Rattle.jsonc_text.specs.declared.edit.EditError.{EditError}
 use Rattle.jsonc_text.specs.declared.edit.EditError.TheVariants.{OutOfMemory}
 use Rattle.jsonc_text.specs.declared.edit.TrailingCommaMode.{TrailingCommaMode}
 use Rattle.jsonc_text.specs.declared.edit.TrailingCommaMode.TheVariants.{IfMultiline}
+use Rattle.jsonc_tree.specs.Tree.{parent_at}
 use Rattle.jsonc_edit.specs.commas.InTurn.{CommaIsDue}
 use Rattle.jsonc_cst.specs.declared.cst.CstRootNode.{CstRootNode}
 use Rattle.jsonc_cst.specs.declared.cst.node.CstNode.{CstNode}
 use Rattle.jsonc_cst.specs.Document.{nodes_of, parent_of, tree_of, HasNode}
-use Rattle.jsonc_cst.specs.EntryComments.{comments_of_entry}
-use Rattle.jsonc_cst.specs.Nodes.{comment_node, number_of}
+use Rattle.jsonc_cst.specs.Nodes.{number_of}
 use Rattle.jsonc_cst.specs.typed.Commas.{CommasSaid, CommasSet, CommasSetInPart, CommasStand, CommasStay, CommasWritten}
 use Rattle.jsonc_cst.specs.typed.Edits.{IsReplacedBy, NodeIsDetached, HasMarked, HasStayedAround, HasWritten, IsUntouched}
 use Rattle.jsonc_cst.specs.typed.Edits.{KeepsDocument, KeepsDocumentOf, Unchanged, HandlesStay}
 use Rattle.jsonc_cst.specs.typed.Inserting.{HasComeIn, InsertError, IsItsElement, IsPutAtItsPath, KeepsOthers}
 use Rattle.jsonc_cst.specs.typed.Lines.{HasSpreadOut, IsOnLines, LinesWritten, StaysUnspread}
-use Rattle.jsonc_cst.specs.typed.Removing.{removal_of, EntryCleared, NodeRemoved, IsKeptForMemory, IsKeptIn, IsLoose}
+use Rattle.jsonc_cst.specs.typed.Removing.{removal_of, EntryCleared, NodeRemoved, IsKeptForMemory, IsKeptIn, IsKeptWithComments, IsLoose}
 use Rattle.jsonc_cst.specs.typed.Removing.{RemovalAround, RemovalKeepsDocument, RemovedIsDetached, RemovalWritten}
 use Rattle.jsonc_cst.specs.typed.Steps.{IsHolder, IsRemoving, IsReplacing, IsSettingCommas, IsSettingSomeCommas, IsSpreading, IsValueIn}
 
@@ -38,16 +37,16 @@ pub record IsRemoval {A : Type 0} (old new : CstRootNode A) (node : CstNode) (r 
   pub kept : OnErr r (Unchanged old new)
   pub document : OnErr r (tree_of new ≡ tree_of old)
 
--- So an entry has been taken out, and then its comments that were still there; a node that is no entry as by the call before. If the
--- document was sound, it is so without that entry, and of its marks the entry's and comments beside these have left. Or an error has left
--- every node as it was.
+-- So an entry has been taken out, and is detached, and then those of its comments that its container had still; any other node as by the call before. Or an
+-- error has left every node as it was: memory was refused, or the call before says why.
 pub record IsRemovalWithComments {A : Type 0} (old new : CstRootNode A) (node : CstNode) (r : Result (Unit {0}) EditError) : Type 0 where
   pub removed : OnOk r (EntryCleared old new node)
-  pub written : (o : Options) → OnOk r (RemovalWritten old new o node)
+  pub alone : parent_at (nodes_of old) (number_of node) ≡ None → IsRemoval old new node r
   pub gone : OnOk r (RemovedIsDetached new node)
-  pub comments : OnOk r (All (λ c. NodeIsDetached old new (comment_node c)) (comments_of_entry old node))
   pub untouched : IsLoose old node → IsUntouched old new
   pub handles : HandlesStay old new
+  pub error : IfErr r (IsKeptWithComments old node)
+  pub memory : (o : Options) → IfErr r (IsKeptForMemory old o node)
   pub kept : OnErr r (Unchanged old new)
   pub document : OnErr r (tree_of new ≡ tree_of old)
 

@@ -1,18 +1,18 @@
 //! Nodes that are taken out of a document.
 
-ghost use Rattle.std.specs.Prelude.{◌≡◌, ◌<◌, None, length, map, IfErr, IfOk};
-ghost use Rattle.jsonc_tree.specs.Tree.{parent_at};
-ghost use Rattle.jsonc_cst.specs.Document.{parent_of, HasNode};
+ghost use Rattle.std.specs.Prelude.{◌≡◌, ◌<◌, None, length, IfErr, IfOk, IsTrue};
+ghost use Rattle.std.specs.List.{All};
+ghost use Rattle.jsonc_tree.specs.Tree.{is_container_at, parent_at};
+ghost use Rattle.jsonc_cst.specs.Document.{nodes_of, parent_of, HasNode};
 ghost use Rattle.jsonc_cst.specs.Nodes.{comment_node, newline_node, object_prop_node, token_node, whitespace_node};
 ghost use Rattle.jsonc_cst.specs.Nodes.{array_node, boolean_lit_node, name_node, null_keyword_node, number_lit_node};
 ghost use Rattle.jsonc_cst.specs.Nodes.{object_node, string_lit_node, word_lit_node};
 ghost use Rattle.jsonc_cst.specs.Tree.{NodesAreTree};
-ghost use Rattle.jsonc_cst.specs.EntryComments.{comments_of_entry};
 ghost use Rattle.jsonc_cst.specs.typed.Calls.{IsRemoval, IsRemovalWithComments};
 ghost use Rattle.jsonc_cst.specs.typed.Edits.{NodeIsDetached, IsDetached, IsUntouched, KeepsDocument};
 ghost use Rattle.jsonc_cst.specs.typed.Edits.{KeepsDocumentOf, HandlesStay, NodesStillThere};
 ghost use Rattle.jsonc_cst.specs.declared.typed.removing.Removal.{Removal};
-ghost use Rattle.jsonc_cst.specs.typed.Removing.{removal_of, NodeRemovedAlone, RemovedAlone};
+ghost use Rattle.jsonc_cst.specs.typed.Removing.{comment_numbers, removal_of, AreClearedIfAny, NodeRemovedAlone, RemovedAlone};
 
 use crate::cst::{
     CstArray, CstBooleanLit, CstComment, CstContainerNode, CstLeafNode, CstNewline, CstNode,
@@ -83,6 +83,18 @@ fn remove_node<A: Allocator + Copy, N: TypedNode>(
     }
 }
 
+// Takes comments out of their container, if there are any.
+fn clear_any<A: Allocator>(tree: &mut Tree<A>, container: usize, comments: &[usize])
+    requires in_tree { container < length tree.old.nodes }
+    requires container { IsTrue (is_container_at tree.old.nodes container) }
+    requires comments { All (λ n. n < length tree.old.nodes) comments.now }
+    ensures { AreClearedIfAny tree.old.nodes tree.new.nodes container comments.now }
+{
+    if !comments.is_empty() {
+        jsonc_edit::remove::clear_comments(tree, container, comments);
+    }
+}
+
 // Takes a node out of the document, and with an entry the comments that belong to it.
 fn remove_entry<A: Allocator + Copy, N: TypedNode>(
     doc: &mut CstRootNode<A>,
@@ -91,15 +103,14 @@ fn remove_entry<A: Allocator + Copy, N: TypedNode>(
     requires { HasNode doc.old (N.node_of node) }
     ensures { IsRemovalWithComments doc.old doc.new (N.node_of node) result }
 {
-    let node = node.node();
-    let number = node.number();
-    let Some(container) = doc.tree.parent(number) else {
-        return remove_node(doc, node);
+    let entry = node.node();
+    let Some(container) = doc.tree.parent(entry.number()) else {
+        return remove_node(doc, entry);
     };
     // All memory is wanted before the first node leaves.
-    let comments = numbers_of(doc, node)?;
-    remove_node(doc, node)?;
-    jsonc_edit::remove::clear_comments(&mut doc.tree, container, &comments);
+    let comments = numbers_of(doc, entry)?;
+    remove_node(doc, entry)?;
+    clear_any(&mut doc.tree, container, &comments);
     Ok(())
 }
 
@@ -109,17 +120,17 @@ fn numbers_of<A: Allocator + Copy>(
     node: CstNode,
 ) -> Result<Vec<usize, A>, EditError>
     requires { HasNode doc.now node }
-    ensures numbers { IfOk result (λ v. v.items ≡ map (λ c. c.number) (comments_of_entry doc.now node)) }
+    ensures numbers { IfOk result (λ v. v.items ≡ comment_numbers doc.now node) }
+    ensures in_tree { IfOk result (λ v. All (λ n. n < length (nodes_of doc.now)) v.items) }
     ensures memory { IfErr result (λ e. e ≡ EditError.OutOfMemory) }
 {
     let comments = doc.comments_of(node)?;
-    let Ok(numbers) = comments
-        .iter()
-        .map(|comment| comment.node().number())
-        .collect(doc.alloc)
-    else {
-        return Err(EditError::OutOfMemory);
-    };
+    let mut numbers = Vec::new(doc.alloc);
+    for comment in &comments {
+        let Ok(()) = numbers.push(comment.node().number()) else {
+            return Err(EditError::OutOfMemory);
+        };
+    }
     Ok(numbers)
 }
 

@@ -21,3 +21,7 @@ pub mod RemovedElement
 pub mod RemovedValue
 pub mod Roots
 pub mod ClearedComments
+pub mod PartedTrivia
+pub mod ClearedStretches
+pub mod ClearedSteps
+pub mod CommentsGone

@@ -6,7 +6,6 @@ use Rattle.jsonc_tree.specs.Changes.{Splices}
 use Rattle.jsonc_tree.specs.Order.{with_parent}
 use Rattle.jsonc_tree.specs.Siblings.{first, siblings_after, siblings_before, IsStretch}
 use Rattle.jsonc_tree.specs.Tree.{Node, content_at, children_at, parent_at, place_at, IsTree}
-use Rattle.jsonc_tree.proofs.Order.{parent_there}
 use Rattle.jsonc_layout.specs.nodes.Kinds.{is_newline_at, is_whitespace_at}
 use Rattle.jsonc_edit.specs.Comments.{space_needed_without, IsRemoved}
 use Rattle.jsonc_edit.specs.remove.Removed.{is_node, IsClosedUp}

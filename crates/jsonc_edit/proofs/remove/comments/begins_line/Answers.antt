@@ -1,4 +1,4 @@
-use Rattle.std.proofs.Common.{refl, sym, ◌∙◌}
+use Rattle.std.proofs.Common.{sym, ◌∙◌}
 use Rattle.jsonc_edit.proofs.lemmas.remove.ClearedComments.{line_there, no_line}
 use Rattle.jsonc_edit.proofs.remove.comments.begins_line.Goals as goal
 

@@ -1,4 +1,4 @@
-use Rattle.jsonc_edit.proofs.lemmas.remove.ClearedComments.{cleared_alone, cleared_stretch, stretch_cleared}
+use Rattle.jsonc_edit.proofs.lemmas.remove.ClearedComments.{stretch_cleared}
 use Rattle.jsonc_edit.proofs.remove.comments.clear_comment.Goals as goal
 
 pub remove_between-requires : goal.remove_between-requires
