@@ -77,6 +77,10 @@ module _ {A : Type 0} where
   abbrev pub comments_of_entry : CstRootNode A → CstNode → List CstComment
   comments_of_entry d node = if is_entry_at (nodes_of d) (number_of node) then map comment_under (comments_at (nodes_of d) (number_of node)) else []
 
+  -- and their numbers
+  abbrev pub comment_numbers : CstRootNode A → CstNode → List ℕ
+  comment_numbers d node = if is_entry_at (nodes_of d) (number_of node) then comments_at (nodes_of d) (number_of node) else []
+
   -- the entries of an array or object as a sort under headers reads them
   abbrev pub entries_of : CstRootNode A → CstNode → List Entry
   entries_of d node =

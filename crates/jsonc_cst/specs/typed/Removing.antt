@@ -1,5 +1,5 @@
 -- What is taken out with a node, by its kind, and why it is not.
-use Rattle.std.specs.Prelude.{◌≡◌, ℕ, ◌+◌, ◌⊎◌, List, [], ◌∷◌, length, map, Some, None, IsTrue}
+use Rattle.std.specs.Prelude.{◌≡◌, ℕ, ◌+◌, ◌⊎◌, List, [], ◌∷◌, length, Some, None, IsTrue}
 use Rattle.jsonc_text.specs.Options.{Options}
 use Rattle.jsonc_tree.specs.Changes.{Splices}
 use Rattle.jsonc_tree.specs.OrderedTree.{ordered_tree}
@@ -21,8 +21,8 @@ use Rattle.jsonc_cst.specs.declared.cst.node.CstContainerNode.TheVariants.{Root,
 use Rattle.jsonc_cst.specs.declared.cst.node.CstLeafNode.TheVariants.{BooleanLit, NullKeyword, NumberLit, StringLit, WordLit, Token, Whitespace, Newline, Comment}
 use Rattle.jsonc_cst.specs.declared.cst.node.CstNode.TheVariants.{Container, Leaf}
 use Rattle.jsonc_cst.specs.Document.{nodes_of}
-use Rattle.jsonc_cst.specs.EntryComments.{comments_of_entry}
-use Rattle.jsonc_cst.specs.Nodes.{comment_node, number_of}
+use Rattle.jsonc_cst.specs.EntryComments.{comment_numbers}
+use Rattle.jsonc_cst.specs.Nodes.{number_of}
 use Rattle.jsonc_cst.specs.typed.Edits.{IsDetached, KeepsDocumentOf}
 use Rattle.jsonc_cst.specs.declared.typed.removing.Removal.{Removal}
 use Rattle.jsonc_cst.specs.declared.typed.removing.Removal.TheVariants.{Clearing, OfComment, OfElement, OfLeaf}
@@ -170,10 +170,6 @@ pub record IsTakenWithComments (r : Removal) (old new : List Node) (n c : ℕ) (
   pub cleared : AreClearedIfAny without new c comments
 
 module _ {A : Type 0} where
-  -- the numbers of the comments that belong to an entry
-  abbrev pub comment_numbers : CstRootNode A → CstNode → List ℕ
-  comment_numbers d node = map (λ k. number_of (comment_node k)) (comments_of_entry d node)
-
   -- so it is wherever the node has a parent
   abbrev pub EntryCleared : CstRootNode A → CstRootNode A → CstNode → Type 0
   EntryCleared old new node = (c : ℕ) → parent_at (nodes_of old) (number_of node) ≡ Some c

@@ -1,9 +1,9 @@
 //! Nodes that are taken out of a document.
 
-ghost use Rattle.std.specs.Prelude.{◌≡◌, ◌<◌, None, length, IfErr, IfOk, IsTrue};
+ghost use Rattle.std.specs.Prelude.{◌≡◌, ◌<◌, None, length, IsTrue};
 ghost use Rattle.std.specs.List.{All};
 ghost use Rattle.jsonc_tree.specs.Tree.{is_container_at, parent_at};
-ghost use Rattle.jsonc_cst.specs.Document.{nodes_of, parent_of, HasNode};
+ghost use Rattle.jsonc_cst.specs.Document.{parent_of, HasNode};
 ghost use Rattle.jsonc_cst.specs.Nodes.{comment_node, newline_node, object_prop_node, token_node, whitespace_node};
 ghost use Rattle.jsonc_cst.specs.Nodes.{array_node, boolean_lit_node, name_node, null_keyword_node, number_lit_node};
 ghost use Rattle.jsonc_cst.specs.Nodes.{object_node, string_lit_node, word_lit_node};
@@ -12,7 +12,7 @@ ghost use Rattle.jsonc_cst.specs.typed.Calls.{IsRemoval, IsRemovalWithComments};
 ghost use Rattle.jsonc_cst.specs.typed.Edits.{NodeIsDetached, IsDetached, IsUntouched, KeepsDocument};
 ghost use Rattle.jsonc_cst.specs.typed.Edits.{KeepsDocumentOf, HandlesStay, NodesStillThere};
 ghost use Rattle.jsonc_cst.specs.declared.typed.removing.Removal.{Removal};
-ghost use Rattle.jsonc_cst.specs.typed.Removing.{comment_numbers, removal_of, AreClearedIfAny, NodeRemovedAlone, RemovedAlone};
+ghost use Rattle.jsonc_cst.specs.typed.Removing.{removal_of, AreClearedIfAny, NodeRemovedAlone, RemovedAlone};
 
 use crate::cst::{
     CstArray, CstBooleanLit, CstComment, CstContainerNode, CstLeafNode, CstNewline, CstNode,
@@ -108,30 +108,10 @@ fn remove_entry<A: Allocator + Copy, N: TypedNode>(
         return remove_node(doc, entry);
     };
     // All memory is wanted before the first node leaves.
-    let comments = numbers_of(doc, entry)?;
+    let comments = doc.comment_numbers(entry)?;
     remove_node(doc, entry)?;
     clear_any(&mut doc.tree, container, &comments);
     Ok(())
-}
-
-// The numbers of the comments that belong to an entry, and none of another node.
-fn numbers_of<A: Allocator + Copy>(
-    doc: &CstRootNode<A>,
-    node: CstNode,
-) -> Result<Vec<usize, A>, EditError>
-    requires { HasNode doc.now node }
-    ensures numbers { IfOk result (λ v. v.items ≡ comment_numbers doc.now node) }
-    ensures in_tree { IfOk result (λ v. All (λ n. n < length (nodes_of doc.now)) v.items) }
-    ensures memory { IfErr result (λ e. e ≡ EditError.OutOfMemory) }
-{
-    let comments = doc.comments_of(node)?;
-    let mut numbers = Vec::new(doc.alloc);
-    for comment in &comments {
-        let Ok(()) = numbers.push(comment.node().number()) else {
-            return Err(EditError::OutOfMemory);
-        };
-    }
-    Ok(numbers)
 }
 
 impl CstNode {

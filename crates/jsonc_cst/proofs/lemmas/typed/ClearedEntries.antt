@@ -21,8 +21,9 @@ use Rattle.jsonc_cst.specs.declared.cst.CstRootNode.{CstRootNode}
 use Rattle.jsonc_cst.specs.declared.typed.removing.Removal.{Removal}
 use Rattle.jsonc_cst.specs.declared.typed.removing.Removal.TheVariants.{Clearing, OfComment, OfElement, OfLeaf}
 use Rattle.jsonc_cst.specs.Document.{nodes_of}
+use Rattle.jsonc_cst.specs.EntryComments.{comment_numbers}
 use Rattle.jsonc_cst.specs.typed.Calls.{IsRemoval, IsRemovalWithComments}
-use Rattle.jsonc_cst.specs.typed.Removing.{comment_numbers, removal_of, AreClearedIfAny, EntryCleared, IsDetachedBy, IsKeptIn, IsKeptWithComments, IsLooseFor}
+use Rattle.jsonc_cst.specs.typed.Removing.{removal_of, AreClearedIfAny, EntryCleared, IsDetachedBy, IsKeptIn, IsKeptWithComments, IsLooseFor}
 use Rattle.jsonc_cst.proofs.Family.{number_of-typed, typed_held}
 use Rattle.jsonc_cst.proofs.lemmas.typed.Detached.{nobodys}
 use Rattle.jsonc_cst.proofs.lemmas.typed.HandlesKept.{nodes_stay, stay_both, stay_closed, stay_same, Stays}
