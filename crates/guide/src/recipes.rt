@@ -74,18 +74,10 @@ pub(crate) fn remove_with_comments<A: Allocator + Copy>(
     let Some(object) = doc.object_value() else {
         return Ok(());
     };
-    let Some(property) = object.get(doc, "fontSize")? else {
-        return Ok(());
-    };
-    for comment in &doc.comments_of(property.node())? {
-        if doc.holds(comment.node()) {
-            comment.remove(doc)?;
-        }
+    match object.get(doc, "fontSize")? {
+        Some(property) => property.remove_with_comments(doc),
+        None => Ok(()),
     }
-    if doc.holds(property.node()) {
-        property.remove(doc)?;
-    }
-    Ok(())
 }
 
 /// Sorts by name; comments above a blank line stay where they are.

@@ -61,6 +61,10 @@ module _ {A : Type 0} where
   abbrev pub comments_of_entry : CstRootNode A → CstNode → List CstComment
   comments_of_entry d node = if is_entry_at (nodes_of d) (number_of node) then map comment_under (comments_at (nodes_of d) (number_of node)) else []
 
+  -- and their numbers
+  abbrev pub comment_numbers : CstRootNode A → CstNode → List ℕ
+  comment_numbers d node = if is_entry_at (nodes_of d) (number_of node) then comments_at (nodes_of d) (number_of node) else []
+
   -- a sort under headers: of the comments above an entry all are pinned but those below its last blank line
   abbrev pub under_headers : CstRootNode A → CstNode → Headers
   under_headers d node = record { pinned = kept_headers d node; groups = false }

@@ -18,3 +18,4 @@ pub mod Calls
 pub mod RootShapes
 pub mod HeldShapes
 pub mod Renamed
+pub mod ClearedEntries

@@ -6,7 +6,7 @@ ghost use Rattle.jsonc_tree.specs.Tree.{content_at};
 ghost use Rattle.jsonc_layout.specs.nodes.Kinds.{is_element_at};
 ghost use Rattle.jsonc_layout.specs.nodes.Siblings.{siblings_after, siblings_before};
 ghost use Rattle.jsonc_cst.specs.Document.{HasNode, nodes_of};
-ghost use Rattle.jsonc_cst.specs.EntryComments.{comments_around, comments_at, comments_of_entry, is_entry_at};
+ghost use Rattle.jsonc_cst.specs.EntryComments.{comment_numbers, comments_around, comments_at, comments_of_entry, is_entry_at};
 ghost use Rattle.jsonc_cst.specs.EntryComments.{tail_of};
 ghost use Rattle.jsonc_cst.specs.Nodes.{comment_node, number_of};
 
@@ -144,5 +144,22 @@ impl<A: Allocator + Copy> CstRootNode<A> {
             return Err(EditError::OutOfMemory);
         };
         Ok(comments)
+    }
+
+    // The numbers of these comments.
+    pub(crate) fn comment_numbers(&self, node: CstNode) -> Result<Vec<usize, A>, EditError>
+        requires { HasNode self.now node }
+        ensures numbers { IfOk result (λ v. v.items ≡ comment_numbers self.now node) }
+        ensures in_tree { IfOk result (λ v. All (λ n. n < length (nodes_of self.now)) v.items) }
+        ensures memory { IfErr result (λ e. e ≡ EditError.OutOfMemory) }
+    {
+        let number = node.number();
+        if !is_entry(&self.tree, number) {
+            return Ok(Vec::new(self.alloc));
+        }
+        match comments_of(self.alloc, &self.tree, number) {
+            Ok(numbers) => Ok(numbers),
+            Err(_) => Err(EditError::OutOfMemory),
+        }
     }
 }

@@ -3,6 +3,7 @@ use Rattle.std.proofs.Common.{◌≡◌, ◌∙◌, refl, sym, ap, subst, arith,
 use Rattle.std.specs.Prelude.{if◌then◌else◌}
 use Rattle.std.specs.List.{All}
 use Rattle.std.proofs.lemmas.List.{get_or-drop, get_or-take}
+use Rattle.std.proofs.lemmas.List.Elements.{All-cons, All-head, All-nil, All-tail}
 use Rattle.jsonc_tree.specs.Content.{Content}
 use Rattle.jsonc_tree.specs.Tree.{Node, children_at, content_at, parent_at, place_at, IsTree}
 use Rattle.jsonc_layout.specs.lines.Kinds.{is_array_or_object}
@@ -60,6 +61,14 @@ module _ (ns : List Node) where
   pub entry_held : (n : ℕ) (b : Bool) → All Held (if b then map comment_under (comments_at ns n) else [])
   entry_held n true = let row : List ℕ = row_at ns (parent_at ns n) in part_held n (parts at row).lead (parts at row).rest
   entry_held n false = nothing_held
+
+  -- so their numbers are there
+  numbers_held : (xs : List ℕ) → All Held (map comment_under xs) → All (λ m. m < length ns) xs
+  numbers_held [] h = All-nil (λ m. m < length ns)
+  numbers_held (x ∷ xs) h = All-cons (λ m. m < length ns) x xs (All-head Held (comment_under x) (map comment_under xs) h).0 (numbers_held xs (All-tail Held (comment_under x) (map comment_under xs) h))
+
+  pub numbers_there : (n : ℕ) → All (λ m. m < length ns) (comments_at ns n)
+  numbers_there n = numbers_held (comments_at ns n) (entry_held n true)
 
   abbrev own : ℕ → List ℕ
   own n = if is_entry_at ns n then comments_at ns n else []
