@@ -1,8 +1,8 @@
 //! Recipes that edit a document.
 
 use jsonc_parser::cst::{
-    CstComment, CstInputValue, CstObjectProp, CstRootNode, Edit, EditError, Over,
-    TrailingCommaMode, TypedNode, run_unsorted,
+    CstInputValue, CstObjectProp, CstRootNode, Edit, EditError, Over, TrailingCommaMode, TypedNode,
+    run_unsorted,
 };
 use jsonc_parser::settings::{find_at, set_at, set_last_at};
 use std::alloc::{AllocError, Allocator};
@@ -94,33 +94,6 @@ pub(crate) fn sort_by_name<A: Allocator + Copy>(doc: &mut CstRootNode<A>) -> Res
     )
 }
 
-/// How many of the comments above a property stand above the last blank line there.
-fn header_length<A: Allocator + Copy>(
-    doc: &CstRootNode<A>,
-    property: CstObjectProp,
-    comments: &[CstComment],
-) -> usize {
-    if !doc.holds(property.node()) {
-        return 0;
-    }
-    let mut own = 0usize; // so many comments stand below the node
-    let mut line_ends = false; // whether a line without a comment ends behind it
-    for node in property.previous_siblings(doc) {
-        if node.is_newline() {
-            if line_ends {
-                return comments.len().saturating_sub(own);
-            }
-            line_ends = true;
-        } else if node.is_comment() {
-            line_ends = false;
-            own = own.saturating_add(1);
-        } else if !node.is_whitespace() {
-            break;
-        }
-    }
-    0
-}
-
 /// Sorts by name; comments above the last blank line before a property stay where they are.
 pub(crate) fn sort_under_headers<A: Allocator + Copy>(
     doc: &mut CstRootNode<A>,
@@ -128,11 +101,7 @@ pub(crate) fn sort_under_headers<A: Allocator + Copy>(
     let Some(object) = doc.object_value() else {
         return Ok(());
     };
-    let header = |doc: &CstRootNode<_>, property: CstObjectProp, comments: &[CstComment]| {
-        header_length(doc, property, comments)
-    };
-    let sort = object.sort_properties().pin_comment_headers_with(header);
-    sort.by_key(
+    object.sort_properties().keep_headers().by_key(
         doc,
         |doc: &CstRootNode<_>, property: CstObjectProp| match property.decoded_name(doc) {
             Ok(name) => Ok(name),

@@ -2,6 +2,7 @@ pub mod EditsMade
 pub mod EntryPaths
 pub mod Roots
 pub mod PropertyMade
+pub mod NameMade
 pub mod ValueMade
 pub mod CommasNeeded
 pub mod Booleans

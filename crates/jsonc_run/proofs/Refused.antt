@@ -15,9 +15,10 @@ use Rattle.jsonc_edit.specs.Paths.{IsAt, IsElementOf, LeadsTo}
 use Rattle.jsonc_edit.proofs.Uniqueness.{element_parent}
 use Rattle.jsonc_edit.specs.remove.Removed.{has_brackets, IsKeptFor}
 use Rattle.jsonc_edit.specs.multiline.Multiline.{IsUnspread}
+use Rattle.jsonc_edit.specs.set.Names.{RenameError}
 use Rattle.jsonc_edit.proofs.lemmas.multiline.LineEnds.{has_its_brackets}
 use Rattle.jsonc_insert.proofs.lemmas.named.Writing as named_laws
-use Rattle.jsonc_run.specs.Edits.{PlainEdit, replace, remove, remove_comment, set_root, clear_root, replace_property, ensure_root, set_value, ensure_value, set_boolean, ensure_multiline, insert_element, append_element, insert_property, append_property, ensure_property, set_commas, set_some_commas, rearrange, place_of, EditSteps, none_made, first_made}
+use Rattle.jsonc_run.specs.Edits.{PlainEdit, replace, remove, remove_comment, set_root, clear_root, replace_property, ensure_root, set_value, ensure_value, set_boolean, ensure_multiline, insert_element, append_element, insert_property, append_property, ensure_property, set_commas, set_some_commas, rearrange, rename_property, place_of, EditSteps, none_made, first_made}
 use Rattle.jsonc_insert.specs.Inserted.{refusal}
 use Rattle.jsonc_insert.proofs.lemmas.elements.Containers.{wants_memory_alone}
 use Rattle.jsonc_insert.proofs.lemmas.members.SpreadObjects as objects
@@ -83,6 +84,12 @@ module _ (o : Options) (ns : List Node) (tree : IsTree ns) (sound : SoundTree o 
   value_memory path n shape at MissingBrackets k = absurd k
   value_memory path n shape at NoSuchPlace k = absurd k
 
+  name_memory : (path : List ℕ) (n : ℕ) → IsPropertyAt ns path n → (why : EditError) → RenameError ns n why → why ≡ OutOfMemory
+  name_memory path n at OutOfMemory k = refl
+  name_memory path n at MissingName k = absurd (name_there path n at k)
+  name_memory path n at MissingBrackets k = absurd k
+  name_memory path n at NoSuchPlace k = absurd k
+
   -- what has its place is refused for memory alone
   memory_alone : (e : PlainEdit) (why : EditError) → AtPlace ns (place_of e) (λ n. RefusedAt ns n e why) → why ≡ OutOfMemory
   memory_alone (remove path) why (n, at, k) = entry_memory path n at why k
@@ -104,6 +111,7 @@ module _ (o : Options) (ns : List Node) (tree : IsTree ns) (sound : SoundTree o 
   memory_alone (replace_property path name v) why (n, at, k) = k
   memory_alone (set_value path v) why (n, at, k) = k
   memory_alone (rearrange path headers order) why (n, at, k) = k
+  memory_alone (rename_property path name) why (n, at, k) = name_memory path n at why k
 
   -- so memory or the edit's place was wanted
   pub refused_so : (e : PlainEdit) (stop : EditError) → FailsWith ns e stop → WantsMemoryOrPlace stop

@@ -36,6 +36,7 @@ use Rattle.jsonc_edit.specs.Writing.{IsWritable}
 use Rattle.jsonc_edit.specs.remove.Removed.{TakesElement}
 use Rattle.jsonc_edit.specs.set.Booleans.{BooleanSet}
 use Rattle.jsonc_edit.specs.set.Giving.{IsPropertyReplaced}
+use Rattle.jsonc_edit.specs.set.Names.{IsRenamed}
 use Rattle.jsonc_edit.specs.set.RootSet.{FirstValue}
 use Rattle.jsonc_edit.specs.set.Shapes.{has_shape, is_of, empty_of}
 use Rattle.jsonc_edit.proofs.OneValue.{document_once}
@@ -52,6 +53,7 @@ use Rattle.jsonc_edit.proofs.lemmas.remove.Roots.{value_taken}
 use Rattle.jsonc_edit.proofs.lemmas.set.FirstValueRows.{comes_among_rows}
 use Rattle.jsonc_edit.proofs.lemmas.set.FirstValueSet.{gives_first_value, leaves_bare}
 use Rattle.jsonc_edit.proofs.lemmas.set.PropertyRows.{prints_value, some_value_of}
+use Rattle.jsonc_edit.proofs.lemmas.set.RenamedProperty.{is_marked, writes_name}
 use Rattle.jsonc_edit.proofs.lemmas.set.WrittenBoolean.{writes_boolean}
 use Rattle.jsonc_edit.proofs.lemmas.set.WrittenProperty.{writes_property}
 use Rattle.jsonc_insert.specs.named.Members.{LacksMember}
@@ -63,8 +65,8 @@ use Rattle.jsonc_insert.proofs.lemmas.named.Values as property_values
 use Rattle.jsonc_insert.proofs.lemmas.named.Values.{empty_writable, marks_given, same_shape, value_gives_way, value_marked}
 use Rattle.jsonc_insert.proofs.lemmas.named.Writing.{finds_member, first_named}
 use Rattle.jsonc_run.specs.Named.{entry, ensures, kept_or_emptied, may_stay, Asks, StandsAt}
-use Rattle.jsonc_run.specs.Edits.{PlainEdit, replace, remove, remove_comment, set_root, clear_root, replace_property, ensure_root, set_value, ensure_value, set_boolean, ensure_multiline, insert_element, append_element, insert_property, append_property, ensure_property, set_commas, set_some_commas, rearrange, RootSet, EditStep, IsOfCharacters, NumbersFit}
-use Rattle.jsonc_run.specs.Written.{IsMarked, MadeIn, IsChanged, by_nothing, by_value, by_entry, by_all, by_comment, by_first, by_clearing, by_property, by_boolean, by_lines, by_inserting, by_inserting_member, by_commas, by_sorting, EntryRemoved, entry_left, value_left, FirstComes, ReplacesProperty, property_given}
+use Rattle.jsonc_run.specs.Edits.{PlainEdit, replace, remove, remove_comment, set_root, clear_root, replace_property, ensure_root, set_value, ensure_value, set_boolean, ensure_multiline, insert_element, append_element, insert_property, append_property, ensure_property, set_commas, set_some_commas, rearrange, rename_property, RootSet, EditStep, IsOfCharacters, NumbersFit}
+use Rattle.jsonc_run.specs.Written.{IsMarked, MadeIn, IsChanged, by_nothing, by_value, by_entry, by_all, by_comment, by_first, by_clearing, by_property, by_boolean, by_lines, by_inserting, by_inserting_member, by_commas, by_sorting, by_name, EntryRemoved, entry_left, value_left, FirstComes, ReplacesProperty, property_given}
 use Rattle.jsonc_run.specs.Places.{IsEntryAt, the_value, an_entry, IsEntryOf, in_array, in_object, IsBooleanAt, IsObjectAt}
 use Rattle.jsonc_run.specs.texts.Edits as texts
 use Rattle.jsonc_run.specs.texts.Edits.{Operation, options_behind}
@@ -73,6 +75,8 @@ use Rattle.jsonc_run.proofs.Booleans.{boolean_given, boolean_changed}
 use Rattle.jsonc_run.proofs.EnsuredValues.{held, Ensured, created, stayed, other_stayed, replaced, ensured}
 use Rattle.jsonc_run.proofs.Inserted as elements
 use Rattle.jsonc_run.proofs.Inserted.{gained_marks}
+use Rattle.jsonc_run.proofs.Calls.{property_over}
+use Rattle.jsonc_run.proofs.NameMade.{renames_property}
 use Rattle.jsonc_run.proofs.Properties as properties
 use Rattle.jsonc_run.proofs.PropertyMade.{property_gives_way}
 use Rattle.jsonc_run.proofs.Roots.{value_stands, root_is, emptied, no_leaves}
@@ -348,6 +352,26 @@ module _ (o : Options) (old new : List Node) (tree : IsTree old) (after : IsTree
         };
       }
 
+  -- a property gets another name
+  property_renamed : (path : List ℕ) (n m : ℕ) (name : List ℕ) → IsPropertyAt old path n → IsCharacters name → IsRenamed old new n name m → EditMade o (rename_property path name) t u
+  property_renamed _ n m name (a_property front c i at inside) characters r =
+      let place = a_property front c i at inside in
+      let w = writes_name o old new front c i n m name tree s at inside.of_object inside.element characters r in
+      record {
+        before = Some w.before;
+        op = texts.rename_property (front ++ i ∷ []) name;
+        asks = refl;
+        is = record {
+          after = Some w.after;
+          old_text = w.old_text;
+          new_text = w.new_text;
+          changed = by_name front i w.renamed;
+          sound = w.sound;
+          marked = (marks_under (top_at old r.0), is_marked old new n m name tree r r.0 r.1 (property_over old tree (front ++ i ∷ []) n place).0 characters);
+          made = renames_property o old new (front ++ i ∷ []) n m name tree s place r;
+        };
+      }
+
   -- a truth value is set
   boolean_set : (path : List ℕ) (n : ℕ) (b : Bool) → IsBooleanAt old path n → BooleanSet old new n b → EditMade o (set_boolean path b) t u
   boolean_set path n b at set =
@@ -458,3 +482,4 @@ module _ (o : Options) (old new : List Node) (tree : IsTree old) (after : IsTree
         asks = refl;
         is = record { after = Some w.new; old_text = w.old_text; new_text = w.new_text; changed = by_sorting w.entries; sound = w.sound; marked = w.marks; made = (a, sorted_outside path order old new a) };
       }
+  edit_made (rename_property path name) h k (n, at, (m, r)) = property_renamed path n m name at h r

@@ -17,12 +17,13 @@ use Rattle.jsonc_edit.specs.remove.Removed.{TakesElement}
 use Rattle.jsonc_edit.specs.set.Booleans.{BooleanSet}
 use Rattle.jsonc_edit.specs.set.Giving.{IsPropertyReplaced}
 use Rattle.jsonc_edit.specs.set.Kinds.{FoundOrCreated, FoundOrSet}
+use Rattle.jsonc_edit.specs.set.Names.{IsRenamed}
 use Rattle.jsonc_edit.specs.set.PropertyValues.{LastValue}
 use Rattle.jsonc_edit.specs.set.RootSet.{FirstValue}
 use Rattle.jsonc_sort.specs.Rearranged.{IsOrderIn, Rearranged}
 use Rattle.jsonc_sort.specs.Sorting.{Headers}
 use Rattle.jsonc_run.specs.declared.edit.Edit.{Edit}
-use Rattle.jsonc_run.specs.declared.edit.Edit.TheVariants.{Replace, Remove, RemoveComment, SetRoot, ClearRoot, ReplaceProperty, EnsureRoot, SetValue, EnsureValue, SetBoolean, EnsureMultiline, InsertElement, AppendElement, InsertProperty, AppendProperty, EnsureProperty, SetTrailingCommas, Sort}
+use Rattle.jsonc_run.specs.declared.edit.Edit.TheVariants.{Replace, Remove, RemoveComment, SetRoot, ClearRoot, ReplaceProperty, EnsureRoot, SetValue, EnsureValue, SetBoolean, EnsureMultiline, InsertElement, AppendElement, InsertProperty, AppendProperty, EnsureProperty, SetTrailingCommas, Sort, RenameProperty}
 use Rattle.jsonc_text.specs.declared.edit.Over.{Over}
 use Rattle.jsonc_text.specs.declared.edit.Over.TheVariants as over
 use Rattle.jsonc_text.specs.declared.edit.Shape.{Shape}
@@ -39,7 +40,7 @@ use Rattle.jsonc_layout.specs.from_input.Texts.{IsCharacters, IsOfTexts}
 -- that the array or object at the path is on several lines; that the value comes into the array at the path, as its element of this number or behind the last;
 -- that a property of this name and value so comes into the object at the path; that the first property of this name in the object at the path has a value of
 -- a shape; that the trailing commas of the array or object at the path, and of those below it, are set, or, where memory was refused on the way, of the first of
--- them; that the entries of the array or object at the path come in an order, with headers that are pinned.
+-- them; that the entries of the array or object at the path come in an order, with headers that are pinned; that the property at the path has this name.
 pub data PlainEdit : Type 0 where
   replace : List ℕ → Plain → PlainEdit
   remove : List ℕ → PlainEdit
@@ -60,6 +61,7 @@ pub data PlainEdit : Type 0 where
   set_commas : List ℕ → TrailingCommaMode → PlainEdit
   set_some_commas : List ℕ → TrailingCommaMode → PlainEdit
   rearrange : List ℕ → Headers → List ℕ → PlainEdit
+  rename_property : List ℕ → List ℕ → PlainEdit
 
 -- how a sort was done: which comments are pinned, and whether blank lines part the entries; and the order in which these come
 pub record Sorting : Type 0 where
@@ -101,6 +103,7 @@ operation_of s (AppendProperty path name value) = append_property path.items (ch
 operation_of s (EnsureProperty path name shape how) = ensure_property path.items (chars_of name) shape how
 operation_of s (SetTrailingCommas path mode) = set_commas path.items mode
 operation_of s (Sort path pin groups) = rearrange path.items s.headers s.order
+operation_of s (RenameProperty path name) = rename_property path.items (chars_of name)
 
 -- where it is to be made
 abbrev pub place_of : PlainEdit → Place
@@ -123,6 +126,7 @@ place_of (ensure_property path name shape how) = at_object path
 place_of (set_commas path mode) = at_container path
 place_of (set_some_commas path mode) = at_container path
 place_of (rearrange path headers order) = at_container path
+place_of (rename_property path name) = at_property path
 
 -- what an edit writes into a document: a value, a name, or a property
 pub data Writes : Type 0 where
@@ -141,6 +145,7 @@ written_by (append_element path v) = a_value v
 written_by (insert_property path i name v) = a_property name v
 written_by (append_property path name v) = a_property name v
 written_by (ensure_property path name shape how) = a_name name
+written_by (rename_property path name) = a_name name
 written_by e = nothing
 
 -- each number in it is, whole, one of these options
@@ -187,7 +192,8 @@ PropertyValueSet old new r v (Some n) = (m : ℕ) × IsReplaced old new n v m
 -- m; or the document has a value of the shape, if it had none of another that was to stay; or the value of n, a property, has been set, or is of the shape; or n, a
 -- truth value, has become this one; or n, an array or object, has been put on several lines, or was on several; or into n the value has come as m, at this number or
 -- behind all elements, or the property so; or the first property of the name in n has a value of the shape, or another that was to stay, or has come; or the
--- trailing commas of n and of those below it have been set, or those of the first of these; or its entries have come in the order.
+-- trailing commas of n and of those below it have been set, or those of the first of these; or its entries have come in the order; or n, a property, has the name,
+-- whose node is m, and else what it had.
 abbrev pub MakesAt : List Node → ℕ → PlainEdit → List Node → Type 0
 MakesAt old n (replace path v) new = (m : ℕ) × IsReplaced old new n v m
 MakesAt old n (remove path) new = TakesElement old new n
@@ -208,6 +214,7 @@ MakesAt old n (ensure_property path name shape how) new = (m : Option ℕ) × Na
 MakesAt old n (set_commas path mode) new = AreSetInTurn mode old (holders old n) new
 MakesAt old n (set_some_commas path mode) new = AreSetInPart mode old (holders old n) new
 MakesAt old n (rearrange path headers order) new = IsOrderIn old n order × Rearranged old new n headers order
+MakesAt old n (rename_property path name) new = (m : ℕ) × IsRenamed old new n name m
 
 -- the edit was made at its place
 abbrev pub EditStep : List Node → PlainEdit → List Node → Type 0

@@ -17,13 +17,14 @@ use Rattle.jsonc_edit.specs.multiline.Multiline.{IsUnspread}
 use Rattle.jsonc_edit.specs.remove.Removed.{IsKeptFor}
 use Rattle.jsonc_edit.specs.set.Booleans.{WantsSpaceFor}
 use Rattle.jsonc_edit.specs.set.Kinds.{LacksKind}
+use Rattle.jsonc_edit.specs.set.Names.{RenameError}
 use Rattle.jsonc_text.specs.declared.edit.Over.{Over}
 use Rattle.jsonc_text.specs.declared.edit.Over.TheVariants as over
 use Rattle.jsonc_text.specs.declared.edit.Shape.{Shape}
 use Rattle.jsonc_insert.specs.named.Named.{EnsureError}
 use Rattle.jsonc_edit.specs.set.Shapes.{is_of}
 use Rattle.jsonc_run.specs.Places.{IsContainerAt, AtPlace, IsFound}
-use Rattle.jsonc_run.specs.Edits.{PlainEdit, remove, remove_comment, clear_root, ensure_root, ensure_value, set_boolean, ensure_multiline, insert_element, append_element, insert_property, append_property, ensure_property, set_commas, set_some_commas, place_of, EditStep}
+use Rattle.jsonc_run.specs.Edits.{PlainEdit, remove, remove_comment, clear_root, ensure_root, ensure_value, set_boolean, ensure_multiline, insert_element, append_element, insert_property, append_property, ensure_property, set_commas, set_some_commas, rename_property, place_of, EditStep}
 
 -- a node stands where the edit is to be made; edits of the root always have their place
 abbrev pub HasItsPlace : List Node → PlainEdit → Type 0
@@ -46,7 +47,7 @@ IsUnset shape ns n why = ⊥
 
 -- Why it is refused that has its place, where n stands. Memory may be wanted for what is written, for the space that is due where an entry or a comment leaves, or
 -- before `false`, and for a comma that is due. Brackets may be missing around the entry that is to leave, or of the array or object that is to be on several lines
--- or that a value or property is to come into; and a name, or a colon, of the property whose value is to be of a shape.
+-- or that a value or property is to come into; and a name, or a colon, of the property whose value is to be of a shape, or that is to have another name.
 abbrev pub RefusedAt : List Node → ℕ → PlainEdit → EditError → Type 0
 RefusedAt ns n (remove path) why = IsKeptFor ns n why
 RefusedAt ns n (remove_comment number) why = (why ≡ OutOfMemory) × WantsSpace ns n
@@ -62,6 +63,7 @@ RefusedAt ns n (append_property path name v) why = why ≡ refusal ns n
 RefusedAt ns n (ensure_property path name shape how) why = EnsureError shape how ns n name why
 RefusedAt ns n (set_commas path mode) why = (why ≡ OutOfMemory) × (mode ≡ IfMultiline) × WantsSomeComma ns n
 RefusedAt ns n (set_some_commas path mode) why = ⊥
+RefusedAt ns n (rename_property path name) why = RenameError ns n why
 RefusedAt ns n e why = why ≡ OutOfMemory
 
 -- why the edit was not made: it has no place, or it is refused there

@@ -2,14 +2,16 @@
 use Rattle.std.specs.Prelude.{◌≡◌, ℕ, Bool, true, false, List, [], ◌∷◌, ◌++◌, Option, Some, None, count_by, length}
 use Rattle.jsonc_text.specs.Options.{Options}
 use Rattle.jsonc_text.specs.Plain.{Plain, boolean}
-use Rattle.jsonc_tree.specs.OrderedTree.{OrderedTree, leaves, Top, none}
+use Rattle.jsonc_text.specs.Spelling.{spelled}
+use Rattle.jsonc_tree.specs.Content.{Content}
+use Rattle.jsonc_tree.specs.OrderedTree.{OrderedTree, leaves, Top, none, more}
 use Rattle.jsonc_sound.specs.Changes.{Changed}
 use Rattle.jsonc_sound.specs.ChangeLaws.{DiffersIn}
 use Rattle.jsonc_sound.specs.TreeChanges.{leaves_of, property_of, DocumentChanged}
 use Rattle.jsonc_layout.specs.from_input.Layout.{Layout}
 use Rattle.jsonc_edit.specs.commas.Laws.{IsAsSaid, OnlyCommas}
-use Rattle.jsonc_edit.specs.SeamEntries.{PropertyReplacedWithSeam}
-use Rattle.jsonc_layout.specs.from_input.Laid.{laid, laid_property}
+use Rattle.jsonc_edit.specs.SeamEntries.{PropertyHolds, PropertyReplacedWithSeam}
+use Rattle.jsonc_layout.specs.from_input.Laid.{laid, laid_property, string_leaf}
 use Rattle.jsonc_edit.specs.Spaced.{SpacesPut}
 use Rattle.jsonc_sound.specs.Coming.{ValueInserted}
 use Rattle.jsonc_sound.specs.EntryLaws.{LosesEntry, root_with, LosesMarks}
@@ -19,9 +21,10 @@ use Rattle.jsonc_insert.specs.elements.Members.{InsertsMemberAt, PropertyInserte
 use Rattle.jsonc_insert.specs.named.Values.{ReplacesValue}
 use Rattle.jsonc_edit.specs.remove.Laws.{EntryTaken, ValueTaken}
 use Rattle.jsonc_edit.specs.set.Giving.{is_bare_value}
+use Rattle.jsonc_edit.specs.set.Names.{RenamesMember}
 use Rattle.jsonc_text.specs.declared.edit.TrailingCommaMode.{TrailingCommaMode}
 use Rattle.jsonc_sort.specs.Laws.{SortsEntries}
-use Rattle.jsonc_run.specs.texts.Edits.{Operation, nothing, replace, set_boolean, replace_property, come_first, insert, remove, remove_comment, clear_root, ensure_multiline, set_commas, rearrange, options_behind}
+use Rattle.jsonc_run.specs.texts.Edits.{Operation, nothing, replace, set_boolean, replace_property, come_first, insert, remove, remove_comment, clear_root, ensure_multiline, set_commas, rearrange, rename_property, options_behind}
 use Rattle.jsonc_run.specs.texts.Entries.{Named}
 use Rattle.jsonc_run.specs.texts.Paths.{an_array, an_object}
 use Rattle.jsonc_sound.specs.MarkChanges.{MarksDifferIn}
@@ -42,7 +45,8 @@ options_after o (op ∷ ops) = options_after (options_behind o op) ops
 
 -- The operation makes the second value of the first: the first itself; the first, but that at the path another value stands, or for a truth value another, or for
 -- a property another; the value that comes where there was none; the first, but that the array or object at the path has one entry more, at its number or as its
--- last; the first without an entry, or none without the document's value; none, where all leaves; and the first, but that the entries at the path come in an order.
+-- last; the first without an entry, or none without the document's value; none, where all leaves; the first, but that the entries at the path come in an order; and
+-- the first, but that the property at the path has another name.
 pub data IsChanged : Option Plain → Operation → Option Plain → Type 0 where
   by_nothing : {w : Option Plain} → IsChanged w nothing w
   by_value : {given_up v x y : Plain} {path : List ℕ} → Changed given_up v path x y → IsChanged (Some x) (replace path v) (Some y)
@@ -60,6 +64,7 @@ pub data IsChanged : Option Plain → Operation → Option Plain → Type 0 wher
   by_lines : {w : Option Plain} {path : List ℕ} → IsChanged w (ensure_multiline path) w
   by_commas : {w : Option Plain} {whole : Bool} {path : List ℕ} {mode : TrailingCommaMode} → IsChanged w (set_commas whole path mode) w
   by_sorting : {path order : List ℕ} {x y : Plain} → SortsEntries path order x y → IsChanged (Some x) (rearrange path order) (Some y)
+  by_name : (path : List ℕ) (i : ℕ) {name : List ℕ} {x y : Plain} → RenamesMember path i name x y → IsChanged (Some x) (rename_property (path ++ i ∷ []) name) (Some y)
 
 -- an entry has left a sound document, with what leaves with it and no more; or the document's value has
 pub data EntryRemoved (t u : OrderedTree) : List ℕ → Type 0 where
@@ -80,8 +85,14 @@ pub data ReplacesProperty (name : List ℕ) (v : Plain) (t u : OrderedTree) : Li
       → (seam : PropertyReplacedWithSeam path i was (laid_property layout name v).below t u) → (seam.behind ≡ true → is_bare_value v ≡ true)
       → ReplacesProperty name v t u (path ++ i ∷ [])
 
+-- In the object at the path the name of a property has been replaced by this one, between quotes; what is behind it in the property stays, and all leaves before the
+-- property and behind it.
+pub data RenamesProperty (name : List ℕ) (t u : OrderedTree) : List ℕ → Type 0 where
+  property_renamed : (path : List ℕ) (i : ℕ) (was : Content) (rest : OrderedTree) (front back : List Content) → PropertyHolds (more was none rest) path i t front back
+      → PropertyHolds (more (string_leaf name) none rest) path i u front back → RenamesProperty name t u (path ++ i ∷ [])
+
 -- All stay; or one stretch of the marks has been replaced by the literals that are written for the new value, for the truth value, or for the new name and value of
--- a property; or the literals of a value that comes have come, those of a property with its name; or those of an entry have left, with comments beside it; or one
+-- a property, or for its name alone; or the literals of a value that comes have come, those of a property with its name; or those of an entry have left, with comments beside it; or one
 -- comment has left, the one of that number. All others stay, in order. Of a cleared document none stay. Lines and commas change none, and where entries come in an
 -- order each mark is there as often as before.
 abbrev pub IsMarked : List Mark → Operation → List Mark → Type 0
@@ -98,6 +109,7 @@ IsMarked x clear_root y = y ≡ []
 IsMarked x (ensure_multiline path) y = y ≡ x
 IsMarked x (set_commas whole path mode) y = y ≡ x
 IsMarked x (rearrange path order) y = (test : Mark → Bool) → count_by test y ≡ count_by test x
+IsMarked x (rename_property path name) y = (was : List Mark) × MarksDifferIn was (marks.literal (spelled name) ∷ []) x y
 
 -- the value at the path has changed, and nothing outside of it
 abbrev pub IsChangedAt : List ℕ → OrderedTree → OrderedTree → Type 0
@@ -120,3 +132,4 @@ MadeIn o t (ensure_multiline path) u = SpreadAt path t u
 MadeIn o t (set_commas true path mode) u = OnlyCommas mode t u × (at : IsChangedAt path t u) × IsAsSaid mode o at.1.content at.1.below
 MadeIn o t (set_commas false path mode) u = OnlyCommas mode t u × IsChangedAt path t u
 MadeIn o t (rearrange path order) u = (sorted : SortedAt path order t u) × KeepsOutside sorted
+MadeIn o t (rename_property path name) u = RenamesProperty name t u path

@@ -34,6 +34,7 @@ pub mod Trailing
 pub mod PartLines
 pub mod Lines
 pub mod Properties
+pub mod Naming
 pub mod SortedParts
 pub mod SortedEntries
 pub mod SortedTexts

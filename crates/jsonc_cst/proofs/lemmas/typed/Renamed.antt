@@ -6,6 +6,7 @@ use Rattle.jsonc_text.specs.declared.edit.EditError.{EditError}
 use Rattle.jsonc_text.specs.declared.edit.EditError.TheVariants.{OutOfMemory, MissingBrackets, MissingName, NoSuchPlace}
 use Rattle.jsonc_tree.specs.Content.{property}
 use Rattle.jsonc_tree.specs.Tree.{Node, content_at, IsTree}
+use Rattle.jsonc_layout.specs.from_input.Texts.{IsCharacters}
 use Rattle.jsonc_layout.specs.nodes.Properties.{lacks_name_at}
 use Rattle.jsonc_edit.specs.set.Names.{IsRenamed, RenameError}
 use Rattle.jsonc_edit.proofs.Elements.{Some_same}
@@ -25,6 +26,7 @@ use Rattle.jsonc_cst.proofs.lemmas.typed.CompleteNodes.{value_for_memory}
 use Rattle.jsonc_cst.proofs.lemmas.typed.Detached.{raw_nobodys}
 use Rattle.jsonc_cst.proofs.lemmas.typed.HandlesKept.{nodes_stay, raw_there, stay_raw, stay_same}
 use Rattle.jsonc_cst.proofs.lemmas.typed.PropertyValues.{held_property}
+use Rattle.jsonc_cst.proofs.lemmas.typed.Steps.{renamed_step}
 
 -- the new name is there
 pub name_there : (old new : List Node) (p m : ℕ) (name : List ℕ) → IsRenamed old new p name m → m < length new
@@ -45,12 +47,13 @@ only_memory o ns tree p there is MissingBrackets told = absurd told
 only_memory o ns tree p there is NoSuchPlace told = absurd told
 
 module _ {A : Type 0} (old new : CstRootNode A) (p : CstObjectProp) (held : HasNode old (object_prop_node p)) (name : List ℕ) where
-  pub renamed : (x : CstNode) → IsRenamed (nodes_of old) (nodes_of new) p.number name (number_of x) → lacks_name_at (nodes_of old) p.number ≡ false → HasNode new x
+  pub renamed : IsCharacters name → (x : CstNode) → IsRenamed (nodes_of old) (nodes_of new) p.number name (number_of x) → lacks_name_at (nodes_of old) p.number ≡ false → HasNode new x
       → IsRenaming old new (object_prop_node p) name (Ok x)
-  renamed x given named there =
+  renamed characters x given named there =
       let m : ℕ = number_of x in
       record {
         renamed = given;
+        step = renamed_step (nodes_of old) (nodes_of new) old.tree.tree new.tree.tree p.number m name characters given (held_property (nodes_of old) p held);
         written = λ o path c i sound at is element texts. writes_name o (nodes_of old) (nodes_of new) path c i p.number m name old.tree.tree sound at is element texts given;
         marked = λ n told over texts. is_marked (nodes_of old) (nodes_of new) p.number m name old.tree.tree given n told over texts;
         around = stays_around (nodes_of old) (nodes_of new) p.number m name old.tree.tree given;
@@ -68,6 +71,7 @@ module _ {A : Type 0} (old new : CstRootNode A) (p : CstObjectProp) (held : HasN
   pub refused : (e : EditError) → RenameError (nodes_of old) p.number e → nodes_of new ≡ nodes_of old → IsRenaming old new (object_prop_node p) name (Err e)
   refused e told same = record {
     renamed = tt;
+    step = tt;
     written = λ o. tt;
     marked = tt;
     around = tt;

@@ -25,7 +25,7 @@ use Rattle.jsonc_text.specs.declared.edit.Shape.TheVariants.{Object, Array}
 use Rattle.jsonc_edit.specs.set.Shapes.{empty_of}
 use Rattle.jsonc_edit.specs.remove.Laws.{ValueTaken}
 use Rattle.jsonc_edit.proofs.lemmas.remove.RemovedValue.{removes_value}
-use Rattle.jsonc_run.specs.Edits.{PlainEdit, replace, set_root, replace_property, ensure_root, set_value, ensure_value, insert_element, append_element, insert_property, append_property, ensure_property, IsOfCharacters}
+use Rattle.jsonc_run.specs.Edits.{PlainEdit, replace, set_root, replace_property, ensure_root, set_value, ensure_value, insert_element, append_element, insert_property, append_property, ensure_property, rename_property, IsOfCharacters}
 use Rattle.jsonc_run.specs.Steps.{Says, Step, Steps, no_step, one_step}
 use Rattle.jsonc_run.specs.Named.{ensures_root, kept_or_emptied, may_stay, sets_root, Asks, comment_count, IsNamed}
 use Rattle.jsonc_run.specs.Written.{IsChanged, by_boolean, by_comment, by_inserting, by_nothing, EntryRemoved, entry_left, value_left}
@@ -39,6 +39,7 @@ use Rattle.jsonc_run.proofs.lemmas.promise.Inserting.{gained, in_place, gains_so
 use Rattle.jsonc_run.proofs.lemmas.promise.Lines as lines
 use Rattle.jsonc_run.proofs.lemmas.promise.Lines.{some_commas_made, multiline_made}
 use Rattle.jsonc_run.proofs.lemmas.promise.Members.{property_inserted}
+use Rattle.jsonc_run.proofs.lemmas.promise.Naming.{name_made}
 use Rattle.jsonc_run.proofs.lemmas.promise.Plains.{changed, entry_of}
 use Rattle.jsonc_run.proofs.lemmas.promise.Properties.{property_replaced}
 use Rattle.jsonc_run.proofs.lemmas.promise.Removing.{entry_removed}
@@ -92,6 +93,7 @@ OfCharacters (texts.come_first v) = IsOfTexts v
 OfCharacters (texts.replace_property path new) = IsCharacters new.name × IsOfTexts new.value
 OfCharacters (texts.insert an_array path i new) = IsOfTexts new.value × (new.name ≡ [])
 OfCharacters (texts.insert an_object path i new) = IsCharacters new.name × IsOfTexts new.value
+OfCharacters (texts.rename_property path name) = IsCharacters name
 OfCharacters op = Unit {0}
 
 empty_texts : (shape : Shape) → IsOfTexts (empty_of shape)
@@ -123,6 +125,7 @@ asked_characters w (insert_property path i name v) op is h = subst OfCharacters 
 asked_characters w (append_property path name v) op (ms, i, stands, far, is) h = subst OfCharacters (sym is) h
 asked_characters w (ensure_property path name shape how) op (ms, stands, inl (i, v, first, there, is)) h = subst OfCharacters (sym is) (emptied_characters shape (path ++ i ∷ []) (may_stay shape how v))
 asked_characters w (ensure_property path name shape how) op (ms, stands, inr (lacks, i, far, is)) h = subst OfCharacters (sym is) (h, empty_texts shape)
+asked_characters w (rename_property path name) op is h = subst OfCharacters (sym is) h
 asked_characters w e op is h = subst OfCharacters (sym is) tt
 
 -- what one step makes of a text
@@ -143,6 +146,7 @@ step_made o t u w x (texts.set_commas true path mode) s f =
     lines.commas_made o t u w x path mode s.new.sound s.new.text (some_commas_made o t u w x path mode s.old.sound s.new.sound (lines.same_by_commas s.changed) s.marked s.made.0 (inr s.made.1)) (lines.set_at_path mode o path s.made.1 s.made.2)
 step_made o t u w x (texts.set_commas false path mode) s f = (some_commas_made o t u w x path mode s.old.sound s.new.sound (lines.same_by_commas s.changed) s.marked s.made.0 (inr s.made.1), tt)
 step_made o t u w x (texts.rearrange path order) s f = rearranged o t u w x path order s.old.sound s.new.sound s.old.value s.new.value s.changed s.marked s.made.0
+step_made o t u w x (texts.rename_property path name) s f = name_made o t u w x path name f s.old.sound s.new.sound s.changed s.made
 
 -- a tree has as many comments as the document that it prints
 as_many_comments : (o : Options) (t : OrderedTree) (w : Option Plain) → comment_count t ≡ length (comments_of (document_of o t w).marks)

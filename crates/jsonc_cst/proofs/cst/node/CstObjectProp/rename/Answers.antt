@@ -1,4 +1,5 @@
 use Rattle.std.proofs.Common.{ap, chars, ◌∙◌}
+use Rattle.std.proofs.lemmas.Str.{scalars-chars}
 use Rattle.jsonc_edit.specs.set.Names.{IsRenamed}
 use Rattle.jsonc_cst.specs.Nodes.{number_of}
 use Rattle.jsonc_cst.proofs.lemmas.typed.HandlesKept.{as_typed}
@@ -16,7 +17,7 @@ returns-in-Ok g c =
     let name = chars c.args.name.now in
     let same = c.number-number.ensures ∙ ap number_of c.node.ensures in
     let given = rw same at c.in-Ok.ensures.renamed in
-    renamed c.args.doc.now _ c.args.self c.requires name c.node_at.result (as_typed (IsRenamed old new p name) new c.in-Ok.new c.node_at.result c.node_at.ensures.node given)
+    renamed c.args.doc.now _ c.args.self c.requires name (scalars-chars c.args.name.now c.utf8.name) c.node_at.result (as_typed (IsRenamed old new p name) new c.in-Ok.new c.node_at.result c.node_at.ensures.node given)
     (rw same at c.in-Ok.ensures.named) c.node_at.ensures.in_document
 
 pub returns-in-Err : goal.returns-in-Err

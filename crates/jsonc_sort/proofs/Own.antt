@@ -5,9 +5,8 @@ use Rattle.std.specs.List.{list_any}
 use Rattle.std.proofs.lemmas.List.{drop_all, drop_more, take-append-drop}
 use Rattle.jsonc_tree.specs.Content.{Content}
 use Rattle.jsonc_layout.specs.nodes.Kinds.{is_newline, is_whitespace}
-use Rattle.jsonc_sort.specs.Leads.{has_blank_line, line_ends}
+use Rattle.jsonc_sort.specs.Leads.{below, has_blank_line, line_ends, own_lead}
 use Rattle.jsonc_sort.specs.Parts.{is_newline_at, is_whitespace_at}
-use Rattle.jsonc_cst.specs.EntryComments.{below, own_lead}
 
 newline_no_space : (c : Content) → is_newline c ≡ true → is_whitespace c ≡ false
 newline_no_space (Content.newline k) e = refl

@@ -1,9 +1,9 @@
 use Rattle.std.proofs.Common.{◌≡◌, ◌∙◌, sym, ap, subst, arith}
 use Rattle.std.specs.Prelude.{if◌then◌else◌}
 use Rattle.jsonc_tree.specs.Tree.{content_at}
-use Rattle.jsonc_cst.proofs.lemmas.comments.Own.{Passed, both, passed_all, passed_by, passed_none, passed_now}
-use Rattle.jsonc_cst.proofs.cst.comments.own_lead.Goals as goal
-use Rattle.jsonc_cst.proofs.cst.comments.own_lead.Goals.{then-ends, else-ends}
+use Rattle.jsonc_sort.proofs.Own.{Passed, both, passed_all, passed_by, passed_none, passed_now}
+use Rattle.jsonc_sort.proofs.leads.own_lead.Goals as goal
+use Rattle.jsonc_sort.proofs.leads.own_lead.Goals.{then-ends, else-ends}
 
 pub returns-then-ends-ended-clause-begins : goal.returns-then-ends-ended-clause-begins
 returns-then-ends-ended-clause-begins g c =
