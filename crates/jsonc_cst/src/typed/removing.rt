@@ -108,10 +108,14 @@ fn remove_entry<A: Allocator + Copy, N: TypedNode>(
         return remove_node(doc, entry);
     };
     // All memory is wanted before the first node leaves.
-    let comments = doc.comment_numbers(entry)?;
-    remove_node(doc, entry)?;
-    clear_any(&mut doc.tree, container, &comments);
-    Ok(())
+    let Ok(comments) = doc.comment_numbers(entry) else {
+        return Err(EditError::OutOfMemory);
+    };
+    let removed = remove_node(doc, entry);
+    if removed.is_ok() {
+        clear_any(&mut doc.tree, container, &comments);
+    }
+    removed
 }
 
 impl CstNode {

@@ -1,5 +1,5 @@
 -- An entry is taken out, and then its comments.
-use Rattle.std.proofs.Common.{◌≡◌, inl, inr, ℕ, ◌<◌, Bool, true, false, cond, not, List, [], ◌∷◌, length, slice_range, Option, Some, None, Result, Ok, Err, IfErr, OnOk, refl, sym, ap, subst, ◌∙◌, arith}
+use Rattle.std.proofs.Common.{◌≡◌, inl, inr, ℕ, ◌<◌, Bool, true, false, cond, not, List, [], ◌∷◌, length, slice_range, Option, Some, None, Result, Ok, Err, is_ok, IfErr, OnOk, refl, sym, ap, subst, ◌∙◌, arith}
 use Rattle.std.specs.List.{All}
 use Rattle.std.proofs.lemmas.Bool.{cases_Bool}
 use Rattle.std.proofs.lemmas.List.Elements.{All-weaker}
@@ -156,8 +156,9 @@ module _ {A : Type 0} (old : CstRootNode A) (node : CstNode) where
   }
 
   -- and where it is refused
-  pub cleared_refused : (new : CstRootNode A) (e : EditError) → IsRemoval old new node (Err e) → IsRemovalWithComments old new node (Err e)
-  cleared_refused new e i = record {
+  pub cleared_refused : (new : CstRootNode A) (r : Result (Unit {0}) EditError) → is_ok r ≡ false → IsRemoval old new node r → IsRemovalWithComments old new node r
+  cleared_refused new (Ok u) no i = absurd (let wrong : true ≡ false = no in cc)
+  cleared_refused new (Err e) no i = record {
     removed = tt;
     alone = λ h. i;
     gone = tt;
@@ -183,9 +184,10 @@ module _ {A : Type 0} (old : CstRootNode A) (node : CstNode) where
   }
 
   -- and then its comments leave
-  pub cleared_entry : (mid new : CstRootNode A) (c : ℕ) → parent_at (nodes_of old) (number_of node) ≡ Some c → IsTree (nodes_of mid) → IsTree (nodes_of new) → IsRemoval old mid node (Ok tt)
-      → AreClearedIfAny (nodes_of mid) (nodes_of new) c (comment_numbers old node) → IsRemovalWithComments old new node (Ok tt)
-  cleared_entry mid new c said between after i cleared = record {
+  pub cleared_entry : (mid new : CstRootNode A) (c : ℕ) → parent_at (nodes_of old) (number_of node) ≡ Some c → IsTree (nodes_of mid) → IsTree (nodes_of new) → (r : Result (Unit {0}) EditError) → is_ok r ≡ true → IsRemoval old mid node r
+      → AreClearedIfAny (nodes_of mid) (nodes_of new) c (comment_numbers old node) → IsRemovalWithComments old new node r
+  cleared_entry mid new c said between after (Err e) yes i cleared = absurd (let wrong : false ≡ true = yes in cc)
+  cleared_entry mid new c said between after (Ok u) yes i cleared = record {
     removed = λ d told.
         let both : Some c ≡ Some d = sym said ∙ told in
         let same : c ≡ d = cc in
