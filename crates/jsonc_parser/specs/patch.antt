@@ -7,5 +7,13 @@ pub mod Locations
 pub mod Messages
 pub mod Laws
 pub mod Numbers
+pub mod Equality
+pub mod Operations
+pub mod Asked
+pub mod Patches
+pub mod PatchTexts
+pub mod PatchFaults
+pub mod PatchReading
+pub mod PatchMessages
 pub mod Digits
 pub mod Values

@@ -11,3 +11,6 @@ pub mod Digits
 pub mod HexRows
 pub mod NumberRows
 pub mod SameNumbers
+pub mod SeenNames
+pub mod PatchValues
+pub mod PatchReads
