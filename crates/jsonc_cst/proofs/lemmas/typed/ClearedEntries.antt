@@ -164,8 +164,8 @@ module _ {A : Type 0} (old : CstRootNode A) (node : CstNode) where
 
   -- and where it is refused
   pub cleared_refused : (new : CstRootNode A) (r : Result (Unit {0}) EditError) → is_ok r ≡ false → IsRemoval old new node r → IsRemovalWithComments old new node r
-  cleared_refused new (Ok u) no i = absurd (let wrong : true ≡ false = no in cc)
-  cleared_refused new (Err e) no i = record {
+  cleared_refused new (Ok u) failed i = absurd (let wrong : true ≡ false = failed in cc)
+  cleared_refused new (Err e) failed i = record {
     removed = tt;
     alone = λ h. i;
     gone = tt;
@@ -193,8 +193,8 @@ module _ {A : Type 0} (old : CstRootNode A) (node : CstNode) where
   -- and then its comments leave
   pub cleared_entry : (mid new : CstRootNode A) (c : ℕ) → parent_at (nodes_of old) (number_of node) ≡ Some c → IsTree (nodes_of mid) → IsTree (nodes_of new) → (r : Result (Unit {0}) EditError) → is_ok r ≡ true → IsRemoval old mid node r
       → AreClearedIfAny (nodes_of mid) (nodes_of new) c (comment_numbers old node) → IsRemovalWithComments old new node r
-  cleared_entry mid new c said between after (Err e) yes i cleared = absurd (let wrong : false ≡ true = yes in cc)
-  cleared_entry mid new c said between after (Ok u) yes i cleared = record {
+  cleared_entry mid new c said between after (Err e) made i cleared = absurd (let wrong : false ≡ true = made in cc)
+  cleared_entry mid new c said between after (Ok u) made i cleared = record {
     removed = λ d told.
         let both : Some c ≡ Some d = sym said ∙ told in
         let same : c ≡ d = cc in
