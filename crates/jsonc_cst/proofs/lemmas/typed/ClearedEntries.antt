@@ -26,7 +26,7 @@ use Rattle.jsonc_cst.specs.typed.Calls.{IsRemoval, IsRemovalWithComments}
 use Rattle.jsonc_cst.specs.typed.Removing.{removal_of, AreClearedIfAny, EntryCleared, IsDetachedBy, IsKeptIn, IsKeptWithComments, IsLooseFor}
 use Rattle.jsonc_cst.proofs.Family.{number_of-typed, typed_held}
 use Rattle.jsonc_cst.proofs.lemmas.typed.Detached.{nobodys}
-use Rattle.jsonc_cst.proofs.lemmas.typed.HandlesKept.{nodes_stay, stay_both, stay_closed, stay_same, Stays}
+use Rattle.jsonc_cst.proofs.lemmas.typed.HandlesKept.{nodes_stay, stay_both, stay_same, stay_spliced, Stays}
 
 -- nodes that are there still are there by their numbers, and containers are ones
 module _ (old new : List Node) (handles : NodesStillThere old new) (n : ℕ) (there : n < length old) where
@@ -39,7 +39,7 @@ module _ (old new : List Node) (handles : NodesStillThere old new) (n : ℕ) (th
   pub there_still : n < length new
   there_still = subst (λ k. k < length new) same held.0
 
-  is_holder : CstNode → Bool
+  abbrev is_holder : CstNode → Bool
   is_holder (Container x) = true
   is_holder (Leaf x) = false
 
@@ -77,7 +77,14 @@ all_still old new handles ns all = All-weaker (λ n. n < length old) (λ n. n < 
 stay_one : (old new : List Node) (c n : ℕ) → parent_at old n ≡ Some c → IsCleared old new c n → Stays old new
 stay_one old new c n said cleared = let s = same_cleared old new c n said cleared in record { len = omega (arith, s.len); content = λ m h. s.content m }
 
-pub stay_cleared : (old new : List Node) (c : ℕ) (ns : List ℕ) → AreCleared old new c ns → Stays old new
+stay_closed : (old new : List Node) (c : ℕ) → IsClosedUp old new c → Stays old new
+stay_closed old new c closed =
+    elim (cases_Bool (is_hollow old c)) [
+      | inl e ↦ stay_spliced old new _ _ _ _ (closed.0 e)
+      | inr e ↦ stay_same old new (closed.1 (ap not e))
+    ]
+
+stay_cleared : (old new : List Node) (c : ℕ) (ns : List ℕ) → AreCleared old new c ns → Stays old new
 stay_cleared old new c _ (none_left closed) = stay_closed old new c closed
 stay_cleared old new c _ (not_there {rest = rest} away more) = stay_cleared old new c rest more
 stay_cleared old new c _ (one_cleared {n = n} {rest = rest} mid tree said cleared more) = stay_both old mid new (stay_one old mid c n said cleared) (stay_cleared mid new c rest more)
@@ -157,8 +164,8 @@ module _ {A : Type 0} (old : CstRootNode A) (node : CstNode) where
 
   -- and where it is refused
   pub cleared_refused : (new : CstRootNode A) (r : Result (Unit {0}) EditError) → is_ok r ≡ false → IsRemoval old new node r → IsRemovalWithComments old new node r
-  cleared_refused new (Ok u) no i = absurd (let wrong : true ≡ false = no in cc)
-  cleared_refused new (Err e) no i = record {
+  cleared_refused new (Ok u) failed i = absurd (let wrong : true ≡ false = failed in cc)
+  cleared_refused new (Err e) failed i = record {
     removed = tt;
     alone = λ h. i;
     gone = tt;
@@ -186,8 +193,8 @@ module _ {A : Type 0} (old : CstRootNode A) (node : CstNode) where
   -- and then its comments leave
   pub cleared_entry : (mid new : CstRootNode A) (c : ℕ) → parent_at (nodes_of old) (number_of node) ≡ Some c → IsTree (nodes_of mid) → IsTree (nodes_of new) → (r : Result (Unit {0}) EditError) → is_ok r ≡ true → IsRemoval old mid node r
       → AreClearedIfAny (nodes_of mid) (nodes_of new) c (comment_numbers old node) → IsRemovalWithComments old new node r
-  cleared_entry mid new c said between after (Err e) yes i cleared = absurd (let wrong : false ≡ true = yes in cc)
-  cleared_entry mid new c said between after (Ok u) yes i cleared = record {
+  cleared_entry mid new c said between after (Err e) made i cleared = absurd (let wrong : false ≡ true = made in cc)
+  cleared_entry mid new c said between after (Ok u) made i cleared = record {
     removed = λ d told.
         let both : Some c ≡ Some d = sym said ∙ told in
         let same : c ≡ d = cc in
