@@ -7,5 +7,16 @@ pub mod Locations
 pub mod Messages
 pub mod Laws
 pub mod Numbers
+pub mod Equality
+pub mod Operations
+pub mod Asked
+pub mod PatchTexts
+pub mod Patches
+pub mod PatchFaults
+pub mod PatchReading
+pub mod PatchMessages
+pub mod Merging
+pub mod Comparing
 pub mod Digits
 pub mod Values
+pub mod Applied

@@ -11,3 +11,7 @@ pub mod Digits
 pub mod HexRows
 pub mod NumberRows
 pub mod SameNumbers
+pub mod Equality
+pub mod SeenNames
+pub mod PatchValues
+pub mod PatchReads

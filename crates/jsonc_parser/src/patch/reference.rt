@@ -181,6 +181,26 @@ fn element<A: Allocator>(doc: &CstRootNode<A>, node: usize, token: &str) -> Opti
     element_at(tree, node, index)
 }
 
+// The element of an array before which a token says that another is to come; none of the two where it says
+// behind the last.
+pub(super) fn element_place<A: Allocator>(
+    doc: &CstRootNode<A>,
+    node: usize,
+    token: &str,
+) -> Option<Option<usize>>
+    requires { node < length (nodes_of doc.now) }
+{
+    if token == "-" {
+        return Some(None);
+    }
+    let tree = doc.tree();
+    let index = index_below(token, tree.len())?;
+    if index == 0 || element_at(tree, node, index - 1).is_some() {
+        return Some(Some(index));
+    }
+    None
+}
+
 // Where a token leads from a node.
 fn step<A: Allocator + Copy>(
     doc: &CstRootNode<A>,
@@ -205,7 +225,7 @@ fn step<A: Allocator + Copy>(
 }
 
 // The value that tokens refer to, if there is one.
-fn follow<A: Allocator + Copy>(
+pub(super) fn follow<A: Allocator + Copy>(
     doc: &CstRootNode<A>,
     tokens: &[String<A>],
 ) -> Result<Option<CstNode>, FindError<A>>
