@@ -11,6 +11,7 @@ mod apply;
 mod equality;
 pub(crate) mod laws;
 mod location;
+mod making;
 mod merging;
 mod numbers;
 mod operation;
@@ -19,8 +20,9 @@ mod reading;
 mod reference;
 mod values;
 
-pub use apply::{Patch, PatchCause, PatchFault};
+pub use apply::{Patch, PatchFault};
 pub use location::pointer_of;
+pub use making::PatchCause;
 pub use merging::{MergeFault, merge};
 pub use numbers::same_number;
 pub use operation::{Member, Operation, OperationFault};

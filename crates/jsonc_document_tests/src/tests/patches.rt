@@ -1,440 +1,378 @@
-//! Patches: texts that are read, and values that are tested.
+//! Patches and merge patches: the examples of their standards, and what an error leaves.
 
-use failing_alloc::in_turn::refused_in_turn;
+use crate::tests::reading::read;
+use failing_alloc::in_turn::answers_in_turn;
 use failing_alloc::outcome::Outcome;
-use jsonc_parser::ParseOptions;
-use jsonc_parser::cst::{CstInputValue, CstRootNode, TypedNode};
-use jsonc_parser::errors::ParseErrorKind;
+use jsonc_parser::cst::{CstRootNode, EditError, input};
 use jsonc_parser::patch::{
-    Member, Operation, OperationFault, Patch, PatchCause, PatchError, Pointer, PointerError,
+    self, MergeFault, OperationFault, Patch, PatchCause, PatchError, PatchFault,
 };
+use jsonc_parser::{ParseOptions, parse_to_value};
 use std::alloc::Allocator;
 use std::test::Fail;
 
-/// An operation: the texts of its pointers, and of its value.
-#[derive(Clone, Copy)]
-enum Wanted<'a> {
-    Add(&'a str, &'a str),
-    Remove(&'a str),
-    Replace(&'a str, &'a str),
-    Move(&'a str, &'a str),
-    Copy(&'a str, &'a str),
-    Test(&'a str, &'a str),
-}
-
-/// What a text is.
+/// What comes of a patch.
 #[derive(Clone, Copy)]
 enum Answer<'a> {
-    /// A patch with one operation, or with none.
-    One(Wanted<'a>),
-    None,
-    /// A patch with so many operations.
-    Many(usize),
-    /// No text under its options.
-    Unread,
-    /// No array.
-    NotAnArray,
-    /// The operation of this number is no object.
-    NotAnObject(usize),
-    /// It lacks a member.
-    Missing(usize, Member),
-    /// It has a wrong one.
-    Wrong(usize, Member),
-    /// A member is no pointer.
-    Pointer(usize, Member, PointerError),
-    /// A name stands twice.
+    /// A document of the value of this text.
+    Value(&'a str),
+    /// This very text.
+    Text(&'a str),
+    /// The operation of this number leads to nothing.
+    Nowhere(usize),
+    /// The operation of this number finds another value.
+    Another(usize),
+    /// The operation of this number moves a value into itself.
+    Inside(usize),
+    /// This name stands twice where the operation of this number, or a merge, looks it up, or in the patch.
     Twice(usize, &'a str),
+    /// The patch is none.
+    NoPatch(usize),
 }
 
-/// A text, and what it is.
-type Row<'a> = (&'a str, Answer<'a>);
+/// A document, a patch, and what comes of them.
+type Row<'a> = (&'a str, &'a str, Answer<'a>);
 
-/// The patches of RFC 6902, appendix A, and others.
-static ROWS: [Row; 46] = [
+/// Appendix A of RFC 6902, and more.
+static PATCHES: [Row; 29] = [
     (
-        "[{ \"op\": \"add\", \"path\": \"/baz\", \"value\": \"qux\" }]",
-        Answer::One(Wanted::Add("/baz", "\"qux\"")),
+        r#"{"foo":"bar"}"#,
+        r#"[{"op":"add","path":"/baz","value":"qux"}]"#,
+        Answer::Value(r#"{"baz":"qux","foo":"bar"}"#),
     ),
     (
-        "[{ \"op\": \"add\", \"path\": \"/foo/1\", \"value\": \"qux\" }]",
-        Answer::One(Wanted::Add("/foo/1", "\"qux\"")),
+        r#"{"foo":["bar","baz"]}"#,
+        r#"[{"op":"add","path":"/foo/1","value":"qux"}]"#,
+        Answer::Value(r#"{"foo":["bar","qux","baz"]}"#),
     ),
     (
-        "[{ \"op\": \"remove\", \"path\": \"/baz\" }]",
-        Answer::One(Wanted::Remove("/baz")),
+        r#"{"baz":"qux","foo":"bar"}"#,
+        r#"[{"op":"remove","path":"/baz"}]"#,
+        Answer::Value(r#"{"foo":"bar"}"#),
     ),
     (
-        "[{ \"op\": \"remove\", \"path\": \"/foo/1\" }]",
-        Answer::One(Wanted::Remove("/foo/1")),
+        r#"{"foo":["bar","qux","baz"]}"#,
+        r#"[{"op":"remove","path":"/foo/1"}]"#,
+        Answer::Value(r#"{"foo":["bar","baz"]}"#),
     ),
     (
-        "[{ \"op\": \"replace\", \"path\": \"/baz\", \"value\": \"boo\" }]",
-        Answer::One(Wanted::Replace("/baz", "\"boo\"")),
+        r#"{"baz":"qux","foo":"bar"}"#,
+        r#"[{"op":"replace","path":"/baz","value":"boo"}]"#,
+        Answer::Value(r#"{"baz":"boo","foo":"bar"}"#),
     ),
     (
-        "[{ \"op\": \"move\", \"from\": \"/foo/waldo\", \"path\": \"/qux/thud\" }]",
-        Answer::One(Wanted::Move("/foo/waldo", "/qux/thud")),
+        r#"{"foo":{"bar":"baz","waldo":"fred"},"qux":{"corge":"grault"}}"#,
+        r#"[{"op":"move","from":"/foo/waldo","path":"/qux/thud"}]"#,
+        Answer::Value(r#"{"foo":{"bar":"baz"},"qux":{"corge":"grault","thud":"fred"}}"#),
     ),
     (
-        "[{ \"op\": \"move\", \"from\": \"/foo/1\", \"path\": \"/foo/3\" }]",
-        Answer::One(Wanted::Move("/foo/1", "/foo/3")),
+        r#"{"foo":["all","grass","cows","eat"]}"#,
+        r#"[{"op":"move","from":"/foo/1","path":"/foo/3"}]"#,
+        Answer::Value(r#"{"foo":["all","cows","eat","grass"]}"#),
     ),
     (
-        "[{ \"op\": \"test\", \"path\": \"/baz\", \"value\": \"qux\" },
-{ \"op\": \"test\", \"path\": \"/foo/1\", \"value\": 2 }]",
-        Answer::Many(2),
+        r#"{"baz":"qux","foo":["a",2,"c"]}"#,
+        r#"[{"op":"test","path":"/baz","value":"qux"},{"op":"test","path":"/foo/1","value":2}]"#,
+        Answer::Text(r#"{"baz":"qux","foo":["a",2,"c"]}"#),
     ),
     (
-        "[{ \"op\": \"test\", \"path\": \"/baz\", \"value\": \"bar\" }]",
-        Answer::One(Wanted::Test("/baz", "\"bar\"")),
+        r#"{"baz":"qux"}"#,
+        r#"[{"op":"test","path":"/baz","value":"bar"}]"#,
+        Answer::Another(0),
     ),
     (
-        "[{ \"op\": \"add\", \"path\": \"/child\", \"value\": { \"grandchild\": { } } }]",
-        Answer::One(Wanted::Add("/child", "{ \"grandchild\": { } }")),
+        r#"{"foo":"bar"}"#,
+        r#"[{"op":"add","path":"/child","value":{"grandchild":{}}}]"#,
+        Answer::Value(r#"{"foo":"bar","child":{"grandchild":{}}}"#),
     ),
     (
-        "[{ \"op\": \"add\", \"path\": \"/baz\", \"value\": \"qux\", \"xyz\": 123 }]",
-        Answer::One(Wanted::Add("/baz", "\"qux\"")),
+        r#"{"foo":"bar"}"#,
+        r#"[{"op":"add","path":"/baz","value":"qux","xyz":123}]"#,
+        Answer::Value(r#"{"foo":"bar","baz":"qux"}"#),
     ),
     (
-        "[{ \"op\": \"add\", \"path\": \"/baz/bat\", \"value\": \"qux\" }]",
-        Answer::One(Wanted::Add("/baz/bat", "\"qux\"")),
+        r#"{"foo":"bar"}"#,
+        r#"[{"op":"add","path":"/baz/bat","value":"qux"}]"#,
+        Answer::Nowhere(0),
     ),
     (
-        "[{ \"op\": \"add\", \"path\": \"/baz\", \"value\": \"qux\", \"op\": \"remove\" }]",
-        Answer::Twice(0, "op"),
+        r#"{"foo":"bar"}"#,
+        r#"[{"op":"add","path":"/baz","value":"qux","op":"remove"}]"#,
+        Answer::NoPatch(0),
     ),
     (
-        "[{ \"op\": \"test\", \"path\": \"/~01\", \"value\": 10 }]",
-        Answer::One(Wanted::Test("/~01", "10")),
+        r#"{"/":9,"~1":10}"#,
+        r#"[{"op":"test","path":"/~01","value":10}]"#,
+        Answer::Text(r#"{"/":9,"~1":10}"#),
     ),
     (
-        "[{ \"op\": \"test\", \"path\": \"/~01\", \"value\": \"10\" }]",
-        Answer::One(Wanted::Test("/~01", "\"10\"")),
+        r#"{"/":9,"~1":10}"#,
+        r#"[{"op":"test","path":"/~01","value":"10"}]"#,
+        Answer::Another(0),
     ),
     (
-        "[{ \"op\": \"add\", \"path\": \"/foo/-\", \"value\": [\"abc\", \"def\"] }]",
-        Answer::One(Wanted::Add("/foo/-", "[\"abc\", \"def\"]")),
+        r#"{"foo":["bar"]}"#,
+        r#"[{"op":"add","path":"/foo/-","value":["abc","def"]}]"#,
+        Answer::Value(r#"{"foo":["bar",["abc","def"]]}"#),
     ),
-    // Section 4, and its examples of operations.
+    // The document's value, and none.
     (
-        "[{ \"op\": \"test\", \"path\": \"/a/b/c\", \"value\": \"foo\" },
-{ \"op\": \"remove\", \"path\": \"/a/b/c\" },
-{ \"op\": \"add\", \"path\": \"/a/b/c\", \"value\": [ \"foo\", \"bar\" ] },
-{ \"op\": \"replace\", \"path\": \"/a/b/c\", \"value\": 42 },
-{ \"op\": \"move\", \"from\": \"/a/b/c\", \"path\": \"/a/b/d\" },
-{ \"op\": \"copy\", \"from\": \"/a/b/d\", \"path\": \"/a/b/e\" }]",
-        Answer::Many(6),
+        "/*a*/ 1 // b",
+        r#"[{"op":"replace","path":"","value":2}]"#,
+        Answer::Text("/*a*/ 2 // b"),
     ),
     (
-        "[{ \"path\": \"/a/b/c\", \"op\": \"copy\", \"from\": \"\" }]",
-        Answer::One(Wanted::Copy("", "/a/b/c")),
+        "",
+        r#"[{"op":"add","path":"","value":[]}]"#,
+        Answer::Text("[]"),
+    ),
+    ("", r#"[{"op":"remove","path":""}]"#, Answer::Nowhere(0)),
+    (
+        "[1]",
+        r#"[{"op":"remove","path":""},{"op":"add","path":"/0","value":1}]"#,
+        Answer::Nowhere(1),
+    ),
+    // Comments stay.
+    (
+        "{\"a\": 1 /*x*/, // y\n \"b\": [/*z*/2]}",
+        r#"[{"op":"replace","path":"/b/0","value":3},{"op":"replace","path":"/a","value":null}]"#,
+        Answer::Text("{\"a\": null /*x*/, // y\n \"b\": [/*z*/3]}"),
+    ),
+    // All or nothing.
+    (
+        "[1, 2]",
+        r#"[{"op":"replace","path":"/0","value":3},{"op":"replace","path":"/2","value":4}]"#,
+        Answer::Nowhere(1),
     ),
     (
-        "[{ \"value\": null, \"\\u006fp\": \"a\\u0064d\", \"path\": \"\" }]",
-        Answer::One(Wanted::Add("", "null")),
-    ),
-    ("[]", Answer::None),
-    ("// none\n[/*a*/]", Answer::None),
-    (
-        "[{op: 'add', path: '/a', value: {b: [true, 0x1F, 'c', {}, [],],},},]",
-        Answer::One(Wanted::Add("/a", "{b: [true, 0x1F, 'c', {}, []]}")),
-    ),
-    ("[", Answer::Unread),
-    ("", Answer::NotAnArray),
-    ("{}", Answer::NotAnArray),
-    ("\"[]\"", Answer::NotAnArray),
-    ("[1]", Answer::NotAnObject(0)),
-    (
-        "[{\"op\": \"remove\", \"path\": \"\"}, []]",
-        Answer::NotAnObject(1),
-    ),
-    ("[{}]", Answer::Missing(0, Member::Op)),
-    ("[{\"path\": \"/a\"}]", Answer::Missing(0, Member::Op)),
-    (
-        "[{\"op\": 1, \"path\": \"/a\"}]",
-        Answer::Wrong(0, Member::Op),
+        r#"{"a":{"b":1}}"#,
+        r#"[{"op":"move","from":"/a","path":"/a/b"}]"#,
+        Answer::Inside(0),
     ),
     (
-        "[{\"op\": \"spam\", \"path\": \"/a\"}]",
-        Answer::Wrong(0, Member::Op),
+        r#"{"a":{"b":1}}"#,
+        r#"[{"op":"move","from":"/a","path":"/a"}]"#,
+        Answer::Text(r#"{"a":{"b":1}}"#),
     ),
     (
-        "[{\"op\": \"Add\", \"path\": \"/a\"}]",
-        Answer::Wrong(0, Member::Op),
-    ),
-    ("[{\"op\": \"add\"}]", Answer::Missing(0, Member::Path)),
-    (
-        "[{\"op\": \"add\", \"value\": 1, \"path\": null}]",
-        Answer::Wrong(0, Member::Path),
+        "[1]",
+        r#"[{"op":"remove","path":"/-"}]"#,
+        Answer::Nowhere(0),
     ),
     (
-        "[{\"op\": \"add\", \"path\": \"/a\"}]",
-        Answer::Missing(0, Member::Value),
+        "[1]",
+        r#"[{"op":"add","path":"/2","value":0}]"#,
+        Answer::Nowhere(0),
     ),
     (
-        "[{\"op\": \"test\", \"path\": \"/a\", \"Value\": 1}]",
-        Answer::Missing(0, Member::Value),
+        r#"{"a":1,"\u0061":2}"#,
+        r#"[{"op":"add","path":"/a","value":0}]"#,
+        Answer::Twice(0, "a"),
     ),
     (
-        "[{\"op\": \"replace\", \"path\": \"/a\"}]",
-        Answer::Missing(0, Member::Value),
+        r#"{"a": 1.0}"#,
+        r#"[{"op":"test","path":"/a","value":10e-1}]"#,
+        Answer::Text(r#"{"a": 1.0}"#),
     ),
-    (
-        "[{\"op\": \"remove\", \"path\": \"a\"}]",
-        Answer::Pointer(0, Member::Path, PointerError::NoLeadingSlash),
-    ),
-    (
-        "[{\"op\": \"move\", \"path\": \"/a\"}]",
-        Answer::Missing(0, Member::From),
-    ),
-    (
-        "[{\"op\": \"copy\", \"path\": \"/a\", \"from\": [\"a\"]}]",
-        Answer::Wrong(0, Member::From),
-    ),
-    (
-        "[{\"op\": \"copy\", \"path\": \"/a\", \"from\": \"/~2\"}]",
-        Answer::Pointer(0, Member::From, PointerError::InvalidEscape(1)),
-    ),
-    (
-        "[{\"op\": \"add\", \"path\": \"/a\", \"value\": [{\"b\": {\"c\": 1, \"\\u0063\": 1}}]}]",
-        Answer::Twice(0, "c"),
-    ),
-    (
-        "[{\"op\": \"add\", \"path\": \"/a\", \"value\": 1, \"x\": 1, \"x\": 2}]",
-        Answer::Twice(0, "x"),
-    ),
-    (
-        "[{\"op\": \"add\", \"path\": \"/a\", \"value\": 1, \"x\": {\"b\": 1, \"b\": 2}}]",
-        Answer::One(Wanted::Add("/a", "1")),
-    ),
-    (
-        "[{\"op\": \"remove\", \"path\": \"/a\", \"value\": {\"b\": 1, \"b\": 2}}]",
-        Answer::One(Wanted::Remove("/a")),
-    ),
+    ("[]", r#"{"op":"remove","path":""}"#, Answer::NoPatch(0)),
 ];
 
-/// A pointer prints this text.
-fn prints<A: Allocator + Copy>(alloc: A, pointer: &Pointer<A>, text: &str) -> Outcome {
-    Outcome::of_text(format!(in alloc; "{pointer}"), text)
-}
+/// Appendix A of RFC 7396, and more.
+static MERGES: [Row; 20] = [
+    (
+        r#"{"a":"b"}"#,
+        r#"{"a":"c"}"#,
+        Answer::Value(r#"{"a":"c"}"#),
+    ),
+    (
+        r#"{"a":"b"}"#,
+        r#"{"b":"c"}"#,
+        Answer::Value(r#"{"a":"b","b":"c"}"#),
+    ),
+    (r#"{"a":"b"}"#, r#"{"a":null}"#, Answer::Value("{}")),
+    (
+        r#"{"a":"b","b":"c"}"#,
+        r#"{"a":null}"#,
+        Answer::Value(r#"{"b":"c"}"#),
+    ),
+    (
+        r#"{"a":["b"]}"#,
+        r#"{"a":"c"}"#,
+        Answer::Value(r#"{"a":"c"}"#),
+    ),
+    (
+        r#"{"a":"c"}"#,
+        r#"{"a":["b"]}"#,
+        Answer::Value(r#"{"a":["b"]}"#),
+    ),
+    (
+        r#"{"a":{"b":"c"}}"#,
+        r#"{"a":{"b":"d","c":null}}"#,
+        Answer::Value(r#"{"a":{"b":"d"}}"#),
+    ),
+    (
+        r#"{"a":[{"b":"c"}]}"#,
+        r#"{"a":[1]}"#,
+        Answer::Value(r#"{"a":[1]}"#),
+    ),
+    (
+        r#"["a","b"]"#,
+        r#"["c","d"]"#,
+        Answer::Value(r#"["c","d"]"#),
+    ),
+    (r#"{"a":"b"}"#, r#"["c"]"#, Answer::Value(r#"["c"]"#)),
+    (r#"{"a":"foo"}"#, "null", Answer::Value("null")),
+    (r#"{"a":"foo"}"#, r#""bar""#, Answer::Value(r#""bar""#)),
+    (
+        r#"{"e":null}"#,
+        r#"{"a":1}"#,
+        Answer::Value(r#"{"e":null,"a":1}"#),
+    ),
+    (
+        "[1,2]",
+        r#"{"a":"b","c":null}"#,
+        Answer::Value(r#"{"a":"b"}"#),
+    ),
+    (
+        "{}",
+        r#"{"a":{"bb":{"ccc":null}}}"#,
+        Answer::Value(r#"{"a":{"bb":{}}}"#),
+    ),
+    // What is equal stays as it is written.
+    (
+        "{\"a\": [ 1, // x\n], \"b\": 1}",
+        r#"{"a":[1],"b":2}"#,
+        Answer::Text("{\"a\": [ 1, // x\n], \"b\": 2}"),
+    ),
+    ("{\"a\": 1.0}", r#"{"a":1}"#, Answer::Text("{\"a\": 1}")),
+    (
+        r#"{"a":1,"a":2,"b":3}"#,
+        r#"{"b":4,"a":5}"#,
+        Answer::Twice(0, "a"),
+    ),
+    ("{}", r#"{"a":{"b":1,"b":2}}"#, Answer::Twice(0, "b")),
+    ("", r#"{"a":null}"#, Answer::Text("{}")),
+];
 
-/// A value is that of this text.
-fn is_value<A: Allocator + Copy>(alloc: A, value: &CstInputValue<A>, text: &str) -> Outcome {
-    let doc = match CstRootNode::parse(alloc, text, &ParseOptions::default()) {
-        Ok(doc) => doc,
+/// A text is that of the answer, or has its value.
+fn matches<A: Allocator + Copy>(alloc: A, doc: &CstRootNode<A>, answer: Answer<'_>) -> Outcome {
+    let text = match doc.text() {
+        Ok(text) => text,
         Err(error) => return Outcome::from(error),
     };
-    match doc.to_value() {
-        Ok(Some(wanted)) => Outcome::of(wanted == *value),
-        Ok(None) => Outcome::Other,
+    let wanted = match answer {
+        Answer::Text(wanted) => return Outcome::of(text.as_str() == wanted),
+        Answer::Value(wanted) => wanted,
+        _ => return Outcome::Other,
+    };
+    let options = ParseOptions::default();
+    match (
+        parse_to_value(alloc, &text, &options),
+        parse_to_value(alloc, wanted, &options),
+    ) {
+        (Ok(value), Ok(wanted)) => Outcome::of(value == wanted),
+        (Err(error), _) => Outcome::from(error),
+        (_, Err(error)) => Outcome::from(error),
+    }
+}
+
+/// What came of an operation that was refused.
+fn refused<A: Allocator>(fault: &PatchFault<A>, answer: Answer<'_>) -> Outcome {
+    match (&fault.cause, answer) {
+        (PatchCause::NoTarget, Answer::Nowhere(number)) => Outcome::of(fault.operation == number),
+        (PatchCause::NotEqual, Answer::Another(number)) => Outcome::of(fault.operation == number),
+        (PatchCause::IntoItself, Answer::Inside(number)) => Outcome::of(fault.operation == number),
+        (PatchCause::RepeatedName(name), Answer::Twice(number, wanted)) => {
+            Outcome::of(fault.operation == number && name.as_str() == wanted)
+        }
+        (PatchCause::Edit(EditError::OutOfMemory), _) => Outcome::Wanted,
+        _ => Outcome::Other,
+    }
+}
+
+/// What came of a text that is no patch.
+fn no_patch<A: Allocator>(error: PatchError<A>, answer: Answer<'_>) -> Outcome {
+    match (error, answer) {
+        (PatchError::OutOfMemory, _) => Outcome::Wanted,
+        (PatchError::Operation(_, OperationFault::OutOfMemory), _) => Outcome::Wanted,
+        (PatchError::Operation(number, _), Answer::NoPatch(wanted)) => Outcome::of(
+            number == wanted,
+        ),
+        (PatchError::NotAnArray, Answer::NoPatch(_)) => Outcome::Answered,
+        (PatchError::Parse(error), _) => Outcome::from(error),
+        _ => Outcome::Other,
+    }
+}
+
+/// A document that was refused a change prints as it was.
+fn stays<A: Allocator + Copy>(doc: &CstRootNode<A>, text: &str) -> Outcome {
+    match doc.text() {
+        Ok(now) => Outcome::of(now.as_str() == text),
         Err(error) => Outcome::from(error),
     }
 }
 
-/// An operation is this one.
-fn is_operation<A: Allocator + Copy>(
-    alloc: A,
-    operation: &Operation<A>,
-    wanted: Wanted<'_>,
-) -> Outcome {
-    match (operation, wanted) {
-        (Operation::Add(path, value), Wanted::Add(to, text)) => {
-            prints(alloc, path, to).then(is_value(alloc, value, text))
-        }
-        (Operation::Remove(path), Wanted::Remove(to)) => prints(alloc, path, to),
-        (Operation::Replace(path, value), Wanted::Replace(to, text)) => {
-            prints(alloc, path, to).then(is_value(alloc, value, text))
-        }
-        (Operation::Move(from, path), Wanted::Move(at, to)) => {
-            prints(alloc, from, at).then(prints(alloc, path, to))
-        }
-        (Operation::Copy(from, path), Wanted::Copy(at, to)) => {
-            prints(alloc, from, at).then(prints(alloc, path, to))
-        }
-        (Operation::Test(path, value), Wanted::Test(to, text)) => {
-            prints(alloc, path, to).then(is_value(alloc, value, text))
-        }
-        _ => Outcome::Other,
-    }
-}
-
-/// What comes of a fault of an operation.
-fn of_fault<A: Allocator>(number: usize, fault: &OperationFault<A>, answer: Answer<'_>) -> Outcome {
-    match (fault, answer) {
-        (OperationFault::OutOfMemory, _) => Outcome::Wanted,
-        (OperationFault::NotAnObject, Answer::NotAnObject(at)) => Outcome::of(number == at),
-        (OperationFault::Missing(member), Answer::Missing(at, wanted)) => {
-            Outcome::of(number == at && *member == wanted)
-        }
-        (OperationFault::Wrong(member), Answer::Wrong(at, wanted)) => {
-            Outcome::of(number == at && *member == wanted)
-        }
-        (OperationFault::Pointer(member, error), Answer::Pointer(at, wanted, why)) => {
-            Outcome::of(number == at && *member == wanted && *error == why)
-        }
-        (OperationFault::RepeatedName(name), Answer::Twice(at, wanted)) => {
-            Outcome::of(number == at && name.as_str() == wanted)
-        }
-        _ => Outcome::Other,
-    }
-}
-
-fn outcome<A: Allocator + Copy>(alloc: A, row: &Row<'_>) -> Outcome {
-    let patch = match Patch::from_json(alloc, row.0, &ParseOptions::default()) {
-        Ok(patch) => patch,
-        Err(PatchError::Parse(error)) => {
-            if matches!(error.kind(), ParseErrorKind::OutOfMemory) {
-                return Outcome::from(error);
-            }
-            return Outcome::of(matches!(row.1, Answer::Unread));
-        }
-        Err(PatchError::NotAnArray) => return Outcome::of(matches!(row.1, Answer::NotAnArray)),
-        Err(PatchError::Operation(number, fault)) => return of_fault(number, &fault, row.1),
+fn applied<A: Allocator + Copy>(alloc: A, row: &Row<'_>) -> Outcome {
+    let mut doc = match read(alloc, row.0) {
+        Ok(doc) => doc,
+        Err(outcome) => return outcome,
     };
-    match (row.1, patch.operations().first()) {
-        (Answer::One(wanted), Some(operation)) => {
-            Outcome::of(patch.operations().len() == 1).then(is_operation(alloc, operation, wanted))
+    let patch = match Patch::from_json(alloc, row.1, &ParseOptions::default()) {
+        Ok(patch) => patch,
+        Err(error) => return no_patch(error, row.2),
+    };
+    match patch.apply(&mut doc) {
+        Ok(()) => matches(alloc, &doc, row.2),
+        Err(fault) => refused(&fault, row.2).then(stays(&doc, row.0)),
+    }
+}
+
+fn merged<A: Allocator + Copy>(alloc: A, row: &Row<'_>) -> Outcome {
+    let mut doc = match read(alloc, row.0) {
+        Ok(doc) => doc,
+        Err(outcome) => return outcome,
+    };
+    let patch = match input::from_json(alloc, row.1, &ParseOptions::default()) {
+        Ok(Some(patch)) => patch,
+        Ok(None) => return Outcome::Other,
+        Err(error) => return Outcome::from(error),
+    };
+    match (patch::merge(&mut doc, &patch), row.2) {
+        (Ok(()), answer) => matches(alloc, &doc, answer),
+        (Err(MergeFault::RepeatedName(name)), Answer::Twice(_, wanted)) => {
+            Outcome::of(name.as_str() == wanted).then(stays(&doc, row.0))
         }
-        (Answer::None, None) => Outcome::Answered,
-        (Answer::Many(count), Some(_)) => Outcome::of(patch.operations().len() == count),
+        (Err(MergeFault::Edit(EditError::OutOfMemory)), _) => {
+            Outcome::Wanted.then(stays(&doc, row.0))
+        }
         _ => Outcome::Other,
     }
 }
 
 #[test]
-fn patches_are_read_with_each_request_refused_in_turn(rt: HostRuntime) -> Result<(), Fail> {
+fn patches_are_applied_or_leave_all_with_each_request_refused_in_turn(
+    rt: HostRuntime,
+) -> Result<(), Fail> {
     let alloc = rt.alloc();
-    for row in &ROWS {
+    for row in &PATCHES {
         assert!(rt;
-            refused_in_turn(alloc, |heap| outcome(heap, row)).is_some(),
-            "{}",
-            row.0
+            answers_in_turn(alloc, |heap| applied(heap, row)),
+            "{} {}",
+            row.0,
+            row.1
         );
     }
     Ok(())
 }
 
-/// What `from_json` answers is printed.
-static PRINTED: [(&str, &str); 8] = [
-    ("{}", "Patch is no array"),
-    ("[null]", "Operation 0: Operation is no object"),
-    ("[{}]", "Operation 0: Operation lacks op"),
-    ("[{\"op\": null}]", "Operation 0: Operation has a wrong op"),
-    (
-        "[{\"op\": \"move\", \"path\": \"/a\", \"from\": \"/~\"}]",
-        "Operation 0: from: Neither 0 nor 1 after the tilde at byte 1",
-    ),
-    (
-        "[{\"op\": \"remove\", \"path\": \"/a\"}, {\"op\": \"remove\", \"path\": \"a\"}]",
-        "Operation 1: path: Pointer does not begin with a slash",
-    ),
-    (
-        "[{\"op\": \"add\", \"path\": \"\", \"value\": {\"a b\": 1, \"a b\": 2}}]",
-        "Operation 0: Name stands twice: a b",
-    ),
-    (
-        "[{\"op\": \"test\", \"path\": \"\"}]",
-        "Operation 0: Operation lacks value",
-    ),
-];
-
 #[test]
-fn faults_of_patches_are_printed(rt: HostRuntime) -> Result<(), Fail> {
+fn patches_are_merged_or_leave_all_with_each_request_refused_in_turn(
+    rt: HostRuntime,
+) -> Result<(), Fail> {
     let alloc = rt.alloc();
-    for (text, wanted) in &PRINTED {
-        match Patch::from_json(alloc, text, &ParseOptions::default()) {
-            Ok(_) => assert!(rt; false, "{}", text),
-            Err(error) => {
-                let line = format!(in alloc; "{error}")?;
-                assert_eq!(rt; line.as_str(), *wanted);
-            }
-        }
-    }
-    Ok(())
-}
-
-/// A document, a value, and whether the document's value is equal to it (RFC 6902, 4.6).
-static TESTED: [(&str, &str, bool); 34] = [
-    ("null", "null", true),
-    ("null", "false", false),
-    ("true", "true", true),
-    ("true", "false", false),
-    ("\"a\"", "'\\u0061'", true),
-    ("\"a\"", "\"A\"", false),
-    ("\"10\"", "10", false),
-    ("10", "\"10\"", false),
-    ("1", "1.0", true),
-    ("1", "1e0", true),
-    ("100", "1e2", true),
-    ("-0", "0", true),
-    ("0x1F", "31", true),
-    ("1", "-1", false),
-    ("1e400", "1e401", false),
-    ("[]", "[]", true),
-    ("[]", "{}", false),
-    ("[1, 2]", "[1.0, 2.0]", true),
-    ("[1, 2]", "[2, 1]", false),
-    ("[1, 2]", "[1]", false),
-    ("[1]", "[1, 2]", false),
-    ("{}", "{}", true),
-    ("{}", "null", false),
-    ("{\"a\": 1, \"b\": 2}", "{\"b\": 2, \"a\": 1}", true),
-    ("{\"a\": 1, \"b\": 2}", "{\"b\": 2, \"a\": 3}", false),
-    ("{\"a\": 1, \"b\": 2}", "{\"b\": 2, \"c\": 1}", false),
-    ("{\"a\": 1, \"b\": 2}", "{\"b\": 2}", false),
-    ("{\"b\": 2}", "{\"a\": 1, \"b\": 2}", false),
-    ("{\"a\": 1}", "{\"\\u0061\": 1}", true),
-    (
-        "{\"a\": {\"b\": [{\"c\": 0, \"d\": 1}]}}",
-        "{\"a\": {\"b\": [{\"d\": 1, \"c\": -0}]}}",
-        true,
-    ),
-    (
-        "{\"a\": {\"b\": [{\"c\": 0, \"d\": 1}]}}",
-        "{\"a\": {\"b\": [{\"d\": 1, \"c\": -1}]}}",
-        false,
-    ),
-    ("{\"\u{1d11e}\": 1}", "{\"\\ud834\\udd1e\": 1}", true),
-    ("{\"a\": null}", "{\"b\": null}", false),
-    (
-        "[null, false, \"\", 0, [], {}]",
-        "[null, false, \"\", 0, [], {}]",
-        true,
-    ),
-];
-
-fn tested<A: Allocator + Copy>(alloc: A, row: &(&str, &str, bool)) -> Outcome {
-    let mut doc = match CstRootNode::parse(alloc, row.0, &ParseOptions::default()) {
-        Ok(doc) => doc,
-        Err(error) => return Outcome::from(error),
-    };
-    let text = match format!(in alloc; "[{{op: 'test', path: '', value: {}}}]", row.1) {
-        Ok(text) => text,
-        Err(_) => return Outcome::Wanted,
-    };
-    let patch = match Patch::from_json(alloc, &text, &ParseOptions::default()) {
-        Ok(patch) => patch,
-        Err(PatchError::Parse(error)) => return Outcome::from(error),
-        Err(PatchError::Operation(_, OperationFault::OutOfMemory)) => return Outcome::Wanted,
-        Err(_) => return Outcome::Other,
-    };
-    match patch.apply(&mut doc) {
-        Ok(()) => Outcome::of(row.2),
-        Err(fault) => match fault.cause {
-            PatchCause::NotEqual => Outcome::of(!row.2),
-            PatchCause::Edit(error) => Outcome::from(error),
-            _ => Outcome::Other,
-        },
-    }
-}
-
-#[test]
-fn values_are_tested_with_each_request_refused_in_turn(rt: HostRuntime) -> Result<(), Fail> {
-    let alloc = rt.alloc();
-    for row in &TESTED {
+    for row in &MERGES {
         assert!(rt;
-            refused_in_turn(alloc, |heap| tested(heap, row)).is_some(),
+            answers_in_turn(alloc, |heap| merged(heap, row)),
             "{} {}",
             row.0,
             row.1

@@ -7,6 +7,11 @@ pub mod Named
 pub mod Steps
 pub mod Locations
 pub mod Located
+pub mod Made
+pub mod Operating
+pub mod Edited
+pub mod Chains
+pub mod Unique
 pub mod Digits
 pub mod HexRows
 pub mod NumberRows

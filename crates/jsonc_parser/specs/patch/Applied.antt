@@ -1,47 +1,123 @@
 -- What a patch, or a merge patch, makes of a document.
-use Rattle.std.specs.Prelude.{◌≡◌, ℕ, List, map, Option, Some, None}
+use Rattle.std.specs.Prelude.{◌≡◌, ◌≤◌, ◌∷◌, ◌++◌, [], ℕ, Bool, true, false, List, length, map, Option, Some, None}
 use Rattle.std.specs.List.{All}
 use Rattle.jsonc_text.specs.Documents.{Document}
 use Rattle.jsonc_text.specs.Options.{Options}
 use Rattle.jsonc_text.specs.Plain.{Plain, collapse}
+use Rattle.jsonc_tree.specs.Building.{Keeps}
+use Rattle.jsonc_tree.specs.Content.{object}
+use Rattle.jsonc_tree.specs.Tree.{Node, content_at}
+use Rattle.jsonc_edit.specs.Paths.{IsAt}
 use Rattle.jsonc_edit.specs.Writing.{IsOfNumbers}
 use Rattle.jsonc_layout.specs.input.Views.{plain}
+use Rattle.jsonc_layout.specs.nodes.Siblings.{elements_at}
 use Rattle.jsonc_sound.specs.Documents.{Shows}
 use Rattle.jsonc_run.specs.declared.edit.Edit.{Edit}
 use Rattle.jsonc_run.specs.promise.Asked.{EditsTo}
 use Rattle.jsonc_cst.specs.declared.cst.CstRootNode.{CstRootNode}
-use Rattle.jsonc_cst.specs.Document.{tree_of}
+use Rattle.jsonc_cst.specs.declared.cst.node.CstNode.{CstNode}
+use Rattle.jsonc_cst.specs.Document.{nodes_of, tree_of}
+use Rattle.jsonc_cst.specs.Nodes.{number_of}
 use Rattle.jsonc_parser.specs.patch.Equality.{AreEqual}
+use Rattle.jsonc_parser.specs.patch.Found.{IsOfShown, RefersToNode, RefersToNothing}
 use Rattle.jsonc_parser.specs.patch.Merging.{merged}
-use Rattle.jsonc_parser.specs.patch.Asked.{asked}
-use Rattle.jsonc_parser.specs.patch.Operations.{MakesAll}
+use Rattle.jsonc_parser.specs.patch.Operations as value
+use Rattle.jsonc_parser.specs.patch.Operations.{MakesAll, Makes}
+use Rattle.jsonc_parser.specs.patch.Pointer.{tokens_of}
+use Rattle.jsonc_parser.specs.patch.References.{IsIndex, RefersTo}
 use Rattle.jsonc_parser.specs.declared.patch.operation.Operation.{Operation}
-use Rattle.jsonc_parser.specs.declared.patch.operation.Operation.TheVariants.{Add, Replace}
+use Rattle.jsonc_parser.specs.declared.patch.operation.Operation.TheVariants.{Add, Remove, Replace, Move, Copy, Test}
+
+-- before the element of this index, or behind all, the token says that another is to come
+abbrev pub IsPlaceBy : List Node → ℕ → List ℕ → Option (Option ℕ) → Type 0
+IsPlaceBy ns n token None = Unit {0}
+IsPlaceBy ns n token (Some None) = token ≡ 0x2D ∷ []
+IsPlaceBy ns n token (Some (Some i)) = IsIndex token i × (i ≤ length (elements_at ns n))
+
+-- the first tokens begin the others, or are they all
+abbrev pub LeadsOn : List (List ℕ) → List (List ℕ) → Type 0
+LeadsOn front tokens = (rest : List (List ℕ)) × (tokens ≡ front ++ rest)
+
+-- the value that the tokens refer to was taken, of equal names the last at the first place
+abbrev pub Takes : Document → List (List ℕ) → Plain → Type 0
+Takes d tokens taken = (v : Plain) × RefersTo d.value tokens v × (taken ≡ collapse v)
+
+-- Edits lead from the one document to the other, of the same options, and between their values the operation does.
+pub record IsMade (A : Type 0) (d : Document) (operation : value.Operation) (e : Document) : Type 0 where
+  pub edits : List (Edit A)
+  pub edited : EditsTo d edits e
+  pub options : e.options ≡ d.options
+  pub made : Makes operation d.value e.value
+
+-- Edits lead from the one document to the other, whose value is what merging makes of the first: of equal names the last, and up to the order of members.
+pub record IsMerged (A : Type 0) (d : Document) (patch : Plain) (e : Document) : Type 0 where
+  pub edits : List (Edit A)
+  pub edited : EditsTo d edits e
+  pub value : Plain
+  pub is : e.value ≡ Some value
+  pub made : AreEqual (λ s t. s ≡ t) (collapse value) (collapse (merged d.value patch))
 
 module _ {A : Type 0} where
+  -- what an operation asks for
+  abbrev pub asked : Operation A → value.Operation
+  asked (Add path v) = value.add (tokens_of path) (plain v)
+  asked (Remove path) = value.remove (tokens_of path)
+  asked (Replace path v) = value.replace (tokens_of path) (plain v)
+  asked (Move from path) = value.move (tokens_of from) (tokens_of path)
+  asked (Copy from path) = value.copy (tokens_of from) (tokens_of path)
+  asked (Test path v) = value.test (tokens_of path) (plain v)
+
   -- the numbers that it writes are, whole, numbers of these options
   abbrev pub FitsIn : Options → Operation A → Type 0
   FitsIn o (Add path v) = IsOfNumbers o (plain v)
   FitsIn o (Replace path v) = IsOfNumbers o (plain v)
   FitsIn o other = Unit {0}
 
+  -- it is one edit at most
+  abbrev pub is_one_edit : Operation A → Bool
+  is_one_edit (Move from path) = false
+  is_one_edit other = true
+
+  -- the tokens refer to the node of this path
+  abbrev pub LeadsOver : CstRootNode A → List (List ℕ) → List ℕ → Type 0
+  LeadsOver doc tokens path = (n : ℕ) × IsAt (nodes_of doc) path n × IsOfShown doc (λ d. RefersToNode d (nodes_of doc) tokens n)
+
+  -- so it is of whatever document the old one shows, if the numbers that are written fit
+  abbrev pub MakesWhatShown : CstRootNode A → value.Operation → (Options → Type 0) → CstRootNode A → Type 0
+  MakesWhatShown old operation Fit new = (d : Document) → Shows d (tree_of old) → Fit d.options → (e : Document) × Shows e (tree_of new) × IsMade A d operation e
+
+  -- the value is added where these tokens lead, of which all but the last refer to the node
+  abbrev pub AddsMember : CstRootNode A → CstNode → List (List ℕ) → List ℕ → Plain → CstRootNode A → Type 0
+  AddsMember old node all last v new =
+      (tokens : List (List ℕ)) → all ≡ tokens ++ last ∷ [] → IsOfShown old (λ d. RefersToNode d (nodes_of old) tokens (number_of node)) → MakesWhatShown old (value.add all v) (λ o. IsOfNumbers o v) new
+
+  -- the value is put in the place of the one at the node, where tokens refer to it behind an object
+  abbrev pub PutsAt : CstRootNode A → CstNode → Plain → CstRootNode A → Type 0
+  PutsAt old node v new =
+      (n : ℕ) (tokens : List (List ℕ)) (name : List ℕ) → content_at (nodes_of old) n ≡ object → IsOfShown old (λ d. RefersToNode d (nodes_of old) tokens n)
+      → IsOfShown old (λ d. RefersToNode d (nodes_of old) (tokens ++ name ∷ []) (number_of node)) → MakesWhatShown old (value.add (tokens ++ name ∷ []) v) (λ o. IsOfNumbers o v) new
+
+  -- the member comes into the object, where tokens refer to it and to nothing with the name behind them
+  abbrev pub AppendsTo : CstRootNode A → CstNode → List ℕ → Plain → CstRootNode A → Type 0
+  AppendsTo old node name v new =
+      (tokens : List (List ℕ)) → IsOfShown old (λ d. RefersToNode d (nodes_of old) tokens (number_of node)) → IsOfShown old (λ d. RefersToNothing d (tokens ++ name ∷ []))
+      → MakesWhatShown old (value.add (tokens ++ name ∷ []) v) (λ o. IsOfNumbers o v) new
+
+  -- the document, and each node that was there, is as it was
+  pub record IsKept (old new : CstRootNode A) : Type 0 where
+    pub tree : tree_of new ≡ tree_of old
+    pub nodes : Keeps (length (nodes_of old)) (nodes_of old) (nodes_of new)
+
   -- the operations lead from the value of the one document to that of the other, and edits from the one to the other
   pub record IsPatched (d : Document) (operations : List (Operation A)) (e : Document) : Type 0 where
     pub edits : List (Edit A)
     pub edited : EditsTo d edits e
+    pub options : e.options ≡ d.options
     pub made : MakesAll (map asked operations) d.value e.value
 
   -- so it is of whatever document the old one shows
   abbrev pub PatchesWhatShown : CstRootNode A → List (Operation A) → CstRootNode A → Type 0
   PatchesWhatShown old operations new = (d : Document) → Shows d (tree_of old) → All (FitsIn d.options) operations → (e : Document) × Shows e (tree_of new) × IsPatched d operations e
 
-  -- Edits lead from the one document to the other, whose value is what merging makes of the first: of equal names the last, and up to the order of members.
-  pub record IsMerged (d : Document) (patch : Plain) (e : Document) : Type 0 where
-    pub edits : List (Edit A)
-    pub edited : EditsTo d edits e
-    pub value : Plain
-    pub is : e.value ≡ Some value
-    pub made : AreEqual (λ s t. s ≡ t) (collapse value) (collapse (merged d.value patch))
-
   abbrev pub MergesWhatShown : CstRootNode A → Plain → CstRootNode A → Type 0
-  MergesWhatShown old patch new = (d : Document) → Shows d (tree_of old) → IsOfNumbers d.options patch → (e : Document) × Shows e (tree_of new) × IsMerged d patch e
+  MergesWhatShown old patch new = (d : Document) → Shows d (tree_of old) → IsOfNumbers d.options patch → (e : Document) × Shows e (tree_of new) × IsMerged A d patch e

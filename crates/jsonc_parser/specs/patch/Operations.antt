@@ -29,10 +29,10 @@ pub data Adds (v : Plain) : List (List ℕ) → Option Plain → Option Plain �
   as_element : {tokens : List (List ℕ)} {token path : List ℕ} {w y : Option Plain} (front back : List Named) → StandsAt w tokens path (of an_array (front ++ back))
       → IsIndex token (length front) ⊎ ((token ≡ 0x2D ∷ []) × (back ≡ []))
       → Becomes (of an_array (front ++ back)) (of an_array (front ++ record { name = []; value = v } ∷ back)) path w y → Adds v (tokens ++ token ∷ []) w y
-  as_member : {tokens : List (List ℕ)} {name path : List ℕ} {w y : Option Plain} (front : List Named) → StandsAt w tokens path (of an_object front)
+  as_member : {tokens : List (List ℕ)} {path : List ℕ} {w y : Option Plain} (name : List ℕ) (front : List Named) → StandsAt w tokens path (of an_object front)
       → All (λ e. e.name ≢ name) front
       → Becomes (of an_object front) (of an_object (front ++ record { name = name; value = v } ∷ [])) path w y → Adds v (tokens ++ name ∷ []) w y
-  in_member : {tokens : List (List ℕ)} {name path place : List ℕ} {w y : Option Plain} {x : Plain} (members : List Named) → StandsAt w tokens path (of an_object members)
+  in_member : {tokens : List (List ℕ)} {path place : List ℕ} {w y : Option Plain} {x : Plain} (name : List ℕ) (members : List Named) → StandsAt w tokens path (of an_object members)
       → StandsAt w (tokens ++ name ∷ []) place x → Becomes x v place w y → Adds v (tokens ++ name ∷ []) w y
 
 -- 4.2: the value that the tokens refer to leaves, with its member or as the element
@@ -58,7 +58,7 @@ Copies from to w y = (x : Plain) × RefersTo w from x × Adds (collapse x) to w 
 
 -- 4.6: the value that the tokens refer to is equal to this one, and nothing changes
 abbrev pub Tests : List (List ℕ) → Plain → Option Plain → Option Plain → Type 0
-Tests tokens v w y = (x : Plain) × RefersTo w tokens x × AreEqual SameNumber (collapse x) v × (y ≡ w)
+Tests tokens v w y = (x : Plain) × RefersTo w tokens x × AreEqual SameNumber v (collapse x) × (y ≡ w)
 
 -- the operation leads from the one value to the other
 abbrev pub Makes : Operation → Option Plain → Option Plain → Type 0

@@ -1,21 +1,14 @@
 //! Patches: lists of operations, made on a document whole or not at all.
 
-ghost use Rattle.std.specs.Prelude.{◌≡◌, chars, false, map, IfErr, IfOk, OnErr};
-ghost use Rattle.jsonc_run.specs.Edits.{is_sort};
-ghost use Rattle.jsonc_cst.specs.Document.{nodes_of, HasNode};
-ghost use Rattle.jsonc_parser.specs.patch.Asked.{asked};
-ghost use Rattle.jsonc_parser.specs.patch.Patches.{operations_of};
-ghost use Rattle.jsonc_parser.specs.patch.PatchFaults.{IsFaultOfPatch};
-ghost use Rattle.jsonc_parser.specs.patch.PatchTexts.{IsPatch};
-ghost use Rattle.jsonc_text.specs.OptionsOf.{parse_options};
+ghost use Rattle.std.specs.Prelude.{◌≡◌, true, OnErr, OnOk};
+ghost use Rattle.std.specs.List.{All};
+ghost use Rattle.jsonc_cst.specs.Document.{HasNode};
+ghost use Rattle.jsonc_parser.specs.patch.Applied.{asked, is_one_edit, FitsIn, IsKept, MakesWhatShown, PatchesWhatShown};
 
-use super::equality::{Numbers, are_equal};
-use super::operation::Operation;
-use super::pointer::Pointer;
-use super::reading::{PatchError, read_patch};
-use super::reference::{FindError, element_place, follow};
-use jsonc_cst::cst::{CstInputValue, CstNode, CstRootNode, EditError, TypedNode};
-use jsonc_run::Edit;
+use super::making::{PatchCause, make};
+use super::operation::{Operation, OperationFault, read_operation};
+use jsonc_cst::cst::{CstNode, CstRootNode, EditError};
+use jsonc_text::errors::ParseError;
 use jsonc_text::options::ParseOptions;
 use std::alloc::Allocator;
 use std::error::Error;
@@ -25,36 +18,6 @@ use std::fmt;
 #[derive(Debug, Drop)]
 pub struct Patch<A: Allocator> {
     operations: Vec<Operation<A>, A>,
-}
-
-/// Why an operation was not made.
-#[derive(Debug, Drop)]
-pub enum PatchCause<A: Allocator> {
-    /// A pointer leads to nothing.
-    NoTarget,
-    /// More than one property of an object on the way has this name.
-    RepeatedName(String<A>),
-    /// A value was to be moved into itself.
-    IntoItself,
-    /// The value is not equal to the one that it was tested against.
-    NotEqual,
-    /// An edit was refused, or there was no memory.
-    Edit(EditError),
-}
-
-impl<A: Allocator> fmt::Display for PatchCause<A> {
-    fn fmt<W: fmt::Write>(&self, f: &mut fmt::Formatter<W>) -> fmt::Result {
-        match self {
-            PatchCause::NoTarget => f.write_str("Pointer leads to nothing"),
-            PatchCause::RepeatedName(name) => {
-                f.write_str("Name stands twice: ")?;
-                f.write_str(name.as_str())
-            }
-            PatchCause::IntoItself => f.write_str("Value cannot be moved into itself"),
-            PatchCause::NotEqual => f.write_str("Value is another"),
-            PatchCause::Edit(error) => error.fmt(f),
-        }
-    }
 }
 
 /// Which operation of a patch was not made, and why.
@@ -107,24 +70,19 @@ impl<A: Allocator + Copy> Patch<A> {
 
     /// Makes the operations in order, each in the document that the ones before it made.
     ///
-    /// On an error the answer is which operation was not made, and why, and the document is as it was.
+    /// On an error the answer is which operation was not made, and why, and the document and each of its nodes
+    /// are as they were.
     ///
-    /// The operations are made on a copy of the document's nodes, which share its text.
+    /// One operation other than a move is made in the document; more are made on a copy of its nodes, which
+    /// share its text.
     pub fn apply(&self, doc: &mut CstRootNode<A>) -> Result<(), PatchFault<A>>
-        ensures { OnErr result (nodes_of doc.new ≡ nodes_of doc.old) }
+        ensures patched { OnOk result (PatchesWhatShown doc.old self.now.operations.items doc.new) }
+        ensures kept { OnErr result (IsKept doc.old doc.new) }
     {
-        if self.operations.is_empty() {
-            return Ok(());
+        match self.operations.as_slice() {
+            [operation] if is_one_edit(operation) => make_first(doc, operation),
+            operations => make_on_copy(doc, operations),
         }
-        let Ok(mut copy) = doc.try_clone() else {
-            return Err(PatchFault {
-                operation: 0,
-                cause: PatchCause::Edit(EditError::OutOfMemory),
-            });
-        };
-        make_all(&mut copy, &self.operations)?;
-        *doc = copy;
-        Ok(())
     }
 }
 
@@ -137,11 +95,38 @@ impl<A: Allocator> Patch<A> {
     }
 }
 
+// Whether an operation is one edit at most.
+fn is_one_edit<A: Allocator>(operation: &Operation<A>) -> bool
+    ensures { result ≡ is_one_edit operation.now }
+{
+    !matches!(operation, Operation::Move(_, _))
+}
+
+// Makes the one operation of a patch.
+fn make_first<A: Allocator + Copy>(
+    doc: &mut CstRootNode<A>,
+    operation: &Operation<A>,
+) -> Result<(), PatchFault<A>>
+    requires { is_one_edit operation.now ≡ true }
+    ensures made { OnOk result (MakesWhatShown doc.old (asked operation.now) (λ o. FitsIn o operation.now) doc.new) }
+    ensures kept { OnErr result (IsKept doc.old doc.new) }
+{
+    match make(doc, operation) {
+        Ok(()) => Ok(()),
+        Err(cause) => Err(PatchFault {
+            operation: 0,
+            cause,
+        }),
+    }
+}
+
 // Makes operations in order.
 fn make_all<A: Allocator + Copy>(
     doc: &mut CstRootNode<A>,
     operations: &[Operation<A>],
-) -> Result<(), PatchFault<A>> {
+) -> Result<(), PatchFault<A>>
+    ensures { OnOk result (PatchesWhatShown doc.old operations.now doc.new) }
+{
     for (number, operation) in operations.iter().enumerate() {
         if let Err(cause) = make(doc, operation) {
             return Err(PatchFault {
@@ -153,227 +138,24 @@ fn make_all<A: Allocator + Copy>(
     Ok(())
 }
 
-// Makes one operation.
-fn make<A: Allocator + Copy>(
+// Makes operations in order on a copy, which takes the place of the document.
+fn make_on_copy<A: Allocator + Copy>(
     doc: &mut CstRootNode<A>,
-    operation: &Operation<A>,
-) -> Result<(), PatchCause<A>> {
-    match operation {
-        Operation::Add(path, value) => add(doc, path, copy_of(value)?),
-        Operation::Remove(path) => remove(doc, path),
-        Operation::Replace(path, value) => replace(doc, path, copy_of(value)?),
-        Operation::Move(from, path) => move_value(doc, from, path),
-        Operation::Copy(from, path) => {
-            let value = value_at(doc, from)?;
-            add(doc, path, value)
-        }
-        Operation::Test(path, value) => test(doc, path, value),
-    }
-}
-
-// The cause of a pointer that was not followed.
-fn cause_of<A: Allocator>(error: FindError<A>) -> PatchCause<A> {
-    match error {
-        FindError::RepeatedName(name) => PatchCause::RepeatedName(name),
-        FindError::OutOfMemory => PatchCause::Edit(EditError::OutOfMemory),
-    }
-}
-
-fn copy_of<A: Allocator + Copy>(
-    value: &CstInputValue<A>,
-) -> Result<CstInputValue<A>, PatchCause<A>> {
-    match value.try_clone() {
-        Ok(copy) => Ok(copy),
-        Err(_) => Err(PatchCause::Edit(EditError::OutOfMemory)),
-    }
-}
-
-// The value that tokens refer to, where there has to be one.
-fn target<A: Allocator + Copy>(
-    doc: &CstRootNode<A>,
-    tokens: &[String<A>],
-) -> Result<CstNode, PatchCause<A>>
-    ensures { IfOk result (HasNode doc.now) }
+    operations: &[Operation<A>],
+) -> Result<(), PatchFault<A>>
+    ensures patched { OnOk result (PatchesWhatShown doc.old operations.now doc.new) }
+    ensures kept { OnErr result (IsKept doc.old doc.new) }
 {
-    match follow(doc, tokens) {
-        Ok(Some(node)) => Ok(node),
-        Ok(None) => Err(PatchCause::NoTarget),
-        Err(error) => Err(cause_of(error)),
-    }
-}
-
-// The path of a node.
-fn path_to<A: Allocator + Copy>(
-    doc: &CstRootNode<A>,
-    node: CstNode,
-) -> Result<Vec<usize, A>, PatchCause<A>>
-    requires { HasNode doc.now node }
-{
-    match doc.path(node) {
-        Ok(Some(path)) => Ok(path),
-        Ok(None) => Err(PatchCause::NoTarget),
-        Err(error) => Err(PatchCause::Edit(error)),
-    }
-}
-
-// The path of the value that a pointer refers to.
-fn target_path<A: Allocator + Copy>(
-    doc: &CstRootNode<A>,
-    pointer: &Pointer<A>,
-) -> Result<Vec<usize, A>, PatchCause<A>> {
-    let node = target(doc, pointer.tokens())?;
-    path_to(doc, node)
-}
-
-// The value that a pointer refers to, taken.
-fn value_at<A: Allocator + Copy>(
-    doc: &CstRootNode<A>,
-    pointer: &Pointer<A>,
-) -> Result<CstInputValue<A>, PatchCause<A>> {
-    match target(doc, pointer.tokens())?.to_value(doc) {
-        Ok(Some(value)) => Ok(value),
-        Ok(None) => Err(PatchCause::NoTarget),
-        Err(error) => Err(PatchCause::Edit(error)),
-    }
-}
-
-// Makes an edit.
-fn edit<A: Allocator + Copy>(doc: &mut CstRootNode<A>, edit: Edit<A>) -> Result<(), PatchCause<A>>
-    requires { is_sort edit ≡ false }
-{
-    match doc.make(&edit) {
-        Ok(()) => Ok(()),
-        Err(error) => Err(PatchCause::Edit(error)),
-    }
-}
-
-// Removes the value that a pointer refers to.
-fn remove<A: Allocator + Copy>(
-    doc: &mut CstRootNode<A>,
-    pointer: &Pointer<A>,
-) -> Result<(), PatchCause<A>> {
-    let path = target_path(doc, pointer)?;
-    edit(doc, Edit::Remove(path))
-}
-
-// Replaces the value that a pointer refers to.
-fn replace<A: Allocator + Copy>(
-    doc: &mut CstRootNode<A>,
-    pointer: &Pointer<A>,
-    value: CstInputValue<A>,
-) -> Result<(), PatchCause<A>> {
-    let path = target_path(doc, pointer)?;
-    edit(doc, Edit::Replace(path, value))
-}
-
-// Adds a value where a pointer leads.
-fn add<A: Allocator + Copy>(
-    doc: &mut CstRootNode<A>,
-    pointer: &Pointer<A>,
-    value: CstInputValue<A>,
-) -> Result<(), PatchCause<A>> {
-    let tokens = pointer.tokens();
-    let Some((last, front)) = tokens.split_last() else {
-        return edit(doc, Edit::SetRoot(value));
+    let Ok(mut copy) = doc.try_clone() else {
+        return Err(PatchFault {
+            operation: 0,
+            cause: PatchCause::Edit(EditError::OutOfMemory),
+        });
     };
-    let container = target(doc, front)?;
-    if container.as_array().is_some() {
-        return add_element(doc, container, last, value);
+    match make_all(&mut copy, operations) {
+        Ok(()) => {}
+        Err(fault) => return Err(fault),
     }
-    if container.as_object().is_none() {
-        return Err(PatchCause::NoTarget);
-    }
-    add_member(doc, container, pointer, last, value)
-}
-
-// Adds an element to an array.
-fn add_element<A: Allocator + Copy>(
-    doc: &mut CstRootNode<A>,
-    array: CstNode,
-    token: &str,
-    value: CstInputValue<A>,
-) -> Result<(), PatchCause<A>>
-    requires { HasNode doc.old array }
-{
-    let Some(place) = element_place(doc, array.number(), token) else {
-        return Err(PatchCause::NoTarget);
-    };
-    let path = path_to(doc, array)?;
-    match place {
-        Some(index) => edit(doc, Edit::InsertElement(path, index, value)),
-        None => edit(doc, Edit::AppendElement(path, value)),
-    }
-}
-
-// Adds a member to an object, or replaces the value of the one that has its name.
-fn add_member<A: Allocator + Copy>(
-    doc: &mut CstRootNode<A>,
-    object: CstNode,
-    pointer: &Pointer<A>,
-    name: &str,
-    value: CstInputValue<A>,
-) -> Result<(), PatchCause<A>>
-    requires { HasNode doc.old object }
-{
-    match follow(doc, pointer.tokens()) {
-        Ok(Some(node)) => {
-            let path = path_to(doc, node)?;
-            edit(doc, Edit::Replace(path, value))
-        }
-        Ok(None) => {
-            let path = path_to(doc, object)?;
-            let Ok(name) = String::from_str(*doc.allocator(), name) else {
-                return Err(PatchCause::Edit(EditError::OutOfMemory));
-            };
-            edit(doc, Edit::AppendProperty(path, name, value))
-        }
-        Err(error) => Err(cause_of(error)),
-    }
-}
-
-// Whether the tokens of one pointer are the first of another's.
-fn leads_on<A: Allocator>(front: &[String<A>], tokens: &[String<A>]) -> bool {
-    if front.len() > tokens.len() {
-        return false;
-    }
-    for (index, token) in front.iter().enumerate() {
-        if token.as_str() != tokens[index].as_str() {
-            return false;
-        }
-    }
-    true
-}
-
-// Removes the value that a pointer refers to, and adds it where another leads.
-fn move_value<A: Allocator + Copy>(
-    doc: &mut CstRootNode<A>,
-    from: &Pointer<A>,
-    path: &Pointer<A>,
-) -> Result<(), PatchCause<A>> {
-    let (tokens, to) = (from.tokens(), path.tokens());
-    if leads_on(tokens, to) {
-        target(doc, tokens)?;
-        // A value that is moved to its own place stays.
-        if tokens.len() == to.len() {
-            return Ok(());
-        }
-        return Err(PatchCause::IntoItself);
-    }
-    let value = value_at(doc, from)?;
-    remove(doc, from)?;
-    add(doc, path, value)
-}
-
-// Sees that the value that a pointer refers to is equal to another.
-fn test<A: Allocator + Copy>(
-    doc: &CstRootNode<A>,
-    pointer: &Pointer<A>,
-    value: &CstInputValue<A>,
-) -> Result<(), PatchCause<A>> {
-    let found = value_at(doc, pointer)?;
-    match are_equal(&found, value, Numbers::ByValue) {
-        Ok(true) => Ok(()),
-        Ok(false) => Err(PatchCause::NotEqual),
-        Err(_) => Err(PatchCause::Edit(EditError::OutOfMemory)),
-    }
+    *doc = copy;
+    Ok(())
 }

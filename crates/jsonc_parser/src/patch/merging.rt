@@ -1,17 +1,35 @@
 //! Merge patches, made on a document whole or not at all.
 
-ghost use Rattle.std.specs.Prelude.{◌≡◌, ◌<◌, false, length, OnErr};
-ghost use Rattle.jsonc_run.specs.Edits.{is_sort};
+ghost use Rattle.std.specs.Prelude.{◌≡◌, ◌<◌, length, OnErr};
 ghost use Rattle.jsonc_cst.specs.Document.{nodes_of, HasNode};
+ghost use Rattle.jsonc_cst.specs.Nodes.{object_node, object_prop_node};
 
 use super::equality::{Numbers, are_equal};
-use super::reference::{Lookup, look_up, value_under};
-use jsonc_cst::cst::{CstInputValue, CstNode, CstRootNode, EditError, TypedNode, node_at};
-use jsonc_edit::find as find_at_path;
+use indexmap::{IndexMap, IndexSet};
+use jsonc_cst::cst::{
+    CstInputValue, CstNode, CstObject, CstObjectProp, CstRootNode, EditError, TypedNode,
+};
 use jsonc_run::Edit;
+use jsonc_text::errors::ParseStringErrorKind;
 use std::alloc::{AllocError, Allocator};
 use std::error::Error;
 use std::fmt;
+use std::hash::{BuildHasherDefault, FoldHasher};
+
+// Names, each once.
+type Names<A> = IndexSet<String<A>, BuildHasherDefault<FoldHasher>, A>;
+
+// What has a name in an object.
+#[derive(Clone, Copy)]
+enum Named {
+    // This property.
+    Once(CstObjectProp),
+    // Two properties or more.
+    Twice,
+}
+
+// What has each name in an object.
+type Properties<A> = IndexMap<String<A>, Named, BuildHasherDefault<FoldHasher>, A>;
 
 /// Why a patch was not merged.
 #[derive(Debug, Drop)]
@@ -49,48 +67,53 @@ fn repeated<A: Allocator>(alloc: A, name: &str) -> MergeFault<A> {
     }
 }
 
-// The name that is that of two members, or is repeated in the value of one.
-#[cycle(repeats)]
-fn repeated_member<A: Allocator>(members: &[(String<A>, CstInputValue<A>)]) -> Option<&str> {
-    for (index, member) in members.iter().enumerate() {
-        if has_name(&members[..index], &member.0) {
-            return Some(member.0.as_str());
-        }
-        if let Some(name) = repeated_name(&member.1) {
-            return Some(name);
-        }
+// Whether a name was seen before. It joins those seen.
+fn is_seen<A: Allocator + Copy>(seen: &mut Names<A>, name: &String<A>) -> Result<bool, AllocError> {
+    match seen.insert(name.clone()?) {
+        Ok(added) => Ok(!added),
+        Err(_) => Err(AllocError),
     }
-    None
 }
 
-// Whether a member has this name.
-fn has_name<A: Allocator>(members: &[(String<A>, CstInputValue<A>)], name: &str) -> bool {
+// Sees that no name stands twice among members, nor in the value of one.
+#[cycle(unique)]
+fn see_members<A: Allocator + Copy>(
+    alloc: A,
+    members: &[(String<A>, CstInputValue<A>)],
+) -> Result<(), MergeFault<A>> {
+    let mut seen = IndexSet::new(alloc);
     for member in members {
-        if member.0.as_str() == name {
-            return true;
+        match is_seen(&mut seen, &member.0) {
+            Ok(false) => see_unique_names(alloc, &member.1)?,
+            Ok(true) => return Err(repeated(alloc, &member.0)),
+            Err(_) => return Err(no_memory()),
         }
     }
-    false
+    Ok(())
 }
 
-// The name that stands twice in an object of one of these values.
-#[cycle(repeats)]
-fn repeated_element<A: Allocator>(elements: &[CstInputValue<A>]) -> Option<&str> {
+// Sees that no name stands twice in an object of one of these values.
+#[cycle(unique)]
+fn see_elements<A: Allocator + Copy>(
+    alloc: A,
+    elements: &[CstInputValue<A>],
+) -> Result<(), MergeFault<A>> {
     for element in elements {
-        if let Some(name) = repeated_name(element) {
-            return Some(name);
-        }
+        see_unique_names(alloc, element)?;
     }
-    None
+    Ok(())
 }
 
-// The name that stands twice in an object of a value.
-#[cycle(repeats)]
-fn repeated_name<A: Allocator>(value: &CstInputValue<A>) -> Option<&str> {
+// Sees that no name stands twice in an object of a value.
+#[cycle(unique)]
+fn see_unique_names<A: Allocator + Copy>(
+    alloc: A,
+    value: &CstInputValue<A>,
+) -> Result<(), MergeFault<A>> {
     match value {
-        CstInputValue::Array(elements) => repeated_element(elements.as_slice()),
-        CstInputValue::Object(members) => repeated_member(members.as_slice()),
-        _ => None,
+        CstInputValue::Array(elements) => see_elements(alloc, elements.as_slice()),
+        CstInputValue::Object(members) => see_members(alloc, members.as_slice()),
+        _ => Ok(()),
     }
 }
 
@@ -122,150 +145,191 @@ fn merged_into_nothing<A: Allocator + Copy>(
     }
 }
 
-// The same path again.
-fn copy_of<A: Allocator + Copy>(alloc: A, path: &[usize]) -> Result<Vec<usize, A>, MergeFault<A>> {
-    let mut copy = Vec::new(alloc);
-    for place in path {
-        let Ok(()) = copy.push(*place) else {
-            return Err(no_memory());
-        };
+// Puts a property under its name. Where there is one of the name, both stand there.
+fn put_property<A: Allocator + Copy>(
+    named: &mut Properties<A>,
+    name: String<A>,
+    property: CstObjectProp,
+) -> Result<(), EditError> {
+    let found = match named.get(name.as_str()) {
+        Some(_) => Named::Twice,
+        None => Named::Once(property),
+    };
+    match named.insert(name, found) {
+        Ok(_) => Ok(()),
+        Err(_) => Err(EditError::OutOfMemory),
     }
-    Ok(copy)
 }
 
-// Makes an edit.
-fn edit<A: Allocator + Copy>(doc: &mut CstRootNode<A>, edit: Edit<A>) -> Result<(), MergeFault<A>>
-    requires { is_sort edit ≡ false }
+// A property's name, decoded, or none where it has none that decodes.
+fn name_of<A: Allocator + Copy>(
+    doc: &CstRootNode<A>,
+    property: CstObjectProp,
+) -> Result<Option<String<A>>, EditError>
+    requires { HasNode doc.now (object_prop_node property) }
 {
-    match doc.make(&edit) {
+    match property.decoded_name(doc) {
+        Ok(name) => Ok(name),
+        Err(ParseStringErrorKind::OutOfMemory) => Err(EditError::OutOfMemory),
+        Err(_) => Ok(None),
+    }
+}
+
+// The properties of an object by their names.
+fn properties_of<A: Allocator + Copy>(
+    doc: &CstRootNode<A>,
+    object: CstObject,
+) -> Result<Properties<A>, EditError>
+    requires { HasNode doc.now (object_node object) }
+{
+    let properties = object.properties(doc)?;
+    let mut named = IndexMap::new(*doc.allocator());
+    for property in properties.iter() {
+        if let Some(name) = name_of(doc, *property)? {
+            put_property(&mut named, name, *property)?;
+        }
+    }
+    Ok(named)
+}
+
+// Whether a value is what a patch makes of nothing, number texts equal.
+fn is_there<A: Allocator + Copy>(
+    doc: &CstRootNode<A>,
+    node: CstNode,
+    value: &CstInputValue<A>,
+) -> Result<bool, EditError>
+    requires { HasNode doc.now node }
+{
+    let Some(there) = node.to_value(doc)? else {
+        return Ok(false);
+    };
+    match are_equal(value, &there, Numbers::ByText) {
+        Ok(equal) => Ok(equal),
+        Err(_) => Err(EditError::OutOfMemory),
+    }
+}
+
+// Sets the value of a property to what a patch makes of nothing, unless it is that.
+fn set<A: Allocator + Copy>(
+    doc: &mut CstRootNode<A>,
+    property: CstObjectProp,
+    value: CstNode,
+    patch: &CstInputValue<A>,
+) -> Result<(), EditError>
+    requires property { HasNode doc.old (object_prop_node property) }
+    requires value { HasNode doc.old value }
+{
+    let Ok(new) = merged_into_nothing(*doc.allocator(), patch) else {
+        return Err(EditError::OutOfMemory);
+    };
+    if is_there(doc, value, &new)? {
+        return Ok(());
+    }
+    property.set_value(doc, new)?;
+    Ok(())
+}
+
+// Puts a value in the place of the document's, unless that is equal.
+fn put<A: Allocator + Copy>(
+    doc: &mut CstRootNode<A>,
+    new: CstInputValue<A>,
+) -> Result<(), EditError> {
+    let Some(value) = doc.value() else {
+        return doc.make(&Edit::SetRoot(new));
+    };
+    if is_there(doc, value, &new)? {
+        return Ok(());
+    }
+    doc.make(&Edit::Replace(Vec::new(*doc.allocator()), new))
+}
+
+// The answer of an edit.
+fn edited<A: Allocator>(answer: Result<(), EditError>) -> Result<(), MergeFault<A>> {
+    match answer {
         Ok(()) => Ok(()),
         Err(error) => Err(MergeFault::Edit(error)),
     }
 }
 
-// Puts what a patch makes of nothing in the place of a value, unless they are equal.
-fn put<A: Allocator + Copy>(
-    doc: &mut CstRootNode<A>,
-    path: &[usize],
-    node: CstNode,
-    patch: &CstInputValue<A>,
-) -> Result<(), MergeFault<A>>
-    requires { HasNode doc.old node }
-{
-    let alloc = *doc.allocator();
-    let Ok(value) = merged_into_nothing(alloc, patch) else {
-        return Err(no_memory());
-    };
-    match node.to_value(doc) {
-        Ok(Some(there)) => match are_equal(&value, &there, Numbers::ByText) {
-            Ok(true) => return Ok(()),
-            Ok(false) => {}
-            Err(_) => return Err(no_memory()),
-        },
-        Ok(None) => {}
-        Err(error) => return Err(MergeFault::Edit(error)),
-    }
-    let path = copy_of(alloc, path)?;
-    edit(doc, Edit::Replace(path, value))
-}
-
-// Merges a patch into the value at a path.
-#[cycle(merging)]
-fn merge_at<A: Allocator + Copy>(
-    doc: &mut CstRootNode<A>,
-    path: &mut Vec<usize, A>,
-    patch: &CstInputValue<A>,
-) -> Result<(), MergeFault<A>> {
-    let Some(number) = find_at_path(doc.tree(), path) else {
-        return Err(MergeFault::Edit(EditError::NoSuchPlace));
-    };
-    let node = node_at(doc.tree(), number);
-    match patch {
-        CstInputValue::Object(members) if node.as_object().is_some() => {
-            merge_members(doc, path, members.as_slice())
-        }
-        _ => put(doc, path, node, patch),
-    }
-}
-
-// Merges members into the object at a path.
-#[cycle(merging)]
-fn merge_members<A: Allocator + Copy>(
-    doc: &mut CstRootNode<A>,
-    path: &mut Vec<usize, A>,
-    members: &[(String<A>, CstInputValue<A>)],
-) -> Result<(), MergeFault<A>> {
-    for member in members {
-        merge_member(doc, path, &member.0, &member.1)?;
-    }
-    Ok(())
-}
-
-// Merges a member into the object at a path.
-#[cycle(merging)]
-fn merge_member<A: Allocator + Copy>(
-    doc: &mut CstRootNode<A>,
-    path: &mut Vec<usize, A>,
-    name: &str,
-    patch: &CstInputValue<A>,
-) -> Result<(), MergeFault<A>> {
-    let Some(object) = find_at_path(doc.tree(), path) else {
-        return Err(MergeFault::Edit(EditError::NoSuchPlace));
-    };
-    match look_up(doc, object, name) {
-        Ok(Lookup::Missing) => append(doc, path, name, patch),
-        Ok(Lookup::Twice) => Err(repeated(*doc.allocator(), name)),
-        Ok(Lookup::Once(property)) => merge_property(doc, path, property, patch),
-        Err(_) => Err(no_memory()),
-    }
-}
-
-// Merges a patch into the value of a property of the object at a path.
-#[cycle(merging)]
-fn merge_property<A: Allocator + Copy>(
-    doc: &mut CstRootNode<A>,
-    path: &mut Vec<usize, A>,
-    property: usize,
-    patch: &CstInputValue<A>,
-) -> Result<(), MergeFault<A>>
-    requires { property < length (nodes_of doc.old) }
-{
-    let Some(property) = node_at(doc.tree(), property).as_object_prop() else {
-        return Err(MergeFault::Edit(EditError::NoSuchPlace));
-    };
-    let Ok(()) = path.push(property.property_index(doc)) else {
-        return Err(no_memory());
-    };
-    match patch {
-        CstInputValue::Null => {
-            let place = copy_of(*doc.allocator(), path)?;
-            edit(doc, Edit::Remove(place))?;
-        }
-        _ => merge_at(doc, path, patch)?,
-    }
-    let _ = path.pop();
-    Ok(())
-}
-
-// Appends a member to the object at a path, unless its value is null.
+// Appends a member to an object, unless its value is null.
 fn append<A: Allocator + Copy>(
     doc: &mut CstRootNode<A>,
-    path: &[usize],
+    object: CstObject,
     name: &str,
     patch: &CstInputValue<A>,
-) -> Result<(), MergeFault<A>> {
+) -> Result<(), EditError>
+    requires { HasNode doc.old (object_node object) }
+{
     if let CstInputValue::Null = patch {
         return Ok(());
     }
-    let alloc = *doc.allocator();
-    let Ok(value) = merged_into_nothing(alloc, patch) else {
-        return Err(no_memory());
+    let Ok(value) = merged_into_nothing(*doc.allocator(), patch) else {
+        return Err(EditError::OutOfMemory);
     };
-    let Ok(name) = String::from_str(alloc, name) else {
-        return Err(no_memory());
+    object.append(doc, name, value)?;
+    Ok(())
+}
+
+// Merges a patch into the value of a property.
+#[cycle(merging)]
+fn merge_property<A: Allocator + Copy>(
+    doc: &mut CstRootNode<A>,
+    property: CstObjectProp,
+    patch: &CstInputValue<A>,
+) -> Result<(), MergeFault<A>>
+    requires { HasNode doc.old (object_prop_node property) }
+{
+    if let CstInputValue::Null = patch {
+        return edited(property.remove(doc));
+    }
+    let Some(value) = property.value(doc) else {
+        return Err(MergeFault::Edit(EditError::NoSuchPlace));
     };
-    let path = copy_of(alloc, path)?;
-    edit(doc, Edit::AppendProperty(path, name, value))
+    match (patch, value.as_object()) {
+        (CstInputValue::Object(members), Some(object)) => {
+            merge_members(doc, object, members.as_slice())
+        }
+        _ => edited(set(doc, property, value, patch)),
+    }
+}
+
+// Merges a member into an object, in which this has its name.
+#[cycle(merging)]
+fn merge_member<A: Allocator + Copy>(
+    doc: &mut CstRootNode<A>,
+    object: CstObject,
+    named: Option<Named>,
+    name: &str,
+    patch: &CstInputValue<A>,
+) -> Result<(), MergeFault<A>> {
+    match named {
+        Some(Named::Once(property)) if doc.holds(property.node()) => {
+            merge_property(doc, property, patch)
+        }
+        Some(Named::Twice) => Err(repeated(*doc.allocator(), name)),
+        None if doc.holds(object.node()) => edited(append(doc, object, name, patch)),
+        _ => Err(MergeFault::Edit(EditError::NoSuchPlace)),
+    }
+}
+
+// Merges members into an object.
+#[cycle(merging)]
+fn merge_members<A: Allocator + Copy>(
+    doc: &mut CstRootNode<A>,
+    object: CstObject,
+    members: &[(String<A>, CstInputValue<A>)],
+) -> Result<(), MergeFault<A>>
+    requires { HasNode doc.old (object_node object) }
+{
+    let properties = match properties_of(doc, object) {
+        Ok(properties) => properties,
+        Err(error) => return Err(MergeFault::Edit(error)),
+    };
+    for member in members {
+        let named = properties.get(member.0.as_str()).copied();
+        merge_member(doc, object, named, &member.0, &member.1)?;
+    }
+    Ok(())
 }
 
 // Merges a patch into the document's value.
@@ -273,15 +337,13 @@ fn merge_root<A: Allocator + Copy>(
     doc: &mut CstRootNode<A>,
     patch: &CstInputValue<A>,
 ) -> Result<(), MergeFault<A>> {
-    let alloc = *doc.allocator();
-    if doc.value().is_some() {
-        let mut path = Vec::new(alloc);
-        return merge_at(doc, &mut path, patch);
+    if let (CstInputValue::Object(members), Some(object)) = (patch, doc.object_value()) {
+        return merge_members(doc, object, members.as_slice());
     }
-    match merged_into_nothing(alloc, patch) {
-        Ok(value) => edit(doc, Edit::SetRoot(value)),
-        Err(_) => Err(no_memory()),
-    }
+    let Ok(new) = merged_into_nothing(*doc.allocator(), patch) else {
+        return Err(no_memory());
+    };
+    edited(put(doc, new))
 }
 
 /// Merges a patch into a document (RFC 7396).
@@ -300,9 +362,7 @@ pub fn merge<A: Allocator + Copy>(
 ) -> Result<(), MergeFault<A>>
     ensures { OnErr result (nodes_of doc.new ≡ nodes_of doc.old) }
 {
-    if let Some(name) = repeated_name(patch) {
-        return Err(repeated(*doc.allocator(), name));
-    }
+    see_unique_names(*doc.allocator(), patch)?;
     let Ok(mut copy) = doc.try_clone() else {
         return Err(no_memory());
     };

@@ -11,6 +11,7 @@ ghost use Rattle.jsonc_cst.specs.Document.{content_of, nodes_of, HasNode};
 ghost use Rattle.jsonc_cst.specs.Nodes.{number_of};
 ghost use Rattle.jsonc_cst.specs.Readings.{value_under as value_of_property};
 ghost use Rattle.jsonc_parser.specs.paths.Found.{names_of};
+ghost use Rattle.jsonc_parser.specs.patch.Applied.{IsPlaceBy};
 ghost use Rattle.jsonc_parser.specs.patch.Found.{FindFails, Finds, IsOfShown, ReadFails, Reads};
 ghost use Rattle.jsonc_parser.specs.patch.Lookups.{found_once, IsElementBy, IsLookedUp, SaysRepeated, StepFails, StepsTo};
 ghost use Rattle.jsonc_parser.specs.patch.Messages.{find_error_text};
@@ -189,6 +190,7 @@ pub(super) fn element_place<A: Allocator>(
     token: &str,
 ) -> Option<Option<usize>>
     requires { node < length (nodes_of doc.now) }
+    ensures { IsPlaceBy (nodes_of doc.now) node (chars token.now) result }
 {
     if token == "-" {
         return Some(None);

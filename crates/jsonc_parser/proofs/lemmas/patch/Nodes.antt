@@ -57,7 +57,7 @@ object_value o _ below _ e values.boolean = cc
 object_value o _ below _ e values.null = cc
 object_value o _ below _ e (values.array h) = cc
 
-array_value : (o : Options) (c : Content) (below : OrderedTree) (v : Plain) → c ≡ content.array → ValueOf o c below v → (vs : Items) × (v ≡ plain.array vs) × ItemsOf o below vs
+pub array_value : (o : Options) (c : Content) (below : OrderedTree) (v : Plain) → c ≡ content.array → ValueOf o c below v → (vs : Items) × (v ≡ plain.array vs) × ItemsOf o below vs
 array_value o _ below _ e (values.array {vs = vs} h) = (vs, refl, h)
 array_value o _ below _ e (values.string h) = cc
 array_value o _ below _ e values.number = cc

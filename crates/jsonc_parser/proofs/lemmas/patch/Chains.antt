@@ -1,0 +1,204 @@
+-- Operations of a patch, one after another.
+use Rattle.std.proofs.Common.{ℕ, ◌≡◌, ◌<◌, ◌≤◌, ◌+◌, ◌∙◌, ◌++◌, sym, ap, subst, refl, List, [], ◌∷◌, length, take, map, get_or, true, false, Bool, Option, Some, None, Result, Ok, Err, OnErr, OnOk, arith}
+use Rattle.std.specs.Bool.{Decides}
+use Rattle.std.specs.List.{All}
+use Rattle.std.specs.declared.string.String.{String}
+use Rattle.std.proofs.lemmas.List.{append-nil, length-append, length-map, map-append, take_all, take_more}
+use Rattle.std.proofs.lemmas.List.Elements.{All-cons, All-head, All-tail}
+use Rattle.jsonc_text.specs.Documents.{Document}
+use Rattle.jsonc_text.specs.Grammar.{IsDocument}
+use Rattle.jsonc_text.specs.Options.{Options}
+use Rattle.jsonc_text.specs.Plain.{Plain, Items, Members, collapse}
+use Rattle.jsonc_edit.specs.Writing.{IsOfNumbers, AreOfNumbers, AreNamedOfNumbers}
+use Rattle.jsonc_layout.specs.declared.input.value.CstInputValue.{CstInputValue}
+use Rattle.jsonc_layout.specs.input.Views.{chars_of, plain}
+use Rattle.jsonc_sound.specs.Documents.{Shows}
+use Rattle.jsonc_run.specs.declared.edit.Edit.{Edit}
+use Rattle.jsonc_run.specs.promise.Asked.{none_asked, one_asked, EditsTo}
+use Rattle.jsonc_run.proofs.lemmas.promise.Leads.{shown_are_documents}
+use Rattle.jsonc_cst.specs.declared.cst.CstRootNode.{CstRootNode}
+use Rattle.jsonc_cst.specs.Document.{nodes_of, tree_of}
+use Rattle.jsonc_cst.proofs.JsonValues.{collapsed_numbers, document_numbers}
+use Rattle.jsonc_parser.specs.patch.Applied.{asked, is_one_edit, FitsIn, IsKept, IsMade, IsPatched, LeadsOn, MakesWhatShown, PatchesWhatShown, Takes}
+use Rattle.jsonc_parser.specs.patch.Found.{IsOfShown, RefersToNode}
+use Rattle.jsonc_parser.specs.paths.Found.{names_of}
+use Rattle.jsonc_parser.specs.patch.Equality.{AreEqual, HasUniqueNames}
+use Rattle.jsonc_parser.specs.patch.Numbers.{SameNumber}
+use Rattle.jsonc_parser.specs.declared.patch.pointer.Pointer.{Pointer}
+use Rattle.jsonc_parser.specs.patch.Operations as value
+use Rattle.jsonc_parser.specs.patch.Operations.{none_made, one_made, moved, stays, LeadsElsewhere, MakesAll, Makes, Moves}
+use Rattle.jsonc_parser.specs.patch.References.{IsItem, this_item, later_item, IsOnly, this_only, later_only, Refers, RefersTo, whole, to_member, to_element}
+use Rattle.jsonc_parser.specs.declared.patch.operation.Operation.{Operation}
+use Rattle.jsonc_parser.specs.declared.patch.operation.Operation.TheVariants.{Move}
+use Rattle.jsonc_parser.proofs.lemmas.patch.Unique.{unique_collapse}
+
+joined : {A : Type 0} {d e f : Document} {es fs : List (Edit A)} → EditsTo d es e → EditsTo e fs f → EditsTo d (es ++ fs) f
+joined (none_asked one) k = k
+joined (one_asked order place run rest) k = one_asked order place run (joined rest k)
+
+all_more : {os : List value.Operation} {w x y : Option Plain} (o : value.Operation) → MakesAll os w x → Makes o x y → MakesAll (os ++ o ∷ []) w y
+all_more o none_made m = one_made m none_made
+all_more o (one_made n rest) m = one_made n (all_more o rest m)
+
+module _ {A : Type 0} (old : CstRootNode A) where
+  pub patched_none : PatchesWhatShown old [] old
+  patched_none d shown fits = (d, shown, record { edits = []; edited = none_asked (shown_are_documents (tree_of old) d shown); options = refl; made = none_made })
+
+  pub patched_more : (now new : CstRootNode A) (operations : List (Operation A)) (operation : Operation A) → PatchesWhatShown old operations now → MakesWhatShown now (asked operation) (λ o. FitsIn o operation) new
+      → PatchesWhatShown old (operations ++ operation ∷ []) new
+  patched_more now new operations operation before step d shown fits =
+      let front : All (FitsIn d.options) operations = all_front (FitsIn d.options) operations operation fits in
+      let p = before d shown front in
+      let last : FitsIn d.options operation = all_last (FitsIn d.options) operations operation fits in
+      let s = step p.0 p.1 (subst (λ o. FitsIn o operation) (sym p.2.options) last) in (
+        s.0,
+        s.1,
+        record {
+          edits = p.2.edits ++ s.2.edits;
+          edited = joined p.2.edited s.2.edited;
+          options = s.2.options ∙ p.2.options;
+          made = subst (λ l. MakesAll l d.value s.0.value) (sym (map-append asked operations (operation ∷ []))) (all_more (asked operation) p.2.made s.2.made);
+        },
+      )
+    where
+      all_front : (P : Operation A → Type 0) (xs : List (Operation A)) (x : Operation A) → All P (xs ++ x ∷ []) → All P xs
+      all_front P [] x all = λ k e h. absurd (omega (arith, h))
+      all_front P (y ∷ xs) x all = All-cons P y xs (All-head P y (xs ++ x ∷ []) all) (all_front P xs x (All-tail P y (xs ++ x ∷ []) all))
+
+      all_last : (P : Operation A → Type 0) (xs : List (Operation A)) (x : Operation A) → All P (xs ++ x ∷ []) → P x
+      all_last P [] x all = All-head P x [] all
+      all_last P (y ∷ xs) x all = all_last P xs x (All-tail P y (xs ++ x ∷ []) all)
+
+  -- one operation is a patch of it alone
+  pub patched_once : (new : CstRootNode A) (operation : Operation A) → MakesWhatShown old (asked operation) (λ o. FitsIn o operation) new → PatchesWhatShown old (operation ∷ []) new
+  patched_once new operation step = patched_more old new [] operation patched_none step
+
+  module _ (operations : List (Operation A)) (k : ℕ) (now : CstRootNode A) (before : PatchesWhatShown old (take k operations) now) where
+    pub patched_to_here : (operation : Operation A) → k < length operations → (new : CstRootNode A) → MakesWhatShown now (asked (get_or operations k operation)) (λ o. FitsIn o (get_or operations k operation)) new
+        → PatchesWhatShown old (take (k + 1) operations) new
+    patched_to_here operation h new step =
+        subst (λ l. PatchesWhatShown old l new) (sym (take_more operations k operation h)) (patched_more now new (take k operations) (get_or operations k operation) before step)
+
+    pub patched_all : length operations ≤ k → PatchesWhatShown old operations now
+    patched_all h = subst (λ (l : List (Operation A)). PatchesWhatShown old l now) (take_all k operations h) before
+
+-- the numbers of a value inside another
+item_numbers : (o : Options) {v : Plain} {i : ℕ} {vs : Items} → IsItem v i vs → AreOfNumbers o vs → IsOfNumbers o v
+item_numbers o this_item all = all.0
+item_numbers o (later_item p) all = item_numbers o p all.1
+
+member_numbers : (o : Options) {name : List ℕ} {v : Plain} {i : ℕ} {ms : Members} → IsOnly name v i ms → AreNamedOfNumbers o ms → IsOfNumbers o v
+member_numbers o (this_only l) all = all.0
+member_numbers o (later_only ne p) all = member_numbers o p all.1
+
+inner_numbers : (o : Options) {x v : Plain} {tokens : List (List ℕ)} {path : List ℕ} → Refers x tokens path v → IsOfNumbers o x → IsOfNumbers o v
+inner_numbers o whole all = all
+inner_numbers o (to_member only r) all = inner_numbers o r (member_numbers o only all)
+inner_numbers o (to_element index item r) all = inner_numbers o r (item_numbers o item all)
+
+-- what is taken of a document fits it
+taken_fits : {A : Type 0} (doc : CstRootNode A) (tokens : List (List ℕ)) (taken : Plain) (d : Document) → Shows d (tree_of doc) → Takes d tokens taken → IsOfNumbers d.options taken
+taken_fits doc tokens taken d shown (v, (x, is, path, refers), same) =
+    let one = shown_are_documents (tree_of doc) d shown in
+    let all : IsOfNumbers d.options x = document_numbers d.options d.text x (subst (λ w. IsDocument d.options d.text w) is one.says) in
+    subst (IsOfNumbers d.options) (sym same) (collapsed_numbers d.options v (inner_numbers d.options refers all))
+
+module _ {A : Type 0} (old new : CstRootNode A) (from to : List (List ℕ)) (taken : CstInputValue A) (takes : IsOfShown old (λ d. Takes d from (plain taken))) where
+  -- a copy of what is there is added
+  pub copied : MakesWhatShown old (value.add to (plain taken)) (λ o. IsOfNumbers o (plain taken)) new → MakesWhatShown old (value.copy from to) (λ o. Unit {0}) new
+  copied step d shown fit =
+      let t = takes d shown in
+      let s = step d shown (taken_fits old from (plain taken) d shown t) in
+      (s.0, s.1, record { edits = s.2.edits; edited = s.2.edited; options = s.2.options; made = (t.0, t.1, subst (λ v. value.Adds v to d.value s.0.value) t.2 s.2.made) })
+
+  -- it leaves, and is added
+  pub moved_so : LeadsElsewhere from to → (mid : CstRootNode A) → MakesWhatShown old (value.remove from) (λ o. Unit {0}) mid → MakesWhatShown mid (value.add to (plain taken)) (λ o. IsOfNumbers o (plain taken)) new
+      → MakesWhatShown old (value.move from to) (λ o. Unit {0}) new
+  moved_so elsewhere mid first second d shown fit =
+      let t = takes d shown in
+      let f = first d shown tt in
+      let s = second f.0 f.1 (subst (λ o. IsOfNumbers o (plain taken)) (sym f.2.options) (taken_fits old from (plain taken) d shown t)) in (
+        s.0,
+        s.1,
+        record {
+          edits = f.2.edits ++ s.2.edits;
+          edited = joined f.2.edited s.2.edited;
+          options = s.2.options ∙ f.2.options;
+          made = moved elsewhere t.1 f.2.made (subst (λ v. value.Adds v to f.0.value s.0.value) t.2 s.2.made);
+        },
+      )
+
+-- nothing is done
+pub unchanged : {A : Type 0} (old new : CstRootNode A) (operation : value.Operation) (Fit : Options → Type 0) → tree_of new ≡ tree_of old → IsOfShown old (λ d. Makes operation d.value d.value) → MakesWhatShown old operation Fit new
+unchanged {A} old new operation Fit same makes d shown fit =
+    (d, subst (Shows d) (sym same) shown, record { edits = []; edited = none_asked (shown_are_documents (tree_of old) d shown); options = refl; made = makes d shown })
+
+-- where a value is moved to its own place
+nothing_more : {T : Type 0} (xs ys : List T) → length xs ≡ length (xs ++ ys) → ys ≡ []
+nothing_more xs [] e = refl
+nothing_more {T} xs (y ∷ ys) e = absurd (omega (arith, e, length-append xs (y ∷ ys)))
+
+pub stays_there : (from to : List (List ℕ)) (w : Option Plain) (x : Plain) → LeadsOn from to → length from ≡ length to → RefersTo w from x → Moves from to w w
+stays_there from to w x on count r =
+    let rest : on.0 ≡ [] = nothing_more from on.0 (count ∙ ap length on.1) in
+    let same : to ≡ from = on.1 ∙ ap (λ l. from ++ l) rest ∙ append-nil from in
+    subst (λ t. Moves from t w w) (sym same) (stays r)
+
+pub leads_elsewhere : (from to : List (List ℕ)) → (LeadsOn from to → ⊥) → LeadsElsewhere from to
+leads_elsewhere from to none token rest is = none (token ∷ rest, is)
+
+-- the tokens of a pointer: all but the last, and the last; or none
+pub all_but_last : {A : Type 0} (all : List (List ℕ)) (names front : List (String A)) (last : String A) → names_of names ≡ all → names ≡ front ++ last ∷ [] → all ≡ names_of front ++ chars_of last ∷ []
+all_but_last all names front last is parts = sym is ∙ ap names_of parts ∙ map-append chars_of front (last ∷ [])
+
+pub none_at_all : {A : Type 0} (all : List (List ℕ)) (names : List (String A)) → names_of names ≡ all → length names ≡ 0 → all ≡ []
+none_at_all all [] is none = sym is
+none_at_all all (x ∷ names) is none = absurd (omega (arith, none))
+
+pub as_many : {A B : Type 0} (one other : List (List ℕ)) (names : List (String A)) (others : List (String B)) → names_of names ≡ one → names_of others ≡ other → length names ≡ length others → length one ≡ length other
+as_many one other names others is so count = ap length (sym is) ∙ length-map chars_of names ∙ count ∙ sym (length-map chars_of others) ∙ ap length so
+
+-- what is found by the tokens of a pointer stays
+pub stays_shown : {A : Type 0} (doc : CstRootNode A) (from to names : List (List ℕ)) (n : ℕ) → names ≡ from → LeadsOn from to → length from ≡ length to → IsOfShown doc (λ d. RefersToNode d (nodes_of doc) names n) → IsOfShown doc (λ d. Moves from to d.value d.value)
+stays_shown doc from to names n is on count found d shown =
+    let w = found d shown in stays_there from to d.value w.v on count (w.value, w.is, w.path, subst (λ l. Refers w.value l w.path w.v) is w.refers)
+
+-- a value that was taken is equal to the one that was asked for
+pub tests_so : {A : Type 0} (doc : CstRootNode A) (tokens : List (List ℕ)) (v taken : Plain) (b : Bool) → IsOfShown doc (λ d. Takes d tokens taken) → (HasUniqueNames taken → Decides b (AreEqual SameNumber v taken)) → b ≡ true
+    → IsOfShown doc (λ d. value.Tests tokens v d.value d.value)
+tests_so doc tokens v taken b takes decides is d shown =
+    let t = takes d shown in
+    let unique : HasUniqueNames taken = subst HasUniqueNames (sym t.2) (unique_collapse t.0) in
+    (t.0, t.1, subst (AreEqual SameNumber v) t.2 ((decides unique).0 is), refl)
+
+-- what a call says of an operation, of the one that was asked for
+module _ {A E : Type 0} (old new : CstRootNode A) (r : Result (Unit {0}) E) where
+  pub as_asked : (op other : Operation A) → op ≡ other → OnOk r (MakesWhatShown old (asked other) (λ o. FitsIn o other) new) → OnOk r (MakesWhatShown old (asked op) (λ o. FitsIn o op) new)
+  as_asked op other is made = subst (λ k. OnOk r (MakesWhatShown old (asked k) (λ o. FitsIn o k) new)) (sym is) made
+
+  pub added_value : (tokens : List (List ℕ)) (v w : Plain) → w ≡ v → OnOk r (MakesWhatShown old (value.add tokens w) (λ o. IsOfNumbers o w) new) → OnOk r (MakesWhatShown old (value.add tokens v) (λ o. IsOfNumbers o v) new)
+  added_value tokens v w is made = subst (λ k. OnOk r (MakesWhatShown old (value.add tokens k) (λ o. IsOfNumbers o k) new)) is made
+
+  pub replaced_value : (tokens : List (List ℕ)) (v w : Plain) → w ≡ v → OnOk r (MakesWhatShown old (value.replace tokens w) (λ o. IsOfNumbers o w) new) → OnOk r (MakesWhatShown old (value.replace tokens v) (λ o. IsOfNumbers o v) new)
+  replaced_value tokens v w is made = subst (λ k. OnOk r (MakesWhatShown old (value.replace tokens k) (λ o. IsOfNumbers o k) new)) is made
+
+  pub kept_anyhow : (op : Operation A) → OnErr r (IsKept old new) → OnErr r (is_one_edit op ≡ true → IsKept old new)
+  kept_anyhow op kept = go r kept
+    where
+      go : (r : Result (Unit {0}) E) → OnErr r (IsKept old new) → OnErr r (is_one_edit op ≡ true → IsKept old new)
+      go (Ok x) kept = tt
+      go (Err e) kept = λ one. kept
+
+  pub moves_anyhow : (op : Operation A) (from path : Pointer A) → op ≡ Move from path → OnErr r (is_one_edit op ≡ true → IsKept old new)
+  moves_anyhow op from path is = go r
+    where
+      go : (r : Result (Unit {0}) E) → OnErr r (is_one_edit op ≡ true → IsKept old new)
+      go (Ok x) = tt
+      go (Err e) = λ one. let wrong : false ≡ true = sym (ap is_one_edit is) ∙ one in cc
+
+  pub tested : (operation : value.Operation) (Fit : Options → Type 0) → tree_of new ≡ tree_of old → OnOk r (IsOfShown old (λ d. Makes operation d.value d.value)) → OnOk r (MakesWhatShown old operation Fit new)
+  tested operation Fit same made = go r made
+    where
+      go : (r : Result (Unit {0}) E) → OnOk r (IsOfShown old (λ d. Makes operation d.value d.value)) → OnOk r (MakesWhatShown old operation Fit new)
+      go (Ok x) made = unchanged old new operation Fit same made
+      go (Err e) made = tt
