@@ -9,6 +9,7 @@ pub mod Laws
 pub mod Numbers
 pub mod Equality
 pub mod Operations
+pub mod Failing
 pub mod Asked
 pub mod PatchTexts
 pub mod Patches

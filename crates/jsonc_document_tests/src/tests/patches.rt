@@ -293,7 +293,6 @@ fn refused<A: Allocator>(fault: &PatchFault<A>, answer: Answer<'_>) -> Outcome {
 /// What came of a text that is no patch.
 fn no_patch<A: Allocator>(error: PatchError<A>, answer: Answer<'_>) -> Outcome {
     match (error, answer) {
-        (PatchError::OutOfMemory, _) => Outcome::Wanted,
         (PatchError::Operation(_, OperationFault::OutOfMemory), _) => Outcome::Wanted,
         (PatchError::Operation(number, _), Answer::NoPatch(wanted)) => Outcome::of(
             number == wanted,

@@ -1,14 +1,17 @@
 //! Patches: lists of operations, made on a document whole or not at all.
 
-ghost use Rattle.std.specs.Prelude.{◌≡◌, true, OnErr, OnOk};
-ghost use Rattle.std.specs.List.{All};
-ghost use Rattle.jsonc_cst.specs.Document.{HasNode};
-ghost use Rattle.jsonc_parser.specs.patch.Applied.{asked, is_one_edit, FitsIn, IsKept, MakesWhatShown, PatchesWhatShown};
+ghost use Rattle.std.specs.Prelude.{◌≡◌, ◌<◌, chars, length, map, true, IfErr, IfOk, OnErr, OnOk};
+ghost use Rattle.jsonc_text.specs.OptionsOf.{parse_options};
+ghost use Rattle.jsonc_parser.specs.patch.Applied.{is_one_edit, FailsWhatShown, FitsIn, IsKept, MakesWhatShown, PatchesWhatShown, StopsWhatShown};
+ghost use Rattle.jsonc_parser.specs.patch.Asked.{asked};
+ghost use Rattle.jsonc_parser.specs.patch.Patches.{operations_of};
+ghost use Rattle.jsonc_parser.specs.patch.PatchFaults.{IsFaultOfPatch};
+ghost use Rattle.jsonc_parser.specs.patch.PatchTexts.{IsPatch};
 
 use super::making::{PatchCause, make};
-use super::operation::{Operation, OperationFault, read_operation};
-use jsonc_cst::cst::{CstNode, CstRootNode, EditError};
-use jsonc_text::errors::ParseError;
+use super::operation::Operation;
+use super::reading::{PatchError, read_patch};
+use jsonc_cst::cst::{CstRootNode, EditError};
 use jsonc_text::options::ParseOptions;
 use std::alloc::Allocator;
 use std::error::Error;
@@ -78,8 +81,10 @@ impl<A: Allocator + Copy> Patch<A> {
     pub fn apply(&self, doc: &mut CstRootNode<A>) -> Result<(), PatchFault<A>>
         ensures patched { OnOk result (PatchesWhatShown doc.old self.now.operations.items doc.new) }
         ensures kept { OnErr result (IsKept doc.old doc.new) }
+        ensures stops { IfErr result (StopsWhatShown doc.old self.now.operations.items) }
     {
         match self.operations.as_slice() {
+            [] => Ok(()),
             [operation] if is_one_edit(operation) => make_first(doc, operation),
             operations => make_on_copy(doc, operations),
         }
@@ -110,6 +115,7 @@ fn make_first<A: Allocator + Copy>(
     requires { is_one_edit operation.now ≡ true }
     ensures made { OnOk result (MakesWhatShown doc.old (asked operation.now) (λ o. FitsIn o operation.now) doc.new) }
     ensures kept { OnErr result (IsKept doc.old doc.new) }
+    ensures fails { IfErr result (λ fault. (fault.operation ≡ 0) × FailsWhatShown doc.old (asked operation.now) fault.cause) }
 {
     match make(doc, operation) {
         Ok(()) => Ok(()),
@@ -125,7 +131,8 @@ fn make_all<A: Allocator + Copy>(
     doc: &mut CstRootNode<A>,
     operations: &[Operation<A>],
 ) -> Result<(), PatchFault<A>>
-    ensures { OnOk result (PatchesWhatShown doc.old operations.now doc.new) }
+    ensures patched { OnOk result (PatchesWhatShown doc.old operations.now doc.new) }
+    ensures stops { IfErr result (StopsWhatShown doc.old operations.now) }
 {
     for (number, operation) in operations.iter().enumerate() {
         if let Err(cause) = make(doc, operation) {
@@ -143,8 +150,10 @@ fn make_on_copy<A: Allocator + Copy>(
     doc: &mut CstRootNode<A>,
     operations: &[Operation<A>],
 ) -> Result<(), PatchFault<A>>
+    requires { 0 < length operations.now }
     ensures patched { OnOk result (PatchesWhatShown doc.old operations.now doc.new) }
     ensures kept { OnErr result (IsKept doc.old doc.new) }
+    ensures stops { IfErr result (StopsWhatShown doc.old operations.now) }
 {
     let Ok(mut copy) = doc.try_clone() else {
         return Err(PatchFault {

@@ -1,6 +1,6 @@
 //! The operations of a patch, made on a document.
 
-ghost use Rattle.std.specs.Prelude.{◌≡◌, [], chars, true, IfOk, OnErr, OnOk};
+ghost use Rattle.std.specs.Prelude.{◌≡◌, [], chars, true, IfErr, IfOk, OnErr, OnOk};
 ghost use Rattle.std.specs.Bool.{Decides};
 ghost use Rattle.jsonc_tree.specs.Content.{Content};
 ghost use Rattle.jsonc_edit.specs.Paths.{IsAt};
@@ -10,7 +10,8 @@ ghost use Rattle.jsonc_run.specs.Edits.{is_whole, operation_of, unsorted, EditSt
 ghost use Rattle.jsonc_cst.specs.Document.{content_of, nodes_of, HasNode};
 ghost use Rattle.jsonc_cst.specs.Nodes.{number_of};
 ghost use Rattle.jsonc_parser.specs.paths.Found.{names_of};
-ghost use Rattle.jsonc_parser.specs.patch.Applied.{asked, is_one_edit, AddsMember, AppendsTo, FitsIn, IsKept, LeadsOn, LeadsOver, MakesWhatShown, PutsAt, Takes};
+ghost use Rattle.jsonc_parser.specs.patch.Applied.{is_one_edit, AddsMember, AppendsTo, FailsBelow, FailsForMemory, FailsWhatShown, FitsIn, IsKept, IsPathless, IsRefusal, IsUnfound, LeadsOn, LeadsOver, MakesWhatShown, PutsAt, Takes, Tells};
+ghost use Rattle.jsonc_parser.specs.patch.Asked.{asked};
 ghost use Rattle.jsonc_parser.specs.patch.Found.{IsOfShown, RefersToNode};
 ghost use Rattle.jsonc_parser.specs.patch.Operations as standard;
 ghost use Rattle.jsonc_parser.specs.patch.Pointer.{tokens_of};
@@ -61,6 +62,7 @@ pub(super) fn make<A: Allocator + Copy>(
 ) -> Result<(), PatchCause<A>>
     ensures made { OnOk result (MakesWhatShown doc.old (asked operation.now) (λ o. FitsIn o operation.now) doc.new) }
     ensures kept { OnErr result (is_one_edit operation.now ≡ true → IsKept doc.old doc.new) }
+    ensures fails { IfErr result (FailsWhatShown doc.old (asked operation.now)) }
 {
     match operation {
         Operation::Add(path, value) => match value.try_clone() {
@@ -93,6 +95,8 @@ fn target<A: Allocator + Copy>(
 ) -> Result<CstNode, PatchCause<A>>
     ensures found { IfOk result (λ node. IsOfShown doc.now (λ d. RefersToNode d (nodes_of doc.now) (names_of tokens.now) (number_of node))) }
     ensures in_document { IfOk result (HasNode doc.now) }
+    ensures { Tells error result }
+    ensures fails { IfErr result (λ cause. IsOfShown doc.now (λ d. IsUnfound d.value (names_of tokens.now) cause)) }
 {
     match follow(doc, tokens) {
         Ok(Some(node)) => Ok(node),
@@ -107,7 +111,8 @@ fn path_to<A: Allocator + Copy>(
     node: CstNode,
 ) -> Result<Vec<usize, A>, PatchCause<A>>
     requires { HasNode doc.now node }
-    ensures { IfOk result (λ path. IsAt (nodes_of doc.now) path.items (number_of node)) }
+    ensures at { IfOk result (λ path. IsAt (nodes_of doc.now) path.items (number_of node)) }
+    ensures fails { IfErr result (IsPathless doc.now node) }
 {
     match doc.path(node) {
         Ok(Some(path)) => Ok(path),
@@ -121,7 +126,8 @@ fn target_path<A: Allocator + Copy>(
     doc: &CstRootNode<A>,
     pointer: &Pointer<A>,
 ) -> Result<Vec<usize, A>, PatchCause<A>>
-    ensures { IfOk result (λ path. LeadsOver doc.now (tokens_of pointer.now) path.items) }
+    ensures over { IfOk result (λ path. LeadsOver doc.now (tokens_of pointer.now) path.items) }
+    ensures fails { IfErr result (λ cause. IsOfShown doc.now (λ d. IsUnfound d.value (tokens_of pointer.now) cause)) }
 {
     let node = match target(doc, pointer.tokens()) {
         Ok(node) => node,
@@ -138,7 +144,8 @@ fn value_at<A: Allocator + Copy>(
     doc: &CstRootNode<A>,
     pointer: &Pointer<A>,
 ) -> Result<CstInputValue<A>, PatchCause<A>>
-    ensures { IfOk result (λ v. IsOfShown doc.now (λ d. Takes d (tokens_of pointer.now) (plain v))) }
+    ensures taken { IfOk result (λ v. IsOfShown doc.now (λ d. Takes d (tokens_of pointer.now) (plain v))) }
+    ensures fails { IfErr result (λ cause. IsOfShown doc.now (λ d. IsUnfound d.value (tokens_of pointer.now) cause)) }
 {
     match read(doc, pointer) {
         Ok(Some(value)) => Ok(value),
@@ -152,6 +159,7 @@ fn edit<A: Allocator + Copy>(doc: &mut CstRootNode<A>, edit: Edit<A>) -> Result<
     requires { is_whole edit ≡ true }
     ensures made { OnOk result (EditStep (nodes_of doc.old) (operation_of unsorted edit) (nodes_of doc.new)) }
     ensures kept { OnErr result (IsKept doc.old doc.new) }
+    ensures fails { IfErr result (IsRefusal doc.old edit) }
 {
     match doc.make(&edit) {
         Ok(()) => Ok(()),
@@ -166,6 +174,7 @@ fn remove<A: Allocator + Copy>(
 ) -> Result<(), PatchCause<A>>
     ensures made { OnOk result (MakesWhatShown doc.old (standard.remove (tokens_of pointer.now)) (λ o. Unit {0}) doc.new) }
     ensures kept { OnErr result (IsKept doc.old doc.new) }
+    ensures fails { IfErr result (FailsWhatShown doc.old (standard.remove (tokens_of pointer.now))) }
 {
     let path = match target_path(doc, pointer) {
         Ok(path) => path,
@@ -185,6 +194,7 @@ fn replace<A: Allocator + Copy>(
 ) -> Result<(), PatchCause<A>>
     ensures made { OnOk result (MakesWhatShown doc.old (standard.replace (tokens_of pointer.now) (plain value)) (λ o. IsOfNumbers o (plain value)) doc.new) }
     ensures kept { OnErr result (IsKept doc.old doc.new) }
+    ensures fails { IfErr result (FailsWhatShown doc.old (standard.replace (tokens_of pointer.now) (plain value))) }
 {
     let path = match target_path(doc, pointer) {
         Ok(path) => path,
@@ -203,6 +213,7 @@ fn add_whole<A: Allocator + Copy>(
 ) -> Result<(), PatchCause<A>>
     ensures made { OnOk result (MakesWhatShown doc.old (standard.add [] (plain value)) (λ o. IsOfNumbers o (plain value)) doc.new) }
     ensures kept { OnErr result (IsKept doc.old doc.new) }
+    ensures fails { IfErr result (FailsWhatShown doc.old (standard.add [] (plain value))) }
 {
     match edit(doc, Edit::SetRoot(value)) {
         Ok(()) => Ok(()),
@@ -218,6 +229,7 @@ fn add<A: Allocator + Copy>(
 ) -> Result<(), PatchCause<A>>
     ensures made { OnOk result (MakesWhatShown doc.old (standard.add (tokens_of pointer.now) (plain value)) (λ o. IsOfNumbers o (plain value)) doc.new) }
     ensures kept { OnErr result (IsKept doc.old doc.new) }
+    ensures fails { IfErr result (FailsWhatShown doc.old (standard.add (tokens_of pointer.now) (plain value))) }
 {
     let Some((last, front)) = pointer.tokens().split_last() else {
         return match add_whole(doc, value) {
@@ -246,6 +258,7 @@ fn add_below<A: Allocator + Copy>(
     requires in_document { HasNode doc.old container }
     ensures made { OnOk result (AddsMember doc.old container (tokens_of pointer.now) (chars token.now) (plain value) doc.new) }
     ensures kept { OnErr result (IsKept doc.old doc.new) }
+    ensures fails { IfErr result (FailsBelow doc.old container (tokens_of pointer.now) (chars token.now) (plain value)) }
 {
     if container.as_array().is_some() {
         return add_element(doc, container, pointer, token, value);
@@ -268,6 +281,7 @@ fn add_element<A: Allocator + Copy>(
     requires array { content_of doc.old array ≡ Content.array }
     ensures made { OnOk result (AddsMember doc.old array (tokens_of pointer.now) (chars token.now) (plain value) doc.new) }
     ensures kept { OnErr result (IsKept doc.old doc.new) }
+    ensures fails { IfErr result (FailsBelow doc.old array (tokens_of pointer.now) (chars token.now) (plain value)) }
 {
     let Some(place) = element_place(doc, array.number(), token) else {
         return Err(PatchCause::NoTarget);
@@ -300,6 +314,7 @@ fn add_member<A: Allocator + Copy>(
     requires object { content_of doc.old object ≡ Content.object }
     ensures made { OnOk result (AddsMember doc.old object (tokens_of pointer.now) (chars name.now) (plain value) doc.new) }
     ensures kept { OnErr result (IsKept doc.old doc.new) }
+    ensures fails { IfErr result (FailsBelow doc.old object (tokens_of pointer.now) (chars name.now) (plain value)) }
 {
     match follow(doc, pointer.tokens()) {
         Ok(Some(node)) => put_value(doc, node, value),
@@ -317,6 +332,7 @@ fn put_value<A: Allocator + Copy>(
     requires in_document { HasNode doc.old node }
     ensures made { OnOk result (PutsAt doc.old node (plain value) doc.new) }
     ensures kept { OnErr result (IsKept doc.old doc.new) }
+    ensures fails { IfErr result (FailsForMemory doc.old node) }
 {
     let path = match path_to(doc, node) {
         Ok(path) => path,
@@ -336,8 +352,10 @@ fn append_member<A: Allocator + Copy>(
     value: CstInputValue<A>,
 ) -> Result<(), PatchCause<A>>
     requires in_document { HasNode doc.old object }
+    requires object { content_of doc.old object ≡ Content.object }
     ensures made { OnOk result (AppendsTo doc.old object (chars name.now) (plain value) doc.new) }
     ensures kept { OnErr result (IsKept doc.old doc.new) }
+    ensures fails { IfErr result (FailsForMemory doc.old object) }
 {
     let path = match path_to(doc, object) {
         Ok(path) => path,
@@ -374,7 +392,8 @@ fn stay<A: Allocator + Copy>(
     path: &Pointer<A>,
 ) -> Result<(), PatchCause<A>>
     requires { LeadsOn (tokens_of from.now) (tokens_of path.now) }
-    ensures { OnOk result (IsOfShown doc.now (λ d. standard.Moves (tokens_of from.now) (tokens_of path.now) d.value d.value)) }
+    ensures stays { OnOk result (IsOfShown doc.now (λ d. standard.Moves (tokens_of from.now) (tokens_of path.now) d.value d.value)) }
+    ensures fails { IfErr result (FailsWhatShown doc.now (standard.move (tokens_of from.now) (tokens_of path.now))) }
 {
     match target(doc, from.tokens()) {
         Ok(_) => {}
@@ -392,7 +411,8 @@ fn move_value<A: Allocator + Copy>(
     from: &Pointer<A>,
     path: &Pointer<A>,
 ) -> Result<(), PatchCause<A>>
-    ensures { OnOk result (MakesWhatShown doc.old (standard.move (tokens_of from.now) (tokens_of path.now)) (λ o. Unit {0}) doc.new) }
+    ensures made { OnOk result (MakesWhatShown doc.old (standard.move (tokens_of from.now) (tokens_of path.now)) (λ o. Unit {0}) doc.new) }
+    ensures fails { IfErr result (FailsWhatShown doc.old (standard.move (tokens_of from.now) (tokens_of path.now))) }
 {
     if leads_on(from.tokens(), path.tokens()) {
         return stay(doc, from, path);
@@ -419,6 +439,7 @@ fn copy_value<A: Allocator + Copy>(
 ) -> Result<(), PatchCause<A>>
     ensures made { OnOk result (MakesWhatShown doc.old (standard.copy (tokens_of from.now) (tokens_of path.now)) (λ o. Unit {0}) doc.new) }
     ensures kept { OnErr result (IsKept doc.old doc.new) }
+    ensures fails { IfErr result (FailsWhatShown doc.old (standard.copy (tokens_of from.now) (tokens_of path.now))) }
 {
     let value = match value_at(doc, from) {
         Ok(value) => value,
@@ -436,7 +457,8 @@ fn test<A: Allocator + Copy>(
     pointer: &Pointer<A>,
     value: &CstInputValue<A>,
 ) -> Result<(), PatchCause<A>>
-    ensures { OnOk result (IsOfShown doc.now (λ d. standard.Tests (tokens_of pointer.now) (plain value.now) d.value d.value)) }
+    ensures tests { OnOk result (IsOfShown doc.now (λ d. standard.Tests (tokens_of pointer.now) (plain value.now) d.value d.value)) }
+    ensures fails { IfErr result (FailsWhatShown doc.now (standard.test (tokens_of pointer.now) (plain value.now))) }
 {
     let found = match value_at(doc, pointer) {
         Ok(found) => found,
