@@ -12,6 +12,7 @@ pub mod Operating
 pub mod Edited
 pub mod Chains
 pub mod Unique
+pub mod Failing
 pub mod Digits
 pub mod HexRows
 pub mod NumberRows

@@ -1,9 +1,10 @@
 -- Operations of a patch, one after another.
 use Rattle.std.proofs.Common.{ℕ, ◌≡◌, ◌<◌, ◌≤◌, ◌+◌, ◌∙◌, ◌++◌, sym, ap, subst, refl, List, [], ◌∷◌, length, take, map, get_or, true, false, Bool, Option, Some, None, Result, Ok, Err, OnErr, OnOk, arith}
 use Rattle.std.specs.Bool.{Decides}
-use Rattle.std.specs.List.{All}
+use Rattle.std.specs.List.{slice_get, All}
 use Rattle.std.specs.declared.string.String.{String}
 use Rattle.std.proofs.lemmas.List.{append-nil, length-append, length-map, map-append, take_all, take_more}
+use Rattle.std.proofs.lemmas.Option.{slice_get-get_or}
 use Rattle.std.proofs.lemmas.List.Elements.{All-cons, All-head, All-tail}
 use Rattle.jsonc_text.specs.Documents.{Document}
 use Rattle.jsonc_text.specs.Grammar.{IsDocument}
@@ -19,7 +20,8 @@ use Rattle.jsonc_run.proofs.lemmas.promise.Leads.{shown_are_documents}
 use Rattle.jsonc_cst.specs.declared.cst.CstRootNode.{CstRootNode}
 use Rattle.jsonc_cst.specs.Document.{nodes_of, tree_of}
 use Rattle.jsonc_cst.proofs.JsonValues.{collapsed_numbers, document_numbers}
-use Rattle.jsonc_parser.specs.patch.Applied.{asked, is_one_edit, FitsIn, IsKept, IsMade, IsPatched, LeadsOn, MakesWhatShown, PatchesWhatShown, Takes}
+use Rattle.jsonc_parser.specs.patch.Applied.{is_one_edit, FailsWhatShown, FitsIn, IsKept, IsMade, IsNoMemory, IsPatched, IsStopped, LeadsOn, MakesWhatShown, PatchesWhatShown, StopsWhatShown, Takes}
+use Rattle.jsonc_parser.specs.patch.Asked.{asked}
 use Rattle.jsonc_parser.specs.patch.Found.{IsOfShown, RefersToNode}
 use Rattle.jsonc_parser.specs.paths.Found.{names_of}
 use Rattle.jsonc_parser.specs.patch.Equality.{AreEqual, HasUniqueNames}
@@ -30,11 +32,14 @@ use Rattle.jsonc_parser.specs.patch.Operations.{none_made, one_made, moved, stay
 use Rattle.jsonc_parser.specs.patch.References.{IsItem, this_item, later_item, IsOnly, this_only, later_only, Refers, RefersTo, whole, to_member, to_element}
 use Rattle.jsonc_parser.specs.declared.patch.operation.Operation.{Operation}
 use Rattle.jsonc_parser.specs.declared.patch.operation.Operation.TheVariants.{Move}
+use Rattle.jsonc_parser.specs.declared.patch.apply.PatchFault.{PatchFault}
+use Rattle.jsonc_parser.proofs.lemmas.patch.Failing.{memory_cause}
+use Rattle.jsonc_parser.proofs.lemmas.patch.Operating.{nothing_more}
 use Rattle.jsonc_parser.proofs.lemmas.patch.Unique.{unique_collapse}
 
 joined : {A : Type 0} {d e f : Document} {es fs : List (Edit A)} → EditsTo d es e → EditsTo e fs f → EditsTo d (es ++ fs) f
 joined (none_asked one) k = k
-joined (one_asked order place run rest) k = one_asked order place run (joined rest k)
+joined (one_asked order op place asks run rest) k = one_asked order op place asks run (joined rest k)
 
 all_more : {os : List value.Operation} {w x y : Option Plain} (o : value.Operation) → MakesAll os w x → Makes o x y → MakesAll (os ++ o ∷ []) w y
 all_more o none_made m = one_made m none_made
@@ -79,8 +84,34 @@ module _ {A : Type 0} (old : CstRootNode A) where
     patched_to_here operation h new step =
         subst (λ l. PatchesWhatShown old l new) (sym (take_more operations k operation h)) (patched_more now new (take k operations) (get_or operations k operation) before step)
 
+    -- the next is not made
+    pub stopped_here : (operation : Operation A) → k < length operations → (fault : PatchFault A) → fault.operation ≡ k → FailsWhatShown now (asked (get_or operations k operation)) fault.cause → StopsWhatShown old operations fault
+    stopped_here operation h fault is fails d shown fits =
+        let p = before d shown (subst (λ n. All (FitsIn d.options) (take n operations)) is fits) in
+        record {
+          next = get_or operations k operation;
+          is_next = ap (λ n. slice_get operations n) is ∙ slice_get-get_or operations k operation h;
+          value = p.0.value;
+          made = subst (λ n. MakesAll (map asked (take n operations)) d.value p.0.value) (sym is) p.2.made;
+          cause = fails p.0 p.1;
+        }
+
     pub patched_all : length operations ≤ k → PatchesWhatShown old operations now
     patched_all h = subst (λ (l : List (Operation A)). PatchesWhatShown old l now) (take_all k operations h) before
+
+  -- the first is not made
+  pub stopped_first : (operation : Operation A) (rest : List (Operation A)) (fault : PatchFault A) → fault.operation ≡ 0 → FailsWhatShown old (asked operation) fault.cause → StopsWhatShown old (operation ∷ rest) fault
+  stopped_first operation rest fault is fails d shown fits = record {
+    next = operation;
+    is_next = ap (λ n. slice_get (operation ∷ rest) n) is;
+    value = d.value;
+    made = subst (λ n. MakesAll (map asked (take n (operation ∷ rest))) d.value d.value) (sym is) none_made;
+    cause = fails d shown;
+  }
+
+  pub not_copied : (operations : List (Operation A)) → 0 < length operations → (fault : PatchFault A) → fault.operation ≡ 0 → IsNoMemory fault.cause → StopsWhatShown old operations fault
+  not_copied [] some fault is none = absurd (omega (arith, some))
+  not_copied (operation ∷ rest) some fault is none = stopped_first operation rest fault is (λ d shown. memory_cause (asked operation) d.value fault.cause none)
 
 -- the numbers of a value inside another
 item_numbers : (o : Options) {v : Plain} {i : ℕ} {vs : Items} → IsItem v i vs → AreOfNumbers o vs → IsOfNumbers o v
@@ -134,10 +165,6 @@ unchanged {A} old new operation Fit same makes d shown fit =
     (d, subst (Shows d) (sym same) shown, record { edits = []; edited = none_asked (shown_are_documents (tree_of old) d shown); options = refl; made = makes d shown })
 
 -- where a value is moved to its own place
-nothing_more : {T : Type 0} (xs ys : List T) → length xs ≡ length (xs ++ ys) → ys ≡ []
-nothing_more xs [] e = refl
-nothing_more {T} xs (y ∷ ys) e = absurd (omega (arith, e, length-append xs (y ∷ ys)))
-
 pub stays_there : (from to : List (List ℕ)) (w : Option Plain) (x : Plain) → LeadsOn from to → length from ≡ length to → RefersTo w from x → Moves from to w w
 stays_there from to w x on count r =
     let rest : on.0 ≡ [] = nothing_more from on.0 (count ∙ ap length on.1) in

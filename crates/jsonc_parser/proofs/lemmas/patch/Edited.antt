@@ -21,9 +21,11 @@ use Rattle.jsonc_layout.specs.input.Views.{chars_of, plain}
 use Rattle.jsonc_layout.specs.nodes.Siblings.{elements_at}
 use Rattle.jsonc_run.specs.declared.edit.Edit.{Edit}
 use Rattle.jsonc_run.specs.declared.edit.Edit.TheVariants.{Replace, Remove, SetRoot, InsertElement, AppendElement, AppendProperty}
-use Rattle.jsonc_run.specs.Edits.{is_whole, operation_of, unsorted, EditStep, Operation}
+use Rattle.jsonc_run.specs.Edits.{is_whole, operation_of, unsorted, EditStep, PlainEdit}
 use Rattle.jsonc_run.specs.Refusals.{as_it_was, set_in_part, IsLeft}
-use Rattle.jsonc_run.specs.texts.Edits.{ComesFirst, PutsValue}
+use Rattle.jsonc_run.specs.Named.{entry}
+use Rattle.jsonc_run.specs.texts.Edits as texts
+use Rattle.jsonc_run.specs.texts.Edits.{Operation}
 use Rattle.jsonc_run.specs.texts.Entries as entries
 use Rattle.jsonc_run.specs.texts.Entries.{of, Becomes, Named}
 use Rattle.jsonc_run.specs.texts.Paths.{an_array, an_object}
@@ -40,18 +42,9 @@ use Rattle.jsonc_parser.specs.patch.Operations as value
 use Rattle.jsonc_parser.specs.patch.Operations.{as_whole, in_member, Adds}
 use Rattle.jsonc_parser.specs.patch.References.{IsIndex}
 use Rattle.jsonc_parser.proofs.lemmas.paths.EditOutcome.{whole_no_commas}
-use Rattle.jsonc_parser.proofs.lemmas.patch.Made.{led, Led}
+use Rattle.jsonc_parser.proofs.lemmas.patch.Made.{led, makes_so, options_so, root_options, root_set}
 use Rattle.jsonc_parser.proofs.lemmas.patch.Nodes.{array_value, its, there}
-use Rattle.jsonc_parser.proofs.lemmas.patch.Operating.{element_added, member_added, removed, replaced, stands, was_referred}
-
--- what is set as the document's value is its value then
-root_becomes : (was v : Plain) (w y : Option Plain) → Becomes was v [] w y → y ≡ Some v
-root_becomes was v (Some x) (Some y) entries.itself = refl
-root_becomes was v (Some x) None b = absurd b
-root_becomes was v None y b = absurd b
-
-same_array : (vs : Items) (es : List Named) → array vs ≡ of an_array es → vs ≡ entries.items es
-same_array vs es e = cc
+use Rattle.jsonc_parser.proofs.lemmas.patch.Operating.{element_added, last_item, last_member, member_added, removed, replaced, same_array, stands, was_referred}
 
 module _ {A : Type 0} (old new : CstRootNode A) (tree : IsTree (nodes_of old)) (after : IsTree (nodes_of new)) where
   module _ (path : Vec ℕ A) (tokens : List (List ℕ)) (leads : LeadsOver old tokens path.items) where
@@ -63,7 +56,7 @@ module _ {A : Type 0} (old new : CstRootNode A) (tree : IsTree (nodes_of old)) (
         let edit : Edit A = Remove path in
         let l = led edit (nodes_of old) (nodes_of new) tree after made d shown tt in
         let w = referred d shown in
-        (l.e, l.shown, record { edits = edit ∷ []; edited = l.edited; options = l.options; made = removed d (nodes_of old) tokens leads.0 w.0 path.items w.1 l.e.value l.makes.1 })
+        (l.e, l.shown, record { edits = edit ∷ []; edited = l.edited; options = options_so d l.e l.op (texts.remove path.items) l.asks l.options; made = removed d (nodes_of old) tokens leads.0 w.0 path.items w.1 l.e.value (makes_so d l.e l.op (texts.remove path.items) l.asks l.makes).1 })
 
     module _ (v : CstInputValue A) where
       pub replaces_so : EditStep (nodes_of old) (operation_of unsorted (Replace path v)) (nodes_of new) → MakesWhatShown old (value.replace tokens (plain v)) (λ o. IsOfNumbers o (plain v)) new
@@ -71,7 +64,8 @@ module _ {A : Type 0} (old new : CstRootNode A) (tree : IsTree (nodes_of old)) (
           let edit : Edit A = Replace path v in
           let l = led edit (nodes_of old) (nodes_of new) tree after made d shown fit in
           let w = referred d shown in
-          (l.e, l.shown, record { edits = edit ∷ []; edited = l.edited; options = l.options; made = replaced d (nodes_of old) tokens leads.0 w.0 path.items w.1 l.makes.0 (plain v) l.e.value l.makes.1.1 })
+          let m = makes_so d l.e l.op (texts.replace path.items (plain v)) l.asks l.makes in
+          (l.e, l.shown, record { edits = edit ∷ []; edited = l.edited; options = options_so d l.e l.op (texts.replace path.items (plain v)) l.asks l.options; made = replaced d (nodes_of old) tokens leads.0 w.0 path.items w.1 m.0 (plain v) l.e.value m.1.1 })
 
       -- an element comes in
       module _ (token : List ℕ) where
@@ -80,8 +74,13 @@ module _ {A : Type 0} (old new : CstRootNode A) (tree : IsTree (nodes_of old)) (
             let edit : Edit A = AppendElement path v in
             let l = led edit (nodes_of old) (nodes_of new) tree after made d shown fit in
             let w = referred d shown in
-            let front : List Named = l.makes.0 in
-            (l.e, l.shown, record { edits = edit ∷ []; edited = l.edited; options = l.options; made = element_added d (nodes_of old) tokens leads.0 w.0 path.items w.1 (plain v) l.e.value token front [] l.makes.1.0 (inr (is, refl)) })
+            let op : Operation = texts.insert an_array path.items l.asks.1 (entry [] (plain v)) in
+            let m = makes_so d l.e l.op op l.asks.4 l.makes in
+            let front : List Named = m.0 in
+            let back : List Named = m.1 in
+            let was = was_referred d (nodes_of old) tokens leads.0 w.0 path.items w.1 (of an_array (front ++ back)) (of an_array (front ++ entry [] (plain v) ∷ back)) l.e.value m.3.0 in
+            let end = last_item d (nodes_of old) tokens leads.0 w.0 path.items w.1 l.asks.0 l.asks.1 front back l.asks.2 l.asks.3 was m.2 in
+            (l.e, l.shown, record { edits = edit ∷ []; edited = l.edited; options = options_so d l.e l.op op l.asks.4 l.options; made = element_added d (nodes_of old) tokens leads.0 w.0 path.items w.1 (plain v) l.e.value token front back m.3.0 (inr (is, end)) })
 
         pub inserts_so : (index : ℕ) → content_at (nodes_of old) leads.0 ≡ content.array → IsIndex token index → index ≤ length (elements_at (nodes_of old) leads.0)
             → EditStep (nodes_of old) (operation_of unsorted (InsertElement path index v)) (nodes_of new) → MakesWhatShown old (value.add (tokens ++ token ∷ []) (plain v)) (λ o. IsOfNumbers o (plain v)) new
@@ -90,16 +89,18 @@ module _ {A : Type 0} (old new : CstRootNode A) (tree : IsTree (nodes_of old)) (
             let edit : Edit A = InsertElement path index v in
             let l = led edit ns (nodes_of new) tree after made d shown fit in
             let w = referred d shown in
-            let front : List Named = l.makes.0 in
-            let back : List Named = l.makes.1 in
+            let op : Operation = texts.insert an_array path.items index (entry [] (plain v)) in
+            let m = makes_so d l.e l.op op l.asks l.makes in
+            let front : List Named = m.0 in
+            let back : List Named = m.1 in
             let items = array_value d.options (content_at ns leads.0) (row_below ns leads.0) w.0.v kind w.0.has in
             let count : item_count items.0 ≡ length (elements_at ns leads.0) = rows.counted d.options items.2 ∙ counted_elements (Shows-row_below ns tree leads.0 (there d ns tree shown tokens leads.0 w.0 token)) in
-            let was : w.0.v ≡ of an_array (front ++ back) = was_referred d ns tokens leads.0 w.0 path.items w.1 (of an_array (front ++ back)) (of an_array (front ++ record { name = []; value = plain v } ∷ back)) l.e.value l.makes.3.0 in
+            let was : w.0.v ≡ of an_array (front ++ back) = was_referred d ns tokens leads.0 w.0 path.items w.1 (of an_array (front ++ back)) (of an_array (front ++ entry [] (plain v) ∷ back)) l.e.value m.3.0 in
             let vs : items.0 ≡ entries.items (front ++ back) = same_array items.0 (front ++ back) (sym items.1 ∙ was) in
             let all : length (front ++ back) ≡ length (elements_at ns leads.0) = sym (counted (front ++ back)) ∙ ap item_count (sym vs) ∙ count in
-            let bound : length front ≡ min index (length (front ++ back)) = l.makes.2 in
+            let bound : length front ≡ min index (length (front ++ back)) = m.2 in
             let place : index ≡ length front = omega (arith, bound, all, within) in
-            (l.e, l.shown, record { edits = edit ∷ []; edited = l.edited; options = l.options; made = element_added d ns tokens leads.0 w.0 path.items w.1 (plain v) l.e.value token front back l.makes.3.0 (inl (subst (IsIndex token) place is)) })
+            (l.e, l.shown, record { edits = edit ∷ []; edited = l.edited; options = options_so d l.e l.op op l.asks l.options; made = element_added d ns tokens leads.0 w.0 path.items w.1 (plain v) l.e.value token front back m.3.0 (inl (subst (IsIndex token) place is)) })
 
       -- a member comes in
       pub member_so : (name : String A) → IsOfShown old (λ d. RefersToNothing d (tokens ++ chars_of name ∷ [])) → EditStep (nodes_of old) (operation_of unsorted (AppendProperty path name v)) (nodes_of new)
@@ -108,8 +109,13 @@ module _ {A : Type 0} (old new : CstRootNode A) (tree : IsTree (nodes_of old)) (
           let edit : Edit A = AppendProperty path name v in
           let l = led edit (nodes_of old) (nodes_of new) tree after made d shown fit in
           let w = referred d shown in
-          let front : List Named = l.makes.0 in
-          (l.e, l.shown, record { edits = edit ∷ []; edited = l.edited; options = l.options; made = member_added d (nodes_of old) tokens leads.0 w.0 path.items w.1 (plain v) l.e.value (chars_of name) front l.makes.1.0 (none d shown) })
+          let op : Operation = texts.insert an_object path.items l.asks.1 (entry (chars_of name) (plain v)) in
+          let m = makes_so d l.e l.op op l.asks.4 l.makes in
+          let front : List Named = m.0 in
+          let back : List Named = m.1 in
+          let was = was_referred d (nodes_of old) tokens leads.0 w.0 path.items w.1 (of an_object (front ++ back)) (of an_object (front ++ entry (chars_of name) (plain v) ∷ back)) l.e.value m.3.0 in
+          let end = last_member d (nodes_of old) tokens leads.0 w.0 path.items w.1 l.asks.0 l.asks.1 front back l.asks.2 l.asks.3 was m.2 in
+          (l.e, l.shown, record { edits = edit ∷ []; edited = l.edited; options = options_so d l.e l.op op l.asks.4 l.options; made = member_added d (nodes_of old) tokens leads.0 w.0 path.items w.1 (plain v) l.e.value (chars_of name) front back end m.3.0 (none d shown) })
 
   -- the value of a member is replaced
   pub in_member_so : (path : Vec ℕ A) (tokens : List (List ℕ)) (name : List ℕ) → LeadsOver old (tokens ++ name ∷ []) path.items → (n : ℕ) → content_at (nodes_of old) n ≡ content.object → IsOfShown old (λ d. RefersToNode d (nodes_of old) tokens n) → (v : CstInputValue A)
@@ -122,27 +128,26 @@ module _ {A : Type 0} (old new : CstRootNode A) (tree : IsTree (nodes_of old)) (
       let c = container d shown in
       let ms = its d ns tree shown tokens n c name kind in
       let object_so : c.v ≡ of an_object (list_of_members ms.0) = ms.1 ∙ ap object (sym (same_members ms.0)) in
-      let was : w.0.v ≡ l.makes.0 = was_referred d ns (tokens ++ name ∷ []) leads.0 w.0 path.items w.1 l.makes.0 (plain v) l.e.value l.makes.1.1 in
+      let op : Operation = texts.replace path.items (plain v) in
+      let m = makes_so d l.e l.op op l.asks l.makes in
+      let was : w.0.v ≡ m.0 = was_referred d ns (tokens ++ name ∷ []) leads.0 w.0 path.items w.1 m.0 (plain v) l.e.value m.1.1 in
       let place = stands d ns (tokens ++ name ∷ []) leads.0 w.0 path.items w.1 in
-      let member : Adds (plain v) (tokens ++ name ∷ []) d.value l.e.value = in_member name (list_of_members ms.0) (subst (value.StandsAt d.value tokens c.path) object_so (stands d ns tokens n c c.path refl)) place (subst (λ k. Becomes k (plain v) path.items d.value l.e.value) (sym was) l.makes.1.1) in
-      (l.e, l.shown, record { edits = edit ∷ []; edited = l.edited; options = l.options; made = member })
+      let member : Adds (plain v) (tokens ++ name ∷ []) d.value l.e.value = in_member name (list_of_members ms.0) (subst (value.StandsAt d.value tokens c.path) object_so (stands d ns tokens n c c.path refl)) place (subst (λ k. Becomes k (plain v) path.items d.value l.e.value) (sym was) m.1.1) in
+      (l.e, l.shown, record { edits = edit ∷ []; edited = l.edited; options = options_so d l.e l.op op l.asks l.options; made = member })
 
   -- the document's value is set
   pub whole_so : (v : CstInputValue A) → EditStep (nodes_of old) (operation_of unsorted (SetRoot v)) (nodes_of new) → MakesWhatShown old (value.add [] (plain v)) (λ o. IsOfNumbers o (plain v)) new
   whole_so v made d shown fit =
       let edit : Edit A = SetRoot v in
       let l = led edit (nodes_of old) (nodes_of new) tree after made d shown fit in
-      (l.e, l.shown, record { edits = edit ∷ []; edited = l.edited; options = l.options; made = subst (Adds (plain v) [] d.value) (sym (set l.e l.makes)) as_whole })
-    where
-      set : (e : Document) → ComesFirst (plain v) d e ⊎ ((was : Plain) × PutsValue was (plain v) [] d e) → e.value ≡ Some (plain v)
-      set e (inl first) = first.13
-      set e (inr put) = root_becomes put.0 (plain v) d.value e.value put.1.1
+      let o : l.e.options ≡ d.options = l.options ∙ root_options d.options (plain v) d.value l.op l.asks in
+      (l.e, l.shown, record { edits = edit ∷ []; edited = l.edited; options = o; made = subst (Adds (plain v) [] d.value) (sym (root_set d l.e (plain v) d.value l.op l.asks l.makes)) as_whole })
 
 -- what is kept
 pub kept_same : {A : Type 0} (doc : CstRootNode A) → IsKept doc doc
 kept_same doc = record { tree = refl; nodes = record { len = omega arith; content = λ n h. refl; parent = λ n h. refl; children = λ n h. refl } }
 
-pub left_kept : {A : Type 0} (edit : Edit A) (old new : CstRootNode A) (op : Operation) → is_whole edit ≡ true → operation_of unsorted edit ≡ op → IsLeft (nodes_of old) op (nodes_of new) → IsKept old new
+pub left_kept : {A : Type 0} (edit : Edit A) (old new : CstRootNode A) (op : PlainEdit) → is_whole edit ≡ true → operation_of unsorted edit ≡ op → IsLeft (nodes_of old) op (nodes_of new) → IsKept old new
 left_kept edit old new op all is (as_it_was kept same) = record { tree = same; nodes = kept }
 left_kept edit old new _ all is (set_in_part {path = path} {mode = mode} n at part) = absurd (whole_no_commas edit path mode all is)
 

@@ -65,10 +65,10 @@ array_value o _ below _ e values.boolean = cc
 array_value o _ below _ e values.null = cc
 array_value o _ below _ e (values.object h) = cc
 
-object_content : (o : Options) (c : Content) (below : OrderedTree) (ms : Members) → ValueOf o c below (plain.object ms) → c ≡ content.object
+pub object_content : (o : Options) (c : Content) (below : OrderedTree) (ms : Members) → ValueOf o c below (plain.object ms) → c ≡ content.object
 object_content o _ below _ (values.object h) = refl
 
-array_content : (o : Options) (c : Content) (below : OrderedTree) (vs : Items) → ValueOf o c below (plain.array vs) → c ≡ content.array
+pub array_content : (o : Options) (c : Content) (below : OrderedTree) (vs : Items) → ValueOf o c below (plain.array vs) → c ≡ content.array
 array_content o _ below _ (values.array h) = refl
 
 -- a step further on the way to a node

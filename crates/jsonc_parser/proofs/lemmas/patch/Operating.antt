@@ -3,17 +3,22 @@ use Rattle.std.proofs.Common.{ℕ, zero, suc, ◌≡◌, ◌≢◌, ◌<◌, ◌
 use Rattle.std.specs.List.{All}
 use Rattle.std.specs.Str.{bytes_eq}
 use Rattle.std.proofs.lemmas.Bool.{cases_Bool}
-use Rattle.std.proofs.lemmas.List.{append-nil}
+use Rattle.std.proofs.lemmas.List.{append-nil, length-append}
 use Rattle.std.proofs.lemmas.List.Elements.{All-nil, All-cons}
 use Rattle.std.proofs.lemmas.Slice.Eq.{bytes_eq-Decides}
 use Rattle.jsonc_text.specs.Documents.{Document}
 use Rattle.jsonc_text.specs.Plain.{Plain, Items, Members, no_members, member}
 use Rattle.jsonc_text.specs.Plain as plain
 use Rattle.jsonc_tree.specs.Tree.{Node}
+use Rattle.jsonc_insert.specs.elements.Laws.{item_count}
+use Rattle.jsonc_insert.specs.elements.Members.{member_count}
 use Rattle.jsonc_insert.specs.named.Members.{LacksMember, no_more, other_name, IsFirstMember, first_is, first_later}
+use Rattle.jsonc_run.specs.Named as asks
 use Rattle.jsonc_run.specs.texts.Edits.{Loses}
 use Rattle.jsonc_run.specs.texts.Entries.{of, items, members, Becomes, Changed, itself, inside, Named}
 use Rattle.jsonc_run.specs.texts.Paths.{Kind, an_array, an_object}
+use Rattle.jsonc_run.proofs.lemmas.promise.Inserting.{counted}
+use Rattle.jsonc_run.proofs.lemmas.promise.Plains.{changed}
 use Rattle.jsonc_parser.specs.patch.Found.{RefersToNode, RefersToNothing}
 use Rattle.jsonc_parser.specs.patch.Operations.{as_element, as_member, as_whole, in_member, Adds, Removes, Replaces, StandsAt}
 use Rattle.jsonc_parser.specs.patch.References.{FailsAt, IsIndex, IsItem, this_item, later_item, IsOnly, this_only, later_only, IsRepeated, this_again, later_again, MeetsRepeated, here, Refers, RefersTo, whole, to_member, to_element}
@@ -108,6 +113,20 @@ lacks_all name (f ∷ front) _ (other_name {n = n} {v = v} {ms = ms} ne lacks) i
     let tail : ms ≡ members front = cc in
     All-cons (λ (e : Named). e.name ≢ name) f front (subst (λ k. k ≢ name) same ne) (lacks_all name front ms lacks tail)
 
+pub same_array : (vs : Items) (es : List Named) → plain.array vs ≡ of an_array es → vs ≡ items es
+same_array vs es e = cc
+
+same_object : (ms : Members) (es : List Named) → plain.object ms ≡ of an_object es → ms ≡ members es
+same_object ms es e = cc
+
+counted_members : (es : List Named) → member_count (members es) ≡ length es
+counted_members [] = refl
+counted_members (e ∷ es) = ap suc (counted_members es)
+
+pub nothing_more : {T : Type 0} (xs ys : List T) → length xs ≡ length (xs ++ ys) → ys ≡ []
+nothing_more xs [] e = refl
+nothing_more {T} xs (y ∷ ys) e = absurd (omega (arith, e, length-append xs (y ∷ ys)))
+
 module _ (d : Document) (ns : List Node) (tokens : List (List ℕ)) (n : ℕ) (w : RefersToNode d ns tokens n) (path : List ℕ) (over : w.path ≡ path) where
   refers : Refers w.value tokens path w.v
   refers = subst (λ p. Refers w.value tokens p w.v) over w.refers
@@ -121,6 +140,23 @@ module _ (d : Document) (ns : List Node) (tokens : List (List ℕ)) (n : ℕ) (w
   -- what is replaced at their place is what they refer to
   pub was_referred : (was now : Plain) (y : Option Plain) → Becomes was now path d.value y → w.v ≡ was
   was_referred was now y b = becomes_there d.value y now w.is b refers
+
+  -- a value that is named there is it
+  pub was_standing : (u : Plain) → asks.StandsAt u path d.value → w.v ≡ u
+  was_standing u (x, is, c) = becomes_there d.value (Some x) u w.is (subst (λ k. Becomes u u path k (Some x)) (sym is) (changed c)) refers
+
+  -- none stands behind where all that there are stand before
+  pub last_item : (vs : Items) (i : ℕ) (front back : List Named) → asks.StandsAt (plain.array vs) path d.value → item_count vs ≤ i → w.v ≡ of an_array (front ++ back) → length front ≡ min i (length (front ++ back)) → back ≡ []
+  last_item vs i front back stands far was place =
+      let same : vs ≡ items (front ++ back) = same_array vs (front ++ back) (sym (was_standing (plain.array vs) stands) ∙ was) in
+      let count : item_count vs ≡ length (front ++ back) = ap item_count same ∙ counted (front ++ back) in
+      nothing_more front back (omega (arith, count, far, place))
+
+  pub last_member : (ms : Members) (i : ℕ) (front back : List Named) → asks.StandsAt (plain.object ms) path d.value → member_count ms ≤ i → w.v ≡ of an_object (front ++ back) → length front ≡ min i (length (front ++ back)) → back ≡ []
+  last_member ms i front back stands far was place =
+      let same : ms ≡ members (front ++ back) = same_object ms (front ++ back) (sym (was_standing (plain.object ms) stands) ∙ was) in
+      let count : member_count ms ≡ length (front ++ back) = ap member_count same ∙ counted_members (front ++ back) in
+      nothing_more front back (omega (arith, count, far, place))
 
   pub replaced : (was v : Plain) (y : Option Plain) → Becomes was v path d.value y → Replaces v tokens d.value y
   replaced was v y b = (path, w.v, stands, subst (λ k. Becomes k v path d.value y) (sym (was_referred was v y b)) b)
@@ -143,10 +179,11 @@ module _ (d : Document) (ns : List Node) (tokens : List (List ℕ)) (n : ℕ) (w
         ]
       ]
 
-  pub member_added : (v : Plain) (y : Option Plain) (name : List ℕ) (front : List Named) → Becomes (of an_object (front ++ [])) (of an_object (front ++ record { name = name; value = v } ∷ [])) path d.value y
+  pub member_added : (v : Plain) (y : Option Plain) (name : List ℕ) (front back : List Named) → back ≡ [] → Becomes (of an_object (front ++ back)) (of an_object (front ++ record { name = name; value = v } ∷ back)) path d.value y
       → RefersToNothing d (tokens ++ name ∷ []) → Adds v (tokens ++ name ∷ []) d.value y
-  member_added v y name front b none =
+  member_added v y name front back end all none =
       let new : Plain = of an_object (front ++ record { name = name; value = v } ∷ []) in
+      let b : Becomes (of an_object (front ++ [])) new path d.value y = subst (λ es. Becomes (of an_object (front ++ es)) (of an_object (front ++ record { name = name; value = v } ∷ es)) path d.value y) end all in
       let c : Becomes (of an_object front) new path d.value y = subst (λ es. Becomes (of an_object es) new path d.value y) (append-nil front) b in
       let was : w.v ≡ of an_object front = was_referred (of an_object front) new y c in
       as_member name front (subst (StandsAt d.value tokens path) was stands) (lacks_all name front (members front) (nothing_there name (members front) was none) refl) c
