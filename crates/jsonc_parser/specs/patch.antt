@@ -16,6 +16,7 @@ pub mod Patches
 pub mod PatchFaults
 pub mod PatchReading
 pub mod PatchMessages
+pub mod FaultMessages
 pub mod Merging
 pub mod Comparing
 pub mod Digits

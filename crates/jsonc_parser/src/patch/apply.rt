@@ -1,9 +1,10 @@
 //! Patches: lists of operations, made on a document whole or not at all.
 
-ghost use Rattle.std.specs.Prelude.{◌≡◌, ◌<◌, chars, length, map, true, IfErr, IfOk, OnErr, OnOk};
+ghost use Rattle.std.specs.Prelude.{◌≡◌, ◌<◌, chars, length, map, true, IfErr, IfOk, OnErr, OnOk, Some};
 ghost use Rattle.jsonc_text.specs.OptionsOf.{parse_options};
 ghost use Rattle.jsonc_parser.specs.patch.Applied.{is_one_edit, FailsWhatShown, FitsIn, IsKept, MakesWhatShown, PatchesWhatShown, StopsWhatShown};
 ghost use Rattle.jsonc_parser.specs.patch.Asked.{asked};
+ghost use Rattle.jsonc_parser.specs.patch.FaultMessages.{patch_fault_text};
 ghost use Rattle.jsonc_parser.specs.patch.Patches.{operations_of};
 ghost use Rattle.jsonc_parser.specs.patch.PatchFaults.{IsFaultOfPatch};
 ghost use Rattle.jsonc_parser.specs.patch.PatchTexts.{IsPatch};
@@ -33,21 +34,20 @@ pub struct PatchFault<A: Allocator> {
 }
 
 impl<A: Allocator> fmt::Display for PatchFault<A> {
+    ghost output = { λ e. Some (patch_fault_text e) };
+
+    ghost styled_output = { λ e _. Some (patch_fault_text e) };
+
     fn fmt<W: fmt::Write>(&self, f: &mut fmt::Formatter<W>) -> fmt::Result {
-        write_number(self.operation, f)?;
+        f.write_str("Operation ")?;
+        let mut digits = itoa::Buffer::new();
+        f.write_str(digits.format(self.operation))?;
+        f.write_str(": ")?;
         self.cause.fmt(f)
     }
 }
 
 impl<A: Allocator + fmt::Debug> Error for PatchFault<A> {}
-
-// Writes which operation it is.
-fn write_number<W: fmt::Write>(number: usize, f: &mut fmt::Formatter<W>) -> fmt::Result {
-    f.write_str("Operation ")?;
-    let mut digits = itoa::Buffer::new();
-    f.write_str(digits.format(number))?;
-    f.write_str(": ")
-}
 
 impl<A: Allocator + Copy> Patch<A> {
     /// The patch that a JSON text writes.

@@ -1,6 +1,6 @@
 //! The operations of a patch, made on a document.
 
-ghost use Rattle.std.specs.Prelude.{◌≡◌, [], chars, true, IfErr, IfOk, OnErr, OnOk};
+ghost use Rattle.std.specs.Prelude.{◌≡◌, [], chars, true, IfErr, IfOk, OnErr, OnOk, Some};
 ghost use Rattle.std.specs.Bool.{Decides};
 ghost use Rattle.jsonc_tree.specs.Content.{Content};
 ghost use Rattle.jsonc_edit.specs.Paths.{IsAt};
@@ -12,6 +12,7 @@ ghost use Rattle.jsonc_cst.specs.Nodes.{number_of};
 ghost use Rattle.jsonc_parser.specs.paths.Found.{names_of};
 ghost use Rattle.jsonc_parser.specs.patch.Applied.{is_one_edit, AddsMember, AppendsTo, FailsBelow, FailsForMemory, FailsWhatShown, FitsIn, IsKept, IsPathless, IsRefusal, IsUnfound, LeadsOn, LeadsOver, MakesWhatShown, PutsAt, Takes, Tells};
 ghost use Rattle.jsonc_parser.specs.patch.Asked.{asked};
+ghost use Rattle.jsonc_parser.specs.patch.FaultMessages.{patch_cause_text};
 ghost use Rattle.jsonc_parser.specs.patch.Found.{IsOfShown, RefersToNode};
 ghost use Rattle.jsonc_parser.specs.patch.Operations as standard;
 ghost use Rattle.jsonc_parser.specs.patch.Pointer.{tokens_of};
@@ -41,6 +42,10 @@ pub enum PatchCause<A: Allocator> {
 }
 
 impl<A: Allocator> fmt::Display for PatchCause<A> {
+    ghost output = { λ e. Some (patch_cause_text e) };
+
+    ghost styled_output = { λ e _. Some (patch_cause_text e) };
+
     fn fmt<W: fmt::Write>(&self, f: &mut fmt::Formatter<W>) -> fmt::Result {
         match self {
             PatchCause::NoTarget => f.write_str("Pointer leads to nothing"),

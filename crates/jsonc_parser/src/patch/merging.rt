@@ -1,8 +1,9 @@
 //! Merge patches, made on a document whole or not at all.
 
-ghost use Rattle.std.specs.Prelude.{◌≡◌, ◌<◌, length, OnErr};
+ghost use Rattle.std.specs.Prelude.{◌≡◌, ◌<◌, length, OnErr, Some};
 ghost use Rattle.jsonc_cst.specs.Document.{nodes_of, HasNode};
 ghost use Rattle.jsonc_cst.specs.Nodes.{object_node, object_prop_node};
+ghost use Rattle.jsonc_parser.specs.patch.FaultMessages.{merge_fault_text};
 
 use super::equality::{Numbers, are_equal};
 use indexmap::{IndexMap, IndexSet};
@@ -41,6 +42,10 @@ pub enum MergeFault<A: Allocator> {
 }
 
 impl<A: Allocator> fmt::Display for MergeFault<A> {
+    ghost output = { λ e. Some (merge_fault_text e) };
+
+    ghost styled_output = { λ e _. Some (merge_fault_text e) };
+
     fn fmt<W: fmt::Write>(&self, f: &mut fmt::Formatter<W>) -> fmt::Result {
         match self {
             MergeFault::RepeatedName(name) => {
