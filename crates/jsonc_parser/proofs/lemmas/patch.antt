@@ -13,6 +13,7 @@ pub mod Edited
 pub mod Chains
 pub mod Unique
 pub mod Failing
+pub mod Exclusive
 pub mod Digits
 pub mod HexRows
 pub mod NumberRows

@@ -1,9 +1,9 @@
 -- Operations of a patch, one after another.
-use Rattle.std.proofs.Common.{ℕ, ◌≡◌, ◌<◌, ◌≤◌, ◌+◌, ◌∙◌, ◌++◌, sym, ap, subst, refl, List, [], ◌∷◌, length, take, map, get_or, true, false, Bool, Option, Some, None, Result, Ok, Err, OnErr, OnOk, arith}
+use Rattle.std.proofs.Common.{ℕ, zero, suc, ◌≡◌, ◌<◌, ◌≤◌, ◌+◌, ◌∙◌, ◌++◌, sym, ap, subst, refl, List, [], ◌∷◌, length, take, drop, map, get_or, true, false, Bool, Option, Some, None, Result, Ok, Err, OnErr, OnOk, arith}
 use Rattle.std.specs.Bool.{Decides}
 use Rattle.std.specs.List.{slice_get, All}
 use Rattle.std.specs.declared.string.String.{String}
-use Rattle.std.proofs.lemmas.List.{append-nil, length-append, length-map, map-append, take_all, take_more}
+use Rattle.std.proofs.lemmas.List.{append-nil, length-append, length-map, map-append, take-append-drop, take_all, take_more}
 use Rattle.std.proofs.lemmas.Option.{slice_get-get_or}
 use Rattle.std.proofs.lemmas.List.Elements.{All-cons, All-head, All-tail}
 use Rattle.jsonc_text.specs.Documents.{Document}
@@ -170,6 +170,35 @@ stays_there from to w x on count r =
     let rest : on.0 ≡ [] = nothing_more from on.0 (count ∙ ap length on.1) in
     let same : to ≡ from = on.1 ∙ ap (λ l. from ++ l) rest ∙ append-nil from in
     subst (λ t. Moves from t w w) (sym same) (stays r)
+
+-- the tokens of one pointer are the first of another's, or not
+pub leads_told : (front from other to : List (List ℕ)) (b : Bool) → front ≡ from → other ≡ to → Decides b (LeadsOn front other) → Decides b (LeadsOn from to)
+leads_told front from other to b is so told = subst (λ l. Decides b (LeadsOn l to)) is (subst (λ l. Decides b (LeadsOn front l)) so told)
+
+pub leads_so : {A B : Type 0} (front : List (String A)) (tokens : List (String B)) (k : ℕ) → length front ≤ k → names_of (take k front) ≡ names_of (take k tokens) → LeadsOn (names_of front) (names_of tokens)
+leads_so {A} front tokens k all same = (
+  names_of (drop k tokens),
+  ap names_of (sym (take-append-drop k tokens)) ∙ map-append chars_of (take k tokens) (drop k tokens) ∙ ap (λ l. l ++ names_of (drop k tokens)) (sym same ∙ ap (λ (l : List (String A)). names_of l) (take_all k front all)),
+)
+
+pub leads_no_longer : {A B : Type 0} (front : List (String A)) (tokens : List (String B)) → LeadsOn (names_of front) (names_of tokens) → length front ≤ length tokens
+leads_no_longer front tokens (rest, is) =
+    let count : length (names_of tokens) ≡ length (names_of front) + length rest = ap length is ∙ length-append (names_of front) rest in
+    omega (arith, count, length-map chars_of front, length-map chars_of tokens)
+
+-- one more of them is the same
+pub lead_further : {A B : Type 0} (front : List (String A)) (tokens : List (String B)) (k : ℕ) (a : String A) (b : String B) → k < length front → k < length tokens → chars_of (get_or front k a) ≡ chars_of (get_or tokens k b)
+    → names_of (take k front) ≡ names_of (take k tokens) → names_of (take (k + 1) front) ≡ names_of (take (k + 1) tokens)
+lead_further {A} {B} front tokens k a b h i one same =
+    ap (λ (l : List (String A)). names_of l) (take_more front k a h) ∙ map-append chars_of (take k front) (get_or front k a ∷ []) ∙ ap (λ l. l ++ chars_of (get_or front k a) ∷ []) same ∙ ap (λ s. names_of (take k tokens) ++ s ∷ []) one
+    ∙ sym (map-append chars_of (take k tokens) (get_or tokens k b ∷ [])) ∙ ap (λ (l : List (String B)). names_of l) (sym (take_more tokens k b i))
+
+-- so it is of each, where they lead on
+pub leads_one : {A B : Type 0} (front : List (String A)) (tokens : List (String B)) → LeadsOn (names_of front) (names_of tokens) → (k : ℕ) (a : String A) (b : String B) → k < length front → chars_of (get_or front k a) ≡ chars_of (get_or tokens k b)
+leads_one [] tokens on k a b h = absurd (omega (arith, h))
+leads_one (x ∷ front) [] (rest, is) k a b h = cc
+leads_one (x ∷ front) (y ∷ tokens) (rest, is) zero a b h = let same : chars_of y ≡ chars_of x = cc in sym same
+leads_one (x ∷ front) (y ∷ tokens) (rest, is) (suc k) a b h = let tail : names_of tokens ≡ names_of front ++ rest = cc in leads_one front tokens (rest, tail) k a b (omega (arith, h))
 
 pub leads_elsewhere : (from to : List (List ℕ)) → (LeadsOn from to → ⊥) → LeadsElsewhere from to
 leads_elsewhere from to none token rest is = none (token ∷ rest, is)
