@@ -184,7 +184,7 @@ leads_so {A} front tokens k all same = (
 pub leads_no_longer : {A B : Type 0} (front : List (String A)) (tokens : List (String B)) → LeadsOn (names_of front) (names_of tokens) → length front ≤ length tokens
 leads_no_longer front tokens (rest, is) =
     let count : length (names_of tokens) ≡ length (names_of front) + length rest = ap length is ∙ length-append (names_of front) rest in
-    omega (arith, count, length-map chars_of front, length-map chars_of tokens)
+    omega (arith, count, length-map front chars_of, length-map tokens chars_of)
 
 -- one more of them is the same
 pub lead_further : {A B : Type 0} (front : List (String A)) (tokens : List (String B)) (k : ℕ) (a : String A) (b : String B) → k < length front → k < length tokens → chars_of (get_or front k a) ≡ chars_of (get_or tokens k b)
@@ -212,7 +212,7 @@ none_at_all all [] is none = sym is
 none_at_all all (x ∷ names) is none = absurd (omega (arith, none))
 
 pub as_many : {A B : Type 0} (one other : List (List ℕ)) (names : List (String A)) (others : List (String B)) → names_of names ≡ one → names_of others ≡ other → length names ≡ length others → length one ≡ length other
-as_many one other names others is so count = ap length (sym is) ∙ length-map chars_of names ∙ count ∙ sym (length-map chars_of others) ∙ ap length so
+as_many one other names others is so count = ap length (sym is) ∙ length-map names chars_of ∙ count ∙ sym (length-map others chars_of) ∙ ap length so
 
 -- what is found by the tokens of a pointer stays
 pub stays_shown : {A : Type 0} (doc : CstRootNode A) (from to names : List (List ℕ)) (n : ℕ) → names ≡ from → LeadsOn from to → length from ≡ length to → IsOfShown doc (λ d. RefersToNode d (nodes_of doc) names n) → IsOfShown doc (λ d. Moves from to d.value d.value)

@@ -8,29 +8,29 @@ use Rattle.jsonc_insert.specs.named.Members.{LacksMember, no_more, other_name}
 use Rattle.jsonc_parser.specs.patch.Equality.{HasUniqueNames, unique_null, unique_boolean, unique_number, unique_string, unique_array, unique_object, ItemsHaveUniqueNames, unique_end, unique_item, MembersHaveUniqueNames, unique_last, unique_member}
 
 -- what is left of a list without a name
+one_without : (name n : List ℕ) (w : Plain) (b : Bool) (rest : Members) → bytes_eq n name ≡ b → LacksMember name rest → LacksMember name (cond b rest (member n w rest))
+one_without name n w true rest e lacks = lacks
+one_without name n w false rest e lacks = other_name (λ same. let wrong : bytes_eq n name ≡ true = (bytes_eq-Decides n name).1 same in cc) lacks
+
 without_lacks : (name : List ℕ) (ms : Members) → LacksMember name (without name ms)
 without_lacks name no_members = no_more
-without_lacks name (member n w ms) = go (bytes_eq n name) refl
-  where
-    go : (b : Bool) → bytes_eq n name ≡ b → LacksMember name (cond b (without name ms) (member n w (without name ms)))
-    go true e = without_lacks name ms
-    go false e = other_name (λ same. let wrong : bytes_eq n name ≡ true = (bytes_eq-Decides n name).1 same in cc) (without_lacks name ms)
+without_lacks name (member n w ms) = one_without name n w (bytes_eq n name) (without name ms) refl (without_lacks name ms)
+
+one_lacks : (other n : List ℕ) (v : Plain) (b : Bool) (rest : Members) → n ≢ other → LacksMember other rest → LacksMember other (cond b rest (member n v rest))
+one_lacks other n v true rest ne lacks = lacks
+one_lacks other n v false rest ne lacks = other_name ne lacks
 
 lacks_without : (other name : List ℕ) {ms : Members} → LacksMember other ms → LacksMember other (without name ms)
 lacks_without other name no_more = no_more
-lacks_without other name (other_name {n = n} {v = v} {ms = ms} ne lacks) = go (bytes_eq n name)
-  where
-    go : (b : Bool) → LacksMember other (cond b (without name ms) (member n v (without name ms)))
-    go true = lacks_without other name lacks
-    go false = other_name ne (lacks_without other name lacks)
+lacks_without other name (other_name {n = n} {v = v} {ms = ms} ne lacks) = one_lacks other n v (bytes_eq n name) (without name ms) ne (lacks_without other name lacks)
+
+one_unique : (n : List ℕ) (v : Plain) (b : Bool) (rest : Members) → LacksMember n rest → HasUniqueNames v → MembersHaveUniqueNames rest → MembersHaveUniqueNames (cond b rest (member n v rest))
+one_unique n v true rest lacks one all = all
+one_unique n v false rest lacks one all = unique_member lacks one all
 
 unique_without : (name : List ℕ) {ms : Members} → MembersHaveUniqueNames ms → MembersHaveUniqueNames (without name ms)
 unique_without name unique_last = unique_last
-unique_without name (unique_member {name = n} {v = v} {ms = ms} lacks one rest) = go (bytes_eq n name)
-  where
-    go : (b : Bool) → MembersHaveUniqueNames (cond b (without name ms) (member n v (without name ms)))
-    go true = unique_without name rest
-    go false = unique_member (lacks_without n name lacks) one (unique_without name rest)
+unique_without name (unique_member {name = n} {v = v} {ms = ms} lacks one rest) = one_unique n v (bytes_eq n name) (without name ms) (lacks_without n name lacks) one (unique_without name rest)
 
 unique_last_of : (name : List ℕ) (v : Plain) {ms : Members} → HasUniqueNames v → MembersHaveUniqueNames ms → HasUniqueNames (last_of name v ms)
 unique_last_of name v h unique_last = h
