@@ -34,7 +34,7 @@ enum Answer<'a> {
 type Row<'a> = (&'a str, &'a str, Answer<'a>);
 
 /// Appendix A of RFC 6902, and more.
-static PATCHES: [Row; 29] = [
+static PATCHES: [Row; 30] = [
     (
         r#"{"foo":"bar"}"#,
         r#"[{"op":"add","path":"/baz","value":"qux"}]"#,
@@ -137,6 +137,11 @@ static PATCHES: [Row; 29] = [
         "{\"a\": 1 /*x*/, // y\n \"b\": [/*z*/2]}",
         r#"[{"op":"replace","path":"/b/0","value":3},{"op":"replace","path":"/a","value":null}]"#,
         Answer::Text("{\"a\": null /*x*/, // y\n \"b\": [/*z*/3]}"),
+    ),
+    (
+        "{\n  \"a\": 1, // one\n  \"b\": [2 /* of */]\n}\n",
+        r#"[{"op":"replace","path":"/b/0","value":3},{"op":"add","path":"/c","value":null}]"#,
+        Answer::Text("{\n  \"a\": 1, // one\n  \"b\": [3 /* of */],\n  \"c\": null\n}\n"),
     ),
     // All or nothing.
     (

@@ -2,7 +2,8 @@
 
 ghost use Rattle.std.specs.Prelude.{◌≡◌, ◌<◌, chars, length, map, true, IfErr, IfOk, OnErr, OnOk, Some};
 ghost use Rattle.jsonc_text.specs.OptionsOf.{parse_options};
-ghost use Rattle.jsonc_parser.specs.patch.Applied.{is_one_edit, FailsWhatShown, FitsIn, IsKept, MakesWhatShown, PatchesWhatShown, StopsWhatShown};
+ghost use Rattle.jsonc_parser.specs.patch.Applied.{is_one_edit, FailsWhatShown, FitsIn, IsKept};
+ghost use Rattle.jsonc_parser.specs.patch.Applied.{MakesWhatShown, PatchesWhatShown, StopsWhatShown};
 ghost use Rattle.jsonc_parser.specs.patch.Asked.{asked};
 ghost use Rattle.jsonc_parser.specs.patch.FaultMessages.{patch_fault_text};
 ghost use Rattle.jsonc_parser.specs.patch.Patches.{operations_of};
@@ -73,11 +74,25 @@ impl<A: Allocator + Copy> Patch<A> {
 
     /// Makes the operations in order, each in the document that the ones before it made.
     ///
+    /// What is added to an object comes behind its other members, or in the place of the value of the one that
+    /// has the name. A value that is copied or moved is taken as by [`read`](super::read) and written as edits
+    /// write values. Every comment stays, and every byte outside of what the operations change.
+    ///
     /// On an error the answer is which operation was not made, and why, and the document and each of its nodes
     /// are as they were.
     ///
     /// One operation other than a move is made in the document; more are made on a copy of its nodes, which
     /// share its text.
+    ///
+    /// By `[{"op": "replace", "path": "/b/0", "value": 3}, {"op": "add", "path": "/c", "value": null}]`:
+    ///
+    /// ```text
+    /// {                      {
+    ///   "a": 1, // one         "a": 1, // one
+    ///   "b": [2 /* of */]      "b": [3 /* of */],
+    /// }                        "c": null
+    ///                        }
+    /// ```
     pub fn apply(&self, doc: &mut CstRootNode<A>) -> Result<(), PatchFault<A>>
         ensures patched { OnOk result (PatchesWhatShown doc.old self.now.operations.items doc.new) }
         ensures kept { OnErr result (IsKept doc.old doc.new) }

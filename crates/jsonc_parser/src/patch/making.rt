@@ -10,7 +10,9 @@ ghost use Rattle.jsonc_run.specs.Edits.{is_whole, operation_of, unsorted, EditSt
 ghost use Rattle.jsonc_cst.specs.Document.{content_of, nodes_of, HasNode};
 ghost use Rattle.jsonc_cst.specs.Nodes.{number_of};
 ghost use Rattle.jsonc_parser.specs.paths.Found.{names_of};
-ghost use Rattle.jsonc_parser.specs.patch.Applied.{is_one_edit, AddsMember, AppendsTo, FailsBelow, FailsForMemory, FailsWhatShown, FitsIn, IsKept, IsPathless, IsRefusal, IsUnfound, LeadsOn, LeadsOver, MakesWhatShown, PutsAt, Takes, Tells};
+ghost use Rattle.jsonc_parser.specs.patch.Applied.{is_one_edit, AddsMember, AppendsTo, FailsBelow, FailsForMemory};
+ghost use Rattle.jsonc_parser.specs.patch.Applied.{FailsWhatShown, FitsIn, IsKept, IsPathless, IsRefusal, IsUnfound};
+ghost use Rattle.jsonc_parser.specs.patch.Applied.{LeadsOn, LeadsOver, MakesWhatShown, PutsAt, Takes, Tells};
 ghost use Rattle.jsonc_parser.specs.patch.Asked.{asked};
 ghost use Rattle.jsonc_parser.specs.patch.FaultMessages.{patch_cause_text};
 ghost use Rattle.jsonc_parser.specs.patch.Found.{IsOfShown, RefersToNode};
@@ -86,7 +88,9 @@ pub(super) fn make<A: Allocator + Copy>(
 }
 
 // The cause of a pointer that was not followed.
-fn cause_of<A: Allocator>(error: FindError<A>) -> PatchCause<A> {
+fn cause_of<A: Allocator>(error: FindError<A>) -> PatchCause<A>
+    ensures { Tells error result }
+{
     match error {
         FindError::RepeatedName(name) => PatchCause::RepeatedName(name),
         FindError::OutOfMemory => PatchCause::Edit(EditError::OutOfMemory),
@@ -98,9 +102,9 @@ fn target<A: Allocator + Copy>(
     doc: &CstRootNode<A>,
     tokens: &[String<A>],
 ) -> Result<CstNode, PatchCause<A>>
-    ensures found { IfOk result (λ node. IsOfShown doc.now (λ d. RefersToNode d (nodes_of doc.now) (names_of tokens.now) (number_of node))) }
+    ensures found { IfOk result
+        (λ node. IsOfShown doc.now (λ d. RefersToNode d (nodes_of doc.now) (names_of tokens.now) (number_of node))) }
     ensures in_document { IfOk result (HasNode doc.now) }
-    ensures { Tells error result }
     ensures fails { IfErr result (λ cause. IsOfShown doc.now (λ d. IsUnfound d.value (names_of tokens.now) cause)) }
 {
     match follow(doc, tokens) {
@@ -197,7 +201,8 @@ fn replace<A: Allocator + Copy>(
     pointer: &Pointer<A>,
     value: CstInputValue<A>,
 ) -> Result<(), PatchCause<A>>
-    ensures made { OnOk result (MakesWhatShown doc.old (standard.replace (tokens_of pointer.now) (plain value)) (λ o. IsOfNumbers o (plain value)) doc.new) }
+    ensures made { OnOk result
+        (MakesWhatShown doc.old (standard.replace (tokens_of pointer.now) (plain value)) (λ o. IsOfNumbers o (plain value)) doc.new) }
     ensures kept { OnErr result (IsKept doc.old doc.new) }
     ensures fails { IfErr result (FailsWhatShown doc.old (standard.replace (tokens_of pointer.now) (plain value))) }
 {
@@ -232,7 +237,8 @@ fn add<A: Allocator + Copy>(
     pointer: &Pointer<A>,
     value: CstInputValue<A>,
 ) -> Result<(), PatchCause<A>>
-    ensures made { OnOk result (MakesWhatShown doc.old (standard.add (tokens_of pointer.now) (plain value)) (λ o. IsOfNumbers o (plain value)) doc.new) }
+    ensures made { OnOk result
+        (MakesWhatShown doc.old (standard.add (tokens_of pointer.now) (plain value)) (λ o. IsOfNumbers o (plain value)) doc.new) }
     ensures kept { OnErr result (IsKept doc.old doc.new) }
     ensures fails { IfErr result (FailsWhatShown doc.old (standard.add (tokens_of pointer.now) (plain value))) }
 {

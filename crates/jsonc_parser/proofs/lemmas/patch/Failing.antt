@@ -133,7 +133,7 @@ module _ {A : Type 0} where
       let r : RefersTo d.value from w.v = (w.value, w.is, w.path, subst (λ l. Refers w.value l w.path w.v) is w.refers) in
       go rest on w.v r)
     where
-      go : (rest : List (List ℕ)) → to ≡ from ++ rest → (x : Plain) → RefersTo d.value from x → IsCause (value.move from to) d.value causes.IntoItself
+      go : (rest : List (List ℕ)) → to ≡ from ++ rest → (x : Plain) → RefersTo d.value from x → IsCause {A = A} (value.move from to) d.value causes.IntoItself
       go [] on x r = absurd (longer (ap length (sym (append-nil from) ∙ sym on)))
       go (token ∷ rest) on x r = (x, r, token, rest, on)
 
@@ -251,7 +251,7 @@ module _ {A : Type 0} where
           let ns : List Node = nodes_of doc in
           let n : ℕ = number_of node in
           let w = leads d shown in
-          subst (λ l. IsCause (value.add l v) d.value causes.NoTarget) (sym split)
+          subst (λ l. IsCause {A = A} (value.add l v) d.value causes.NoTarget) (sym split)
           (behind_scalar last (w.value, w.is, w.path, w.refers)
               (λ vs e. no_array (array_content d.options (content_at ns n) (row_below ns n) vs (subst (HasValue d.options (top_at ns n)) e w.has)))
               (λ ms e. no_object (object_content d.options (content_at ns n) (row_below ns n) ms (subst (HasValue d.options (top_at ns n)) e w.has))))
@@ -263,7 +263,7 @@ module _ {A : Type 0} where
           let w = leads d shown in
           let items = array_value d.options (content_at ns n) (row_below ns n) w.v kind w.has in
           let count : item_count items.0 ≡ length (elements_at ns n) = rows.counted d.options items.2 ∙ counted_elements (Shows-row_below ns tree n (there d ns tree shown tokens n w last)) in
-          subst (λ l. IsCause (value.add l v) d.value causes.NoTarget) (sym split)
+          subst (λ l. IsCause {A = A} (value.add l v) d.value causes.NoTarget) (sym split)
           (past_elements last (w.value, w.is, w.path, subst (Refers w.value tokens w.path) items.1 w.refers) other (λ i index. (let far = past i index in omega (arith, far, count))))
 
       pub member_unfound : (e : FindError A) (c : PatchCause A) → Tells e c → IsOfShown doc (λ d. FindFails d doc all e) → FailsBelow doc node all last v c
