@@ -14,6 +14,7 @@ pub mod Chains
 pub mod Unique
 pub mod Failing
 pub mod Exclusive
+pub mod Adding
 pub mod Digits
 pub mod HexRows
 pub mod NumberRows

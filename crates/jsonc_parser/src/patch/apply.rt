@@ -98,11 +98,7 @@ impl<A: Allocator + Copy> Patch<A> {
         ensures kept { OnErr result (IsKept doc.old doc.new) }
         ensures stops { IfErr result (StopsWhatShown doc.old self.now.operations.items) }
     {
-        match self.operations.as_slice() {
-            [] => Ok(()),
-            [operation] if is_one_edit(operation) => make_first(doc, operation),
-            operations => make_on_copy(doc, operations),
-        }
+        make_whole(doc, &self.operations)
     }
 }
 
@@ -182,4 +178,25 @@ fn make_on_copy<A: Allocator + Copy>(
     }
     *doc = copy;
     Ok(())
+}
+
+// Makes operations in order, all of them or none.
+fn make_whole<A: Allocator + Copy>(
+    doc: &mut CstRootNode<A>,
+    operations: &[Operation<A>],
+) -> Result<(), PatchFault<A>>
+    ensures patched { OnOk result (PatchesWhatShown doc.old operations.now doc.new) }
+    ensures kept { OnErr result (IsKept doc.old doc.new) }
+    ensures stops { IfErr result (StopsWhatShown doc.old operations.now) }
+{
+    let Some((operation, rest)) = operations.split_first() else {
+        return Ok(());
+    };
+    if !is_one_edit(operation) {
+        return make_on_copy(doc, operations);
+    }
+    if !rest.is_empty() {
+        return make_on_copy(doc, operations);
+    }
+    make_first(doc, operation)
 }

@@ -5,7 +5,7 @@ ghost use Rattle.std.specs.Bool.{Decides};
 ghost use Rattle.jsonc_tree.specs.Content.{Content};
 ghost use Rattle.jsonc_edit.specs.Paths.{IsAt};
 ghost use Rattle.jsonc_edit.specs.Writing.{IsOfNumbers};
-ghost use Rattle.jsonc_layout.specs.input.Views.{plain};
+ghost use Rattle.jsonc_layout.specs.input.Views.{chars_of, plain};
 ghost use Rattle.jsonc_run.specs.Edits.{is_whole, operation_of, unsorted, EditStep};
 ghost use Rattle.jsonc_cst.specs.Document.{content_of, nodes_of, HasNode};
 ghost use Rattle.jsonc_cst.specs.Nodes.{number_of};
@@ -266,7 +266,7 @@ fn add_below<A: Allocator + Copy>(
     token: &str,
     value: CstInputValue<A>,
 ) -> Result<(), PatchCause<A>>
-    requires in_document { HasNode doc.old container }
+    requires { HasNode doc.old container }
     ensures made { OnOk result (AddsMember doc.old container (tokens_of pointer.now) (chars token.now) (plain value) doc.new) }
     ensures kept { OnErr result (IsKept doc.old doc.new) }
     ensures fails { IfErr result (FailsBelow doc.old container (tokens_of pointer.now) (chars token.now) (plain value)) }
@@ -340,7 +340,7 @@ fn put_value<A: Allocator + Copy>(
     node: CstNode,
     value: CstInputValue<A>,
 ) -> Result<(), PatchCause<A>>
-    requires in_document { HasNode doc.old node }
+    requires { HasNode doc.old node }
     ensures made { OnOk result (PutsAt doc.old node (plain value) doc.new) }
     ensures kept { OnErr result (IsKept doc.old doc.new) }
     ensures fails { IfErr result (FailsForMemory doc.old node) }
@@ -381,6 +381,13 @@ fn append_member<A: Allocator + Copy>(
     }
 }
 
+// Whether two strings have the same characters.
+fn are_same<A: Allocator>(left: &String<A>, right: &String<A>) -> bool
+    ensures { Decides result (chars_of left.now ≡ chars_of right.now) }
+{
+    left.as_str() == right.as_str()
+}
+
 // Whether the tokens of one pointer are the first of another's.
 fn leads_on<A: Allocator>(front: &[String<A>], tokens: &[String<A>]) -> bool
     ensures { Decides result (LeadsOn (names_of front.now) (names_of tokens.now)) }
@@ -389,7 +396,7 @@ fn leads_on<A: Allocator>(front: &[String<A>], tokens: &[String<A>]) -> bool
         return false;
     }
     for (index, token) in front.iter().enumerate() {
-        if token.as_str() != tokens[index].as_str() {
+        if !are_same(token, &tokens[index]) {
             return false;
         }
     }

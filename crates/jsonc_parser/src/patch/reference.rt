@@ -1,6 +1,7 @@
 //! What a pointer refers to in a document.
 
-ghost use Rattle.std.specs.Prelude.{◌≡◌, ◌<◌, ◌≤◌, ◌↔◌, ◌^◌, ℕ, length, chars, slice_index, IfErr, IfNone, IfOk, IfSome, IsTrue, OnErr, Some};
+ghost use Rattle.std.specs.Prelude.{◌≡◌, ◌<◌, ◌≤◌, ◌↔◌, ◌^◌, ◌∷◌, [], ℕ, length, chars, slice_index, IfErr, IfNone, IfOk, IfSome, IsTrue, OnErr, Some};
+ghost use Rattle.std.specs.Bool.{Decides};
 ghost use Rattle.std.specs.Option.{SomeIff};
 ghost use Rattle.std.specs.Str.Parse.{IsNumeral, digits_value};
 ghost use Rattle.jsonc_layout.specs.nodes.Names.{HoldsEscapedName};
@@ -182,6 +183,13 @@ fn element<A: Allocator>(doc: &CstRootNode<A>, node: usize, token: &str) -> Opti
     element_at(tree, node, index)
 }
 
+// Whether a token is `-`.
+fn is_hyphen(token: &str) -> bool
+    ensures { Decides result (chars token.now ≡ 0x2D ∷ []) }
+{
+    token == "-"
+}
+
 // The element of an array before which a token says that another is to come; none of the two where it says
 // behind the last.
 pub(super) fn element_place<A: Allocator>(
@@ -192,15 +200,20 @@ pub(super) fn element_place<A: Allocator>(
     requires { node < length (nodes_of doc.now) }
     ensures { IsPlaceBy (nodes_of doc.now) node (chars token.now) result }
 {
-    if token == "-" {
+    if is_hyphen(token) {
         return Some(None);
     }
     let tree = doc.tree();
-    let index = index_below(token, tree.len())?;
-    if index == 0 || element_at(tree, node, index - 1).is_some() {
+    let Some(index) = index_below(token, tree.len()) else {
+        return None;
+    };
+    if index == 0 {
         return Some(Some(index));
     }
-    None
+    if element_at(tree, node, index - 1).is_none() {
+        return None;
+    }
+    Some(Some(index))
 }
 
 // Where a token leads from a node.

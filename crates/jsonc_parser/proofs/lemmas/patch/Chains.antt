@@ -1,5 +1,5 @@
 -- Operations of a patch, one after another.
-use Rattle.std.proofs.Common.{ℕ, zero, suc, ◌≡◌, ◌<◌, ◌≤◌, ◌+◌, ◌∙◌, ◌++◌, sym, ap, subst, refl, List, [], ◌∷◌, length, take, drop, map, get_or, true, false, Bool, Option, Some, None, Result, Ok, Err, OnErr, OnOk, arith}
+use Rattle.std.proofs.Common.{ℕ, zero, suc, ◌≡◌, ◌<◌, ◌≤◌, ◌+◌, ◌∙◌, ◌++◌, sym, ap, subst, refl, List, [], ◌∷◌, length, take, drop, map, get_or, true, false, Bool, Option, Some, None, Result, Ok, Err, MatchOption, IfErr, OnErr, OnOk, arith}
 use Rattle.std.specs.Bool.{Decides}
 use Rattle.std.specs.List.{slice_get, All}
 use Rattle.std.specs.declared.string.String.{String}
@@ -11,6 +11,7 @@ use Rattle.jsonc_text.specs.Grammar.{IsDocument}
 use Rattle.jsonc_text.specs.Options.{Options}
 use Rattle.jsonc_text.specs.Plain.{Plain, Items, Members, collapse}
 use Rattle.jsonc_edit.specs.Writing.{IsOfNumbers, AreOfNumbers, AreNamedOfNumbers}
+use Rattle.jsonc_tree.specs.OrderedTree.{ordered_tree}
 use Rattle.jsonc_layout.specs.declared.input.value.CstInputValue.{CstInputValue}
 use Rattle.jsonc_layout.specs.input.Views.{chars_of, plain}
 use Rattle.jsonc_sound.specs.Documents.{Shows}
@@ -33,6 +34,8 @@ use Rattle.jsonc_parser.specs.patch.References.{IsItem, this_item, later_item, I
 use Rattle.jsonc_parser.specs.declared.patch.operation.Operation.{Operation}
 use Rattle.jsonc_parser.specs.declared.patch.operation.Operation.TheVariants.{Move}
 use Rattle.jsonc_parser.specs.declared.patch.apply.PatchFault.{PatchFault}
+use Rattle.jsonc_parser.specs.declared.patch.making.PatchCause.{PatchCause}
+use Rattle.jsonc_parser.proofs.lemmas.patch.Edited.{kept_same}
 use Rattle.jsonc_parser.proofs.lemmas.patch.Failing.{memory_cause}
 use Rattle.jsonc_parser.proofs.lemmas.patch.Operating.{nothing_more}
 use Rattle.jsonc_parser.proofs.lemmas.patch.Unique.{unique_collapse}
@@ -258,3 +261,61 @@ module _ {A E : Type 0} (old new : CstRootNode A) (r : Result (Unit {0}) E) wher
       go : (r : Result (Unit {0}) E) → OnOk r (IsOfShown old (λ d. Makes operation d.value d.value)) → OnOk r (MakesWhatShown old operation Fit new)
       go (Ok x) made = unchanged old new operation Fit same made
       go (Err e) made = tt
+
+-- what is said of one operation, of a patch of it alone; and of a copy, of the document
+module _ {A : Type 0} (old new : CstRootNode A) where
+  pub patched_by_none : (operations : List (Operation A)) → operations ≡ [] → PatchesWhatShown old operations old
+  patched_by_none operations is = subst (λ l. PatchesWhatShown old l old) (sym is) (patched_none old)
+
+  pub patched_by_one : (r : Result (Unit {0}) (PatchFault A)) (operations : List (Operation A)) (operation : Operation A) → operations ≡ operation ∷ [] → OnOk r (MakesWhatShown old (asked operation) (λ o. FitsIn o operation) new)
+      → OnOk r (PatchesWhatShown old operations new)
+  patched_by_one (Ok x) operations operation is made = subst (λ l. PatchesWhatShown old l new) (sym is) (patched_once old new operation made)
+  patched_by_one (Err e) operations operation is made = tt
+
+  pub stopped_by_one : (r : Result (Unit {0}) (PatchFault A)) (operations : List (Operation A)) (operation : Operation A) → operations ≡ operation ∷ []
+      → IfErr r (λ fault. (fault.operation ≡ 0) × FailsWhatShown old (asked operation) fault.cause) → IfErr r (StopsWhatShown old operations)
+  stopped_by_one (Ok x) operations operation is fails = tt
+  stopped_by_one (Err e) operations operation is fails = subst (λ l. StopsWhatShown old l e) (sym is) (stopped_first old operation [] e fails.0 fails.1)
+
+  module _ (copy : CstRootNode A) (same : nodes_of copy ≡ nodes_of old) (operations : List (Operation A)) where
+    trees : tree_of old ≡ tree_of copy
+    trees = ap (λ ns. ordered_tree ns 0) (sym same)
+
+    pub patched_by_copy : PatchesWhatShown copy operations new → PatchesWhatShown old operations new
+    patched_by_copy made d shown fits = made d (subst (Shows d) trees shown) fits
+
+    pub stopped_by_copy : (fault : PatchFault A) → StopsWhatShown copy operations fault → StopsWhatShown old operations fault
+    stopped_by_copy fault stops d shown fits = stops d (subst (Shows d) trees shown) fits
+
+-- what is said of an answer
+pub on_ok : {T E P Q : Type 0} (r : Result T E) → (P → Q) → OnOk r P → OnOk r Q
+on_ok (Ok x) f p = f p
+on_ok (Err e) f p = tt
+
+pub if_err : {T E : Type 0} {P Q : E → Type 0} (r : Result T E) → ((e : E) → P e → Q e) → IfErr r P → IfErr r Q
+if_err (Ok x) f p = tt
+if_err (Err e) f p = f e p
+
+-- what is said where there is none
+pub at_none : {T : Type 0} {P : Type 0} {Q : T → Type 0} (r : Option T) → r ≡ None → MatchOption r P Q → P
+at_none None is h = h
+at_none (Some x) is h = cc
+
+pub as_few : {A B : Type 0} (one other : List (List ℕ)) (names : List (String A)) (others : List (String B)) → names_of names ≡ one → names_of others ≡ other → length one ≡ length other → length names ≡ length others
+as_few one other names others is so count = sym (length-map names chars_of) ∙ ap length is ∙ count ∙ sym (ap length so) ∙ length-map others chars_of
+
+-- of the operation that was asked for
+module _ {A : Type 0} (old new : CstRootNode A) (r : Result (Unit {0}) (PatchCause A)) (op other : Operation A) (is : op ≡ other) where
+  pub fails_asked : IfErr r (FailsWhatShown old (asked other)) → IfErr r (FailsWhatShown old (asked op))
+  fails_asked fails = subst (λ k. IfErr r (FailsWhatShown old (asked k))) (sym is) fails
+
+pub unchanged_kept : {A : Type 0} (doc : CstRootNode A) (r : Result (Unit {0}) (PatchCause A)) (op : Operation A) → OnErr r (is_one_edit op ≡ true → IsKept doc doc)
+unchanged_kept doc (Ok x) op = tt
+unchanged_kept doc (Err e) op = λ one. kept_same doc
+
+module _ {A : Type 0} (old : CstRootNode A) (r : Result (Unit {0}) (PatchCause A)) (tokens : List (List ℕ)) (v w : Plain) (is : w ≡ v) where
+  pub fails_added : IfErr r (FailsWhatShown old (value.add tokens w)) → IfErr r (FailsWhatShown old (value.add tokens v))
+  fails_added fails = subst (λ k. IfErr r (FailsWhatShown old (value.add tokens k))) is fails
+
+  pub fails_replaced : IfErr r (FailsWhatShown old (value.replace tokens w)) → IfErr r (FailsWhatShown old (value.replace tokens v))
+  fails_replaced fails = subst (λ k. IfErr r (FailsWhatShown old (value.replace tokens k))) is fails
