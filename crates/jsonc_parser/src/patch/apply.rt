@@ -1,6 +1,6 @@
 //! Patches: lists of operations, made on a document whole or not at all.
 
-ghost use Rattle.std.specs.Prelude.{◌≡◌, ◌<◌, chars, length, map, true, IfErr, IfOk, OnErr, OnOk, Some};
+ghost use Rattle.std.specs.Prelude.{◌≡◌, ◌<◌, [], chars, length, map, true, IfErr, IfOk, OnErr, OnOk, Some};
 ghost use Rattle.jsonc_text.specs.OptionsOf.{parse_options};
 ghost use Rattle.jsonc_parser.specs.patch.Applied.{is_one_edit, FailsWhatShown, FitsIn, IsKept};
 ghost use Rattle.jsonc_parser.specs.patch.Applied.{MakesWhatShown, PatchesWhatShown, StopsWhatShown};
@@ -118,6 +118,16 @@ fn is_one_edit<A: Allocator>(operation: &Operation<A>) -> bool
     !matches!(operation, Operation::Move(_, _))
 }
 
+// Whether an operation is one edit at most, and no other comes behind it.
+fn is_alone<A: Allocator>(operation: &Operation<A>, rest: &[Operation<A>]) -> bool
+    ensures { result ≡ true → (is_one_edit operation.now ≡ true) × (rest.now ≡ []) }
+{
+    if !rest.is_empty() {
+        return false;
+    }
+    is_one_edit(operation)
+}
+
 // Makes the one operation of a patch.
 fn make_first<A: Allocator + Copy>(
     doc: &mut CstRootNode<A>,
@@ -192,11 +202,8 @@ fn make_whole<A: Allocator + Copy>(
     let Some((operation, rest)) = operations.split_first() else {
         return Ok(());
     };
-    if !is_one_edit(operation) {
-        return make_on_copy(doc, operations);
+    if is_alone(operation, rest) {
+        return make_first(doc, operation);
     }
-    if !rest.is_empty() {
-        return make_on_copy(doc, operations);
-    }
-    make_first(doc, operation)
+    make_on_copy(doc, operations)
 }

@@ -11,11 +11,28 @@ use Rattle.jsonc_layout.specs.nodes.Siblings.{elements_at}
 use Rattle.jsonc_parser.specs.patch.Applied.{IsPlaceBy}
 use Rattle.jsonc_parser.specs.patch.References.{IsIndex}
 use Rattle.jsonc_parser.proofs.lemmas.patch.Evaluation.{index_once}
-use Rattle.std.proofs.Common.{not, encode_utf8_all}
+use Rattle.std.proofs.Common.{not, encode_utf8_all, is_some, true, false, Bool}
+use Rattle.std.specs.Bool.{Decides}
+use Rattle.std.specs.Str.{bytes_eq}
+use Rattle.std.proofs.lemmas.Bool.{false≢true}
+use Rattle.std.proofs.lemmas.Slice.Eq.{bytes_eq-Decides}
 
 -- a token that is a hyphen, in bytes and in characters
 pub hyphen : (bytes : List ℕ) → bytes ≡ 0x2D ∷ [] → chars bytes ≡ 0x2D ∷ []
 hyphen bytes is = ap chars is
+
+pub hyphen_told : (bytes : List ℕ) → IsUtf8 bytes → (b : Bool) → b ≡ bytes_eq bytes (0x2D ∷ []) → Decides b (chars bytes ≡ 0x2D ∷ [])
+hyphen_told bytes utf8 b is =
+    let told = bytes_eq-Decides bytes (0x2D ∷ []) in
+    (λ e. ap chars (told.0 (sym is ∙ e)), λ same. is ∙ told.1 (sym (encodes-chars bytes utf8) ∙ ap encode_utf8_all same))
+
+pub none_of : (o : Option ℕ) → is_some o ≡ false → o ≡ None
+none_of None e = refl
+none_of (Some q) e = absurd (false≢true (sym e))
+
+pub some_of : (o : Option ℕ) → is_some o ≡ true → (q : ℕ) × (o ≡ Some q)
+some_of (Some q) e = (q, refl)
+some_of None e = absurd (false≢true e)
 
 pub no_hyphen : (bytes : List ℕ) → IsUtf8 bytes → (bytes ≡ 0x2D ∷ [] → ⊥) → chars bytes ≢ 0x2D ∷ []
 no_hyphen bytes utf8 other is = other (sym (encodes-chars bytes utf8) ∙ ap encode_utf8_all is)

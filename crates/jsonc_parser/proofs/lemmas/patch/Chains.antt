@@ -1,5 +1,5 @@
 -- Operations of a patch, one after another.
-use Rattle.std.proofs.Common.{ℕ, zero, suc, ◌≡◌, ◌<◌, ◌≤◌, ◌+◌, ◌∙◌, ◌++◌, sym, ap, subst, refl, List, [], ◌∷◌, length, take, drop, map, get_or, true, false, Bool, Option, Some, None, Result, Ok, Err, MatchOption, IfErr, OnErr, OnOk, arith}
+use Rattle.std.proofs.Common.{ℕ, zero, suc, ◌==◌, ◌≡◌, ◌<◌, ◌≤◌, ◌+◌, ◌∙◌, ◌++◌, sym, ap, subst, refl, List, [], ◌∷◌, length, take, drop, map, get_or, true, false, Bool, Option, Some, None, Result, Ok, Err, MatchOption, IfErr, OnErr, OnOk, arith}
 use Rattle.std.specs.Bool.{Decides}
 use Rattle.std.specs.List.{slice_get, All}
 use Rattle.std.specs.declared.string.String.{String}
@@ -319,3 +319,18 @@ module _ {A : Type 0} (old : CstRootNode A) (r : Result (Unit {0}) (PatchCause A
 
   pub fails_replaced : IfErr r (FailsWhatShown old (value.replace tokens w)) → IfErr r (FailsWhatShown old (value.replace tokens v))
   fails_replaced fails = subst (λ k. IfErr r (FailsWhatShown old (value.replace tokens k))) is fails
+
+-- lists of one, and of none
+pub empty_list : {T : Type 0} (xs : List T) → length xs ≡ 0 → xs ≡ []
+empty_list [] e = refl
+empty_list (x ∷ xs) e = absurd (omega (arith, e))
+
+pub no_rest : {T : Type 0} (xs : List T) (b : Bool) → b ≡ (length xs == 0) → b ≡ true → xs ≡ []
+no_rest [] b is e = refl
+no_rest (x ∷ xs) b is e = let wrong : false ≡ true = sym is ∙ e in cc
+
+pub not_none : {T : Type 0} (xs : List T) (x : T) (rest : List T) → xs ≡ x ∷ rest → 0 < length xs
+not_none xs x rest is = let count : length xs ≡ length (x ∷ rest) = ap length is in omega (arith, count)
+
+pub one_list : {T : Type 0} (xs : List T) (x : T) (rest : List T) → xs ≡ x ∷ rest → rest ≡ [] → xs ≡ x ∷ []
+one_list xs x rest is none = is ∙ ap (λ l. x ∷ l) none

@@ -16,10 +16,10 @@ loop-index-init g c = (refl, (let within = c.if-front-tokens.false in omega (ari
 pub bounds-tokens-index : goal.bounds-tokens-index
 bounds-tokens-index g c = let within = c.loop-index.invariant.1 in let here = c.loop-index-test.true in omega (arith, within, here)
 
-pub returns-then-ne : goal.returns-then-ne
-returns-then-ne g c = (
+pub returns-then-not-are_same : goal.returns-then-not-are_same
+returns-then-not-are_same g c = (
   λ e. absurd (false≢true e),
-  λ on. absurd (false≢true (sym c.if-are_same.false
+  λ on. absurd (false≢true (sym c.if-not-are_same.true
       ∙ c.are_same.ensures.1 (ap chars_of c.index-front-index.is ∙ leads_one c.args.front.now c.args.tokens.now on c.loop-index.index c.index-front-index.result c.index-tokens-index.result c.loop-index-test.true ∙ sym (ap chars_of c.index-tokens-index.is)))),
 )
 
@@ -28,7 +28,7 @@ loop-index-preserved g c =
     let within = c.loop-index.invariant.1 in
     let here = c.loop-index-test.true in (
       lead_further c.args.front.now c.args.tokens.now c.loop-index.index c.index-front-index.result c.index-tokens-index.result here (omega (arith, within, here))
-          (sym (ap chars_of c.index-front-index.is) ∙ c.are_same.ensures.0 c.if-are_same.true ∙ ap chars_of c.index-tokens-index.is) c.loop-index.invariant.0,
+          (sym (ap chars_of c.index-front-index.is) ∙ c.are_same.ensures.0 c.if-not-are_same.false ∙ ap chars_of c.index-tokens-index.is) c.loop-index.invariant.0,
       within,
     )
 
