@@ -2,7 +2,7 @@
 use Rattle.std.proofs.Common.{ℕ, zero, suc, ◌≡◌, ◌≢◌, ◌<◌, ◌≤◌, ◌-◌, ◌∙◌, sym, ap, subst, refl, inl, inr, List, [], ◌∷◌, Option, Some, None, length, slice_get, chars, arith}
 use Rattle.std.proofs.lemmas.List.Filters.{length-filter_both}
 use Rattle.std.proofs.lemmas.Option.{slice_get_cases, slice_get_within}
-use Rattle.std.proofs.lemmas.Str.{encodes-chars}
+use Rattle.std.proofs.lemmas.Str.{chars_from_encodes, encodes-chars}
 use Rattle.std.specs.Str.{IsUtf8}
 use Rattle.jsonc_tree.specs.Tree.{Node, children_at, IsTree}
 use Rattle.jsonc_tree.proofs.AgreeingLinks.{row_shorter}
@@ -18,13 +18,17 @@ use Rattle.std.proofs.lemmas.Bool.{false≢true}
 use Rattle.std.proofs.lemmas.Slice.Eq.{bytes_eq-Decides}
 
 -- a token that is a hyphen, in bytes and in characters
-pub hyphen : (bytes : List ℕ) → bytes ≡ 0x2D ∷ [] → chars bytes ≡ 0x2D ∷ []
-hyphen bytes is = ap chars is
+one_byte : encode_utf8_all (0x2D ∷ []) ≡ 0x2D ∷ []
+unfolding lib.Utf8.encode
+one_byte = refl
+
+hyphen : (bytes : List ℕ) → IsUtf8 bytes → bytes ≡ 0x2D ∷ [] → chars bytes ≡ 0x2D ∷ []
+hyphen bytes utf8 is = sym (chars_from_encodes (0x2D ∷ []) bytes utf8 (one_byte ∙ sym is))
 
 pub hyphen_told : (bytes : List ℕ) → IsUtf8 bytes → (b : Bool) → b ≡ bytes_eq bytes (0x2D ∷ []) → Decides b (chars bytes ≡ 0x2D ∷ [])
 hyphen_told bytes utf8 b is =
     let told = bytes_eq-Decides bytes (0x2D ∷ []) in
-    (λ e. ap chars (told.0 (sym is ∙ e)), λ same. is ∙ told.1 (sym (encodes-chars bytes utf8) ∙ ap encode_utf8_all same))
+    (λ e. hyphen bytes utf8 (told.0 (sym is ∙ e)), λ same. is ∙ told.1 (sym (encodes-chars bytes utf8) ∙ ap encode_utf8_all same ∙ one_byte))
 
 pub none_of : (o : Option ℕ) → is_some o ≡ false → o ≡ None
 none_of None e = refl
@@ -33,9 +37,6 @@ none_of (Some q) e = absurd (false≢true (sym e))
 pub some_of : (o : Option ℕ) → is_some o ≡ true → (q : ℕ) × (o ≡ Some q)
 some_of (Some q) e = (q, refl)
 some_of None e = absurd (false≢true e)
-
-pub no_hyphen : (bytes : List ℕ) → IsUtf8 bytes → (bytes ≡ 0x2D ∷ [] → ⊥) → chars bytes ≢ 0x2D ∷ []
-no_hyphen bytes utf8 other is = other (sym (encodes-chars bytes utf8) ∙ ap encode_utf8_all is)
 
 positive : (index : ℕ) → (index ≡ 0 → ⊥) → 0 < index
 positive zero some = absurd (some refl)

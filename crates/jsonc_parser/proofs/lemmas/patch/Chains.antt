@@ -5,6 +5,7 @@ use Rattle.std.specs.List.{slice_get, All}
 use Rattle.std.specs.declared.string.String.{String}
 use Rattle.std.proofs.lemmas.List.{append-nil, length-append, length-map, map-append, take-append-drop, take_all, take_more}
 use Rattle.std.proofs.lemmas.Option.{slice_get-get_or}
+use Rattle.std.proofs.lemmas.Bool.Decides.{Decides-eqb}
 use Rattle.std.proofs.lemmas.List.Elements.{All-cons, All-head, All-tail}
 use Rattle.jsonc_text.specs.Documents.{Document}
 use Rattle.jsonc_text.specs.Grammar.{IsDocument}
@@ -297,9 +298,9 @@ if_err (Ok x) f p = tt
 if_err (Err e) f p = f e p
 
 -- what is said where there is none
-pub at_none : {T : Type 0} {P : Type 0} {Q : T → Type 0} (r : Option T) → r ≡ None → MatchOption r P Q → P
-at_none None is h = h
-at_none (Some x) is h = cc
+pub at_none : {T : Type 0} (P : Type 0) (Q : T → Type 0) (r : Option T) → r ≡ None → MatchOption r P Q → P
+at_none P Q None is h = h
+at_none P Q (Some x) is h = cc
 
 pub as_few : {A B : Type 0} (one other : List (List ℕ)) (names : List (String A)) (others : List (String B)) → names_of names ≡ one → names_of others ≡ other → length one ≡ length other → length names ≡ length others
 as_few one other names others is so count = sym (length-map names chars_of) ∙ ap length is ∙ count ∙ sym (ap length so) ∙ length-map others chars_of
@@ -327,7 +328,7 @@ empty_list (x ∷ xs) e = absurd (omega (arith, e))
 
 pub no_rest : {T : Type 0} (xs : List T) (b : Bool) → b ≡ (length xs == 0) → b ≡ true → xs ≡ []
 no_rest [] b is e = refl
-no_rest (x ∷ xs) b is e = let wrong : false ≡ true = sym is ∙ e in cc
+no_rest (x ∷ xs) b is e = let none : length (x ∷ xs) ≡ 0 = (Decides-eqb (length (x ∷ xs)) 0).0 (sym is ∙ e) in absurd (omega (arith, none))
 
 pub not_none : {T : Type 0} (xs : List T) (x : T) (rest : List T) → xs ≡ x ∷ rest → 0 < length xs
 not_none xs x rest is = let count : length xs ≡ length (x ∷ rest) = ap length is in omega (arith, count)

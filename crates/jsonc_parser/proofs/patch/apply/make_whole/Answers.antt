@@ -2,7 +2,7 @@ use Rattle.jsonc_parser.proofs.lemmas.patch.Chains.{at_none, empty_list, not_non
 use Rattle.jsonc_parser.proofs.patch.apply.make_whole.Goals as goal
 
 pub returns-in_default-clause-patched : goal.returns-in_default-clause-patched
-returns-in_default-clause-patched g c = patched_by_none c.args.doc.now c.args.doc.now c.args.operations.now (empty_list c.args.operations.now (at_none c.split_first.result c.in_default.is c.split_first.ensures.cases))
+returns-in_default-clause-patched g c = patched_by_none c.args.doc.now c.args.doc.now c.args.operations.now (empty_list c.args.operations.now (at_none _ _ c.split_first.result c.in_default.is c.split_first.ensures.cases))
 
 pub make_first-requires : goal.make_first-requires
 make_first-requires g c = (c.is_alone.ensures c.if-is_alone.true).0

@@ -12,12 +12,12 @@ use Rattle.jsonc_parser.proofs.patch.making.add.Goals as goal
 
 pub returns-in-Ok-clause-made : goal.returns-in-Ok-clause-made
 returns-in-Ok-clause-made g c =
-    let none = none_at_all (tokens_of c.args.pointer.now) c.tokens.result.now c.tokens.ensures (at_none c.split_last.result c.in_default.is c.split_last.ensures.cases) in
+    let none = none_at_all (tokens_of c.args.pointer.now) c.tokens.result.now c.tokens.ensures (at_none _ _ c.split_last.result c.in_default.is c.split_last.ensures.cases) in
     subst (λ (l : List (List ℕ)). MakesWhatShown c.args.doc.now (value.add l (plain c.args.value)) (λ o. IsOfNumbers o (plain c.args.value)) c.add_whole.new.doc) (sym none) c.in-Ok.ensures.made
 
 pub returns-in-Err-clause-fails : goal.returns-in-Err-clause-fails
 returns-in-Err-clause-fails g c =
-    let none = none_at_all (tokens_of c.args.pointer.now) c.tokens.result.now c.tokens.ensures (at_none c.split_last.result c.in_default.is c.split_last.ensures.cases) in
+    let none = none_at_all (tokens_of c.args.pointer.now) c.tokens.result.now c.tokens.ensures (at_none _ _ c.split_last.result c.in_default.is c.split_last.ensures.cases) in
     subst (λ (l : List (List ℕ)). FailsWhatShown c.args.doc.now (value.add l (plain c.args.value)) c.in-Err.cause) (sym none) c.in-Err.ensures.fails
 
 pub returns-in-Err-target-clause-kept : goal.returns-in-Err-target-clause-kept

@@ -1,5 +1,6 @@
 use Rattle.std.proofs.Common.{ℕ, ◌<◌, ◌∙◌, Option, chars, length, subst, sym, None, Some}
 use Rattle.jsonc_cst.specs.Document.{nodes_of}
+use Rattle.jsonc_cst.specs.Nodes.{number_of}
 use Rattle.jsonc_layout.specs.input.Views.{plain}
 use Rattle.jsonc_parser.specs.patch.Applied.{IsPlaceBy}
 use Rattle.jsonc_parser.specs.patch.Pointer.{tokens_of}
@@ -25,8 +26,8 @@ returns-in-Ok-edit-clause-made g c =
     let doc = c.args.doc.now in
     let token = chars c.args.token.now in
     let told = subst (λ (n : ℕ). IsPlaceBy (nodes_of doc) n token c.element_place.result) c.number.ensures c.element_place.ensures in
-    let place = subst (λ (o : Option (Option ℕ)). IsPlaceBy (nodes_of doc) _ token o) c.in-Some.is told in
-    let index = subst (λ (o : Option ℕ). IsPlaceBy (nodes_of doc) _ token (Some o)) c.in-Some-place.is place in
+    let place = subst (λ (o : Option (Option ℕ)). IsPlaceBy (nodes_of doc) (number_of c.args.array) token o) c.in-Some.is told in
+    let index = subst (λ (o : Option ℕ). IsPlaceBy (nodes_of doc) (number_of c.args.array) token (Some o)) c.in-Some-place.is place in
     inserts_at doc c.edit.new.doc doc.tree.tree c.edit.new.doc.tree.tree c.args.array c.in-Ok.path c.in-Ok.ensures.at c.args.value (tokens_of c.args.pointer.now) token c.in-Some-place.index c.requires.array index c.in-Ok-edit.ensures.made
 
 pub returns-in-Err-edit-clause-fails : goal.returns-in-Err-edit-clause-fails
@@ -39,9 +40,9 @@ returns-in-Ok-edit-2-clause-made g c =
     let doc = c.args.doc.now in
     let token = chars c.args.token.now in
     let told = subst (λ (n : ℕ). IsPlaceBy (nodes_of doc) n token c.element_place.result) c.number.ensures c.element_place.ensures in
-    let place = subst (λ (o : Option (Option ℕ)). IsPlaceBy (nodes_of doc) _ token o) c.in-Some.is told in
-    let last = subst (λ (o : Option ℕ). IsPlaceBy (nodes_of doc) _ token (Some o)) c.in-None.is place in
-    appends_at doc c.edit-2.new.doc doc.tree.tree c.edit-2.new.doc.tree.tree c.args.array c.in-Ok.path c.in-Ok.ensures.at c.args.value (tokens_of c.args.pointer.now) token last c.in-Ok-edit-2.ensures.made
+    let place = subst (λ (o : Option (Option ℕ)). IsPlaceBy (nodes_of doc) (number_of c.args.array) token o) c.in-Some.is told in
+    let last = subst (λ (o : Option ℕ). IsPlaceBy (nodes_of doc) (number_of c.args.array) token (Some o)) c.in-None.is place in
+    appends_at doc c.edit-in-None.new.doc doc.tree.tree c.edit-in-None.new.doc.tree.tree c.args.array c.in-Ok.path c.in-Ok.ensures.at c.args.value (tokens_of c.args.pointer.now) token last c.in-Ok-edit-2.ensures.made
 
 pub returns-in-Err-edit-2-clause-fails : goal.returns-in-Err-edit-2-clause-fails
 returns-in-Err-edit-2-clause-fails g c =

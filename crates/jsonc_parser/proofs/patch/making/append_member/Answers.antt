@@ -5,7 +5,7 @@ use Rattle.jsonc_parser.proofs.patch.making.append_member.Goals as goal
 
 pub returns-in-Ok-edit-clause-made : goal.returns-in-Ok-edit-clause-made
 returns-in-Ok-edit-clause-made g c =
-    appends_to c.args.doc.now c.edit.new.doc c.args.doc.now.tree.tree c.edit.new.doc.tree.tree c.args.object c.in-Ok.path c.in-Ok.ensures.at c.args.value c.in-Ok-from_str.name (chars c.args.name.now) (ap chars c.in-Ok-from_str.ensures) c.in-Ok-edit.ensures.made
+    appends_to c.args.doc.now c.edit.new.doc c.args.doc.now.tree.tree c.edit.new.doc.tree.tree c.args.object c.in-Ok.path c.in-Ok.ensures.at c.args.value c.in-Ok-from_str.name (chars c.args.name.now) (ap chars c.in-Ok-from_str.ensures.ok) c.in-Ok-edit.ensures.made
 
 pub returns-in-Err-edit-clause-fails : goal.returns-in-Err-edit-clause-fails
 returns-in-Err-edit-clause-fails g c =

@@ -7,8 +7,8 @@ use Rattle.jsonc_parser.proofs.patch.making.edit.Goals as goal
 pub make-requires : goal.make-requires
 make-requires g c = record { unsorted = whole_no_sort c.args.edit c.requires }
 
-pub returns-in-Err-clause-kept : goal.returns-in-Err-clause-kept
-returns-in-Err-clause-kept g c = left_kept c.args.edit c.args.doc.now c.make.new.self (operation_of unsorted c.args.edit) c.requires refl c.in-Err.ensures.left
+pub returns-clause-kept : goal.returns-clause-kept
+returns-clause-kept g c = left_kept c.args.edit c.args.doc.now c.make.new.self (operation_of unsorted c.args.edit) c.requires refl c.in-Err.ensures.left
 
-pub returns-in-Err-clause-fails : goal.returns-in-Err-clause-fails
-returns-in-Err-clause-fails g c = c.in-Err.ensures.error
+pub returns-clause-fails : goal.returns-clause-fails
+returns-clause-fails g c = c.in-Err.ensures.error
