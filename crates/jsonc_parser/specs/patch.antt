@@ -9,15 +9,14 @@ pub mod Laws
 pub mod Numbers
 pub mod Equality
 pub mod Operations
-pub mod Failing
 pub mod Asked
-pub mod PatchTexts
 pub mod Patches
+pub mod Failing
+pub mod PatchTexts
 pub mod PatchFaults
 pub mod PatchReading
 pub mod PatchMessages
 pub mod FaultMessages
-pub mod Merging
 pub mod Comparing
 pub mod Digits
 pub mod Values

@@ -1,12 +1,12 @@
-//! Patches: texts that are read, and values that are tested.
+//! The texts of patches.
 
 use failing_alloc::in_turn::refused_in_turn;
 use failing_alloc::outcome::Outcome;
 use jsonc_parser::ParseOptions;
-use jsonc_parser::cst::{CstInputValue, CstRootNode, TypedNode};
+use jsonc_parser::cst::{CstInputValue, CstRootNode};
 use jsonc_parser::errors::ParseErrorKind;
 use jsonc_parser::patch::{
-    Member, Operation, OperationFault, Patch, PatchCause, PatchError, Pointer, PointerError,
+    Member, Operation, OperationFault, Patch, PatchError, Pointer, PointerError,
 };
 use std::alloc::Allocator;
 use std::test::Fail;
@@ -350,95 +350,6 @@ fn faults_of_patches_are_printed(rt: HostRuntime) -> Result<(), Fail> {
                 assert_eq!(rt; line.as_str(), *wanted);
             }
         }
-    }
-    Ok(())
-}
-
-/// A document, a value, and whether the document's value is equal to it (RFC 6902, 4.6).
-static TESTED: [(&str, &str, bool); 34] = [
-    ("null", "null", true),
-    ("null", "false", false),
-    ("true", "true", true),
-    ("true", "false", false),
-    ("\"a\"", "'\\u0061'", true),
-    ("\"a\"", "\"A\"", false),
-    ("\"10\"", "10", false),
-    ("10", "\"10\"", false),
-    ("1", "1.0", true),
-    ("1", "1e0", true),
-    ("100", "1e2", true),
-    ("-0", "0", true),
-    ("0x1F", "31", true),
-    ("1", "-1", false),
-    ("1e400", "1e401", false),
-    ("[]", "[]", true),
-    ("[]", "{}", false),
-    ("[1, 2]", "[1.0, 2.0]", true),
-    ("[1, 2]", "[2, 1]", false),
-    ("[1, 2]", "[1]", false),
-    ("[1]", "[1, 2]", false),
-    ("{}", "{}", true),
-    ("{}", "null", false),
-    ("{\"a\": 1, \"b\": 2}", "{\"b\": 2, \"a\": 1}", true),
-    ("{\"a\": 1, \"b\": 2}", "{\"b\": 2, \"a\": 3}", false),
-    ("{\"a\": 1, \"b\": 2}", "{\"b\": 2, \"c\": 1}", false),
-    ("{\"a\": 1, \"b\": 2}", "{\"b\": 2}", false),
-    ("{\"b\": 2}", "{\"a\": 1, \"b\": 2}", false),
-    ("{\"a\": 1}", "{\"\\u0061\": 1}", true),
-    (
-        "{\"a\": {\"b\": [{\"c\": 0, \"d\": 1}]}}",
-        "{\"a\": {\"b\": [{\"d\": 1, \"c\": -0}]}}",
-        true,
-    ),
-    (
-        "{\"a\": {\"b\": [{\"c\": 0, \"d\": 1}]}}",
-        "{\"a\": {\"b\": [{\"d\": 1, \"c\": -1}]}}",
-        false,
-    ),
-    ("{\"\u{1d11e}\": 1}", "{\"\\ud834\\udd1e\": 1}", true),
-    ("{\"a\": null}", "{\"b\": null}", false),
-    (
-        "[null, false, \"\", 0, [], {}]",
-        "[null, false, \"\", 0, [], {}]",
-        true,
-    ),
-];
-
-fn tested<A: Allocator + Copy>(alloc: A, row: &(&str, &str, bool)) -> Outcome {
-    let mut doc = match CstRootNode::parse(alloc, row.0, &ParseOptions::default()) {
-        Ok(doc) => doc,
-        Err(error) => return Outcome::from(error),
-    };
-    let text = match format!(in alloc; "[{{op: 'test', path: '', value: {}}}]", row.1) {
-        Ok(text) => text,
-        Err(_) => return Outcome::Wanted,
-    };
-    let patch = match Patch::from_json(alloc, &text, &ParseOptions::default()) {
-        Ok(patch) => patch,
-        Err(PatchError::Parse(error)) => return Outcome::from(error),
-        Err(PatchError::Operation(_, OperationFault::OutOfMemory)) => return Outcome::Wanted,
-        Err(_) => return Outcome::Other,
-    };
-    match patch.apply(&mut doc) {
-        Ok(()) => Outcome::of(row.2),
-        Err(fault) => match fault.cause {
-            PatchCause::NotEqual => Outcome::of(!row.2),
-            PatchCause::Edit(error) => Outcome::from(error),
-            _ => Outcome::Other,
-        },
-    }
-}
-
-#[test]
-fn values_are_tested_with_each_request_refused_in_turn(rt: HostRuntime) -> Result<(), Fail> {
-    let alloc = rt.alloc();
-    for row in &TESTED {
-        assert!(rt;
-            refused_in_turn(alloc, |heap| tested(heap, row)).is_some(),
-            "{} {}",
-            row.0,
-            row.1
-        );
     }
     Ok(())
 }

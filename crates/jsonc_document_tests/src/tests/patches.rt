@@ -1,12 +1,10 @@
-//! Patches and merge patches: the examples of their standards, and what an error leaves.
+//! Patches: the examples of their standard, and what an error leaves.
 
 use crate::tests::reading::read;
 use failing_alloc::in_turn::answers_in_turn;
 use failing_alloc::outcome::Outcome;
-use jsonc_parser::cst::{CstRootNode, EditError, input};
-use jsonc_parser::patch::{
-    self, MergeFault, OperationFault, Patch, PatchCause, PatchError, PatchFault,
-};
+use jsonc_parser::cst::{CstRootNode, EditError};
+use jsonc_parser::patch::{OperationFault, Patch, PatchCause, PatchError, PatchFault};
 use jsonc_parser::{ParseOptions, parse_to_value};
 use std::alloc::Allocator;
 use std::test::Fail;
@@ -24,7 +22,7 @@ enum Answer<'a> {
     Another(usize),
     /// The operation of this number moves a value into itself.
     Inside(usize),
-    /// This name stands twice where the operation of this number, or a merge, looks it up, or in the patch.
+    /// This name stands twice where the operation of this number looks it up.
     Twice(usize, &'a str),
     /// The patch is none.
     NoPatch(usize),
@@ -182,82 +180,6 @@ static PATCHES: [Row; 30] = [
     ("[]", r#"{"op":"remove","path":""}"#, Answer::NoPatch(0)),
 ];
 
-/// Appendix A of RFC 7396, and more.
-static MERGES: [Row; 19] = [
-    (
-        r#"{"a":"b"}"#,
-        r#"{"a":"c"}"#,
-        Answer::Value(r#"{"a":"c"}"#),
-    ),
-    (
-        r#"{"a":"b"}"#,
-        r#"{"b":"c"}"#,
-        Answer::Value(r#"{"a":"b","b":"c"}"#),
-    ),
-    (r#"{"a":"b"}"#, r#"{"a":null}"#, Answer::Value("{}")),
-    (
-        r#"{"a":"b","b":"c"}"#,
-        r#"{"a":null}"#,
-        Answer::Value(r#"{"b":"c"}"#),
-    ),
-    (
-        r#"{"a":["b"]}"#,
-        r#"{"a":"c"}"#,
-        Answer::Value(r#"{"a":"c"}"#),
-    ),
-    (
-        r#"{"a":"c"}"#,
-        r#"{"a":["b"]}"#,
-        Answer::Value(r#"{"a":["b"]}"#),
-    ),
-    (
-        r#"{"a":{"b":"c"}}"#,
-        r#"{"a":{"b":"d","c":null}}"#,
-        Answer::Value(r#"{"a":{"b":"d"}}"#),
-    ),
-    (
-        r#"{"a":[{"b":"c"}]}"#,
-        r#"{"a":[1]}"#,
-        Answer::Value(r#"{"a":[1]}"#),
-    ),
-    (
-        r#"["a","b"]"#,
-        r#"["c","d"]"#,
-        Answer::Value(r#"["c","d"]"#),
-    ),
-    (r#"{"a":"b"}"#, r#"["c"]"#, Answer::Value(r#"["c"]"#)),
-    (r#"{"a":"foo"}"#, "null", Answer::Value("null")),
-    (r#"{"a":"foo"}"#, r#""bar""#, Answer::Value(r#""bar""#)),
-    (
-        r#"{"e":null}"#,
-        r#"{"a":1}"#,
-        Answer::Value(r#"{"e":null,"a":1}"#),
-    ),
-    (
-        "[1,2]",
-        r#"{"a":"b","c":null}"#,
-        Answer::Value(r#"{"a":"b"}"#),
-    ),
-    (
-        "{}",
-        r#"{"a":{"bb":{"ccc":null}}}"#,
-        Answer::Value(r#"{"a":{"bb":{}}}"#),
-    ),
-    // What is equal stays as it is written.
-    (
-        "{\"a\": [ 1, // x\n], \"b\": 1}",
-        r#"{"a":[1],"b":2}"#,
-        Answer::Text("{\"a\": [ 1, // x\n], \"b\": 2}"),
-    ),
-    ("{\"a\": 1.0}", r#"{"a":1}"#, Answer::Text("{\"a\": 1}")),
-    (
-        r#"{"a":1,"a":2,"b":3}"#,
-        r#"{"b":4,"a":5}"#,
-        Answer::Twice(0, "a"),
-    ),
-    ("", r#"{"a":null}"#, Answer::Value("{}")),
-];
-
 /// A text is that of the answer, or has its value.
 fn matches<A: Allocator + Copy>(alloc: A, doc: &CstRootNode<A>, answer: Answer<'_>) -> Outcome {
     let text = match doc.text() {
@@ -330,28 +252,6 @@ fn applied<A: Allocator + Copy>(alloc: A, row: &Row<'_>) -> Outcome {
     }
 }
 
-fn merged<A: Allocator + Copy>(alloc: A, row: &Row<'_>) -> Outcome {
-    let mut doc = match read(alloc, row.0) {
-        Ok(doc) => doc,
-        Err(outcome) => return outcome,
-    };
-    let patch = match input::from_json(alloc, row.1, &ParseOptions::default()) {
-        Ok(Some(patch)) => patch,
-        Ok(None) => return Outcome::Other,
-        Err(error) => return Outcome::from(error),
-    };
-    match (patch::merge(&mut doc, &patch), row.2) {
-        (Ok(()), answer) => matches(alloc, &doc, answer),
-        (Err(MergeFault::RepeatedName(name)), Answer::Twice(_, wanted)) => {
-            Outcome::of(name.as_str() == wanted).then(stays(&doc, row.0))
-        }
-        (Err(MergeFault::Edit(EditError::OutOfMemory)), _) => {
-            Outcome::Wanted.then(stays(&doc, row.0))
-        }
-        _ => Outcome::Other,
-    }
-}
-
 #[test]
 fn patches_are_applied_or_leave_all_with_each_request_refused_in_turn(
     rt: HostRuntime,
@@ -360,22 +260,6 @@ fn patches_are_applied_or_leave_all_with_each_request_refused_in_turn(
     for row in &PATCHES {
         assert!(rt;
             answers_in_turn(alloc, |heap| applied(heap, row)),
-            "{} {}",
-            row.0,
-            row.1
-        );
-    }
-    Ok(())
-}
-
-#[test]
-fn patches_are_merged_or_leave_all_with_each_request_refused_in_turn(
-    rt: HostRuntime,
-) -> Result<(), Fail> {
-    let alloc = rt.alloc();
-    for row in &MERGES {
-        assert!(rt;
-            answers_in_turn(alloc, |heap| merged(heap, row)),
             "{} {}",
             row.0,
             row.1

@@ -1,4 +1,4 @@
--- What a patch, or a merge patch, makes of a document.
+-- What a patch makes of a document.
 use Rattle.std.specs.Prelude.{◌≡◌, ◌≢◌, ◌<◌, ◌≤◌, ◌∷◌, ◌++◌, [], ℕ, Bool, true, false, List, length, map, take, Option, Some, None}
 use Rattle.std.specs.List.{slice_get, All}
 use Rattle.jsonc_text.specs.Documents.{Document}
@@ -10,7 +10,7 @@ use Rattle.jsonc_tree.specs.Content.{object}
 use Rattle.jsonc_tree.specs.Tree.{Node, content_at}
 use Rattle.jsonc_edit.specs.Paths.{IsAt}
 use Rattle.jsonc_edit.specs.Writing.{IsOfNumbers}
-use Rattle.jsonc_layout.specs.input.Views.{chars_of, plain}
+use Rattle.jsonc_layout.specs.input.Views.{chars_of}
 use Rattle.jsonc_layout.specs.nodes.Siblings.{elements_at}
 use Rattle.jsonc_sound.specs.Documents.{Shows}
 use Rattle.jsonc_run.specs.declared.edit.Edit.{Edit}
@@ -21,11 +21,9 @@ use Rattle.jsonc_cst.specs.declared.cst.CstRootNode.{CstRootNode}
 use Rattle.jsonc_cst.specs.declared.cst.node.CstNode.{CstNode}
 use Rattle.jsonc_cst.specs.Document.{nodes_of, tree_of}
 use Rattle.jsonc_cst.specs.Nodes.{number_of}
-use Rattle.jsonc_parser.specs.patch.Asked.{asked}
-use Rattle.jsonc_parser.specs.patch.Equality.{AreEqual}
+use Rattle.jsonc_parser.specs.patch.Asked.{asked, FitsIn}
 use Rattle.jsonc_parser.specs.patch.Failing.{FindsAnother, GoesIntoItself, HasNoTarget, MeetsTwice, ReferToNothing}
 use Rattle.jsonc_parser.specs.patch.Found.{IsOfShown, RefersToNode, RefersToNothing}
-use Rattle.jsonc_parser.specs.patch.Merging.{merged}
 use Rattle.jsonc_parser.specs.patch.Operations as value
 use Rattle.jsonc_parser.specs.patch.Operations.{MakesAll, Makes}
 use Rattle.jsonc_parser.specs.patch.Pointer.{tokens_of}
@@ -36,7 +34,7 @@ use Rattle.jsonc_parser.specs.declared.patch.making.PatchCause.TheVariants as ca
 use Rattle.jsonc_parser.specs.declared.patch.reference.FindError.{FindError}
 use Rattle.jsonc_parser.specs.declared.patch.reference.FindError.TheVariants as errors
 use Rattle.jsonc_parser.specs.declared.patch.operation.Operation.{Operation}
-use Rattle.jsonc_parser.specs.declared.patch.operation.Operation.TheVariants.{Add, Remove, Replace, Move, Copy, Test}
+use Rattle.jsonc_parser.specs.declared.patch.operation.Operation.TheVariants.{Move}
 
 -- before the element of this index, or behind all, the token says that another is to come; it says neither where it is not `-`, and each index that it is leads past all
 abbrev pub IsPlaceBy : List Node → ℕ → List ℕ → Option (Option ℕ) → Type 0
@@ -59,21 +57,7 @@ pub record IsMade (A : Type 0) (d : Document) (operation : value.Operation) (e :
   pub options : e.options ≡ d.options
   pub made : Makes operation d.value e.value
 
--- Edits lead from the one document to the other, whose value is what merging makes of the first: of equal names the last, and up to the order of members.
-pub record IsMerged (A : Type 0) (d : Document) (patch : Plain) (e : Document) : Type 0 where
-  pub edits : List (Edit A)
-  pub edited : EditsTo d edits e
-  pub value : Plain
-  pub is : e.value ≡ Some value
-  pub made : AreEqual (λ s t. s ≡ t) (collapse value) (collapse (merged d.value patch))
-
 module _ {A : Type 0} where
-  -- the numbers that it writes are, whole, numbers of these options
-  abbrev pub FitsIn : Options → Operation A → Type 0
-  FitsIn o (Add path v) = IsOfNumbers o (plain v)
-  FitsIn o (Replace path v) = IsOfNumbers o (plain v)
-  FitsIn o other = Unit {0}
-
   -- it is one edit at most
   abbrev pub is_one_edit : Operation A → Bool
   is_one_edit (Move from path) = false
@@ -179,6 +163,3 @@ module _ {A : Type 0} where
   -- so it is of whatever document the old one shows, if the numbers that were written fit
   abbrev pub StopsWhatShown : CstRootNode A → List (Operation A) → PatchFault A → Type 0
   StopsWhatShown old operations fault = (d : Document) → Shows d (tree_of old) → All (FitsIn d.options) (take fault.operation operations) → IsStopped d operations fault
-
-  abbrev pub MergesWhatShown : CstRootNode A → Plain → CstRootNode A → Type 0
-  MergesWhatShown old patch new = (d : Document) → Shows d (tree_of old) → IsOfNumbers d.options patch → (e : Document) × Shows e (tree_of new) × IsMerged A d patch e

@@ -1,12 +1,10 @@
--- The printed text of why a patch was not made, or not merged.
+-- The printed text of why a patch was not made.
 use Rattle.std.specs.Prelude.{◌++◌, ℕ, List, codes, string_bytes}
 use Rattle.std.specs.Fmt.{decimal}
 use Rattle.jsonc_text.specs.EditErrors.{edit_error_text}
 use Rattle.jsonc_parser.specs.declared.patch.apply.PatchFault.{PatchFault}
 use Rattle.jsonc_parser.specs.declared.patch.making.PatchCause.{PatchCause}
 use Rattle.jsonc_parser.specs.declared.patch.making.PatchCause.TheVariants.{NoTarget, RepeatedName, IntoItself, NotEqual, Edit}
-use Rattle.jsonc_parser.specs.declared.patch.merging.MergeFault.{MergeFault}
-use Rattle.jsonc_parser.specs.declared.patch.merging.MergeFault.TheVariants as merge
 
 module _ {A : Type 0} where
   abbrev pub patch_cause_text : PatchCause A → List ℕ
@@ -17,8 +15,4 @@ module _ {A : Type 0} where
   patch_cause_text (Edit e) = edit_error_text e
 
   abbrev pub patch_fault_text : PatchFault A → List ℕ
-  patch_fault_text fault = codes "Operation " ++ decimal fault.operation ++ codes ": " ++ patch_cause_text fault.cause
-
-  abbrev pub merge_fault_text : MergeFault A → List ℕ
-  merge_fault_text (merge.RepeatedName name) = codes "Name stands twice: " ++ string_bytes name
-  merge_fault_text (merge.Edit e) = edit_error_text e
+  patch_fault_text fault = codes "Operation " ++ (decimal fault.operation ++ (codes ": " ++ patch_cause_text fault.cause))

@@ -1,29 +1,19 @@
 //! Patches: lists of operations, made on a document whole or not at all.
 
-ghost use Rattle.std.specs.Prelude.{◌≡◌, ◌<◌, [], chars, length, map, true, IfErr, IfOk, OnErr, OnOk, Some};
-ghost use Rattle.jsonc_text.specs.OptionsOf.{parse_options};
-ghost use Rattle.jsonc_parser.specs.patch.Applied.{is_one_edit, FailsWhatShown, FitsIn, IsKept};
+ghost use Rattle.std.specs.Prelude.{◌≡◌, ◌<◌, [], length, true, IfErr, OnErr, OnOk, Some};
+ghost use Rattle.jsonc_parser.specs.patch.Applied.{is_one_edit, FailsWhatShown, IsKept};
 ghost use Rattle.jsonc_parser.specs.patch.Applied.{MakesWhatShown, PatchesWhatShown, StopsWhatShown};
-ghost use Rattle.jsonc_parser.specs.patch.Asked.{asked};
+ghost use Rattle.jsonc_parser.specs.patch.Asked.{asked, FitsIn};
 ghost use Rattle.jsonc_parser.specs.patch.FaultMessages.{patch_fault_text};
-ghost use Rattle.jsonc_parser.specs.patch.Patches.{operations_of};
-ghost use Rattle.jsonc_parser.specs.patch.PatchFaults.{IsFaultOfPatch};
-ghost use Rattle.jsonc_parser.specs.patch.PatchTexts.{IsPatch};
+ghost use Rattle.jsonc_parser.specs.patch.Patches.{operations_in};
 
 use super::making::{PatchCause, make};
 use super::operation::Operation;
-use super::reading::{PatchError, read_patch};
+use super::reading::Patch;
 use jsonc_cst::cst::{CstRootNode, EditError};
-use jsonc_text::options::ParseOptions;
 use std::alloc::Allocator;
 use std::error::Error;
 use std::fmt;
-
-/// A JSON Patch (RFC 6902): operations, made in order.
-#[derive(Debug, Drop)]
-pub struct Patch<A: Allocator> {
-    operations: Vec<Operation<A>, A>,
-}
 
 /// Which operation of a patch was not made, and why.
 #[derive(Debug, Drop)]
@@ -51,27 +41,6 @@ impl<A: Allocator> fmt::Display for PatchFault<A> {
 impl<A: Allocator + fmt::Debug> Error for PatchFault<A> {}
 
 impl<A: Allocator + Copy> Patch<A> {
-    /// The patch that a JSON text writes.
-    ///
-    /// The text is an array of objects, each with the members `op` and `path`, and with `value` or `from`
-    /// where its operation has one. Other members are ignored. No name may stand twice in an operation, or in
-    /// a value that it has.
-    ///
-    /// The text is parsed under the options as by `parse_to_ast`, with the same errors.
-    pub fn from_json(
-        alloc: A,
-        text: &str,
-        options: &ParseOptions,
-    ) -> Result<Patch<A>, PatchError<A>>
-        ensures patch { IfOk result (λ p. IsPatch (parse_options options.now) (chars text.now) (operations_of p)) }
-        ensures fault { IfErr result (IsFaultOfPatch (parse_options options.now) text.now) }
-    {
-        match read_patch(alloc, text, options) {
-            Ok(operations) => Ok(Patch { operations }),
-            Err(error) => Err(error),
-        }
-    }
-
     /// Makes the operations in order, each in the document that the ones before it made.
     ///
     /// What is added to an object comes behind its other members, or in the place of the value of the one that
@@ -94,20 +63,11 @@ impl<A: Allocator + Copy> Patch<A> {
     ///                        }
     /// ```
     pub fn apply(&self, doc: &mut CstRootNode<A>) -> Result<(), PatchFault<A>>
-        ensures patched { OnOk result (PatchesWhatShown doc.old self.now.operations.items doc.new) }
+        ensures patched { OnOk result (PatchesWhatShown doc.old (operations_in self.now) doc.new) }
         ensures kept { OnErr result (IsKept doc.old doc.new) }
-        ensures stops { IfErr result (StopsWhatShown doc.old self.now.operations.items) }
+        ensures stops { IfErr result (StopsWhatShown doc.old (operations_in self.now)) }
     {
-        make_whole(doc, &self.operations)
-    }
-}
-
-impl<A: Allocator> Patch<A> {
-    /// Its operations.
-    pub fn operations(&self) -> &[Operation<A>]
-        ensures { map asked result.now ≡ operations_of self.now }
-    {
-        &self.operations
+        make_whole(doc, self.operations())
     }
 }
 

@@ -22,8 +22,8 @@ use Rattle.jsonc_run.proofs.lemmas.promise.Leads.{shown_are_documents}
 use Rattle.jsonc_cst.specs.declared.cst.CstRootNode.{CstRootNode}
 use Rattle.jsonc_cst.specs.Document.{nodes_of, tree_of}
 use Rattle.jsonc_cst.proofs.JsonValues.{collapsed_numbers, document_numbers}
-use Rattle.jsonc_parser.specs.patch.Applied.{is_one_edit, FailsWhatShown, FitsIn, IsKept, IsMade, IsNoMemory, IsPatched, IsStopped, LeadsOn, MakesWhatShown, PatchesWhatShown, StopsWhatShown, Takes}
-use Rattle.jsonc_parser.specs.patch.Asked.{asked}
+use Rattle.jsonc_parser.specs.patch.Applied.{is_one_edit, FailsWhatShown, IsKept, IsMade, IsNoMemory, IsPatched, IsStopped, LeadsOn, MakesWhatShown, PatchesWhatShown, StopsWhatShown, Takes}
+use Rattle.jsonc_parser.specs.patch.Asked.{asked, FitsIn}
 use Rattle.jsonc_parser.specs.patch.Found.{IsOfShown, RefersToNode}
 use Rattle.jsonc_parser.specs.paths.Found.{names_of}
 use Rattle.jsonc_parser.specs.patch.Equality.{AreEqual, HasUniqueNames}

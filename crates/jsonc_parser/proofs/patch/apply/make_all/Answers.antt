@@ -1,7 +1,7 @@
 use Rattle.std.proofs.Common.{arith, refl, subst}
 use Rattle.jsonc_text.specs.Options.{Options}
-use Rattle.jsonc_parser.specs.patch.Applied.{FailsWhatShown, FitsIn, MakesWhatShown}
-use Rattle.jsonc_parser.specs.patch.Asked.{asked}
+use Rattle.jsonc_parser.specs.patch.Applied.{FailsWhatShown, MakesWhatShown}
+use Rattle.jsonc_parser.specs.patch.Asked.{asked, FitsIn}
 use Rattle.jsonc_parser.specs.declared.patch.operation.Operation.{Operation}
 use Rattle.jsonc_parser.proofs.lemmas.patch.Chains.{patched_all, patched_none, patched_to_here, stopped_here}
 use Rattle.jsonc_parser.proofs.patch.apply.make_all.Goals as goal
