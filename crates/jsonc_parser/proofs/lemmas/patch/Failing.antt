@@ -253,8 +253,8 @@ module _ {A : Type 0} where
           let w = leads d shown in
           subst (λ l. IsCause {A = A} (value.add l v) d.value causes.NoTarget) (sym split)
           (behind_scalar last (w.value, w.is, w.path, w.refers)
-              (λ vs e. no_array (array_content d.options (content_at ns n) (row_below ns n) vs (subst (HasValue d.options (top_at ns n)) e w.has)))
-              (λ ms e. no_object (object_content d.options (content_at ns n) (row_below ns n) ms (subst (HasValue d.options (top_at ns n)) e w.has))))
+          (λ vs e. no_array (array_content d.options (content_at ns n) (row_below ns n) vs (subst (HasValue d.options (top_at ns n)) e w.has)))
+          (λ ms e. no_object (object_content d.options (content_at ns n) (row_below ns n) ms (subst (HasValue d.options (top_at ns n)) e w.has))))
 
       pub no_place : content_at (nodes_of doc) (number_of node) ≡ content.array → IsPlaceBy (nodes_of doc) (number_of node) last None → FailsBelow doc node all last v causes.NoTarget
       no_place kind (other, past) tokens split leads d shown =
