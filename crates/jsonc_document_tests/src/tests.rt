@@ -8,6 +8,7 @@ mod large;
 mod named_values;
 mod node_edits;
 mod patch_texts;
+mod patches;
 mod pointers;
 mod raw_edits;
 mod reading;

@@ -11,9 +11,13 @@ pub mod Equality
 pub mod Operations
 pub mod Asked
 pub mod Patches
+pub mod Failing
 pub mod PatchTexts
 pub mod PatchFaults
 pub mod PatchReading
 pub mod PatchMessages
+pub mod FaultMessages
+pub mod Comparing
 pub mod Digits
 pub mod Values
+pub mod Applied

@@ -4,11 +4,15 @@
 //! arrays by indexes, parsed, or made of its tokens. [`find`] finds the node that it refers to in a document, [`read`]
 //! takes its value, and [`pointer_of`] tells the pointer of a node.
 //!
-//! A [`Patch`] is a list of operations at pointers, read from its text. [`same_number`] tells whether two texts of
-//! numbers have one value, as a patch's `test` asks.
+//! A [`Patch`] is a list of operations at pointers, read from its text, which [`Patch::apply`] makes on a document
+//! whole or not at all: every comment stays, and every byte outside of what they change. [`same_number`] tells whether
+//! two texts of numbers have one value, as a patch's `test` asks.
 
+mod apply;
+mod equality;
 pub(crate) mod laws;
 mod location;
+mod making;
 mod numbers;
 mod operation;
 mod pointer;
@@ -16,7 +20,9 @@ mod reading;
 mod reference;
 mod values;
 
+pub use apply::PatchFault;
 pub use location::pointer_of;
+pub use making::PatchCause;
 pub use numbers::same_number;
 pub use operation::{Member, Operation, OperationFault};
 pub use pointer::{Pointer, PointerError};

@@ -57,7 +57,7 @@ object_value o _ below _ e values.boolean = cc
 object_value o _ below _ e values.null = cc
 object_value o _ below _ e (values.array h) = cc
 
-array_value : (o : Options) (c : Content) (below : OrderedTree) (v : Plain) → c ≡ content.array → ValueOf o c below v → (vs : Items) × (v ≡ plain.array vs) × ItemsOf o below vs
+pub array_value : (o : Options) (c : Content) (below : OrderedTree) (v : Plain) → c ≡ content.array → ValueOf o c below v → (vs : Items) × (v ≡ plain.array vs) × ItemsOf o below vs
 array_value o _ below _ e (values.array {vs = vs} h) = (vs, refl, h)
 array_value o _ below _ e (values.string h) = cc
 array_value o _ below _ e values.number = cc
@@ -65,10 +65,10 @@ array_value o _ below _ e values.boolean = cc
 array_value o _ below _ e values.null = cc
 array_value o _ below _ e (values.object h) = cc
 
-object_content : (o : Options) (c : Content) (below : OrderedTree) (ms : Members) → ValueOf o c below (plain.object ms) → c ≡ content.object
+pub object_content : (o : Options) (c : Content) (below : OrderedTree) (ms : Members) → ValueOf o c below (plain.object ms) → c ≡ content.object
 object_content o _ below _ (values.object h) = refl
 
-array_content : (o : Options) (c : Content) (below : OrderedTree) (vs : Items) → ValueOf o c below (plain.array vs) → c ≡ content.array
+pub array_content : (o : Options) (c : Content) (below : OrderedTree) (vs : Items) → ValueOf o c below (plain.array vs) → c ≡ content.array
 array_content o _ below _ (values.array h) = refl
 
 -- a step further on the way to a node

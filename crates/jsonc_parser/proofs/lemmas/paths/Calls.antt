@@ -106,7 +106,7 @@ drops_by_one_edit d names op old new tree after shown by made =
     (op, by, made, l.e, l.shown, record { op = l.op; asked = l.asks; edited = l.edited; dropped = dropped; elsewhere = λ path u k. dropped_same dropped path u k })
 
 -- what is named is refused for memory alone
-for_memory : (d : Document) (old : List Node) (op : PlainEdit) (why : EditError) → IsTree old → Shows d (ordered_tree old 0) → IsNamed d.value (comment_count (ordered_tree old 0)) op → FailsWith old op why → why ≡ OutOfMemory
+pub for_memory : (d : Document) (old : List Node) (op : PlainEdit) (why : EditError) → IsTree old → Shows d (ordered_tree old 0) → IsNamed d.value (comment_count (ordered_tree old 0)) op → FailsWith old op why → why ≡ OutOfMemory
 for_memory d old op OutOfMemory tree shown named told = refl
 for_memory d old op NoSuchPlace tree shown named told = absurd ((tells_unnamed old d.options tree shown.sound op NoSuchPlace told d.value shown.value).0 refl named)
 for_memory d old op MissingBrackets tree shown named told = absurd (refused_so d.options old tree shown.sound op MissingBrackets told)

@@ -33,7 +33,7 @@ pub whole_no_sort : {A : Type 0} (e : Edit A) → is_whole e ≡ true → is_sor
 whole_no_sort (Sort path pin groups) whole = let wrong : false ≡ true = whole in cc
 whole_no_sort e whole = refl
 
-whole_no_commas : {A : Type 0} (e : Edit A) (path : List ℕ) (mode : TrailingCommaMode) → is_whole e ≡ true → operation_of unsorted e ≡ set_commas path mode → ⊥
+pub whole_no_commas : {A : Type 0} (e : Edit A) (path : List ℕ) (mode : TrailingCommaMode) → is_whole e ≡ true → operation_of unsorted e ≡ set_commas path mode → ⊥
 whole_no_commas (SetTrailingCommas path mode) q m whole is = let wrong : false ≡ true = whole in cc
 whole_no_commas e q m whole is = cc
 
