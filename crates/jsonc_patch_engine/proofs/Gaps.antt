@@ -64,5 +64,6 @@ blanks_of (step {c = c} h m) = let k = blanks_of m in record { text = c ∷ k.te
 pub rewritten_append : {u t r v w : List ℕ} → Rewritten u t v → Rewritten r u w → Rewritten r t (v ++ w)
 rewritten_append Rewritten.no_more k = k
 rewritten_append (Rewritten.blank h m) k = Rewritten.blank h (rewritten_append m k)
+rewritten_append (Rewritten.comment a m) k = Rewritten.comment a (rewritten_append m k)
 rewritten_append {t} {r = r} {w = y} (Rewritten.one z s x n {w = w} a e b f m) k =
     subst (λ l. Rewritten r t l) (sym (append_assoc x w y)) (Rewritten.one z s x n a e b f (rewritten_append m k))

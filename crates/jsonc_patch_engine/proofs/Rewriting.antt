@@ -3,7 +3,7 @@ use Rattle.std.proofs.Common.{ℕ, ◌≡◌, ◌∙◌, sym, ap, refl, Bool, tr
 use Rattle.jsonc_text.specs.Gaps.{Gap, IsComment, blank, comment, is_blank, none}
 use Rattle.jsonc_text.specs.Grammar as grammar
 use Rattle.jsonc_text.specs.Grammar.{AreElements, AreProperties, Closes, IsDocument, IsLooseName, IsName, IsProperty, IsValue, Separates, literal_value, may_name}
-use Rattle.jsonc_text.specs.Lexemes.{Lexeme, LexemeKind, Scanned, block_comment, is_punctuation, lexeme, line_comment, IsScanned}
+use Rattle.jsonc_text.specs.Lexemes.{Lexeme, LexemeKind, is_punctuation, lexeme}
 use Rattle.jsonc_text.specs.Options.{all_on}
 use Rattle.jsonc_text.specs.Plain.{Plain, Items, Members, item, member, no_items, no_members}
 use Rattle.jsonc_text.specs.Spelling.{spelled}
@@ -45,7 +45,8 @@ not_both c h k = clash (is_blank c) k h
 
 after_blank : {c : ℕ} {t w : List ℕ} → IsTrue (is_blank c) → Of (c ∷ t) w → AfterBlank c t w
 after_blank h (written.Rewritten.blank k m) = record { y = _; is = refl; rest = m }
-after_blank {c} {t} h (written.Rewritten.one k s x n {u = u} a e b f m) = absurd (not_both c h (scanned_no_blank all_on k (c ∷ t) u a))
+after_blank h (written.Rewritten.comment a m) = absurd (comment_no_blank a h)
+after_blank {c} {t} h (written.Rewritten.one k s x n {u = u} a e b f m) = absurd (not_both c h (scanned_no_blank all_on (lexeme k) (c ∷ t) u a))
 
 slash_literal : Apart (λ c. c == 0x2F) begins_literal
 unfolding Apart
@@ -62,15 +63,11 @@ comment_no_lexeme (LexemeKind.word v) {t} r a x = no_both _ _ slash_literal (nex
 comment_no_lexeme (LexemeKind.keyword v) {t} r a x = no_both _ _ slash_literal (next t) (comment_begins a) (lexeme_begins all_on (LexemeKind.keyword v) t r tt x)
 
 -- nothing is written for a comment
-same_rest : {u v x y : List ℕ} → v ≡ u → x ≡ [] → Of v y → Of u (x ++ y)
-same_rest {u} {v} {x} {y} p q m = subst (λ u. Of u (x ++ y)) p (subst (λ x. Of v (x ++ y)) (sym q) m)
-
 after_comment : {t u w : List ℕ} → IsComment t u → Of t w → Of u w
 after_comment a written.Rewritten.no_more = (let h : IsTrue false = comment_begins a in cc)
 after_comment a (written.Rewritten.blank h m) = absurd (comment_no_blank a h)
-after_comment a (written.Rewritten.one (lexeme k) s x n {u = v} b e c f m) = absurd (comment_no_lexeme k v a b)
-after_comment a (written.Rewritten.one (line_comment z) s x n b e c f m) = same_rest (comment_unique (inl b.0) a) f m
-after_comment a (written.Rewritten.one (block_comment z) s x n b e c f m) = same_rest (comment_unique (inr b.0) a) f m
+after_comment {w = w} a (written.Rewritten.comment b m) = subst (λ u. Of u w) (comment_unique b a) m
+after_comment a (written.Rewritten.one k s x n {u = v} b e c f m) = absurd (comment_no_lexeme k v a b)
 
 record AfterGap (u w : List ℕ) : Type 0 where
   y : List ℕ
@@ -97,18 +94,22 @@ record AfterLexeme (k : LexemeKind) (t u w : List ℕ) : Type 0 where
   y : List ℕ
   text : t ≡ s ++ u
   comes : ComesNext u n
-  form : IsWrittenFor (lexeme k) s n x
+  form : IsWrittenFor k s n x
   is : w ≡ x ++ y
   rest : Of u y
 
 some_lexeme : (k : LexemeKind) (u : List ℕ) → Lexeme all_on k [] u → ⊥
 some_lexeme k u a = let h : IsTrue false = scanned_no_blank all_on (lexeme k) [] u a in cc
 
+lexeme_same : {j k : LexemeKind} → lexeme j ≡ lexeme k → j ≡ k
+lexeme_same e = cc
+
 after_lexeme : (k : LexemeKind) {t u w : List ℕ} → Lexeme all_on k t u → Of t w → AfterLexeme k t u w
 after_lexeme k {u = u} a written.Rewritten.no_more = absurd (some_lexeme k u a)
 after_lexeme k {t} {u} a (written.Rewritten.blank {c} h m) = absurd (not_both c h (scanned_no_blank all_on (lexeme k) t u a))
+after_lexeme k {u = u} a (written.Rewritten.comment b m) = absurd (comment_no_lexeme k u b a)
 after_lexeme k {t} {u} a (written.Rewritten.one j s x n {u = v} {w = y} b e c f m) =
-    let q = scanned_unique all_on j (lexeme k) t v u b a in
+    let q = scanned_unique all_on (lexeme j) (lexeme k) t v u b a in
     record {
       s = s;
       n = n;
@@ -116,7 +117,7 @@ after_lexeme k {t} {u} a (written.Rewritten.one j s x n {u = v} {w = y} b e c f 
       y = y;
       text = e ∙ ap (λ u. s ++ u) q.1;
       comes = subst (λ u. ComesNext u n) q.1 c;
-      form = subst (λ j. IsWrittenFor j s n x) q.0 f;
+      form = subst (λ j. IsWrittenFor j s n x) (lexeme_same q.0) f;
       is = refl;
       rest = subst (λ u. Of u y) q.1 m;
     }
@@ -400,7 +401,7 @@ of_lexeme k {n} b {t} {r} {w} i c e a = go k i a.form
           rest = a.rest;
         }
 
-    go : (k : LexemeKind) → IsLiteral k → IsWrittenFor (lexeme k) a.s a.n a.x → AfterLiteral k b t r w n
+    go : (k : LexemeKind) → IsLiteral k → IsWrittenFor k a.s a.n a.x → AfterLiteral k b t r w n
     go (LexemeKind.string v) i f = here (LexemeKind.string v) f
     go (LexemeKind.number v) i f = here (LexemeKind.number v) f
     go (LexemeKind.word v) i f = here (LexemeKind.word v) f
@@ -577,7 +578,8 @@ mutual
 
 at_end : {w : List ℕ} → Of [] w → w ≡ []
 at_end written.Rewritten.no_more = refl
-at_end (written.Rewritten.one k s x n {u = u} a e b f m) = (let h : IsTrue false = scanned_no_blank all_on k [] u a in cc)
+at_end (written.Rewritten.comment a m) = (let h : IsTrue false = comment_begins a in cc)
+at_end (written.Rewritten.one k s x n {u = u} a e b f m) = (let h : IsTrue false = scanned_no_blank all_on (lexeme k) [] u a in cc)
 
 pub document_after : {t w : List ℕ} {v : Plain} → IsDocument all_on t (Some v) → Rewritten [] t w → (x : Plain) × IsJson w x × SameValue v x
 document_after (u, r, g, a, h) m =

@@ -2,7 +2,7 @@
 use Rattle.std.proofs.Common.{ℕ, ◌+◌, ◌-◌, ◌≡◌, ◌≤◌, ◌<◌, ◌∙◌, ap, refl, sym, subst, Bool, false, List, [], ◌∷◌, ◌++◌, append_assoc, append-nil, map, Option, Some, None, IsTrue, IsCharBoundary, IsUtf8, arith, chars, length, slice_range}
 use Rattle.jsonc_scan.specs.declared.scanner.Scanner.{Scanner}
 use Rattle.jsonc_scan.specs.Scanner.{IsThere, PassesBlanks, end_of, options_of, start_of, text_of}
-use Rattle.jsonc_text.specs.Gaps.{is_blank}
+use Rattle.jsonc_text.specs.Gaps.{IsComment, is_blank}
 use Rattle.jsonc_text.specs.Lexemes.{IsScanned, Lexeme, LexemeKind, Scanned, lexeme, number}
 use Rattle.jsonc_text.specs.Options.{Options, all_on}
 use Rattle.jsonc_text.specs.Text.{Many, Spans, rest}
@@ -13,7 +13,9 @@ use Rattle.jsonc_text.proofs.LexemesAlone.{scanned_alone}
 use Rattle.jsonc_patch_engine.specs.Causes.{HasNonFinite}
 use Rattle.jsonc_patch_engine.specs.Output.{Adds}
 use Rattle.jsonc_patch_engine.specs.Rewritten.{ComesNext, IsNonFinite, IsWrittenFor, Rewritten, is_named, written_blank}
-use Rattle.jsonc_patch_engine.specs.Standing.{Stands}
+use Rattle.jsonc_patch_engine.specs.Standing.{IsReached, Stands}
+use Rattle.jsonc_patch_engine.specs.Tokens.{IsTokenOf}
+use Rattle.jsonc_patch_engine.specs.declared.json.Found.{Found}
 use Rattle.jsonc_patch_engine.proofs.Gaps.{blanks_of, rewritten_append}
 
 -- up to the place where the scanner is all is written
@@ -37,30 +39,30 @@ module _ (text : List ℕ) (utf8 : IsUtf8 text) where
       let is : new ≡ old ++ map written_blank z.text = f ∙ ap (λ s. old ++ map written_blank s) same in
       subst (λ w. Rewritten (rest text start) (chars text) w) (sym is) (rewritten_append m z.written)
 
-  -- the token by itself
-  pub token_alone : (start end : ℕ) (literal : List ℕ) (w : Scanned) → IsCharBoundary text start → IsCharBoundary text end → start ≤ end → literal ≡ slice_range text start end
-      → IsScanned all_on w (rest text start) (rest text end) → IsScanned all_on w (chars literal) []
-  token_alone start end literal w b d l e a =
+  -- the lexeme by itself
+  lexeme_alone : (start end : ℕ) (literal : List ℕ) (k : LexemeKind) → IsCharBoundary text start → IsCharBoundary text end → start ≤ end → literal ≡ slice_range text start end
+      → Lexeme all_on k (rest text start) (rest text end) → Lexeme all_on k (chars literal) []
+  lexeme_alone start end literal k b d l e a =
       let is : rest text start ≡ chars literal ++ rest text end = chars_between text start end utf8 (spans_of start end b d l) ∙ ap (λ s. chars s ++ rest text end) (sym e) in
-      (scanned_alone all_on w (chars literal) (rest text end) (subst (λ t. IsScanned all_on w t (rest text end)) is a)).0
+      (scanned_alone all_on (lexeme k) (chars literal) (rest text end) (subst (λ t. Lexeme all_on k t (rest text end)) is a)).0
 
   -- and what is written for it
-  pub token_step : (start end : ℕ) (old new literal : List ℕ) (w : Scanned) (n : Option ℕ) → IsCharBoundary text start → IsCharBoundary text end → start ≤ end → literal ≡ slice_range text start end
-      → Rewritten (rest text start) (chars text) old → IsScanned all_on w (rest text start) (rest text end) → ComesNext (rest text end) n → Adds (IsWrittenFor w (chars literal) n) old new
+  lexeme_step : (start end : ℕ) (old new literal : List ℕ) (k : LexemeKind) (n : Option ℕ) → IsCharBoundary text start → IsCharBoundary text end → start ≤ end → literal ≡ slice_range text start end
+      → Rewritten (rest text start) (chars text) old → Lexeme all_on k (rest text start) (rest text end) → ComesNext (rest text end) n → Adds (IsWrittenFor k (chars literal) n) old new
       → Rewritten (rest text end) (chars text) new
-  token_step start end old new literal w n b d l e m a c f =
+  lexeme_step start end old new literal k n b d l e m a c f =
       let is : rest text start ≡ chars literal ++ rest text end = chars_between text start end utf8 (spans_of start end b d l) ∙ ap (λ s. chars s ++ rest text end) (sym e) in
-      let one : Rewritten (rest text end) (rest text start) (f.more ++ []) = Rewritten.one w (chars literal) f.more n a is c f.is Rewritten.no_more in
+      let one : Rewritten (rest text end) (rest text start) (f.more ++ []) = Rewritten.one k (chars literal) f.more n a is c f.is Rewritten.no_more in
       let whole : Rewritten (rest text end) (chars text) (old ++ (f.more ++ [])) = rewritten_append m one in
       subst (λ x. Rewritten (rest text end) (chars text) x) (ap (λ x. old ++ x) (append-nil f.more) ∙ sym f.behind) whole
 
   -- a number that JSON has not
-  pub non_finite_here : (start end : ℕ) (old literal : List ℕ) (w : Scanned) (s : List ℕ) (n : Option ℕ) → IsCharBoundary text start → IsCharBoundary text end → start ≤ end → literal ≡ slice_range text start end
-      → Rewritten (rest text start) (chars text) old → w ≡ lexeme (number s) → IsScanned all_on w (rest text start) (rest text end) → ComesNext (rest text end) n → is_named n ≡ false → IsNonFinite (chars literal)
+  non_finite_here : (start end : ℕ) (old literal : List ℕ) (k : LexemeKind) (s : List ℕ) (n : Option ℕ) → IsCharBoundary text start → IsCharBoundary text end → start ≤ end → literal ≡ slice_range text start end
+      → Rewritten (rest text start) (chars text) old → k ≡ number s → Lexeme all_on k (rest text start) (rest text end) → ComesNext (rest text end) n → is_named n ≡ false → IsNonFinite (chars literal)
       → HasNonFinite text start
-  non_finite_here start end old literal w s n b d l e m p a c f h =
+  non_finite_here start end old literal k s n b d l e m p a c f h =
       let is : rest text start ≡ chars literal ++ rest text end = chars_between text start end utf8 (spans_of start end b d l) ∙ ap (λ s. chars s ++ rest text end) (sym e) in
-      let stands : Lexeme all_on (number s) (rest text start) (rest text end) = subst (λ w. IsScanned all_on w (rest text start) (rest text end)) p a in
+      let stands : Lexeme all_on (number s) (rest text start) (rest text end) = subst (λ k. Lexeme all_on k (rest text start) (rest text end)) p a in
       let same : chars literal ≡ s = front_same refl (sym is ∙ stands.0) in
       record {
         boundary = b;
@@ -91,19 +93,39 @@ stands s text place start end w old e f g o b l m t r =
     } in
     subst (λ t. Stands t place start end w old) (sym e) (subst (λ i. Stands (text_of s) place i end w old) (sym f) (subst (λ j. Stands (text_of s) place (start_of s) j w old) (sym g) here))
 
-module _ (text : List ℕ) (utf8 : IsUtf8 text) (place start end : ℕ) (w : Scanned) (old mid blanks literal : List ℕ) (h : Stands text place start end w old) (b : blanks ≡ slice_range text place start)
-    (m : mid ≡ old ++ map written_blank (chars blanks)) (l : literal ≡ slice_range text start end) where
-  blanks_written : Rewritten (rest text start) (chars text) mid
-  blanks_written = blanks_step text utf8 place start old mid blanks h.at h.from h.before h.so_far h.blanks b m
+-- where a token stands, and the blanks before it are written
+module _ (text : List ℕ) (utf8 : IsUtf8 text) (found : Found) (old mid blanks : List ℕ) (w : Scanned) (h : Stands text found.place found.start found.end w old) (b : blanks ≡ slice_range text found.place found.start)
+    (m : mid ≡ old ++ map written_blank (chars blanks)) where
+  blanks_written : Rewritten (rest text found.start) (chars text) mid
+  blanks_written = blanks_step text utf8 found.place found.start old mid blanks h.at h.from h.before h.so_far h.blanks b m
 
-  pub by_itself : IsScanned all_on w (chars literal) []
-  by_itself = token_alone text utf8 start end literal w h.from h.to h.order l h.there
+  -- a comment is not written
+  pub comment_passed : IsComment (rest text found.start) (rest text found.end) → Rewritten (rest text found.end) (chars text) mid
+  comment_passed c =
+      let whole : Rewritten (rest text found.end) (chars text) (mid ++ []) = rewritten_append blanks_written (Rewritten.comment c Rewritten.no_more) in
+      subst (λ x. Rewritten (rest text found.end) (chars text) x) (append-nil mid) whole
 
-  pub all_written : (new : List ℕ) (n : Option ℕ) → ComesNext (rest text end) n → Adds (IsWrittenFor w (chars literal) n) mid new → Rewritten (rest text end) (chars text) new
-  all_written new n c a = token_step text utf8 start end mid new literal w n h.from h.to h.order l blanks_written h.there c a
+  -- and a lexeme is to be
+  pub reached : (k : LexemeKind) → w ≡ lexeme k → IsTokenOf (chars found.string.now) found.kind w → IsReached text found mid
+  reached k e t = record {
+    is = k;
+    kind = subst (λ w. IsTokenOf (chars found.string.now) found.kind w) e t;
+    from = h.from;
+    to = h.to;
+    order = h.order;
+    there = subst (λ w. IsScanned all_on w (rest text found.start) (rest text found.end)) e h.there;
+    so_far = blanks_written;
+  }
 
-  pub refused : (s : List ℕ) (n : Option ℕ) → w ≡ lexeme (number s) → ComesNext (rest text end) n → is_named n ≡ false → IsNonFinite (chars literal) → HasNonFinite text start
-  refused s n e c f k = non_finite_here text utf8 start end mid literal w s n h.from h.to h.order l blanks_written e h.there c f k
+module _ (text : List ℕ) (utf8 : IsUtf8 text) (found : Found) (mid literal : List ℕ) (h : IsReached text found mid) (l : literal ≡ slice_range text found.start found.end) where
+  pub by_itself : Lexeme all_on h.is (chars literal) []
+  by_itself = lexeme_alone text utf8 found.start found.end literal h.is h.from h.to h.order l h.there
+
+  pub all_written : (new : List ℕ) (n : Option ℕ) → ComesNext (rest text found.end) n → Adds (IsWrittenFor h.is (chars literal) n) mid new → Rewritten (rest text found.end) (chars text) new
+  all_written new n c a = lexeme_step text utf8 found.start found.end mid new literal h.is n h.from h.to h.order l h.so_far h.there c a
+
+  pub refused : (s : List ℕ) (n : Option ℕ) → h.is ≡ number s → ComesNext (rest text found.end) n → is_named n ≡ false → IsNonFinite (chars literal) → HasNonFinite text found.start
+  refused s n e c f k = non_finite_here text utf8 found.start found.end mid literal h.is s n h.from h.to h.order l h.so_far e h.there c f k
 
 -- what is asked of the next token
 pub record IsReady {A : Type 0} (s : Scanner A) (place : ℕ) (written : List ℕ) : Type 0 where

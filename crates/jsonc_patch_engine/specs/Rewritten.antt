@@ -2,7 +2,7 @@
 use Rattle.std.specs.Prelude.{ℕ, ◌≡◌, ◌<◌, length, ◌⊎◌, ◌&&◌, ◌||◌, ◌==◌, Bool, true, false, not, List, [], ◌∷◌, ◌++◌, codes, Option, Some, None, IsTrue, if◌then◌else◌}
 use Rattle.std.specs.Str.Parse.{IsNumeral, digits_value}
 use Rattle.jsonc_text.specs.Gaps.{Gap, IsComment, is_blank}
-use Rattle.jsonc_text.specs.Lexemes.{LexemeKind, Scanned, lexeme, line_comment, block_comment, IsScanned}
+use Rattle.jsonc_text.specs.Lexemes.{Lexeme, LexemeKind}
 use Rattle.jsonc_text.specs.Numbers.{is_x}
 use Rattle.jsonc_text.specs.Options.{all_on}
 use Rattle.jsonc_text.specs.Spelling.{spelled}
@@ -89,16 +89,15 @@ mark_for c n =
 abbrev pub IsEntryFor : LexemeKind → List ℕ → Option ℕ → List ℕ → Type 0
 IsEntryFor kind s n w = (x : List ℕ) × IsLiteralFor kind (is_named n) s x × (w ≡ x ++ missing_comma n)
 
--- for a lexeme or comment s before n
-abbrev pub IsWrittenFor : Scanned → List ℕ → Option ℕ → List ℕ → Type 0
-IsWrittenFor (lexeme (LexemeKind.punctuation c)) s n w = w ≡ mark_for c n
-IsWrittenFor (lexeme kind) s n w = IsEntryFor kind s n w
-IsWrittenFor (line_comment c) s n w = w ≡ []
-IsWrittenFor (block_comment c) s n w = w ≡ []
+-- for a lexeme s before n
+abbrev pub IsWrittenFor : LexemeKind → List ℕ → Option ℕ → List ℕ → Type 0
+IsWrittenFor (LexemeKind.punctuation c) s n w = w ≡ mark_for c n
+IsWrittenFor kind s n w = IsEntryFor kind s n w
 
--- from t to r stand lexemes and comments with blanks between them, and w is what is written for them
+-- from t to r stand lexemes, blanks and comments, and w is what is written for them, which is nothing for a comment
 pub data Rewritten (r : List ℕ) : List ℕ → List ℕ → Type 0 where
   no_more : Rewritten r r []
   blank : {c : ℕ} {t w : List ℕ} → IsTrue (is_blank c) → Rewritten r t w → Rewritten r (c ∷ t) (written_blank c ∷ w)
-  one : (k : Scanned) (s x : List ℕ) (n : Option ℕ) {t u w : List ℕ} → IsScanned all_on k t u → t ≡ s ++ u → ComesNext u n
+  comment : {t u w : List ℕ} → IsComment t u → Rewritten r u w → Rewritten r t w
+  one : (k : LexemeKind) (s x : List ℕ) (n : Option ℕ) {t u w : List ℕ} → Lexeme all_on k t u → t ≡ s ++ u → ComesNext u n
       → IsWrittenFor k s n x → Rewritten r u w → Rewritten r t (x ++ w)

@@ -9,13 +9,13 @@ ghost use Rattle.jsonc_scan.specs.Scanner.{seen, IsThere, PassesBlanks};
 ghost use Rattle.jsonc_text.specs.Grammar.{IsDocument};
 ghost use Rattle.jsonc_text.specs.Plain.{Plain};
 ghost use Rattle.jsonc_text.specs.Text.{rest};
-ghost use Rattle.jsonc_text.specs.Lexemes.{LexemeKind, Scanned, IsScanned, Lexeme, lexeme};
+ghost use Rattle.jsonc_text.specs.Lexemes.{LexemeKind, Lexeme, lexeme};
 ghost use Rattle.jsonc_text.specs.Options.{all_on};
 ghost use Rattle.jsonc_patch_engine.specs.Causes.{IsCause, IsJsonOf, Stops};
 ghost use Rattle.jsonc_patch_engine.specs.declared.json.JsonError.TheVariants.{OutOfMemory};
 ghost use Rattle.jsonc_patch_engine.specs.Output.{text_of, Adds};
 ghost use Rattle.jsonc_patch_engine.specs.Rewritten.{IsNonFinite, IsWrittenFor, Rewritten, is_closed, is_named, mark_for, missing_comma, written_blank, IsEntryFor};
-ghost use Rattle.jsonc_patch_engine.specs.Standing.{IsFound};
+ghost use Rattle.jsonc_patch_engine.specs.Standing.{IsFound, IsReached};
 ghost use Rattle.jsonc_patch_engine.specs.Tokens.{IsLiteralOf, IsTokenOf};
 
 mod decimal;
@@ -137,7 +137,7 @@ fn end_with<A: Allocator>(written: String<A>, blanks: &str) -> Result<String<A>,
     Ok(written)
 }
 
-// Writes a token, and the blanks before it.
+// Writes a token, and the blanks before it. A comment is not written.
 fn write_token<A: Allocator + Copy>(
     alloc: A,
     written: &mut String<A>,
@@ -149,6 +149,24 @@ fn write_token<A: Allocator + Copy>(
     ensures stops { IfErr result (Stops text.now) }
 {
     push_blanks(written, &text[found.place..found.start])?;
+    match found.kind {
+        TokenKind::CommentLine => Ok(()),
+        TokenKind::CommentBlock => Ok(()),
+        _ => write_lexeme(alloc, written, text, found),
+    }
+}
+
+// Writes a lexeme, where the blanks before it are written. The gap behind it is walked here alone, and not from its comments.
+fn write_lexeme<A: Allocator + Copy>(
+    alloc: A,
+    written: &mut String<A>,
+    text: &str,
+    found: &Found<'_>,
+) -> Result<(), JsonError>
+    requires { IsReached text.now found.now (text_of written.old) }
+    ensures written { OnOk result (Rewritten (rest text.now found.now.end) (chars text.now) (text_of written.new)) }
+    ensures stops { IfErr result (Stops text.now) }
+{
     let literal = Literal {
         written: &text[found.start..found.end],
         string: found.string,
@@ -212,7 +230,7 @@ fn is_colon(mark: Option<char>) -> bool
     }
 }
 
-// Writes a token, which another one comes behind, with this first character, or none.
+// Writes a lexeme, which another one comes behind, with this first character, or none.
 fn push_token<A: Allocator + Copy>(
     alloc: A,
     written: &mut String<A>,
@@ -220,14 +238,12 @@ fn push_token<A: Allocator + Copy>(
     literal: &Literal<'_>,
     mark: Option<char>,
 ) -> Result<(), AllocError>
-    ensures { (w : Scanned) → IsTokenOf (chars literal.now.string.now) kind w
-        → IsScanned all_on w (chars literal.now.written.now) []
-        → (is_named mark ≡ false → (s : List ℕ) → w ≡ lexeme (LexemeKind.number s) → IsNonFinite s → ⊥)
-        → OnOk result (Adds (IsWrittenFor w (chars literal.now.written.now) mark) (text_of written.old) (text_of written.new)) }
+    ensures { (k : LexemeKind) → IsTokenOf (chars literal.now.string.now) kind (lexeme k)
+        → Lexeme all_on k (chars literal.now.written.now) []
+        → (is_named mark ≡ false → (s : List ℕ) → k ≡ LexemeKind.number s → IsNonFinite s → ⊥)
+        → OnOk result (Adds (IsWrittenFor k (chars literal.now.written.now) mark) (text_of written.old) (text_of written.new)) }
 {
     match kind {
-        TokenKind::CommentLine => Ok(()),
-        TokenKind::CommentBlock => Ok(()),
         TokenKind::OpenBrace => put(written, '{'),
         TokenKind::OpenBracket => put(written, '['),
         TokenKind::Colon => put(written, ':'),
