@@ -6,3 +6,5 @@ pub mod Gaps
 pub mod ToldTokens
 pub mod WrittenTokens
 pub mod Documents
+pub mod Finding
+pub mod Ending
