@@ -4,7 +4,7 @@ use Rattle.jsonc_text.specs.Plain.{Plain, Items, Members, no_members, member}
 use Rattle.jsonc_text.specs.Plain as plain
 use Rattle.jsonc_text.specs.declared.edit.Over.{Over}
 use Rattle.jsonc_text.specs.declared.edit.Over.TheVariants.{Replace}
-use Rattle.jsonc_parser.specs.paths.Operations.{MemberChanged, Changed, itself, in_array, in_object, MemberRemoved, LosesEntry, loses_item, loses_member, MemberInserted, member_count, InsertsMemberAt, LacksMember, Operation, PlainEdit, append_property, Asks, IsChanged, by_value, by_first, by_inserting_member, by_entry, by_all, StandsAt, IsNamed}
+use Rattle.jsonc_parser.specs.paths.Operations.{Changed, itself, in_array, in_object, MemberRemoved, LosesEntry, loses_item, loses_member, MemberInserted, member_count, InsertsMemberAt, LacksMember, Operation, PlainEdit, append_property, Asks, IsChanged, by_value, by_first, by_inserting_member, by_entry, by_all, StandsAt, IsNamed}
 use Rattle.jsonc_sound.specs.Values as removed
 use Rattle.jsonc_insert.proofs.lemmas.named.PathValues.{value_once}
 use Rattle.jsonc_run.specs.Named as asks

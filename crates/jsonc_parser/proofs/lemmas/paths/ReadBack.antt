@@ -25,13 +25,13 @@ root_options : (o : Options) (w : Option Plain) (v : Plain) → options_behind o
 root_options o None v = refl
 root_options o (Some x) v = refl
 
-put_options : (o : Options) {which : Which} {v : Plain} {over : Over} {w : Option Plain} {names : List (List ℕ)} {e : PlainEdit} {op : Operation} → IsPutBy which v over w names e → Asks w e op
+put_options : (o : Options) {which : Which} {v : Plain} {over : Over} {w : Option Plain} {names : List (List ℕ)} {e : PlainEdit} (op : Operation) → IsPutBy which v over w names e → Asks w e op
     → options_behind o op ≡ o
-put_options o {v = v} (sets_root {w = w}) is = ap (options_behind o) is ∙ root_options o w v
-put_options o sets_first is = ap (options_behind o) is
-put_options o (sets_value l) is = ap (options_behind o) is
-put_options o (appends front rest l lacks) (ms, i, stands, far, is) = ap (options_behind o) is
-put_options o (replaces front rest l non how) is = ap (options_behind o) is
+put_options o {v = v} op (sets_root {w = w}) is = ap (options_behind o) is ∙ root_options o w v
+put_options o op sets_first is = ap (options_behind o) is
+put_options o op (sets_value l) is = ap (options_behind o) is
+put_options o op (appends front rest l lacks) (ms, i, stands, far, is) = ap (options_behind o) is
+put_options o op (replaces front rest l non how) is = ap (options_behind o) is
 
 -- a list without edits leads nowhere, and one of one edit to a document with the options behind it
 nowhere : {d e : Document} {ops : List Operation} → Run d ops e → ops ≡ [] → d ≡ e
@@ -46,7 +46,7 @@ read_back v over names old new true puts = λ d shown numbers w text.
     (let put = puts d shown in
     let made = put.4 numbers in
     let e : Document = made.0 in
-    let options : e.options ≡ d.options = one_led made.2.edited refl ∙ put_options d.options put.2 made.2.asked in
+    let options : e.options ≡ d.options = one_led made.2.edited refl ∙ put_options d.options made.2.op put.2 made.2.asked in
     let says : IsDocument e.options (printed_text (ordered_tree new 0)) e.value = prints_value e.options (ordered_tree new 0) e.value made.1.sound made.1.value in
     let same : e.value ≡ w = document_unique d.options (printed_text (ordered_tree new 0)) e.value w (subst (λ o. IsDocument o (printed_text (ordered_tree new 0)) e.value) options says) text in
     subst (λ x. At (option_map collapse x) names (collapse v)) same made.2.there)
