@@ -54,7 +54,7 @@ late json input _ h = absurd h
 
 -- an error of one of these
 pub the_fault : {T P : Type 0} {A : Type 0} (f g : Fault A) → (f ≡ g → ⊥) → IsErrOf {T = T} (Err f) g → P
-the_fault f g no e = let is : f ≡ g = cc in absurd (no is)
+the_fault f g other e = let is : f ≡ g = cc in absurd (other is)
 
 -- what is told where the fault is true
 pub tells : {A : Type 0} (request : Request) (input : List ℕ) (fault : Fault A) → IsFaultOn request input fault → Tells request input fault
@@ -71,6 +71,10 @@ of_input : (known : Option (List ℕ)) (read : List ℕ) (P : List ℕ → Type 
 of_input None read P e h = tt
 of_input (Some i) read P e h = subst P e h
 
+wants : (A : Type 0) (r : Request) (input : List ℕ) → IsFaultOfInput {A = A} r input OutOfMemory → WantsMemory r input
+wants A (find text) input h = h
+wants A json input h = h
+
 -- what holds of the input that was read holds of all that the source had
 module _ (known : Option (List ℕ)) (read input : List ℕ) (value : input ≡ read) (bytes : IfSome known (λ i. read ≡ i)) (r q : Request) (same : words_of r ≡ words_of q) where
   all_of : (P : Request → List ℕ → Type 0) → P r input → IfSome known (P q)
@@ -83,11 +87,7 @@ module _ (known : Option (List ℕ)) (read input : List ℕ) (value : input ≡ 
   tells_known fault h = all_of (λ p i. Tells p i fault) (tells r input fault (inr h))
 
   pub memory_known : {A : Type 0} (fault : Fault A) → fault ≡ OutOfMemory → IsFaultOfInput r input fault → IfSome known (WantsMemory q)
-  memory_known fault is h = all_of WantsMemory (wants r (subst (IsFaultOfInput r input) is h))
-    where
-      wants : {A : Type 0} (r : Request) → IsFaultOfInput {A} r input OutOfMemory → WantsMemory r input
-      wants (find text) h = h
-      wants json h = h
+  memory_known fault is h = all_of WantsMemory (wants _ r input (subst (IsFaultOfInput r input) is h))
 
 pub words_known : {A : Type 0} (known : Option (List ℕ)) (r q : Request) → words_of r ≡ words_of q → (fault : Fault A) → IsFaultOfWords r fault → IfSome known (λ i. Tells q i fault)
 words_known known r q e fault h = some_always known (λ i. tells q i fault (inl (subst (λ p. IsFaultOfWords p fault) (same_request r q e) h)))

@@ -37,10 +37,10 @@ module _ {A : Type 0} (words input : List ℕ) (doc : CstRootNode A) (o : Option
     prints = prints;
   }
 
-  pub nothing_there : IsOfShown doc (λ d. Finds d doc tokens None) → IsFaultOfInput {A} (find words) input NoSuchValue
+  pub nothing_there : IsOfShown doc (λ d. Finds d doc tokens None) → IsFaultOfInput {A = A} (find words) input NoSuchValue
   nothing_there h = of_it _ (h shows.0 shows.3)
 
-  pub repeated_there : (name : String A) → IsOfShown doc (λ d. FindFails d doc tokens (error.RepeatedName name)) → IsFaultOfInput {A} (find words) input (RepeatedName name)
+  pub repeated_there : (name : String A) → IsOfShown doc (λ d. FindFails d doc tokens (error.RepeatedName name)) → IsFaultOfInput {A = A} (find words) input (RepeatedName name)
   repeated_there name h = of_it _ (h shows.0 shows.3)
 
   -- for what allocation failed

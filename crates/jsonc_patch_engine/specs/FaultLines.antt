@@ -8,7 +8,7 @@ use Rattle.jsonc_patch_engine.specs.declared.fault.Fault.TheVariants.{Input, NoS
 
 -- a line and a column
 abbrev pub place_text : ℕ → ℕ → List ℕ
-place_text line column = codes " on line " ++ decimal line ++ codes " column " ++ decimal column
+place_text line column = codes " on line " ++ (decimal line ++ (codes " column " ++ decimal column))
 
 abbrev pub fault_line : {A : Type 0} → Fault A → List ℕ
 fault_line (Input error) = codes "jsonc_patch: " ++ error_text error

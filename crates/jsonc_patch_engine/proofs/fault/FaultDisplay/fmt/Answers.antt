@@ -19,8 +19,8 @@ returns-in_ok-write_str-in-RepeatedName-clause-styled g c = λ flush ok.
     let before = c.in_ok-write_str-in-RepeatedName.ensures.styled flush refl in
     let line : fault_line c.args.self.now ≡ codes "jsonc_patch: Name stands twice: " ++ c.as_str.result.now =
     ap fault_line c.in-RepeatedName.is ∙ ap (λ (n : List ℕ). codes "jsonc_patch: Name stands twice: " ++ n) (sym c.as_str.ensures.value) in
-    subst (λ (t : List ℕ). HasWrittenStyled g.W.Write.write_str_gives c.args.f.now t c.write_str-in-RepeatedName.new.self) (sym line)
-    (has_written_styled_append _ _ _ _ _ _ before (c.write_str-in-RepeatedName.ensures.styled before.flush ok))
+    subst (λ (t : List ℕ). HasWrittenStyled g.W.Write.write_str_gives c.args.f.now t c.write_str-in-RepeatedName-2.new.self) (sym line)
+    (has_written_styled_append _ _ _ _ _ _ before (c.write_str-in-RepeatedName-2.ensures.styled before.flush ok))
 
 pub returns-in_ok-write_str-in-NonFinite-clause-styled : goal.returns-in_ok-write_str-in-NonFinite-clause-styled
 returns-in_ok-write_str-in-NonFinite-clause-styled g c = λ flush ok.
