@@ -1,5 +1,5 @@
 -- A document with a value, or without one.
-use Rattle.std.proofs.Common.{ℕ, ◌≡◌, ◌≢◌, ◌∙◌, ap, refl, sym, subst, List, [], ◌∷◌, Option, None, Some, Result, Ok, Err, IfOk, IfErr, chars, String}
+use Rattle.std.proofs.Common.{ℕ, ◌≡◌, ◌≢◌, refl, subst, List, [], ◌∷◌, Option, None, Some, Result, Ok, Err, IfOk, IfErr, chars, String}
 use Rattle.jsonc_text.specs.Gaps.{Gap}
 use Rattle.jsonc_text.specs.Grammar.{IsDocument}
 use Rattle.jsonc_text.specs.Options.{all_on}

@@ -1,5 +1,5 @@
 -- How a run ends, by the input that was read.
-use Rattle.std.proofs.Common.{◌≡◌, ◌⊎◌, ℕ, List, [], ◌∷◌, Option, None, Some, Result, Ok, Err, IfErr, IfOk, IfSome, OnErr, OnOk, ap, inl, inr, refl, subst, sym, ◌∙◌}
+use Rattle.std.proofs.Common.{◌≡◌, ℕ, List, [], ◌∷◌, Option, None, Some, Err, IfSome, ap, inl, inr, refl, subst, sym, ◌∙◌}
 use Rattle.std.specs.Prelude.{IsErrOf}
 use Rattle.std.specs.Io.KnownBytes.{Appends}
 use Rattle.jsonc_patch_engine.specs.Command.{Request, find, json, words_of}

@@ -1,11 +1,11 @@
 -- Gaps that are passed, and what is written for them.
-use Rattle.std.proofs.Common.{ℕ, ◌+◌, ◌≡◌, ◌≤◌, ◌∙◌, ap, refl, sym, subst, Bool, false, ◌==◌, List, [], ◌∷◌, ◌++◌, append_assoc, map, Option, Some, None, IfNone, IfSome, IsTrue, IsCharBoundary}
+use Rattle.std.proofs.Common.{ℕ, ◌+◌, ◌≡◌, ◌∙◌, ap, refl, sym, subst, ◌==◌, List, [], ◌∷◌, ◌++◌, append_assoc, map, Option, Some, None, IfNone, IfSome, IsTrue, IsCharBoundary}
 use Rattle.std.proofs.lemmas.List.{map-append}
 use Rattle.std.specs.Char.{len_utf8}
 use Rattle.jsonc_text.specs.Chars.{Steps}
-use Rattle.jsonc_text.specs.Gaps.{Gap, IsComment, comment, is_blank, none}
+use Rattle.jsonc_text.specs.Gaps.{Gap, IsComment, comment, is_blank}
 use Rattle.jsonc_text.specs.Options.{all_on}
-use Rattle.jsonc_text.specs.Text.{Many, next, no, rest, starts, step, stop}
+use Rattle.jsonc_text.specs.Text.{Many, next, no, rest, step, stop}
 use Rattle.jsonc_text.proofs.Basics.{no_starts}
 use Rattle.jsonc_text.proofs.Gaps.{blanks_gap, gap_append}
 use Rattle.jsonc_text.proofs.UniqueGaps.{comment_begins}

@@ -1,14 +1,13 @@
 -- A number is written as one of JSON, of the same value.
-use Rattle.std.proofs.Common.{ℕ, ◌≡◌, ◌≢◌, ◌+◌, ◌*◌, ◌^◌, ◌<◌, ◌≤◌, ◌∙◌, sym, ap, refl, subst, Bool, true, false, not, ◌||◌, ◌==◌, List, [], ◌∷◌, ◌++◌, append_assoc, append-nil, length, length-append, Option, Some, None, IsTrue, arith, inl, inr, ◌⊎◌}
+use Rattle.std.proofs.Common.{ℕ, ◌≡◌, ◌+◌, ◌*◌, ◌^◌, ◌<◌, sym, ap, refl, subst, Bool, true, false, List, [], ◌∷◌, ◌++◌, append-nil, length, length-append, IsTrue, arith, inl, inr, ◌⊎◌}
 use Rattle.std.proofs.lemmas.Bool.{cases_lt}
 use Rattle.std.proofs.lemmas.Str.Parse.{digit_from_value}
 use Rattle.std.specs.Char.{digit_value}
 use Rattle.std.specs.Int.{is_in_range}
 use Rattle.std.specs.Str.Parse.{AllDigits, IsNumeral, digits_value}
-use Rattle.jsonc_text.specs.Numbers.{is_e, is_x}
-use Rattle.jsonc_text.specs.Text.{Many, is_digit, next, starts, step, stop}
+use Rattle.jsonc_text.specs.Text.{Many, is_digit, step, stop}
 use Rattle.jsonc_parser.specs.Numbers.{Decimal, Exponent, Fraction, Hexadecimal, Sign, Unsigned, Whole}
-use Rattle.jsonc_parser.specs.patch.Numbers.{SameNumber, Writes, a_number, fraction}
+use Rattle.jsonc_parser.specs.patch.Numbers.{SameNumber, a_number, fraction}
 use Rattle.jsonc_patch_engine.specs.Json as rfc
 use Rattle.jsonc_patch_engine.specs.Rewritten.{IsNumberFor, IsUnsignedFor, minus_of, or_zero, with_point}
 

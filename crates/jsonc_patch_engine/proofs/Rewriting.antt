@@ -1,8 +1,8 @@
 -- What is written of a document is JSON, with the same value but for how numbers are written.
-use Rattle.std.proofs.Common.{ℕ, ◌≡◌, ◌∙◌, sym, ap, refl, Bool, true, false, not, ◌||◌, ◌==◌, List, [], ◌∷◌, ◌++◌, append_assoc, Option, Some, None, IsTrue, arith, inl, inr, ◌⊎◌, subst, if◌then◌else◌}
+use Rattle.std.proofs.Common.{ℕ, ◌≡◌, ◌∙◌, sym, ap, refl, Bool, true, false, not, ◌||◌, ◌==◌, List, [], ◌∷◌, ◌++◌, append_assoc, Option, Some, None, IsTrue, inl, inr, subst, if◌then◌else◌}
 use Rattle.jsonc_text.specs.Gaps.{Gap, IsComment, blank, comment, is_blank, none}
 use Rattle.jsonc_text.specs.Grammar as grammar
-use Rattle.jsonc_text.specs.Grammar.{AreElements, AreProperties, Closes, IsDocument, IsLooseName, IsName, IsProperty, IsValue, Separates, literal_value, may_name}
+use Rattle.jsonc_text.specs.Grammar.{AreElements, AreProperties, Closes, IsDocument, IsName, IsProperty, IsValue, Separates, literal_value, may_name}
 use Rattle.jsonc_text.specs.Lexemes.{Lexeme, LexemeKind, is_punctuation, lexeme}
 use Rattle.jsonc_text.specs.Options.{all_on}
 use Rattle.jsonc_text.specs.Plain.{Plain, Items, Members, item, member, no_items, no_members}
@@ -14,7 +14,7 @@ use Rattle.jsonc_text.proofs.Begins.{IsLiteral, begins_item, begins_literal, lex
 use Rattle.jsonc_text.proofs.UniqueGaps.{comment_begins, comment_no_blank, comment_unique}
 use Rattle.jsonc_text.proofs.UniqueLexemes.{scanned_unique}
 use Rattle.jsonc_text.proofs.UniqueTokens.{not_blank, scanned_no_blank}
-use Rattle.jsonc_text.proofs.UniqueValues.{elements_begin, not_gap, properties_begin, value_begins}
+use Rattle.jsonc_text.proofs.UniqueValues.{elements_begin, not_gap, properties_begin}
 use Rattle.jsonc_patch_engine.specs.Json as rfc
 use Rattle.jsonc_patch_engine.specs.Json.{IsJson, Quoted, Value, Elements, Properties, Member, is_ws, keyword_value}
 use Rattle.jsonc_patch_engine.specs.Rewritten.{ComesNext, IsLiteralFor, IsStringFor, IsWrittenFor, Rewritten, is_closed, is_named, mark_for, missing_comma, written_blank}

@@ -1,5 +1,5 @@
 -- Which strings are those of JSON, and what is spelled is one.
-use Rattle.std.proofs.Common.{ℕ, ◌≡◌, ◌≢◌, ◌+◌, ◌/◌, ◌%◌, ◌<◌, ◌≤◌, ◌∙◌, sym, ap, refl, Bool, true, false, not, ◌&&◌, ◌||◌, ◌==◌, List, [], ◌∷◌, ◌++◌, append_assoc, Option, Some, None, IsTrue, append-nil, arith, inl, inr, ◌⊎◌, subst, chars, encode_utf8_all, IsAscii, IsUtf8, if◌then◌else◌}
+use Rattle.std.proofs.Common.{ℕ, ◌≡◌, ◌≢◌, ◌+◌, ◌/◌, ◌%◌, ◌<◌, ◌∙◌, sym, ap, refl, Bool, true, false, not, ◌&&◌, ◌==◌, List, [], ◌∷◌, ◌++◌, append_assoc, Option, Some, None, IsTrue, append-nil, arith, subst, chars, encode_utf8_all, IsAscii, IsUtf8, if◌then◌else◌}
 use Rattle.std.specs.Prelude.{nat_lt}
 use Rattle.std.proofs.lemmas.Str.{IsUtf8-from_ascii, chars-IsAscii, chars-append, encodes-chars}
 use Rattle.std.proofs.lemmas.Str.Ascii.{IsAscii-cons, IsAscii-nil, encode_ascii}
@@ -7,10 +7,10 @@ use Rattle.std.specs.Char.{is_control}
 use Rattle.std.specs.Fmt.{digit_glyph}
 use Rattle.jsonc_text.specs.Options.{all_on}
 use Rattle.jsonc_text.specs.Spelling.{short_escape_of, spelled, spelled_by, spelled_char, spelled_inside, unit_escape}
-use Rattle.jsonc_text.specs.Strings.{AreHex4, Decodes, IsQuote, IsString, Piece, Pieces, extended, gives, line_end, meaning}
+use Rattle.jsonc_text.specs.Strings.{AreHex4, IsString, Piece, Pieces, extended, line_end, meaning}
 use Rattle.jsonc_text.specs.Text.{is_hex_digit}
 use Rattle.jsonc_text.specs.string.Escapes.{is_plain}
-use Rattle.jsonc_text.proofs.Basics.{and_both, clash, heads, or_cases, tails, test_eq}
+use Rattle.jsonc_text.proofs.Basics.{and_both, test_eq}
 use Rattle.jsonc_text.proofs.lemmas.string.Escapes.{hex_parts}
 use Rattle.jsonc_layout.proofs.lemmas.input.Spelled.{control_small, inside_decodes}
 use Rattle.jsonc_patch_engine.specs.Json.{Character, Characters, Quoted, is_unescaped}

@@ -1,10 +1,10 @@
 -- One token after another is written.
-use Rattle.std.proofs.Common.{ℕ, ◌+◌, ◌-◌, ◌≡◌, ◌≤◌, ◌<◌, ◌∙◌, ap, refl, sym, subst, Bool, false, List, [], ◌∷◌, ◌++◌, append_assoc, append-nil, map, Option, Some, None, IsTrue, IsCharBoundary, IsUtf8, arith, chars, length, slice_range}
+use Rattle.std.proofs.Common.{ℕ, ◌+◌, ◌-◌, ◌≡◌, ◌≤◌, ◌<◌, ◌∙◌, ap, refl, sym, subst, false, List, [], ◌++◌, append-nil, map, Option, Some, None, IsCharBoundary, IsUtf8, arith, chars, length, slice_range}
 use Rattle.jsonc_scan.specs.declared.scanner.Scanner.{Scanner}
 use Rattle.jsonc_scan.specs.Scanner.{IsThere, PassesBlanks, end_of, options_of, start_of, text_of}
 use Rattle.jsonc_text.specs.Gaps.{IsComment, is_blank}
 use Rattle.jsonc_text.specs.Lexemes.{IsScanned, Lexeme, LexemeKind, Scanned, lexeme, number}
-use Rattle.jsonc_text.specs.Options.{Options, all_on}
+use Rattle.jsonc_text.specs.Options.{all_on}
 use Rattle.jsonc_text.specs.Text.{Many, Spans, rest}
 use Rattle.jsonc_text.proofs.Basics.{front_same}
 use Rattle.jsonc_text.proofs.CharacterSteps.{rest_end}

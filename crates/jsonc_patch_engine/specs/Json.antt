@@ -1,6 +1,6 @@
 -- Which texts are JSON, with their values (RFC 8259). A text is a list of its characters, and its bytes are UTF-8 (8.1).
 -- A part may end anywhere: what the rules let stand behind it decides.
-use Rattle.std.specs.Prelude.{ℕ, ◌≡◌, Bool, true, false, not, ◌&&◌, ◌||◌, ◌==◌, List, [], ◌∷◌, ◌++◌, IsTrue, nat_lt}
+use Rattle.std.specs.Prelude.{ℕ, ◌≡◌, Bool, not, ◌&&◌, ◌||◌, ◌==◌, List, [], ◌∷◌, ◌++◌, IsTrue, nat_lt}
 use Rattle.std.specs.Int.{is_in_range}
 use Rattle.jsonc_text.specs.Numbers.{is_e, is_sign}
 use Rattle.jsonc_text.specs.Plain.{Plain, Items, no_items, item, Members, no_members, member}

@@ -1,5 +1,5 @@
 -- What is written of a document as JSON: lexeme by lexeme, the blanks between them, and no comment.
-use Rattle.std.specs.Prelude.{ℕ, ◌≡◌, ◌<◌, length, ◌⊎◌, ◌&&◌, ◌||◌, ◌==◌, Bool, true, false, not, List, [], ◌∷◌, ◌++◌, codes, Option, Some, None, IsTrue, if◌then◌else◌}
+use Rattle.std.specs.Prelude.{ℕ, ◌≡◌, ◌<◌, length, ◌⊎◌, ◌||◌, ◌==◌, Bool, true, false, List, [], ◌∷◌, ◌++◌, codes, Option, Some, None, IsTrue, if◌then◌else◌}
 use Rattle.std.specs.Str.Parse.{IsNumeral, digits_value}
 use Rattle.jsonc_text.specs.Gaps.{Gap, IsComment, is_blank}
 use Rattle.jsonc_text.specs.Lexemes.{Lexeme, LexemeKind}

@@ -1,5 +1,5 @@
 //! One run of the program, over any source and sink.
-ghost use Rattle.std.specs.Prelude.{◌≡◌, ◌↔◌, ℕ, List, IfErr, IfOk, IfSome, IsErrOf, OnErr, OnOk, string_bytes};
+ghost use Rattle.std.specs.Prelude.{◌≡◌, ◌↔◌, IfErr, IfOk, IfSome, IsErrOf, OnErr, OnOk, string_bytes};
 ghost use Rattle.jsonc_engine.specs.Calls.{one_more};
 ghost use Rattle.jsonc_patch_engine.specs.Command.{Name, json, request_of, Request as Asked};
 ghost use Rattle.jsonc_patch_engine.specs.Results.{IsFaultOfInput, IsFaultOfWords, IsFaultOn, IsWritten};

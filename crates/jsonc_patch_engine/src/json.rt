@@ -3,8 +3,7 @@
 //! Its comments go, each without the end of its line, and so do trailing commas; a comma that is missing is written
 //! directly behind its entry. Names and strings are in double quotes, and numbers as JSON writes them, with the same
 //! value. Each other byte stays, but a blank that is none of JSON becomes a space.
-ghost use Rattle.std.specs.Prelude.{◌≡◌, ◌≢◌, ◌≤◌, ◌++◌, ◌∷◌, [], ℕ, List, IfErr, IsCharBoundary, Option, IfOk, OnOk, Some, chars, map, false, true, string_bytes};
-ghost use Rattle.std.specs.Cow.{cow_str_bytes};
+ghost use Rattle.std.specs.Prelude.{◌≡◌, ◌≢◌, ◌++◌, ◌∷◌, [], ℕ, List, IfErr, Option, IfOk, OnOk, Some, chars, map, false, true};
 ghost use Rattle.jsonc_scan.specs.Scanner.{seen, IsThere, PassesBlanks};
 ghost use Rattle.jsonc_text.specs.Grammar.{IsDocument};
 ghost use Rattle.jsonc_text.specs.Plain.{Plain};

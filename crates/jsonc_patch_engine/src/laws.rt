@@ -1,6 +1,6 @@
 //! Laws of the definitions: each is the contract of a function that does nothing.
 
-ghost use Rattle.std.specs.Prelude.{◌≡◌, List, Some, [], ℕ};
+ghost use Rattle.std.specs.Prelude.{List, Some, [], ℕ};
 ghost use Rattle.jsonc_text.specs.Grammar.{IsDocument};
 ghost use Rattle.jsonc_text.specs.Options.{all_on};
 ghost use Rattle.jsonc_text.specs.Plain.{Plain};

@@ -1,5 +1,5 @@
 //! Text that is written, by its characters.
-ghost use Rattle.std.specs.Prelude.{◌≡◌, ◌++◌, [], ◌∷◌, OnOk, chars, string_bytes};
+ghost use Rattle.std.specs.Prelude.{◌≡◌, ◌++◌, [], ◌∷◌, OnOk, chars};
 ghost use Rattle.jsonc_patch_engine.specs.Output.{text_of};
 
 use std::alloc::{AllocError, Allocator};

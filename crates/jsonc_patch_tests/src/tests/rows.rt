@@ -1,7 +1,8 @@
 //! Rows of runs: the words, the input, and what is written or told.
 
 /// The document of RFC 6901, 5.
-const EXAMPLE: &str = "{\"foo\": [\"bar\", \"baz\"], \"\": 0, \"a/b\": 1, \"c%d\": 2, \"e^f\": 3, \"g|h\": 4, \"i\\\\j\": 5, \"k\\\"l\": 6, \" \": 7, \"m~n\": 8}";
+const EXAMPLE: &str =
+    "{\"foo\": [\"bar\", \"baz\"], \"\": 0, \"a/b\": 1, \"c%d\": 2, \"e^f\": 3, \"g|h\": 4, \"i\\\\j\": 5, \"k\\\"l\": 6, \" \": 7, \"m~n\": 8}";
 
 /// The pointers of RFC 6901, 5, with what they refer to; others through arrays and names of all forms; and each form that
 /// `json` writes anew.
@@ -32,13 +33,21 @@ pub static WRITTEN: [(&[&str], &str, &str); 40] = [
     (&["json"], "1.50e00", "1.50e00"),
     (&["json"], "0x0", "0"),
     (&["json"], "-0XfF", "-255"),
-    (&["json"], "0x00FFFFFFFFFFFFFFFFFFFF", "1208925819614629174706175"),
+    (
+        &["json"],
+        "0x00FFFFFFFFFFFFFFFFFFFF",
+        "1208925819614629174706175",
+    ),
     (&["json"], "'say \"hi\"'", "\"say \\\"hi\\\"\""),
     (&["json"], "\"\\x41\\v\"", "\"A\\u000b\""),
     (&["json"], "\"a\\/\\u0041\"", "\"a\\/\\u0041\""),
     (&["json"], "\"a\tb\"", "\"a\\tb\""),
     (&["json"], "[1, 2, ]", "[1, 2 ]"),
-    (&["json"], "[1 'a'[] {}\n null]", "[1, \"a\",[], {},\n null]"),
+    (
+        &["json"],
+        "[1 'a'[] {}\n null]",
+        "[1, \"a\",[], {},\n null]",
+    ),
     (&["json"], "[1/**/2]", "[1,2]"),
     (&["json"], "{a: 1 b: 2,}", "{\"a\": 1, \"b\": 2}"),
     (&["json"], "// a\r\n[ /* b */ ]// c", "\r\n[  ]"),
@@ -117,7 +126,12 @@ pub static TOLD: [(&[&str], &str, &str, u8); 22] = [
     ),
     (&[], "1", "usage: jsonc_patch find POINTER|json", 2),
     (&["find"], "1", "usage: jsonc_patch find POINTER|json", 2),
-    (&["json", ""], "1", "usage: jsonc_patch find POINTER|json", 2),
+    (
+        &["json", ""],
+        "1",
+        "usage: jsonc_patch find POINTER|json",
+        2,
+    ),
     (
         &["find", "", ""],
         "1",

@@ -17,7 +17,10 @@ fn each_run_writes_what_its_row_says(rt: HostRuntime) -> Result<(), Fail> {
             rest: output.as_bytes(),
         });
         let ended = engine(rt.alloc(), words, &mut source, &mut sink);
-        assert!(rt; ended.is_ok() && sink.writer.rest.is_empty(), "{words:?} {input:?}");
+        assert!(rt;
+            ended.is_ok() && sink.writer.rest.is_empty(),
+            "{words:?} {input:?}"
+        );
     }
     Ok(())
 }

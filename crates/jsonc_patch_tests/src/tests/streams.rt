@@ -141,7 +141,10 @@ fn a_failed_read_is_told_and_nothing_written(rt: HostRuntime) -> Result<(), Fail
     for (words, input, _output, count, _writes) in &CASES {
         for reads in 0..*count {
             let run = run(rt.alloc(), words, input, reads, 100);
-            assert!(rt; is_told(&run, "jsonc_patch: read failed"), "{words:?} after {reads} reads");
+            assert!(rt;
+                is_told(&run, "jsonc_patch: read failed"),
+                "{words:?} after {reads} reads"
+            );
             assert!(rt; run.reads.failed == 1 && run.empty_reads == 0);
             assert!(rt; run.writes.made == 0 && run.written.is_empty());
         }
@@ -154,7 +157,10 @@ fn a_failed_write_leaves_a_beginning(rt: HostRuntime) -> Result<(), Fail> {
     for (words, input, output, reads, count) in &CASES {
         for writes in 0..*count {
             let run = run(rt.alloc(), words, input, 100, writes);
-            assert!(rt; is_told(&run, "jsonc_patch: write failed"), "{words:?} after {writes} writes");
+            assert!(rt;
+                is_told(&run, "jsonc_patch: write failed"),
+                "{words:?} after {writes} writes"
+            );
             assert!(rt; output.starts_with(run.written.as_slice()));
             assert!(rt; run.writes.failed == 1 && run.reads.made == *reads);
         }
@@ -166,7 +172,10 @@ fn a_failed_write_leaves_a_beginning(rt: HostRuntime) -> Result<(), Fail> {
 fn all_is_read_and_written(rt: HostRuntime) -> Result<(), Fail> {
     for (words, input, output, reads, writes) in &CASES {
         let run = run(rt.alloc(), words, input, *reads, *writes);
-        assert!(rt; run.ended.is_ok() && run.written.as_slice() == *output, "{words:?}");
+        assert!(rt;
+            run.ended.is_ok() && run.written.as_slice() == *output,
+            "{words:?}"
+        );
         assert!(rt; run.reads.made == *reads && run.empty_reads == 1);
         assert!(rt; run.writes.made == *writes);
     }
@@ -175,9 +184,16 @@ fn all_is_read_and_written(rt: HostRuntime) -> Result<(), Fail> {
 
 #[test]
 fn usage_and_a_refused_pointer_come_before_reading(rt: HostRuntime) -> Result<(), Fail> {
-    for words in [["find", "a"].as_slice(), ["find"].as_slice(), ["json", ""].as_slice()] {
+    for words in [
+        ["find", "a"].as_slice(),
+        ["find"].as_slice(),
+        ["json", ""].as_slice(),
+    ] {
         let run = run(rt.alloc(), words, b"1", 100, 100);
-        assert!(rt; run.ended.is_err() && run.reads.made == 0 && run.writes.made == 0, "{words:?}");
+        assert!(rt;
+            run.ended.is_err() && run.reads.made == 0 && run.writes.made == 0,
+            "{words:?}"
+        );
     }
     Ok(())
 }

@@ -1,4 +1,4 @@
-use Rattle.std.proofs.Common.{ap, chars, subst, ◌≡◌}
+use Rattle.std.proofs.Common.{chars, subst, ◌≡◌}
 use Rattle.jsonc_text.specs.Lexemes.{lexeme, punctuation}
 use Rattle.jsonc_patch_engine.specs.Output.{text_of}
 use Rattle.jsonc_patch_engine.specs.Tokens.{IsTokenOf}

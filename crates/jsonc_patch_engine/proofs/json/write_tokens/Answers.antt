@@ -1,10 +1,9 @@
-use Rattle.std.proofs.Common.{None, Some, ap, chars, subst, sym, ◌∙◌, ◌≡◌, IfSome, Option}
+use Rattle.std.proofs.Common.{Some, ap, chars, subst, sym, ◌∙◌, ◌≡◌}
 use Rattle.std.proofs.lemmas.Str.{chars-nil}
 use Rattle.jsonc_scan.specs.Scanner.{IsThere, scanned_seen, seen, text_of as scanned_text}
 use Rattle.jsonc_patch_engine.specs.Causes.{Stops}
 use Rattle.jsonc_patch_engine.specs.Output.{text_of}
 use Rattle.jsonc_patch_engine.specs.Tokens.{IsTokenOf}
-use Rattle.jsonc_patch_engine.specs.declared.json.JsonError.TheVariants.{OutOfMemory}
 use Rattle.jsonc_patch_engine.proofs.ToldTokens.{if_err, if_ok, told}
 use Rattle.jsonc_patch_engine.proofs.WrittenTokens.{begun, is_ready, smaller, so_far_next, stands, written_whole}
 use Rattle.jsonc_patch_engine.proofs.json.write_tokens.Goals as goal

@@ -1,4 +1,3 @@
-use Rattle.std.proofs.Common.{None, Some, ◌≡◌}
 use Rattle.std.proofs.lemmas.Str.{IsCharBoundary-start}
 use Rattle.jsonc_patch_engine.proofs.Documents.{err_caused, no_value, ok_written, some_value}
 use Rattle.jsonc_patch_engine.proofs.json.write_value.Goals as goal

@@ -1,4 +1,4 @@
-use Rattle.std.proofs.Common.{codes, inl, inr, sym, true≢false, ◌∙◌, ◌≡◌, ◌⊎◌}
+use Rattle.std.proofs.Common.{codes, inl, inr, sym, true≢false, ◌∙◌, ◌≡◌}
 use Rattle.std.proofs.lemmas.Slice.Eq.{bytes_eq-Decides}
 use Rattle.jsonc_patch_engine.proofs.NumberForms.{non_finite_is, non_finite_only}
 use Rattle.jsonc_patch_engine.proofs.json.number.is_non_finite.Goals as goal
