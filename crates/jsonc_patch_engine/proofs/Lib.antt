@@ -7,4 +7,3 @@ pub mod ToldTokens
 pub mod WrittenTokens
 pub mod Documents
 pub mod Finding
-pub mod Ending

@@ -1,5 +1,5 @@
 -- One token after another is written.
-use Rattle.std.proofs.Common.{ℕ, ◌+◌, ◌-◌, ◌≡◌, ◌≤◌, ◌<◌, ◌∙◌, ap, refl, sym, subst, false, List, [], ◌++◌, append-nil, map, Option, Some, None, IsCharBoundary, IsUtf8, arith, chars, length, slice_range}
+use Rattle.std.proofs.Common.{ℕ, ◌-◌, ◌≡◌, ◌≤◌, ◌<◌, ◌∙◌, ap, refl, sym, subst, false, List, [], ◌++◌, append-nil, map, Option, Some, None, IsCharBoundary, IsUtf8, arith, chars, length, slice_range}
 use Rattle.jsonc_scan.specs.declared.scanner.Scanner.{Scanner}
 use Rattle.jsonc_scan.specs.Scanner.{IsThere, PassesBlanks, end_of, options_of, start_of, text_of}
 use Rattle.jsonc_text.specs.Gaps.{IsComment, is_blank}

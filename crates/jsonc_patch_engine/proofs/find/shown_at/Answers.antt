@@ -1,4 +1,4 @@
-use Rattle.std.proofs.Common.{ℕ, ◌≡◌, ◌++◌, ◌∙◌, List, [], ◌∷◌, ap, string_bytes, subst}
+use Rattle.std.proofs.Common.{ℕ, ◌≡◌, ◌++◌, ◌∙◌, List, [], ◌∷◌, ap, string_bytes, subst, true}
 use Rattle.jsonc_text.specs.OptionsOf.{parse_options}
 use Rattle.jsonc_ast.specs.to_ast.Faults.{ParseFault}
 use Rattle.jsonc_ast.specs.to_ast.Refusals.{Refuses}
@@ -30,8 +30,8 @@ pub returns-in-Err-RepeatedName-clause-refused : goal.returns-in-Err-RepeatedNam
 returns-in-Err-RepeatedName-clause-refused g c = λ words pointer.
     let doc = c.in-Ok.document in
     let tokens = tokens_of c.args.pointer.now in
-    repeated_there words c.args.text.now doc (parse_options c.default.result) c.default.ensures tokens pointer c.in-Ok.ensures.document c.in-Err-RepeatedName.name
-    (subst (λ e. IsOfShown doc (λ d. FindFails d doc tokens e)) c.in-Err-RepeatedName.field-0-is c.in-Err-RepeatedName.ensures.fails)
+    rw c.in-Err-RepeatedName.field-0-is (repeated_there words c.args.text.now doc (parse_options c.default.result) c.default.ensures tokens pointer c.in-Ok.ensures.document c.in-Err-RepeatedName.name
+    (subst (λ e. IsOfShown doc (λ d. FindFails d doc tokens e)) c.in-Err-RepeatedName.field-0-is c.in-Err-RepeatedName.ensures.fails))
 
 pub returns-in-Err-OutOfMemory-clause-refused : goal.returns-in-Err-OutOfMemory-clause-refused
 returns-in-Err-OutOfMemory-clause-refused g c = λ words pointer.
@@ -40,8 +40,8 @@ returns-in-Err-OutOfMemory-clause-refused g c = λ words pointer.
     memory_finding words c.args.text.now doc (parse_options c.default.result) c.default.ensures tokens pointer c.in-Ok.ensures.document
     (subst (λ e. IsOfShown doc (λ d. FindFails d doc tokens e)) c.in-Err-OutOfMemory.field-0-is c.in-Err-OutOfMemory.ensures.fails)
 
-pub returns-in-Err-format-clause-refused : goal.returns-in-Err-format-clause-refused
-returns-in-Err-format-clause-refused g c = λ words pointer.
+pub returns-clause-refused : goal.returns-clause-refused
+returns-clause-refused g c = λ words pointer.
     let doc = c.in-Ok.document in
     let tokens = tokens_of c.args.pointer.now in
     memory_showing words c.args.text.now doc (parse_options c.default.result) c.default.ensures tokens pointer c.in-Ok.ensures.document c.in-Ok-Some.node
