@@ -73,7 +73,10 @@ fn read_on<A: Allocator, S: Source>(
 }
 
 /// All that the source has left.
-pub fn read_whole<A: Allocator + Copy, S: Source>(alloc: A, source: &mut S) -> Result<Vec<u8, A>, Fault>
+pub fn read_whole<A: Allocator + Copy, S: Source>(
+    alloc: A,
+    source: &mut S,
+) -> Result<Vec<u8, A>, Fault>
     ensures bytes { IfOk result (λ read. IfSome (S.remaining source.old) (λ input. read.items ≡ input)) }
     ensures ended { OnOk result (S.empty_reads source.new ≡ one_more (S.empty_reads source.old)) }
     ensures not_ended { OnErr result (S.empty_reads source.new ≡ S.empty_reads source.old) }
