@@ -180,6 +180,19 @@ static PATCHES: [Row; 30] = [
     ("[]", r#"{"op":"remove","path":""}"#, Answer::NoPatch(0)),
 ];
 
+/// Two texts have one value.
+fn have_one_value<'a, A: Allocator + Copy>(alloc: A, one: &'a str, other: &'a str) -> Outcome {
+    let options = ParseOptions::default();
+    let one = match parse_to_value(alloc, one, &options) {
+        Ok(value) => value,
+        Err(error) => return Outcome::from(error),
+    };
+    match parse_to_value(alloc, other, &options) {
+        Ok(other) => Outcome::of(one == other),
+        Err(error) => Outcome::from(error),
+    }
+}
+
 /// A text is that of the answer, or has its value.
 fn matches<A: Allocator + Copy>(alloc: A, doc: &CstRootNode<A>, answer: Answer<'_>) -> Outcome {
     let text = match doc.text() {
@@ -191,15 +204,7 @@ fn matches<A: Allocator + Copy>(alloc: A, doc: &CstRootNode<A>, answer: Answer<'
         Answer::Value(wanted) => wanted,
         _ => return Outcome::Other,
     };
-    let options = ParseOptions::default();
-    match (
-        parse_to_value(alloc, &text, &options),
-        parse_to_value(alloc, wanted, &options),
-    ) {
-        (Ok(value), Ok(wanted)) => Outcome::of(value == wanted),
-        (Err(error), _) => Outcome::from(error),
-        (_, Err(error)) => Outcome::from(error),
-    }
+    have_one_value(alloc, &text, wanted)
 }
 
 /// What came of an operation that was refused.

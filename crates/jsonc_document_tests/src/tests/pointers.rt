@@ -220,6 +220,9 @@ fn put_pointer<A: Allocator + Copy>(
     node: CstNode,
     told: &mut String<A>,
 ) -> Outcome {
+    if !doc.holds(node) {
+        return Outcome::Other;
+    }
     let pointer = match patch::pointer_of(doc, node) {
         Ok(Some(pointer)) => pointer,
         Ok(None) => return Outcome::Answered,

@@ -1,6 +1,6 @@
 //! Each request for memory of a run, refused in turn.
 
-use crate::tests::rows::{TOLD, WRITTEN};
+use crate::tests::rows::{Row, TOLD, WRITTEN};
 use failing_alloc::Refusing;
 use failing_alloc::awaited::{Awaited, prints};
 use failing_alloc::in_turn::is_refused_in_turn;
@@ -23,12 +23,8 @@ fn is_of_memory<A: Allocator>(fault: &Fault<A>) -> bool {
 }
 
 /// What came of a run that can succeed.
-fn outcome_of(
-    heap: &Refusing<Global>,
-    words: &'static [&'static str],
-    input: &'static str,
-    output: &'static str,
-) -> Outcome {
+fn outcome_of<A: Allocator + Copy>(heap: A, row: &Row) -> Outcome {
+    let (words, input, output) = *row;
     let mut source = FromReader::new(input.as_bytes());
     let mut sink = ToWriter::new(Awaited {
         rest: output.as_bytes(),
@@ -41,12 +37,20 @@ fn outcome_of(
     }
 }
 
+/// What came of the run of a number.
+fn outcome_at<A: Allocator + Copy>(heap: A, number: usize) -> Outcome {
+    match WRITTEN.get(number) {
+        Some(row) => outcome_of(heap, row),
+        None => Outcome::Other,
+    }
+}
+
 #[test]
 fn each_request_is_refused_in_turn(rt: HostRuntime) -> Result<(), Fail> {
-    for (words, input, output) in &WRITTEN {
+    for number in 0..WRITTEN.len() {
         assert!(rt;
-            is_refused_in_turn(rt.alloc(), |heap| outcome_of(heap, words, input, output)),
-            "{words:?} {input:?}"
+            is_refused_in_turn(rt.alloc(), |heap| outcome_at(heap, number)),
+            "run {number}"
         );
     }
     Ok(())

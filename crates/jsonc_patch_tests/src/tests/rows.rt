@@ -4,9 +4,12 @@
 const EXAMPLE: &str =
     "{\"foo\": [\"bar\", \"baz\"], \"\": 0, \"a/b\": 1, \"c%d\": 2, \"e^f\": 3, \"g|h\": 4, \"i\\\\j\": 5, \"k\\\"l\": 6, \" \": 7, \"m~n\": 8}";
 
+/// The words, the input, and what is written.
+pub type Row = (&'static [&'static str], &'static str, &'static str);
+
 /// The pointers of RFC 6901, 5, with what they refer to; others through arrays and names of all forms; and each form that
 /// `json` writes anew.
-pub static WRITTEN: [(&[&str], &str, &str); 40] = [
+pub static WRITTEN: [Row; 40] = [
     (&["find", "/foo"], EXAMPLE, "[\"bar\", \"baz\"]\n"),
     (&["find", "/foo/0"], EXAMPLE, "\"bar\"\n"),
     (&["find", "/"], EXAMPLE, "0\n"),
