@@ -106,7 +106,8 @@ fn names_of<'a, A: Allocator + Copy>(
     alloc: A,
     members: &'a [(String<A>, CstInputValue<A>)],
 ) -> Result<Option<Names<'a, A>>, AllocError>
-    ensures names { IfOk result (λ o. IfSome o (λ names. map (λ name. name.now) names.keys ≡ map (λ p. string_bytes p.0) members.now)) }
+    ensures names { IfOk result
+        (λ o. IfSome o (λ names. map (λ name. name.now) names.keys ≡ map (λ p. string_bytes p.0) members.now)) }
     ensures repeated { IfOk result (λ o. IfNone o (MembersHaveUniqueNames (members_plain members.now) → ⊥)) }
 {
     let mut names = IndexSet::new(alloc);
