@@ -45,9 +45,9 @@ impl<A: Allocator + Copy> Patch<A> {
     ///
     /// What is added to an object comes behind its other members, or in the place of the value of the one that
     /// has the name. A value that is copied or moved is taken as by [`read`](super::read) and written as edits
-    /// write values. If the document is sound, it is sound again: every comment stays, and every byte outside of
-    /// what the operations change. It keeps its options where each number that is written is one of them, as it
-    /// is of a patch that was read under them.
+    /// write values. If the document is sound, and the numbers that are written are of its options, as those of a
+    /// patch are that was read under them, it is sound again: every comment stays, and every byte outside of what
+    /// the operations change.
     ///
     /// On an error the answer is which operation was not made, and why, and the document and each of its nodes
     /// are as they were.
