@@ -20,12 +20,12 @@ mod reading;
 mod reference;
 mod values;
 
-pub use apply::{Patch, PatchFault};
+pub use apply::PatchFault;
 pub use location::pointer_of;
 pub use making::PatchCause;
 pub use merging::{MergeFault, merge};
 pub use numbers::same_number;
 pub use operation::{Member, Operation, OperationFault};
 pub use pointer::{Pointer, PointerError};
-pub use reading::PatchError;
+pub use reading::{Patch, PatchError};
 pub use reference::{FindError, find, read};

@@ -14,11 +14,11 @@ module _ {A : Type 0} where
   operation_fault_text NotAnObject = codes "Operation is no object"
   operation_fault_text (Missing member) = codes "Operation lacks " ++ member_name member
   operation_fault_text (Wrong member) = codes "Operation has a wrong " ++ member_name member
-  operation_fault_text (Pointer member e) = member_name member ++ codes ": " ++ pointer_error_text e
+  operation_fault_text (Pointer member e) = member_name member ++ (codes ": " ++ pointer_error_text e)
   operation_fault_text (RepeatedName name) = codes "Name stands twice: " ++ string_bytes name
   operation_fault_text OutOfMemory = codes "Out of memory"
 
   abbrev pub patch_error_text : PatchError A → List ℕ
   patch_error_text (error.Parse e) = error_text e
   patch_error_text error.NotAnArray = codes "Patch is no array"
-  patch_error_text (error.Operation number fault) = codes "Operation " ++ decimal number ++ codes ": " ++ operation_fault_text fault
+  patch_error_text (error.Operation number fault) = codes "Operation " ++ (decimal number ++ (codes ": " ++ operation_fault_text fault))

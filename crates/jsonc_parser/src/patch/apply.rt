@@ -3,22 +3,16 @@
 ghost use Rattle.std.specs.Prelude.{◌≡◌, true, OnErr, OnOk};
 ghost use Rattle.std.specs.List.{All};
 ghost use Rattle.jsonc_cst.specs.Document.{HasNode};
-ghost use Rattle.jsonc_parser.specs.patch.Applied.{asked, is_one_edit, FitsIn, IsKept, MakesWhatShown, PatchesWhatShown};
+ghost use Rattle.jsonc_parser.specs.patch.Applied.{is_one_edit, IsKept, MakesWhatShown, PatchesWhatShown};
+ghost use Rattle.jsonc_parser.specs.patch.Asked.{asked, FitsIn};
 
 use super::making::{PatchCause, make};
-use super::operation::{Operation, OperationFault, read_operation};
-use jsonc_cst::cst::{CstNode, CstRootNode, EditError};
-use jsonc_text::errors::ParseError;
-use jsonc_text::options::ParseOptions;
+use super::operation::Operation;
+use super::reading::Patch;
+use jsonc_cst::cst::{CstRootNode, EditError};
 use std::alloc::Allocator;
 use std::error::Error;
 use std::fmt;
-
-/// A JSON Patch (RFC 6902): operations, made in order.
-#[derive(Debug, Drop)]
-pub struct Patch<A: Allocator> {
-    operations: Vec<Operation<A>, A>,
-}
 
 /// Which operation of a patch was not made, and why.
 #[derive(Debug, Drop)]
@@ -47,27 +41,6 @@ fn write_number<W: fmt::Write>(number: usize, f: &mut fmt::Formatter<W>) -> fmt:
 }
 
 impl<A: Allocator + Copy> Patch<A> {
-    /// The patch that a JSON text writes.
-    ///
-    /// The text is an array of objects, each with the members `op` and `path`, and with `value` or `from`
-    /// where its operation has one. Other members are ignored. No name may stand twice in an operation, or in
-    /// a value that it has.
-    ///
-    /// The text is parsed under the options as by `parse_to_ast`, with the same errors.
-    pub fn from_json(
-        alloc: A,
-        text: &str,
-        options: &ParseOptions,
-    ) -> Result<Patch<A>, PatchError<A>>
-        ensures patch { IfOk result (λ p. IsPatch (parse_options options.now) (chars text.now) (operations_of p)) }
-        ensures fault { IfErr result (IsFaultOfPatch (parse_options options.now) text.now) }
-    {
-        match read_patch(alloc, text, options) {
-            Ok(operations) => Ok(Patch { operations }),
-            Err(error) => Err(error),
-        }
-    }
-
     /// Makes the operations in order, each in the document that the ones before it made.
     ///
     /// On an error the answer is which operation was not made, and why, and the document and each of its nodes
@@ -79,19 +52,10 @@ impl<A: Allocator + Copy> Patch<A> {
         ensures patched { OnOk result (PatchesWhatShown doc.old self.now.operations.items doc.new) }
         ensures kept { OnErr result (IsKept doc.old doc.new) }
     {
-        match self.operations.as_slice() {
+        match self.operations() {
             [operation] if is_one_edit(operation) => make_first(doc, operation),
             operations => make_on_copy(doc, operations),
         }
-    }
-}
-
-impl<A: Allocator> Patch<A> {
-    /// Its operations.
-    pub fn operations(&self) -> &[Operation<A>]
-        ensures { map asked result.now ≡ operations_of self.now }
-    {
-        &self.operations
     }
 }
 

@@ -1,15 +1,17 @@
-//! How a patch is read from its text.
+//! Patches, and how they are read from their texts.
 
 ghost use Rattle.std.specs.Prelude.{◌≡◌, chars, map, IfErr, IfOk, IfNone, IfSome, Some};
+ghost use Rattle.std.specs.List.{All};
 ghost use Rattle.jsonc_ast.specs.Located.{items_at};
 ghost use Rattle.jsonc_ast.specs.Views as ast;
 ghost use Rattle.jsonc_ast.specs.Views.{items_located};
 ghost use Rattle.jsonc_layout.specs.input.Views.{plain};
-ghost use Rattle.jsonc_parser.specs.patch.Asked.{asked};
+ghost use Rattle.jsonc_parser.specs.patch.Asked.{asked, FitsIn};
 ghost use Rattle.jsonc_parser.specs.patch.Equality.{HasMember};
 ghost use Rattle.jsonc_parser.specs.patch.PatchMessages.{patch_error_text};
 ghost use Rattle.jsonc_parser.specs.patch.PatchFaults.{member_name, IsFaultOfItems, IsFaultOfMembers, IsFaultOfOperation, IsFaultOfPatch, IsForText, Needs};
 ghost use Rattle.jsonc_parser.specs.patch.PatchReading.{kind_name, said, IsNoKind};
+ghost use Rattle.jsonc_parser.specs.patch.Patches.{operations_in, operations_of};
 ghost use Rattle.jsonc_parser.specs.patch.PatchTexts.{AreOperations, HasOperand, IsNamed, IsOperation, IsPatch, PointsTo, Says};
 ghost use Rattle.jsonc_parser.specs.patch.Pointer.{tokens_of};
 ghost use Rattle.jsonc_text.specs.OptionsOf.{parse_options};
@@ -27,6 +29,53 @@ use jsonc_text::options::ParseOptions;
 use std::alloc::Allocator;
 use std::error::Error;
 use std::fmt;
+
+/// A JSON Patch (RFC 6902): operations in their order.
+#[derive(Debug, Drop)]
+pub struct Patch<A: Allocator> {
+    operations: Vec<Operation<A>, A>,
+}
+
+impl<A: Allocator + Copy> Patch<A> {
+    /// The patch that a JSON text is.
+    ///
+    /// The text is an array of operations. Each is an object with the members `op` and `path`, and with `value` or
+    /// `from` where it wants one; other members are ignored. No name may stand twice in an operation, or in an
+    /// object in its value. This is one:
+    ///
+    /// ```text
+    /// [
+    ///     { "op": "test", "path": "/version", "value": "0.2.0" },
+    ///     { "op": "add", "path": "/configurations/-", "value": { "name": "Launch" } },
+    ///     { "op": "move", "from": "/old", "path": "/new" }
+    /// ]
+    /// ```
+    ///
+    /// It is parsed under the options as by `parse_to_ast`, with the same errors.
+    pub fn from_json(
+        alloc: A,
+        text: &str,
+        options: &ParseOptions,
+    ) -> Result<Patch<A>, PatchError<A>>
+        ensures patch { IfOk result (λ p. IsPatch (parse_options options.now) (chars text.now) (operations_of p)) }
+        ensures fits { IfOk result (λ p. All (FitsIn (parse_options options.now)) (operations_in p)) }
+        ensures fault { IfErr result (IsFaultOfPatch (parse_options options.now) text.now) }
+    {
+        match read_patch(alloc, text, options) {
+            Ok(operations) => Ok(Patch { operations }),
+            Err(error) => Err(error),
+        }
+    }
+}
+
+impl<A: Allocator> Patch<A> {
+    /// Its operations.
+    pub fn operations(&self) -> &[Operation<A>]
+        ensures { result.now ≡ operations_in self.now }
+    {
+        &self.operations
+    }
+}
 
 /// Why a text is no patch.
 #[derive(Debug, Drop)]
@@ -254,13 +303,14 @@ fn read_operations<A: Allocator + Copy>(
     Ok(operations)
 }
 
-/// The operations of the patch that a text is.
-pub(super) fn read_patch<A: Allocator + Copy>(
+// The operations of the patch that a text is.
+fn read_patch<A: Allocator + Copy>(
     alloc: A,
     text: &str,
     options: &ParseOptions,
 ) -> Result<Vec<Operation<A>, A>, PatchError<A>>
     ensures patch { IfOk result (λ v. IsPatch (parse_options options.now) (chars text.now) (map asked v.items)) }
+    ensures fits { IfOk result (λ v. All (FitsIn (parse_options options.now)) v.items) }
     ensures fault { IfErr result (IsFaultOfPatch (parse_options options.now) text.now) }
 {
     let read = match parse_to_ast(alloc, text, &CollectOptions::default(), options) {

@@ -1,5 +1,5 @@
 -- Equal values, kind by kind, and lists of them from the first to the last.
-use Rattle.std.proofs.Common.{◌≡◌, ◌∙◌, ℕ, zero, suc, ◌+◌, ◌<◌, ◌≤◌, Bool, true, false, List, [], ◌∷◌, length, get_or, drop, map, chars, string_bytes, Contains, Option, Some, IfSome, slice_get, refl, sym, ap, subst, arith, rules}
+use Rattle.std.proofs.Common.{◌≡◌, ◌∙◌, ℕ, zero, suc, ◌+◌, ◌<◌, ◌≤◌, Bool, true, false, List, [], ◌∷◌, length, get_or, drop, map, chars, string_bytes, Contains, Option, Some, IfSome, slice_get, refl, sym, ap, subst, arith, rules, Result, IfOk}
 use Rattle.std.proofs.lemmas.Bool.{false≢true}
 use Rattle.std.proofs.lemmas.List.{at_drop_more, drop_all, length-map}
 use Rattle.std.proofs.lemmas.List.Elements.{Contains-append_right}
@@ -10,7 +10,7 @@ use Rattle.std.specs.Str.{bytes_eq}
 use mathlib.Core.Bool.{beq}
 use Rattle.std.specs.Bool.{Decides}
 use Rattle.std.specs.declared.string.String.{String}
-use Rattle.jsonc_text.specs.Plain.{Plain, null, boolean, number, string, array, object, Items, no_items, item, Members, no_members, member}
+use Rattle.jsonc_text.specs.Plain.{Plain, null, boolean, number, string, array, object, Items, item, Members, member}
 use Rattle.jsonc_insert.specs.elements.Members.{member_count}
 use Rattle.jsonc_insert.specs.named.Members as lacks
 use Rattle.jsonc_insert.specs.named.Members.{LacksMember}
@@ -19,6 +19,7 @@ use Rattle.jsonc_layout.specs.declared.input.value.CstInputValue as value
 use Rattle.jsonc_layout.specs.input.Views.{chars_of, items_plain, members_plain, plain}
 use Rattle.jsonc_layout.proofs.lemmas.nodes.NodeNames.{same_text}
 use Rattle.jsonc_parser.proofs.lemmas.patch.SeenNames.{name_at}
+use Rattle.jsonc_parser.specs.patch.Numbers.{SameNumber}
 use Rattle.jsonc_parser.specs.patch.Equality as equal
 use Rattle.jsonc_parser.specs.patch.Equality.{AreEqual, AreItemsEqual, AreMembersIn, HasMember, HasUniqueNames, ItemsHaveUniqueNames, MembersHaveUniqueNames, this_has, later_has}
 
@@ -265,6 +266,10 @@ texts_told s t x y b e f is =
       λ h. ap chars (sym e ∙ same.0 (sym is ∙ h) ∙ f),
       λ h. is ∙ same.1 (e ∙ same_text (string_bytes s) (string_bytes t) (IsUtf8-string_bytes s) (IsUtf8-string_bytes t) h ∙ sym f),
     )
+
+-- and numbers by their values
+pub values_told : {E : Type 0} (r : Result Bool E) (x y s t : List ℕ) → x ≡ s → y ≡ t → IfOk r (λ b. Decides b (SameNumber (chars x) (chars y))) → IfOk r (λ b. Decides b (SameNumber (chars s) (chars t)))
+values_told r x y s t e f h = subst (λ u. IfOk r (λ b. Decides b (SameNumber (chars u) (chars t)))) e (subst (λ u. IfOk r (λ b. Decides b (SameNumber (chars x) (chars u)))) f h)
 
 pub beq_told : (x y : Bool) → Decides (beq x y) (x ≡ y)
 beq_told true true = (λ e. refl, λ e. refl)

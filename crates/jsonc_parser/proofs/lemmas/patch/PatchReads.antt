@@ -1,26 +1,31 @@
 -- How the members of an operation are read.
-use Rattle.std.proofs.Common.{◌≡◌, ◌≢◌, ◌∙◌, ◌⊎◌, inl, inr, ℕ, zero, suc, ◌+◌, ◌<◌, ◌++◌, List, [], ◌∷◌, length, get_or, take, map, chars, codes, Contains, Option, Some, None, option_map, refl, sym, ap, subst, arith, rules, IsUtf8}
+use Rattle.std.proofs.Common.{◌≡◌, ◌≢◌, ◌∙◌, inl, inr, ℕ, zero, suc, ◌+◌, ◌<◌, ◌++◌, List, [], ◌∷◌, length, get_or, take, map, chars, codes, Contains, Option, Some, None, option_map, refl, sym, ap, subst, arith, rules, IsUtf8}
 use Rattle.std.proofs.lemmas.List.{map_push, take_more}
+use Rattle.std.proofs.lemmas.List.Elements.{All-cons, All-nil}
 use Rattle.std.proofs.lemmas.Str.{IsUtf8-from_ascii, chars-IsAscii}
+use Rattle.std.specs.List.{All}
 use Rattle.std.specs.Str.{IsAscii}
 use Rattle.jsonc_layout.proofs.lemmas.nodes.NodeNames.{same_text}
-use Rattle.jsonc_text.specs.Plain.{Plain, string, array, object, Items, item, Members}
+use Rattle.jsonc_text.specs.Plain.{Plain, string, array, object, Items, item, no_items, Members}
 use Rattle.jsonc_text.specs.Grammar.{IsDocument}
 use Rattle.jsonc_text.specs.Options.{Options}
 use Rattle.jsonc_ast.specs.Located.{items_at}
 use Rattle.jsonc_ast.specs.Views.{items_located}
 use Rattle.jsonc_ast.specs.Views as ast
 use Rattle.jsonc_ast.specs.declared.ast.Value.{Value}
-use Rattle.jsonc_parser.specs.patch.Equality.{HasMember}
+use Rattle.jsonc_edit.specs.Writing.{AreNamedOfNumbers, AreOfNumbers, IsOfNumbers}
+use Rattle.jsonc_parser.specs.patch.Asked.{asked, FitsIn}
+use Rattle.jsonc_parser.specs.patch.Equality.{HasMember, later_has, this_has}
 use Rattle.jsonc_parser.specs.patch.Operations as value
-use Rattle.jsonc_parser.specs.patch.PatchFaults.{member_name, with_source, with_value, IsFaultOfItems, IsFaultOfMembers, IsFaultOfNames, IsFaultOfOperation, IsFaultOfPatch, IsFaultOfValue, IsFirstFault, IsForText, IsNamedOneOf, IsWrong, Needs, of_another, of_members, this_fault, later_fault}
-use Rattle.jsonc_parser.specs.patch.PatchReading.{kind_name, IsNoKind}
-use Rattle.jsonc_parser.specs.patch.PatchTexts.{AreOperations, no_operations, one_operation, IsNamed, IsOperation, IsPatch}
+use Rattle.jsonc_parser.specs.patch.PatchFaults.{member_name, with_source, with_value, IsFaultOfItems, IsFaultOfMembers, IsFaultOfNames, IsFaultOfOperation, IsFaultOfPatch, IsFaultOfValue, IsFirstFault, IsForText, IsWrong, Needs, of_members, this_fault, later_fault}
+use Rattle.jsonc_parser.specs.patch.PatchReading.{IsNoKind}
+use Rattle.jsonc_parser.specs.patch.PatchTexts.{AreOperations, no_operations, one_operation, IsNamed, IsOperation, Says}
 use Rattle.jsonc_parser.specs.declared.patch.operation.Member.{Member}
 use Rattle.jsonc_parser.specs.declared.patch.operation.Member.TheVariants as m
+use Rattle.jsonc_parser.specs.declared.patch.operation.Operation.{Operation}
+use Rattle.jsonc_parser.specs.declared.patch.operation.Operation.TheVariants as operation
 use Rattle.jsonc_parser.specs.declared.patch.operation.OperationFault.{OperationFault}
 use Rattle.jsonc_parser.specs.declared.patch.operation.OperationFault.TheVariants as fault
-use Rattle.jsonc_parser.specs.declared.patch.reading.Kind.{Kind}
 use Rattle.jsonc_parser.specs.declared.patch.reading.Kind.TheVariants as kind
 use Rattle.jsonc_parser.specs.declared.patch.reading.PatchError.{PatchError}
 use Rattle.jsonc_parser.specs.declared.patch.reading.PatchError.TheVariants as error
@@ -146,3 +151,27 @@ pub operations_so_far : {A X : Type 0} (f : X → value.Operation) (vs : List (V
 operations_so_far f vs done new i v x l is h one pushed =
     subst (λ ws. AreOperations (items_at (items_located ws)) (map f new)) (sym (take_more vs i v l ∙ ap (λ w. take i vs ++ w ∷ []) (sym is)))
     (subst (AreOperations (items_at (items_located (take i vs ++ v ∷ [])))) (sym (ap (map f) pushed ∙ map_push f done x)) (one_more (take i vs) (map f done) v (f x) h one))
+
+-- the numbers of a text's values are those of its options
+module _ (o : Options) where
+  member_numbers : {name : List ℕ} {v : Plain} {ms : Members} → HasMember name v ms → AreNamedOfNumbers o ms → IsOfNumbers o v
+  member_numbers this_has h = h.0
+  member_numbers (later_has k) h = member_numbers k h.1
+
+  members_numbers : (w : Plain) (ms : Members) → w ≡ object ms → IsOfNumbers o w → AreNamedOfNumbers o ms
+  members_numbers w ms is h = subst (IsOfNumbers o) is h
+
+  module _ {A : Type 0} where
+    said_numbers : (p : Operation A) (ms : Members) → Says ms (asked p) → AreNamedOfNumbers o ms → FitsIn o p
+    said_numbers (operation.Add path v) ms h k = member_numbers h.2.0 k
+    said_numbers (operation.Remove path) ms h k = tt
+    said_numbers (operation.Replace path v) ms h k = member_numbers h.2.0 k
+    said_numbers (operation.Move from path) ms h k = tt
+    said_numbers (operation.Copy from path) ms h k = tt
+    said_numbers (operation.Test path v) ms h k = tt
+
+    pub operations_fit : (vs : Items) (ps : List (Operation A)) → AreOperations vs (map asked ps) → AreOfNumbers o vs → All (FitsIn o) ps
+    operations_fit vs [] h k = All-nil (FitsIn o)
+    operations_fit no_items (p ∷ ps) h k = elim h [ ]
+    operations_fit (item w vs) (p ∷ ps) (one_operation is rest) k =
+        All-cons (FitsIn o) p ps (said_numbers p is.members is.says (members_numbers w is.members is.is k.0)) (operations_fit vs ps rest k.1)

@@ -1,5 +1,5 @@
 -- Values of a syntax tree, level by level, with the names in them.
-use Rattle.std.proofs.Common.{◌≡◌, ◌≢◌, ◌∙◌, ℕ, zero, suc, ◌+◌, ◌<◌, ◌≤◌, Bool, true, false, List, [], ◌∷◌, ◌++◌, length, get_or, take, map, chars, IsUtf8, All, Vec, refl, sym, ap, subst, arith, rules}
+use Rattle.std.proofs.Common.{◌≡◌, ◌≢◌, ◌∙◌, ℕ, zero, suc, ◌+◌, ◌<◌, ◌≤◌, Bool, true, false, List, [], ◌∷◌, ◌++◌, length, get_or, take, map, chars, IsUtf8, All, refl, sym, ap, subst, arith, rules}
 use Rattle.std.proofs.lemmas.List.Elements.{All-head, All-more, All-tail}
 use Rattle.std.proofs.lemmas.List.{map_push, take_all, take_more}
 use Rattle.std.proofs.lemmas.Bool.{false≢true}
@@ -7,9 +7,9 @@ use Rattle.std.proofs.lemmas.Slice.Eq.{bytes_eq-Decides}
 use Rattle.std.specs.Cow.{cow_str_bytes}
 use Rattle.std.specs.Str.{bytes_eq}
 use Rattle.std.specs.declared.string.String.{String as Text}
-use Rattle.jsonc_text.specs.Plain.{Plain, null, boolean, number, string, array, object, Items, no_items, item, Members, no_members, member}
+use Rattle.jsonc_text.specs.Plain.{Plain, null, boolean, number, string, array, object, Items, item, Members, no_members, member}
 use Rattle.jsonc_ast.specs.Access.{name_text}
-use Rattle.jsonc_ast.specs.Located.{array_at, items_at, leaf_at, members_at, object_at, value_at}
+use Rattle.jsonc_ast.specs.Located.{array_at, items_at, leaf_at, object_at, value_at}
 use Rattle.jsonc_ast.specs.Views.{LocatedMember, items_located, located, member_of, name_at, members_located}
 use Rattle.jsonc_ast.specs.Views as ast
 use Rattle.jsonc_ast.specs.declared.ast.Array.{Array}
@@ -29,11 +29,11 @@ use Rattle.jsonc_insert.specs.named.Members.{IsFirstMember, LacksMember, first_i
 use Rattle.jsonc_layout.proofs.lemmas.nodes.NodeNames.{same_text}
 use Rattle.jsonc_layout.specs.declared.input.value.CstInputValue.{CstInputValue}
 use Rattle.jsonc_layout.specs.input.Views as input
-use Rattle.jsonc_layout.specs.input.Views.{chars_of, items_plain, members_plain, named}
+use Rattle.jsonc_layout.specs.input.Views.{chars_of, members_plain, named}
 use Rattle.jsonc_parser.proofs.lemmas.patch.SeenNames.{AreTexts, Distinct}
 use Rattle.jsonc_parser.specs.patch.Equality as equal
 use Rattle.jsonc_parser.specs.patch.Equality.{HasMember, HasUniqueNames, ItemsHaveUniqueNames, MembersHaveUniqueNames, this_has, later_has}
-use Rattle.jsonc_parser.specs.patch.PatchFaults.{IsFaultOfNames, IsFaultOfValue, RepeatsName, repeats_here, repeats_in_element, repeats_in_member}
+use Rattle.jsonc_parser.specs.patch.PatchFaults.{IsFaultOfNames, IsFaultOfValue, repeats_here, repeats_in_element, repeats_in_member}
 use Rattle.jsonc_parser.specs.patch.PatchReading.{TellsRepeated, pair_of, said}
 use Rattle.jsonc_parser.specs.patch.PatchTexts.{NamesDiffer}
 use Rattle.jsonc_parser.specs.patch.References.{IsItem, this_item, later_item, IsRepeated, this_again, later_again}

@@ -1,6 +1,6 @@
 use Rattle.std.proofs.Common.{◌≡◌, ◌∙◌, ◌<◌, ap, arith, chars, get_or, length, sym}
 use Rattle.std.proofs.lemmas.Result.{IfOk-weaker}
-use Rattle.jsonc_text.specs.Plain.{array, number, object, string}
+use Rattle.jsonc_text.specs.Plain.{array, object}
 use Rattle.jsonc_layout.specs.input.Views.{chars_of, items_plain, members_plain, plain}
 use Rattle.jsonc_layout.proofs.lemmas.input.ValueLevels.{part_smaller, plain-Array, plain-Number, plain-Object, plain-String}
 use Rattle.jsonc_parser.specs.patch.Comparing.{same_by}

@@ -1,4 +1,4 @@
-use Rattle.std.proofs.Common.{◌∙◌, ◌<◌, ◌≤◌, ap, arith, length, map, sym, take}
+use Rattle.std.proofs.Common.{◌∙◌, ◌<◌, ◌≤◌, ap, arith, length, map, sym}
 use Rattle.std.proofs.lemmas.List.{length-map, take_all}
 use Rattle.jsonc_parser.proofs.lemmas.patch.Equality.{name_bytes, twice_named}
 use Rattle.jsonc_parser.proofs.lemmas.patch.SeenNames.{absent, bytes_of, name_at, one_seen, present, seen_earlier}

@@ -1,4 +1,4 @@
-use Rattle.std.proofs.Common.{chars, subst, sym}
+use Rattle.std.proofs.Common.{chars, subst}
 use Rattle.jsonc_text.specs.Plain.{string}
 use Rattle.jsonc_parser.proofs.lemmas.patch.PatchReads.{no_operation}
 use Rattle.jsonc_parser.specs.patch.PatchReading.{said}

@@ -1,5 +1,5 @@
-use Rattle.std.proofs.Common.{◌∙◌, ◌≡◌, List, [], ◌∷◌, ◌++◌, ap, get_or, map, subst, sym, take}
-use Rattle.std.proofs.lemmas.List.{map_push, take_all, take_more}
+use Rattle.std.proofs.Common.{map, subst, sym, take}
+use Rattle.std.proofs.lemmas.List.{take_all}
 use Rattle.jsonc_ast.specs.Located.{items_at}
 use Rattle.jsonc_ast.specs.Views.{items_located}
 use Rattle.jsonc_ast.specs.Views as ast

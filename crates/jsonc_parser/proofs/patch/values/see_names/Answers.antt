@@ -1,7 +1,7 @@
-use Rattle.std.proofs.Common.{◌≡◌, ◌∙◌, ℕ, ◌<◌, ◌≤◌, [], ap, arith, chars, get_or, length, map, sym, subst}
+use Rattle.std.proofs.Common.{◌≡◌, ◌∙◌, ◌<◌, ◌≤◌, [], ap, arith, chars, get_or, length, map, sym}
 use Rattle.std.proofs.lemmas.List.{length-map}
 use Rattle.jsonc_parser.proofs.lemmas.patch.PatchValues.{names_differ, prop_name, repeated_name, tells_repeated}
-use Rattle.jsonc_parser.proofs.lemmas.patch.SeenNames.{absent, bytes_of, name_at, one_distinct, one_seen, one_text, present, seen_earlier, unseen, AreTexts, Distinct}
+use Rattle.jsonc_parser.proofs.lemmas.patch.SeenNames.{absent, bytes_of, name_at, one_distinct, one_seen, one_text, present, seen_earlier, unseen}
 use Rattle.jsonc_parser.specs.patch.PatchReading.{said}
 use Rattle.jsonc_parser.proofs.patch.values.see_names.Goals as goal
 
