@@ -46,6 +46,7 @@ NO_CASES = [
     ('bad-kind-of-value\tedit\t1111111111\t1\tEnsureRoot one keep', EDIT),
     ('bad-way\tedit\t1111111111\t1\tEnsureRoot obj away', EDIT),
     ('bad-new-name\tedit\t1111111111\t{}\tReplaceProperty /0 a N', EDIT),
+    ('bad-other-name\tedit\t1111111111\t{}\tRenameProperty /0 a', EDIT),
     ('bad-truth-value\tedit\t1111111111\t[true]\tSetBoolean /0 N', EDIT),
     ('bad-lines\tedit\t1111111111\t[]\tEnsureMultiline /a', EDIT),
     ('bad-element\tedit\t1111111111\t[]\tInsertElement / a N', EDIT),

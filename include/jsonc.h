@@ -138,6 +138,7 @@ enum jsonc_edit_kind {
   JSONC_EDIT_ENSURE_PROPERTY = 15, /* Sees that the object at the path has an object at the name, or an array if `first`. */
   JSONC_EDIT_SET_TRAILING_COMMAS = 16, /* Sets trailing commas from the path down, or removes them if `first`. */
   JSONC_EDIT_SORT = 17, /* Sorts the array or object at the path. */
+  JSONC_EDIT_RENAME_PROPERTY = 18, /* Gives the property at the path another name. */
 };
 
 #define JSONC_FAULT_TEXT_LEN 192

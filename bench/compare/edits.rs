@@ -109,16 +109,16 @@ pub fn draw(draw: &mut Draw, root: &CstRootNode) -> Drawn {
     let is_there = |kind: usize| match kind {
         0 => !paths.values.is_empty(),
         1 | 2 | 5 => !entries.is_empty(),
-        6 | 8 | 9 => !paths.properties.is_empty(),
+        6 | 8 | 9 | 20 => !paths.properties.is_empty(),
         10 => !paths.booleans.is_empty(),
         11 | 17..=19 => !held.is_empty(),
         12 | 13 => !paths.arrays.is_empty(),
         14..=16 => !paths.objects.is_empty(),
         _ => true,
     };
-    let mut kind = draw.below(20);
+    let mut kind = draw.below(21);
     while !stray && !is_there(kind) {
-        kind = draw.below(20);
+        kind = draw.below(21);
     }
     let edit = match kind {
         0 => Edit::Replace { path: value_path, value: json },
@@ -138,6 +138,7 @@ pub fn draw(draw: &mut Draw, root: &CstRootNode) -> Drawn {
         15 => Edit::AppendProperty { path: object, name, value: json },
         16 => Edit::EnsureProperty { path: object, name, shape, replace: first },
         17 => Edit::SetTrailingCommas { path: container, never: first },
+        20 => Edit::RenameProperty { path: property, name },
         _ => Edit::Sort { path: container, pin: first, groups: second },
     };
     Drawn { edit, value: written }
@@ -162,6 +163,11 @@ pub fn make(root: &CstRootNode, drawn: &Drawn) -> Option<()> {
         Edit::SetRoot { .. } => root.set_value(value),
         Edit::ClearRoot => root.clear_children(),
         Edit::ReplaceProperty { path, name, .. } => drop(property_at(root, path)?.replace_with(name, value)),
+        // (the crate has no call for it: the name's text is set)
+        Edit::RenameProperty { path, name } => match property_at(root, path)?.name()? {
+            ObjectPropName::String(it) => it.set_raw_value(json(&CstInputValue::String(name.clone()))),
+            ObjectPropName::Word(it) => it.set_raw_value(json(&CstInputValue::String(name.clone()))),
+        },
         Edit::EnsureRoot { shape: Shape::Object, replace: false } => drop(root.object_value_or_create()),
         Edit::EnsureRoot { shape: Shape::Array, replace: false } => drop(root.array_value_or_create()),
         Edit::EnsureRoot { shape: Shape::Object, replace: true } => drop(root.object_value_or_set()),
@@ -216,6 +222,7 @@ pub fn shown(drawn: &Drawn) -> String {
         Edit::SetRoot { .. } => format!("SetRoot {v}"),
         Edit::ClearRoot => "ClearRoot".to_string(),
         Edit::ReplaceProperty { path, name, .. } => format!("ReplaceProperty {} {} {v}", at(path), n(name)),
+        Edit::RenameProperty { path, name } => format!("RenameProperty {} {}", at(path), n(name)),
         Edit::EnsureRoot { shape, replace } => format!("EnsureRoot {} {}", s(shape), o(replace)),
         Edit::SetValue { path, .. } => format!("SetValue {} {v}", at(path)),
         Edit::EnsureValue { path, shape } => format!("EnsureValue {} {}", at(path), s(shape)),

@@ -1,10 +1,10 @@
 //! Recipes that edit a document.
 
 use jsonc_parser::cst::{
-    CstComment, CstInputValue, CstObjectProp, CstRootNode, Edit, EditError, Over,
-    TrailingCommaMode, TypedNode, run_unsorted,
+    CstInputValue, CstObjectProp, CstRootNode, Edit, EditError, Over, TrailingCommaMode, TypedNode,
+    run_unsorted,
 };
-use jsonc_parser::settings::{find_at, set_at};
+use jsonc_parser::settings::{find_at, set_at, set_last_at};
 use std::alloc::{AllocError, Allocator};
 
 /// A path of names.
@@ -74,18 +74,10 @@ pub(crate) fn remove_with_comments<A: Allocator + Copy>(
     let Some(object) = doc.object_value() else {
         return Ok(());
     };
-    let Some(property) = object.get(doc, "fontSize")? else {
-        return Ok(());
-    };
-    for comment in &doc.comments_of(property.node())? {
-        if doc.holds(comment.node()) {
-            comment.remove(doc)?;
-        }
+    match object.get(doc, "fontSize")? {
+        Some(property) => property.remove_with_comments(doc),
+        None => Ok(()),
     }
-    if doc.holds(property.node()) {
-        property.remove(doc)?;
-    }
-    Ok(())
 }
 
 /// Sorts by name; comments above a blank line stay where they are.
@@ -102,33 +94,6 @@ pub(crate) fn sort_by_name<A: Allocator + Copy>(doc: &mut CstRootNode<A>) -> Res
     )
 }
 
-/// How many of the comments above a property stand above the last blank line there.
-fn header_length<A: Allocator + Copy>(
-    doc: &CstRootNode<A>,
-    property: CstObjectProp,
-    comments: &[CstComment],
-) -> usize {
-    if !doc.holds(property.node()) {
-        return 0;
-    }
-    let mut own = 0usize; // so many comments stand below the node
-    let mut line_ends = false; // whether a line without a comment ends behind it
-    for node in property.previous_siblings(doc) {
-        if node.is_newline() {
-            if line_ends {
-                return comments.len().saturating_sub(own);
-            }
-            line_ends = true;
-        } else if node.is_comment() {
-            line_ends = false;
-            own = own.saturating_add(1);
-        } else if !node.is_whitespace() {
-            break;
-        }
-    }
-    0
-}
-
 /// Sorts by name; comments above the last blank line before a property stay where they are.
 pub(crate) fn sort_under_headers<A: Allocator + Copy>(
     doc: &mut CstRootNode<A>,
@@ -136,11 +101,7 @@ pub(crate) fn sort_under_headers<A: Allocator + Copy>(
     let Some(object) = doc.object_value() else {
         return Ok(());
     };
-    let header = |doc: &CstRootNode<_>, property: CstObjectProp, comments: &[CstComment]| {
-        header_length(doc, property, comments)
-    };
-    let sort = object.sort_properties().pin_comment_headers_with(header);
-    sort.by_key(
+    object.sort_properties().keep_headers().by_key(
         doc,
         |doc: &CstRootNode<_>, property: CstObjectProp| match property.decoded_name(doc) {
             Ok(name) => Ok(name),
@@ -149,40 +110,15 @@ pub(crate) fn sort_under_headers<A: Allocator + Copy>(
     )
 }
 
-/// Sets the value of the last property of a name, which VS Code reads.
-fn set_last<A: Allocator + Copy>(
-    doc: &mut CstRootNode<A>,
-    name: &str,
-    value: CstInputValue<A>,
-) -> Result<(), EditError> {
-    let object = doc.object_value_or_set()?;
-    let mut last = None;
-    for property in object.properties(doc)? {
-        if !doc.holds(property.node()) {
-            continue;
-        }
-        match property.decoded_name(doc) {
-            Ok(Some(found)) if found.as_str() == name => last = Some(property),
-            Ok(_) => {}
-            Err(_) => return Err(EditError::OutOfMemory),
-        }
-    }
-    if let Some(property) = last
-        && doc.holds(property.node())
-    {
-        property.set_value(doc, value)?;
-    } else if doc.holds(object.node()) {
-        object.append(doc, name, value)?;
-    }
-    Ok(())
-}
-
-/// Sets the last font size to 16.
+/// Sets the last font size to 16, which VS Code reads.
 pub(crate) fn set_last_font_size<A: Allocator + Copy>(
     doc: &mut CstRootNode<A>,
 ) -> Result<(), EditError> {
     let alloc = *doc.allocator();
-    set_last(doc, "editor.fontSize", CstInputValue::from_u32(alloc, 16)?)
+    let size = CstInputValue::from_u32(alloc, 16)?;
+    let names = path(alloc, &["editor.fontSize"])?;
+    set_last_at(doc, &names, size, Over::Replace)?;
+    Ok(())
 }
 
 /// Sets a trailing comma wherever an array or object stands on several lines.

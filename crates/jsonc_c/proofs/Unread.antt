@@ -35,7 +35,7 @@ unread_text c e status f has refused (inl is) = unread_memory c status f is
 unread_text c e status f has refused (inr told) = subst (λ (s : ℕ). IsUnread c s f) (sym told.0) (for_text e has refused told.1)
 
 -- no edit has the kind
-pub unread_kind : (c : JsoncEdit) (f : JsoncFault) → 17 < c.kind → IsUnread c 16 f
+pub unread_kind : (c : JsoncEdit) (f : JsoncFault) → 18 < c.kind → IsUnread c 16 f
 unread_kind c f past = for_kind past
 
 -- of the edits of the document's value or of a comment, one alone has a value

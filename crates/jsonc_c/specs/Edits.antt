@@ -63,13 +63,14 @@ module _ {A : Type 0} where
   IsReadAs c (edit.EnsureProperty path name shape over) = (c.kind ≡ 15) × (path.items ≡ c.path.now) × (string_bytes name ≡ c.name.now) × (shape ≡ shape_of c.first) × (over ≡ over_of c.second)
   IsReadAs c (edit.SetTrailingCommas path mode) = (c.kind ≡ 16) × (path.items ≡ c.path.now) × (mode ≡ mode_of c.first)
   IsReadAs c (edit.Sort path pin groups) = (c.kind ≡ 17) × (path.items ≡ c.path.now) × (pin ≡ c.first) × (groups ≡ c.second)
+  IsReadAs c (edit.RenameProperty path name) = (c.kind ≡ 18) × (path.items ≡ c.path.now) × (string_bytes name ≡ c.name.now)
 
   -- the edits are those that C's edits ask for, in their order
   pub data AreReadAs : List JsoncEdit → List (Edit A) → Type 0 where
     none_read : AreReadAs [] []
     one_read : {c : JsoncEdit} {e : Edit A} {cs : List JsoncEdit} {es : List (Edit A)} → IsReadAs c e → AreReadAs cs es → AreReadAs (c ∷ cs) (e ∷ es)
 
--- the kinds of edits: of the document's value or of a comment; at a path, writing no value; at one, writing a value; at one, writing a property
+-- the kinds of edits: of the document's value or of a comment; at a path, writing no value; at one, writing a value; at one, writing a property; at one, with a name
 abbrev pub IsOfRoot : ℕ → Type 0
 IsOfRoot kind = (kind ≡ 2) ⊎ ((kind ≡ 3) ⊎ ((kind ≡ 4) ⊎ (kind ≡ 6)))
 
@@ -82,9 +83,12 @@ IsOfValue kind = (kind ≡ 0) ⊎ ((kind ≡ 7) ⊎ ((kind ≡ 11) ⊎ (kind ≡
 abbrev pub IsOfProperty : ℕ → Type 0
 IsOfProperty kind = (kind ≡ 5) ⊎ ((kind ≡ 13) ⊎ (kind ≡ 14))
 
+abbrev pub IsOfName : ℕ → Type 0
+IsOfName kind = (kind ≡ 15) ⊎ (kind ≡ 18)
+
 -- the kinds that have a name, and those that have a value
 abbrev pub HasName : ℕ → Type 0
-HasName kind = IsOfProperty kind ⊎ (kind ≡ 15)
+HasName kind = IsOfProperty kind ⊎ IsOfName kind
 
 abbrev pub HasValue : ℕ → Type 0
 HasValue kind = (kind ≡ 3) ⊎ (IsOfValue kind ⊎ IsOfProperty kind)
@@ -101,7 +105,7 @@ pub data IsUnread (c : JsoncEdit) : ℕ → JsoncFault → Type 0 where
   for_json : {f : JsoncFault} → HasValue c.kind → ¬ (IsUtf8 c.json.now) → IsUnread c 2 f
   for_text : {f : JsoncFault} (e : ParseError) → HasValue c.kind → IsRefusal c.json.now e → IsToldOf e f → IsUnread c 7 f
   for_value : {f : JsoncFault} → HasValue c.kind → IsDocument all_on (chars c.json.now) None → IsUnread c 8 f
-  for_kind : {f : JsoncFault} → 17 < c.kind → IsUnread c 16 f
+  for_kind : {f : JsoncFault} → 18 < c.kind → IsUnread c 16 f
 
 -- why one of C's edits is none: an allocation failed, or so it is of the one of the number that the fault tells
 abbrev pub IsUnreadIn : List JsoncEdit → ℕ → JsoncFault → Type 0

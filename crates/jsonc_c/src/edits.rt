@@ -73,3 +73,6 @@ pub(crate) const SET_TRAILING_COMMAS: u32 = 16;
 
 /// Sorts the array or object at the path.
 pub(crate) const SORT: u32 = 17;
+
+/// Gives the property at the path another name.
+pub(crate) const RENAME_PROPERTY: u32 = 18;

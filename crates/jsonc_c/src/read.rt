@@ -1,12 +1,13 @@
 //! Edits of C, read.
 ghost use Rattle.std.specs.Prelude.{◌≡◌, IfErr, IfOk, IsUtf8, OnOk, string_bytes};
 ghost use Rattle.jsonc_c.specs.Edits.{AreReadAs, HasName, HasValue, IsReadAs, IsUnread, IsUnreadIn, IsValueOf, IsWanting};
-ghost use Rattle.jsonc_c.specs.Edits.{IsOfPath, IsOfProperty, IsOfRoot, IsOfValue, mode_of, over_of, shape_of};
+ghost use Rattle.jsonc_c.specs.Edits.{IsOfName, IsOfPath, IsOfProperty, IsOfRoot, IsOfValue, mode_of, over_of, shape_of};
 
 use crate::edits::{
     APPEND_ELEMENT, APPEND_PROPERTY, CLEAR_ROOT, ENSURE_MULTILINE, ENSURE_PROPERTY, ENSURE_ROOT,
-    ENSURE_VALUE, INSERT_ELEMENT, INSERT_PROPERTY, JsoncEdit, REMOVE, REMOVE_COMMENT, REPLACE,
-    REPLACE_PROPERTY, SET_BOOLEAN, SET_ROOT, SET_TRAILING_COMMAS, SET_VALUE, SORT,
+    ENSURE_VALUE, INSERT_ELEMENT, INSERT_PROPERTY, JsoncEdit, REMOVE, REMOVE_COMMENT,
+    RENAME_PROPERTY, REPLACE, REPLACE_PROPERTY, SET_BOOLEAN, SET_ROOT, SET_TRAILING_COMMAS,
+    SET_VALUE, SORT,
 };
 use crate::fault::{
     JSON, JsoncFault, NO_SUCH_EDIT, NO_VALUE, OUT_OF_MEMORY, WORD_NOT_UTF8, tell_error,
@@ -153,9 +154,9 @@ fn value_edit(alloc: Global, edit: &JsoncEdit, fault: &mut JsoncFault) -> Result
     }
 }
 
-/// The edit that sees that an object has an object or array at a name.
-fn ensuring_edit(alloc: Global, edit: &JsoncEdit) -> Result<Edit<Global>, u32>
-    requires { edit.now.kind ≡ 15 }
+/// An edit at a path that has a name and no value.
+fn name_edit(alloc: Global, edit: &JsoncEdit) -> Result<Edit<Global>, u32>
+    requires { IsOfName edit.now.kind }
     ensures read { IfOk result (IsReadAs edit.now) }
     ensures refused { IfErr result (λ status. IsWanting edit.now status) }
 {
@@ -163,14 +164,16 @@ fn ensuring_edit(alloc: Global, edit: &JsoncEdit) -> Result<Edit<Global>, u32>
         Ok(name) => name,
         Err(status) => return Err(status),
     };
-    match path_of(alloc, edit) {
-        Ok(path) => Ok(Edit::EnsureProperty(
-            path,
-            name,
-            shape_of(edit.first),
-            over_of(edit.second),
-        )),
-        Err(status) => Err(status),
+    let path = match path_of(alloc, edit) {
+        Ok(path) => path,
+        Err(status) => return Err(status),
+    };
+    match edit.kind {
+        RENAME_PROPERTY => Ok(Edit::RenameProperty(path, name)),
+        _ => {
+            let (shape, over) = (shape_of(edit.first), over_of(edit.second));
+            Ok(Edit::EnsureProperty(path, name, shape, over))
+        }
     }
 }
 
@@ -221,7 +224,7 @@ fn read_edit(alloc: Global, edit: &JsoncEdit, fault: &mut JsoncFault) -> Result<
         }
         REPLACE | SET_VALUE | INSERT_ELEMENT | APPEND_ELEMENT => value_edit(alloc, edit, fault),
         REPLACE_PROPERTY | INSERT_PROPERTY | APPEND_PROPERTY => property_edit(alloc, edit, fault),
-        ENSURE_PROPERTY => ensuring_edit(alloc, edit),
+        ENSURE_PROPERTY | RENAME_PROPERTY => name_edit(alloc, edit),
         _ => Err(NO_SUCH_EDIT),
     }
 }

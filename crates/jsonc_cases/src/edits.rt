@@ -188,7 +188,7 @@ fn read_root_edit(alloc: Global, words: &[&str]) -> Result<Edit<Global>, CaseErr
     }
 }
 
-/// An edit of a property's value, or of a truth value.
+/// An edit of a property's value or name, or of a truth value.
 fn read_setting(alloc: Global, words: &[&str]) -> Result<Edit<Global>, CaseError> {
     match words {
         ["EnsureValue", path, shape] => {
@@ -202,6 +202,10 @@ fn read_setting(alloc: Global, words: &[&str]) -> Result<Edit<Global>, CaseError
         ["SetBoolean", path, value] => {
             let value = chosen(value, &BOOLEANS)?;
             Ok(Edit::SetBoolean(read_path(alloc, path)?, value))
+        }
+        ["RenameProperty", path, name] => {
+            let (path, name) = read_name_at(alloc, path, name)?;
+            Ok(Edit::RenameProperty(path, name))
         }
         _ => read_insertion(alloc, words),
     }

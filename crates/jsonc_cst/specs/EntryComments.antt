@@ -1,16 +1,15 @@
 -- The comments that belong to an entry, an element of an array or a property of an object. What stands before it, its lead, and what belongs to it behind it
 -- are read as a sort reads them (`Rattle.jsonc_sort.specs.Parts`).
-use Rattle.std.specs.Prelude.{◌≡◌, ℕ, ◌-◌, Bool, false, not, ◌&&◌, ◌==◌, List, [], ◌∷◌, ◌++◌, filter, map, take, IsTrue, Option, Some, None, if◌then◌else◌}
-use Rattle.std.specs.List.{All, list_any}
+use Rattle.std.specs.Prelude.{◌≡◌, ℕ, Bool, false, ◌&&◌, ◌==◌, List, [], ◌∷◌, ◌++◌, filter, map, take, IsTrue, Option, Some, None, if◌then◌else◌}
+use Rattle.std.specs.List.{All}
 use Rattle.jsonc_tree.specs.Content.{Content}
 use Rattle.jsonc_tree.specs.Tree.{Node, children_at, content_at, parent_at}
 use Rattle.jsonc_layout.specs.lines.Kinds.{is_array_or_object}
 use Rattle.jsonc_layout.specs.nodes.Kinds.{is_element_at}
 use Rattle.jsonc_edit.specs.multiline.Lines.{between}
 use Rattle.jsonc_edit.specs.remove.Removed.{has_brackets}
-use Rattle.jsonc_sort.specs.Above.{above, leads}
-use Rattle.jsonc_sort.specs.Leads.{comments, has_blank_line, is_comment_at}
-use Rattle.jsonc_sort.specs.Parts.{Part, is_newline_at, parts, tail_length}
+use Rattle.jsonc_sort.specs.Leads.{is_comment_at, own_lead}
+use Rattle.jsonc_sort.specs.Parts.{Part, parts, tail_length}
 use Rattle.jsonc_sort.specs.Sorting.{Entry, Headers, entries}
 use Rattle.jsonc_cst.specs.declared.cst.CstRootNode.{CstRootNode}
 use Rattle.jsonc_cst.specs.declared.cst.node.CstComment.{CstComment}
@@ -18,23 +17,15 @@ use Rattle.jsonc_cst.specs.declared.cst.node.CstNode.{CstNode}
 use Rattle.jsonc_cst.specs.Document.{content_of, nodes_of}
 use Rattle.jsonc_cst.specs.Nodes.{number_of, typed_at}
 use Rattle.jsonc_cst.specs.Readings.{comment_under}
+use Rattle.jsonc_cst.specs.sorting.Pins.{kept_headers}
 
 module _ (at : ℕ → Content) where
-  -- what stands below the last blank line of a lead; where it has none, behind the first end of a line
-  abbrev pub below : List ℕ → List ℕ
-  below [] = []
-  below (n ∷ row) = if is_newline_at at n && not (has_blank_line at row) then row else below row
-
-  -- what of a lead belongs to the entry: that, or all of it, where no line ends in it
-  abbrev pub own_lead : List ℕ → List ℕ
-  own_lead lead = if list_any (is_newline_at at) lead then below lead else lead
-
   -- what belongs to an entry, the last or not, of what stands between it and the next one or the last bracket
   abbrev pub tail_of : Bool → List ℕ → List ℕ
   tail_of last gap = take (tail_length at last gap) gap
 
   abbrev pub comments_around : List ℕ → List ℕ → List ℕ
-  comments_around lead tail = filter (is_comment_at at) (own_lead lead ++ tail)
+  comments_around lead tail = filter (is_comment_at at) (own_lead at lead ++ tail)
 
   -- the comments of the part whose element this is, and of no other; the lead stands before the first part
   abbrev pub comments_of_part : ℕ → List ℕ → List Part → List ℕ
@@ -43,13 +34,6 @@ module _ (at : ℕ → Content) where
 
   abbrev pub comments_in : List ℕ → ℕ → List ℕ
   comments_in row n = comments_of_part n (parts at row).lead (parts at row).rest
-
-  -- a sort under headers: of the comments above an entry all are pinned but those below its last blank line
-  abbrev pub pin_above : List ℕ → Option ℕ
-  pin_above lead = Some (comments at (above at lead) - comments at (below lead))
-
-  abbrev pub under_headers : List ℕ → Headers
-  under_headers row = record { pinned = map pin_above (leads at row); groups = false }
 
   -- the comments of an entry that move with it
   abbrev pub moved_comments : Entry → List ℕ
@@ -77,11 +61,17 @@ module _ {A : Type 0} where
   abbrev pub comments_of_entry : CstRootNode A → CstNode → List CstComment
   comments_of_entry d node = if is_entry_at (nodes_of d) (number_of node) then map comment_under (comments_at (nodes_of d) (number_of node)) else []
 
-  -- the entries of an array or object as a sort under headers reads them
+  -- and their numbers
+  abbrev pub comment_numbers : CstRootNode A → CstNode → List ℕ
+  comment_numbers d node = if is_entry_at (nodes_of d) (number_of node) then comments_at (nodes_of d) (number_of node) else []
+
+  -- a sort under headers: of the comments above an entry all are pinned but those below its last blank line
+  abbrev pub under_headers : CstRootNode A → CstNode → Headers
+  under_headers d node = record { pinned = kept_headers d node; groups = false }
+
+  -- the entries of an array or object as such a sort reads them
   abbrev pub entries_of : CstRootNode A → CstNode → List Entry
-  entries_of d node =
-      let row = between (children_at (nodes_of d) (number_of node)) in
-      entries (content_at (nodes_of d)) (under_headers (content_at (nodes_of d)) row) row
+  entries_of d node = entries (content_at (nodes_of d)) (under_headers d node) (between (children_at (nodes_of d) (number_of node)))
 
   -- the comments that move with each entry are its own
   abbrev pub MoveTheirComments : CstRootNode A → CstNode → Type 0

@@ -8,6 +8,7 @@ pub mod Lines
 pub mod Marked
 pub mod Raw
 pub mod Removing
+pub mod Renaming
 pub mod SetCalls
 pub mod Setting
 pub mod Steps

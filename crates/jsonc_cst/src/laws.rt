@@ -28,6 +28,7 @@ ghost use Rattle.jsonc_cst.specs.typed.Inserting.{HasComeIn};
 ghost use Rattle.jsonc_cst.specs.typed.Lines.{HasSpreadOut};
 ghost use Rattle.jsonc_cst.specs.typed.Raw.{HasBecome};
 ghost use Rattle.jsonc_cst.specs.typed.Removing.{IsCleared};
+ghost use Rattle.jsonc_cst.specs.typed.Renaming.{HasBeenRenamed};
 ghost use Rattle.jsonc_cst.specs.typed.Setting.{FindsOrCreates, FindsOrSets, HasBecomeProperty, RootBecomes};
 ghost use Rattle.jsonc_cst.specs.typed.Values.{HasSetBoolean, NodeValueIs, NowHolds};
 
@@ -66,6 +67,8 @@ pub fn typed_calls_are_calls<A: Allocator>()
         → IsCallIf old new node (IsReplacedBy old new node v now) }
     ensures property { (old new : CstRootNode A) (node : CstNode) (name : List ℕ) (v : Plain) (now : CstNode)
         → IsCallIf old new node (HasBecomeProperty old new node name v now) }
+    ensures renamed { (old new : CstRootNode A) (node : CstNode) (name : List ℕ) (now : CstNode)
+        → IsCallIf old new node (HasBeenRenamed old new node name now) }
     ensures cleared { (old new : CstRootNode A) → IsRootCallIf old new (IsCleared (nodes_of old) (nodes_of new)) }
     ensures root { (old new : CstRootNode A) (v : Plain) (now : CstNode)
         → IsRootCallIf old new (RootBecomes (nodes_of old) (nodes_of new) v now) }

@@ -17,5 +17,5 @@ mod sort;
 mod sorting;
 
 pub use containers::sort_container;
-pub use headers::{BlankLineHeaders, HeaderRule, HeadersBy, NoHeaders};
+pub use headers::{BlankLineHeaders, HeaderRule, HeadersBy, KeptHeaders, NoHeaders};
 pub use sort::{ElementSort, PropertySort, Sort};

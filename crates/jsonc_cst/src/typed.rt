@@ -23,6 +23,7 @@ mod lines;
 mod making;
 mod raw;
 mod removing;
+mod renaming;
 mod replacing;
 mod setting;
 mod values;

@@ -7,6 +7,8 @@ mod inputs;
 mod large;
 mod named_values;
 mod node_edits;
+mod patch_texts;
+mod patches;
 mod pointers;
 mod raw_edits;
 mod reading;

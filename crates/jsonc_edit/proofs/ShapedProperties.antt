@@ -31,6 +31,9 @@ name_kind o (Content.whitespace s) r h = absurd h
 name_kind o (Content.newline k) r h = absurd h
 name_kind o (Content.comment s) r h = absurd h
 
+pub name_is_name : (o : Options) (content : Content) (r : List ℕ) → IsNameBefore o content r → is_name content ≡ true
+name_is_name o content r h = (name_kind o content r h).name
+
 record IsTriviaKind (content : Content) : Type 0 where
   colon : is_colon content ≡ false
   element : is_element content ≡ false
@@ -58,12 +61,12 @@ after_same c d x y a b e = cc
 
 module _ (ns : List Node) where
   -- the first of a row, and those behind it
-  abbrev Parts : List ℕ → Content → OrderedTree → Type 0
+  abbrev pub Parts : List ℕ → Content → OrderedTree → Type 0
   Parts xs c after = (n : ℕ) × (ys : List ℕ) × (xs ≡ n ∷ ys) × (content_at ns n ≡ c) × Shows ns ys after
 
-  parted : (xs : List ℕ) (t : OrderedTree) (c : Content) (below after : OrderedTree) → Shows ns xs t → t ≡ more c below after → Parts xs c after
-  parted _ _ c below after shows_none e = absurd (let wrong : none ≡ more c below after = e in cc)
-  parted _ _ c below after (shows_more {n = n} {rest = rest} {below = x} {after = a} p q) e =
+  pub firsts : (xs : List ℕ) (t : OrderedTree) (c : Content) (below after : OrderedTree) → Shows ns xs t → t ≡ more c below after → Parts xs c after
+  firsts _ _ c below after shows_none e = absurd (let wrong : none ≡ more c below after = e in cc)
+  firsts _ _ c below after (shows_more {n = n} {rest = rest} {below = x} {after = a} p q) e =
       (n, rest, refl, content_same (content_at ns n) c x below a after e, subst (λ (t : OrderedTree). Shows ns rest t) (after_same (content_at ns n) c x below a after e) q)
 
   -- the first element of the row is the first behind its colon
@@ -72,7 +75,7 @@ module _ (ns : List Node) where
 
   at_colon : (xs : List ℕ) (u : OrderedTree) → Shows ns xs (token_then 0x3A u) → IsBehindColon xs
   at_colon xs u shows =
-      let parts = parted xs (token_then 0x3A u) (token 0x3A) none u shows refl in
+      let parts = firsts xs (token_then 0x3A u) (token 0x3A) none u shows refl in
       subst IsBehindColon (sym parts.2) (
       ap (λ l. slice_get l 0) (left (is_element_at ns) parts.0 parts.1 (ap is_element parts.3)) ∙ first_kept (is_element_at ns) parts.1
       ∙ sym (ap (λ b. find (is_element_at ns) (cond b parts.1 (behind_first (is_colon_at ns) parts.1))) (ap is_colon parts.3))
@@ -81,7 +84,7 @@ module _ (ns : List Node) where
   before_colon : (o : Options) {t r : OrderedTree} → Trivia o t r → ((xs : List ℕ) → Shows ns xs r → IsBehindColon xs) → (xs : List ℕ) → Shows ns xs t → IsBehindColon xs
   before_colon o Trivia.nothing further = further
   before_colon o (Trivia.trivia {content = content} {t = t} is rest) further = λ xs shows.
-      let parts = parted xs (more content none t) content none t shows refl in
+      let parts = firsts xs (more content none t) content none t shows refl in
       let kind = trivia_kind o content is in
       subst IsBehindColon (sym parts.2) (
       ap (λ l. slice_get l 0) (left (is_element_at ns) parts.0 parts.1 (ap is_element parts.3 ∙ kind.element)) ∙ before_colon o rest further parts.1 parts.4
@@ -91,7 +94,7 @@ module _ (ns : List Node) where
   -- so behind a name the second element is the value
   pub second_is_held : (o : Options) (xs : List ℕ) (name : Content) (after u : OrderedTree) (r : List ℕ) → Shows ns xs (more name none after) → IsNameBefore o name r → Trivia o after (token_then 0x3A u) → held_in ns xs ≡ slice_get (filter (is_element_at ns) xs) 1
   second_is_held o xs name after u r shows is before =
-      let parts = parted xs (more name none after) name none after shows refl in
+      let parts = firsts xs (more name none after) name none after shows refl in
       let kind = name_kind o name r is in
       let behind : IsBehindColon parts.1 = before_colon o before (λ ys g. at_colon ys u g) parts.1 parts.4 in
       subst (λ (l : List ℕ). held_in ns l ≡ slice_get (filter (is_element_at ns) l) 1) (sym parts.2) (

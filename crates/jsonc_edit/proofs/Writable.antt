@@ -37,7 +37,7 @@ number_before o s h n =
     let same : s ≡ chars bytes ++ [] = sym (append-nil (chars bytes) ∙ chars-encodes s h) in
     ((s, (h, refl)), (refl, subst (λ t. Number o t []) same n))
 
-string_before : (o : Options) (s : List ℕ) → IsCharacters s → (r : List ℕ) → IsLexemeBefore o (LexemeKind.string s) (encode_utf8_all (spelled s)) r
+pub string_before : (o : Options) (s : List ℕ) → IsCharacters s → (r : List ℕ) → IsLexemeBefore o (LexemeKind.string s) (encode_utf8_all (spelled s)) r
 string_before o s h r =
     let known = spelled_characters s h in
     ((spelled s, (known, refl)), subst (λ t. IsString o (t ++ r) s r) (sym (chars-encodes (spelled s) known)) (spelled_string o s r))

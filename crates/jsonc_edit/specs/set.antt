@@ -2,6 +2,7 @@ pub mod RootSet
 pub mod Shapes
 pub mod Kinds
 pub mod Giving
+pub mod Names
 pub mod Properties
 pub mod Booleans
 pub mod PropertyValues

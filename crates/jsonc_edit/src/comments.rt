@@ -38,7 +38,7 @@ pub fn is_line_comment<A: Allocator>(tree: &Tree<A>, node: usize) -> bool
 }
 
 // The first of the whitespace leaves directly before a child of a container, or that child.
-fn first_blank<A: Allocator>(tree: &Tree<A>, container: usize, node: usize) -> usize
+pub(crate) fn first_blank<A: Allocator>(tree: &Tree<A>, container: usize, node: usize) -> usize
     requires { parent_at tree.now.nodes node ≡ Some container }
     ensures child { parent_at tree.now.nodes result ≡ Some container }
     ensures place { place_at tree.now.nodes result
@@ -73,7 +73,7 @@ fn newline_before<A: Allocator>(tree: &Tree<A>, container: usize, node: usize) -
 }
 
 // The first node that leaves with a comment.
-fn first_removed<A: Allocator>(tree: &Tree<A>, container: usize, comment: usize) -> usize
+pub(crate) fn first_removed<A: Allocator>(tree: &Tree<A>, container: usize, comment: usize) -> usize
     requires { parent_at tree.now.nodes comment ≡ Some container }
     ensures first { result
         ≡ slice_index (children_at tree.now.nodes container) (removed_from tree.now.nodes container comment) }
@@ -88,7 +88,7 @@ fn first_removed<A: Allocator>(tree: &Tree<A>, container: usize, comment: usize)
 }
 
 // Takes a comment out, and what leaves with it.
-fn take_out<A: Allocator>(tree: &mut Tree<A>, container: usize, comment: usize)
+pub(crate) fn take_out<A: Allocator>(tree: &mut Tree<A>, container: usize, comment: usize)
     requires { parent_at tree.old.nodes comment ≡ Some container }
     ensures removed { IsRemoved tree.old.nodes tree.new.nodes comment }
 {

@@ -7,9 +7,11 @@
 //! anything changes (`specs/remove/Removed.antt`).
 
 mod brackets;
+mod comments;
 pub mod laws;
 mod leaving;
 mod removing;
 
 pub use brackets::has_brackets;
+pub use comments::clear_comments;
 pub use removing::remove;

@@ -18,6 +18,7 @@ use Rattle.jsonc_cst.specs.declared.cst.node.CstNode.{CstNode}
 use Rattle.jsonc_cst.specs.Document.{nodes_of, tree_of}
 use Rattle.jsonc_cst.specs.Nodes.{number_of}
 use Rattle.jsonc_text.specs.declared.edit.Over.TheVariants.{Keep}
+use Rattle.jsonc_parser.specs.declared.paths.which.Which.TheVariants.{First}
 use Rattle.jsonc_parser.specs.paths.Calls.{DropsWhatShown, PutsWhatShown, WantsMemory}
 use Rattle.jsonc_parser.specs.paths.Found.{FindsWhatShown}
 use Rattle.jsonc_parser.specs.paths.Laws.{MustStay}
@@ -39,37 +40,37 @@ module _ (o : Options) (ns : List Node) (sound : SoundTree o (ordered_tree ns 0)
   abbrev one : ShowsOne o ns
   one = record { document = d; options = refl; shown = shown }
 
-  pub puts_setting : (v : Plain) (names : List (List ℕ)) (new : List Node) → PutsWhatShown v Keep names ns new true → PutsSetting o v names ns new
+  pub puts_setting : (v : Plain) (names : List (List ℕ)) (new : List Node) → PutsWhatShown First v Keep names ns new true → PutsSetting o v names ns new
   puts_setting v names new puts = record { one = one; puts = puts d shown }
 
-  pub in_the_way : (v : Plain) (names : List (List ℕ)) (new : List Node) → PutsWhatShown v Keep names ns new false → HasInTheWay o (printed (ordered_tree ns 0)) names
+  pub in_the_way : (v : Plain) (names : List (List ℕ)) (new : List Node) → PutsWhatShown First v Keep names ns new false → HasInTheWay o (printed (ordered_tree ns 0)) names
   in_the_way v names new puts = (text.0, text.1, (puts d shown).1.1)
 
-  pub stays_so : (v : Plain) (names : List (List ℕ)) (new : List Node) → PutsWhatShown v Keep names ns new false → ordered_tree new 0 ≡ ordered_tree ns 0
+  pub stays_so : (v : Plain) (names : List (List ℕ)) (new : List Node) → PutsWhatShown First v Keep names ns new false → ordered_tree new 0 ≡ ordered_tree ns 0
   stays_so v names new puts = ap (λ (l : List Node). ordered_tree l 0) (puts d shown).0
 
   pub drops_setting : (names : List (List ℕ)) (new : List Node) (done : Bool) → DropsWhatShown names ns new done → DropsSetting o names ns new
   drops_setting names new done drops = record { one = one; done = done; drops = drops d shown }
 
   -- for what allocation failed
-  looks_up : (names : List (List ℕ)) → PassesEscaped d ns names → LooksUpEscaped o (printed (ordered_tree ns 0)) names
+  looks_up : (names : List (List ℕ)) → PassesEscaped First d ns names → LooksUpEscaped o (printed (ordered_tree ns 0)) names
   looks_up names passes = record { nodes = ns; reads = refl; one = one; passes = passes }
 
-  for_something : (names : List (List ℕ)) → PassesEscaped d ns names ⊎ SomethingAt d.value names → IsForSomething o (printed (ordered_tree ns 0)) names
+  for_something : (names : List (List ℕ)) → PassesEscaped First d ns names ⊎ SomethingAt d.value names → IsForSomething o (printed (ordered_tree ns 0)) names
   for_something names (inl passes) = inl (looks_up names passes)
   for_something names (inr something) = inr (text.0, text.1, something)
 
-  for_putting : (names : List (List ℕ)) → PassesEscaped d ns names ⊎ ¬ (MustStay Keep d.value names) → IsForPutting o (printed (ordered_tree ns 0)) names
+  for_putting : (names : List (List ℕ)) → PassesEscaped First d ns names ⊎ ¬ (MustStay Keep d.value names) → IsForPutting o (printed (ordered_tree ns 0)) names
   for_putting names (inl passes) = inl (looks_up names passes)
   for_putting names (inr free) = inr (text.0, text.1, λ stands. free (refl, stands))
 
-  pub memory_putting : (names : List (List ℕ)) (e : EditError) → WantsMemory ns e → WantsToPut Keep ns names → EndsPutting o (printed (ordered_tree ns 0)) names (Edit e)
+  pub memory_putting : (names : List (List ℕ)) (e : EditError) → WantsMemory ns e → WantsToPut First Keep ns names → EndsPutting o (printed (ordered_tree ns 0)) names (Edit e)
   memory_putting names e told wants = subst (λ (x : EditError). EndsPutting o (printed (ordered_tree ns 0)) names (Edit x)) (sym (told d shown)) (for_putting names (wants d shown))
 
   pub memory_dropping : (names : List (List ℕ)) (e : EditError) → WantsMemory ns e → WantsForSomething ns names → EndsDropping o (printed (ordered_tree ns 0)) names (Edit e)
   memory_dropping names e told wants = subst (λ (x : EditError). EndsDropping o (printed (ordered_tree ns 0)) names (Edit x)) (sym (told d shown)) (for_something names (wants d shown))
 
-  pub memory_getting : (names : List (List ℕ)) (e : EditError) → e ≡ OutOfMemory → WantsToLookUp ns names → EndsGetting o (printed (ordered_tree ns 0)) names (Edit e)
+  pub memory_getting : (names : List (List ℕ)) (e : EditError) → e ≡ OutOfMemory → WantsToLookUp First ns names → EndsGetting o (printed (ordered_tree ns 0)) names (Edit e)
   memory_getting names e is wants = subst (λ (x : EditError). EndsGetting o (printed (ordered_tree ns 0)) names (Edit x)) (sym is) (inl (looks_up names (wants d shown)))
 
 module _ {A : Type 0} (o : Options) (doc : CstRootNode A) (sound : SoundTree o (tree_of doc)) (names : List (List ℕ)) where

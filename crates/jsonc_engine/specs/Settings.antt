@@ -9,6 +9,7 @@ use Rattle.jsonc_tree.specs.Tree.{Node}
 use Rattle.jsonc_sound.specs.Documents.{Shows}
 use Rattle.jsonc_sound.specs.SoundTrees.{SoundTree}
 use Rattle.jsonc_text.specs.declared.edit.Over.TheVariants.{Keep}
+use Rattle.jsonc_parser.specs.declared.paths.which.Which.TheVariants.{First}
 use Rattle.jsonc_parser.specs.paths.Calls.{DropsAt, PutsAt}
 use Rattle.jsonc_parser.specs.paths.Memory.{PassesEscaped, SomethingAt}
 use Rattle.jsonc_parser.specs.paths.Settings.{At, StandsInTheWay}
@@ -24,13 +25,13 @@ pub record ShowsOne (o : Options) (ns : List Node) : Type 0 where
 pub record IsShownAt (o : Options) (names : List (List ℕ)) (ns : List Node) (output : List ℕ) : Type 0 where
   pub one : ShowsOne o ns
   pub node : ℕ
-  pub there : NamesNode one.document ns names node
+  pub there : NamesNode First one.document ns names node
   pub prints : output ≡ printed (ordered_tree ns node) ++ 0x0A ∷ []
 
 -- By one edit of the document that the old nodes show v was put at the names; no value of another kind than an object stood in the way.
 pub record PutsSetting (o : Options) (v : Plain) (names : List (List ℕ)) (old new : List Node) : Type 0 where
   pub one : ShowsOne o old
-  pub puts : PutsAt one.document v Keep names old new true
+  pub puts : PutsAt First one.document v Keep names old new true
 
 -- By one edit of the document that the old nodes show what stood at the names was dropped; or nothing stood there, and nothing has changed.
 pub record DropsSetting (o : Options) (names : List (List ℕ)) (old new : List Node) : Type 0 where
@@ -59,7 +60,7 @@ pub record LooksUpEscaped (o : Options) (bytes : List ℕ) (names : List (List �
   pub nodes : List Node
   pub reads : printed (ordered_tree nodes 0) ≡ bytes
   pub one : ShowsOne o nodes
-  pub passes : PassesEscaped one.document nodes names
+  pub passes : PassesEscaped First one.document nodes names
 
 -- memory is wanted to look up a name, or for what stands at the names
 abbrev pub IsForSomething : Options → List ℕ → List (List ℕ) → Type 0

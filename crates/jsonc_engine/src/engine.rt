@@ -73,7 +73,10 @@ fn read_on<A: Allocator, S: Source>(
 }
 
 /// All that the source has left.
-fn read_whole<A: Allocator + Copy, S: Source>(alloc: A, source: &mut S) -> Result<Vec<u8, A>, Fault>
+pub fn read_whole<A: Allocator + Copy, S: Source>(
+    alloc: A,
+    source: &mut S,
+) -> Result<Vec<u8, A>, Fault>
     ensures bytes { IfOk result (λ read. IfSome (S.remaining source.old) (λ input. read.items ≡ input)) }
     ensures ended { OnOk result (S.empty_reads source.new ≡ one_more (S.empty_reads source.old)) }
     ensures not_ended { OnErr result (S.empty_reads source.new ≡ S.empty_reads source.old) }
@@ -127,7 +130,7 @@ fn write_document<A: Allocator, K: Sink>(
 }
 
 /// Writes a text, and sees that it has left.
-fn write_text<A: Allocator, K: Sink>(sink: &mut K, text: &String<A>) -> Result<(), Fault>
+pub fn write_text<A: Allocator, K: Sink>(sink: &mut K, text: &String<A>) -> Result<(), Fault>
     ensures written { OnOk result (Appends (K.contents sink.old) (K.contents sink.new) (string_bytes text.now)) }
     ensures flushed { OnOk result (K.is_flushed sink.new) }
     ensures kept { OnOk result (K.failed_writes sink.new ≡ K.failed_writes sink.old) }

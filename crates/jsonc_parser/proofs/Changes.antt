@@ -102,7 +102,7 @@ no_later g was now w n h e f apart (Back.ends a c p) (Back.ends b d q) (Back.end
     absurd (apart l a b (p ∙ ap (λ t. a ++ t ∷ []) left.1) (q ∙ ap (λ t. b ++ t ∷ []) right.1))
 
 -- the same of any change behind g
-no_longer : (g was now back w n b : List ℕ) → g ++ (was ++ back) ≡ w ++ b → g ++ (now ++ back) ≡ n ++ b → HaveNoLast was now
+pub no_longer : (g was now back w n b : List ℕ) → g ++ (was ++ back) ≡ w ++ b → g ++ (now ++ back) ≡ n ++ b → HaveNoLast was now
     → Later (g ++ was) back w b → byte_length was ≤ byte_length w
 no_longer g was now back w n b e f apart (Later.second_later h p q) =
     let sizes : byte_length w ≡ byte_length (g ++ was) + byte_length h = ap byte_length p ∙ byte_length-append (g ++ was) h in

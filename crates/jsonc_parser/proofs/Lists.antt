@@ -10,10 +10,9 @@ use Rattle.jsonc_text.specs.Options.{Options}
 use Rattle.jsonc_tree.specs.Tree.{Node, IsTree}
 use Rattle.jsonc_text.specs.declared.edit.EditError.{EditError}
 use Rattle.jsonc_run.specs.declared.edit.Edit.{Edit}
-use Rattle.jsonc_run.specs.declared.edit.Edit.TheVariants.{Replace, Remove, RemoveComment, SetRoot, ClearRoot, ReplaceProperty, EnsureRoot, SetValue, EnsureValue, SetBoolean, EnsureMultiline, InsertElement, AppendElement, InsertProperty, AppendProperty, EnsureProperty, SetTrailingCommas, Sort}
+use Rattle.jsonc_run.specs.declared.edit.Edit.TheVariants.{Sort}
 use Rattle.jsonc_run.specs.Edits as nodes
-use Rattle.jsonc_run.specs.Edits.{Operation, Sorting, is_sort, operation_of, rearrange, unsorted, EditSteps, EditStep}
-use Rattle.jsonc_run.specs.Steps.{Fits, IsOfCharacters, NumbersFit}
+use Rattle.jsonc_run.specs.Edits.{PlainEdit, Sorting, is_sort, operation_of, rearrange, unsorted, EditSteps, EditStep, Fits, IsOfCharacters, NumbersFit}
 use Rattle.jsonc_run.specs.Refusals.{IsLeft, FailsWith}
 use Rattle.jsonc_run.proofs.SoundChain.{of_characters, fits_alike}
 use Rattle.jsonc_run.proofs.lemmas.promise.Asked.{Ask, edits_to, none_asks, one_asks, stops_so}
@@ -25,52 +24,20 @@ use Rattle.jsonc_parser.specs.Lists.{RunSteps, none_made, first_made, RunOk, Run
 
 -- an edit that is no sort asks for the same however sorts are done
 pub asks_alike : {A : Type 0} (s : Sorting) (e : Edit A) → is_sort e ≡ false → operation_of unsorted e ≡ operation_of s e
-asks_alike s (Replace path value) plain = refl
-asks_alike s (Remove path) plain = refl
-asks_alike s (RemoveComment number) plain = refl
-asks_alike s (SetRoot value) plain = refl
-asks_alike s ClearRoot plain = refl
-asks_alike s (ReplaceProperty path name value) plain = refl
-asks_alike s (EnsureRoot shape how) plain = refl
-asks_alike s (SetValue path value) plain = refl
-asks_alike s (EnsureValue path shape) plain = refl
-asks_alike s (SetBoolean path value) plain = refl
-asks_alike s (EnsureMultiline path) plain = refl
-asks_alike s (InsertElement path index value) plain = refl
-asks_alike s (AppendElement path value) plain = refl
-asks_alike s (InsertProperty path index name value) plain = refl
-asks_alike s (AppendProperty path name value) plain = refl
-asks_alike s (EnsureProperty path name shape how) plain = refl
-asks_alike s (SetTrailingCommas path mode) plain = refl
 asks_alike s (Sort path pin groups) plain = let wrong : true ≡ false = plain in cc
+asks_alike s e plain = refl
 
 -- what is no sort
 pub no_sort : {A : Type 0} (e : Edit A) → ((path : Vec ℕ A) (pin groups : Bool) → e ≡ Sort path pin groups → ⊥) → is_sort e ≡ false
-no_sort (Replace path value) other = refl
-no_sort (Remove path) other = refl
-no_sort (RemoveComment number) other = refl
-no_sort (SetRoot value) other = refl
-no_sort ClearRoot other = refl
-no_sort (ReplaceProperty path name value) other = refl
-no_sort (EnsureRoot shape how) other = refl
-no_sort (SetValue path value) other = refl
-no_sort (EnsureValue path shape) other = refl
-no_sort (SetBoolean path value) other = refl
-no_sort (EnsureMultiline path) other = refl
-no_sort (InsertElement path index value) other = refl
-no_sort (AppendElement path value) other = refl
-no_sort (InsertProperty path index name value) other = refl
-no_sort (AppendProperty path name value) other = refl
-no_sort (EnsureProperty path name shape how) other = refl
-no_sort (SetTrailingCommas path mode) other = refl
 no_sort (Sort path pin groups) other = absurd (other path pin groups refl)
+no_sort e other = refl
 
 -- what is said of an edit that is no sort, however sorts are done
 pub told_alike : {T A : Type 0} (ns : List Node) (s : Sorting) (e : Edit A) (r : Result T EditError) → is_sort e ≡ false → IfErr r (FailsWith ns (operation_of unsorted e)) → IfErr r (FailsWith ns (operation_of s e))
-told_alike ns s e r plain told = subst (λ (op : Operation). IfErr r (FailsWith ns op)) (asks_alike s e plain) told
+told_alike ns s e r plain told = subst (λ (op : PlainEdit). IfErr r (FailsWith ns op)) (asks_alike s e plain) told
 
 pub left_alike : {T E A : Type 0} (old new : List Node) (s : Sorting) (e : Edit A) (r : Result T E) → is_sort e ≡ false → OnErr r (IsLeft old (operation_of unsorted e) new) → OnErr r (IsLeft old (operation_of s e) new)
-left_alike old new s e r plain left = subst (λ (op : Operation). OnErr r (IsLeft old op new)) (asks_alike s e plain) left
+left_alike old new s e r plain left = subst (λ (op : PlainEdit). OnErr r (IsLeft old op new)) (asks_alike s e plain) left
 
 -- what is said of a sort, as its edit is seen
 module _ {A : Type 0} (e : Edit A) (path : Vec ℕ A) (pin groups : Bool) (is : e ≡ Sort path pin groups) (seen : List ℕ) (same_path : seen ≡ path.items) where
@@ -78,10 +45,10 @@ module _ {A : Type 0} (e : Edit A) (path : Vec ℕ A) (pin groups : Bool) (is : 
   sort_asks s = ap (λ p. rearrange p s.headers s.order) same_path ∙ sym (ap (operation_of s) is)
 
   pub sort_told : {T : Type 0} (ns : List Node) (s : Sorting) (r : Result T EditError) → IfErr r (FailsWith ns (rearrange seen s.headers s.order)) → IfErr r (FailsWith ns (operation_of s e))
-  sort_told ns s r told = subst (λ (op : Operation). IfErr r (FailsWith ns op)) (sort_asks s) told
+  sort_told ns s r told = subst (λ (op : PlainEdit). IfErr r (FailsWith ns op)) (sort_asks s) told
 
   pub sort_left : {T E : Type 0} (old new : List Node) (s : Sorting) (r : Result T E) → OnErr r (IsLeft old (rearrange seen s.headers s.order) new) → OnErr r (IsLeft old (operation_of s e) new)
-  sort_left old new s r left = subst (λ (op : Operation). OnErr r (IsLeft old op new)) (sort_asks s) left
+  sort_left old new s r left = subst (λ (op : PlainEdit). OnErr r (IsLeft old op new)) (sort_asks s) left
 
   pub sort_made : {C D T E : Type 0} (call : Shared C (Bor D × (CstNode × (CstNode × Unit {0}))) Ordering) (compare : C) (same : CstRootNode A → D) (old new : CstRootNode A) (r : Result T E)
       → OnOk r ((s : Sorting) × IsSorting call compare same old seen pin groups s × EditStep (nodes_of old) (rearrange seen s.headers s.order) (nodes_of new)) → OnOk r (IsRunStep call compare same old e new)
@@ -114,77 +81,61 @@ taken_seen xs i x h e =
 module _ {C D A : Type 0} (call : Shared C (Bor D × (CstNode × (CstNode × Unit {0}))) Ordering) (compare : C) (same : CstRootNode A → D) where
   -- an edit that is no sort was made
   plainly_asked : (d : CstRootNode A) (s : Sorting) (e : Edit A) → is_sort e ≡ false → IsAsked call compare same d e s
-  plainly_asked d s (Replace path value) plain = tt
-  plainly_asked d s (Remove path) plain = tt
-  plainly_asked d s (RemoveComment number) plain = tt
-  plainly_asked d s (SetRoot value) plain = tt
-  plainly_asked d s ClearRoot plain = tt
-  plainly_asked d s (ReplaceProperty path name value) plain = tt
-  plainly_asked d s (EnsureRoot shape how) plain = tt
-  plainly_asked d s (SetValue path value) plain = tt
-  plainly_asked d s (EnsureValue path shape) plain = tt
-  plainly_asked d s (SetBoolean path value) plain = tt
-  plainly_asked d s (EnsureMultiline path) plain = tt
-  plainly_asked d s (InsertElement path index value) plain = tt
-  plainly_asked d s (AppendElement path value) plain = tt
-  plainly_asked d s (InsertProperty path index name value) plain = tt
-  plainly_asked d s (AppendProperty path name value) plain = tt
-  plainly_asked d s (EnsureProperty path name shape how) plain = tt
-  plainly_asked d s (SetTrailingCommas path mode) plain = tt
   plainly_asked d s (Sort path pin groups) plain = let wrong : true ≡ false = plain in cc
+  plainly_asked d s e plain = tt
 
   pub plainly_made : {T E : Type 0} (old : CstRootNode A) (e : Edit A) (new : CstRootNode A) (r : Result T E) → is_sort e ≡ false → OnOk r (EditStep (nodes_of old) (operation_of unsorted e) (nodes_of new)) → OnOk r (IsRunStep call compare same old e new)
   plainly_made old e new (Ok x) plain made = (operation_of unsorted e, record { sorting = unsorted; asked = plainly_asked old unsorted e plain; is = refl; made = made })
   plainly_made old e new (Err x) plain made = tt
 
   -- what edits that were made say of nodes
-  pub as_nodes : {old new : CstRootNode A} {es : List (Edit A)} {ops : List Operation} → RunSteps call compare same old es ops new → EditSteps (nodes_of old) ops (nodes_of new)
+  pub as_nodes : {old new : CstRootNode A} {es : List (Edit A)} {ops : List PlainEdit} → RunSteps call compare same old es ops new → EditSteps (nodes_of old) ops (nodes_of new)
   as_nodes none_made = nodes.none_made
   as_nodes (first_made is after rest) = nodes.first_made is.made after (as_nodes rest)
 
   -- what they write is characters, and its numbers fit
-  pub are_characters : {old new : CstRootNode A} {es : List (Edit A)} {ops : List Operation} → RunSteps call compare same old es ops new → All IsOfCharacters ops
+  pub are_characters : {old new : CstRootNode A} {es : List (Edit A)} {ops : List PlainEdit} → RunSteps call compare same old es ops new → All IsOfCharacters ops
   are_characters none_made = All-nil IsOfCharacters
   are_characters (first_made {e = e} {operations = operations} is after rest) = All-cons IsOfCharacters _ operations (subst IsOfCharacters (sym is.is) (of_characters is.sorting e)) (are_characters rest)
 
-  pub numbers_fit : (o : Options) {old new : CstRootNode A} {es : List (Edit A)} {ops : List Operation} → RunSteps call compare same old es ops new → All (Fits o) es → All (NumbersFit o) ops
+  pub numbers_fit : (o : Options) {old new : CstRootNode A} {es : List (Edit A)} {ops : List PlainEdit} → RunSteps call compare same old es ops new → All (Fits o) es → All (NumbersFit o) ops
   numbers_fit o none_made f = All-nil (NumbersFit o)
   numbers_fit o (first_made {e = e} {es = es} {operations = operations} is after rest) f =
       All-cons (NumbersFit o) _ operations (subst (NumbersFit o) (sym is.is) (fits_alike o is.sorting e (All-head (Fits o) e es f))) (numbers_fit o rest (All-tail (Fits o) e es f))
 
   -- one more edit
-  pub made_more : (es : List (Edit A)) (ops : List Operation) (e : Edit A) (op : Operation) {old now new : CstRootNode A} → RunSteps call compare same old es ops now → RunStep call compare same now e op new → IsTree (nodes_of new) → RunSteps call compare same old (es ++ e ∷ []) (ops ++ op ∷ []) new
+  pub made_more : (es : List (Edit A)) (ops : List PlainEdit) (e : Edit A) (op : PlainEdit) {old now new : CstRootNode A} → RunSteps call compare same old es ops now → RunStep call compare same now e op new → IsTree (nodes_of new) → RunSteps call compare same old (es ++ e ∷ []) (ops ++ op ∷ []) new
   made_more [] [] e op none_made made tree = first_made made tree none_made
   made_more (d ∷ ds) (p ∷ ps) e op (first_made first t rest) made tree = first_made first t (made_more ds ps e op rest made tree)
   made_more [] (p ∷ ps) e op wrong made tree = elim wrong [ ]
   made_more (d ∷ ds) [] e op wrong made tree = elim wrong [ ]
 
   -- so for the next of a list
-  pub more_made_after : (old now new : CstRootNode A) (es : List (Edit A)) (k : ℕ) (e : Edit A) (ops : List Operation) → k < length es → e ≡ get_or es k e → RunSteps call compare same old (take k es) ops now → IsRunStep call compare same now e new → IsTree (nodes_of new)
-      → (all : List Operation) × RunSteps call compare same old (take (k + 1) es) all new
+  pub more_made_after : (old now new : CstRootNode A) (es : List (Edit A)) (k : ℕ) (e : Edit A) (ops : List PlainEdit) → k < length es → e ≡ get_or es k e → RunSteps call compare same old (take k es) ops now → IsRunStep call compare same now e new → IsTree (nodes_of new)
+      → (all : List PlainEdit) × RunSteps call compare same old (take (k + 1) es) all new
   more_made_after old now new es k e ops there is made (op, next) tree = (
     ops ++ op ∷ [],
     subst (λ (l : List (Edit A)). RunSteps call compare same old l (ops ++ op ∷ []) new) (taken_seen es k e there is) (made_more (take k es) ops e op made next tree),
   )
 
   -- they ask for their operations
-  asked_for : {old new : CstRootNode A} {es : List (Edit A)} {ops : List Operation} → RunSteps call compare same old es ops new → Ask es ops
+  asked_for : {old new : CstRootNode A} {es : List (Edit A)} {ops : List PlainEdit} → RunSteps call compare same old es ops new → Ask es ops
   asked_for none_made = none_asks
   asked_for (first_made {e = e} {es = es} {operations = ops} is after rest) =
-      subst (λ (op : Operation). Ask (e ∷ es) (op ∷ ops)) (sym is.is) (one_asks is.sorting (asked_for rest))
+      subst (λ (op : PlainEdit). Ask (e ∷ es) (op ∷ ops)) (sym is.is) (one_asks is.sorting (asked_for rest))
 
   -- all of them
-  pub have_been_made : (old new : CstRootNode A) (es : List (Edit A)) (ops : List Operation) → IsTree (nodes_of old) → RunSteps call compare same old es ops new → RunOk call compare same old es new
+  pub have_been_made : (old new : CstRootNode A) (es : List (Edit A)) (ops : List PlainEdit) → IsTree (nodes_of old) → RunSteps call compare same old es ops new → RunOk call compare same old es new
   have_been_made old new es ops tree made = record {
     operations = ops;
     made = made;
     edited = λ d shown fit.
         let lead = edits_lead (nodes_of old) (nodes_of new) ops tree (as_nodes made) (are_characters made) d shown (numbers_fit d.options made fit) in
-        (lead.0, lead.1, edits_to (asked_for made) lead.3);
+        (lead.0, lead.1, edits_to (asked_for made) lead.4);
   }
 
   -- the first of them, and why the next was not
-  pub have_stopped : (old now new : CstRootNode A) (es : List (Edit A)) (k : ℕ) (ops : List Operation) (next : Edit A) (why : EditError) → IsTree (nodes_of old) → IsTree (nodes_of new) → RunSteps call compare same old (take k es) ops now → slice_get es k ≡ Some next
+  pub have_stopped : (old now new : CstRootNode A) (es : List (Edit A)) (k : ℕ) (ops : List PlainEdit) (next : Edit A) (why : EditError) → IsTree (nodes_of old) → IsTree (nodes_of new) → RunSteps call compare same old (take k es) ops now → slice_get es k ≡ Some next
       → ((s : Sorting) → FailsWith (nodes_of now) (operation_of s next) why) → ((s : Sorting) → IsLeft (nodes_of now) (operation_of s next) (nodes_of new)) → RunErr call compare same old es k why new
   have_stopped old now new es k ops next why tree after made is_next told left = record {
     operations = ops;
@@ -198,10 +149,10 @@ module _ {C D A : Type 0} (call : Shared C (Bor D × (CstNode × (CstNode × Uni
   }
 
   -- without the comparison, they are what the edits ask for
-  are_asked : {old new : CstRootNode A} {es : List (Edit A)} {ops : List Operation} → RunSteps call compare same old es ops new → AreAsked es ops
+  are_asked : {old new : CstRootNode A} {es : List (Edit A)} {ops : List PlainEdit} → RunSteps call compare same old es ops new → AreAsked es ops
   are_asked none_made = AreAsked.none_asked
   are_asked (first_made {e = e} {es = es} {operations = operations} is after rest) =
-      subst (λ (op : Operation). AreAsked (e ∷ es) (op ∷ operations)) (sym is.is) (AreAsked.one_asked is.sorting (are_asked rest))
+      subst (λ (op : PlainEdit). AreAsked (e ∷ es) (op ∷ operations)) (sym is.is) (AreAsked.one_asked is.sorting (are_asked rest))
 
   pub unsorted_ok : {T E : Type 0} (old new : CstRootNode A) (seen es : List (Edit A)) (r : Result T E) → seen ≡ es → OnOk r (RunOk call compare same old seen new) → OnOk r (RunUnsortedOk old es new)
   unsorted_ok old new seen es (Err x) is run = tt

@@ -9,7 +9,7 @@ use Rattle.jsonc_sound.specs.Documents.{ShowsText}
 use Rattle.jsonc_text.specs.declared.edit.EditError.{EditError}
 use Rattle.jsonc_text.specs.declared.edit.EditError.TheVariants.{OutOfMemory}
 use Rattle.jsonc_run.specs.declared.edit.Edit.{Edit}
-use Rattle.jsonc_run.specs.Steps.{Fits}
+use Rattle.jsonc_run.specs.Edits.{Fits}
 use Rattle.jsonc_run.specs.promise.Asked.{EditsTheText, StopsInText}
 use Rattle.jsonc_run.proofs.lemmas.promise.Leads.{shown_are_documents}
 use Rattle.jsonc_parser.specs.Promise.{IsEditedText, StopsText}

@@ -33,7 +33,7 @@ module _ {A : Type 0} (old : CstRootNode A) (path : List ℕ) (n : ℕ) (at : Is
 
   pub sort_told : {T : Type 0} (s : Sorting) (r : Result T EditError) → IfErr r (λ e. e ≡ OutOfMemory) → IfErr r (FailsWith (nodes_of old) (rearrange path s.headers s.order))
   sort_told s (Ok x) memory = tt
-  sort_told s (Err e) memory = subst (FailsWith (nodes_of old) (rearrange path s.headers s.order)) (sym memory) (n, at)
+  sort_told s (Err e) memory = subst (FailsWith (nodes_of old) (rearrange path s.headers s.order)) (sym memory) (n, at, refl)
 
   module _ {C D : Type 0} (call : Shared C (Bor D × (CstNode × (CstNode × Unit {0}))) Ordering) (compare : C) (same : CstRootNode A → D) (new : CstRootNode A) (pin groups : Bool) where
     pub sort_made : {T E : Type 0} (r : Result T E) → OnOk r (ContainerSorted old new container pin groups (IsInItsOrder call compare (same old) (HasNode old)))
@@ -45,7 +45,7 @@ module _ {A : Type 0} (old : CstRootNode A) (path : List ℕ) (n : ℕ) (at : Is
         let headers = headers_of (pins_where old (typed_at (nodes_of old) n) pin) groups in (
           record { headers = headers; order = h.order },
           record { n = n; at = at; headers = refl; order = h.wanted },
-          (n, at, subst (λ k. IsOrderIn (nodes_of old) k h.order) number h.placed.all, subst (λ k. Rearranged (nodes_of old) (nodes_of new) k headers h.order) number h.placed.made),
+          (n, at, (subst (λ k. IsOrderIn (nodes_of old) k h.order) number h.placed.all, subst (λ k. Rearranged (nodes_of old) (nodes_of new) k headers h.order) number h.placed.made)),
         )
 
 pub sort_left : {T E : Type 0} (old : List Node) (path : List ℕ) (s : Sorting) (new : List Node) (r : Result T E) → OnErr r (Keeps (length old) old new) → OnErr r (ordered_tree new 0 ≡ ordered_tree old 0) → OnErr r (IsLeft old (rearrange path s.headers s.order) new)

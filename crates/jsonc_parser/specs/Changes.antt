@@ -1,6 +1,8 @@
 -- What has changed between two texts.
-use Rattle.std.specs.Prelude.{◌≡◌, ℕ, ◌≤◌, ◌-◌, List, ◌∷◌, ◌++◌, []}
+use Rattle.std.specs.Prelude.{◌≡◌, ◌⊎◌, ℕ, ◌≤◌, ◌+◌, ◌-◌, List, ◌∷◌, ◌++◌, []}
 use Rattle.jsonc_text.specs.Text.{byte_length}
+use Rattle.jsonc_text.specs.declared.line.LineAndColumn.{LineAndColumn}
+use Rattle.jsonc_parser.specs.Places.{LineColumnUtf16}
 
 -- between front and back the one text has `was`, and the other `now`
 pub record Replaces (old new front was now back : List ℕ) : Type 0 where
@@ -32,3 +34,37 @@ BeginsApart old new xs ys = (front : List ℕ) × (old ≡ front ++ xs) × (new 
 -- before the longest end that both have the one text has xs, and the other ys
 abbrev pub EndsApart : List ℕ → List ℕ → List ℕ → List ℕ → Type 0
 EndsApart old new xs ys = (back : List ℕ) × (old ≡ xs ++ back) × (new ≡ ys ++ back) × HaveNoLast xs ys
+
+-- the place is between the CR and the LF of a CR LF, which no position of a language server is
+pub record IsInsideCrLf (t : List ℕ) (place : ℕ) : Type 0 where
+  pub before : List ℕ
+  pub after : List ℕ
+  pub split : t ≡ before ++ 0x0D ∷ 0x0A ∷ after
+  pub at : place ≡ byte_length (before ++ 0x0D ∷ [])
+
+-- this place, or that before the CR where it is inside a CR LF
+abbrev pub StartsOutside : List ℕ → ℕ → ℕ → Type 0
+StartsOutside t place start = (¬ (IsInsideCrLf t place) × (start ≡ place)) ⊎ (IsInsideCrLf t place × (place ≡ start + 1))
+
+-- this place, or that behind the LF
+abbrev pub EndsOutside : List ℕ → ℕ → ℕ → Type 0
+EndsOutside t place end = (¬ (IsInsideCrLf t place) × (end ≡ place)) ⊎ (IsInsideCrLf t place × (end ≡ place + 1))
+
+-- a change that neither begins nor ends inside a CR LF of the old text
+pub record IsChangeOutside (old new : List ℕ) (start end : ℕ) (now : List ℕ) : Type 0 where
+  pub change : IsChange old new start end now
+  pub begins : ¬ (IsInsideCrLf old start)
+  pub ends : ¬ (IsInsideCrLf old end)
+
+-- it is one; each other begins no later, and one that begins there ends no earlier
+pub record IsLeastOutside (old new : List ℕ) (start end : ℕ) (now : List ℕ) : Type 0 where
+  pub outside : IsChangeOutside old new start end now
+  pub least : (s e : ℕ) (n : List ℕ) → IsChangeOutside old new s e n → (s ≤ start) × (s ≡ start → end ≤ e)
+
+-- it is that one, from the line and column `from` of the old text to `to`, the columns in UTF-16 code units
+pub record IsUtf16Change (old new : List ℕ) (from to : LineAndColumn) (now : List ℕ) : Type 0 where
+  pub start : ℕ
+  pub end : ℕ
+  pub least : IsLeastOutside old new start end now
+  pub begins : LineColumnUtf16 old start from.line from.column
+  pub ends : LineColumnUtf16 old end to.line to.column

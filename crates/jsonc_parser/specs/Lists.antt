@@ -9,7 +9,7 @@ use Rattle.jsonc_text.specs.declared.edit.EditError.{EditError}
 use Rattle.jsonc_sort.specs.Rearranged.{headers_of}
 use Rattle.jsonc_run.specs.declared.edit.Edit.{Edit}
 use Rattle.jsonc_run.specs.declared.edit.Edit.TheVariants.{Sort}
-use Rattle.jsonc_run.specs.Edits.{Operation, Sorting, operation_of, EditStep, EditSteps}
+use Rattle.jsonc_run.specs.Edits.{PlainEdit, Sorting, operation_of, EditStep, EditSteps}
 use Rattle.jsonc_run.specs.Places.{IsContainerAt}
 use Rattle.jsonc_run.specs.Refusals.{IsLeft, FailsWith}
 use Rattle.jsonc_run.specs.promise.Asked.{EditsTheText, StopsInText}
@@ -41,31 +41,31 @@ module _ {C D A : Type 0} (call : Shared C (Bor D × (CstNode × (CstNode × Uni
   IsAsked d e s = Unit {0}
 
   -- the edit was made: the operation that it asks for in the old document
-  pub record RunStep (old : CstRootNode A) (e : Edit A) (operation : Operation) (new : CstRootNode A) : Type 0 where
+  pub record RunStep (old : CstRootNode A) (e : Edit A) (operation : PlainEdit) (new : CstRootNode A) : Type 0 where
     pub sorting : Sorting
     pub asked : IsAsked old e sorting
     pub is : operation ≡ operation_of sorting e
     pub made : EditStep (nodes_of old) operation (nodes_of new)
 
   abbrev pub IsRunStep : CstRootNode A → Edit A → CstRootNode A → Type 0
-  IsRunStep old e new = (operation : Operation) × RunStep old e operation new
+  IsRunStep old e new = (operation : PlainEdit) × RunStep old e operation new
 
   -- the edits were made in order, each in the document that the one before it made
-  pub data RunSteps : CstRootNode A → List (Edit A) → List Operation → CstRootNode A → Type 0 where
+  pub data RunSteps : CstRootNode A → List (Edit A) → List PlainEdit → CstRootNode A → Type 0 where
     none_made : {d : CstRootNode A} → RunSteps d [] [] d
-    first_made : {old now new : CstRootNode A} {e : Edit A} {operation : Operation} {es : List (Edit A)} {operations : List Operation}
+    first_made : {old now new : CstRootNode A} {e : Edit A} {operation : PlainEdit} {es : List (Edit A)} {operations : List PlainEdit}
         → RunStep old e operation now → IsTree (nodes_of now) → RunSteps now es operations new → RunSteps old (e ∷ es) (operation ∷ operations) new
 
   -- They were all made. Whatever document the old one shows, if the numbers that they write are numbers, they lead from it to one that the new one shows.
   pub record RunOk (old : CstRootNode A) (edits : List (Edit A)) (new : CstRootNode A) : Type 0 where
-    pub operations : List Operation
+    pub operations : List PlainEdit
     pub made : RunSteps old edits operations new
     pub edited : EditsTheText (tree_of old) edits (tree_of new)
 
   -- The first k edits were made, each whole; there is one more, which was not made for this reason, and has left the document so. Whatever document the old one
   -- shows, they lead from it to where they stop.
   pub record RunErr (old : CstRootNode A) (edits : List (Edit A)) (k : ℕ) (why : EditError) (new : CstRootNode A) : Type 0 where
-    pub operations : List Operation
+    pub operations : List PlainEdit
     pub now : CstRootNode A
     pub made : RunSteps old (take k edits) operations now
     pub next : Edit A
@@ -76,21 +76,21 @@ module _ {C D A : Type 0} (call : Shared C (Bor D × (CstNode × (CstNode × Uni
 
 module _ {A : Type 0} where
   -- each operation is what its edit asks for; where that sorts, in some order
-  pub data AreAsked : List (Edit A) → List Operation → Type 0 where
+  pub data AreAsked : List (Edit A) → List PlainEdit → Type 0 where
     none_asked : AreAsked [] []
-    one_asked : {e : Edit A} {es : List (Edit A)} {operations : List Operation} (s : Sorting) → AreAsked es operations → AreAsked (e ∷ es) (operation_of s e ∷ operations)
+    one_asked : {e : Edit A} {es : List (Edit A)} {operations : List PlainEdit} (s : Sorting) → AreAsked es operations → AreAsked (e ∷ es) (operation_of s e ∷ operations)
 
   -- The edits were all made, without a comparison. Whatever document the old one shows, if the numbers that they write are numbers, they lead from it to one that
   -- the new one shows.
   pub record RunUnsortedOk (old : CstRootNode A) (edits : List (Edit A)) (new : CstRootNode A) : Type 0 where
-    pub operations : List Operation
+    pub operations : List PlainEdit
     pub asked : AreAsked edits operations
     pub made : EditSteps (nodes_of old) operations (nodes_of new)
     pub edited : EditsTheText (tree_of old) edits (tree_of new)
 
   -- The first k of them were made, each whole; there is one more, which was not made for this reason, and has left the document so.
   pub record RunUnsortedErr (old : CstRootNode A) (edits : List (Edit A)) (k : ℕ) (why : EditError) (new : CstRootNode A) : Type 0 where
-    pub operations : List Operation
+    pub operations : List PlainEdit
     pub asked : AreAsked (take k edits) operations
     pub now : List Node
     pub made : EditSteps (nodes_of old) operations now

@@ -35,3 +35,7 @@ LineColumnUtf16 = LineColumnBy utf16_units
 abbrev pub units : ColumnUnit → ℕ → ℕ
 units Character c = 1
 units Utf16 c = utf16_units c
+
+-- no two places of t are in one line and column
+abbrev pub HasOnePlace : ColumnUnit → List ℕ → Type 0
+HasOnePlace u t = (p q line column : ℕ) → LineColumnBy (units u) t p line column → LineColumnBy (units u) t q line column → p ≡ q

@@ -9,7 +9,7 @@ use Rattle.jsonc_ast.specs.to_ast.Faults.{ParseFault}
 use Rattle.jsonc_text.specs.declared.edit.EditError.{EditError}
 use Rattle.jsonc_text.specs.declared.edit.EditError.TheVariants.{OutOfMemory}
 use Rattle.jsonc_run.specs.declared.edit.Edit.{Edit}
-use Rattle.jsonc_run.specs.Steps.{Fits}
+use Rattle.jsonc_run.specs.Edits.{Fits}
 use Rattle.jsonc_run.specs.promise.Asked.{EditsTo, IsStopped}
 use Rattle.jsonc_parser.specs.declared.cst.texts.EditTextError.{EditTextError}
 use Rattle.jsonc_parser.specs.declared.cst.texts.EditTextError.TheVariants as error

@@ -1,4 +1,5 @@
 pub mod Settings
+pub mod Which
 pub mod Laws
 pub mod Operations
 pub mod Positions

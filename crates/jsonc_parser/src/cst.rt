@@ -24,7 +24,7 @@ pub use jsonc_cst::cst::{
     PreviousSiblingIterator, RangedDescendantIterator, Shown, TrailingCommaMode, TypedNode, input,
 };
 pub use jsonc_cst::sorting::{
-    BlankLineHeaders, ElementSort, HeaderRule, HeadersBy, NoHeaders, PropertySort,
+    BlankLineHeaders, ElementSort, HeaderRule, HeadersBy, KeptHeaders, NoHeaders, PropertySort,
 };
 pub use jsonc_cst::typed::DocumentArg;
 pub use jsonc_run::{Edit, Over, Shape};

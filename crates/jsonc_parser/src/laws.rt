@@ -2,7 +2,7 @@
 //! lead from what a call says to what users rely on.
 //!
 //! The texts that write a float are the numbers of the grammar, and each writes one
-//! ([`numbers_have_one_value`]).
+//! ([`numbers_have_one_value`]). A line and a column are those of one place at most ([`one_place`]).
 //!
 //! At a place of a text there is at most one lexeme or comment ([`one_lexeme`]), and a text has at most one list of
 //! them ([`one_list_of_tokens`]). Comments, strings and numbers end where they must ([`block_comment_ends_first`],
@@ -39,7 +39,8 @@
 //! ([`second_sorts_change_no_byte`], [`second_sorts_by_key_change_no_byte`]).
 //!
 //! What a pointer prints is parsed as the same ([`pointers_are_read_back`]), a text is one pointer or has one fault
-//! ([`pointers_are_read_in_one_way`]), and a pointer refers to one value at most ([`pointers_refer_to_one_value`]).
+//! ([`pointers_are_read_in_one_way`]), and a pointer refers to one value at most ([`pointers_refer_to_one_value`]). What is
+//! found by a pointer that refers to a node is that node ([`pointers_lead_back`]).
 //!
 //! The laws of trees of nodes, on which these rest, are in [`nodes`].
 
@@ -47,7 +48,8 @@ pub mod nodes;
 
 pub use crate::numbers::laws::numbers_have_one_value;
 pub use crate::patch::laws::{
-    pointers_are_read_back, pointers_are_read_in_one_way, pointers_refer_to_one_value,
+    pointers_are_read_back, pointers_are_read_in_one_way, pointers_lead_back,
+    pointers_refer_to_one_value,
 };
 pub use crate::paths::laws::{
     each_node_stands_at_its_place, names_lead_over_nodes, nodes_have_their_values,
@@ -55,6 +57,7 @@ pub use crate::paths::laws::{
     what_is_read_stands_at_paths, what_stands_can_leave, what_was_put_stands_there,
     worked_equal_names,
 };
+pub use crate::places::laws::one_place;
 pub use jsonc_ast::to_ast::laws::{faults_are_of_no_document, one_reading, reading_to_the_end};
 pub use jsonc_cst::laws::{
     descendants_are_those_below, documents_give_their_value, entries_move_their_comments,

@@ -19,7 +19,7 @@ mod places;
 pub mod settings;
 pub mod string;
 
-pub use change::{TextChange, text_change};
+pub use change::{TextChange, Utf16Change, text_change, utf16_change};
 pub use checker::{check, check_document};
 pub use jsonc_ast::ast;
 pub use jsonc_ast::to_ast::collect::{

@@ -1,16 +1,30 @@
-//! JSON Pointers (RFC 6901): texts that lead from a document's value to one inside it, through objects by names and
-//! through arrays by indexes.
+//! JSON Pointers (RFC 6901) and JSON Patches (RFC 6902).
 //!
-//! A [`Pointer`] is such a text, parsed, or made of its tokens. [`find`] finds the node that it refers to in a document,
-//! and [`read`] takes its value.
+//! A [`Pointer`] is a text that leads from a document's value to one inside it, through objects by names and through
+//! arrays by indexes, parsed, or made of its tokens. [`find`] finds the node that it refers to in a document, [`read`]
+//! takes its value, and [`pointer_of`] tells the pointer of a node.
 //!
-//! [`same_number`] tells whether two texts of numbers have one value, as a JSON Patch (RFC 6902) asks.
+//! A [`Patch`] is a list of operations at pointers, read from its text, which [`Patch::apply`] makes on a document
+//! whole or not at all: every comment stays, and every byte outside of what they change. [`same_number`] tells whether
+//! two texts of numbers have one value, as a patch's `test` asks.
 
+mod apply;
+mod equality;
 pub(crate) mod laws;
+mod location;
+mod making;
 mod numbers;
+mod operation;
 mod pointer;
+mod reading;
 mod reference;
+mod values;
 
+pub use apply::PatchFault;
+pub use location::pointer_of;
+pub use making::PatchCause;
 pub use numbers::same_number;
+pub use operation::{Member, Operation, OperationFault};
 pub use pointer::{Pointer, PointerError};
+pub use reading::{Patch, PatchError};
 pub use reference::{FindError, find, read};

@@ -5,6 +5,8 @@ ghost use Rattle.jsonc_text.specs.Places.{LineColumn};
 ghost use Rattle.jsonc_text.specs.Text.{Spans};
 ghost use Rattle.jsonc_parser.specs.Places.{LineColumnBy, LineColumnUtf16, past, units};
 
+pub mod laws;
+
 use jsonc_text::line::ends_line;
 pub use jsonc_text::line::{LineAndColumn, line_and_column};
 

@@ -34,7 +34,7 @@ module _ (ns : List Node) (path : List ℕ) (n : ℕ) (b : Bool) (at : IsBoolean
 
   pub boolean_told : {T : Type 0} (r : Result T EditError) → IfErr r (λ e. e ≡ OutOfMemory) → OnErr r (WantsSpaceFor ns n b) → IfErr r (FailsWith ns (set_boolean path b))
   boolean_told (Ok x) memory wants = tt
-  boolean_told (Err e) memory wants = subst (FailsWith ns (set_boolean path b)) (sym memory) (n, at, wants)
+  boolean_told (Err e) memory wants = subst (FailsWith ns (set_boolean path b)) (sym memory) (n, at, (refl, wants))
 
 -- the old one has been replaced at the path
 pub boolean_given : (old new : List Node) (path : List ℕ) (n : ℕ) (b : Bool) → IsTree old → IsBooleanAt old path n → BooleanSet old new n b

@@ -24,6 +24,7 @@ use Rattle.jsonc_edit.proofs.ChangesUpward.{over_through}
 use Rattle.jsonc_edit.proofs.lemmas.multiline.Documents.{over_at}
 use Rattle.jsonc_edit.proofs.lemmas.set.FirstValueMade.{root_child}
 use Rattle.jsonc_edit.proofs.lemmas.set.PropertyValue.{held_child}
+use Rattle.jsonc_edit.proofs.lemmas.set.Renaming.{named_child}
 use Rattle.jsonc_text.specs.declared.edit.Over.{Over}
 use Rattle.jsonc_text.specs.declared.edit.Over.TheVariants as over
 use Rattle.jsonc_text.specs.declared.edit.Shape.{Shape}
@@ -31,11 +32,11 @@ use Rattle.jsonc_insert.specs.named.Named.{EnsuredFor}
 use Rattle.jsonc_insert.specs.named.Places.{IsPropertyAt, a_property}
 use Rattle.jsonc_edit.specs.set.Shapes.{is_of, empty_of}
 use Rattle.jsonc_insert.proofs.lemmas.named.Writing.{first_named}
-use Rattle.jsonc_run.specs.Edits.{Operation, replace, remove, remove_comment, set_root, clear_root, replace_property, ensure_root, set_value, ensure_value, set_boolean, ensure_multiline, insert_element, append_element, insert_property, append_property, ensure_property, set_commas, set_some_commas, rearrange, PropertyValueSet, RootEnsured, RootSet}
+use Rattle.jsonc_run.specs.Edits.{PlainEdit, replace, remove, remove_comment, set_root, clear_root, replace_property, ensure_root, set_value, ensure_value, set_boolean, ensure_multiline, insert_element, append_element, insert_property, append_property, ensure_property, set_commas, set_some_commas, rearrange, rename_property, PropertyValueSet, RootEnsured, RootSet}
 use Rattle.jsonc_run.specs.Places.{IsEntryAt, an_entry, in_array, in_object, the_value}
 use Rattle.jsonc_run.specs.Refusals.{as_it_was, set_in_part}
 use Rattle.jsonc_run.proofs.DetachedNodes.{there_below}
-use Rattle.jsonc_run.specs.Parents.{IsCall, all_stay, children_leave, gives_way, property_gives_way, comment_leaves, element_leaves, first_comes, last_comes, boolean_set, comes_on_lines, element_comes, property_comes, commas_set, some_commas_set, sorted, IsCallOf, EditIsCall, RefusalIsCall}
+use Rattle.jsonc_run.specs.Parents.{IsCall, all_stay, children_leave, gives_way, gives_way_raw, property_gives_way, comment_leaves, element_leaves, first_comes, last_comes, boolean_set, comes_on_lines, element_comes, property_comes, commas_set, some_commas_set, sorted, IsCallOf, EditIsCall, RefusalIsCall}
 
 module _ (old new : List Node) (tree : IsTree old) where
   pub call_of : (n : ℕ) → n < length old → IsCall old new n → IsCallOf old new n
@@ -131,7 +132,7 @@ entry_parent ns tree _ n (the_value at) = value_parent n at.0 at.1 at.2
 entry_parent ns tree _ n (an_entry front c i at (in_array is e)) = (c, element_parent ns tree c i n e, over_at ns tree front c at)
 entry_parent ns tree _ n (an_entry front c i at (in_object p)) = (c, element_parent ns tree c i n p.element, over_at ns tree front c at)
 
-property_over : (ns : List Node) → IsTree ns → (path : List ℕ) (r : ℕ) → IsPropertyAt ns path r → IsOver ns 0 r × (content_at ns r ≡ property)
+pub property_over : (ns : List Node) → IsTree ns → (path : List ℕ) (r : ℕ) → IsPropertyAt ns path r → IsOver ns 0 r × (content_at ns r ≡ property)
 property_over ns tree _ r (a_property front c i at is) = (IsOver.above (element_parent ns tree c i r is.element) (over_at ns tree front c at), is.is)
 
 module _ (old : List Node) (tree : IsTree old) where
@@ -148,15 +149,15 @@ module _ (old : List Node) (tree : IsTree old) where
   at_path : (new : List Node) (path : List ℕ) (n : ℕ) → IsAt old path n → IsCall old new n → IsCallOf old new 0
   at_path new path n at call = call_in new n (over_at old tree path n at) call
 
-pub edit_is_call : (old : List Node) (e : Operation) (new : List Node) → EditIsCall old e new
-edit_is_call old (replace path v) new tree (n, m, at, given) = at_path old tree new path n at (gives_way n m v given)
+pub edit_is_call : (old : List Node) (e : PlainEdit) (new : List Node) → EditIsCall old e new
+edit_is_call old (replace path v) new tree (n, at, (m, given)) = at_path old tree new path n at (gives_way n m v given)
 edit_is_call old (remove path) new tree (n, at, takes) =
     let (c, said, up) = entry_parent old tree path n at in
     call_in old tree new n (IsOver.above said up) (element_leaves n c said (takes c said).1)
 edit_is_call old (remove_comment number) new tree (n, is, taken) = call_in old tree new n taken.below (comment_leaves n taken.container taken.parent taken.taken)
 edit_is_call old (set_root v) new tree set = root_set old new tree v (value_at old 0) refl set
 edit_is_call old clear_root new tree s = call_of old new tree 0 tree.first (children_leave 0 0 _ s)
-edit_is_call old (replace_property path name v) new tree (n, m, at, given) = call_in old tree new n (property_over old tree path n at).0 (property_gives_way n m name v given)
+edit_is_call old (replace_property path name v) new tree (n, at, (m, given)) = call_in old tree new n (property_over old tree path n at).0 (property_gives_way n m name v given)
 edit_is_call old (ensure_root shape how) new tree ensured = root_ensured old new tree shape how ensured
 edit_is_call old (set_value path v) new tree (r, at, set) =
     let (up, is) = property_over old tree path r at in
@@ -166,17 +167,19 @@ edit_is_call old (ensure_value path shape) new tree (r, at, (named, m, set)) =
     in_document old tree new r up (held_or_set old new tree r (there old tree r up) is (is_of shape) (empty_of shape) (value_at old r) m refl set)
 edit_is_call old (set_boolean path b) new tree (n, at, set) = at_path old tree new path n at.0 (boolean_set n b set)
 edit_is_call old (ensure_multiline path) new tree (n, at, made) = at_path old tree new path n at.0 (comes_on_lines n made)
-edit_is_call old (insert_element path i v) new tree (n, m, at, put) = at_path old tree new path n at.0 (element_comes n i m v put)
-edit_is_call old (append_element path v) new tree (n, m, at, put) = at_path old tree new path n at.0 (element_comes n _ m v put)
-edit_is_call old (insert_property path i name v) new tree (n, m, at, put) = at_path old tree new path n at.0 (property_comes n i m name v put)
-edit_is_call old (append_property path name v) new tree (n, m, at, put) = at_path old tree new path n at.0 (property_comes n _ m name v put)
-edit_is_call old (ensure_property path name shape how) new tree (n, m, at, (found, first, by)) =
+edit_is_call old (insert_element path i v) new tree (n, at, (m, put)) = at_path old tree new path n at.0 (element_comes n i m v put)
+edit_is_call old (append_element path v) new tree (n, at, (m, put)) = at_path old tree new path n at.0 (element_comes n _ m v put)
+edit_is_call old (insert_property path i name v) new tree (n, at, (m, put)) = at_path old tree new path n at.0 (property_comes n i m name v put)
+edit_is_call old (append_property path name v) new tree (n, at, (m, put)) = at_path old tree new path n at.0 (property_comes n _ m name v put)
+edit_is_call old (ensure_property path name shape how) new tree (n, at, (m, (found, first, by))) =
     let up = over_at old tree path n at.0 in
     in_document old tree new n up (named_ensured old new tree n (there old tree n up) name shape how found m first by)
 edit_is_call old (set_commas path mode) new tree (n, at, set) = at_path old tree new path n at.0 (commas_set mode n set)
 edit_is_call old (set_some_commas path mode) new tree (n, at, part) = at_path old tree new path n at.0 (some_commas_set mode n part)
-edit_is_call old (rearrange path headers order) new tree (n, at, is, made) = at_path old tree new path n at.0 (sorted n headers order made)
+edit_is_call old (rearrange path headers order) new tree (n, at, (is, made)) = at_path old tree new path n at.0 (sorted n headers order made)
+edit_is_call old (rename_property path name) new tree (n, at, (m, r)) =
+    in_document old tree new n (property_over old tree path n at).0 (call_of_child old new tree r.0 n (named_child old tree n r.0 r.1) (gives_way_raw r.0 m (Plain.string name) r.2))
 
-pub refusal_is_call : (old : List Node) (e : Operation) (new : List Node) → RefusalIsCall old e new
+pub refusal_is_call : (old : List Node) (e : PlainEdit) (new : List Node) → RefusalIsCall old e new
 refusal_is_call old e new tree (as_it_was keeps same) = call_of old new tree 0 tree.first (all_stay 0 keeps)
 refusal_is_call old _ new tree (set_in_part {path = path} {mode = mode} n at part) = at_path old tree new path n at.0 (some_commas_set mode n part)

@@ -1,5 +1,5 @@
 -- Trailing commas that are set at a path, and what a refused edit leaves.
-use Rattle.std.proofs.Common.{◌≡◌, ℕ, List, Result, Ok, Err, OnOk, OnErr, IfErr, sym, subst}
+use Rattle.std.proofs.Common.{◌≡◌, ℕ, List, Result, Ok, Err, OnOk, OnErr, IfErr, refl, sym, subst}
 use Rattle.jsonc_tree.specs.Tree.{Node, IsTree}
 use Rattle.jsonc_edit.specs.commas.InTurn.{holders, AreSetInPart, AreSetInTurn}
 use Rattle.jsonc_text.specs.declared.edit.EditError.{EditError}
@@ -23,4 +23,4 @@ module _ (ns : List Node) (path : List ℕ) (mode : TrailingCommaMode) (n : ℕ)
 
   pub commas_told : {T : Type 0} (r : Result T EditError) (new : List Node) → IsTree ns → IfErr r (λ e. e ≡ OutOfMemory) → OnErr r (mode ≡ IfMultiline) → OnErr r (AreSetInPart mode ns (holders ns n) new) → IfErr r (FailsWith ns (set_commas path mode))
   commas_told (Ok x) new tree memory wanted part = tt
-  commas_told (Err e) new tree memory wanted part = subst (FailsWith ns (set_commas path mode)) (sym memory) (n, at, wanted, wants_some mode ns new n tree wanted part)
+  commas_told (Err e) new tree memory wanted part = subst (FailsWith ns (set_commas path mode)) (sym memory) (n, at, (refl, wanted, wants_some mode ns new n tree wanted part))

@@ -6,6 +6,8 @@ use Rattle.jsonc_tree.specs.Tree.{Node, IsTree, parent_at}
 use Rattle.jsonc_tree.proofs.Builder.{Keeps-same}
 use Rattle.jsonc_edit.specs.Paths.{FindsExactly, IsAt, LeadsTo, StepsTo, itself, step}
 use Rattle.jsonc_edit.proofs.Uniqueness.{element_parent}
+use Rattle.jsonc_text.specs.declared.edit.Over.{Over}
+use Rattle.jsonc_text.specs.declared.edit.Shape.{Shape}
 use Rattle.jsonc_text.specs.declared.edit.EditError.{EditError}
 use Rattle.jsonc_text.specs.declared.edit.EditError.TheVariants.{OutOfMemory, MissingBrackets, MissingName, NoSuchPlace}
 use Rattle.jsonc_edit.specs.remove.Removed.{IsKeptFor, TakesElement}
@@ -14,8 +16,8 @@ use Rattle.jsonc_edit.specs.set.RootSet.{FirstValue}
 use Rattle.jsonc_text.specs.Plain.{Plain}
 use Rattle.jsonc_insert.specs.named.Places.{IsPropertyAt, a_property}
 use Rattle.jsonc_run.specs.Places.{IsEntryAt}
-use Rattle.jsonc_run.specs.Edits.{Operation, remove, EditStep, RootSet}
-use Rattle.jsonc_run.specs.Refusals.{as_it_was, HasItsPlace, IsAnswer, FailsWith, MayWantMemory}
+use Rattle.jsonc_run.specs.Edits.{PlainEdit, ensure_root, remove, EditStep, RootSet}
+use Rattle.jsonc_run.specs.Refusals.{as_it_was, HasItsPlace, IsAnswer, FailsWith, WantsEmpty}
 
 -- what a path leads to has a parent
 module _ (ns : List Node) (tree : IsTree ns) where
@@ -55,10 +57,10 @@ pub none_is : (r : Option ℕ) (P : Type 0) → r ≡ None → IfNone r P → P
 none_is r P e h = subst (λ (q : Option ℕ). IfNone q P) e h
 
 -- what is answered where an edit has no place, and where it is made whole or not at all
-pub nowhere : (ns : List Node) (e : Operation) → ((HasItsPlace ns e) → ⊥) → IsAnswer ns ns e (Err NoSuchPlace)
+pub nowhere : (ns : List Node) (e : PlainEdit) → ((HasItsPlace ns e) → ⊥) → IsAnswer ns ns e (Err NoSuchPlace)
 nowhere ns e none = record { made = tt; error = none; left = as_it_was (Keeps-same (length ns) ns) refl }
 
-pub answers : (old new : List Node) (e : Operation) (r : Result (Unit {0}) EditError) → OnOk r (EditStep old e new) → IfErr r (FailsWith old e)
+pub answers : (old new : List Node) (e : PlainEdit) (r : Result (Unit {0}) EditError) → OnOk r (EditStep old e new) → IfErr r (FailsWith old e)
     → OnErr r (Keeps (length old) old new) → OnErr r (ordered_tree new 0 ≡ ordered_tree old 0) → IsAnswer old new e r
 answers old new e (Ok x) made told kept same = record { made = made; error = tt; left = tt }
 answers old new e (Err x) made told kept same = record { made = tt; error = told; left = as_it_was kept same }
@@ -68,9 +70,9 @@ pub told_of_memory : {T : Type 0} (P : EditError → Type 0) (r : Result T EditE
 told_of_memory P (Ok x) memory wanted = tt
 told_of_memory P (Err e) memory wanted = subst P (sym memory) wanted
 
-pub told_as_wanted : {T : Type 0} (ns : List Node) (e : Operation) (r : Result T EditError) → IfErr r (λ x. x ≡ OutOfMemory) → OnErr r (MayWantMemory ns e) → IfErr r (FailsWith ns e)
-told_as_wanted ns e (Ok x) memory wanted = tt
-told_as_wanted ns e (Err x) memory wanted = subst (FailsWith ns e) (sym memory) wanted
+pub told_as_wanted : {T : Type 0} (ns : List Node) (shape : Shape) (how : Over) (r : Result T EditError) → IfErr r (λ x. x ≡ OutOfMemory) → OnErr r (WantsEmpty shape how ns) → IfErr r (FailsWith ns (ensure_root shape how))
+told_as_wanted ns shape how (Ok x) memory wanted = tt
+told_as_wanted ns shape how (Err x) memory wanted = subst (FailsWith ns (ensure_root shape how)) (sym memory) (refl, wanted)
 
 -- what is answered where an entry is taken out
 module _ (ns : List Node) (path : List ℕ) (n : ℕ) (at : IsEntryAt ns path n) where
@@ -81,7 +83,7 @@ module _ (ns : List Node) (path : List ℕ) (n : ℕ) (at : IsEntryAt ns path n)
   kept_told : (e : EditError) → IsKeptFor ns n e → FailsWith ns (remove path) e
   kept_told OutOfMemory why = (n, at, why)
   kept_told MissingBrackets why = (n, at, why)
-  kept_told MissingName why = why
+  kept_told MissingName why = (n, at, why)
   kept_told NoSuchPlace why = absurd why
 
   pub entry_told : {T : Type 0} (r : Result T EditError) → IfErr r (IsKeptFor ns n) → IfErr r (FailsWith ns (remove path))

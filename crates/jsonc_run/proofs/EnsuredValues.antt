@@ -1,5 +1,5 @@
 -- What an edit that asks for a value of a shape has made: an empty one has come first, or taken the place of another, or all has stayed.
-use Rattle.std.proofs.Common.{◌≡◌, ℕ, Bool, true, false, not, List, [], Option, Some, None, inl, inr, refl, sym, ap, subst, ◌∙◌}
+use Rattle.std.proofs.Common.{◌≡◌, ℕ, Bool, true, false, not, List, Option, Some, None, inl, inr, refl, sym, ap, subst, ◌∙◌}
 use Rattle.std.proofs.lemmas.Bool.{cases_Bool}
 use Rattle.std.specs.List.{find}
 use Rattle.jsonc_text.specs.Options.{Options}
@@ -17,21 +17,19 @@ use Rattle.jsonc_layout.specs.nodes.Properties.{value_at, value_by}
 use Rattle.jsonc_sound.proofs.FirstNodes.{value_of_element}
 use Rattle.jsonc_sound.specs.SoundTrees.{SoundTree}
 use Rattle.jsonc_edit.specs.Changes.{row_below}
-use Rattle.jsonc_edit.specs.Reading.{layout_for, IsReplaced}
+use Rattle.jsonc_edit.specs.Reading.{IsReplaced}
 use Rattle.jsonc_edit.proofs.Elements.{Some_same}
 use Rattle.jsonc_edit.proofs.FittingFinds.{passes, fails, none_is_some}
 use Rattle.jsonc_edit.proofs.ChangesUpward.{Shows-row_below}
 use Rattle.jsonc_edit.specs.set.Kinds.{FoundOrCreated, FoundOrSet, KeptOrReplaced}
 use Rattle.jsonc_edit.specs.set.RootSet.{FirstValue}
-use Rattle.jsonc_edit.proofs.lemmas.set.FirstValueRows.{comes_among_rows}
 use Rattle.jsonc_text.specs.declared.edit.Over.{Over}
 use Rattle.jsonc_text.specs.declared.edit.Over.TheVariants as over
 use Rattle.jsonc_text.specs.declared.edit.Shape.{Shape}
 use Rattle.jsonc_edit.specs.set.Shapes.{has_shape, is_of, empty_of}
-use Rattle.jsonc_insert.proofs.lemmas.named.Values.{same_shape, other_gives_way}
+use Rattle.jsonc_insert.proofs.lemmas.named.Values.{same_shape}
 use Rattle.jsonc_run.specs.Edits.{RootEnsured}
-use Rattle.jsonc_run.specs.Written.{RootValueEnsured, all_kept, empty_come, empty_given}
-use Rattle.jsonc_run.proofs.Roots.{root_is, value_stands}
+use Rattle.jsonc_run.proofs.Roots.{root_is}
 
 module _ (o : Options) (ns : List Node) where
   -- what a row holds is the value of its first element
@@ -100,10 +98,3 @@ module _ (old new : List Node) (shape : Shape) where
   pub ensured : (how : Over) → RootEnsured shape how old new → Ensured old new shape how
   ensured over.Keep (answer, g) = if_kept (value_at old 0) refl answer g
   ensured over.Replace (m, g) = if_set (value_at old 0) refl m g
-
-pub value_ensured : (o : Options) (old new : List Node) (shape : Shape) (how : Over) → IsTree old → SoundTree o (ordered_tree old 0) → Ensured old new shape how → RootValueEnsured shape (ordered_tree old 0) (ordered_tree new 0) how
-value_ensured o old new shape how tree s (created m e f) =
-    empty_come (layout_for old 0 0) (row_below old 0) (row_below new 0) (root_is old tree) (root_is new f.tree) (comes_among_rows o old new (empty_of shape) m tree s e f)
-value_ensured o old new shape how tree s (stayed n e is same) = all_kept (ap (λ (ns : List Node). ordered_tree ns 0) same)
-value_ensured o old new shape _ tree s (other_stayed n e is same) = all_kept (ap (λ (ns : List Node). ordered_tree ns 0) same)
-value_ensured o old new shape _ tree s (replaced n m e is r) = let g = other_gives_way old new [] n m shape tree (value_stands old tree n e) r is in empty_given g.0 g.1

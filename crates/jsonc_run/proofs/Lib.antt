@@ -2,6 +2,7 @@ pub mod EditsMade
 pub mod EntryPaths
 pub mod Roots
 pub mod PropertyMade
+pub mod NameMade
 pub mod ValueMade
 pub mod CommasNeeded
 pub mod Booleans
@@ -18,7 +19,6 @@ pub mod ValueNodes
 pub mod CommentCount
 pub mod NamedPlaces
 pub mod Numbered
-pub mod Marking
 pub mod SoundChain
 pub mod Parents
 pub mod DetachedNodes

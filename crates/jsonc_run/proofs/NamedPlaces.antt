@@ -35,11 +35,11 @@ use Rattle.jsonc_insert.proofs.lemmas.elements.Members.{members_counted}
 use Rattle.jsonc_insert.specs.named.Places.{IsPropertyAt, a_property}
 use Rattle.jsonc_insert.proofs.lemmas.named.PathValues.{gives_way_to_itself, value_at_path}
 use Rattle.jsonc_insert.proofs.lemmas.named.PropertyValues.{value_held}
-use Rattle.jsonc_run.specs.Edits.{Operation, replace, remove, remove_comment, set_root, clear_root, replace_property, ensure_root, set_value, ensure_value, set_boolean, ensure_multiline, insert_element, append_element, insert_property, append_property, ensure_property, set_commas, set_some_commas, rearrange}
-use Rattle.jsonc_run.specs.Named.{StandsAt, HasValueAt, HasBooleanAt, HasArrayAt, HasObjectAt, HasContainerAt, HasPropertyAt, IsNamed, comment_count, PlacesAreNamed, NoSuchPlaceIff}
+use Rattle.jsonc_run.specs.Edits.{PlainEdit, place_of}
+use Rattle.jsonc_run.specs.Named.{StandsAt, HasValueAt, HasBooleanAt, HasArrayAt, HasObjectAt, HasContainerAt, HasPropertyAt, IsThere, comment_count, PlacesAreNamed, NoSuchPlaceIff}
 use Rattle.jsonc_edit.specs.Comments.{comment_at}
-use Rattle.jsonc_run.specs.Places.{IsArrayAt, IsBooleanAt, IsContainerAt, IsEntryOf, IsEntryAt, IsObjectAt, an_entry, in_array, in_object, the_value}
-use Rattle.jsonc_run.specs.Refusals.{HasItsPlace, FailsWith, LacksBrackets, LacksName, MayWantMemory}
+use Rattle.jsonc_run.specs.Places.{IsArrayAt, IsBooleanAt, IsContainerAt, IsEntryOf, IsEntryAt, IsObjectAt, an_entry, in_array, in_object, the_value, Place, in_document, at_value, at_entry, at_property, at_boolean, at_array, at_object, at_container, at_comment, AtPlace, IsFound}
+use Rattle.jsonc_run.specs.Refusals.{HasItsPlace, FailsWith, RefusedAt}
 use Rattle.jsonc_run.proofs.Booleans.{boolean_value}
 use Rattle.jsonc_run.proofs.CommentCount.{comments_counted}
 use Rattle.jsonc_run.proofs.ValueNodes.{is_array, is_object, node_found, property_found}
@@ -185,104 +185,60 @@ module _ (o : Options) (ns : List Node) (tree : IsTree ns) (sound : SoundTree o 
       let xs : List ℕ = filter (is_comment_at ns) (in_order ns 0) in
       (get_or xs number 0, slice_get-get_or xs number 0 (subst (λ k. number < k) (sym (comments_counted ns tree)) h))
 
-  -- so it is for each edit
-  named : (e : Operation) → HasItsPlace ns e → IsNamed w (comment_count (ordered_tree ns 0)) e
-  named (replace path v) (n, at) = value_named path n at
-  named (remove path) (n, at) = entry_named path n at
-  named (remove_comment number) (n, at) = comment_named number n at
-  named (set_root v) at = tt
-  named clear_root at = tt
-  named (replace_property path name v) (n, at) = property_named path n at
-  named (ensure_root shape how) at = tt
-  named (set_value path v) (n, at) = property_named path n at
-  named (ensure_value path shape) (n, at) = property_named path n at
-  named (set_boolean path b) (n, at) = boolean_named path n at
-  named (ensure_multiline path) (n, at) = container_named path n at
-  named (insert_element path i v) (n, at) = array_named path n at
-  named (append_element path v) (n, at) = array_named path n at
-  named (insert_property path i name v) (n, at) = object_named path n at
-  named (append_property path name v) (n, at) = object_named path n at
-  named (ensure_property path name shape how) (n, at) = object_named path n at
-  named (set_commas path mode) (n, at) = container_named path n at
-  named (set_some_commas path mode) (n, at) = container_named path n at
-  named (rearrange path headers order) (n, at) = container_named path n at
+  -- so it is for each place
+  named : (p : Place) → IsFound ns p → IsThere w (comment_count (ordered_tree ns 0)) p
+  named in_document at = tt
+  named (at_value path) (n, at) = value_named path n at
+  named (at_entry path) (n, at) = entry_named path n at
+  named (at_property path) (n, at) = property_named path n at
+  named (at_boolean path) (n, at) = boolean_named path n at
+  named (at_array path) (n, at) = array_named path n at
+  named (at_object path) (n, at) = object_named path n at
+  named (at_container path) (n, at) = container_named path n at
+  named (at_comment number) (n, at) = comment_named number n at
 
-  placed : (e : Operation) → IsNamed w (comment_count (ordered_tree ns 0)) e → HasItsPlace ns e
-  placed (replace path v) h = value_placed path h
-  placed (remove path) h = entry_placed path h
-  placed (remove_comment number) h = comment_placed number h
-  placed (set_root v) h = tt
-  placed clear_root h = tt
-  placed (replace_property path name v) h = property_placed path h
-  placed (ensure_root shape how) h = tt
-  placed (set_value path v) h = property_placed path h
-  placed (ensure_value path shape) h = property_placed path h
-  placed (set_boolean path b) h = boolean_placed path h
-  placed (ensure_multiline path) h = container_placed path h
-  placed (insert_element path i v) h = array_placed path h
-  placed (append_element path v) h = array_placed path h
-  placed (insert_property path i name v) h = object_placed path h
-  placed (append_property path name v) h = object_placed path h
-  placed (ensure_property path name shape how) h = object_placed path h
-  placed (set_commas path mode) h = container_placed path h
-  placed (set_some_commas path mode) h = container_placed path h
-  placed (rearrange path headers order) h = container_placed path h
+  placed : (p : Place) → IsThere w (comment_count (ordered_tree ns 0)) p → IsFound ns p
+  placed in_document h = tt
+  placed (at_value path) h = value_placed path h
+  placed (at_entry path) h = entry_placed path h
+  placed (at_property path) h = property_placed path h
+  placed (at_boolean path) h = boolean_placed path h
+  placed (at_array path) h = array_placed path h
+  placed (at_object path) h = object_placed path h
+  placed (at_container path) h = container_placed path h
+  placed (at_comment number) h = comment_placed number h
 
-pub places_named : (o : Options) (ns : List Node) (e : Operation) → PlacesAreNamed o ns e
-places_named o ns e tree sound w value = (named o ns tree sound w value e, placed o ns tree sound w value e)
+pub places_named : (o : Options) (ns : List Node) (e : PlainEdit) → PlacesAreNamed o ns e
+places_named o ns e tree sound w value = (named o ns tree sound w value (place_of e), placed o ns tree sound w value (place_of e))
+
+-- what is so of a node at a place has it there
+pub at_found : (ns : List Node) (p : Place) (Is : ℕ → Type 0) → AtPlace ns p Is → IsFound ns p
+at_found ns in_document Is h = tt
+at_found ns (at_value path) Is (n, at, h) = (n, at)
+at_found ns (at_entry path) Is (n, at, h) = (n, at)
+at_found ns (at_property path) Is (n, at, h) = (n, at)
+at_found ns (at_boolean path) Is (n, at, h) = (n, at)
+at_found ns (at_array path) Is (n, at, h) = (n, at)
+at_found ns (at_object path) Is (n, at, h) = (n, at)
+at_found ns (at_container path) Is (n, at, h) = (n, at)
+at_found ns (at_comment number) Is (n, at, h) = (n, at)
 
 module _ (ns : List Node) where
   -- whatever else is told of an edit, it has its place
-  memory_placed : (e : Operation) → MayWantMemory ns e → HasItsPlace ns e
-  memory_placed (replace path v) (n, at) = (n, at)
-  memory_placed (remove path) (n, at, k) = (n, at)
-  memory_placed (remove_comment number) (n, at, k) = (n, at)
-  memory_placed (set_root v) k = tt
-  memory_placed clear_root k = tt
-  memory_placed (replace_property path name v) (n, at) = (n, at)
-  memory_placed (ensure_root shape how) k = tt
-  memory_placed (set_value path v) (n, at) = (n, at)
-  memory_placed (ensure_value path shape) (n, at, named, k) = (n, at)
-  memory_placed (set_boolean path b) (n, at, k) = (n, at)
-  memory_placed (ensure_multiline path) (n, at, k) = (n, at)
-  memory_placed (insert_element path i v) (n, at, k) = (n, at)
-  memory_placed (append_element path v) (n, at, k) = (n, at)
-  memory_placed (insert_property path i name v) (n, at, k) = (n, at)
-  memory_placed (append_property path name v) (n, at, k) = (n, at)
-  memory_placed (ensure_property path name shape how) (n, at, k) = (n, at)
-  memory_placed (set_commas path mode) (n, at, is, k) = (n, at)
-  memory_placed (set_some_commas path mode) k = absurd k
-  memory_placed (rearrange path headers order) (n, at) = (n, at)
-
-  brackets_placed : (e : Operation) → LacksBrackets ns e → HasItsPlace ns e
-  brackets_placed (remove path) (n, at, k) = (n, at)
-  brackets_placed (ensure_multiline path) (n, at, k) = (n, at)
-  brackets_placed (insert_element path i v) (n, at, k) = (n, at)
-  brackets_placed (append_element path v) (n, at, k) = (n, at)
-  brackets_placed (insert_property path i name v) (n, at, k) = (n, at)
-  brackets_placed (append_property path name v) (n, at, k) = (n, at)
-  brackets_placed (ensure_property path name shape how) (n, at, k) = (n, at)
-  brackets_placed _ k = absurd k
-
-  name_placed : (e : Operation) → LacksName ns e → HasItsPlace ns e
-  name_placed (ensure_value path shape) (n, at, k) = (n, at)
-  name_placed (ensure_property path name shape how) (n, at, k) = (n, at)
-  name_placed _ k = absurd k
-
-  no_place : (e : Operation) (why : EditError) → FailsWith ns e why → ¬ (HasItsPlace ns e) → why ≡ NoSuchPlace
-  no_place e OutOfMemory k none = absurd (none (memory_placed e k))
+  no_place : (e : PlainEdit) (why : EditError) → FailsWith ns e why → ¬ (HasItsPlace ns e) → why ≡ NoSuchPlace
+  no_place e OutOfMemory k none = absurd (none (at_found ns (place_of e) (λ n. RefusedAt ns n e OutOfMemory) k))
   no_place e NoSuchPlace k none = refl
-  no_place e MissingBrackets k none = absurd (none (brackets_placed e k))
-  no_place e MissingName k none = absurd (none (name_placed e k))
+  no_place e MissingBrackets k none = absurd (none (at_found ns (place_of e) (λ n. RefusedAt ns n e MissingBrackets) k))
+  no_place e MissingName k none = absurd (none (at_found ns (place_of e) (λ n. RefusedAt ns n e MissingName) k))
 
   -- so that it has none is told where none is named
-  pub tells_unnamed : (o : Options) → IsTree ns → SoundTree o (ordered_tree ns 0) → (e : Operation) (why : EditError) → FailsWith ns e why → NoSuchPlaceIff o ns e why
+  pub tells_unnamed : (o : Options) → IsTree ns → SoundTree o (ordered_tree ns 0) → (e : PlainEdit) (why : EditError) → FailsWith ns e why → NoSuchPlaceIff o ns e why
   tells_unnamed o tree sound e why told = λ w value.
       let law = places_named o ns e tree sound w value in (
         λ is. let none : ¬ (HasItsPlace ns e) = subst (FailsWith ns e) is told in λ h. none (law.1 h),
         λ none. no_place e why told (λ place. none (law.0 place)),
       )
 
-  pub answer_unnamed : {T : Type 0} (o : Options) → IsTree ns → SoundTree o (ordered_tree ns 0) → (e : Operation) (r : Result T EditError) → IfErr r (FailsWith ns e) → IfErr r (NoSuchPlaceIff o ns e)
+  pub answer_unnamed : {T : Type 0} (o : Options) → IsTree ns → SoundTree o (ordered_tree ns 0) → (e : PlainEdit) (r : Result T EditError) → IfErr r (FailsWith ns e) → IfErr r (NoSuchPlaceIff o ns e)
   answer_unnamed o tree sound e (Ok x) told = tt
   answer_unnamed o tree sound e (Err why) told = tells_unnamed o tree sound e why told

@@ -1,5 +1,5 @@
 -- The comments of a document in order, and what of them a walk has before it.
-use Rattle.std.proofs.Common.{◌≡◌, ℕ, ◌<◌, ◌++◌, ◌∷◌, Bool, true, cond, List, length, filter, Option, Some, IfSome, IfErr, OnErr, OnOk, Result, Ok, Err, IsTrue, sym, ap, subst, ◌∙◌}
+use Rattle.std.proofs.Common.{◌≡◌, ℕ, ◌<◌, ◌++◌, ◌∷◌, Bool, true, cond, List, length, filter, Option, Some, IfSome, IfErr, OnErr, OnOk, Result, Ok, Err, IsTrue, refl, sym, ap, subst, ◌∙◌}
 use Rattle.std.proofs.lemmas.List.{append-nil}
 use Rattle.std.specs.List.{flat_map, slice_get}
 use Rattle.jsonc_tree.specs.Content.{Content, root}
@@ -55,4 +55,4 @@ module _ (ns : List Node) (tree : IsTree ns) where
 
   pub removal_told : {T : Type 0} (r : Result T EditError) (n number : ℕ) → comment_at ns number ≡ Some n → IfErr r (λ e. e ≡ OutOfMemory) → OnErr r (WantsSpace ns n) → IfErr r (FailsWith ns (remove_comment number))
   removal_told (Ok x) n number at memory wants = tt
-  removal_told (Err e) n number at memory wants = subst (FailsWith ns (remove_comment number)) (sym memory) (n, at, wants)
+  removal_told (Err e) n number at memory wants = subst (FailsWith ns (remove_comment number)) (sym memory) (n, at, (refl, wants))

@@ -17,7 +17,7 @@ module _ (ns : List Node) (path : List ℕ) (n : ℕ) (at : IsContainerAt ns pat
   why_told : (e : EditError) → IsUnspread ns n e → FailsWith ns (ensure_multiline path) e
   why_told OutOfMemory why = (n, at, why)
   why_told MissingBrackets why = (n, at, why)
-  why_told MissingName why = why
+  why_told MissingName why = (n, at, why)
   why_told NoSuchPlace why = absurd why
 
   pub lines_told : {T : Type 0} (r : Result T EditError) → IfErr r (IsUnspread ns n) → IfErr r (FailsWith ns (ensure_multiline path))

@@ -1,5 +1,5 @@
 -- Properties that come into objects at paths.
-use Rattle.std.proofs.Common.{◌≡◌, ℕ, ◌≤◌, ◌<◌, ◌+◌, true, List, length, Some, refl, sym, ap, subst, arith}
+use Rattle.std.proofs.Common.{◌≡◌, ℕ, ◌≤◌, ◌<◌, ◌+◌, true, List, length, Some, refl, ap, subst, arith}
 use Rattle.jsonc_text.specs.Options.{Options}
 use Rattle.jsonc_text.specs.Plain.{Plain, object}
 use Rattle.jsonc_text.proofs.UniqueValues.{document_unique}
@@ -44,15 +44,15 @@ comes_last old new c k name v m tree all there brackets put = past_the_end old n
 -- why nothing came in
 module _ (ns : List Node) (path : List ℕ) (n : ℕ) (name : List ℕ) (v : Plain) (at : IsObjectAt ns path n) where
   pub told_in : (i : ℕ) (e : EditError) → e ≡ refusal ns n → FailsWith ns (insert_property path i name v) e
-  told_in i OutOfMemory is = (n, at, sym is)
-  told_in i MissingBrackets is = (n, at, sym is)
-  told_in i MissingName is = absurd ((no_other (has_brackets ns (children_at ns n)) MissingName is).0 refl)
+  told_in i OutOfMemory is = (n, at, is)
+  told_in i MissingBrackets is = (n, at, is)
+  told_in i MissingName is = (n, at, is)
   told_in i NoSuchPlace is = absurd ((no_other (has_brackets ns (children_at ns n)) NoSuchPlace is).1 refl)
 
   pub told_behind : (e : EditError) → e ≡ refusal ns n → FailsWith ns (append_property path name v) e
-  told_behind OutOfMemory is = (n, at, sym is)
-  told_behind MissingBrackets is = (n, at, sym is)
-  told_behind MissingName is = absurd ((no_other (has_brackets ns (children_at ns n)) MissingName is).0 refl)
+  told_behind OutOfMemory is = (n, at, is)
+  told_behind MissingBrackets is = (n, at, is)
+  told_behind MissingName is = (n, at, is)
   told_behind NoSuchPlace is = absurd ((no_other (has_brackets ns (children_at ns n)) NoSuchPlace is).1 refl)
 
 -- or why the first property of a name was not as it was to be

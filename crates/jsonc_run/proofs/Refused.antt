@@ -1,5 +1,5 @@
 -- In a sound document no edit is refused for a bracket or a name: arrays and objects have their brackets, and properties their names.
-use Rattle.std.proofs.Common.{◌≡◌, ℕ, true, not, IsTrue, List, [], Some, Result, Ok, Err, IfErr, sym, ap, subst, ◌∙◌}
+use Rattle.std.proofs.Common.{◌≡◌, ℕ, true, not, IsTrue, List, [], Some, Result, Ok, Err, IfErr, refl, sym, ap, subst, ◌∙◌}
 use Rattle.std.proofs.lemmas.Bool.{false≢true}
 use Rattle.jsonc_text.specs.Options.{Options}
 use Rattle.jsonc_tree.specs.OrderedTree.{ordered_tree}
@@ -7,6 +7,7 @@ use Rattle.jsonc_tree.specs.Tree.{Node, content_at, IsTree}
 use Rattle.jsonc_layout.specs.nodes.Properties.{lacks_name_at, value_by}
 use Rattle.jsonc_layout.specs.lines.Kinds.{is_array_or_object}
 use Rattle.jsonc_sound.specs.SoundTrees.{SoundTree}
+use Rattle.jsonc_text.specs.declared.edit.Shape.{Shape}
 use Rattle.jsonc_text.specs.declared.edit.EditError.{EditError}
 use Rattle.jsonc_text.specs.declared.edit.EditError.TheVariants.{OutOfMemory, MissingBrackets, MissingName, NoSuchPlace}
 use Rattle.jsonc_edit.specs.Paths as paths
@@ -14,15 +15,16 @@ use Rattle.jsonc_edit.specs.Paths.{IsAt, IsElementOf, LeadsTo}
 use Rattle.jsonc_edit.proofs.Uniqueness.{element_parent}
 use Rattle.jsonc_edit.specs.remove.Removed.{has_brackets, IsKeptFor}
 use Rattle.jsonc_edit.specs.multiline.Multiline.{IsUnspread}
+use Rattle.jsonc_edit.specs.set.Names.{RenameError}
 use Rattle.jsonc_edit.proofs.lemmas.multiline.LineEnds.{has_its_brackets}
 use Rattle.jsonc_insert.proofs.lemmas.named.Writing as named_laws
-use Rattle.jsonc_run.specs.Edits.{Operation, remove, ensure_value, ensure_multiline, insert_element, append_element, insert_property, append_property, ensure_property, EditSteps, none_made, first_made}
+use Rattle.jsonc_run.specs.Edits.{PlainEdit, replace, remove, remove_comment, set_root, clear_root, replace_property, ensure_root, set_value, ensure_value, set_boolean, ensure_multiline, insert_element, append_element, insert_property, append_property, ensure_property, set_commas, set_some_commas, rearrange, rename_property, place_of, EditSteps, none_made, first_made}
 use Rattle.jsonc_insert.specs.Inserted.{refusal}
 use Rattle.jsonc_insert.proofs.lemmas.elements.Containers.{wants_memory_alone}
 use Rattle.jsonc_insert.proofs.lemmas.members.SpreadObjects as objects
 use Rattle.jsonc_insert.specs.named.Places.{IsPropertyAt, a_property}
-use Rattle.jsonc_run.specs.Places.{IsArrayAt, IsContainerAt, IsEntryAt, IsObjectAt, an_entry, in_array, in_object, the_value}
-use Rattle.jsonc_run.specs.Refusals.{FailsWith, LacksBrackets, LacksName, WantsMemoryOrPlace}
+use Rattle.jsonc_run.specs.Places.{IsArrayAt, IsContainerAt, IsEntryAt, IsObjectAt, an_entry, in_array, in_object, the_value, AtPlace}
+use Rattle.jsonc_run.specs.Refusals.{FailsWith, IsUnset, RefusedAt, WantsMemoryOrPlace}
 use Rattle.jsonc_insert.proofs.lemmas.named.PropertyValues.{held_by_name, value_held}
 
 not_brackets : MissingBrackets ≡ OutOfMemory → ⊥
@@ -53,44 +55,76 @@ module _ (o : Options) (ns : List Node) (tree : IsTree ns) (sound : SoundTree o 
   lines_kept : (path : List ℕ) (n : ℕ) → IsContainerAt ns path n → IsUnspread ns n MissingBrackets → ⊥
   lines_kept path n at lacks = false≢true (sym (ap not (has_its_brackets o ns path n tree sound at.0 at.1)) ∙ lacks)
 
-  array_kept : (path : List ℕ) (n : ℕ) → IsArrayAt ns path n → refusal ns n ≡ MissingBrackets → ⊥
-  array_kept path n at lacks = let wrong : OutOfMemory ≡ MissingBrackets = sym (wants_memory_alone o ns path n tree sound at.0 at.1) ∙ lacks in cc
+  array_memory : (path : List ℕ) (n : ℕ) → IsArrayAt ns path n → refusal ns n ≡ OutOfMemory
+  array_memory path n at = wants_memory_alone o ns path n tree sound at.0 at.1
 
-  object_kept : (path : List ℕ) (n : ℕ) → IsObjectAt ns path n → refusal ns n ≡ MissingBrackets → ⊥
-  object_kept path n at lacks = let wrong : OutOfMemory ≡ MissingBrackets = sym (objects.wants_memory_alone o ns path n tree sound at.0 at.1).1 ∙ lacks in cc
+  object_memory : (path : List ℕ) (n : ℕ) → IsObjectAt ns path n → refusal ns n ≡ OutOfMemory
+  object_memory path n at = (objects.wants_memory_alone o ns path n tree sound at.0 at.1).1
 
   name_there : (path : List ℕ) (n : ℕ) → IsPropertyAt ns path n → lacks_name_at ns n ≡ true → ⊥
   name_there _ n (a_property front c i at inside) lacks =
       let held = value_held o ns tree sound _ n (a_property front c i at inside) in
       held_by_name ns n held.value (sym (ap (λ w. value_by w ns n) inside.is) ∙ held.holds) lacks
 
-  brackets_there : (e : Operation) → LacksBrackets ns e → ⊥
-  brackets_there (remove path) (n, at, k) = entry_kept path n at k
-  brackets_there (ensure_multiline path) (n, at, k) = lines_kept path n at k
-  brackets_there (insert_element path i v) (n, at, k) = array_kept path n at k
-  brackets_there (append_element path v) (n, at, k) = array_kept path n at k
-  brackets_there (insert_property path i name v) (n, at, k) = object_kept path n at k
-  brackets_there (append_property path name v) (n, at, k) = object_kept path n at k
-  brackets_there (ensure_property path name shape how) (n, at, k) = not_brackets (named_laws.wants_memory o ns path n name shape how MissingBrackets tree sound at.0 at.1 k)
-  brackets_there _ k = k
+  entry_memory : (path : List ℕ) (n : ℕ) → IsEntryAt ns path n → (why : EditError) → IsKeptFor ns n why → why ≡ OutOfMemory
+  entry_memory path n at OutOfMemory k = refl
+  entry_memory path n at MissingBrackets k = absurd (entry_kept path n at k)
+  entry_memory path n at MissingName k = absurd k
+  entry_memory path n at NoSuchPlace k = absurd k
 
-  named : (e : Operation) → LacksName ns e → ⊥
-  named (ensure_value path shape) (n, at, k) = name_there path n at k
-  named (ensure_property path name shape how) (n, at, k) = not_name (named_laws.wants_memory o ns path n name shape how MissingName tree sound at.0 at.1 k)
-  named _ k = k
+  lines_memory : (path : List ℕ) (n : ℕ) → IsContainerAt ns path n → (why : EditError) → IsUnspread ns n why → why ≡ OutOfMemory
+  lines_memory path n at OutOfMemory k = refl
+  lines_memory path n at MissingBrackets k = absurd (lines_kept path n at k)
+  lines_memory path n at MissingName k = absurd k
+  lines_memory path n at NoSuchPlace k = absurd k
+
+  value_memory : (path : List ℕ) (n : ℕ) (shape : Shape) → IsPropertyAt ns path n → (why : EditError) → IsUnset shape ns n why → why ≡ OutOfMemory
+  value_memory path n shape at OutOfMemory k = refl
+  value_memory path n shape at MissingName k = absurd (name_there path n at k)
+  value_memory path n shape at MissingBrackets k = absurd k
+  value_memory path n shape at NoSuchPlace k = absurd k
+
+  name_memory : (path : List ℕ) (n : ℕ) → IsPropertyAt ns path n → (why : EditError) → RenameError ns n why → why ≡ OutOfMemory
+  name_memory path n at OutOfMemory k = refl
+  name_memory path n at MissingName k = absurd (name_there path n at k)
+  name_memory path n at MissingBrackets k = absurd k
+  name_memory path n at NoSuchPlace k = absurd k
+
+  -- what has its place is refused for memory alone
+  memory_alone : (e : PlainEdit) (why : EditError) → AtPlace ns (place_of e) (λ n. RefusedAt ns n e why) → why ≡ OutOfMemory
+  memory_alone (remove path) why (n, at, k) = entry_memory path n at why k
+  memory_alone (remove_comment number) why (n, at, k) = k.0
+  memory_alone (set_root v) why k = k
+  memory_alone clear_root why k = absurd k
+  memory_alone (ensure_root shape how) why k = k.0
+  memory_alone (ensure_value path shape) why (n, at, k) = value_memory path n shape at why k
+  memory_alone (set_boolean path b) why (n, at, k) = k.0
+  memory_alone (ensure_multiline path) why (n, at, k) = lines_memory path n at why k
+  memory_alone (insert_element path i v) why (n, at, k) = k ∙ array_memory path n at
+  memory_alone (append_element path v) why (n, at, k) = k ∙ array_memory path n at
+  memory_alone (insert_property path i name v) why (n, at, k) = k ∙ object_memory path n at
+  memory_alone (append_property path name v) why (n, at, k) = k ∙ object_memory path n at
+  memory_alone (ensure_property path name shape how) why (n, at, k) = named_laws.wants_memory o ns path n name shape how why tree sound at.0 at.1 k
+  memory_alone (set_commas path mode) why (n, at, k) = k.0
+  memory_alone (set_some_commas path mode) why (n, at, k) = absurd k
+  memory_alone (replace path v) why (n, at, k) = k
+  memory_alone (replace_property path name v) why (n, at, k) = k
+  memory_alone (set_value path v) why (n, at, k) = k
+  memory_alone (rearrange path headers order) why (n, at, k) = k
+  memory_alone (rename_property path name) why (n, at, k) = name_memory path n at why k
 
   -- so memory or the edit's place was wanted
-  pub refused_so : (e : Operation) (stop : EditError) → FailsWith ns e stop → WantsMemoryOrPlace stop
+  pub refused_so : (e : PlainEdit) (stop : EditError) → FailsWith ns e stop → WantsMemoryOrPlace stop
   refused_so e OutOfMemory k = tt
   refused_so e NoSuchPlace k = tt
-  refused_so e MissingBrackets k = brackets_there e k
-  refused_so e MissingName k = named e k
+  refused_so e MissingBrackets k = not_brackets (memory_alone e MissingBrackets k)
+  refused_so e MissingName k = not_name (memory_alone e MissingName k)
 
-  pub answer_refused : {T : Type 0} (e : Operation) (r : Result T EditError) → IfErr r (FailsWith ns e) → IfErr r WantsMemoryOrPlace
+  pub answer_refused : {T : Type 0} (e : PlainEdit) (r : Result T EditError) → IfErr r (FailsWith ns e) → IfErr r WantsMemoryOrPlace
   answer_refused e (Ok x) k = tt
   answer_refused e (Err stop) k = refused_so e stop k
 
 -- what edits that were made leave is a tree
-pub made_tree : {old new : List Node} {es : List Operation} → IsTree old → EditSteps old es new → IsTree new
+pub made_tree : {old new : List Node} {es : List PlainEdit} → IsTree old → EditSteps old es new → IsTree new
 made_tree tree none_made = tree
 made_tree tree (first_made is after rest) = made_tree after rest

@@ -1,29 +1,19 @@
 -- What edits of the root make of a document: its value is set, or all leaves it.
-use Rattle.std.proofs.Common.{◌≡◌, ℕ, Bool, List, [], ◌∷◌, length, filter, slice_get, Option, Some, None, inl, inr, refl, sym, ap, subst, ◌∙◌, arith}
+use Rattle.std.proofs.Common.{◌≡◌, ℕ, Bool, List, [], ◌∷◌, length, filter, slice_get, Some, inl, inr, sym, ap, subst, ◌∙◌, arith}
 use Rattle.std.proofs.lemmas.Bool.{cases_Bool}
 use Rattle.std.proofs.lemmas.List.{drop_all}
 use Rattle.std.specs.List.{find}
-use Rattle.jsonc_text.specs.Options.{Options}
-use Rattle.jsonc_text.specs.Plain.{Plain}
 use Rattle.jsonc_tree.specs.Changes.{Splices}
 use Rattle.jsonc_tree.specs.OrderedTree.{none, Shows, shows_none, ordered_tree}
 use Rattle.jsonc_tree.specs.Tree.{Node, children_at, IsTree}
 use Rattle.jsonc_layout.specs.nodes.Kinds.{is_element_at}
 use Rattle.jsonc_layout.specs.nodes.Properties.{value_at, value_by}
-use Rattle.jsonc_sound.specs.Changes as changes
-use Rattle.jsonc_sound.specs.Changes.{Changed}
-use Rattle.jsonc_sound.specs.SoundTrees.{SoundTree}
 use Rattle.jsonc_sound.specs.EntryLaws.{root_with}
 use Rattle.jsonc_edit.specs.Changes.{row_below}
 use Rattle.jsonc_edit.specs.Paths.{IsAt, itself}
-use Rattle.jsonc_edit.specs.Reading.{layout_for}
 use Rattle.jsonc_edit.proofs.Elements.{taken, left}
 use Rattle.jsonc_edit.proofs.FittingFinds.{passes, fails, none_is_some}
 use Rattle.jsonc_edit.proofs.ChangesUpward.{Shows-row_below, document_is}
-use Rattle.jsonc_edit.proofs.lemmas.set.FirstValueRows.{comes_among_rows}
-use Rattle.jsonc_insert.proofs.lemmas.named.Values.{value_gives_way}
-use Rattle.jsonc_run.specs.Edits.{RootSet}
-use Rattle.jsonc_run.specs.Written.{RootValueSet, given_way, has_come}
 
 -- what is found is the first that passes
 module _ (test : ℕ → Bool) where
@@ -41,16 +31,6 @@ value_stands ns tree n e = (n, first_found (is_element_at ns) (children_at ns 0)
 
 pub root_is : (ns : List Node) → IsTree ns → ordered_tree ns 0 ≡ root_with (row_below ns 0)
 root_is ns tree = sym (document_is ns tree (row_below ns 0) (Shows-row_below ns tree 0 tree.first))
-
--- so the value of a sound document is set
-pub root_value_set : (o : Options) (old new : List Node) (v : Plain) → IsTree old → SoundTree o (ordered_tree old 0) → (w : Option ℕ) → value_at old 0 ≡ w → RootSet old new v w → RootValueSet v (ordered_tree old 0) (ordered_tree new 0)
-root_value_set o old new v tree s None e (m, f) =
-    has_come (layout_for old 0 0) (row_below old 0) (row_below new 0) (root_is old tree) (root_is new f.tree) (comes_among_rows o old new v m tree s e f)
-root_value_set o old new v tree s (Some n) e (m, r) = given_way (value_gives_way old new [] n m v tree (value_stands old tree n e) r)
-
--- what takes the place of the whole value is the value
-pub whole_changed : {given_up v x y : Plain} → Changed given_up v [] x y → y ≡ v
-whole_changed changes.itself = refl
 
 -- a root that was cleared has no children
 pub emptied : (old new : List Node) → Splices old new 0 0 (length (children_at old 0)) [] → children_at new 0 ≡ []

@@ -32,9 +32,9 @@ property_value_set old new r v m (Some n) replaced last = (m, replaced)
 -- why it is not what it has to be
 module _ (ns : List Node) (path : List ℕ) (r : ℕ) (shape : Shape) (at : IsPropertyAt ns path r) where
   unset_told : (e : EditError) → EnsureValueError (is_of shape) ns r e → (lacks_name_at ns r ≡ true → e ≡ MissingName) → FailsWith ns (ensure_value path shape) e
-  unset_told OutOfMemory why missing = (r, at, named (lacks_name_at ns r) missing, why)
+  unset_told OutOfMemory why missing = (r, at, (named (lacks_name_at ns r) missing, why))
   unset_told MissingName why missing = (r, at, why)
-  unset_told MissingBrackets why missing = why
+  unset_told MissingBrackets why missing = (r, at, why)
   unset_told NoSuchPlace why missing = absurd why
 
   pub unset_answer : {T : Type 0} (a : Result T EditError) → IfErr a (EnsureValueError (is_of shape) ns r) → IfErr a (λ e. lacks_name_at ns r ≡ true → e ≡ MissingName) → IfErr a (FailsWith ns (ensure_value path shape))

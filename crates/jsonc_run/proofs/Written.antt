@@ -1,67 +1,87 @@
--- What edits that were made in order make of a document.
-use Rattle.std.proofs.Common.{◌≡◌, ℕ, length, Bool, List, [], ◌∷◌, ◌++◌, Option, Some, None, IsTrue, sym, refl, ap, subst, ◌∙◌, arith}
+-- What each edit that was made asks for in a sound document, and what the operation makes of that.
+use Rattle.std.proofs.Common.{◌≡◌, ℕ, length, Bool, true, false, List, [], ◌∷◌, ◌++◌, Option, Some, None, IsTrue, inl, inr, sym, refl, ap, subst, ◌∙◌, chars}
 use Rattle.jsonc_text.specs.Options.{Options}
-use Rattle.jsonc_text.specs.Plain.{Plain}
+use Rattle.jsonc_text.specs.Plain.{Plain, Items, Members}
 use Rattle.jsonc_text.specs.Grammar.{IsDocument}
-use Rattle.jsonc_tree.specs.OrderedTree.{OrderedTree, ordered_tree}
+use Rattle.jsonc_text.proofs.UniqueValues.{document_unique}
+use Rattle.jsonc_tree.specs.OrderedTree.{OrderedTree, Top, none, leaves, ordered_tree}
 use Rattle.jsonc_tree.specs.Tree.{Node, content_at, children_at, IsTree}
 use Rattle.jsonc_sound.specs.Shape.{printed_text}
 use Rattle.jsonc_sound.specs.SoundTrees.{SoundTree}
+use Rattle.jsonc_sound.specs.Changes as changes
+use Rattle.jsonc_sound.specs.Changes.{Changed, ItemChanged, MemberChanged}
+use Rattle.jsonc_sound.specs.TreeChanges.{property_of}
+use Rattle.jsonc_sound.specs.MarkChanges.{MarksDifferIn, marks_under}
+use Rattle.jsonc_sound.specs.Marks.{comments_of, marks, trimmed}
+use Rattle.jsonc_sound.specs.Written.{property_written, written}
+use Rattle.jsonc_sound.specs.EntryLaws.{root_with}
 use Rattle.jsonc_sound.proofs.ShapeValues.{document_printed}
-use Rattle.jsonc_edit.specs.Changes.{top_at}
-use Rattle.jsonc_edit.specs.Writing.{IsWritable}
+use Rattle.jsonc_sound.proofs.ReplacedStretches.{one_mark_leaves}
+use Rattle.jsonc_sound.proofs.Laid.{laid_as_written, laid_as_written_named}
+use Rattle.jsonc_sound.proofs.FirstValue.{marks_with_first}
+use Rattle.jsonc_sound.proofs.RootRows.{root_marks}
+use Rattle.jsonc_layout.specs.from_input.Laid.{laid, laid_property}
 use Rattle.jsonc_layout.specs.from_input.Texts.{IsCharacters}
+use Rattle.jsonc_layout.specs.lines.Kinds.{is_array_or_object}
+use Rattle.jsonc_layout.specs.nodes.Names.{FirstInObject}
 use Rattle.jsonc_layout.specs.nodes.Properties.{value_at}
+use Rattle.jsonc_text.specs.declared.edit.Over.{Over}
+use Rattle.jsonc_text.specs.declared.edit.Over.TheVariants as over
+use Rattle.jsonc_text.specs.declared.edit.Shape.{Shape}
+use Rattle.jsonc_edit.specs.Changes.{row_below, top_at}
+use Rattle.jsonc_edit.specs.Comments.{CommentTaken, LosesComment}
+use Rattle.jsonc_edit.specs.Paths.{IsAt, IsElementOf, LeadsTo, itself}
+use Rattle.jsonc_edit.specs.Reading.{layout_for, IsReplaced}
+use Rattle.jsonc_edit.specs.Writing.{IsWritable}
+use Rattle.jsonc_edit.specs.remove.Removed.{TakesElement}
+use Rattle.jsonc_edit.specs.set.Booleans.{BooleanSet}
+use Rattle.jsonc_edit.specs.set.Giving.{IsPropertyReplaced}
+use Rattle.jsonc_edit.specs.set.Names.{IsRenamed}
+use Rattle.jsonc_edit.specs.set.RootSet.{FirstValue}
+use Rattle.jsonc_edit.specs.set.Shapes.{has_shape, is_of, empty_of}
 use Rattle.jsonc_edit.proofs.OneValue.{document_once}
 use Rattle.jsonc_edit.proofs.ReplacedValues.{replaced_written}
+use Rattle.jsonc_edit.proofs.SeamsOfComments.{comment_has_seam}
+use Rattle.jsonc_edit.proofs.Spacing.{spaces_marks}
 use Rattle.jsonc_edit.proofs.TakingOut.{loses_comment, numbered, taken_sound, taken_value}
-use Rattle.jsonc_edit.specs.Paths.{IsAt, IsElementOf, LeadsTo, itself}
-use Rattle.jsonc_edit.specs.Reading.{IsReplaced}
-use Rattle.jsonc_layout.specs.lines.Kinds.{is_array_or_object}
-use Rattle.jsonc_edit.specs.remove.Removed.{TakesElement}
 use Rattle.jsonc_edit.proofs.lemmas.multiline.Documents.{spread_at}
 use Rattle.jsonc_edit.proofs.lemmas.multiline.SameDocument.{keeps_document}
 use Rattle.jsonc_edit.proofs.lemmas.remove.Entries.{entry_taken}
 use Rattle.jsonc_edit.proofs.lemmas.remove.RemovedElement.{removes_entry}
 use Rattle.jsonc_edit.proofs.lemmas.remove.RemovedValue.{removes_value}
 use Rattle.jsonc_edit.proofs.lemmas.remove.Roots.{value_taken}
-use Rattle.jsonc_edit.specs.set.Booleans.{BooleanSet}
-use Rattle.jsonc_edit.specs.set.Giving.{IsPropertyReplaced}
+use Rattle.jsonc_edit.proofs.lemmas.set.FirstValueRows.{comes_among_rows}
 use Rattle.jsonc_edit.proofs.lemmas.set.FirstValueSet.{gives_first_value, leaves_bare}
+use Rattle.jsonc_edit.proofs.lemmas.set.PropertyRows.{prints_value, some_value_of}
+use Rattle.jsonc_edit.proofs.lemmas.set.RenamedProperty.{is_marked, writes_name}
 use Rattle.jsonc_edit.proofs.lemmas.set.WrittenBoolean.{writes_boolean}
 use Rattle.jsonc_edit.proofs.lemmas.set.WrittenProperty.{writes_property}
+use Rattle.jsonc_insert.specs.named.Members.{LacksMember}
+use Rattle.jsonc_insert.specs.named.Named.{EnsuredFor}
 use Rattle.jsonc_insert.specs.named.Places.{IsPropertyAt, a_property}
-use Rattle.jsonc_run.specs.Places.{IsEntryAt, the_value, an_entry, IsEntryOf, in_array, in_object, IsBooleanAt}
-use Rattle.jsonc_run.specs.Edits.{Operation, replace, remove, remove_comment, set_root, clear_root, replace_property, ensure_root, set_value, ensure_value, set_boolean, ensure_multiline, insert_element, append_element, insert_property, append_property, ensure_property, set_commas, set_some_commas, rearrange, RootSet, EditStep}
-use Rattle.jsonc_run.specs.Written.{MayBeMade, IsChanged, by_value, by_entry, by_all, by_comment, by_root, by_clearing, by_property, by_ensuring, by_setting, by_ensuring_held, by_boolean, by_lines, by_inserting, by_appending, by_inserting_member, by_appending_member, by_ensuring_named, by_commas, by_some_commas, by_sorting}
-use Rattle.jsonc_text.specs.declared.edit.Over.{Over}
-use Rattle.jsonc_text.specs.declared.edit.Over.TheVariants as over
-use Rattle.jsonc_text.specs.declared.edit.Shape.{Shape}
-use Rattle.jsonc_edit.specs.set.Shapes.{empty_of}
-use Rattle.jsonc_edit.specs.set.Shapes.{comes_first, has_it, may_stay, must_give_way}
-use Rattle.jsonc_run.specs.Written.{EntryRemoved, entry_left, value_left, options_behind}
-use Rattle.jsonc_insert.proofs.lemmas.named.Values.{empty_writable, same_shape}
-use Rattle.jsonc_run.proofs.EnsuredValues.{held, Ensured, created, stayed, other_stayed, replaced, ensured, value_ensured}
-use Rattle.jsonc_insert.proofs.PastTheEnd.{past_the_end}
-use Rattle.jsonc_insert.proofs.lemmas.elements.InsertedValues.{elements_come_at}
-use Rattle.jsonc_insert.proofs.lemmas.elements.Containers.{has_its_brackets}
-use Rattle.jsonc_layout.specs.nodes.Siblings.{elements_at}
-use Rattle.jsonc_run.proofs.Inserted.{came_in, came_last}
-use Rattle.jsonc_run.proofs.Properties as properties
-use Rattle.jsonc_insert.proofs.lemmas.properties.InsertedRows.{properties_come_at}
-use Rattle.jsonc_run.proofs.Booleans.{boolean_given, boolean_changed}
-use Rattle.jsonc_insert.proofs.lemmas.named.PathValues.{value_of_text}
-use Rattle.jsonc_run.proofs.PropertyMade.{property_gives_way}
+use Rattle.jsonc_insert.proofs.lemmas.named.PathValues.{gives_way_to_itself, value_at_path, value_of_text, value_once}
+use Rattle.jsonc_insert.proofs.lemmas.named.PropertyValues.{value_held}
 use Rattle.jsonc_insert.proofs.lemmas.named.Values as property_values
-use Rattle.jsonc_insert.proofs.lemmas.named.Values.{shape_written}
-use Rattle.jsonc_insert.proofs.lemmas.named.Writing.{writes_named}
-use Rattle.jsonc_edit.proofs.SeamsOfComments.{comment_has_seam}
-use Rattle.jsonc_insert.proofs.lemmas.named.Values.{replaces_held, stays_ensured}
-use Rattle.jsonc_run.proofs.ValueMade.{set_replaced}
+use Rattle.jsonc_insert.proofs.lemmas.named.Values.{empty_writable, marks_given, same_shape, value_gives_way, value_marked}
+use Rattle.jsonc_insert.proofs.lemmas.named.Writing.{finds_member, first_named}
+use Rattle.jsonc_run.specs.Named.{entry, ensures, kept_or_emptied, may_stay, Asks, StandsAt}
+use Rattle.jsonc_run.specs.Edits.{PlainEdit, replace, remove, remove_comment, set_root, clear_root, replace_property, ensure_root, set_value, ensure_value, set_boolean, ensure_multiline, insert_element, append_element, insert_property, append_property, ensure_property, set_commas, set_some_commas, rearrange, rename_property, RootSet, EditStep, IsOfCharacters, NumbersFit}
+use Rattle.jsonc_run.specs.Written.{IsMarked, MadeIn, IsChanged, by_nothing, by_value, by_entry, by_all, by_comment, by_first, by_clearing, by_property, by_boolean, by_lines, by_inserting, by_inserting_member, by_commas, by_sorting, by_name, EntryRemoved, entry_left, value_left, FirstComes, ReplacesProperty, property_given}
+use Rattle.jsonc_run.specs.Places.{IsEntryAt, the_value, an_entry, IsEntryOf, in_array, in_object, IsBooleanAt, IsObjectAt}
+use Rattle.jsonc_run.specs.texts.Edits as texts
+use Rattle.jsonc_run.specs.texts.Edits.{Operation, options_behind}
+use Rattle.jsonc_run.specs.texts.Paths.{an_array, an_object}
+use Rattle.jsonc_run.proofs.Booleans.{boolean_given, boolean_changed}
+use Rattle.jsonc_run.proofs.EnsuredValues.{held, Ensured, created, stayed, other_stayed, replaced, ensured}
+use Rattle.jsonc_run.proofs.Inserted as elements
+use Rattle.jsonc_run.proofs.Inserted.{gained_marks}
+use Rattle.jsonc_run.proofs.Calls.{property_over}
+use Rattle.jsonc_run.proofs.NameMade.{renames_property}
+use Rattle.jsonc_run.proofs.Properties as properties
+use Rattle.jsonc_run.proofs.PropertyMade.{property_gives_way}
+use Rattle.jsonc_run.proofs.Roots.{value_stands, root_is, emptied, no_leaves}
 use Rattle.jsonc_run.proofs.Sorts.{commas_placed, commas_say, some_commas_say, some_commas_within, sorted_at, sorted_outside, sorted_says}
-use Rattle.jsonc_run.specs.Steps.{MadeIn}
-use Rattle.jsonc_insert.proofs.lemmas.named.Values.{value_gives_way}
-use Rattle.jsonc_run.proofs.Roots.{value_stands, root_value_set, whole_changed, emptied, no_leaves}
+use Rattle.jsonc_run.proofs.ValueMade.{set_replaced}
 
 -- an entry is an element of an array or object
 entry_held : (ns : List Node) (c i n : ℕ) → IsEntryOf ns c i n → IsTrue (is_array_or_object (content_at ns c)) × IsElementOf ns c i n
@@ -71,187 +91,395 @@ entry_held ns c i n (in_object inside) = (ap is_array_or_object inside.of_object
 leads_to_itself : (ns : List Node) (n v : ℕ) → LeadsTo ns n v [] → v ≡ n
 leads_to_itself ns n _ itself = refl
 
--- an entry that is taken out of a sound document leaves it
-entry_leaves : (o : Options) (old new : List Node) (path : List ℕ) (n : ℕ) → IsTree old → IsTree new → SoundTree o (ordered_tree old 0) → IsEntryAt old path n → TakesElement old new n → EntryRemoved (ordered_tree old 0) (ordered_tree new 0) path
-entry_leaves o old new _ n tree after sound (the_value (v, element, leads)) takes =
-    let is : IsElementOf old 0 0 n = subst (IsElementOf old 0 0) (leads_to_itself old n v leads) element in
-    value_left (top_at old n) (value_taken o old new n tree after sound is takes)
-entry_leaves o old new _ n tree after sound (an_entry front c i at entry) takes =
-    let held = entry_held old c i n entry in
-    entry_left front i (top_at old n) (entry_taken o old new front c i n tree after sound at held.0 held.1 takes)
+-- what stood at a path may be replaced by itself
+item_left : {was now : Plain} {i : ℕ} {vs ws : Items} → ItemChanged was now i vs ws → ItemChanged was was i vs vs
+item_left changes.this_item = changes.this_item
+item_left (changes.later_item k) = changes.later_item (item_left k)
 
--- where the edit was made, all around its place stays
-pub made_in : (o : Options) (old new : List Node) (e : Operation) → IsTree old → IsTree new → SoundTree o (ordered_tree old 0) → MayBeMade o e → EditStep old e new → MadeIn o (ordered_tree old 0) e (ordered_tree new 0)
-made_in o old new (replace path v) tree after sound may (n, m, at, r) = value_gives_way old new path n m v tree at r
-made_in o old new (remove path) tree after sound may (n, at, takes) = entry_leaves o old new path n tree after sound at takes
-made_in o old new (remove_comment number) tree after sound may (n, at, r) =
-    let seam = comment_has_seam old new n r in
-    (loses_comment old new n r, numbered old new n r number at, seam.0, seam.1 number at)
-made_in o old new (set_root v) tree after sound may made = root_value_set o old new v tree sound (value_at old 0) refl made
-made_in o old new clear_root tree after sound may made = no_leaves new after (emptied old new made)
-made_in o old new (replace_property path name v) tree after sound may (n, m, at, r) = property_gives_way o old new path n m name v tree sound at may.0 may.1 r
-made_in o old new (ensure_root shape how) tree after sound may made = value_ensured o old new shape how tree sound (ensured old new shape how made)
-made_in o old new (set_value path v) tree after sound may (r, at, set) =
-    let given = set_replaced o old new tree sound path r at v set in
-    value_gives_way old new path given.0 given.1 v tree given.2 given.3
-made_in o old new (ensure_value path shape) tree after sound may (r, at, ensured) = stays_ensured old new path shape tree (property_values.value_ensured o old new tree sound path r at shape ensured)
-made_in o old new (set_boolean path b) tree after sound may (n, at, set) = let g = boolean_given old new path n b tree at set in (g.0, g.1, g.2, g.3, g.4, g.5 o sound)
-made_in o old new (ensure_multiline path) tree after sound may (n, at, made) = spread_at o old new path n tree after sound at.0 at.1 made
-made_in o old new (insert_element path i v) tree after sound may (n, m, at, put) = elements_come_at o old new path n i v m tree sound at.0 at.1 put
-made_in o old new (append_element path v) tree after sound may (n, m, at, put) =
-    let brackets = has_its_brackets o old path n tree sound at.0 at.1 in
-    (length (elements_at old n), λ i far. elements_come_at o old new path n i v m tree sound at.0 at.1 (past_the_end old new n (length (elements_at old n)) i v m brackets (omega arith) far put))
-made_in o old new (insert_property path i name v) tree after sound may (n, m, at, put) = properties_come_at o old new path n i name v m tree sound at.0 at.1 put
-made_in o old new (append_property path name v) tree after sound may (n, m, at, put) =
-    (length (elements_at old n), λ i far. properties_come_at o old new path n i name v m tree sound at.0 at.1 (properties.behind_all o old new path n m name v tree sound at (length (elements_at old n)) i (omega arith) far put))
-made_in o old new (ensure_property path name shape how) tree after sound may (n, m, at, ensured) = (writes_named o old new path n name shape how m tree sound at.0 at.1 may ensured).around
-made_in o old new (set_commas path mode) tree after sound may (n, at, set) = let placed = commas_placed o old new path n tree sound at mode set in ((commas_say o old new path n tree sound at mode set).commas, placed.0, placed.1)
-made_in o old new (set_some_commas path mode) tree after sound may (n, at, part) = ((some_commas_say o old new path n tree sound at mode part).commas, some_commas_within o old new path n tree sound at mode part)
-made_in o old new (rearrange path headers order) tree after sound may (n, at, all, made) =
-    let s = sorted_at o old new path n tree sound at headers order after all made in
-    (s, sorted_outside path order old new s)
+member_left : {was now : Plain} {i : ℕ} {ms ns : Members} → MemberChanged was now i ms ns → MemberChanged was was i ms ms
+member_left changes.this_member = changes.this_member
+member_left (changes.later_member k) = changes.later_member (member_left k)
 
--- one edit is written
-pub record IsWritten (o : Options) (e : Operation) (old new : OrderedTree) : Type 0 where
-  pub before : Option Plain
+pub left_so : {was now : Plain} {path : List ℕ} {x y : Plain} → Changed was now path x y → Changed was was path x x
+left_so changes.itself = changes.itself
+left_so (changes.in_array k c) = changes.in_array (item_left k) (left_so c)
+left_so (changes.in_object k c) = changes.in_object (member_left k) (left_so c)
+
+-- What the operation has made of a sound document of this value: what the value is then, and the marks; and that it was made at its place.
+pub record IsMade (o : Options) (before : Option Plain) (op : Operation) (t u : OrderedTree) : Type 0 where
   pub after : Option Plain
-  pub old_text : IsDocument o (printed_text old) before
-  pub new_text : IsDocument (options_behind o e) (printed_text new) after
-  pub changed : IsChanged before e after
-  pub sound : SoundTree (options_behind o e) new
+  pub old_text : IsDocument o (printed_text t) before
+  pub new_text : IsDocument (options_behind o op) (printed_text u) after
+  pub changed : IsChanged before op after
+  pub sound : SoundTree (options_behind o op) u
+  pub marked : IsMarked (marks t) op (marks u)
+  pub made : MadeIn o t op u
 
-module _ (o : Options) where
-  -- so is an entry that has left
-  left_written : (t u : OrderedTree) (path : List ℕ) → SoundTree o t → EntryRemoved t u path → IsWritten o (remove path) t u
-  left_written t u _ s (entry_left path i top taken) =
-      let w = removes_entry o t u path i top s taken in
-      record { before = Some w.before; after = Some w.after; old_text = w.old_text; new_text = w.new_text; changed = by_entry path i w.loses; sound = w.sound }
-  left_written t u _ s (value_left top taken) =
-      let w = removes_value o t u top s taken in
-      record { before = Some w.before; after = None; old_text = w.old_text; new_text = w.new_text; changed = by_all; sound = w.sound }
+-- it is what the edit asks for
+pub record EditMade (o : Options) (e : PlainEdit) (t u : OrderedTree) : Type 0 where
+  pub before : Option Plain
+  pub op : Operation
+  pub asks : Asks before e op
+  pub is : IsMade o before op t u
 
-  -- the document's value that was set is its value now
-  root_written : (old new : List Node) (v : Plain) → IsTree old → SoundTree o (ordered_tree old 0) → IsWritable o v → (w : Option ℕ) → value_at old 0 ≡ w → RootSet old new v w → IsWritten o (set_root v) (ordered_tree old 0) (ordered_tree new 0)
-  root_written old new v tree s may None e (m, f) =
+-- a first value's marks come in
+first_marked : (o : Options) (t u : OrderedTree) (v : Plain) → IsWritable o v → FirstComes v t u → MarksDifferIn [] (written v) (marks t) (marks u)
+first_marked o t u v may (layout, row, next, was, is, comes) =
+    let top : Top = laid layout v in
+    subst (λ l. MarksDifferIn [] l (marks t) (marks u)) (laid_as_written layout v may.texts)
+    (subst (λ x. MarksDifferIn [] (marks_under top) (marks x) (marks u)) (sym was) (subst (λ x. MarksDifferIn [] (marks_under top) (marks (root_with row)) (marks x)) (sym is) (marks_with_first top row next comes)))
+
+-- a property that is replaced leaves its marks to those of the new one
+property_marked : (o : Options) (t u : OrderedTree) (path name : List ℕ) (v : Plain) → IsCharacters name → IsWritable o v → ReplacesProperty name v t u path → IsMarked (marks t) (texts.replace_property path (entry name v)) (marks u)
+property_marked o t u _ name v characters may (property_given path i layout spaced front was back puts changed around seam bare) =
+    (marks_under (property_of was), subst (λ l. MarksDifferIn (marks_under (property_of was)) l (marks t) (marks u)) (laid_as_written_named layout name v characters may.texts) (marks_given (property_of was) (property_of (laid_property layout name v).below) t spaced u puts around))
+
+-- an entry, or the document's value, has left
+entry_made : (o : Options) (t u : OrderedTree) (path : List ℕ) → SoundTree o t → EntryRemoved t u path → EditMade o (remove path) t u
+entry_made o t u _ s (entry_left path i top taken) =
+    let w = removes_entry o t u path i top s taken in
+    record {
+      before = Some w.before;
+      op = texts.remove (path ++ i ∷ []);
+      asks = refl;
+      is = record { after = Some w.after; old_text = w.old_text; new_text = w.new_text; changed = by_entry path i w.loses; sound = w.sound; marked = (top, w.marks); made = entry_left path i top taken };
+    }
+entry_made o t u _ s (value_left top taken) =
+    let w = removes_value o t u top s taken in
+    record {
+      before = Some w.before;
+      op = texts.remove [];
+      asks = refl;
+      is = record { after = None; old_text = w.old_text; new_text = w.new_text; changed = by_all; sound = w.sound; marked = (top, w.marks); made = value_left top taken };
+    }
+
+-- what is of the shape may stay
+stays_if : (shape : Shape) (how : Over) (v : Plain) → has_shape shape v ≡ true → may_stay shape how v ≡ true
+stays_if shape over.Keep v e = refl
+stays_if shape over.Replace v e = e
+
+module _ (o : Options) (old new : List Node) (tree : IsTree old) (after : IsTree new) (s : SoundTree o (ordered_tree old 0)) where
+  abbrev t : OrderedTree
+  t = ordered_tree old 0
+
+  abbrev u : OrderedTree
+  u = ordered_tree new 0
+
+  -- an entry that is taken out leaves
+  entry_leaves : (path : List ℕ) (n : ℕ) → IsEntryAt old path n → TakesElement old new n → EntryRemoved t u path
+  entry_leaves _ n (the_value (v, element, leads)) takes =
+      let is : IsElementOf old 0 0 n = subst (IsElementOf old 0 0) (leads_to_itself old n v leads) element in
+      value_left (top_at old n) (value_taken o old new n tree after s is takes)
+  entry_leaves _ n (an_entry front c i at inside) takes =
+      let held = entry_held old c i n inside in
+      entry_left front i (top_at old n) (entry_taken o old new front c i n tree after s at held.0 held.1 takes)
+
+  -- the value at a path, which is of the shapes that its node is of
+  record ValueThere (path : List ℕ) (n : ℕ) (w : Plain) : Type 0 where
+    v : Plain
+    stands : StandsAt v path (Some w)
+    of_shape : (shape : Shape) → is_of shape (content_at old n) ≡ has_shape shape v
+
+  value_there : (path : List ℕ) (n : ℕ) → IsAt old path n → (w : Plain) → IsDocument o (printed_text t) (Some w) → ValueThere path n w
+  value_there path n at w text =
+      let there = value_at_path o old tree path n at w (value_of_text o t s w text) in
+      record { v = there.value; stands = (w, refl, there.at); of_shape = λ shape. same_shape shape there.has }
+
+  -- nothing is done
+  none_made : (w : Option Plain) → IsDocument o (printed_text t) w → new ≡ old → IsMade o w texts.nothing t u
+  none_made w text same =
+      subst (λ (ns : List Node). IsMade o w texts.nothing t (ordered_tree ns 0)) (sym same)
+      (record { after = w; old_text = text; new_text = text; changed = by_nothing; sound = s; marked = refl; made = refl })
+
+  -- a value is replaced
+  replaced_made : (path : List ℕ) (n m : ℕ) (v : Plain) → IsAt old path n → IsWritable o v → IsReplaced old new n v m → (w : Plain) × IsMade o (Some w) (texts.replace path v) t u
+  replaced_made path n m v at may r =
+      let w = replaced_written o old new n m v tree r path s at may in
+      let g = value_gives_way old new path n m v tree at r in
+      (w.before, record { after = Some w.after; old_text = w.old_text; new_text = w.new_text; changed = by_value w.changed; sound = w.sound; marked = value_marked o t u path v may g; made = g })
+
+  -- a value comes where there was none
+  first_made : (m : ℕ) (v : Plain) → value_at old 0 ≡ None → IsWritable o v → FirstValue old new v m → IsMade o None (texts.come_first v) t u
+  first_made m v e may f =
       let w = gives_first_value o old new v m tree s e may f in
-      record { before = None; after = Some v; old_text = w.before.text; new_text = w.after.text; changed = by_root; sound = w.after.sound }
-  root_written old new v tree s may (Some n) e (m, r) =
-      let w = replaced_written o old new n m v tree r [] s (value_stands old tree n e) may in
-      let whole : w.after ≡ v = whole_changed w.changed in
-      record { before = Some w.before; after = Some v; old_text = w.old_text; new_text = subst (λ x. IsDocument o (printed_text (ordered_tree new 0)) (Some x)) whole w.new_text; changed = by_root; sound = w.sound }
+      let comes : FirstComes v t u = (layout_for old 0 0, row_below old 0, row_below new 0, root_is old tree, root_is new f.tree, comes_among_rows o old new v m tree s e f) in
+      record { after = Some v; old_text = w.before.text; new_text = w.after.text; changed = by_first; sound = w.after.sound; marked = first_marked o t u v may comes; made = comes }
 
-  -- a document that was cleared has none
-  root_cleared : (old new : List Node) → IsTree new → SoundTree o (ordered_tree old 0) → children_at new 0 ≡ [] → IsWritten o clear_root (ordered_tree old 0) (ordered_tree new 0)
-  root_cleared old new after s empty =
-      let was = document_printed o (ordered_tree old 0) s.shaped s.lines in
-      let now = (leaves_bare o new after empty).means in
-      record { before = was.0; after = None; old_text = was.1; new_text = now.text; changed = by_clearing; sound = now.sound }
+  -- an element or a property comes in
+  element_made : (path : List ℕ) (i : ℕ) (v : Plain) (came : elements.CameIn o path i v t u) → IsMade o (Some came.is.before) (texts.insert an_array path i (entry [] v)) t u
+  element_made path i v came =
+      let w = came.is in
+      record { after = Some w.after; old_text = w.old_text; new_text = w.new_text; changed = by_inserting w.gains; sound = w.sound; marked = gained_marks (written v) _ _ t u w.marks; made = came.come }
 
-  -- and a property that was replaced is written
-  property_written : (old new : List Node) (path : List ℕ) (n m : ℕ) (name : List ℕ) (v : Plain) → IsTree old → SoundTree o (ordered_tree old 0) → IsPropertyAt old path n → IsCharacters name → IsWritable o v → IsPropertyReplaced old new n name v m
-      → IsWritten o (replace_property path name v) (ordered_tree old 0) (ordered_tree new 0)
-  property_written old new _ n m name v tree s (a_property front c i at inside) texts may r =
-      let w = writes_property o old new front c i n m name v tree s at inside.of_object inside.element texts may r in
-      record { before = Some w.before; after = Some w.after; old_text = w.old_text; new_text = w.new_text; changed = by_property front i w.replaced; sound = w.sound }
+  property_made : (path : List ℕ) (i : ℕ) (name : List ℕ) (v : Plain) (came : properties.CameIn o path i name v t u) → IsMade o (Some came.is.before) (texts.insert an_object path i (entry name v)) t u
+  property_made path i name v came =
+      let w = came.is in
+      record { after = Some w.after; old_text = w.old_text; new_text = w.new_text; changed = by_inserting_member w.gains; sound = w.sound; marked = gained_marks (property_written name v) _ _ t u w.marks; made = came.come }
 
-  -- a document that was to have a value of a shape
-  root_ensured : (old new : List Node) (shape : Shape) (how : Over) → IsTree old → SoundTree o (ordered_tree old 0) → Ensured old new shape how → IsWritten o (ensure_root shape how) (ordered_tree old 0) (ordered_tree new 0)
-  root_ensured old new shape how tree s (created m e f) =
-      let w = gives_first_value o old new (empty_of shape) m tree s e (empty_writable o shape) f in
-      record { before = None; after = Some (empty_of shape); old_text = w.before.text; new_text = w.after.text; changed = by_ensuring comes_first; sound = w.after.sound }
-  root_ensured old new shape how tree s (stayed n e is same) =
+  -- the document's value is set, or has to be of a shape
+  root_set : (v : Plain) → IsWritable o v → (found : Option ℕ) → value_at old 0 ≡ found → RootSet old new v found → EditMade o (set_root v) t u
+  root_set v may None e (m, f) = record { before = None; op = texts.come_first v; asks = refl; is = first_made m v e may f }
+  root_set v may (Some n) e (m, r) =
+      let g = replaced_made [] n m v (value_stands old tree n e) may r in
+      record { before = Some g.0; op = texts.replace [] v; asks = refl; is = g.1 }
+
+  root_ensured : (shape : Shape) (how : Over) → Ensured old new shape how → EditMade o (ensure_root shape how) t u
+  root_ensured shape how (created m e f) = record { before = None; op = texts.come_first (empty_of shape); asks = refl; is = first_made m (empty_of shape) e (empty_writable o shape) f }
+  root_ensured shape how (stayed n e is same) =
       let h = held o old tree s n e in
-      subst (λ (ns : List Node). IsWritten o (ensure_root shape how) (ordered_tree old 0) (ordered_tree ns 0)) (sym same)
-      (record { before = Some h.value; after = Some h.value; old_text = h.text; new_text = h.text; changed = by_ensuring (has_it (sym (h.error shape) ∙ is)); sound = s })
-  root_ensured old new shape _ tree s (other_stayed n e is same) =
+      record { before = Some h.value; op = texts.nothing; asks = ap (kept_or_emptied shape []) (sym (stays_if shape how h.value (sym (h.error shape) ∙ is))); is = none_made (Some h.value) h.text same }
+  root_ensured shape _ (other_stayed n e is same) =
       let h = held o old tree s n e in
-      subst (λ (ns : List Node). IsWritten o (ensure_root shape over.Keep) (ordered_tree old 0) (ordered_tree ns 0)) (sym same)
-      (record { before = Some h.value; after = Some h.value; old_text = h.text; new_text = h.text; changed = by_ensuring (may_stay (sym (h.error shape) ∙ is)); sound = s })
-  root_ensured old new shape _ tree s (replaced n m e is r) =
+      record { before = Some h.value; op = texts.nothing; asks = refl; is = none_made (Some h.value) h.text same }
+  root_ensured shape _ (replaced n m e is r) =
       let h = held o old tree s n e in
-      let w = replaced_written o old new n m (empty_of shape) tree r [] s (value_stands old tree n e) (empty_writable o shape) in
+      let g = replaced_made [] n m (empty_of shape) (value_stands old tree n e) (empty_writable o shape) r in
+      let both : Some h.value ≡ Some g.0 = document_unique o (printed_text t) (Some h.value) (Some g.0) h.text g.1.old_text in
+      let same : h.value ≡ g.0 = cc in
+      let other : has_shape shape g.0 ≡ false = ap (has_shape shape) (sym same) ∙ sym (h.error shape) ∙ is in
+      record { before = Some g.0; op = texts.replace [] (empty_of shape); asks = ap (kept_or_emptied shape []) (sym other); is = g.1 }
+
+  -- the value of a property has to be of a shape
+  record HeldMade (path : List ℕ) (shape : Shape) : Type 0 where
+    w : Plain
+    v : Plain
+    op : Operation
+    stands : StandsAt v path (Some w)
+    asks : op ≡ ensures shape over.Replace path v
+    is : IsMade o (Some w) op t u
+
+  held_made : (path : List ℕ) (shape : Shape) → property_values.Ensured old new path shape → HeldMade path shape
+  held_made path shape (property_values.has_stayed n at is same) =
+      let known = document_printed o t s.shaped s.lines in
+      let value = some_value_of o (gives_way_to_itself old tree path n at) known.0 known.2 in
+      let text = prints_value o t (Some value.0) s value.1 in
+      let there = value_there path n at value.0 text in
+      record { w = value.0; v = there.v; op = texts.nothing; stands = there.stands; asks = ap (kept_or_emptied shape path) (sym (sym (there.of_shape shape) ∙ is)); is = none_made (Some value.0) text same }
+  held_made path shape (property_values.has_given_way n m at is r) =
+      let g = replaced_made path n m (empty_of shape) at (empty_writable o shape) r in
+      let there = value_there path n at g.0 g.1.old_text in
+      record { w = g.0; v = there.v; op = texts.replace path (empty_of shape); stands = there.stands; asks = ap (kept_or_emptied shape path) (sym (sym (there.of_shape shape) ∙ is)); is = g.1 }
+
+  -- the first property of a name, or one that comes
+  module _ (path : List ℕ) (n : ℕ) (name : List ℕ) (shape : Shape) (at : IsObjectAt old path n) where
+    named_there : (r : ℕ) → FirstInObject old n name (Some r) → (i : ℕ) → IsElementOf old n i r → IsPropertyAt old (path ++ i ∷ []) r
+    named_there r first i element = a_property path n i at.0 (record { of_object = at.1; element = element; is = (first_named old name (children_at old n) (Some r) r refl first).0 })
+
+    named_made : (how : Over) → IsCharacters name → (found answer : Option ℕ) → FirstInObject old n name found → EnsuredFor shape how old new n name found answer → EditMade o (ensure_property path name shape how) t u
+    named_made how characters None answer first (m, told, comes) =
+        let last = properties.came_last o old new path n comes.property name (empty_of shape) tree s at characters (empty_writable o shape) comes.put in
+        let w = last.came.is in
+        let f = finds_member o old path n name None tree s at.0 at.1 first in
+        let both : Some f.value ≡ Some w.before = document_unique o (printed_text t) (Some f.value) (Some w.before) f.text w.old_text in
+        let same : f.value ≡ w.before = cc in
+        let objects : Plain.object f.members ≡ Plain.object w.gains.old = value_once (subst (λ x. Changed (Plain.object f.members) (Plain.object f.members) path x x) same f.at) w.gains.changed in
+        let members : f.members ≡ w.gains.old = cc in
+        record {
+          before = Some w.before;
+          op = texts.insert an_object path last.i (entry name (empty_of shape));
+          asks = (w.gains.old, (w.before, refl, left_so w.gains.changed), inr (subst (LacksMember name) members f.among, last.i, last.far, refl));
+          is = property_made path last.i name (empty_of shape) last.came;
+        }
+    named_made over.Keep characters (Some r) answer first (told, same) =
+        let f = finds_member o old path n name (Some r) tree s at.0 at.1 first in
+        let i : ℕ = f.among.0 in
+        let holds = value_held o old tree s (path ++ i ∷ []) r (named_there r first i f.among.1) in
+        let there = value_there (path ++ i ∷ []) holds.value holds.at f.value f.text in
+        record {
+          before = Some f.value;
+          op = texts.nothing;
+          asks = (f.members, (f.value, refl, f.at), inl (i, there.v, f.among.2, there.stands, refl));
+          is = none_made (Some f.value) f.text same;
+        }
+    named_made over.Replace characters (Some r) answer first (m, told, (named, set)) =
+        let f = finds_member o old path n name (Some r) tree s at.0 at.1 first in
+        let i : ℕ = f.among.0 in
+        let h = held_made (path ++ i ∷ []) shape (property_values.value_ensured o old new tree s (path ++ i ∷ []) r (named_there r first i f.among.1) shape (named, m, set)) in
+        let both : Some f.value ≡ Some h.w = document_unique o (printed_text t) (Some f.value) (Some h.w) f.text h.is.old_text in
+        let same : f.value ≡ h.w = cc in
+        record {
+          before = Some h.w;
+          op = h.op;
+          asks = (f.members, (h.w, refl, subst (λ x. Changed (Plain.object f.members) (Plain.object f.members) path x x) same f.at), inl (i, h.v, f.among.2, h.stands, h.asks));
+          is = h.is;
+        }
+
+  -- a comment leaves
+  comment_made : (number n : ℕ) → CommentTaken old new n → LosesComment t u → MadeIn o t (texts.remove_comment number) u → EditMade o (remove_comment number) t u
+  comment_made number n r loses made =
+      let sound = taken_sound old new n r o s in
+      let was = document_printed o t s.shaped s.lines in
+      let now = document_printed o u sound.shaped sound.lines in
+      let same : now.0 ≡ was.0 = document_once o u now.0 was.0 now.2 (taken_value old new n r o was.0 was.2) in
+      let lost : LosesComment t u = made.0 in
+      let m = one_mark_leaves lost.blanks lost.text (leaves lost.spaced) (leaves u) lost.are_blanks lost.around in
       record {
-        before = Some h.value;
-        after = Some (empty_of shape);
-        old_text = h.text;
-        new_text = subst (λ x. IsDocument o (printed_text (ordered_tree new 0)) (Some x)) (whole_changed w.changed) w.new_text;
-        changed = by_ensuring (must_give_way (sym (h.error shape) ∙ is));
-        sound = w.sound;
+        before = was.0;
+        op = texts.remove_comment number;
+        asks = refl;
+        is = record {
+          after = was.0;
+          old_text = was.1;
+          new_text = subst (IsDocument o (printed_text u)) same now.1;
+          changed = by_comment;
+          sound = sound;
+          marked = (
+            trimmed (chars lost.text),
+            record { front = m.0.front; back = m.0.back; before = sym (spaces_marks lost.spaces) ∙ m.0.before; after = m.0.after },
+            ap (λ l. length (comments_of l)) m.1 ∙ made.1,
+          );
+          made = made;
+        };
       }
 
-  -- the value of the property at a path is the one that was set
-  value_written : (old new : List Node) (path : List ℕ) (r : ℕ) (v : Plain) → IsTree old → SoundTree o (ordered_tree old 0) → IsPropertyAt old path r → (n m : ℕ) → IsAt old path n → IsWritable o v → IsReplaced old new n v m
-      → IsWritten o (set_value path v) (ordered_tree old 0) (ordered_tree new 0)
-  value_written old new _ r v tree s (a_property front c i at inside) n m stands may given =
-      let w = replaced_written o old new n m v tree given (front ++ i ∷ []) s stands may in
+  -- a property is replaced
+  property_replaced : (path : List ℕ) (n m : ℕ) (name : List ℕ) (v : Plain) → IsPropertyAt old path n → IsCharacters name → IsWritable o v → IsPropertyReplaced old new n name v m → EditMade o (replace_property path name v) t u
+  property_replaced _ n m name v (a_property front c i at inside) characters may r =
+      let w = writes_property o old new front c i n m name v tree s at inside.of_object inside.element characters may r in
+      let g = property_gives_way o old new (front ++ i ∷ []) n m name v tree s (a_property front c i at inside) characters may r in
       record {
         before = Some w.before;
-        after = Some w.after;
-        old_text = w.old_text;
-        new_text = w.new_text;
-        changed = by_setting front i (replaces_held o old tree front c i at inside.of_object w.before w.after (value_of_text o (ordered_tree old 0) s w.before w.old_text) w.changed);
-        sound = w.sound;
+        op = texts.replace_property (front ++ i ∷ []) (entry name v);
+        asks = refl;
+        is = record {
+          after = Some w.after;
+          old_text = w.old_text;
+          new_text = w.new_text;
+          changed = by_property front i w.replaced;
+          sound = w.sound;
+          marked = property_marked o t u (front ++ i ∷ []) name v characters may g;
+          made = g;
+        };
       }
 
-  -- or is of a shape
-  held_written : (old new : List Node) (path : List ℕ) (r : ℕ) (shape : Shape) → IsTree old → SoundTree o (ordered_tree old 0) → IsPropertyAt old path r → property_values.Ensured old new path shape → IsWritten o (ensure_value path shape) (ordered_tree old 0) (ordered_tree new 0)
-  held_written old new _ r shape tree s (a_property front c i at inside) ensured =
-      let w = shape_written o old new front c i r shape tree s at inside ensured in
-      record { before = Some w.before; after = Some w.after; old_text = w.old_text; new_text = w.new_text; changed = by_ensuring_held front i w.ensured w.replaces; sound = w.sound }
+  -- a property gets another name
+  property_renamed : (path : List ℕ) (n m : ℕ) (name : List ℕ) → IsPropertyAt old path n → IsCharacters name → IsRenamed old new n name m → EditMade o (rename_property path name) t u
+  property_renamed _ n m name (a_property front c i at inside) characters r =
+      let place = a_property front c i at inside in
+      let w = writes_name o old new front c i n m name tree s at inside.of_object inside.element characters r in
+      record {
+        before = Some w.before;
+        op = texts.rename_property (front ++ i ∷ []) name;
+        asks = refl;
+        is = record {
+          after = Some w.after;
+          old_text = w.old_text;
+          new_text = w.new_text;
+          changed = by_name front i w.renamed;
+          sound = w.sound;
+          marked = (marks_under (top_at old r.0), is_marked old new n m name tree r r.0 r.1 (property_over old tree (front ++ i ∷ []) n place).0 characters);
+          made = renames_property o old new (front ++ i ∷ []) n m name tree s place r;
+        };
+      }
 
-  -- the truth value at a path is the one that was set
-  boolean_written : (old new : List Node) (path : List ℕ) (n : ℕ) (b : Bool) → IsTree old → SoundTree o (ordered_tree old 0) → IsBooleanAt old path n → BooleanSet old new n b → IsWritten o (set_boolean path b) (ordered_tree old 0) (ordered_tree new 0)
-  boolean_written old new path n b tree s at set =
+  -- a truth value is set
+  boolean_set : (path : List ℕ) (n : ℕ) (b : Bool) → IsBooleanAt old path n → BooleanSet old new n b → EditMade o (set_boolean path b) t u
+  boolean_set path n b at set =
       let w = writes_boolean o old new path n b tree s at.0 at.1 set in
-      record { before = Some w.before; after = Some w.after; old_text = w.old_text; new_text = w.new_text; changed = by_boolean (boolean_changed o old path n tree s at w.old_text w.changed).1; sound = w.sound }
+      let given = boolean_given old new path n b tree at set in
+      let g = given.1 in
+      record {
+        before = Some w.before;
+        op = texts.set_boolean path b;
+        asks = refl;
+        is = record {
+          after = Some w.after;
+          old_text = w.old_text;
+          new_text = w.new_text;
+          changed = by_boolean (boolean_changed o old path n tree s at w.old_text w.changed).1;
+          sound = w.sound;
+          marked = (given.0, subst (λ (x : Top). MarksDifferIn (marks_under x) (written (Plain.boolean b)) (marks t) (marks u)) given.2 (marks_given g.was (laid g.layout (Plain.boolean b)) t g.spaced u g.spaces g.around));
+          made = (given.0, given.1, given.2, given.3, given.4, given.5 o s);
+        };
+      }
 
-  pub is_written : (old new : List Node) (e : Operation) → IsTree old → IsTree new → EditStep old e new → SoundTree o (ordered_tree old 0) → MayBeMade o e → IsWritten o e (ordered_tree old 0) (ordered_tree new 0)
-  is_written old new (replace path v) tree after (n, m, at, r) s may =
-      let w = replaced_written o old new n m v tree r path s at may in
-      record { before = Some w.before; after = Some w.after; old_text = w.old_text; new_text = w.new_text; changed = by_value w.changed; sound = w.sound }
-  is_written old new (remove path) tree after (n, at, takes) s may =
-      left_written (ordered_tree old 0) (ordered_tree new 0) path s (entry_leaves o old new path n tree after s at takes)
-  is_written old new (remove_comment number) tree after (n, at, r) s may =
-      let sound = taken_sound old new n r o s in
-      let was = document_printed o (ordered_tree old 0) s.shaped s.lines in
-      let now = document_printed o (ordered_tree new 0) sound.shaped sound.lines in
-      let same : now.0 ≡ was.0 = document_once o (ordered_tree new 0) now.0 was.0 now.2 (taken_value old new n r o was.0 was.2) in
-      record { before = was.0; after = was.0; old_text = was.1; new_text = subst (IsDocument o (printed_text (ordered_tree new 0))) same now.1; changed = by_comment; sound = sound }
-  is_written old new (set_root v) tree after made s may = root_written old new v tree s may (value_at old 0) refl made
-  is_written old new clear_root tree after made s may = root_cleared old new after s (emptied old new made)
-  is_written old new (replace_property path name v) tree after (n, m, at, r) s may = property_written old new path n m name v tree s at may.0 may.1 r
-  is_written old new (ensure_root shape how) tree after made s may = root_ensured old new shape how tree s (ensured old new shape how made)
-  is_written old new (set_value path v) tree after (r, at, set) s may =
+  -- all leaves
+  root_cleared : children_at new 0 ≡ [] → EditMade o clear_root t u
+  root_cleared empty =
+      let was = document_printed o t s.shaped s.lines in
+      let now = (leaves_bare o new after empty).means in
+      let bare = no_leaves new after empty in
+      record {
+        before = was.0;
+        op = texts.clear_root;
+        asks = refl;
+        is = record { after = None; old_text = was.1; new_text = now.text; changed = by_clearing; sound = now.sound; marked = ap marks bare ∙ root_marks none; made = bare };
+      }
+
+  -- Each edit that was made.
+  pub edit_made : (e : PlainEdit) → IsOfCharacters e → NumbersFit o e → EditStep old e new → EditMade o e t u
+  edit_made (replace path v) h k (n, at, (m, r)) =
+      let g = replaced_made path n m v at (record { texts = h; numbers = k }) r in
+      record { before = Some g.0; op = texts.replace path v; asks = refl; is = g.1 }
+  edit_made (remove path) h k (n, at, takes) = entry_made o t u path s (entry_leaves path n at takes)
+  edit_made (remove_comment number) h k (n, at, r) =
+      let seam = comment_has_seam old new n r in
+      comment_made number n r (loses_comment old new n r) (loses_comment old new n r, numbered old new n r number at, seam.0, seam.1 number at)
+  edit_made (set_root v) h k made = root_set v (record { texts = h; numbers = k }) (value_at old 0) refl made
+  edit_made clear_root h k made = root_cleared (emptied old new made)
+  edit_made (replace_property path name v) h k (n, at, (m, r)) = property_replaced path n m name v at h.0 (record { texts = h.1; numbers = k }) r
+  edit_made (ensure_root shape how) h k made = root_ensured shape how (ensured old new shape how made)
+  edit_made (set_value path v) h k (r, at, set) =
       let given = set_replaced o old new tree s path r at v set in
-      value_written old new path r v tree s at given.0 given.1 given.2 may given.3
-  is_written old new (ensure_value path shape) tree after (r, at, ensured) s may = held_written old new path r shape tree s at (property_values.value_ensured o old new tree s path r at shape ensured)
-  is_written old new (set_boolean path b) tree after (n, at, set) s may = boolean_written old new path n b tree s at set
-  is_written old new (ensure_multiline path) tree after (n, at, made) s may =
-      let w = keeps_document o (ordered_tree old 0) (ordered_tree new 0) path s (spread_at o old new path n tree after s at.0 at.1 made) in
-      record { before = w.value; after = w.value; old_text = w.old_text; new_text = w.new_text; changed = by_lines; sound = w.sound }
-  is_written old new (insert_element path i v) tree after (n, m, at, put) s may =
-      let w = (came_in o old new path n m v tree s at may i put).is in
-      record { before = Some w.before; after = Some w.after; old_text = w.old_text; new_text = w.new_text; changed = by_inserting w.gains; sound = w.sound }
-  is_written old new (append_element path v) tree after (n, m, at, put) s may =
-      let last = came_last o old new path n m v tree s at may put in
+      let g = replaced_made path given.0 given.1 v given.2 (record { texts = h; numbers = k }) given.3 in
+      record { before = Some g.0; op = texts.replace path v; asks = refl; is = g.1 }
+  edit_made (ensure_value path shape) h k (r, at, made) =
+      let m = held_made path shape (property_values.value_ensured o old new tree s path r at shape made) in
+      record { before = Some m.w; op = m.op; asks = (m.v, m.stands, m.asks); is = m.is }
+  edit_made (set_boolean path b) h k (n, at, set) = boolean_set path n b at set
+  edit_made (ensure_multiline path) h k (n, at, made) =
+      let g = spread_at o old new path n tree after s at.0 at.1 made in
+      let w = keeps_document o t u path s g in
+      record { before = w.value; op = texts.ensure_multiline path; asks = refl; is = record { after = w.value; old_text = w.old_text; new_text = w.new_text; changed = by_lines; sound = w.sound; marked = w.marks; made = g } }
+  edit_made (insert_element path i v) h k (n, at, (m, put)) =
+      let came = elements.came_in o old new path n m v tree s at (record { texts = h; numbers = k }) i put in
+      record { before = Some came.is.before; op = texts.insert an_array path i (entry [] v); asks = refl; is = element_made path i v came }
+  edit_made (append_element path v) h k (n, at, (m, put)) =
+      let last = elements.came_last o old new path n m v tree s at (record { texts = h; numbers = k }) put in
       let w = last.came.is in
-      record { before = Some w.before; after = Some w.after; old_text = w.old_text; new_text = w.new_text; changed = by_appending w.gains last.far; sound = w.sound }
-  is_written old new (insert_property path i name v) tree after (n, m, at, put) s may =
-      let w = (properties.came_in o old new path n m name v tree s at may.0 may.1 i put).is in
-      record { before = Some w.before; after = Some w.after; old_text = w.old_text; new_text = w.new_text; changed = by_inserting_member w.gains; sound = w.sound }
-  is_written old new (append_property path name v) tree after (n, m, at, put) s may =
-      let last = properties.came_last o old new path n m name v tree s at may.0 may.1 put in
+      record {
+        before = Some w.before;
+        op = texts.insert an_array path last.i (entry [] v);
+        asks = (w.gains.old, last.i, (w.before, refl, left_so w.gains.changed), last.far, refl);
+        is = element_made path last.i v last.came;
+      }
+  edit_made (insert_property path i name v) h k (n, at, (m, put)) =
+      let came = properties.came_in o old new path n m name v tree s at h.0 (record { texts = h.1; numbers = k }) i put in
+      record { before = Some came.is.before; op = texts.insert an_object path i (entry name v); asks = refl; is = property_made path i name v came }
+  edit_made (append_property path name v) h k (n, at, (m, put)) =
+      let last = properties.came_last o old new path n m name v tree s at h.0 (record { texts = h.1; numbers = k }) put in
       let w = last.came.is in
-      record { before = Some w.before; after = Some w.after; old_text = w.old_text; new_text = w.new_text; changed = by_appending_member w.gains last.far; sound = w.sound }
-  is_written old new (ensure_property path name shape how) tree after (n, m, at, ensured) s may =
-      let w = writes_named o old new path n name shape how m tree s at.0 at.1 may ensured in
-      record { before = Some w.before; after = Some w.after; old_text = w.old_text; new_text = w.new_text; changed = by_ensuring_named w.ensures; sound = w.sound }
-  is_written old new (set_commas path mode) tree after (n, at, set) s may =
+      record {
+        before = Some w.before;
+        op = texts.insert an_object path last.i (entry name v);
+        asks = (w.gains.old, last.i, (w.before, refl, left_so w.gains.changed), last.far, refl);
+        is = property_made path last.i name v last.came;
+      }
+  edit_made (ensure_property path name shape how) h k (n, at, (m, (found, first, by))) = named_made path n name shape at how h found m first by
+  edit_made (set_commas path mode) h k (n, at, set) =
       let w = commas_say o old new path n tree s at mode set in
-      record { before = w.value; after = w.value; old_text = w.old_text; new_text = w.new_text; changed = by_commas; sound = w.sound }
-  is_written old new (set_some_commas path mode) tree after (n, at, part) s may =
+      let placed = commas_placed o old new path n tree s at mode set in
+      record {
+        before = w.value;
+        op = texts.set_commas true path mode;
+        asks = refl;
+        is = record { after = w.value; old_text = w.old_text; new_text = w.new_text; changed = by_commas; sound = w.sound; marked = w.marks; made = (w.commas, placed.0, placed.1) };
+      }
+  edit_made (set_some_commas path mode) h k (n, at, part) =
       let w = some_commas_say o old new path n tree s at mode part in
-      record { before = w.value; after = w.value; old_text = w.old_text; new_text = w.new_text; changed = by_some_commas; sound = w.sound }
-  is_written old new (rearrange path headers order) tree after (n, at, all, made) s may =
-      let w = sorted_says o path order old new s (sorted_at o old new path n tree s at headers order after all made) in
-      record { before = Some w.old; after = Some w.new; old_text = w.old_text; new_text = w.new_text; changed = by_sorting w.entries; sound = w.sound }
+      record {
+        before = w.value;
+        op = texts.set_commas false path mode;
+        asks = refl;
+        is = record { after = w.value; old_text = w.old_text; new_text = w.new_text; changed = by_commas; sound = w.sound; marked = w.marks; made = (w.commas, some_commas_within o old new path n tree s at mode part) };
+      }
+  edit_made (rearrange path headers order) h k (n, at, (all, made)) =
+      let a = sorted_at o old new path n tree s at headers order after all made in
+      let w = sorted_says o path order old new s a in
+      record {
+        before = Some w.old;
+        op = texts.rearrange path order;
+        asks = refl;
+        is = record { after = Some w.new; old_text = w.old_text; new_text = w.new_text; changed = by_sorting w.entries; sound = w.sound; marked = w.marks; made = (a, sorted_outside path order old new a) };
+      }
+  edit_made (rename_property path name) h k (n, at, (m, r)) = property_renamed path n m name at h r

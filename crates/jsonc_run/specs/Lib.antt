@@ -3,7 +3,6 @@ pub mod Edits
 pub mod Refusals
 pub mod Written
 pub mod Named
-pub mod Marked
 pub mod Steps
 pub mod Parents
 pub mod texts

@@ -21,7 +21,7 @@ use Rattle.jsonc_edit.specs.set.PropertyValues.{LastValue}
 use Rattle.jsonc_edit.specs.set.RootSet.{FirstValue}
 use Rattle.jsonc_sort.specs.Rearranged.{Rearranged}
 use Rattle.jsonc_sort.specs.Sorting.{Headers}
-use Rattle.jsonc_run.specs.Edits.{Operation, EditStep}
+use Rattle.jsonc_run.specs.Edits.{PlainEdit, EditStep}
 use Rattle.jsonc_run.specs.Refusals.{IsLeft}
 
 -- What one call of a node makes of the nodes. It changes none of those that were there, as a reading and an error; a leaf is written anew as it stands; a node
@@ -108,8 +108,8 @@ abbrev pub CallsStayApart : List Node → List Node → Type 0
 CallsStayApart old new = IsTree old → AreCallsApart old new → ordered_tree new 0 ≡ ordered_tree old 0
 
 -- an edit is a call of the document, where it is made and where it is refused
-abbrev pub EditIsCall : List Node → Operation → List Node → Type 0
+abbrev pub EditIsCall : List Node → PlainEdit → List Node → Type 0
 EditIsCall old e new = IsTree old → EditStep old e new → IsCallOf old new 0
 
-abbrev pub RefusalIsCall : List Node → Operation → List Node → Type 0
+abbrev pub RefusalIsCall : List Node → PlainEdit → List Node → Type 0
 RefusalIsCall old e new = IsTree old → IsLeft old e new → IsCallOf old new 0

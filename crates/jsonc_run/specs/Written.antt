@@ -1,133 +1,79 @@
--- What edits that were made in order make of a document: of its value, its leaves and its text.
-use Rattle.std.specs.Prelude.{◌≡◌, ◌≤◌, ℕ, Bool, true, false, List, [], ◌∷◌, ◌++◌, Option, Some, None}
+-- What each operation makes of a document: of its value, its marks, which are its literals and comments as they are written, and its leaves.
+use Rattle.std.specs.Prelude.{◌≡◌, ℕ, Bool, true, false, List, [], ◌∷◌, ◌++◌, Option, Some, None, count_by, length}
 use Rattle.jsonc_text.specs.Options.{Options}
 use Rattle.jsonc_text.specs.Plain.{Plain, boolean}
-use Rattle.jsonc_tree.specs.OrderedTree.{OrderedTree, leaves, Top}
+use Rattle.jsonc_text.specs.Spelling.{spelled}
+use Rattle.jsonc_tree.specs.Content.{Content}
+use Rattle.jsonc_tree.specs.OrderedTree.{OrderedTree, leaves, Top, none, more}
 use Rattle.jsonc_sound.specs.Changes.{Changed}
 use Rattle.jsonc_sound.specs.ChangeLaws.{DiffersIn}
-use Rattle.jsonc_sound.specs.TreeChanges.{leaves_of, property_of}
+use Rattle.jsonc_sound.specs.TreeChanges.{leaves_of, property_of, DocumentChanged}
 use Rattle.jsonc_layout.specs.from_input.Layout.{Layout}
-use Rattle.jsonc_edit.specs.commas.Laws.{allowing}
-use Rattle.jsonc_edit.specs.SeamEntries.{PropertyReplacedWithSeam}
-use Rattle.jsonc_layout.specs.from_input.Laid.{laid, laid_property}
-use Rattle.jsonc_layout.specs.from_input.Texts.{IsCharacters}
+use Rattle.jsonc_edit.specs.commas.Laws.{IsAsSaid, OnlyCommas}
+use Rattle.jsonc_edit.specs.SeamEntries.{PropertyHolds, PropertyReplacedWithSeam}
+use Rattle.jsonc_layout.specs.from_input.Laid.{laid, laid_property, string_leaf}
 use Rattle.jsonc_edit.specs.Spaced.{SpacesPut}
-use Rattle.jsonc_edit.specs.Writing.{IsWritable}
 use Rattle.jsonc_sound.specs.Coming.{ValueInserted}
-use Rattle.jsonc_sound.specs.EntryLaws.{LosesEntry, root_with}
+use Rattle.jsonc_sound.specs.EntryLaws.{LosesEntry, root_with, LosesMarks}
 use Rattle.jsonc_sound.specs.Properties.{PropertyChanged, ReplacesMember}
-use Rattle.jsonc_insert.specs.elements.Laws.{item_count, InsertsItem}
-use Rattle.jsonc_insert.specs.elements.Members.{member_count, InsertsMemberAt}
-use Rattle.jsonc_insert.specs.named.Members.{EnsuresMember}
-use Rattle.jsonc_edit.specs.set.Shapes.{EnsuredValue}
-use Rattle.jsonc_insert.specs.named.Values.{ReplacesHeld, ReplacesValue}
+use Rattle.jsonc_insert.specs.elements.Laws.{InsertsItem, ElementInsertedAt}
+use Rattle.jsonc_insert.specs.elements.Members.{InsertsMemberAt, PropertyInsertedAt}
+use Rattle.jsonc_insert.specs.named.Values.{ReplacesValue}
 use Rattle.jsonc_edit.specs.remove.Laws.{EntryTaken, ValueTaken}
 use Rattle.jsonc_edit.specs.set.Giving.{is_bare_value}
-use Rattle.jsonc_text.specs.declared.edit.Over.{Over}
-use Rattle.jsonc_text.specs.declared.edit.Over.TheVariants as over
-use Rattle.jsonc_text.specs.declared.edit.Shape.{Shape}
+use Rattle.jsonc_edit.specs.set.Names.{RenamesMember}
 use Rattle.jsonc_text.specs.declared.edit.TrailingCommaMode.{TrailingCommaMode}
 use Rattle.jsonc_sort.specs.Laws.{SortsEntries}
-use Rattle.jsonc_sort.specs.Sorting.{Headers}
-use Rattle.jsonc_edit.specs.set.Shapes.{is_of, empty_of}
-use Rattle.jsonc_run.specs.Edits.{Operation, replace, remove, remove_comment, set_root, clear_root, replace_property, ensure_root, set_value, ensure_value, set_boolean, ensure_multiline, insert_element, append_element, insert_property, append_property, ensure_property, set_commas, set_some_commas, rearrange}
+use Rattle.jsonc_run.specs.texts.Edits.{Operation, nothing, replace, set_boolean, replace_property, come_first, insert, remove, remove_comment, clear_root, ensure_multiline, set_commas, rearrange, rename_property, options_behind}
+use Rattle.jsonc_run.specs.texts.Entries.{Named}
+use Rattle.jsonc_run.specs.texts.Paths.{an_array, an_object}
+use Rattle.jsonc_sound.specs.MarkChanges.{MarksDifferIn}
+use Rattle.jsonc_sound.specs.Marks as marks
+use Rattle.jsonc_sound.specs.Marks.{Mark, comments_of}
+use Rattle.jsonc_sound.specs.Written.{property_written, written}
+use Rattle.jsonc_sound.specs.Adjacent.{last_printed}
+use Rattle.jsonc_sound.specs.Booleans.{boolean_leaf, is_hex_leaf}
+use Rattle.jsonc_edit.specs.Comments.{comments_ahead, LosesComment}
+use Rattle.jsonc_edit.specs.SeamLaws.{comments_before, LosesWithSeam}
+use Rattle.jsonc_edit.specs.multiline.Laws.{SpreadAt}
+use Rattle.jsonc_sort.specs.Paths.{KeepsOutside, SortedAt}
 
--- documents of these options can hold what the edit writes: its value, and the name of its property
-abbrev pub MayBeMade : Options → Operation → Type 0
-MayBeMade o (replace path v) = IsWritable o v
-MayBeMade o (remove path) = Unit {0}
-MayBeMade o (remove_comment number) = Unit {0}
-MayBeMade o (set_root v) = IsWritable o v
-MayBeMade o clear_root = Unit {0}
-MayBeMade o (replace_property path name v) = IsCharacters name × IsWritable o v
-MayBeMade o (ensure_root shape how) = Unit {0}
-MayBeMade o (set_value path v) = IsWritable o v
-MayBeMade o (ensure_value path shape) = Unit {0}
-MayBeMade o (set_boolean path b) = Unit {0}
-MayBeMade o (ensure_multiline path) = Unit {0}
-MayBeMade o (insert_element path i v) = IsWritable o v
-MayBeMade o (append_element path v) = IsWritable o v
-MayBeMade o (insert_property path i name v) = IsCharacters name × IsWritable o v
-MayBeMade o (append_property path name v) = IsCharacters name × IsWritable o v
-MayBeMade o (ensure_property path name shape how) = IsCharacters name
-MayBeMade o (set_commas path mode) = Unit {0}
-MayBeMade o (set_some_commas path mode) = Unit {0}
-MayBeMade o (rearrange path headers order) = Unit {0}
-
--- the mode of an edit that sets trailing commas
-abbrev pub commas_mode : Operation → Option TrailingCommaMode
-commas_mode (set_commas path mode) = Some mode
-commas_mode (set_some_commas path mode) = Some mode
-commas_mode e = None
-
--- the options of the document behind an edit: the same, but that trailing commas are allowed where it sets some
-abbrev pub options_by : Options → Option TrailingCommaMode → Options
-options_by o None = o
-options_by o (Some mode) = allowing mode o
-
-abbrev pub options_behind : Options → Operation → Options
-options_behind o e = options_by o (commas_mode e)
-
--- and behind edits, one after another
+-- the options of the document behind operations, one after another
 abbrev pub options_after : Options → List Operation → Options
 options_after o [] = o
-options_after o (e ∷ es) = options_after (options_behind o e) es
+options_after o (op ∷ ops) = options_after (options_behind o op) ops
 
--- The edit makes the second value of the first: where another value is written, this is the first, but that at the path the new value stands; where an entry
--- leaves, it is the first without the entry, or none without the document's value; where a comment leaves, it is the first, if there is one; where the
--- document's value is set, it is that, and where the root is cleared there is none; where a property is replaced, it is the first, but for that entry; where
--- a value of a shape is to be there, it is the first or an empty one; where the value of a property is set, or is to be of a shape, it is the first, but that
--- the property has this value, or, if it had none of the shape, an empty one; where a truth value is set, it is the first, but that at the path, where one
--- stood, this one stands; lines change nothing; where a value comes into an array, it is the first, but that the array at the path has it, at its number or as
--- its last; and so where a property comes into an object; where the first property of a name is to have a value of a shape, it is the first, but for that
--- property; commas change nothing; where entries come in an order, it is the first, but that at the path they come so.
+-- The operation makes the second value of the first: the first itself; the first, but that at the path another value stands, or for a truth value another, or for
+-- a property another; the value that comes where there was none; the first, but that the array or object at the path has one entry more, at its number or as its
+-- last; the first without an entry, or none without the document's value; none, where all leaves; the first, but that the entries at the path come in an order; and
+-- the first, but that the property at the path has another name.
 pub data IsChanged : Option Plain → Operation → Option Plain → Type 0 where
+  by_nothing : {w : Option Plain} → IsChanged w nothing w
   by_value : {given_up v x y : Plain} {path : List ℕ} → Changed given_up v path x y → IsChanged (Some x) (replace path v) (Some y)
+  by_boolean : {was b : Bool} {x y : Plain} {path : List ℕ} → Changed (boolean was) (boolean b) path x y → IsChanged (Some x) (set_boolean path b) (Some y)
+  by_property : (path : List ℕ) (i : ℕ) {new : Named} {x y : Plain} → ReplacesMember path i new.name new.value x y
+      → IsChanged (Some x) (replace_property (path ++ i ∷ []) new) (Some y)
+  by_first : {v : Plain} → IsChanged None (come_first v) (Some v)
+  by_inserting : {i : ℕ} {new : Named} {x y : Plain} {path : List ℕ} → InsertsItem path i new.value x y → IsChanged (Some x) (insert an_array path i new) (Some y)
+  by_inserting_member : {i : ℕ} {new : Named} {x y : Plain} {path : List ℕ} → InsertsMemberAt path i new.name new.value x y
+      → IsChanged (Some x) (insert an_object path i new) (Some y)
   by_entry : (path : List ℕ) (i : ℕ) {x y : Plain} → LosesEntry path i x y → IsChanged (Some x) (remove (path ++ i ∷ [])) (Some y)
   by_all : {x : Plain} → IsChanged (Some x) (remove []) None
   by_comment : {w : Option Plain} {number : ℕ} → IsChanged w (remove_comment number) w
-  by_root : {w : Option Plain} {v : Plain} → IsChanged w (set_root v) (Some v)
   by_clearing : {w : Option Plain} → IsChanged w clear_root None
-  by_property : (path : List ℕ) (i : ℕ) {name : List ℕ} {v x y : Plain} → ReplacesMember path i name v x y
-      → IsChanged (Some x) (replace_property (path ++ i ∷ []) name v) (Some y)
-  by_ensuring : {shape : Shape} {how : Over} {w x : Option Plain} → EnsuredValue shape how w x → IsChanged w (ensure_root shape how) x
-  by_setting : (path : List ℕ) (i : ℕ) {was v x y : Plain} → ReplacesHeld path i was v x y → IsChanged (Some x) (set_value (path ++ i ∷ []) v) (Some y)
-  by_ensuring_held : (path : List ℕ) (i : ℕ) {shape : Shape} {was now x y : Plain}
-      → EnsuredValue shape over.Replace (Some was) (Some now) → ReplacesHeld path i was now x y
-      → IsChanged (Some x) (ensure_value (path ++ i ∷ []) shape) (Some y)
-  by_boolean : {was b : Bool} {x y : Plain} {path : List ℕ} → Changed (boolean was) (boolean b) path x y → IsChanged (Some x) (set_boolean path b) (Some y)
   by_lines : {w : Option Plain} {path : List ℕ} → IsChanged w (ensure_multiline path) w
-  by_inserting : {i : ℕ} {v x y : Plain} {path : List ℕ} → InsertsItem path i v x y → IsChanged (Some x) (insert_element path i v) (Some y)
-  by_appending : {i : ℕ} {v x y : Plain} {path : List ℕ} (gains : InsertsItem path i v x y) → item_count gains.old ≤ i
-      → IsChanged (Some x) (append_element path v) (Some y)
-  by_inserting_member : {i : ℕ} {name : List ℕ} {v x y : Plain} {path : List ℕ} → InsertsMemberAt path i name v x y
-      → IsChanged (Some x) (insert_property path i name v) (Some y)
-  by_appending_member : {i : ℕ} {name : List ℕ} {v x y : Plain} {path : List ℕ} (gains : InsertsMemberAt path i name v x y) → member_count gains.old ≤ i
-      → IsChanged (Some x) (append_property path name v) (Some y)
-  by_ensuring_named : {path name : List ℕ} {shape : Shape} {how : Over} {x y : Plain} → EnsuresMember path name shape how x y
-      → IsChanged (Some x) (ensure_property path name shape how) (Some y)
-  by_commas : {w : Option Plain} {path : List ℕ} {mode : TrailingCommaMode} → IsChanged w (set_commas path mode) w
-  by_some_commas : {w : Option Plain} {path : List ℕ} {mode : TrailingCommaMode} → IsChanged w (set_some_commas path mode) w
-  by_sorting : {path order : List ℕ} {headers : Headers} {x y : Plain} → SortsEntries path order x y
-      → IsChanged (Some x) (rearrange path headers order) (Some y)
+  by_commas : {w : Option Plain} {whole : Bool} {path : List ℕ} {mode : TrailingCommaMode} → IsChanged w (set_commas whole path mode) w
+  by_sorting : {path order : List ℕ} {x y : Plain} → SortsEntries path order x y → IsChanged (Some x) (rearrange path order) (Some y)
+  by_name : (path : List ℕ) (i : ℕ) {name : List ℕ} {x y : Plain} → RenamesMember path i name x y → IsChanged (Some x) (rename_property (path ++ i ∷ []) name) (Some y)
 
 -- an entry has left a sound document, with what leaves with it and no more; or the document's value has
 pub data EntryRemoved (t u : OrderedTree) : List ℕ → Type 0 where
   entry_left : (path : List ℕ) (i : ℕ) (top : Top) → EntryTaken path i top t u → EntryRemoved t u (path ++ i ∷ [])
   value_left : (top : Top) → ValueTaken top t u → EntryRemoved t u []
 
--- the document's value has been replaced by this one; or this one has come into the row of a root that had none, with ends of lines beside it
-pub data RootValueSet (v : Plain) (t u : OrderedTree) : Type 0 where
-  given_way : ReplacesValue [] v t u → RootValueSet v t u
-  has_come : (layout : Layout) (row next : OrderedTree) → t ≡ root_with row → u ≡ root_with next → ValueInserted (laid layout v) row next → RootValueSet v t u
-
--- all has stayed; or the empty value of a shape has come into the row of a root that had none, with ends of lines beside it; or the document's value, of
--- another shape, has been replaced by it, where another is to
-pub data RootValueEnsured (shape : Shape) (t u : OrderedTree) : Over → Type 0 where
-  all_kept : {how : Over} → u ≡ t → RootValueEnsured shape t u how
-  empty_come : {how : Over} (layout : Layout) (row next : OrderedTree) → t ≡ root_with row → u ≡ root_with next → ValueInserted (laid layout (empty_of shape)) row next
-      → RootValueEnsured shape t u how
-  empty_given : (given : ReplacesValue [] (empty_of shape) t u) → is_of shape given.was.content ≡ false → RootValueEnsured shape t u over.Replace
+-- a value has come into the row of a root that had none, with ends of lines beside it
+abbrev pub FirstComes : Plain → OrderedTree → OrderedTree → Type 0
+FirstComes v t u = (layout : Layout) × (row next : OrderedTree) × (t ≡ root_with row) × (u ≡ root_with next) × ValueInserted (laid layout v) row next
 
 -- Spaces have come into the document, and then in the row of the object at the path, between its front and its rest, a property has been replaced by one of this
 -- name and value, in some layout; all leaves before and after stay. One space has come or none: directly before what is printed behind it, where its value is a
@@ -138,3 +84,52 @@ pub data ReplacesProperty (name : List ℕ) (v : Plain) (t u : OrderedTree) : Li
       → DiffersIn (leaves_of (property_of was)) (leaves_of (property_of (laid_property layout name v).below)) (leaves spaced) (leaves u)
       → (seam : PropertyReplacedWithSeam path i was (laid_property layout name v).below t u) → (seam.behind ≡ true → is_bare_value v ≡ true)
       → ReplacesProperty name v t u (path ++ i ∷ [])
+
+-- In the object at the path the name of a property has been replaced by this one, between quotes; what is behind it in the property stays, and all leaves before the
+-- property and behind it.
+pub data RenamesProperty (name : List ℕ) (t u : OrderedTree) : List ℕ → Type 0 where
+  property_renamed : (path : List ℕ) (i : ℕ) (was : Content) (rest : OrderedTree) (front back : List Content) → PropertyHolds (more was none rest) path i t front back
+      → PropertyHolds (more (string_leaf name) none rest) path i u front back → RenamesProperty name t u (path ++ i ∷ [])
+
+-- All stay; or one stretch of the marks has been replaced by the literals that are written for the new value, for the truth value, or for the new name and value of
+-- a property, or for its name alone; or the literals of a value that comes have come, those of a property with its name; or those of an entry have left, with comments beside it; or one
+-- comment has left, the one of that number. All others stay, in order. Of a cleared document none stay. Lines and commas change none, and where entries come in an
+-- order each mark is there as often as before.
+abbrev pub IsMarked : List Mark → Operation → List Mark → Type 0
+IsMarked x nothing y = y ≡ x
+IsMarked x (replace path v) y = (was : List Mark) × MarksDifferIn was (written v) x y
+IsMarked x (set_boolean path b) y = (was : Bool) × MarksDifferIn (written (boolean was)) (written (boolean b)) x y
+IsMarked x (replace_property path new) y = (was : List Mark) × MarksDifferIn was (property_written new.name new.value) x y
+IsMarked x (come_first v) y = MarksDifferIn [] (written v) x y
+IsMarked x (insert an_array path i new) y = MarksDifferIn [] (written new.value) x y
+IsMarked x (insert an_object path i new) y = MarksDifferIn [] (property_written new.name new.value) x y
+IsMarked x (remove path) y = (top : Top) × LosesMarks top x y
+IsMarked x (remove_comment number) y = (s : List ℕ) × (gone : MarksDifferIn (marks.comment s ∷ []) [] x y) × (length (comments_of gone.front) ≡ number)
+IsMarked x clear_root y = y ≡ []
+IsMarked x (ensure_multiline path) y = y ≡ x
+IsMarked x (set_commas whole path mode) y = y ≡ x
+IsMarked x (rearrange path order) y = (test : Mark → Bool) → count_by test y ≡ count_by test x
+IsMarked x (rename_property path name) y = (was : List Mark) × MarksDifferIn was (marks.literal (spelled name) ∷ []) x y
+
+-- the value at the path has changed, and nothing outside of it
+abbrev pub IsChangedAt : List ℕ → OrderedTree → OrderedTree → Type 0
+IsChangedAt path t u = (was now : Top) × DocumentChanged was now path t u
+
+-- Where in a sound document it is made, and that all else stays: one line for each operation, with no premise.
+abbrev pub MadeIn : Options → OrderedTree → Operation → OrderedTree → Type 0
+MadeIn o t nothing u = u ≡ t
+MadeIn o t (replace path v) u = ReplacesValue path v t u
+MadeIn o t (set_boolean path b) u = (was : Bool) × (given : ReplacesValue path (boolean b) t u) × (given.was ≡ boolean_leaf was) × (given.seams.behind ≡ false) × (b ≡ true → given.seams.before ≡ false)
+    × (given.seams.before ≡ true → is_hex_leaf (last_printed given.seams.front) ≡ true)
+MadeIn o t (replace_property path new) u = ReplacesProperty new.name new.value t u path
+MadeIn o t (come_first v) u = FirstComes v t u
+MadeIn o t (insert an_array path i new) u = ElementInsertedAt o path i new.value t u
+MadeIn o t (insert an_object path i new) u = PropertyInsertedAt o path i new.name new.value t u
+MadeIn o t (remove path) u = EntryRemoved t u path
+MadeIn o t (remove_comment number) u = (loses : LosesComment t u) × (comments_ahead loses ≡ number) × (seam : LosesWithSeam t u) × (comments_before seam ≡ number)
+MadeIn o t clear_root u = u ≡ root_with none
+MadeIn o t (ensure_multiline path) u = SpreadAt path t u
+MadeIn o t (set_commas true path mode) u = OnlyCommas mode t u × (at : IsChangedAt path t u) × IsAsSaid mode o at.1.content at.1.below
+MadeIn o t (set_commas false path mode) u = OnlyCommas mode t u × IsChangedAt path t u
+MadeIn o t (rearrange path order) u = (sorted : SortedAt path order t u) × KeepsOutside sorted
+MadeIn o t (rename_property path name) u = RenamesProperty name t u path

@@ -10,8 +10,8 @@ use jsonc_edit::commas::set_trailing_commas;
 use jsonc_edit::multiline::ensure_multiline;
 use jsonc_edit::remove::remove;
 use jsonc_edit::set::{
-    property_value_or_set, replace_property, root_value_or_create, root_value_or_set, set_boolean,
-    set_property_value, set_root,
+    property_value_or_set, rename_property, replace_property, root_value_or_create,
+    root_value_or_set, set_boolean, set_property_value, set_root,
 };
 use jsonc_edit::{EditError, Over, Shape, TrailingCommaMode, find, remove_comment, replace};
 use jsonc_insert::insert_element;
@@ -100,6 +100,24 @@ pub(crate) fn replace_property_at<A: Allocator + Copy>(
         unreachable!()
     };
     Ok(())
+}
+
+// Gives the property at a path another name.
+pub(crate) fn rename_at<A: Allocator + Copy>(
+    alloc: A,
+    tree: &mut Tree<A>,
+    path: &[usize],
+    name: &str,
+) -> Result<(), EditError>
+    ensures { IsAnswer tree.old.nodes tree.new.nodes (op.rename_property path.now (chars name.now)) result }
+{
+    let Some(property) = find_property(tree, path) else {
+        return Err(EditError::NoSuchPlace);
+    };
+    match rename_property(alloc, tree, property, name) {
+        Ok(_) => Ok(()),
+        Err(error) => Err(error),
+    }
 }
 
 // Sees that the document has a value of a shape.

@@ -89,4 +89,11 @@ pub enum Edit<A: Allocator> {
     /// the comments above each of them before which a blank line stands are pinned: they stay where
     /// they are. Where the second is, each stretch between blank lines is sorted by itself.
     Sort(Vec<usize, A>, bool, bool),
+    /// Gives the property at a path another name.
+    ///
+    /// The last step of the path leads to the property of an object. The name is written in double
+    /// quotes, as that of a property that is inserted; the value and all else stay, to the byte, and
+    /// no space is ever needed: `{a:1b:2}` with `b` renamed `c` is `{a:1"c":2}`. A property that
+    /// lacks its name or its colon is an error.
+    RenameProperty(Vec<usize, A>, String<A>),
 }

@@ -2,7 +2,7 @@
 ghost use Rattle.std.specs.Prelude.{◌≡◌, ℕ, List};
 ghost use Rattle.jsonc_text.specs.Options.{Options};
 ghost use Rattle.jsonc_tree.specs.Tree.{IsTree, Node};
-ghost use Rattle.jsonc_run.specs.Edits.{EditSteps, Operation};
+ghost use Rattle.jsonc_run.specs.Edits.{EditSteps, PlainEdit};
 ghost use Rattle.jsonc_run.specs.Named.{PlacesAreNamed};
 ghost use Rattle.jsonc_run.specs.Parents.{CallKeepsParents, CallsKeepParents, EditIsCall, RefusalIsCall};
 ghost use Rattle.jsonc_run.specs.Parents.{CallStaysApart, CallsStayApart, StaysWithItsNodes};
@@ -16,13 +16,13 @@ pub use jsonc_sort::laws::{sorted_containers_keep_their_children, sorted_rows_ke
 /// or a property; and there is the comment of a number exactly where the document's text has more comments
 /// than that.
 pub fn places_are_named()
-    ensures { (o : Options) (ns : List Node) (e : Operation) → PlacesAreNamed o ns e }
+    ensures { (o : Options) (ns : List Node) (e : PlainEdit) → PlacesAreNamed o ns e }
 {}
 
 /// One chain: edits that were made in order in a sound document lead from one sound document to the next.
 /// Each is named in the document before it, and makes of its value, its marks and its leaves the next one's.
 pub fn edits_make_steps()
-    ensures { (o : Options) (old new : List Node) (es : List Operation) → IsTree old
+    ensures { (o : Options) (old new : List Node) (es : List PlainEdit) → IsTree old
         → EditSteps old es new → MakesSteps o old es new }
 {}
 
@@ -38,6 +38,6 @@ pub fn calls_keep_parents()
     ensures document { (old new : List Node) → StaysWithItsNodes old new }
     ensures apart { (old new : List Node) (n : ℕ) → CallStaysApart old new n }
     ensures quiet { (old new : List Node) → CallsStayApart old new }
-    ensures edit { (old : List Node) (e : Operation) (new : List Node) → EditIsCall old e new }
-    ensures refused { (old : List Node) (e : Operation) (new : List Node) → RefusalIsCall old e new }
+    ensures edit { (old : List Node) (e : PlainEdit) (new : List Node) → EditIsCall old e new }
+    ensures refused { (old : List Node) (e : PlainEdit) (new : List Node) → RefusalIsCall old e new }
 {}

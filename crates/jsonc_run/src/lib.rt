@@ -6,7 +6,7 @@
 //! - removes the entry at a path, or the document's value ([`find_entry`]);
 //! - removes the comment of a number ([`find_comment`]);
 //! - sets the document's value, or removes all of the document;
-//! - replaces the property at a path, or sets its value ([`find_property`]);
+//! - replaces the property at a path, sets its value, or gives it another name ([`find_property`]);
 //! - ensures that the document, a property, or an object's first property of a name is an array or an object;
 //! - puts the array or object at a path on several lines ([`find_container`]), or inserts an entry into it;
 //! - sets the trailing commas of the value at a path and of all below it.

@@ -11,8 +11,8 @@ ghost use Rattle.jsonc_run.specs.Steps.{MakesSteps};
 
 use crate::at::{
     append_element_at, append_property_at, ensure_multiline_at, ensure_property_at, ensure_value,
-    ensure_value_at, insert_element_at, insert_property_at, remove_at, remove_entry, replace_at,
-    replace_property_at, set_boolean_at, set_commas_at, set_value, set_value_at,
+    ensure_value_at, insert_element_at, insert_property_at, remove_at, remove_entry, rename_at,
+    replace_at, replace_property_at, set_boolean_at, set_commas_at, set_value, set_value_at,
 };
 use crate::edit::Edit;
 use jsonc_edit::EditError;
@@ -83,6 +83,7 @@ fn make_by_kind<A: Allocator + Copy>(
             ensure_property_at(alloc, tree, path, name, *shape, *over)
         }
         Edit::SetTrailingCommas(path, mode) => set_commas_at(tree, path, *mode),
+        Edit::RenameProperty(path, name) => rename_at(alloc, tree, path, name),
         Edit::Sort(_, _, _) => unreachable!(),
     }
 }

@@ -24,4 +24,5 @@ pub mod SortedDocuments
 pub mod LeadPlaces
 pub mod Lasts
 pub mod LeadsRead
+pub mod Own
 pub mod lemmas

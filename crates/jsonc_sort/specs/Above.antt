@@ -1,12 +1,13 @@
--- What rules of headers and groups are asked with: whether a blank line stands before an element, and how many comments stand above it.
-use Rattle.std.specs.Prelude.{ℕ, List, [], ◌∷◌, drop, filter, map, take, if◌then◌else◌}
+-- What rules of headers and groups are asked with: whether a blank line stands before an element, how many comments stand above it, and how many of these above
+-- the last blank line.
+use Rattle.std.specs.Prelude.{ℕ, ◌-◌, List, [], ◌∷◌, drop, filter, map, take, if◌then◌else◌}
 use Rattle.std.specs.List.{flat_map, list_any}
 use Rattle.jsonc_tree.specs.Content.{Content}
 use Rattle.jsonc_tree.specs.Tree.{Node, children_at, content_at}
 use Rattle.jsonc_edit.specs.remove.Removed.{has_brackets}
 use Rattle.jsonc_edit.specs.multiline.Lines.{between}
 use Rattle.jsonc_sort.specs.Parts.{Part, is_newline_at, parts, up_to_spaces}
-use Rattle.jsonc_sort.specs.Leads.{comments, first_line, has_blank_line, is_comment_at}
+use Rattle.jsonc_sort.specs.Leads.{below, comments, first_line, has_blank_line, is_comment_at}
 use Rattle.jsonc_sort.specs.declared.above.LeadRead.{LeadRead}
 
 -- what stands before each element
@@ -28,9 +29,13 @@ module _ (at : ℕ → Content) where
   abbrev pub comments_above : List ℕ → List ℕ
   comments_above lead = filter (is_comment_at at) (above lead)
 
+  -- how many comments of a lead are a header: those above an element but those below its last blank line
+  abbrev pub header : List ℕ → ℕ
+  header lead = comments at (above lead) - comments at (below at lead)
+
   -- what a rule is asked with
   abbrev pub lead_read : List ℕ → LeadRead
-  lead_read lead = record { blank_line = has_blank_line at lead; comments = comments at (above lead) }
+  lead_read lead = record { blank_line = has_blank_line at lead; comments = comments at (above lead); header = header lead }
 
 -- of each element of c, which has its brackets; else of none
 abbrev pub leads_at : List Node → ℕ → List (List ℕ)

@@ -1,5 +1,5 @@
 -- What stands before an element, its lead: what of it stays in its place, and what goes where the element goes.
-use Rattle.std.specs.Prelude.{ℕ, zero, suc, ◌-◌, ◌+◌, Bool, false, ◌&&◌, ◌||◌, List, [], ◌∷◌, ◌++◌, count_by, drop, length, max, nat_le, take, Option, Some, None, if◌then◌else◌}
+use Rattle.std.specs.Prelude.{ℕ, zero, suc, ◌-◌, ◌+◌, Bool, false, ◌&&◌, ◌||◌, not, List, [], ◌∷◌, ◌++◌, count_by, drop, length, max, nat_le, take, Option, Some, None, if◌then◌else◌}
 use Rattle.std.specs.List.{list_any, prefix_len, suffix_len, take_while, position_or_len}
 use Rattle.jsonc_tree.specs.Content.{Content}
 use Rattle.jsonc_layout.specs.nodes.Kinds.{is_comment}
@@ -27,6 +27,15 @@ module _ (at : ℕ → Content) where
   abbrev pub has_blank_line : List ℕ → Bool
   has_blank_line [] = false
   has_blank_line (n ∷ row) = (is_newline_at at n && line_ends row) || has_blank_line row
+
+  -- what stands below the last blank line of a lead; where it has none, behind the first end of a line
+  abbrev pub below : List ℕ → List ℕ
+  below [] = []
+  below (n ∷ row) = if is_newline_at at n && not (has_blank_line row) then row else below row
+
+  -- what of a lead belongs to the entry: that, or all of it, where no line ends in it
+  abbrev pub own_lead : List ℕ → List ℕ
+  own_lead lead = if list_any (is_newline_at at) lead then below lead else lead
 
   -- how many nodes at the front are lines of blanks alone, each with its end
   abbrev pub blank_lines : List ℕ → ℕ

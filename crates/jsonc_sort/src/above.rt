@@ -5,10 +5,10 @@ ghost use Rattle.std.specs.List.{flat_map, list_any};
 ghost use Rattle.jsonc_tree.specs.Tree.{content_at};
 ghost use Rattle.jsonc_edit.specs.remove.Removed.{has_brackets};
 ghost use Rattle.jsonc_sort.specs.Above.{above, all_comments_above, comments_above, lead_read, leads, leads_read};
-ghost use Rattle.jsonc_sort.specs.Leads.{comments, is_comment_at};
+ghost use Rattle.jsonc_sort.specs.Leads.{below, comments, is_comment_at};
 ghost use Rattle.jsonc_sort.specs.Parts.{is_newline_at};
 
-use crate::leads::{comments, has_blank_line};
+use crate::leads::{comments, has_blank_line, own_lead};
 use crate::parts::up_to_spaces;
 use crate::places::entries;
 use jsonc_edit::multiline::has_brackets;
@@ -24,6 +24,8 @@ pub struct LeadRead {
     pub blank_line: bool,
     /// How many comments do, behind the end of a line.
     pub comments: usize,
+    /// How many of these are a header: those above the last blank line.
+    pub header: usize,
 }
 
 // How many comments stand in a lead behind the end of a line that is there.
@@ -36,20 +38,31 @@ fn comments_behind<A: Allocator>(tree: &Tree<A>, lead: &[usize]) -> usize
     comments(tree, &rest[..up_to_spaces(tree, rest)])
 }
 
+// How many comments of a lead in which a line ends belong to the element.
+fn own_comments<A: Allocator>(tree: &Tree<A>, lead: &[usize]) -> usize
+    requires { IsTrue (list_any (is_newline_at (content_at tree.now.nodes)) lead.now) }
+    ensures { result ≡ comments (content_at tree.now.nodes) (below (content_at tree.now.nodes) lead.now) }
+{
+    comments(tree, &lead[own_lead(tree, lead)..])
+}
+
 // What a lead tells.
 fn read_lead<A: Allocator>(tree: &Tree<A>, lead: &[usize]) -> LeadRead
     ensures { result ≡ lead_read (content_at tree.now.nodes) lead.now }
 {
     let blank_line = has_blank_line(tree, lead);
     if has_newline(tree, lead) {
+        let comments = comments_behind(tree, lead);
         return LeadRead {
             blank_line,
-            comments: comments_behind(tree, lead),
+            comments,
+            header: comments.saturating_sub(own_comments(tree, lead)),
         };
     }
     LeadRead {
         blank_line,
         comments: 0,
+        header: 0,
     }
 }
 

@@ -1,11 +1,11 @@
 //! What stands before an element: what of it stays in its place, and what goes where the element goes.
 
-ghost use Rattle.std.specs.Prelude.{◌≡◌, ◌≤◌, IsTrue, length, max, take};
+ghost use Rattle.std.specs.Prelude.{◌≡◌, ◌≤◌, IsTrue, drop, length, max, take};
 ghost use Rattle.std.specs.List.{list_any, suffix_len};
 ghost use Rattle.jsonc_tree.specs.Tree.{content_at};
 ghost use Rattle.jsonc_sort.specs.Leads.{before_comment, blank_lines, comments, has_blank_line};
 ghost use Rattle.jsonc_sort.specs.Leads.{header_by, header_length, header_of, lead_parts};
-ghost use Rattle.jsonc_sort.specs.Leads.{parts_of_lines, through_last_line};
+ghost use Rattle.jsonc_sort.specs.Leads.{own_lead, parts_of_lines, through_last_line};
 ghost use Rattle.jsonc_sort.specs.Parts.{is_newline_at, is_no_newline_at};
 ghost use Rattle.jsonc_sort.specs.Places.{ended_behind, lead_of, left_behind};
 
@@ -44,6 +44,29 @@ pub(crate) fn has_blank_line<A: Allocator>(tree: &Tree<A>, row: &[usize]) -> boo
         ended = ended_behind(tree, *node, ended);
     }
     false
+}
+
+/// Where what belongs to an entry begins in what stands before it: below its last blank line.
+pub fn own_lead<A: Allocator>(tree: &Tree<A>, lead: &[usize]) -> usize
+    ensures begins { drop result lead.now ≡ own_lead (content_at tree.now.nodes) lead.now }
+    ensures within { result ≤ length lead.now }
+{
+    let mut start = 0;
+    let mut ended = false;
+    let mut place = lead.len();
+    while place > 0 {
+        let node = lead[place - 1];
+        let ends = is_newline(tree, node);
+        if ends & ended {
+            return place;
+        }
+        if ends {
+            start = place;
+        }
+        ended = ends | (ended & is_whitespace(tree, node));
+        place -= 1;
+    }
+    start
 }
 
 /// How many nodes at the front are lines of blanks alone, each with its end.

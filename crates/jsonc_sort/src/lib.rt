@@ -12,7 +12,7 @@
 //! (`specs/Rearranged.antt`), so an error leaves the document as it was.
 //!
 //! [`read_leads`] and [`comments_above`] tell what stands before each element, for rules of headers and groups
-//! (`specs/Above.antt`), and [`tail_length`] how much of what stands behind one belongs to it.
+//! (`specs/Above.antt`); [`own_lead`] and [`tail_length`] how much of what stands before and behind one belongs to it.
 //!
 //! [`ordering`] puts the places of a row in order. What an order by groups and a second sort leave is said in [`groups`] and
 //! [`again`].
@@ -30,5 +30,6 @@ mod places;
 mod plan;
 
 pub use above::{LeadRead, comments_above, read_leads};
+pub use leads::own_lead;
 pub use order::rearrange;
 pub use parts::tail_length;

@@ -4,7 +4,7 @@ ghost use Rattle.std.specs.Prelude.{◌≡◌, Some};
 ghost use Rattle.jsonc_text.specs.EditErrors.{edit_error_text};
 ghost use Rattle.jsonc_text.specs.declared.edit.EditError.TheVariants.{OutOfMemory};
 
-use std::alloc::AllocError;
+use std::alloc::{AllocError, AllocFailed};
 use std::error::Error;
 use std::fmt;
 
@@ -43,6 +43,14 @@ impl From<AllocError> for EditError {
 
     fn from(_error: AllocError) -> EditError {
         EditError::OutOfMemory
+    }
+}
+
+impl<T: Drop> From<AllocFailed<T>> for EditError {
+    ghost from_gives = { λ _ e. e ≡ OutOfMemory };
+
+    fn from(_error: AllocFailed<T>) -> EditError {
+        EditError::from(AllocError)
     }
 }
 

@@ -30,6 +30,7 @@ pub enum Edit {
     EnsureProperty { path: Vec<usize>, name: String, shape: Shape, replace: bool },
     SetTrailingCommas { path: Vec<usize>, never: bool },
     Sort { path: Vec<usize>, pin: bool, groups: bool },
+    RenameProperty { path: Vec<usize>, name: String },
 }
 
 fn slice<T>(of: &[T]) -> ffi::Slice<T> {
@@ -74,6 +75,7 @@ impl Edit {
             Edit::EnsureProperty { path, name, shape, replace } => with(at(ffi::EDIT_ENSURE_PROPERTY, path, array(shape), *replace), 0, name, ""),
             Edit::SetTrailingCommas { path, never } => at(ffi::EDIT_SET_TRAILING_COMMAS, path, *never, false),
             Edit::Sort { path, pin, groups } => at(ffi::EDIT_SORT, path, *pin, *groups),
+            Edit::RenameProperty { path, name } => with(at(ffi::EDIT_RENAME_PROPERTY, path, false, false), 0, name, ""),
         }
     }
 }

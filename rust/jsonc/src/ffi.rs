@@ -139,6 +139,8 @@ pub const EDIT_ENSURE_PROPERTY: u32 = 15;
 pub const EDIT_SET_TRAILING_COMMAS: u32 = 16;
 /// Sorts the array or object at the path.
 pub const EDIT_SORT: u32 = 17;
+/// Gives the property at the path another name.
+pub const EDIT_RENAME_PROPERTY: u32 = 18;
 
 /// What is wrong with a text. All of it is 0 where no text is at fault.
 #[repr(C)]

@@ -92,6 +92,7 @@ fn each_edit_is_made() {
     assert_eq!(list(&[ensured], "{\"z\":1}"), "{\"z\":1}");
     assert_eq!(list(&[Edit::SetTrailingCommas { path: none.clone(), never: true }], "[1,]"), "[1]");
     assert_eq!(list(&[Edit::Sort { path: none.clone(), pin: false, groups: false }], "[3, 1]"), "[1, 3]");
+    assert_eq!(list(&[Edit::RenameProperty { path: at(&[1]), name: name() }], "{a:1b:2}"), "{a:1\"z\":2}");
     let stopped = [Edit::Remove { path: at(&[0]) }, Edit::Remove { path: at(&[5]) }];
     assert_eq!(edit("[1, 2]", Options::ALL, &stopped).map(drop), Err(Error::NoSuchPlace(1)));
     let mut room = [0; 16];

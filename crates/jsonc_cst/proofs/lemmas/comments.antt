@@ -1,7 +1,6 @@
 pub mod Leads
 pub mod Parts
 pub mod Inside
-pub mod Own
 pub mod Gaps
 pub mod Beside
 pub mod Entries

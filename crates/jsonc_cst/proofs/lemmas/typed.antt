@@ -17,3 +17,5 @@ pub mod Trailing
 pub mod Calls
 pub mod RootShapes
 pub mod HeldShapes
+pub mod Renamed
+pub mod ClearedEntries

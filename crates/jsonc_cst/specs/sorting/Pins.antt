@@ -18,6 +18,10 @@ use Rattle.jsonc_cst.specs.Nodes.{comment_node, number_of, typed_at}
 abbrev pub blank_line_pin : LeadRead → Option ℕ
 blank_line_pin lead = Some (if lead.blank_line then lead.comments else 0)
 
+-- by the last blank line: the comments above it
+abbrev pub header_pin : LeadRead → Option ℕ
+header_pin lead = Some lead.header
+
 -- the comment, if the node is one
 abbrev pub comment_if : CstNode → Option CstComment
 comment_if (Leaf (Comment x)) = Some x
@@ -27,6 +31,10 @@ module _ {A : Type 0} where
   -- what stands before each element of a container
   abbrev pub leads_of : CstRootNode A → CstNode → List LeadRead
   leads_of d node = leads_read (nodes_of d) (number_of node)
+
+  -- where headers are kept, the comments that are pinned above each of its elements
+  abbrev pub kept_headers : CstRootNode A → CstNode → List (Option ℕ)
+  kept_headers d node = map header_pin (leads_of d node)
 
   -- the comments above its elements, one element's after another's
   abbrev pub comments_of : CstRootNode A → CstNode → List CstComment

@@ -6,6 +6,7 @@ use Rattle.jsonc_text.specs.declared.edit.EditError.{EditError}
 use Rattle.jsonc_text.specs.declared.edit.EditError.TheVariants.{OutOfMemory}
 use Rattle.jsonc_text.specs.declared.edit.TrailingCommaMode.{TrailingCommaMode}
 use Rattle.jsonc_text.specs.declared.edit.TrailingCommaMode.TheVariants.{IfMultiline}
+use Rattle.jsonc_tree.specs.Tree.{parent_at}
 use Rattle.jsonc_edit.specs.commas.InTurn.{CommaIsDue}
 use Rattle.jsonc_cst.specs.declared.cst.CstRootNode.{CstRootNode}
 use Rattle.jsonc_cst.specs.declared.cst.node.CstNode.{CstNode}
@@ -16,7 +17,7 @@ use Rattle.jsonc_cst.specs.typed.Edits.{IsReplacedBy, NodeIsDetached, HasMarked,
 use Rattle.jsonc_cst.specs.typed.Edits.{KeepsDocument, KeepsDocumentOf, Unchanged, HandlesStay}
 use Rattle.jsonc_cst.specs.typed.Inserting.{HasComeIn, InsertError, IsItsElement, IsPutAtItsPath, KeepsOthers}
 use Rattle.jsonc_cst.specs.typed.Lines.{HasSpreadOut, IsOnLines, LinesWritten, StaysUnspread}
-use Rattle.jsonc_cst.specs.typed.Removing.{removal_of, NodeRemoved, IsKeptForMemory, IsKeptIn, IsLoose}
+use Rattle.jsonc_cst.specs.typed.Removing.{removal_of, EntryCleared, NodeRemoved, IsKeptForMemory, IsKeptIn, IsKeptWithComments, IsLoose}
 use Rattle.jsonc_cst.specs.typed.Removing.{RemovalAround, RemovalKeepsDocument, RemovedIsDetached, RemovalWritten}
 use Rattle.jsonc_cst.specs.typed.Steps.{IsHolder, IsRemoving, IsReplacing, IsSettingCommas, IsSettingSomeCommas, IsSpreading, IsValueIn}
 
@@ -32,6 +33,19 @@ pub record IsRemoval {A : Type 0} (old new : CstRootNode A) (node : CstNode) (r 
   pub untouched : IsLoose old node → IsUntouched old new
   pub handles : HandlesStay old new
   pub error : IfErr r (IsKeptIn old node)
+  pub memory : (o : Options) → IfErr r (IsKeptForMemory old o node)
+  pub kept : OnErr r (Unchanged old new)
+  pub document : OnErr r (tree_of new ≡ tree_of old)
+
+-- So an entry has been taken out, and is detached, and then those of its comments that its container had still; any other node as by the call before. Or an
+-- error has left every node as it was: memory was refused, or the call before says why.
+pub record IsRemovalWithComments {A : Type 0} (old new : CstRootNode A) (node : CstNode) (r : Result (Unit {0}) EditError) : Type 0 where
+  pub removed : OnOk r (EntryCleared old new node)
+  pub alone : parent_at (nodes_of old) (number_of node) ≡ None → IsRemoval old new node r
+  pub gone : OnOk r (RemovedIsDetached new node)
+  pub untouched : IsLoose old node → IsUntouched old new
+  pub handles : HandlesStay old new
+  pub error : IfErr r (IsKeptWithComments old node)
   pub memory : (o : Options) → IfErr r (IsKeptForMemory old o node)
   pub kept : OnErr r (Unchanged old new)
   pub document : OnErr r (tree_of new ≡ tree_of old)

@@ -1,9 +1,9 @@
 -- What is taken out with a node, by its kind, and why it is not.
-use Rattle.std.specs.Prelude.{◌≡◌, ℕ, ◌+◌, List, [], length, Some, None, IsTrue}
+use Rattle.std.specs.Prelude.{◌≡◌, ℕ, ◌+◌, ◌⊎◌, List, [], ◌∷◌, length, Some, None, IsTrue}
 use Rattle.jsonc_text.specs.Options.{Options}
 use Rattle.jsonc_tree.specs.Changes.{Splices}
 use Rattle.jsonc_tree.specs.OrderedTree.{ordered_tree}
-use Rattle.jsonc_tree.specs.Tree.{Node, content_at, parent_at, children_at, place_at, IsOver}
+use Rattle.jsonc_tree.specs.Tree.{Node, content_at, parent_at, children_at, place_at, IsOver, IsTree}
 use Rattle.jsonc_layout.specs.lines.Kinds.{is_array_or_object}
 use Rattle.jsonc_sound.specs.SoundTrees.{SoundTree}
 use Rattle.jsonc_text.specs.declared.edit.EditError.{EditError}
@@ -12,6 +12,7 @@ use Rattle.jsonc_edit.specs.Changes.{top_at}
 use Rattle.jsonc_edit.specs.Comments.{RemovesComment, RemovesCommentAlone, TakesOut, WantsSpace}
 use Rattle.jsonc_edit.specs.Paths.{IsAt, IsElementOf}
 use Rattle.jsonc_edit.specs.remove.Laws.{EntryTaken, IsEntryRemoved, IsValueRemoved, ValueTaken}
+use Rattle.jsonc_edit.specs.remove.Comments.{AreCleared}
 use Rattle.jsonc_edit.specs.remove.Removed.{IsKeptFor, TakesElement}
 use Rattle.jsonc_edit.specs.set.Laws.{IsBareDocument}
 use Rattle.jsonc_cst.specs.declared.cst.CstRootNode.{CstRootNode}
@@ -20,6 +21,7 @@ use Rattle.jsonc_cst.specs.declared.cst.node.CstContainerNode.TheVariants.{Root,
 use Rattle.jsonc_cst.specs.declared.cst.node.CstLeafNode.TheVariants.{BooleanLit, NullKeyword, NumberLit, StringLit, WordLit, Token, Whitespace, Newline, Comment}
 use Rattle.jsonc_cst.specs.declared.cst.node.CstNode.TheVariants.{Container, Leaf}
 use Rattle.jsonc_cst.specs.Document.{nodes_of}
+use Rattle.jsonc_cst.specs.EntryComments.{comment_numbers}
 use Rattle.jsonc_cst.specs.Nodes.{number_of}
 use Rattle.jsonc_cst.specs.typed.Edits.{IsDetached, KeepsDocumentOf}
 use Rattle.jsonc_cst.specs.declared.typed.removing.Removal.{Removal}
@@ -152,3 +154,27 @@ module _ {A : Type 0} where
   -- if the node is one of the document, and this sound, only allocation failed
   abbrev pub IsKeptForMemory : CstRootNode A → Options → CstNode → EditError → Type 0
   IsKeptForMemory d o node e = OnlyOutOfMemory o (nodes_of d) (number_of node) e
+
+-- comments have left a container, if there are any
+abbrev pub AreClearedIfAny : List Node → List Node → ℕ → List ℕ → Type 0
+AreClearedIfAny old new c [] = new ≡ old
+AreClearedIfAny old new c (n ∷ rest) = AreCleared old new c (n ∷ rest)
+
+-- the node has been taken out of its container, c, and then those of these comments that c had still, each that was alone on its line with the line
+pub record IsTakenWithComments (r : Removal) (old new : List Node) (n c : ℕ) (comments : List ℕ) : Type 0 where
+  pub without : List Node
+  pub tree : IsTree without
+  pub taken : IsTakenBy r old without n
+  pub written : (o : Options) → IsWrittenBy r o old without n
+  pub around : (o : Options) → StaysAround r o old without n
+  pub cleared : AreClearedIfAny without new c comments
+
+module _ {A : Type 0} where
+  -- so it is wherever the node has a parent
+  abbrev pub EntryCleared : CstRootNode A → CstRootNode A → CstNode → Type 0
+  EntryCleared old new node = (c : ℕ) → parent_at (nodes_of old) (number_of node) ≡ Some c
+      → IsTakenWithComments (removal_of node) (nodes_of old) (nodes_of new) (number_of node) c (comment_numbers old node)
+
+  -- why it has not been: the memory of its comments' numbers was wanted, or as without comments
+  abbrev pub IsKeptWithComments : CstRootNode A → CstNode → EditError → Type 0
+  IsKeptWithComments d node e = (e ≡ OutOfMemory) ⊎ IsKeptIn d node e

@@ -7,7 +7,7 @@ use Rattle.jsonc_text.specs.declared.edit.TrailingCommaMode.{TrailingCommaMode}
 use Rattle.jsonc_text.specs.declared.edit.Over.{Over}
 use Rattle.jsonc_text.specs.declared.edit.Shape.{Shape}
 use Rattle.jsonc_insert.specs.named.Places.{IsPropertyAt}
-use Rattle.jsonc_run.specs.Edits.{replace, remove, remove_comment, set_root, clear_root, replace_property, ensure_root, set_value, ensure_value, set_boolean, ensure_multiline, insert_element, append_element, set_commas, set_some_commas}
+use Rattle.jsonc_run.specs.Edits.{replace, remove, remove_comment, set_root, clear_root, replace_property, ensure_root, set_value, ensure_value, set_boolean, ensure_multiline, insert_element, append_element, set_commas, set_some_commas, rename_property}
 use Rattle.jsonc_run.specs.Places.{IsEntryAt}
 use Rattle.jsonc_run.specs.promise.Steps.{IsCommentAt, IsNoPart, IsStep, IsStepOf}
 use Rattle.jsonc_cst.specs.declared.cst.node.CstNode.{CstNode}
@@ -47,6 +47,9 @@ module _ (old new : List Node) where
 
   abbrev pub IsReplacingProperty : ℕ → List ℕ → Plain → Type 0
   IsReplacingProperty n name v = IsStep IsPropertyAt (λ path. replace_property path name v) old new n
+
+  abbrev pub IsRenamingProperty : ℕ → List ℕ → Type 0
+  IsRenamingProperty n name = IsStep IsPropertyAt (λ path. rename_property path name) old new n
 
   -- of what is taken out an entry of an array or object, the document's value or a comment; a token or whitespace that leaves alone is no edit
   abbrev pub IsRemoving : Removal → ℕ → Type 0

@@ -1,13 +1,13 @@
 //! The comments that belong to an entry.
 
-ghost use Rattle.std.specs.Prelude.{◌≡◌, ◌≤◌, ◌<◌, drop, length, not, IfErr, IfOk, IsTrue, OnErr};
+ghost use Rattle.std.specs.Prelude.{◌≡◌, ◌<◌, length, not, IfErr, IfOk, IsTrue, OnErr};
 ghost use Rattle.std.specs.List.{All, take_while};
 ghost use Rattle.jsonc_tree.specs.Tree.{content_at};
 ghost use Rattle.jsonc_layout.specs.nodes.Kinds.{is_element_at};
 ghost use Rattle.jsonc_layout.specs.nodes.Siblings.{siblings_after, siblings_before};
 ghost use Rattle.jsonc_cst.specs.Document.{HasNode, nodes_of};
-ghost use Rattle.jsonc_cst.specs.EntryComments.{comments_around, comments_at, comments_of_entry, is_entry_at};
-ghost use Rattle.jsonc_cst.specs.EntryComments.{own_lead, tail_of};
+ghost use Rattle.jsonc_cst.specs.EntryComments.{comment_numbers, comments_around, comments_at, comments_of_entry, is_entry_at};
+ghost use Rattle.jsonc_cst.specs.EntryComments.{tail_of};
 ghost use Rattle.jsonc_cst.specs.Nodes.{comment_node, number_of};
 
 use super::layout::comments_under;
@@ -16,35 +16,11 @@ use super::{CstRootNode, EditError};
 use jsonc_edit::multiline::has_brackets;
 use jsonc_layout::lines::is_array_or_object;
 use jsonc_layout::nodes::{
-    is_comment, is_element, is_newline, is_whitespace, next_element, next_siblings,
-    previous_element, previous_siblings,
+    is_comment, is_element, next_element, next_siblings, previous_element, previous_siblings,
 };
-use jsonc_sort::tail_length;
+use jsonc_sort::{own_lead, tail_length};
 use jsonc_tree::Tree;
 use std::alloc::{AllocError, Allocator};
-
-// Where what belongs to an entry begins in what stands before it.
-fn own_lead<A: Allocator>(tree: &Tree<A>, lead: &[usize]) -> usize
-    ensures begins { drop result lead.now ≡ own_lead (content_at tree.now.nodes) lead.now }
-    ensures within { result ≤ length lead.now }
-{
-    let mut start = 0;
-    let mut ended = false;
-    let mut place = lead.len();
-    while place > 0 {
-        let node = lead[place - 1];
-        let ends = is_newline(tree, node);
-        if ends & ended {
-            return place;
-        }
-        if ends {
-            start = place;
-        }
-        ended = ends | (ended & is_whitespace(tree, node));
-        place -= 1;
-    }
-    start
-}
 
 // The comments of an entry, by what stands before it, and what is between it and what comes next.
 fn comments_around<A: Allocator>(
@@ -168,5 +144,22 @@ impl<A: Allocator + Copy> CstRootNode<A> {
             return Err(EditError::OutOfMemory);
         };
         Ok(comments)
+    }
+
+    // The numbers of these comments.
+    pub(crate) fn comment_numbers(&self, node: CstNode) -> Result<Vec<usize, A>, EditError>
+        requires { HasNode self.now node }
+        ensures numbers { IfOk result (λ v. v.items ≡ comment_numbers self.now node) }
+        ensures in_tree { IfOk result (λ v. All (λ n. n < length (nodes_of self.now)) v.items) }
+        ensures memory { IfErr result (λ e. e ≡ EditError.OutOfMemory) }
+    {
+        let number = node.number();
+        if !is_entry(&self.tree, number) {
+            return Ok(Vec::new(self.alloc));
+        }
+        match comments_of(self.alloc, &self.tree, number) {
+            Ok(numbers) => Ok(numbers),
+            Err(_) => Err(EditError::OutOfMemory),
+        }
     }
 }

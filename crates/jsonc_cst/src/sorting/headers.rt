@@ -7,7 +7,7 @@ ghost use Rattle.jsonc_cst.specs.declared.cst.CstRootNode.{CstRootNode};
 ghost use Rattle.jsonc_cst.specs.declared.cst.node.CstNode.{CstNode};
 ghost use Rattle.jsonc_cst.specs.Document.{nodes_of, HasNode};
 ghost use Rattle.jsonc_cst.specs.Nodes.{typed_at};
-ghost use Rattle.jsonc_cst.specs.sorting.Pins.{blank_line_pin, comment_if, comments_of, leads_of, pins_where};
+ghost use Rattle.jsonc_cst.specs.sorting.Pins.{blank_line_pin, comment_if, comments_of, header_pin, kept_headers, leads_of, pins_where};
 ghost use Rattle.jsonc_cst.specs.sorting.Pins.{ArePins, HoldsComment, IsPin, MayPin};
 
 use crate::cst::{CstComment, CstLeafNode, CstNode, CstRootNode, EditError, TypedNode, node_at};
@@ -192,7 +192,7 @@ pub(crate) fn pins_where<A: Allocator + Copy>(
 
 /// A rule for how many of the comments above each element are a header.
 ///
-/// These stay where they are, and the others move with the element. The three rules here are all
+/// These stay where they are, and the others move with the element. The four rules here are all
 /// that are meant.
 pub trait HeaderRule<A: Allocator + Copy, D: DocumentArg<A>, N: TypedNode>: Drop {
     ghost may_ask: { Self → CstRootNode A → Type 0 };
@@ -253,6 +253,48 @@ impl<A: Allocator + Copy, D: DocumentArg<A>, N: TypedNode> HeaderRule<A, D, N>
         _nodes: &[Option<N>],
     ) -> Result<Vec<Option<usize>, A>, EditError> {
         pins_where(doc, container, true)
+    }
+}
+
+// How many comments stand above the last blank line before each element.
+fn header_pins<A: Allocator + Copy>(
+    alloc: A,
+    leads: &[LeadRead],
+) -> Result<Vec<Option<usize>, A>, AllocError>
+    ensures { IfOk result (λ v. v.items ≡ map header_pin leads.now) }
+{
+    leads.iter().map(|lead| header_pin(*lead)).collect(alloc)
+}
+
+// How many stand there before one.
+fn header_pin(lead: LeadRead) -> Option<usize>
+    ensures { result ≡ header_pin lead }
+{
+    Some(lead.header)
+}
+
+/// The comments above the last blank line before an element stay where they are, and those below move with it.
+///
+/// What moves is what [`CstRootNode::comments_of`] answers.
+#[derive(Clone, Copy)]
+pub struct KeptHeaders;
+
+impl<A: Allocator + Copy, D: DocumentArg<A>, N: TypedNode> HeaderRule<A, D, N> for KeptHeaders {
+    ghost may_ask = { λ rule d. ⊤ };
+
+    ghost pins = { λ rule d container nodes pins. pins ≡ kept_headers d container };
+
+    fn pins(
+        &self,
+        doc: &CstRootNode<A>,
+        container: CstNode,
+        _nodes: &[Option<N>],
+    ) -> Result<Vec<Option<usize>, A>, EditError> {
+        let leads = leads_of(doc, container)?;
+        let Ok(pins) = header_pins(doc.alloc, &leads) else {
+            return Err(EditError::OutOfMemory);
+        };
+        Ok(pins)
     }
 }
 

@@ -3,7 +3,7 @@
 ghost use Rattle.std.specs.Prelude.{◌≡◌, true};
 
 use crate::cst::{CstArray, CstObject};
-use crate::sorting::headers::{BlankLineHeaders, HeadersBy};
+use crate::sorting::headers::{BlankLineHeaders, HeadersBy, KeptHeaders};
 
 /// A sort of what stands in an array or an object.
 ///
@@ -50,6 +50,31 @@ impl<C: Copy, H: Drop> Sort<C, H> {
         Sort {
             container: self.container,
             rule: BlankLineHeaders,
+            groups: self.groups,
+        }
+    }
+
+    /// Leaves the comments above the last blank line before an entry in their place.
+    ///
+    /// Those below it move with the entry: what moves is what `comments_of` answers. With no blank line
+    /// below, a header moves too. Before, and sorted by names:
+    ///
+    /// ```text
+    /// {                      {
+    ///   // head                // head
+    ///
+    ///   // about b             "a": 2,
+    ///   "b": 1,                // about b
+    ///   "a": 2                 "b": 1
+    /// }                      }
+    /// ```
+    pub fn keep_headers(self) -> Sort<C, KeptHeaders>
+        ensures container { result.container ≡ self.container }
+        ensures groups { result.groups ≡ self.groups }
+    {
+        Sort {
+            container: self.container,
+            rule: KeptHeaders,
             groups: self.groups,
         }
     }

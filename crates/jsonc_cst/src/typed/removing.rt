@@ -1,17 +1,18 @@
 //! Nodes that are taken out of a document.
 
-ghost use Rattle.std.specs.Prelude.{◌≡◌, ◌<◌, None, length};
-ghost use Rattle.jsonc_tree.specs.Tree.{parent_at};
+ghost use Rattle.std.specs.Prelude.{◌≡◌, ◌<◌, None, length, IsTrue};
+ghost use Rattle.std.specs.List.{All};
+ghost use Rattle.jsonc_tree.specs.Tree.{is_container_at, parent_at};
 ghost use Rattle.jsonc_cst.specs.Document.{parent_of, HasNode};
 ghost use Rattle.jsonc_cst.specs.Nodes.{comment_node, newline_node, object_prop_node, token_node, whitespace_node};
 ghost use Rattle.jsonc_cst.specs.Nodes.{array_node, boolean_lit_node, name_node, null_keyword_node, number_lit_node};
 ghost use Rattle.jsonc_cst.specs.Nodes.{object_node, string_lit_node, word_lit_node};
 ghost use Rattle.jsonc_cst.specs.Tree.{NodesAreTree};
-ghost use Rattle.jsonc_cst.specs.typed.Calls.{IsRemoval};
+ghost use Rattle.jsonc_cst.specs.typed.Calls.{IsRemoval, IsRemovalWithComments};
 ghost use Rattle.jsonc_cst.specs.typed.Edits.{NodeIsDetached, IsDetached, IsUntouched, KeepsDocument};
 ghost use Rattle.jsonc_cst.specs.typed.Edits.{KeepsDocumentOf, HandlesStay, NodesStillThere};
 ghost use Rattle.jsonc_cst.specs.declared.typed.removing.Removal.{Removal};
-ghost use Rattle.jsonc_cst.specs.typed.Removing.{removal_of, NodeRemovedAlone, RemovedAlone};
+ghost use Rattle.jsonc_cst.specs.typed.Removing.{removal_of, AreClearedIfAny, NodeRemovedAlone, RemovedAlone};
 
 use crate::cst::{
     CstArray, CstBooleanLit, CstComment, CstContainerNode, CstLeafNode, CstNewline, CstNode,
@@ -82,6 +83,41 @@ fn remove_node<A: Allocator + Copy, N: TypedNode>(
     }
 }
 
+// Takes comments out of their container, if there are any.
+fn clear_any<A: Allocator>(tree: &mut Tree<A>, container: usize, comments: &[usize])
+    requires in_tree { container < length tree.old.nodes }
+    requires container { IsTrue (is_container_at tree.old.nodes container) }
+    requires comments { All (λ n. n < length tree.old.nodes) comments.now }
+    ensures { AreClearedIfAny tree.old.nodes tree.new.nodes container comments.now }
+{
+    if !comments.is_empty() {
+        jsonc_edit::remove::clear_comments(tree, container, comments);
+    }
+}
+
+// Takes a node out of the document, and with an entry the comments that belong to it.
+fn remove_entry<A: Allocator + Copy, N: TypedNode>(
+    doc: &mut CstRootNode<A>,
+    node: N,
+) -> Result<(), EditError>
+    requires { HasNode doc.old (N.node_of node) }
+    ensures { IsRemovalWithComments doc.old doc.new (N.node_of node) result }
+{
+    let entry = node.node();
+    let Some(container) = doc.tree.parent(entry.number()) else {
+        return remove_node(doc, entry);
+    };
+    // All memory is wanted before the first node leaves.
+    let Ok(comments) = doc.comment_numbers(entry) else {
+        return Err(EditError::OutOfMemory);
+    };
+    let removed = remove_node(doc, entry);
+    if removed.is_ok() {
+        clear_any(&mut doc.tree, container, &comments);
+    }
+    removed
+}
+
 impl CstNode {
     /// Removes it from the document.
     ///
@@ -108,6 +144,21 @@ impl CstNode {
         ensures { IsRemoval doc.old doc.new self result }
     {
         remove_node(doc, self)
+    }
+
+    /// Removes it from the document, and with an entry the comments that belong to it.
+    ///
+    /// These are those that [`CstRootNode::comments_of`] answers. Each that is alone on its line is removed
+    /// with the line. All else is as [`CstNode::remove`] says; of a node that is no entry it is that. On an
+    /// error the document stays as it was.
+    pub fn remove_with_comments<A: Allocator + Copy>(
+        self,
+        doc: &mut CstRootNode<A>,
+    ) -> Result<(), EditError>
+        requires { HasNode doc.old self }
+        ensures { IsRemovalWithComments doc.old doc.new self result }
+    {
+        remove_entry(doc, self)
     }
 }
 
@@ -158,6 +209,17 @@ impl CstObjectProp {
         ensures { IsRemoval doc.old doc.new (object_prop_node self) result }
     {
         remove_node(doc, self)
+    }
+
+    /// Removes it from the document with the comments that belong to it. [`CstNode::remove_with_comments`] says which.
+    pub fn remove_with_comments<A: Allocator + Copy>(
+        self,
+        doc: &mut CstRootNode<A>,
+    ) -> Result<(), EditError>
+        requires { HasNode doc.old (object_prop_node self) }
+        ensures { IsRemovalWithComments doc.old doc.new (object_prop_node self) result }
+    {
+        remove_entry(doc, self)
     }
 }
 

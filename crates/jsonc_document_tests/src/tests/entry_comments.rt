@@ -36,6 +36,34 @@ static ROWS: [(&str, [&str; 2]); 8] = [
     ),
 ];
 
+/// Texts, which of its entries is removed with its comments, and the text behind that: each comment that is alone on its
+/// line is removed with the line.
+static REMOVED: [(&str, usize, &str); 11] = [
+    (
+        "{\n  // all\n\n  // on b\n  \"b\": 1, // one\n  \"a\": 2\n}",
+        0,
+        "{\n  // all\n\n  \"a\": 2\n}",
+    ),
+    ("[1, // one\n// two\n2]", 1, "[1 // one\n]"),
+    ("[1 /* a */, /* b */ 2 /* c */]", 1, "[1 /* a */]"),
+    ("[1,\n  /* two */\n  2\n]", 1, "[1\n]"),
+    (
+        "[1,\n  // two\n  /* and */ // more\n  2,\n  3\n]",
+        1,
+        "[1,\n  3\n]",
+    ),
+    (
+        "[1,\n// up\n\n// low\n\n2\n// last\n]",
+        1,
+        "[1\n// up\n\n// low\n\n// last\n]",
+    ),
+    ("[\n  // c\n  1\n]", 0, "[]"),
+    ("[1\n, // d\n2]", 0, "[\n2]"),
+    ("[1/*a*/2/*b*/3]", 1, "[1 3]"),
+    ("[1 2\n, // c\n3]", 1, "[1\n3]"),
+    ("[\n/*a*/ /*b*/  \n1]", 0, "[]"),
+];
+
 /// An object with a comment before its property, whose value has one before it and one behind it.
 const PROPERTY: &str = "{// c\n\"a\": /* d */1 /* e */}";
 
@@ -117,6 +145,44 @@ fn comments_of_entries_are_told_in_turn(rt: HostRuntime) -> Result<(), Fail> {
     for (text, wanted) in &ROWS {
         assert!(rt; told::<Global>(rt.alloc(), text, wanted) == Outcome::Answered);
         assert!(rt; answers_in_turn(rt.alloc(), |heap| told(heap, text, wanted)));
+    }
+    Ok(())
+}
+
+/// The text behind the removal of an entry with its comments, or the same text where memory was wanted for it.
+fn removed<A: Allocator + Copy>(alloc: A, text: &str, index: usize, wanted: &str) -> Outcome {
+    let mut doc = match read(alloc, text) {
+        Ok(doc) => doc,
+        Err(outcome) => return outcome,
+    };
+    let Some(value) = doc.value() else {
+        return Outcome::Other;
+    };
+    let entries = match value.children_exclude_trivia_and_tokens(&doc) {
+        Ok(entries) => entries,
+        Err(error) => return Outcome::from(error),
+    };
+    let Some(entry) = entries.get(index) else {
+        return Outcome::Other;
+    };
+    if !doc.holds(*entry) {
+        return Outcome::Other;
+    }
+    let (made, text) = match entry.remove_with_comments(&mut doc) {
+        Ok(()) => (Outcome::Answered, wanted),
+        Err(error) => (Outcome::from(error), text),
+    };
+    match doc.text() {
+        Ok(printed) => Outcome::of(printed.as_str() == text).then(made),
+        Err(error) => Outcome::from(error),
+    }
+}
+
+#[test]
+fn entries_are_removed_with_their_comments_in_turn(rt: HostRuntime) -> Result<(), Fail> {
+    for (text, index, wanted) in &REMOVED {
+        assert!(rt; removed::<Global>(rt.alloc(), text, *index, wanted) == Outcome::Answered);
+        assert!(rt; answers_in_turn(rt.alloc(), |heap| removed(heap, text, *index, wanted)));
     }
     Ok(())
 }

@@ -18,6 +18,8 @@ pub enum NodeEdit {
     ReplaceName,
     /// A property is replaced by one of the name `c`, whose value is a number.
     ReplaceProperty,
+    /// A property gets the word as its name.
+    Rename,
     /// The value of a property is set to a number.
     SetValue,
     /// The value of a property is an object, an empty one where it was none.
@@ -100,6 +102,7 @@ fn edit_property<A: Allocator + Copy>(
         }
         (NodeEdit::ObjectOrSet, _) => of_answered(property.object_value_or_set(doc)),
         (NodeEdit::ArrayOrSet, _) => of_answered(property.array_value_or_set(doc)),
+        (NodeEdit::Rename, _) => of_answered(property.rename(doc, word.as_str())),
         (NodeEdit::ReplaceProperty, _) => {
             of_new(property.replace_with(doc, "c", CstInputValue::Number(word)))
         }

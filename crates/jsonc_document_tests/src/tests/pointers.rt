@@ -3,7 +3,7 @@
 use crate::tests::reading::read;
 use failing_alloc::in_turn::refused_in_turn;
 use failing_alloc::outcome::Outcome;
-use jsonc_parser::cst::{CstRootNode, TypedNode};
+use jsonc_parser::cst::{CstNode, CstRootNode, TypedNode};
 use jsonc_parser::patch::{self, FindError, Pointer, PointerError};
 use std::alloc::Allocator;
 use std::test::Fail;
@@ -124,6 +124,28 @@ fn found<A: Allocator + Copy>(
     }
 }
 
+/// The pointer of what was found is the one that found it.
+fn told<A: Allocator + Copy>(
+    alloc: A,
+    doc: &CstRootNode<A>,
+    pointer: &Pointer<A>,
+    row: &Row<'_>,
+) -> Outcome {
+    let node = match patch::find(doc, pointer) {
+        Ok(Some(node)) => node,
+        Ok(None) => return Outcome::Answered,
+        Err(error) => return failed(&error, row.2),
+    };
+    match patch::pointer_of(doc, node) {
+        Ok(Some(told)) => match format!(in alloc; "{told}") {
+            Ok(printed) => Outcome::of(printed.as_str() == row.0),
+            Err(_) => Outcome::Wanted,
+        },
+        Ok(None) => Outcome::Other,
+        Err(error) => Outcome::from(error),
+    }
+}
+
 /// A value is read exactly where one was found.
 fn value_read<A: Allocator + Copy>(
     doc: &CstRootNode<A>,
@@ -166,7 +188,8 @@ fn outcome<A: Allocator + Copy>(alloc: A, row: &Row<'_>) -> Outcome {
     match Pointer::parse(alloc, row.0) {
         Ok(pointer) => printed(alloc, &pointer, row.0)
             .then(found(alloc, &doc, &pointer, row.2))
-            .then(value_read(&doc, &pointer, row.2)),
+            .then(value_read(&doc, &pointer, row.2))
+            .then(told(alloc, &doc, &pointer, row)),
         Err(PointerError::OutOfMemory) => Outcome::Wanted,
         Err(error) => match row.2 {
             Answer::Fault(wanted) => Outcome::of(error == wanted),
@@ -187,6 +210,89 @@ fn pointers_are_read_and_followed_with_each_request_refused_in_turn(
             row.0
         );
     }
+    Ok(())
+}
+
+/// The pointer of a node behind a `;`, where it has one.
+fn put_pointer<A: Allocator + Copy>(
+    alloc: A,
+    doc: &CstRootNode<A>,
+    node: CstNode,
+    told: &mut String<A>,
+) -> Outcome {
+    if !doc.holds(node) {
+        return Outcome::Other;
+    }
+    let pointer = match patch::pointer_of(doc, node) {
+        Ok(Some(pointer)) => pointer,
+        Ok(None) => return Outcome::Answered,
+        Err(error) => return Outcome::from(error),
+    };
+    let Ok(printed) = format!(in alloc; ";{pointer}") else {
+        return Outcome::Wanted;
+    };
+    match told.push_str(&printed) {
+        Ok(()) => Outcome::Answered,
+        Err(_) => Outcome::Wanted,
+    }
+}
+
+/// The pointers of all nodes of a document are these.
+fn all_told<A: Allocator + Copy>(alloc: A, text: &str, wanted: &str) -> Outcome {
+    let doc = match read(alloc, text) {
+        Ok(doc) => doc,
+        Err(outcome) => return outcome,
+    };
+    let mut told = String::new(alloc);
+    let mut outcome = Outcome::Answered;
+    for node in doc.descendants(doc.root().node()) {
+        outcome = outcome.then(put_pointer(alloc, &doc, node, &mut told));
+    }
+    match outcome {
+        Outcome::Answered => Outcome::of(told.as_str() == wanted),
+        other => other,
+    }
+}
+
+/// A value that left has no pointer.
+fn left<A: Allocator + Copy>(alloc: A) -> Outcome {
+    let mut doc = match read(alloc, "[1, [2]]") {
+        Ok(doc) => doc,
+        Err(outcome) => return outcome,
+    };
+    let Ok(pointer) = Pointer::parse(alloc, "/1/0") else {
+        return Outcome::Wanted;
+    };
+    let Ok(Some(node)) = patch::find(&doc, &pointer) else {
+        return Outcome::Other;
+    };
+    match node.remove(&mut doc) {
+        Ok(()) => {}
+        Err(error) => return Outcome::from(error),
+    }
+    match patch::pointer_of(&doc, node) {
+        Ok(told) => Outcome::of(told.is_none()),
+        Err(error) => Outcome::from(error),
+    }
+}
+
+#[test]
+fn nodes_have_pointers_where_one_refers_to_them_with_each_request_refused_in_turn(
+    rt: HostRuntime,
+) -> Result<(), Fail> {
+    let alloc = rt.alloc();
+    let rows = [
+        (TWICE, ";;/b;/b/0;/b/0/d"),
+        ("/*a*/ [{\"~/\": null}, -1] // b", ";;/0;/0/~0~1;/1"),
+        ("// none", ""),
+    ];
+    for (text, wanted) in rows {
+        assert!(rt;
+            refused_in_turn(alloc, |heap| all_told(heap, text, wanted)).is_some(),
+            "{text}"
+        );
+    }
+    assert!(rt; refused_in_turn(alloc, |heap| left(heap)).is_some());
     Ok(())
 }
 

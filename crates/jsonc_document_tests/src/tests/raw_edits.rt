@@ -5,7 +5,8 @@ use failing_alloc::awaited::prints;
 use failing_alloc::outcome::Outcome;
 use jsonc_parser::ParseStringErrorKind;
 use jsonc_parser::cst::{
-    CstContainerNode, CstInputValue, CstLeafNode, CstNode, CstRootNode, EditError, TypedNode,
+    CstContainerNode, CstInputValue, CstLeafNode, CstNode, CstRootNode, EditError, ParentNode,
+    TypedNode,
 };
 use std::alloc::{Allocator, Global};
 use std::test::Fail;
@@ -20,10 +21,12 @@ enum Damage {
     /// An array leaves, and then takes a number: it prints this.
     Array(&'static str),
     String,
+    /// The child of a property at a place leaves: it prints this.
+    Property(usize, &'static str),
 }
 
 /// Each with its name, the text, and the word that is written.
-static ROWS: [(Damage, &str, &str); 7] = [
+static ROWS: [(Damage, &str, &str); 9] = [
     (Damage::Comment, "[1 /*a*/]", "x"),
     (Damage::Bracket, "[1]", ""),
     (Damage::Comma, "[1,2]", ""),
@@ -31,6 +34,8 @@ static ROWS: [(Damage, &str, &str); 7] = [
     (Damage::Array("[1, 7]"), "[[1], 2]", "7"),
     (Damage::Array("[\r\n1,\n  7\r\n]"), "[[\r\n1\r\n], 2]", "7"),
     (Damage::String, "[\"a\"]", "abc"),
+    (Damage::Property(0, "{: \"a\"}"), "{a: \"a\"}", "b"),
+    (Damage::Property(1, "{\"a\" 1}"), "{\"a\": 1}", "b"),
 ];
 
 /// A comment that is no comment any more leaves as one.
@@ -122,6 +127,25 @@ fn string<A: Allocator + Copy>(doc: &mut CstRootNode<A>, word: String<A>) -> Out
     ))
 }
 
+/// A property without its name, or without its colon, gets no other name.
+fn property<A: Allocator + Copy>(
+    doc: &mut CstRootNode<A>,
+    word: String<A>,
+    place: usize,
+    wanted: &str,
+) -> Outcome {
+    let Some(CstNode::Container(CstContainerNode::ObjectProp(property))) = child_at(doc, 1) else {
+        return Outcome::Other;
+    };
+    let Some(child) = property.child_at_index(doc, place) else {
+        return Outcome::Other;
+    };
+    let removed = Outcome::of_answer(child.remove(doc), &());
+    let renamed = property.rename(doc, word.as_str());
+    let is_refused = matches!(renamed, Err(EditError::MissingName));
+    removed.then(Outcome::of(is_refused && prints(&*doc, wanted)))
+}
+
 fn damaged<A: Allocator + Copy>(doc: CstRootNode<A>, damage: Damage, word: String<A>) -> Outcome {
     let mut doc = doc;
     match damage {
@@ -131,6 +155,7 @@ fn damaged<A: Allocator + Copy>(doc: CstRootNode<A>, damage: Damage, word: Strin
         Damage::Element => element(&mut doc, word),
         Damage::Array(wanted) => array(&mut doc, word, wanted),
         Damage::String => string(&mut doc, word),
+        Damage::Property(place, wanted) => property(&mut doc, word, place, wanted),
     }
 }
 

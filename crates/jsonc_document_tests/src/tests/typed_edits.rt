@@ -1,8 +1,8 @@
 //! Edits on typed nodes: the text that each leaves, and the memory that it wants.
 
 use crate::tests::node_edits::NodeEdit::{
-    ArrayOrSet, ObjectOrSet, Remove, RemoveLeaf, RemoveName, RemoveValue, Replace, ReplaceName,
-    ReplaceProperty, SetFalse, SetLeaf, SetRaw, SetRawName, SetValue,
+    ArrayOrSet, ObjectOrSet, Remove, RemoveLeaf, RemoveName, RemoveValue, Rename, Replace,
+    ReplaceName, ReplaceProperty, SetFalse, SetLeaf, SetRaw, SetRawName, SetValue,
 };
 use crate::tests::node_edits::{NodeEdit, edit_node};
 use crate::tests::reading::{child_at, prepared};
@@ -29,8 +29,12 @@ type Row = (&'static str, TypedEdit, &'static str, &'static str);
 
 const TWO: &str = "{ \"a\": 1, \"b\": 2 }";
 
+const NOTED: &str = "{\n// c\n  a /*c*/ : /*d*/ 1 // e\n}";
+
+const RENAMED: &str = "{\n// c\n  \"b\" /*c*/ : /*d*/ 1 // e\n}";
+
 /// The edits that want memory.
-static WANTING: [Row; 14] = [
+static WANTING: [Row; 19] = [
     ("// c", Root(RootEdit::Set), "1", "// c\n1\n"),
     (TWO, At(5, ReplaceProperty), "3", "{ \"a\": 1, \"c\": 3 }"),
     ("// c\n", Root(RootEdit::Set), "1", "// c\n1\n"),
@@ -41,6 +45,11 @@ static WANTING: [Row; 14] = [
     ("[1[2]3]", At(2, Replace), "9", "[1 9 3]"),
     ("{a:1\"b\":2}", At(2, ReplaceName), "7", "{a:17:2}"),
     ("{a:[1]b:2}", At(1, SetValue), "7", "{a:7 b:2}"),
+    ("{a:1b:2}", At(2, Rename), "c", "{a:1\"c\":2}"),
+    ("{a:1b:2}", At(1, Rename), "c", "{\"c\":1b:2}"),
+    ("{0x1:1,}", At(1, Rename), "", "{\"\":1,}"),
+    (TWO, At(2, Rename), "\"\\", "{ \"\\\"\\\\\": 1, \"b\": 2 }"),
+    (NOTED, At(5, Rename), "b", RENAMED),
     ("[0x1true]", At(2, SetFalse), "", "[0x1 false]"),
     ("[1/*c*/2]", At(2, Remove), "", "[1 2]"),
     ("[1[2]3]", At(2, Remove), "", "[1 3]"),

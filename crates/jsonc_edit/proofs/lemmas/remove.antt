@@ -20,3 +20,8 @@ pub mod Entries
 pub mod RemovedElement
 pub mod RemovedValue
 pub mod Roots
+pub mod ClearedComments
+pub mod PartedTrivia
+pub mod ClearedStretches
+pub mod ClearedSteps
+pub mod CommentsGone

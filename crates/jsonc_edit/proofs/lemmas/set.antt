@@ -16,3 +16,7 @@ pub mod PropertyValue
 pub mod LastChild
 pub mod PropertyKinds
 pub mod Shaped
+pub mod Renaming
+pub mod RenamedTrees
+pub mod RenamedProperty
+pub mod RenamedPlace

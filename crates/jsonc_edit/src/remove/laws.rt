@@ -4,6 +4,7 @@ ghost use Rattle.jsonc_text.specs.Options.{Options};
 ghost use Rattle.jsonc_tree.specs.OrderedTree.{OrderedTree};
 ghost use Rattle.jsonc_tree.specs.Tree.{Node};
 ghost use Rattle.jsonc_tree.specs.OrderedTree.{Top};
+ghost use Rattle.jsonc_edit.specs.remove.CommentLaws.{ClearsComments};
 ghost use Rattle.jsonc_edit.specs.remove.Laws.{RemovesEntry, RemovesValue, TakesEntry, TakesValue};
 
 /// Where an element of a container at a path of a sound document is taken out, spaces come where two
@@ -20,4 +21,11 @@ pub fn removed_elements_are_gone()
     ensures entry { (o : Options) (t u : OrderedTree) (path : List ℕ) (i : ℕ) (top : Top)
         → RemovesEntry o t u path i top }
     ensures value { (o : Options) (t u : OrderedTree) (top : Top) → RemovesValue o t u top }
+{}
+
+/// Where comments of an array or object of a sound document leave, the text is a document again, with the
+/// value that it had, or none as before; of its leaves comments alone have left, with whitespace and ends of
+/// lines beside them; and the document is sound. It is so under all options.
+pub fn comments_are_cleared()
+    ensures { (o : Options) (old new : List Node) (c : ℕ) (ns : List ℕ) → ClearsComments o old new c ns }
 {}

@@ -124,7 +124,7 @@ fn take_child<A: Allocator>(tree: &mut Tree<A>, container: usize, child: Option<
 }
 
 // Whether it is this node.
-fn is_node(found: Option<usize>, node: usize) -> bool
+pub(crate) fn is_node(found: Option<usize>, node: usize) -> bool
     ensures { result ≡ is_node found node }
 {
     match found {
@@ -194,7 +194,7 @@ fn empty<A: Allocator>(tree: &mut Tree<A>, container: usize)
 }
 
 // Takes blanks out that are left alone between a container's brackets, or in the root.
-fn close_up<A: Allocator>(tree: &mut Tree<A>, container: usize)
+pub(crate) fn close_up<A: Allocator>(tree: &mut Tree<A>, container: usize)
     requires in_tree { container < length tree.old.nodes }
     requires container { IsTrue (is_container_at tree.old.nodes container) }
     ensures closed { IsClosedUp tree.old.nodes tree.new.nodes container }

@@ -3,9 +3,10 @@
 ghost use Rattle.std.specs.Prelude.{Bool, List, ℕ};
 ghost use Rattle.jsonc_text.specs.Options.{Options};
 ghost use Rattle.jsonc_text.specs.Plain.{Plain};
-ghost use Rattle.jsonc_tree.specs.Tree.{Node};
+ghost use Rattle.jsonc_tree.specs.Tree.{IsTree, Node};
 ghost use Rattle.jsonc_edit.specs.set.Booleans.{StaysAtPath, WritesBoolean};
 ghost use Rattle.jsonc_edit.specs.set.Laws.{ComesAmongRows, GivesFirstValue, LeavesBareDocument};
+ghost use Rattle.jsonc_edit.specs.set.Names.{HasNewName, IsMarkedForName, IsRenamed, KeepsPropertysPlace, StaysAroundName, WritesName};
 ghost use Rattle.jsonc_edit.specs.set.Properties.{TakesPropertysPlace, WritesProperty};
 
 /// Where a first value has come into a sound document that had none, and each number in it is a number,
@@ -44,4 +45,21 @@ pub fn set_booleans_are_written()
     ensures written { (o : Options) (old new : List Node) (path : List ℕ) (n : ℕ) (b : Bool)
         → WritesBoolean o old new path n b }
     ensures place { (old new : List Node) (path : List ℕ) (n : ℕ) (b : Bool) → StaysAtPath old new path n b }
+{}
+
+/// Where a property of an object at a path of a sound document was given another name, the text is a
+/// document again, and its value is the old one but for that name; and the document is sound. It is so
+/// under all options. In every document, also one that is not sound, that name alone is another: all
+/// leaves around it stay, in order, and all other literals and comments. The object and the property
+/// are where they were, and the new name is the property's.
+pub fn properties_are_renamed()
+    ensures written { (o : Options) (old new : List Node) (path : List ℕ) (c i p m : ℕ) (name : List ℕ)
+        → WritesName o old new path c i p m name }
+    ensures around { (old new : List Node) (p m : ℕ) (name : List ℕ)
+        → IsTree old → IsRenamed old new p name m → StaysAroundName old new p name }
+    ensures marked { (old new : List Node) (p m : ℕ) (name : List ℕ)
+        → IsTree old → IsRenamed old new p name m → IsMarkedForName old new p name }
+    ensures place { (old new : List Node) (path : List ℕ) (c i p m : ℕ) (name : List ℕ)
+        → KeepsPropertysPlace old new path c i p m name }
+    ensures name { (old new : List Node) (p m : ℕ) (name : List ℕ) → HasNewName old new p m name }
 {}

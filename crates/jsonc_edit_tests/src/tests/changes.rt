@@ -35,6 +35,7 @@ pub enum Change {
     /// A property of a name and a value.
     Property(Way, &'static str, &'static str),
     EnsureProperty(&'static str, Shape, Over),
+    RenameProperty(&'static str),
 }
 
 /// An edit of a list: its path, and what it does there.
@@ -88,6 +89,9 @@ fn edit_at<A: Allocator + Copy>(
         Change::EnsureProperty(name, shape, over) => {
             let name = String::from_str(alloc, name)?;
             Ok(Edit::EnsureProperty(path, name, shape, over))
+        }
+        Change::RenameProperty(name) => {
+            Ok(Edit::RenameProperty(path, String::from_str(alloc, name)?))
         }
     }
 }

@@ -25,7 +25,7 @@ const SET: &str = "[\n  1,\n  {\"a\": [2]},\n]";
 type OneEdit = (Memory, Step, &'static str, &'static str);
 
 /// A removal wants memory for a space that is due alone.
-static SINGLE: [OneEdit; 23] = [
+static SINGLE: [OneEdit; 26] = [
     (
         Memory::Some,
         (&[], Change::RemoveComment(0)),
@@ -49,6 +49,24 @@ static SINGLE: [OneEdit; 23] = [
         (&[0], Change::SetValue("1")),
         "{a:[2]b:2}",
         "{a:1 b:2}",
+    ),
+    (
+        Memory::Some,
+        (&[1], Change::RenameProperty("c")),
+        "{a:1b:2}",
+        "{a:1\"c\":2}",
+    ),
+    (
+        Memory::Some,
+        (&[0], Change::RenameProperty("\"\\\n")),
+        "{ /*c*/ 'a' // d\n: 1}",
+        "{ /*c*/ \"\\\"\\\\\\n\" // d\n: 1}",
+    ),
+    (
+        Memory::Some,
+        (&[1, 0], Change::RenameProperty("a")),
+        "[{a:1},{a:1},]",
+        "[{a:1},{\"a\":1},]",
     ),
     (Memory::Some, (&[0], FALSE), "[true-1]", "[false-1]"),
     (Memory::Some, (&[1], FALSE), "[0x1true]", "[0x1 false]"),
@@ -133,7 +151,7 @@ const APPENDED: [Step; 3] = [
     (&[], Change::Value(Way::Append, "4")),
 ];
 
-pub static ROWS: [Row; 9] = [
+pub static ROWS: [Row; 11] = [
     (
         Edits::List(&[
             (&[0, 0], Change::EnsureValue(Shape::Object)),
@@ -176,6 +194,24 @@ pub static ROWS: [Row; 9] = [
         ]),
         "[{\"a\": [1, 2]}]",
         &["[{\"a\": [1]}]", "[{\"a\": 1}]"],
+    ),
+    (
+        Edits::List(&[
+            (&[0], Change::RenameProperty("b")),
+            (&[0, 0], Change::RenameProperty("c")),
+            (
+                &[],
+                Change::EnsureProperty("b", Shape::Array, Over::Replace),
+            ),
+        ]),
+        "{\"a\": {d:1}}",
+        &["{\"b\": {d:1}}", "{\"b\": {\"c\":1}}", "{\"b\": []}"],
+    ),
+    // An element has no name.
+    (
+        Edits::List(&[(&[0], Change::RenameProperty("a"))]),
+        "[1]",
+        &[],
     ),
     (Edits::List(&[(&[], SET_COMMAS)]), "1", &[]),
     (Edits::List(&[(&[], Change::Sort(false, false))]), "1", &[]),

@@ -4,7 +4,7 @@ use crate::tests::reading::{read, value_of};
 use failing_alloc::in_turn::refused_in_turn;
 use failing_alloc::outcome::Outcome;
 use jsonc_parser::cst::{CstLeafNode, CstNode, CstRootNode, EditError, Over, TypedNode};
-use jsonc_parser::settings::{find_at, read_at, remove_at, set_at};
+use jsonc_parser::settings::{find_at, read_at, remove_at, set_at, set_last_at};
 use std::alloc::Allocator;
 use std::test::Fail;
 
@@ -13,6 +13,8 @@ use std::test::Fail;
 enum Call<'a> {
     /// The value of a text is put there.
     Put(&'a str, Over),
+    /// The same, where of equal names the last leads on.
+    PutLast(&'a str, Over),
     /// What stands there leaves.
     Drop,
     /// What stands there is printed.
@@ -25,7 +27,7 @@ type Row<'a> = (&'a [&'a str], Call<'a>, &'a str, Option<&'a str>);
 
 const KEEP: Over = Over::Keep;
 
-static ROWS: [Row; 18] = [
+static ROWS: [Row; 24] = [
     (
         &["a", "b"],
         Call::Put("2", KEEP),
@@ -56,6 +58,42 @@ static ROWS: [Row; 18] = [
         Call::Put("3", KEEP),
         "{\"a\":1,\"a\":2}",
         Some("{\"a\":3,\"a\":2}"),
+    ),
+    (
+        &["a"],
+        Call::PutLast("3", KEEP),
+        "{\"a\":1,\"a\":2}",
+        Some("{\"a\":1,\"a\":3}"),
+    ),
+    (
+        &["a"],
+        Call::PutLast("3", KEEP),
+        "{\"a\":1,\"\\u0061\":2, \"b\":0}",
+        Some("{\"a\":1,\"\\u0061\":3, \"b\":0}"),
+    ),
+    (
+        &["a", "b"],
+        Call::PutLast("3", KEEP),
+        "{\"a\":{\"b\":0},\"a\":{\"b\":1,\"b\":2}}",
+        Some("{\"a\":{\"b\":0},\"a\":{\"b\":1,\"b\":3}}"),
+    ),
+    (
+        &["a", "b"],
+        Call::PutLast("3", KEEP),
+        "{\"a\":{\"b\":0},\"a\":2}",
+        None,
+    ),
+    (
+        &["a", "b"],
+        Call::PutLast("3", KEEP),
+        "{\"a\":2,\"a\":{\"b\":0}}",
+        Some("{\"a\":2,\"a\":{\"b\":3}}"),
+    ),
+    (
+        &["a"],
+        Call::PutLast("3", KEEP),
+        "",
+        Some("{\n  \"a\": 3\n}\n"),
     ),
     (&[], Call::Put("2", KEEP), "[1]", Some("2")),
     (&["0"], Call::Put("2", KEEP), "[1]", None),
@@ -157,6 +195,13 @@ fn at_names<A: Allocator + Copy>(alloc: A, doc: CstRootNode<A>, row: &Row<'_>) -
                 return Outcome::Wanted;
             };
             let made = set_at(&mut doc, &names, value, over);
+            changed(&doc, row, made)
+        }
+        Call::PutLast(json, over) => {
+            let Ok(value) = value_of(alloc, json) else {
+                return Outcome::Wanted;
+            };
+            let made = set_last_at(&mut doc, &names, value, over);
             changed(&doc, row, made)
         }
         Call::Drop => {

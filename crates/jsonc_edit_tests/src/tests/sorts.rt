@@ -32,6 +32,8 @@ pub enum By {
     Refused(EditError),
     /// Properties by their names, where blank lines may pin the comments above.
     Name(bool),
+    /// The same, where the comments above the last blank line are pinned.
+    NameUnderHeaders,
 }
 
 /// The text of a number, or of a property's name, or nothing of another node.
@@ -96,7 +98,7 @@ fn sort_array<A: Allocator + Copy>(
         By::Refused(error) => sort.by_key(doc, move |_: &CstRootNode<_>, _: CstNode| {
             Err::<usize, EditError>(error)
         }),
-        By::Name(_) => Err(EditError::NoSuchPlace),
+        By::Name(_) | By::NameUnderHeaders => Err(EditError::NoSuchPlace),
     }
 }
 
@@ -122,6 +124,7 @@ fn sort_object<A: Allocator + Copy>(
         }
         By::Name(true) => sort.pin_comment_headers().by_key(doc, name),
         By::Name(false) => sort.by_key(doc, name),
+        By::NameUnderHeaders => sort.keep_headers().by_key(doc, name),
         _ => Err(EditError::NoSuchPlace),
     }
 }
@@ -155,9 +158,14 @@ const MOVED: &str = "{\n  // x\n  \"a\": 2,\n  // h\n\n  \"b\": 1\n}";
 
 const PINNED: &str = "{\n  // h\n\n  // x\n  \"a\": 2,\n  \"b\": 1\n}";
 
+/// A header, and a comment about the first property below it; and the same in order, with the header kept.
+const OWN: &str = "{\n  // h\n\n  // b\n  \"b\": 1,\n  \"a\": 2\n}";
+
+const KEPT: &str = "{\n  // h\n\n  \"a\": 2,\n  // b\n  \"b\": 1\n}";
+
 const BESIDE: &str = "{\"b\": 1, // one\n \"a\": 2}";
 
-static ROWS: [(By, &str, &str); 14] = [
+static ROWS: [(By, &str, &str); 16] = [
     (By::FirstCharacter, "[11, 0, 10]", "[0, 11, 10]"),
     (By::Text, "[2,\n\n 1]", "[1,\n 2]"),
     (By::Text, "[2, \n 1 // c\n]", "[1, // c \n 2\n]"),
@@ -172,6 +180,12 @@ static ROWS: [(By, &str, &str); 14] = [
     (By::Name(false), BESIDE, "{\"a\": 2,\n \"b\": 1 // one\n}"),
     (By::Text, BESIDE, "{\"a\": 2,\n \"b\": 1 // one\n}"),
     (By::Text, NAMED, MOVED),
+    (By::NameUnderHeaders, OWN, KEPT),
+    (
+        By::NameUnderHeaders,
+        BESIDE,
+        "{\"a\": 2,\n \"b\": 1 // one\n}",
+    ),
 ];
 
 #[test]

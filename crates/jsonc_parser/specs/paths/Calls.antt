@@ -1,82 +1,96 @@
 -- What is put at names in a document, and what is dropped from it, by one edit.
-use Rattle.std.specs.Prelude.{◌≡◌, ◌∷◌, [], ℕ, Bool, true, false, List}
+use Rattle.std.specs.Prelude.{◌≡◌, ◌∷◌, [], ℕ, Bool, true, false, List, Option, option_map}
 use Rattle.jsonc_text.specs.Documents.{Document}
-use Rattle.jsonc_run.specs.texts.Edits.{Run}
-use Rattle.jsonc_text.specs.Plain.{Plain}
+use Rattle.jsonc_run.specs.texts.Edits.{Operation, Run}
+use Rattle.jsonc_text.specs.Grammar.{IsDocument}
+use Rattle.jsonc_text.specs.Plain.{Plain, collapse}
 use Rattle.jsonc_tree.specs.OrderedTree.{ordered_tree}
 use Rattle.jsonc_tree.specs.Tree.{Node, IsTree}
 use Rattle.jsonc_sound.specs.Documents.{Shows}
+use Rattle.jsonc_sound.specs.Shape.{printed_text}
 use Rattle.jsonc_edit.specs.Writing.{IsOfNumbers}
 use Rattle.jsonc_text.specs.declared.edit.EditError.{EditError}
 use Rattle.jsonc_text.specs.declared.edit.EditError.TheVariants.{OutOfMemory}
 use Rattle.jsonc_text.specs.declared.edit.Over.{Over}
-use Rattle.jsonc_run.specs.Edits.{EditStep, Operation}
+use Rattle.jsonc_run.specs.Edits.{EditStep, PlainEdit, IsOfCharacters}
 use Rattle.jsonc_run.specs.Refusals.{FailsWith}
-use Rattle.jsonc_run.specs.Steps.{IsOfCharacters}
-use Rattle.jsonc_run.specs.promise.Words.{in_texts}
+use Rattle.jsonc_run.specs.Named.{Asks}
 use Rattle.jsonc_parser.specs.paths.Laws.{IsSameElsewhere, MustStay}
 use Rattle.jsonc_parser.specs.paths.Positions.{IsDroppedBy, IsPutBy}
 use Rattle.jsonc_parser.specs.paths.Settings.{At, Dropped, Put}
 use Rattle.jsonc_parser.specs.paths.Standing.{NamesNothing}
+use Rattle.jsonc_parser.specs.paths.Which.{seen, seen_if}
+use Rattle.jsonc_parser.specs.declared.paths.which.Which.{Which}
+use Rattle.jsonc_parser.specs.declared.paths.which.Which.TheVariants.{First}
 
--- One edit leads from d to e, and in the value of e v is put at the names: there v stands, and at any path that differs what stood there before.
-pub record IsPutIn (d : Document) (v : Plain) (over : Over) (names : List (List ℕ)) (operation : Operation) (e : Document) : Type 0 where
-  pub edited : Run d (in_texts operation ∷ []) e
-  pub put : Put v over d.value names e.value
-  pub there : At e.value names v
-  pub elsewhere : IsSameElsewhere names d.value e.value
+-- One edit leads from d to e, and in the value of e, as it is seen, v is put at the names: there v stands, and at any path that differs what stood there before.
+pub record IsPutIn (which : Which) (d : Document) (v : Plain) (over : Over) (names : List (List ℕ)) (edit : PlainEdit) (e : Document) : Type 0 where
+  pub op : Operation
+  pub asked : Asks d.value edit op
+  pub edited : Run d (op ∷ []) e
+  pub put : Put (seen which v) over (seen_if which d.value) names (seen_if which e.value)
+  pub there : At (seen_if which e.value) names (seen which v)
+  pub elsewhere : IsSameElsewhere names (seen_if which d.value) (seen_if which e.value)
 
 -- One edit leads from d to e, and of the value of e what stood at the names is dropped; at any path that differs stands what stood there before.
-pub record IsDroppedIn (d : Document) (names : List (List ℕ)) (operation : Operation) (e : Document) : Type 0 where
-  pub edited : Run d (in_texts operation ∷ []) e
+pub record IsDroppedIn (d : Document) (names : List (List ℕ)) (edit : PlainEdit) (e : Document) : Type 0 where
+  pub op : Operation
+  pub asked : Asks d.value edit op
+  pub edited : Run d (op ∷ []) e
   pub dropped : Dropped d.value names e.value
   pub elsewhere : IsSameElsewhere names d.value e.value
 
 -- Of a document that the old nodes show: the one edit was made that puts v at the names, and nothing had to stay; if the numbers of v are numbers of the options, it is
 -- put so in a document that the new nodes show. Or nothing was made, since a value of another kind stands in the way, and is to stay.
-abbrev pub PutsAt : Document → Plain → Over → List (List ℕ) → List Node → List Node → Bool → Type 0
-PutsAt d v over names old new true =
-    ¬ (MustStay over d.value names) × (operation : Operation) × IsPutBy v over d.value names operation × EditStep old operation new
-    × (IsOfNumbers d.options v → (e : Document) × Shows e (ordered_tree new 0) × IsPutIn d v over names operation e)
-PutsAt d v over names old new false = (new ≡ old) × MustStay over d.value names
+abbrev pub PutsAt : Which → Document → Plain → Over → List (List ℕ) → List Node → List Node → Bool → Type 0
+PutsAt which d v over names old new true =
+    ¬ (MustStay over (seen_if which d.value) names) × (edit : PlainEdit) × IsPutBy which v over d.value names edit × EditStep old edit new
+    × (IsOfNumbers d.options v → (e : Document) × Shows e (ordered_tree new 0) × IsPutIn which d v over names edit e)
+PutsAt which d v over names old new false = (new ≡ old) × MustStay over (seen_if which d.value) names
 
 -- Of a document that the old nodes show: the one edit was made that drops what stands at the names, and it is dropped so from a document that the new nodes show; or
 -- nothing was made, since nothing stands there.
 abbrev pub DropsAt : Document → List (List ℕ) → List Node → List Node → Bool → Type 0
-DropsAt d names old new true = (operation : Operation) × IsDroppedBy d.value names operation × EditStep old operation new × (e : Document) × Shows e (ordered_tree new 0) × IsDroppedIn d names operation e
-DropsAt d names old new false = (new ≡ old) × NamesNothing d names
+DropsAt d names old new true = (edit : PlainEdit) × IsDroppedBy d.value names edit × EditStep old edit new × (e : Document) × Shows e (ordered_tree new 0) × IsDroppedIn d names edit e
+DropsAt d names old new false = (new ≡ old) × NamesNothing First d names
 
 -- Whatever the nodes show, and where they show nothing: one edit was made, or none where the answer is false.
 abbrev pub MakesOneEdit : List Node → List Node → Bool → Type 0
-MakesOneEdit old new true = (operation : Operation) × EditStep old operation new
+MakesOneEdit old new true = (edit : PlainEdit) × EditStep old edit new
 MakesOneEdit old new false = new ≡ old
 
 -- so it is of whatever document the old nodes show
-abbrev pub PutsWhatShown : Plain → Over → List (List ℕ) → List Node → List Node → Bool → Type 0
-PutsWhatShown v over names old new done = (d : Document) → Shows d (ordered_tree old 0) → PutsAt d v over names old new done
+abbrev pub PutsWhatShown : Which → Plain → Over → List (List ℕ) → List Node → List Node → Bool → Type 0
+PutsWhatShown which v over names old new done = (d : Document) → Shows d (ordered_tree old 0) → PutsAt which d v over names old new done
 
 abbrev pub DropsWhatShown : List (List ℕ) → List Node → List Node → Bool → Type 0
 DropsWhatShown names old new done = (d : Document) → Shows d (ordered_tree old 0) → DropsAt d names old new done
+
+-- A value was put: what the text that was made is read as, with equal names collapsed, has it at the names, in which alone there is one of each.
+abbrev pub IsReadThere : Plain → List (List ℕ) → List Node → List Node → Bool → Type 0
+IsReadThere v names old new true = (d : Document) → Shows d (ordered_tree old 0) → IsOfNumbers d.options v
+    → (w : Option Plain) → IsDocument d.options (printed_text (ordered_tree new 0)) w → At (option_map collapse w) names (collapse v)
+IsReadThere v names old new false = Unit {0}
 
 -- of a document that the nodes show memory alone is wanted
 abbrev pub WantsMemory : List Node → EditError → Type 0
 WantsMemory old why = (d : Document) → Shows d (ordered_tree old 0) → why ≡ OutOfMemory
 
 -- where the one edit that puts the value was made, or that drops what stands there
-abbrev pub PutsByOneEdit : Document → Plain → Over → List (List ℕ) → Operation → List Node → List Node → Type 0
-PutsByOneEdit d v over names operation old new =
-    IsTree old → IsTree new → Shows d (ordered_tree old 0) → IsPutBy v over d.value names operation → IsOfCharacters operation → EditStep old operation new
-    → PutsAt d v over names old new true
+abbrev pub PutsByOneEdit : Which → Document → Plain → Over → List (List ℕ) → PlainEdit → List Node → List Node → Type 0
+PutsByOneEdit which d v over names edit old new =
+    IsTree old → IsTree new → Shows d (ordered_tree old 0) → IsPutBy which v over d.value names edit → IsOfCharacters edit → EditStep old edit new
+    → PutsAt which d v over names old new true
 
-abbrev pub DropsByOneEdit : Document → List (List ℕ) → Operation → List Node → List Node → Type 0
-DropsByOneEdit d names operation old new =
-    IsTree old → IsTree new → Shows d (ordered_tree old 0) → IsDroppedBy d.value names operation → EditStep old operation new → DropsAt d names old new true
+abbrev pub DropsByOneEdit : Document → List (List ℕ) → PlainEdit → List Node → List Node → Type 0
+DropsByOneEdit d names edit old new =
+    IsTree old → IsTree new → Shows d (ordered_tree old 0) → IsDroppedBy d.value names edit → EditStep old edit new → DropsAt d names old new true
 
 -- where it was refused, allocation failed
-abbrev pub PutsUnlessOutOfMemory : Document → Plain → Over → List (List ℕ) → Operation → List Node → EditError → Type 0
-PutsUnlessOutOfMemory d v over names operation old why =
-    IsTree old → Shows d (ordered_tree old 0) → IsPutBy v over d.value names operation → FailsWith old operation why → why ≡ OutOfMemory
+abbrev pub PutsUnlessOutOfMemory : Which → Document → Plain → Over → List (List ℕ) → PlainEdit → List Node → EditError → Type 0
+PutsUnlessOutOfMemory which d v over names edit old why =
+    IsTree old → Shows d (ordered_tree old 0) → IsPutBy which v over d.value names edit → FailsWith old edit why → why ≡ OutOfMemory
 
-abbrev pub DropsButForMemory : Document → List (List ℕ) → Operation → List Node → EditError → Type 0
-DropsButForMemory d names operation old why =
-    IsTree old → Shows d (ordered_tree old 0) → IsDroppedBy d.value names operation → FailsWith old operation why → why ≡ OutOfMemory
+abbrev pub DropsButForMemory : Document → List (List ℕ) → PlainEdit → List Node → EditError → Type 0
+DropsButForMemory d names edit old why =
+    IsTree old → Shows d (ordered_tree old 0) → IsDroppedBy d.value names edit → FailsWith old edit why → why ≡ OutOfMemory

@@ -11,12 +11,14 @@ use Rattle.jsonc_cst.specs.Document.{tree_of}
 use Rattle.jsonc_parser.specs.paths.Laws.{MustStay}
 use Rattle.jsonc_parser.specs.paths.Positions.{IsPutBy}
 use Rattle.jsonc_parser.specs.paths.Settings.{nest}
+use Rattle.jsonc_parser.specs.paths.Which.{seen_if}
+use Rattle.jsonc_parser.specs.declared.paths.which.Which.{Which}
 
 module _ {A : Type 0} where
   -- the edit puts v at the names in whatever document the tree shows; or none does, since a value of another kind stands in the way and is to stay
-  abbrev pub Chooses : CstRootNode A → Plain → Over → List (List ℕ) → Option (Edit A) → Type 0
-  Chooses doc v over names None = (d : Document) → Shows d (tree_of doc) → MustStay over d.value names
-  Chooses doc v over names (Some edit) = (is_whole edit ≡ true) × ((d : Document) → Shows d (tree_of doc) → IsPutBy v over d.value names (operation_of unsorted edit))
+  abbrev pub Chooses : Which → CstRootNode A → Plain → Over → List (List ℕ) → Option (Edit A) → Type 0
+  Chooses which doc v over names None = (d : Document) → Shows d (tree_of doc) → MustStay over (seen_if which d.value) names
+  Chooses which doc v over names (Some edit) = (is_whole edit ≡ true) × ((d : Document) → Shows d (tree_of doc) → IsPutBy which v over d.value names (operation_of unsorted edit))
 
   -- the edit appends a property of the name of this number to the object at the path, with the rest nested
   abbrev pub IsAppending : List ℕ → List (List ℕ) → ℕ → Plain → Option (Edit A) → Type 0

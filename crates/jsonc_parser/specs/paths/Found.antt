@@ -12,6 +12,7 @@ use Rattle.jsonc_cst.specs.Document.{nodes_of, tree_of}
 use Rattle.jsonc_cst.specs.Nodes.{number_of}
 use Rattle.jsonc_parser.specs.paths.Settings.{At}
 use Rattle.jsonc_parser.specs.paths.Standing.{NamesNode, NamesNothing}
+use Rattle.jsonc_parser.specs.declared.paths.which.Which.TheVariants.{First}
 
 module _ {A : Type 0} where
   -- the characters of names
@@ -20,8 +21,8 @@ module _ {A : Type 0} where
 
   -- the node of what stands at the names was found; or none, where nothing stands there
   abbrev pub Finds : Document → CstRootNode A → List (List ℕ) → Option CstNode → Type 0
-  Finds d doc names None = NamesNothing d names
-  Finds d doc names (Some node) = NamesNode d (nodes_of doc) names (number_of node)
+  Finds d doc names None = NamesNothing First d names
+  Finds d doc names (Some node) = NamesNode First d (nodes_of doc) names (number_of node)
 
   -- so it is in whatever document the tree shows
   abbrev pub FindsWhatShown : CstRootNode A → List (List ℕ) → Option CstNode → Type 0
@@ -29,16 +30,16 @@ module _ {A : Type 0} where
 
   -- one name further: nothing stands at the names with it, or at any that go on behind them
   abbrev pub FindsInside : Document → CstRootNode A → List (List ℕ) → List ℕ → Option CstNode → Type 0
-  FindsInside d doc names name None = (rest : List (List ℕ)) → NamesNothing d (names ++ name ∷ rest)
-  FindsInside d doc names name (Some node) = NamesNode d (nodes_of doc) (names ++ name ∷ []) (number_of node)
+  FindsInside d doc names name None = (rest : List (List ℕ)) → NamesNothing First d (names ++ name ∷ rest)
+  FindsInside d doc names name (Some node) = NamesNode First d (nodes_of doc) (names ++ name ∷ []) (number_of node)
 
   abbrev pub FindsInsideWhatShown : CstRootNode A → CstNode → List ℕ → Option CstNode → Type 0
   FindsInsideWhatShown doc node name found = (d : Document) (names : List (List ℕ)) → Shows d (tree_of doc)
-      → NamesNode d (nodes_of doc) names (number_of node) → FindsInside d doc names name found
+      → NamesNode First d (nodes_of doc) names (number_of node) → FindsInside d doc names name found
 
   -- what was taken stands for the value at the names, of equal names the last at the first place; none was taken where nothing stands there
   abbrev pub Reads : Document → List (List ℕ) → Option (CstInputValue A) → Type 0
-  Reads d names None = NamesNothing d names
+  Reads d names None = NamesNothing First d names
   Reads d names (Some taken) = (v : Plain) × At d.value names v × (plain taken ≡ collapse v)
 
   abbrev pub ReadsWhatShown : CstRootNode A → List (List ℕ) → Option (CstInputValue A) → Type 0

@@ -11,15 +11,18 @@ use Rattle.jsonc_text.specs.declared.edit.Over.{Over}
 use Rattle.jsonc_parser.specs.paths.Laws.{MustStay}
 use Rattle.jsonc_parser.specs.paths.Settings.{At, StandsInTheWay}
 use Rattle.jsonc_parser.specs.paths.Standing.{NamesNode}
+use Rattle.jsonc_parser.specs.paths.Which.{seen_if}
+use Rattle.jsonc_parser.specs.declared.paths.which.Which.{Which}
+use Rattle.jsonc_parser.specs.declared.paths.which.Which.TheVariants.{First}
 
 -- The names before one of these lead to an object that has a name with a backslash: to look up the next one there may take memory.
-pub record PassesEscaped (d : Document) (ns : List Node) (names : List (List ℕ)) : Type 0 where
+pub record PassesEscaped (which : Which) (d : Document) (ns : List Node) (names : List (List ℕ)) : Type 0 where
   pub front : List (List ℕ)
   pub name : List ℕ
   pub rest : List (List ℕ)
   pub split : names ≡ front ++ name ∷ rest
   pub object : ℕ
-  pub leads : NamesNode d ns front object
+  pub leads : NamesNode which d ns front object
   pub escaped : HoldsEscapedName ns object
 
 -- something stands at the names
@@ -27,21 +30,21 @@ abbrev pub SomethingAt : Option Plain → List (List ℕ) → Type 0
 SomethingAt w names = (v : Plain) × At w names v
 
 -- allocation failed to look up a name, in whatever document the nodes show
-abbrev pub WantsToLookUp : List Node → List (List ℕ) → Type 0
-WantsToLookUp ns names = (d : Document) → Shows d (ordered_tree ns 0) → PassesEscaped d ns names
+abbrev pub WantsToLookUp : Which → List Node → List (List ℕ) → Type 0
+WantsToLookUp which ns names = (d : Document) → Shows d (ordered_tree ns 0) → PassesEscaped which d ns names
 
 -- it was so, or something stands at the names, for which it was wanted
 abbrev pub WantsForSomething : List Node → List (List ℕ) → Type 0
-WantsForSomething ns names = (d : Document) → Shows d (ordered_tree ns 0) → PassesEscaped d ns names ⊎ SomethingAt d.value names
+WantsForSomething ns names = (d : Document) → Shows d (ordered_tree ns 0) → PassesEscaped First d ns names ⊎ SomethingAt d.value names
 
 -- it was so, or nothing is in the way that is to stay, and a value can be put there
-abbrev pub WantsToPut : Over → List Node → List (List ℕ) → Type 0
-WantsToPut over ns names = (d : Document) → Shows d (ordered_tree ns 0) → PassesEscaped d ns names ⊎ ¬ (MustStay over d.value names)
+abbrev pub WantsToPut : Which → Over → List Node → List (List ℕ) → Type 0
+WantsToPut which over ns names = (d : Document) → Shows d (ordered_tree ns 0) → PassesEscaped which d ns names ⊎ ¬ (MustStay over (seen_if which d.value) names)
 
 -- whether a value of another kind than an object stands in the way
-abbrev pub TellsTheWay : List Node → List (List ℕ) → Bool → Type 0
-TellsTheWay ns names b = (d : Document) → Shows d (ordered_tree ns 0) → Decides b (StandsInTheWay d.value names)
+abbrev pub TellsTheWay : Which → List Node → List (List ℕ) → Bool → Type 0
+TellsTheWay which ns names b = (d : Document) → Shows d (ordered_tree ns 0) → Decides b (StandsInTheWay (seen_if which d.value) names)
 
 -- and whether it is to stay
-abbrev pub TellsWhatStays : Over → List Node → List (List ℕ) → Bool → Type 0
-TellsWhatStays over ns names b = (d : Document) → Shows d (ordered_tree ns 0) → Decides b (MustStay over d.value names)
+abbrev pub TellsWhatStays : Which → Over → List Node → List (List ℕ) → Bool → Type 0
+TellsWhatStays which over ns names b = (d : Document) → Shows d (ordered_tree ns 0) → Decides b (MustStay over (seen_if which d.value) names)

@@ -12,39 +12,40 @@ use Rattle.jsonc_cst.specs.Nodes.{number_of}
 use Rattle.jsonc_parser.specs.paths.Settings.{IsNoObject}
 use Rattle.jsonc_parser.specs.paths.Positions.{Leads}
 use Rattle.jsonc_parser.specs.paths.Standing.{NamesNode}
+use Rattle.jsonc_parser.specs.declared.paths.which.Which.{Which}
 use Rattle.jsonc_parser.specs.declared.paths.reached.Reached.{Reached}
 use Rattle.jsonc_parser.specs.declared.paths.reached.Reached.TheVariants.{Nothing, Value, Missing, Another}
 use Rattle.jsonc_parser.specs.declared.paths.reached.Step.{Step}
 use Rattle.jsonc_parser.specs.declared.paths.reached.Step.TheVariants as steps
 
 -- where a name leads from a node that names lead to: over a position to the value there; nowhere, as the object lacks the name; or nowhere, as it is no object
-abbrev pub Steps : (d : Document) (ns : List Node) (names : List (List ℕ)) (n : ℕ) (name : List ℕ) → NamesNode d ns names n → Step → Type 0
-Steps d ns names n name w (steps.On index node) = (further : NamesNode d ns (names ++ name ∷ []) (number_of node)) × (further.path ≡ w.path ++ index ∷ [])
-Steps d ns names n name w steps.Missing = (ms : Members) × (w.v ≡ object ms) × LacksMember name ms
-Steps d ns names n name w steps.Another = IsNoObject w.v
+abbrev pub Steps : (which : Which) (d : Document) (ns : List Node) (names : List (List ℕ)) (n : ℕ) (name : List ℕ) → NamesNode which d ns names n → Step → Type 0
+Steps which d ns names n name w (steps.On index node) = (further : NamesNode which d ns (names ++ name ∷ []) (number_of node)) × (further.path ≡ w.path ++ index ∷ [])
+Steps which d ns names n name w steps.Missing = (ms : Members) × (w.v ≡ object ms) × LacksMember name ms
+Steps which d ns names n name w steps.Another = IsNoObject w.v
 
 -- the document's value is x, the names before this number lead in it over the path to v, and then come this name and the rest
-pub record ReachesTo (d : Document) (names : List (List ℕ)) (path : List ℕ) (count : ℕ) (v : Plain) : Type 0 where
+pub record ReachesTo (which : Which) (d : Document) (names : List (List ℕ)) (path : List ℕ) (count : ℕ) (v : Plain) : Type 0 where
   pub x : Plain
   pub is : d.value ≡ Some x
-  pub leads : Leads (take count names) path x v
+  pub leads : Leads which (take count names) path x v
   pub name : List ℕ
   pub next : drop count names ≡ name ∷ drop (count + 1) names
 
 module _ {A : Type 0} where
-  abbrev pub StepsWhatShown : CstRootNode A → CstNode → List ℕ → Step → Type 0
-  StepsWhatShown doc node name step =
-      (d : Document) (names : List (List ℕ)) → Shows d (tree_of doc) → (w : NamesNode d (nodes_of doc) names (number_of node)) → Steps d (nodes_of doc) names (number_of node) name w step
+  abbrev pub StepsWhatShown : Which → CstRootNode A → CstNode → List ℕ → Step → Type 0
+  StepsWhatShown which doc node name step =
+      (d : Document) (names : List (List ℕ)) → Shows d (tree_of doc) → (w : NamesNode which d (nodes_of doc) names (number_of node)) → Steps which d (nodes_of doc) names (number_of node) name w step
 
   -- what was reached: no value; a value; the object that lacks the name of this number; or a value of another kind before the name of this number
-  abbrev pub IsReached : Document → List (List ℕ) → Reached A → Type 0
-  IsReached d names Nothing = d.value ≡ None
-  IsReached d names (Value path) = (x v : Plain) × (d.value ≡ Some x) × Leads names path.items x v
-  IsReached d names (Missing path count) = (ms : Members) × (to : ReachesTo d names path.items count (object ms)) × LacksMember to.name ms
-  IsReached d names (Another path count) = (v : Plain) × ReachesTo d names path.items count v × IsNoObject v
+  abbrev pub IsReached : Which → Document → List (List ℕ) → Reached A → Type 0
+  IsReached which d names Nothing = d.value ≡ None
+  IsReached which d names (Value path) = (x v : Plain) × (d.value ≡ Some x) × Leads which names path.items x v
+  IsReached which d names (Missing path count) = (ms : Members) × (to : ReachesTo which d names path.items count (object ms)) × LacksMember to.name ms
+  IsReached which d names (Another path count) = (v : Plain) × ReachesTo which d names path.items count v × IsNoObject v
 
-  abbrev pub ReachesWhatShown : CstRootNode A → List (List ℕ) → Reached A → Type 0
-  ReachesWhatShown doc names reached = (d : Document) → Shows d (tree_of doc) → IsReached d names reached
+  abbrev pub ReachesWhatShown : Which → CstRootNode A → List (List ℕ) → Reached A → Type 0
+  ReachesWhatShown which doc names reached = (d : Document) → Shows d (tree_of doc) → IsReached which d names reached
 
   -- the number is that of one of so many names
   abbrev pub CountsWithin : ℕ → Reached A → Type 0

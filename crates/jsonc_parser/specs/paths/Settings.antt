@@ -1,5 +1,5 @@
 -- Settings: values at a path of names. Each name leads from an object to the value of its first property of that name; a document has one value or none.
-use Rattle.std.specs.Prelude.{◌≡◌, ◌≢◌, ℕ, List, [], ◌∷◌, Option, Some, None}
+use Rattle.std.specs.Prelude.{◌≡◌, ◌≢◌, ℕ, suc, List, [], ◌∷◌, Option, Some, None}
 use Rattle.jsonc_text.specs.Plain.{Plain, object, Members, no_members, member}
 use Rattle.jsonc_text.specs.declared.edit.Over.{Over}
 use Rattle.jsonc_text.specs.declared.edit.Over.TheVariants.{Replace}
@@ -8,6 +8,11 @@ use Rattle.jsonc_text.specs.declared.edit.Over.TheVariants.{Replace}
 pub data FirstIs (name : List ℕ) (v : Plain) : Members → Type 0 where
   this_one : {ms : Members} → FirstIs name v (member name v ms)
   later_one : {n : List ℕ} {w : Plain} {ms : Members} → n ≢ name → FirstIs name v ms → FirstIs name v (member n w ms)
+
+-- the first property of this name is the one of this number, and has this value
+pub data FirstAt (name : List ℕ) (v : Plain) : ℕ → Members → Type 0 where
+  this_at : {ms : Members} → FirstAt name v 0 (member name v ms)
+  later_at : {i : ℕ} {n : List ℕ} {w : Plain} {ms : Members} → n ≢ name → FirstAt name v i ms → FirstAt name v (suc i) (member n w ms)
 
 -- the value x of the first property of this name has become y, and nothing else has changed
 pub data FirstBecomes (name : List ℕ) (x y : Plain) : Members → Members → Type 0 where

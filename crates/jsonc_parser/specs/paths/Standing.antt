@@ -7,7 +7,6 @@ use Rattle.jsonc_tree.specs.Content.{object}
 use Rattle.jsonc_tree.specs.OrderedTree.{ordered_tree}
 use Rattle.jsonc_tree.specs.Tree.{Node, content_at, IsTree}
 use Rattle.jsonc_layout.specs.nodes.Kinds.{is_property}
-use Rattle.jsonc_layout.specs.nodes.Names.{FirstInObject}
 use Rattle.jsonc_layout.specs.nodes.Properties.{value_at}
 use Rattle.jsonc_layout.specs.nodes.Siblings.{siblings_before}
 use Rattle.jsonc_sound.specs.Documents.{Shows}
@@ -17,49 +16,52 @@ use Rattle.jsonc_edit.specs.Paths.{IsAt, IsElementOf}
 use Rattle.jsonc_insert.specs.named.Members.{LacksMember}
 use Rattle.jsonc_parser.specs.paths.Settings.{At, IsNoObject}
 use Rattle.jsonc_parser.specs.paths.Positions.{Leads}
+use Rattle.jsonc_parser.specs.paths.Which.{IsChosenIn, seen, seen_if}
+use Rattle.jsonc_parser.specs.declared.paths.which.Which.{Which}
 
--- In the document's value v stands at the names; and over the positions that these lead over stands the node n, which has v.
-pub record NamesNode (d : Document) (ns : List Node) (names : List (List ℕ)) (n : ℕ) : Type 0 where
+-- In the document's value, as it is seen, v stands at the names; and over the positions that these lead over stands the node n, which has v.
+pub record NamesNode (which : Which) (d : Document) (ns : List Node) (names : List (List ℕ)) (n : ℕ) : Type 0 where
   pub value : Plain
   pub is : d.value ≡ Some value
   pub v : Plain
   pub path : List ℕ
-  pub leads : Leads names path value v
-  pub stands : At d.value names v
+  pub leads : Leads which names path value v
+  pub stands : At (seen_if which d.value) names (seen which v)
   pub at : IsAt ns path n
   pub has : HasValue d.options (top_at ns n) v
 
 -- nothing stands at the names in the document's value
-abbrev pub NamesNothing : Document → List (List ℕ) → Type 0
-NamesNothing d names = (v : Plain) → At d.value names v → ⊥
+abbrev pub NamesNothing : Which → Document → List (List ℕ) → Type 0
+NamesNothing which d names = (v : Plain) → At (seen_if which d.value) names v → ⊥
 
 -- the value's node is what no names lead to; in a document without a value nothing stands at any names
-pub record BeginsIn (d : Document) (ns : List Node) : Type 0 where
-  pub some : (n : ℕ) → value_at ns 0 ≡ Some n → NamesNode d ns [] n
+pub record BeginsIn (which : Which) (d : Document) (ns : List Node) : Type 0 where
+  pub some : (n : ℕ) → value_at ns 0 ≡ Some n → NamesNode which d ns [] n
   pub none : value_at ns 0 ≡ None → d.value ≡ None
 
-abbrev pub BeginsThere : Document → List Node → Type 0
-BeginsThere d ns = IsTree ns → Shows d (ordered_tree ns 0) → BeginsIn d ns
+abbrev pub BeginsThere : Which → Document → List Node → Type 0
+BeginsThere which d ns = IsTree ns → Shows d (ordered_tree ns 0) → BeginsIn which d ns
 
 -- from a node that is no object no name leads on: its value is none, and nothing stands at further names
-pub record StopsIn (d : Document) (ns : List Node) (names : List (List ℕ)) (w : Plain) : Type 0 where
+pub record StopsIn (which : Which) (d : Document) (ns : List Node) (names : List (List ℕ)) (w : Plain) : Type 0 where
   pub another : IsNoObject w
-  pub nothing : (name : List ℕ) (rest : List (List ℕ)) → NamesNothing d (names ++ name ∷ rest)
+  pub nothing : (name : List ℕ) (rest : List (List ℕ)) → NamesNothing which d (names ++ name ∷ rest)
 
-abbrev pub StopsThere : Document → List Node → List (List ℕ) → ℕ → Type 0
-StopsThere d ns names n = IsTree ns → Shows d (ordered_tree ns 0) → (w : NamesNode d ns names n) → content_at ns n ≢ object → StopsIn d ns names w.v
+abbrev pub StopsThere : Which → Document → List Node → List (List ℕ) → ℕ → Type 0
+StopsThere which d ns names n = IsTree ns → Shows d (ordered_tree ns 0) → (w : NamesNode which d ns names n) → content_at ns n ≢ object → StopsIn which d ns names w.v
 
--- from an object a name leads to the value of the first property of the name, which is the element of the number that the path goes on with; and where none has
+-- from an object a name leads to the value of the first property of the name, or the last, which is the element of the number that the path goes on with; and where none has
 -- the name its value lacks it, and nothing stands at further names
-pub record LeadsOnIn (d : Document) (ns : List Node) (names : List (List ℕ)) (n : ℕ) (name : List ℕ) (w : NamesNode d ns names n) : Type 0 where
-  pub lacks : FirstInObject ns n name None → (ms : Members) × (w.v ≡ plain.object ms) × LacksMember name ms
-  pub nothing : FirstInObject ns n name None → (rest : List (List ℕ)) → NamesNothing d (names ++ name ∷ rest)
-  pub holds : (r : ℕ) → FirstInObject ns n name (Some r) → value_at ns r ≢ None
-  pub leads : (r q : ℕ) → FirstInObject ns n name (Some r) → value_at ns r ≡ Some q
-      → (i : ℕ) × IsElementOf ns n i r × (further : NamesNode d ns (names ++ name ∷ []) q) × (further.path ≡ w.path ++ i ∷ [])
+pub record LeadsOnIn (which : Which) (d : Document) (ns : List Node) (names : List (List ℕ)) (n : ℕ) (name : List ℕ) (w : NamesNode which d ns names n) : Type 0 where
+  pub lacks : IsChosenIn which ns n name None → (ms : Members) × (w.v ≡ plain.object ms) × LacksMember name ms
+  pub nothing : IsChosenIn which ns n name None → (rest : List (List ℕ)) → NamesNothing which d (names ++ name ∷ rest)
+  pub holds : (r : ℕ) → IsChosenIn which ns n name (Some r) → value_at ns r ≢ None
+  pub leads : (r q : ℕ) → IsChosenIn which ns n name (Some r) → value_at ns r ≡ Some q
+      → (i : ℕ) × IsElementOf ns n i r × (further : NamesNode which d ns (names ++ name ∷ []) q) × (further.path ≡ w.path ++ i ∷ [])
 
-abbrev pub LeadsOn : Document → List Node → List (List ℕ) → ℕ → List ℕ → Type 0
-LeadsOn d ns names n name = IsTree ns → Shows d (ordered_tree ns 0) → (w : NamesNode d ns names n) → content_at ns n ≡ object → LeadsOnIn d ns names n name w
+abbrev pub LeadsOn : Which → Document → List Node → List (List ℕ) → ℕ → List ℕ → Type 0
+LeadsOn which d ns names n name =
+    IsTree ns → Shows d (ordered_tree ns 0) → (w : NamesNode which d ns names n) → content_at ns n ≡ object → LeadsOnIn which d ns names n name w
 
 -- how many properties stand before a property among its siblings
 abbrev pub properties_before : List Node → ℕ → ℕ

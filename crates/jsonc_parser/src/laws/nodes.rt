@@ -13,8 +13,8 @@ pub use jsonc_edit::multiline::laws::{
 };
 pub use jsonc_edit::remove::laws::{elements_are_taken_out, removed_elements_are_gone};
 pub use jsonc_edit::set::laws::{
-    cleared_documents_are_bare, documents_have_their_first_value, replaced_properties_are_written,
-    set_booleans_are_written,
+    cleared_documents_are_bare, documents_have_their_first_value, properties_are_renamed,
+    replaced_properties_are_written, set_booleans_are_written,
 };
 pub use jsonc_edit::space_laws::{
     no_further_space_is_due, spaces_are_no_elements, spaces_come_before_elements,

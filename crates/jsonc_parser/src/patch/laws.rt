@@ -2,8 +2,13 @@
 
 ghost use Rattle.std.specs.Prelude.{◌≡◌, ℕ, List, Option};
 ghost use Rattle.jsonc_text.specs.Plain.{Plain};
+ghost use Rattle.jsonc_cst.specs.declared.cst.CstRootNode.{CstRootNode};
+ghost use Rattle.jsonc_cst.specs.declared.cst.node.CstNode.{CstNode};
 ghost use Rattle.jsonc_parser.specs.patch.Laws.{FailsWithNone, IsReadBack, RefersToOne};
+ghost use Rattle.jsonc_parser.specs.patch.Locations.{LeadsBack};
 ghost use Rattle.jsonc_parser.specs.patch.Pointer.{pointer_text, HasLooseTilde, LacksSlash};
+
+use std::alloc::Allocator;
 
 /// What a pointer prints is parsed as the same tokens.
 pub fn pointers_are_read_back()
@@ -23,4 +28,10 @@ pub fn pointers_are_read_in_one_way()
 pub fn pointers_refer_to_one_value()
     ensures one { (w : Option Plain) (tokens : List (List ℕ)) → RefersToOne w tokens }
     ensures fails { (w : Option Plain) (tokens : List (List ℕ)) → FailsWithNone w tokens }
+{}
+
+/// What is found by tokens that refer to a node is that node: [`find`](super::find) leads back from what
+/// [`pointer_of`](super::pointer_of) answers.
+pub fn pointers_lead_back<A: Allocator>()
+    ensures { (doc : CstRootNode A) (node : CstNode) (tokens : List (List ℕ)) → LeadsBack doc node tokens }
 {}

@@ -1,6 +1,7 @@
 //! What a pointer refers to in a document.
 
-ghost use Rattle.std.specs.Prelude.{◌≡◌, ◌<◌, ◌≤◌, ◌↔◌, ◌^◌, ℕ, length, chars, slice_index, IfErr, IfNone, IfOk, IfSome, IsTrue, OnErr, Some};
+ghost use Rattle.std.specs.Prelude.{◌≡◌, ◌<◌, ◌≤◌, ◌↔◌, ◌^◌, ◌∷◌, [], ℕ, length, chars, slice_index, IfErr, IfNone, IfOk, IfSome, IsTrue, OnErr, Some};
+ghost use Rattle.std.specs.Bool.{Decides};
 ghost use Rattle.std.specs.Option.{SomeIff};
 ghost use Rattle.std.specs.Str.Parse.{IsNumeral, digits_value};
 ghost use Rattle.jsonc_layout.specs.nodes.Names.{HoldsEscapedName};
@@ -11,6 +12,7 @@ ghost use Rattle.jsonc_cst.specs.Document.{content_of, nodes_of, HasNode};
 ghost use Rattle.jsonc_cst.specs.Nodes.{number_of};
 ghost use Rattle.jsonc_cst.specs.Readings.{value_under as value_of_property};
 ghost use Rattle.jsonc_parser.specs.paths.Found.{names_of};
+ghost use Rattle.jsonc_parser.specs.patch.Applied.{IsPlaceBy};
 ghost use Rattle.jsonc_parser.specs.patch.Found.{FindFails, Finds, IsOfShown, ReadFails, Reads};
 ghost use Rattle.jsonc_parser.specs.patch.Lookups.{found_once, IsElementBy, IsLookedUp, SaysRepeated, StepFails, StepsTo};
 ghost use Rattle.jsonc_parser.specs.patch.Messages.{find_error_text};
@@ -64,7 +66,7 @@ pub(crate) enum Lookup {
 
 // The one property of a name among the children of an object. Memory is wanted only for a name with a
 // backslash.
-fn look_up<A: Allocator + Copy>(
+pub(super) fn look_up<A: Allocator + Copy>(
     doc: &CstRootNode<A>,
     object: usize,
     name: &str,
@@ -92,7 +94,7 @@ fn look_up<A: Allocator + Copy>(
 }
 
 // The value of a property, if it has one.
-fn value_under<A: Allocator>(doc: &CstRootNode<A>, property: usize) -> Option<CstNode>
+pub(super) fn value_under<A: Allocator>(doc: &CstRootNode<A>, property: usize) -> Option<CstNode>
     requires { property < length (nodes_of doc.now) }
     ensures value { result ≡ value_of_property doc.now property }
     ensures in_document { IfSome result (HasNode doc.now) }
@@ -181,6 +183,39 @@ fn element<A: Allocator>(doc: &CstRootNode<A>, node: usize, token: &str) -> Opti
     element_at(tree, node, index)
 }
 
+// Whether a token is `-`.
+fn is_hyphen(token: &str) -> bool
+    ensures { Decides result (chars token.now ≡ 0x2D ∷ []) }
+{
+    token == "-"
+}
+
+// The element of an array before which a token says that another is to come; none of the two where it says
+// behind the last.
+pub(super) fn element_place<A: Allocator>(
+    doc: &CstRootNode<A>,
+    node: usize,
+    token: &str,
+) -> Option<Option<usize>>
+    requires { node < length (nodes_of doc.now) }
+    ensures { IsPlaceBy (nodes_of doc.now) node (chars token.now) result }
+{
+    if is_hyphen(token) {
+        return Some(None);
+    }
+    let tree = doc.tree();
+    let Some(index) = index_below(token, tree.len()) else {
+        return None;
+    };
+    if index == 0 {
+        return Some(Some(index));
+    }
+    if element_at(tree, node, index - 1).is_none() {
+        return None;
+    }
+    Some(Some(index))
+}
+
 // Where a token leads from a node.
 fn step<A: Allocator + Copy>(
     doc: &CstRootNode<A>,
@@ -205,7 +240,7 @@ fn step<A: Allocator + Copy>(
 }
 
 // The value that tokens refer to, if there is one.
-fn follow<A: Allocator + Copy>(
+pub(super) fn follow<A: Allocator + Copy>(
     doc: &CstRootNode<A>,
     tokens: &[String<A>],
 ) -> Result<Option<CstNode>, FindError<A>>

@@ -5,6 +5,7 @@ ghost use Rattle.jsonc_layout.specs.nodes.Names.{HoldsEscapedName};
 ghost use Rattle.jsonc_cst.specs.Document.{nodes_of, HasNode};
 ghost use Rattle.jsonc_cst.specs.Nodes.{number_of};
 ghost use Rattle.jsonc_parser.specs.paths.Found.{names_of, FindsInsideWhatShown, FindsWhatShown, ReadsWhatShown};
+ghost use Rattle.jsonc_parser.specs.declared.paths.which.Which.TheVariants.{First};
 ghost use Rattle.jsonc_parser.specs.paths.Memory.{WantsForSomething, WantsToLookUp};
 
 use jsonc_cst::cst::{CstInputValue, CstNode, CstRootNode, EditError, TypedNode};
@@ -45,7 +46,7 @@ pub fn find_at<A: Allocator + Copy>(
     ensures found { IfOk result (FindsWhatShown doc.now (names_of names.now)) }
     ensures in_document { IfOk result (λ o. IfSome o (HasNode doc.now)) }
     ensures memory { IfErr result (λ e. e ≡ EditError.OutOfMemory) }
-    ensures oom_only_if { OnErr result (WantsToLookUp (nodes_of doc.now) (names_of names.now)) }
+    ensures oom_only_if { OnErr result (WantsToLookUp First (nodes_of doc.now) (names_of names.now)) }
 {
     let Some(value) = doc.value() else {
         return Ok(None);

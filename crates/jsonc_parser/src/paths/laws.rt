@@ -6,7 +6,8 @@ ghost use Rattle.jsonc_text.specs.Plain.{Plain};
 ghost use Rattle.jsonc_tree.specs.Tree.{Node};
 ghost use Rattle.jsonc_text.specs.declared.edit.EditError.{EditError};
 ghost use Rattle.jsonc_text.specs.declared.edit.Over.{Over};
-ghost use Rattle.jsonc_parser.specs.paths.Operations.{Operation};
+ghost use Rattle.jsonc_parser.specs.declared.paths.which.Which.TheVariants.{First};
+ghost use Rattle.jsonc_parser.specs.paths.Operations.{PlainEdit};
 ghost use Rattle.jsonc_parser.specs.paths.Positions.{DropsByIt, IsPutByOne, LeadToWhatStands, PutsByIt, Reaches};
 ghost use Rattle.jsonc_parser.specs.paths.Worked.{a, both, one};
 ghost use Rattle.jsonc_parser.specs.paths.AtPaths.{FindsFirst, NodesHaveValues, PropertyHolds, RootHolds, StandsThere};
@@ -50,15 +51,15 @@ pub fn what_stands_can_leave()
     ensures elsewhere { (w x : Option Plain) (names : List (List ℕ)) → Dropped w names x → IsSameElsewhere names w x }
 {}
 
-/// Names lead over positions to what is at them; and one operation at such positions puts a value at the names, or
-/// removes what is there: it has its place, and makes what is put, or removed, and nothing else.
+/// Names lead over positions to what is at them; and one edit at such positions puts a value at the names, or removes
+/// what is there: it has its place, and the operation that it asks for makes what is put, or removed, and nothing else.
 pub fn one_operation_puts_or_drops()
     ensures leads { (w : Option Plain) (names : List (List ℕ)) (v : Plain) → LeadToWhatStands w names v }
     ensures reaches { (x : Plain) (names : List (List ℕ)) → Reaches x names }
     ensures one { (v : Plain) (how : Over) (w : Option Plain) (names : List (List ℕ)) → IsPutByOne v how w names }
-    ensures puts { (v : Plain) (how : Over) (w : Option Plain) (names : List (List ℕ)) (e : Operation)
-        → PutsByIt v how w names e }
-    ensures drops { (w : Option Plain) (names : List (List ℕ)) (e : Operation) → DropsByIt w names e }
+    ensures puts { (v : Plain) (how : Over) (w : Option Plain) (names : List (List ℕ)) (e : PlainEdit)
+        → PutsByIt First v how w names e }
+    ensures drops { (w : Option Plain) (names : List (List ℕ)) (e : PlainEdit) → DropsByIt w names e }
 {}
 
 /// Worked rows: of two properties of one name the first is put, and not the last; where the first is removed, the
@@ -74,10 +75,10 @@ pub fn worked_equal_names()
 /// In a document that nodes show, no names lead to the value's node; a name leads on from an object's node to the value
 /// of what is found as the first property of the name, whose number it counts, and from nothing else.
 pub fn names_lead_over_nodes()
-    ensures begins { (d : Document) (ns : List Node) → BeginsThere d ns }
-    ensures stops { (d : Document) (ns : List Node) (names : List (List ℕ)) (n : ℕ) → StopsThere d ns names n }
+    ensures begins { (d : Document) (ns : List Node) → BeginsThere First d ns }
+    ensures stops { (d : Document) (ns : List Node) (names : List (List ℕ)) (n : ℕ) → StopsThere First d ns names n }
     ensures on { (d : Document) (ns : List Node) (names : List (List ℕ)) (n : ℕ) (name : List ℕ)
-        → LeadsOn d ns names n name }
+        → LeadsOn First d ns names n name }
     ensures numbers { (d : Document) (ns : List Node) (path : List ℕ) (c i r : ℕ) → CountsItsNumber d ns path c i r }
 {}
 
@@ -107,12 +108,12 @@ pub fn each_node_stands_at_its_place()
 /// it leads, in whose value the value is put there, or removed; and at any path that differs is what was there before.
 /// Where it was refused, allocation failed.
 pub fn one_edit_puts_or_drops()
-    ensures puts { (d : Document) (v : Plain) (how : Over) (names : List (List ℕ)) (operation : Operation)
-        (old new : List Node) → PutsByOneEdit d v how names operation old new }
-    ensures put_memory { (d : Document) (v : Plain) (how : Over) (names : List (List ℕ)) (operation : Operation)
-        (old : List Node) (why : EditError) → PutsUnlessOutOfMemory d v how names operation old why }
-    ensures drops { (d : Document) (names : List (List ℕ)) (operation : Operation) (old new : List Node)
-        → DropsByOneEdit d names operation old new }
-    ensures drop_memory { (d : Document) (names : List (List ℕ)) (operation : Operation) (old : List Node)
-        (why : EditError) → DropsButForMemory d names operation old why }
+    ensures puts { (d : Document) (v : Plain) (how : Over) (names : List (List ℕ)) (edit : PlainEdit)
+        (old new : List Node) → PutsByOneEdit First d v how names edit old new }
+    ensures put_memory { (d : Document) (v : Plain) (how : Over) (names : List (List ℕ)) (edit : PlainEdit)
+        (old : List Node) (why : EditError) → PutsUnlessOutOfMemory First d v how names edit old why }
+    ensures drops { (d : Document) (names : List (List ℕ)) (edit : PlainEdit) (old new : List Node)
+        → DropsByOneEdit d names edit old new }
+    ensures drop_memory { (d : Document) (names : List (List ℕ)) (edit : PlainEdit) (old : List Node)
+        (why : EditError) → DropsButForMemory d names edit old why }
 {}

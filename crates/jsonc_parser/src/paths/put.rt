@@ -5,7 +5,8 @@ ghost use Rattle.jsonc_layout.specs.input.Views.{chars_of, plain};
 ghost use Rattle.jsonc_run.specs.Edits.{is_whole, operation_of, unsorted, EditStep};
 ghost use Rattle.jsonc_run.specs.Refusals.{FailsWith};
 ghost use Rattle.jsonc_cst.specs.Document.{nodes_of, tree_of};
-ghost use Rattle.jsonc_parser.specs.paths.Calls.{DropsWhatShown, MakesOneEdit, PutsWhatShown, WantsMemory};
+ghost use Rattle.jsonc_parser.specs.declared.paths.which.Which.TheVariants.{First, Last};
+ghost use Rattle.jsonc_parser.specs.paths.Calls.{DropsWhatShown, IsReadThere, MakesOneEdit, PutsWhatShown, WantsMemory};
 ghost use Rattle.jsonc_parser.specs.paths.Choices.{Chooses, IsAppending};
 ghost use Rattle.jsonc_parser.specs.paths.Found.{names_of};
 ghost use Rattle.jsonc_parser.specs.paths.Memory.{TellsWhatStays, WantsForSomething, WantsToLookUp, WantsToPut};
@@ -13,6 +14,7 @@ ghost use Rattle.jsonc_parser.specs.paths.Settings.{nest};
 
 use crate::paths::find::find_at;
 use crate::paths::reached::{Reached, is_in_the_way, reach};
+use crate::paths::which::Which;
 use jsonc_cst::cst::{CstInputValue, CstRootNode, EditError};
 use jsonc_run::{Edit, Over};
 use std::alloc::Allocator;
@@ -97,12 +99,13 @@ fn choose<A: Allocator + Copy>(
     names: &[String<A>],
     value: CstInputValue<A>,
     over: Over,
+    which: Which,
 ) -> Result<Option<Edit<A>>, EditError>
-    ensures chosen { IfOk result (Chooses doc.now (plain value) over (names_of names.now)) }
+    ensures chosen { IfOk result (Chooses which doc.now (plain value) over (names_of names.now)) }
     ensures memory { IfErr result (λ e. e ≡ EditError.OutOfMemory) }
 {
     let alloc = *doc.allocator();
-    match reach(doc, names) {
+    match reach(doc, names, which) {
         Ok(Reached::Nothing) => match nested(alloc, names, value) {
             Ok(value) => Ok(Some(Edit::SetRoot(value))),
             Err(error) => Err(error),
@@ -131,13 +134,14 @@ fn must_stay<A: Allocator + Copy>(
     doc: &CstRootNode<A>,
     names: &[String<A>],
     over: Over,
+    which: Which,
 ) -> Result<bool, EditError>
-    ensures stays { IfOk result (TellsWhatStays over (nodes_of doc.now) (names_of names.now)) }
+    ensures stays { IfOk result (TellsWhatStays which over (nodes_of doc.now) (names_of names.now)) }
     ensures memory { IfErr result (λ e. e ≡ EditError.OutOfMemory) }
-    ensures oom_only_if { OnErr result (WantsToLookUp (nodes_of doc.now) (names_of names.now)) }
+    ensures oom_only_if { OnErr result (WantsToLookUp which (nodes_of doc.now) (names_of names.now)) }
 {
     match over {
-        Over::Keep => is_in_the_way(doc, names),
+        Over::Keep => is_in_the_way(doc, names, which),
         Over::Replace => Ok(false),
     }
 }
@@ -150,6 +154,40 @@ fn make_one<A: Allocator + Copy>(doc: &mut CstRootNode<A>, edit: Edit<A>) -> Res
     ensures document { OnErr result (tree_of doc.new ≡ tree_of doc.old) }
 {
     doc.make(&edit)
+}
+
+// Sets the value at a path of names by one edit.
+fn put<A: Allocator + Copy>(
+    doc: &mut CstRootNode<A>,
+    names: &[String<A>],
+    value: CstInputValue<A>,
+    over: Over,
+    which: Which,
+) -> Result<bool, EditError>
+    ensures put { IfOk result
+        (PutsWhatShown which (plain value) over (names_of names.now) (nodes_of doc.old) (nodes_of doc.new)) }
+    ensures one { IfOk result (MakesOneEdit (nodes_of doc.old) (nodes_of doc.new)) }
+    ensures error { IfErr result (WantsMemory (nodes_of doc.old)) }
+    ensures oom_only_if { OnErr result (WantsToPut which over (nodes_of doc.old) (names_of names.now)) }
+    ensures document { OnErr result (tree_of doc.new ≡ tree_of doc.old) }
+{
+    // What is to stay is seen before memory is wanted for the edit.
+    let stays = match must_stay(doc, names, over, which) {
+        Ok(stays) => stays,
+        Err(error) => return Err(error),
+    };
+    if stays {
+        return Ok(false);
+    }
+    let edit = match choose(doc, names, value, over, which) {
+        Ok(Some(edit)) => edit,
+        Ok(None) => return Ok(false),
+        Err(error) => return Err(error),
+    };
+    match make_one(doc, edit) {
+        Ok(()) => Ok(true),
+        Err(error) => Err(error),
+    }
 }
 
 /// Sets the value at a path of names by one edit, and answers whether it did.
@@ -172,29 +210,35 @@ pub fn set_at<A: Allocator + Copy>(
     over: Over,
 ) -> Result<bool, EditError>
     ensures put { IfOk result
-        (PutsWhatShown (plain value) over (names_of names.now) (nodes_of doc.old) (nodes_of doc.new)) }
+        (PutsWhatShown First (plain value) over (names_of names.now) (nodes_of doc.old) (nodes_of doc.new)) }
     ensures one { IfOk result (MakesOneEdit (nodes_of doc.old) (nodes_of doc.new)) }
     ensures error { IfErr result (WantsMemory (nodes_of doc.old)) }
-    ensures oom_only_if { OnErr result (WantsToPut over (nodes_of doc.old) (names_of names.now)) }
+    ensures oom_only_if { OnErr result (WantsToPut First over (nodes_of doc.old) (names_of names.now)) }
     ensures document { OnErr result (tree_of doc.new ≡ tree_of doc.old) }
 {
-    // What is to stay is seen before memory is wanted for the edit.
-    let stays = match must_stay(doc, names, over) {
-        Ok(stays) => stays,
-        Err(error) => return Err(error),
-    };
-    if stays {
-        return Ok(false);
-    }
-    let edit = match choose(doc, names, value, over) {
-        Ok(Some(edit)) => edit,
-        Ok(None) => return Ok(false),
-        Err(error) => return Err(error),
-    };
-    match make_one(doc, edit) {
-        Ok(()) => Ok(true),
-        Err(error) => Err(error),
-    }
+    put(doc, names, value, over, Which::First)
+}
+
+/// Sets the value at a path of names, where of equal names the last leads on, and answers whether it did.
+///
+/// So it is put where readers find it that take of equal names the last, as [`crate::parse_to_value`]: what that
+/// reads of the text afterwards has the value at the names. All else is as [`set_at`] says. `{"a": 1, "a": 2}` with 3 at
+/// `a` is `{"a": 1, "a": 3}`.
+pub fn set_last_at<A: Allocator + Copy>(
+    doc: &mut CstRootNode<A>,
+    names: &[String<A>],
+    value: CstInputValue<A>,
+    over: Over,
+) -> Result<bool, EditError>
+    ensures put { IfOk result
+        (PutsWhatShown Last (plain value) over (names_of names.now) (nodes_of doc.old) (nodes_of doc.new)) }
+    ensures read { IfOk result (IsReadThere (plain value) (names_of names.now) (nodes_of doc.old) (nodes_of doc.new)) }
+    ensures one { IfOk result (MakesOneEdit (nodes_of doc.old) (nodes_of doc.new)) }
+    ensures error { IfErr result (WantsMemory (nodes_of doc.old)) }
+    ensures oom_only_if { OnErr result (WantsToPut Last over (nodes_of doc.old) (names_of names.now)) }
+    ensures document { OnErr result (tree_of doc.new ≡ tree_of doc.old) }
+{
+    put(doc, names, value, over, Which::Last)
 }
 
 /// Removes what is at a path of names, and answers whether something was there.
@@ -222,7 +266,7 @@ pub fn remove_at<A: Allocator + Copy>(
         Ok(None) => return Ok(false),
         Err(error) => return Err(error),
     }
-    let path = match reach(doc, names) {
+    let path = match reach(doc, names, Which::First) {
         Ok(Reached::Value(path)) => path,
         Ok(Reached::Nothing) => return Ok(false),
         Ok(Reached::Missing(_, _)) => return Ok(false),

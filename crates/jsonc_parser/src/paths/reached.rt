@@ -8,6 +8,7 @@ ghost use Rattle.jsonc_parser.specs.paths.Found.{names_of};
 ghost use Rattle.jsonc_parser.specs.paths.Memory.{TellsTheWay, WantsToLookUp};
 ghost use Rattle.jsonc_parser.specs.paths.Reach.{CountsWithin, ReachesWhatShown, StepHolds, StepsWhatShown};
 
+use crate::paths::which::{Which, property_of};
 use jsonc_cst::cst::{CstNode, CstRootNode, EditError};
 use std::alloc::Allocator;
 
@@ -40,9 +41,10 @@ fn step_from<A: Allocator + Copy>(
     doc: &CstRootNode<A>,
     node: CstNode,
     name: &str,
+    which: Which,
 ) -> Result<Step, EditError>
     requires { HasNode doc.now node }
-    ensures step { IfOk result (StepsWhatShown doc.now node (chars name.now)) }
+    ensures step { IfOk result (StepsWhatShown which doc.now node (chars name.now)) }
     ensures in_document { IfOk result (StepHolds doc.now) }
     ensures memory { IfErr result (λ e. e ≡ EditError.OutOfMemory) }
     ensures escaped { OnErr result (HoldsEscapedName (nodes_of doc.now) (number_of node)) }
@@ -50,7 +52,7 @@ fn step_from<A: Allocator + Copy>(
     let Some(object) = node.as_object() else {
         return Ok(Step::Another);
     };
-    let property = match object.get(doc, name) {
+    let property = match property_of(doc, object, name, which) {
         Ok(Some(property)) => property,
         Ok(None) => return Ok(Step::Missing),
         Err(error) => return Err(error),
@@ -66,8 +68,9 @@ fn step_from<A: Allocator + Copy>(
 pub fn reach<A: Allocator + Copy>(
     doc: &CstRootNode<A>,
     names: &[String<A>],
+    which: Which,
 ) -> Result<Reached<A>, EditError>
-    ensures reached { IfOk result (ReachesWhatShown doc.now (names_of names.now)) }
+    ensures reached { IfOk result (ReachesWhatShown which doc.now (names_of names.now)) }
     ensures within { IfOk result (CountsWithin (length names.now)) }
     ensures memory { IfErr result (λ e. e ≡ EditError.OutOfMemory) }
 {
@@ -77,7 +80,7 @@ pub fn reach<A: Allocator + Copy>(
     let mut path = Vec::new(*doc.allocator());
     let mut node = value;
     for (count, name) in names.iter().enumerate() {
-        match step_from(doc, node, name) {
+        match step_from(doc, node, name, which) {
             Ok(Step::On(index, inner)) => {
                 let Ok(()) = path.push(index) else {
                     return Err(EditError::OutOfMemory);
@@ -98,17 +101,18 @@ pub fn reach<A: Allocator + Copy>(
 pub fn is_in_the_way<A: Allocator + Copy>(
     doc: &CstRootNode<A>,
     names: &[String<A>],
+    which: Which,
 ) -> Result<bool, EditError>
-    ensures stands { IfOk result (TellsTheWay (nodes_of doc.now) (names_of names.now)) }
+    ensures stands { IfOk result (TellsTheWay which (nodes_of doc.now) (names_of names.now)) }
     ensures memory { IfErr result (λ e. e ≡ EditError.OutOfMemory) }
-    ensures oom_only_if { OnErr result (WantsToLookUp (nodes_of doc.now) (names_of names.now)) }
+    ensures oom_only_if { OnErr result (WantsToLookUp which (nodes_of doc.now) (names_of names.now)) }
 {
     let Some(value) = doc.value() else {
         return Ok(false);
     };
     let mut node = value;
     for name in names {
-        match step_from(doc, node, name) {
+        match step_from(doc, node, name, which) {
             Ok(Step::On(_, inner)) => node = inner,
             Ok(Step::Missing) => return Ok(false),
             Ok(Step::Another) => return Ok(true),

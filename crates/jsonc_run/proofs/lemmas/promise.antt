@@ -29,13 +29,12 @@ pub mod CommasLeft
 pub mod Removing
 pub mod ReflowedRows
 pub mod Members
-pub mod Ensured
 pub mod Roots
 pub mod Trailing
 pub mod PartLines
 pub mod Lines
-pub mod NamedProperties
 pub mod Properties
+pub mod Naming
 pub mod SortedParts
 pub mod SortedEntries
 pub mod SortedTexts

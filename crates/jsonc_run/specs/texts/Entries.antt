@@ -1,5 +1,5 @@
 -- What edits make of plain values: a container is a kind and a list of entries.
-use Rattle.std.specs.Prelude.{ℕ, Bool, true, false, List, [], ◌∷◌, ◌++◌, length, Option, Some}
+use Rattle.std.specs.Prelude.{ℕ, List, [], ◌∷◌, ◌++◌, length, Option, Some}
 use Rattle.jsonc_text.specs.Plain.{Plain, array, object, Items, no_items, item, Members, no_members, member}
 use Rattle.jsonc_run.specs.texts.Paths.{Kind, an_array, an_object}
 
@@ -32,9 +32,3 @@ pub data Changed (was now : Plain) : List ℕ → Plain → Plain → Type 0 whe
 abbrev pub Becomes : Plain → Plain → List ℕ → Option Plain → Option Plain → Type 0
 Becomes was now path (Some x) (Some y) = Changed was now path x y
 Becomes was now path w x = ⊥
-
--- the value is an array, or an object
-abbrev pub is_of : Kind → Plain → Bool
-is_of an_array (array vs) = true
-is_of an_object (object ms) = true
-is_of kind v = false

@@ -8,7 +8,7 @@ use jsonc_parser::common::Range;
 use jsonc_parser::cst::CstRootNode;
 use jsonc_parser::{
     JsonObject, JsonValue, LineAndColumn, LineIndex, ParseOptions, line_and_column,
-    line_and_column_utf16, parse_to_value, place_of, place_of_utf16, text_change,
+    line_and_column_utf16, parse_to_value, place_of, place_of_utf16, text_change, utf16_change,
 };
 use std::alloc::{AllocError, Allocator, Global};
 use std::test::Fail;
@@ -22,6 +22,24 @@ static CHANGED: [(&str, &str, usize, usize, &str); 7] = [
     ("é", "è", 0, 2, "è"),
     ("a", "", 0, 1, ""),
     ("", "", 0, 0, ""),
+];
+
+/// An old text, a new one, and the line and UTF-16 column where the change between them begins, those where it ends, and
+/// its text. No position of the Language Server Protocol is within a pair of surrogates or a CR LF.
+static CHANGED_UTF16: [(&str, &str, (usize, usize), (usize, usize), &str); 13] = [
+    ("{\"a\": 1}", "{\"a\": 12}", (1, 8), (1, 8), "2"),
+    ("é", "è", (1, 1), (1, 2), "è"),
+    ("😀", "😁", (1, 1), (1, 3), "😁"),
+    ("😀a", "😀b", (1, 3), (1, 4), "b"),
+    ("x\ry", "x\rz", (2, 1), (2, 2), "z"),
+    ("a\r\nb", "a\nb", (1, 2), (2, 1), "\n"),
+    ("a\r\nb", "a\rb", (1, 2), (2, 1), "\r"),
+    ("a\nb", "a\r\nb", (1, 2), (1, 2), "\r"),
+    ("a\rb", "a\r\nb", (2, 1), (2, 1), "\n"),
+    ("a\r\n\r\nb", "a\r\nb", (2, 1), (3, 1), ""),
+    ("\r\n\rb", "\rb", (1, 1), (2, 1), ""),
+    ("\rx\r\n", "\r\n", (2, 1), (3, 1), "\n"),
+    ("", "", (1, 1), (1, 1), ""),
 ];
 
 /// A text, a line and a column, and the place of these.
@@ -57,6 +75,16 @@ fn changes_are_the_smallest(rt: HostRuntime) {
     for (old, new, start, end, text) in &CHANGED {
         let change = text_change(old, new);
         assert!(rt; change.range == Range::new(*start, *end) && change.new_text == *text);
+    }
+}
+
+#[test]
+fn changes_are_told_by_lines(rt: HostRuntime) {
+    for (old, new, start, end, text) in &CHANGED_UTF16 {
+        let change = utf16_change(old, new);
+        assert!(rt; change.start.line == start.0 && change.start.column == start.1);
+        assert!(rt; change.end.line == end.0 && change.end.column == end.1);
+        assert!(rt; change.new_text == *text);
     }
 }
 

@@ -22,6 +22,9 @@ returns-clause-replaced g c = calls.given_is_call
 pub returns-clause-property : goal.returns-clause-property
 returns-clause-property g c = calls.property_is_call
 
+pub returns-clause-renamed : goal.returns-clause-renamed
+returns-clause-renamed g c = calls.renamed_is_call
+
 pub returns-clause-cleared : goal.returns-clause-cleared
 returns-clause-cleared g c = calls.clearing_is_call
 

@@ -3,22 +3,27 @@ use Rattle.std.proofs.Common.{◌≡◌, ◌∙◌, refl, sym, ap, subst, arith,
 use Rattle.std.specs.Prelude.{if◌then◌else◌}
 use Rattle.std.specs.List.{All}
 use Rattle.std.proofs.lemmas.List.{get_or-drop, get_or-take}
+use Rattle.std.proofs.lemmas.List.Elements.{All-cons, All-head, All-nil, All-tail}
 use Rattle.jsonc_tree.specs.Content.{Content}
 use Rattle.jsonc_tree.specs.Tree.{Node, children_at, content_at, parent_at, place_at, IsTree}
 use Rattle.jsonc_layout.specs.lines.Kinds.{is_array_or_object}
 use Rattle.jsonc_layout.specs.nodes.Kinds.{is_comment_at, is_element}
 use Rattle.jsonc_edit.specs.multiline.Lines.{between}
 use Rattle.jsonc_edit.specs.remove.Removed.{has_brackets}
+use Rattle.jsonc_sort.specs.Above.{lead_read, leads, leads_read}
+use Rattle.jsonc_sort.specs.Leads.{own_lead}
 use Rattle.jsonc_sort.specs.Parts.{Part, parts}
-use Rattle.jsonc_sort.specs.Sorting.{Entry, entries}
+use Rattle.jsonc_sort.specs.Sorting.{Entry, Headers, entries}
 use Rattle.jsonc_sort.proofs.Choices.{Each, each_all}
 use Rattle.jsonc_cst.specs.declared.cst.node.CstComment.{CstComment}
-use Rattle.jsonc_cst.specs.EntryComments.{comments_around, comments_at, comments_in, comments_of_part, is_entry_at, is_entry_in, moved_comments, own_lead, row_at, under_headers}
+use Rattle.jsonc_cst.specs.EntryComments.{comments_around, comments_at, comments_in, comments_of_part, is_entry_at, is_entry_in, moved_comments, row_at}
 use Rattle.jsonc_cst.specs.Nodes.{comment_node, number_of, typed_at, IsNodeOf}
 use Rattle.jsonc_cst.specs.Readings.{comment_under}
 use Rattle.jsonc_cst.proofs.Family.{number_of-typed}
 use Rattle.jsonc_cst.proofs.Readings.{comment_held, made_of_passing}
 use Rattle.jsonc_cst.proofs.lemmas.comments.Inside.{apart_filter, apart_from, elements_are}
+use Rattle.jsonc_cst.specs.sorting.Pins.{header_pin}
+use Rattle.jsonc_cst.proofs.lemmas.comments.Leads.{pin_above}
 use Rattle.jsonc_cst.proofs.lemmas.comments.Parts.{Apart, elements, moved_each}
 
 -- what is made of the members that pass
@@ -57,6 +62,14 @@ module _ (ns : List Node) where
   entry_held n true = let row : List ℕ = row_at ns (parent_at ns n) in part_held n (parts at row).lead (parts at row).rest
   entry_held n false = nothing_held
 
+  -- so their numbers are there
+  numbers_held : (xs : List ℕ) → All Held (map comment_under xs) → All (λ m. m < length ns) xs
+  numbers_held [] h = All-nil (λ m. m < length ns)
+  numbers_held (x ∷ xs) h = All-cons (λ m. m < length ns) x xs (All-head Held (comment_under x) (map comment_under xs) h).0 (numbers_held xs (All-tail Held (comment_under x) (map comment_under xs) h))
+
+  pub numbers_there : (n : ℕ) → All (λ m. m < length ns) (comments_at ns n)
+  numbers_there n = numbers_held (comments_at ns n) (entry_held n true)
+
   abbrev own : ℕ → List ℕ
   own n = if is_entry_at ns n then comments_at ns n else []
 
@@ -90,17 +103,36 @@ module _ (ns : List Node) where
         let yes : is_entry_at ns n ≡ true = ap (is_entry_in ns n) said ∙ here in
         ap (λ b. if b then comments_at ns n else []) yes ∙ ap (λ o. comments_in at (row_at ns o) n) said
 
-    moved : Each (λ e. own e.element ≡ moved_comments at e) (entries at (under_headers at row) row)
+    -- of these parts all comments are pinned but those below the last blank lines
+    abbrev headers : Headers
+    headers = record { pinned = map (pin_above at) (leads at row); groups = false }
+
+    moved : Each (λ e. own e.element ≡ moved_comments at e) (entries at headers row)
     moved =
         let same : elements (parts at row).rest ≡ filter (λ n. is_element (at n)) row = elements_are at row in
         moved_each at own (parts at row).lead (parts at row).rest (subst Apart (sym same) (apart_filter (λ n. is_element (at n)) row row_apart))
         (subst (Each (λ n. own n ≡ comments_in at row n)) (sym same) (each_passing (λ n. own n ≡ comments_in at row n) (λ n. is_element (at n)) row (λ k l e. own_there (slice_index row k) (named k l) e)))
 
-    pub entries_own : All (λ e. (if is_entry_at ns (number_of (typed_at ns e.element)) then map comment_under (comments_at ns (number_of (typed_at ns e.element))) else []) ≡ map comment_under (moved_comments at e)) (entries at (under_headers at row) row)
+    entries_own : All (λ e. (if is_entry_at ns (number_of (typed_at ns e.element)) then map comment_under (comments_at ns (number_of (typed_at ns e.element))) else []) ≡ map comment_under (moved_comments at e)) (entries at headers row)
     entries_own =
-        each_all (λ e. (if is_entry_at ns (number_of (typed_at ns e.element)) then map comment_under (comments_at ns (number_of (typed_at ns e.element))) else []) ≡ map comment_under (moved_comments at e)) (entries at (under_headers at row) row)
+        each_all (λ e. (if is_entry_at ns (number_of (typed_at ns e.element)) then map comment_under (comments_at ns (number_of (typed_at ns e.element))) else []) ≡ map comment_under (moved_comments at e)) (entries at headers row)
         (each_more (λ e. own e.element ≡ moved_comments at e) (λ e. (if is_entry_at ns (number_of (typed_at ns e.element)) then map comment_under (comments_at ns (number_of (typed_at ns e.element))) else []) ≡ map comment_under (moved_comments at e))
         (λ (e : Entry) h.
         ap (λ n. if is_entry_at ns n then map comment_under (comments_at ns n) else []) (number_of-typed (at e.element) e.element)
         ∙ own_of e.element (is_entry_at ns e.element) ∙ ap (λ l. map comment_under l) h)
-        (entries at (under_headers at row) row) moved)
+        (entries at headers row) moved)
+
+    -- the same of the headers that are kept
+    kept_join : (ls : List (List ℕ)) → map (pin_above at) ls ≡ map header_pin (map (lead_read at) ls)
+    kept_join [] = refl
+    kept_join (l ∷ ls) = ap (λ k. pin_above at l ∷ k) (kept_join ls)
+
+    kept_as : map (pin_above at) (leads at row) ≡ map header_pin (leads_read ns c)
+    kept_as = kept_join (leads at row) ∙ ap (λ b. map header_pin (map (lead_read at) (if b then leads at row else []))) (sym closed)
+
+    abbrev MovesItsOwn : Entry → Type 0
+    MovesItsOwn e =
+        (if is_entry_at ns (number_of (typed_at ns e.element)) then map comment_under (comments_at ns (number_of (typed_at ns e.element))) else []) ≡ map comment_under (moved_comments at e)
+
+    pub entries_kept : All MovesItsOwn (entries at (record { pinned = map header_pin (leads_read ns c); groups = false }) row)
+    entries_kept = subst (λ k. All MovesItsOwn (entries at (record { pinned = k; groups = false }) row)) kept_as entries_own

@@ -1,5 +1,5 @@
 -- Which comments of what stands before an entry a sort moves where those above the last blank line are pinned: those that belong to the entry.
-use Rattle.std.proofs.Common.{◌≡◌, ℕ, zero, suc, ◌+◌, ◌-◌, ◌<◌, ◌≤◌, Bool, true, false, not, ◌&&◌, ◌||◌, inl, inr, ◌⊎◌, List, [], ◌∷◌, ◌++◌, length, take, drop, max, refl, sym, ap, subst, ◌∙◌, arith, Some, nat_le, reverse, filter, length-take, length-drop}
+use Rattle.std.proofs.Common.{◌≡◌, ℕ, zero, suc, ◌+◌, ◌-◌, ◌<◌, ◌≤◌, Bool, true, false, not, ◌&&◌, ◌||◌, inl, inr, ◌⊎◌, List, [], ◌∷◌, ◌++◌, length, take, drop, max, refl, sym, ap, subst, ◌∙◌, arith, Option, Some, nat_le, reverse, filter, length-take, length-drop}
 use Rattle.std.specs.Prelude.{if◌then◌else◌, slice_index}
 use Rattle.std.specs.List.{list_any, prefix_len, suffix_len, position_or_len}
 use Rattle.std.proofs.lemmas.Bool.{cases_Bool, cases_lt, leb-true, leb-false}
@@ -9,10 +9,9 @@ use Rattle.std.proofs.lemmas.List.Elements.{filter-append}
 use Rattle.std.proofs.Math.Seq.{take-append-add, drop-append_seam, take-length}
 use Rattle.jsonc_tree.specs.Content.{Content}
 use Rattle.jsonc_layout.specs.nodes.Kinds.{is_comment, is_newline, is_whitespace}
-use Rattle.jsonc_sort.specs.Above.{above, above_from}
-use Rattle.jsonc_sort.specs.Leads.{before_comment, blank_lines, comments, first_line, has_blank_line, header_by, header_of, is_blank_at, is_comment_at, lead_parts, line_ends, parts_of_line, parts_of_lines, spaces, through_last_line}
+use Rattle.jsonc_sort.specs.Above.{above, above_from, header}
+use Rattle.jsonc_sort.specs.Leads.{before_comment, below, blank_lines, comments, first_line, has_blank_line, header_by, header_of, is_blank_at, is_comment_at, lead_parts, line_ends, own_lead, parts_of_line, parts_of_lines, spaces, through_last_line}
 use Rattle.jsonc_sort.specs.Parts.{is_newline_at, is_no_newline_at, is_whitespace_at, up_to_spaces}
-use Rattle.jsonc_cst.specs.EntryComments.{below, own_lead, pin_above}
 
 -- what passes a test, behind so many members
 abbrev cnt : (ℕ → Bool) → List ℕ → ℕ
@@ -279,9 +278,13 @@ module _ (at : ℕ → Content) where
       let k : ℕ = spaces at lead in
       ap (λ l. l ++ filter rem (drop k lead)) (sym (none_front rem ws ws_rem lead)) ∙ sym (filter-append rem (take k lead) (drop k lead)) ∙ ap (filter rem) (take-append-drop k lead)
 
-  pub travels_own : (lead : List ℕ) → filter rem (lead_parts at false (pin_above at lead) lead).travels ≡ filter rem (own_lead at lead)
+  -- what is pinned of a lead where headers are kept
+  abbrev pub pin_above : List ℕ → Option ℕ
+  pin_above lead = Some (header at lead)
+
+  pub travels_own : (lead : List ℕ) → filter rem (lead_parts at false (pin_above lead) lead).travels ≡ filter rem (own_lead at lead)
   travels_own lead = by (list_any nl lead) refl
     where
-      by : (b : Bool) → list_any nl lead ≡ b → filter rem (if b then parts_of_lines at false (pin_above at lead) lead else parts_of_line at lead).travels ≡ filter rem (if b then below at lead else lead)
+      by : (b : Bool) → list_any nl lead ≡ b → filter rem (if b then parts_of_lines at false (pin_above lead) lead else parts_of_line at lead).travels ≡ filter rem (if b then below at lead else lead)
       by true e = lines_own lead e
       by false e = line_own lead

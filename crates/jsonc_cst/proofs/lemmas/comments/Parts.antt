@@ -10,11 +10,11 @@ use Rattle.jsonc_tree.specs.Content.{Content}
 use Rattle.jsonc_layout.specs.nodes.Kinds.{is_element}
 use Rattle.jsonc_sort.proofs.Choices.{Each}
 use Rattle.jsonc_sort.specs.Above.{leads_from}
-use Rattle.jsonc_sort.specs.Leads.{is_comment_at, lead_parts}
+use Rattle.jsonc_sort.specs.Leads.{is_comment_at, lead_parts, own_lead}
 use Rattle.jsonc_sort.specs.Parts.{Part, Parts, is_none, part_with, parts, tail_length, with_node}
 use Rattle.jsonc_sort.specs.Sorting.{entries_from}
-use Rattle.jsonc_cst.specs.EntryComments.{comments_around, comments_in, comments_of_part, moved_comments, own_lead, pin_above}
-use Rattle.jsonc_cst.proofs.lemmas.comments.Leads.{travels_own}
+use Rattle.jsonc_cst.specs.EntryComments.{comments_around, comments_in, comments_of_part, moved_comments}
+use Rattle.jsonc_cst.proofs.lemmas.comments.Leads.{pin_above, travels_own}
 
 -- no two are the same
 abbrev pub Apart : List ℕ → Type 0

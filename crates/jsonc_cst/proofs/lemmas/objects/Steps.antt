@@ -20,12 +20,12 @@ use Rattle.jsonc_cst.specs.objects.Named.{IsEnsuringNamed}
 module _ (old new : List Node) (tree : IsTree old) (after : IsTree new) (c : ℕ) (name : List ℕ) (named : IsCharacters name) (is : content_at old c ≡ content.object) where
   pub inserted_step : (i m : ℕ) (v : Plain) → IsOfTexts v → PropertyPut old new c i name v m → IsInsertingNamed old new c i name v
   inserted_step i m v texts put =
-      made_step old new tree after IsAt (λ path. insert_property path i name v) c (λ path. (named, texts)) (λ o sound over. holder_path o old tree sound c over (ap is_array_or_object is)) (λ path over at. (c, m, (at, is), put))
+      made_step old new tree after IsAt (λ path. insert_property path i name v) c (λ path. (named, texts)) (λ o sound over. holder_path o old tree sound c over (ap is_array_or_object is)) (λ path over at. (c, (at, is), (m, put)))
 
   pub appended_step : (m : ℕ) (v : Plain) → IsOfTexts v → PropertyPut old new c (length (elements_at old c)) name v m → IsAppendingNamed old new c name v
   appended_step m v texts put =
-      made_step old new tree after IsAt (λ path. append_property path name v) c (λ path. (named, texts)) (λ o sound over. holder_path o old tree sound c over (ap is_array_or_object is)) (λ path over at. (c, m, (at, is), put))
+      made_step old new tree after IsAt (λ path. append_property path name v) c (λ path. (named, texts)) (λ o sound over. holder_path o old tree sound c over (ap is_array_or_object is)) (λ path over at. (c, (at, is), (m, put)))
 
   pub ensured_step : (shape : Shape) (how : Over) (answer : Option ℕ) → NamedEnsured shape how old new c name answer → IsEnsuringNamed old new c name shape how
   ensured_step shape how answer ensured =
-      made_step old new tree after IsAt (λ path. ensure_property path name shape how) c (λ path. named) (λ o sound over. holder_path o old tree sound c over (ap is_array_or_object is)) (λ path over at. (c, answer, (at, is), ensured))
+      made_step old new tree after IsAt (λ path. ensure_property path name shape how) c (λ path. named) (λ o sound over. holder_path o old tree sound c over (ap is_array_or_object is)) (λ path over at. (c, (at, is), (answer, ensured)))

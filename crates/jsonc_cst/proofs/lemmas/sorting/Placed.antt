@@ -27,7 +27,7 @@ module _ (old new : List Node) (c : ℕ) (h : Headers) (order : List ℕ) (befor
 
   step : Rearranged old new c h order → IsStep IsAt (λ path. rearrange path h order) old new c
   step made =
-      made_step old new before after IsAt (λ path. rearrange path h order) c (λ path. tt) (λ o sound over. holder_path o old before sound c over holds) (λ path over at. (c, (at, holds), all, made))
+      made_step old new before after IsAt (λ path. rearrange path h order) c (λ path. tt) (λ o sound over. holder_path o old before sound c over holds) (λ path over at. (c, (at, holds), (all, made)))
 
   pub is_placed : Rearranged old new c h order → IsPlaced old new c h order
   is_placed made = record { all = all; made = made; few = λ less. few_stay old new c h order less all made; detached = order_elsewhere old before new c h order after made; written = written made; step = step made }

@@ -3,9 +3,10 @@ use Rattle.std.proofs.Common.{◌≡◌, ℕ, ◌<◌, Bool, true, false, List, 
 use Rattle.jsonc_text.specs.Plain.{Plain}
 use Rattle.jsonc_layout.specs.nodes.Properties.{value_at}
 use Rattle.jsonc_tree.specs.Content.{Content}
-use Rattle.jsonc_tree.specs.Tree.{Node, parent_at, IsTree}
+use Rattle.jsonc_tree.specs.Tree.{Node, parent_at, IsOver, IsTree}
 use Rattle.jsonc_edit.specs.Comments.{TakesOut}
 use Rattle.jsonc_edit.specs.set.Shapes.{empty_of, is_of}
+use Rattle.jsonc_edit.proofs.lemmas.set.Renaming.{named_child}
 use Rattle.jsonc_text.specs.declared.edit.TrailingCommaMode.{TrailingCommaMode}
 use Rattle.jsonc_edit.specs.remove.Removed.{TakesElement}
 use Rattle.jsonc_text.specs.declared.edit.Over.{Over}
@@ -31,6 +32,7 @@ use Rattle.jsonc_cst.specs.typed.Inserting.{HasComeIn}
 use Rattle.jsonc_cst.specs.typed.Lines.{HasSpreadOut}
 use Rattle.jsonc_cst.specs.typed.Raw.{HasBecome}
 use Rattle.jsonc_cst.specs.typed.Removing.{removal_of, IsCleared, IsLooseFor, IsTakenBy, RemovedAlone}
+use Rattle.jsonc_cst.specs.typed.Renaming.{HasBeenRenamed}
 use Rattle.jsonc_cst.specs.typed.Setting.{FindsOrCreates, FindsOrSets, HasBecomeProperty, RootBecomes, ValueBecomes}
 use Rattle.jsonc_cst.specs.typed.Values.{HasSetBoolean, HeldBecomes, NodeValueIs, NowHolds}
 use Rattle.jsonc_cst.proofs.lemmas.typed.PropertyValues.{held_property}
@@ -93,6 +95,16 @@ module _ {A : Type 0} (old new : CstRootNode A) where
 
   pub property_is_call : (node : CstNode) (name : List ℕ) (v : Plain) (now : CstNode) → IsCallIf old new node (HasBecomeProperty old new node name v now)
   property_is_call node name v now = λ tree held given. call_of (nodes_of old) (nodes_of new) tree (number_of node) held.0 (property_gives_way (number_of node) (number_of now) name v given)
+
+  -- of the name, which stands in the property
+  pub renamed_is_call : (node : CstNode) (name : List ℕ) (now : CstNode) → IsCallIf old new node (HasBeenRenamed old new node name now)
+  renamed_is_call node name now = λ tree held given.
+      record {
+        in_tree = held.0;
+        at = given.0;
+        over = IsOver.above (named_child (nodes_of old) tree (number_of node) given.0 given.1) IsOver.itself;
+        is = gives_way_raw given.0 (number_of now) (Plain.string name) given.2;
+      }
 
   pub clearing_is_call : IsRootCallIf old new (IsCleared (nodes_of old) (nodes_of new))
   clearing_is_call = λ tree s. cleared (nodes_of old) (nodes_of new) tree s

@@ -31,14 +31,15 @@ use Rattle.jsonc_edit.specs.remove.Removed.{TakesElement}
 use Rattle.jsonc_edit.specs.set.Booleans.{is_boolean, BooleanSet}
 use Rattle.jsonc_edit.specs.set.Giving.{IsPropertyReplaced}
 use Rattle.jsonc_edit.specs.set.Kinds.{FoundOrCreated, FoundOrSet}
+use Rattle.jsonc_edit.specs.set.Names.{IsRenamed}
 use Rattle.jsonc_edit.specs.set.PropertyValues.{HeldOrSet}
 use Rattle.jsonc_text.specs.declared.edit.Over.TheVariants as over
 use Rattle.jsonc_text.specs.declared.edit.Shape.{Shape}
 use Rattle.jsonc_insert.specs.named.Places.{IsPropertyAt}
 use Rattle.jsonc_edit.specs.set.Shapes.{is_of, empty_of}
-use Rattle.jsonc_run.specs.Edits.{replace, remove, remove_comment, set_root, clear_root, replace_property, ensure_root, set_value, ensure_value, set_boolean, ensure_multiline, insert_element, append_element, PropertyValueSet, RootSet}
+use Rattle.jsonc_run.specs.Edits.{replace, remove, remove_comment, set_root, clear_root, replace_property, ensure_root, set_value, ensure_value, set_boolean, ensure_multiline, insert_element, append_element, rename_property, PropertyValueSet, RootSet}
 use Rattle.jsonc_run.specs.Places.{IsEntryAt}
-use Rattle.jsonc_run.specs.Steps.{IsChangedAt}
+use Rattle.jsonc_run.specs.Written.{IsChangedAt}
 use Rattle.jsonc_run.specs.promise.Steps.{IsCommentAt}
 use Rattle.jsonc_run.proofs.lemmas.promise.CommaSteps.{commas_lead, some_commas_lead}
 use Rattle.jsonc_run.proofs.lemmas.promise.Lines.{AreSet}
@@ -49,7 +50,7 @@ use Rattle.jsonc_cst.specs.Nodes.{typed, typed_at}
 use Rattle.jsonc_cst.specs.typed.Commas.{CommasSet, CommasSetInPart}
 use Rattle.jsonc_cst.specs.typed.Removing.{removal_of, IsCleared}
 use Rattle.jsonc_cst.specs.typed.Setting.{ValueBecomes}
-use Rattle.jsonc_cst.specs.typed.Steps.{IsHolder, IsReplacing, IsReplacingProperty, IsRemoving, IsSettingBoolean, IsSettingRoot, IsSettingValue, IsEnsuringRoot, IsEnsuringValue, IsSpreading, IsInserting, IsAppending, IsSettingCommas, IsSettingSomeCommas, IsClearing, IsValueIn, IsWholeOrAt}
+use Rattle.jsonc_cst.specs.typed.Steps.{IsHolder, IsReplacing, IsReplacingProperty, IsRenamingProperty, IsRemoving, IsSettingBoolean, IsSettingRoot, IsSettingValue, IsEnsuringRoot, IsEnsuringValue, IsSpreading, IsInserting, IsAppending, IsSettingCommas, IsSettingSomeCommas, IsClearing, IsValueIn, IsWholeOrAt}
 use Rattle.jsonc_cst.specs.typed.Values.{HeldBecomes}
 use Rattle.jsonc_cst.specs.declared.typed.removing.Removal.TheVariants.{OfComment, OfElement}
 use Rattle.jsonc_cst.proofs.lemmas.typed.Places.{comment_kind, comment_number, entry_path, holder_at, holder_place, property_path, value_path}
@@ -62,11 +63,15 @@ boolean_value ns n c is e = cc
 module _ (old new : List Node) (tree : IsTree old) (after : IsTree new) where
   pub replaced_step : (n m : ℕ) (v : Plain) → IsOfTexts v → IsReplaced old new n v m → IsValueIn old (typed_at old n) → IsReplacing old new n v
   replaced_step n m v texts r is =
-      made_step old new tree after IsAt (λ path. replace path v) n (λ path. texts) (λ o sound. value_path o old tree sound n is) (λ path over at. (n, m, at, r))
+      made_step old new tree after IsAt (λ path. replace path v) n (λ path. texts) (λ o sound. value_path o old tree sound n is) (λ path over at. (n, at, (m, r)))
 
   pub property_replaced_step : (n m : ℕ) (name : List ℕ) (v : Plain) → IsCharacters name → IsOfTexts v → IsPropertyReplaced old new n name v m → content_at old n ≡ content.property → IsReplacingProperty old new n name v
   property_replaced_step n m name v named texts r is =
-      made_step old new tree after IsPropertyAt (λ path. replace_property path name v) n (λ path. (named, texts)) (λ o sound. property_path o old tree sound n is) (λ path over at. (n, m, at, r))
+      made_step old new tree after IsPropertyAt (λ path. replace_property path name v) n (λ path. (named, texts)) (λ o sound. property_path o old tree sound n is) (λ path over at. (n, at, (m, r)))
+
+  pub renamed_step : (n m : ℕ) (name : List ℕ) → IsCharacters name → IsRenamed old new n name m → content_at old n ≡ content.property → IsRenamingProperty old new n name
+  renamed_step n m name named r is =
+      made_step old new tree after IsPropertyAt (λ path. rename_property path name) n (λ path. named) (λ o sound. property_path o old tree sound n is) (λ path over at. (n, at, (m, r)))
 
   -- what is taken out
   pub element_step : (n : ℕ) → TakesElement old new n → removal_of (typed_at old n) ≡ OfElement → IsRemoving old new OfElement n
@@ -124,11 +129,11 @@ module _ (old new : List Node) (tree : IsTree old) (after : IsTree new) where
 
   pub inserted_step : (n i m : ℕ) (v : Plain) → IsOfTexts v → ElementPut old new n i v m → content_at old n ≡ content.array → IsInserting old new n i v
   inserted_step n i m v texts put is =
-      made_step old new tree after IsAt (λ path. insert_element path i v) n (λ path. texts) (λ o sound over. holder_path o old tree sound n over (ap is_array_or_object is)) (λ path over at. (n, m, (at, is), put))
+      made_step old new tree after IsAt (λ path. insert_element path i v) n (λ path. texts) (λ o sound over. holder_path o old tree sound n over (ap is_array_or_object is)) (λ path over at. (n, (at, is), (m, put)))
 
   pub appended_step : (n m : ℕ) (v : Plain) → IsOfTexts v → ElementPut old new n (length (elements_at old n)) v m → content_at old n ≡ content.array → IsAppending old new n v
   appended_step n m v texts put is =
-      made_step old new tree after IsAt (λ path. append_element path v) n (λ path. texts) (λ o sound over. holder_path o old tree sound n over (ap is_array_or_object is)) (λ path over at. (n, m, (at, is), put))
+      made_step old new tree after IsAt (λ path. append_element path v) n (λ path. texts) (λ o sound over. holder_path o old tree sound n over (ap is_array_or_object is)) (λ path over at. (n, (at, is), (m, put)))
 
 -- trailing commas
 module _ (old new : List Node) (tree : IsTree old) where

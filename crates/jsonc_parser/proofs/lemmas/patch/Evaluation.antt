@@ -10,7 +10,7 @@ use Rattle.jsonc_parser.specs.patch.References.{IsIndex, IsItem, this_item, late
 pub index_once : {token : List ℕ} {i j : ℕ} → IsIndex token i → IsIndex token j → i ≡ j
 index_once p q = sym p.is ∙ q.is
 
-item_once : {v w : Plain} {i : ℕ} {vs : Items} → IsItem v i vs → IsItem w i vs → v ≡ w
+pub item_once : {v w : Plain} {i : ℕ} {vs : Items} → IsItem v i vs → IsItem w i vs → v ≡ w
 item_once this_item this_item = refl
 item_once (later_item p) (later_item q) = item_once p q
 
@@ -27,7 +27,7 @@ repeated_lacks (this_again f) (other_name ne l) = ne refl
 repeated_lacks (later_again ne r) (other_name other l) = repeated_lacks r l
 
 -- a member of a name in a list that begins with this one: it, or one behind it
-only_of_more : {name : List ℕ} {v : Plain} {i : ℕ} {all : Members} → IsOnly name v i all → (n : List ℕ) (w : Plain) (ms : Members) → all ≡ member n w ms
+pub only_of_more : {name : List ℕ} {v : Plain} {i : ℕ} {all : Members} → IsOnly name v i all → (n : List ℕ) (w : Plain) (ms : Members) → all ≡ member n w ms
     → ((n ≡ name) × (w ≡ v) × (i ≡ 0)) ⊎ ((j : ℕ) × (i ≡ suc j) × (n ≢ name) × IsOnly name v j ms)
 only_of_more {name} {v} (this_only {ms = rest} l) n w ms e = let a : n ≡ name = cc in let b : w ≡ v = cc in inl (a, b, refl)
 only_of_more {name} {v} (later_only {i = i} {n = m} {w = x} {ms = rest} ne p) n w ms e =
@@ -46,7 +46,7 @@ repeated_of_more {name} (later_again {n = m} {v = v} {ms = rest} ne r) n w ms e 
     let b : rest ≡ ms = cc in
     inr (λ s. ne (sym a ∙ s), subst (IsRepeated name) b r)
 
-only_repeated : {name : List ℕ} {v : Plain} {i : ℕ} {ms : Members} → IsOnly name v i ms → IsRepeated name ms → ⊥
+pub only_repeated : {name : List ℕ} {v : Plain} {i : ℕ} {ms : Members} → IsOnly name v i ms → IsRepeated name ms → ⊥
 only_repeated {name} {v} (this_only {ms = rest} l) r =
     elim (repeated_of_more r name v rest refl) [
       | inl again ↦ first_lacks again.1.1 l
@@ -58,7 +58,7 @@ only_repeated {name} {v} (later_only {n = n} {w = w} {ms = rest} ne p) r =
       | inr other ↦ only_repeated p other.1
     ]
 
-only_once : {name : List ℕ} {v w : Plain} {i j : ℕ} {ms : Members} → IsOnly name v i ms → IsOnly name w j ms → v ≡ w
+pub only_once : {name : List ℕ} {v w : Plain} {i j : ℕ} {ms : Members} → IsOnly name v i ms → IsOnly name w j ms → v ≡ w
 only_once {name} {v} {w} (this_only {ms = rest} l) q =
     elim (only_of_more q name v rest refl) [
       | inl is ↦ is.1

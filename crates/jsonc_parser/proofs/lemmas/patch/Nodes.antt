@@ -57,7 +57,7 @@ object_value o _ below _ e values.boolean = cc
 object_value o _ below _ e values.null = cc
 object_value o _ below _ e (values.array h) = cc
 
-array_value : (o : Options) (c : Content) (below : OrderedTree) (v : Plain) → c ≡ content.array → ValueOf o c below v → (vs : Items) × (v ≡ plain.array vs) × ItemsOf o below vs
+pub array_value : (o : Options) (c : Content) (below : OrderedTree) (v : Plain) → c ≡ content.array → ValueOf o c below v → (vs : Items) × (v ≡ plain.array vs) × ItemsOf o below vs
 array_value o _ below _ e (values.array {vs = vs} h) = (vs, refl, h)
 array_value o _ below _ e (values.string h) = cc
 array_value o _ below _ e values.number = cc
@@ -65,10 +65,10 @@ array_value o _ below _ e values.boolean = cc
 array_value o _ below _ e values.null = cc
 array_value o _ below _ e (values.object h) = cc
 
-object_content : (o : Options) (c : Content) (below : OrderedTree) (ms : Members) → ValueOf o c below (plain.object ms) → c ≡ content.object
+pub object_content : (o : Options) (c : Content) (below : OrderedTree) (ms : Members) → ValueOf o c below (plain.object ms) → c ≡ content.object
 object_content o _ below _ (values.object h) = refl
 
-array_content : (o : Options) (c : Content) (below : OrderedTree) (vs : Items) → ValueOf o c below (plain.array vs) → c ≡ content.array
+pub array_content : (o : Options) (c : Content) (below : OrderedTree) (vs : Items) → ValueOf o c below (plain.array vs) → c ≡ content.array
 array_content o _ below _ (values.array h) = refl
 
 -- a step further on the way to a node
@@ -121,7 +121,7 @@ module _ (test : ℕ → Bool) where
       ]
 
 module _ (d : Document) (ns : List Node) (tree : IsTree ns) (shown : Shows d (ordered_tree ns 0)) where
-  some_same : (x y : Plain) → Some x ≡ Some y → x ≡ y
+  pub some_same : (x y : Plain) → Some x ≡ Some y → x ≡ y
   some_same x y e = cc
 
   -- a node at positions that tokens lead over is what they refer to
@@ -174,7 +174,7 @@ module _ (d : Document) (ns : List Node) (tree : IsTree ns) (shown : Shows d (or
         (λ ms e. no_object (object_content d.options (content_at ns n) (row_below ns n) ms (subst (HasValue d.options (top_at ns n)) e w.has)))
         (λ vs e. no_array (array_content d.options (content_at ns n) (row_below ns n) vs (subst (HasValue d.options (top_at ns n)) e w.has))))
 
-    there : n < length ns
+    pub there : n < length ns
     there = over_there ns tree n (over_at ns tree w.path n w.at)
 
     -- an array
@@ -198,10 +198,10 @@ module _ (d : Document) (ns : List Node) (tree : IsTree ns) (shown : Shows d (or
 
     -- an object
     module _ (is : content_at ns n ≡ content.object) where
-      its : (ms : Members) × (w.v ≡ plain.object ms) × MembersOf d.options (row_below ns n) ms
+      pub its : (ms : Members) × (w.v ≡ plain.object ms) × MembersOf d.options (row_below ns n) ms
       its = object_value d.options (content_at ns n) (row_below ns n) w.v is w.has
 
-      all_whole : All (IsWhole d.options ns) (children_at ns n)
+      pub all_whole : All (IsWhole d.options ns) (children_at ns n)
       all_whole = λ k e h kind row p.
           let r = get_or (children_at ns n) k e in
           let element = at_filter (is_element_at ns) (children_at ns n) k e h (ap is_element kind) in

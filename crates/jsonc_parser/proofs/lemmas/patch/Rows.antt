@@ -45,7 +45,7 @@ leaf_named o (content.whitespace s) name k l = absurd k
 leaf_named o (content.newline e) name k l = absurd k
 leaf_named o (content.comment s) name k l = absurd k
 
-passed_over : (w : Content) → IsTrue (is_passed_over w) → (is_element w ≡ false) × (w ≡ property → ⊥)
+pub passed_over : (w : Content) → IsTrue (is_passed_over w) → (is_element w ≡ false) × (w ≡ property → ⊥)
 passed_over (content.whitespace s) h = (refl, λ e. let wrong : content.whitespace s ≡ property = e in cc)
 passed_over (content.newline k) h = (refl, λ e. let wrong : content.newline k ≡ property = e in cc)
 passed_over (content.comment s) h = (refl, λ e. let wrong : content.comment s ≡ property = e in cc)
@@ -62,10 +62,10 @@ passed_over content.property h = cc
 
 module _ (o : Options) (ns : List Node) where
   -- a property's name, among its children
-  record NameLeaf (xs : List ℕ) (name : List ℕ) : Type 0 where
-    leaf : ℕ
-    is : find (is_name_at ns) xs ≡ Some leaf
-    named : Names (content_at ns leaf) name
+  pub record NameLeaf (xs : List ℕ) (name : List ℕ) : Type 0 where
+    pub leaf : ℕ
+    pub is : find (is_name_at ns) xs ≡ Some leaf
+    pub named : Names (content_at ns leaf) name
 
   first_leaf : (xs : List ℕ) (leaf : Content) (after : OrderedTree) (name : List ℕ) (v : Plain) → Shows ns xs (more leaf none after) → IsNameBefore o leaf [] → PropertyOf o (more leaf none after) name v → NameLeaf xs name
   first_leaf xs leaf after name v p k (values.pass_to_name q h) = absurd (no_element leaf (name_element o leaf [] k) q)
@@ -78,11 +78,11 @@ module _ (o : Options) (ns : List Node) where
         named = subst (λ w. Names w name) (sym first.kind) it.1;
       }
 
-  name_leaf : (xs : List ℕ) (row : OrderedTree) (name : List ℕ) (v : Plain) → Shows ns xs row → PropertyAlone o row → PropertyOf o row name v → NameLeaf xs name
+  pub name_leaf : (xs : List ℕ) (row : OrderedTree) (name : List ℕ) (v : Plain) → Shows ns xs row → PropertyAlone o row → PropertyOf o row name v → NameLeaf xs name
   name_leaf xs _ name v p (alone.named {name = leaf} {after = after} k g h w) is = first_leaf xs leaf after name v p k is
 
   -- so the property has the name, and no other
-  has_name : (n : ℕ) (name : List ℕ) → NameLeaf (children_at ns n) name → HasName ns n name
+  pub has_name : (n : ℕ) (name : List ℕ) → NameLeaf (children_at ns n) name → HasName ns n name
   has_name n name l = (l.leaf, l.is, l.named)
 
   has_no_other : (n : ℕ) (name other : List ℕ) → NameLeaf (children_at ns n) name → HasName ns n other → name ≡ other
@@ -124,7 +124,7 @@ module _ (o : Options) (ns : List Node) where
       let later = tails (Some again) f in
       subst (λ k. IsRepeated name (member k v ms)) (sym same) (this_again later.2)
 
-  others_whole : (n : ℕ) (xs : List ℕ) → All (IsWhole o ns) (n ∷ xs) → All (IsWhole o ns) xs
+  pub others_whole : (n : ℕ) (xs : List ℕ) → All (IsWhole o ns) (n ∷ xs) → All (IsWhole o ns) xs
   others_whole n xs whole = λ k d h. whole (suc k) d (omega (arith, h))
 
   pub looked_up : (xs : List ℕ) (row same : OrderedTree) (ms : Members) (name : List ℕ) (found : Lookup) → Shows ns xs row → MembersOf o same ms → row ≡ same → All (IsWhole o ns) xs → IsLookedUp ns name xs found → OneAmong xs name found ms

@@ -15,10 +15,13 @@ use Rattle.jsonc_insert.specs.named.Members.{IsFirstMember, LacksMember}
 use Rattle.jsonc_insert.specs.named.Places.{IsPropertyAt, IsPropertyOf, a_property}
 use Rattle.jsonc_insert.proofs.lemmas.named.PropertyValues.{value_held}
 use Rattle.jsonc_insert.proofs.lemmas.named.Writing.{finds_member}
+use Rattle.jsonc_parser.specs.declared.paths.which.Which.TheVariants.{First}
 use Rattle.jsonc_parser.specs.paths.AtPaths.{FindsFirst, PropertyHolds, RootHolds, StandsThere}
-use Rattle.jsonc_parser.proofs.lemmas.paths.Leading.{at_first, no_path}
+use Rattle.jsonc_parser.proofs.lemmas.paths.Chosen.{at_first}
+use Rattle.jsonc_parser.proofs.lemmas.paths.ChosenNodes.{first_named, value_of_first}
+use Rattle.jsonc_parser.proofs.lemmas.paths.Leading.{no_path}
 use Rattle.jsonc_parser.proofs.lemmas.paths.LongestPrefix.{lacking}
-use Rattle.jsonc_parser.proofs.lemmas.paths.NodesAtNames.{begins_there, first_named, value_of_first, value_once}
+use Rattle.jsonc_parser.proofs.lemmas.paths.NodesAtNames.{begins_there, value_once}
 
 -- a first one is not lacking
 first_there : {name : List ℕ} {i : ℕ} {ms : Members} → IsFirstMember name i ms → LacksMember name ms → ⊥
@@ -26,12 +29,12 @@ first_there f l = lacking l (at_first (value_of_first f).1)
 
 module _ (d : Document) (ns : List Node) (tree : IsTree ns) (shown : Shows d (ordered_tree ns 0)) where
   root_some : (n : ℕ) → value_at ns 0 ≡ Some n → IsAt ns [] n
-  root_some n e = let w = (begins_there d ns tree shown).some n e in subst (λ path. IsAt ns path n) (no_path w.leads refl) w.at
+  root_some n e = let w = (begins_there First d ns tree shown).some n e in subst (λ path. IsAt ns path n) (no_path w.leads refl) w.at
 
   root_none : d.value ≡ None → (q : Option ℕ) → value_at ns 0 ≡ q → q ≡ None
   root_none e None is = refl
   root_none e (Some n) is =
-      let w = (begins_there d ns tree shown).some n is in
+      let w = (begins_there First d ns tree shown).some n is in
       let wrong : None ≡ Some w.value = sym e ∙ w.is in cc
 
   -- of a name in an object at a path
@@ -49,7 +52,7 @@ module _ (d : Document) (ns : List Node) (tree : IsTree ns) (shown : Shows d (or
         (among.0, among.2, subst (IsPropertyAt ns (path ++ among.0 ∷ [])) same (a_property path n among.0 at inside))
 
 pub root_holds : (d : Document) (ns : List Node) → RootHolds d ns
-root_holds d ns tree shown = record { some = root_some d ns tree shown; none = ((begins_there d ns tree shown).none, λ e. root_none d ns tree shown e (value_at ns 0) refl) }
+root_holds d ns tree shown = record { some = root_some d ns tree shown; none = ((begins_there First d ns tree shown).none, λ e. root_none d ns tree shown e (value_at ns 0) refl) }
 
 pub property_holds : (d : Document) (ns : List Node) (path : List ℕ) (r : ℕ) → PropertyHolds d ns path r
 property_holds d ns path r tree shown there = let held = value_held d.options ns tree shown.sound path r there in (held.value, held.holds, held.at)
@@ -59,7 +62,7 @@ finds_first d ns path n name found tree shown at is first =
     let f = finds_member d.options ns path n name found tree shown.sound at is first in
     record {
       x = f.value;
-      is = value_once d ns tree shown f.value f.text;
+      is = value_once First d ns tree shown f.value f.text;
       ms = f.members;
       stands = f.at;
       none = none_exactly d ns tree shown path n at is name found f.members f.among;

@@ -14,7 +14,7 @@ use Rattle.jsonc_text.specs.declared.edit.Over.{Over}
 use Rattle.jsonc_run.specs.declared.edit.Edit.{Edit}
 use Rattle.jsonc_run.specs.declared.edit.Edit.TheVariants.{Remove, Sort, SetTrailingCommas}
 use Rattle.jsonc_text.specs.declared.edit.TrailingCommaMode.{TrailingCommaMode}
-use Rattle.jsonc_run.specs.Edits.{Operation, is_sort, is_whole, operation_of, set_commas, unsorted, EditStep}
+use Rattle.jsonc_run.specs.Edits.{PlainEdit, is_sort, is_whole, operation_of, set_commas, unsorted, EditStep}
 use Rattle.jsonc_run.specs.Refusals.{IsLeft, as_it_was, set_in_part, FailsWith}
 use Rattle.jsonc_run.proofs.SoundChain.{of_characters}
 use Rattle.jsonc_cst.specs.declared.cst.CstRootNode.{CstRootNode}
@@ -24,6 +24,8 @@ use Rattle.jsonc_parser.specs.paths.Choices.{Chooses}
 use Rattle.jsonc_parser.specs.paths.Found.{names_of}
 use Rattle.jsonc_parser.specs.paths.Positions.{Leads, removes, IsDroppedBy}
 use Rattle.jsonc_parser.specs.paths.Settings.{nest}
+use Rattle.jsonc_parser.specs.declared.paths.which.Which.{Which}
+use Rattle.jsonc_parser.specs.declared.paths.which.Which.TheVariants.{First}
 use Rattle.jsonc_parser.proofs.lemmas.paths.Calls.{drops_but_for_memory, drops_by_one_edit, puts_but_for_memory, puts_by_one_edit}
 
 -- an edit that is made whole is no sort, and sets no trailing commas
@@ -31,11 +33,11 @@ pub whole_no_sort : {A : Type 0} (e : Edit A) → is_whole e ≡ true → is_sor
 whole_no_sort (Sort path pin groups) whole = let wrong : false ≡ true = whole in cc
 whole_no_sort e whole = refl
 
-whole_no_commas : {A : Type 0} (e : Edit A) (path : List ℕ) (mode : TrailingCommaMode) → is_whole e ≡ true → operation_of unsorted e ≡ set_commas path mode → ⊥
+pub whole_no_commas : {A : Type 0} (e : Edit A) (path : List ℕ) (mode : TrailingCommaMode) → is_whole e ≡ true → operation_of unsorted e ≡ set_commas path mode → ⊥
 whole_no_commas (SetTrailingCommas path mode) q m whole is = let wrong : false ≡ true = whole in cc
 whole_no_commas e q m whole is = cc
 
-left_whole : {A : Type 0} (e : Edit A) (old new : List Node) (op : Operation) → is_whole e ≡ true → operation_of unsorted e ≡ op → IsLeft old op new → ordered_tree new 0 ≡ ordered_tree old 0
+left_whole : {A : Type 0} (e : Edit A) (old new : List Node) (op : PlainEdit) → is_whole e ≡ true → operation_of unsorted e ≡ op → IsLeft old op new → ordered_tree new 0 ≡ ordered_tree old 0
 left_whole e old new op whole is (as_it_was kept same) = same
 left_whole e old new _ whole is (set_in_part {path = path} {mode = mode} n at part) = absurd (whole_no_commas e path mode whole is)
 
@@ -45,14 +47,14 @@ left_alone e old new (Ok x) whole left = tt
 left_alone e old new (Err x) whole left = left_whole e old new (operation_of unsorted e) whole refl left
 
 module _ {A : Type 0} (doc now : CstRootNode A) (tree : IsTree (nodes_of doc)) where
-  module _ (v : Plain) (over : Over) (names : List (List ℕ)) (edit : Edit A) (chosen : Chooses doc v over names (Some edit)) where
-    pub put_made : IsTree (nodes_of now) → EditStep (nodes_of doc) (operation_of unsorted edit) (nodes_of now) → PutsWhatShown v over names (nodes_of doc) (nodes_of now) true
-    put_made after made d shown = puts_by_one_edit d v over names (operation_of unsorted edit) (nodes_of doc) (nodes_of now) tree after shown (chosen.1 d shown) (of_characters unsorted edit) made
+  module _ (which : Which) (v : Plain) (over : Over) (names : List (List ℕ)) (edit : Edit A) (chosen : Chooses which doc v over names (Some edit)) where
+    pub put_made : IsTree (nodes_of now) → EditStep (nodes_of doc) (operation_of unsorted edit) (nodes_of now) → PutsWhatShown which v over names (nodes_of doc) (nodes_of now) true
+    put_made after made d shown = puts_by_one_edit which d v over names (operation_of unsorted edit) (nodes_of doc) (nodes_of now) tree after shown (chosen.1 d shown) (of_characters unsorted edit) made
 
     pub put_refused : (why : EditError) → FailsWith (nodes_of doc) (operation_of unsorted edit) why → WantsMemory (nodes_of doc) why
-    put_refused why told d shown = puts_but_for_memory d v over names (operation_of unsorted edit) (nodes_of doc) why tree shown (chosen.1 d shown) told
+    put_refused why told d shown = puts_but_for_memory which d v over names (operation_of unsorted edit) (nodes_of doc) why tree shown (chosen.1 d shown) told
 
-  module _ (names : List (List ℕ)) (path : Vec ℕ A) (reached : (d : Document) → Shows d (tree_of doc) → (x v : Plain) × (d.value ≡ Some x) × Leads names path.items x v) where
+  module _ (names : List (List ℕ)) (path : Vec ℕ A) (reached : (d : Document) → Shows d (tree_of doc) → (x v : Plain) × (d.value ≡ Some x) × Leads First names path.items x v) where
     dropped_by : (d : Document) → Shows d (tree_of doc) → IsDroppedBy d.value names (operation_of unsorted (Remove path))
     dropped_by d shown = let r = reached d shown in subst (λ (w : Option Plain). IsDroppedBy w names (operation_of unsorted (Remove path))) (sym r.2) (removes r.3)
 

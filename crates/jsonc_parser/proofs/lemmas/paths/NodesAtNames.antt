@@ -3,6 +3,7 @@ use Rattle.std.proofs.Common.{ℕ, ◌≡◌, ◌∙◌, ◌++◌, sym, ap, subs
 use Rattle.std.specs.List.{find}
 use Rattle.jsonc_text.specs.Documents.{Document}
 use Rattle.jsonc_text.specs.Grammar.{IsDocument}
+use Rattle.jsonc_text.specs.Options.{Options}
 use Rattle.jsonc_text.specs.Plain as plain
 use Rattle.jsonc_text.specs.Plain.{Plain, Members, no_members, member}
 use Rattle.jsonc_text.proofs.UniqueValues.{document_unique}
@@ -12,14 +13,11 @@ use Rattle.jsonc_tree.specs.OrderedTree as trees
 use Rattle.jsonc_tree.specs.OrderedTree.{OrderedTree, none, more, shows_none, shows_more, ordered_tree}
 use Rattle.jsonc_tree.specs.Tree.{Node, content_at, children_at, IsTree}
 use Rattle.jsonc_tree.specs.Values as values
-use Rattle.jsonc_tree.specs.Values.{DocumentValueOf, HoldsValue, ValueOf}
+use Rattle.jsonc_tree.specs.Values.{DocumentValueOf, HoldsValue, MembersOf, ValueOf}
 use Rattle.jsonc_sound.specs.Shape.{printed_text}
 use Rattle.jsonc_layout.specs.nodes.Kinds.{is_element_at}
-use Rattle.jsonc_layout.specs.nodes.Names as names_of
-use Rattle.jsonc_layout.specs.nodes.Names.{FirstInObject, FirstNamed, IsNamed}
 use Rattle.jsonc_layout.specs.nodes.Properties.{value_at, value_by}
 use Rattle.jsonc_layout.proofs.lemmas.nodes.PropertyValues.{first_kept}
-use Rattle.jsonc_sound.specs.Changes.{Changed}
 use Rattle.jsonc_sound.specs.Sound.{HasValue}
 use Rattle.jsonc_sound.specs.Documents.{Shows}
 use Rattle.jsonc_sound.proofs.FirstNodes.{value_of_element}
@@ -29,45 +27,46 @@ use Rattle.jsonc_edit.specs.Paths.{IsAt, IsElementOf}
 use Rattle.jsonc_edit.proofs.FittingFinds.{passes, fails, none_is_some}
 use Rattle.jsonc_edit.proofs.ChangesUpward.{Shows-row_below, document_is}
 use Rattle.jsonc_edit.proofs.lemmas.set.PropertyRows.{prints_value, some_value_of}
-use Rattle.jsonc_insert.specs.named.Members.{IsFirstMember, first_is, first_later, LacksMember}
+use Rattle.jsonc_insert.specs.named.Members.{LacksMember}
 use Rattle.jsonc_insert.specs.named.Places.{IsPropertyOf, IsPropertyAt, a_property}
 use Rattle.jsonc_insert.proofs.lemmas.named.PathValues.{gives_way_to_itself, value_at_path}
 use Rattle.jsonc_insert.proofs.lemmas.named.PropertyValues.{value_held}
-use Rattle.jsonc_insert.specs.named.Laws.{IsFoundAt}
-use Rattle.jsonc_insert.proofs.lemmas.named.Writing.{finds_member}
 use Rattle.jsonc_parser.specs.paths.Settings.{At, IsNoObject}
-use Rattle.jsonc_parser.specs.paths.Positions.{FirstAt, this_at, later_at, Leads, leads_nowhere, leads_on}
-use Rattle.jsonc_parser.proofs.lemmas.paths.Leading.{leads_at, leads_value, at_first}
+use Rattle.jsonc_parser.specs.paths.Positions.{Leads, leads_nowhere, leads_on}
+use Rattle.jsonc_parser.specs.paths.Which.{IsChosenAt, IsChosenIn, seen, seen_if}
+use Rattle.jsonc_parser.specs.declared.paths.which.Which.{Which}
+use Rattle.jsonc_parser.proofs.lemmas.paths.Chosen.{chosen_first, seen_lacks, seen_object, seen_other, seen_some}
+use Rattle.jsonc_parser.proofs.lemmas.paths.ChosenNodes.{ChosenAmong, chosen_among, chosen_named}
+use Rattle.jsonc_parser.proofs.lemmas.paths.Leading.{leads_at, leads_value}
 use Rattle.jsonc_parser.proofs.lemmas.paths.Members.{first_once}
 use Rattle.jsonc_parser.proofs.lemmas.paths.Paths.{in_members, no_object_inside}
 use Rattle.jsonc_parser.proofs.lemmas.paths.LongestPrefix.{lacking}
 use Rattle.jsonc_parser.specs.paths.Standing.{NamesNode, NamesNothing, BeginsThere, StopsThere, LeadsOn}
 
--- the first member of a name has a value
-pub value_of_first : {name : List ℕ} {i : ℕ} {ms : Members} → IsFirstMember name i ms → (v : Plain) × FirstAt name v i ms
-value_of_first (first_is {v = v}) = (v, this_at)
-value_of_first (first_later ne f) = let g = value_of_first f in (g.0, later_at ne g.1)
-
--- what is found has the name (as in jsonc_insert/proofs/lemmas/named/Writing.antt)
-pub first_named : (ns : List Node) (name xs : List ℕ) (found : Option ℕ) (r : ℕ) → found ≡ Some r → FirstNamed ns name xs found → IsNamed ns name r
-first_named ns name _ _ r e names_of.none = let wrong : None ≡ Some r = e in cc
-first_named ns name _ _ r e (names_of.here {n = n} is) = let same : n ≡ r = cc in subst (IsNamed ns name) same is
-first_named ns name _ _ r e (names_of.later {rest = rest} {found = found} other f) = first_named ns name rest found r e f
-
 -- names lead further
-leads_further : {front : List (List ℕ)} {path : List ℕ} {x y : Plain} {name : List ℕ} {i : ℕ} {ms : Members} → Leads front path x (plain.object ms) → FirstAt name y i ms
-    → Leads (front ++ name ∷ []) (path ++ i ∷ []) x y
-leads_further leads_nowhere f = leads_on f leads_nowhere
-leads_further (leads_on g l) f = leads_on g (leads_further l f)
+leads_further : {which : Which} {front : List (List ℕ)} {path : List ℕ} {x y : Plain} (name : List ℕ) (i : ℕ) {ms : Members} → Leads which front path x (plain.object ms) → IsChosenAt which name y i ms
+    → Leads which (front ++ name ∷ []) (path ++ i ∷ []) x y
+leads_further name i leads_nowhere f = leads_on f leads_nowhere
+leads_further name i (leads_on g l) f = leads_on g (leads_further name i l f)
 
 -- what stands behind the names that lead to a value stands at the others in it
-pub behind : {front : List (List ℕ)} {path : List ℕ} {x v u : Plain} (rest : List (List ℕ)) → Leads front path x v → At (Some x) (front ++ rest) u → At (Some v) rest u
+pub behind : {which : Which} {front : List (List ℕ)} {path : List ℕ} {x v u : Plain} (rest : List (List ℕ)) → Leads which front path x v → At (Some (seen which x)) (front ++ rest) u
+    → At (Some (seen which v)) rest u
 behind rest leads_nowhere a = a
-behind {u = u} rest (leads_on {names = names} f l) a =
-    let i = in_members a in
-    behind rest l (subst (λ k. At (Some k) (names ++ rest) u) (first_once i.1 (at_first f)) i.2)
+behind {which} {u = u} rest (leads_on {name = name} {names = names} {i = k} {ms = ms} {x = x} f l) a =
+    let i = in_members (subst (λ y. At (Some y) (name ∷ names ++ rest) u) (seen_object which ms) a) in
+    behind rest l (subst (λ y. At (Some y) (names ++ rest) u) (first_once i.1 (chosen_first which name x k ms f)) i.2)
 
-module _ (d : Document) (ns : List Node) (tree : IsTree ns) (shown : Shows d (ordered_tree ns 0)) where
+-- an object's node has an object's value
+object_members : {o : Options} {c : Content} {below : OrderedTree} {v : Plain} → c ≡ content.object → ValueOf o c below v → (ms : Members) × (v ≡ plain.object ms) × MembersOf o below ms
+object_members e (values.object {ms = ms} h) = (ms, refl, h)
+object_members e (values.string h) = cc
+object_members e values.number = cc
+object_members e values.boolean = cc
+object_members e values.null = cc
+object_members e (values.array h) = cc
+
+module _ (which : Which) (d : Document) (ns : List Node) (tree : IsTree ns) (shown : Shows d (ordered_tree ns 0)) where
   says : IsDocument d.options (printed_text (ordered_tree ns 0)) d.value
   says = prints_value d.options (ordered_tree ns 0) d.value shown.sound shown.value
 
@@ -79,7 +78,7 @@ module _ (d : Document) (ns : List Node) (tree : IsTree ns) (shown : Shows d (or
   value_once x text = document_unique d.options (printed_text (ordered_tree ns 0)) d.value (Some x) says text
 
   -- a node at positions that names lead over is what they name
-  named : (names : List (List ℕ)) (path : List ℕ) (n : ℕ) → IsAt ns path n → (x v : Plain) → d.value ≡ Some x → Leads names path x v → NamesNode d ns names n
+  named : (names : List (List ℕ)) (path : List ℕ) (n : ℕ) → IsAt ns path n → (x v : Plain) → d.value ≡ Some x → Leads which names path x v → NamesNode which d ns names n
   named names path n at x v is leads =
       let held = value_at_path d.options ns tree path n at x (subst (DocumentValueOf d.options (ordered_tree ns 0)) is shown.value) in
       let same : held.value ≡ v = sym (leads_value leads held.at) in
@@ -89,13 +88,13 @@ module _ (d : Document) (ns : List Node) (tree : IsTree ns) (shown : Shows d (or
         v = v;
         path = path;
         leads = leads;
-        stands = subst (λ (w : Option Plain). At w names v) (sym is) (leads_at leads);
+        stands = subst (λ (w : Option Plain). At (seen_if which w) names (seen which v)) (sym is) (subst (λ (w : Option Plain). At w names (seen which v)) (sym (seen_some which x)) (leads_at leads));
         at = at;
         has = subst (HasValue d.options (top_at ns n)) same held.has;
       }
 
   -- no name leads to the document's value
-  pub begins : (n : ℕ) → value_at ns 0 ≡ Some n → NamesNode d ns [] n
+  pub begins : (n : ℕ) → value_at ns 0 ≡ Some n → NamesNode which d ns [] n
   begins n e =
       let found : find (is_element_at ns) (children_at ns 0) ≡ Some n = sym (ap (λ w. value_by w ns 0) tree.root_first) ∙ e in
       let at : IsAt ns [] n = (n, first_kept (is_element_at ns) (children_at ns 0) ∙ found, paths.itself) in
@@ -120,10 +119,11 @@ module _ (d : Document) (ns : List Node) (tree : IsTree ns) (shown : Shows d (or
           holds_one x (children_at ns 0) (row_below ns 0) (Shows-row_below ns tree 0 tree.first) (subst (λ t. HoldsValue d.options t x) row h) (sym (ap (λ w. value_by w ns 0) tree.root_first) ∙ e)
 
   -- from here on of a node that names name
-  module _ (names : List (List ℕ)) (n : ℕ) (w : NamesNode d ns names n) where
+  module _ (names : List (List ℕ)) (n : ℕ) (w : NamesNode which d ns names n) where
     -- nothing stands behind names whose value has nothing at the others
-    none_behind : (rest : List (List ℕ)) → ((u : Plain) → At (Some w.v) rest u → ⊥) → NamesNothing d (names ++ rest)
-    none_behind rest non u a = non u (behind rest w.leads (subst (λ (k : Option Plain). At k (names ++ rest) u) w.is a))
+    none_behind : (rest : List (List ℕ)) → ((u : Plain) → At (Some (seen which w.v)) rest u → ⊥) → NamesNothing which d (names ++ rest)
+    none_behind rest non u a =
+        non u (behind rest w.leads (subst (λ (k : Option Plain). At k (names ++ rest) u) (seen_some which w.value) (subst (λ (k : Option Plain). At (seen_if which k) (names ++ rest) u) w.is a)))
 
     -- a node that is no object has no such value
     no_object : (content_at ns n ≡ content.object → ⊥) → IsNoObject w.v
@@ -132,84 +132,80 @@ module _ (d : Document) (ns : List Node) (tree : IsTree ns) (shown : Shows d (or
         object_content : (c : Content) (below : OrderedTree) → ValueOf d.options c below (plain.object ms) → c ≡ content.object
         object_content _ _ (values.object h) = refl
 
-    pub stops_here : (content_at ns n ≡ content.object → ⊥) → (name : List ℕ) (rest : List (List ℕ)) → NamesNothing d (names ++ name ∷ rest)
-    stops_here other name rest = none_behind (name ∷ rest) (λ u a. no_object_inside (no_object other) a)
+    pub stops_here : (content_at ns n ≡ content.object → ⊥) → (name : List ℕ) (rest : List (List ℕ)) → NamesNothing which d (names ++ name ∷ rest)
+    stops_here other name rest = none_behind (name ∷ rest) (λ u a. no_object_inside (seen_other which (no_object other)) a)
 
     -- the object's properties, and what was found among them
     module _ (is : content_at ns n ≡ content.object) (name : List ℕ) where
-      -- what is found of the name
-      found_so : (found : Option ℕ) → FirstInObject ns n name found → IsFoundAt d.options ns w.path n name found
-      found_so found first = finds_member d.options ns w.path n name found tree shown.sound w.at is first
+      -- the object's properties
+      its_members : (ms : Members) × (w.v ≡ plain.object ms) × MembersOf d.options (row_below ns n) ms
+      its_members = object_members is w.has
 
-      its_object : (found : Option ℕ) (first : FirstInObject ns n name found) → w.v ≡ plain.object (found_so found first).members
-      unfolding found_so
-      its_object found first =
-          let f = found_so found first in
-          let same : f.value ≡ w.value = some_same f.value w.value (sym (value_once f.value f.text) ∙ w.is) in
-          leads_value w.leads (subst (λ x. Changed (plain.object f.members) (plain.object f.members) w.path x x) same f.at)
+      among : (found : Option ℕ) → IsChosenIn which ns n name found → ChosenAmong ns n name which found its_members.0
+      among found = chosen_among d.options ns w.path n tree shown.sound w.at is its_members.0 its_members.2 name which found
 
-      pub lacks : FirstInObject ns n name None → (ms : Members) × (w.v ≡ plain.object ms) × LacksMember name ms
-      lacks first = ((found_so None first).members, its_object None first, (found_so None first).among)
+      pub lacks : IsChosenIn which ns n name None → (ms : Members) × (w.v ≡ plain.object ms) × LacksMember name ms
+      lacks missing = (its_members.0, its_members.1, among None missing)
 
-      pub misses : FirstInObject ns n name None → (rest : List (List ℕ)) → NamesNothing d (names ++ name ∷ rest)
+      pub misses : IsChosenIn which ns n name None → (rest : List (List ℕ)) → NamesNothing which d (names ++ name ∷ rest)
       misses first rest =
           let l = lacks first in
-          none_behind (name ∷ rest) (λ u a. (let i = in_members (subst (λ k. At (Some k) (name ∷ rest) u) l.1 a) in lacking l.2 i.1))
+          none_behind (name ∷ rest) (λ u a.
+          (let i = in_members (subst (λ k. At (Some k) (name ∷ rest) u) (seen_object which l.0) (subst (λ k. At (Some (seen which k)) (name ∷ rest) u) l.1 a)) in lacking (seen_lacks which l.2) i.1))
 
-      -- the first property of the name, its number and its value
-      pub record First (r : ℕ) : Type 0 where
+      -- the property of the name, its number and its value
+      pub record Chosen (r : ℕ) : Type 0 where
         pub number : ℕ
         pub ms : Members
         pub its : w.v ≡ plain.object ms
         pub v : Plain
-        pub first : FirstAt name v number ms
+        pub first : IsChosenAt which name v number ms
         pub there : IsPropertyAt ns (w.path ++ number ∷ []) r
         pub inside : IsPropertyOf ns n number r
 
-      pub first_there : (r : ℕ) → FirstInObject ns n name (Some r) → First r
-      first_there r first =
-          let f = found_so (Some r) first in
-          let one = value_of_first f.among.2 in
-          let inside : IsPropertyOf ns n f.among.0 r = record { of_object = is; element = f.among.1; is = (first_named ns name (children_at ns n) (Some r) r refl first).0 } in
+      pub chosen_here : (r : ℕ) → IsChosenIn which ns n name (Some r) → Chosen r
+      chosen_here r first =
+          let f = among (Some r) first in
+          let inside : IsPropertyOf ns n f.0 r = record { of_object = is; element = f.1; is = (chosen_named which ns n name r first).0 } in
           record {
-            number = f.among.0;
-            ms = f.members;
-            its = its_object (Some r) first;
-            v = one.0;
-            first = one.1;
-            there = a_property w.path n f.among.0 w.at inside;
+            number = f.0;
+            ms = its_members.0;
+            its = its_members.1;
+            v = f.2;
+            first = f.3;
+            there = a_property w.path n f.0 w.at inside;
             inside = inside;
           }
 
-      pub leads_inside : (r q : ℕ) → FirstInObject ns n name (Some r) → value_at ns r ≡ Some q
-          → (i : ℕ) × IsElementOf ns n i r × (further : NamesNode d ns (names ++ name ∷ []) q) × (further.path ≡ w.path ++ i ∷ [])
+      pub leads_inside : (r q : ℕ) → IsChosenIn which ns n name (Some r) → value_at ns r ≡ Some q
+          → (i : ℕ) × IsElementOf ns n i r × (further : NamesNode which d ns (names ++ name ∷ []) q) × (further.path ≡ w.path ++ i ∷ [])
       unfolding named
       leads_inside r q first e =
-          let f = first_there r first in
+          let f = chosen_here r first in
           let held = value_held d.options ns tree shown.sound (w.path ++ f.number ∷ []) r f.there in
           let both : Some held.value ≡ Some q = sym held.holds ∙ e in
           let same : held.value ≡ q = cc in
           let further = named (names ++ name ∷ []) (w.path ++ f.number ∷ []) q (subst (IsAt ns (w.path ++ f.number ∷ [])) same held.at) w.value f.v w.is
-          (leads_further (subst (Leads names w.path w.value) f.its w.leads) f.first) in
+          (leads_further name f.number (subst (Leads which names w.path w.value) f.its w.leads) f.first) in
           (f.number, f.inside.element, further, refl)
 
-      pub holds_some : (r : ℕ) → FirstInObject ns n name (Some r) → value_at ns r ≡ None → ⊥
+      pub holds_some : (r : ℕ) → IsChosenIn which ns n name (Some r) → value_at ns r ≡ None → ⊥
       holds_some r first e =
-          let f = first_there r first in
+          let f = chosen_here r first in
           let held = value_held d.options ns tree shown.sound (w.path ++ f.number ∷ []) r f.there in
           let wrong : Some held.value ≡ None = sym held.holds ∙ e in cc
 
-pub begins_there : (d : Document) (ns : List Node) → BeginsThere d ns
-begins_there d ns tree shown = record { some = begins d ns tree shown; none = λ e. nothing d ns tree shown e d.value refl }
+pub begins_there : (which : Which) (d : Document) (ns : List Node) → BeginsThere which d ns
+begins_there which d ns tree shown = record { some = begins which d ns tree shown; none = λ e. nothing which d ns tree shown e d.value refl }
 
-pub stops_there : (d : Document) (ns : List Node) (names : List (List ℕ)) (n : ℕ) → StopsThere d ns names n
-stops_there d ns names n tree shown w other = record { another = no_object d ns tree shown names n w other; nothing = stops_here d ns tree shown names n w other }
+pub stops_there : (which : Which) (d : Document) (ns : List Node) (names : List (List ℕ)) (n : ℕ) → StopsThere which d ns names n
+stops_there which d ns names n tree shown w other = record { another = no_object which d ns tree shown names n w other; nothing = stops_here which d ns tree shown names n w other }
 
-pub leads_on_there : (d : Document) (ns : List Node) (names : List (List ℕ)) (n : ℕ) (name : List ℕ) → LeadsOn d ns names n name
-leads_on_there d ns names n name tree shown w is =
+pub leads_on_there : (which : Which) (d : Document) (ns : List Node) (names : List (List ℕ)) (n : ℕ) (name : List ℕ) → LeadsOn which d ns names n name
+leads_on_there which d ns names n name tree shown w is =
     record {
-      lacks = lacks d ns tree shown names n w is name;
-      nothing = misses d ns tree shown names n w is name;
-      holds = holds_some d ns tree shown names n w is name;
-      leads = leads_inside d ns tree shown names n w is name;
+      lacks = lacks which d ns tree shown names n w is name;
+      nothing = misses which d ns tree shown names n w is name;
+      holds = holds_some which d ns tree shown names n w is name;
+      leads = leads_inside which d ns tree shown names n w is name;
     }

@@ -20,15 +20,16 @@ use Rattle.jsonc_parser.specs.paths.Settings.{IsNoObject}
 use Rattle.jsonc_parser.specs.paths.Positions.{Leads}
 use Rattle.jsonc_parser.specs.paths.Reach.{ReachesTo, StepsWhatShown}
 use Rattle.jsonc_parser.specs.paths.Standing.{NamesNode}
+use Rattle.jsonc_parser.specs.declared.paths.which.Which.{Which}
 use Rattle.jsonc_parser.specs.declared.paths.reached.Step.TheVariants.{On, Missing, Another}
 use Rattle.jsonc_parser.proofs.lemmas.paths.Found.{one_more, value_found}
 use Rattle.jsonc_parser.proofs.lemmas.paths.Leading.{no_path}
 use Rattle.jsonc_parser.proofs.lemmas.paths.NodesAtNames.{begins_there}
 
-module _ {A : Type 0} (doc : CstRootNode A) where
+module _ {A : Type 0} (which : Which) (doc : CstRootNode A) where
   -- so far the names lead over this path to this node
   abbrev pub LeadsSoFar : Document → List (List ℕ) → List ℕ → CstNode → Type 0
-  LeadsSoFar d names path node = (w : NamesNode d (nodes_of doc) names (number_of node)) × (w.path ≡ path)
+  LeadsSoFar d names path node = (w : NamesNode which d (nodes_of doc) names (number_of node)) × (w.path ≡ path)
 
   abbrev pub LeadsWhatShown : List (List ℕ) → List ℕ → CstNode → Type 0
   LeadsWhatShown names path node = (d : Document) → Shows d (tree_of doc) → LeadsSoFar d names path node
@@ -37,14 +38,14 @@ module _ {A : Type 0} (doc : CstRootNode A) where
   reached_nothing tree e d shown = go (value_at (nodes_of doc) 0) refl e
     where
       go : (q : Option ℕ) → value_at (nodes_of doc) 0 ≡ q → None ≡ option_map (typed_at (nodes_of doc)) q → d.value ≡ None
-      go None is same = (begins_there d (nodes_of doc) tree shown).none is
+      go None is same = (begins_there which d (nodes_of doc) tree shown).none is
       go (Some q) is same = cc
 
   pub leads_begin : (node : CstNode) (path : List ℕ) → path ≡ [] → IsTree (nodes_of doc) → Some node ≡ value_under doc 0 → LeadsWhatShown [] path node
-  leads_begin node path empty tree e d shown = (let w = value_found doc tree node e d shown in (w, no_path w.leads refl ∙ sym empty))
+  leads_begin node path empty tree e d shown = (let w = value_found which doc tree node e d shown in (w, no_path w.leads refl ∙ sym empty))
 
   module _ (names : List (String A)) (k : ℕ) (s : String A) (h : k < length names) (path : List ℕ) (node : CstNode) (name : List ℕ) (item : name ≡ chars_of (get_or names k s)) (so_far : LeadsWhatShown (names_of (take k names)) path node) where
-    pub leads_more : (more : List ℕ) (index : ℕ) (inner : CstNode) → more ≡ path ++ index ∷ [] → StepsWhatShown doc node name (On index inner) → LeadsWhatShown (names_of (take (k + 1) names)) more inner
+    pub leads_more : (more : List ℕ) (index : ℕ) (inner : CstNode) → more ≡ path ++ index ∷ [] → StepsWhatShown which doc node name (On index inner) → LeadsWhatShown (names_of (take (k + 1) names)) more inner
     leads_more more index inner pushed step d shown =
         (let all : names_of (take (k + 1) names) ≡ names_of (take k names) ++ name ∷ [] = one_more names k s h ∙ ap (λ n. names_of (take k names) ++ n ∷ []) (sym item) in
         let f = so_far d shown in
@@ -52,31 +53,31 @@ module _ {A : Type 0} (doc : CstRootNode A) where
         let made : LeadsSoFar d (names_of (take k names) ++ name ∷ []) more inner = (t.0, t.1 ∙ ap (λ p. p ++ index ∷ []) f.1 ∙ sym pushed) in
         subst (λ front. LeadsSoFar d front more inner) (sym all) made)
 
-    to : (d : Document) (x v : Plain) → d.value ≡ Some x → Leads (names_of (take k names)) path x v → ReachesTo d (names_of names) path k v
+    to : (d : Document) (x v : Plain) → d.value ≡ Some x → Leads which (names_of (take k names)) path x v → ReachesTo which d (names_of names) path k v
     to d x v is leads =
         record {
           x = x;
           is = is;
-          leads = subst (λ l. Leads l path x v) (sym (take-map chars_of k names)) leads;
+          leads = subst (λ l. Leads which l path x v) (sym (take-map chars_of k names)) leads;
           name = name;
           next = drop-map chars_of k names ∙ ap names_of (drop_more names k s h) ∙ ap (λ n. n ∷ names_of (drop (k + 1) names)) (sym item) ∙ ap (λ l. name ∷ l) (sym (drop-map chars_of (k + 1) names));
         }
 
-    pub reached_missing : StepsWhatShown doc node name Missing → (d : Document) → Shows d (tree_of doc) → (ms : Members) × (there : ReachesTo d (names_of names) path k (plain.object ms)) × LacksMember there.name ms
+    pub reached_missing : StepsWhatShown which doc node name Missing → (d : Document) → Shows d (tree_of doc) → (ms : Members) × (there : ReachesTo which d (names_of names) path k (plain.object ms)) × LacksMember there.name ms
     unfolding to
     reached_missing step d shown =
         let f = so_far d shown in
         let m = step d (names_of (take k names)) shown f.0 in
-        let leads = subst (λ v. Leads (names_of (take k names)) path f.0.value v) m.1 (subst (λ p. Leads (names_of (take k names)) p f.0.value f.0.v) f.1 f.0.leads) in
+        let leads = subst (λ v. Leads which (names_of (take k names)) path f.0.value v) m.1 (subst (λ p. Leads which (names_of (take k names)) p f.0.value f.0.v) f.1 f.0.leads) in
         (m.0, to d f.0.value (plain.object m.0) f.0.is leads, m.2)
 
-    pub reached_another : StepsWhatShown doc node name Another → (d : Document) → Shows d (tree_of doc) → (v : Plain) × ReachesTo d (names_of names) path k v × IsNoObject v
+    pub reached_another : StepsWhatShown which doc node name Another → (d : Document) → Shows d (tree_of doc) → (v : Plain) × ReachesTo which d (names_of names) path k v × IsNoObject v
     reached_another step d shown =
         let f = so_far d shown in
-        (f.0.v, to d f.0.value f.0.v f.0.is (subst (λ p. Leads (names_of (take k names)) p f.0.value f.0.v) f.1 f.0.leads), step d (names_of (take k names)) shown f.0)
+        (f.0.v, to d f.0.value f.0.v f.0.is (subst (λ p. Leads which (names_of (take k names)) p f.0.value f.0.v) f.1 f.0.leads), step d (names_of (take k names)) shown f.0)
 
   pub reached_value : (names : List (String A)) (k : ℕ) (path : List ℕ) (node : CstNode) → length names ≤ k → LeadsWhatShown (names_of (take k names)) path node → (d : Document) → Shows d (tree_of doc)
-      → (x v : Plain) × (d.value ≡ Some x) × Leads (names_of names) path x v
+      → (x v : Plain) × (d.value ≡ Some x) × Leads which (names_of names) path x v
   reached_value names k path node h so_far d shown =
       let f = so_far d shown in
-      (f.0.value, f.0.v, f.0.is, subst (λ p. Leads (names_of names) p f.0.value f.0.v) f.1 (subst (λ (l : List (String A)). Leads (names_of l) f.0.path f.0.value f.0.v) (take_all k names h) f.0.leads))
+      (f.0.value, f.0.v, f.0.is, subst (λ p. Leads which (names_of names) p f.0.value f.0.v) f.1 (subst (λ (l : List (String A)). Leads which (names_of l) f.0.path f.0.value f.0.v) (take_all k names h) f.0.leads))

@@ -28,6 +28,7 @@ use Rattle.jsonc_insert.proofs.lemmas.named.PathValues.{gives_way_to_itself, val
 use Rattle.jsonc_parser.specs.paths.AtPaths.{NodesHaveValues}
 use Rattle.jsonc_parser.specs.paths.Found.{FindsWhatShown, Reads, ReadsWhatShown}
 use Rattle.jsonc_parser.specs.paths.Standing.{NamesNode}
+use Rattle.jsonc_parser.specs.declared.paths.which.Which.TheVariants.{First}
 
 module _ (d : Document) (ns : List Node) (tree : IsTree ns) (shown : Shows d (ordered_tree ns 0)) where
   -- it gives its value, as a node of a document of the grammar
@@ -45,7 +46,7 @@ module _ (d : Document) (ns : List Node) (tree : IsTree ns) (shown : Shows d (or
       let here : Gives (content_at ns n) (row_below ns n) is.given = subst (λ (r : OrderedTree). Gives (content_at ns n) r is.given) row over in
       is.collapsed ∙ ap (option_map collapse) (gives_once here (gives_value path n v at has))
 
-  pub read_there : {A : Type 0} (names : List (List ℕ)) (n : ℕ) → NamesNode d ns names n → (taken : Option (CstInputValue A)) → IsTaken (ordered_tree ns n) taken → Reads d names taken
+  pub read_there : {A : Type 0} (names : List (List ℕ)) (n : ℕ) → NamesNode First d ns names n → (taken : Option (CstInputValue A)) → IsTaken (ordered_tree ns n) taken → Reads d names taken
   read_there names n w None is = absurd (let wrong : None ≡ Some (collapse w.v) = taken_there w.path n w.v w.at w.has None is in cc)
   read_there names n w (Some x) is = (w.v, w.stands, (let same : Some (plain x) ≡ Some (collapse w.v) = taken_there w.path n w.v w.at w.has (Some x) is in cc))
 

@@ -1,12 +1,11 @@
 -- Values are put, and leave, in one way alone: as functions put and drop them.
-use Rattle.std.proofs.Common.{ℕ, ◌≡◌, ◌≢◌, ◌∙◌, sym, ap, refl, true, false, cond, List, [], ◌∷◌, Option, Some, None, inl, inr}
-use Rattle.std.proofs.lemmas.Bool.{cases_Bool}
+use Rattle.std.proofs.Common.{ℕ, ◌≡◌, ◌∙◌, sym, ap, refl, cond, List, [], ◌∷◌, Option, Some, None}
 use Rattle.std.specs.Str.{bytes_eq}
-use Rattle.std.proofs.lemmas.Slice.Eq.{bytes_eq-Decides}
 use Rattle.jsonc_text.specs.Plain.{Plain, Members, no_members, member}
 use Rattle.jsonc_text.specs.Plain as plain
 use Rattle.jsonc_text.specs.declared.edit.Over.{Over}
 use Rattle.jsonc_parser.specs.paths.Settings.{FirstBecomes, this_becomes, later_becomes, FirstLeaves, this_leaves, later_leaves, ComesLast, comes_alone, comes_behind, nest, IsNoObject, Put, is_there, changes_inside, comes_last, comes_first, gives_way, Dropped, value_leaves, entry_leaves, leaves_inside}
+use Rattle.jsonc_parser.proofs.lemmas.paths.Collapsed.{other_names, same_names}
 
 -- the first value of a name becomes another, or a new one comes last
 abbrev put_members : List ℕ → (Plain → Plain) → Plain → Members → Members
@@ -17,16 +16,6 @@ put_members name f new (member n w ms) = cond (bytes_eq n name) (member n (f w) 
 abbrev drop_member : List ℕ → Members → Members
 drop_member name no_members = no_members
 drop_member name (member n w ms) = cond (bytes_eq n name) ms (member n w (drop_member name ms))
-
-same_names : (name : List ℕ) → bytes_eq name name ≡ true
-same_names name = (bytes_eq-Decides name name).1 refl
-
-other_names : (n name : List ℕ) → n ≢ name → bytes_eq n name ≡ false
-other_names n name ne =
-    elim (cases_Bool (bytes_eq n name)) [
-      | inl is ↦ absurd (ne ((bytes_eq-Decides n name).0 is))
-      | inr not ↦ not
-    ]
 
 becomes_is : {name : List ℕ} {x y : Plain} {ms ns : Members} (f : Plain → Plain) (new : Plain) → FirstBecomes name x y ms ns → y ≡ f x → ns ≡ put_members name f new ms
 becomes_is {name} {x} {y} f new (this_becomes {ms = ms}) e = ap (λ k. member name k ms) e ∙ sym (ap (λ b. cond b (member name (f x) ms) (member name x (put_members name f new ms))) (same_names name))

@@ -1,5 +1,3 @@
-use Rattle.std.proofs.Common.{ℕ, subst}
-use Rattle.jsonc_insert.specs.Inserted.{ElementPut}
 use Rattle.jsonc_layout.specs.input.Views.{plain}
 use Rattle.jsonc_run.specs.Places.{IsArrayAt}
 use Rattle.jsonc_run.proofs.Inserted.{comes_last, told_behind}
@@ -20,9 +18,8 @@ pub returns-in-Ok : goal.returns-in-Ok
 returns-in-Ok g c = record {
   made = (
     c.in-Some.array,
-    c.in-Ok.field-0,
     (c.find_needed.ensures.found c.in-Some.array).0 c.in-Some.is,
-    comes_last c.args.tree.now.nodes c.insert_element.new.tree.nodes c.in-Some.array c.len-count.result (plain c.args.value.now) c.in-Ok.field-0 c.args.tree.now.tree c.len-count.ensures.len c.in-Ok.ensures.brackets c.in-Ok.ensures.put,
+    (c.in-Ok.field-0, comes_last c.args.tree.now.nodes c.insert_element.new.tree.nodes c.in-Some.array c.len-count.result (plain c.args.value.now) c.in-Ok.field-0 c.args.tree.now.tree c.len-count.ensures.len c.in-Ok.ensures.brackets c.in-Ok.ensures.put),
   );
   error = tt;
   left = tt;

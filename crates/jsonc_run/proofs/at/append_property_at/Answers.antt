@@ -1,6 +1,5 @@
-use Rattle.std.proofs.Common.{ℕ, chars, subst}
+use Rattle.std.proofs.Common.{chars}
 use Rattle.jsonc_layout.specs.input.Views.{plain}
-use Rattle.jsonc_insert.specs.members.Inserted.{PropertyPut}
 use Rattle.jsonc_run.specs.Places.{IsObjectAt}
 use Rattle.jsonc_run.proofs.Properties.{object_there, comes_last, told_behind}
 use Rattle.jsonc_run.proofs.EditsMade.{no_place, nowhere}
@@ -20,9 +19,8 @@ pub returns-in-Ok : goal.returns-in-Ok
 returns-in-Ok g c = record {
   made = let at : IsObjectAt c.args.tree.now.nodes c.args.path.now c.in-Some.object = (c.find_needed.ensures.found c.in-Some.object).0 c.in-Some.is in (
     c.in-Some.object,
-    c.in-Ok.field-0,
     at,
-    comes_last c.args.tree.now.nodes c.insert_property.new.tree.nodes c.in-Some.object c.len-count.result (chars c.args.name.now) (plain c.args.value.now) c.in-Ok.field-0 c.args.tree.now.tree c.len-count.ensures.len (object_there c.args.tree.now.nodes c.args.tree.now.tree c.args.path.now c.in-Some.object at) c.in-Ok.ensures.brackets c.in-Ok.ensures.put,
+    (c.in-Ok.field-0, comes_last c.args.tree.now.nodes c.insert_property.new.tree.nodes c.in-Some.object c.len-count.result (chars c.args.name.now) (plain c.args.value.now) c.in-Ok.field-0 c.args.tree.now.tree c.len-count.ensures.len (object_there c.args.tree.now.nodes c.args.tree.now.tree c.args.path.now c.in-Some.object at) c.in-Ok.ensures.brackets c.in-Ok.ensures.put),
   );
   error = tt;
   left = tt;

@@ -16,7 +16,7 @@ ensure_property-requires-clause-object g c = ((c.find_needed.ensures.found c.in-
 
 pub returns-in-Ok : goal.returns-in-Ok
 returns-in-Ok g c = record {
-  made = (c.in-Some.object, c.in-Ok.field-0, (c.find_needed.ensures.found c.in-Some.object).0 c.in-Some.is, c.in-Ok.ensures.ensured);
+  made = (c.in-Some.object, (c.find_needed.ensures.found c.in-Some.object).0 c.in-Some.is, (c.in-Ok.field-0, c.in-Ok.ensures.ensured));
   error = tt;
   left = tt;
 }

@@ -16,7 +16,7 @@ insert_element-requires-clause-array g c = ((c.find_needed.ensures.found c.in-So
 
 pub returns-in-Ok : goal.returns-in-Ok
 returns-in-Ok g c = record {
-  made = (c.in-Some.array, c.in-Ok.field-0, (c.find_needed.ensures.found c.in-Some.array).0 c.in-Some.is, c.in-Ok.ensures.put);
+  made = (c.in-Some.array, (c.find_needed.ensures.found c.in-Some.array).0 c.in-Some.is, (c.in-Ok.field-0, c.in-Ok.ensures.put));
   error = tt;
   left = tt;
 }

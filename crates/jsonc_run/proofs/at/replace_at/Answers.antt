@@ -1,4 +1,4 @@
-use Rattle.std.proofs.Common.{◌≡◌, None, sym, subst}
+use Rattle.std.proofs.Common.{◌≡◌, None, refl, sym, subst}
 use Rattle.jsonc_layout.specs.input.Views.{plain}
 use Rattle.jsonc_tree.specs.Tree.{parent_at}
 use Rattle.jsonc_edit.specs.Paths.{IsAt}
@@ -15,7 +15,7 @@ returns-in_default g c =
 
 pub returns-in-Ok-Some : goal.returns-in-Ok-Some
 returns-in-Ok-Some g c = record {
-  made = (c.in-Some.node, c.in-Ok-Some.field-0-0, (c.find.ensures.found c.in-Some.node).0 c.in-Some.is, some_is c.in-Ok-Some.field-0 (IsReplaced c.args.tree.now.nodes c.replace.new.tree.nodes c.in-Some.node (plain c.args.value.now)) c.in-Ok-Some.field-0-0 c.in-Ok-Some.field-0-is c.in-Ok-Some.ensures.replaced);
+  made = (c.in-Some.node, (c.find.ensures.found c.in-Some.node).0 c.in-Some.is, (c.in-Ok-Some.field-0-0, some_is c.in-Ok-Some.field-0 (IsReplaced c.args.tree.now.nodes c.replace.new.tree.nodes c.in-Some.node (plain c.args.value.now)) c.in-Ok-Some.field-0-0 c.in-Ok-Some.field-0-is c.in-Ok-Some.ensures.replaced));
   error = tt;
   left = tt;
 }
@@ -26,6 +26,6 @@ returns-in-Ok-None g c = absurd (not_alone c.args.tree.now.nodes c.args.tree.now
 pub returns-in-Err : goal.returns-in-Err
 returns-in-Err g c = record {
   made = tt;
-  error = subst (FailsWith c.args.tree.now.nodes (replace c.args.path.now (plain c.args.value.now))) (sym c.in-Err.ensures.memory) (c.in-Some.node, (c.find.ensures.found c.in-Some.node).0 c.in-Some.is);
+  error = subst (FailsWith c.args.tree.now.nodes (replace c.args.path.now (plain c.args.value.now))) (sym c.in-Err.ensures.memory) (c.in-Some.node, (c.find.ensures.found c.in-Some.node).0 c.in-Some.is, refl);
   left = as_it_was c.in-Err.ensures.kept c.in-Err.ensures.document;
 }

@@ -1,4 +1,4 @@
-use Rattle.std.proofs.Common.{rules, ◌≡◌, None, IfErr, chars, OnOk, OnErr, length}
+use Rattle.std.proofs.Common.{rules, refl, ◌≡◌, None, IfErr, chars, OnOk, OnErr, length}
 use Rattle.jsonc_layout.specs.input.Views.{plain}
 use Rattle.jsonc_tree.specs.Tree.{parent_at}
 use Rattle.jsonc_text.specs.declared.edit.EditError.TheVariants.{OutOfMemory}
@@ -18,7 +18,7 @@ returns-in_default g c =
 
 pub returns : goal.returns
 returns g c = record {
-  made = (c.in-Some.property, c.in-Some-2.field-0, (c.find_property.ensures.found c.in-Some.property).0 c.in-Some.is, some_is c.in_ok-replace_property.field-0 (IsPropertyReplaced c.args.tree.now.nodes c.replace_property.new.tree.nodes c.in-Some.property (chars c.args.name.now) (plain c.args.value.now)) c.in-Some-2.field-0 c.in-Some-2.is c.in_ok-replace_property.ensures.replaced);
+  made = (c.in-Some.property, (c.find_property.ensures.found c.in-Some.property).0 c.in-Some.is, (c.in-Some-2.field-0, some_is c.in_ok-replace_property.field-0 (IsPropertyReplaced c.args.tree.now.nodes c.replace_property.new.tree.nodes c.in-Some.property (chars c.args.name.now) (plain c.args.value.now)) c.in-Some-2.field-0 c.in-Some-2.is c.in_ok-replace_property.ensures.replaced));
   error = tt;
   left = tt;
 }
@@ -36,5 +36,5 @@ returns-in_err-replace_property g c =
     let same : OnErr c.from_residual.result (ordered_tree c.replace_property.new.tree.nodes 0 ≡ ordered_tree c.args.tree.now.nodes 0) = search rules in
     answers c.args.tree.now.nodes c.replace_property.new.tree.nodes (replace_property c.args.path.now (chars c.args.name.now) (plain c.args.value.now)) c.from_residual.result made
     (told_of_memory (FailsWith c.args.tree.now.nodes (replace_property c.args.path.now (chars c.args.name.now) (plain c.args.value.now))) c.from_residual.result memory
-    (c.in-Some.property, (c.find_property.ensures.found c.in-Some.property).0 c.in-Some.is))
+    (c.in-Some.property, (c.find_property.ensures.found c.in-Some.property).0 c.in-Some.is, refl))
     kept same

@@ -1,4 +1,4 @@
-use Rattle.std.proofs.Common.{rules, ◌≡◌, IfErr, OnOk, OnErr, length}
+use Rattle.std.proofs.Common.{rules, refl, ◌≡◌, IfErr, OnOk, OnErr, length}
 use Rattle.jsonc_layout.specs.input.Views.{plain}
 use Rattle.jsonc_layout.specs.nodes.Properties.{value_at}
 use Rattle.jsonc_text.specs.declared.edit.EditError.TheVariants.{OutOfMemory}
@@ -23,5 +23,5 @@ returns-in_err-set_root g c =
     let kept : OnErr c.from_residual.result (Keeps (length c.args.tree.now.nodes) c.args.tree.now.nodes c.set_root.new.tree.nodes) = search rules in
     let same : OnErr c.from_residual.result (ordered_tree c.set_root.new.tree.nodes 0 ≡ ordered_tree c.args.tree.now.nodes 0) = search rules in
     answers c.args.tree.now.nodes c.set_root.new.tree.nodes (set_root (plain c.args.value.now)) c.from_residual.result made
-    (told_of_memory (FailsWith c.args.tree.now.nodes (set_root (plain c.args.value.now))) c.from_residual.result memory tt)
+    (told_of_memory (FailsWith c.args.tree.now.nodes (set_root (plain c.args.value.now))) c.from_residual.result memory refl)
     kept same

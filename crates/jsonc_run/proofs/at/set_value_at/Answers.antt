@@ -1,4 +1,4 @@
-use Rattle.std.proofs.Common.{rules, ◌≡◌, IfErr, OnOk, OnErr, length}
+use Rattle.std.proofs.Common.{rules, refl, ◌≡◌, IfErr, OnOk, OnErr, length}
 use Rattle.jsonc_layout.specs.input.Views.{plain}
 use Rattle.jsonc_layout.specs.nodes.Properties.{value_at}
 use Rattle.jsonc_text.specs.declared.edit.EditError.TheVariants.{OutOfMemory}
@@ -34,5 +34,5 @@ returns-in_err-set_property_value g c =
     let same : OnErr c.from_residual.result (ordered_tree c.set_property_value.new.tree.nodes 0 ≡ ordered_tree c.args.tree.now.nodes 0) = search rules in
     answers c.args.tree.now.nodes c.set_property_value.new.tree.nodes (set_value c.args.path.now (plain c.args.value.now)) c.from_residual.result made
     (told_of_memory (FailsWith c.args.tree.now.nodes (set_value c.args.path.now (plain c.args.value.now))) c.from_residual.result memory
-    (c.in-Some.property, (c.find_property.ensures.found c.in-Some.property).0 c.in-Some.is))
+    (c.in-Some.property, (c.find_property.ensures.found c.in-Some.property).0 c.in-Some.is, refl))
     kept same

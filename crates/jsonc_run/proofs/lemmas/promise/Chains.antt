@@ -1,53 +1,55 @@
 -- From one chain of sound trees to one chain of texts.
-use Rattle.std.proofs.Common.{ℕ, ◌+◌, ◌≤◌, min, length, arith, ◌≡◌, ◌∙◌, sym, ap, subst, refl, inr, Bool, true, false, List, [], ◌++◌, Option, Some, None}
+use Rattle.std.proofs.Common.{ℕ, length, ◌≡◌, sym, ap, subst, refl, inl, inr, Bool, true, false, List, [], ◌∷◌, ◌++◌, Option, Some, None}
 use Rattle.std.proofs.lemmas.List.Elements.{All-head, All-tail}
 use Rattle.jsonc_run.specs.texts.Edits as texts
 use Rattle.jsonc_text.specs.Documents.{Document, IsOne}
-use Rattle.jsonc_run.specs.texts.Entering.{Gains}
-use Rattle.jsonc_run.specs.texts.Edits.{Leaves, Makes, Run}
+use Rattle.jsonc_run.specs.texts.Edits.{Operation, options_behind, Leaves, Makes, Run}
 use Rattle.jsonc_run.specs.texts.Entries.{Named}
 use Rattle.jsonc_text.specs.Options.{Options}
-use Rattle.jsonc_run.specs.texts.Paths.{an_array}
+use Rattle.jsonc_run.specs.texts.Paths.{an_array, an_object}
 use Rattle.jsonc_text.specs.Plain.{Plain}
 use Rattle.jsonc_text.proofs.UniqueValues.{document_unique}
 use Rattle.jsonc_tree.specs.OrderedTree.{OrderedTree, Top}
 use Rattle.jsonc_tree.specs.Values.{DocumentValueOf}
 use Rattle.jsonc_sound.specs.Shape.{printed_text}
-use Rattle.jsonc_layout.specs.from_input.Texts.{IsOfTexts}
-use Rattle.jsonc_sound.specs.Documents.{document_of}
+use Rattle.jsonc_layout.specs.from_input.Texts.{IsCharacters, IsOfTexts}
+use Rattle.jsonc_sound.specs.Documents.{all_marks, document_of}
 use Rattle.jsonc_sound.specs.EntryLaws.{root_with}
 use Rattle.jsonc_sound.specs.SoundTrees.{SoundTree}
-use Rattle.jsonc_insert.specs.elements.Laws.{ElementInsertedAt, item_count}
+use Rattle.jsonc_insert.specs.elements.Laws.{ElementInsertedAt}
 use Rattle.jsonc_insert.specs.named.Values.{ReplacesValue}
+use Rattle.jsonc_text.specs.declared.edit.Over.{Over}
+use Rattle.jsonc_text.specs.declared.edit.Over.TheVariants as over
+use Rattle.jsonc_text.specs.declared.edit.Shape.{Shape}
+use Rattle.jsonc_text.specs.declared.edit.Shape.TheVariants.{Object, Array}
+use Rattle.jsonc_edit.specs.set.Shapes.{empty_of}
 use Rattle.jsonc_edit.specs.remove.Laws.{ValueTaken}
 use Rattle.jsonc_edit.proofs.lemmas.remove.RemovedValue.{removes_value}
-use Rattle.jsonc_run.specs.Edits.{Operation, replace, remove, remove_comment, set_root, clear_root, replace_property, ensure_root, set_value, ensure_value, set_boolean, ensure_multiline, insert_element, append_element, insert_property, append_property, ensure_property, set_commas, set_some_commas, rearrange}
-use Rattle.jsonc_run.specs.Steps.{IsOfCharacters, Says, Step, Steps, no_step, one_step}
-use Rattle.jsonc_run.specs.Written.{options_behind, IsChanged, by_boolean, by_comment, by_inserting, by_appending, EntryRemoved, entry_left, value_left}
+use Rattle.jsonc_run.specs.Edits.{PlainEdit, replace, set_root, replace_property, ensure_root, set_value, ensure_value, insert_element, append_element, insert_property, append_property, ensure_property, rename_property, IsOfCharacters}
+use Rattle.jsonc_run.specs.Steps.{Says, Step, Steps, no_step, one_step}
+use Rattle.jsonc_run.specs.Named.{ensures_root, kept_or_emptied, may_stay, sets_root, Asks, comment_count, IsNamed}
+use Rattle.jsonc_run.specs.Written.{IsChanged, by_boolean, by_comment, by_inserting, by_nothing, EntryRemoved, entry_left, value_left}
 use Rattle.jsonc_run.specs.promise.Chains.{none_named, one_named, RunsJoin, StepsAreRun}
-use Rattle.jsonc_run.specs.Named.{comment_count, IsNamed}
 use Rattle.jsonc_sound.specs.Marks as tree_marks
 use Rattle.jsonc_text.specs.Marks.{comments_of}
-use Rattle.jsonc_run.specs.promise.Words.{in_texts}
 use Rattle.jsonc_run.proofs.lemmas.promise.Commenting.{comment_leaves, comments_counted}
 use Rattle.jsonc_sound.specs.Adjacent.{last_printed}
 use Rattle.jsonc_sound.specs.Booleans.{is_hex_leaf}
-use Rattle.jsonc_run.proofs.lemmas.promise.Ensured.{ensured_value}
-use Rattle.jsonc_run.proofs.lemmas.promise.Inserting.{ItemGained, item_gained, gained, in_place, gains_so, counted, nothing_behind}
+use Rattle.jsonc_run.proofs.lemmas.promise.Inserting.{gained, in_place, gains_so}
 use Rattle.jsonc_run.proofs.lemmas.promise.Lines as lines
-use Rattle.jsonc_run.proofs.lemmas.promise.Lines.{some_commas_made, multiline_made, options_same, options_same_in_part}
-use Rattle.jsonc_run.proofs.lemmas.promise.Members.{property_inserted, property_appended}
-use Rattle.jsonc_run.proofs.lemmas.promise.NamedProperties.{property_ensured}
+use Rattle.jsonc_run.proofs.lemmas.promise.Lines.{some_commas_made, multiline_made}
+use Rattle.jsonc_run.proofs.lemmas.promise.Members.{property_inserted}
+use Rattle.jsonc_run.proofs.lemmas.promise.Naming.{name_made}
 use Rattle.jsonc_run.proofs.lemmas.promise.Plains.{changed, entry_of}
 use Rattle.jsonc_run.proofs.lemmas.promise.Properties.{property_replaced}
 use Rattle.jsonc_run.proofs.lemmas.promise.Removing.{entry_removed}
 use Rattle.jsonc_run.proofs.lemmas.promise.ReplacedTexts.{is_one}
 use Rattle.jsonc_run.proofs.lemmas.promise.Replacing.{boolean_put_so, value_put}
 use Rattle.jsonc_run.proofs.lemmas.promise.RootGone.{root_gone}
-use Rattle.jsonc_run.proofs.lemmas.promise.Roots.{root_cleared, root_ensured, root_set}
+use Rattle.jsonc_run.proofs.lemmas.promise.Roots.{laid_come, root_cleared}
 use Rattle.jsonc_run.proofs.lemmas.promise.Sorting.{rearranged}
 
-same_value : {w x : Option Plain} {n : ℕ} → IsChanged w (remove_comment n) x → x ≡ w
+same_value : {w x : Option Plain} {n : ℕ} → IsChanged w (texts.remove_comment n) x → x ≡ w
 same_value by_comment = refl
 
 -- an entry, or the document's value, has left
@@ -58,7 +60,7 @@ root_made o {t} {u} {top} w x s r taken =
     let gone = root_gone o first second w x taken.element taken.leaves taken.empties in
     subst (λ (z : OrderedTree). Leaves [] (document_of o z w) (document_of o u x)) (sym taken.was) (subst (λ (z : OrderedTree). Leaves [] (document_of o (root_with taken.row) w) (document_of o z x)) (sym taken.now) gone)
 
-comment_made : (o : Options) (t u : OrderedTree) (w x : Option Plain) (n : ℕ) → Step o t w (remove_comment n) u x → Makes (document_of o t w) (texts.remove_comment n) (document_of o u x)
+comment_made : (o : Options) (t u : OrderedTree) (w x : Option Plain) (n : ℕ) → Step o t w (texts.remove_comment n) u x → Makes (document_of o t w) (texts.remove_comment n) (document_of o u x)
 comment_made o t u w x n s =
     let m = comment_leaves o s.old.sound s.new.sound s.made.2 w in
     subst (λ y. texts.LosesComment n (document_of o t w) (document_of o u y)) (sym (same_value s.changed)) (subst (λ k. texts.LosesComment k (document_of o t w) (document_of o u w)) s.made.3 m)
@@ -69,97 +71,102 @@ removal_made o t u w x old new (value_left top taken) =
     let none : x ≡ None = document_unique o (printed_text u) x None new.text (removes_value o t u top old.sound taken).new_text in
     (root_made o w x old.sound new.sound taken, texts.all none)
 
-boolean_made : (o : Options) {t u : OrderedTree} {w x : Option Plain} {path : List ℕ} {b : Bool} → SoundTree o t → SoundTree o u → IsChanged w (set_boolean path b) x → (given : ReplacesValue path (Plain.boolean b) t u) → given.seams.behind ≡ false → (b ≡ true → given.seams.before ≡ false)
+boolean_made : (o : Options) {t u : OrderedTree} {w x : Option Plain} {path : List ℕ} {b : Bool} → SoundTree o t → SoundTree o u → IsChanged w (texts.set_boolean path b) x → (given : ReplacesValue path (Plain.boolean b) t u) → given.seams.behind ≡ false → (b ≡ true → given.seams.before ≡ false)
     → (given.seams.before ≡ true → is_hex_leaf (last_printed given.seams.front) ≡ true) → Makes (document_of o t w) (texts.set_boolean path b) (document_of o u x)
 boolean_made o {path = path} {b = b} s r (by_boolean {was = was} {x = x} {y = y} c) given behind before hex = (was, boolean_put_so o s r (Some x) (Some y) path b given behind before hex, changed c)
 
-behind_all : (n c : ℕ) → min (n + c) c ≡ c
-behind_all n c = omega arith
-
-behind_all_so : (i c : ℕ) → c ≤ i → c ≡ min i c
-behind_all_so i c h = omega (arith, h)
-
 -- a value has come into an array
-insertion_made : (o : Options) (t u : OrderedTree) (w x : Option Plain) (path : List ℕ) (i : ℕ) (v : Plain) → IsOfTexts v → SoundTree o t → SoundTree o u → DocumentValueOf o t w → DocumentValueOf o u x → IsChanged w (insert_element path i v) x → ElementInsertedAt o path i v t u
-    → Makes (document_of o t w) (texts.insert_element path i v) (document_of o u x)
-insertion_made o t u _ _ path i v texts s r h h2 (by_inserting gains) c =
+insertion_made : (o : Options) (t u : OrderedTree) (w x : Option Plain) (path : List ℕ) (i : ℕ) (new : Named) → IsOfTexts new.value → SoundTree o t → SoundTree o u → DocumentValueOf o t w → DocumentValueOf o u x → IsChanged w (texts.insert an_array path i new) x → ElementInsertedAt o path i new.value t u
+    → Makes (document_of o t w) (texts.insert an_array path i (entry_of [] new.value)) (document_of o u x)
+insertion_made o t u _ _ path i new texts s r h h2 (by_inserting gains) c =
     let k = gained o s r texts c h h2 gains in
     (k.front, k.back, in_place o s r texts c h h2 gains, gains_so o s r texts c h h2 gains k (sym k.place))
 
-append_made : (o : Options) (t u : OrderedTree) (w x : Option Plain) (path : List ℕ) (v : Plain) → IsOfTexts v → SoundTree o t → SoundTree o u → DocumentValueOf o t w → DocumentValueOf o u x → IsChanged w (append_element path v) x → (n : ℕ) → ((i : ℕ) → n ≤ i → ElementInsertedAt o path i v t u)
-    → Makes (document_of o t w) (texts.append_element path v) (document_of o u x)
-append_made o t u _ _ path v texts s r h h2 (by_appending {i = i} {x = x} {y = y} gains far) n comes =
-    let k = item_gained gains.comes in
-    let far_away : ℕ = n + item_count gains.old in
-    let c : ElementInsertedAt o path far_away v t u = comes far_away (omega arith) in
-    let count : item_count gains.old ≡ length (k.front ++ k.back) = ap item_count k.before ∙ counted (k.front ++ k.back) in
-    let last : k.back ≡ [] = nothing_behind k.front k.back (k.place ∙ omega (arith, far, count)) in
-    let all : ItemGained v (min i (item_count gains.old)) gains.old gains.new = k in
-    (k.front, subst (λ (b : List Named). Gains an_array path k.front b (entry_of [] v) (document_of o t (Some x)) (document_of o u (Some y))) last (gains_so o s r texts c h h2 gains all (behind_all n (item_count gains.old) ∙ behind_all_so i (item_count gains.old) far ∙ sym k.place)))
+-- nothing was done
+nothing_made : (o : Options) (t u : OrderedTree) (w x : Option Plain) → IsChanged w texts.nothing x → u ≡ t → Makes (document_of o t w) texts.nothing (document_of o u x)
+nothing_made o t u w _ by_nothing same = (ap printed_text same, (refl, ap (λ z. all_marks (tree_marks.marks z)) same))
+
+-- what an operation writes is characters
+abbrev OfCharacters : Operation → Type 0
+OfCharacters (texts.replace path v) = IsOfTexts v
+OfCharacters (texts.come_first v) = IsOfTexts v
+OfCharacters (texts.replace_property path new) = IsCharacters new.name × IsOfTexts new.value
+OfCharacters (texts.insert an_array path i new) = IsOfTexts new.value × (new.name ≡ [])
+OfCharacters (texts.insert an_object path i new) = IsCharacters new.name × IsOfTexts new.value
+OfCharacters (texts.rename_property path name) = IsCharacters name
+OfCharacters op = Unit {0}
+
+empty_texts : (shape : Shape) → IsOfTexts (empty_of shape)
+empty_texts Object = tt
+empty_texts Array = tt
+
+emptied_characters : (shape : Shape) (path : List ℕ) (b : Bool) → OfCharacters (kept_or_emptied shape path b)
+emptied_characters shape path true = tt
+emptied_characters shape path false = empty_texts shape
+
+root_characters : (w : Option Plain) (v : Plain) → IsOfTexts v → OfCharacters (sets_root w v)
+root_characters None v h = h
+root_characters (Some x) v h = h
+
+empty_characters : (shape : Shape) (how : Over) (w : Option Plain) → OfCharacters (ensures_root shape how w)
+empty_characters shape how None = empty_texts shape
+empty_characters shape how (Some v) = emptied_characters shape [] (may_stay shape how v)
+
+asked_characters : (w : Option Plain) (e : PlainEdit) (op : Operation) → Asks w e op → IsOfCharacters e → OfCharacters op
+asked_characters w (replace path v) op is h = subst OfCharacters (sym is) h
+asked_characters w (set_root v) op is h = subst OfCharacters (sym is) (root_characters w v h)
+asked_characters w (replace_property path name v) op is h = subst OfCharacters (sym is) h
+asked_characters w (ensure_root shape how) op is h = subst OfCharacters (sym is) (empty_characters shape how w)
+asked_characters w (set_value path v) op is h = subst OfCharacters (sym is) h
+asked_characters w (ensure_value path shape) op (v, stands, is) h = subst OfCharacters (sym is) (emptied_characters shape path (may_stay shape over.Replace v))
+asked_characters w (insert_element path i v) op is h = subst OfCharacters (sym is) (h, refl)
+asked_characters w (append_element path v) op (vs, i, stands, far, is) h = subst OfCharacters (sym is) (h, refl)
+asked_characters w (insert_property path i name v) op is h = subst OfCharacters (sym is) h
+asked_characters w (append_property path name v) op (ms, i, stands, far, is) h = subst OfCharacters (sym is) h
+asked_characters w (ensure_property path name shape how) op (ms, stands, inl (i, v, first, there, is)) h = subst OfCharacters (sym is) (emptied_characters shape (path ++ i ∷ []) (may_stay shape how v))
+asked_characters w (ensure_property path name shape how) op (ms, stands, inr (lacks, i, far, is)) h = subst OfCharacters (sym is) (h, empty_texts shape)
+asked_characters w (rename_property path name) op is h = subst OfCharacters (sym is) h
+asked_characters w e op is h = subst OfCharacters (sym is) tt
 
 -- what one step makes of a text
-step_made : (o : Options) (t u : OrderedTree) (w x : Option Plain) (e : Operation) → Step o t w e u x → IsOfCharacters e → Makes (document_of o t w) (in_texts e) (document_of (options_behind o e) u x)
-step_made o t u w x (replace path v) s f = value_put o s.old.sound s.new.sound w x s.old.value s.new.value path v f s.made
-step_made o t u w x (remove path) s f = removal_made o t u w x s.old s.new s.made
-step_made o t u w x (insert_element path i v) s f = insertion_made o t u w x path i v f s.old.sound s.new.sound s.old.value s.new.value s.changed s.made
-step_made o t u w x (append_element path v) s f = append_made o t u w x path v f s.old.sound s.new.sound s.old.value s.new.value s.changed s.made.0 s.made.1
-step_made o t u w x (set_value path v) s f = value_put o s.old.sound s.new.sound w x s.old.value s.new.value path v f s.made
-step_made o t u w x (set_boolean path b) s f = boolean_made o s.old.sound s.new.sound s.changed s.made.1 s.made.3 s.made.4 s.made.5
-step_made o t u w x (remove_comment n) s f = comment_made o t u w x n s
-step_made o t u w x (insert_property path i name v) s f = property_inserted o t u w x path i name v f s.old.sound s.new.sound s.old.value s.new.value s.changed s.made
-step_made o t u w x (append_property path name v) s f = property_appended o t u w x path name v f s.old.sound s.new.sound s.old.value s.new.value s.changed s.made.0 s.made.1
-step_made o t u w x (ensure_value path shape) s f = ensured_value o t u w x path shape s.old.sound s.new.sound s.old.value s.new.value s.changed s.made
-step_made o t u w x (set_root v) s f = root_set o t u w x v f s.old.sound s.new.sound s.old.value s.new.value s.made
-step_made o t u w x clear_root s f = root_cleared o t u w x s.changed s.made
-step_made o t u w x (ensure_root shape how) s f = root_ensured o t u w x shape how s.old.sound s.new.sound s.old.value s.new.value s.changed s.made
-step_made o t u w x (ensure_multiline path) s f = multiline_made o t u w x path s.old.sound s.new.sound s.changed s.marked s.made
-step_made o t u w x (set_commas path mode) s f =
-    lines.commas_made o t u w x path mode s.new.sound s.new.text (some_commas_made o t u w x path mode s.old.sound s.new.sound (lines.all_commas s.changed) s.marked s.made.0 (inr s.made.1)) (lines.set_at_path mode o path s.made.1 s.made.2)
-step_made o t u w x (set_some_commas path mode) s f = some_commas_made o t u w x path mode s.old.sound s.new.sound (lines.some_commas s.changed) s.marked s.made.0 (inr s.made.1)
-step_made o t u w x (ensure_property path name shape how) s f = property_ensured o t u w x path name shape how s.old s.new f s.changed s.made
-step_made o t u w x (replace_property path name v) s f = property_replaced o t u w x path name v f s.old.sound s.new.sound s.changed s.made
-step_made o t u w x (rearrange path headers order) s f = rearranged o t u w x path order headers s.old.sound s.new.sound s.old.value s.new.value s.changed s.marked s.made.0
-
-options_alike : (o : Options) (e : Operation) → options_behind o e ≡ texts.options_behind o (in_texts e)
-options_alike o (replace path v) = refl
-options_alike o (remove path) = refl
-options_alike o (remove_comment n) = refl
-options_alike o (set_root v) = refl
-options_alike o clear_root = refl
-options_alike o (replace_property path name v) = refl
-options_alike o (ensure_root shape how) = refl
-options_alike o (set_value path v) = refl
-options_alike o (ensure_value path shape) = refl
-options_alike o (set_boolean path b) = refl
-options_alike o (ensure_multiline path) = refl
-options_alike o (insert_element path i v) = refl
-options_alike o (append_element path v) = refl
-options_alike o (insert_property path i name v) = refl
-options_alike o (append_property path name v) = refl
-options_alike o (ensure_property path name shape how) = refl
-options_alike o (set_commas path mode) = options_same o path mode
-options_alike o (set_some_commas path mode) = options_same_in_part o path mode
-options_alike o (rearrange path headers order) = refl
+step_made : (o : Options) (t u : OrderedTree) (w x : Option Plain) (op : Operation) → Step o t w op u x → OfCharacters op → Makes (document_of o t w) op (document_of (options_behind o op) u x)
+step_made o t u w x texts.nothing s f = nothing_made o t u w x s.changed s.made
+step_made o t u w x (texts.replace path v) s f = value_put o s.old.sound s.new.sound w x s.old.value s.new.value path v f s.made
+step_made o t u w x (texts.set_boolean path b) s f = boolean_made o s.old.sound s.new.sound s.changed s.made.1 s.made.3 s.made.4 s.made.5
+step_made o t u w x (texts.replace_property path new) s f = property_replaced o t u w x path new.name new.value f s.old.sound s.new.sound s.changed s.made
+step_made o t u w x (texts.come_first v) s f = laid_come o s.old.sound s.new.sound w x s.old.value s.new.value s.made.0 v f s.made.1 s.made.2 s.made.3 s.made.4 s.made.5
+step_made o t u w x (texts.insert an_array path i new) s f =
+    subst (λ name. Makes (document_of o t w) (texts.insert an_array path i (entry_of name new.value)) (document_of o u x)) (sym f.1) (insertion_made o t u w x path i new f.0 s.old.sound s.new.sound s.old.value s.new.value s.changed s.made)
+step_made o t u w x (texts.insert an_object path i new) s f = property_inserted o t u w x path i new f s.old.sound s.new.sound s.old.value s.new.value s.changed s.made
+step_made o t u w x (texts.remove path) s f = removal_made o t u w x s.old s.new s.made
+step_made o t u w x (texts.remove_comment n) s f = comment_made o t u w x n s
+step_made o t u w x texts.clear_root s f = root_cleared o t u w x s.changed s.made
+step_made o t u w x (texts.ensure_multiline path) s f = multiline_made o t u w x path s.old.sound s.new.sound s.changed s.marked s.made
+step_made o t u w x (texts.set_commas true path mode) s f =
+    lines.commas_made o t u w x path mode s.new.sound s.new.text (some_commas_made o t u w x path mode s.old.sound s.new.sound (lines.same_by_commas s.changed) s.marked s.made.0 (inr s.made.1)) (lines.set_at_path mode o path s.made.1 s.made.2)
+step_made o t u w x (texts.set_commas false path mode) s f = (some_commas_made o t u w x path mode s.old.sound s.new.sound (lines.same_by_commas s.changed) s.marked s.made.0 (inr s.made.1), tt)
+step_made o t u w x (texts.rearrange path order) s f = rearranged o t u w x path order s.old.sound s.new.sound s.old.value s.new.value s.changed s.marked s.made.0
+step_made o t u w x (texts.rename_property path name) s f = name_made o t u w x path name f s.old.sound s.new.sound s.changed s.made
 
 -- a tree has as many comments as the document that it prints
 as_many_comments : (o : Options) (t : OrderedTree) (w : Option Plain) → comment_count t ≡ length (comments_of (document_of o t w).marks)
 as_many_comments o t w = sym (comments_counted (tree_marks.marks t))
 
-named_so : (o : Options) (t : OrderedTree) (w : Option Plain) (e : Operation) → IsNamed w (comment_count t) e → IsNamed w (length (comments_of (document_of o t w).marks)) e
+named_so : (o : Options) (t : OrderedTree) (w : Option Plain) (e : PlainEdit) → IsNamed w (comment_count t) e → IsNamed w (length (comments_of (document_of o t w).marks)) e
 named_so o t w e h = subst (λ n. IsNamed w n e) (as_many_comments o t w) h
 
-first_one : (o : Options) (t u : OrderedTree) (w x : Option Plain) (es : List Operation) → Steps o t w es u x → IsOne (document_of o t w)
-first_one o t u w x es (no_step s) = is_one o t w s.sound s.text
-first_one o t u w x _ (one_step s ss) = is_one o t w s.old.sound s.old.text
+first_one : (o : Options) (t u : OrderedTree) (w x : Option Plain) (es : List PlainEdit) (ops : List Operation) → Steps o t w es ops u x → IsOne (document_of o t w)
+first_one o t u w x _ _ (no_step s) = is_one o t w s.sound s.text
+first_one o t u w x _ _ (one_step named asks s ss) = is_one o t w s.old.sound s.old.text
 
 pub steps_are_run : (o : Options) (t u : OrderedTree) → StepsAreRun o t u
-steps_are_run o t u w x es (no_step s) f = (texts.none_made (is_one o t w s.sound s.text), none_named (is_one o t w s.sound s.text))
-steps_are_run o t u w x _ (one_step {s = now} {x = y} {e = e} {es = es} s ss) f =
-    let rest = steps_are_run (options_behind o e) now u y x es ss (All-tail IsOfCharacters e es f) in
+steps_are_run o t u w x _ _ (no_step s) f = (texts.none_made (is_one o t w s.sound s.text), none_named (is_one o t w s.sound s.text))
+steps_are_run o t u w x _ _ (one_step {s = now} {x = y} {e = e} {es = es} {op = op} {ops = ops} named asks s ss) f =
+    let rest = steps_are_run (options_behind o op) now u y x es ops ss (All-tail IsOfCharacters e es f) in
     let one = is_one o t w s.old.sound s.old.text in
-    let made = step_made o t now w y e s (All-head IsOfCharacters e es f) in (
-      texts.one_made one (options_alike o e) made rest.0,
-      one_named (named_so o t w e s.named) (texts.one_made one (options_alike o e) made (texts.none_made (first_one (options_behind o e) now u y x es ss))) rest.1,
+    let made = step_made o t now w y op s (asked_characters w e op asks (All-head IsOfCharacters e es f)) in (
+      texts.one_made one refl made rest.0,
+      one_named (named_so o t w e named) asks (texts.one_made one refl made (texts.none_made (first_one (options_behind o op) now u y x es ops ss))) rest.1,
     )
 
 pub runs_join : (d e f : Document) → RunsJoin d e f

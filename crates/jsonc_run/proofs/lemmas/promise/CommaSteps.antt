@@ -1,8 +1,8 @@
 -- Trailing commas that are set, of the document or of an array or object in it, as a step.
-use Rattle.std.proofs.Common.{◌≡◌, ◌⊎◌, ◌∙◌, sym, ap, subst, refl, ℕ, Option, List, [], ◌∷◌}
+use Rattle.std.proofs.Common.{◌≡◌, ◌⊎◌, ◌∙◌, sym, ap, subst, refl, ℕ, true, false, Option, List, [], ◌∷◌}
 use Rattle.jsonc_run.specs.texts.Edits as texts
 use Rattle.jsonc_text.specs.Documents.{Document}
-use Rattle.jsonc_run.specs.texts.Edits.{Makes, Run, SetsCommas}
+use Rattle.jsonc_run.specs.texts.Edits.{Operation, Makes, Run, SetsCommas, sets_some}
 use Rattle.jsonc_text.specs.Grammar.{IsDocument}
 use Rattle.jsonc_text.specs.Plain.{Plain}
 use Rattle.jsonc_text.specs.Options.{Options}
@@ -16,11 +16,10 @@ use Rattle.jsonc_edit.proofs.OneValue.{document_once}
 use Rattle.jsonc_text.specs.declared.edit.TrailingCommaMode.{TrailingCommaMode}
 use Rattle.jsonc_edit.specs.commas.Laws.{allowing, SaysTheSame}
 use Rattle.jsonc_run.specs.Edits.{set_commas, set_some_commas}
-use Rattle.jsonc_run.specs.Steps.{IsChangedAt}
+use Rattle.jsonc_run.specs.Written.{IsChangedAt}
 use Rattle.jsonc_run.proofs.SoundChain.{says}
 use Rattle.jsonc_run.specs.promise.Steps.{IsStepOf}
-use Rattle.jsonc_run.specs.promise.Words.{sets_some}
-use Rattle.jsonc_run.proofs.lemmas.promise.Lines.{AreSet, commas_made, some_commas_made, options_same, options_same_in_part}
+use Rattle.jsonc_run.proofs.lemmas.promise.Lines.{AreSet, commas_made, some_commas_made}
 use Rattle.jsonc_run.proofs.lemmas.promise.ReplacedTexts.{is_one}
 
 module _ (mode : TrailingCommaMode) (old new : List Node) (same : (o : Options) → SoundTree o (ordered_tree old 0) → SaysTheSame mode o (ordered_tree old 0) (ordered_tree new 0)) where
@@ -34,11 +33,11 @@ module _ (mode : TrailingCommaMode) (old new : List Node) (same : (o : Options) 
   Place path = (path ≡ []) ⊎ IsChangedAt path t u
 
   -- of all commas that are set, or of the first of them, an operation is made
-  abbrev IsMade : List ℕ → texts.Operation → Type 0
+  abbrev IsMade : List ℕ → Operation → Type 0
   IsMade path op = (o : Options) (w x : Option Plain) → SoundTree o t → SoundTree (allowing mode o) u → IsDocument (allowing mode o) (printed_text u) x
       → SetsCommas path (sets_some mode) (document_of o t w) (document_of (allowing mode o) u x) → Makes (document_of o t w) op (document_of (allowing mode o) u x)
 
-  commas_run : (path : List ℕ) → Place path → (op : texts.Operation) → ((o : Options) → allowing mode o ≡ texts.options_behind o op) → IsMade path op → (d : Document) → Shows d t → (e : Document) × Shows e u × Run d (op ∷ []) e
+  commas_run : (path : List ℕ) → Place path → (op : Operation) → ((o : Options) → allowing mode o ≡ texts.options_behind o op) → IsMade path op → (d : Document) → Shows d t → (e : Document) × Shows e u × Run d (op ∷ []) e
   commas_run path place op behind makes d shown =
       let o : Options = d.options in
       let was = says o t shown.sound in
@@ -58,8 +57,12 @@ module _ (mode : TrailingCommaMode) (old new : List Node) (same : (o : Options) 
 
   pub commas_lead : (path : List ℕ) → Place path → ((o : Options) → SoundTree o t → AreSet mode o path t u) → IsStepOf (set_commas path mode) old new
   commas_lead path place set = λ d shown fit.
-      commas_run path place (texts.set_commas path (sets_some mode)) (λ o. options_same o path mode) (λ o w x s r text sets. commas_made o t u w x path mode r text sets (set o s)) d shown
+      let op : Operation = texts.set_commas true path mode in
+      let run = commas_run path place op (λ o. refl) (λ o w x s r text sets. commas_made o t u w x path mode r text sets (set o s)) d shown in
+      (run.0, run.1, op, refl, run.2)
 
   pub some_commas_lead : (path : List ℕ) → Place path → IsStepOf (set_some_commas path mode) old new
   some_commas_lead path place = λ d shown fit.
-      commas_run path place (texts.set_some_commas path (sets_some mode)) (λ o. options_same_in_part o path mode) (λ o w x s r text sets. sets) d shown
+      let op : Operation = texts.set_commas false path mode in
+      let run = commas_run path place op (λ o. refl) (λ o w x s r text sets. (sets, tt)) d shown in
+      (run.0, run.1, op, refl, run.2)

@@ -1,5 +1,5 @@
 -- Where a value comes into an array of a sound tree, it comes into the text.
-use Rattle.std.proofs.Common.{ℕ, suc, min, ◌≡◌, ◌∙◌, sym, ap, subst, refl, List, [], ◌∷◌, ◌++◌, length, Some, arith, length-append}
+use Rattle.std.proofs.Common.{ℕ, suc, min, ◌≡◌, ◌∙◌, sym, ap, subst, refl, List, [], ◌∷◌, ◌++◌, length, Some}
 use Rattle.jsonc_text.specs.Options.{Options}
 use Rattle.jsonc_text.specs.Plain as plain
 use Rattle.jsonc_text.specs.Plain.{Plain, Items, no_items, item}
@@ -72,7 +72,3 @@ module _ (o : Options) {t u : OrderedTree} (s : SoundTree o t) (r : SoundTree o 
   -- at its number, or behind all
   pub in_place : length gained.front ≡ min i (length (gained.front ++ gained.back))
   in_place = gained.place ∙ ap (λ n. min i n) (ap item_count gained.before ∙ counted (gained.front ++ gained.back))
-
-pub nothing_behind : (front back : List Named) → length front ≡ length (front ++ back) → back ≡ []
-nothing_behind front [] e = refl
-nothing_behind front (x ∷ back) e = absurd (omega (arith, e, length-append front (x ∷ back)))

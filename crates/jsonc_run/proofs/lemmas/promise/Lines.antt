@@ -1,5 +1,5 @@
 -- Where an array or object is put on several lines, in a text; and where commas are set.
-use Rattle.std.proofs.Common.{ℕ, ◌≡◌, ◌∙◌, sym, ap, subst, refl, false, ◌||◌, List, inl, inr, ◌⊎◌, [], ◌∷◌, ◌++◌, IsTrue, Option, chars}
+use Rattle.std.proofs.Common.{ℕ, ◌≡◌, ◌∙◌, sym, ap, subst, refl, Bool, true, false, ◌||◌, List, inl, inr, ◌⊎◌, [], ◌∷◌, ◌++◌, IsTrue, Option, chars}
 use Rattle.jsonc_text.specs.Options.{Options}
 use Rattle.jsonc_text.specs.Grammar.{IsDocument}
 use Rattle.jsonc_text.specs.Plain.{Plain}
@@ -23,12 +23,11 @@ use Rattle.jsonc_text.specs.declared.edit.TrailingCommaMode.TheVariants.{Never, 
 use Rattle.jsonc_edit.specs.multiline.Laws.{bracketed, SpreadAt}
 use Rattle.jsonc_edit.specs.multiline.Reflows as reflows
 use Rattle.jsonc_edit.specs.multiline.Reflows.{has_newline, is_on_lines, Reflows, SpreadsOut}
-use Rattle.jsonc_run.specs.Edits.{ensure_multiline, set_commas, set_some_commas}
-use Rattle.jsonc_run.specs.Written.{IsChanged, by_lines, by_commas, by_some_commas}
+use Rattle.jsonc_run.specs.Written.{IsChanged, by_lines, by_commas, IsChangedAt}
 use Rattle.jsonc_run.specs.texts.Stretches as documents
 use Rattle.jsonc_run.specs.texts.Edits as texts
 use Rattle.jsonc_run.specs.texts.Stretches.{Inside, Without, is_space}
-use Rattle.jsonc_run.specs.texts.Edits.{Commas, IsOnLines, Makes, SetsCommas}
+use Rattle.jsonc_run.specs.texts.Edits.{Commas, IsOnLines, Makes, SetsCommas, sets_some}
 use Rattle.jsonc_sound.specs.Leaves.{is_inner_blank}
 use Rattle.std.proofs.lemmas.Str.{chars-nil}
 use Rattle.std.proofs.lemmas.List.{append-nil}
@@ -48,8 +47,6 @@ use Rattle.jsonc_run.proofs.lemmas.promise.Leaves.{front_of, back_of, document_p
 use Rattle.jsonc_sound.specs.Documents.{all_marks}
 use Rattle.jsonc_run.proofs.lemmas.promise.RemovedTexts.{container_leaves}
 use Rattle.jsonc_sound.specs.Documents.{document_of}
-use Rattle.jsonc_run.specs.Steps.{IsChangedAt}
-use Rattle.jsonc_run.specs.promise.Words.{sets_some}
 use Rattle.jsonc_run.proofs.lemmas.promise.Trailing.{loses_trailing}
 use Rattle.jsonc_run.proofs.lemmas.promise.ReflowedRows.{spread_texts}
 
@@ -147,7 +144,7 @@ lines_so : (o : Options) {t u : OrderedTree} {path : List ℕ} → SoundTree o u
 lines_so o r kind (reflows.stays h) f d w = inl (ap printed_text (sym (document_same refl d)))
 lines_so o r kind {row} {new} (reflows.reflows e h k) f d w = inr (parts_on_lines o kind row new r d (f e) w)
 
-pub multiline_made : (o : Options) (t u : OrderedTree) (w x : Option Plain) (path : List ℕ) → SoundTree o t → SoundTree o u → IsChanged w (ensure_multiline path) x → tree_marks.marks u ≡ tree_marks.marks t → SpreadAt path t u
+pub multiline_made : (o : Options) (t u : OrderedTree) (w x : Option Plain) (path : List ℕ) → SoundTree o t → SoundTree o u → IsChanged w (texts.ensure_multiline path) x → tree_marks.marks u ≡ tree_marks.marks t → SpreadAt path t u
     → Makes (document_of o t w) (texts.ensure_multiline path) (document_of o u x)
 multiline_made o t u w _ path s r by_lines m a =
     let close : OrderedTree = token_then (closing a.kind) none in
@@ -179,11 +176,8 @@ pub only_commas : (o : Options) (mode : TrailingCommaMode) {t u : OrderedTree} �
 only_commas o Never s r h = loses_trailing o s h
 only_commas o IfMultiline s r h = loses_trailing (allowing IfMultiline o) r h
 
-pub all_commas : {path : List ℕ} {mode : TrailingCommaMode} {w x : Option Plain} → IsChanged w (set_commas path mode) x → x ≡ w
-all_commas by_commas = refl
-
-pub some_commas : {path : List ℕ} {mode : TrailingCommaMode} {w x : Option Plain} → IsChanged w (set_some_commas path mode) x → x ≡ w
-some_commas by_some_commas = refl
+pub same_by_commas : {path : List ℕ} {whole : Bool} {mode : TrailingCommaMode} {w x : Option Plain} → IsChanged w (texts.set_commas whole path mode) x → x ≡ w
+same_by_commas by_commas = refl
 
 pub some_commas_made : (o : Options) (t u : OrderedTree) (w x : Option Plain) (path : List ℕ) (mode : TrailingCommaMode) → SoundTree o t → SoundTree (allowing mode o) u → x ≡ w → tree_marks.marks u ≡ tree_marks.marks t → OnlyCommas mode t u → (path ≡ []) ⊎ IsChangedAt path t u
     → SetsCommas path (sets_some mode) (document_of o t w) (document_of (allowing mode o) u x)
@@ -199,14 +193,6 @@ set_at_path Never o path at a = gone.at_path at a
 set_at_path IfMultiline o path at a = missing.at_path at a
 
 pub commas_made : (o : Options) (t u : OrderedTree) (w x : Option Plain) (path : List ℕ) (mode : TrailingCommaMode) → SoundTree (allowing mode o) u → IsDocument (allowing mode o) (printed_text u) x
-    → SetsCommas path (sets_some mode) (document_of o t w) (document_of (allowing mode o) u x) → AreSet mode o path t u → Makes (document_of o t w) (texts.set_commas path (sets_some mode)) (document_of (allowing mode o) u x)
+    → SetsCommas path (sets_some mode) (document_of o t w) (document_of (allowing mode o) u x) → AreSet mode o path t u → Makes (document_of o t w) (texts.set_commas true path mode) (document_of (allowing mode o) u x)
 commas_made o t u w x path Never sound text sets set = (sets, none_left o path sound x text set)
 commas_made o t u w x path IfMultiline sound text sets set = (sets, all_trailing (allowing IfMultiline o) path sound x text set)
-
-pub options_same : (o : Options) (path : List ℕ) (mode : TrailingCommaMode) → allowing mode o ≡ texts.options_behind o (texts.set_commas path (sets_some mode))
-options_same o path Never = refl
-options_same o path IfMultiline = refl
-
-pub options_same_in_part : (o : Options) (path : List ℕ) (mode : TrailingCommaMode) → allowing mode o ≡ texts.options_behind o (texts.set_some_commas path (sets_some mode))
-options_same_in_part o path Never = refl
-options_same_in_part o path IfMultiline = refl

@@ -1,5 +1,5 @@
 -- Where a property comes into an object of a sound tree, it comes into the text.
-use Rattle.std.proofs.Common.{ℕ, suc, ◌+◌, ◌≤◌, min, ◌≡◌, ◌∙◌, sym, ap, subst, refl, List, [], ◌∷◌, ◌++◌, length, Option, Some, arith}
+use Rattle.std.proofs.Common.{ℕ, suc, min, ◌≡◌, ◌∙◌, sym, ap, subst, refl, List, [], ◌∷◌, ◌++◌, length, Option, Some}
 use Rattle.jsonc_text.specs.Options.{Options}
 use Rattle.jsonc_text.specs.Plain as plain
 use Rattle.jsonc_text.specs.Plain.{Plain, Members, no_members, member}
@@ -12,16 +12,14 @@ use Rattle.jsonc_insert.specs.elements.Members as laws
 use Rattle.jsonc_insert.specs.elements.Members.{PropertyInsertedAt, InsertsMemberAt, MemberInserted, member_count}
 use Rattle.jsonc_sound.specs.Rows.{of_properties}
 use Rattle.jsonc_sound.specs.SoundTrees.{SoundTree}
-use Rattle.jsonc_run.specs.Edits.{insert_property, append_property}
-use Rattle.jsonc_run.specs.Written.{IsChanged, by_inserting_member, by_appending_member}
+use Rattle.jsonc_run.specs.Written.{IsChanged, by_inserting_member}
 use Rattle.jsonc_run.specs.texts.Paths.{an_object}
 use Rattle.jsonc_run.specs.texts.Entries.{Named, members, of, Changed}
-use Rattle.jsonc_run.specs.texts.Edits as texts
 use Rattle.jsonc_run.specs.texts.Stretches.{written}
 use Rattle.jsonc_run.specs.texts.Layout.{IsLaidEntry}
 use Rattle.jsonc_run.specs.texts.Entering.{Gains}
 use Rattle.jsonc_run.proofs.lemmas.promise.LaidTexts.{is_laid_property}
-use Rattle.jsonc_run.specs.texts.Edits.{Makes}
+use Rattle.jsonc_run.specs.texts.Edits.{insert, Makes}
 use Rattle.jsonc_run.proofs.lemmas.promise.Insides.{kept_texts}
 use Rattle.jsonc_run.proofs.lemmas.promise.Joined.{spread_good, spread_reflows}
 use Rattle.jsonc_run.proofs.lemmas.promise.Leaves.{back_of, front_of}
@@ -31,7 +29,6 @@ use Rattle.jsonc_run.proofs.lemmas.promise.Stretches.{laid_property_literals}
 use Rattle.jsonc_layout.specs.from_input.Texts.{IsCharacters, IsOfTexts}
 use Rattle.jsonc_insert.proofs.lemmas.elements.Marked.{kept_marks}
 use Rattle.jsonc_insert.proofs.lemmas.elements.SpreadObjects.{spread_marks}
-use Rattle.jsonc_run.proofs.lemmas.promise.Inserting.{nothing_behind}
 use Rattle.jsonc_run.proofs.lemmas.promise.Plains.{changed, entry_of, list_of_members, same_members}
 use Rattle.jsonc_sound.specs.Documents.{document_of}
 use Rattle.jsonc_run.proofs.lemmas.promise.ReflowedRows.{spread_texts}
@@ -76,24 +73,8 @@ module _ (o : Options) {t u : OrderedTree} (s : SoundTree o t) (r : SoundTree o 
         comes.9,
       )
 
-behind_all : (n c : ℕ) → min (n + c) c ≡ c
-behind_all n c = omega arith
-
-behind_all_so : (i c : ℕ) → c ≤ i → c ≡ min i c
-behind_all_so i c h = omega (arith, h)
-
-pub property_inserted : (o : Options) (t u : OrderedTree) (w x : Option Plain) (path : List ℕ) (i : ℕ) (name : List ℕ) (v : Plain) → IsCharacters name × IsOfTexts v → SoundTree o t → SoundTree o u → DocumentValueOf o t w → DocumentValueOf o u x → IsChanged w (insert_property path i name v) x
-    → PropertyInsertedAt o path i name v t u → Makes (document_of o t w) (texts.insert_property path i name v) (document_of o u x)
-property_inserted o t u _ _ path i name v f s r h h2 (by_inserting_member gains) c =
+pub property_inserted : (o : Options) (t u : OrderedTree) (w x : Option Plain) (path : List ℕ) (i : ℕ) (new : Named) → IsCharacters new.name × IsOfTexts new.value → SoundTree o t → SoundTree o u → DocumentValueOf o t w → DocumentValueOf o u x → IsChanged w (insert an_object path i new) x
+    → PropertyInsertedAt o path i new.name new.value t u → Makes (document_of o t w) (insert an_object path i new) (document_of o u x)
+property_inserted o t u _ _ path i new f s r h h2 (by_inserting_member gains) c =
     let k = member_gained gains.comes in
     (k.front, k.back, k.place ∙ ap (λ n. min i n) (ap member_count k.before ∙ members_counted (k.front ++ k.back)), member_gains o s r f c h h2 gains.changed k (sym k.place))
-
-pub property_appended : (o : Options) (t u : OrderedTree) (w x : Option Plain) (path : List ℕ) (name : List ℕ) (v : Plain) → IsCharacters name × IsOfTexts v → SoundTree o t → SoundTree o u → DocumentValueOf o t w → DocumentValueOf o u x → IsChanged w (append_property path name v) x
-    → (n : ℕ) → ((i : ℕ) → n ≤ i → PropertyInsertedAt o path i name v t u) → Makes (document_of o t w) (texts.append_property path name v) (document_of o u x)
-property_appended o t u _ _ path name v f s r h h2 (by_appending_member {i = i} {x = x} {y = y} gains far) n comes =
-    let k = member_gained gains.comes in
-    let far_away : ℕ = n + member_count gains.old in
-    let c : PropertyInsertedAt o path far_away name v t u = comes far_away (omega arith) in
-    let count : member_count gains.old ≡ length (k.front ++ k.back) = ap member_count k.before ∙ members_counted (k.front ++ k.back) in
-    let last : k.back ≡ [] = nothing_behind k.front k.back (k.place ∙ omega (arith, far, count)) in
-    (k.front, subst (λ (b : List Named). Gains an_object path k.front b (entry_of name v) (document_of o t (Some x)) (document_of o u (Some y))) last (member_gains o s r f c h h2 gains.changed k (behind_all n (member_count gains.old) ∙ behind_all_so i (member_count gains.old) far ∙ sym k.place)))

@@ -19,10 +19,13 @@ use Rattle.jsonc_edit.specs.Paths.{IsAt, IsElementOf, LeadsTo, StepsTo, itself, 
 use Rattle.jsonc_edit.proofs.ShapedPlaces.{all_stand, at_further}
 use Rattle.jsonc_edit.proofs.Uniqueness.{element_parent}
 use Rattle.jsonc_insert.specs.named.Places.{IsPropertyAt, a_property}
-use Rattle.jsonc_run.specs.Edits.{Operation, none_made, first_made, EditStep}
+use Rattle.jsonc_run.specs.Edits.{PlainEdit, none_made, first_made, EditStep, IsOfCharacters, NumbersFit}
 use Rattle.jsonc_run.specs.Places.{IsEntryAt, the_value, an_entry, IsEntryOf}
-use Rattle.jsonc_run.specs.Steps.{IsOfCharacters, NumbersFit}
 use Rattle.jsonc_run.specs.promise.Steps.{IsCommentAt, IsNoPart, IsStep, IsStepOf}
+use Rattle.jsonc_run.specs.promise.Chains.{NamedRun, none_named, one_named}
+use Rattle.jsonc_run.specs.Named.{Asks}
+use Rattle.jsonc_run.specs.texts.Edits.{Operation, Run}
+use Rattle.jsonc_text.specs.Documents.{Document}
 use Rattle.jsonc_run.proofs.lemmas.promise.Leads.{edits_lead}
 
 -- a node that is neither the root nor passed over
@@ -130,15 +133,19 @@ module _ (ns : List Node) (tree : IsTree ns) where
 one_only : {A : Type 0} (P : A → Type 0) (x : A) → P x → All P (x ∷ [])
 one_only P x h = All-cons P x [] h (All-nil P)
 
+-- one edit leads by the operation that it asks for
+asked_alone : {T : Document → Type 0} (d e : Document) (asked : PlainEdit) (ops : List Operation) → NamedRun d (asked ∷ []) ops e → T e → (f : Document) × T f × (op : Operation) × Asks d.value asked op × Run d (op ∷ []) f
+asked_alone d e asked _ (one_named {op = op} named asks run (none_named last)) shown = (e, shown, op, asks, run)
+
 module _ (old new : List Node) (tree : IsTree old) (after : IsTree new) where
   -- an edit that was made is a step
-  pub made_leads : (op : Operation) → IsOfCharacters op → EditStep old op new → IsStepOf op old new
+  pub made_leads : (op : PlainEdit) → IsOfCharacters op → EditStep old op new → IsStepOf op old new
   made_leads op characters made = λ d shown fit.
       let lead = edits_lead old new (op ∷ []) tree (first_made made after none_made) (one_only IsOfCharacters op characters) d shown (one_only (NumbersFit d.options) op fit) in
-      (lead.0, lead.1, lead.2)
+      asked_alone d lead.0 op lead.2 lead.4 lead.1
 
   -- and of a node that has its place one at that place
-  pub made_step : {P : Type 0} (At : List Node → P → ℕ → Type 0) (op : P → Operation) (n : ℕ) → ((p : P) → IsOfCharacters (op p))
+  pub made_step : {P : Type 0} (At : List Node → P → ℕ → Type 0) (op : P → PlainEdit) (n : ℕ) → ((p : P) → IsOfCharacters (op p))
       → ((o : Options) → SoundTree o (ordered_tree old 0) → IsOver old 0 n → (p : P) × At old p n) → ((p : P) → IsOver old 0 n → At old p n → EditStep old (op p) new) → IsStep At op old new n
   made_step At op n characters place made = λ over d shown.
       let at = place d.options shown.sound over in

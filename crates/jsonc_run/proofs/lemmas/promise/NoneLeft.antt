@@ -22,7 +22,7 @@ use Rattle.jsonc_sound.proofs.FirstNodes.{no_element, trivia_over}
 use Rattle.jsonc_sound.proofs.NodesAlone.{document_alone, document_leaves, document_shaped, value_leaves, value_shaped}
 use Rattle.jsonc_edit.proofs.lemmas.commas.NoneLeft.{leaves_end_same}
 use Rattle.jsonc_edit.proofs.lemmas.commas.NoTrailing.{same_lexemes, trivia_leaf_same}
-use Rattle.jsonc_run.specs.Steps.{IsChangedAt}
+use Rattle.jsonc_run.specs.Written.{IsChangedAt}
 use Rattle.jsonc_run.specs.promise.PlaceLaws.{text_of_leaves}
 use Rattle.jsonc_run.proofs.lemmas.promise.Leaves.{back_of}
 use Rattle.jsonc_sound.proofs.ShapeValues.{document_printed, value_stands, Carries}

@@ -39,7 +39,7 @@ use Rattle.jsonc_sound.proofs.FirstNodes.{value_element}
 use Rattle.jsonc_sound.proofs.LooseLines.{Stops, comment_takes, elements_stop, inner_blanks, leaf_then, properties_stop, value_stops, trivia_gap}
 use Rattle.jsonc_sound.proofs.ShapeTexts.{begins_line, newline_no_line, text_leaf, text_more, trivia_some}
 use Rattle.jsonc_edit.specs.commas.Laws.{element_last, is_full, row_is_full}
-use Rattle.jsonc_run.specs.Steps.{IsChangedAt}
+use Rattle.jsonc_run.specs.Written.{IsChangedAt}
 use Rattle.jsonc_run.specs.promise.PlaceLaws.{text_of_leaves}
 use Rattle.jsonc_run.proofs.lemmas.promise.Leaves.{back_of}
 use Rattle.jsonc_sound.proofs.ShapeValues.{Carries, Mark, bracket_mark, brace_mark, carries_more, close_brace_mark, close_bracket_mark, closed_some, closing_text, colon_mark, comma_mark, elements_some, mark_some, mark_text, name_stands, name_utf8, node_text, null_chars, properties_some, property_utf8, root_text, separated_some, value_stands, value_utf8, word_chars}

@@ -1,13 +1,13 @@
 -- Where each part of a row is on a line of its own, it is so in the text.
-use Rattle.std.proofs.Common.{ℕ, ◌≡◌, ◌⊎◌, ◌∙◌, sym, ap, subst, refl, inl, inr, Bool, true, false, not, ◌&&◌, ◌||◌, List, [], ◌∷◌, ◌++◌, IsTrue, Option, chars}
+use Rattle.std.proofs.Common.{ℕ, ◌≡◌, ◌⊎◌, ◌∙◌, sym, ap, subst, refl, inl, inr, Bool, true, false, ◌&&◌, ◌||◌, List, [], ◌∷◌, ◌++◌, IsTrue, Option, chars}
 use Rattle.std.proofs.lemmas.Bool.{cases_Bool}
 use Rattle.std.proofs.lemmas.List.{append_assoc, append-nil}
 use Rattle.jsonc_text.specs.Options.{Options}
 use Rattle.jsonc_text.specs.Plain.{Plain}
 use Rattle.jsonc_text.specs.Text as many
 use Rattle.jsonc_text.specs.Text.{Many}
-use Rattle.jsonc_tree.specs.Content.{Content, newline, token, text_of}
-use Rattle.jsonc_tree.specs.OrderedTree.{OrderedTree, Top, none, more, followed_by, leaves, own_leaf}
+use Rattle.jsonc_tree.specs.Content.{Content, newline, token}
+use Rattle.jsonc_tree.specs.OrderedTree.{OrderedTree, none, more, followed_by, leaves, own_leaf}
 use Rattle.jsonc_layout.specs.nodes.Kinds.{is_comma, is_newline, is_whitespace}
 use Rattle.jsonc_sound.specs.Documents.{document_of}
 use Rattle.jsonc_sound.specs.Lines.{LinesEndLoosely}

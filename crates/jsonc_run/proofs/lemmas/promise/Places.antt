@@ -14,12 +14,12 @@ use Rattle.jsonc_run.specs.promise.PlaceLaws.{text_of_leaves}
 use Rattle.jsonc_run.proofs.lemmas.promise.Leaves.{row_front, row_back, value_front, value_back, front_of, back_of, text_joined, utf8_first}
 
 -- a row in which nothing changes
-record RowItself (top : Top) (i : ℕ) (row : OrderedTree) (f b : List Content) : Type 0 where
-  changed : ElementChanged top top i row row
-  first : row_front changed ≡ f
-  last : row_back changed ≡ b
+pub record RowItself (top : Top) (i : ℕ) (row : OrderedTree) (f b : List Content) : Type 0 where
+  pub changed : ElementChanged top top i row row
+  pub first : row_front changed ≡ f
+  pub last : row_back changed ≡ b
 
-row_itself : {top : Top} {i : ℕ} {row : OrderedTree} {f b : List Content} → RowHolds top i row f b → RowItself top i row f b
+pub row_itself : {top : Top} {i : ℕ} {row : OrderedTree} {f b : List Content} → RowHolds top i row f b → RowItself top i row f b
 row_itself (this_element p) = record { changed = changes.this_element p p; first = refl; last = refl }
 row_itself (past_other {content = content} {below = below} p h) =
     let m = row_itself h in

@@ -16,7 +16,6 @@ use Rattle.jsonc_sound.proofs.NodesAlone.{document_alone, value_alone}
 use Rattle.jsonc_sound.proofs.Pieces.{Pieces, document_pieces}
 use Rattle.jsonc_sound.proofs.HeldValues.{document_held}
 use Rattle.jsonc_sound.proofs.Texts.{AllUtf8}
-use Rattle.jsonc_run.specs.Edits.{replace_property}
 use Rattle.jsonc_run.specs.Written.{IsChanged, by_property, ReplacesProperty, property_given}
 use Rattle.jsonc_edit.specs.SeamEntries.{PropertyHolds, PropertyReplacedWithSeam}
 use Rattle.jsonc_edit.specs.SeamPlaces.{RowHolds, this_element, past_other, past_element, DocumentHolds}
@@ -28,10 +27,10 @@ use Rattle.jsonc_layout.specs.from_input.Laid.{laid_property, number_leaf, strin
 use Rattle.jsonc_layout.specs.from_input.Layout.{Layout}
 use Rattle.jsonc_layout.specs.from_input.Texts.{IsCharacters, IsOfTexts}
 use Rattle.jsonc_run.specs.texts.Paths.{Entry, an_object}
-use Rattle.jsonc_run.specs.texts.Entries.{Named, members, of, Changed, Becomes}
+use Rattle.jsonc_run.specs.texts.Entries.{Named, members, of, Changed}
 use Rattle.jsonc_run.specs.texts.Edits as texts
 use Rattle.jsonc_run.specs.texts.Stretches.{written}
-use Rattle.jsonc_run.specs.texts.Edits.{Anything, IsSeam, Makes, Puts, Text}
+use Rattle.jsonc_run.specs.texts.Edits.{Anything, BecomesProperty, IsSeam, Makes, Puts, Text}
 use Rattle.jsonc_run.specs.promise.PlaceLaws.{text_of_leaves}
 use Rattle.jsonc_run.proofs.lemmas.promise.Leaves.{back_of, document_parts, document_utf8, text_joined, utf8_first, utf8_second}
 use Rattle.jsonc_run.specs.texts.Layout.{IsLaidEntry}
@@ -207,13 +206,8 @@ member_given (replaced.later_member {n = n} {w = w} k) =
     let m = member_given k in
     record { front = entry_of n w ∷ m.front; back = m.back; old = m.old; place = ap suc m.place; before = ap (member n w) m.before; after = ap (member n w) m.after }
 
--- the value of the object, where the path leads to one of its properties
-abbrev Gives : List ℕ → List ℕ → Plain → Option Plain → Option Plain → Type 0
-Gives path name v w x = (holder : List ℕ) × (front back : List Named) × (old : Named) × (path ≡ holder ++ length front ∷ [])
-    × Becomes (of an_object (front ++ old ∷ back)) (of an_object (front ++ entry_of name v ∷ back)) holder w x
-
-gives : {path name : List ℕ} {v : Plain} {w x : Option Plain} → IsChanged w (replace_property path name v) x → Gives path name v w x
-gives {name = name} {v = v} (by_property path i {x = x} {y = y} g) =
+gives : {path : List ℕ} {new : Named} {w x : Option Plain} → IsChanged w (texts.replace_property path new) x → BecomesProperty (λ old. new) path w x
+gives (by_property path i {x = x} {y = y} g) =
     let m = member_given g.replaced in (
       path,
       m.front,
@@ -228,8 +222,6 @@ puts : (o : Options) (t u : OrderedTree) (w x : Option Plain) (path name : List 
 puts o t u w x _ name v f s r (property_given path i layout spaced front old back p c d seam bare) =
     property_puts o s r seam w x (written an_object (entry_of name v)) (laid_property_literals layout name v f.0 f.1) (is_laid_property o layout name v f.0 f.1) (λ e. property_ends layout name v (bare e))
 
-pub property_replaced : (o : Options) (t u : OrderedTree) (w x : Option Plain) (path name : List ℕ) (v : Plain) → IsCharacters name × IsOfTexts v → SoundTree o t → SoundTree o u → IsChanged w (replace_property path name v) x
-    → ReplacesProperty name v t u path → Makes (document_of o t w) (texts.replace_property path name v) (document_of o u x)
-property_replaced o t u w x path name v f s r c given =
-    let k = gives c in
-    (puts o t u w x path name v f s r given, k.0, k.1, k.2, k.3, k.4, k.5)
+pub property_replaced : (o : Options) (t u : OrderedTree) (w x : Option Plain) (path name : List ℕ) (v : Plain) → IsCharacters name × IsOfTexts v → SoundTree o t → SoundTree o u → IsChanged w (texts.replace_property path (entry_of name v)) x
+    → ReplacesProperty name v t u path → Makes (document_of o t w) (texts.replace_property path (entry_of name v)) (document_of o u x)
+property_replaced o t u w x path name v f s r c given = (puts o t u w x path name v f s r given, gives c)

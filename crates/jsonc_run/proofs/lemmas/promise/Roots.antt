@@ -28,16 +28,9 @@ use Rattle.jsonc_sound.proofs.FirstValue.{has_first}
 use Rattle.jsonc_sound.proofs.Texts.{AllUtf8}
 use Rattle.jsonc_sound.proofs.TriviaLeaves.{front_leaves}
 use Rattle.jsonc_edit.proofs.OneValue.{document_once}
-use Rattle.jsonc_text.specs.declared.edit.Over.{Over}
-use Rattle.jsonc_text.specs.declared.edit.Over.TheVariants as over
-use Rattle.jsonc_text.specs.declared.edit.Shape.{Shape}
-use Rattle.jsonc_edit.specs.set.Shapes.{empty_of, EnsuredValue, comes_first, has_it, may_stay, must_give_way}
-use Rattle.jsonc_run.specs.Edits.{clear_root, ensure_root}
-use Rattle.jsonc_run.specs.Written.{IsChanged, by_clearing, by_ensuring, RootValueSet, given_way, has_come, RootValueEnsured, all_kept, empty_come, empty_given}
+use Rattle.jsonc_run.specs.Written.{IsChanged, by_clearing}
 use Rattle.jsonc_edit.specs.SeamPlaces.{RowHolds, this_element, past_other, itself, DocumentHolds, in_root}
 use Rattle.jsonc_run.specs.texts.Paths.{Value}
-use Rattle.jsonc_run.specs.texts.Entries as values
-use Rattle.jsonc_run.specs.texts.Entries.{of}
 use Rattle.jsonc_run.specs.texts.Edits as texts
 use Rattle.jsonc_run.specs.texts.Stretches.{EndsInComment, IsLineEnd}
 use Rattle.jsonc_run.specs.texts.Layout.{IsLaid}
@@ -48,10 +41,8 @@ use Rattle.jsonc_sound.specs.Documents.{all_marks}
 use Rattle.jsonc_sound.specs.Documents.{document_of}
 use Rattle.jsonc_run.proofs.lemmas.promise.Stretches.{pieces_first, pieces_second, blanks_behind_unmarked, laid_literals, marks_in, marks_in_both, parted, parted_as}
 use Rattle.jsonc_run.proofs.lemmas.promise.Trivia.{first_text, line_end_text, piece_trivia}
-use Rattle.jsonc_run.specs.promise.Words.{kind_of, yields}
 use Rattle.jsonc_run.proofs.lemmas.promise.LaidTexts.{is_laid}
-use Rattle.jsonc_run.proofs.lemmas.promise.Ensured.{empty_same, empty_texts, given_so, stays_so}
-use Rattle.jsonc_run.proofs.lemmas.promise.Replacing.{Printed, printed, value_put}
+use Rattle.jsonc_run.proofs.lemmas.promise.Replacing.{Printed, printed}
 
 -- past leaves of trivia
 past_trivia : {top : Top} {row : OrderedTree} {f b : List Content} (ls : List Content) → AreTrivia ls → RowHolds top 0 row f b → RowHolds top 0 (leaves_then ls row) (ls ++ f) b
@@ -172,24 +163,5 @@ module _ (o : Options) {t u : OrderedTree} (s : SoundTree o t) (r : SoundTree o 
       let come = first_come o top v comes element (subst (SoundTree o) was s) (subst (SoundTree o) is r) w x old new (laid_literals layout v texts) (is_laid o layout v texts) in
       subst (λ (z : OrderedTree). ComesFirst v (document_of o z w) (document_of o u x)) (sym was) (subst (λ (z : OrderedTree). ComesFirst v (document_of o (root_with row) w) (document_of o z x)) (sym is) come)
 
-pub root_set : (o : Options) (t u : OrderedTree) (w x : Option Plain) (v : Plain) → IsOfTexts v → SoundTree o t → SoundTree o u → DocumentValueOf o t w → DocumentValueOf o u x → RootValueSet v t u
-    → Makes (document_of o t w) (texts.set_root v) (document_of o u x)
-root_set o t u w x v texts s r h k (given_way g) = inr (value_put o s r w x h k [] v texts g)
-root_set o t u w x v texts s r h k (has_come layout row next was is comes) = inl (laid_come o s r w x h k layout v texts row next was is comes)
-
-pub root_cleared : (o : Options) (t u : OrderedTree) (w x : Option Plain) → IsChanged w clear_root x → u ≡ root_with none → Makes (document_of o t w) texts.clear_root (document_of o u x)
+pub root_cleared : (o : Options) (t u : OrderedTree) (w x : Option Plain) → IsChanged w texts.clear_root x → u ≡ root_with none → Makes (document_of o t w) texts.clear_root (document_of o u x)
 root_cleared o t u w _ by_clearing same = (ap printed_text same ∙ chars-nil, refl)
-
-root_kept : (o : Options) (t u : OrderedTree) (shape : Shape) {how : Over} → u ≡ t → {w x : Option Plain} → EnsuredValue shape how w x → DocumentValueOf o t w → DocumentValueOf o u x
-    → Makes (document_of o t w) (texts.ensure_root (kind_of shape) (yields how)) (document_of o u x)
-root_kept o t u shape same comes_first h k = let wrong : Some (empty_of shape) ≡ None = document_once o t (Some (empty_of shape)) None (subst (λ z. DocumentValueOf o z (Some (empty_of shape))) same k) h in cc
-root_kept o t u shape {how} same (has_it e) h k = inr (stays_so o [] shape {how = how} h k same (has_it e) values.itself)
-root_kept o t u shape same (may_stay e) h k = inr (stays_so o [] shape {how = over.Keep} h k same (may_stay e) values.itself)
-root_kept o t u shape same (must_give_way e) h k = inr (stays_so o [] shape {how = over.Replace} h k same (must_give_way e) values.itself)
-
-pub root_ensured : (o : Options) (t u : OrderedTree) (w x : Option Plain) (shape : Shape) (how : Over) → SoundTree o t → SoundTree o u → DocumentValueOf o t w → DocumentValueOf o u x → IsChanged w (ensure_root shape how) x → RootValueEnsured shape t u how
-    → Makes (document_of o t w) (texts.ensure_root (kind_of shape) (yields how)) (document_of o u x)
-root_ensured o t u w x shape how s r h k c (empty_come layout row next was is comes) =
-    inl (subst (λ v. ComesFirst v (document_of o t w) (document_of o u x)) (sym (empty_same shape)) (laid_come o s r w x h k layout (empty_of shape) (empty_texts shape) row next was is comes))
-root_ensured o t u w x shape _ s r h k c (empty_given given other) = inr (given_so o [] shape s r w x h k given other)
-root_ensured o t u _ _ shape how s r h k (by_ensuring e) (all_kept same) = root_kept o t u shape same e h k

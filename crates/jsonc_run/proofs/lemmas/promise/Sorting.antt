@@ -32,7 +32,6 @@ use Rattle.jsonc_sound.proofs.Texts.{AllUtf8}
 use Rattle.jsonc_edit.proofs.OneValue.{document_once}
 use Rattle.jsonc_run.proofs.lemmas.promise.Reversed.{back_same, flip, front_same}
 use Rattle.jsonc_insert.proofs.lemmas.named.PathValues.{value_once}
-use Rattle.jsonc_run.specs.Edits.{rearrange}
 use Rattle.jsonc_run.specs.Written.{IsChanged, by_sorting}
 use Rattle.jsonc_sort.specs.Slots.{Slot, stays, comes, all_stay, row_then, top_in}
 use Rattle.jsonc_sort.specs.Parts.{parts}
@@ -400,6 +399,6 @@ module _ (o : Options) {t u : OrderedTree} {x y : Plain} (path order : List ℕ)
         outcome_as an_object (sym (object_row a.kind held.had (value_once at_path c))),
       )
 
-pub rearranged : (o : Options) (t u : OrderedTree) (w x : Option Plain) (path order : List ℕ) (headers : Headers) → SoundTree o t → SoundTree o u → DocumentValueOf o t w → DocumentValueOf o u x → IsChanged w (rearrange path headers order) x
+pub rearranged : (o : Options) (t u : OrderedTree) (w x : Option Plain) (path order : List ℕ) → SoundTree o t → SoundTree o u → DocumentValueOf o t w → DocumentValueOf o u x → IsChanged w (texts.rearrange path order) x
     → ((test : tree_marks.Mark → Bool) → count_by test (tree_marks.marks u) ≡ count_by test (tree_marks.marks t)) → SortedAt path order t u → Makes (document_of o t w) (texts.rearrange path order) (document_of o u x)
-rearranged o t u _ _ path order headers s r h k (by_sorting e) m a = sorted_so o path order s r h k m a e
+rearranged o t u _ _ path order s r h k (by_sorting e) m a = sorted_so o path order s r h k m a e

@@ -1,6 +1,6 @@
 use Rattle.std.proofs.Common.{◌≡◌, List, ℕ, true, false, chars, sym, subst}
 use Rattle.jsonc_layout.specs.input.Views.{chars_of, plain}
-use Rattle.jsonc_run.specs.Edits.{is_sort, operation_of, unsorted, append_property, ensure_property, insert_property, set_value}
+use Rattle.jsonc_run.specs.Edits.{is_sort, operation_of, unsorted, append_property, ensure_property, insert_property, rename_property, set_value}
 use Rattle.jsonc_run.specs.Refusals.{IsAnswer}
 use Rattle.jsonc_run.proofs.making.make_by_kind.Goals as goal
 
@@ -30,6 +30,13 @@ returns-in-EnsureProperty g c =
     let at : Made c.in-EnsureProperty.path.items (chars c.deref-in-EnsureProperty-2.result.now) = subst (λ (path : List ℕ). Made path (chars c.deref-in-EnsureProperty-2.result.now)) c.deref-in-EnsureProperty.ensures.value c.ensure_property_at.ensures in
     let given : Made c.in-EnsureProperty.path.items (chars_of c.in-EnsureProperty.name) = subst (λ (s : List ℕ). Made c.in-EnsureProperty.path.items (chars s)) c.deref-in-EnsureProperty-2.ensures at in
     subst (λ e. IsAnswer c.args.tree.now.nodes c.ensure_property_at.new.tree.nodes (operation_of unsorted e) c.ensure_property_at.result) (sym c.in-EnsureProperty.is) given
+
+pub returns-in-RenameProperty : goal.returns-in-RenameProperty
+returns-in-RenameProperty g c =
+    let Made : List ℕ → List ℕ → Type 0 = λ path name. IsAnswer c.args.tree.now.nodes c.rename_at.new.tree.nodes (rename_property path name) c.rename_at.result in
+    let at : Made c.in-RenameProperty.path.items (chars c.deref-in-RenameProperty-2.result.now) = subst (λ (path : List ℕ). Made path (chars c.deref-in-RenameProperty-2.result.now)) c.deref-in-RenameProperty.ensures.value c.rename_at.ensures in
+    let given : Made c.in-RenameProperty.path.items (chars_of c.in-RenameProperty.name) = subst (λ (s : List ℕ). Made c.in-RenameProperty.path.items (chars s)) c.deref-in-RenameProperty-2.ensures at in
+    subst (λ e. IsAnswer c.args.tree.now.nodes c.rename_at.new.tree.nodes (operation_of unsorted e) c.rename_at.result) (sym c.in-RenameProperty.is) given
 
 pub unreachable-requires : goal.unreachable-requires
 unreachable-requires g c =

@@ -8,7 +8,7 @@ loop-place-preserved g c =
     let comments = c.args.comments.now in
     let from = c.loop-place.from in
     let m = c.min.result in
-    let nothing : LeadRead = record { blank_line = false; comments = 0 } in (
+    let nothing : LeadRead = record { blank_line = false; comments = 0; header = 0 } in (
       search rules,
       next_pins g.F.Fn c.args.rule.now (g.D.DocumentArg.same c.args.doc.now) c.args.nodes.now c.args.leads.now comments c.loop-place.pins.items c.push.new.self.items c.pin_of.result c.loop-place.place from m nothing c.node_at_place.result
           (take ((from + m) - from) (drop from comments)) c.loop-place.invariant.1 (search rules) (search rules) (ap (λ (k : ℕ). take k (drop from comments)) (omega arith)) c.node_at_place.ensures c.pin_of.ensures (search rules),

@@ -2,6 +2,7 @@ use Rattle.std.proofs.Common.{drop, take, get_or, ◌+◌, ◌∙◌, ap, sym, s
 use Rattle.jsonc_layout.specs.input.Views.{chars_of}
 use Rattle.jsonc_cst.specs.Document.{HasNode}
 use Rattle.jsonc_parser.specs.paths.Found.{names_of, FindsInsideWhatShown}
+use Rattle.jsonc_parser.specs.declared.paths.which.Which.TheVariants.{First}
 use Rattle.jsonc_parser.proofs.lemmas.paths.Found.{all_along, no_value_found, none_along, one_along, one_more, split_at, value_found, NamesWhatShown}
 use Rattle.jsonc_parser.proofs.lemmas.paths.MemoryNeeded.{passes}
 use Rattle.jsonc_parser.proofs.paths.find.find_at.Goals as goal
@@ -10,7 +11,7 @@ pub returns-in_default-clause-found : goal.returns-in_default-clause-found
 returns-in_default-clause-found g c = no_value_found c.args.doc.now c.args.doc.now.tree.tree (sym c.in_default.is ∙ c.value.ensures.value) (names_of c.args.names.now)
 
 pub loop-name-init : goal.loop-name-init
-loop-name-init g c = (value_found c.args.doc.now c.args.doc.now.tree.tree c.in-Some.value (sym c.in-Some.is ∙ c.value.ensures.value), c.in-Some.ensures.in_document)
+loop-name-init g c = (value_found First c.args.doc.now c.args.doc.now.tree.tree c.in-Some.value (sym c.in-Some.is ∙ c.value.ensures.value), c.in-Some.ensures.in_document)
 
 pub find_inside-requires : goal.find_inside-requires
 find_inside-requires g c = c.loop-name.invariant.1
@@ -24,7 +25,7 @@ loop-name-preserved g c =
     let found = subst (FindsInsideWhatShown doc c.loop-name.node (chars c.deref.result.now)) c.in-Ok-Some.field-0-is c.in-Ok-Some.ensures.found in
     let step = one_along doc c.args.doc.now.tree.tree c.loop-name.node c.in-Ok-Some.inner (names_of (take k names)) name c.loop-name.invariant.0
     (subst (λ s. FindsInsideWhatShown doc c.loop-name.node s (Some c.in-Ok-Some.inner)) (ap chars c.deref.ensures ∙ ap chars_of c.name-item.is) found) in
-    (subst (λ l. NamesWhatShown doc l c.in-Ok-Some.inner) (sym (one_more names k c.name-item.result c.loop-name-test.true)) step, subst (λ o. IfSome o (HasNode doc)) c.in-Ok-Some.field-0-is c.in-Ok-Some.ensures.in_document)
+    (subst (λ l. NamesWhatShown First doc l c.in-Ok-Some.inner) (sym (one_more names k c.name-item.result c.loop-name-test.true)) step, subst (λ o. IfSome o (HasNode doc)) c.in-Ok-Some.field-0-is c.in-Ok-Some.ensures.in_document)
 
 pub returns-in-Ok-None-clause-found : goal.returns-in-Ok-None-clause-found
 returns-in-Ok-None-clause-found g c =
@@ -44,4 +45,4 @@ returns-clause-in_document g c = c.loop-name.invariant.1
 
 pub returns-in-Err-clause-oom_only_if : goal.returns-in-Err-clause-oom_only_if
 returns-in-Err-clause-oom_only_if g c =
-    passes c.args.doc.now c.args.names.now c.loop-name.name-index c.loop-name.node c.loop-name.invariant.0 c.name-item.result c.loop-name-test.true c.in-Err.ensures.escaped
+    passes First c.args.doc.now c.args.names.now c.loop-name.name-index c.loop-name.node c.loop-name.invariant.0 c.name-item.result c.loop-name-test.true c.in-Err.ensures.escaped

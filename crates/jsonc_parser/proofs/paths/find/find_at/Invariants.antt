@@ -1,8 +1,9 @@
 use Rattle.std.proofs.Common.{take}
 use Rattle.jsonc_cst.specs.Document.{HasNode}
 use Rattle.jsonc_parser.specs.paths.Found.{names_of}
+use Rattle.jsonc_parser.specs.declared.paths.which.Which.TheVariants.{First}
 use Rattle.jsonc_parser.proofs.lemmas.paths.Found.{NamesWhatShown}
 use Rattle.jsonc_parser.proofs.paths.find.find_at.Given as goal
 
 abbrev pub invariant-loop-name : goal.invariant-loop-name
-invariant-loop-name g l = NamesWhatShown l.doc (names_of (take l.name-index l.names)) l.node × HasNode l.doc l.node
+invariant-loop-name g l = NamesWhatShown First l.doc (names_of (take l.name-index l.names)) l.node × HasNode l.doc l.node

@@ -5,4 +5,4 @@ use Rattle.jsonc_parser.proofs.lemmas.paths.Routes.{LeadsWhatShown}
 use Rattle.jsonc_parser.proofs.paths.reached.reach.Given as goal
 
 abbrev pub invariant-loop-count : goal.invariant-loop-count
-invariant-loop-count g l = LeadsWhatShown l.doc (names_of (take l.count l.names)) l.path.items l.node × HasNode l.doc l.node
+invariant-loop-count g l = LeadsWhatShown l.fn.which l.doc (names_of (take l.count l.names)) l.path.items l.node × HasNode l.doc l.node

@@ -1,0 +1,274 @@
+//! Patches: the examples of their standard, and what an error leaves.
+
+use crate::tests::reading::read;
+use failing_alloc::in_turn::answers_in_turn;
+use failing_alloc::outcome::Outcome;
+use jsonc_parser::cst::{CstRootNode, EditError};
+use jsonc_parser::patch::{OperationFault, Patch, PatchCause, PatchError, PatchFault};
+use jsonc_parser::{ParseOptions, parse_to_value};
+use std::alloc::Allocator;
+use std::test::Fail;
+
+/// What comes of a patch.
+#[derive(Clone, Copy)]
+enum Answer<'a> {
+    /// A document of the value of this text.
+    Value(&'a str),
+    /// This very text.
+    Text(&'a str),
+    /// The operation of this number leads to nothing.
+    Nowhere(usize),
+    /// The operation of this number finds another value.
+    Another(usize),
+    /// The operation of this number moves a value into itself.
+    Inside(usize),
+    /// This name stands twice where the operation of this number looks it up.
+    Twice(usize, &'a str),
+    /// The patch is none.
+    NoPatch(usize),
+}
+
+/// A document, a patch, and what comes of them.
+type Row<'a> = (&'a str, &'a str, Answer<'a>);
+
+/// Appendix A of RFC 6902, and more.
+static PATCHES: [Row; 30] = [
+    (
+        r#"{"foo":"bar"}"#,
+        r#"[{"op":"add","path":"/baz","value":"qux"}]"#,
+        Answer::Value(r#"{"baz":"qux","foo":"bar"}"#),
+    ),
+    (
+        r#"{"foo":["bar","baz"]}"#,
+        r#"[{"op":"add","path":"/foo/1","value":"qux"}]"#,
+        Answer::Value(r#"{"foo":["bar","qux","baz"]}"#),
+    ),
+    (
+        r#"{"baz":"qux","foo":"bar"}"#,
+        r#"[{"op":"remove","path":"/baz"}]"#,
+        Answer::Value(r#"{"foo":"bar"}"#),
+    ),
+    (
+        r#"{"foo":["bar","qux","baz"]}"#,
+        r#"[{"op":"remove","path":"/foo/1"}]"#,
+        Answer::Value(r#"{"foo":["bar","baz"]}"#),
+    ),
+    (
+        r#"{"baz":"qux","foo":"bar"}"#,
+        r#"[{"op":"replace","path":"/baz","value":"boo"}]"#,
+        Answer::Value(r#"{"baz":"boo","foo":"bar"}"#),
+    ),
+    (
+        r#"{"foo":{"bar":"baz","waldo":"fred"},"qux":{"corge":"grault"}}"#,
+        r#"[{"op":"move","from":"/foo/waldo","path":"/qux/thud"}]"#,
+        Answer::Value(r#"{"foo":{"bar":"baz"},"qux":{"corge":"grault","thud":"fred"}}"#),
+    ),
+    (
+        r#"{"foo":["all","grass","cows","eat"]}"#,
+        r#"[{"op":"move","from":"/foo/1","path":"/foo/3"}]"#,
+        Answer::Value(r#"{"foo":["all","cows","eat","grass"]}"#),
+    ),
+    (
+        r#"{"baz":"qux","foo":["a",2,"c"]}"#,
+        r#"[{"op":"test","path":"/baz","value":"qux"},{"op":"test","path":"/foo/1","value":2}]"#,
+        Answer::Text(r#"{"baz":"qux","foo":["a",2,"c"]}"#),
+    ),
+    (
+        r#"{"baz":"qux"}"#,
+        r#"[{"op":"test","path":"/baz","value":"bar"}]"#,
+        Answer::Another(0),
+    ),
+    (
+        r#"{"foo":"bar"}"#,
+        r#"[{"op":"add","path":"/child","value":{"grandchild":{}}}]"#,
+        Answer::Value(r#"{"foo":"bar","child":{"grandchild":{}}}"#),
+    ),
+    (
+        r#"{"foo":"bar"}"#,
+        r#"[{"op":"add","path":"/baz","value":"qux","xyz":123}]"#,
+        Answer::Value(r#"{"foo":"bar","baz":"qux"}"#),
+    ),
+    (
+        r#"{"foo":"bar"}"#,
+        r#"[{"op":"add","path":"/baz/bat","value":"qux"}]"#,
+        Answer::Nowhere(0),
+    ),
+    (
+        r#"{"foo":"bar"}"#,
+        r#"[{"op":"add","path":"/baz","value":"qux","op":"remove"}]"#,
+        Answer::NoPatch(0),
+    ),
+    (
+        r#"{"/":9,"~1":10}"#,
+        r#"[{"op":"test","path":"/~01","value":10}]"#,
+        Answer::Text(r#"{"/":9,"~1":10}"#),
+    ),
+    (
+        r#"{"/":9,"~1":10}"#,
+        r#"[{"op":"test","path":"/~01","value":"10"}]"#,
+        Answer::Another(0),
+    ),
+    (
+        r#"{"foo":["bar"]}"#,
+        r#"[{"op":"add","path":"/foo/-","value":["abc","def"]}]"#,
+        Answer::Value(r#"{"foo":["bar",["abc","def"]]}"#),
+    ),
+    // The document's value, and none.
+    (
+        "/*a*/ 1 // b",
+        r#"[{"op":"replace","path":"","value":2}]"#,
+        Answer::Text("/*a*/ 2 // b"),
+    ),
+    (
+        "",
+        r#"[{"op":"add","path":"","value":[]}]"#,
+        Answer::Value("[]"),
+    ),
+    ("", r#"[{"op":"remove","path":""}]"#, Answer::Nowhere(0)),
+    (
+        "[1]",
+        r#"[{"op":"remove","path":""},{"op":"add","path":"/0","value":1}]"#,
+        Answer::Nowhere(1),
+    ),
+    // Comments stay.
+    (
+        "{\"a\": 1 /*x*/, // y\n \"b\": [/*z*/2]}",
+        r#"[{"op":"replace","path":"/b/0","value":3},{"op":"replace","path":"/a","value":null}]"#,
+        Answer::Text("{\"a\": null /*x*/, // y\n \"b\": [/*z*/3]}"),
+    ),
+    (
+        "{\n  \"a\": 1, // one\n  \"b\": [2 /* of */]\n}\n",
+        r#"[{"op":"replace","path":"/b/0","value":3},{"op":"add","path":"/c","value":null}]"#,
+        Answer::Text("{\n  \"a\": 1, // one\n  \"b\": [3 /* of */],\n  \"c\": null\n}\n"),
+    ),
+    // All or nothing.
+    (
+        "[1, 2]",
+        r#"[{"op":"replace","path":"/0","value":3},{"op":"replace","path":"/2","value":4}]"#,
+        Answer::Nowhere(1),
+    ),
+    (
+        r#"{"a":{"b":1}}"#,
+        r#"[{"op":"move","from":"/a","path":"/a/b"}]"#,
+        Answer::Inside(0),
+    ),
+    (
+        r#"{"a":{"b":1}}"#,
+        r#"[{"op":"move","from":"/a","path":"/a"}]"#,
+        Answer::Text(r#"{"a":{"b":1}}"#),
+    ),
+    (
+        "[1]",
+        r#"[{"op":"remove","path":"/-"}]"#,
+        Answer::Nowhere(0),
+    ),
+    (
+        "[1]",
+        r#"[{"op":"add","path":"/2","value":0}]"#,
+        Answer::Nowhere(0),
+    ),
+    (
+        r#"{"a":1,"\u0061":2}"#,
+        r#"[{"op":"add","path":"/a","value":0}]"#,
+        Answer::Twice(0, "a"),
+    ),
+    (
+        r#"{"a": 1.0}"#,
+        r#"[{"op":"test","path":"/a","value":10e-1}]"#,
+        Answer::Text(r#"{"a": 1.0}"#),
+    ),
+    ("[]", r#"{"op":"remove","path":""}"#, Answer::NoPatch(0)),
+];
+
+/// Two texts have one value.
+fn have_one_value<'a, A: Allocator + Copy>(alloc: A, one: &'a str, other: &'a str) -> Outcome {
+    let options = ParseOptions::default();
+    let one = match parse_to_value(alloc, one, &options) {
+        Ok(value) => value,
+        Err(error) => return Outcome::from(error),
+    };
+    match parse_to_value(alloc, other, &options) {
+        Ok(other) => Outcome::of(one == other),
+        Err(error) => Outcome::from(error),
+    }
+}
+
+/// A text is that of the answer, or has its value.
+fn matches<A: Allocator + Copy>(alloc: A, doc: &CstRootNode<A>, answer: Answer<'_>) -> Outcome {
+    let text = match doc.text() {
+        Ok(text) => text,
+        Err(error) => return Outcome::from(error),
+    };
+    let wanted = match answer {
+        Answer::Text(wanted) => return Outcome::of(text.as_str() == wanted),
+        Answer::Value(wanted) => wanted,
+        _ => return Outcome::Other,
+    };
+    have_one_value(alloc, &text, wanted)
+}
+
+/// What came of an operation that was refused.
+fn refused<A: Allocator>(fault: &PatchFault<A>, answer: Answer<'_>) -> Outcome {
+    match (&fault.cause, answer) {
+        (PatchCause::NoTarget, Answer::Nowhere(number)) => Outcome::of(fault.operation == number),
+        (PatchCause::NotEqual, Answer::Another(number)) => Outcome::of(fault.operation == number),
+        (PatchCause::IntoItself, Answer::Inside(number)) => Outcome::of(fault.operation == number),
+        (PatchCause::RepeatedName(name), Answer::Twice(number, wanted)) => {
+            Outcome::of(fault.operation == number && name.as_str() == wanted)
+        }
+        (PatchCause::Edit(EditError::OutOfMemory), _) => Outcome::Wanted,
+        _ => Outcome::Other,
+    }
+}
+
+/// What came of a text that is no patch.
+fn no_patch<A: Allocator>(error: PatchError<A>, answer: Answer<'_>) -> Outcome {
+    match (error, answer) {
+        (PatchError::Operation(_, OperationFault::OutOfMemory), _) => Outcome::Wanted,
+        (PatchError::Operation(number, _), Answer::NoPatch(wanted)) => Outcome::of(
+            number == wanted,
+        ),
+        (PatchError::NotAnArray, Answer::NoPatch(_)) => Outcome::Answered,
+        (PatchError::Parse(error), _) => Outcome::from(error),
+        _ => Outcome::Other,
+    }
+}
+
+/// A document that was refused a change prints as it was.
+fn stays<A: Allocator + Copy>(doc: &CstRootNode<A>, text: &str) -> Outcome {
+    match doc.text() {
+        Ok(now) => Outcome::of(now.as_str() == text),
+        Err(error) => Outcome::from(error),
+    }
+}
+
+fn applied<A: Allocator + Copy>(alloc: A, row: &Row<'_>) -> Outcome {
+    let mut doc = match read(alloc, row.0) {
+        Ok(doc) => doc,
+        Err(outcome) => return outcome,
+    };
+    let patch = match Patch::from_json(alloc, row.1, &ParseOptions::default()) {
+        Ok(patch) => patch,
+        Err(error) => return no_patch(error, row.2),
+    };
+    match patch.apply(&mut doc) {
+        Ok(()) => matches(alloc, &doc, row.2),
+        Err(fault) => refused(&fault, row.2).then(stays(&doc, row.0)),
+    }
+}
+
+#[test]
+fn patches_are_applied_or_leave_all_with_each_request_refused_in_turn(
+    rt: HostRuntime,
+) -> Result<(), Fail> {
+    let alloc = rt.alloc();
+    for row in &PATCHES {
+        assert!(rt;
+            answers_in_turn(alloc, |heap| applied(heap, row)),
+            "{} {}",
+            row.0,
+            row.1
+        );
+    }
+    Ok(())
+}

@@ -1,0 +1,14 @@
+use Rattle.std.proofs.Common.{refl}
+use Rattle.jsonc_run.specs.Edits.{operation_of, unsorted}
+use Rattle.jsonc_parser.proofs.lemmas.paths.EditOutcome.{whole_no_sort}
+use Rattle.jsonc_parser.proofs.lemmas.patch.Edited.{left_kept}
+use Rattle.jsonc_parser.proofs.patch.making.edit.Goals as goal
+
+pub make-requires : goal.make-requires
+make-requires g c = record { unsorted = whole_no_sort c.args.edit c.requires }
+
+pub returns-clause-kept : goal.returns-clause-kept
+returns-clause-kept g c = left_kept c.args.edit c.args.doc.now c.make.new.self (operation_of unsorted c.args.edit) c.requires refl c.in-Err.ensures.left
+
+pub returns-clause-fails : goal.returns-clause-fails
+returns-clause-fails g c = c.in-Err.ensures.error

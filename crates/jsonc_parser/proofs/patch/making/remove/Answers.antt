@@ -1,0 +1,18 @@
+use Rattle.std.proofs.Common.{refl}
+use Rattle.jsonc_parser.specs.patch.Pointer.{tokens_of}
+use Rattle.jsonc_parser.proofs.lemmas.patch.Edited.{kept_same, removes_so}
+use Rattle.jsonc_parser.proofs.lemmas.patch.Failing.{removes_not, unremoved}
+use Rattle.jsonc_parser.proofs.patch.making.remove.Goals as goal
+
+pub returns-in-Ok-edit-clause-made : goal.returns-in-Ok-edit-clause-made
+returns-in-Ok-edit-clause-made g c =
+    removes_so c.args.doc.now c.edit.new.doc c.args.doc.now.tree.tree c.edit.new.doc.tree.tree c.in-Ok.path (tokens_of c.args.pointer.now) c.in-Ok.ensures.over c.in-Ok-edit.ensures.made
+
+pub returns-in-Err-edit-clause-fails : goal.returns-in-Err-edit-clause-fails
+returns-in-Err-edit-clause-fails g c = removes_not c.args.doc.now c.args.doc.now.tree.tree c.in-Ok.path (tokens_of c.args.pointer.now) c.in-Ok.ensures.over c.in-Err-edit.cause c.in-Err-edit.ensures.fails
+
+pub returns-in-Err-clause-kept : goal.returns-in-Err-clause-kept
+returns-in-Err-clause-kept g c = kept_same c.args.doc.now
+
+pub returns-in-Err-clause-fails : goal.returns-in-Err-clause-fails
+returns-in-Err-clause-fails g c = λ d shown. unremoved (tokens_of c.args.pointer.now) d.value c.in-Err.cause (c.in-Err.ensures.fails d shown)

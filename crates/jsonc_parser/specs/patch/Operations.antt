@@ -1,0 +1,75 @@
+-- The operations of a JSON Patch, each between the value of a document and the value after it (RFC 6902, 4); a document may have none.
+use Rattle.std.specs.Prelude.{◌≡◌, ◌≢◌, ◌⊎◌, ℕ, List, [], ◌∷◌, ◌++◌, length, Option, Some, None}
+use Rattle.std.specs.List.{All}
+use Rattle.jsonc_text.specs.Plain.{Plain, collapse}
+use Rattle.jsonc_run.specs.texts.Entries.{of, Becomes, Named}
+use Rattle.jsonc_run.specs.texts.Edits.{Loses}
+use Rattle.jsonc_run.specs.texts.Paths.{an_array, an_object}
+use Rattle.jsonc_parser.specs.patch.Equality.{AreEqual}
+use Rattle.jsonc_parser.specs.patch.Numbers.{SameNumber}
+use Rattle.jsonc_parser.specs.patch.References.{IsIndex, Refers, RefersTo}
+
+-- an operation at the tokens of its pointers, with the value that it has
+pub data Operation : Type 0 where
+  add : List (List ℕ) → Plain → Operation
+  remove : List (List ℕ) → Operation
+  replace : List (List ℕ) → Plain → Operation
+  move : List (List ℕ) → List (List ℕ) → Operation
+  copy : List (List ℕ) → List (List ℕ) → Operation
+  test : List (List ℕ) → Plain → Operation
+
+-- where the tokens lead the value x stands, over this path
+abbrev pub StandsAt : Option Plain → List (List ℕ) → List ℕ → Plain → Type 0
+StandsAt w tokens path x = (v : Plain) × (w ≡ Some v) × Refers v tokens path x
+
+-- 4.1: The value becomes the document's. Or in the array that the tokens before the last refer to it comes as the element of the index, behind those before it, or with
+-- `-` behind all; or into the object as a member, if it has none of the name; or in the place of the value of the member that is there.
+pub data Adds (v : Plain) : List (List ℕ) → Option Plain → Option Plain → Type 0 where
+  as_whole : {w : Option Plain} → Adds v [] w (Some v)
+  as_element : {tokens : List (List ℕ)} {token path : List ℕ} {w y : Option Plain} (front back : List Named) → StandsAt w tokens path (of an_array (front ++ back))
+      → IsIndex token (length front) ⊎ ((token ≡ 0x2D ∷ []) × (back ≡ []))
+      → Becomes (of an_array (front ++ back)) (of an_array (front ++ record { name = []; value = v } ∷ back)) path w y → Adds v (tokens ++ token ∷ []) w y
+  as_member : {tokens : List (List ℕ)} {path : List ℕ} {w y : Option Plain} (name : List ℕ) (front : List Named) → StandsAt w tokens path (of an_object front)
+      → All (λ e. e.name ≢ name) front
+      → Becomes (of an_object front) (of an_object (front ++ record { name = name; value = v } ∷ [])) path w y → Adds v (tokens ++ name ∷ []) w y
+  in_member : {tokens : List (List ℕ)} {path place : List ℕ} {w y : Option Plain} {x : Plain} (name : List ℕ) (members : List Named) → StandsAt w tokens path (of an_object members)
+      → StandsAt w (tokens ++ name ∷ []) place x → Becomes x v place w y → Adds v (tokens ++ name ∷ []) w y
+
+-- 4.2: the value that the tokens refer to leaves, with its member or as the element
+abbrev pub Removes : List (List ℕ) → Option Plain → Option Plain → Type 0
+Removes tokens w y = (path : List ℕ) × (x : Plain) × StandsAt w tokens path x × Loses w y path
+
+-- 4.3: the value that the tokens refer to is replaced by another
+abbrev pub Replaces : Plain → List (List ℕ) → Option Plain → Option Plain → Type 0
+Replaces v tokens w y = (path : List ℕ) × (x : Plain) × StandsAt w tokens path x × Becomes x v path w y
+
+-- the first tokens do not begin the others, or are they all
+abbrev pub LeadsElsewhere : List (List ℕ) → List (List ℕ) → Type 0
+LeadsElsewhere from to = (token : List ℕ) (rest : List (List ℕ)) → to ≢ from ++ token ∷ rest
+
+-- 4.4: The value that the first tokens refer to leaves, and is added at the others, which do not lead into it. What is moved to its own place stays.
+pub data Moves (from : List (List ℕ)) : List (List ℕ) → Option Plain → Option Plain → Type 0 where
+  stays : {w : Option Plain} {x : Plain} → RefersTo w from x → Moves from from w w
+  moved : {to : List (List ℕ)} {w u y : Option Plain} {x : Plain} → LeadsElsewhere from to → RefersTo w from x → Removes from w u → Adds (collapse x) to u y → Moves from to w y
+
+-- 4.5: the value that the first tokens refer to is added at the others
+abbrev pub Copies : List (List ℕ) → List (List ℕ) → Option Plain → Option Plain → Type 0
+Copies from to w y = (x : Plain) × RefersTo w from x × Adds (collapse x) to w y
+
+-- 4.6: the value that the tokens refer to is equal to this one, and nothing changes
+abbrev pub Tests : List (List ℕ) → Plain → Option Plain → Option Plain → Type 0
+Tests tokens v w y = (x : Plain) × RefersTo w tokens x × AreEqual SameNumber v (collapse x) × (y ≡ w)
+
+-- the operation leads from the one value to the other
+abbrev pub Makes : Operation → Option Plain → Option Plain → Type 0
+Makes (add tokens v) w y = Adds v tokens w y
+Makes (remove tokens) w y = Removes tokens w y
+Makes (replace tokens v) w y = Replaces v tokens w y
+Makes (move from to) w y = Moves from to w y
+Makes (copy from to) w y = Copies from to w y
+Makes (test tokens v) w y = Tests tokens v w y
+
+-- 3: so do operations, each from where the one before it led
+pub data MakesAll : List Operation → Option Plain → Option Plain → Type 0 where
+  none_made : {w : Option Plain} → MakesAll [] w w
+  one_made : {o : Operation} {os : List Operation} {w x y : Option Plain} → Makes o w x → MakesAll os x y → MakesAll (o ∷ os) w y

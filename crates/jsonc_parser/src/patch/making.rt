@@ -1,0 +1,490 @@
+//! The operations of a patch, made on a document.
+
+ghost use Rattle.std.specs.Prelude.{◌≡◌, [], chars, true, IfErr, IfOk, OnErr, OnOk, Some};
+ghost use Rattle.std.specs.Bool.{Decides};
+ghost use Rattle.jsonc_tree.specs.Content.{Content};
+ghost use Rattle.jsonc_edit.specs.Paths.{IsAt};
+ghost use Rattle.jsonc_edit.specs.Writing.{IsOfNumbers};
+ghost use Rattle.jsonc_layout.specs.input.Views.{chars_of, plain};
+ghost use Rattle.jsonc_run.specs.Edits.{is_whole, operation_of, unsorted, EditStep};
+ghost use Rattle.jsonc_cst.specs.Document.{content_of, nodes_of, HasNode};
+ghost use Rattle.jsonc_cst.specs.Nodes.{number_of};
+ghost use Rattle.jsonc_parser.specs.paths.Found.{names_of};
+ghost use Rattle.jsonc_parser.specs.patch.Applied.{is_one_edit, AddsMember, AppendsTo, FailsBelow, FailsForMemory};
+ghost use Rattle.jsonc_parser.specs.patch.Applied.{FailsWhatShown, IsKept, IsPathless, IsRefusal, IsUnfound};
+ghost use Rattle.jsonc_parser.specs.patch.Applied.{LeadsOn, LeadsOver, MakesWhatShown, PutsAt, Takes, Tells};
+ghost use Rattle.jsonc_parser.specs.patch.Asked.{asked, FitsIn};
+ghost use Rattle.jsonc_parser.specs.patch.FaultMessages.{patch_cause_text};
+ghost use Rattle.jsonc_parser.specs.patch.Found.{IsOfShown, RefersToNode};
+ghost use Rattle.jsonc_parser.specs.patch.Operations as standard;
+ghost use Rattle.jsonc_parser.specs.patch.Pointer.{tokens_of};
+
+use super::equality::{Numbers, are_equal};
+use super::operation::Operation;
+use super::pointer::Pointer;
+use super::reference::{FindError, element_place, follow, read};
+use jsonc_cst::cst::{CstInputValue, CstNode, CstRootNode, EditError, TypedNode};
+use jsonc_run::Edit;
+use std::alloc::Allocator;
+use std::fmt;
+
+/// Why an operation was not made.
+#[derive(Debug, Drop)]
+pub enum PatchCause<A: Allocator> {
+    /// A pointer leads to nothing.
+    NoTarget,
+    /// More than one property of an object on the way has this name.
+    RepeatedName(String<A>),
+    /// A value was to be moved into itself.
+    IntoItself,
+    /// The value is not equal to the one that it was tested against.
+    NotEqual,
+    /// An edit was refused, or there was no memory.
+    Edit(EditError),
+}
+
+impl<A: Allocator> fmt::Display for PatchCause<A> {
+    ghost output = { λ e. Some (patch_cause_text e) };
+
+    ghost styled_output = { λ e _. Some (patch_cause_text e) };
+
+    fn fmt<W: fmt::Write>(&self, f: &mut fmt::Formatter<W>) -> fmt::Result {
+        match self {
+            PatchCause::NoTarget => f.write_str("Pointer leads to nothing"),
+            PatchCause::RepeatedName(name) => {
+                f.write_str("Name stands twice: ")?;
+                f.write_str(name.as_str())
+            }
+            PatchCause::IntoItself => f.write_str("Value cannot be moved into itself"),
+            PatchCause::NotEqual => f.write_str("Value is another"),
+            PatchCause::Edit(error) => error.fmt(f),
+        }
+    }
+}
+
+// Makes one operation.
+pub(super) fn make<A: Allocator + Copy>(
+    doc: &mut CstRootNode<A>,
+    operation: &Operation<A>,
+) -> Result<(), PatchCause<A>>
+    ensures made { OnOk result (MakesWhatShown doc.old (asked operation.now) (λ o. FitsIn o operation.now) doc.new) }
+    ensures kept { OnErr result (is_one_edit operation.now ≡ true → IsKept doc.old doc.new) }
+    ensures fails { IfErr result (FailsWhatShown doc.old (asked operation.now)) }
+{
+    match operation {
+        Operation::Add(path, value) => match value.try_clone() {
+            Ok(value) => add(doc, path, value),
+            Err(_) => Err(PatchCause::Edit(EditError::OutOfMemory)),
+        },
+        Operation::Remove(path) => remove(doc, path),
+        Operation::Replace(path, value) => match value.try_clone() {
+            Ok(value) => replace(doc, path, value),
+            Err(_) => Err(PatchCause::Edit(EditError::OutOfMemory)),
+        },
+        Operation::Move(from, path) => move_value(doc, from, path),
+        Operation::Copy(from, path) => copy_value(doc, from, path),
+        Operation::Test(path, value) => test(doc, path, value),
+    }
+}
+
+// The cause of a pointer that was not followed.
+fn cause_of<A: Allocator>(error: FindError<A>) -> PatchCause<A>
+    ensures { Tells error result }
+{
+    match error {
+        FindError::RepeatedName(name) => PatchCause::RepeatedName(name),
+        FindError::OutOfMemory => PatchCause::Edit(EditError::OutOfMemory),
+    }
+}
+
+// The value that tokens refer to, where there has to be one.
+fn target<A: Allocator + Copy>(
+    doc: &CstRootNode<A>,
+    tokens: &[String<A>],
+) -> Result<CstNode, PatchCause<A>>
+    ensures found { IfOk result
+        (λ node. IsOfShown doc.now (λ d. RefersToNode d (nodes_of doc.now) (names_of tokens.now) (number_of node))) }
+    ensures in_document { IfOk result (HasNode doc.now) }
+    ensures fails { IfErr result (λ cause. IsOfShown doc.now (λ d. IsUnfound d.value (names_of tokens.now) cause)) }
+{
+    match follow(doc, tokens) {
+        Ok(Some(node)) => Ok(node),
+        Ok(None) => Err(PatchCause::NoTarget),
+        Err(error) => Err(cause_of(error)),
+    }
+}
+
+// The path of a node.
+fn path_to<A: Allocator + Copy>(
+    doc: &CstRootNode<A>,
+    node: CstNode,
+) -> Result<Vec<usize, A>, PatchCause<A>>
+    requires { HasNode doc.now node }
+    ensures at { IfOk result (λ path. IsAt (nodes_of doc.now) path.items (number_of node)) }
+    ensures fails { IfErr result (IsPathless doc.now node) }
+{
+    match doc.path(node) {
+        Ok(Some(path)) => Ok(path),
+        Ok(None) => Err(PatchCause::NoTarget),
+        Err(error) => Err(PatchCause::Edit(error)),
+    }
+}
+
+// The path of the value that a pointer refers to.
+fn target_path<A: Allocator + Copy>(
+    doc: &CstRootNode<A>,
+    pointer: &Pointer<A>,
+) -> Result<Vec<usize, A>, PatchCause<A>>
+    ensures over { IfOk result (λ path. LeadsOver doc.now (tokens_of pointer.now) path.items) }
+    ensures fails { IfErr result (λ cause. IsOfShown doc.now (λ d. IsUnfound d.value (tokens_of pointer.now) cause)) }
+{
+    let node = match target(doc, pointer.tokens()) {
+        Ok(node) => node,
+        Err(cause) => return Err(cause),
+    };
+    match path_to(doc, node) {
+        Ok(path) => Ok(path),
+        Err(cause) => Err(cause),
+    }
+}
+
+// The value that a pointer refers to, taken.
+fn value_at<A: Allocator + Copy>(
+    doc: &CstRootNode<A>,
+    pointer: &Pointer<A>,
+) -> Result<CstInputValue<A>, PatchCause<A>>
+    ensures taken { IfOk result (λ v. IsOfShown doc.now (λ d. Takes d (tokens_of pointer.now) (plain v))) }
+    ensures fails { IfErr result (λ cause. IsOfShown doc.now (λ d. IsUnfound d.value (tokens_of pointer.now) cause)) }
+{
+    match read(doc, pointer) {
+        Ok(Some(value)) => Ok(value),
+        Ok(None) => Err(PatchCause::NoTarget),
+        Err(error) => Err(cause_of(error)),
+    }
+}
+
+// Makes one edit, whole or not at all.
+fn edit<A: Allocator + Copy>(doc: &mut CstRootNode<A>, edit: Edit<A>) -> Result<(), PatchCause<A>>
+    requires { is_whole edit ≡ true }
+    ensures made { OnOk result (EditStep (nodes_of doc.old) (operation_of unsorted edit) (nodes_of doc.new)) }
+    ensures kept { OnErr result (IsKept doc.old doc.new) }
+    ensures fails { IfErr result (IsRefusal doc.old edit) }
+{
+    match doc.make(&edit) {
+        Ok(()) => Ok(()),
+        Err(error) => Err(PatchCause::Edit(error)),
+    }
+}
+
+// Removes the value that a pointer refers to.
+fn remove<A: Allocator + Copy>(
+    doc: &mut CstRootNode<A>,
+    pointer: &Pointer<A>,
+) -> Result<(), PatchCause<A>>
+    ensures made { OnOk result (MakesWhatShown doc.old (standard.remove (tokens_of pointer.now)) (λ o. Unit {0}) doc.new) }
+    ensures kept { OnErr result (IsKept doc.old doc.new) }
+    ensures fails { IfErr result (FailsWhatShown doc.old (standard.remove (tokens_of pointer.now))) }
+{
+    let path = match target_path(doc, pointer) {
+        Ok(path) => path,
+        Err(cause) => return Err(cause),
+    };
+    match edit(doc, Edit::Remove(path)) {
+        Ok(()) => Ok(()),
+        Err(cause) => Err(cause),
+    }
+}
+
+// Replaces the value that a pointer refers to.
+fn replace<A: Allocator + Copy>(
+    doc: &mut CstRootNode<A>,
+    pointer: &Pointer<A>,
+    value: CstInputValue<A>,
+) -> Result<(), PatchCause<A>>
+    ensures made { OnOk result
+        (MakesWhatShown doc.old (standard.replace (tokens_of pointer.now) (plain value)) (λ o. IsOfNumbers o (plain value)) doc.new) }
+    ensures kept { OnErr result (IsKept doc.old doc.new) }
+    ensures fails { IfErr result (FailsWhatShown doc.old (standard.replace (tokens_of pointer.now) (plain value))) }
+{
+    let path = match target_path(doc, pointer) {
+        Ok(path) => path,
+        Err(cause) => return Err(cause),
+    };
+    match edit(doc, Edit::Replace(path, value)) {
+        Ok(()) => Ok(()),
+        Err(cause) => Err(cause),
+    }
+}
+
+// Sets the document's value.
+fn add_whole<A: Allocator + Copy>(
+    doc: &mut CstRootNode<A>,
+    value: CstInputValue<A>,
+) -> Result<(), PatchCause<A>>
+    ensures made { OnOk result (MakesWhatShown doc.old (standard.add [] (plain value)) (λ o. IsOfNumbers o (plain value)) doc.new) }
+    ensures kept { OnErr result (IsKept doc.old doc.new) }
+    ensures fails { IfErr result (FailsWhatShown doc.old (standard.add [] (plain value))) }
+{
+    match edit(doc, Edit::SetRoot(value)) {
+        Ok(()) => Ok(()),
+        Err(cause) => Err(cause),
+    }
+}
+
+// Adds a value where a pointer leads.
+fn add<A: Allocator + Copy>(
+    doc: &mut CstRootNode<A>,
+    pointer: &Pointer<A>,
+    value: CstInputValue<A>,
+) -> Result<(), PatchCause<A>>
+    ensures made { OnOk result
+        (MakesWhatShown doc.old (standard.add (tokens_of pointer.now) (plain value)) (λ o. IsOfNumbers o (plain value)) doc.new) }
+    ensures kept { OnErr result (IsKept doc.old doc.new) }
+    ensures fails { IfErr result (FailsWhatShown doc.old (standard.add (tokens_of pointer.now) (plain value))) }
+{
+    let Some((last, front)) = pointer.tokens().split_last() else {
+        return match add_whole(doc, value) {
+            Ok(()) => Ok(()),
+            Err(cause) => Err(cause),
+        };
+    };
+    let container = match target(doc, front) {
+        Ok(container) => container,
+        Err(cause) => return Err(cause),
+    };
+    match add_below(doc, container, pointer, last, value) {
+        Ok(()) => Ok(()),
+        Err(cause) => Err(cause),
+    }
+}
+
+// Adds a value where the last token of a pointer leads from a node.
+fn add_below<A: Allocator + Copy>(
+    doc: &mut CstRootNode<A>,
+    container: CstNode,
+    pointer: &Pointer<A>,
+    token: &str,
+    value: CstInputValue<A>,
+) -> Result<(), PatchCause<A>>
+    requires { HasNode doc.old container }
+    ensures made { OnOk result (AddsMember doc.old container (tokens_of pointer.now) (chars token.now) (plain value) doc.new) }
+    ensures kept { OnErr result (IsKept doc.old doc.new) }
+    ensures fails { IfErr result (FailsBelow doc.old container (tokens_of pointer.now) (chars token.now) (plain value)) }
+{
+    if container.as_array().is_some() {
+        return add_element(doc, container, pointer, token, value);
+    }
+    if container.as_object().is_some() {
+        return add_member(doc, container, pointer, token, value);
+    }
+    Err(PatchCause::NoTarget)
+}
+
+// Adds an element to an array.
+fn add_element<A: Allocator + Copy>(
+    doc: &mut CstRootNode<A>,
+    array: CstNode,
+    pointer: &Pointer<A>,
+    token: &str,
+    value: CstInputValue<A>,
+) -> Result<(), PatchCause<A>>
+    requires in_document { HasNode doc.old array }
+    requires array { content_of doc.old array ≡ Content.array }
+    ensures made { OnOk result (AddsMember doc.old array (tokens_of pointer.now) (chars token.now) (plain value) doc.new) }
+    ensures kept { OnErr result (IsKept doc.old doc.new) }
+    ensures fails { IfErr result (FailsBelow doc.old array (tokens_of pointer.now) (chars token.now) (plain value)) }
+{
+    let Some(place) = element_place(doc, array.number(), token) else {
+        return Err(PatchCause::NoTarget);
+    };
+    let path = match path_to(doc, array) {
+        Ok(path) => path,
+        Err(cause) => return Err(cause),
+    };
+    match place {
+        Some(index) => match edit(doc, Edit::InsertElement(path, index, value)) {
+            Ok(()) => Ok(()),
+            Err(cause) => Err(cause),
+        },
+        None => match edit(doc, Edit::AppendElement(path, value)) {
+            Ok(()) => Ok(()),
+            Err(cause) => Err(cause),
+        },
+    }
+}
+
+// Adds a member to an object, or replaces the value of the one that has its name.
+fn add_member<A: Allocator + Copy>(
+    doc: &mut CstRootNode<A>,
+    object: CstNode,
+    pointer: &Pointer<A>,
+    name: &str,
+    value: CstInputValue<A>,
+) -> Result<(), PatchCause<A>>
+    requires in_document { HasNode doc.old object }
+    requires object { content_of doc.old object ≡ Content.object }
+    ensures made { OnOk result (AddsMember doc.old object (tokens_of pointer.now) (chars name.now) (plain value) doc.new) }
+    ensures kept { OnErr result (IsKept doc.old doc.new) }
+    ensures fails { IfErr result (FailsBelow doc.old object (tokens_of pointer.now) (chars name.now) (plain value)) }
+{
+    match follow(doc, pointer.tokens()) {
+        Ok(Some(node)) => put_value(doc, node, value),
+        Ok(None) => append_member(doc, object, name, value),
+        Err(error) => Err(cause_of(error)),
+    }
+}
+
+// Replaces the value of a member.
+fn put_value<A: Allocator + Copy>(
+    doc: &mut CstRootNode<A>,
+    node: CstNode,
+    value: CstInputValue<A>,
+) -> Result<(), PatchCause<A>>
+    requires { HasNode doc.old node }
+    ensures made { OnOk result (PutsAt doc.old node (plain value) doc.new) }
+    ensures kept { OnErr result (IsKept doc.old doc.new) }
+    ensures fails { IfErr result (FailsForMemory doc.old node) }
+{
+    let path = match path_to(doc, node) {
+        Ok(path) => path,
+        Err(cause) => return Err(cause),
+    };
+    match edit(doc, Edit::Replace(path, value)) {
+        Ok(()) => Ok(()),
+        Err(cause) => Err(cause),
+    }
+}
+
+// Appends a member to an object.
+fn append_member<A: Allocator + Copy>(
+    doc: &mut CstRootNode<A>,
+    object: CstNode,
+    name: &str,
+    value: CstInputValue<A>,
+) -> Result<(), PatchCause<A>>
+    requires in_document { HasNode doc.old object }
+    requires object { content_of doc.old object ≡ Content.object }
+    ensures made { OnOk result (AppendsTo doc.old object (chars name.now) (plain value) doc.new) }
+    ensures kept { OnErr result (IsKept doc.old doc.new) }
+    ensures fails { IfErr result (FailsForMemory doc.old object) }
+{
+    let path = match path_to(doc, object) {
+        Ok(path) => path,
+        Err(cause) => return Err(cause),
+    };
+    let Ok(name) = String::from_str(*doc.allocator(), name) else {
+        return Err(PatchCause::Edit(EditError::OutOfMemory));
+    };
+    match edit(doc, Edit::AppendProperty(path, name, value)) {
+        Ok(()) => Ok(()),
+        Err(cause) => Err(cause),
+    }
+}
+
+// Whether two strings have the same characters.
+fn are_same<A: Allocator>(left: &String<A>, right: &String<A>) -> bool
+    ensures { Decides result (chars_of left.now ≡ chars_of right.now) }
+{
+    left.as_str() == right.as_str()
+}
+
+// Whether the tokens of one pointer are the first of another's.
+fn leads_on<A: Allocator>(front: &[String<A>], tokens: &[String<A>]) -> bool
+    ensures { Decides result (LeadsOn (names_of front.now) (names_of tokens.now)) }
+{
+    if front.len() > tokens.len() {
+        return false;
+    }
+    for (index, token) in front.iter().enumerate() {
+        if !are_same(token, &tokens[index]) {
+            return false;
+        }
+    }
+    true
+}
+
+// Sees that a value that is to be moved to where it stands, or into itself, stays.
+fn stay<A: Allocator + Copy>(
+    doc: &CstRootNode<A>,
+    from: &Pointer<A>,
+    path: &Pointer<A>,
+) -> Result<(), PatchCause<A>>
+    requires { LeadsOn (tokens_of from.now) (tokens_of path.now) }
+    ensures stays { OnOk result (IsOfShown doc.now (λ d. standard.Moves (tokens_of from.now) (tokens_of path.now) d.value d.value)) }
+    ensures fails { IfErr result (FailsWhatShown doc.now (standard.move (tokens_of from.now) (tokens_of path.now))) }
+{
+    match target(doc, from.tokens()) {
+        Ok(_) => {}
+        Err(cause) => return Err(cause),
+    }
+    if from.tokens().len() == path.tokens().len() {
+        return Ok(());
+    }
+    Err(PatchCause::IntoItself)
+}
+
+// Removes the value that a pointer refers to, and adds it where another leads.
+fn move_value<A: Allocator + Copy>(
+    doc: &mut CstRootNode<A>,
+    from: &Pointer<A>,
+    path: &Pointer<A>,
+) -> Result<(), PatchCause<A>>
+    ensures made { OnOk result (MakesWhatShown doc.old (standard.move (tokens_of from.now) (tokens_of path.now)) (λ o. Unit {0}) doc.new) }
+    ensures fails { IfErr result (FailsWhatShown doc.old (standard.move (tokens_of from.now) (tokens_of path.now))) }
+{
+    if leads_on(from.tokens(), path.tokens()) {
+        return stay(doc, from, path);
+    }
+    let value = match value_at(doc, from) {
+        Ok(value) => value,
+        Err(cause) => return Err(cause),
+    };
+    match remove(doc, from) {
+        Ok(()) => {}
+        Err(cause) => return Err(cause),
+    }
+    match add(doc, path, value) {
+        Ok(()) => Ok(()),
+        Err(cause) => Err(cause),
+    }
+}
+
+// Adds the value that a pointer refers to where another leads.
+fn copy_value<A: Allocator + Copy>(
+    doc: &mut CstRootNode<A>,
+    from: &Pointer<A>,
+    path: &Pointer<A>,
+) -> Result<(), PatchCause<A>>
+    ensures made { OnOk result (MakesWhatShown doc.old (standard.copy (tokens_of from.now) (tokens_of path.now)) (λ o. Unit {0}) doc.new) }
+    ensures kept { OnErr result (IsKept doc.old doc.new) }
+    ensures fails { IfErr result (FailsWhatShown doc.old (standard.copy (tokens_of from.now) (tokens_of path.now))) }
+{
+    let value = match value_at(doc, from) {
+        Ok(value) => value,
+        Err(cause) => return Err(cause),
+    };
+    match add(doc, path, value) {
+        Ok(()) => Ok(()),
+        Err(cause) => Err(cause),
+    }
+}
+
+// Sees that the value that a pointer refers to is equal to another.
+fn test<A: Allocator + Copy>(
+    doc: &CstRootNode<A>,
+    pointer: &Pointer<A>,
+    value: &CstInputValue<A>,
+) -> Result<(), PatchCause<A>>
+    ensures tests { OnOk result (IsOfShown doc.now (λ d. standard.Tests (tokens_of pointer.now) (plain value.now) d.value d.value)) }
+    ensures fails { IfErr result (FailsWhatShown doc.now (standard.test (tokens_of pointer.now) (plain value.now))) }
+{
+    let found = match value_at(doc, pointer) {
+        Ok(found) => found,
+        Err(cause) => return Err(cause),
+    };
+    match are_equal(value, &found, Numbers::ByValue) {
+        Ok(true) => Ok(()),
+        Ok(false) => Err(PatchCause::NotEqual),
+        Err(_) => Err(PatchCause::Edit(EditError::OutOfMemory)),
+    }
+}

@@ -1,0 +1,63 @@
+-- What is written of a text, and why nothing is.
+use Rattle.std.specs.Prelude.{◌≡◌, ◌≢◌, ℕ, false, true, List, [], Option, None, Some, IsCharBoundary, chars}
+use Rattle.jsonc_text.specs.Grammar.{IsDocument}
+use Rattle.jsonc_text.specs.Lexemes.{Lexeme, LexemeKind}
+use Rattle.jsonc_text.specs.Options.{all_on}
+use Rattle.jsonc_text.specs.Plain.{Plain}
+use Rattle.jsonc_text.specs.Text.{rest}
+use Rattle.jsonc_text.specs.Faults.{IsFault, kind_of}
+use Rattle.jsonc_text.specs.declared.errors.ParseError.{ParseError}
+use Rattle.jsonc_text.specs.declared.errors.ParseErrorKind.TheVariants as ErrorKind
+use Rattle.jsonc_ast.specs.to_ast.Faults.{ParseFault}
+use Rattle.jsonc_ast.specs.to_ast.Refusals.{Refuses}
+use Rattle.jsonc_patch_engine.specs.Json.{IsJson}
+use Rattle.jsonc_patch_engine.specs.Rewritten.{ComesNext, IsNonFinite, Rewritten, is_named}
+use Rattle.jsonc_patch_engine.specs.Same.{SameValue}
+use Rattle.jsonc_patch_engine.specs.declared.json.JsonError.{JsonError}
+use Rattle.jsonc_patch_engine.specs.declared.json.JsonError.TheVariants.{NonFinite, NoValue, OutOfMemory, Text}
+
+-- the text has a value
+abbrev pub HasValue : List ℕ → Type 0
+HasValue t = (v : Plain) × IsDocument all_on t (Some v)
+
+-- w is JSON whose value is that of t but for how its numbers are written, and each lexeme is written as the rules say
+pub record IsJsonOf (t w : List ℕ) : Type 0 where
+  pub value : Plain
+  pub document : IsDocument all_on t (Some value)
+  pub rewritten : Rewritten [] t w
+  pub new : Plain
+  pub json : IsJson w new
+  pub same : SameValue value new
+
+-- behind what is written stands a number there that JSON has not, and that is no name
+pub record HasNonFinite (bytes : List ℕ) (place : ℕ) : Type 0 where
+  pub boundary : IsCharBoundary bytes place
+  pub written : List ℕ
+  pub before : Rewritten (rest bytes place) (chars bytes) written
+  pub number : List ℕ
+  pub behind : List ℕ
+  pub stands : Lexeme all_on (LexemeKind.number number) (rest bytes place) behind
+  pub non_finite : IsNonFinite number
+  pub next : Option ℕ
+  pub comes : ComesNext behind next
+  pub value : is_named next ≡ false
+
+-- writing a document stops for one of these causes
+abbrev pub Stops : List ℕ → JsonError → Type 0
+Stops bytes (NonFinite place) = HasNonFinite bytes place
+Stops bytes OutOfMemory = Unit {0}
+Stops bytes other = ⊥
+
+-- what a parse tells of a text that is no document is true
+pub record IsRefusal (bytes : List ℕ) (e : ParseError) : Type 0 where
+  pub fault : IsFault bytes e
+  pub text : kind_of e ≢ ErrorKind.OutOfMemory
+  pub refused : Refuses all_on true bytes e
+  pub error : ParseFault all_on bytes true e
+
+-- the cause that is told is true of the text; an allocation failure is told of a document with a value
+abbrev pub IsCause : List ℕ → JsonError → Type 0
+IsCause bytes (Text e) = IsRefusal bytes e
+IsCause bytes NoValue = IsDocument all_on (chars bytes) None
+IsCause bytes (NonFinite place) = HasValue (chars bytes) × HasNonFinite bytes place
+IsCause bytes OutOfMemory = HasValue (chars bytes)

@@ -1,0 +1,13 @@
+pub mod Json
+pub mod Plain
+pub mod Same
+pub mod Rewritten
+pub mod Output
+pub mod Tokens
+pub mod Standing
+pub mod Causes
+pub mod Points
+pub mod Command
+pub mod FaultLines
+pub mod Results
+pub mod Runs

@@ -1,0 +1,29 @@
+//! The program's command line.
+ghost use Rattle.std.specs.Prelude.{MatchOption};
+
+/// What the program is asked to do.
+#[derive(Clone, Copy, Debug, PartialEq, Eq)]
+pub enum Command<'a> {
+    /// Parses the input, and writes the value that this JSON Pointer refers to as it is written there, with a line feed
+    /// behind it.
+    Find(&'a str),
+    /// Parses the input, and writes the document as JSON.
+    Json,
+}
+
+impl<'a> Command<'a> {
+    ghost use Rattle.jsonc_patch_engine.specs.Command.{Name, Request, request_of};
+
+    /// The command that the words name, or `None` where they name none.
+    pub fn from_words(words: &[&'a str]) -> Option<Command<'a>>
+        ensures { MatchOption result
+            ((request : Request) → ¬ (Name words.now request))
+            (λ command. Name words.now (request_of command)) }
+    {
+        match words {
+            ["find", pointer] => Some(Command::Find(pointer)),
+            ["json"] => Some(Command::Json),
+            _ => None,
+        }
+    }
+}

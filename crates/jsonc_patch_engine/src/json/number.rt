@@ -1,0 +1,151 @@
+//! Numbers as JSON writes them (RFC 8259, 6).
+ghost use Rattle.std.specs.Prelude.{◌≡◌, ◌++◌, ◌∷◌, ℕ, Bool, List, IfNone, IfSome, IsTrue, OnOk, chars, if◌then◌else◌};
+ghost use Rattle.std.specs.Bool.{Decides};
+ghost use Rattle.jsonc_text.specs.Numbers.{NumberLit, is_sign, is_x};
+ghost use Rattle.jsonc_text.specs.Options.{all_on};
+ghost use Rattle.jsonc_text.specs.Text.{is_digit, next, no, starts};
+ghost use Rattle.jsonc_parser.specs.Numbers.{Decimal, Sign, Unsigned};
+ghost use Rattle.jsonc_patch_engine.specs.Output.{text_of, Adds};
+ghost use Rattle.jsonc_patch_engine.specs.Rewritten.{IsNonFinite, IsNumberFor, IsUnsignedFor, minus_of, or_zero};
+ghost use Rattle.jsonc_patch_engine.specs.Points.{from_point};
+
+use super::decimal::push_decimal;
+use super::output::{put, put_all};
+use jsonc_text::chars::char_at;
+use std::alloc::{AllocError, Allocator};
+
+// Whether a minus stands first, and what follows the sign, if there is one.
+fn split_sign(text: &str) -> (bool, &str)
+    ensures sign { Sign text.now result.0 result.1.now }
+    ensures only { (negative : Bool) (u : List ℕ) → Sign text.now negative u → IsTrue (no is_sign (next u))
+        → (result.0 ≡ negative) × (result.1.now ≡ u) }
+{
+    if let Some(unsigned) = text.strip_prefix('-') {
+        (true, unsigned)
+    } else if let Some(unsigned) = text.strip_prefix('+') {
+        (false, unsigned)
+    } else {
+        (false, text)
+    }
+}
+
+// What follows `0x` or `0X`.
+fn after_hex_prefix(unsigned: &str) -> Option<&str>
+    ensures some { IfSome result (λ ds. (x : ℕ) × IsTrue (is_x x) × (unsigned.now ≡ 0x30 ∷ x ∷ ds.now)) }
+    ensures none { IfNone result ((x : ℕ) (ds : List ℕ) → IsTrue (is_x x) → unsigned.now ≡ 0x30 ∷ x ∷ ds → ⊥) }
+{
+    let rest = unsigned.strip_prefix('0')?;
+    match rest.strip_prefix('x') {
+        Some(digits) => Some(digits),
+        None => rest.strip_prefix('X'),
+    }
+}
+
+// Whether a number is `Infinity` or `NaN`, perhaps with a sign.
+pub(super) fn is_non_finite(number: &str) -> bool
+    ensures { Decides result (IsNonFinite (chars number.now)) }
+{
+    let (_negative, name) = split_sign(number);
+    name == "Infinity" || name == "NaN"
+}
+
+// Writes a number, which is neither.
+pub(super) fn push_number<A: Allocator + Copy>(
+    alloc: A,
+    written: &mut String<A>,
+    number: &str,
+) -> Result<(), AllocError>
+    ensures { NumberLit all_on (chars number.now) → (IsNonFinite (chars number.now) → ⊥)
+        → OnOk result (Adds (IsNumberFor (chars number.now)) (text_of written.old) (text_of written.new)) }
+{
+    let (negative, unsigned) = split_sign(number);
+    push_sign(written, negative)?;
+    push_unsigned(alloc, written, unsigned)
+}
+
+// Writes a minus, or nothing.
+fn push_sign<A: Allocator>(written: &mut String<A>, negative: bool) -> Result<(), AllocError>
+    ensures { OnOk result (text_of written.new ≡ text_of written.old ++ minus_of negative) }
+{
+    if negative { put(written, '-') } else { Ok(()) }
+}
+
+// Writes a number with no sign.
+fn push_unsigned<A: Allocator + Copy>(
+    alloc: A,
+    written: &mut String<A>,
+    number: &str,
+) -> Result<(), AllocError>
+    ensures { (m d : ℕ) → Unsigned number.now m d
+        → OnOk result (Adds (IsUnsignedFor number.now) (text_of written.old) (text_of written.new)) }
+{
+    match after_hex_prefix(number) {
+        Some(digits) => push_decimal(alloc, written, digits),
+        None => push_point(written, number),
+    }
+}
+
+// Writes a decimal number with no sign.
+fn push_point<A: Allocator>(written: &mut String<A>, number: &str) -> Result<(), AllocError>
+    ensures { (m d : ℕ) → Decimal number.now m d
+        → OnOk result (Adds (IsUnsignedFor number.now) (text_of written.old) (text_of written.new)) }
+{
+    match number.split_once('.') {
+        Some(parts) => push_parts(written, parts.0, parts.1),
+        None => put_all(written, number),
+    }
+}
+
+// Writes what stands on both sides of a point.
+fn push_parts<A: Allocator>(
+    written: &mut String<A>,
+    whole: &str,
+    behind: &str,
+) -> Result<(), AllocError>
+    ensures { OnOk result (text_of written.new ≡ text_of written.old ++ (or_zero (chars whole.now) ++ from_point (chars behind.now))) }
+{
+    push_whole(written, whole)?;
+    push_behind(written, behind)
+}
+
+// Writes digits, or a zero where there are none.
+pub(super) fn push_whole<A: Allocator>(
+    written: &mut String<A>,
+    digits: &str,
+) -> Result<(), AllocError>
+    ensures { OnOk result (text_of written.new ≡ text_of written.old ++ or_zero (chars digits.now)) }
+{
+    match char_at(digits, 0) {
+        Some(_) => put_all(written, digits),
+        None => put(written, '0'),
+    }
+}
+
+// Writes what stands behind a point, and the point where a digit does.
+fn push_behind<A: Allocator>(written: &mut String<A>, behind: &str) -> Result<(), AllocError>
+    ensures { OnOk result (text_of written.new ≡ text_of written.old ++ from_point (chars behind.now)) }
+{
+    if has_digit(behind) {
+        push_pointed(written, behind)
+    } else {
+        put_all(written, behind)
+    }
+}
+
+// Writes a point and what stands behind it.
+fn push_pointed<A: Allocator>(written: &mut String<A>, behind: &str) -> Result<(), AllocError>
+    ensures { OnOk result (text_of written.new ≡ text_of written.old ++ 0x2E ∷ chars behind.now) }
+{
+    put(written, '.')?;
+    put_all(written, behind)
+}
+
+// Whether a text begins with a digit.
+fn has_digit(text: &str) -> bool
+    ensures { result ≡ starts is_digit (next (chars text.now)) }
+{
+    match char_at(text, 0) {
+        Some(c) => c.is_ascii_digit(),
+        None => false,
+    }
+}

@@ -1,0 +1,6 @@
+//! The tests, and what they share.
+
+mod refusals;
+mod rows;
+mod runs;
+mod streams;

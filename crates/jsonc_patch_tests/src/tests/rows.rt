@@ -1,0 +1,145 @@
+//! Rows of runs: the words, the input, and what is written or told.
+
+/// The document of RFC 6901, 5.
+const EXAMPLE: &str =
+    "{\"foo\": [\"bar\", \"baz\"], \"\": 0, \"a/b\": 1, \"c%d\": 2, \"e^f\": 3, \"g|h\": 4, \"i\\\\j\": 5, \"k\\\"l\": 6, \" \": 7, \"m~n\": 8}";
+
+/// The words, the input, and what is written.
+pub type Row = (&'static [&'static str], &'static str, &'static str);
+
+/// The pointers of RFC 6901, 5, with what they refer to; others through arrays and names of all forms; and each form that
+/// `json` writes anew.
+pub static WRITTEN: [Row; 40] = [
+    (&["find", "/foo"], EXAMPLE, "[\"bar\", \"baz\"]\n"),
+    (&["find", "/foo/0"], EXAMPLE, "\"bar\"\n"),
+    (&["find", "/"], EXAMPLE, "0\n"),
+    (&["find", "/a~1b"], EXAMPLE, "1\n"),
+    (&["find", "/c%d"], EXAMPLE, "2\n"),
+    (&["find", "/e^f"], EXAMPLE, "3\n"),
+    (&["find", "/g|h"], EXAMPLE, "4\n"),
+    (&["find", "/i\\j"], EXAMPLE, "5\n"),
+    (&["find", "/k\"l"], EXAMPLE, "6\n"),
+    (&["find", "/ "], EXAMPLE, "7\n"),
+    (&["find", "/m~0n"], EXAMPLE, "8\n"),
+    (&["find", ""], "// a\n{b: 1, // c\n}\n", "{b: 1, // c\n}\n"),
+    (
+        &["find", "/tasks/1/name"],
+        "{tasks: [{}, {'name': 'b' /* c */}]}",
+        "'b'\n",
+    ),
+    (&["find", "/0x1F"], "{a: 1, a: 2, 0x1F: +.5}", "+.5\n"),
+    (&["json"], "+1", "1"),
+    (&["json"], ".5", "0.5"),
+    (&["json"], "5.", "5"),
+    (&["json"], "-.5E-3", "-0.5E-3"),
+    (&["json"], "+5.e+2", "5e+2"),
+    (&["json"], "1.50e00", "1.50e00"),
+    (&["json"], "0x0", "0"),
+    (&["json"], "-0XfF", "-255"),
+    (
+        &["json"],
+        "0x00FFFFFFFFFFFFFFFFFFFF",
+        "1208925819614629174706175",
+    ),
+    (&["json"], "'say \"hi\"'", "\"say \\\"hi\\\"\""),
+    (&["json"], "\"\\x41\\v\"", "\"A\\u000b\""),
+    (&["json"], "\"a\\/\\u0041\"", "\"a\\/\\u0041\""),
+    (&["json"], "\"a\tb\"", "\"a\\tb\""),
+    (&["json"], "[1, 2, ]", "[1, 2 ]"),
+    (
+        &["json"],
+        "[1 'a'[] {}\n null]",
+        "[1, \"a\",[], {},\n null]",
+    ),
+    (&["json"], "[1/**/2]", "[1,2]"),
+    (&["json"], "{a: 1 b: 2,}", "{\"a\": 1, \"b\": 2}"),
+    (&["json"], "// a\r\n[ /* b */ ]// c", "\r\n[  ]"),
+    (&["json"], "\u{b}[\u{a0}]\u{2028}", " [ ] "),
+    (
+        &["json"],
+        "{true:true,Infinity:null,-0x1F:{}}",
+        "{\"true\":true,\"Infinity\":null,\"-0x1F\":{}}",
+    ),
+    (&["json"], "{\"a\":1,'a':2}", "{\"a\":1,\"a\":2}"),
+    (&["json"], "\"é\u{1F600}\"", "\"é\u{1F600}\""),
+    (&["json"], "true", "true"),
+    (&["json"], " false\n", " false\n"),
+    (&["json"], "null\t", "null\t"),
+    (&["json"], "{}", "{}"),
+];
+
+/// What is told of a run that cannot succeed, and the status.
+pub static TOLD: [(&[&str], &str, &str, u8); 22] = [
+    (&["json"], "", "jsonc_patch: root value is missing", 1),
+    (&["json"], "// c", "jsonc_patch: root value is missing", 1),
+    (
+        &["json"],
+        "[1,\n -Infinity]",
+        "jsonc_patch: number is not finite on line 2 column 2",
+        1,
+    ),
+    (
+        &["json"],
+        "{Infinity: /* é */ NaN}",
+        "jsonc_patch: number is not finite on line 1 column 20",
+        1,
+    ),
+    (
+        &["json"],
+        "[1",
+        "jsonc_patch: Unterminated array on line 1 column 1",
+        1,
+    ),
+    (
+        &["json"],
+        "[NaN",
+        "jsonc_patch: Unterminated array on line 1 column 1",
+        1,
+    ),
+    (
+        &["find", "a"],
+        "{}",
+        "jsonc_patch: pointer: Pointer does not begin with a slash",
+        1,
+    ),
+    (
+        &["find", "/a~2"],
+        "[",
+        "jsonc_patch: pointer: Neither 0 nor 1 after the tilde at byte 2",
+        1,
+    ),
+    (&["find", "/a"], "{}", "jsonc_patch: no such value", 1),
+    (&["find", "/a"], "[1]", "jsonc_patch: no such value", 1),
+    (&["find", "/-"], "[1]", "jsonc_patch: no such value", 1),
+    (&["find", "/01"], "[1, 2]", "jsonc_patch: no such value", 1),
+    (&["find", "/1"], "[1]", "jsonc_patch: no such value", 1),
+    (&["find", "/a/b"], "{a: 1}", "jsonc_patch: no such value", 1),
+    (&["find", ""], "", "jsonc_patch: no such value", 1),
+    (
+        &["find", "/b/a"],
+        "{b: {a: 1, \"\\u0061\": 2}}",
+        "jsonc_patch: Name stands twice: a",
+        1,
+    ),
+    (
+        &["find", "/a"],
+        "{a: 1",
+        "jsonc_patch: Unterminated object on line 1 column 1",
+        1,
+    ),
+    (&[], "1", "usage: jsonc_patch find POINTER|json", 2),
+    (&["find"], "1", "usage: jsonc_patch find POINTER|json", 2),
+    (
+        &["json", ""],
+        "1",
+        "usage: jsonc_patch find POINTER|json",
+        2,
+    ),
+    (
+        &["find", "", ""],
+        "1",
+        "usage: jsonc_patch find POINTER|json",
+        2,
+    ),
+    (&["get", ""], "1", "usage: jsonc_patch find POINTER|json", 2),
+];

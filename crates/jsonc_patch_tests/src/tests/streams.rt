@@ -1,0 +1,199 @@
+//! A reader and a writer of a few bytes a call, one of whose calls fails.
+
+use failing_alloc::awaited::prints;
+use jsonc_engine::calls::{FromReader, ToWriter};
+use jsonc_patch_engine::engine::engine;
+use jsonc_patch_engine::fault::Fault;
+use std::alloc::Global;
+use std::io;
+use std::io::{ErrorKind, Read, Write};
+use std::test::Fail;
+
+/// The most bytes that a call moves.
+const STEP: usize = 5;
+
+/// Counts calls, and fails each one behind so many.
+#[derive(Drop)]
+struct Calls {
+    left: usize,
+    made: usize,
+    failed: usize,
+}
+
+impl Calls {
+    fn new(left: usize) -> Calls {
+        Calls {
+            left,
+            made: 0,
+            failed: 0,
+        }
+    }
+
+    fn next(&mut self) -> io::Result<()> {
+        if self.left == 0 {
+            self.failed = self.failed.saturating_add(1);
+            return Err(io::Error::from(ErrorKind::Other));
+        }
+        self.left -= 1;
+        self.made = self.made.saturating_add(1);
+        Ok(())
+    }
+}
+
+#[derive(Drop)]
+struct Reader<'a> {
+    rest: &'a [u8],
+    calls: Calls,
+}
+
+impl Read for Reader<'_> {
+    fn read(&mut self, buffer: &mut [u8]) -> io::Result<usize> {
+        self.calls.next()?;
+        let count = buffer.len().min(self.rest.len()).min(STEP);
+        let (front, rest) = self.rest.split_at(count);
+        buffer[..count].copy_from_slice(front);
+        self.rest = rest;
+        Ok(count)
+    }
+}
+
+#[derive(Drop)]
+struct Writer {
+    bytes: Vec<u8>,
+    calls: Calls,
+}
+
+impl Write for Writer {
+    fn write(&mut self, bytes: &[u8]) -> io::Result<usize> {
+        self.calls.next()?;
+        let count = bytes.len().min(STEP);
+        self.bytes.extend_from_slice(&bytes[..count])?;
+        Ok(count)
+    }
+
+    fn flush(&mut self) -> io::Result<()> {
+        self.calls.next()
+    }
+}
+
+/// The words, the input, what is written, how many reads bring the input, the one that finds its end among them, and how
+/// many writes and a flush bring the output.
+static CASES: [(&[&str], &[u8], &[u8], usize, usize); 2] = [
+    (
+        &["find", "/a/1"],
+        b"{a: [0, 'one two']}",
+        b"'one two'\n",
+        5,
+        3,
+    ),
+    (
+        &["json"],
+        b"{a: [0, 'one'], // b\n}",
+        b"{\"a\": [0, \"one\"] \n}",
+        6,
+        5,
+    ),
+];
+
+/// What came of a run, and what was called in it.
+#[derive(Drop)]
+struct Course {
+    ended: Result<(), Fault<Global>>,
+    written: Vec<u8>,
+    reads: Calls,
+    /// How many reads the source has seen give nothing.
+    empty_reads: u64,
+    writes: Calls,
+}
+
+/// A run with so many reads and so many writes and flushes that succeed.
+fn run(alloc: Global, words: &[&str], input: &'static [u8], reads: usize, writes: usize) -> Course {
+    let mut source = FromReader::new(Reader {
+        rest: input,
+        calls: Calls::new(reads),
+    });
+    let mut sink = ToWriter::new(Writer {
+        bytes: Vec::new(alloc),
+        calls: Calls::new(writes),
+    });
+    let ended = engine(alloc, words, &mut source, &mut sink);
+    let FromReader { reader, empty, .. } = source;
+    let ToWriter { writer, .. } = sink;
+    Course {
+        ended,
+        written: writer.bytes,
+        reads: reader.calls,
+        empty_reads: empty,
+        writes: writer.calls,
+    }
+}
+
+/// Whether a run failed with the status 1 and this line.
+fn is_told(run: &Course, line: &str) -> bool {
+    match &run.ended {
+        Ok(()) => false,
+        Err(fault) => fault.status() == 1 && prints(fault, line),
+    }
+}
+
+#[test]
+fn a_failed_read_is_told_and_nothing_written(rt: HostRuntime) -> Result<(), Fail> {
+    for (words, input, _output, count, _writes) in &CASES {
+        for reads in 0..*count {
+            let run = run(rt.alloc(), words, input, reads, 100);
+            assert!(rt;
+                is_told(&run, "jsonc_patch: read failed"),
+                "{words:?} after {reads} reads"
+            );
+            assert!(rt; run.reads.failed == 1 && run.empty_reads == 0);
+            assert!(rt; run.writes.made == 0 && run.written.is_empty());
+        }
+    }
+    Ok(())
+}
+
+#[test]
+fn a_failed_write_leaves_a_beginning(rt: HostRuntime) -> Result<(), Fail> {
+    for (words, input, output, reads, count) in &CASES {
+        for writes in 0..*count {
+            let run = run(rt.alloc(), words, input, 100, writes);
+            assert!(rt;
+                is_told(&run, "jsonc_patch: write failed"),
+                "{words:?} after {writes} writes"
+            );
+            assert!(rt; output.starts_with(run.written.as_slice()));
+            assert!(rt; run.writes.failed == 1 && run.reads.made == *reads);
+        }
+    }
+    Ok(())
+}
+
+#[test]
+fn all_is_read_and_written(rt: HostRuntime) -> Result<(), Fail> {
+    for (words, input, output, reads, writes) in &CASES {
+        let run = run(rt.alloc(), words, input, *reads, *writes);
+        assert!(rt;
+            run.ended.is_ok() && run.written.as_slice() == *output,
+            "{words:?}"
+        );
+        assert!(rt; run.reads.made == *reads && run.empty_reads == 1);
+        assert!(rt; run.writes.made == *writes);
+    }
+    Ok(())
+}
+
+#[test]
+fn usage_and_a_refused_pointer_come_before_reading(rt: HostRuntime) -> Result<(), Fail> {
+    for words in [
+        ["find", "a"].as_slice(),
+        ["find"].as_slice(),
+        ["json", ""].as_slice(),
+    ] {
+        let run = run(rt.alloc(), words, b"1", 100, 100);
+        assert!(rt;
+            run.ended.is_err() && run.reads.made == 0 && run.writes.made == 0,
+            "{words:?}"
+        );
+    }
+    Ok(())
+}
