@@ -1,9 +1,8 @@
 //! Recipes with pointers and patches, which go through arrays.
 
 use jsonc_parser::ParseOptions;
-use jsonc_parser::cst::input::from_json;
 use jsonc_parser::cst::{CstRootNode, TypedNode};
-use jsonc_parser::patch::{Patch, Pointer, find, merge};
+use jsonc_parser::patch::{Patch, Pointer, find, merge, merge_patch_from_json};
 use std::default::Default;
 
 const LAUNCH: &str = r#"{
@@ -60,11 +59,10 @@ fn merge_patch<R: AllocGlobal + Print>(rt: &R, text: &str, patch: &str) -> anyho
     let options = ParseOptions::default();
     let mut doc = CstRootNode::parse(alloc, text, &options)?;
     println!(rt; "== merge_patch\n{doc}\n--")?;
-    if let Some(patch) = from_json(alloc, patch, &options)? {
-        match merge(&mut doc, &patch) {
-            Ok(()) => println!(rt; "{doc}")?,
-            Err(fault) => println!(rt; "refused: {fault}")?,
-        }
+    let patch = merge_patch_from_json(alloc, patch, &options)?;
+    match merge(&mut doc, &patch) {
+        Ok(()) => println!(rt; "{doc}")?,
+        Err(fault) => println!(rt; "refused: {fault}")?,
     }
     Ok(())
 }
