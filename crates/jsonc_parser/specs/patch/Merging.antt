@@ -30,16 +30,16 @@ abbrev mutual
 abbrev pub GoesInto : Plain → List (List ℕ) → Option Plain → Type 0
 GoesInto p tokens w = (ms ns : Members) × (p ≡ object ms) × RefersTo w tokens (object ns)
 
--- the value that the tokens refer to is what merging makes of nothing, with the same texts of numbers
+-- the value that the tokens refer to is equal to this one, with the same texts of numbers
 abbrev pub IsThere : Plain → List (List ℕ) → Option Plain → Type 0
-IsThere p tokens w = (x : Plain) × RefersTo w tokens x × AreEqual ◌≡◌ (made_of p) (collapse x)
+IsThere v tokens w = (x : Plain) × RefersTo w tokens x × AreEqual (λ s t. s ≡ t) v (collapse x)
 
 mutual
   -- A patch goes into an object member by member. Else what it makes of nothing is the value, or comes in its place.
   pub data Merges : List (List ℕ) → Plain → Option Plain → Option Plain → Type 0 where
     inside : {tokens : List (List ℕ)} {ms ns : Members} {w y : Option Plain} → RefersTo w tokens (object ns) → MembersMerge tokens ms w y → Merges tokens (object ms) w y
-    same : {tokens : List (List ℕ)} {p : Plain} {w : Option Plain} → ¬ (GoesInto p tokens w) → IsThere p tokens w → Merges tokens p w w
-    put : {tokens : List (List ℕ)} {p : Plain} {w y : Option Plain} → ¬ (GoesInto p tokens w) → ¬ (IsThere p tokens w) → Adds (made_of p) tokens w y → Merges tokens p w y
+    same : {tokens : List (List ℕ)} {p : Plain} {w : Option Plain} → ¬ (GoesInto p tokens w) → IsThere (made_of p) tokens w → Merges tokens p w w
+    put : {tokens : List (List ℕ)} {p : Plain} {w y : Option Plain} → ¬ (GoesInto p tokens w) → ¬ (IsThere (made_of p) tokens w) → Adds (made_of p) tokens w y → Merges tokens p w y
 
   -- One after another: for null the member of the name is removed, if there is one; any other value is merged at the name.
   pub data MembersMerge (tokens : List (List ℕ)) : Members → Option Plain → Option Plain → Type 0 where
