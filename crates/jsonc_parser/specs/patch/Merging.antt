@@ -42,11 +42,13 @@ mutual
     put : {tokens : List (List ℕ)} {p : Plain} {w y : Option Plain} → ¬ (GoesInto p tokens w) → ¬ (IsThere (made_of p) tokens w) → Adds (made_of p) tokens w y → Merges tokens p w y
 
   -- One after another: for null the member of the name is removed, if there is one; any other value is merged at the name.
-  pub data MembersMerge (tokens : List (List ℕ)) : Members → Option Plain → Option Plain → Type 0 where
-    no_more : {w : Option Plain} → MembersMerge tokens no_members w w
-    removed : {name : List ℕ} {ms : Members} {w u y : Option Plain} → Removes (tokens ++ name ∷ []) w u → MembersMerge tokens ms u y → MembersMerge tokens (member name null ms) w y
-    absent : {name : List ℕ} {ms : Members} {w y : Option Plain} → ReferToNothing w (tokens ++ name ∷ []) → MembersMerge tokens ms w y → MembersMerge tokens (member name null ms) w y
-    merged : {name : List ℕ} {p : Plain} {ms : Members} {w u y : Option Plain} → p ≢ null → Merges (tokens ++ name ∷ []) p w u → MembersMerge tokens ms u y
+  pub data MembersMerge : List (List ℕ) → Members → Option Plain → Option Plain → Type 0 where
+    no_more : {tokens : List (List ℕ)} {w : Option Plain} → MembersMerge tokens no_members w w
+    removed : {tokens : List (List ℕ)} {name : List ℕ} {ms : Members} {w u y : Option Plain} → Removes (tokens ++ name ∷ []) w u → MembersMerge tokens ms u y
+        → MembersMerge tokens (member name null ms) w y
+    absent : {tokens : List (List ℕ)} {name : List ℕ} {ms : Members} {w y : Option Plain} → ReferToNothing w (tokens ++ name ∷ []) → MembersMerge tokens ms w y
+        → MembersMerge tokens (member name null ms) w y
+    merged : {tokens : List (List ℕ)} {name : List ℕ} {p : Plain} {ms : Members} {w u y : Option Plain} → p ≢ null → Merges (tokens ++ name ∷ []) p w u → MembersMerge tokens ms u y
         → MembersMerge tokens (member name p ms) w y
 
 -- Behind the members of a patch that were merged, the place of the next fails: its name, the last token, is that of more than one member. Or so it is below it.

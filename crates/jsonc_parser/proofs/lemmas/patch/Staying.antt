@@ -135,7 +135,7 @@ record Stays (was now : Plain) (v y : Plain) (tokens : List (List ℕ)) (p r : L
   changed : Changed was now r v value
 
 stays : {x v was now y z : Plain} {tokens : List (List ℕ)} {p q r : List ℕ} → Refers x tokens p v → Changed was now q z y → q ≡ p ++ r → x ≡ z → Stays was now v y tokens p r
-stays {was = was} {now = now} {y = y} whole c is same = record { value = y; refers = whole; changed = subst (λ k. Changed was now k _ y) is (subst (λ k. Changed was now _ k y) (sym same) c) }
+stays {x = x} {was = was} {now = now} {y = y} {z = z} {q = q} {r = r} whole c is same = record { value = y; refers = whole; changed = subst (λ k. Changed was now r k y) (sym same) (subst (λ k. Changed was now k z y) is c) }
 stays {r = r} (to_member {i = i} {path = p} only k) itself is same = let wrong : [] ≡ i ∷ (p ++ r) = is in cc
 stays {r = r} (to_element {i = i} {path = p} index found k) itself is same = let wrong : [] ≡ i ∷ (p ++ r) = is in cc
 stays (to_member {token = token} {tokens = tokens} {i = i} {path = p} {ms = ms} only k) (inside kind front back name {path = q} {x = a} {y = b} c) is same =
