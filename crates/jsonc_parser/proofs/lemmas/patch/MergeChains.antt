@@ -31,7 +31,7 @@ use Rattle.jsonc_parser.specs.patch.Equality.{AreEqual, HasUniqueNames}
 use Rattle.jsonc_parser.specs.patch.Failing.{ReferToNothing}
 use Rattle.jsonc_parser.specs.patch.Found.{FindFails, Finds, IsOfShown, ReadFails, Reads, RefersToNode, RefersToNothing}
 use Rattle.jsonc_parser.specs.patch.Merged.{IsMergeFault, MergesWhatShown, MergeStopsWhatShown}
-use Rattle.jsonc_parser.specs.patch.MergeSteps.{at_root, Drops, FailsToMerge, FailsToMergeAll, FailsToSet, IsMergeCause, IsPlace, IsReached, IsStop, IsTwice, MergesNamed, ReachesWhatShown, RefersToObject, Sets, TellsFault}
+use Rattle.jsonc_parser.specs.patch.MergeSteps.{at_root, Drops, FailsToMerge, FailsToMergeAll, FailsToSet, HasNameTwice, IsMergeCause, IsPlace, IsReached, IsStop, IsTwice, MergesNamed, ReachesWhatShown, RefersToObject, Sets, TellsFault}
 use Rattle.jsonc_parser.specs.patch.Merging.{inside, made_of, GoesInto, IsThere, Merges, MembersMerge, Stops}
 use Rattle.jsonc_parser.specs.patch.Merging as merging
 use Rattle.jsonc_parser.specs.patch.Operations as value
@@ -258,6 +258,18 @@ module _ {A : Type 0} (old new : CstRootNode A) (tokens : List (List ℕ)) where
 
   pub one_member : (name : List ℕ) (p : Plain) → ReachesWhatShown old (λ o. IsOfNumbers o p) (MergesNamed (tokens ++ name ∷ []) p) new → ReachesWhatShown old (λ o. IsOfNumbers o p) (MembersMerge tokens (member name p no_members)) new
   one_member name p reached = reached_as old new reached (λ o fit. fit) (λ d shown y m. named_member tokens name p d.value y m)
+
+-- what was told of the value that is to be put, of what is made of the patch
+module _ {A : Type 0} (doc : CstRootNode A) (tokens : List (List ℕ)) (p v : Plain) (is : v ≡ made_of p) (b : Bool) (told : IsOfShown doc (λ d. Decides b (IsThere v tokens d.value))) where
+  pub there_so : b ≡ true → IsOfShown doc (λ d. IsThere (made_of p) tokens d.value)
+  there_so e d shown = subst (λ q. IsThere q tokens d.value) is ((told d shown).0 e)
+
+  pub not_there : b ≡ false → IsOfShown doc (λ d. ¬ (IsThere (made_of p) tokens d.value))
+  not_there e d shown h = false≢true (sym e ∙ (told d shown).1 (subst (λ q. IsThere q tokens d.value) (sym is) h))
+
+pub twice_in_patch : {A : Type 0} (p : Plain) (d : Document) (told : MergeFault A) → HasNameTwice p told → IsMergeFault p d told
+twice_in_patch p d (fault.RepeatedName name) h = inl h
+twice_in_patch p d fault.OutOfMemory h = tt
 
 -- the fault of a document's merge
 pub stops_shown : {A : Type 0} (old : CstRootNode A) (p : Plain) (cause : PatchCause A) (told : MergeFault A) → TellsFault cause told → FailsToMerge old [] p cause → MergeStopsWhatShown old p told

@@ -1,6 +1,7 @@
 -- Names that stand twice in an object of a value.
-use Rattle.std.proofs.Common.{◌≡◌, ◌≢◌, ◌∙◌, ℕ, zero, suc, ◌+◌, ◌<◌, ◌≤◌, Bool, true, false, List, [], ◌∷◌, length, get_or, map, chars, string_bytes, All, IsUtf8, refl, sym, ap, subst, arith}
-use Rattle.std.proofs.lemmas.List.Elements.{All-head, All-tail}
+use Rattle.std.proofs.Common.{◌≡◌, ◌≢◌, ◌∙◌, ℕ, zero, suc, ◌+◌, ◌<◌, ◌≤◌, Bool, true, false, List, [], ◌∷◌, length, get_or, map, take, chars, string_bytes, All, IsUtf8, refl, sym, ap, subst, arith}
+use Rattle.std.proofs.lemmas.List.Elements.{All-head, All-more, All-tail}
+use Rattle.std.proofs.lemmas.List.{take_all}
 use Rattle.std.proofs.lemmas.Bool.{false≢true}
 use Rattle.std.proofs.lemmas.Slice.Eq.{bytes_eq-Decides}
 use Rattle.std.proofs.lemmas.Str.{IsUtf8-string_bytes}
@@ -111,3 +112,10 @@ module _ {A : Type 0} where
 
   pub twice_so : (v : CstInputValue A) (p : Plain) (e : MergeFault A) → plain v ≡ p → HasNameTwice p e → HasNameTwice (plain v) e
   twice_so v p e is h = subst (λ q. HasNameTwice q e) (sym is) h
+
+-- one more holds, and all do
+pub one_holds : {Y : Type 0} (P : Y → Type 0) (ys : List Y) (i : ℕ) (y : Y) → All P (take i ys) → i < length ys → y ≡ get_or ys i y → P y → All P (take (i + 1) ys)
+one_holds P ys i y so_far l at h = All-more P ys i y l so_far (subst P at h)
+
+pub all_hold : {Y : Type 0} (P : Y → Type 0) (ys : List Y) (i : ℕ) → All P (take i ys) → length ys ≤ i → All P ys
+all_hold P ys i so_far past = subst (All P) (take_all i ys past) so_far
