@@ -1,5 +1,5 @@
 -- Steps of a merge, one after another, in a document that a tree shows.
-use Rattle.std.proofs.Common.{ℕ, ◌≡◌, ◌≢◌, ◌<◌, ◌≤◌, ◌+◌, ◌∙◌, ◌++◌, ◌⊎◌, inl, inr, sym, ap, subst, refl, Bool, true, false, List, [], ◌∷◌, length, take, drop, map, get_or, Option, Some, None, is_some, arith}
+use Rattle.std.proofs.Common.{ℕ, zero, suc, ◌≡◌, ◌≢◌, ◌<◌, ◌≤◌, ◌+◌, ◌∙◌, ◌++◌, ◌⊎◌, inl, inr, sym, ap, subst, refl, Bool, true, false, List, [], ◌∷◌, length, take, drop, map, get_or, Option, Some, None, is_some, arith}
 use Rattle.std.specs.Bool.{Decides}
 use Rattle.std.proofs.lemmas.Bool.{false≢true, true≢false}
 use Rattle.std.proofs.lemmas.List.{take-append-drop, take_all, take_more}
@@ -53,9 +53,9 @@ use Rattle.jsonc_parser.proofs.lemmas.patch.Steps.{no_object_by, object_by}
 
 -- a lead to other values, and nothing at all
 module _ {A : Type 0} (old new : CstRootNode A) where
-  pub reached_as : {Fit Other : Options → Type 0} {Leads More : Option Plain → Option Plain → Type 0} → ReachesWhatShown old Fit Leads new → ((o : Options) → Other o → Fit o) → ((d : Document) → Shows d (tree_of old) → (y : Option Plain) → Leads d.value y → More d.value y)
+  pub reached_as : (Fit Other : Options → Type 0) (Leads More : Option Plain → Option Plain → Type 0) → ReachesWhatShown old Fit Leads new → ((o : Options) → Other o → Fit o) → ((d : Document) → Shows d (tree_of old) → (y : Option Plain) → Leads d.value y → More d.value y)
       → ReachesWhatShown old Other More new
-  reached_as reached fits leads d shown fit =
+  reached_as Fit Other Leads More reached fits leads d shown fit =
       let r = reached d shown (fits d.options fit) in (r.0, r.1, record { edits = r.2.edits; edited = r.2.edited; options = r.2.options; leads = leads d shown r.0.value r.2.leads })
 
   pub reached_same : (Fit : Options → Type 0) (Leads : Option Plain → Option Plain → Type 0) → tree_of new ≡ tree_of old → ((d : Document) → Shows d (tree_of old) → Leads d.value d.value) → ReachesWhatShown old Fit Leads new
@@ -86,7 +86,7 @@ module _ {A : Type 0} where
   pub plain_more : (ps : List (String A × CstInputValue A)) (k : ℕ) (q : String A × CstInputValue A) → k < length ps → q ≡ get_or ps k q
       → members_plain (take (k + 1) ps) ≡ and_then (members_plain (take k ps)) (member (chars_of q.0) (plain q.1) no_members)
   plain_more ps k q h is =
-      ap (λ (l : List (String A × CstInputValue A)). members_plain l) (take_more ps k q h) ∙ plain_then (take k ps) (get_or ps k q ∷ []) ∙ ap (λ x. and_then (members_plain (take k ps)) (member (chars_of x.0) (plain x.1) no_members)) (sym is)
+      ap (λ (l : List (String A × CstInputValue A)). members_plain l) (take_more ps k q h) ∙ plain_then (take k ps) (get_or ps k q ∷ []) ∙ ap (λ (x : String A × CstInputValue A). and_then (members_plain (take k ps)) (member (chars_of x.0) (plain x.1) no_members)) (sym is)
 
   -- one more is left out of what merging makes, or is in it
   module _ (ps : List (String A × CstInputValue A)) (k : ℕ) (q : String A × CstInputValue A) (h : k < length ps) (is : q ≡ get_or ps k q) where
@@ -106,7 +106,7 @@ module _ {A : Type 0} where
   -- the list about one of its pairs
   about : (ps : List (String A × CstInputValue A)) (k : ℕ) (q : String A × CstInputValue A) → k < length ps → q ≡ get_or ps k q → ps ≡ take k ps ++ q ∷ drop (k + 1) ps
   about [] k q h is = absurd (omega (arith, h))
-  about (p ∷ ps) 0 q h is = ap (λ x. x ∷ ps) (sym is)
+  about (p ∷ ps) zero q h is = ap (λ x. x ∷ ps) (sym is)
   about (p ∷ ps) (suc k) q h is = ap (λ l. p ∷ l) (about ps k q (omega (arith, h)) is)
 
   entries_about : (ps qs : List (String A × CstInputValue A)) (q : String A × CstInputValue A) → members (map entry_of ps ++ entry_of q ∷ map entry_of qs) ≡ members_plain (ps ++ q ∷ qs)
@@ -124,7 +124,7 @@ module _ {A : Type 0} where
     merged_all k now h so_far = subst (λ (l : List (String A × CstInputValue A)). ReachesWhatShown old (λ o. AreNamedOfNumbers o (members_plain l)) (MembersMerge tokens (members_plain l)) now) (take_all k ps h) so_far
 
     module _ (k : ℕ) (now : CstRootNode A) (so_far : MergedSoFar k now) (q : String A × CstInputValue A) (h : k < length ps) (is : q ≡ get_or ps k q) where
-      one : Members
+      abbrev one : Members
       one = member (chars_of q.0) (plain q.1) no_members
 
       pub merged_more : (new : CstRootNode A) → ReachesWhatShown now (λ o. IsOfNumbers o (plain q.1)) (MembersMerge tokens one) new → MergedSoFar (k + 1) new
@@ -243,13 +243,13 @@ module _ {A : Type 0} where
 -- the patch is merged
 module _ {A : Type 0} (old new : CstRootNode A) (tokens : List (List ℕ)) where
   pub merged_inside : (ms : Members) → IsOfShown old (λ d. RefersToObject d.value tokens) → ReachesWhatShown old (λ o. AreNamedOfNumbers o ms) (MembersMerge tokens ms) new → ReachesWhatShown old (λ o. IsOfNumbers o (object ms)) (Merges tokens (object ms)) new
-  merged_inside ms at reached = reached_as old new reached (λ o fit. fit) (λ d shown y m. inside (at d shown).1 m)
+  merged_inside ms at reached = reached_as old new (λ o. AreNamedOfNumbers o ms) (λ o. IsOfNumbers o (object ms)) (MembersMerge tokens ms) (Merges tokens (object ms)) reached (λ o fit. fit) (λ d shown y m. inside (at d shown).1 m)
 
   pub stopped_inside : (ms : Members) (cause : PatchCause A) → IsOfShown old (λ d. RefersToObject d.value tokens) → FailsToMergeAll old tokens ms cause → FailsToMerge old tokens (object ms) cause
   stopped_inside ms cause at fails d shown fit place = stop_inside tokens (object ms) d.value cause (fails d shown fit (at d shown))
 
   pub merged_set : (p : Plain) → IsOfShown old (λ d. ¬ (GoesInto p tokens d.value)) → ReachesWhatShown old (λ o. IsOfNumbers o p) (Sets tokens p) new → ReachesWhatShown old (λ o. IsOfNumbers o p) (Merges tokens p) new
-  merged_set p none reached = reached_as old new reached (λ o fit. fit) (λ d shown y m. m (none d shown))
+  merged_set p none reached = reached_as old new (λ o. IsOfNumbers o p) (λ o. IsOfNumbers o p) (Sets tokens p) (Merges tokens p) reached (λ o fit. fit) (λ d shown y m. m (none d shown))
 
   pub set_same : (p : Plain) → tree_of new ≡ tree_of old → IsOfShown old (λ d. IsThere (made_of p) tokens d.value) → ReachesWhatShown old (λ o. IsOfNumbers o p) (Sets tokens p) new
   set_same p same there = reached_same old new (λ o. IsOfNumbers o p) (Sets tokens p) same (λ d shown. stands_there tokens p d.value (there d shown))
@@ -266,13 +266,13 @@ module _ {A : Type 0} (old new : CstRootNode A) (tokens : List (List ℕ)) where
   drops_none same fails = reached_same old new (λ o. Unit {0}) (Drops tokens) same (λ d shown. inr (fails d shown, refl))
 
   pub named_null : (p : Plain) → p ≡ null → ReachesWhatShown old (λ o. Unit {0}) (Drops tokens) new → ReachesWhatShown old (λ o. IsOfNumbers o p) (MergesNamed tokens p) new
-  named_null p is reached = reached_as old new reached (λ o fit. tt) (λ d shown y drops. (λ e. drops, λ ne. absurd (ne is)))
+  named_null p is reached = reached_as old new (λ o. Unit {0}) (λ o. IsOfNumbers o p) (Drops tokens) (MergesNamed tokens p) reached (λ o fit. tt) (λ d shown y drops. (λ e. drops, λ ne. absurd (ne is)))
 
   pub named_other : (p : Plain) → p ≢ null → ReachesWhatShown old (λ o. IsOfNumbers o p) (Merges tokens p) new → ReachesWhatShown old (λ o. IsOfNumbers o p) (MergesNamed tokens p) new
-  named_other p other reached = reached_as old new reached (λ o fit. fit) (λ d shown y m. (λ e. absurd (other e), λ ne. m))
+  named_other p other reached = reached_as old new (λ o. IsOfNumbers o p) (λ o. IsOfNumbers o p) (Merges tokens p) (MergesNamed tokens p) reached (λ o fit. fit) (λ d shown y m. (λ e. absurd (other e), λ ne. m))
 
   pub one_member : (name : List ℕ) (p : Plain) → ReachesWhatShown old (λ o. IsOfNumbers o p) (MergesNamed (tokens ++ name ∷ []) p) new → ReachesWhatShown old (λ o. IsOfNumbers o p) (MembersMerge tokens (member name p no_members)) new
-  one_member name p reached = reached_as old new reached (λ o fit. fit) (λ d shown y m. named_member tokens name p d.value y m)
+  one_member name p reached = reached_as old new (λ o. IsOfNumbers o p) (λ o. IsOfNumbers o p) (MergesNamed (tokens ++ name ∷ []) p) (MembersMerge tokens (member name p no_members)) reached (λ o fit. fit) (λ d shown y m. named_member tokens name p d.value y m)
 
   -- of the value that the patch is
   pub merged_value : (p q : Plain) → p ≡ q → ReachesWhatShown old (λ o. IsOfNumbers o q) (Merges tokens q) new → ReachesWhatShown old (λ o. IsOfNumbers o p) (Merges tokens p) new
