@@ -39,7 +39,7 @@ mutual
   -- The second value is the first, but that an array in it may be one that is equal.
   pub data IsUpToArrays : Plain → Plain → Type 0 where
     itself : {v : Plain} → IsUpToArrays v v
-    equal_arrays : {vs ws : Items} → AreEqual ◌≡◌ (collapse (array vs)) (collapse (array ws)) → IsUpToArrays (array vs) (array ws)
+    equal_arrays : {vs ws : Items} → AreEqual (λ s t. s ≡ t) (collapse (array vs)) (collapse (array ws)) → IsUpToArrays (array vs) (array ws)
     objects : {ms ns : Members} → AreUpToArrays ms ns → IsUpToArrays (object ms) (object ns)
 
   -- so it is of members, one by one
