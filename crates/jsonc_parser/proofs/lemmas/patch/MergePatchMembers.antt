@@ -20,10 +20,10 @@ value_past name n w ms ne = ap (λ b. cond b (Some w) (value_in name ms)) (other
 value_here : (name : List ℕ) (w : Plain) (ms : Members) → value_in name (member name w ms) ≡ Some w
 value_here name w ms = ap (λ b. cond b (Some w) (value_in name ms)) (same_names name)
 
-with_past : (name n : List ℕ) (v w : Plain) (ms : Members) → n ≢ name → with_member name v (member n w ms) ≡ member n w (with_member name v ms)
+pub with_past : (name n : List ℕ) (v w : Plain) (ms : Members) → n ≢ name → with_member name v (member n w ms) ≡ member n w (with_member name v ms)
 with_past name n v w ms ne = ap (λ b. cond b (member name v ms) (member n w (with_member name v ms))) (other_names n name ne)
 
-with_here : (name : List ℕ) (v w : Plain) (ms : Members) → with_member name v (member name w ms) ≡ member name v ms
+pub with_here : (name : List ℕ) (v w : Plain) (ms : Members) → with_member name v (member name w ms) ≡ member name v ms
 with_here name v w ms = ap (λ b. cond b (member name v ms) (member name w (with_member name v ms))) (same_names name)
 
 -- where none has the name
@@ -139,7 +139,7 @@ merged_more old name (string s) ms ne = refl
 merged_more old name (array vs) ms ne = refl
 merged_more old name (object ns) ms ne = refl
 
-made_more : (name : List ℕ) (p : Plain) (ms : Members) → p ≢ null → members_made (member name p ms) ≡ member name (made_of p) (members_made ms)
+pub made_more : (name : List ℕ) (p : Plain) (ms : Members) → p ≢ null → members_made (member name p ms) ≡ member name (made_of p) (members_made ms)
 made_more name null ms ne = absurd (ne refl)
 made_more name (boolean b) ms ne = refl
 made_more name (number s) ms ne = refl

@@ -70,13 +70,13 @@ same_members (f ∷ fs) (g ∷ gs) e =
     ap (λ h. h ∷ fs) (same_entry f g s.name s.value) ∙ ap (λ l. g ∷ l) (same_members fs gs s.rest)
 
 -- two rows with an entry at the same place
-record SameRows (f g : Named) (xs xs2 ys ys2 : List Named) : Type 0 where
-  front : xs ≡ xs2
-  name : f.name ≡ g.name
-  value : f.value ≡ g.value
-  back : ys ≡ ys2
+pub record SameRows (f g : Named) (xs xs2 ys ys2 : List Named) : Type 0 where
+  pub front : xs ≡ xs2
+  pub name : f.name ≡ g.name
+  pub value : f.value ≡ g.value
+  pub back : ys ≡ ys2
 
-same_rows : (front front2 : List Named) (f g : Named) (back back2 : List Named) → length front ≡ length front2 → members (front ++ f ∷ back) ≡ members (front2 ++ g ∷ back2)
+pub same_rows : (front front2 : List Named) (f g : Named) (back back2 : List Named) → length front ≡ length front2 → members (front ++ f ∷ back) ≡ members (front2 ++ g ∷ back2)
     → SameRows f g front front2 back back2
 same_rows [] [] f g back back2 n e = let s = same_first f g back back2 e in record { front = refl; name = s.name; value = s.value; back = same_members back back2 s.rest }
 same_rows [] (k ∷ ks) f g back back2 n e = let wrong : 0 ≡ suc (length ks) = n in cc
@@ -214,7 +214,7 @@ refers_behind (o ∷ os) alone v rest path u r =
 same_value : {x y : Plain} {w : Option Plain} → w ≡ Some x → w ≡ Some y → x ≡ y
 same_value e f = cc
 
-no_path : {x u : Plain} {tokens : List (List ℕ)} {path : List ℕ} → Refers x tokens path u → tokens ≡ [] → path ≡ []
+pub no_path : {x u : Plain} {tokens : List (List ℕ)} {path : List ℕ} → Refers x tokens path u → tokens ≡ [] → path ≡ []
 no_path whole e = refl
 no_path (to_member {token = t} {tokens = ts} p r) e = let wrong : t ∷ ts ≡ [] = e in cc
 no_path (to_element {token = t} {tokens = ts} k p r) e = let wrong : t ∷ ts ≡ [] = e in cc
@@ -243,7 +243,7 @@ record MemberBecomes (was now : Plain) (front : List Named) (name : List ℕ) (v
   is : y ≡ plain.object (members (front ++ entry name new ∷ back))
   changed : Changed was now path v new
 
-no_array : {vs : Items} {ms : Members} → plain.array vs ≡ plain.object ms → ⊥
+pub no_array : {vs : Items} {ms : Members} → plain.array vs ≡ plain.object ms → ⊥
 no_array e = cc
 
 changed_member : {was now x y : Plain} {p : List ℕ} → Changed was now p x y → (front : List Named) (name : List ℕ) (v : Plain) (back : List Named) (path : List ℕ) → p ≡ length front ∷ path
