@@ -12,7 +12,7 @@ use Rattle.jsonc_parser.specs.patch.Merging.{made_of, members_made, Merges, Memb
 use Rattle.jsonc_parser.specs.patch.Operations.{as_element, as_member, as_whole, in_member, Adds}
 use Rattle.jsonc_parser.proofs.lemmas.patch.MergePatchMade.{made_anew, made_unique}
 use Rattle.jsonc_parser.proofs.lemmas.patch.MergePatchMembers.{all_same, lacks_value, lacks_without, merged_more, no_object_up_to, none_in, object_up_to, row_value, row_with, value_up_to, with_up_to, without_up_to, UpTo}
-use Rattle.jsonc_parser.proofs.lemmas.patch.MergePatchPlaces.{entry, is_there, refers_there, split_only, tokens_to, within, AreAlone, Around}
+use Rattle.jsonc_parser.proofs.lemmas.patch.MergePatchPlaces.{is_there, object_of, refers_there, split_only, tokens_to, within, AreAlone, Around, IsAlone, Split}
 use Rattle.jsonc_parser.proofs.lemmas.patch.MergePatchSteps.{adds_member, adds_there, comes, lacks_there, no_last, refers_member, removes_there, there, AddsMember}
 use Rattle.jsonc_parser.proofs.lemmas.patch.MergePatchCollapsed.{collapse_unique}
 
@@ -112,13 +112,40 @@ member_place (merging.same not_into (x, r, h)) os name ns e is = (let m = refers
 member_place (merging.put not_into another adds) os name ns e is = adds_member os name ns adds e is
 
 -- the value that comes behind all
-member_comes : (os : List Around) (name : List ℕ) (p : Plain) (ns old : Members) (u : Option Plain) → HasUniqueNames p → UpTo (value_in name old) None
+member_comes : (os : List Around) (name : List ℕ) {p : Plain} (ns old : Members) (u : Option Plain) → HasUniqueNames p → UpTo (value_in name old) None
     → u ≡ Some (within os (object (with_member name (made_of p) ns))) → OneMerged os name p ns old u
-member_comes os name p ns old u h up_to is = record {
+member_comes os name {p} ns old u h up_to is = record {
   new = made_of p;
   is = is;
   up_to = subst (λ k. IsUpToArrays k (made_of p)) (sym (ap (λ o. merged o p) (none_up_to (value_in name old) up_to) ∙ made_unique h)) up.itself;
 }
+
+-- the one of a member that is there
+module _ {name : List ℕ} {x : Plain} {i : ℕ} {ns : Members} (sp : Split name x i ns) where
+  abbrev around : Around
+  around = record { front = sp.front; name = name; back = sp.back }
+
+  is_alone : IsAlone around
+  is_alone = record { before = sp.before; behind = sp.behind }
+
+  value_there : {old : Members} → AreUpToArrays old ns → UpTo (value_in name old) (Some x)
+  value_there {old} h = subst (UpTo (value_in name old)) (ap (value_in name) sp.is ∙ row_value name x sp.back sp.front sp.before) (value_up_to name h)
+
+  with_it : (v : Plain) → object (with_member name v ns) ≡ object_of around v
+  with_it v = ap (λ l. object (with_member name v l)) sp.is ∙ ap object (row_with name x sp.back v sp.front sp.before)
+
+is_around : (os : List Around) {name : List ℕ} {x : Plain} {i : ℕ} {ns : Members} {w : Option Plain} (sp : Split name x i ns) → w ≡ Some (within os (object ns)) → w ≡ Some (within (around sp ∷ os) x)
+is_around os sp is = is ∙ ap (λ l. Some (within os (object l))) sp.is
+
+member_there : (os : List Around) (name : List ℕ) {p x : Plain} {i : ℕ} (ns old : Members) {u : Option Plain} (sp : Split name x i ns) → ValueMerged (around sp ∷ os) p (value_in name old) u → OneMerged os name p ns old u
+member_there os name ns old sp m = record { new = m.new; is = m.is ∙ ap (λ k. Some (within os k)) (sym (with_it sp m.new)); up_to = m.up_to }
+
+-- and then those behind it
+member_then : (os : List Around) (name : List ℕ) {p : Plain} {ms : Members} (ns old : Members) {u y : Option Plain} → AreUpToArrays old ns → p ≢ null → OneMerged os name p ns old u
+    → ((now before : Members) → AreUpToArrays before now → u ≡ Some (within os (object now)) → MembersMerged os ms before y) → MembersMerged os (member name p ms) old y
+member_then os name {p} {ms} ns old h not_null one rest =
+    let m = rest (with_member name one.new ns) (with_member name (merged (value_in name old) p) old) (with_up_to name one.up_to h) one.is in
+    record { new = m.new; is = m.is; up_to = subst (λ l. AreUpToArrays l m.new) (sym (merged_more old name p ms not_null)) m.up_to }
 
 record UniqueParts (name : List ℕ) (v : Plain) (ms : Members) : Type 0 where
   value : HasUniqueNames v
@@ -167,21 +194,17 @@ mutual
       let l : LacksMember name ns = lacks_there os alone name ns w (tokens ++ name ∷ []) none (ap (λ l. l ++ name ∷ []) e) is in
       let m = members_value mm os alone (without name ns) (without name old) (without_up_to name h) e (is ∙ ap (λ k. Some (within os (object k))) (sym (lacks_without l))) (unique_parts u).rest in
       record { new = m.new; is = m.is; up_to = m.up_to }
-  members_value (merging.merged {tokens = tokens} {name = name} {p = p} {ms = ms} {u = u} not_null merges mm) os alone ns old h e is unique =
+  members_value (merging.merged {tokens = tokens} {name = name} {u = u} not_null merges mm) os alone ns old h e is unique =
       let parts = unique_parts unique in
       let further : tokens ++ name ∷ [] ≡ tokens_to os ++ name ∷ [] = ap (λ l. l ++ name ∷ []) e in
-      let one : OneMerged os name p ns old u =
-          elim (member_place merges os name ns further is) [
-            | there {x = x} only ↦
-                let sp = split_only only in
-                let o : Around = record { front = sp.front; name = name; back = sp.back } in
-                let there_is : value_in name ns ≡ Some x = ap (value_in name) sp.is ∙ row_value name x sp.back sp.front sp.before in
-                let v = merges_value merges (o ∷ os) (record { before = sp.before; behind = sp.behind }, alone) x (value_in name old) (subst (UpTo (value_in name old)) there_is (value_up_to name h)) further (is ∙ ap (λ k. Some (within os (object k))) sp.is) parts.value in
-                record { new = v.new; is = v.is ∙ ap (λ k. Some (within os (object k))) (sym (row_with name x sp.back v.new sp.front sp.before) ∙ ap (with_member name v.new) (sym sp.is)); up_to = v.up_to }
-            | comes lacks so ↦ member_comes os name p ns old u parts.value (subst (UpTo (value_in name old)) (lacks_value lacks) (value_up_to name h)) so
-          ] in
-      let m = members_value mm os alone (with_member name one.new ns) (with_member name (merged (value_in name old) p) old) (with_up_to name one.up_to h) e one.is parts.rest in
-      record { new = m.new; is = m.is; up_to = subst (λ l. AreUpToArrays l m.new) (sym (merged_more old name p ms not_null)) m.up_to }
+      member_then os name ns old h not_null
+      (elim (member_place merges os name ns further is) [
+          | there only ↦
+              let sp = split_only only in
+              member_there os name ns old sp (merges_value merges (around sp ∷ os) (is_alone sp, alone) _ (value_in name old) (value_there sp h) further (is_around os sp is) parts.value)
+          | comes lacks so ↦ member_comes os name ns old u parts.value (subst (UpTo (value_in name old)) (lacks_value lacks) (value_up_to name h)) so
+        ])
+      (λ now before k so. members_value mm os alone now before k e so parts.rest)
 
 -- of a document
 adds_whole : {v : Plain} {tokens : List (List ℕ)} {w y : Option Plain} → Adds v tokens w y → tokens ≡ [] → y ≡ Some v
