@@ -89,30 +89,30 @@ stays a (array vs) v u h none = array_stays vs v u h
 stays a (object ms) v u h none = (let o = object_stays (members_made ms) v h in absurd (none ms o.0 refl o.1))
 
 -- what a merge makes of a value, and of the members of an object
-record ValueMerged (os : List Around) (p : Plain) (a y : Option Plain) : Type 0 where
-  new : Plain
-  is : y ≡ Some (within os new)
-  up_to : IsUpToArrays (merged a p) new
+pub record ValueMerged (os : List Around) (p : Plain) (a y : Option Plain) : Type 0 where
+  pub new : Plain
+  pub is : y ≡ Some (within os new)
+  pub up_to : IsUpToArrays (merged a p) new
 
 record MembersMerged (os : List Around) (ms old : Members) (y : Option Plain) : Type 0 where
   new : Members
-  is : y ≡ Some (within os (object new))
+  pub is : y ≡ Some (within os (object new))
   up_to : AreUpToArrays (members_merged old ms) new
 
-record OneMerged (os : List Around) (name : List ℕ) (p : Plain) (ns old : Members) (u : Option Plain) : Type 0 where
-  new : Plain
-  is : u ≡ Some (within os (object (with_member name new ns)))
-  up_to : IsUpToArrays (merged (value_in name old) p) new
+pub record OneMerged (os : List Around) (name : List ℕ) (p : Plain) (ns old : Members) (u : Option Plain) : Type 0 where
+  pub new : Plain
+  pub is : u ≡ Some (within os (object (with_member name new ns)))
+  pub up_to : IsUpToArrays (merged (value_in name old) p) new
 
 -- at a name of an object: one member has it, or the value comes behind all
-member_place : {all : List (List ℕ)} {p : Plain} {w u : Option Plain} → Merges all p w u → (os : List Around) (name : List ℕ) (ns : Members) → all ≡ tokens_to os ++ name ∷ []
+pub member_place : {all : List (List ℕ)} {p : Plain} {w u : Option Plain} → Merges all p w u → (os : List Around) (name : List ℕ) (ns : Members) → all ≡ tokens_to os ++ name ∷ []
     → w ≡ Some (within os (object ns)) → AddsMember (made_of p) os name ns u
 member_place (merging.inside r mm) os name ns e is = (let m = refers_member os name ns r e is in there m.2)
 member_place (merging.same not_into (x, r, h)) os name ns e is = (let m = refers_member os name ns r e is in there m.2)
 member_place (merging.put not_into another adds) os name ns e is = adds_member os name ns adds e is
 
 -- the value that comes behind all
-member_comes : (os : List Around) (name : List ℕ) {p : Plain} (ns old : Members) (u : Option Plain) → HasUniqueNames p → UpTo (value_in name old) None
+pub member_comes : (os : List Around) (name : List ℕ) {p : Plain} (ns old : Members) (u : Option Plain) → HasUniqueNames p → UpTo (value_in name old) None
     → u ≡ Some (within os (object (with_member name (made_of p) ns))) → OneMerged os name p ns old u
 member_comes os name {p} ns old u h up_to is = record {
   new = made_of p;
@@ -122,22 +122,22 @@ member_comes os name {p} ns old u h up_to is = record {
 
 -- the one of a member that is there
 module _ {name : List ℕ} {x : Plain} {i : ℕ} {ns : Members} (sp : Split name x i ns) where
-  abbrev around : Around
+  abbrev pub around : Around
   around = record { front = sp.front; name = name; back = sp.back }
 
-  is_alone : IsAlone around
+  pub is_alone : IsAlone around
   is_alone = record { before = sp.before; behind = sp.behind }
 
-  value_there : {old : Members} → AreUpToArrays old ns → UpTo (value_in name old) (Some x)
+  pub value_there : {old : Members} → AreUpToArrays old ns → UpTo (value_in name old) (Some x)
   value_there {old} h = subst (UpTo (value_in name old)) (ap (value_in name) sp.is ∙ row_value name x sp.back sp.front sp.before) (value_up_to name h)
 
   with_it : (v : Plain) → object (with_member name v ns) ≡ object_of around v
   with_it v = ap (λ l. object (with_member name v l)) sp.is ∙ ap object (row_with name x sp.back v sp.front sp.before)
 
-is_around : (os : List Around) {name : List ℕ} {x : Plain} {i : ℕ} {ns : Members} {w : Option Plain} (sp : Split name x i ns) → w ≡ Some (within os (object ns)) → w ≡ Some (within (around sp ∷ os) x)
+pub is_around : (os : List Around) {name : List ℕ} {x : Plain} {i : ℕ} {ns : Members} {w : Option Plain} (sp : Split name x i ns) → w ≡ Some (within os (object ns)) → w ≡ Some (within (around sp ∷ os) x)
 is_around os sp is = is ∙ ap (λ l. Some (within os (object l))) sp.is
 
-member_there : (os : List Around) (name : List ℕ) {p x : Plain} {i : ℕ} (ns old : Members) {u : Option Plain} (sp : Split name x i ns) → ValueMerged (around sp ∷ os) p (value_in name old) u → OneMerged os name p ns old u
+pub member_there : (os : List Around) (name : List ℕ) {p x : Plain} {i : ℕ} (ns old : Members) {u : Option Plain} (sp : Split name x i ns) → ValueMerged (around sp ∷ os) p (value_in name old) u → OneMerged os name p ns old u
 member_there os name ns old sp m = record { new = m.new; is = m.is ∙ ap (λ k. Some (within os k)) (sym (with_it sp m.new)); up_to = m.up_to }
 
 -- and then those behind it
@@ -147,14 +147,14 @@ member_then os name {p} {ms} ns old h not_null one rest =
     let m = rest (with_member name one.new ns) (with_member name (merged (value_in name old) p) old) (with_up_to name one.up_to h) one.is in
     record { new = m.new; is = m.is; up_to = subst (λ l. AreUpToArrays l m.new) (sym (merged_more old name p ms not_null)) m.up_to }
 
-record UniqueParts (name : List ℕ) (v : Plain) (ms : Members) : Type 0 where
-  value : HasUniqueNames v
-  rest : MembersHaveUniqueNames ms
+pub record UniqueParts (name : List ℕ) (v : Plain) (ms : Members) : Type 0 where
+  pub value : HasUniqueNames v
+  pub rest : MembersHaveUniqueNames ms
 
-unique_parts : {name : List ℕ} {v : Plain} {ms : Members} → MembersHaveUniqueNames (member name v ms) → UniqueParts name v ms
+pub unique_parts : {name : List ℕ} {v : Plain} {ms : Members} → MembersHaveUniqueNames (member name v ms) → UniqueParts name v ms
 unique_parts (equal.unique_member lacks h k) = record { value = h; rest = k }
 
-unique_members : {ms : Members} → HasUniqueNames (object ms) → MembersHaveUniqueNames ms
+pub unique_members : {ms : Members} → HasUniqueNames (object ms) → MembersHaveUniqueNames ms
 unique_members (equal.unique_object h) = h
 
 no_members_for : (a : Option Plain) (v : Plain) → UpTo a (Some v) → ((ns : Members) → v ≢ object ns) → members_in a ≡ no_members
@@ -163,7 +163,7 @@ no_members_for a v h ne =
     none_in a (λ ms e. (let both : Some s.0 ≡ Some (object ms) = sym s.1 ∙ e in let same : s.0 ≡ object ms = cc in no_object_up_to s.2 ne ms same))
 
 mutual
-  merges_value : {tokens : List (List ℕ)} {p : Plain} {w y : Option Plain} → Merges tokens p w y → (os : List Around) → AreAlone os → (v : Plain) (a : Option Plain) → UpTo a (Some v)
+  pub merges_value : {tokens : List (List ℕ)} {p : Plain} {w y : Option Plain} → Merges tokens p w y → (os : List Around) → AreAlone os → (v : Plain) (a : Option Plain) → UpTo a (Some v)
       → tokens ≡ tokens_to os → w ≡ Some (within os v) → HasUniqueNames p → ValueMerged os p a y
   merges_value {tokens} {w = w} (merging.inside {ms = ms} {ns = ns} r mm) os alone v a h e is u =
       let same : v ≡ object ns = refers_there os v w is tokens e r in
@@ -216,7 +216,7 @@ adds_whole (in_member {tokens = ts} name ms stands inner b) e = absurd (no_last 
 no_some : {v : Plain} {w : Option Plain} → w ≡ Some v → w ≡ None → ⊥
 no_some e f = cc
 
-from_nothing : {tokens : List (List ℕ)} {p : Plain} {w y : Option Plain} → Merges tokens p w y → tokens ≡ [] → w ≡ None → HasUniqueNames p → y ≡ Some (merged None p)
+pub from_nothing : {tokens : List (List ℕ)} {p : Plain} {w y : Option Plain} → Merges tokens p w y → tokens ≡ [] → w ≡ None → HasUniqueNames p → y ≡ Some (merged None p)
 from_nothing (merging.inside r mm) e is u = absurd (no_some r.1 is)
 from_nothing (merging.same not_into (x, r, h)) e is u = absurd (no_some r.1 is)
 from_nothing (merging.put not_into another adds) e is u = adds_whole adds e ∙ ap Some (sym (made_unique u))

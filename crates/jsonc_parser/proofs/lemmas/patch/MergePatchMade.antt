@@ -39,7 +39,7 @@ has_other no_more h = elim h [ ]
 has_other (other_name ne l) this_has = ne
 has_other (other_name ne l) (later_has h) = has_other l h
 
-null_or_not : (v : Plain) → (v ≡ null) ⊎ (v ≢ null)
+pub null_or_not : (v : Plain) → (v ≡ null) ⊎ (v ≢ null)
 null_or_not null = inl refl
 null_or_not (boolean b) = inr (λ e. cc)
 null_or_not (number s) = inr (λ e. cc)
