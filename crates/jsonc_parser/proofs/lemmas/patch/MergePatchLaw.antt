@@ -96,7 +96,7 @@ pub record ValueMerged (os : List Around) (p : Plain) (a y : Option Plain) : Typ
 
 record MembersMerged (os : List Around) (ms old : Members) (y : Option Plain) : Type 0 where
   new : Members
-  pub is : y ≡ Some (within os (object new))
+  is : y ≡ Some (within os (object new))
   up_to : AreUpToArrays (members_merged old ms) new
 
 pub record OneMerged (os : List Around) (name : List ℕ) (p : Plain) (ns old : Members) (u : Option Plain) : Type 0 where
