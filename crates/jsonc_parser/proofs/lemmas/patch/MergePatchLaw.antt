@@ -131,7 +131,7 @@ module _ {name : List ℕ} {x : Plain} {i : ℕ} {ns : Members} (sp : Split name
   pub value_there : {old : Members} → AreUpToArrays old ns → UpTo (value_in name old) (Some x)
   value_there {old} h = subst (UpTo (value_in name old)) (ap (value_in name) sp.is ∙ row_value name x sp.back sp.front sp.before) (value_up_to name h)
 
-  with_it : (v : Plain) → object (with_member name v ns) ≡ object_of around v
+  pub with_it : (v : Plain) → object (with_member name v ns) ≡ object_of around v
   with_it v = ap (λ l. object (with_member name v l)) sp.is ∙ ap object (row_with name x sp.back v sp.front sp.before)
 
 pub is_around : (os : List Around) {name : List ℕ} {x : Plain} {i : ℕ} {ns : Members} {w : Option Plain} (sp : Split name x i ns) → w ≡ Some (within os (object ns)) → w ≡ Some (within (around sp ∷ os) x)

@@ -26,7 +26,7 @@ with_joined : {name : List ℕ} {ns : Members} → LacksMember name ns → (v : 
 with_joined no_more v ks = refl
 with_joined {name} (other_name {n = n} {v = w} {ms = ms} ne l) v ks = ap (λ t. joined t ks) (with_past name n v w ms ne) ∙ ap (member n w) (with_joined l v ks)
 
-lacks_with : {other : List ℕ} {ns : Members} → LacksMember other ns → (name : List ℕ) (v : Plain) → name ≢ other → LacksMember other (with_member name v ns)
+pub lacks_with : {other : List ℕ} {ns : Members} → LacksMember other ns → (name : List ℕ) (v : Plain) → name ≢ other → LacksMember other (with_member name v ns)
 lacks_with no_more name v ne = other_name ne no_more
 lacks_with {other} (other_name {n = n} {v = w} {ms = ms} far l) name v ne =
     elim (same_or_not n name) [
