@@ -21,3 +21,6 @@ pub mod Comparing
 pub mod Digits
 pub mod Values
 pub mod Applied
+pub mod Merging
+pub mod Merged
+pub mod MergeSteps

@@ -19,6 +19,7 @@ mod operation;
 mod pointer;
 mod reading;
 mod reference;
+mod unique;
 mod values;
 
 pub use apply::PatchFault;

@@ -23,3 +23,7 @@ pub mod Equality
 pub mod SeenNames
 pub mod PatchValues
 pub mod PatchReads
+pub mod Staying
+pub mod Merges
+pub mod MergeChains
+pub mod MergeNames

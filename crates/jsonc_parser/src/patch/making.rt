@@ -88,7 +88,7 @@ pub(super) fn make<A: Allocator + Copy>(
 }
 
 // The cause of a pointer that was not followed.
-fn cause_of<A: Allocator>(error: FindError<A>) -> PatchCause<A>
+pub(super) fn cause_of<A: Allocator>(error: FindError<A>) -> PatchCause<A>
     ensures { Tells error result }
 {
     match error {
@@ -177,7 +177,7 @@ fn edit<A: Allocator + Copy>(doc: &mut CstRootNode<A>, edit: Edit<A>) -> Result<
 }
 
 // Removes the value that a pointer refers to.
-fn remove<A: Allocator + Copy>(
+pub(super) fn remove<A: Allocator + Copy>(
     doc: &mut CstRootNode<A>,
     pointer: &Pointer<A>,
 ) -> Result<(), PatchCause<A>>
@@ -232,7 +232,7 @@ fn add_whole<A: Allocator + Copy>(
 }
 
 // Adds a value where a pointer leads.
-fn add<A: Allocator + Copy>(
+pub(super) fn add<A: Allocator + Copy>(
     doc: &mut CstRootNode<A>,
     pointer: &Pointer<A>,
     value: CstInputValue<A>,
