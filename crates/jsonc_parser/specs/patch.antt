@@ -22,5 +22,6 @@ pub mod Digits
 pub mod Values
 pub mod Applied
 pub mod Merging
+pub mod MergePatch
 pub mod Merged
 pub mod MergeSteps

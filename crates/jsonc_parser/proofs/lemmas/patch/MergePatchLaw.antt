@@ -6,7 +6,7 @@ use Rattle.jsonc_run.specs.texts.Entries.{members}
 use Rattle.jsonc_parser.specs.patch.Equality as equal
 use Rattle.jsonc_parser.specs.patch.Equality.{AreEqual, HasUniqueNames, MembersHaveUniqueNames}
 use Rattle.jsonc_parser.specs.patch.MergePatch as up
-use Rattle.jsonc_parser.specs.patch.MergePatch.{members_in, value_in, with_member, merged, members_merged, IsUpToArrays, AreUpToArrays}
+use Rattle.jsonc_parser.specs.patch.MergePatch.{members_in, value_in, with_member, merged, members_merged, IsEqualToMergePatch, IsMergePatch, IsUpToArrays, AreUpToArrays}
 use Rattle.jsonc_parser.specs.patch.Merging as merging
 use Rattle.jsonc_parser.specs.patch.Merging.{made_of, members_made, Merges, MembersMerge}
 use Rattle.jsonc_parser.specs.patch.Operations.{as_element, as_member, as_whole, in_member, Adds}
@@ -14,7 +14,7 @@ use Rattle.jsonc_parser.proofs.lemmas.patch.MergePatchMade.{made_anew, made_uniq
 use Rattle.jsonc_parser.proofs.lemmas.patch.MergePatchMembers.{all_same, lacks_value, lacks_without, merged_more, no_object_up_to, none_in, object_up_to, row_value, row_with, value_up_to, with_up_to, without_up_to, UpTo}
 use Rattle.jsonc_parser.proofs.lemmas.patch.MergePatchPlaces.{is_there, object_of, refers_there, split_only, tokens_to, within, AreAlone, Around, IsAlone, Split}
 use Rattle.jsonc_parser.proofs.lemmas.patch.MergePatchSteps.{adds_member, adds_there, comes, lacks_there, no_last, refers_member, removes_there, there, AddsMember}
-use Rattle.jsonc_parser.proofs.lemmas.patch.MergePatchCollapsed.{collapse_unique}
+use Rattle.jsonc_parser.proofs.lemmas.patch.MergePatchCollapsed.{collapse_unique, up_equal}
 
 abbrev SameText : List ℕ → List ℕ → Type 0
 SameText s t = s ≡ t
@@ -221,6 +221,9 @@ from_nothing (merging.inside r mm) e is u = absurd (no_some r.1 is)
 from_nothing (merging.same not_into (x, r, h)) e is u = absurd (no_some r.1 is)
 from_nothing (merging.put not_into another adds) e is u = adds_whole adds e ∙ ap Some (sym (made_unique u))
 
-pub merges_document : (w : Option Plain) {p : Plain} {y : Option Plain} → Merges [] p w y → HasUniqueNames p → (v : Plain) × (y ≡ Some v) × IsUpToArrays (merged w p) v
-merges_document (Some x) merges u = (let m = merges_value merges [] tt x (Some x) up.itself refl refl u in (m.new, m.is, m.up_to))
-merges_document None {p = p} merges u = (merged None p, from_nothing merges refl refl u, up.itself)
+pub merges_document : (p : Plain) (w y : Option Plain) → HasUniqueNames p → Merges [] p w y → IsMergePatch p w y
+merges_document p (Some x) y u merges = (let m = merges_value merges [] tt x (Some x) up.itself refl refl u in (m.new, m.is, m.up_to))
+merges_document p None y u merges = (merged None p, from_nothing merges refl refl u, up.itself)
+
+pub merges_equal : (p : Plain) (w y : Option Plain) → HasUniqueNames p → Merges [] p w y → IsEqualToMergePatch p w y
+merges_equal p w y u merges = (let m = merges_document p w y u merges in (m.0, m.1, up_equal m.2))

@@ -70,6 +70,6 @@ mutual
       let one = one_merged m os alone name ns further is parts.value in
       members_once mm (subst (λ k. MembersMerge tokens ms k z) (sym same) mm2) os alone (with_member name one.new ns) e one.is parts.rest
 
-pub merges_once : (w : Option Plain) {p : Plain} {y z : Option Plain} → Merges [] p w y → Merges [] p w z → HasUniqueNames p → y ≡ z
-merges_once (Some x) one other u = value_once one other [] tt x refl refl u
-merges_once None one other u = from_nothing one refl refl u ∙ sym (from_nothing other refl refl u)
+pub merges_once : (p : Plain) (w y z : Option Plain) → HasUniqueNames p → Merges [] p w y → Merges [] p w z → y ≡ z
+merges_once p (Some x) y z u one other = value_once one other [] tt x refl refl u
+merges_once p None y z u one other = from_nothing one refl refl u ∙ sym (from_nothing other refl refl u)

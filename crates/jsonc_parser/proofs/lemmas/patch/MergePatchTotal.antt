@@ -5,7 +5,7 @@ use Rattle.jsonc_insert.specs.named.Members.{LacksMember}
 use Rattle.jsonc_run.specs.texts.Entries.{members}
 use Rattle.jsonc_parser.specs.patch.Equality as equal
 use Rattle.jsonc_parser.specs.patch.Equality.{AreEqual, HasUniqueNames, MembersHaveUniqueNames}
-use Rattle.jsonc_parser.specs.patch.MergePatch.{with_member}
+use Rattle.jsonc_parser.specs.patch.MergePatch.{with_member, RepeatsNoName}
 use Rattle.jsonc_parser.specs.patch.Merging as merging
 use Rattle.jsonc_parser.specs.patch.Merging.{made_of, GoesInto, IsThere, Merges, MembersMerge}
 use Rattle.jsonc_parser.specs.patch.Operations.{as_whole, Removes}
@@ -136,14 +136,10 @@ mutual
             rest
       ]
 
--- no name stands twice in the value, if there is one
-abbrev HasNoTwice : Option Plain → Type 0
-HasNoTwice None = Unit {0}
-HasNoTwice (Some v) = HasUniqueNames v
-
+-- and of a document
 no_some : {v : Plain} → None ≡ Some v → ⊥
 no_some e = cc
 
-pub merges_all : (p : Plain) (w : Option Plain) → HasUniqueNames p → HasNoTwice w → (y : Option Plain) × Merges [] p w y
+pub merges_all : (p : Plain) (w : Option Plain) → HasUniqueNames p → RepeatsNoName w → (y : Option Plain) × Merges [] p w y
 merges_all p (Some v) up uv = (let m = value_made p up [] tt v uv in (Some m.new, m.merges))
 merges_all p None up uv = (Some (made_of p), merging.put (λ g. no_some g.3.1) (λ t. no_some t.1.1) as_whole)
