@@ -1,11 +1,10 @@
 -- Values that are the same but for arrays, with equal names collapsed.
-use Rattle.std.proofs.Common.{ℕ, suc, ◌≡◌, ◌≢◌, ◌∙◌, ap, sym, subst, refl, cond, inl, inr, List}
-use Rattle.std.specs.Str.{bytes_eq}
+use Rattle.std.proofs.Common.{ℕ, suc, ◌≡◌, ◌∙◌, ap, sym, subst, refl, inl, inr, List}
 use Rattle.jsonc_text.specs.Plain.{Plain, null, boolean, number, string, array, object, collapse, collapse_items, collapse_members, last_of, without, Items, no_items, item, Members, no_members, member}
 use Rattle.jsonc_insert.specs.elements.Members.{member_count}
 use Rattle.jsonc_insert.specs.named.Members.{LacksMember, no_more, other_name}
 use Rattle.jsonc_parser.specs.patch.Equality as equal
-use Rattle.jsonc_parser.specs.patch.Equality.{AreEqual, AreItemsEqual, AreMembersIn, HasMember, this_has, later_has, HasUniqueNames, ItemsHaveUniqueNames, MembersHaveUniqueNames}
+use Rattle.jsonc_parser.specs.patch.Equality.{AreEqual, AreItemsEqual, AreMembersIn, this_has, later_has, HasUniqueNames, ItemsHaveUniqueNames, MembersHaveUniqueNames}
 use Rattle.jsonc_parser.specs.patch.MergePatch as up
 use Rattle.jsonc_parser.specs.patch.MergePatch.{IsUpToArrays, AreUpToArrays}
 use Rattle.jsonc_parser.proofs.lemmas.paths.Collapsed.{last_here, last_past, without_here, without_past}

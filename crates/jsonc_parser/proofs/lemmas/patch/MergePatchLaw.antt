@@ -1,6 +1,6 @@
 -- Merging, said by places that tokens refer to, is the function of RFC 7396.
 use Rattle.std.proofs.Common.{ℕ, ◌≡◌, ◌≢◌, ◌∙◌, ◌++◌, ap, sym, subst, refl, List, [], ◌∷◌, Bool, Option, Some, None}
-use Rattle.jsonc_text.specs.Plain.{Plain, null, boolean, number, string, array, object, collapse, collapse_items, Items, no_items, item, Members, no_members, member, without}
+use Rattle.jsonc_text.specs.Plain.{Plain, null, boolean, number, string, array, object, collapse, Items, Members, no_members, member, without}
 use Rattle.jsonc_insert.specs.named.Members.{LacksMember}
 use Rattle.jsonc_run.specs.texts.Entries.{members}
 use Rattle.jsonc_parser.specs.patch.Equality as equal
@@ -11,7 +11,7 @@ use Rattle.jsonc_parser.specs.patch.Merging as merging
 use Rattle.jsonc_parser.specs.patch.Merging.{made_of, members_made, Merges, MembersMerge}
 use Rattle.jsonc_parser.specs.patch.Operations.{as_element, as_member, as_whole, in_member, Adds}
 use Rattle.jsonc_parser.proofs.lemmas.patch.MergePatchMade.{made_anew, made_unique}
-use Rattle.jsonc_parser.proofs.lemmas.patch.MergePatchMembers.{all_same, lacks_value, lacks_without, merged_more, no_object_up_to, none_in, object_up_to, row_value, row_with, value_up_to, with_up_to, without_up_to, UpTo}
+use Rattle.jsonc_parser.proofs.lemmas.patch.MergePatchMembers.{lacks_value, lacks_without, merged_more, no_object_up_to, none_in, object_up_to, row_value, row_with, value_up_to, with_up_to, without_up_to, UpTo}
 use Rattle.jsonc_parser.proofs.lemmas.patch.MergePatchPlaces.{is_there, object_of, refers_there, split_only, tokens_to, within, AreAlone, Around, IsAlone, Split}
 use Rattle.jsonc_parser.proofs.lemmas.patch.MergePatchSteps.{adds_member, adds_there, comes, lacks_there, no_last, refers_member, removes_there, there, AddsMember}
 use Rattle.jsonc_parser.proofs.lemmas.patch.MergePatchCollapsed.{collapse_unique, up_equal}

@@ -1,10 +1,10 @@
 -- What the function of a merge patch makes of nothing.
-use Rattle.std.proofs.Common.{ℕ, ◌≡◌, ◌≢◌, ◌⊎◌, ◌∙◌, ap, sym, subst, refl, inl, inr, List, Option, Some, None}
+use Rattle.std.proofs.Common.{ℕ, ◌≡◌, ◌≢◌, ◌⊎◌, ◌∙◌, ap, sym, subst, refl, inl, inr, List, Option, None}
 use Rattle.jsonc_text.specs.Plain.{Plain, null, boolean, number, string, array, object, Members, no_members, member}
 use Rattle.jsonc_insert.specs.named.Members.{LacksMember, no_more, other_name}
 use Rattle.jsonc_parser.specs.patch.Equality as equal
 use Rattle.jsonc_parser.specs.patch.Equality.{HasMember, this_has, later_has, HasUniqueNames, MembersHaveUniqueNames}
-use Rattle.jsonc_parser.specs.patch.MergePatch.{members_in, value_in, with_member, merged, members_merged}
+use Rattle.jsonc_parser.specs.patch.MergePatch.{members_in, with_member, merged, members_merged}
 use Rattle.jsonc_parser.specs.patch.Merging.{made_of, members_made}
 use Rattle.jsonc_parser.proofs.lemmas.paths.Members.{same_or_not}
 use Rattle.jsonc_parser.proofs.lemmas.patch.MergePatchMembers.{lacks_value, lacks_without, made_more, merged_more, with_here, with_past}

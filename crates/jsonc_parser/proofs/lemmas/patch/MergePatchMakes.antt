@@ -1,9 +1,9 @@
 -- What may be added and removed at tokens through objects.
-use Rattle.std.proofs.Common.{ℕ, ◌≡◌, ◌≢◌, ◌⊎◌, ◌∙◌, ◌++◌, ap, sym, subst, refl, inl, inr, List, [], ◌∷◌, length, Option, Some, None}
+use Rattle.std.proofs.Common.{ℕ, ◌≡◌, ◌≢◌, ◌⊎◌, ◌++◌, sym, subst, refl, inl, inr, List, [], ◌∷◌, length, Some}
 use Rattle.std.specs.List.{All}
 use Rattle.std.proofs.lemmas.List.{append-nil, append_assoc}
 use Rattle.std.proofs.lemmas.List.Elements.{All-cons, All-nil}
-use Rattle.jsonc_text.specs.Plain.{Plain, null, boolean, number, string, array, object, Members, no_members, member, without}
+use Rattle.jsonc_text.specs.Plain.{Plain, object, Members, member, without}
 use Rattle.jsonc_insert.specs.named.Members.{LacksMember, no_more, other_name}
 use Rattle.jsonc_run.specs.texts.Edits as edits
 use Rattle.jsonc_run.specs.texts.Entries as entries
@@ -21,7 +21,7 @@ use Rattle.jsonc_parser.proofs.lemmas.paths.Collapsed.{without_here, without_pas
 use Rattle.jsonc_parser.proofs.lemmas.paths.Members.{same_or_not}
 use Rattle.jsonc_parser.proofs.lemmas.patch.MergePatchMade.{lacks_with, null_or_not}
 use Rattle.jsonc_parser.proofs.lemmas.patch.MergePatchMembers.{made_more, row_gains, with_here, with_past}
-use Rattle.jsonc_parser.proofs.lemmas.patch.MergePatchPlaces.{entry, is_list, lacks_more, object_of, only_lacks_not, path_to, refers_behind, stands_behind, tokens_to, within, AreAlone, Around}
+use Rattle.jsonc_parser.proofs.lemmas.patch.MergePatchPlaces.{entry, is_list, lacks_more, object_of, only_lacks_not, path_to, refers_behind, tokens_to, within, AreAlone, Around}
 use Rattle.jsonc_parser.proofs.lemmas.patch.MergePatchSteps.{refers_member}
 
 -- a change at a place among objects

@@ -1,11 +1,8 @@
 -- The function of a merge patch on the members of objects, and on members that are equal but for arrays.
 use Rattle.std.proofs.Common.{ℕ, ◌≡◌, ◌≢◌, ◌∙◌, ◌++◌, ap, sym, subst, refl, cond, inl, inr, List, [], ◌∷◌, Option, Some, None}
-use Rattle.std.specs.Str.{bytes_eq}
-use Rattle.jsonc_text.specs.Plain.{Plain, null, boolean, number, string, array, object, without, Items, Members, no_members, member}
+use Rattle.jsonc_text.specs.Plain.{Plain, null, boolean, number, string, array, object, without, Members, no_members, member}
 use Rattle.jsonc_insert.specs.named.Members.{LacksMember, no_more, other_name}
 use Rattle.jsonc_run.specs.texts.Entries.{members, Named}
-use Rattle.jsonc_parser.specs.patch.Equality as equal
-use Rattle.jsonc_parser.specs.patch.Equality.{HasMember, this_has, later_has, HasUniqueNames, MembersHaveUniqueNames}
 use Rattle.jsonc_parser.specs.patch.MergePatch as up
 use Rattle.jsonc_parser.specs.patch.MergePatch.{members_in, value_in, with_member, merged, members_merged, IsUpToArrays, AreUpToArrays}
 use Rattle.jsonc_parser.specs.patch.Merging.{made_of, members_made}

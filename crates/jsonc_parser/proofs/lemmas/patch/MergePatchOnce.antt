@@ -1,13 +1,12 @@
 -- Merging makes one value.
-use Rattle.std.proofs.Common.{ℕ, ◌≡◌, ◌≢◌, ◌∙◌, ◌++◌, ap, sym, subst, refl, List, [], ◌∷◌, Option, Some, None}
-use Rattle.jsonc_text.specs.Plain.{Plain, null, object, Members, member, without}
+use Rattle.std.proofs.Common.{ℕ, ◌≡◌, ◌∙◌, ◌++◌, ap, sym, subst, refl, List, [], ◌∷◌, Option, Some, None}
+use Rattle.jsonc_text.specs.Plain.{Plain, object, Members, without}
 use Rattle.jsonc_parser.specs.patch.Equality.{HasUniqueNames, MembersHaveUniqueNames}
 use Rattle.jsonc_parser.specs.patch.Failing.{ReferToNothing}
 use Rattle.jsonc_parser.specs.patch.MergePatch.{value_in, with_member}
 use Rattle.jsonc_parser.specs.patch.Merging as merging
-use Rattle.jsonc_parser.specs.patch.Merging.{GoesInto, Merges, MembersMerge}
+use Rattle.jsonc_parser.specs.patch.Merging.{Merges, MembersMerge}
 use Rattle.jsonc_parser.specs.patch.Operations.{Removes}
-use Rattle.jsonc_parser.specs.patch.References.{RefersTo}
 use Rattle.jsonc_parser.proofs.lemmas.patch.MergePatchLaw.{around, from_nothing, is_alone, is_around, member_comes, member_place, member_there, merges_value, unique_members, unique_parts, value_there, OneMerged}
 use Rattle.jsonc_parser.proofs.lemmas.patch.MergePatchMembers.{all_same, lacks_value, value_up_to, UpTo}
 use Rattle.jsonc_parser.proofs.lemmas.patch.MergePatchPlaces.{only_lacks_not, refers_there, split_only, tokens_to, within, AreAlone, Around}

@@ -7,10 +7,8 @@ use Rattle.jsonc_text.specs.Plain.{Plain, Items, Members, member, no_members}
 use Rattle.jsonc_text.specs.Plain as plain
 use Rattle.jsonc_insert.specs.named.Members.{LacksMember, no_more, other_name}
 use Rattle.jsonc_run.specs.texts.Entries as entries
-use Rattle.jsonc_run.specs.texts.Entries.{of, items, members, Becomes, Changed, Named}
-use Rattle.jsonc_run.specs.texts.Edits as edits
-use Rattle.jsonc_run.specs.texts.Edits.{Loses}
-use Rattle.jsonc_run.specs.texts.Paths.{Kind, an_array, an_object}
+use Rattle.jsonc_run.specs.texts.Entries.{of, members, Becomes, Changed, Named}
+use Rattle.jsonc_run.specs.texts.Paths.{an_array, an_object}
 use Rattle.jsonc_parser.specs.patch.Operations.{StandsAt}
 use Rattle.jsonc_parser.specs.patch.References.{IsOnly, this_only, later_only, Refers, RefersTo, whole, to_member, to_element}
 use Rattle.jsonc_parser.proofs.lemmas.patch.Evaluation.{one_value}

@@ -1,22 +1,21 @@
 -- What is added and removed at tokens through objects.
-use Rattle.std.proofs.Common.{ℕ, suc, ◌≡◌, ◌≢◌, ◌⊎◌, ◌∙◌, ◌++◌, ap, sym, subst, refl, inl, inr, List, [], ◌∷◌, length, Option, Some, None}
-use Rattle.std.specs.List.{All}
-use Rattle.jsonc_text.specs.Plain.{Plain, object, array, Members, no_members, member, without}
+use Rattle.std.proofs.Common.{ℕ, suc, ◌≡◌, ◌⊎◌, ◌∙◌, ◌++◌, ap, sym, subst, refl, inl, inr, List, [], ◌∷◌, length, Option, Some}
+use Rattle.jsonc_text.specs.Plain.{Plain, object, Members, no_members, member, without}
 use Rattle.jsonc_insert.specs.named.Members.{LacksMember, no_more, other_name, IsFirstMember, first_is, first_later}
 use Rattle.jsonc_run.specs.texts.Edits as edits
 use Rattle.jsonc_run.specs.texts.Edits.{Loses}
-use Rattle.jsonc_run.specs.texts.Entries.{of, members, Becomes, Named}
-use Rattle.jsonc_run.specs.texts.Paths.{Kind, an_array, an_object}
+use Rattle.jsonc_run.specs.texts.Entries.{of, members}
+use Rattle.jsonc_run.specs.texts.Paths.{an_array, an_object}
 use Rattle.jsonc_parser.specs.patch.Failing.{ReferToNothing}
 use Rattle.jsonc_parser.specs.patch.MergePatch.{with_member}
 use Rattle.jsonc_parser.specs.patch.Operations.{as_element, as_member, as_whole, in_member, Adds, Removes, StandsAt}
 use Rattle.jsonc_parser.specs.patch.References as references
-use Rattle.jsonc_parser.specs.patch.References.{FailsAt, IsOnly, this_only, later_only, IsRepeated, this_again, later_again, RefersTo}
+use Rattle.jsonc_parser.specs.patch.References.{IsOnly, this_only, later_only, IsRepeated, this_again, later_again, RefersTo}
 use Rattle.jsonc_parser.proofs.lemmas.patch.Evaluation.{fails_further, member_further}
 use Rattle.jsonc_parser.proofs.lemmas.paths.Members.{same_or_not}
 use Rattle.jsonc_parser.proofs.lemmas.patch.MergePatchMembers.{row_gains, row_without}
 use Rattle.jsonc_parser.proofs.lemmas.patch.MergePatchPlaces as places
-use Rattle.jsonc_parser.proofs.lemmas.patch.MergePatchPlaces.{all_lack, becomes_there, entry, is_there, lacks_not, no_array, no_path, object_of, path_to, same_rows, split_only, stands_behind, stands_there, tokens_to, within, AreAlone, Around, Behind}
+use Rattle.jsonc_parser.proofs.lemmas.patch.MergePatchPlaces.{all_lack, becomes_there, entry, is_there, lacks_not, no_array, no_path, object_of, path_to, same_rows, split_only, stands_behind, stands_there, tokens_to, within, AreAlone, Around}
 
 pub no_last : {A : Type 0} (l : List A) (x : A) → l ++ x ∷ [] ≡ [] → ⊥
 no_last [] x e = let wrong : x ∷ [] ≡ [] = e in cc

@@ -2,14 +2,13 @@
 use Rattle.std.proofs.Common.{ℕ, ◌≡◌, ◌≢◌, ◌⊎◌, ◌∙◌, ◌++◌, ap, sym, subst, refl, inl, inr, List, [], ◌∷◌, Option, Some, None}
 use Rattle.jsonc_text.specs.Plain.{Plain, null, boolean, number, string, array, object, collapse, Members, no_members, member, without}
 use Rattle.jsonc_insert.specs.named.Members.{LacksMember}
-use Rattle.jsonc_run.specs.texts.Entries.{members}
 use Rattle.jsonc_parser.specs.patch.Equality as equal
 use Rattle.jsonc_parser.specs.patch.Equality.{AreEqual, HasUniqueNames, MembersHaveUniqueNames}
 use Rattle.jsonc_parser.specs.patch.MergePatch.{with_member, RepeatsNoName}
 use Rattle.jsonc_parser.specs.patch.Merging as merging
 use Rattle.jsonc_parser.specs.patch.Merging.{made_of, GoesInto, IsThere, Merges, MembersMerge}
 use Rattle.jsonc_parser.specs.patch.Operations.{as_whole, Removes}
-use Rattle.jsonc_parser.specs.patch.References.{IsOnly, RefersTo}
+use Rattle.jsonc_parser.specs.patch.References.{RefersTo}
 use Rattle.jsonc_parser.proofs.lemmas.patch.MergePatchEqual.{equal_told}
 use Rattle.jsonc_parser.proofs.lemmas.patch.MergePatchLaw.{around, is_alone, unique_members, unique_parts, with_it}
 use Rattle.jsonc_parser.proofs.lemmas.patch.MergePatchMade.{null_or_not}
