@@ -23,5 +23,6 @@ pub mod Values
 pub mod Applied
 pub mod Merging
 pub mod MergePatch
+pub mod MergeCases
 pub mod Merged
 pub mod MergeSteps

@@ -37,3 +37,4 @@ pub mod MergePatchOnce
 pub mod MergePatchEqual
 pub mod MergePatchMakes
 pub mod MergePatchTotal
+pub mod MergePatchCases

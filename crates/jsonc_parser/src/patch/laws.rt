@@ -7,6 +7,7 @@ ghost use Rattle.jsonc_cst.specs.declared.cst.node.CstNode.{CstNode};
 ghost use Rattle.jsonc_parser.specs.patch.Equality.{HasUniqueNames};
 ghost use Rattle.jsonc_parser.specs.patch.Laws.{FailsWithNone, IsReadBack, RefersToOne};
 ghost use Rattle.jsonc_parser.specs.patch.Locations.{LeadsBack};
+ghost use Rattle.jsonc_parser.specs.patch.MergeCases.{cases, AllHold};
 ghost use Rattle.jsonc_parser.specs.patch.MergePatch.{IsEqualToMergePatch, IsMergePatch, RepeatsNoName};
 ghost use Rattle.jsonc_parser.specs.patch.Merging.{Merges};
 ghost use Rattle.jsonc_parser.specs.patch.Pointer.{pointer_text, HasLooseTilde, LacksSlash};
@@ -47,4 +48,9 @@ pub fn merges_are_merge_patches()
     ensures equal { (p : Plain) (w y : Option Plain) → HasUniqueNames p → Merges [] p w y → IsEqualToMergePatch p w y }
     ensures one { (p : Plain) (w y z : Option Plain) → HasUniqueNames p → Merges [] p w y → Merges [] p w z → y ≡ z }
     ensures some { (p : Plain) (w : Option Plain) → HasUniqueNames p → RepeatsNoName w → (y : Option Plain) × Merges [] p w y }
+{}
+
+/// Worked rows: `MergePatch`, as it is defined here, makes the results of the test cases of RFC 7396 (appendix A).
+pub fn worked_merge_patches()
+    ensures { AllHold cases }
 {}

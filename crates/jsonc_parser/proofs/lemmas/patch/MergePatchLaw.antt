@@ -2,7 +2,6 @@
 use Rattle.std.proofs.Common.{ℕ, ◌≡◌, ◌≢◌, ◌∙◌, ◌++◌, ap, sym, subst, refl, List, [], ◌∷◌, Bool, Option, Some, None}
 use Rattle.jsonc_text.specs.Plain.{Plain, null, boolean, number, string, array, object, collapse, Items, Members, no_members, member, without}
 use Rattle.jsonc_insert.specs.named.Members.{LacksMember}
-use Rattle.jsonc_run.specs.texts.Entries.{members}
 use Rattle.jsonc_parser.specs.patch.Equality as equal
 use Rattle.jsonc_parser.specs.patch.Equality.{AreEqual, HasUniqueNames, MembersHaveUniqueNames}
 use Rattle.jsonc_parser.specs.patch.MergePatch as up
