@@ -40,11 +40,11 @@ has_told v tell name (member n w ns) =
       | inl h ↦ inl (h.0, later_has h.1, h.2)
       | inr none ↦
           elim (same_or_not n name) [
-            | inr ne ↦ inr (λ h. elim (has_more h) [ | inl here ↦ ne here.0 | inr later ↦ none later ])
+            | inr ne ↦ inr (λ h. elim (has_more h) [ inl here ↦ ne here.0 | inr later ↦ none later ])
             | inl is ↦
                 elim (tell w) [
                   | inl e ↦ inl (w, subst (λ k. HasMember name w (member k w ns)) (sym is) this_has, e)
-                  | inr differ ↦ inr (λ h. elim (has_more h) [ | inl here ↦ differ here.1 | inr later ↦ none later ])
+                  | inr differ ↦ inr (λ h. elim (has_more h) [ inl here ↦ differ here.1 | inr later ↦ none later ])
                 ]
           ]
     ]

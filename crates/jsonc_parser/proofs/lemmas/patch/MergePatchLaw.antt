@@ -179,7 +179,7 @@ mutual
       }
   merges_value {tokens} {p} {w} (merging.put not_into another adds) os alone v a h e is u =
       let none : (ms : Members) → p ≡ object ms → members_in a ≡ no_members =
-          λ ms pe. no_members_for a v h (λ ns ve. not_into (ms, ns, pe, is_there os (object ns) w (is ∙ ap (λ k. Some (within os k)) ve) alone tokens e)) in
+      λ ms pe. no_members_for a v h (λ ns ve. not_into (ms, ns, pe, is_there os (object ns) w (is ∙ ap (λ k. Some (within os k)) ve) alone tokens e)) in
       record { new = made_of p; is = adds_there adds os v e is; up_to = subst (λ k. IsUpToArrays k (made_of p)) (sym (made_anew a p u none)) up.itself }
 
   members_value : {tokens : List (List ℕ)} {ms : Members} {w y : Option Plain} → MembersMerge tokens ms w y → (os : List Around) → AreAlone os → (ns old : Members) → AreUpToArrays old ns
@@ -198,11 +198,11 @@ mutual
       let further : tokens ++ name ∷ [] ≡ tokens_to os ++ name ∷ [] = ap (λ l. l ++ name ∷ []) e in
       member_then os name ns old h not_null
       (elim (member_place merges os name ns further is) [
-          | there only ↦
-              let sp = split_only only in
-              member_there os name ns old sp (merges_value merges (around sp ∷ os) (is_alone sp, alone) _ (value_in name old) (value_there sp h) further (is_around os sp is) parts.value)
-          | comes lacks so ↦ member_comes os name ns old u parts.value (subst (UpTo (value_in name old)) (lacks_value lacks) (value_up_to name h)) so
-        ])
+        | there only ↦
+            let sp = split_only only in
+            member_there os name ns old sp (merges_value merges (around sp ∷ os) (is_alone sp, alone) _ (value_in name old) (value_there sp h) further (is_around os sp is) parts.value)
+        | comes lacks so ↦ member_comes os name ns old u parts.value (subst (UpTo (value_in name old)) (lacks_value lacks) (value_up_to name h)) so
+      ])
       (λ now before k so. members_value mm os alone now before k e so parts.rest)
 
 -- of a document

@@ -62,7 +62,7 @@ adds_new os alone name ns lacks v =
     let k : LacksMember name (members es) = subst (LacksMember name) l.1 lacks in
     subst (λ m. Adds v (tokens_to os ++ name ∷ []) (Some (within os (object m))) (Some (within os (object (with_member name v m))))) (sym l.1)
     (subst (λ m. Adds v (tokens_to os ++ name ∷ []) (Some (within os (object (members es)))) (Some (within os (object m)))) (sym (row_gains name v es k))
-      (as_member name es (stands_at os alone (object (members es))) (all_others name es k) (becomes_at os (object (members es)) (object (members (es ++ entry name v ∷ []))))))
+    (as_member name es (stands_at os alone (object (members es))) (all_others name es k) (becomes_at os (object (members es)) (object (members (es ++ entry name v ∷ []))))))
 
 -- a member leaves
 pub removes_at : (o : Around) (os : List Around) → AreAlone (o ∷ os) → (x : Plain) → Removes (tokens_to os ++ o.name ∷ []) (Some (within os (object_of o x))) (Some (within os (object (members (o.front ++ o.back)))))

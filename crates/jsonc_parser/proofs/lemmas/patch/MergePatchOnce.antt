@@ -58,14 +58,14 @@ mutual
       let parts = unique_parts unique in
       let further : tokens ++ name ∷ [] ≡ tokens_to os ++ name ∷ [] = ap (λ l. l ++ name ∷ []) e in
       let same : u ≡ u2 =
-          elim (member_place m os name ns further is) [
-            | there only ↦ let sp = split_only only in value_once m m2 (around sp ∷ os) (is_alone sp, alone) _ further (is_around os sp is) parts.value
-            | comes lacks so ↦
-                elim (member_place m2 os name ns further is) [
-                  | there only ↦ absurd (only_lacks_not ns only lacks)
-                  | comes lacks2 so2 ↦ so ∙ sym so2
-                ]
-          ] in
+      elim (member_place m os name ns further is) [
+        | there only ↦ let sp = split_only only in value_once m m2 (around sp ∷ os) (is_alone sp, alone) _ further (is_around os sp is) parts.value
+        | comes lacks so ↦
+            elim (member_place m2 os name ns further is) [
+              | there only ↦ absurd (only_lacks_not ns only lacks)
+              | comes lacks2 so2 ↦ so ∙ sym so2
+            ]
+      ] in
       let one = one_merged m os alone name ns further is parts.value in
       members_once mm (subst (λ k. MembersMerge tokens ms k z) (sym same) mm2) os alone (with_member name one.new ns) e one.is parts.rest
 

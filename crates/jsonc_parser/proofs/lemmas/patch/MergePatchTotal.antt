@@ -80,7 +80,7 @@ module _ (os : List Around) (name : List ℕ) {x : Plain} {i : ℕ} {ns : Member
   old_member {p} v = record {
     new = v.new;
     merges = subst (λ k. Merges (tokens_to os ++ name ∷ []) p (Some (within os k)) (Some (within os (object (with_member name v.new ns))))) (sym old_is)
-      (subst (λ k. Merges (tokens_to os ++ name ∷ []) p (Some (within os (object_of (around sp) x))) (Some (within os k))) (sym (with_it sp v.new)) v.merges);
+        (subst (λ k. Merges (tokens_to os ++ name ∷ []) p (Some (within os (object_of (around sp) x))) (Some (within os k))) (sym (with_it sp v.new)) v.merges);
     unique = v.unique;
   }
 
@@ -88,7 +88,7 @@ module _ (os : List Around) (name : List ℕ) {x : Plain} {i : ℕ} {ns : Member
   old_leaves alone =
       subst (λ k. Removes (tokens_to os ++ name ∷ []) (Some (within os k)) (Some (within os (object (without name ns))))) (sym old_is)
       (subst (λ m. Removes (tokens_to os ++ name ∷ []) (Some (within os (object_of (around sp) x))) (Some (within os (object m))))
-        (sym (ap (without name) sp.is ∙ row_without name x sp.back sp.behind sp.front sp.before)) (removes_at (around sp) os (is_alone sp, alone) x))
+      (sym (ap (without name) sp.is ∙ row_without name x sp.back sp.behind sp.front sp.before)) (removes_at (around sp) os (is_alone sp, alone) x))
 
 -- null, and another value
 drop_member : (os : List Around) → AreAlone os → (name : List ℕ) (ms ns : Members) → MembersHaveUniqueNames ns → ((now : Members) → MembersHaveUniqueNames now → MembersMade os ms now) → MembersMade os (member name null ms) ns
@@ -129,9 +129,9 @@ mutual
         | inr not_null ↦
             then_rest os name p ms ns not_null uns
             (elim (only_or_lacks name uns) [
-                | inl found ↦ let sp = split_only found.2 in old_member os name sp (value_made p parts.value (around sp ∷ os) (is_alone sp, alone) found.1 found.3)
-                | inr lacks ↦ new_member os alone name p ns parts.value lacks
-              ])
+              | inl found ↦ let sp = split_only found.2 in old_member os name sp (value_made p parts.value (around sp ∷ os) (is_alone sp, alone) found.1 found.3)
+              | inr lacks ↦ new_member os alone name p ns parts.value lacks
+            ])
             rest
       ]
 
