@@ -22,5 +22,7 @@ pub mod Digits
 pub mod Values
 pub mod Applied
 pub mod Merging
+pub mod MergePatch
+pub mod MergeCases
 pub mod Merged
 pub mod MergeSteps

@@ -27,3 +27,14 @@ pub mod Staying
 pub mod Merges
 pub mod MergeChains
 pub mod MergeNames
+pub mod MergePatchPlaces
+pub mod MergePatchMembers
+pub mod MergePatchMade
+pub mod MergePatchSteps
+pub mod MergePatchCollapsed
+pub mod MergePatchLaw
+pub mod MergePatchOnce
+pub mod MergePatchEqual
+pub mod MergePatchMakes
+pub mod MergePatchTotal
+pub mod MergePatchCases
