@@ -13,8 +13,8 @@ use crate::patching::{merge_patch_of, merged, patch_of, patched};
 use jsonc_engine::calls::{Sink, Source};
 use jsonc_engine::engine::{read_whole, write_text};
 use jsonc_engine::fault::Fault as ReadFault;
-use jsonc_parser::line_and_column;
 use jsonc_parser::cst::CstInputValue;
+use jsonc_parser::line_and_column;
 use jsonc_parser::patch::{Patch, Pointer};
 use std::alloc::Allocator;
 
