@@ -5,6 +5,7 @@ mod edits;
 mod entry_comments;
 mod inputs;
 mod large;
+mod merge_texts;
 mod named_values;
 mod node_edits;
 mod patch_texts;
