@@ -23,3 +23,4 @@ pub mod Equality
 pub mod SeenNames
 pub mod PatchValues
 pub mod PatchReads
+pub mod MergeReads
