@@ -1,8 +1,9 @@
 -- What a patch made of the document of the input that was read.
-use Rattle.std.proofs.Common.{◌≡◌, ◌≢◌, ◌∙◌, ◌⊎◌, ℕ, List, [], IsUtf8, ap, chars, inl, inr, refl, subst, sym}
+use Rattle.std.proofs.Common.{◌≡◌, ◌≢◌, ◌∙◌, ◌⊎◌, ℕ, List, [], Option, IsUtf8, ap, chars, inl, inr, refl, subst, sym}
 use Rattle.std.proofs.lemmas.List.Elements.{All-take}
 use Rattle.std.specs.List.{All}
 use Rattle.jsonc_text.specs.Documents.{Document}
+use Rattle.jsonc_text.specs.Grammar.{IsDocument}
 use Rattle.jsonc_text.specs.Options.{Options, all_on}
 use Rattle.jsonc_text.specs.Plain.{Plain, Items, Members}
 use Rattle.jsonc_text.specs.declared.edit.EditError.{EditError}
@@ -111,3 +112,7 @@ module _ {A : Type 0} (input : List ℕ) (doc : CstRootNode A) (o : Options) (al
         go : RepeatsName (chars_of name) p ⊎ Stops (chars_of name) [] p shows.0.value → MeetsTwice words input (chars_of name)
         go (inl r) = absurd (no_repeat p patch.0.1 r)
         go (inr s) = record { value = p; patch = patch.0; stops = of_it _ s }
+
+-- a text that was parsed
+pub accepted : (input : List ℕ) (o : Options) → o ≡ all_on → (w : Option Plain) → IsDocument o (chars input) w → IsAccepted input
+accepted input o all w d = (w, subst (λ o. IsDocument o (chars input) w) all d)

@@ -30,23 +30,25 @@ abbrev mutual
 abbrev pub GoesInto : Plain → List (List ℕ) → Option Plain → Type 0
 GoesInto p tokens w = (ms ns : Members) × (p ≡ object ms) × RefersTo w tokens (object ns)
 
--- the value that the tokens refer to is what merging makes of nothing, with the same texts of numbers
+-- the value that the tokens refer to is equal to this one, with the same texts of numbers
 abbrev pub IsThere : Plain → List (List ℕ) → Option Plain → Type 0
-IsThere p tokens w = (x : Plain) × RefersTo w tokens x × AreEqual ◌≡◌ (made_of p) (collapse x)
+IsThere v tokens w = (x : Plain) × RefersTo w tokens x × AreEqual (λ s t. s ≡ t) v (collapse x)
 
 mutual
   -- A patch goes into an object member by member. Else what it makes of nothing is the value, or comes in its place.
   pub data Merges : List (List ℕ) → Plain → Option Plain → Option Plain → Type 0 where
     inside : {tokens : List (List ℕ)} {ms ns : Members} {w y : Option Plain} → RefersTo w tokens (object ns) → MembersMerge tokens ms w y → Merges tokens (object ms) w y
-    same : {tokens : List (List ℕ)} {p : Plain} {w : Option Plain} → ¬ (GoesInto p tokens w) → IsThere p tokens w → Merges tokens p w w
-    put : {tokens : List (List ℕ)} {p : Plain} {w y : Option Plain} → ¬ (GoesInto p tokens w) → ¬ (IsThere p tokens w) → Adds (made_of p) tokens w y → Merges tokens p w y
+    same : {tokens : List (List ℕ)} {p : Plain} {w : Option Plain} → ¬ (GoesInto p tokens w) → IsThere (made_of p) tokens w → Merges tokens p w w
+    put : {tokens : List (List ℕ)} {p : Plain} {w y : Option Plain} → ¬ (GoesInto p tokens w) → ¬ (IsThere (made_of p) tokens w) → Adds (made_of p) tokens w y → Merges tokens p w y
 
   -- One after another: for null the member of the name is removed, if there is one; any other value is merged at the name.
-  pub data MembersMerge (tokens : List (List ℕ)) : Members → Option Plain → Option Plain → Type 0 where
-    no_more : {w : Option Plain} → MembersMerge tokens no_members w w
-    removed : {name : List ℕ} {ms : Members} {w u y : Option Plain} → Removes (tokens ++ name ∷ []) w u → MembersMerge tokens ms u y → MembersMerge tokens (member name null ms) w y
-    absent : {name : List ℕ} {ms : Members} {w y : Option Plain} → ReferToNothing w (tokens ++ name ∷ []) → MembersMerge tokens ms w y → MembersMerge tokens (member name null ms) w y
-    merged : {name : List ℕ} {p : Plain} {ms : Members} {w u y : Option Plain} → p ≢ null → Merges (tokens ++ name ∷ []) p w u → MembersMerge tokens ms u y
+  pub data MembersMerge : List (List ℕ) → Members → Option Plain → Option Plain → Type 0 where
+    no_more : {tokens : List (List ℕ)} {w : Option Plain} → MembersMerge tokens no_members w w
+    removed : {tokens : List (List ℕ)} {name : List ℕ} {ms : Members} {w u y : Option Plain} → Removes (tokens ++ name ∷ []) w u → MembersMerge tokens ms u y
+        → MembersMerge tokens (member name null ms) w y
+    absent : {tokens : List (List ℕ)} {name : List ℕ} {ms : Members} {w y : Option Plain} → ReferToNothing w (tokens ++ name ∷ []) → MembersMerge tokens ms w y
+        → MembersMerge tokens (member name null ms) w y
+    merged : {tokens : List (List ℕ)} {name : List ℕ} {p : Plain} {ms : Members} {w u y : Option Plain} → p ≢ null → Merges (tokens ++ name ∷ []) p w u → MembersMerge tokens ms u y
         → MembersMerge tokens (member name p ms) w y
 
 -- Behind the members of a patch that were merged, the place of the next fails: its name, the last token, is that of more than one member. Or so it is below it.
