@@ -1,20 +1,13 @@
 -- How the text of a merge patch is read.
-use Rattle.std.proofs.Common.{◌≡◌, ℕ, List, chars, Option, Some, None, option_map, refl, sym, subst}
+use Rattle.std.proofs.Common.{ℕ, List, chars, Some, sym, subst}
 use Rattle.jsonc_text.specs.Plain.{Plain}
 use Rattle.jsonc_text.specs.Grammar.{IsDocument}
 use Rattle.jsonc_text.specs.Options.{Options}
-use Rattle.jsonc_ast.specs.Views as ast
-use Rattle.jsonc_ast.specs.declared.ast.Value.{Value}
 use Rattle.jsonc_parser.specs.patch.MergeTexts.{IsFaultOfMergePatch, TellsFault}
 use Rattle.jsonc_parser.specs.patch.PatchFaults.{IsFaultOfValue}
 use Rattle.jsonc_parser.specs.declared.patch.merge_text.MergePatchError.{MergePatchError}
 use Rattle.jsonc_parser.specs.declared.patch.operation.OperationFault.{OperationFault}
 use Rattle.jsonc_parser.specs.declared.patch.operation.OperationFault.TheVariants as fault
-
--- a text that has no value
-pub nothing_read : {A : Type 0} (read : Option (Value A)) → ((v : Value A) → read ≡ Some v → ⊥) → (o : Options) (text : List ℕ) → IsDocument o text (option_map ast.plain read) → IsDocument o text None
-nothing_read None h o text d = d
-nothing_read (Some v) h o text d = absurd (h v refl)
 
 -- a value's fault is one of the text
 pub fault_of_value : {A : Type 0} (o : Options) (bytes : List ℕ) (p : Plain) (f : OperationFault A) (e : MergePatchError A) → IsDocument o (chars bytes) (Some p) → IsFaultOfValue p f → TellsFault f e

@@ -5,7 +5,7 @@ use Rattle.jsonc_text.specs.Grammar.{IsDocument}
 use Rattle.jsonc_ast.specs.to_ast.Faults.{ParseFault}
 use Rattle.jsonc_ast.specs.to_ast.Refusals.{Refuses}
 use Rattle.jsonc_parser.specs.patch.Patches.{operations_in}
-use Rattle.jsonc_patch_engine.proofs.Patching.{accepted, applied, told_of}
+use Rattle.jsonc_patch_engine.proofs.Patches.{accepted, applied, told_of}
 use Rattle.jsonc_patch_engine.proofs.patching.patched.Goals as goal
 
 pub returns-in-Err-clause-refused : goal.returns-in-Err-clause-refused
