@@ -6,6 +6,7 @@ mod entry_comments;
 mod inputs;
 mod large;
 mod merges;
+mod merge_texts;
 mod named_values;
 mod node_edits;
 mod patch_texts;

@@ -26,3 +26,5 @@ pub mod MergePatch
 pub mod MergeCases
 pub mod Merged
 pub mod MergeSteps
+pub mod MergeTexts
+pub mod MergeMessages

@@ -7,3 +7,4 @@ pub mod ToldTokens
 pub mod WrittenTokens
 pub mod Documents
 pub mod Finding
+pub mod Patches

@@ -38,3 +38,4 @@ pub mod MergePatchEqual
 pub mod MergePatchMakes
 pub mod MergePatchTotal
 pub mod MergePatchCases
+pub mod MergeReads
