@@ -11,13 +11,13 @@ use std::alloc::Global;
 /// How many bytes of its printed text a fault holds.
 pub(crate) const TEXT_LEN: usize = 192;
 
-/// What is wrong with a text. All of it is 0 where no text is at fault.
+/// What is wrong with a text, a pointer or a patch. All of it is 0 where none is at fault.
 #[repr(C)]
 #[derive(Clone, Copy)]
 pub struct JsoncFault {
     /// The number of its kind.
     pub kind: u32,
-    /// How many edits of a list were made, or read, before the one that was refused.
+    /// How many edits of a list, or operations of a patch, were made, or read, before the one that was refused.
     pub made: usize,
     /// The byte offset at which it begins.
     pub start: usize,
@@ -106,6 +106,24 @@ pub(crate) const NO_ROOM: u32 = 17;
 /// Anything else. No call answers it.
 pub(crate) const OTHER: u32 = 18;
 
+/// The pointer is none. The fault tells what is wrong with it.
+pub(crate) const POINTER: u32 = 19;
+
+/// A pointer leads to nothing.
+pub(crate) const NO_SUCH_VALUE: u32 = 20;
+
+/// A name stands twice in an object where it is looked up, or in one of a merge patch. The fault's text has the name.
+pub(crate) const REPEATED_NAME: u32 = 21;
+
+/// The patch is no array, or an operation is none. The fault tells which, and what is wrong with it.
+pub(crate) const NOT_PATCH: u32 = 22;
+
+/// A value was to be moved into itself.
+pub(crate) const INTO_ITSELF: u32 = 23;
+
+/// A value is not equal to the one that it was tested against.
+pub(crate) const NOT_EQUAL: u32 = 24;
+
 fn string_kind_number(kind: &ParseStringErrorKind) -> u32
     ensures { result ≡ string_kind_number kind.now }
 {
@@ -158,7 +176,7 @@ fn kind_number(kind: &ParseErrorKind) -> u32
 }
 
 /// Puts the front of a text into the fault.
-fn put_text(text: &[u8], fault: &mut JsoncFault)
+pub(crate) fn put_text(text: &[u8], fault: &mut JsoncFault)
     ensures text { take fault.new.text_len fault.new.text ≡ take 192 text.now }
     ensures within { fault.new.text_len ≤ 192 }
     ensures kind { fault.new.kind ≡ fault.old.kind }
