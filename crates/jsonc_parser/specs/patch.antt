@@ -21,3 +21,7 @@ pub mod Comparing
 pub mod Digits
 pub mod Values
 pub mod Applied
+pub mod Merging
+pub mod Merged
+pub mod MergeTexts
+pub mod MergeMessages
