@@ -140,7 +140,7 @@ fn string_kind_number(kind: &ParseStringErrorKind) -> u32
 }
 
 /// The number of a kind of fault.
-fn kind_number(kind: &ParseErrorKind) -> u32
+pub(crate) fn kind_number(kind: &ParseErrorKind) -> u32
     ensures { result ≡ kind_number kind.now }
 {
     match kind {

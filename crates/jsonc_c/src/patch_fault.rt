@@ -1,5 +1,5 @@
 //! Faults of pointers and patches, told.
-ghost use Rattle.std.specs.Prelude.{◌≡◌, ◌⊎◌, ◌×◌, true, string_bytes};
+ghost use Rattle.std.specs.Prelude.{◌≡◌, ◌⊎◌, true, string_bytes};
 ghost use Rattle.jsonc_c.specs.PatchTold.{cause_status, is_of_operation, is_of_patch, is_of_pointer};
 ghost use Rattle.jsonc_c.specs.PatchTold.{operation_kind, operation_place, patch_kind, patch_number, patch_place};
 ghost use Rattle.jsonc_c.specs.PatchTold.{pointer_kind, pointer_place};
