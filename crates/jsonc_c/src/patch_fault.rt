@@ -45,6 +45,17 @@ fn is_of_pointer(error: PointerError) -> bool
     }
 }
 
+/// The number of what is wrong with a patch.
+fn patch_kind(error: &PatchError<Global>) -> u32
+    ensures { result ≡ patch_kind error.now }
+{
+    match error {
+        PatchError::Parse(error) => kind_number(error.kind()),
+        PatchError::NotAnArray => 301,
+        PatchError::Operation(_, fault) => operation_kind(fault),
+    }
+}
+
 /// The number of what is wrong with an operation.
 fn operation_kind(fault: &OperationFault<Global>) -> u32
     ensures { result ≡ operation_kind fault.now }
@@ -77,17 +88,6 @@ fn is_of_operation(fault: &OperationFault<Global>) -> bool
         OperationFault::Pointer(_, error) => is_of_pointer(*error),
         OperationFault::OutOfMemory => false,
         _ => true,
-    }
-}
-
-/// The number of what is wrong with a patch.
-fn patch_kind(error: &PatchError<Global>) -> u32
-    ensures { result ≡ patch_kind error.now }
-{
-    match error {
-        PatchError::Parse(error) => kind_number(error.kind()),
-        PatchError::NotAnArray => 301,
-        PatchError::Operation(_, fault) => operation_kind(fault),
     }
 }
 
