@@ -13,7 +13,7 @@ use Rattle.jsonc_parser.specs.declared.patch.pointer.PointerError.{PointerError}
 use Rattle.jsonc_parser.specs.declared.patch.pointer.PointerError.TheVariants as pointer
 use Rattle.jsonc_parser.specs.declared.patch.reading.PatchError.{PatchError}
 use Rattle.jsonc_parser.specs.declared.patch.reading.PatchError.TheVariants as patch
-use Rattle.jsonc_c.specs.Told.{edit_status, kind_number, no_fault}
+use Rattle.jsonc_c.specs.Told.{kind_number, no_fault}
 use Rattle.jsonc_c.specs.declared.fault.JsoncFault.{JsoncFault}
 
 -- the number of what is wrong with a pointer
@@ -83,21 +83,21 @@ module _ {A : Type 0} where
   is_of_patch patch.NotAnArray = true
   is_of_patch (patch.Operation number fault) = is_of_operation fault
 
-  -- the status of an operation that was not made
+  -- the status of an operation that was not made, of which an edit was refused for memory alone
   abbrev pub cause_status : PatchCause A → ℕ
   cause_status cause.NoTarget = 20
   cause_status (cause.RepeatedName name) = 21
   cause_status cause.IntoItself = 23
   cause_status cause.NotEqual = 24
-  cause_status (cause.Edit why) = edit_status why
+  cause_status (cause.Edit why) = 1
 
   -- a patch is told to be none, and its text parses
   abbrev pub IsToldOfPatch : PatchError A → JsoncFault → Type 0
   IsToldOfPatch e f = (is_of_patch e ≡ true) × IsToldAs (patch_kind e) (patch_number e) (patch_place e) (patch_error_text e) f
 
-  -- an operation was not made
+  -- an operation was not made, for another cause than memory
   abbrev pub IsToldOfOperation : PatchFault A → JsoncFault → Type 0
-  IsToldOfOperation e f = IsToldAs 0 e.operation 0 (patch_fault_text e) f
+  IsToldOfOperation e f = ¬ (cause_status e.cause ≡ 1) × IsToldAs 0 e.operation 0 (patch_fault_text e) f
 
 -- a text is told to be no pointer
 abbrev pub IsToldOfPointer : PointerError → JsoncFault → Type 0

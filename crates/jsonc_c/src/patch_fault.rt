@@ -7,7 +7,7 @@ ghost use Rattle.jsonc_c.specs.PatchTold.{IsToldAs, IsToldOfName, IsToldOfOperat
 
 use crate::fault::{
     INTO_ITSELF, JsoncFault, NO_SUCH_VALUE, NOT_EQUAL, NOT_PATCH, OUT_OF_MEMORY, POINTER,
-    REPEATED_NAME, edit_status, kind_number, no_fault, put_text,
+    REPEATED_NAME, kind_number, no_fault, put_text,
 };
 use jsonc_parser::patch::{OperationFault, PatchCause, PatchError, PatchFault, PointerError};
 use std::alloc::Global;
@@ -198,7 +198,8 @@ fn cause_status(cause: &PatchCause<Global>) -> u32
         PatchCause::RepeatedName(_) => REPEATED_NAME,
         PatchCause::IntoItself => INTO_ITSELF,
         PatchCause::NotEqual => NOT_EQUAL,
-        PatchCause::Edit(error) => edit_status(*error),
+        // (of an edit it is told for memory alone)
+        PatchCause::Edit(_) => OUT_OF_MEMORY,
     }
 }
 

@@ -7,7 +7,7 @@ ghost use Rattle.jsonc_text.specs.OptionsOf.{parse_options};
 ghost use Rattle.jsonc_edit.specs.Writing.{IsOfNumbers};
 ghost use Rattle.jsonc_layout.specs.input.Views.{plain};
 ghost use Rattle.jsonc_sound.specs.Documents.{ShowsText};
-ghost use Rattle.jsonc_cst.specs.Document.{printed_of, tree_of};
+ghost use Rattle.jsonc_cst.specs.Document.{tree_of};
 ghost use Rattle.jsonc_parser.specs.patch.Asked.{FitsIn};
 ghost use Rattle.jsonc_parser.specs.patch.MergeTexts.{IsMergePatch};
 ghost use Rattle.jsonc_parser.specs.patch.PatchTexts.{IsPatch};
@@ -54,17 +54,6 @@ fn document_of(
     match CstRootNode::parse(alloc, text, options) {
         Ok(document) => Ok(document),
         Err(error) => Err(tell_error(alloc, &error, TEXT, fault)),
-    }
-}
-
-/// The text that a document prints.
-fn printed(document: &CstRootNode<Global>) -> Result<String, u32>
-    ensures text { IfOk result (λ text. string_bytes text ≡ printed_of document.now) }
-    ensures memory { IfErr result (λ status. status ≡ 1) }
-{
-    match document.text() {
-        Ok(text) => Ok(text),
-        Err(_) => Err(OUT_OF_MEMORY),
     }
 }
 
@@ -183,7 +172,10 @@ fn text_by(
     if let Err(stopped) = patch.apply(&mut document) {
         return Err(tell_operation(alloc, &stopped, fault));
     }
-    printed(&document)
+    match document.text() {
+        Ok(text) => Ok(text),
+        Err(_) => Err(OUT_OF_MEMORY),
+    }
 }
 
 /// The text of bytes after the patch of bytes, which is read first.
@@ -259,9 +251,13 @@ fn text_with(
 {
     let mut document = document;
     match merge(&mut document, patch) {
-        Ok(()) => printed(&document),
-        Err(MergeFault::RepeatedName(name)) => Err(tell_name(alloc, &name, fault)),
-        Err(MergeFault::OutOfMemory) => Err(OUT_OF_MEMORY),
+        Ok(()) => {}
+        Err(MergeFault::RepeatedName(name)) => return Err(tell_name(alloc, &name, fault)),
+        Err(MergeFault::OutOfMemory) => return Err(OUT_OF_MEMORY),
+    }
+    match document.text() {
+        Ok(text) => Ok(text),
+        Err(_) => Err(OUT_OF_MEMORY),
     }
 }
 
