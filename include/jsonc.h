@@ -43,12 +43,12 @@ JSONC_ASSERT(sizeof(jsonc_path_t) == 16);
 enum jsonc_status {
   JSONC_OK = 0, /* It succeeded. */
   JSONC_OUT_OF_MEMORY = 1, /* An allocation failed. */
-  JSONC_WORD_NOT_UTF8 = 2, /* A name, path or JSON text is not UTF-8. */
+  JSONC_WORD_NOT_UTF8 = 2, /* A name, path, pointer or JSON text is not UTF-8. */
   JSONC_NOT_UTF8 = 3, /* The text is not UTF-8. */
   JSONC_TEXT = 4, /* The text is no document. The fault tells what is wrong with it. */
   JSONC_PATH = 5, /* The path is no document. The fault tells what is wrong with it. */
   JSONC_NOT_NAMES = 6, /* The path is no array of strings. */
-  JSONC_JSON = 7, /* The JSON text of a value is no document. The fault tells what is wrong with it. */
+  JSONC_JSON = 7, /* The JSON text of a value or patch is no document. The fault tells what is wrong with it. */
   JSONC_NO_VALUE = 8, /* The JSON text has no value. */
   JSONC_NOT_OBJECT = 9, /* The document's value is no object. */
   JSONC_NOT_ARRAY = 10, /* The document's value is no array. */

@@ -55,7 +55,7 @@ pub(crate) const OK: u32 = 0;
 /// An allocation failed.
 pub(crate) const OUT_OF_MEMORY: u32 = 1;
 
-/// A name, path or JSON text is not UTF-8.
+/// A name, path, pointer or JSON text is not UTF-8.
 pub(crate) const WORD_NOT_UTF8: u32 = 2;
 
 /// The text is not UTF-8.
@@ -70,7 +70,7 @@ pub(crate) const PATH: u32 = 5;
 /// The path is no array of strings.
 pub(crate) const NOT_NAMES: u32 = 6;
 
-/// The JSON text of a value is no document. The fault tells what is wrong with it.
+/// The JSON text of a value or patch is no document. The fault tells what is wrong with it.
 pub(crate) const JSON: u32 = 7;
 
 /// The JSON text has no value.

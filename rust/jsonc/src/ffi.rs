@@ -18,7 +18,7 @@ pub const FAULT_TEXT_LEN: usize = 192;
 pub const OK: u32 = 0;
 /// An allocation failed.
 pub const OUT_OF_MEMORY: u32 = 1;
-/// A name, path or JSON text is not UTF-8.
+/// A name, path, pointer or JSON text is not UTF-8.
 pub const WORD_NOT_UTF8: u32 = 2;
 /// The text is not UTF-8.
 pub const NOT_UTF8: u32 = 3;
@@ -28,7 +28,7 @@ pub const TEXT: u32 = 4;
 pub const PATH: u32 = 5;
 /// The path is no array of strings.
 pub const NOT_NAMES: u32 = 6;
-/// The JSON text of a value is no document. The fault tells what is wrong with it.
+/// The JSON text of a value or patch is no document. The fault tells what is wrong with it.
 pub const JSON: u32 = 7;
 /// The JSON text has no value.
 pub const NO_VALUE: u32 = 8;
