@@ -74,7 +74,11 @@ module _ (o : Options) (bytes text : List ℕ) (read : text ≡ bytes) (old f : 
   no_patch e status why (inl one) same = IsNoPatch.for_memory one (same one ∙ none)
   no_patch e status why (inr told) same = IsNoPatch.for_patch e told.0 told.1 (subst (λ (b : List ℕ). IsFaultOfPatch o b e) read why)
 
-  -- a name stands twice in a merge patch
+  -- that of a merge patch has no value
+  pub no_merge_value : {A : Type 0} (status : ℕ) → status ≡ 8 → IsFaultOfMergePatch {A = A} o text merge_text.NoValue → IsNoMergePatch o bytes status old
+  no_merge_value {A = A} status is why = IsNoMergePatch.for_value is none (subst (λ (b : List ℕ). IsFaultOfMergePatch {A = A} o b merge_text.NoValue) read why)
+
+  -- a name stands twice in it
   pub no_merge_name : {A : Type 0} (name : String A) (status : ℕ) → IsFaultOfMergePatch {A = A} o text (merge_text.RepeatedName name) → (status ≡ 1) ⊎ ((status ≡ 21) × IsToldOfName (string_bytes name) f) → (status ≡ 1 → f ≡ old)
       → IsNoMergePatch o bytes status f
   no_merge_name {A = A} name status why (inl one) same = IsNoMergePatch.for_memory one (same one ∙ none)
