@@ -23,6 +23,7 @@ mod operation;
 mod pointer;
 mod reading;
 mod reference;
+mod renaming;
 mod unique;
 mod values;
 

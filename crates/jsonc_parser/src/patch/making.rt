@@ -23,6 +23,7 @@ use super::equality::{Numbers, are_equal};
 use super::operation::Operation;
 use super::pointer::Pointer;
 use super::reference::{FindError, element_place, follow, read};
+use super::renaming::{rename, renaming};
 use jsonc_cst::cst::{CstInputValue, CstNode, CstRootNode, EditError, TypedNode};
 use jsonc_run::Edit;
 use std::alloc::Allocator;
@@ -98,7 +99,7 @@ pub(super) fn cause_of<A: Allocator>(error: FindError<A>) -> PatchCause<A>
 }
 
 // The value that tokens refer to, where there has to be one.
-fn target<A: Allocator + Copy>(
+pub(super) fn target<A: Allocator + Copy>(
     doc: &CstRootNode<A>,
     tokens: &[String<A>],
 ) -> Result<CstNode, PatchCause<A>>
@@ -115,7 +116,7 @@ fn target<A: Allocator + Copy>(
 }
 
 // The path of a node.
-fn path_to<A: Allocator + Copy>(
+pub(super) fn path_to<A: Allocator + Copy>(
     doc: &CstRootNode<A>,
     node: CstNode,
 ) -> Result<Vec<usize, A>, PatchCause<A>>
@@ -164,7 +165,7 @@ fn value_at<A: Allocator + Copy>(
 }
 
 // Makes one edit, whole or not at all.
-fn edit<A: Allocator + Copy>(doc: &mut CstRootNode<A>, edit: Edit<A>) -> Result<(), PatchCause<A>>
+pub(super) fn edit<A: Allocator + Copy>(doc: &mut CstRootNode<A>, edit: Edit<A>) -> Result<(), PatchCause<A>>
     requires { is_whole edit ≡ true }
     ensures made { OnOk result (EditStep (nodes_of doc.old) (operation_of unsorted edit) (nodes_of doc.new)) }
     ensures kept { OnErr result (IsKept doc.old doc.new) }
@@ -389,7 +390,7 @@ fn are_same<A: Allocator>(left: &String<A>, right: &String<A>) -> bool
 }
 
 // Whether the tokens of one pointer are the first of another's.
-fn leads_on<A: Allocator>(front: &[String<A>], tokens: &[String<A>]) -> bool
+pub(super) fn leads_on<A: Allocator>(front: &[String<A>], tokens: &[String<A>]) -> bool
     ensures { Decides result (LeadsOn (names_of front.now) (names_of tokens.now)) }
 {
     if front.len() > tokens.len() {
@@ -423,7 +424,8 @@ fn stay<A: Allocator + Copy>(
     Err(PatchCause::IntoItself)
 }
 
-// Removes the value that a pointer refers to, and adds it where another leads.
+// Removes the value that a pointer refers to, and adds it where another leads. Within one object a member gets another
+// name instead, if none has this.
 fn move_value<A: Allocator + Copy>(
     doc: &mut CstRootNode<A>,
     from: &Pointer<A>,
@@ -434,6 +436,12 @@ fn move_value<A: Allocator + Copy>(
 {
     if leads_on(from.tokens(), path.tokens()) {
         return stay(doc, from, path);
+    }
+    if let Some((node, name)) = renaming(doc, from, path) {
+        return match rename(doc, node, name) {
+            Ok(()) => Ok(()),
+            Err(cause) => Err(cause),
+        };
     }
     let value = match value_at(doc, from) {
         Ok(value) => value,

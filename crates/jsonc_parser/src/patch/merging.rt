@@ -89,7 +89,7 @@ fn made_value<A: Allocator + Copy>(
 }
 
 // Whether tokens refer to an object.
-fn is_object<A: Allocator + Copy>(
+pub(super) fn is_object<A: Allocator + Copy>(
     doc: &CstRootNode<A>,
     tokens: &[String<A>],
 ) -> Result<bool, PatchCause<A>>

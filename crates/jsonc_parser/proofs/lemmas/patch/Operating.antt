@@ -86,7 +86,7 @@ first_cases name (member n v ms) =
           ])
     ]
 
-name_cases : (name : List ℕ) (ms : Members) → LacksMember name ms ⊎ (((i : ℕ) × (v : Plain) × IsOnly name v i ms) ⊎ IsRepeated name ms)
+pub name_cases : (name : List ℕ) (ms : Members) → LacksMember name ms ⊎ (((i : ℕ) × (v : Plain) × IsOnly name v i ms) ⊎ IsRepeated name ms)
 name_cases name no_members = inl no_more
 name_cases name (member n v ms) =
     elim (cases_Bool (bytes_eq n name)) [
