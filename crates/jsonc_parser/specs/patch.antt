@@ -26,5 +26,6 @@ pub mod MergePatch
 pub mod MergeCases
 pub mod Merged
 pub mod MergeSteps
+pub mod Renaming
 pub mod MergeTexts
 pub mod MergeMessages

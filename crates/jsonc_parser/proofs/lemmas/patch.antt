@@ -39,3 +39,4 @@ pub mod MergePatchMakes
 pub mod MergePatchTotal
 pub mod MergePatchCases
 pub mod MergeReads
+pub mod Renaming
