@@ -32,7 +32,7 @@ use Rattle.jsonc_parser.specs.patch.Failing.{ReferToNothing}
 use Rattle.jsonc_parser.specs.patch.Found.{FindFails, Finds, IsOfShown, ReadFails, Reads, RefersToNode, RefersToNothing}
 use Rattle.jsonc_parser.specs.patch.Merged.{IsMergeFault, MergesWhatShown, MergeStopsWhatShown}
 use Rattle.jsonc_parser.specs.patch.MergeSteps.{at_root, Drops, FailsToMerge, FailsToMergeAll, FailsToSet, HasNameTwice, IsMergeCause, IsPlace, IsReached, IsStop, IsTwice, MergesNamed, ReachesWhatShown, RefersToObject, Sets, TellsFault}
-use Rattle.jsonc_parser.specs.patch.Merging.{inside, made_of, GoesInto, IsThere, Merges, MembersMerge, Stops}
+use Rattle.jsonc_parser.specs.patch.Merging.{inside, made_of, members_made, GoesInto, IsThere, Merges, MembersMerge, Stops}
 use Rattle.jsonc_parser.specs.patch.Merging as merging
 use Rattle.jsonc_parser.specs.patch.Operations as value
 use Rattle.jsonc_parser.specs.patch.Operations.{Adds, Makes, Removes}
@@ -47,7 +47,7 @@ use Rattle.jsonc_text.specs.declared.edit.EditError.TheVariants.{OutOfMemory}
 use Rattle.jsonc_parser.proofs.lemmas.patch.Chains.{joined}
 use Rattle.jsonc_parser.proofs.lemmas.patch.Evaluation.{refers_to_one}
 use Rattle.jsonc_parser.proofs.lemmas.patch.Exclusive.{fails_whole}
-use Rattle.jsonc_parser.proofs.lemmas.patch.Merges.{and_then, goes_nowhere, has_place, is_put, merge_more, named_member, no_object_there, nothing_there, number_made, numbers_before, numbers_behind, place_after, stands_there, stops_at, there_told}
+use Rattle.jsonc_parser.proofs.lemmas.patch.Merges.{and_none, and_then, goes_nowhere, has_place, is_put, made_then, merge_more, named_member, no_object_there, nothing_there, number_made, numbers_before, numbers_behind, one_kept, one_left_out, place_after, stands_there, stops_at, there_told}
 use Rattle.jsonc_parser.proofs.lemmas.patch.Nodes.{its, object_content}
 use Rattle.jsonc_parser.proofs.lemmas.patch.Steps.{no_object_by, object_by}
 
@@ -86,7 +86,22 @@ module _ {A : Type 0} where
   pub plain_more : (ps : List (String A × CstInputValue A)) (k : ℕ) (q : String A × CstInputValue A) → k < length ps → q ≡ get_or ps k q
       → members_plain (take (k + 1) ps) ≡ and_then (members_plain (take k ps)) (member (chars_of q.0) (plain q.1) no_members)
   plain_more ps k q h is =
-      ap (λ l. members_plain l) (take_more ps k q h) ∙ plain_then (take k ps) (get_or ps k q ∷ []) ∙ ap (λ x. and_then (members_plain (take k ps)) (member (chars_of x.0) (plain x.1) no_members)) (sym is)
+      ap (λ (l : List (String A × CstInputValue A)). members_plain l) (take_more ps k q h) ∙ plain_then (take k ps) (get_or ps k q ∷ []) ∙ ap (λ x. and_then (members_plain (take k ps)) (member (chars_of x.0) (plain x.1) no_members)) (sym is)
+
+  -- one more is left out of what merging makes, or is in it
+  module _ (ps : List (String A × CstInputValue A)) (k : ℕ) (q : String A × CstInputValue A) (h : k < length ps) (is : q ≡ get_or ps k q) where
+    made_apart : members_made (members_plain (take (k + 1) ps)) ≡ and_then (members_made (members_plain (take k ps))) (members_made (member (chars_of q.0) (plain q.1) no_members))
+    made_apart = ap members_made (plain_more ps k q h is) ∙ made_then (members_plain (take k ps)) (member (chars_of q.0) (plain q.1) no_members)
+
+    pub made_less : (made : List (String A × CstInputValue A)) → members_plain made ≡ members_made (members_plain (take k ps)) → plain q.1 ≡ null → members_plain made ≡ members_made (members_plain (take (k + 1) ps))
+    made_less made so_far none =
+        so_far ∙ sym (made_apart ∙ ap (λ ms. and_then (members_made (members_plain (take k ps))) ms) (one_left_out (chars_of q.0) (plain q.1) none) ∙ and_none (members_made (members_plain (take k ps))))
+
+    pub made_more : (made new : List (String A × CstInputValue A)) (r : String A × CstInputValue A) → members_plain made ≡ members_made (members_plain (take k ps)) → plain q.1 ≢ null → chars_of r.0 ≡ chars_of q.0 → plain r.1 ≡ made_of (plain q.1)
+        → new ≡ made ++ r ∷ [] → members_plain new ≡ members_made (members_plain (take (k + 1) ps))
+    made_more made new r so_far some name value pushed =
+        ap (λ (l : List (String A × CstInputValue A)). members_plain l) pushed ∙ plain_then made (r ∷ []) ∙ (λ i. and_then (so_far i) (member (name i) (value i) no_members))
+        ∙ sym (made_apart ∙ ap (λ ms. and_then (members_made (members_plain (take k ps))) ms) (one_kept (chars_of q.0) (plain q.1) some))
 
   -- the list about one of its pairs
   about : (ps : List (String A × CstInputValue A)) (k : ℕ) (q : String A × CstInputValue A) → k < length ps → q ≡ get_or ps k q → ps ≡ take k ps ++ q ∷ drop (k + 1) ps
@@ -258,6 +273,21 @@ module _ {A : Type 0} (old new : CstRootNode A) (tokens : List (List ℕ)) where
 
   pub one_member : (name : List ℕ) (p : Plain) → ReachesWhatShown old (λ o. IsOfNumbers o p) (MergesNamed (tokens ++ name ∷ []) p) new → ReachesWhatShown old (λ o. IsOfNumbers o p) (MembersMerge tokens (member name p no_members)) new
   one_member name p reached = reached_as old new reached (λ o fit. fit) (λ d shown y m. named_member tokens name p d.value y m)
+
+  -- of the value that the patch is
+  pub merged_value : (p q : Plain) → p ≡ q → ReachesWhatShown old (λ o. IsOfNumbers o q) (Merges tokens q) new → ReachesWhatShown old (λ o. IsOfNumbers o p) (Merges tokens p) new
+  merged_value p q is reached = subst (λ k. ReachesWhatShown old (λ o. IsOfNumbers o k) (Merges tokens k) new) (sym is) reached
+
+  pub failed_value : (p q : Plain) (cause : PatchCause A) → p ≡ q → FailsToMerge old tokens q cause → FailsToMerge old tokens p cause
+  failed_value p q cause is fails = subst (λ k. FailsToMerge old tokens k cause) (sym is) fails
+
+-- what was told of the tokens
+module _ {A : Type 0} (doc : CstRootNode A) (names tokens : List (List ℕ)) (same : names ≡ tokens) (b : Bool) (told : IsOfShown doc (λ d. Decides b (RefersToObject d.value names))) where
+  pub object_so : b ≡ true → IsOfShown doc (λ d. RefersToObject d.value tokens)
+  object_so e d shown = subst (RefersToObject d.value) same ((told d shown).0 e)
+
+  pub no_object_so : (p : Plain) → b ≡ false → IsOfShown doc (λ d. ¬ (GoesInto p tokens d.value))
+  no_object_so p e d shown = goes_nowhere p tokens d.value (λ h. false≢true (sym e ∙ (told d shown).1 (subst (RefersToObject d.value) (sym same) h)))
 
 -- what was told of the value that is to be put, of what is made of the patch
 module _ {A : Type 0} (doc : CstRootNode A) (tokens : List (List ℕ)) (p v : Plain) (is : v ≡ made_of p) (b : Bool) (told : IsOfShown doc (λ d. Decides b (IsThere v tokens d.value))) where
