@@ -2,25 +2,17 @@
 use Rattle.std.proofs.Common.{ℕ, suc, ◌≡◌, ◌∙◌, ap, sym, subst, refl, inl, inr, List}
 use Rattle.jsonc_text.specs.Plain.{Plain, null, boolean, number, string, array, object, collapse, collapse_items, collapse_members, last_of, without, Items, no_items, item, Members, no_members, member}
 use Rattle.jsonc_insert.specs.elements.Members.{member_count}
-use Rattle.jsonc_insert.specs.named.Members.{LacksMember, no_more, other_name}
 use Rattle.jsonc_parser.specs.patch.Equality as equal
 use Rattle.jsonc_parser.specs.patch.Equality.{AreEqual, AreItemsEqual, AreMembersIn, this_has, later_has, HasUniqueNames, ItemsHaveUniqueNames, MembersHaveUniqueNames}
 use Rattle.jsonc_parser.specs.patch.MergePatch as up
 use Rattle.jsonc_parser.specs.patch.MergePatch.{IsUpToArrays, AreUpToArrays}
-use Rattle.jsonc_parser.proofs.lemmas.paths.Collapsed.{last_here, last_past, without_here, without_past}
+use Rattle.jsonc_parser.proofs.lemmas.paths.Collapsed.{lacks_last, last_here, last_past, without_here, without_past}
 use Rattle.jsonc_parser.proofs.lemmas.paths.Members.{same_or_not}
+use Rattle.jsonc_parser.proofs.lemmas.patch.MergePatchMembers.{lacks_without}
 
-abbrev SameText : List ℕ → List ℕ → Type 0
+-- texts of numbers are the same only where they are one
+abbrev pub SameText : List ℕ → List ℕ → Type 0
 SameText s t = s ≡ t
-
--- where none has the name
-lacks_last : {name : List ℕ} {ms : Members} → LacksMember name ms → (v : Plain) → last_of name v ms ≡ v
-lacks_last no_more v = refl
-lacks_last {name} (other_name {n = n} {v = w} {ms = ms} ne l) v = last_past name n v w ms ne ∙ lacks_last l v
-
-lacks_without : {name : List ℕ} {ms : Members} → LacksMember name ms → without name ms ≡ ms
-lacks_without no_more = refl
-lacks_without {name} (other_name {n = n} {v = w} {ms = ms} ne l) = without_past name n w ms ne ∙ ap (member n w) (lacks_without l)
 
 -- a value without repeated names is collapsed
 mutual

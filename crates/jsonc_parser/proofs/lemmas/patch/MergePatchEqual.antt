@@ -5,9 +5,7 @@ use Rattle.jsonc_insert.specs.elements.Members.{member_count}
 use Rattle.jsonc_parser.specs.patch.Equality as equal
 use Rattle.jsonc_parser.specs.patch.Equality.{AreEqual, AreItemsEqual, AreMembersIn, HasMember, this_has, later_has}
 use Rattle.jsonc_parser.proofs.lemmas.paths.Members.{same_or_not}
-
-abbrev SameText : List ℕ → List ℕ → Type 0
-SameText s t = s ≡ t
+use Rattle.jsonc_parser.proofs.lemmas.patch.MergePatchCollapsed.{SameText}
 
 -- it is so, or not
 abbrev pub Told : Type 0 → Type 0

@@ -13,10 +13,7 @@ use Rattle.jsonc_parser.proofs.lemmas.patch.MergePatchMade.{made_anew, made_uniq
 use Rattle.jsonc_parser.proofs.lemmas.patch.MergePatchMembers.{lacks_value, lacks_without, merged_more, no_object_up_to, none_in, object_up_to, row_value, row_with, value_up_to, with_up_to, without_up_to, UpTo}
 use Rattle.jsonc_parser.proofs.lemmas.patch.MergePatchPlaces.{is_there, object_of, refers_there, split_only, tokens_to, within, AreAlone, Around, IsAlone, Split}
 use Rattle.jsonc_parser.proofs.lemmas.patch.MergePatchSteps.{adds_member, adds_there, comes, lacks_there, no_last, refers_member, removes_there, there, AddsMember}
-use Rattle.jsonc_parser.proofs.lemmas.patch.MergePatchCollapsed.{collapse_unique, up_equal}
-
-abbrev SameText : List ℕ → List ℕ → Type 0
-SameText s t = s ≡ t
+use Rattle.jsonc_parser.proofs.lemmas.patch.MergePatchCollapsed.{collapse_unique, up_equal, SameText}
 
 -- a value that may be missing, and one that is there
 some_up_to : (a : Option Plain) (v : Plain) → UpTo a (Some v) → (x : Plain) × (a ≡ Some x) × IsUpToArrays x v

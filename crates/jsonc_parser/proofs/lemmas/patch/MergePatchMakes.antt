@@ -3,7 +3,7 @@ use Rattle.std.proofs.Common.{ℕ, ◌≡◌, ◌≢◌, ◌⊎◌, ◌++◌, sy
 use Rattle.std.specs.List.{All}
 use Rattle.std.proofs.lemmas.List.{append-nil, append_assoc}
 use Rattle.std.proofs.lemmas.List.Elements.{All-cons, All-nil}
-use Rattle.jsonc_text.specs.Plain.{Plain, object, Members, member, without}
+use Rattle.jsonc_text.specs.Plain.{Plain, object, Members, member}
 use Rattle.jsonc_insert.specs.named.Members.{LacksMember, no_more, other_name}
 use Rattle.jsonc_run.specs.texts.Edits as edits
 use Rattle.jsonc_run.specs.texts.Entries as entries
@@ -17,7 +17,6 @@ use Rattle.jsonc_parser.specs.patch.Merging.{made_of, members_made}
 use Rattle.jsonc_parser.specs.patch.Operations.{as_member, as_whole, in_member, Adds, Removes, StandsAt}
 use Rattle.jsonc_parser.specs.patch.References.{FailsAt, IsOnly, this_only, later_only, MeetsRepeated, Refers, RefersTo, whole}
 use Rattle.jsonc_parser.proofs.lemmas.patch.Evaluation.{fails_behind, object_stops}
-use Rattle.jsonc_parser.proofs.lemmas.paths.Collapsed.{without_here, without_past}
 use Rattle.jsonc_parser.proofs.lemmas.paths.Members.{same_or_not}
 use Rattle.jsonc_parser.proofs.lemmas.patch.MergePatchMade.{lacks_with, null_or_not}
 use Rattle.jsonc_parser.proofs.lemmas.patch.MergePatchMembers.{made_more, row_gains, with_here, with_past}
@@ -85,22 +84,6 @@ none_there os alone name ns lacks = (λ v r. (let m = refers_member os name ns r
         (object_stops refl lacks []).1 other (fails_behind (name ∷ []) (refers_path os alone (object ns)) (subst (λ k. MeetsRepeated other k (tokens_to os ++ name ∷ [])) (same_value is) m))
 
 -- names stay unique
-lacks_kept : {other : List ℕ} {ns : Members} → LacksMember other ns → (name : List ℕ) → LacksMember other (without name ns)
-lacks_kept no_more name = no_more
-lacks_kept {other} (other_name {n = n} {v = w} {ms = ms} ne l) name =
-    elim (same_or_not n name) [
-      | inl is ↦ subst (λ k. LacksMember other (without name (member k w ms))) (sym is) (subst (LacksMember other) (sym (without_here name w ms)) (lacks_kept l name))
-      | inr apart ↦ subst (LacksMember other) (sym (without_past name n w ms apart)) (other_name ne (lacks_kept l name))
-    ]
-
-pub without_unique : (name : List ℕ) {ns : Members} → MembersHaveUniqueNames ns → MembersHaveUniqueNames (without name ns)
-without_unique name equal.unique_last = equal.unique_last
-without_unique name (equal.unique_member {name = n} {v = w} {ms = ms} lacks h k) =
-    elim (same_or_not n name) [
-      | inl is ↦ subst (λ j. MembersHaveUniqueNames (without name (member j w ms))) (sym is) (subst MembersHaveUniqueNames (sym (without_here name w ms)) (without_unique name k))
-      | inr apart ↦ subst MembersHaveUniqueNames (sym (without_past name n w ms apart)) (equal.unique_member (lacks_kept lacks name) h (without_unique name k))
-    ]
-
 pub with_unique : (name : List ℕ) {v : Plain} {ns : Members} → HasUniqueNames v → MembersHaveUniqueNames ns → MembersHaveUniqueNames (with_member name v ns)
 with_unique name g equal.unique_last = equal.unique_member no_more g equal.unique_last
 with_unique name {v} g (equal.unique_member {name = n} {v = w} {ms = ms} lacks h k) =

@@ -9,16 +9,15 @@ use Rattle.jsonc_parser.specs.patch.Merging as merging
 use Rattle.jsonc_parser.specs.patch.Merging.{made_of, GoesInto, IsThere, Merges, MembersMerge}
 use Rattle.jsonc_parser.specs.patch.Operations.{as_whole, Removes}
 use Rattle.jsonc_parser.specs.patch.References.{RefersTo}
+use Rattle.jsonc_parser.proofs.lemmas.patch.MergePatchCollapsed.{SameText}
 use Rattle.jsonc_parser.proofs.lemmas.patch.MergePatchEqual.{equal_told}
 use Rattle.jsonc_parser.proofs.lemmas.patch.MergePatchLaw.{around, is_alone, unique_members, unique_parts, with_it}
 use Rattle.jsonc_parser.proofs.lemmas.patch.MergePatchMade.{null_or_not}
-use Rattle.jsonc_parser.proofs.lemmas.patch.MergePatchMakes.{adds_at, adds_new, none_there, only_or_lacks, refers_at, removes_at, unique_made, with_unique, without_unique}
+use Rattle.jsonc_parser.proofs.lemmas.patch.MergePatchMakes.{adds_at, adds_new, none_there, only_or_lacks, refers_at, removes_at, unique_made, with_unique}
 use Rattle.jsonc_parser.proofs.lemmas.patch.MergePatchMembers.{row_without}
 use Rattle.jsonc_parser.proofs.lemmas.patch.MergePatchPlaces.{object_of, only_lacks_not, refers_there, split_only, tokens_to, within, AreAlone, Around, Split}
 use Rattle.jsonc_parser.proofs.lemmas.patch.MergePatchSteps.{refers_member}
-
-abbrev SameText : List ℕ → List ℕ → Type 0
-SameText s t = s ≡ t
+use Rattle.jsonc_parser.proofs.lemmas.patch.Unique.{unique_without}
 
 record ValueMade (os : List Around) (p v : Plain) : Type 0 where
   new : Plain
@@ -94,7 +93,7 @@ module _ (os : List Around) (name : List ℕ) {x : Plain} {i : ℕ} {ns : Member
 drop_member : (os : List Around) → AreAlone os → (name : List ℕ) (ms ns : Members) → MembersHaveUniqueNames ns → ((now : Members) → MembersHaveUniqueNames now → MembersMade os ms now) → MembersMade os (member name null ms) ns
 drop_member os alone name ms ns uns rest =
     elim (only_or_lacks name uns) [
-      | inl found ↦ let m = rest (without name ns) (without_unique name uns) in record { new = m.new; merges = merging.removed (old_leaves os name (split_only found.2) alone) m.merges; unique = m.unique }
+      | inl found ↦ let m = rest (without name ns) (unique_without name uns) in record { new = m.new; merges = merging.removed (old_leaves os name (split_only found.2) alone) m.merges; unique = m.unique }
       | inr lacks ↦ let m = rest ns uns in record { new = m.new; merges = merging.absent (none_there os alone name ns lacks) m.merges; unique = m.unique }
     ]
 

@@ -33,7 +33,7 @@ pub without_here : (name : List ℕ) (w : Plain) (ms : Members) → without name
 without_here name w ms = ap (λ b. cond b (without name ms) (member name w (without name ms))) (same_names name)
 
 -- where none has the name
-lacks_last : {name : List ℕ} {ms : Members} → LacksMember name ms → (v : Plain) → last_of name v ms ≡ v
+pub lacks_last : {name : List ℕ} {ms : Members} → LacksMember name ms → (v : Plain) → last_of name v ms ≡ v
 lacks_last no_more v = refl
 lacks_last {name} (other_name {n = n} {v = w} {ms = ms} ne l) v = last_past name n v w ms ne ∙ lacks_last l v
 
