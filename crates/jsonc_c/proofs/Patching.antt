@@ -64,10 +64,10 @@ module _ (o : Options) (bytes text : List ℕ) (read : text ≡ bytes) (old f : 
   no_patch_text e status why (inl one) same made = IsNoPatch.for_memory one (untold 7 status old f none same one (omega arith))
   no_patch_text e status why (inr told) same made = IsNoPatch.for_text e told.0 (told_alone e old f none made told.1) (refusal e why.0 why.1 why.2)
 
-  pub no_merge_text : {A : Type 0} (e : ParseError) (status : ℕ) → IsFaultOfMergePatch {A = A} o text (merge_text.Parse e) → (status ≡ 1) ⊎ ((status ≡ 7) × IsToldOf e f) → (¬ (status ≡ 7) → f ≡ old) → f.made ≡ old.made
+  pub no_merge_text : (A : Type 0) (e : ParseError) (status : ℕ) → IsFaultOfMergePatch {A = A} o text (merge_text.Parse e) → (status ≡ 1) ⊎ ((status ≡ 7) × IsToldOf e f) → (¬ (status ≡ 7) → f ≡ old) → f.made ≡ old.made
       → IsNoMergePatch o bytes status f
-  no_merge_text e status why (inl one) same made = IsNoMergePatch.for_memory one (untold 7 status old f none same one (omega arith))
-  no_merge_text e status why (inr told) same made = IsNoMergePatch.for_text e told.0 (told_alone e old f none made told.1) (refusal e why.0 why.1 why.2)
+  no_merge_text A e status why (inl one) same made = IsNoMergePatch.for_memory one (untold 7 status old f none same one (omega arith))
+  no_merge_text A e status why (inr told) same made = IsNoMergePatch.for_text e told.0 (told_alone e old f none made told.1) (refusal e why.0 why.1 why.2)
 
   -- a text is no patch
   pub no_patch : {A : Type 0} (e : PatchError A) (status : ℕ) → IsFaultOfPatch o text e → (status ≡ 1) ⊎ ((status ≡ 22) × IsToldOfPatch e f) → (status ≡ 1 → f ≡ old) → IsNoPatch A o bytes status f
@@ -75,8 +75,8 @@ module _ (o : Options) (bytes text : List ℕ) (read : text ≡ bytes) (old f : 
   no_patch e status why (inr told) same = IsNoPatch.for_patch e told.0 told.1 (subst (λ (b : List ℕ). IsFaultOfPatch o b e) read why)
 
   -- that of a merge patch has no value
-  pub no_merge_value : {A : Type 0} (status : ℕ) → status ≡ 8 → IsFaultOfMergePatch {A = A} o text merge_text.NoValue → IsNoMergePatch o bytes status old
-  no_merge_value {A = A} status is why = IsNoMergePatch.for_value is none (subst (λ (b : List ℕ). IsFaultOfMergePatch {A = A} o b merge_text.NoValue) read why)
+  pub no_merge_value : (A : Type 0) (status : ℕ) → status ≡ 8 → IsFaultOfMergePatch {A = A} o text merge_text.NoValue → IsNoMergePatch o bytes status old
+  no_merge_value A status is why = IsNoMergePatch.for_value is none (subst (λ (b : List ℕ). IsFaultOfMergePatch {A = A} o b merge_text.NoValue) read why)
 
   -- a name stands twice in it
   pub no_merge_name : {A : Type 0} (name : String A) (status : ℕ) → IsFaultOfMergePatch {A = A} o text (merge_text.RepeatedName name) → (status ≡ 1) ⊎ ((status ≡ 21) × IsToldOfName (string_bytes name) f) → (status ≡ 1 → f ≡ old)
@@ -97,15 +97,15 @@ text_of_shown e new made shown prints = ap (λ d. d.text) shown.is ∙ ap chars 
 module _ {A : Type 0} (o : Options) (words text : List ℕ) (doc : CstRootNode A) (shown : ShowsText o (chars text) (tree_of doc)) (old f : JsoncFault) (none : old ≡ no_fault) where
   module _ (tokens : List (List ℕ)) (is : pointer_text tokens ≡ chars words) where
     pub found_there : (node : CstNode) (made : List ℕ) → IsOfShown doc (λ d. Finds d doc tokens (Some node)) → made ≡ printed (ordered_tree (nodes_of doc) (number_of node)) → IsFound o words text made
-    found_there node made h prints = (tokens, is, shown.0, nodes_of doc, shown.1, shown.2, shown.3, number_of node, h shown.0 shown.3, prints)
+    found_there node made h prints = (tokens, is, (shown.0, nodes_of doc, shown.1, shown.2, shown.3, (number_of node, h shown.0 shown.3, prints)))
 
     pub nothing_there : (status : ℕ) → status ≡ 20 → IsOfShown doc (λ d. Finds d doc tokens None) → IsUnfound o words text status old
-    nothing_there status none_there h = IsUnfound.for_value none_there none (tokens, is, shown.0, nodes_of doc, shown.1, shown.2, shown.3, h shown.0 shown.3)
+    nothing_there status none_there h = IsUnfound.for_value none_there none (tokens, is, (shown.0, nodes_of doc, shown.1, shown.2, shown.3, h shown.0 shown.3))
 
     pub repeated_there : (name : String A) (status : ℕ) → IsOfShown doc (λ d. FindFails d doc tokens (finding.RepeatedName name)) → (status ≡ 1) ⊎ ((status ≡ 21) × IsToldOfName (string_bytes name) f) → (status ≡ 1 → f ≡ old)
         → IsUnfound o words text status f
     repeated_there name status h (inl one) same = IsUnfound.for_memory one (same one ∙ none)
-    repeated_there name status h (inr told) same = IsUnfound.for_name (string_bytes name) told.0 told.1 (tokens, is, shown.0, nodes_of doc, shown.1, shown.2, shown.3, h shown.0 shown.3)
+    repeated_there name status h (inr told) same = IsUnfound.for_name (string_bytes name) told.0 told.1 (tokens, is, (shown.0, nodes_of doc, shown.1, shown.2, shown.3, h shown.0 shown.3))
 
   module _ (patch : Patch A) (is : IsPatch o (chars words) (operations_of patch)) (fits : All (FitsIn o) (operations_in patch)) where
     fit : All (FitsIn shown.0.options) (operations_in patch)
@@ -114,7 +114,7 @@ module _ {A : Type 0} (o : Options) (words text : List ℕ) (doc : CstRootNode A
     pub patched_so : (new : CstRootNode A) (made : List ℕ) → PatchesWhatShown doc (operations_in patch) new → made ≡ printed_of new → IsPatchedBy A o words text made
     patched_so new made h prints =
         let e = h shown.0 shown.3 fit in
-        (operations_in patch, is, shown.0, nodes_of doc, shown.1, shown.2, shown.3, e.0, text_of_shown e.0 new made e.1 prints, e.2)
+        (operations_in patch, is, (shown.0, nodes_of doc, shown.1, shown.2, shown.3, (e.0, text_of_shown e.0 new made e.1 prints, e.2)))
 
     pub stopped_so : (stopped : PatchFault A) (status : ℕ) → StopsWhatShown doc (operations_in patch) stopped → (status ≡ 1) ⊎ ((status ≡ cause_status stopped.cause) × IsToldOfOperation stopped f) → (status ≡ 1 → f ≡ old)
         → IsUnpatched A o words text status f
@@ -130,7 +130,7 @@ module _ {A : Type 0} (o : Options) (words text : List ℕ) (doc : CstRootNode A
     pub merged_so : (new : CstRootNode A) (made : List ℕ) → MergesWhatShown doc p new → made ≡ printed_of new → IsMergedBy A o words text made
     merged_so new made h prints =
         let e = h shown.0 shown.3 numbers in
-        (p, is, shown.0, nodes_of doc, shown.1, shown.2, shown.3, e.0, text_of_shown e.0 new made e.1 prints, e.2)
+        (p, is, (shown.0, nodes_of doc, shown.1, shown.2, shown.3, (e.0, text_of_shown e.0 new made e.1 prints, e.2)))
 
     pub repeated_so : (name : String A) (status : ℕ) → MergeStopsWhatShown doc p (merging.RepeatedName name) → (status ≡ 1) ⊎ ((status ≡ 21) × IsToldOfName (string_bytes name) f) → (status ≡ 1 → f ≡ old)
         → IsUnmerged A o words text status f

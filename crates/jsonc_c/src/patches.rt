@@ -169,8 +169,9 @@ fn text_by(
     ensures untold { OnOk result (fault.new ≡ no_fault) }
 {
     let mut document = document;
-    if let Err(stopped) = patch.apply(&mut document) {
-        return Err(tell_operation(alloc, &stopped, fault));
+    match patch.apply(&mut document) {
+        Ok(()) => {}
+        Err(stopped) => return Err(tell_operation(alloc, &stopped, fault)),
     }
     match document.text() {
         Ok(text) => Ok(text),

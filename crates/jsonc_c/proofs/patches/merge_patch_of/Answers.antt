@@ -16,13 +16,13 @@ pub returns-in-Err-Parse-clause-refused : goal.returns-in-Err-Parse-clause-refus
 returns-in-Err-Parse-clause-refused c =
     let read : c.in-Ok.text.now ≡ c.args.patch.now = search rules in
     let told = c.tell_error.ensures in
-    no_merge_text (parse_options c.args.options.now) c.args.patch.now c.in-Ok.text.now read c.args.fault.now c.tell_error.new.fault c.requires.untold {A = Global} c.in-Err-Parse.error c.tell_error.result
+    no_merge_text (parse_options c.args.options.now) c.args.patch.now c.in-Ok.text.now read c.args.fault.now c.tell_error.new.fault c.requires.untold Global c.in-Err-Parse.error c.tell_error.result
     (subst (IsFaultOfMergePatch (parse_options c.args.options.now) c.in-Ok.text.now) c.in-Err-Parse.field-0-is c.in-Err-Parse.ensures.fault) told.status told.untold told.made
 
 pub returns-in-Err-NoValue-clause-refused : goal.returns-in-Err-NoValue-clause-refused
 returns-in-Err-NoValue-clause-refused c =
     let read : c.in-Ok.text.now ≡ c.args.patch.now = search rules in
-    no_merge_value (parse_options c.args.options.now) c.args.patch.now c.in-Ok.text.now read c.args.fault.now c.args.fault.now c.requires.untold {A = Global} 8 refl
+    no_merge_value (parse_options c.args.options.now) c.args.patch.now c.in-Ok.text.now read c.args.fault.now c.args.fault.now c.requires.untold Global 8 refl
     (subst (IsFaultOfMergePatch (parse_options c.args.options.now) c.in-Ok.text.now) c.in-Err-NoValue.field-0-is c.in-Err-NoValue.ensures.fault)
 
 pub returns-in-Err-RepeatedName-clause-refused : goal.returns-in-Err-RepeatedName-clause-refused
