@@ -52,7 +52,7 @@ LeadsElsewhere from to = (token : List ℕ) (rest : List (List ℕ)) → to ≢ 
 pub data Moves (from : List (List ℕ)) : List (List ℕ) → Option Plain → Option Plain → Type 0 where
   stays : {w : Option Plain} {x : Plain} → RefersTo w from x → Moves from from w w
   moved : {to : List (List ℕ)} {w u y : Option Plain} {x : Plain} → LeadsElsewhere from to → RefersTo w from x → Removes from w u → Adds (collapse x) to u y → Moves from to w y
-  renamed : {tokens : List (List ℕ)} {path : List ℕ} {w y : Option Plain} {x : Plain} (last name : List ℕ) → from ≡ tokens ++ last ∷ [] → StandsAt w from path x
+  renamed : {path : List ℕ} {w y : Option Plain} {x : Plain} (tokens : List (List ℕ)) (last name : List ℕ) → from ≡ tokens ++ last ∷ [] → StandsAt w from path x
       → ReferToNothing w (tokens ++ name ∷ []) → BecomesProperty (λ old. record { name = name; value = old.value }) path w y → Moves from (tokens ++ name ∷ []) w y
 
 -- 4.5: the value that the first tokens refer to is added at the others

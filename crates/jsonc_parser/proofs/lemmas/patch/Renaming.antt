@@ -97,7 +97,7 @@ module _ {A : Type 0} (old new : CstRootNode A) (tree : IsTree (nodes_of old)) (
       let stands : StandsAt d.value from path.items w.v = subst (λ p. StandsAt d.value from p w.v) over (w.value, w.is, w.refers) in
       let none = r.nothing d shown in
       let nothing : ReferToNothing d.value (r.tokens ++ last ∷ []) = subst (ReferToNothing d.value) r.beside.second (none.nothing, none.unique) in
-      let moves : Moves from to d.value l.e.value = subst (λ t. Moves from t d.value l.e.value) (sym r.beside.second) (renamed r.beside.last last r.beside.first stands nothing becomes) in
+      let moves : Moves from to d.value l.e.value = subst (λ t. Moves from t d.value l.e.value) (sym r.beside.second) (renamed r.tokens r.beside.last last r.beside.first stands nothing becomes) in
       (l.e, l.shown, record { edits = edit ∷ []; edited = l.edited; options = options_so d l.e l.op op l.asks l.options; made = moves })
 
 module _ {A : Type 0} (doc : CstRootNode A) (tree : IsTree (nodes_of doc)) (node : CstNode) (c : PatchCause A) where
@@ -106,8 +106,8 @@ module _ {A : Type 0} (doc : CstRootNode A) (tree : IsTree (nodes_of doc)) (node
       let w = r.refers d shown in
       let o = r.object d shown in
       let over : w.path ≡ path.items = path_once (nodes_of doc) tree w.path path.items (number_of node) w.at at in
-      let there : Refers o.1 (r.tokens ++ r.beside.last ∷ []) w.path w.v = subst (λ l. Refers o.1 l w.path w.v) r.beside.first (subst (λ k. Refers k from w.path w.v) (same_value w.value o.1 d.value w.is o.2) w.refers) in
-      let has : HasPropertyAt path.items d.value = subst (λ p. HasPropertyAt p d.value) over (property_there d.value r.beside.last o.2 o.4 there) in
+      let there : Refers o.1.0 (r.tokens ++ r.beside.last ∷ []) w.path w.v = subst (λ l. Refers o.1.0 l w.path w.v) r.beside.first (subst (λ k. Refers k from w.path w.v) (same_value w.value o.1.0 d.value w.is o.1.1) w.refers) in
+      let has : HasPropertyAt path.items d.value = subst (λ p. HasPropertyAt p d.value) over (property_there d.value r.beside.last o.1.1 o.1.3 there) in
       memory_cause (value.move from to) d.value c (refusal_memory doc tree (RenameProperty path name) c told d shown has)
 
   pub pathless_name : (last : List ℕ) → IsPathless doc node c → FailsToRename doc node last c
