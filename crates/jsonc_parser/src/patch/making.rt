@@ -165,7 +165,10 @@ fn value_at<A: Allocator + Copy>(
 }
 
 // Makes one edit, whole or not at all.
-pub(super) fn edit<A: Allocator + Copy>(doc: &mut CstRootNode<A>, edit: Edit<A>) -> Result<(), PatchCause<A>>
+pub(super) fn edit<A: Allocator + Copy>(
+    doc: &mut CstRootNode<A>,
+    edit: Edit<A>,
+) -> Result<(), PatchCause<A>>
     requires { is_whole edit ≡ true }
     ensures made { OnOk result (EditStep (nodes_of doc.old) (operation_of unsorted edit) (nodes_of doc.new)) }
     ensures kept { OnErr result (IsKept doc.old doc.new) }

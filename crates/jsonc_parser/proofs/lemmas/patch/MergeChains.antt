@@ -237,7 +237,7 @@ module _ {A : Type 0} where
         let w = found d shown in (
           λ e. absurd (false≢true e),
           λ h. absurd (let same : object h.0 ≡ w.v = refers_to_one d.value tokens (object h.0) w.v h.1 (w.value, w.is, w.path, w.refers) in
-          no_object_by doc tree node held o as_object (sym is) (object_content d.options (content_at (nodes_of doc) (number_of node)) (row_below (nodes_of doc) (number_of node)) h.0 (subst (HasValue d.options (top_at (nodes_of doc) (number_of node))) (sym same) w.has))),
+              no_object_by doc tree node held o as_object (sym is) (object_content d.options (content_at (nodes_of doc) (number_of node)) (row_below (nodes_of doc) (number_of node)) h.0 (subst (HasValue d.options (top_at (nodes_of doc) (number_of node))) (sym same) w.has))),
         )
 
 -- the patch is merged
