@@ -1,5 +1,6 @@
 -- Steps of a merge, one after another, in a document that a tree shows.
-use Rattle.std.proofs.Common.{ℕ, zero, suc, ◌≡◌, ◌≢◌, ◌<◌, ◌≤◌, ◌+◌, ◌∙◌, ◌++◌, ◌⊎◌, inl, inr, sym, ap, subst, refl, Bool, true, false, List, [], ◌∷◌, length, take, drop, map, get_or, Option, Some, None, is_some, arith}
+use Rattle.std.proofs.Common.{ℕ, zero, suc, ◌≡◌, ◌≢◌, ◌<◌, ◌≤◌, ◌+◌, ◌*◌, ◌∙◌, ◌++◌, ◌⊎◌, inl, inr, sym, ap, subst, refl, Bool, true, false, List, [], ◌∷◌, length, take, drop, map, get_or, Option, Some, None, is_some, arith}
+use denote.Param.Weighed.{most, at_most}
 use Rattle.std.specs.Bool.{Decides}
 use Rattle.std.proofs.lemmas.Bool.{false≢true, true≢false}
 use Rattle.std.proofs.lemmas.List.{take-append-drop, take_all, take_more}
@@ -220,7 +221,7 @@ module _ {A : Type 0} where
     pub no_node : IsOfShown doc (λ d. Finds d doc tokens None) → IsOfShown doc (λ d. Decides false (RefersToObject d.value tokens))
     no_node none d shown = no_object_there tokens d.value (none d shown).nothing
 
-    pub none_read : (v : Plain) → IsOfShown doc (λ d. Reads d tokens None) → IsOfShown doc (λ d. Decides false (IsThere v tokens d.value))
+    pub none_read : (v : Plain) → IsOfShown doc (λ d. Reads {A = A} d tokens None) → IsOfShown doc (λ d. Decides false (IsThere v tokens d.value))
     none_read v none d shown = nothing_there v tokens d.value (none d shown).nothing
 
     pub one_read : (v : Plain) (taken : CstInputValue A) (b : Bool) → IsOfShown doc (λ d. Reads d tokens (Some taken)) → (HasUniqueNames (plain taken) → Decides b (AreEqual (λ s t. s ≡ t) v (plain taken))) → IsOfShown doc (λ d. Decides b (IsThere v tokens d.value))
@@ -324,3 +325,10 @@ module _ {A : Type 0} (old copy new : CstRootNode A) (same : nodes_of copy ≡ n
 
   pub stopped_by_copy : (told : MergeFault A) → MergeStopsWhatShown copy p told → MergeStopsWhatShown old p told
   stopped_by_copy told stops d shown fit = stops d (subst (Shows d) trees shown) fit
+
+-- a member is smaller than the members
+pub member_smaller : {P : Type 0} (size : P → ℕ) (xs : List P) (i : ℕ) (p : P) (n t r s : ℕ) → 4 * most size xs + r ≡ t → s < r → i < length xs → p ≡ get_or xs i p → n ≤ size p → 4 * n + s < t
+member_smaller size xs i p n t r s whole less within at part =
+    let bound : size (get_or xs i p) ≤ most size xs = at_most size xs i p within in
+    let same : size p ≡ size (get_or xs i p) = ap size at in
+    omega arith
