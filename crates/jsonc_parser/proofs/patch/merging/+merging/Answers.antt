@@ -37,39 +37,46 @@ merge_member-returns-clause-merged g t c =
     (subst (λ (l : List (List ℕ)). ReachesWhatShown doc (λ o. IsOfNumbers o p) (MergesNamed l p) c.merge_named.new.doc) below c.in-Ok-merge_named.ensures.merged)
 
 -- the value
-pub merge_value-returns-in-Ok-true-clause-merged : goal.merge_value-returns-in-Ok-true-clause-merged
-merge_value-returns-in-Ok-true-clause-merged g t c =
+pub merge_value-returns-in-Object-clause-merged : goal.merge_value-returns-in-Object-clause-merged
+merge_value-returns-in-Object-clause-merged g t c =
+    on_ok_weaker c.merge_object.result (λ m. m (ap plain c.in-Object.is ∙ plain-Object c.in-Object.members ∙ ap (λ ps. object (members_plain ps)) (sym c.as_slice.ensures.value))) c.merge_object.ensures.merged
+
+pub merge_value-returns-in-Object-clause-fails : goal.merge_value-returns-in-Object-clause-fails
+merge_value-returns-in-Object-clause-fails g t c =
+    IfErr-weaker c.merge_object.result _ _ (λ cause f. f (ap plain c.in-Object.is ∙ plain-Object c.in-Object.members ∙ ap (λ ps. object (members_plain ps)) (sym c.as_slice.ensures.value))) c.merge_object.ensures.fails
+
+-- where it is an object
+pub merge_object-returns-in-Ok-true-clause-merged : goal.merge_object-returns-in-Ok-true-clause-merged
+merge_object-returns-in-Ok-true-clause-merged g t c =
     let doc = c.args.doc.now in
     let tokens = tokens_of c.args.pointer.now in
-    let is = ap plain c.in-Object.is ∙ plain-Object c.in-Object.members ∙ ap (λ ps. object (members_plain ps)) (sym c.as_slice.ensures.value) in
+    let ms = members_plain c.args.members.now in
     let at = object_so doc _ tokens c.tokens.ensures _ c.in-Ok-true.ensures.told c.in-Ok-true.field-0-test in
     on_ok_weaker c.merge_members.result
-    (λ m. merged_value doc c.merge_members.new.doc tokens (plain c.args.patch.now) (object (members_plain c.as_slice.result.now)) is (merged_inside doc c.merge_members.new.doc tokens (members_plain c.as_slice.result.now) at m))
-    c.merge_members.ensures.merged
+    (λ m is. merged_value doc c.merge_members.new.doc tokens (plain c.args.patch.now) (object ms) is (merged_inside doc c.merge_members.new.doc tokens ms at m)) c.merge_members.ensures.merged
 
-pub merge_value-returns-in-Ok-true-clause-fails : goal.merge_value-returns-in-Ok-true-clause-fails
-merge_value-returns-in-Ok-true-clause-fails g t c =
+pub merge_object-returns-in-Ok-true-clause-fails : goal.merge_object-returns-in-Ok-true-clause-fails
+merge_object-returns-in-Ok-true-clause-fails g t c =
     let doc = c.args.doc.now in
     let tokens = tokens_of c.args.pointer.now in
-    let is = ap plain c.in-Object.is ∙ plain-Object c.in-Object.members ∙ ap (λ ps. object (members_plain ps)) (sym c.as_slice.ensures.value) in
+    let ms = members_plain c.args.members.now in
     let at = object_so doc _ tokens c.tokens.ensures _ c.in-Ok-true.ensures.told c.in-Ok-true.field-0-test in
     IfErr-weaker c.merge_members.result _ _
-    (λ cause fails. failed_value doc c.merge_members.new.doc tokens (plain c.args.patch.now) (object (members_plain c.as_slice.result.now)) cause is (stopped_inside doc c.merge_members.new.doc tokens (members_plain c.as_slice.result.now) cause at fails))
-    c.merge_members.ensures.fails
+    (λ cause fails is. failed_value doc c.merge_members.new.doc tokens (plain c.args.patch.now) (object ms) cause is (stopped_inside doc c.merge_members.new.doc tokens ms cause at fails)) c.merge_members.ensures.fails
 
-pub merge_value-returns-in-Ok-false-clause-merged : goal.merge_value-returns-in-Ok-false-clause-merged
-merge_value-returns-in-Ok-false-clause-merged g t c =
+pub merge_object-returns-in-Ok-false-clause-merged : goal.merge_object-returns-in-Ok-false-clause-merged
+merge_object-returns-in-Ok-false-clause-merged g t c =
     let doc = c.args.doc.now in
     let tokens = tokens_of c.args.pointer.now in
     on_ok_weaker c.set_value.result
-    (merged_set doc c.set_value.new.doc tokens (plain c.args.patch.now) (no_object_so doc _ tokens c.tokens.ensures _ c.in-Ok-false.ensures.told (plain c.args.patch.now) c.in-Ok-false.field-0-test)) c.set_value.ensures.set
+    (λ m is. merged_set doc c.set_value.new.doc tokens (plain c.args.patch.now) (no_object_so doc _ tokens c.tokens.ensures _ c.in-Ok-false.ensures.told (plain c.args.patch.now) c.in-Ok-false.field-0-test) m) c.set_value.ensures.set
 
-pub merge_value-returns-in-Ok-false-clause-fails : goal.merge_value-returns-in-Ok-false-clause-fails
-merge_value-returns-in-Ok-false-clause-fails g t c =
-    IfErr-weaker c.set_value.result _ _ (λ cause fails. set_not c.args.doc.now (tokens_of c.args.pointer.now) (plain c.args.patch.now) cause fails) c.set_value.ensures.fails
+pub merge_object-returns-in-Ok-false-clause-fails : goal.merge_object-returns-in-Ok-false-clause-fails
+merge_object-returns-in-Ok-false-clause-fails g t c =
+    IfErr-weaker c.set_value.result _ _ (λ cause fails is. set_not c.args.doc.now (tokens_of c.args.pointer.now) (plain c.args.patch.now) cause fails) c.set_value.ensures.fails
 
-pub merge_value-returns-in-Err-clause-fails : goal.merge_value-returns-in-Err-clause-fails
-merge_value-returns-in-Err-clause-fails g t c =
+pub merge_object-returns-in-Err-clause-fails : goal.merge_object-returns-in-Err-clause-fails
+merge_object-returns-in-Err-clause-fails g t c = λ is.
     twice_not c.args.doc.now (tokens_of c.args.pointer.now) (plain c.args.patch.now) c.in-Err.cause
     (subst (λ (l : List (List ℕ)). IsOfShown c.args.doc.now (λ d. IsTwice d.value l c.in-Err.cause)) c.tokens.ensures c.in-Err.ensures.fails)
 
