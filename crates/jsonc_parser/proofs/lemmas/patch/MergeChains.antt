@@ -1,5 +1,6 @@
 -- Steps of a merge, one after another, in a document that a tree shows.
-use Rattle.std.proofs.Common.{ℕ, zero, suc, ◌≡◌, ◌≢◌, ◌<◌, ◌≤◌, ◌+◌, ◌∙◌, ◌++◌, ◌⊎◌, inl, inr, sym, ap, subst, refl, Bool, true, false, List, [], ◌∷◌, length, take, drop, map, get_or, Option, Some, None, is_some, arith}
+use Rattle.std.proofs.Common.{ℕ, zero, suc, ◌≡◌, ◌≢◌, ◌<◌, ◌≤◌, ◌+◌, ◌*◌, ◌∙◌, ◌++◌, ◌⊎◌, inl, inr, sym, ap, subst, refl, Bool, true, false, List, [], ◌∷◌, length, take, drop, map, get_or, Option, Some, None, is_some, arith}
+use denote.Param.Weighed.{most, at_most}
 use Rattle.std.specs.Bool.{Decides}
 use Rattle.std.proofs.lemmas.Bool.{false≢true, true≢false}
 use Rattle.std.proofs.lemmas.List.{take-append-drop, take_all, take_more}
@@ -104,7 +105,7 @@ module _ {A : Type 0} where
         ∙ sym (made_apart ∙ ap (λ ms. and_then (members_made (members_plain (take k ps))) ms) (one_kept (chars_of q.0) (plain q.1) some))
 
   -- the list about one of its pairs
-  about : (ps : List (String A × CstInputValue A)) (k : ℕ) (q : String A × CstInputValue A) → k < length ps → q ≡ get_or ps k q → ps ≡ take k ps ++ q ∷ drop (k + 1) ps
+  about : (ps : List (String A × CstInputValue A)) (k : ℕ) (q : String A × CstInputValue A) → k < length ps → q ≡ get_or ps k q → ps ≡ take k ps ++ q ∷ drop (suc k) ps
   about [] k q h is = absurd (omega (arith, h))
   about (p ∷ ps) zero q h is = ap (λ x. x ∷ ps) (sym is)
   about (p ∷ ps) (suc k) q h is = ap (λ l. p ∷ l) (about ps k q (omega (arith, h)) is)
@@ -144,14 +145,14 @@ module _ {A : Type 0} where
             },
           )
 
-      whole : members (map entry_of (take k ps) ++ entry_of q ∷ map entry_of (drop (k + 1) ps)) ≡ members_plain ps
-      whole = entries_about (take k ps) (drop (k + 1) ps) q ∙ ap (λ (l : List (String A × CstInputValue A)). members_plain l) (sym (about ps k q h is))
+      whole : members (map entry_of (take k ps) ++ entry_of q ∷ map entry_of (drop (suc k) ps)) ≡ members_plain ps
+      whole = entries_about (take k ps) (drop (suc k) ps) q ∙ ap (λ (l : List (String A × CstInputValue A)). members_plain l) (sym (about ps k q h is))
 
       numbers_there : (o : Options) → AreNamedOfNumbers o (members_plain ps) → AreNamedOfNumbers o (members_plain (take k ps)) × IsOfNumbers o (plain q.1)
       numbers_there o all =
-          let split : members_plain ps ≡ and_then (members_plain (take k ps)) (members_plain (q ∷ drop (k + 1) ps)) = ap (λ (l : List (String A × CstInputValue A)). members_plain l) (about ps k q h is) ∙ plain_then (take k ps) (q ∷ drop (k + 1) ps) in
-          let parts : AreNamedOfNumbers o (and_then (members_plain (take k ps)) (members_plain (q ∷ drop (k + 1) ps))) = subst (AreNamedOfNumbers o) split all in
-          (numbers_before o (members_plain (take k ps)) (members_plain (q ∷ drop (k + 1) ps)) parts, (numbers_behind o (members_plain (take k ps)) (members_plain (q ∷ drop (k + 1) ps)) parts).0)
+          let split : members_plain ps ≡ and_then (members_plain (take k ps)) (members_plain (q ∷ drop (suc k) ps)) = ap (λ (l : List (String A × CstInputValue A)). members_plain l) (about ps k q h is) ∙ plain_then (take k ps) (q ∷ drop (suc k) ps) in
+          let parts : AreNamedOfNumbers o (and_then (members_plain (take k ps)) (members_plain (q ∷ drop (suc k) ps))) = subst (AreNamedOfNumbers o) split all in
+          (numbers_before o (members_plain (take k ps)) (members_plain (q ∷ drop (suc k) ps)) parts, (numbers_behind o (members_plain (take k ps)) (members_plain (q ∷ drop (suc k) ps)) parts).0)
 
       -- the next stops
       pub stopped_there : (cause : PatchCause A) → FailsToMerge now (tokens ++ chars_of q.0 ∷ []) (plain q.1) cause → FailsToMergeAll old tokens (members_plain ps) cause
@@ -159,11 +160,11 @@ module _ {A : Type 0} where
           (let n = numbers_there d.options fit in
           let f = so_far d shown n.0 in
           let m : MembersMerge tokens (members (map entry_of (take k ps))) d.value f.0.value = subst (λ ms. MembersMerge tokens ms d.value f.0.value) (sym (as_entries (take k ps))) f.2.leads in
-          let place : IsPlace f.0.value (tokens ++ chars_of q.0 ∷ []) = place_after [] tokens (map entry_of (take k ps)) (map entry_of (drop (k + 1) ps)) (entry_of q) d.value f.0.value o m in
+          let place : IsPlace f.0.value (tokens ++ chars_of q.0 ∷ []) = place_after [] tokens (map entry_of (take k ps)) (map entry_of (drop (suc k) ps)) (entry_of q) d.value f.0.value o m in
           go cause f.0.value m (fails f.0 f.1 (subst (λ p. IsOfNumbers p (plain q.1)) (sym f.2.options) n.1) place))
         where
           go : (cause : PatchCause A) (u : Option Plain) → MembersMerge tokens (members (map entry_of (take k ps))) d.value u → IsMergeCause (tokens ++ chars_of q.0 ∷ []) (plain q.1) u cause → IsStop tokens (object (members_plain ps)) d.value cause
-          go (causes.RepeatedName name) u m is = subst (λ ms. Stops (chars_of name) tokens (object ms) d.value) whole (stops_at (chars_of name) tokens (map entry_of (take k ps)) (map entry_of (drop (k + 1) ps)) (entry_of q) d.value u o m is)
+          go (causes.RepeatedName name) u m is = subst (λ ms. Stops (chars_of name) tokens (object ms) d.value) whole (stops_at (chars_of name) tokens (map entry_of (take k ps)) (map entry_of (drop (suc k) ps)) (entry_of q) d.value u o m is)
           go (causes.Edit why) u m is = is
           go causes.NoTarget u m is = absurd is
           go causes.IntoItself u m is = absurd is
@@ -220,7 +221,7 @@ module _ {A : Type 0} where
     pub no_node : IsOfShown doc (λ d. Finds d doc tokens None) → IsOfShown doc (λ d. Decides false (RefersToObject d.value tokens))
     no_node none d shown = no_object_there tokens d.value (none d shown).nothing
 
-    pub none_read : (v : Plain) → IsOfShown doc (λ d. Reads d tokens None) → IsOfShown doc (λ d. Decides false (IsThere v tokens d.value))
+    pub none_read : (v : Plain) → IsOfShown doc (λ d. Reads {A = A} d tokens None) → IsOfShown doc (λ d. Decides false (IsThere v tokens d.value))
     none_read v none d shown = nothing_there v tokens d.value (none d shown).nothing
 
     pub one_read : (v : Plain) (taken : CstInputValue A) (b : Bool) → IsOfShown doc (λ d. Reads d tokens (Some taken)) → (HasUniqueNames (plain taken) → Decides b (AreEqual (λ s t. s ≡ t) v (plain taken))) → IsOfShown doc (λ d. Decides b (IsThere v tokens d.value))
@@ -324,3 +325,10 @@ module _ {A : Type 0} (old copy new : CstRootNode A) (same : nodes_of copy ≡ n
 
   pub stopped_by_copy : (told : MergeFault A) → MergeStopsWhatShown copy p told → MergeStopsWhatShown old p told
   stopped_by_copy told stops d shown fit = stops d (subst (Shows d) trees shown) fit
+
+-- a member is smaller than the members
+pub member_smaller : {P : Type 0} (size : P → ℕ) (xs : List P) (i : ℕ) (p : P) (n t r s : ℕ) → 5 * most size xs + r ≡ t → s < r → i < length xs → p ≡ get_or xs i p → n ≤ size p → 5 * n + s < t
+member_smaller size xs i p n t r s whole less within at part =
+    let bound : size (get_or xs i p) ≤ most size xs = at_most size xs i p within in
+    let same : size p ≡ size (get_or xs i p) = ap size at in
+    omega arith
