@@ -1,5 +1,5 @@
 -- What a patch made of the document of the input that was read.
-use Rattle.std.proofs.Common.{◌≡◌, ◌≢◌, ◌∙◌, ◌⊎◌, ℕ, List, [], Option, IsUtf8, ap, chars, inl, inr, refl, subst, sym}
+use Rattle.std.proofs.Common.{◌≡◌, ◌≢◌, ◌∙◌, ◌⊎◌, ℕ, List, [], Option, String, IsUtf8, ap, chars, inl, inr, refl, subst, sym}
 use Rattle.std.proofs.lemmas.List.Elements.{All-take}
 use Rattle.std.specs.List.{All}
 use Rattle.jsonc_text.specs.Documents.{Document}
@@ -106,7 +106,7 @@ module _ {A : Type 0} (input : List ℕ) (doc : CstRootNode A) (o : Options) (al
         let e = h shows.0 shows.3 numbers in
         record { value = p; patch = patch.0; made = of_it _ (text_of_new new output (λ e. IsMerged A shows.0 p e) e.0 e.1 e.2 prints utf8) }
 
-    pub met_twice : (name : _) → MergeStopsWhatShown doc p (merging.RepeatedName name) → MeetsTwice words input (chars_of name)
+    pub met_twice : (name : String A) → MergeStopsWhatShown doc p (merging.RepeatedName name) → MeetsTwice words input (chars_of name)
     met_twice name h = go (h shows.0 shows.3 numbers)
       where
         go : RepeatsName (chars_of name) p ⊎ Stops (chars_of name) [] p shows.0.value → MeetsTwice words input (chars_of name)
