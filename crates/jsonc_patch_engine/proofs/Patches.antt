@@ -1,5 +1,5 @@
 -- What a patch made of the document of the input that was read.
-use Rattle.std.proofs.Common.{◌≡◌, ◌≢◌, ◌∙◌, ◌⊎◌, ℕ, List, [], Option, IsUtf8, ap, chars, inl, inr, refl, subst, sym}
+use Rattle.std.proofs.Common.{◌≡◌, ◌≢◌, ◌∙◌, ◌⊎◌, ℕ, List, [], Option, String, IsUtf8, ap, chars, inl, inr, refl, subst, sym}
 use Rattle.std.proofs.lemmas.List.Elements.{All-take}
 use Rattle.std.specs.List.{All}
 use Rattle.jsonc_text.specs.Documents.{Document}
@@ -36,20 +36,27 @@ first_lacks (first_later ne f) (other_name other l) = first_lacks f l
 
 -- where no name stands twice, none does
 repeated_not : {name : List ℕ} (ms : Members) → MembersHaveUniqueNames ms → IsRepeated name ms → ⊥
+repeated_not Members.no_members h r = elim r [ ]
 repeated_not (Members.member n v ms) (unique_member lacks h k) (this_again first) = first_lacks first lacks
 repeated_not (Members.member n v ms) (unique_member lacks h k) (later_again ne r) = repeated_not ms k r
 
 mutual
   pub no_repeat : {name : List ℕ} (p : Plain) → HasUniqueNames p → RepeatsName name p → ⊥
+  no_repeat Plain.null h r = elim r [ ]
+  no_repeat (Plain.boolean b) h r = elim r [ ]
+  no_repeat (Plain.number s) h r = elim r [ ]
+  no_repeat (Plain.string s) h r = elim r [ ]
   no_repeat (Plain.object ms) (unique_object h) (repeats_here r) = repeated_not ms h r
   no_repeat (Plain.object ms) (unique_object h) (repeats_in_member m r) = no_repeat_in ms h m r
   no_repeat (Plain.array vs) (unique_array h) (repeats_in_element i r) = no_repeat_at vs h i r
 
   no_repeat_in : {name n : List ℕ} {v : Plain} (ms : Members) → MembersHaveUniqueNames ms → HasMember n v ms → RepeatsName name v → ⊥
+  no_repeat_in Members.no_members h m r = elim m [ ]
   no_repeat_in (Members.member n v ms) (unique_member lacks h k) this_has r = no_repeat v h r
   no_repeat_in (Members.member n v ms) (unique_member lacks h k) (later_has m) r = no_repeat_in ms k m r
 
   no_repeat_at : {name : List ℕ} {i : ℕ} {v : Plain} (vs : Items) → ItemsHaveUniqueNames vs → IsItem v i vs → RepeatsName name v → ⊥
+  no_repeat_at Items.no_items h i r = elim i [ ]
   no_repeat_at (Items.item v vs) (unique_item h k) this_item r = no_repeat v h r
   no_repeat_at (Items.item v vs) (unique_item h k) (later_item i) r = no_repeat_at vs k i r
 
@@ -106,7 +113,7 @@ module _ {A : Type 0} (input : List ℕ) (doc : CstRootNode A) (o : Options) (al
         let e = h shows.0 shows.3 numbers in
         record { value = p; patch = patch.0; made = of_it _ (text_of_new new output (λ e. IsMerged A shows.0 p e) e.0 e.1 e.2 prints utf8) }
 
-    pub met_twice : (name : _) → MergeStopsWhatShown doc p (merging.RepeatedName name) → MeetsTwice words input (chars_of name)
+    pub met_twice : (name : String A) → MergeStopsWhatShown doc p (merging.RepeatedName name) → MeetsTwice words input (chars_of name)
     met_twice name h = go (h shows.0 shows.3 numbers)
       where
         go : RepeatsName (chars_of name) p ⊎ Stops (chars_of name) [] p shows.0.value → MeetsTwice words input (chars_of name)
