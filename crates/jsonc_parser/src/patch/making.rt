@@ -427,8 +427,7 @@ fn stay<A: Allocator + Copy>(
     Err(PatchCause::IntoItself)
 }
 
-// Removes the value that a pointer refers to, and adds it where another leads. Within one object a member gets another
-// name instead, if none has this.
+// Removes the value that a pointer refers to, and adds it where another leads; or renames it within its object.
 fn move_value<A: Allocator + Copy>(
     doc: &mut CstRootNode<A>,
     from: &Pointer<A>,
