@@ -14,7 +14,7 @@ ghost use Rattle.jsonc_parser.specs.patch.MergeSteps.{Drops, FailsToMerge, Fails
 ghost use Rattle.jsonc_parser.specs.patch.MergeSteps.{ReachesWhatShown, RefersToObject, Sets, TellsFault};
 ghost use Rattle.jsonc_parser.specs.patch.Merging.{made_of, members_made, IsThere, Merges, MembersMerge};
 ghost use Rattle.jsonc_parser.specs.patch.Pointer.{tokens_of};
-ghost use Rattle.jsonc_text.specs.Plain.{member, no_members};
+ghost use Rattle.jsonc_text.specs.Plain.{member, no_members, object};
 
 use super::equality::{Numbers, are_equal, is_null};
 use super::making::{PatchCause, add, cause_of, remove};
@@ -173,12 +173,29 @@ fn merge_value<A: Allocator + Copy>(
     ensures fails { IfErr result (FailsToMerge doc.old (tokens_of pointer.old) (plain patch.now)) }
 {
     match patch {
-        CstInputValue::Object(members) => match is_object(doc, pointer.tokens()) {
-            Ok(true) => merge_members(doc, pointer, members.as_slice()),
-            Ok(false) => set_value(doc, pointer, patch),
-            Err(cause) => Err(cause),
-        },
+        CstInputValue::Object(members) => merge_object(doc, pointer, members.as_slice(), patch),
         _ => set_value(doc, pointer, patch),
+    }
+}
+
+// Merges a patch of these members into the object that a pointer refers to, or puts it where the pointer leads.
+#[cycle(merging)]
+fn merge_object<A: Allocator + Copy>(
+    doc: &mut CstRootNode<A>,
+    pointer: &mut Pointer<A>,
+    members: &[(String<A>, CstInputValue<A>)],
+    patch: &CstInputValue<A>,
+) -> Result<(), PatchCause<A>>
+    ensures merged { OnOk result (plain patch.now ≡ object (members_plain members.now)
+        → ReachesWhatShown doc.old (λ o. IsOfNumbers o (plain patch.now)) (Merges (tokens_of pointer.old) (plain patch.now)) doc.new) }
+    ensures pointer { OnOk result (tokens_of pointer.new ≡ tokens_of pointer.old) }
+    ensures fails { IfErr result (λ cause. plain patch.now ≡ object (members_plain members.now)
+        → FailsToMerge doc.old (tokens_of pointer.old) (plain patch.now) cause) }
+{
+    match is_object(doc, pointer.tokens()) {
+        Ok(true) => merge_members(doc, pointer, members),
+        Ok(false) => set_value(doc, pointer, patch),
+        Err(cause) => Err(cause),
     }
 }
 

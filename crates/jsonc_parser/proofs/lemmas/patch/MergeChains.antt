@@ -1,5 +1,6 @@
 -- Steps of a merge, one after another, in a document that a tree shows.
-use Rattle.std.proofs.Common.{ℕ, ◌≡◌, ◌≢◌, ◌<◌, ◌≤◌, ◌+◌, ◌∙◌, ◌++◌, ◌⊎◌, inl, inr, sym, ap, subst, refl, Bool, true, false, List, [], ◌∷◌, length, take, drop, map, get_or, Option, Some, None, is_some, arith}
+use Rattle.std.proofs.Common.{ℕ, zero, suc, ◌≡◌, ◌≢◌, ◌<◌, ◌≤◌, ◌+◌, ◌*◌, ◌∙◌, ◌++◌, ◌⊎◌, inl, inr, sym, ap, subst, refl, Bool, true, false, List, [], ◌∷◌, length, take, drop, map, get_or, Option, Some, None, is_some, arith}
+use denote.Param.Weighed.{most, at_most}
 use Rattle.std.specs.Bool.{Decides}
 use Rattle.std.proofs.lemmas.Bool.{false≢true, true≢false}
 use Rattle.std.proofs.lemmas.List.{take-append-drop, take_all, take_more}
@@ -53,9 +54,9 @@ use Rattle.jsonc_parser.proofs.lemmas.patch.Steps.{no_object_by, object_by}
 
 -- a lead to other values, and nothing at all
 module _ {A : Type 0} (old new : CstRootNode A) where
-  pub reached_as : {Fit Other : Options → Type 0} {Leads More : Option Plain → Option Plain → Type 0} → ReachesWhatShown old Fit Leads new → ((o : Options) → Other o → Fit o) → ((d : Document) → Shows d (tree_of old) → (y : Option Plain) → Leads d.value y → More d.value y)
+  pub reached_as : (Fit Other : Options → Type 0) (Leads More : Option Plain → Option Plain → Type 0) → ReachesWhatShown old Fit Leads new → ((o : Options) → Other o → Fit o) → ((d : Document) → Shows d (tree_of old) → (y : Option Plain) → Leads d.value y → More d.value y)
       → ReachesWhatShown old Other More new
-  reached_as reached fits leads d shown fit =
+  reached_as Fit Other Leads More reached fits leads d shown fit =
       let r = reached d shown (fits d.options fit) in (r.0, r.1, record { edits = r.2.edits; edited = r.2.edited; options = r.2.options; leads = leads d shown r.0.value r.2.leads })
 
   pub reached_same : (Fit : Options → Type 0) (Leads : Option Plain → Option Plain → Type 0) → tree_of new ≡ tree_of old → ((d : Document) → Shows d (tree_of old) → Leads d.value d.value) → ReachesWhatShown old Fit Leads new
@@ -86,7 +87,7 @@ module _ {A : Type 0} where
   pub plain_more : (ps : List (String A × CstInputValue A)) (k : ℕ) (q : String A × CstInputValue A) → k < length ps → q ≡ get_or ps k q
       → members_plain (take (k + 1) ps) ≡ and_then (members_plain (take k ps)) (member (chars_of q.0) (plain q.1) no_members)
   plain_more ps k q h is =
-      ap (λ (l : List (String A × CstInputValue A)). members_plain l) (take_more ps k q h) ∙ plain_then (take k ps) (get_or ps k q ∷ []) ∙ ap (λ x. and_then (members_plain (take k ps)) (member (chars_of x.0) (plain x.1) no_members)) (sym is)
+      ap (λ (l : List (String A × CstInputValue A)). members_plain l) (take_more ps k q h) ∙ plain_then (take k ps) (get_or ps k q ∷ []) ∙ ap (λ (x : String A × CstInputValue A). and_then (members_plain (take k ps)) (member (chars_of x.0) (plain x.1) no_members)) (sym is)
 
   -- one more is left out of what merging makes, or is in it
   module _ (ps : List (String A × CstInputValue A)) (k : ℕ) (q : String A × CstInputValue A) (h : k < length ps) (is : q ≡ get_or ps k q) where
@@ -104,9 +105,9 @@ module _ {A : Type 0} where
         ∙ sym (made_apart ∙ ap (λ ms. and_then (members_made (members_plain (take k ps))) ms) (one_kept (chars_of q.0) (plain q.1) some))
 
   -- the list about one of its pairs
-  about : (ps : List (String A × CstInputValue A)) (k : ℕ) (q : String A × CstInputValue A) → k < length ps → q ≡ get_or ps k q → ps ≡ take k ps ++ q ∷ drop (k + 1) ps
+  about : (ps : List (String A × CstInputValue A)) (k : ℕ) (q : String A × CstInputValue A) → k < length ps → q ≡ get_or ps k q → ps ≡ take k ps ++ q ∷ drop (suc k) ps
   about [] k q h is = absurd (omega (arith, h))
-  about (p ∷ ps) 0 q h is = ap (λ x. x ∷ ps) (sym is)
+  about (p ∷ ps) zero q h is = ap (λ x. x ∷ ps) (sym is)
   about (p ∷ ps) (suc k) q h is = ap (λ l. p ∷ l) (about ps k q (omega (arith, h)) is)
 
   entries_about : (ps qs : List (String A × CstInputValue A)) (q : String A × CstInputValue A) → members (map entry_of ps ++ entry_of q ∷ map entry_of qs) ≡ members_plain (ps ++ q ∷ qs)
@@ -124,7 +125,7 @@ module _ {A : Type 0} where
     merged_all k now h so_far = subst (λ (l : List (String A × CstInputValue A)). ReachesWhatShown old (λ o. AreNamedOfNumbers o (members_plain l)) (MembersMerge tokens (members_plain l)) now) (take_all k ps h) so_far
 
     module _ (k : ℕ) (now : CstRootNode A) (so_far : MergedSoFar k now) (q : String A × CstInputValue A) (h : k < length ps) (is : q ≡ get_or ps k q) where
-      one : Members
+      abbrev one : Members
       one = member (chars_of q.0) (plain q.1) no_members
 
       pub merged_more : (new : CstRootNode A) → ReachesWhatShown now (λ o. IsOfNumbers o (plain q.1)) (MembersMerge tokens one) new → MergedSoFar (k + 1) new
@@ -144,14 +145,14 @@ module _ {A : Type 0} where
             },
           )
 
-      whole : members (map entry_of (take k ps) ++ entry_of q ∷ map entry_of (drop (k + 1) ps)) ≡ members_plain ps
-      whole = entries_about (take k ps) (drop (k + 1) ps) q ∙ ap (λ (l : List (String A × CstInputValue A)). members_plain l) (sym (about ps k q h is))
+      whole : members (map entry_of (take k ps) ++ entry_of q ∷ map entry_of (drop (suc k) ps)) ≡ members_plain ps
+      whole = entries_about (take k ps) (drop (suc k) ps) q ∙ ap (λ (l : List (String A × CstInputValue A)). members_plain l) (sym (about ps k q h is))
 
       numbers_there : (o : Options) → AreNamedOfNumbers o (members_plain ps) → AreNamedOfNumbers o (members_plain (take k ps)) × IsOfNumbers o (plain q.1)
       numbers_there o all =
-          let split : members_plain ps ≡ and_then (members_plain (take k ps)) (members_plain (q ∷ drop (k + 1) ps)) = ap (λ (l : List (String A × CstInputValue A)). members_plain l) (about ps k q h is) ∙ plain_then (take k ps) (q ∷ drop (k + 1) ps) in
-          let parts : AreNamedOfNumbers o (and_then (members_plain (take k ps)) (members_plain (q ∷ drop (k + 1) ps))) = subst (AreNamedOfNumbers o) split all in
-          (numbers_before o (members_plain (take k ps)) (members_plain (q ∷ drop (k + 1) ps)) parts, (numbers_behind o (members_plain (take k ps)) (members_plain (q ∷ drop (k + 1) ps)) parts).0)
+          let split : members_plain ps ≡ and_then (members_plain (take k ps)) (members_plain (q ∷ drop (suc k) ps)) = ap (λ (l : List (String A × CstInputValue A)). members_plain l) (about ps k q h is) ∙ plain_then (take k ps) (q ∷ drop (suc k) ps) in
+          let parts : AreNamedOfNumbers o (and_then (members_plain (take k ps)) (members_plain (q ∷ drop (suc k) ps))) = subst (AreNamedOfNumbers o) split all in
+          (numbers_before o (members_plain (take k ps)) (members_plain (q ∷ drop (suc k) ps)) parts, (numbers_behind o (members_plain (take k ps)) (members_plain (q ∷ drop (suc k) ps)) parts).0)
 
       -- the next stops
       pub stopped_there : (cause : PatchCause A) → FailsToMerge now (tokens ++ chars_of q.0 ∷ []) (plain q.1) cause → FailsToMergeAll old tokens (members_plain ps) cause
@@ -159,11 +160,11 @@ module _ {A : Type 0} where
           (let n = numbers_there d.options fit in
           let f = so_far d shown n.0 in
           let m : MembersMerge tokens (members (map entry_of (take k ps))) d.value f.0.value = subst (λ ms. MembersMerge tokens ms d.value f.0.value) (sym (as_entries (take k ps))) f.2.leads in
-          let place : IsPlace f.0.value (tokens ++ chars_of q.0 ∷ []) = place_after [] tokens (map entry_of (take k ps)) (map entry_of (drop (k + 1) ps)) (entry_of q) d.value f.0.value o m in
+          let place : IsPlace f.0.value (tokens ++ chars_of q.0 ∷ []) = place_after [] tokens (map entry_of (take k ps)) (map entry_of (drop (suc k) ps)) (entry_of q) d.value f.0.value o m in
           go cause f.0.value m (fails f.0 f.1 (subst (λ p. IsOfNumbers p (plain q.1)) (sym f.2.options) n.1) place))
         where
           go : (cause : PatchCause A) (u : Option Plain) → MembersMerge tokens (members (map entry_of (take k ps))) d.value u → IsMergeCause (tokens ++ chars_of q.0 ∷ []) (plain q.1) u cause → IsStop tokens (object (members_plain ps)) d.value cause
-          go (causes.RepeatedName name) u m is = subst (λ ms. Stops (chars_of name) tokens (object ms) d.value) whole (stops_at (chars_of name) tokens (map entry_of (take k ps)) (map entry_of (drop (k + 1) ps)) (entry_of q) d.value u o m is)
+          go (causes.RepeatedName name) u m is = subst (λ ms. Stops (chars_of name) tokens (object ms) d.value) whole (stops_at (chars_of name) tokens (map entry_of (take k ps)) (map entry_of (drop (suc k) ps)) (entry_of q) d.value u o m is)
           go (causes.Edit why) u m is = is
           go causes.NoTarget u m is = absurd is
           go causes.IntoItself u m is = absurd is
@@ -220,7 +221,7 @@ module _ {A : Type 0} where
     pub no_node : IsOfShown doc (λ d. Finds d doc tokens None) → IsOfShown doc (λ d. Decides false (RefersToObject d.value tokens))
     no_node none d shown = no_object_there tokens d.value (none d shown).nothing
 
-    pub none_read : (v : Plain) → IsOfShown doc (λ d. Reads d tokens None) → IsOfShown doc (λ d. Decides false (IsThere v tokens d.value))
+    pub none_read : (v : Plain) → IsOfShown doc (λ d. Reads {A = A} d tokens None) → IsOfShown doc (λ d. Decides false (IsThere v tokens d.value))
     none_read v none d shown = nothing_there v tokens d.value (none d shown).nothing
 
     pub one_read : (v : Plain) (taken : CstInputValue A) (b : Bool) → IsOfShown doc (λ d. Reads d tokens (Some taken)) → (HasUniqueNames (plain taken) → Decides b (AreEqual (λ s t. s ≡ t) v (plain taken))) → IsOfShown doc (λ d. Decides b (IsThere v tokens d.value))
@@ -237,19 +238,19 @@ module _ {A : Type 0} where
         let w = found d shown in (
           λ e. absurd (false≢true e),
           λ h. absurd (let same : object h.0 ≡ w.v = refers_to_one d.value tokens (object h.0) w.v h.1 (w.value, w.is, w.path, w.refers) in
-          no_object_by doc tree node held o as_object (sym is) (object_content d.options (content_at (nodes_of doc) (number_of node)) (row_below (nodes_of doc) (number_of node)) h.0 (subst (HasValue d.options (top_at (nodes_of doc) (number_of node))) (sym same) w.has))),
+              no_object_by doc tree node held o as_object (sym is) (object_content d.options (content_at (nodes_of doc) (number_of node)) (row_below (nodes_of doc) (number_of node)) h.0 (subst (HasValue d.options (top_at (nodes_of doc) (number_of node))) (sym same) w.has))),
         )
 
 -- the patch is merged
 module _ {A : Type 0} (old new : CstRootNode A) (tokens : List (List ℕ)) where
   pub merged_inside : (ms : Members) → IsOfShown old (λ d. RefersToObject d.value tokens) → ReachesWhatShown old (λ o. AreNamedOfNumbers o ms) (MembersMerge tokens ms) new → ReachesWhatShown old (λ o. IsOfNumbers o (object ms)) (Merges tokens (object ms)) new
-  merged_inside ms at reached = reached_as old new reached (λ o fit. fit) (λ d shown y m. inside (at d shown).1 m)
+  merged_inside ms at reached = reached_as old new (λ o. AreNamedOfNumbers o ms) (λ o. IsOfNumbers o (object ms)) (MembersMerge tokens ms) (Merges tokens (object ms)) reached (λ o fit. fit) (λ d shown y m. inside (at d shown).1 m)
 
   pub stopped_inside : (ms : Members) (cause : PatchCause A) → IsOfShown old (λ d. RefersToObject d.value tokens) → FailsToMergeAll old tokens ms cause → FailsToMerge old tokens (object ms) cause
   stopped_inside ms cause at fails d shown fit place = stop_inside tokens (object ms) d.value cause (fails d shown fit (at d shown))
 
   pub merged_set : (p : Plain) → IsOfShown old (λ d. ¬ (GoesInto p tokens d.value)) → ReachesWhatShown old (λ o. IsOfNumbers o p) (Sets tokens p) new → ReachesWhatShown old (λ o. IsOfNumbers o p) (Merges tokens p) new
-  merged_set p none reached = reached_as old new reached (λ o fit. fit) (λ d shown y m. m (none d shown))
+  merged_set p none reached = reached_as old new (λ o. IsOfNumbers o p) (λ o. IsOfNumbers o p) (Sets tokens p) (Merges tokens p) reached (λ o fit. fit) (λ d shown y m. m (none d shown))
 
   pub set_same : (p : Plain) → tree_of new ≡ tree_of old → IsOfShown old (λ d. IsThere (made_of p) tokens d.value) → ReachesWhatShown old (λ o. IsOfNumbers o p) (Sets tokens p) new
   set_same p same there = reached_same old new (λ o. IsOfNumbers o p) (Sets tokens p) same (λ d shown. stands_there tokens p d.value (there d shown))
@@ -266,13 +267,13 @@ module _ {A : Type 0} (old new : CstRootNode A) (tokens : List (List ℕ)) where
   drops_none same fails = reached_same old new (λ o. Unit {0}) (Drops tokens) same (λ d shown. inr (fails d shown, refl))
 
   pub named_null : (p : Plain) → p ≡ null → ReachesWhatShown old (λ o. Unit {0}) (Drops tokens) new → ReachesWhatShown old (λ o. IsOfNumbers o p) (MergesNamed tokens p) new
-  named_null p is reached = reached_as old new reached (λ o fit. tt) (λ d shown y drops. (λ e. drops, λ ne. absurd (ne is)))
+  named_null p is reached = reached_as old new (λ o. Unit {0}) (λ o. IsOfNumbers o p) (Drops tokens) (MergesNamed tokens p) reached (λ o fit. tt) (λ d shown y drops. (λ e. drops, λ ne. absurd (ne is)))
 
   pub named_other : (p : Plain) → p ≢ null → ReachesWhatShown old (λ o. IsOfNumbers o p) (Merges tokens p) new → ReachesWhatShown old (λ o. IsOfNumbers o p) (MergesNamed tokens p) new
-  named_other p other reached = reached_as old new reached (λ o fit. fit) (λ d shown y m. (λ e. absurd (other e), λ ne. m))
+  named_other p other reached = reached_as old new (λ o. IsOfNumbers o p) (λ o. IsOfNumbers o p) (Merges tokens p) (MergesNamed tokens p) reached (λ o fit. fit) (λ d shown y m. (λ e. absurd (other e), λ ne. m))
 
   pub one_member : (name : List ℕ) (p : Plain) → ReachesWhatShown old (λ o. IsOfNumbers o p) (MergesNamed (tokens ++ name ∷ []) p) new → ReachesWhatShown old (λ o. IsOfNumbers o p) (MembersMerge tokens (member name p no_members)) new
-  one_member name p reached = reached_as old new reached (λ o fit. fit) (λ d shown y m. named_member tokens name p d.value y m)
+  one_member name p reached = reached_as old new (λ o. IsOfNumbers o p) (λ o. IsOfNumbers o p) (MergesNamed (tokens ++ name ∷ []) p) (MembersMerge tokens (member name p no_members)) reached (λ o fit. fit) (λ d shown y m. named_member tokens name p d.value y m)
 
   -- of the value that the patch is
   pub merged_value : (p q : Plain) → p ≡ q → ReachesWhatShown old (λ o. IsOfNumbers o q) (Merges tokens q) new → ReachesWhatShown old (λ o. IsOfNumbers o p) (Merges tokens p) new
@@ -324,3 +325,10 @@ module _ {A : Type 0} (old copy new : CstRootNode A) (same : nodes_of copy ≡ n
 
   pub stopped_by_copy : (told : MergeFault A) → MergeStopsWhatShown copy p told → MergeStopsWhatShown old p told
   stopped_by_copy told stops d shown fit = stops d (subst (Shows d) trees shown) fit
+
+-- a member is smaller than the members
+pub member_smaller : {P : Type 0} (size : P → ℕ) (xs : List P) (i : ℕ) (p : P) (n t r s : ℕ) → 5 * most size xs + r ≡ t → s < r → i < length xs → p ≡ get_or xs i p → n ≤ size p → 5 * n + s < t
+member_smaller size xs i p n t r s whole less within at part =
+    let bound : size (get_or xs i p) ≤ most size xs = at_most size xs i p within in
+    let same : size p ≡ size (get_or xs i p) = ap size at in
+    omega arith

@@ -12,12 +12,12 @@ pub returns-in-Ok-clause-merged : goal.returns-in-Ok-clause-merged
 returns-in-Ok-clause-merged g c =
     let doc = c.args.doc.now in
     let p = plain c.args.patch.now in
-    let none : tokens_of c.from_tokens.result ≡ [] = c.from_tokens.ensures ∙ ap names_of c.new.ensures.items in
+    let none = c.from_tokens-pointer.ensures ∙ ap names_of c.new.ensures.items in
     merges_shown doc c.merge_value.new.doc p (subst (λ (l : List (List ℕ)). ReachesWhatShown doc (λ o. IsOfNumbers o p) (Merges l p) c.merge_value.new.doc) none c.in-Ok.ensures.merged)
 
-pub returns-in-Err-clause-stops : goal.returns-in-Err-clause-stops
-returns-in-Err-clause-stops g c =
+pub returns-clause-stops : goal.returns-clause-stops
+returns-clause-stops g c =
     let doc = c.args.doc.now in
     let p = plain c.args.patch.now in
-    let none : tokens_of c.from_tokens.result ≡ [] = c.from_tokens.ensures ∙ ap names_of c.new.ensures.items in
+    let none = c.from_tokens-pointer.ensures ∙ ap names_of c.new.ensures.items in
     stops_shown doc p c.in-Err.cause c.fault_of.result c.fault_of.ensures (subst (λ (l : List (List ℕ)). FailsToMerge doc l p c.in-Err.cause) none c.in-Err.ensures.fails)
