@@ -1,5 +1,5 @@
 -- What a patch made of the document of the input that was read.
-use Rattle.std.proofs.Common.{◌≡◌, ◌≢◌, ◌∙◌, ◌⊎◌, ℕ, List, [], Option, String, IsUtf8, ap, chars, inl, inr, refl, subst, sym}
+use Rattle.std.proofs.Common.{◌≡◌, ◌≢◌, ◌∙◌, ◌⊎◌, ℕ, List, [], Option, String, IsUtf8, ap, chars, inl, inr, refl, string_bytes, subst, sym, IfOk, Result}
 use Rattle.std.proofs.lemmas.List.Elements.{All-take}
 use Rattle.std.specs.List.{All}
 use Rattle.jsonc_text.specs.Documents.{Document}
@@ -8,7 +8,8 @@ use Rattle.jsonc_text.specs.Options.{Options, all_on}
 use Rattle.jsonc_text.specs.Plain.{Plain, Items, Members}
 use Rattle.jsonc_text.specs.declared.edit.EditError.{EditError}
 use Rattle.jsonc_edit.specs.Writing.{IsOfNumbers}
-use Rattle.jsonc_layout.specs.input.Views.{chars_of}
+use Rattle.jsonc_layout.specs.declared.input.value.CstInputValue.{CstInputValue}
+use Rattle.jsonc_layout.specs.input.Views.{chars_of, plain}
 use Rattle.jsonc_sound.specs.Documents.{Shows, ShowsText}
 use Rattle.jsonc_cst.specs.declared.cst.CstRootNode.{CstRootNode}
 use Rattle.jsonc_cst.specs.Document.{printed_of, tree_of}
@@ -24,9 +25,11 @@ use Rattle.jsonc_parser.specs.declared.patch.apply.PatchFault.{PatchFault}
 use Rattle.jsonc_parser.specs.declared.patch.making.PatchCause.TheVariants as cause
 use Rattle.jsonc_parser.specs.declared.patch.merging.MergeFault.TheVariants as merging
 use Rattle.jsonc_parser.specs.declared.patch.operation.Operation.{Operation}
-use Rattle.jsonc_patch_engine.specs.Command.{apply, merge}
+use Rattle.jsonc_patch_engine.specs.Command.{apply, find, json, merge, Request}
 use Rattle.jsonc_patch_engine.specs.Patched.{IsAccepted, IsApplied, IsMergedInto, IsMergePatchOf, IsPatchOf, IsTextOf, IsToldFor, MeetsTwice, OfDocument, StopsOn}
-use Rattle.jsonc_patch_engine.specs.Results.{IsFaultOfInput}
+use Rattle.jsonc_patch_engine.specs.Results.{IsFaultOfInput, IsWritten}
+use Rattle.jsonc_patch_engine.specs.Runs.{Asks}
+use Rattle.jsonc_patch_engine.specs.declared.engine.Request.TheVariants as read
 use Rattle.jsonc_patch_engine.specs.declared.fault.Fault.{Fault}
 use Rattle.jsonc_patch_engine.specs.declared.fault.Fault.TheVariants as told
 
@@ -123,3 +126,12 @@ module _ {A : Type 0} (input : List ℕ) (doc : CstRootNode A) (o : Options) (al
 -- a text that was parsed
 pub accepted : (input : List ℕ) (o : Options) → o ≡ all_on → (w : Option Plain) → IsDocument o (chars input) w → IsAccepted input
 accepted input o all w d = (w, subst (λ o. IsDocument o (chars input) w) all d)
+
+-- what merging wrote is what was asked for
+module _ {A : Type 0} (p : CstInputValue A) (text input : List ℕ) (same : text ≡ input) (r : Result (String A) (Fault A)) where
+  pub merged_for : (asked : Request) → Asks asked (read.Merge p) → ((words : List ℕ) → IsMergePatchOf words (plain p) → IfOk r (λ s. IsMergedInto A words text (string_bytes s)))
+      → IfOk r (λ s. IsWritten A asked input (string_bytes s))
+  merged_for (merge words) a h = subst (λ t. IfOk r (λ s. IsMergedInto A words t (string_bytes s))) same (h words a)
+  merged_for (apply words) a h = absurd a
+  merged_for (find words) a h = absurd a
+  merged_for json a h = absurd a
