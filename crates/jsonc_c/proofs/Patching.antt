@@ -1,12 +1,11 @@
 -- What calls of pointers and patches make of a text, and why they make nothing of it.
-use Rattle.std.proofs.Common.{◌≡◌, ◌≢◌, ◌≤◌, ◌<◌, ◌⊎◌, ◌∙◌, ℕ, true, List, String, Some, None, ap, arith, chars, inl, inr, refl, string_bytes, subst, sym}
+use Rattle.std.proofs.Common.{◌≡◌, ◌≤◌, ◌<◌, ◌⊎◌, ◌∙◌, ℕ, true, List, String, Some, None, ap, arith, chars, inl, inr, refl, string_bytes, subst, sym}
 use Rattle.std.proofs.lemmas.List.Elements.{All-take}
 use Rattle.std.specs.List.{All}
 use Rattle.jsonc_text.specs.Documents.{Document}
 use Rattle.jsonc_text.specs.Options.{Options}
 use Rattle.jsonc_text.specs.Plain.{Plain}
 use Rattle.jsonc_edit.specs.Writing.{IsOfNumbers}
-use Rattle.jsonc_layout.specs.input.Views.{plain}
 use Rattle.jsonc_tree.specs.OrderedTree.{ordered_tree, printed}
 use Rattle.jsonc_sound.specs.Documents.{Shows, ShowsText}
 use Rattle.jsonc_cst.specs.declared.cst.CstRootNode.{CstRootNode}

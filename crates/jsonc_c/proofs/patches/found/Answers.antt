@@ -1,6 +1,5 @@
-use Rattle.std.proofs.Common.{◌≡◌, chars, rules, subst}
+use Rattle.std.proofs.Common.{chars, subst}
 use Rattle.jsonc_text.specs.Options.{Options}
-use Rattle.jsonc_text.specs.OptionsOf.{parse_options}
 use Rattle.jsonc_sound.specs.Documents.{ShowsText}
 use Rattle.jsonc_cst.specs.Document.{tree_of}
 use Rattle.jsonc_c.specs.Options.{options_of}

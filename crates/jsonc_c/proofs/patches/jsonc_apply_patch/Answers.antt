@@ -1,4 +1,4 @@
-use Rattle.std.proofs.Common.{◌≡◌, arith, rules, string_bytes, subst, sym, take}
+use Rattle.std.proofs.Common.{arith, subst, sym}
 use Rattle.std.specs.declared.alloc.Global.{Global}
 use Rattle.jsonc_c.specs.Options.{options_of}
 use Rattle.jsonc_c.specs.Patches.{IsPatchedBy}

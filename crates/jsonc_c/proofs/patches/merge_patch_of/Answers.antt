@@ -1,6 +1,5 @@
-use Rattle.std.proofs.Common.{◌≡◌, IsUtf8, chars, None, refl, rules, subst}
+use Rattle.std.proofs.Common.{◌≡◌, IsUtf8, refl, rules, subst}
 use Rattle.std.specs.declared.alloc.Global.{Global}
-use Rattle.jsonc_text.specs.Grammar.{IsDocument}
 use Rattle.jsonc_text.specs.OptionsOf.{parse_options}
 use Rattle.jsonc_parser.specs.patch.MergeTexts.{IsFaultOfMergePatch}
 use Rattle.jsonc_c.specs.Patches.{IsNoMergePatch}

@@ -1,4 +1,4 @@
-use Rattle.std.proofs.Common.{◌≡◌, chars, subst}
+use Rattle.std.proofs.Common.{chars, subst}
 use Rattle.jsonc_text.specs.Options.{Options}
 use Rattle.jsonc_sound.specs.Documents.{ShowsText}
 use Rattle.jsonc_cst.specs.Document.{tree_of}

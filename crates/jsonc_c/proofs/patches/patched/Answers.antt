@@ -1,4 +1,4 @@
-use Rattle.std.proofs.Common.{◌≡◌, chars, subst}
+use Rattle.std.proofs.Common.{chars, subst}
 use Rattle.std.specs.List.{All}
 use Rattle.std.specs.declared.alloc.Global.{Global}
 use Rattle.jsonc_text.specs.Options.{Options}

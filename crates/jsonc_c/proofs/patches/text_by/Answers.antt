@@ -1,5 +1,4 @@
-use Rattle.std.proofs.Common.{refl, string_bytes}
-use Rattle.jsonc_c.specs.Patches.{IsUnpatched}
+use Rattle.std.proofs.Common.{string_bytes}
 use Rattle.jsonc_c.proofs.Patching.{patched_so, stopped_so}
 use Rattle.jsonc_c.proofs.patches.text_by.Goals as goal
 
