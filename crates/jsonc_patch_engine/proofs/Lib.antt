@@ -8,3 +8,4 @@ pub mod WrittenTokens
 pub mod Documents
 pub mod Finding
 pub mod Patches
+pub mod Ended
