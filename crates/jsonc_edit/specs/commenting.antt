@@ -1,0 +1,5 @@
+pub mod Whole
+pub mod Come
+pub mod Above
+pub mod Behind
+pub mod Laws

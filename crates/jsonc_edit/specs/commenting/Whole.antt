@@ -1,0 +1,10 @@
+-- Texts that are one comment (JSON5, 7), and nothing before or behind it.
+use Rattle.std.specs.Prelude.{ℕ, List, []}
+use Rattle.jsonc_text.specs.Gaps.{LineComment, BlockComment}
+use Rattle.jsonc_edit.specs.declared.commenting.whole.CommentKind.{CommentKind}
+use Rattle.jsonc_edit.specs.declared.commenting.whole.CommentKind.TheVariants.{Line, Block}
+
+-- the whole text is a comment of this kind
+abbrev pub IsWhole : CommentKind → List ℕ → Type 0
+IsWhole Line t = LineComment t []
+IsWhole Block t = BlockComment t []
