@@ -1,0 +1,124 @@
+-- The whitespace directly behind a node, and what stands around the place behind it.
+use Rattle.std.proofs.Common.{◌≡◌, ◌∙◌, ℕ, zero, suc, ◌+◌, ◌-◌, ◌<◌, ◌≤◌, Bool, true, false, cond, inl, inr, List, [], ◌∷◌, ◌++◌, length, take, drop, slice_index, Option, Some, None, IsTrue, refl, sym, ap, subst, arith, append_assoc, length-append, length-take, length-drop, get_or-drop}
+use Rattle.std.proofs.lemmas.Bool.{cases_Bool}
+use Rattle.std.proofs.lemmas.List.{drop_more, get_or_append_left, take_more, take-append-drop}
+use Rattle.std.proofs.Math.Seq.{drop-append-add, drop-append_seam, take-append-add, take-append_seam}
+use Rattle.jsonc_tree.specs.Content.{Content, is_container}
+use Rattle.jsonc_tree.specs.Order.{with_parent}
+use Rattle.jsonc_tree.specs.OrderedTree.{OrderedTree, none, more, Shows, shows_none, shows_more}
+use Rattle.jsonc_tree.specs.Siblings.{siblings_after}
+use Rattle.jsonc_tree.specs.Tree.{Node, content_at, children_at, parent_at, place_at, IsTree}
+use Rattle.jsonc_layout.specs.nodes.Kinds.{is_whitespace, is_whitespace_at}
+use Rattle.jsonc_edit.specs.commenting.Behind.{last_blank, last_blank_in}
+use Rattle.jsonc_edit.proofs.lemmas.commenting.Lines.{AllBlank}
+
+-- each of these nodes is whitespace
+abbrev pub BlankNodes : List Node → List ℕ → Type 0
+BlankNodes ns [] = Unit {0}
+BlankNodes ns (n ∷ rest) = (is_whitespace_at ns n ≡ true) × BlankNodes ns rest
+
+blank_leaf : (content : Content) → is_whitespace content ≡ true → is_container content ≡ false
+blank_leaf (Content.whitespace s) h = refl
+blank_leaf content h = cc
+
+pub blanks_shown : (ns : List Node) → IsTree ns → (xs : List ℕ) (t : OrderedTree) → BlankNodes ns xs → Shows ns xs t → AllBlank t
+blanks_shown ns tree _ _ h shows_none = tt
+blanks_shown ns tree _ _ h (shows_more {n = n} {rest = rest} {below = below} {after = after} p q) =
+    (h.0, empty (subst (λ (l : List ℕ). Shows ns l below) (tree.leaf n (blank_leaf (content_at ns n) h.0)) p), blanks_shown ns tree rest after h.1 q)
+  where
+    empty : {b : OrderedTree} → Shows ns [] b → b ≡ none
+    empty shows_none = refl
+
+-- what holds of a node and of whitespace holds of the last of these
+pub last_holds : (ns : List Node) (P : ℕ → Type 0) (m : ℕ) (blanks : List ℕ) → P m → ((x : ℕ) → is_whitespace_at ns x ≡ true → P x) → BlankNodes ns blanks → P (slice_index (m ∷ blanks) (length blanks))
+last_holds ns P m [] h f b = h
+last_holds ns P m (x ∷ rest) h f b = last_holds ns P x rest (f x b.0) f b.1
+
+-- the whitespace that a row begins with, behind a node
+record BlanksTo (ns : List Node) (m : ℕ) (xs : List ℕ) : Type 0 where
+  blanks : List ℕ
+  rest : List ℕ
+  split : xs ≡ blanks ++ rest
+  all : BlankNodes ns blanks
+  last : last_blank_in ns m xs ≡ slice_index (m ∷ blanks) (length blanks)
+
+blanks_to : (ns : List Node) (m : ℕ) (xs : List ℕ) → BlanksTo ns m xs
+blanks_to ns m [] = record { blanks = []; rest = []; split = refl; all = tt; last = refl }
+blanks_to ns m (x ∷ xs) =
+    elim (cases_Bool (is_whitespace_at ns x)) [
+      | inl h ↦ (let r = blanks_to ns x xs in record { blanks = x ∷ r.blanks; rest = r.rest; split = ap (λ (l : List ℕ). x ∷ l) r.split; all = (h, r.all); last = ap (λ b. cond b (last_blank_in ns x xs) m) h ∙ r.last })
+      | inr h ↦ record { blanks = []; rest = x ∷ xs; split = refl; all = tt; last = ap (λ b. cond b (last_blank_in ns x xs) m) h }
+    ]
+
+-- behind m stands whitespace up to l, and then the rest
+pub record Follows (ns : List Node) (c m l : ℕ) : Type 0 where
+  pub blanks : List ℕ
+  pub rest : List ℕ
+  pub all : BlankNodes ns blanks
+  pub last : l ≡ slice_index (m ∷ blanks) (length blanks)
+  pub child : parent_at ns l ≡ Some c
+  pub ahead : take (place_at ns l + 1) (children_at ns c) ≡ take (place_at ns m) (children_at ns c) ++ (m ∷ blanks)
+  pub behind : drop (place_at ns l + 1) (children_at ns c) ≡ rest
+
+module _ (ns : List Node) (tree : IsTree ns) (c m : ℕ) (said : parent_at ns m ≡ Some c) where
+  abbrev kids : List ℕ
+  kids = children_at ns c
+
+  abbrev p : ℕ
+  p = place_at ns m
+
+  pub follows_itself : Follows ns c m m
+  follows_itself = record {
+    blanks = [];
+    rest = drop (p + 1) kids;
+    all = tt;
+    last = refl;
+    child = said;
+    ahead = take_more kids p 0 (tree.within m c said) ∙ ap (λ (k : ℕ). take p kids ++ (k ∷ [])) (tree.found m c said);
+    behind = refl;
+  }
+
+  t : BlanksTo ns m (drop (p + 1) kids)
+  t = blanks_to ns m (drop (p + 1) kids)
+
+  from_m : drop p kids ≡ (m ∷ t.blanks) ++ t.rest
+  from_m = drop_more kids p 0 (tree.within m c said) ∙ ap (λ (k : ℕ). k ∷ drop (p + 1) kids) (tree.found m c said) ∙ ap (λ (l : List ℕ). m ∷ l) t.split
+
+  whole : kids ≡ take p kids ++ ((m ∷ t.blanks) ++ t.rest)
+  whole = sym (take-append-drop p kids) ∙ ap (λ (l : List ℕ). take p kids ++ l) from_m
+
+  count : length kids ≡ p + (1 + length t.blanks + length t.rest)
+  count = omega (arith, length-drop p kids, ap length from_m, length-append (m ∷ t.blanks) t.rest, tree.within m c said)
+
+  ahead_count : length (take p kids) ≡ p
+  ahead_count = omega (arith, length-take p kids, tree.within m c said)
+
+  abbrev at : ℕ
+  at = p + length t.blanks
+
+  at_within : at < length kids
+  at_within = omega (arith, count)
+
+  it : slice_index kids at ≡ last_blank ns m
+  it =
+      sym (get_or-drop p kids (length t.blanks) 0) ∙ ap (λ (l : List ℕ). slice_index l (length t.blanks)) from_m ∙ get_or_append_left (m ∷ t.blanks) t.rest 0 (length t.blanks) (omega arith)
+      ∙ sym t.last ∙ ap (λ o. last_blank_in ns m (drop (p + 1) (with_parent o (children_at ns)))) (sym said)
+
+  placed : place_at ns (last_blank ns m) ≡ at
+  placed = ap (place_at ns) (sym it) ∙ tree.placed c at at_within
+
+  past : place_at ns (last_blank ns m) + 1 ≡ length (take p kids) + length (m ∷ t.blanks)
+  past = omega (arith, placed, ahead_count)
+
+  pub follows_blanks : Follows ns c m (last_blank ns m)
+  follows_blanks = record {
+    blanks = t.blanks;
+    rest = t.rest;
+    all = t.all;
+    last = ap (λ o. last_blank_in ns m (drop (p + 1) (with_parent o (children_at ns)))) said ∙ t.last;
+    child = ap (parent_at ns) (sym it) ∙ tree.named c at at_within;
+    ahead =
+        ap (λ k. take k kids) past ∙ ap (λ (l : List ℕ). take (length (take p kids) + length (m ∷ t.blanks)) l) whole ∙ take-append-add (take p kids) ((m ∷ t.blanks) ++ t.rest) (length (m ∷ t.blanks))
+        ∙ ap (λ (l : List ℕ). take p kids ++ l) (take-append_seam (m ∷ t.blanks) t.rest);
+    behind = ap (λ k. drop k kids) past ∙ ap (λ (l : List ℕ). drop (length (take p kids) + length (m ∷ t.blanks)) l) whole ∙ drop-append-add (take p kids) ((m ∷ t.blanks) ++ t.rest) (length (m ∷ t.blanks)) ∙ drop-append_seam (m ∷ t.blanks) t.rest;
+  }
