@@ -35,11 +35,11 @@ fn last_blank<A: Allocator>(tree: &Tree<A>, node: usize) -> usize
     ensures in_tree { result < length tree.now.nodes }
 {
     let mut last = node;
-    for sibling in tree.next_siblings(node) {
-        if !is_whitespace(tree, sibling) {
+    while let Some(next) = tree.next_sibling(last) {
+        if !is_whitespace(tree, next) {
             return last;
         }
-        last = sibling;
+        last = next;
     }
     last
 }
