@@ -131,6 +131,25 @@ fn push_own_line<A: Allocator + Copy>(
     push_line(alloc, tree, row, kind, indent)
 }
 
+// Plans the end of a line and an indent before these.
+fn push_new_line<A: Allocator + Copy>(
+    alloc: A,
+    tree: &mut Tree<A>,
+    row: &mut Vec<usize, A>,
+    kind: CstNewlineKind,
+    text: &str,
+    indent: &str,
+    rest: &str,
+) -> Result<(), AllocError>
+    ensures gains { OnOk result
+        (Gains tree.old.nodes row.old.items tree.new.nodes row.new.items
+        (map comes (new_line kind indent.now (own_line kind text.now rest.now)))) }
+    ensures prepared { Extends tree.old.nodes tree.new.nodes }
+{
+    push_line(alloc, tree, row, kind, indent)?;
+    push_own_line(alloc, tree, row, kind, text, rest)
+}
+
 // Puts a comment and the end of its line in the place of a child with which its line begins, and an
 // indent before that.
 fn come_on_line<A: Allocator + Copy>(
@@ -173,8 +192,7 @@ fn come_between<A: Allocator + Copy>(
     let indent = indent_in(alloc, tree, container)?;
     let seam = seam_at(tree, node, indent.as_str());
     let mut row = Vec::new(alloc);
-    push_line(alloc, tree, &mut row, kind, indent.as_str())?;
-    push_own_line(alloc, tree, &mut row, kind, text, seam.indent)?;
+    push_new_line(alloc, tree, &mut row, kind, text, indent.as_str(), seam.indent)?;
     come_before(tree, container, seam.node, &row);
     Ok(())
 }

@@ -1,17 +1,24 @@
 -- Leaves alone have been planned: they may come into a row, and where.
-use Rattle.std.proofs.Common.{◌≡◌, ◌∙◌, ℕ, suc, ◌+◌, ◌<◌, ◌≤◌, Bool, true, false, cond, inl, inr, List, [], ◌∷◌, length, map, slice_index, Option, Some, None, refl, sym, ap, subst, arith}
+use Rattle.std.proofs.Common.{◌≡◌, ◌∙◌, ℕ, suc, ◌+◌, ◌<◌, ◌≤◌, Bool, true, false, cond, inl, inr, List, [], ◌∷◌, length, map, slice_index, Option, Some, None, option_and_then, Result, Ok, Err, OnErr, OnOk, refl, sym, ap, subst, arith}
 use Rattle.std.proofs.lemmas.Option.{slice_get-get_or}
+use Rattle.jsonc_tree.specs.Building.{Keeps}
 use Rattle.jsonc_tree.specs.Changes.{CanJoin, Splices}
-use Rattle.jsonc_tree.specs.Content.{Content}
-use Rattle.jsonc_tree.specs.Siblings.{before, first, siblings_after, IsGap}
+use Rattle.jsonc_tree.specs.Content.{Content, comment}
+use Rattle.jsonc_tree.specs.OrderedTree.{ordered_tree}
+use Rattle.jsonc_tree.proofs.Order.{parent_there}
+use Rattle.jsonc_tree.specs.Siblings.{before, first, siblings_after, siblings_before, IsGap}
 use Rattle.jsonc_tree.specs.Tree.{Node, children_at, parent_at, place_at, IsTree}
 use Rattle.jsonc_layout.specs.nodes.Kinds.{is_whitespace_at}
-use Rattle.jsonc_edit.specs.commenting.Behind.{last_blank, last_blank_in}
+use Rattle.jsonc_layout.specs.lines.Kinds.{blank_at}
+use Rattle.jsonc_edit.specs.Put.{a_space, Extends}
+use Rattle.jsonc_edit.specs.commenting.Above.{begins_own_line, seam_at, seam_behind, seam_by, without_end, ComesAbove, ComesAboveBy}
+use Rattle.jsonc_edit.specs.commenting.Behind.{comment_follows, last_blank, last_blank_in, ComesBehind}
 use Rattle.jsonc_edit.specs.commenting.Come.{LeavesCome}
 use Rattle.jsonc_edit.specs.multiline.Plans.{IsFrom, Planned, Gains}
 use Rattle.jsonc_edit.specs.multiline.Slots.{comes}
-use Rattle.jsonc_edit.proofs.NodesKept.{over_no_old}
-use Rattle.jsonc_edit.proofs.RowEnds.{next_at}
+use Rattle.jsonc_edit.proofs.Elements.{Some_same}
+use Rattle.jsonc_edit.proofs.NodesKept.{over_no_old, place_kept, tree_stays}
+use Rattle.jsonc_edit.proofs.RowEnds.{before_is, next_at, previous_at}
 use Rattle.jsonc_edit.proofs.lemmas.multiline.Planning.{planned_none}
 use Rattle.jsonc_edit.proofs.lemmas.remove.SiblingSteps.{after_none, after_step}
 
@@ -49,6 +56,57 @@ module _ (old now : List Node) (c : ℕ) (contents : List Content) (row : List �
     put = subst (λ (l : List ℕ). Splices now new c place place l) e put;
     tree = after;
   }
+
+-- leaves that were planned in this order are these
+pub planned_are : (old now : List Node) (xs row : List ℕ) (contents wanted : List Content) → xs ≡ [] → contents ≡ wanted → Gains old xs now row (map comes contents) → Gains old [] now row (map comes wanted)
+planned_are old now xs row contents wanted e f g = subst (λ cs. Gains old [] now row (map comes cs)) f (subst (λ (l : List ℕ). Gains old l now row (map comes contents)) e g)
+
+-- beside a child that is one still
+module _ (old now : List Node) (c : ℕ) (contents : List Content) (row : List ℕ) (tree : IsTree old) (keeps : Keeps (length old) old now) (gains : Gains old [] now row (map comes contents)) (n : ℕ) (said : parent_at old n ≡ Some c) where
+  pub still_child : parent_at now n ≡ Some c
+  still_child = keeps.parent n (parent_there old tree n c said).0 ∙ said
+
+  pub join_beside : (xs : List ℕ) → xs ≡ row → (place : ℕ) → CanJoin now c place place xs
+  join_beside xs e place = may_join old now c contents row tree (parent_there old tree n c said).1 gains xs e place
+
+  module _ (xs : List ℕ) (e : xs ≡ row) (new : List Node) (after : IsTree new) where
+    pub come_before_child : Splices now new c (place_at now n) (place_at now n) xs → LeavesCome old new c (place_at old n) contents
+    come_before_child put =
+        leaves_come old now c contents row tree (parent_there old tree n c said).1 gains xs e (place_at old n) new after (subst (λ k. Splices now new c k k xs) (place_kept old now tree keeps n c said) put)
+
+    pub come_behind_child : Splices now new c (place_at now n + 1) (place_at now n + 1) xs → LeavesCome old new c (place_at old n + 1) contents
+    come_behind_child put =
+        leaves_come old now c contents row tree (parent_there old tree n c said).1 gains xs e (place_at old n + 1) new after (subst (λ k. Splices now new c (k + 1) (k + 1) xs) (place_kept old now tree keeps n c said) put)
+
+-- where new nodes alone were made the document stays
+pub document_stays : {E : Type 0} (old new : List Node) → IsTree old → (r : Result (Unit {0}) E) → OnErr r (Extends old new) → OnErr r (ordered_tree new 0 ≡ ordered_tree old 0)
+document_stays old new tree (Ok x) h = tt
+document_stays old new tree (Err e) h = tree_stays old new tree h.keeps h.tree
+
+-- before what the lines come stands in the row too
+pub seam_child : (ns : List Node) → IsTree ns → (n c : ℕ) → parent_at ns n ≡ Some c → (indent : List ℕ) → parent_at ns (seam_at ns n indent).node ≡ Some c
+seam_child ns tree n c said indent = by_sibling (first (siblings_before ns n)) refl
+  where
+    by_rest : (m : ℕ) → parent_at ns m ≡ Some c → (t : Option (List ℕ)) → parent_at ns (seam_by n m indent t).node ≡ Some c
+    by_rest m child None = said
+    by_rest m child (Some rest) = child
+
+    by_sibling : (o : Option ℕ) → first (siblings_before ns n) ≡ o → parent_at ns (seam_behind ns n indent o).node ≡ Some c
+    by_sibling None is = said
+    by_sibling (Some m) is = by_rest m (before_is ns tree c (place_at ns n) m (sym (previous_at ns tree c n said) ∙ is)).0 (option_and_then (without_end indent) (blank_at ns m))
+
+-- a comment has come above a child of c
+pub comes_above : {E : Type 0} (old new : List Node) (c n : ℕ) (text : List ℕ) (b : Bool) → parent_at old n ≡ Some c → begins_own_line old n ≡ b → (r : Result (Unit {0}) E) → OnOk r (ComesAboveBy b old new c n text) → OnOk r (ComesAbove old new n text)
+comes_above old new c n text b said is (Ok x) h = λ d told.
+    let same : d ≡ c = Some_same d c (sym told ∙ said) in
+    subst (λ k. ComesAboveBy (begins_own_line old n) old new k n text) (sym same) (subst (λ x. ComesAboveBy x old new c n text) (sym is) h)
+comes_above old new c n text b said is (Err e) h = tt
+
+-- a comment has come behind one
+pub comes_behind : (old new : List Node) (c n : ℕ) (text : List ℕ) → parent_at old n ≡ Some c → LeavesCome old new c (place_at old (comment_follows old n text) + 1) (a_space ∷ comment text ∷ []) → ComesBehind old new n text
+comes_behind old new c n text said h d told =
+    let same : d ≡ c = Some_same d c (sym told ∙ said) in
+    subst (λ k. LeavesCome old new k (place_at old (comment_follows old n text) + 1) (a_space ∷ comment text ∷ [])) (sym same) h
 
 -- directly behind a node there is a gap
 pub gap_behind : (ns : List Node) → IsTree ns → (n c : ℕ) (o : Option ℕ) → parent_at ns n ≡ Some c → o ≡ first (siblings_after ns n) → IsGap ns c (place_at ns n + 1) (Some n) o
