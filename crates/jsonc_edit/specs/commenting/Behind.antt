@@ -37,6 +37,10 @@ ends_line_at ns None None = true
 abbrev pub may_end_line : List Node → ℕ → Bool
 may_end_line ns n = ends_line_at ns (parent_at ns n) (first (siblings_after ns (last_blank ns (end_of_entry ns n))))
 
--- behind n a space has come and the comment of this text
+-- a space and a comment
+abbrev pub spaced : List ℕ → List Content
+spaced text = a_space ∷ comment text ∷ []
+
+-- behind n these have come
 abbrev pub ComesBehind : List Node → List Node → ℕ → List ℕ → Type 0
-ComesBehind old new n text = (c : ℕ) → parent_at old n ≡ Some c → LeavesCome old new c (place_at old (comment_follows old n text) + 1) (a_space ∷ comment text ∷ [])
+ComesBehind old new n text = (c : ℕ) → parent_at old n ≡ Some c → LeavesCome old new c (place_at old (comment_follows old n text) + 1) (spaced text)

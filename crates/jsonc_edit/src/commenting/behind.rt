@@ -1,14 +1,17 @@
 //! A comment that comes behind an entry.
 
-ghost use Rattle.std.specs.Prelude.{◌≡◌, ◌<◌, ◌∷◌, None, OnErr, OnOk, Some, [], length};
+ghost use Rattle.std.specs.Prelude.{◌≡◌, ◌<◌, ◌+◌, None, OnErr, OnOk, Some, length, map};
 ghost use Rattle.jsonc_tree.specs.Building.{Keeps};
-ghost use Rattle.jsonc_tree.specs.Content.{Content};
 ghost use Rattle.jsonc_tree.specs.OrderedTree.{ordered_tree};
-ghost use Rattle.jsonc_tree.specs.Tree.{parent_at};
+ghost use Rattle.jsonc_tree.specs.Tree.{parent_at, place_at};
 ghost use Rattle.jsonc_layout.specs.lines.Siblings.{if_comma};
 ghost use Rattle.jsonc_layout.specs.nodes.Comments.{after_inline_trivia_at};
 ghost use Rattle.jsonc_layout.specs.nodes.Siblings.{IsThere};
-ghost use Rattle.jsonc_edit.specs.commenting.Behind.{comment_follows, end_of_entry, ends_line_at, last_blank, may_end_line, ComesBehind};
+ghost use Rattle.jsonc_edit.specs.Put.{Extends};
+ghost use Rattle.jsonc_edit.specs.commenting.Behind.{comment_follows, end_of_entry, ends_line_at, last_blank, may_end_line, spaced, ComesBehind};
+ghost use Rattle.jsonc_edit.specs.commenting.Come.{LeavesCome};
+ghost use Rattle.jsonc_edit.specs.multiline.Plans.{Gains};
+ghost use Rattle.jsonc_edit.specs.multiline.Slots.{comes};
 
 use super::come::{come_behind, push_blank, push_comment};
 use crate::comments::begins_line;
@@ -78,6 +81,40 @@ pub fn may_end_line<A: Allocator>(tree: &Tree<A>, node: usize) -> bool
     ends_line_at(tree, tree.parent(node), next_sibling(tree, last))
 }
 
+// Plans a space and a comment.
+fn push_spaced<A: Allocator + Copy>(
+    alloc: A,
+    tree: &mut Tree<A>,
+    row: &mut Vec<usize, A>,
+    text: &str,
+) -> Result<(), AllocError>
+    ensures gains { OnOk result
+        (Gains tree.old.nodes row.old.items tree.new.nodes row.new.items (map comes (spaced text.now))) }
+    ensures prepared { Extends tree.old.nodes tree.new.nodes }
+{
+    push_blank(alloc, tree, row, " ")?;
+    push_comment(alloc, tree, row, text)
+}
+
+// Puts a space and a comment directly behind a child.
+fn come_spaced<A: Allocator + Copy>(
+    alloc: A,
+    tree: &mut Tree<A>,
+    container: usize,
+    before: usize,
+    text: &str,
+) -> Result<(), AllocError>
+    requires child { parent_at tree.old.nodes before ≡ Some container }
+    ensures come { OnOk result
+        (LeavesCome tree.old.nodes tree.new.nodes container (place_at tree.old.nodes before + 1) (spaced text.now)) }
+    ensures prepared { OnErr result (Extends tree.old.nodes tree.new.nodes) }
+{
+    let mut row = Vec::new(alloc);
+    push_spaced(alloc, tree, &mut row, text)?;
+    come_behind(tree, container, before, &row);
+    Ok(())
+}
+
 /// Puts a comment behind a child, on its line: behind its comma, if nothing but whitespace and comments
 /// stands between, and behind one space.
 ///
@@ -102,9 +139,5 @@ pub fn insert_comment_behind<A: Allocator + Copy>(
         return Ok(());
     };
     let before = comment_follows(tree, node, text);
-    let mut row = Vec::new(alloc);
-    push_blank(alloc, tree, &mut row, " ")?;
-    push_comment(alloc, tree, &mut row, text)?;
-    come_behind(tree, container, before, &row);
-    Ok(())
+    come_spaced(alloc, tree, container, before, text)
 }

@@ -115,7 +115,7 @@ module _ (o : Options) (old new : List Node) (n : ℕ) (text : List ℕ) (tree :
   on_line begins r =
       let cut : Cut old kids (place_at old n) = cut_at old tree c there (place_at old n) in
       let contents : List Content = own_line kind text (own_indent old n) in
-      arrival o old new tree sound n e contents (place_at old n) r (refl, refl, refl, tt) ((allowed, whole), tt, own_fits o old tree sound.shaped n e.below, tt) cut entry_inside
+      arrival o old new tree sound n e contents (place_at old n) r (refl, (refl, (refl, tt))) ((allowed, whole), (tt, (own_fits o old tree sound.shaped n e.below, tt))) cut entry_inside
       (λ loose at_end k. lines_before loose at_end cut.front cut.back (leaves_then contents cut.back) (from_entry cut.back cut.behind loose at_end) (own_line_ends loose at_end kind text (own_indent old n) cut.back))
       (on_line_ahead begins cut)
 
@@ -126,7 +126,7 @@ module _ (o : Options) (old new : List Node) (n : ℕ) (text : List ℕ) (tree :
     between r =
         let cut : Cut old kids place = cut_at old tree c there place in
         let contents : List Content = new_line kind (indent_in old c) (own_line kind text rest) in
-        arrival o old new tree sound n e contents place r (refl, refl, refl, refl, refl, tt) (tt, indent_fits o old tree sound.shaped c over, (allowed, whole), tt, fits, tt) cut inside
+        arrival o old new tree sound n e contents place r (refl, (refl, (refl, (refl, (refl, tt))))) (tt, (indent_fits o old tree sound.shaped c over, ((allowed, whole), (tt, (fits, tt))))) cut inside
         (λ loose at_end k. lines_before loose at_end cut.front cut.back (leaves_then contents cut.back) (ends cut.back cut.behind loose at_end) (new_line_ends loose at_end kind (indent_in old c) text rest cut.back))
         (λ front behind bare l. newline_first o kind (Content.whitespace (indent_in old c) ∷ own_line kind text rest) (front ++ leaves cut.front) (leaves cut.back ++ behind) l)
 

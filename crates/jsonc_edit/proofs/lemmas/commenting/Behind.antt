@@ -1,6 +1,6 @@
 -- A comment comes behind an entry of a sound document.
 use Rattle.std.proofs.Common.{◌≡◌, ◌∙◌, ℕ, zero, suc, ◌+◌, ◌-◌, ◌<◌, ◌≤◌, ◌==◌, Bool, true, false, cond, All, inl, inr, List, [], ◌∷◌, ◌++◌, length, take, drop, slice_index, Option, Some, None, IsTrue, refl, sym, ap, subst, rules, arith, length-drop, get_or-drop, chars}
-use Rattle.std.proofs.lemmas.Bool.{cases_Bool}
+use Rattle.std.proofs.lemmas.Bool.{cases_Bool, false≢true}
 use Rattle.std.proofs.lemmas.List.{get_or_default}
 use Rattle.std.proofs.lemmas.Str.{chars-IsAscii, IsUtf8-from_ascii}
 use Rattle.jsonc_text.specs.Options.{Options}
@@ -26,14 +26,14 @@ use Rattle.jsonc_sound.proofs.FirstNodes.{line_comment_over, no_element}
 use Rattle.jsonc_sound.proofs.LooseChanges.{element_no_end}
 use Rattle.jsonc_sound.proofs.Spaced.{space_trivia}
 use Rattle.jsonc_edit.specs.Put.{a_space}
-use Rattle.jsonc_edit.specs.commenting.Behind.{comment_follows, end_of_entry, ends_line_at, last_blank, may_end_line, ComesBehind}
+use Rattle.jsonc_edit.specs.commenting.Behind.{comment_follows, end_of_entry, ends_line_at, last_blank, may_end_line, spaced, ComesBehind}
 use Rattle.jsonc_edit.specs.commenting.Come.{LeavesCome}
 use Rattle.jsonc_edit.specs.commenting.Laws.{IsEntry}
 use Rattle.jsonc_edit.specs.remove.Comments.{or_itself}
 use Rattle.jsonc_edit.proofs.FittingFinds.{found_one}
 use Rattle.jsonc_edit.proofs.InsertedSpaces.{first_of}
 use Rattle.jsonc_edit.proofs.lemmas.commenting.Arriving.{arrival, KeepsLines}
-use Rattle.jsonc_edit.proofs.lemmas.commenting.Blanks.{blanks_shown, follows_blanks, follows_itself, last_holds, Follows}
+use Rattle.jsonc_edit.proofs.lemmas.commenting.Blanks.{blanks_shown, children_behind, follows_blanks, follows_itself, last_holds, Follows}
 use Rattle.jsonc_edit.proofs.lemmas.commenting.Coming.{cut_at, Cut}
 use Rattle.jsonc_edit.proofs.lemmas.commenting.Ends.{space_before}
 use Rattle.jsonc_edit.proofs.lemmas.commenting.Lines.{lines_past, never, space_line_ends, Solid}
@@ -55,8 +55,8 @@ comma_solid : Solid (token 0x2C)
 comma_solid = record { no_end = λ loose at_end below after. refl; no_line = λ k. cc }
 
 comma_closes : ClosesNone (token 0x2C)
-comma_closes rows.of_values e = cc
-comma_closes rows.of_properties e = cc
+comma_closes rows.of_values e = false≢true (sym (ap is_comma e))
+comma_closes rows.of_properties e = false≢true (sym (ap is_comma e))
 
 blank_closes : (content : Content) → is_whitespace content ≡ true → ClosesNone content
 blank_closes (Content.whitespace s) h kind e = cc
@@ -80,19 +80,12 @@ module _ (ns : List Node) (tree : IsTree ns) (n : ℕ) (e : IsEntry ns n) where
       let is : content_at ns m ≡ token 0x2C = comma_kind (content_at ns m) h in
       record { child = said; solid = subst Solid (sym is) comma_solid; closes = subst ClosesNone (sym is) comma_closes }
 
-  behind_children : All (λ m. parent_at ns m ≡ Some c) (siblings_after ns n)
-  behind_children =
-      let kids : List ℕ = children_at ns c in
-      let j : ℕ = place_at ns n + 1 in
-      subst (λ o. All (λ m. parent_at ns m ≡ Some c) (drop (place_at ns n + 1) (with_parent o (children_at ns)))) (sym e.parent)
-      (λ k d h. subst (λ m. parent_at ns m ≡ Some c) (get_or_default (drop j kids) k 0 d h) (ap (parent_at ns) (get_or-drop j kids k 0) ∙ tree.named c (j + k) (omega (arith, h, length-drop j kids))))
-
   by_next : (o : Option ℕ) → after_inline_trivia_at ns n ≡ o → EndsAt ns c (or_itself n (if_comma ns o))
   by_next None is = itself
   by_next (Some m) is = by (is_comma (content_at ns m)) refl
     where
       by : (b : Bool) → is_comma (content_at ns m) ≡ b → EndsAt ns c (or_itself n (cond b (Some m) None))
-      by true h = a_comma m (found_one (is_not_inline_trivia_at ns) (λ k. parent_at ns k ≡ Some c) (siblings_after ns n) m behind_children is).0 h
+      by true h = a_comma m (found_one (is_not_inline_trivia_at ns) (λ k. parent_at ns k ≡ Some c) (siblings_after ns n) m (children_behind ns tree n c e.parent) is).0 h
       by false h = itself
 
   pub ends_at : EndsAt ns c (end_of_entry ns n)
@@ -100,7 +93,7 @@ module _ (ns : List Node) (tree : IsTree ns) (n : ℕ) (e : IsEntry ns n) where
 
 module _ (o : Options) (old new : List Node) (n : ℕ) (text : List ℕ) (tree : IsTree old) (sound : SoundTree o (ordered_tree old 0)) (allowed : IsTrue o.comments) (whole : IsText IsComment text) (e : IsEntry old n) where
   abbrev pub contents : List Content
-  contents = a_space ∷ comment text ∷ []
+  contents = spaced text
 
   abbrev m : ℕ
   m = end_of_entry old n
@@ -144,17 +137,17 @@ module _ (o : Options) (old new : List Node) (n : ℕ) (text : List ℕ) (tree :
     comes : LeavesCome old new e.container place contents → Arrival o contents (ordered_tree old 0) (ordered_tree new 0)
     comes r =
         let cut : Cut old kids place = cut_at old tree e.container there place in
-        arrival o old new tree sound n e contents place r (refl, refl, tt) (space_trivia o, (allowed, whole), tt) cut inside (lines cut) (λ front behind bare k. space_before o (comment text ∷ []) (front ++ leaves cut.front) (leaves cut.back ++ behind) k)
+        arrival o old new tree sound n e contents place r (refl, (refl, tt)) (space_trivia o, ((allowed, whole), tt)) cut inside (lines cut) (λ front behind bare k. space_before o (comment text ∷ []) (front ++ leaves cut.front) (leaves cut.back ++ behind) k)
 
   -- a line ends behind the whitespace
   newline_there : (k : ℕ) (rest : List ℕ) (back : OrderedTree) → Shows old (k ∷ rest) back → is_newline_at old k ≡ true → (loose last : Bool) → IsTrue (ends_loosely loose last back)
   newline_there k rest back shown h loose last =
       let t = first_of old k rest back shown in
-      subst (λ b. IsTrue (ends_loosely loose last b)) (sym t.2) (a_newline (content_at old k) h)
+      subst (λ b. IsTrue (ends_loosely loose last b)) (sym t.2) (a_newline (content_at old k) h t.0 t.1)
     where
-      a_newline : (w : Content) → is_newline w ≡ true → {below after : OrderedTree} → IsTrue (ends_loosely loose last (more w below after))
-      a_newline (Content.newline kind) g = refl
-      a_newline w g = cc
+      a_newline : (w : Content) → is_newline w ≡ true → (below after : OrderedTree) → IsTrue (ends_loosely loose last (more w below after))
+      a_newline (Content.newline kind) g below after = refl
+      a_newline w g below after = cc
 
   none_there : (back : OrderedTree) → Shows old [] back → (loose last : Bool) → IsTrue last → IsTrue (ends_loosely loose last back)
   none_there _ shows_none loose last h = h

@@ -1,15 +1,21 @@
 -- The whitespace directly behind a node, and what stands around the place behind it.
-use Rattle.std.proofs.Common.{◌≡◌, ◌∙◌, ℕ, zero, suc, ◌+◌, ◌-◌, ◌<◌, ◌≤◌, Bool, true, false, cond, inl, inr, List, [], ◌∷◌, ◌++◌, length, take, drop, slice_index, Option, Some, None, IsTrue, refl, sym, ap, subst, arith, append_assoc, length-append, length-take, length-drop, get_or-drop}
+use Rattle.std.proofs.Common.{◌≡◌, ◌∙◌, ℕ, zero, suc, ◌+◌, ◌-◌, ◌<◌, ◌≤◌, Bool, true, false, cond, inl, inr, List, [], ◌∷◌, ◌++◌, length, take, drop, slice_index, All, Option, Some, None, IsTrue, refl, sym, ap, subst, arith, append_assoc, length-append, length-take, length-drop, get_or-drop}
 use Rattle.std.proofs.lemmas.Bool.{cases_Bool}
-use Rattle.std.proofs.lemmas.List.{drop_more, get_or_append_left, take_more, take-append-drop}
+use Rattle.std.proofs.lemmas.List.{drop_more, get_or_append_left, get_or_default, take_more, take-append-drop}
 use Rattle.std.proofs.Math.Seq.{drop-append-add, drop-append_seam, take-append-add, take-append_seam}
 use Rattle.jsonc_tree.specs.Content.{Content, is_container}
 use Rattle.jsonc_tree.specs.Order.{with_parent}
 use Rattle.jsonc_tree.specs.OrderedTree.{OrderedTree, none, more, Shows, shows_none, shows_more}
 use Rattle.jsonc_tree.specs.Siblings.{siblings_after}
 use Rattle.jsonc_tree.specs.Tree.{Node, content_at, children_at, parent_at, place_at, IsTree}
-use Rattle.jsonc_layout.specs.nodes.Kinds.{is_whitespace, is_whitespace_at}
-use Rattle.jsonc_edit.specs.commenting.Behind.{last_blank, last_blank_in}
+use Rattle.jsonc_tree.specs.Content as contents
+use Rattle.jsonc_layout.specs.lines.Siblings.{if_comma}
+use Rattle.jsonc_layout.specs.nodes.Comments.{after_inline_trivia_at, is_not_inline_trivia_at}
+use Rattle.jsonc_layout.specs.nodes.Kinds.{is_comma, is_whitespace, is_whitespace_at}
+use Rattle.jsonc_sound.specs.Lines.{is_line_comment}
+use Rattle.jsonc_edit.specs.commenting.Behind.{comment_follows, end_of_entry, last_blank, last_blank_in}
+use Rattle.jsonc_edit.specs.remove.Comments.{or_itself}
+use Rattle.jsonc_edit.proofs.FittingFinds.{found_one}
 use Rattle.jsonc_edit.proofs.lemmas.commenting.Lines.{AllBlank}
 
 -- each of these nodes is whitespace
@@ -122,3 +128,30 @@ module _ (ns : List Node) (tree : IsTree ns) (c m : ℕ) (said : parent_at ns m 
         ∙ ap (λ (l : List ℕ). take p kids ++ l) (take-append_seam (m ∷ t.blanks) t.rest);
     behind = ap (λ k. drop k kids) past ∙ ap (λ (l : List ℕ). drop (length (take p kids) + length (m ∷ t.blanks)) l) whole ∙ drop-append-add (take p kids) ((m ∷ t.blanks) ++ t.rest) (length (m ∷ t.blanks)) ∙ drop-append_seam (m ∷ t.blanks) t.rest;
   }
+
+-- the siblings behind a node are its container's children, and so is where a comment comes behind it
+module _ (ns : List Node) (tree : IsTree ns) (n c : ℕ) (said : parent_at ns n ≡ Some c) where
+  pub children_behind : All (λ m. parent_at ns m ≡ Some c) (siblings_after ns n)
+  children_behind =
+      let kids : List ℕ = children_at ns c in
+      let j : ℕ = place_at ns n + 1 in
+      subst (λ o. All (λ m. parent_at ns m ≡ Some c) (drop (place_at ns n + 1) (with_parent o (children_at ns)))) (sym said)
+      (λ k d h. subst (λ m. parent_at ns m ≡ Some c) (get_or_default (drop j kids) k 0 d h) (ap (parent_at ns) (get_or-drop j kids k 0) ∙ tree.named c (j + k) (omega (arith, h, length-drop j kids))))
+
+  by_next : (o : Option ℕ) → after_inline_trivia_at ns n ≡ o → parent_at ns (or_itself n (if_comma ns o)) ≡ Some c
+  by_next None is = said
+  by_next (Some m) is = by (is_comma (content_at ns m))
+    where
+      by : (b : Bool) → parent_at ns (or_itself n (cond b (Some m) None)) ≡ Some c
+      by true = (found_one (is_not_inline_trivia_at ns) (λ k. parent_at ns k ≡ Some c) (siblings_after ns n) m children_behind is).0
+      by false = said
+
+  end_child : parent_at ns (end_of_entry ns n) ≡ Some c
+  end_child = by_next (after_inline_trivia_at ns n) refl
+
+  pub follows_child : (text : List ℕ) → parent_at ns (comment_follows ns n text) ≡ Some c
+  follows_child text = by (is_line_comment (contents.comment text))
+    where
+      by : (b : Bool) → parent_at ns (cond b (last_blank ns (end_of_entry ns n)) (end_of_entry ns n)) ≡ Some c
+      by true = (follows_blanks ns tree c (end_of_entry ns n) end_child).child
+      by false = end_child

@@ -1,5 +1,5 @@
 -- What becomes of a document into which a comment comes.
-use Rattle.std.proofs.Common.{◌≡◌, ◌∙◌, ℕ, ◌+◌, ◌<◌, Bool, true, false, List, [], ◌∷◌, ◌++◌, None, Some, IsTrue, refl, sym, ap, subst, chars}
+use Rattle.std.proofs.Common.{◌≡◌, ◌∙◌, ℕ, ◌+◌, ◌<◌, Bool, true, false, List, [], ◌∷◌, ◌++◌, length, None, Some, IsTrue, refl, sym, ap, subst, chars}
 use Rattle.jsonc_text.specs.Options.{Options}
 use Rattle.jsonc_text.specs.Gaps.{IsComment}
 use Rattle.jsonc_text.specs.Grammar.{IsDocument}
@@ -20,7 +20,7 @@ use Rattle.jsonc_sound.proofs.ReplacedStretches.{marks_differ}
 use Rattle.jsonc_sound.proofs.ShapeValues.{document_printed}
 use Rattle.jsonc_edit.specs.Put.{a_space}
 use Rattle.jsonc_edit.specs.commenting.Above.{begins_own_line, indent_in, new_line, own_indent, own_line, seam_at, ComesAbove, ComesAboveBy}
-use Rattle.jsonc_edit.specs.commenting.Behind.{comment_follows, may_end_line, ComesBehind}
+use Rattle.jsonc_edit.specs.commenting.Behind.{comment_follows, may_end_line, spaced, ComesBehind}
 use Rattle.jsonc_edit.specs.commenting.Come.{LeavesCome}
 use Rattle.jsonc_edit.specs.commenting.Laws.{GainsAbove, GainsBehind, GainsComment, InsertsAbove, InsertsBehind, IsCommentInserted, IsEntry}
 use Rattle.jsonc_edit.proofs.OneValue.{document_once}
@@ -37,21 +37,21 @@ record IsAComment (text : List ℕ) (contents : List Content) : Type 0 where
 
 own : (k : CstNewlineKind) (text indent : List ℕ) → IsAComment text (own_line k text indent)
 own k text indent = record {
-  trivia = (refl, refl, refl, tt);
-  gains = λ t u d. record { before = []; behind = newline k ∷ whitespace indent ∷ []; blanks_before = tt; blanks_behind = (refl, refl, tt); around = d };
+  trivia = (refl, (refl, (refl, tt)));
+  gains = λ t u d. record { before = []; behind = newline k ∷ whitespace indent ∷ []; blanks_before = tt; blanks_behind = (refl, (refl, tt)); around = d };
   mark = refl;
 }
 
 lined : (k : CstNewlineKind) (indent text rest : List ℕ) → IsAComment text (new_line k indent (own_line k text rest))
 lined k indent text rest = record {
-  trivia = (refl, refl, refl, refl, refl, tt);
-  gains = λ t u d. record { before = newline k ∷ whitespace indent ∷ []; behind = newline k ∷ whitespace rest ∷ []; blanks_before = (refl, refl, tt); blanks_behind = (refl, refl, tt); around = d };
+  trivia = (refl, (refl, (refl, (refl, (refl, tt)))));
+  gains = λ t u d. record { before = newline k ∷ whitespace indent ∷ []; behind = newline k ∷ whitespace rest ∷ []; blanks_before = (refl, (refl, tt)); blanks_behind = (refl, (refl, tt)); around = d };
   mark = refl;
 }
 
-spaced : (text : List ℕ) → IsAComment text (a_space ∷ comment text ∷ [])
-spaced text = record {
-  trivia = (refl, refl, tt);
+beside : (text : List ℕ) → IsAComment text (spaced text)
+beside text = record {
+  trivia = (refl, (refl, tt));
   gains = λ t u d. record { before = a_space ∷ []; behind = []; blanks_before = (refl, tt); blanks_behind = tt; around = d };
   mark = refl;
 }
@@ -106,7 +106,7 @@ inserts_above o old new n text tree sound allowed whole e r = inserts_by old new
 
 pub inserts_behind : (o : Options) (old new : List Node) (n : ℕ) (text : List ℕ) → InsertsBehind o old new n text
 inserts_behind o old new n text tree sound allowed whole e may r =
-    inserted old new tree text e.container (place_at old (comment_follows old n text) + 1) (a_space ∷ comment text ∷ []) (r e.container e.parent) (spaced text) (over_container old new n text tree e.container e.below e.parent) (parent_there old tree n e.container e.parent).1 o sound
+    inserted old new tree text e.container (place_at old (comment_follows old n text) + 1) (spaced text) (r e.container e.parent) (beside text) (over_container old new n text tree e.container e.below e.parent) (parent_there old tree n e.container e.parent).1 o sound
     (comes_behind o old new n text tree sound allowed whole e may r)
 
 pub gains_above : (old new : List Node) (n : ℕ) (text : List ℕ) → GainsAbove old new n text
@@ -114,4 +114,4 @@ gains_above old new n text tree over r c said = gains_by old new n text tree c s
 
 pub gains_behind : (old new : List Node) (n : ℕ) (text : List ℕ) → GainsBehind old new n text
 gains_behind old new n text tree over r c said =
-    gained old new tree text c (place_at old (comment_follows old n text) + 1) (a_space ∷ comment text ∷ []) (r c said) (spaced text) (over_container old new n text tree c over said) (parent_there old tree n c said).1
+    gained old new tree text c (place_at old (comment_follows old n text) + 1) (spaced text) (r c said) (beside text) (over_container old new n text tree c over said) (parent_there old tree n c said).1

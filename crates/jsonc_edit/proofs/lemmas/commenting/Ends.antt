@@ -122,7 +122,7 @@ module _ (ns : List Node) (tree : IsTree ns) where
   quiet (x ∷ rest) h f shown =
       elim (cases_Bool (is_newline_at ns x)) [
         | inl line ↦ a_line (leaf_kind (content_at ns x) line)
-        | inr other ↦ no_line (both other)
+        | inr other ↦ no_line (both other) (λ h. quiet rest h (parts x rest f shown).0 (parts x rest f shown).3)
       ]
     where
       a_line : (k : CstNewlineKind) × (content_at ns x ≡ newline k) → Quiet (x ∷ rest) f
@@ -135,14 +135,15 @@ module _ (ns : List Node) (tree : IsTree ns) where
           let taken : take_while (is_no_newline_at ns) (x ∷ rest) ≡ x ∷ take_while (is_no_newline_at ns) rest = take_while-cons (is_no_newline_at ns) x rest ∙ ap (λ b. cond (not b) (x ∷ take_while (is_no_newline_at ns) rest) []) other in
           and_both (is_whitespace_at ns x) (list_all (is_whitespace_at ns) (take_while (is_no_newline_at ns) rest)) (subst (λ (l : List ℕ). IsTrue (list_all (is_whitespace_at ns) l)) taken h)
 
-      by_text : (s : List ℕ) → content_at ns x ≡ whitespace s → IsTrue (is_whitespace_at ns x) → IsTrue (list_all (is_whitespace_at ns) (take_while (is_no_newline_at ns) rest)) → Quiet (x ∷ rest) f
-      by_text s e h more_blank =
+      by_text : (s : List ℕ) → content_at ns x ≡ whitespace s → IsTrue (is_whitespace_at ns x) → Quiet rest (parts x rest f shown).0 → Quiet (x ∷ rest) f
+      by_text s e h further =
           let bare : children_at ns x ≡ [] = tree.leaf x (ap is_container e) in
           let own : own_leaf (content_at ns x) ≡ content_at ns x ∷ [] = subst (λ w. own_leaf w ≡ w ∷ []) (sym e) refl in
           elim (cases_Bool (starts (λ c. true) (first_char (content_at ns x)))) [
             | inl printed ↦ inl (calm_here x rest f shown bare own (subst (λ w. Calm (Some w)) (sym e) tt) (printed_first (content_at ns x) true printed))
-            | inr empty ↦ quiet_on x rest f shown bare own h (printed_first (content_at ns x) false empty) (quiet rest more_blank (parts x rest f shown).0 (parts x rest f shown).3)
+            | inr empty ↦ quiet_on x rest f shown bare own h (printed_first (content_at ns x) false empty) further
           ]
 
-      no_line : IsTrue (is_whitespace_at ns x) × IsTrue (list_all (is_whitespace_at ns) (take_while (is_no_newline_at ns) rest)) → Quiet (x ∷ rest) f
-      no_line (h, more_blank) = let k = blank_kind (content_at ns x) h in by_text k.0 k.1 h more_blank
+      no_line : IsTrue (is_whitespace_at ns x) × IsTrue (list_all (is_whitespace_at ns) (take_while (is_no_newline_at ns) rest))
+          → (IsTrue (list_all (is_whitespace_at ns) (take_while (is_no_newline_at ns) rest)) → Quiet rest (parts x rest f shown).0) → Quiet (x ∷ rest) f
+      no_line (h, more_blank) further = let k = blank_kind (content_at ns x) h in by_text k.0 k.1 h (further more_blank)

@@ -3,16 +3,16 @@ use Rattle.std.proofs.Common.{◌≡◌, ◌∙◌, ℕ, suc, ◌+◌, ◌<◌, 
 use Rattle.std.proofs.lemmas.Option.{slice_get-get_or}
 use Rattle.jsonc_tree.specs.Building.{Keeps}
 use Rattle.jsonc_tree.specs.Changes.{CanJoin, Splices}
-use Rattle.jsonc_tree.specs.Content.{Content, comment}
+use Rattle.jsonc_tree.specs.Content.{Content}
 use Rattle.jsonc_tree.specs.OrderedTree.{ordered_tree}
 use Rattle.jsonc_tree.proofs.Order.{parent_there}
 use Rattle.jsonc_tree.specs.Siblings.{before, first, siblings_after, siblings_before, IsGap}
 use Rattle.jsonc_tree.specs.Tree.{Node, children_at, parent_at, place_at, IsTree}
 use Rattle.jsonc_layout.specs.nodes.Kinds.{is_whitespace_at}
 use Rattle.jsonc_layout.specs.lines.Kinds.{blank_at}
-use Rattle.jsonc_edit.specs.Put.{a_space, Extends}
+use Rattle.jsonc_edit.specs.Put.{Extends}
 use Rattle.jsonc_edit.specs.commenting.Above.{begins_own_line, seam_at, seam_behind, seam_by, without_end, ComesAbove, ComesAboveBy}
-use Rattle.jsonc_edit.specs.commenting.Behind.{comment_follows, last_blank, last_blank_in, ComesBehind}
+use Rattle.jsonc_edit.specs.commenting.Behind.{comment_follows, end_of_entry, last_blank, last_blank_in, spaced, ComesBehind}
 use Rattle.jsonc_edit.specs.commenting.Come.{LeavesCome}
 use Rattle.jsonc_edit.specs.multiline.Plans.{IsFrom, Planned, Gains}
 use Rattle.jsonc_edit.specs.multiline.Slots.{comes}
@@ -103,10 +103,11 @@ comes_above old new c n text b said is (Ok x) h = λ d told.
 comes_above old new c n text b said is (Err e) h = tt
 
 -- a comment has come behind one
-pub comes_behind : (old new : List Node) (c n : ℕ) (text : List ℕ) → parent_at old n ≡ Some c → LeavesCome old new c (place_at old (comment_follows old n text) + 1) (a_space ∷ comment text ∷ []) → ComesBehind old new n text
-comes_behind old new c n text said h d told =
+pub comes_behind : {E : Type 0} (old new : List Node) (c n m : ℕ) (text : List ℕ) → parent_at old n ≡ Some c → m ≡ comment_follows old n text → (r : Result (Unit {0}) E) → OnOk r (LeavesCome old new c (place_at old m + 1) (spaced text)) → OnOk r (ComesBehind old new n text)
+comes_behind old new c n m text said is (Ok x) h = λ d told.
     let same : d ≡ c = Some_same d c (sym told ∙ said) in
-    subst (λ k. LeavesCome old new k (place_at old (comment_follows old n text) + 1) (a_space ∷ comment text ∷ [])) (sym same) h
+    subst (λ k. LeavesCome old new k (place_at old (comment_follows old n text) + 1) (spaced text)) (sym same) (subst (λ k. LeavesCome old new c (place_at old k + 1) (spaced text)) is h)
+comes_behind old new c n m text said is (Err e) h = tt
 
 -- directly behind a node there is a gap
 pub gap_behind : (ns : List Node) → IsTree ns → (n c : ℕ) (o : Option ℕ) → parent_at ns n ≡ Some c → o ≡ first (siblings_after ns n) → IsGap ns c (place_at ns n + 1) (Some n) o

@@ -1,5 +1,5 @@
 -- An entry of a sound document in its row: what stands before it, and behind it.
-use Rattle.std.proofs.Common.{◌≡◌, ◌≢◌, ◌⊎◌, ◌∙◌, ℕ, ◌+◌, ◌-◌, ◌<◌, ◌≤◌, ◌==◌, ◌||◌, Bool, true, false, inl, inr, List, [], ◌∷◌, ◌++◌, length, take, slice_index, Option, Some, None, IsTrue, refl, sym, ap, subst, arith, length-append}
+use Rattle.std.proofs.Common.{◌≡◌, ◌≢◌, ◌⊎◌, ◌∙◌, ℕ, suc, ◌+◌, ◌-◌, ◌<◌, ◌≤◌, ◌==◌, ◌||◌, Bool, true, false, inl, inr, List, [], ◌∷◌, ◌++◌, length, take, slice_index, Option, Some, None, IsTrue, refl, sym, ap, subst, arith, length-append}
 use Rattle.std.proofs.lemmas.Bool.{cases_lt}
 use Rattle.std.proofs.Math.Seq.{get_or-append_seam}
 use Rattle.jsonc_text.specs.Options.{Options}
@@ -66,9 +66,12 @@ module _ (o : Options) (ns : List Node) (tree : IsTree ns) (sound : SoundTree o 
         | inr high ↦ absurd (h within.kind (ap (content_at ns) (it high) ∙ b.closes))
       ]
     where
+      last_place : (length kids ≤ place_at ns m + 1) → place_at ns m ≡ suc (length b.inner)
+      last_place high = omega (arith, high, count, tree.within m c said)
+
       it : (length kids ≤ place_at ns m + 1) → m ≡ b.last
       it high =
-          sym (tree.found m c said) ∙ ap (slice_index kids) (omega (arith, high, count, tree.within m c said)) ∙ ap (λ (l : List ℕ). slice_index l (1 + length b.inner)) b.children ∙ get_or-append_seam b.inner b.last [] 0
+          sym (tree.found m c said) ∙ ap (slice_index kids) (last_place high) ∙ ap (λ (l : List ℕ). slice_index l (suc (length b.inner))) b.children ∙ get_or-append_seam b.inner b.last [] 0
 
   -- what stands before a place behind the first begins with a bracket
   pub record Opened (k : ℕ) : Type 0 where
@@ -85,7 +88,7 @@ module _ (o : Options) (ns : List Node) (tree : IsTree ns) (sound : SoundTree o 
     no_blank = ap is_whitespace b.opens;
   }
     where
-      one : (j : ℕ) → 0 < j → j ≡ 1 + (j - 1)
+      one : (j : ℕ) → 0 < j → j ≡ suc (j - 1)
       one j h = omega (arith, h)
 
 -- where an entry stands
