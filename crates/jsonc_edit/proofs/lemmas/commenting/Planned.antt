@@ -8,10 +8,11 @@ use Rattle.jsonc_tree.specs.OrderedTree.{ordered_tree}
 use Rattle.jsonc_tree.proofs.Order.{parent_there}
 use Rattle.jsonc_tree.specs.Siblings.{before, first, siblings_after, siblings_before, IsGap}
 use Rattle.jsonc_tree.specs.Tree.{Node, children_at, parent_at, place_at, IsTree}
+use Rattle.jsonc_tree.specs.declared.node.CstNewlineKind.{CstNewlineKind}
 use Rattle.jsonc_layout.specs.nodes.Kinds.{is_whitespace_at}
 use Rattle.jsonc_layout.specs.lines.Kinds.{blank_at}
 use Rattle.jsonc_edit.specs.Put.{Extends}
-use Rattle.jsonc_edit.specs.commenting.Above.{begins_own_line, seam_at, seam_behind, seam_by, without_end, ComesAbove, ComesAboveBy}
+use Rattle.jsonc_edit.specs.commenting.Above.{begins_own_line, new_line, own_line, seam_at, seam_behind, seam_by, without_end, ComesAbove, ComesAboveBy}
 use Rattle.jsonc_edit.specs.commenting.Behind.{comment_follows, end_of_entry, last_blank, last_blank_in, spaced, ComesBehind}
 use Rattle.jsonc_edit.specs.commenting.Come.{LeavesCome}
 use Rattle.jsonc_edit.specs.multiline.Plans.{IsFrom, Planned, Gains}
@@ -60,6 +61,13 @@ module _ (old now : List Node) (c : ℕ) (contents : List Content) (row : List �
 -- leaves that were planned in this order are these
 pub planned_are : (old now : List Node) (xs row : List ℕ) (contents wanted : List Content) → xs ≡ [] → contents ≡ wanted → Gains old xs now row (map comes contents) → Gains old [] now row (map comes wanted)
 planned_are old now xs row contents wanted e f g = subst (λ cs. Gains old [] now row (map comes cs)) f (subst (λ (l : List ℕ). Gains old l now row (map comes contents)) e g)
+
+-- of equal parts they are equal
+pub own_line_same : (k l : CstNewlineKind) (text s t : List ℕ) → k ≡ l → s ≡ t → own_line k text s ≡ own_line l text t
+own_line_same k l text s t e f = ap (λ x. own_line x text s) e ∙ ap (own_line l text) f
+
+pub new_line_same : (k l : CstNewlineKind) (text s t x y : List ℕ) → k ≡ l → s ≡ t → x ≡ y → new_line k s (own_line k text x) ≡ new_line l t (own_line l text y)
+new_line_same k l text s t x y e f g = ap (λ z. new_line z s (own_line z text x)) e ∙ ap (λ z. new_line l z (own_line l text x)) f ∙ ap (λ z. new_line l t (own_line l text z)) g
 
 -- beside a child that is one still
 module _ (old now : List Node) (c : ℕ) (contents : List Content) (row : List ℕ) (tree : IsTree old) (keeps : Keeps (length old) old now) (gains : Gains old [] now row (map comes contents)) (n : ℕ) (said : parent_at old n ≡ Some c) where

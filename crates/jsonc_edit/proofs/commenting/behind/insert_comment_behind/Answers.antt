@@ -1,12 +1,13 @@
-use Rattle.std.proofs.Common.{◌≡◌, Some, sym, ap, ◌∙◌}
+use Rattle.std.proofs.Common.{sym, ap, ◌∙◌}
 use Rattle.jsonc_tree.specs.Tree.{parent_at}
 use Rattle.jsonc_edit.proofs.lemmas.commenting.Blanks.{follows_child}
 use Rattle.jsonc_edit.proofs.lemmas.commenting.Planned.{comes_behind, document_stays}
 use Rattle.jsonc_edit.proofs.commenting.behind.insert_comment_behind.Goals as goal
 
 pub come_spaced-requires : goal.come_spaced-requires
-come_spaced-requires g c =
-    ap (parent_at c.args.tree.now.nodes) c.comment_follows-before.ensures ∙ follows_child c.args.tree.now.nodes c.args.tree.now.tree c.args.node c.in-Some.container (sym c.parent.ensures ∙ c.in-Some.is) c.args.text.now
+come_spaced-requires g c = record {
+  child = ap (parent_at c.args.tree.now.nodes) c.comment_follows-before.ensures ∙ follows_child c.args.tree.now.nodes c.args.tree.now.tree c.args.node c.in-Some.container (sym c.parent.ensures ∙ c.in-Some.is) c.args.text.now;
+}
 
 pub returns-clause-come : goal.returns-clause-come
 returns-clause-come g c =
