@@ -15,12 +15,33 @@ use std::test::Fail;
 
 /// A text, the path of a value, whether its property is the entry, a comment, and the texts with the comment above the
 /// entry and behind it: none where a line comment would take the rest of the line.
-type Row = (&'static str, &'static [usize], bool, &'static str, &'static str, Option<&'static str>);
+type Row = (
+    &'static str,
+    &'static [usize],
+    bool,
+    &'static str,
+    &'static str,
+    Option<&'static str>,
+);
 
 static ROWS: [Row; 12] = [
     ("[1, 2]", &[1], false, "// c", "[1,\n  // c\n  2]", None),
-    ("[1, 2]", &[0], false, "/* c */", "[\n  /* c */\n  1, 2]", Some("[1, /* c */ 2]")),
-    ("[1,   2]", &[1], false, "/* c */", "[1,   \n  /* c */\n  2]", Some("[1,   2 /* c */]")),
+    (
+        "[1, 2]",
+        &[0],
+        false,
+        "/* c */",
+        "[\n  /* c */\n  1, 2]",
+        Some("[1, /* c */ 2]"),
+    ),
+    (
+        "[1,   2]",
+        &[1],
+        false,
+        "/* c */",
+        "[1,   \n  /* c */\n  2]",
+        Some("[1,   2 /* c */]"),
+    ),
     (
         "{\n  \"a\": 1,\n  \"b\": 2\n}\n",
         &[0],
@@ -54,10 +75,38 @@ static ROWS: [Row; 12] = [
         None,
     ),
     ("1", &[], false, "// c", "// c\n1", Some("1 // c")),
-    ("  1  \n", &[], false, "// c", "  // c\n  1  \n", Some("  1   // c\n")),
-    ("/* x */ 1 /* y */", &[], false, "// c", "/* x */ \n// c\n1 /* y */", None),
-    ("// x\n1 // y", &[], false, "/* c */", "// x\n/* c */\n1 // y", Some("// x\n1 /* c */ // y")),
-    ("[\n  1\n  , 2\n]", &[0], false, "// c", "[\n  // c\n  1\n  , 2\n]", Some("[\n  1 // c\n  , 2\n]")),
+    (
+        "  1  \n",
+        &[],
+        false,
+        "// c",
+        "  // c\n  1  \n",
+        Some("  1   // c\n"),
+    ),
+    (
+        "/* x */ 1 /* y */",
+        &[],
+        false,
+        "// c",
+        "/* x */ \n// c\n1 /* y */",
+        None,
+    ),
+    (
+        "// x\n1 // y",
+        &[],
+        false,
+        "/* c */",
+        "// x\n/* c */\n1 // y",
+        Some("// x\n1 /* c */ // y"),
+    ),
+    (
+        "[\n  1\n  , 2\n]",
+        &[0],
+        false,
+        "// c",
+        "[\n  // c\n  1\n  , 2\n]",
+        Some("[\n  1 // c\n  , 2\n]"),
+    ),
 ];
 
 /// Texts, and which comment each is.

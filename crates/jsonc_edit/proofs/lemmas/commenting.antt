@@ -10,4 +10,5 @@ pub mod Indents
 pub mod Above
 pub mod Blanks
 pub mod Behind
+pub mod Places
 pub mod Documents

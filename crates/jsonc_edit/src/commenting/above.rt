@@ -192,7 +192,15 @@ fn come_between<A: Allocator + Copy>(
     let indent = indent_in(alloc, tree, container)?;
     let seam = seam_at(tree, node, indent.as_str());
     let mut row = Vec::new(alloc);
-    push_new_line(alloc, tree, &mut row, kind, text, indent.as_str(), seam.indent)?;
+    push_new_line(
+        alloc,
+        tree,
+        &mut row,
+        kind,
+        text,
+        indent.as_str(),
+        seam.indent,
+    )?;
     come_before(tree, container, seam.node, &row);
     Ok(())
 }

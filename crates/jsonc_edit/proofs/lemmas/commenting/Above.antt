@@ -48,7 +48,7 @@ reversed_all p (x ∷ xs) h =
 no_blank_first : (p : ℕ → Bool) (xs rest : List ℕ) (x : ℕ) → xs ≡ x ∷ rest → p x ≡ false → IsTrue (list_all p xs) → ⊥
 no_blank_first p xs rest x e f h = let wrong : false ≡ true = sym (ap (λ b. b && list_all p rest) f) ∙ ap (list_all p) (sym e) ∙ h in cc
 
-is_blank_text : (content : Content) (s : List ℕ) → blank_of content ≡ Some s → content ≡ Content.whitespace s
+pub is_blank_text : (content : Content) (s : List ℕ) → blank_of content ≡ Some s → content ≡ Content.whitespace s
 is_blank_text (Content.whitespace t) s e = let same : t ≡ s = (let both : Some t ≡ Some s = e in cc) in ap Content.whitespace same
 is_blank_text content s e = cc
 

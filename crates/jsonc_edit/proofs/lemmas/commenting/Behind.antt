@@ -47,7 +47,7 @@ element_solid content h = record {
   no_line = λ k. no_element content h (line_comment_over content k);
 }
 
-comma_kind : (content : Content) → is_comma content ≡ true → content ≡ token 0x2C
+pub comma_kind : (content : Content) → is_comma content ≡ true → content ≡ token 0x2C
 comma_kind (Content.token c) h = ap Content.token (test_eq c 0x2C h)
 comma_kind content h = cc
 

@@ -146,7 +146,7 @@ module _ (ns : List Node) (tree : IsTree ns) (n c : ℕ) (said : parent_at ns n 
       by true = (found_one (is_not_inline_trivia_at ns) (λ k. parent_at ns k ≡ Some c) (siblings_after ns n) m children_behind is).0
       by false = said
 
-  end_child : parent_at ns (end_of_entry ns n) ≡ Some c
+  pub end_child : parent_at ns (end_of_entry ns n) ≡ Some c
   end_child = by_next (after_inline_trivia_at ns n) refl
 
   pub follows_child : (text : List ℕ) → parent_at ns (comment_follows ns n text) ≡ Some c

@@ -1,5 +1,6 @@
 -- What becomes of a document into which a comment comes.
 use Rattle.std.proofs.Common.{◌≡◌, ◌∙◌, ℕ, ◌+◌, ◌<◌, Bool, true, false, List, [], ◌∷◌, ◌++◌, length, None, Some, IsTrue, refl, sym, ap, subst, chars}
+use Rattle.std.proofs.lemmas.List.{append_assoc}
 use Rattle.jsonc_text.specs.Options.{Options}
 use Rattle.jsonc_text.specs.Gaps.{IsComment}
 use Rattle.jsonc_text.specs.Grammar.{IsDocument}
@@ -15,55 +16,44 @@ use Rattle.jsonc_sound.specs.MarkChanges.{MarksDifferIn}
 use Rattle.jsonc_sound.specs.Marks.{comment_mark, marks_of}
 use Rattle.jsonc_sound.specs.Shape.{printed_text, IsText}
 use Rattle.jsonc_sound.specs.SoundTrees.{SoundTree}
+use Rattle.jsonc_sound.specs.TreeChanges.{leaves_of}
 use Rattle.jsonc_sound.specs.TriviaChanges.{AreTrivia}
 use Rattle.jsonc_sound.proofs.ReplacedStretches.{marks_differ}
+use Rattle.jsonc_sound.proofs.RowsWithin.{both_within}
 use Rattle.jsonc_sound.proofs.ShapeValues.{document_printed}
+use Rattle.jsonc_edit.specs.Changes.{top_at}
 use Rattle.jsonc_edit.specs.Put.{a_space}
 use Rattle.jsonc_edit.specs.commenting.Above.{begins_own_line, indent_in, new_line, own_indent, own_line, seam_at, ComesAbove, ComesAboveBy}
 use Rattle.jsonc_edit.specs.commenting.Behind.{comment_follows, may_end_line, spaced, ComesBehind}
 use Rattle.jsonc_edit.specs.commenting.Come.{LeavesCome}
-use Rattle.jsonc_edit.specs.commenting.Laws.{GainsAbove, GainsBehind, GainsComment, InsertsAbove, InsertsBehind, IsCommentInserted, IsEntry}
+use Rattle.jsonc_edit.specs.commenting.Laws.{GainsAbove, GainsBehind, GainsComment, InsertsAbove, InsertsBehind, IsCommentInserted, IsEntry, StandsAbove, StandsBehind}
 use Rattle.jsonc_edit.proofs.OneValue.{document_once}
 use Rattle.jsonc_edit.proofs.lemmas.commenting.Above.{at_line, at_seam}
 use Rattle.jsonc_edit.proofs.lemmas.commenting.Behind.{comes_behind}
+use Rattle.jsonc_edit.proofs.lemmas.commenting.Blanks.{end_child}
 use Rattle.jsonc_edit.proofs.lemmas.commenting.Coming.{come_replaced, cut_at}
+use Rattle.jsonc_edit.proofs.lemmas.commenting.Places.{ends_behind, starts_itself, starts_seam}
 use Rattle.jsonc_edit.proofs.lemmas.commenting.Sound.{come_differs, Arrival}
 
 -- the leaves that come are a comment and blanks
 record IsAComment (text : List ℕ) (contents : List Content) : Type 0 where
   trivia : AreTrivia contents
-  gains : (t u : OrderedTree) → DiffersIn [] contents (leaves t) (leaves u) → GainsComment text t u
   mark : marks_of contents ≡ comment_mark (chars text) ∷ []
 
 own : (k : CstNewlineKind) (text indent : List ℕ) → IsAComment text (own_line k text indent)
-own k text indent = record {
-  trivia = (refl, (refl, (refl, tt)));
-  gains = λ t u d. record { before = []; behind = newline k ∷ whitespace indent ∷ []; blanks_before = tt; blanks_behind = (refl, (refl, tt)); around = d };
-  mark = refl;
-}
+own k text indent = record { trivia = (refl, (refl, (refl, tt))); mark = refl }
 
 lined : (k : CstNewlineKind) (indent text rest : List ℕ) → IsAComment text (new_line k indent (own_line k text rest))
-lined k indent text rest = record {
-  trivia = (refl, (refl, (refl, (refl, (refl, tt)))));
-  gains = λ t u d. record { before = newline k ∷ whitespace indent ∷ []; behind = newline k ∷ whitespace rest ∷ []; blanks_before = (refl, (refl, tt)); blanks_behind = (refl, (refl, tt)); around = d };
-  mark = refl;
-}
+lined k indent text rest = record { trivia = (refl, (refl, (refl, (refl, (refl, tt))))); mark = refl }
 
 beside : (text : List ℕ) → IsAComment text (spaced text)
-beside text = record {
-  trivia = (refl, (refl, tt));
-  gains = λ t u d. record { before = a_space ∷ []; behind = []; blanks_before = (refl, tt); blanks_behind = tt; around = d };
-  mark = refl;
-}
+beside text = record { trivia = (refl, (refl, tt)); mark = refl }
 
 module _ (old new : List Node) (tree : IsTree old) (text : List ℕ) (c place : ℕ) (contents : List Content) (r : LeavesCome old new c place contents) (a : IsAComment text contents) (over : IsOver old 0 c) (there : c < length old) where
   around : DiffersIn [] contents (leaves (ordered_tree old 0)) (leaves (ordered_tree new 0))
   around =
       let cut = cut_at old tree c there place in
       come_differs contents cut.front cut.back a.trivia (come_replaced old new tree c place contents r a.trivia there cut over)
-
-  gained : GainsComment text (ordered_tree old 0) (ordered_tree new 0)
-  gained = a.gains (ordered_tree old 0) (ordered_tree new 0) around
 
   inserted : (o : Options) → SoundTree o (ordered_tree old 0) → Arrival o contents (ordered_tree old 0) (ordered_tree new 0) → IsCommentInserted o text (ordered_tree old 0) (ordered_tree new 0)
   inserted o sound arrived =
@@ -74,22 +64,71 @@ module _ (old new : List Node) (tree : IsTree old) (text : List ℕ) (c place : 
         value = was.0;
         old_text = was.1;
         new_text = subst (IsDocument o (printed_text (ordered_tree new 0))) same now.1;
-        gains = gained;
         marked = subst (λ ms. MarksDifferIn [] ms (marks_of (leaves (ordered_tree old 0))) (marks_of (leaves (ordered_tree new 0)))) a.mark (marks_differ [] contents (leaves (ordered_tree old 0)) (leaves (ordered_tree new 0)) around);
         sound = arrived.sound;
       }
+
+regroup : (a b c d : List Content) → (a ++ (b ++ c)) ++ d ≡ a ++ (b ++ (c ++ d))
+regroup a b c d = append_assoc a (b ++ c) d ∙ ap (λ l. a ++ l) (append_assoc b c d)
 
 module _ (old new : List Node) (n : ℕ) (text : List ℕ) (tree : IsTree old) where
   -- a child's container is in the document with it
   over_container : (c : ℕ) → IsOver old 0 n → parent_at old n ≡ Some c → IsOver old 0 c
   over_container c over said = over_step old tree 0 n c over (λ same. (let wrong : Some c ≡ None = sym said ∙ ap (parent_at old) same ∙ tree.root_alone in cc)) said
 
-  module _ (c : ℕ) (said : parent_at old n ≡ Some c) (over : IsOver old 0 n) where
-    gains_by : (b : Bool) → ComesAboveBy b old new c n text → GainsComment text (ordered_tree old 0) (ordered_tree new 0)
-    gains_by true r = gained old new tree text c (place_at old n) (own_line (newline_kind_at old c) text (own_indent old n)) r (own (newline_kind_at old c) text (own_indent old n)) (over_container c over said) (parent_there old tree n c said).1
-    gains_by false r =
-        let seam = seam_at old n (indent_in old c) in
-        gained old new tree text c (place_at old seam.node) (new_line (newline_kind_at old c) (indent_in old c) (own_line (newline_kind_at old c) text seam.indent)) r (lined (newline_kind_at old c) (indent_in old c) text seam.indent) (over_container c over said) (parent_there old tree n c said).1
+  -- where the comment stands among the leaves
+  module _ (c : ℕ) (said : parent_at old n ≡ Some c) (over : IsOver old 0 c) where
+    there : c < length old
+    there = (parent_there old tree n c said).1
+
+    above_on_line : (k : CstNewlineKind) (indent : List ℕ) → LeavesCome old new c (place_at old n) (own_line k text indent) → (gains : GainsComment text (ordered_tree old 0) (ordered_tree new 0)) × StandsAbove gains (leaves_of (top_at old n))
+    above_on_line k indent r =
+        let cut = cut_at old tree c there (place_at old n) in
+        let replaced = come_replaced old new tree c (place_at old n) (own_line k text indent) r (own k text indent).trivia there cut over in
+        let w = both_within replaced in
+        let s = starts_itself old tree n c said [] [] cut.back cut.behind in (
+          record {
+            before = [];
+            behind = newline k ∷ whitespace indent ∷ [];
+            blanks_before = tt;
+            blanks_behind = (refl, (refl, tt));
+            around = come_differs (own_line k text indent) cut.front cut.back (own k text indent).trivia replaced;
+          },
+          record { blanks = s.0; rest = s.1 ++ w.back; are_blanks = s.2; next = ap (λ l. l ++ w.back) s.3 ∙ regroup s.0 (leaves_of (top_at old n)) s.1 w.back; line = refl },
+        )
+
+    above_at_seam : (k : CstNewlineKind) (indent : List ℕ) → (let seam = seam_at old n indent in LeavesCome old new c (place_at old seam.node) (new_line k indent (own_line k text seam.indent)))
+        → (gains : GainsComment text (ordered_tree old 0) (ordered_tree new 0)) × StandsAbove gains (leaves_of (top_at old n))
+    above_at_seam k indent r =
+        let seam = seam_at old n indent in
+        let cut = cut_at old tree c there (place_at old seam.node) in
+        let replaced = come_replaced old new tree c (place_at old seam.node) (new_line k indent (own_line k text seam.indent)) r (lined k indent text seam.indent).trivia there cut over in
+        let w = both_within replaced in
+        let s = starts_seam old tree n c said indent cut.back cut.behind in (
+          record {
+            before = newline k ∷ whitespace indent ∷ [];
+            behind = newline k ∷ whitespace seam.indent ∷ [];
+            blanks_before = (refl, (refl, tt));
+            blanks_behind = (refl, (refl, tt));
+            around = come_differs (new_line k indent (own_line k text seam.indent)) cut.front cut.back (lined k indent text seam.indent).trivia replaced;
+          },
+          record { blanks = s.0; rest = s.1 ++ w.back; are_blanks = s.2; next = ap (λ l. l ++ w.back) s.3 ∙ regroup s.0 (leaves_of (top_at old n)) s.1 w.back; line = refl },
+        )
+
+    behind_it : LeavesCome old new c (place_at old (comment_follows old n text) + 1) (spaced text) → (gains : GainsComment text (ordered_tree old 0) (ordered_tree new 0)) × StandsBehind gains (leaves_of (top_at old n))
+    behind_it r =
+        let place = place_at old (comment_follows old n text) + 1 in
+        let cut = cut_at old tree c there place in
+        let replaced = come_replaced old new tree c place (spaced text) r (beside text).trivia there cut over in
+        let w = both_within replaced in
+        let s = ends_behind old tree n c said text (end_child old tree n c said) cut.front cut.ahead in (
+          record { before = a_space ∷ []; behind = []; blanks_before = (refl, tt); blanks_behind = tt; around = come_differs (spaced text) cut.front cut.back (beside text).trivia replaced },
+          record { ahead = w.front ++ s.0; trail = s.1; is_trail = s.2; last = ap (λ l. w.front ++ l) s.3 ∙ sym (append_assoc w.front s.0 (leaves_of (top_at old n) ++ s.1)); space = refl; none = refl },
+        )
+
+    gains_by : (b : Bool) → ComesAboveBy b old new c n text → (gains : GainsComment text (ordered_tree old 0) (ordered_tree new 0)) × StandsAbove gains (leaves_of (top_at old n))
+    gains_by true r = above_on_line (newline_kind_at old c) (own_indent old n) r
+    gains_by false r = above_at_seam (newline_kind_at old c) (indent_in old c) r
 
   module _ (o : Options) (sound : SoundTree o (ordered_tree old 0)) (allowed : IsTrue o.comments) (whole : IsText IsComment text) (e : IsEntry old n) where
     inserts_by : (b : Bool) → begins_own_line old n ≡ b → ComesAboveBy b old new e.container n text → IsCommentInserted o text (ordered_tree old 0) (ordered_tree new 0)
@@ -110,8 +149,7 @@ inserts_behind o old new n text tree sound allowed whole e may r =
     (comes_behind o old new n text tree sound allowed whole e may r)
 
 pub gains_above : (old new : List Node) (n : ℕ) (text : List ℕ) → GainsAbove old new n text
-gains_above old new n text tree over r c said = gains_by old new n text tree c said over (begins_own_line old n) (r c said)
+gains_above old new n text tree over r c said = gains_by old new n text tree c said (over_container old new n text tree c over said) (begins_own_line old n) (r c said)
 
 pub gains_behind : (old new : List Node) (n : ℕ) (text : List ℕ) → GainsBehind old new n text
-gains_behind old new n text tree over r c said =
-    gained old new tree text c (place_at old (comment_follows old n text) + 1) (spaced text) (r c said) (beside text) (over_container old new n text tree c over said) (parent_there old tree n c said).1
+gains_behind old new n text tree over r c said = behind_it old new n text tree c said (over_container old new n text tree c over said) (r c said)
