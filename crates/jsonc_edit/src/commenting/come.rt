@@ -67,8 +67,9 @@ pub(super) fn come_before<A: Allocator>(
     row: &[usize],
 )
     requires child { parent_at tree.old.nodes node ≡ Some container }
-    requires join { CanJoin tree.old.nodes container (place_at tree.old.nodes node) (place_at tree.old.nodes node) row.now }
-    ensures { Splices tree.old.nodes tree.new.nodes container (place_at tree.old.nodes node) (place_at tree.old.nodes node) row.now }
+    requires join { let place = place_at tree.old.nodes node in CanJoin tree.old.nodes container place place row.now }
+    ensures { let place = place_at tree.old.nodes node
+        in Splices tree.old.nodes tree.new.nodes container place place row.now }
 {
     let before = tree.previous_sibling(node);
     tree.insert_between(container, before, Some(node), row);
@@ -82,8 +83,9 @@ pub(super) fn come_behind<A: Allocator>(
     row: &[usize],
 )
     requires child { parent_at tree.old.nodes node ≡ Some container }
-    requires join { CanJoin tree.old.nodes container (place_at tree.old.nodes node + 1) (place_at tree.old.nodes node + 1) row.now }
-    ensures { Splices tree.old.nodes tree.new.nodes container (place_at tree.old.nodes node + 1) (place_at tree.old.nodes node + 1) row.now }
+    requires join { let place = place_at tree.old.nodes node + 1 in CanJoin tree.old.nodes container place place row.now }
+    ensures { let place = place_at tree.old.nodes node + 1
+        in Splices tree.old.nodes tree.new.nodes container place place row.now }
 {
     let behind = tree.next_sibling(node);
     tree.insert_between(container, Some(node), behind, row);

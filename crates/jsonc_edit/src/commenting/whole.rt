@@ -3,7 +3,9 @@
 ghost use Rattle.std.specs.Prelude.{◌≡◌, ◌∷◌, IfNone, IfSome, IsCharBoundary, [], chars};
 ghost use Rattle.jsonc_text.specs.Gaps.{IsComment};
 ghost use Rattle.jsonc_text.specs.Text.{rest};
-ghost use Rattle.jsonc_edit.specs.commenting.Whole.{IsWhole};
+ghost use Rattle.jsonc_tree.specs.Content.{Content};
+ghost use Rattle.jsonc_sound.specs.Lines.{is_line_comment};
+ghost use Rattle.jsonc_edit.specs.commenting.Whole.{is_line, IsWhole};
 
 use jsonc_text::chars::has_byte;
 use jsonc_text::comment::block_close;
@@ -23,6 +25,7 @@ fn line_kind(text: &str) -> Option<CommentKind>
     requires front { chars text.now ≡ 0x2F ∷ 0x2F ∷ rest text.now 2 }
     requires boundary { IsCharBoundary text.now 2 }
     ensures some { IfSome result (λ kind. IsWhole kind (chars text.now)) }
+    ensures line { IfSome result (λ kind. is_line kind ≡ is_line_comment (Content.comment text.now)) }
     ensures none { IfNone result (IsComment (chars text.now) [] → ⊥) }
 {
     if stop_place(text, 2, b'\n', b'\r') < text.len() {
@@ -36,6 +39,7 @@ fn block_kind(text: &str) -> Option<CommentKind>
     requires front { chars text.now ≡ 0x2F ∷ 0x2A ∷ rest text.now 2 }
     requires boundary { IsCharBoundary text.now 2 }
     ensures some { IfSome result (λ kind. IsWhole kind (chars text.now)) }
+    ensures line { IfSome result (λ kind. is_line kind ≡ is_line_comment (Content.comment text.now)) }
     ensures none { IfNone result (IsComment (chars text.now) [] → ⊥) }
 {
     let Some(close) = block_close(text, 2) else {
@@ -52,6 +56,7 @@ fn block_kind(text: &str) -> Option<CommentKind>
 /// A comment that begins with `//` holds no LF and no CR, and the first `*/` behind a `/*` ends the text.
 pub fn comment_kind(text: &str) -> Option<CommentKind>
     ensures some { IfSome result (λ kind. IsWhole kind (chars text.now)) }
+    ensures line { IfSome result (λ kind. is_line kind ≡ is_line_comment (Content.comment text.now)) }
     ensures none { IfNone result (IsComment (chars text.now) [] → ⊥) }
 {
     if !has_byte(text, 0, b'/') {
