@@ -3,3 +3,4 @@ pub mod Come
 pub mod Above
 pub mod Behind
 pub mod Laws
+pub mod Inserting

@@ -8,14 +8,17 @@
 //! In a sound document whose options allow comments, where a whole comment comes ([`comment_kind`]), the
 //! text is a document again, of the same value and with the same literals and comments but for this one
 //! ([`laws`], `specs/commenting/Laws.antt`). A line comment comes behind an entry only where its line
-//! ends ([`may_end_line`]).
+//! ends ([`may_end_line`]). [`insert_comment`] refuses what is no comment, no entry, or would take the
+//! rest of a line (`specs/commenting/Inserting.antt`).
 
 mod above;
 mod behind;
 mod come;
+mod inserting;
 pub mod laws;
 mod whole;
 
 pub use above::insert_comment_above;
 pub use behind::{insert_comment_behind, may_end_line};
+pub use inserting::{Place, Refusal, insert_comment, is_entry};
 pub use whole::{CommentKind, comment_kind};

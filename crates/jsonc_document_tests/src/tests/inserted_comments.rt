@@ -5,9 +5,7 @@ use crate::tests::reading::read;
 use failing_alloc::awaited::prints;
 use failing_alloc::in_turn::answers_in_turn;
 use failing_alloc::outcome::Outcome;
-use jsonc_edit::commenting::{
-    CommentKind, comment_kind, insert_comment_above, insert_comment_behind, may_end_line,
-};
+use jsonc_edit::commenting::{CommentKind, Place, Refusal, comment_kind, insert_comment};
 use jsonc_edit::find;
 use jsonc_tree::Tree;
 use std::alloc::{Allocator, Global};
@@ -136,22 +134,39 @@ fn entry_at<A: Allocator>(tree: &Tree<A>, path: &[usize], is_property: bool) -> 
     Some(value)
 }
 
-/// Whether the text is this one behind a call that was made, and the old one where memory was wanted for it.
-fn is_made<A: Allocator, E: Into<Outcome>>(
-    tree: &Tree<A>,
-    made: Result<(), E>,
-    old: &str,
-    new: &str,
-) -> Outcome {
-    match made {
-        Ok(()) => Outcome::of(prints(tree, new)),
-        Err(error) => Outcome::of(prints(tree, old)).then(error.into()),
+/// A comment comes to its place, or is refused since it would take the rest of the line.
+fn put<A: Allocator + Copy>(alloc: A, row: &Row, place: Place) -> Outcome {
+    let doc = match read(alloc, row.0) {
+        Ok(doc) => doc,
+        Err(outcome) => return outcome,
+    };
+    let mut tree = match doc.tree().try_clone() {
+        Ok(tree) => tree,
+        Err(error) => return Outcome::from(error),
+    };
+    let Some(entry) = entry_at(&tree, row.1, row.2) else {
+        return Outcome::Other;
+    };
+    let wanted = match place {
+        Place::Above => Some(row.4),
+        Place::Behind => row.5,
+    };
+    match (
+        insert_comment(alloc, &mut tree, entry, row.3, place),
+        wanted,
+    ) {
+        (Ok(()), Some(text)) => Outcome::of(prints(&tree, text)),
+        (Err(Refusal::OutOfMemory), Some(_)) => {
+            Outcome::of(prints(&tree, row.0)).then(Outcome::Wanted)
+        }
+        (Err(Refusal::LineContinues), None) => Outcome::of(prints(&tree, row.0)),
+        _ => Outcome::Other,
     }
 }
 
-/// A comment comes above an entry.
-fn above<A: Allocator + Copy>(alloc: A, row: &Row) -> Outcome {
-    let doc = match read(alloc, row.0) {
+/// What is no comment, and what is no entry, is refused without memory.
+fn is_refused<A: Allocator + Copy>(alloc: A) -> Outcome {
+    let doc = match read(alloc, "[1] // x") {
         Ok(doc) => doc,
         Err(outcome) => return outcome,
     };
@@ -159,42 +174,37 @@ fn above<A: Allocator + Copy>(alloc: A, row: &Row) -> Outcome {
         Ok(tree) => tree,
         Err(error) => return Outcome::from(error),
     };
-    let Some(entry) = entry_at(&tree, row.1, row.2) else {
+    let Some(value) = find(&tree, &[]) else {
         return Outcome::Other;
     };
-    let made = insert_comment_above(alloc, &mut tree, entry, row.3);
-    is_made(&tree, made, row.0, row.4)
-}
-
-/// And one behind it, if it may.
-fn behind<A: Allocator + Copy>(alloc: A, row: &Row) -> Outcome {
-    let doc = match read(alloc, row.0) {
-        Ok(doc) => doc,
-        Err(outcome) => return outcome,
-    };
-    let mut tree = match doc.tree().try_clone() {
-        Ok(tree) => tree,
-        Err(error) => return Outcome::from(error),
-    };
-    let Some(entry) = entry_at(&tree, row.1, row.2) else {
+    let Some(bracket) = tree.first_child(value) else {
         return Outcome::Other;
     };
-    let Some(wanted) = row.5 else {
-        return Outcome::of(!may_end_line(&tree, entry));
-    };
-    let made = insert_comment_behind(alloc, &mut tree, entry, row.3);
-    is_made(&tree, made, row.0, wanted)
+    let text = insert_comment(alloc, &mut tree, value, "c", Place::Above);
+    let root = insert_comment(alloc, &mut tree, 0, "// c", Place::Above);
+    let token = insert_comment(alloc, &mut tree, bracket, "// c", Place::Above);
+    Outcome::of(
+        text == Err(Refusal::InvalidComment)
+            && root == Err(Refusal::NotAnEntry)
+            && token == Err(Refusal::NotAnEntry)
+            && prints(&tree, "[1] // x"),
+    )
 }
 
 #[test]
 fn comments_come_above_and_behind_entries_in_turn(rt: HostRuntime) -> Result<(), Fail> {
     for row in &ROWS {
-        assert!(rt; above::<Global>(rt.alloc(), row) == Outcome::Answered);
-        assert!(rt; behind::<Global>(rt.alloc(), row) == Outcome::Answered);
-        assert!(rt; answers_in_turn(rt.alloc(), |heap| above(heap, row)));
-        assert!(rt; answers_in_turn(rt.alloc(), |heap| behind(heap, row)));
+        for place in [Place::Above, Place::Behind] {
+            assert!(rt; put::<Global>(rt.alloc(), row, place) == Outcome::Answered);
+            assert!(rt; answers_in_turn(rt.alloc(), |heap| put(heap, row, place)));
+        }
     }
     Ok(())
+}
+
+#[test]
+fn other_texts_and_nodes_are_refused(rt: HostRuntime) {
+    assert!(rt; is_refused::<Global>(rt.alloc()) == Outcome::Answered);
 }
 
 #[test]

@@ -12,3 +12,4 @@ pub mod Blanks
 pub mod Behind
 pub mod Places
 pub mod Documents
+pub mod Inserting
