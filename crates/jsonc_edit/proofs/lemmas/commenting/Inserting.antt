@@ -1,5 +1,5 @@
 -- A comment that was put in at a place of an entry.
-use Rattle.std.proofs.Common.{◌≡◌, ◌==◌, ◌||◌, ◌&&◌, ℕ, Bool, true, false, not, inl, inr, List, [], length, Option, Some, None, Result, Ok, Err, OnErr, OnOk, IsTrue, IsUtf8, chars, refl, sym, ap, subst, ◌∙◌}
+use Rattle.std.proofs.Common.{◌≡◌, ◌&&◌, ℕ, Bool, true, false, not, inl, inr, List, [], Option, Some, None, IsTrue, IsUtf8, refl}
 use Rattle.jsonc_text.specs.Options.{Options}
 use Rattle.jsonc_text.specs.Gaps.{IsComment}
 use Rattle.jsonc_text.proofs.Basics.{and_both}
@@ -8,9 +8,9 @@ use Rattle.jsonc_tree.specs.Tree.{Node, parent_at, IsOver, IsTree}
 use Rattle.jsonc_layout.specs.nodes.Kinds.{is_element_at}
 use Rattle.jsonc_sound.specs.Lines.{is_line_comment}
 use Rattle.jsonc_edit.specs.commenting.Behind.{may_end_line}
-use Rattle.jsonc_edit.specs.commenting.Inserting.{holds_entries, is_entry_at, runs_on, Comes, InsertsAmong, InsertsComment, MayCome}
+use Rattle.jsonc_edit.specs.commenting.Inserting.{holds_entries, is_entry_at, Comes, InsertsAmong, InsertsComment, MayCome}
 use Rattle.jsonc_edit.specs.commenting.Laws.{IsEntry}
-use Rattle.jsonc_edit.specs.commenting.Whole.{is_line, IsWhole}
+use Rattle.jsonc_edit.specs.commenting.Whole.{IsWhole}
 use Rattle.jsonc_edit.specs.declared.commenting.inserting.Place.{Place}
 use Rattle.jsonc_edit.specs.declared.commenting.inserting.Place.TheVariants.{Above, Behind}
 use Rattle.jsonc_edit.specs.declared.commenting.whole.CommentKind.{CommentKind}
@@ -21,10 +21,7 @@ pub whole_of : (kind : CommentKind) (t : List ℕ) → IsWhole kind t → IsComm
 whole_of Line t h = inl h
 whole_of Block t h = inr h
 
--- whether the rest of the line would be read into it
-pub runs_by : (kind : CommentKind) (line may : Bool) → is_line kind ≡ line → line && not may ≡ is_line kind && not may
-runs_by kind line may e = ap (λ b. b && not may) (sym e)
-
+-- where it is no line comment, or its line ends
 line_free : (line may : Bool) → line && not may ≡ false → IsTrue line → IsTrue may
 line_free true true e h = refl
 line_free true false e h = cc
