@@ -2,7 +2,7 @@
 use Rattle.std.specs.Prelude.{◌≡◌, ◌==◌, ◌||◌, ◌&&◌, ℕ, Bool, false, not, List, [], Option, Some, None, IsTrue, chars}
 use Rattle.jsonc_text.specs.Options.{Options}
 use Rattle.jsonc_text.specs.Gaps.{IsComment}
-use Rattle.jsonc_tree.specs.Content.{comment}
+use Rattle.jsonc_tree.specs.Content.{Content, comment}
 use Rattle.jsonc_tree.specs.OrderedTree.{ordered_tree}
 use Rattle.jsonc_tree.specs.Tree.{Node, content_at, parent_at, IsOver}
 use Rattle.jsonc_layout.specs.lines.Kinds.{is_array_or_object}
@@ -11,6 +11,7 @@ use Rattle.jsonc_sound.specs.Lines.{is_line_comment}
 use Rattle.jsonc_sound.specs.SoundTrees.{SoundTree}
 use Rattle.jsonc_sound.specs.TreeChanges.{leaves_of}
 use Rattle.jsonc_edit.specs.Changes.{top_at}
+use Rattle.jsonc_edit.specs.Seams.{StandsBetween}
 use Rattle.jsonc_edit.specs.commenting.Above.{ComesAbove}
 use Rattle.jsonc_edit.specs.commenting.Behind.{may_end_line, ComesBehind}
 use Rattle.jsonc_edit.specs.commenting.Laws.{GainsComment, IsCommentInserted, StandsAbove, StandsBehind}
@@ -56,7 +57,11 @@ abbrev pub InsertsComment : Options → List Node → List Node → ℕ → List
 InsertsComment o old new n text =
     SoundTree o (ordered_tree old 0) → IsTrue o.comments → IsOver old 0 n → IsCommentInserted o text (ordered_tree old 0) (ordered_tree new 0)
 
--- and sound or not, it stands there, and all other leaves stay
+-- and sound or not, it stands there beside n, and all other leaves stay
 abbrev pub InsertsAmong : Place → List Node → List Node → ℕ → List ℕ → Type 0
-InsertsAmong Above old new n text = IsOver old 0 n → (gains : GainsComment text (ordered_tree old 0) (ordered_tree new 0)) × StandsAbove gains (leaves_of (top_at old n))
-InsertsAmong Behind old new n text = IsOver old 0 n → (gains : GainsComment text (ordered_tree old 0) (ordered_tree new 0)) × StandsBehind gains (leaves_of (top_at old n))
+InsertsAmong Above old new n text =
+    (front back : List Content) → StandsBetween old n front back
+    → (gains : GainsComment text (ordered_tree old 0) (ordered_tree new 0)) × StandsAbove gains (leaves_of (top_at old n)) front back
+InsertsAmong Behind old new n text =
+    (front back : List Content) → StandsBetween old n front back
+    → (gains : GainsComment text (ordered_tree old 0) (ordered_tree new 0)) × StandsBehind gains (leaves_of (top_at old n)) front back

@@ -20,6 +20,7 @@ use Rattle.jsonc_sound.specs.SoundTrees.{SoundTree}
 use Rattle.jsonc_sound.specs.TreeChanges.{leaves_of}
 use Rattle.jsonc_edit.specs.Changes.{top_at}
 use Rattle.jsonc_edit.specs.Put.{a_space}
+use Rattle.jsonc_edit.specs.Seams.{StandsBetween}
 use Rattle.jsonc_edit.specs.commenting.Above.{ComesAbove}
 use Rattle.jsonc_edit.specs.commenting.Behind.{may_end_line, ComesBehind}
 
@@ -60,12 +61,12 @@ pub record GainsComment (text : List ℕ) (old new : OrderedTree) : Type 0 where
   pub blanks_behind : AreBlanks behind
   pub around : DiffersIn [] (before ++ comment text ∷ behind) (leaves old) (leaves new)
 
--- behind it its line ends, and nothing but blanks stands between it and these leaves
-pub record StandsAbove {text : List ℕ} {old new : OrderedTree} (gains : GainsComment text old new) (own : List Content) : Type 0 where
+-- It stands directly above a node with these leaves, before which these stand, and behind it those: behind the comment its line ends, and blanks alone stand between.
+pub record StandsAbove {text : List ℕ} {old new : OrderedTree} (gains : GainsComment text old new) (own front back : List Content) : Type 0 where
   pub blanks : List Content
-  pub rest : List Content
   pub are_blanks : AreBlanks blanks
-  pub next : gains.around.back ≡ blanks ++ (own ++ rest)
+  pub ahead : front ≡ gains.around.front ++ blanks
+  pub next : gains.around.back ≡ blanks ++ (own ++ back)
   pub line : IsTrue (list_any is_newline gains.behind)
 
 -- whitespace and comments; or such, a comma, and such
@@ -73,22 +74,22 @@ pub data IsTrail : List Content → Type 0 where
   on_line : (x : List Content) → AreInlineTrivia x → IsTrail x
   past_comma : (x y : List Content) → AreInlineTrivia x → AreInlineTrivia y → IsTrail (x ++ token 0x2C ∷ y)
 
--- before it stands one space, and nothing but such a trail between these leaves and that; behind it nothing comes
-pub record StandsBehind {text : List ℕ} {old new : OrderedTree} (gains : GainsComment text old new) (own : List Content) : Type 0 where
-  pub ahead : List Content
+-- It stands behind such a node: before it stands one space, and such a trail alone between the node and that; behind it nothing comes.
+pub record StandsBehind {text : List ℕ} {old new : OrderedTree} (gains : GainsComment text old new) (own front back : List Content) : Type 0 where
   pub trail : List Content
   pub is_trail : IsTrail trail
-  pub last : gains.around.front ≡ ahead ++ (own ++ trail)
+  pub last : gains.around.front ≡ front ++ (own ++ trail)
+  pub rest : back ≡ trail ++ gains.around.back
   pub space : gains.before ≡ a_space ∷ []
   pub none : gains.behind ≡ []
 
--- it comes so, in a document that is not sound too: above the leaves of n, or behind them
+-- it comes so above a node of the document, or behind it, in a document that is not sound too
 abbrev pub GainsAbove : List Node → List Node → ℕ → List ℕ → Type 0
 GainsAbove old new n text =
-    IsTree old → IsOver old 0 n → ComesAbove old new n text → (c : ℕ) → parent_at old n ≡ Some c
-    → (gains : GainsComment text (ordered_tree old 0) (ordered_tree new 0)) × StandsAbove gains (leaves_of (top_at old n))
+    IsTree old → ComesAbove old new n text → (c : ℕ) → parent_at old n ≡ Some c → (front back : List Content) → StandsBetween old n front back
+    → (gains : GainsComment text (ordered_tree old 0) (ordered_tree new 0)) × StandsAbove gains (leaves_of (top_at old n)) front back
 
 abbrev pub GainsBehind : List Node → List Node → ℕ → List ℕ → Type 0
 GainsBehind old new n text =
-    IsTree old → IsOver old 0 n → ComesBehind old new n text → (c : ℕ) → parent_at old n ≡ Some c
-    → (gains : GainsComment text (ordered_tree old 0) (ordered_tree new 0)) × StandsBehind gains (leaves_of (top_at old n))
+    IsTree old → ComesBehind old new n text → (c : ℕ) → parent_at old n ≡ Some c → (front back : List Content) → StandsBetween old n front back
+    → (gains : GainsComment text (ordered_tree old 0) (ordered_tree new 0)) × StandsBehind gains (leaves_of (top_at old n)) front back

@@ -78,7 +78,7 @@ module _ (old new : List Node) (tree : IsTree old) (c place : ℕ) (contents : L
       subst (λ (l : List ℕ). Shows r.ready l (followed_by cut.front cut.back)) (take-append-drop place (children_at r.ready c))
       (Shows-append r.ready (take place (children_at r.ready c)) (drop place (children_at r.ready c)) cut.front cut.back ahead_ready behind_ready)
 
-  row_now : Shows new (children_at new c) (followed_by cut.front (leaves_then contents cut.back))
+  pub row_now : Shows new (children_at new c) (followed_by cut.front (leaves_then contents cut.back))
   row_now =
       subst (λ t. Shows new (children_at new c) (followed_by cut.front t)) (then_joined contents cut.back)
       (Shows-spliced r.ready new r.prepared.tree r.tree c place place r.row r.put r.join cut.front (leaves_then contents none) cut.back ahead_ready (filled_shown old r.ready r.prepared.tree contents r.row trivia r.filled) behind_ready)

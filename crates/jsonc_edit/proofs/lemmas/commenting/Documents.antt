@@ -1,14 +1,15 @@
 -- What becomes of a document into which a comment comes.
-use Rattle.std.proofs.Common.{◌≡◌, ◌∙◌, ℕ, ◌+◌, ◌<◌, Bool, true, false, List, [], ◌∷◌, ◌++◌, length, None, Some, IsTrue, refl, sym, ap, subst, chars}
+use Rattle.std.proofs.Common.{◌≡◌, ◌∙◌, ℕ, ◌+◌, ◌<◌, Bool, true, false, List, [], ◌∷◌, ◌++◌, length, take, drop, None, Some, IsTrue, refl, sym, ap, subst, chars}
 use Rattle.std.proofs.lemmas.List.{append_assoc}
 use Rattle.jsonc_text.specs.Options.{Options}
 use Rattle.jsonc_text.specs.Gaps.{IsComment}
 use Rattle.jsonc_text.specs.Grammar.{IsDocument}
 use Rattle.jsonc_tree.specs.Content.{Content, comment, newline, whitespace}
-use Rattle.jsonc_tree.specs.OrderedTree.{OrderedTree, leaves, ordered_tree}
+use Rattle.jsonc_tree.specs.OrderedTree.{OrderedTree, leaves, ordered_tree, own_leaf, Shows}
 use Rattle.jsonc_tree.specs.Tree.{Node, content_at, children_at, parent_at, place_at, IsOver, IsTree}
 use Rattle.jsonc_tree.specs.declared.node.CstNewlineKind.{CstNewlineKind}
 use Rattle.jsonc_tree.proofs.Order.{over_step, parent_there}
+use Rattle.jsonc_tree.proofs.OrderedTrees.{Shows-unique}
 use Rattle.jsonc_layout.specs.lines.Breadth.{newline_kind_at}
 use Rattle.jsonc_sound.specs.ChangeLaws.{DiffersIn}
 use Rattle.jsonc_sound.specs.Lines.{is_line_comment}
@@ -19,16 +20,19 @@ use Rattle.jsonc_sound.specs.SoundTrees.{SoundTree}
 use Rattle.jsonc_sound.specs.TreeChanges.{leaves_of}
 use Rattle.jsonc_sound.specs.TriviaChanges.{AreTrivia}
 use Rattle.jsonc_sound.proofs.ReplacedStretches.{marks_differ}
-use Rattle.jsonc_sound.proofs.RowsWithin.{both_within}
 use Rattle.jsonc_sound.proofs.ShapeValues.{document_printed}
 use Rattle.jsonc_edit.specs.Changes.{top_at}
 use Rattle.jsonc_edit.specs.Put.{a_space}
+use Rattle.jsonc_edit.specs.Seams.{StandsBetween}
 use Rattle.jsonc_edit.specs.commenting.Above.{begins_own_line, indent_in, new_line, own_indent, own_line, seam_at, ComesAbove, ComesAboveBy}
 use Rattle.jsonc_edit.specs.commenting.Behind.{comment_follows, may_end_line, spaced, ComesBehind}
 use Rattle.jsonc_edit.specs.commenting.Come.{LeavesCome}
 use Rattle.jsonc_edit.specs.commenting.Laws.{GainsAbove, GainsBehind, GainsComment, InsertsAbove, InsertsBehind, IsCommentInserted, IsEntry, StandsAbove, StandsBehind}
+use Rattle.jsonc_edit.proofs.LeavesAroundNodes.{within, Within}
 use Rattle.jsonc_edit.proofs.OneValue.{document_once}
+use Rattle.jsonc_edit.proofs.SeamsAround.{holds_children}
 use Rattle.jsonc_edit.proofs.lemmas.commenting.Above.{at_line, at_seam}
+use Rattle.jsonc_edit.proofs.lemmas.commenting.Around.{come_around}
 use Rattle.jsonc_edit.proofs.lemmas.commenting.Behind.{comes_behind}
 use Rattle.jsonc_edit.proofs.lemmas.commenting.Blanks.{end_child}
 use Rattle.jsonc_edit.proofs.lemmas.commenting.Coming.{come_replaced, cut_at}
@@ -68,65 +72,99 @@ module _ (old new : List Node) (tree : IsTree old) (text : List ℕ) (c place : 
         sound = arrived.sound;
       }
 
-regroup : (a b c d : List Content) → (a ++ (b ++ c)) ++ d ≡ a ++ (b ++ (c ++ d))
-regroup a b c d = append_assoc a (b ++ c) d ∙ ap (λ l. a ++ l) (append_assoc b c d)
-
 module _ (old new : List Node) (n : ℕ) (text : List ℕ) (tree : IsTree old) where
   -- a child's container is in the document with it
   over_container : (c : ℕ) → IsOver old 0 n → parent_at old n ≡ Some c → IsOver old 0 c
   over_container c over said = over_step old tree 0 n c over (λ same. (let wrong : Some c ≡ None = sym said ∙ ap (parent_at old) same ∙ tree.root_alone in cc)) said
 
   -- where the comment stands among the leaves
-  module _ (c : ℕ) (said : parent_at old n ≡ Some c) (over : IsOver old 0 c) where
+  module _ (c : ℕ) (said : parent_at old n ≡ Some c) (front back : List Content) (stands : StandsBetween old n front back) where
     there : c < length old
     there = (parent_there old tree n c said).1
 
-    above_on_line : (k : CstNewlineKind) (indent : List ℕ) → LeavesCome old new c (place_at old n) (own_line k text indent) → (gains : GainsComment text (ordered_tree old 0) (ordered_tree new 0)) × StandsAbove gains (leaves_of (top_at old n))
+    w : Within old n c front back
+    w = within old tree n c front back said stands
+
+    bare : own_leaf (content_at old c) ≡ []
+    bare = holds_children old tree n c said
+
+    -- the leaves from the node on
+    from_there : (blanks u : List Content) (after : OrderedTree) → Shows old (drop (place_at old n + 1) (children_at old c)) after → u ≡ blanks ++ (leaves_of (top_at old n) ++ leaves after) → u ++ w.d ≡ blanks ++ (leaves_of (top_at old n) ++ back)
+    from_there blanks u after shown e =
+        let own = leaves_of (top_at old n) in
+        let rest : leaves after ++ w.d ≡ back = ap (λ t. leaves t ++ w.d) (Shows-unique old (drop (place_at old n + 1) (children_at old c)) after w.back shown w.behind) ∙ sym w.last in
+        ap (λ l. l ++ w.d) e ∙ append_assoc blanks (own ++ leaves after) w.d ∙ ap (λ l. blanks ++ l) (append_assoc own (leaves after) w.d ∙ ap (λ l. own ++ l) rest)
+
+    up_to_there : (blanks t : List Content) → leaves w.front ≡ t ++ blanks → front ≡ (w.g ++ t) ++ blanks
+    up_to_there blanks t e = w.first ∙ ap (λ l. w.g ++ l) e ∙ sym (append_assoc w.g t blanks)
+
+    above_on_line : (k : CstNewlineKind) (indent : List ℕ) → LeavesCome old new c (place_at old n) (own_line k text indent) → (gains : GainsComment text (ordered_tree old 0) (ordered_tree new 0)) × StandsAbove gains (leaves_of (top_at old n)) front back
     above_on_line k indent r =
         let cut = cut_at old tree c there (place_at old n) in
-        let replaced = come_replaced old new tree c (place_at old n) (own_line k text indent) r (own k text indent).trivia there cut over in
-        let w = both_within replaced in
-        let s = starts_itself old tree n c said [] [] cut.back cut.behind in (
+        let s = starts_itself old tree n c said [] [] cut.front cut.back cut.ahead cut.behind in (
           record {
             before = [];
             behind = newline k ∷ whitespace indent ∷ [];
             blanks_before = tt;
             blanks_behind = (refl, (refl, tt));
-            around = come_differs (own_line k text indent) cut.front cut.back (own k text indent).trivia replaced;
+            around = come_around old new tree c (place_at old n) (own_line k text indent) r (own k text indent).trivia there cut bare w.g w.d w.up;
           },
-          record { blanks = s.0; rest = s.1 ++ w.back; are_blanks = s.2; next = ap (λ l. l ++ w.back) s.3 ∙ regroup s.0 (leaves_of (top_at old n)) s.1 w.back; line = refl },
+          record {
+            blanks = s.blanks;
+            are_blanks = s.are_blanks;
+            ahead = up_to_there s.blanks (leaves cut.front) (s.ahead w.front w.before);
+            next = from_there s.blanks (leaves cut.back) s.after s.shown s.next;
+            line = refl;
+          },
         )
 
     above_at_seam : (k : CstNewlineKind) (indent : List ℕ) → (let seam = seam_at old n indent in LeavesCome old new c (place_at old seam.node) (new_line k indent (own_line k text seam.indent)))
-        → (gains : GainsComment text (ordered_tree old 0) (ordered_tree new 0)) × StandsAbove gains (leaves_of (top_at old n))
+        → (gains : GainsComment text (ordered_tree old 0) (ordered_tree new 0)) × StandsAbove gains (leaves_of (top_at old n)) front back
     above_at_seam k indent r =
         let seam = seam_at old n indent in
         let cut = cut_at old tree c there (place_at old seam.node) in
-        let replaced = come_replaced old new tree c (place_at old seam.node) (new_line k indent (own_line k text seam.indent)) r (lined k indent text seam.indent).trivia there cut over in
-        let w = both_within replaced in
-        let s = starts_seam old tree n c said indent cut.back cut.behind in (
+        let s = starts_seam old tree n c said indent cut.front cut.back cut.ahead cut.behind in (
           record {
             before = newline k ∷ whitespace indent ∷ [];
             behind = newline k ∷ whitespace seam.indent ∷ [];
             blanks_before = (refl, (refl, tt));
             blanks_behind = (refl, (refl, tt));
-            around = come_differs (new_line k indent (own_line k text seam.indent)) cut.front cut.back (lined k indent text seam.indent).trivia replaced;
+            around = come_around old new tree c (place_at old seam.node) (new_line k indent (own_line k text seam.indent)) r (lined k indent text seam.indent).trivia there cut bare w.g w.d w.up;
           },
-          record { blanks = s.0; rest = s.1 ++ w.back; are_blanks = s.2; next = ap (λ l. l ++ w.back) s.3 ∙ regroup s.0 (leaves_of (top_at old n)) s.1 w.back; line = refl },
+          record {
+            blanks = s.blanks;
+            are_blanks = s.are_blanks;
+            ahead = up_to_there s.blanks (leaves cut.front) (s.ahead w.front w.before);
+            next = from_there s.blanks (leaves cut.back) s.after s.shown s.next;
+            line = refl;
+          },
         )
 
-    behind_it : LeavesCome old new c (place_at old (comment_follows old n text) + 1) (spaced text) → (gains : GainsComment text (ordered_tree old 0) (ordered_tree new 0)) × StandsBehind gains (leaves_of (top_at old n))
+    behind_it : LeavesCome old new c (place_at old (comment_follows old n text) + 1) (spaced text) → (gains : GainsComment text (ordered_tree old 0) (ordered_tree new 0)) × StandsBehind gains (leaves_of (top_at old n)) front back
     behind_it r =
         let place = place_at old (comment_follows old n text) + 1 in
         let cut = cut_at old tree c there place in
-        let replaced = come_replaced old new tree c place (spaced text) r (beside text).trivia there cut over in
-        let w = both_within replaced in
-        let s = ends_behind old tree n c said text (end_child old tree n c said) cut.front cut.ahead in (
-          record { before = a_space ∷ []; behind = []; blanks_before = (refl, tt); blanks_behind = tt; around = come_differs (spaced text) cut.front cut.back (beside text).trivia replaced },
-          record { ahead = w.front ++ s.0; trail = s.1; is_trail = s.2; last = ap (λ l. w.front ++ l) s.3 ∙ sym (append_assoc w.front s.0 (leaves_of (top_at old n) ++ s.1)); space = refl; none = refl },
+        let s = ends_behind old tree n c said text (end_child old tree n c said) cut.front cut.back cut.ahead cut.behind in
+        let own = leaves_of (top_at old n) in
+        let first : w.g ++ leaves s.before ≡ front = ap (λ t. w.g ++ leaves t) (Shows-unique old (take (place_at old n) (children_at old c)) s.before w.front s.shown w.before) ∙ sym w.first in (
+          record {
+            before = a_space ∷ [];
+            behind = [];
+            blanks_before = (refl, tt);
+            blanks_behind = tt;
+            around = come_around old new tree c place (spaced text) r (beside text).trivia there cut bare w.g w.d w.up;
+          },
+          record {
+            trail = s.trail;
+            is_trail = s.is_trail;
+            last = ap (λ l. w.g ++ l) s.last ∙ sym (append_assoc w.g (leaves s.before) (own ++ s.trail)) ∙ ap (λ l. l ++ (own ++ s.trail)) first;
+            rest = w.last ∙ ap (λ l. l ++ w.d) (s.rest w.back w.behind) ∙ append_assoc s.trail (leaves cut.back) w.d;
+            space = refl;
+            none = refl;
+          },
         )
 
-    gains_by : (b : Bool) → ComesAboveBy b old new c n text → (gains : GainsComment text (ordered_tree old 0) (ordered_tree new 0)) × StandsAbove gains (leaves_of (top_at old n))
+    gains_by : (b : Bool) → ComesAboveBy b old new c n text → (gains : GainsComment text (ordered_tree old 0) (ordered_tree new 0)) × StandsAbove gains (leaves_of (top_at old n)) front back
     gains_by true r = above_on_line (newline_kind_at old c) (own_indent old n) r
     gains_by false r = above_at_seam (newline_kind_at old c) (indent_in old c) r
 
@@ -149,7 +187,7 @@ inserts_behind o old new n text tree sound allowed whole e may r =
     (comes_behind o old new n text tree sound allowed whole e may r)
 
 pub gains_above : (old new : List Node) (n : ℕ) (text : List ℕ) → GainsAbove old new n text
-gains_above old new n text tree over r c said = gains_by old new n text tree c said (over_container old new n text tree c over said) (begins_own_line old n) (r c said)
+gains_above old new n text tree r c said front back stands = gains_by old new n text tree c said front back stands (begins_own_line old n) (r c said)
 
 pub gains_behind : (old new : List Node) (n : ℕ) (text : List ℕ) → GainsBehind old new n text
-gains_behind old new n text tree over r c said = behind_it old new n text tree c said (over_container old new n text tree c over said) (r c said)
+gains_behind old new n text tree r c said front back stands = behind_it old new n text tree c said front back stands (r c said)

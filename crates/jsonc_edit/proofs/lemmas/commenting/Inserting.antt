@@ -39,10 +39,17 @@ module _ (old new : List Node) (n : ℕ) (text : List ℕ) (tree : IsTree old) (
         by None said h = cc
         by (Some c) said h = record { container = c; parent = said; below = over; element = parts.0; holds = h }
 
+    has_parent : (c : ℕ) × (parent_at old n ≡ Some c)
+    has_parent = by (parent_at old n) refl parts.1
+      where
+        by : (o : Option ℕ) → parent_at old n ≡ o → IsTrue (holds_entries old o) → (c : ℕ) × (parent_at old n ≡ Some c)
+        by None said h = cc
+        by (Some c) said h = (c, said)
+
   pub inserts : (place : Place) → MayCome place old n text → Comes place old new n text → (o : Options) → InsertsComment o old new n text
   inserts Above may comes o = λ sound allowed over. inserts_above o old new n text tree sound allowed (utf8, may.whole) (an_entry may.entry over) comes
   inserts Behind may comes o = λ sound allowed over. inserts_behind o old new n text tree sound allowed (utf8, may.whole) (an_entry may.entry over) (line_free (is_line_comment (comment text)) (may_end_line old n) may.line) comes
 
   pub among : (place : Place) → MayCome place old n text → Comes place old new n text → InsertsAmong place old new n text
-  among Above may comes = λ over. let e = an_entry may.entry over in gains_above old new n text tree over comes e.container e.parent
-  among Behind may comes = λ over. let e = an_entry may.entry over in gains_behind old new n text tree over comes e.container e.parent
+  among Above may comes = λ front back stands. gains_above old new n text tree comes (has_parent may.entry).0 (has_parent may.entry).1 front back stands
+  among Behind may comes = λ front back stands. gains_behind old new n text tree comes (has_parent may.entry).0 (has_parent may.entry).1 front back stands

@@ -1,9 +1,10 @@
 -- Where a comment has come: what stands behind it, or before it, among the leaves.
-use Rattle.std.proofs.Common.{◌≡◌, ◌∙◌, ℕ, suc, ◌+◌, ◌-◌, ◌<◌, ◌≤◌, not, Bool, true, false, cond, inl, inr, List, [], ◌∷◌, ◌++◌, length, take, drop, slice_index, Option, Some, None, option_and_then, IsTrue, refl, sym, ap, subst, arith, append_assoc, length-append, length-take, length-drop, get_or-drop}
+use Rattle.std.proofs.Common.{◌≡◌, ◌∙◌, ℕ, suc, ◌+◌, ◌-◌, ◌<◌, ◌≤◌, not, Bool, true, false, cond, inl, inr, List, [], ◌∷◌, ◌++◌, length, take, drop, slice_index, Option, Some, None, option_and_then, IsTrue, refl, sym, ap, subst, arith, append_assoc, append-nil, length-append, length-take, length-drop, get_or-drop}
 use Rattle.std.specs.List.{find}
 use Rattle.std.proofs.lemmas.Bool.{cases_Bool}
-use Rattle.std.proofs.lemmas.List.{drop_more, take-append-drop}
+use Rattle.std.proofs.lemmas.List.{append_cancel_left, drop_more, take_more, take-append-drop}
 use Rattle.std.proofs.Math.Seq.{get_or-append_seam, take-append-add, take-append_seam}
+use Rattle.jsonc_text.proofs.Basics.{tails}
 use Rattle.jsonc_tree.specs.Content.{Content, is_container, token}
 use Rattle.jsonc_tree.specs.Order.{with_parent}
 use Rattle.jsonc_tree.specs.OrderedTree.{OrderedTree, none, more, own_leaf, leaves, followed_by, Shows, shows_none, shows_more}
@@ -51,22 +52,42 @@ module _ (ns : List Node) (tree : IsTree ns) where
         )
 
     -- and so behind whitespace
-    pub from_blank : (m : ℕ) (s : List ℕ) → content_at ns m ≡ Content.whitespace s → (t : OrderedTree) → Shows ns (m ∷ n ∷ rest) t → (after : OrderedTree) × (leaves t ≡ (Content.whitespace s ∷ []) ++ (leaves_of (top_at ns n) ++ leaves after))
+    pub from_blank : (m : ℕ) (s : List ℕ) → content_at ns m ≡ Content.whitespace s → (t : OrderedTree) → Shows ns (m ∷ n ∷ rest) t
+        → (after : OrderedTree) × (leaves t ≡ (Content.whitespace s ∷ []) ++ (leaves_of (top_at ns n) ++ leaves after)) × Shows ns rest after
     from_blank m s e t shown =
         let one = first_of ns m (n ∷ rest) t shown in
         let two = from_node one.1 one.4 in
         let bare : one.0 ≡ none = bare_leaf m one.0 (ap is_container e) one.3 in (
           two.0,
           ap leaves one.2 ∙ ap (λ b. own_leaf (content_at ns m) ++ (leaves b ++ leaves one.1)) bare ∙ ap (λ w. own_leaf w ++ leaves one.1) e ∙ ap (λ l. Content.whitespace s ∷ l) two.1,
+          two.2,
         )
+
+  one_blank : (m : ℕ) (s : List ℕ) → content_at ns m ≡ Content.whitespace s → (t : OrderedTree) → Shows ns (m ∷ []) t → leaves t ≡ Content.whitespace s ∷ []
+  one_blank m s e t shown =
+      let one = first_of ns m [] t shown in
+      let bare : one.0 ≡ none = bare_leaf m one.0 (ap is_container e) one.3 in
+      ap leaves one.2 ∙ ap (λ b. own_leaf (content_at ns m) ++ (leaves b ++ leaves one.1)) bare ∙ ap (λ w. own_leaf w ++ leaves one.1) e ∙ ap (λ a. Content.whitespace s ∷ leaves a) (nothing one.4)
+    where
+      nothing : {a : OrderedTree} → Shows ns [] a → a ≡ none
+      nothing shows_none = refl
 
   -- behind the seam blanks alone stand before n
   module _ (n c : ℕ) (said : parent_at ns n ≡ Some c) (indent : List ℕ) where
     abbrev kids : List ℕ
     kids = children_at ns c
 
+    -- these trees stand before the seam and behind it
+    pub record Started (t u : OrderedTree) : Type 0 where
+      pub blanks : List Content
+      pub are_blanks : AreBlanks blanks
+      pub after : OrderedTree
+      pub shown : Shows ns (drop (place_at ns n + 1) kids) after
+      pub next : leaves u ≡ blanks ++ (leaves_of (top_at ns n) ++ leaves after)
+      pub ahead : (v : OrderedTree) → Shows ns (take (place_at ns n) kids) v → leaves v ≡ leaves t ++ blanks
+
     abbrev pub Starts : Seam → Type 0
-    Starts seam = (t : OrderedTree) → Shows ns (drop (place_at ns seam.node) kids) t → (blanks rest : List Content) × AreBlanks blanks × (leaves t ≡ blanks ++ (leaves_of (top_at ns n) ++ rest))
+    Starts seam = (t u : OrderedTree) → Shows ns (take (place_at ns seam.node) kids) t → Shows ns (drop (place_at ns seam.node) kids) u → Started t u
 
     there : n < length ns
     there = (parent_there ns tree n c said).0
@@ -75,17 +96,35 @@ module _ (ns : List Node) (tree : IsTree ns) where
     from_n = drop_more kids (place_at ns n) 0 (tree.within n c said) ∙ ap (λ (m : ℕ). m ∷ drop (place_at ns n + 1) kids) (tree.found n c said)
 
     pub starts_itself : (indent : List ℕ) → Starts (record { node = n; indent = indent })
-    starts_itself any t shown =
-        let one = from_node n there (drop (place_at ns n + 1) kids) t (subst (λ (l : List ℕ). Shows ns l t) from_n shown) in
-        ([], leaves one.0, tt, one.1)
+    starts_itself any t u before behind =
+        let one = from_node n there (drop (place_at ns n + 1) kids) u (subst (λ (l : List ℕ). Shows ns l u) from_n behind) in
+        record {
+          blanks = [];
+          are_blanks = tt;
+          after = one.0;
+          shown = one.2;
+          next = one.1;
+          ahead = λ v s. ap leaves (Shows-unique ns (take (place_at ns n) kids) v t s before) ∙ sym (append-nil (leaves t));
+        }
 
     starts_blank : (m : ℕ) → first (siblings_before ns n) ≡ Some m → (s rest : List ℕ) → content_at ns m ≡ Content.whitespace s → Starts (record { node = m; indent = rest })
-    starts_blank m is s rest blank t shown =
-        let before = before_is ns tree c (place_at ns n) m (sym (previous_at ns tree c n said) ∙ is) in
+    starts_blank m is s rest blank t u before behind =
+        let child = before_is ns tree c (place_at ns n) m (sym (previous_at ns tree c n said) ∙ is) in
         let starts : drop (place_at ns m) kids ≡ m ∷ n ∷ drop (place_at ns n + 1) kids =
-        drop_more kids (place_at ns m) 0 (tree.within m c before.0) ∙ ap (λ k. slice_index kids (place_at ns m) ∷ drop k kids) before.1 ∙ ap (λ (k : ℕ). k ∷ drop (place_at ns n) kids) (tree.found m c before.0) ∙ ap (λ (l : List ℕ). m ∷ l) from_n in
-        let one = from_blank n there (drop (place_at ns n + 1) kids) m s blank t (subst (λ (l : List ℕ). Shows ns l t) starts shown) in
-        (Content.whitespace s ∷ [], leaves one.0, (refl, tt), one.1)
+        drop_more kids (place_at ns m) 0 (tree.within m c child.0) ∙ ap (λ k. slice_index kids (place_at ns m) ∷ drop k kids) child.1 ∙ ap (λ (k : ℕ). k ∷ drop (place_at ns n) kids) (tree.found m c child.0) ∙ ap (λ (l : List ℕ). m ∷ l) from_n in
+        let upto : take (place_at ns n) kids ≡ take (place_at ns m) kids ++ m ∷ [] =
+        ap (λ k. take k kids) (sym child.1) ∙ take_more kids (place_at ns m) 0 (tree.within m c child.0) ∙ ap (λ (k : ℕ). take (place_at ns m) kids ++ k ∷ []) (tree.found m c child.0) in
+        let one = from_blank n there (drop (place_at ns n + 1) kids) m s blank u (subst (λ (l : List ℕ). Shows ns l u) starts behind) in
+        record {
+          blanks = Content.whitespace s ∷ [];
+          are_blanks = (refl, tt);
+          after = one.0;
+          shown = one.2;
+          next = one.1;
+          ahead = λ v shows.
+              let parts = Shows-part ns (take (place_at ns m) kids) (m ∷ []) v (subst (λ (l : List ℕ). Shows ns l v) upto shows) in
+              ap leaves parts.2 ∙ leaves-followed_by parts.0 parts.1 ∙ ap (λ x. leaves x ++ leaves parts.1) (Shows-unique ns (take (place_at ns m) kids) parts.0 t parts.3 before) ∙ ap (λ l. leaves t ++ l) (one_blank m s blank parts.1 parts.4);
+        }
 
     by_rest : (m : ℕ) → first (siblings_before ns n) ≡ Some m → (s : List ℕ) → content_at ns m ≡ Content.whitespace s → (t : Option (List ℕ)) → Starts (seam_by n m indent t)
     by_rest m is s blank None = starts_itself indent
@@ -229,14 +268,40 @@ module _ (ns : List Node) (tree : IsTree ns) where
         by true = follows_blanks ns tree c (end_of_entry ns n) child
         by false = follows_itself ns tree c (end_of_entry ns n) child
 
-    pub ends_behind : (text : List ℕ) → parent_at ns (end_of_entry ns n) ≡ Some c → (t : OrderedTree) → Shows ns (take (place_at ns (comment_follows ns n text) + 1) children) t
-        → (ahead trail : List Content) × IsTrail trail × (leaves t ≡ ahead ++ (leaves_of (top_at ns n) ++ trail))
-    ends_behind text child t shown =
-        let e = by_next (after_inline_trivia_at ns n) refl (comment_follows ns n text) (follows_end text child) in
-        let parts = Shows-part ns (take p children) (n ∷ e.between) t (subst (λ (l : List ℕ). Shows ns l t) e.ahead shown) in
-        let one = from_node n (parent_there ns tree n c said).0 e.between parts.1 parts.4 in (
-          leaves parts.0,
-          leaves one.0,
-          trail_shown e.between one.0 e.trail one.2,
-          ap leaves parts.2 ∙ leaves-followed_by parts.0 parts.1 ∙ ap (λ l. leaves parts.0 ++ l) one.1,
-        )
+    -- these trees stand before the comment and behind it
+    pub record Ended (t u : OrderedTree) : Type 0 where
+      pub trail : List Content
+      pub is_trail : IsTrail trail
+      pub before : OrderedTree
+      pub shown : Shows ns (take p children) before
+      pub last : leaves t ≡ leaves before ++ (leaves_of (top_at ns n) ++ trail)
+      pub rest : (v : OrderedTree) → Shows ns (drop (p + 1) children) v → leaves v ≡ trail ++ leaves u
+
+    module _ (l : ℕ) (e : Trails l) where
+      both_ways : take p children ++ (n ∷ drop (p + 1) children) ≡ take p children ++ (n ∷ (e.between ++ drop (place_at ns l + 1) children))
+      both_ways =
+          sym (sym (take-append-drop p children) ∙ ap (λ (x : List ℕ). take p children ++ x) (drop_more children p 0 (tree.within n c said) ∙ ap (λ (k : ℕ). k ∷ drop (p + 1) children) (tree.found n c said)))
+          ∙ sym (take-append-drop (place_at ns l + 1) children) ∙ ap (λ (x : List ℕ). x ++ drop (place_at ns l + 1) children) e.ahead ∙ append_assoc (take p children) (n ∷ e.between) (drop (place_at ns l + 1) children)
+
+      behind_n : drop (p + 1) children ≡ e.between ++ drop (place_at ns l + 1) children
+      behind_n = tails (append_cancel_left (take p children) (n ∷ drop (p + 1) children) (n ∷ (e.between ++ drop (place_at ns l + 1) children)) both_ways)
+
+      ended : (t u : OrderedTree) → Shows ns (take (place_at ns l + 1) children) t → Shows ns (drop (place_at ns l + 1) children) u → Ended t u
+      ended t u before behind =
+          let parts = Shows-part ns (take p children) (n ∷ e.between) t (subst (λ (x : List ℕ). Shows ns x t) e.ahead before) in
+          let one = from_node n (parent_there ns tree n c said).0 e.between parts.1 parts.4 in
+          record {
+            trail = leaves one.0;
+            is_trail = trail_shown e.between one.0 e.trail one.2;
+            before = parts.0;
+            shown = parts.3;
+            last = ap leaves parts.2 ∙ leaves-followed_by parts.0 parts.1 ∙ ap (λ x. leaves parts.0 ++ x) one.1;
+            rest = λ v shows.
+                let both = Shows-part ns e.between (drop (place_at ns l + 1) children) v (subst (λ (x : List ℕ). Shows ns x v) behind_n shows) in
+                ap leaves both.2 ∙ leaves-followed_by both.0 both.1 ∙ ap (λ x. leaves x ++ leaves both.1) (Shows-unique ns e.between both.0 one.0 both.3 one.2)
+                ∙ ap (λ x. leaves one.0 ++ leaves x) (Shows-unique ns (drop (place_at ns l + 1) children) both.1 u both.4 behind);
+          }
+
+    pub ends_behind : (text : List ℕ) → parent_at ns (end_of_entry ns n) ≡ Some c → (t u : OrderedTree) → Shows ns (take (place_at ns (comment_follows ns n text) + 1) children) t → Shows ns (drop (place_at ns (comment_follows ns n text) + 1) children) u → Ended t u
+    ends_behind text child t u before behind =
+        ended (comment_follows ns n text) (by_next (after_inline_trivia_at ns n) refl (comment_follows ns n text) (follows_end text child)) t u before behind
