@@ -1,7 +1,6 @@
 -- A comment comes above an entry of a sound document.
-use Rattle.std.proofs.Common.{◌≡◌, ◌∙◌, ℕ, zero, suc, ◌+◌, ◌-◌, ◌<◌, ◌≤◌, ◌&&◌, Bool, true, false, inl, inr, List, [], ◌∷◌, ◌++◌, length, take, drop, reverse, slice_index, Option, Some, None, option_and_then, IsTrue, refl, sym, ap, subst, arith}
+use Rattle.std.proofs.Common.{◌≡◌, ◌∙◌, ℕ, ◌+◌, ◌<◌, ◌&&◌, Bool, true, false, inl, inr, List, [], ◌∷◌, ◌++◌, length, take, drop, reverse, slice_index, Option, Some, None, option_and_then, IsTrue, refl, sym, ap, subst}
 use Rattle.std.specs.List.{list_all, take_while}
-use Rattle.std.proofs.lemmas.Bool.{cases_Bool}
 use Rattle.std.proofs.lemmas.List.{drop_more, reverse-append, reverse-reverse}
 use Rattle.std.proofs.lemmas.List.Folds.{list_all-append}
 use Rattle.jsonc_text.specs.Options.{Options}
@@ -9,32 +8,32 @@ use Rattle.jsonc_text.specs.Gaps.{IsComment}
 use Rattle.jsonc_text.proofs.Basics.{and_both}
 use Rattle.jsonc_tree.specs.Content.{Content, token}
 use Rattle.jsonc_tree.specs.Order.{with_parent}
-use Rattle.jsonc_tree.specs.OrderedTree.{OrderedTree, none, more, leaves, ordered_tree, Shows}
+use Rattle.jsonc_tree.specs.OrderedTree.{OrderedTree, more, leaves, ordered_tree, Shows}
 use Rattle.jsonc_tree.specs.Siblings.{first, siblings_before}
 use Rattle.jsonc_tree.specs.Tree.{Node, content_at, children_at, parent_at, place_at, IsOver, IsTree}
 use Rattle.jsonc_tree.specs.declared.node.CstNewlineKind.{CstNewlineKind}
 use Rattle.jsonc_layout.specs.lines.Breadth.{newline_kind_at}
 use Rattle.jsonc_layout.specs.lines.Kinds.{blank_at, blank_of, is_array_or_object}
 use Rattle.jsonc_layout.specs.nodes.Kinds.{is_whitespace_at}
-use Rattle.jsonc_layout.specs.nodes.Siblings.{is_no_newline_at, line_before}
+use Rattle.jsonc_layout.specs.nodes.Siblings.{is_no_newline_at}
 use Rattle.jsonc_sound.specs.Lines.{ends_loosely}
 use Rattle.jsonc_sound.specs.Shape.{IsText}
 use Rattle.jsonc_sound.specs.SoundTrees.{SoundTree}
 use Rattle.jsonc_sound.specs.TriviaChanges.{leaves_then}
 use Rattle.jsonc_sound.proofs.LooseChanges.{element_no_end}
 use Rattle.jsonc_edit.specs.Writing.{IsIndent}
-use Rattle.jsonc_edit.specs.commenting.Above.{begins_own_line, indent_in, new_line, own_indent, own_line, seam_at, seam_behind, seam_by, without_end, ComesAbove, ComesAboveBy, ComesAtSeam, Seam}
+use Rattle.jsonc_edit.specs.commenting.Above.{begins_own_line, indent_in, new_line, own_indent, own_line, seam_at, seam_behind, seam_by, without_end, ComesAboveBy, ComesAtSeam, Seam}
 use Rattle.jsonc_edit.specs.commenting.Come.{LeavesCome}
 use Rattle.jsonc_edit.specs.commenting.Laws.{IsEntry}
 use Rattle.jsonc_edit.proofs.FittingIndents.{trivia_blank}
 use Rattle.jsonc_edit.proofs.InsertedSpaces.{first_of}
 use Rattle.jsonc_edit.proofs.RowEnds.{before_is, previous_at}
-use Rattle.jsonc_edit.proofs.lemmas.commenting.Arriving.{arrival, no_root}
+use Rattle.jsonc_edit.proofs.lemmas.commenting.Arriving.{arrival}
 use Rattle.jsonc_edit.proofs.lemmas.commenting.Coming.{cut_at, Cut}
 use Rattle.jsonc_edit.proofs.lemmas.commenting.Ends.{calm_behind, newline_first, none_last, quiet, Quiet}
 use Rattle.jsonc_edit.proofs.lemmas.commenting.Indents.{ahead_fits, indent_fits, own_fits}
 use Rattle.jsonc_edit.proofs.lemmas.commenting.Lines.{lines_before, never, new_line_ends, own_line_ends}
-use Rattle.jsonc_edit.proofs.lemmas.commenting.Rows.{before_last, behind_first, container_is, container_over, element_closes, element_opens, entry_there, opened}
+use Rattle.jsonc_edit.proofs.lemmas.commenting.Rows.{behind_first, container_is, container_over, element_opens, entry_there, opened}
 use Rattle.jsonc_edit.proofs.lemmas.commenting.Sound.{Arrival, EndsAhead}
 
 -- all pass a test in the one order, where they do in the other

@@ -1,9 +1,9 @@
 -- Trivia comes into the row of an entry of a sound document.
-use Rattle.std.proofs.Common.{◌≡◌, ◌≢◌, ◌∙◌, ℕ, ◌+◌, ◌<◌, ◌≤◌, Bool, true, false, inl, inr, List, [], ◌∷◌, ◌++◌, length, take, drop, slice_index, IsTrue, refl, sym, ap, subst, arith, length-take}
+use Rattle.std.proofs.Common.{◌≡◌, ◌≢◌, ◌∙◌, ℕ, ◌+◌, ◌<◌, Bool, true, false, inl, inr, List, [], length, take, drop, slice_index, IsTrue, refl, sym, ap, subst, arith, length-take}
 use Rattle.std.proofs.lemmas.List.{drop_more}
 use Rattle.jsonc_text.specs.Options.{Options}
 use Rattle.jsonc_tree.specs.Content.{Content, root}
-use Rattle.jsonc_tree.specs.OrderedTree.{OrderedTree, none, more, followed_by, ordered_tree, Shows, shows_none}
+use Rattle.jsonc_tree.specs.OrderedTree.{none, more, followed_by, ordered_tree, Shows, shows_none}
 use Rattle.jsonc_tree.specs.Tree.{Node, content_at, children_at, IsTree}
 use Rattle.jsonc_layout.specs.lines.Kinds.{is_array_or_object}
 use Rattle.jsonc_sound.specs.Lines.{LinesEndLoosely}
@@ -12,7 +12,7 @@ use Rattle.jsonc_sound.specs.TriviaChanges.{AreTrivia, AreTriviaOf, leaves_then,
 use Rattle.jsonc_edit.specs.commenting.Come.{LeavesCome}
 use Rattle.jsonc_edit.specs.commenting.Laws.{IsEntry}
 use Rattle.jsonc_edit.proofs.InsertedSpaces.{first_of}
-use Rattle.jsonc_edit.proofs.lemmas.commenting.Coming.{come_replaced, cut_at, root_now, root_was, Cut}
+use Rattle.jsonc_edit.proofs.lemmas.commenting.Coming.{come_replaced, root_now, root_was, Cut}
 use Rattle.jsonc_edit.proofs.lemmas.commenting.Rows.{container_is, container_over, entry_there}
 use Rattle.jsonc_edit.proofs.lemmas.commenting.Sound.{arrives_in_root, arrives_inside, comes_inside, Arrival, EndsAhead}
 

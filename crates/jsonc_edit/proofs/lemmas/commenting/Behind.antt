@@ -1,21 +1,19 @@
 -- A comment comes behind an entry of a sound document.
-use Rattle.std.proofs.Common.{◌≡◌, ◌∙◌, ℕ, zero, suc, ◌+◌, ◌-◌, ◌<◌, ◌≤◌, ◌==◌, Bool, true, false, cond, All, inl, inr, List, [], ◌∷◌, ◌++◌, length, take, drop, slice_index, Option, Some, None, IsTrue, refl, sym, ap, subst, rules, arith, length-drop, get_or-drop, chars}
-use Rattle.std.proofs.lemmas.Bool.{cases_Bool, false≢true}
-use Rattle.std.proofs.lemmas.List.{get_or_default}
-use Rattle.std.proofs.lemmas.Str.{chars-IsAscii, IsUtf8-from_ascii}
+use Rattle.std.proofs.Common.{◌≡◌, ◌∙◌, ℕ, ◌+◌, ◌<◌, Bool, true, false, cond, List, [], ◌∷◌, ◌++◌, length, take, drop, Option, Some, None, IsTrue, refl, sym, ap, subst, arith}
+use Rattle.std.proofs.lemmas.Bool.{false≢true}
 use Rattle.jsonc_text.specs.Options.{Options}
 use Rattle.jsonc_text.specs.Gaps.{IsComment}
 use Rattle.jsonc_text.proofs.Basics.{test_eq}
 use Rattle.jsonc_tree.specs.Content.{Content, comment, token}
 use Rattle.jsonc_tree.specs.Order.{with_parent}
-use Rattle.jsonc_tree.specs.OrderedTree.{OrderedTree, none, more, followed_by, leaves, ordered_tree, Shows, shows_none, shows_more}
+use Rattle.jsonc_tree.specs.OrderedTree.{OrderedTree, more, followed_by, leaves, ordered_tree, Shows, shows_none}
 use Rattle.jsonc_tree.specs.Siblings.{first, siblings_after}
-use Rattle.jsonc_tree.specs.Tree.{Node, content_at, children_at, parent_at, place_at, is_newline_at, IsOver, IsTree}
+use Rattle.jsonc_tree.specs.Tree.{Node, content_at, children_at, parent_at, place_at, is_newline_at, IsTree}
 use Rattle.jsonc_tree.proofs.Rows.{Shows-part}
 use Rattle.jsonc_layout.specs.lines.Kinds.{is_array_or_object}
 use Rattle.jsonc_layout.specs.lines.Siblings.{if_comma}
 use Rattle.jsonc_layout.specs.nodes.Comments.{after_inline_trivia_at, is_not_inline_trivia_at}
-use Rattle.jsonc_layout.specs.nodes.Kinds.{is_comma, is_element, is_newline, is_whitespace, is_whitespace_at}
+use Rattle.jsonc_layout.specs.nodes.Kinds.{is_comma, is_element, is_newline, is_whitespace}
 use Rattle.jsonc_sound.specs.Lines.{is_line_comment, ends_loosely, LinesEndLoosely}
 use Rattle.jsonc_sound.specs.Rows as rows
 use Rattle.jsonc_sound.specs.Rows.{RowKind, closing}
@@ -25,14 +23,13 @@ use Rattle.jsonc_sound.specs.TriviaChanges.{leaves_then}
 use Rattle.jsonc_sound.proofs.FirstNodes.{line_comment_over, no_element}
 use Rattle.jsonc_sound.proofs.LooseChanges.{element_no_end}
 use Rattle.jsonc_sound.proofs.Spaced.{space_trivia}
-use Rattle.jsonc_edit.specs.Put.{a_space}
-use Rattle.jsonc_edit.specs.commenting.Behind.{comment_follows, end_of_entry, ends_line_at, last_blank, may_end_line, spaced, ComesBehind}
+use Rattle.jsonc_edit.specs.commenting.Behind.{end_of_entry, ends_line_at, last_blank, may_end_line, spaced, ComesBehind}
 use Rattle.jsonc_edit.specs.commenting.Come.{LeavesCome}
 use Rattle.jsonc_edit.specs.commenting.Laws.{IsEntry}
 use Rattle.jsonc_edit.specs.remove.Comments.{or_itself}
 use Rattle.jsonc_edit.proofs.FittingFinds.{found_one}
 use Rattle.jsonc_edit.proofs.InsertedSpaces.{first_of}
-use Rattle.jsonc_edit.proofs.lemmas.commenting.Arriving.{arrival, KeepsLines}
+use Rattle.jsonc_edit.proofs.lemmas.commenting.Arriving.{arrival}
 use Rattle.jsonc_edit.proofs.lemmas.commenting.Blanks.{blanks_shown, children_behind, follows_blanks, follows_itself, last_holds, Follows}
 use Rattle.jsonc_edit.proofs.lemmas.commenting.Coming.{cut_at, Cut}
 use Rattle.jsonc_edit.proofs.lemmas.commenting.Ends.{space_before}

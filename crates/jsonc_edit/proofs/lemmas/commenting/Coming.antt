@@ -1,9 +1,9 @@
 -- Leaves that come into a row: what the row of trees is then, and the document.
-use Rattle.std.proofs.Common.{◌≡◌, ◌∙◌, ℕ, ◌+◌, ◌<◌, false, List, [], ◌∷◌, ◌++◌, length, map, take, drop, slice_index, IsTrue, refl, sym, ap, subst, arith, length-take, length-drop, get_or-take, get_or-drop}
+use Rattle.std.proofs.Common.{◌≡◌, ◌∙◌, ℕ, ◌+◌, ◌<◌, false, List, [], ◌∷◌, length, map, take, drop, slice_index, IsTrue, refl, sym, ap, subst, arith, length-take, length-drop, get_or-take, get_or-drop}
 use Rattle.std.proofs.lemmas.List.{take-append-drop}
 use Rattle.jsonc_tree.specs.Content.{Content, root, is_container}
 use Rattle.jsonc_tree.specs.OrderedTree.{OrderedTree, none, more, followed_by, ordered_tree, Replaced, Shows, shows_none, shows_more}
-use Rattle.jsonc_tree.specs.Tree.{Node, content_at, children_at, IsOver, IsTree}
+use Rattle.jsonc_tree.specs.Tree.{Node, children_at, IsOver, IsTree}
 use Rattle.jsonc_tree.proofs.Builder.{Shows-keeps}
 use Rattle.jsonc_tree.proofs.OrderedTrees.{Shows-ordered_tree, Shows-unique}
 use Rattle.jsonc_tree.proofs.Rows.{Shows-append, Shows-part}

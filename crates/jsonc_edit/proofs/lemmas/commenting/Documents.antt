@@ -4,7 +4,7 @@ use Rattle.std.proofs.lemmas.List.{append_assoc}
 use Rattle.jsonc_text.specs.Options.{Options}
 use Rattle.jsonc_text.specs.Gaps.{IsComment}
 use Rattle.jsonc_text.specs.Grammar.{IsDocument}
-use Rattle.jsonc_tree.specs.Content.{Content, comment, newline, whitespace}
+use Rattle.jsonc_tree.specs.Content.{Content, newline, whitespace}
 use Rattle.jsonc_tree.specs.OrderedTree.{OrderedTree, leaves, ordered_tree, own_leaf, Shows}
 use Rattle.jsonc_tree.specs.Tree.{Node, content_at, children_at, parent_at, place_at, IsOver, IsTree}
 use Rattle.jsonc_tree.specs.declared.node.CstNewlineKind.{CstNewlineKind}
@@ -12,7 +12,6 @@ use Rattle.jsonc_tree.proofs.Order.{over_step, parent_there}
 use Rattle.jsonc_tree.proofs.OrderedTrees.{Shows-unique}
 use Rattle.jsonc_layout.specs.lines.Breadth.{newline_kind_at}
 use Rattle.jsonc_sound.specs.ChangeLaws.{DiffersIn}
-use Rattle.jsonc_sound.specs.Lines.{is_line_comment}
 use Rattle.jsonc_sound.specs.MarkChanges.{MarksDifferIn}
 use Rattle.jsonc_sound.specs.Marks.{comment_mark, marks_of}
 use Rattle.jsonc_sound.specs.Shape.{printed_text, IsText}
@@ -24,8 +23,8 @@ use Rattle.jsonc_sound.proofs.ShapeValues.{document_printed}
 use Rattle.jsonc_edit.specs.Changes.{top_at}
 use Rattle.jsonc_edit.specs.Put.{a_space}
 use Rattle.jsonc_edit.specs.Seams.{StandsBetween}
-use Rattle.jsonc_edit.specs.commenting.Above.{begins_own_line, indent_in, new_line, own_indent, own_line, seam_at, ComesAbove, ComesAboveBy}
-use Rattle.jsonc_edit.specs.commenting.Behind.{comment_follows, may_end_line, spaced, ComesBehind}
+use Rattle.jsonc_edit.specs.commenting.Above.{begins_own_line, indent_in, new_line, own_indent, own_line, seam_at, ComesAboveBy}
+use Rattle.jsonc_edit.specs.commenting.Behind.{comment_follows, spaced}
 use Rattle.jsonc_edit.specs.commenting.Come.{LeavesCome}
 use Rattle.jsonc_edit.specs.commenting.Laws.{GainsAbove, GainsBehind, GainsComment, InsertsAbove, InsertsBehind, IsCommentInserted, IsEntry, StandsAbove, StandsBehind}
 use Rattle.jsonc_edit.proofs.LeavesAroundNodes.{within, Within}

@@ -10,7 +10,7 @@ use Rattle.jsonc_text.specs.Text.{next, starts}
 use Rattle.jsonc_text.specs.Words.{EndsWord}
 use Rattle.jsonc_text.proofs.Basics.{and_both}
 use Rattle.jsonc_tree.specs.Content.{Content, is_container, whitespace, newline}
-use Rattle.jsonc_tree.specs.OrderedTree.{OrderedTree, none, more, own_leaf, leaves, followed_by, Shows, shows_none, shows_more}
+use Rattle.jsonc_tree.specs.OrderedTree.{OrderedTree, none, own_leaf, leaves, followed_by, Shows, shows_none, shows_more}
 use Rattle.jsonc_tree.specs.Tree.{Node, content_at, children_at, IsTree}
 use Rattle.jsonc_tree.specs.declared.node.CstNewlineKind.{CstNewlineKind}
 use Rattle.jsonc_tree.specs.declared.node.CstNewlineKind.TheVariants.{LineFeed, CarriageReturnLineFeed, CarriageReturn}

@@ -1,6 +1,6 @@
 -- Line comments of a row into which leaves come.
-use Rattle.std.proofs.Common.{◌≡◌, ◌∙◌, ℕ, Bool, true, false, ◌&&◌, List, [], ◌∷◌, IsTrue, refl, sym, ap, subst}
-use Rattle.jsonc_tree.specs.Content.{Content, whitespace, newline, comment}
+use Rattle.std.proofs.Common.{◌≡◌, ◌∙◌, ℕ, Bool, true, false, ◌&&◌, List, [], ◌∷◌, IsTrue, refl, sym, subst}
+use Rattle.jsonc_tree.specs.Content.{Content, comment}
 use Rattle.jsonc_tree.specs.OrderedTree.{OrderedTree, none, more, followed_by}
 use Rattle.jsonc_tree.specs.declared.node.CstNewlineKind.{CstNewlineKind}
 use Rattle.jsonc_layout.specs.nodes.Kinds.{is_whitespace}

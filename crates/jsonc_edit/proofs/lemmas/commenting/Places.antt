@@ -1,5 +1,5 @@
 -- Where a comment has come: what stands behind it, or before it, among the leaves.
-use Rattle.std.proofs.Common.{◌≡◌, ◌∙◌, ℕ, suc, ◌+◌, ◌-◌, ◌<◌, ◌≤◌, not, Bool, true, false, cond, inl, inr, List, [], ◌∷◌, ◌++◌, length, take, drop, slice_index, Option, Some, None, option_and_then, IsTrue, refl, sym, ap, subst, arith, append_assoc, append-nil, length-append, length-take, length-drop, get_or-drop}
+use Rattle.std.proofs.Common.{◌≡◌, ◌∙◌, ℕ, ◌+◌, ◌<◌, not, Bool, true, false, cond, inl, inr, List, [], ◌∷◌, ◌++◌, length, take, drop, slice_index, Option, Some, None, option_and_then, refl, sym, ap, subst, arith, append_assoc, append-nil, length-append, length-take}
 use Rattle.std.specs.List.{find}
 use Rattle.std.proofs.lemmas.Bool.{cases_Bool}
 use Rattle.std.proofs.lemmas.List.{append_cancel_left, drop_more, take_more, take-append-drop}
@@ -7,8 +7,8 @@ use Rattle.std.proofs.Math.Seq.{get_or-append_seam, take-append-add, take-append
 use Rattle.jsonc_text.proofs.Basics.{tails}
 use Rattle.jsonc_tree.specs.Content.{Content, is_container, token}
 use Rattle.jsonc_tree.specs.Order.{with_parent}
-use Rattle.jsonc_tree.specs.OrderedTree.{OrderedTree, none, more, own_leaf, leaves, followed_by, Shows, shows_none, shows_more}
-use Rattle.jsonc_tree.specs.Siblings.{first, siblings_after, siblings_before}
+use Rattle.jsonc_tree.specs.OrderedTree.{OrderedTree, none, own_leaf, leaves, Shows, shows_none, shows_more}
+use Rattle.jsonc_tree.specs.Siblings.{first, siblings_before}
 use Rattle.jsonc_tree.specs.Tree.{Node, content_at, children_at, parent_at, place_at, IsTree}
 use Rattle.jsonc_tree.proofs.Order.{parent_there}
 use Rattle.jsonc_tree.proofs.OrderedTrees.{leaves-followed_by, Shows-unique}

@@ -1,5 +1,5 @@
 -- Leaves alone have been planned: they may come into a row, and where.
-use Rattle.std.proofs.Common.{◌≡◌, ◌∙◌, ℕ, suc, ◌+◌, ◌<◌, ◌≤◌, Bool, true, false, cond, inl, inr, List, [], ◌∷◌, length, map, slice_index, Option, Some, None, option_and_then, Result, Ok, Err, OnErr, OnOk, refl, sym, ap, subst, arith}
+use Rattle.std.proofs.Common.{◌≡◌, ◌∙◌, ℕ, suc, ◌+◌, ◌<◌, ◌≤◌, Bool, true, false, cond, inl, inr, List, [], length, map, slice_index, Option, Some, None, option_and_then, Result, Ok, Err, OnErr, OnOk, refl, sym, ap, subst, arith}
 use Rattle.std.proofs.lemmas.Option.{slice_get-get_or}
 use Rattle.jsonc_tree.specs.Building.{Keeps}
 use Rattle.jsonc_tree.specs.Changes.{CanJoin, Splices}
@@ -13,7 +13,7 @@ use Rattle.jsonc_layout.specs.nodes.Kinds.{is_whitespace_at}
 use Rattle.jsonc_layout.specs.lines.Kinds.{blank_at}
 use Rattle.jsonc_edit.specs.Put.{Extends}
 use Rattle.jsonc_edit.specs.commenting.Above.{begins_own_line, new_line, own_line, seam_at, seam_behind, seam_by, without_end, ComesAbove, ComesAboveBy}
-use Rattle.jsonc_edit.specs.commenting.Behind.{comment_follows, end_of_entry, last_blank, last_blank_in, spaced, ComesBehind}
+use Rattle.jsonc_edit.specs.commenting.Behind.{comment_follows, last_blank, last_blank_in, spaced, ComesBehind}
 use Rattle.jsonc_edit.specs.commenting.Come.{LeavesCome}
 use Rattle.jsonc_edit.specs.multiline.Plans.{IsFrom, Planned, Gains}
 use Rattle.jsonc_edit.specs.multiline.Slots.{comes}

@@ -1,5 +1,5 @@
 -- A text that is one comment, by its places.
-use Rattle.std.proofs.Common.{◌≡◌, ◌∙◌, ℕ, ◌+◌, ◌<◌, ◌≤◌, false, encode_utf8_all, refl, List, [], ◌∷◌, ◌++◌, length, drop, IsUtf8, IsCharBoundary, chars, slice_range, sym, ap, subst, arith}
+use Rattle.std.proofs.Common.{◌≡◌, ◌∙◌, ℕ, ◌+◌, ◌<◌, ◌≤◌, false, encode_utf8_all, refl, List, [], ◌∷◌, ◌++◌, length, IsUtf8, IsCharBoundary, chars, slice_range, sym, ap, subst, arith}
 use Rattle.std.proofs.lemmas.List.{drop_all}
 use Rattle.std.proofs.lemmas.Str.{chars-nil, encodes-chars}
 use lib.Utf8.{encode}
