@@ -6,7 +6,7 @@
  * - Start a jsonc_text_t with JSONC_NO_TEXT, and a jsonc_fault_t with {0}.
  * - What a call hands out is one block of malloc: free it with jsonc_free. On a status other than 0 there is none.
  * - Each call answers a status. Texts, names, paths and JSON texts are UTF-8. A path is a JSON text, an array of names.
- * - Paths and JSON texts are read with all options on, the text with those that are given.
+ * - Paths and JSON texts are read with all options on, the text with those that are given, and a patch with these too.
  * - Calls share nothing: any number of threads may make them at once.
  */
 #ifndef JSONC_H
@@ -43,12 +43,12 @@ JSONC_ASSERT(sizeof(jsonc_path_t) == 16);
 enum jsonc_status {
   JSONC_OK = 0, /* It succeeded. */
   JSONC_OUT_OF_MEMORY = 1, /* An allocation failed. */
-  JSONC_WORD_NOT_UTF8 = 2, /* A name, path or JSON text is not UTF-8. */
+  JSONC_WORD_NOT_UTF8 = 2, /* A name, path, pointer or JSON text is not UTF-8. */
   JSONC_NOT_UTF8 = 3, /* The text is not UTF-8. */
   JSONC_TEXT = 4, /* The text is no document. The fault tells what is wrong with it. */
   JSONC_PATH = 5, /* The path is no document. The fault tells what is wrong with it. */
   JSONC_NOT_NAMES = 6, /* The path is no array of strings. */
-  JSONC_JSON = 7, /* The JSON text of a value is no document. The fault tells what is wrong with it. */
+  JSONC_JSON = 7, /* The JSON text of a value or patch is no document. The fault tells what is wrong with it. */
   JSONC_NO_VALUE = 8, /* The JSON text has no value. */
   JSONC_NOT_OBJECT = 9, /* The document's value is no object. */
   JSONC_NOT_ARRAY = 10, /* The document's value is no array. */
@@ -60,6 +60,12 @@ enum jsonc_status {
   JSONC_NO_SUCH_EDIT = 16, /* No edit has this kind. */
   JSONC_NO_ROOM = 17, /* The caller's buffer is too small. How long the text is stands behind the pointer for its length. */
   JSONC_OTHER = 18, /* Anything else. No call answers it. */
+  JSONC_POINTER = 19, /* The pointer is none. The fault tells what is wrong with it. */
+  JSONC_NO_SUCH_VALUE = 20, /* A pointer leads to nothing. */
+  JSONC_REPEATED_NAME = 21, /* A name stands twice in an object where it is looked up, or in one of a merge patch. The fault's text has the name. */
+  JSONC_NOT_PATCH = 22, /* The patch is no array, or an operation is none. The fault tells which, and what is wrong with it. */
+  JSONC_INTO_ITSELF = 23, /* A value was to be moved into itself. */
+  JSONC_NOT_EQUAL = 24, /* A value is not equal to the one that it was tested against. */
 };
 
 /* What a text may hold beyond JSON. */
@@ -79,7 +85,7 @@ enum jsonc_options {
   JSONC_ALL = 1023
 };
 
-/* What is wrong with a text (docs/FAULTS.md). */
+/* What is wrong with a text, a pointer or a patch (docs/FAULTS.md). */
 enum jsonc_kind {
   JSONC_KIND_STRING_INVALID_ESCAPE_IN_SINGLE_QUOTE_STRING = 101,
   JSONC_KIND_STRING_INVALID_ESCAPE_IN_DOUBLE_QUOTE_STRING = 102,
@@ -116,6 +122,15 @@ enum jsonc_kind {
   JSONC_KIND_UNTERMINATED_OBJECT = 26,
   JSONC_KIND_NESTING_DEPTH_EXCEEDED = 27,
   JSONC_KIND_OUT_OF_MEMORY = 28,
+  JSONC_KIND_POINTER_NO_LEADING_SLASH = 201,
+  JSONC_KIND_POINTER_INVALID_ESCAPE = 202,
+  JSONC_KIND_POINTER_OUT_OF_MEMORY = 203,
+  JSONC_KIND_PATCH_NOT_AN_ARRAY = 301,
+  JSONC_KIND_OPERATION_NOT_AN_OBJECT = 302,
+  JSONC_KIND_OPERATION_MISSING = 303,
+  JSONC_KIND_OPERATION_WRONG = 304,
+  JSONC_KIND_OPERATION_REPEATED_NAME = 305,
+  JSONC_KIND_OPERATION_OUT_OF_MEMORY = 306,
 };
 
 /* What an edit does (docs/EDITS.md). */
@@ -143,10 +158,10 @@ enum jsonc_edit_kind {
 
 #define JSONC_FAULT_TEXT_LEN 192
 
-/* What is wrong with a text. All of it is 0 where no text is at fault. */
+/* What is wrong with a text, a pointer or a patch. All of it is 0 where none is at fault. */
 typedef struct {
   uint32_t kind; /* The number of its kind. */
-  size_t made; /* How many edits of a list were made, or read, before the one that was refused. */
+  size_t made; /* How many edits of a list, or operations of a patch, were made, or read, before the one that was refused. */
   size_t start; /* The byte offset at which it begins. */
   size_t end; /* The byte offset at which it ends. */
   size_t line; /* The line of its start, counted from 1. */
@@ -270,6 +285,42 @@ uint32_t jsonc_edit(const void *text, size_t text_len, const jsonc_edit_t *edits
                     uint32_t options, jsonc_text_t *out, jsonc_fault_t *fault);
 
 /*
+ * Hands out the value that a JSON Pointer (RFC 6901) refers to, as it is written.
+ *
+ * 0: it is done. 1, 3 and 4 as of `jsonc_check`. 2 and 19: the pointer is not UTF-8, or none. 20: it refers to
+ * nothing. 21: a name on its way stands twice in its object.
+ */
+uint32_t jsonc_find(const void *text, size_t text_len, const void *pointer, size_t pointer_len, uint32_t options,
+                    jsonc_text_t *out, jsonc_fault_t *fault);
+
+/*
+ * Makes the operations of a JSON Patch (RFC 6902), and hands out the text after them. Where one is not made,
+ * none is.
+ *
+ * The patch is a JSON text, which is read under the options of the document's.
+ *
+ * 0: it is done. 1, 3 and 4 as of `jsonc_check`. 2 and 7: the patch is not UTF-8, or no document of the
+ * options. 22: it is no patch. Of an operation that is not made, 20: a pointer leads to nothing; 21: a name on
+ * its way stands twice in its object; 23: a value would be moved into itself; 24: the value is another than
+ * that of a `test`. With 20 to 24 the fault tells how many operations stand before.
+ */
+uint32_t jsonc_apply_patch(const void *text, size_t text_len, const void *patch, size_t patch_len, uint32_t options,
+                           jsonc_text_t *out, jsonc_fault_t *fault);
+
+/*
+ * Merges a JSON Merge Patch (RFC 7396) into the document, and hands out the text after it. Where a name cannot
+ * be looked up, nothing is merged.
+ *
+ * The patch is a JSON text, which is read under the options of the document's.
+ *
+ * 0: it is done. 1, 3 and 4 as of `jsonc_check`. 2, 7 and 8: the patch is not UTF-8, or no document of the
+ * options, or has no value. 21: a name stands twice in an object of the patch, or in one of the document where
+ * it is looked up.
+ */
+uint32_t jsonc_merge_patch(const void *text, size_t text_len, const void *patch, size_t patch_len, uint32_t options,
+                           jsonc_text_t *out, jsonc_fault_t *fault);
+
+/*
  * Writes the text that the document prints into a buffer, as `jsonc_print` hands it out.
  *
  * 17: the buffer is too small. `len` tells how long the text is then, too.
@@ -342,6 +393,31 @@ uint32_t jsonc_drop_into(const void *text, size_t text_len, const void *path, si
  */
 uint32_t jsonc_edit_into(const void *text, size_t text_len, const jsonc_edit_t *edits, size_t edits_len,
                          uint32_t options, void *room, size_t room_len, size_t *len, jsonc_fault_t *fault);
+
+/*
+ * Writes the value that a JSON Pointer refers to, as it is written, into a buffer, as `jsonc_find` hands it
+ * out.
+ *
+ * 17: the buffer is too small. `len` tells how long the value is then, too.
+ */
+uint32_t jsonc_find_into(const void *text, size_t text_len, const void *pointer, size_t pointer_len,
+                         uint32_t options, void *room, size_t room_len, size_t *len, jsonc_fault_t *fault);
+
+/*
+ * Writes the text after the operations of a JSON Patch into a buffer, as `jsonc_apply_patch` hands it out.
+ *
+ * 17: the buffer is too small. `len` tells how long the text is then, too.
+ */
+uint32_t jsonc_apply_patch_into(const void *text, size_t text_len, const void *patch, size_t patch_len,
+                                uint32_t options, void *room, size_t room_len, size_t *len, jsonc_fault_t *fault);
+
+/*
+ * Writes the text after a JSON Merge Patch into a buffer, as `jsonc_merge_patch` hands it out.
+ *
+ * 17: the buffer is too small. `len` tells how long the text is then, too.
+ */
+uint32_t jsonc_merge_patch_into(const void *text, size_t text_len, const void *patch, size_t patch_len,
+                                uint32_t options, void *room, size_t room_len, size_t *len, jsonc_fault_t *fault);
 
 /* Frees a text that was handed out. */
 static inline void jsonc_free(jsonc_text_t text) {

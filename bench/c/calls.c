@@ -49,6 +49,48 @@ static void faults(void) {
   is(out.len == 0, "nothing is handed out");
 }
 
+/* Whether the fault has this printed text. */
+static int told(const jsonc_fault_t *fault, const char *want) {
+  return fault->text_len == strlen(want) && !memcmp(fault->text, want, fault->text_len);
+}
+
+/* RFC 6901, 3 and 4; RFC 6902, 3 to 5 and A.9, A.12 and A.13; RFC 7396. */
+static void patch_faults(void) {
+  const char *twice = "{\"a\": 1, \"a\": 2}", *bar = "{\"foo\": \"bar\"}";
+  jsonc_fault_t fault = {0};
+  jsonc_text_t out = JSONC_NO_TEXT;
+  is(jsonc_find(B(bar), B("foo"), JSONC_ALL, &out, &fault) == JSONC_POINTER, "a pointer without a slash");
+  is(fault.kind == JSONC_KIND_POINTER_NO_LEADING_SLASH && fault.start == 0, "its kind and place");
+  is(jsonc_find(B(bar), B("/foo~"), JSONC_ALL, &out, &fault) == JSONC_POINTER, "a pointer with a loose tilde");
+  is(fault.kind == JSONC_KIND_POINTER_INVALID_ESCAPE && fault.start == 4 && fault.end == 4, "its kind and place");
+  is(told(&fault, "Neither 0 nor 1 after the tilde at byte 4"), "its printed text");
+  is(jsonc_find(B(bar), B("/\xff"), JSONC_ALL, &out, &fault) == JSONC_WORD_NOT_UTF8 && fault.kind == 0, "no UTF-8");
+  is(jsonc_find(B(bar), B("/bar"), JSONC_ALL, &out, &fault) == JSONC_NO_SUCH_VALUE && fault.text_len == 0, "no value");
+  is(jsonc_find(B(twice), B("/a"), JSONC_ALL, &out, &fault) == JSONC_REPEATED_NAME, "a name that stands twice");
+  is(told(&fault, "Name stands twice: a"), "which name");
+  is(jsonc_find(B("[1,]"), B("/0"), JSONC_JSON_ALONE, &out, &fault) == JSONC_TEXT && fault.kind != 0, "a refused text");
+  const char *p = "[{\"op\": \"test\", \"path\": \"/foo\", \"value\": 1}]";
+  is(jsonc_apply_patch(B(bar), B(p), JSONC_ALL, &out, &fault) == JSONC_NOT_EQUAL && fault.made == 0, "another value");
+  is(told(&fault, "Operation 0: Value is another"), "its printed text");
+  p = "[{\"op\": \"remove\", \"path\": \"/foo\"}, {\"op\": \"add\", \"path\": \"/baz/bat\", \"value\": \"qux\"}]";
+  is(jsonc_apply_patch(B(bar), B(p), JSONC_ALL, &out, &fault) == JSONC_NO_SUCH_VALUE && fault.made == 1, "no target");
+  p = "[{\"op\": \"move\", \"from\": \"/foo\", \"path\": \"/foo/a\"}]";
+  is(jsonc_apply_patch(B(bar), B(p), JSONC_ALL, &out, &fault) == JSONC_INTO_ITSELF, "a move into itself");
+  p = "[{\"op\": \"remove\", \"path\": \"/a\"}]";
+  is(jsonc_apply_patch(B(twice), B(p), JSONC_ALL, &out, &fault) == JSONC_REPEATED_NAME, "a name that stands twice");
+  p = "[{\"op\": \"add\", \"path\": \"/baz\", \"value\": \"qux\", \"op\": \"remove\"}]";
+  is(jsonc_apply_patch(B(bar), B(p), JSONC_ALL, &out, &fault) == JSONC_NOT_PATCH && fault.made == 0, "no operation");
+  is(fault.kind == JSONC_KIND_OPERATION_REPEATED_NAME, "what is wrong with it");
+  is(jsonc_apply_patch(B(bar), B("{}"), JSONC_ALL, &out, &fault) == JSONC_NOT_PATCH, "no array");
+  is(fault.kind == JSONC_KIND_PATCH_NOT_AN_ARRAY, "that it is none");
+  is(jsonc_apply_patch(B(bar), B("[/**/]"), JSONC_JSON_ALONE, &out, &fault) == JSONC_JSON, "a patch of other options");
+  is(fault.kind == JSONC_KIND_COMMENTS_NOT_ALLOWED && fault.made == 0, "which it needs");
+  is(jsonc_merge_patch(B(bar), B(" "), JSONC_ALL, &out, &fault) == JSONC_NO_VALUE && fault.kind == 0, "no merge patch");
+  is(jsonc_merge_patch(B(bar), B(twice), JSONC_ALL, &out, &fault) == JSONC_REPEATED_NAME, "a name twice in a patch");
+  is(jsonc_merge_patch(B(twice), B("{\"a\": 3}"), JSONC_ALL, &out, &fault) == JSONC_REPEATED_NAME, "and in a text");
+  is(told(&fault, "Name stands twice: a") && out.len == 0, "nothing is handed out");
+}
+
 static const char *const text = "{\n  // one\n  \"b\": 1, // first\n  \"a\": {\"c\": [1, 2]}\n}\n";
 
 static void texts(void) {
@@ -72,6 +114,12 @@ static void texts(void) {
   is(made(s, out, "{\"a\": {\"b\": 2}}"), "put");
   s = jsonc_drop(B("{ \"a\": 1, \"b\": 2 }"), B("[\"b\"]"), JSONC_ALL, &out, &fault);
   is(made(s, out, "{ \"a\": 1 }"), "drop");
+  s = jsonc_find(B(text), B("/a/c/1"), JSONC_ALL, &out, &fault);
+  is(made(s, out, "2"), "find");
+  s = jsonc_apply_patch(B("{ \"foo\": [\"bar\", \"qux\", \"baz\"] } // c"), B("[{\"op\": \"remove\", \"path\": \"/foo/1\"}]"), JSONC_ALL, &out, &fault);
+  is(made(s, out, "{ \"foo\": [\"bar\", \"baz\"] } // c"), "a patch (RFC 6902, A.4)");
+  s = jsonc_merge_patch(B("{\"a\":[\"b\"]} // c"), B("{\"a\":\"c\"}"), JSONC_ALL, &out, &fault);
+  is(made(s, out, "{\"a\":\"c\"} // c"), "a merge patch (RFC 7396, A)");
 }
 
 static void lists(void) {
@@ -98,6 +146,9 @@ static const jsonc_edit_t edits_made[] = {
     {JSONC_EDIT_SORT, {whole_document, 0}, JSONC_NO_TEXT, JSONC_NO_TEXT, 0, false, false},
 };
 
+#define PATCH "[{\"op\": \"copy\", \"from\": \"/a\", \"path\": \"/d\"}, {\"op\": \"move\", \"from\": \"/b\", \"path\": \"/a/c/-\"}]"
+#define MERGE "{\"b\": null, \"a\": {\"c\": {\"x\": null, \"y\": [1]}}, \"z\": 1}"
+
 /* One of the calls, by its number. */
 static uint32_t call(int which, jsonc_text_t *out, jsonc_fault_t *fault) {
   switch (which) {
@@ -111,6 +162,13 @@ static uint32_t call(int which, jsonc_text_t *out, jsonc_fault_t *fault) {
   case 7: return jsonc_put(B(text), B("[\"x\", \"y\"]"), B("1"), JSONC_ALL, out, fault);
   case 8: return jsonc_drop(B(text), B("[\"a\", \"c\"]"), JSONC_ALL, out, fault);
   case 9: return jsonc_edit(B(text), edits_made, 2, JSONC_ALL, out, fault);
+  case 10: return jsonc_find(B(text), B("/a/c"), JSONC_ALL, out, fault);
+  case 11: return jsonc_apply_patch(B(text), B(PATCH), JSONC_ALL, out, fault);
+  case 12: return jsonc_merge_patch(B(text), B(MERGE), JSONC_ALL, out, fault);
+  case 13: return jsonc_find(B(text), B("/~"), JSONC_ALL, out, fault);
+  case 14: return jsonc_apply_patch(B(text), B("[{\"op\": \"remove\"}]"), JSONC_ALL, out, fault);
+  case 15: return jsonc_apply_patch(B(text), B("[{\"op\": \"remove\", \"path\": \"/e\"}]"), JSONC_ALL, out, fault);
+  case 16: return jsonc_merge_patch(B(text), B("[{\"a\": 1, \"a\": 2}]"), JSONC_ALL, out, fault);
   default: return jsonc_check(B("[1,"), JSONC_ALL, fault);
   }
 }
@@ -126,12 +184,15 @@ static uint32_t call_into(int which, char *room, size_t size, size_t *len, jsonc
   case 6: return jsonc_get_into(B(text), B("[\"a\", \"c\"]"), JSONC_ALL, room, size, len, fault);
   case 7: return jsonc_put_into(B(text), B("[\"x\", \"y\"]"), B("1"), JSONC_ALL, room, size, len, fault);
   case 8: return jsonc_drop_into(B(text), B("[\"a\", \"c\"]"), JSONC_ALL, room, size, len, fault);
-  default: return jsonc_edit_into(B(text), edits_made, 2, JSONC_ALL, room, size, len, fault);
+  case 9: return jsonc_edit_into(B(text), edits_made, 2, JSONC_ALL, room, size, len, fault);
+  case 10: return jsonc_find_into(B(text), B("/a/c"), JSONC_ALL, room, size, len, fault);
+  case 11: return jsonc_apply_patch_into(B(text), B(PATCH), JSONC_ALL, room, size, len, fault);
+  default: return jsonc_merge_patch_into(B(text), B(MERGE), JSONC_ALL, room, size, len, fault);
   }
 }
 
 static void buffers(void) {
-  for (int which = 1; which <= 9; which++) {
+  for (int which = 1; which <= 12; which++) {
     char room[256];
     size_t len = 0;
     jsonc_text_t out = JSONC_NO_TEXT;
@@ -174,18 +235,18 @@ static int refuses(void) { return left >= 0 && left-- == 0; }
 void *__wrap_malloc(size_t n) { return refuses() ? 0 : __real_malloc(n); }
 void *__wrap_realloc(void *p, size_t n) { return refuses() ? 0 : __real_realloc(p, n); }
 
-/* So numbered, or, past 10, into a buffer, which is copied. */
+/* So numbered, or, past 17, into a buffer, which is copied. */
 static uint32_t call_either(int which, jsonc_text_t *out, jsonc_fault_t *fault) {
-  if (which <= 10) return call(which, out, fault);
+  if (which <= 17) return call(which, out, fault);
   char room[256];
   size_t len = 0;
-  uint32_t s = call_into(which - 10, room, sizeof room, &len, fault);
+  uint32_t s = call_into(which - 17, room, sizeof room, &len, fault);
   if (len) *out = (jsonc_text_t){memcpy(__real_malloc(len), room, len), len};
   return s;
 }
 
 static void refusals(void) {
-  for (int which = 0; which <= 19; which++) {
+  for (int which = 0; which <= 29; which++) {
     jsonc_text_t whole = JSONC_NO_TEXT;
     jsonc_fault_t fault = {0};
     uint32_t ample = call_either(which, &whole, &fault);
@@ -196,7 +257,7 @@ static void refusals(void) {
       uint32_t s = call_either(which, &out, &fault);
       used = left < 0;
       left = -1;
-      if (s == JSONC_OUT_OF_MEMORY) is(out.len == 0, "want of memory hands nothing out");
+      if (s == JSONC_OUT_OF_MEMORY) is(out.len == 0 && fault.kind == 0, "want of memory hands nothing out");
       else is(s == ample && out.len == whole.len && !memcmp(out.at, whole.at, out.len), "a refused allocation");
       jsonc_free(out);
     }
@@ -207,6 +268,7 @@ static void refusals(void) {
 
 int main(void) {
   faults();
+  patch_faults();
   texts();
   lists();
   buffers();

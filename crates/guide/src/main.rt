@@ -3,6 +3,7 @@
 #![tactic(auto)]
 
 mod files;
+mod patches;
 mod read;
 mod recipes;
 mod texts;
@@ -121,5 +122,6 @@ fn main(rt: HostRuntime) -> anyhow::Result<ExitCode> {
     }
     read::readings(&rt)?;
     walk::walks(&rt)?;
+    patches::patches(&rt)?;
     Ok(ExitCode::SUCCESS)
 }

@@ -1,5 +1,6 @@
 mod Fronts
 mod Inputs
+mod Patching
 mod Reading
 mod Refused
 pub mod Telling

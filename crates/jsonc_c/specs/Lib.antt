@@ -3,3 +3,5 @@ pub mod Told
 pub mod Commands
 pub mod Edits
 pub mod Compared
+pub mod PatchTold
+pub mod Patches

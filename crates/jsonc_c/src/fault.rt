@@ -11,13 +11,13 @@ use std::alloc::Global;
 /// How many bytes of its printed text a fault holds.
 pub(crate) const TEXT_LEN: usize = 192;
 
-/// What is wrong with a text. All of it is 0 where no text is at fault.
+/// What is wrong with a text, a pointer or a patch. All of it is 0 where none is at fault.
 #[repr(C)]
 #[derive(Clone, Copy)]
 pub struct JsoncFault {
     /// The number of its kind.
     pub kind: u32,
-    /// How many edits of a list were made, or read, before the one that was refused.
+    /// How many edits of a list, or operations of a patch, were made, or read, before the one that was refused.
     pub made: usize,
     /// The byte offset at which it begins.
     pub start: usize,
@@ -55,7 +55,7 @@ pub(crate) const OK: u32 = 0;
 /// An allocation failed.
 pub(crate) const OUT_OF_MEMORY: u32 = 1;
 
-/// A name, path or JSON text is not UTF-8.
+/// A name, path, pointer or JSON text is not UTF-8.
 pub(crate) const WORD_NOT_UTF8: u32 = 2;
 
 /// The text is not UTF-8.
@@ -70,7 +70,7 @@ pub(crate) const PATH: u32 = 5;
 /// The path is no array of strings.
 pub(crate) const NOT_NAMES: u32 = 6;
 
-/// The JSON text of a value is no document. The fault tells what is wrong with it.
+/// The JSON text of a value or patch is no document. The fault tells what is wrong with it.
 pub(crate) const JSON: u32 = 7;
 
 /// The JSON text has no value.
@@ -106,6 +106,24 @@ pub(crate) const NO_ROOM: u32 = 17;
 /// Anything else. No call answers it.
 pub(crate) const OTHER: u32 = 18;
 
+/// The pointer is none. The fault tells what is wrong with it.
+pub(crate) const POINTER: u32 = 19;
+
+/// A pointer leads to nothing.
+pub(crate) const NO_SUCH_VALUE: u32 = 20;
+
+/// A name stands twice in an object where it is looked up, or in one of a merge patch. The fault's text has the name.
+pub(crate) const REPEATED_NAME: u32 = 21;
+
+/// The patch is no array, or an operation is none. The fault tells which, and what is wrong with it.
+pub(crate) const NOT_PATCH: u32 = 22;
+
+/// A value was to be moved into itself.
+pub(crate) const INTO_ITSELF: u32 = 23;
+
+/// A value is not equal to the one that it was tested against.
+pub(crate) const NOT_EQUAL: u32 = 24;
+
 fn string_kind_number(kind: &ParseStringErrorKind) -> u32
     ensures { result ≡ string_kind_number kind.now }
 {
@@ -122,7 +140,7 @@ fn string_kind_number(kind: &ParseStringErrorKind) -> u32
 }
 
 /// The number of a kind of fault.
-fn kind_number(kind: &ParseErrorKind) -> u32
+pub(crate) fn kind_number(kind: &ParseErrorKind) -> u32
     ensures { result ≡ kind_number kind.now }
 {
     match kind {
@@ -158,7 +176,7 @@ fn kind_number(kind: &ParseErrorKind) -> u32
 }
 
 /// Puts the front of a text into the fault.
-fn put_text(text: &[u8], fault: &mut JsoncFault)
+pub(crate) fn put_text(text: &[u8], fault: &mut JsoncFault)
     ensures text { take fault.new.text_len fault.new.text ≡ take 192 text.now }
     ensures within { fault.new.text_len ≤ 192 }
     ensures kind { fault.new.kind ≡ fault.old.kind }

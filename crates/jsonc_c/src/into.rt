@@ -8,6 +8,8 @@ ghost use Rattle.jsonc_engine.specs.Output.{IsLeft};
 ghost use Rattle.jsonc_c.specs.Commands.{HasNoText, IsRefused, asked_of};
 ghost use Rattle.jsonc_c.specs.Edits.{IsEdited, IsUnedited};
 ghost use Rattle.jsonc_c.specs.Options.{options_of};
+ghost use Rattle.jsonc_c.specs.PatchTold.{TellsOfPatches};
+ghost use Rattle.jsonc_c.specs.Patches.{IsFound, IsMergedBy, IsPatchedBy, IsUnfound, IsUnmerged, IsUnpatched};
 ghost use Rattle.jsonc_c.specs.Told.{TellsOfEdits, TellsOfTexts};
 
 use crate::asked::{Asked, written};
@@ -15,6 +17,7 @@ use crate::edits::JsoncEdit;
 use crate::fault::{JsoncFault, NO_ROOM, OK};
 use crate::handed::without_line_feed;
 use crate::lists::text_after;
+use crate::patches::{found, merged, patched};
 use std::alloc::Global;
 
 /// Writes bytes to the front of a buffer, if it has the room, and how many they are.
@@ -324,4 +327,91 @@ pub extern "C" fn jsonc_edit_into(
         Err(status) => return status,
     };
     fill(made.as_bytes(), room, len)
+}
+
+/// Writes the value that a JSON Pointer refers to, as it is written, into a buffer, as `jsonc_find` hands it out.
+///
+/// 17: the buffer is too small. `len` tells how long the value is then, too.
+#[unsafe(no_mangle)]
+pub extern "C" fn jsonc_find_into(
+    alloc: Global,
+    text: &[u8],
+    pointer: &[u8],
+    options: u32,
+    room: &mut [u8],
+    len: &mut usize,
+    fault: &mut JsoncFault,
+) -> u32
+    ensures found { result ≡ 0 →
+        IsFound (options_of options) pointer.now text.now (take len.new room.new) }
+    ensures no_room { result ≡ 17 → length room.old < len.new }
+    ensures len { ¬ (result ≡ 0) → ¬ (result ≡ 17) → len.new ≡ 0 }
+    ensures unwritten { ¬ (result ≡ 0) → room.new ≡ room.old }
+    ensures told { TellsOfPatches result fault.new }
+    ensures refused { ¬ (result ≡ 0) → ¬ (result ≡ 17) →
+        IsUnfound (options_of options) pointer.now text.now result fault.new }
+{
+    *len = 0;
+    match found(alloc, text, pointer, options, fault) {
+        Ok(made) => fill(made.as_bytes(), room, len),
+        Err(status) => status,
+    }
+}
+
+/// Writes the text after the operations of a JSON Patch into a buffer, as `jsonc_apply_patch` hands it out.
+///
+/// 17: the buffer is too small. `len` tells how long the text is then, too.
+#[unsafe(no_mangle)]
+pub extern "C" fn jsonc_apply_patch_into(
+    alloc: Global,
+    text: &[u8],
+    patch: &[u8],
+    options: u32,
+    room: &mut [u8],
+    len: &mut usize,
+    fault: &mut JsoncFault,
+) -> u32
+    ensures patched { result ≡ 0 →
+        IsPatchedBy Global (options_of options) patch.now text.now (take len.new room.new) }
+    ensures no_room { result ≡ 17 → length room.old < len.new }
+    ensures len { ¬ (result ≡ 0) → ¬ (result ≡ 17) → len.new ≡ 0 }
+    ensures unwritten { ¬ (result ≡ 0) → room.new ≡ room.old }
+    ensures told { TellsOfPatches result fault.new }
+    ensures refused { ¬ (result ≡ 0) → ¬ (result ≡ 17) →
+        IsUnpatched Global (options_of options) patch.now text.now result fault.new }
+{
+    *len = 0;
+    match patched(alloc, text, patch, options, fault) {
+        Ok(made) => fill(made.as_bytes(), room, len),
+        Err(status) => status,
+    }
+}
+
+/// Writes the text after a JSON Merge Patch into a buffer, as `jsonc_merge_patch` hands it out.
+///
+/// 17: the buffer is too small. `len` tells how long the text is then, too.
+#[unsafe(no_mangle)]
+pub extern "C" fn jsonc_merge_patch_into(
+    alloc: Global,
+    text: &[u8],
+    patch: &[u8],
+    options: u32,
+    room: &mut [u8],
+    len: &mut usize,
+    fault: &mut JsoncFault,
+) -> u32
+    ensures merged { result ≡ 0 →
+        IsMergedBy Global (options_of options) patch.now text.now (take len.new room.new) }
+    ensures no_room { result ≡ 17 → length room.old < len.new }
+    ensures len { ¬ (result ≡ 0) → ¬ (result ≡ 17) → len.new ≡ 0 }
+    ensures unwritten { ¬ (result ≡ 0) → room.new ≡ room.old }
+    ensures told { TellsOfPatches result fault.new }
+    ensures refused { ¬ (result ≡ 0) → ¬ (result ≡ 17) →
+        IsUnmerged Global (options_of options) patch.now text.now result fault.new }
+{
+    *len = 0;
+    match merged(alloc, text, patch, options, fault) {
+        Ok(made) => fill(made.as_bytes(), room, len),
+        Err(status) => status,
+    }
 }

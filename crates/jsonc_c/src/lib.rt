@@ -18,6 +18,8 @@ mod handed;
 mod into;
 mod lists;
 mod options;
+mod patch_fault;
+mod patches;
 mod read;
 
 pub use check::jsonc_check;
@@ -28,10 +30,12 @@ pub use commands::{
 pub use edits::JsoncEdit;
 pub use fault::JsoncFault;
 pub use into::{
-    jsonc_append_into, jsonc_drop_into, jsonc_edit_into, jsonc_get_into, jsonc_print_into,
-    jsonc_put_into, jsonc_remove_into, jsonc_set_into, jsonc_sort_into,
+    jsonc_append_into, jsonc_apply_patch_into, jsonc_drop_into, jsonc_edit_into, jsonc_find_into,
+    jsonc_get_into, jsonc_merge_patch_into, jsonc_print_into, jsonc_put_into, jsonc_remove_into,
+    jsonc_set_into, jsonc_sort_into,
 };
 pub use lists::jsonc_edit;
+pub use patches::{jsonc_apply_patch, jsonc_find, jsonc_merge_patch};
 
 #[cfg(test)]
 mod tests;

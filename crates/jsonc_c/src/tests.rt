@@ -14,6 +14,8 @@ use crate::into::{
 use crate::lists::jsonc_edit;
 use std::test::Fail;
 
+mod patches;
+
 const ALL: u32 = 1023;
 
 const TEXT: &[u8] = b"{\n  \"b\": 1, // x\n  \"a\": [2]\n}\n";

@@ -5,6 +5,8 @@ mod edits;
 mod entry_comments;
 mod inputs;
 mod large;
+mod merge_texts;
+mod merges;
 mod named_values;
 mod node_edits;
 mod patch_texts;

@@ -21,3 +21,11 @@ pub mod Comparing
 pub mod Digits
 pub mod Values
 pub mod Applied
+pub mod Merging
+pub mod MergePatch
+pub mod MergeCases
+pub mod Merged
+pub mod MergeSteps
+pub mod Renaming
+pub mod MergeTexts
+pub mod MergeMessages

@@ -1,4 +1,4 @@
-//! JSON Pointers (RFC 6901) and JSON Patches (RFC 6902).
+//! JSON Pointers (RFC 6901), JSON Patches (RFC 6902) and merge patches (RFC 7396).
 //!
 //! A [`Pointer`] is a text that leads from a document's value to one inside it, through objects by names and through
 //! arrays by indexes, parsed, or made of its tokens. [`find`] finds the node that it refers to in a document, [`read`]
@@ -7,22 +7,31 @@
 //! A [`Patch`] is a list of operations at pointers, read from its text, which [`Patch::apply`] makes on a document
 //! whole or not at all: every comment stays, and every byte outside of what they change. [`same_number`] tells whether
 //! two texts of numbers have one value, as a patch's `test` asks.
+//!
+//! [`merge`] merges a value into a document's value, object into object, whole or not at all too: what does not differ
+//! is not touched.
 
 mod apply;
 mod equality;
 pub(crate) mod laws;
 mod location;
 mod making;
+mod merge_text;
+mod merging;
 mod numbers;
 mod operation;
 mod pointer;
 mod reading;
 mod reference;
+mod renaming;
+mod unique;
 mod values;
 
 pub use apply::PatchFault;
 pub use location::pointer_of;
 pub use making::PatchCause;
+pub use merge_text::{MergePatchError, merge_patch_from_json};
+pub use merging::{MergeFault, merge};
 pub use numbers::same_number;
 pub use operation::{Member, Operation, OperationFault};
 pub use pointer::{Pointer, PointerError};

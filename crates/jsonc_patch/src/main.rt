@@ -1,5 +1,5 @@
-//! JSON Pointers and JSON for documents of JSON with comments: `jsonc_patch find POINTER` and `jsonc_patch json`, from
-//! standard input to standard output.
+//! JSON Pointers, patches and JSON for documents of JSON with comments: `jsonc_patch find POINTER`, `apply PATCH`,
+//! `merge PATCH` and `json`, from standard input to standard output.
 #![tactic(auto)]
 
 use jsonc_engine::calls::{FromReader, ToWriter};

@@ -7,3 +7,5 @@ pub mod ToldTokens
 pub mod WrittenTokens
 pub mod Documents
 pub mod Finding
+pub mod Patches
+pub mod Ended

@@ -2,9 +2,12 @@
 use Rattle.std.specs.Prelude.{ℕ, List, ◌++◌, codes, string_bytes}
 use Rattle.std.specs.Fmt.{decimal}
 use Rattle.jsonc_text.specs.Messages.{error_text}
+use Rattle.jsonc_parser.specs.patch.FaultMessages.{patch_fault_text}
+use Rattle.jsonc_parser.specs.patch.MergeMessages.{merge_patch_error_text}
 use Rattle.jsonc_parser.specs.patch.Messages.{pointer_error_text}
+use Rattle.jsonc_parser.specs.patch.PatchMessages.{patch_error_text}
 use Rattle.jsonc_patch_engine.specs.declared.fault.Fault.{Fault}
-use Rattle.jsonc_patch_engine.specs.declared.fault.Fault.TheVariants.{Input, NoSuchValue, NoValue, NonFinite, NotUtf8, OutOfMemory, Pointer, Read, RepeatedName, Usage, Write}
+use Rattle.jsonc_patch_engine.specs.declared.fault.Fault.TheVariants.{Input, MergePatch, NoSuchValue, NoValue, NonFinite, NotUtf8, Operation, OutOfMemory, Patch, Pointer, Read, RepeatedName, Usage, Write}
 
 -- a line and a column
 abbrev pub place_text : ℕ → ℕ → List ℕ
@@ -13,6 +16,9 @@ place_text line column = codes " on line " ++ (decimal line ++ (codes " column "
 abbrev pub fault_line : {A : Type 0} → Fault A → List ℕ
 fault_line (Input error) = codes "jsonc_patch: " ++ error_text error
 fault_line (Pointer error) = codes "jsonc_patch: pointer: " ++ pointer_error_text error
+fault_line (Patch error) = codes "jsonc_patch: patch: " ++ patch_error_text error
+fault_line (MergePatch error) = codes "jsonc_patch: patch: " ++ merge_patch_error_text error
+fault_line (Operation fault) = codes "jsonc_patch: " ++ patch_fault_text fault
 fault_line (RepeatedName name) = codes "jsonc_patch: Name stands twice: " ++ string_bytes name
 fault_line NoSuchValue = codes "jsonc_patch: no such value"
 fault_line NoValue = codes "jsonc_patch: root value is missing"
@@ -21,4 +27,4 @@ fault_line OutOfMemory = codes "jsonc_patch: Out of memory"
 fault_line NotUtf8 = codes "jsonc_patch: input is not UTF-8"
 fault_line Read = codes "jsonc_patch: read failed"
 fault_line Write = codes "jsonc_patch: write failed"
-fault_line Usage = codes "usage: jsonc_patch find POINTER|json"
+fault_line Usage = codes "usage: jsonc_patch find POINTER|apply PATCH|merge PATCH|json"

@@ -8,6 +8,7 @@ pub mod Standing
 pub mod Causes
 pub mod Points
 pub mod Command
+pub mod Patched
 pub mod FaultLines
 pub mod Results
 pub mod Runs

@@ -13,13 +13,20 @@ use Rattle.jsonc_tree.specs.Tree.{Node}
 use Rattle.jsonc_sound.specs.Documents.{Shows}
 use Rattle.jsonc_parser.specs.patch.Found.{RefersToNode, RefersToNothing, WantsToFind}
 use Rattle.jsonc_parser.specs.patch.Pointer.{IsPointerFault, pointer_text}
+use Rattle.jsonc_parser.specs.patch.PatchFaults.{IsFaultOfPatch}
+use Rattle.jsonc_parser.specs.patch.MergeTexts.{IsFaultOfMergePatch}
 use Rattle.jsonc_parser.specs.patch.References.{FailsAt}
+use Rattle.jsonc_parser.specs.declared.patch.merge_text.MergePatchError.TheVariants as merge_patch
+use Rattle.jsonc_parser.specs.declared.patch.operation.OperationFault.TheVariants as operation
 use Rattle.jsonc_parser.specs.declared.patch.pointer.PointerError.TheVariants as pointer
+use Rattle.jsonc_parser.specs.declared.patch.reading.PatchError.{PatchError}
+use Rattle.jsonc_parser.specs.declared.patch.reading.PatchError.TheVariants as patch
 use Rattle.jsonc_layout.specs.input.Views.{chars_of}
 use Rattle.jsonc_patch_engine.specs.Causes.{HasNonFinite, HasValue, IsJsonOf, IsRefusal}
-use Rattle.jsonc_patch_engine.specs.Command.{Request, find, json}
+use Rattle.jsonc_patch_engine.specs.Command.{Request, apply, find, json, merge}
+use Rattle.jsonc_patch_engine.specs.Patched.{IsAccepted, IsApplied, IsMergedInto, MeetsTwice, StopsOn}
 use Rattle.jsonc_patch_engine.specs.declared.fault.Fault.{Fault}
-use Rattle.jsonc_patch_engine.specs.declared.fault.Fault.TheVariants.{Input, NoSuchValue, NoValue, NonFinite, NotUtf8, OutOfMemory, Pointer, RepeatedName}
+use Rattle.jsonc_patch_engine.specs.declared.fault.Fault.TheVariants.{Input, MergePatch, NoSuchValue, NoValue, NonFinite, NotUtf8, Operation, OutOfMemory, Patch, Pointer, RepeatedName}
 
 -- the text is a pointer of these tokens
 abbrev pub IsPointer : List ℕ → List (List ℕ) → Type 0
@@ -43,14 +50,16 @@ pub record IsFound (text input output : List ℕ) : Type 0 where
   pub prints : output ≡ printed (ordered_tree nodes node) ++ 0x0A ∷ []
 
 -- what is written for a command, of these bytes of input
-abbrev pub IsWritten : Request → List ℕ → List ℕ → Type 0
-IsWritten (find pointer) input output = IsFound pointer input output
-IsWritten json input output = IsUtf8 input × IsJsonOf (chars input) (chars output)
+abbrev pub IsWritten : Type 0 → Request → List ℕ → List ℕ → Type 0
+IsWritten A (find pointer) input output = IsFound pointer input output
+IsWritten A (apply patch) input output = IsApplied A patch input output
+IsWritten A (merge patch) input output = IsMergedInto A patch input output
+IsWritten A json input output = IsUtf8 input × IsJsonOf (chars input) (chars output)
 
 -- what a parse tells of the input; only where a document is made may it be an allocation failure
 abbrev pub IsRefusedText : Request → List ℕ → ParseError → Type 0
-IsRefusedText (find text) input e = IsFault input e × Refuses all_on true input e × ParseFault all_on input true e
 IsRefusedText json input e = IsRefusal input e
+IsRefusedText other input e = IsFault input e × Refuses all_on true input e × ParseFault all_on input true e
 
 -- the pointer is one of these tokens, and this is so of the document of the input and its nodes
 pub record OfPointer (text input : List ℕ) (is_so : Document → List Node → List (List ℕ) → Type 0) : Type 0 where
@@ -71,18 +80,30 @@ pub record IsNonFiniteAt (input : List ℕ) (line column : ℕ) : Type 0 where
 -- the command wants memory for what it makes of the input
 abbrev pub WantsMemory : Request → List ℕ → Type 0
 WantsMemory (find text) input = OfPointer text input (λ d ns tokens. WantsToFind d ns tokens ⊎ ((n : ℕ) × RefersToNode d ns tokens n))
+WantsMemory (apply text) input = IsAccepted input
+WantsMemory (merge text) input = IsAccepted input
 WantsMemory json input = HasValue (chars input)
 
--- the fault is true of the command's pointer
+-- it is not for memory that the text of a patch was not read
+abbrev pub IsOfText : {A : Type 0} → PatchError A → Type 0
+IsOfText e = (i : ℕ) → e ≢ patch.Operation i operation.OutOfMemory
+
+-- the fault is true of the command's pointer or patch
 abbrev pub IsFaultOfWords : {A : Type 0} → Request → Fault A → Type 0
 IsFaultOfWords (find text) (Pointer e) = IsPointerFault (chars text) e × (e ≢ pointer.OutOfMemory)
 IsFaultOfWords (find text) OutOfMemory = IsPointerFault (chars text) pointer.OutOfMemory
+IsFaultOfWords (apply text) (Patch e) = IsFaultOfPatch all_on text e × IsOfText e
+IsFaultOfWords {A} (apply text) OutOfMemory = (i : ℕ) × IsFaultOfPatch {A = A} all_on text (patch.Operation i operation.OutOfMemory)
+IsFaultOfWords (merge text) (MergePatch e) = IsFaultOfMergePatch all_on text e × (e ≢ merge_patch.OutOfMemory)
+IsFaultOfWords {A} (merge text) OutOfMemory = IsFaultOfMergePatch {A = A} all_on text merge_patch.OutOfMemory
 IsFaultOfWords request other = ⊥
 
 -- it is true of the input, and what the command makes of it can end with it
 abbrev pub IsFaultOfInput : {A : Type 0} → Request → List ℕ → Fault A → Type 0
 IsFaultOfInput (find text) input (RepeatedName name) = OfPointer text input (λ d ns tokens. FailsAt d.value tokens (chars_of name))
 IsFaultOfInput (find text) input NoSuchValue = OfPointer text input (λ d ns tokens. RefersToNothing d tokens)
+IsFaultOfInput (apply text) input (Operation fault) = StopsOn text input fault
+IsFaultOfInput (merge text) input (RepeatedName name) = MeetsTwice text input (chars_of name)
 IsFaultOfInput json input NoValue = IsDocument all_on (chars input) None
 IsFaultOfInput json input (NonFinite at) = IsNonFiniteAt input at.line at.column
 IsFaultOfInput request input (Input e) = IsRefusedText request input e

@@ -7,6 +7,10 @@ pub enum Command<'a> {
     /// Parses the input, and writes the value that this JSON Pointer refers to as it is written there, with a line feed
     /// behind it.
     Find(&'a str),
+    /// Parses the input, makes the operations of this JSON Patch, and writes the document.
+    Apply(&'a str),
+    /// Parses the input, merges this merge patch into it, and writes the document.
+    Merge(&'a str),
     /// Parses the input, and writes the document as JSON.
     Json,
 }
@@ -22,6 +26,8 @@ impl<'a> Command<'a> {
     {
         match words {
             ["find", pointer] => Some(Command::Find(pointer)),
+            ["apply", patch] => Some(Command::Apply(patch)),
+            ["merge", patch] => Some(Command::Merge(patch)),
             ["json"] => Some(Command::Json),
             _ => None,
         }

@@ -9,11 +9,13 @@ use crate::command::Command;
 use crate::fault::Fault;
 use crate::find::{pointer_of, shown_at};
 use crate::json::{JsonError, to_json};
+use crate::patching::{merge_patch_of, merged, patch_of, patched};
 use jsonc_engine::calls::{Sink, Source};
 use jsonc_engine::engine::{read_whole, write_text};
 use jsonc_engine::fault::Fault as ReadFault;
+use jsonc_parser::cst::CstInputValue;
 use jsonc_parser::line_and_column;
-use jsonc_parser::patch::Pointer;
+use jsonc_parser::patch::{Patch, Pointer};
 use std::alloc::Allocator;
 
 // What is to be written of a document.
@@ -21,11 +23,15 @@ use std::alloc::Allocator;
 enum Request<A: Allocator> {
     // The value that the pointer refers to.
     Find(Pointer<A>),
+    // All of it, with the operations of the patch made.
+    Apply(Patch<A>),
+    // All of it, with the patch merged into it.
+    Merge(CstInputValue<A>),
     // All of it, as JSON.
     Json,
 }
 
-// What a command asks for, its text read as a pointer.
+// What a command asks for, its text read as a pointer or a patch.
 fn read_request<A: Allocator + Copy>(alloc: A, command: Command<'_>) -> Result<Request<A>, Fault<A>>
     ensures asked { IfOk result (Asks (request_of command.entry)) }
     ensures refused { IfErr result (IsFaultOfWords (request_of command.entry)) }
@@ -35,13 +41,21 @@ fn read_request<A: Allocator + Copy>(alloc: A, command: Command<'_>) -> Result<R
             Ok(pointer) => Ok(Request::Find(pointer)),
             Err(fault) => Err(fault),
         },
+        Command::Apply(text) => match patch_of(alloc, text) {
+            Ok(patch) => Ok(Request::Apply(patch)),
+            Err(fault) => Err(fault),
+        },
+        Command::Merge(text) => match merge_patch_of(alloc, text) {
+            Ok(patch) => Ok(Request::Merge(patch)),
+            Err(fault) => Err(fault),
+        },
         Command::Json => Ok(Request::Json),
     }
 }
 
 // The document of a text as JSON.
 fn json_of<A: Allocator + Copy>(alloc: A, text: &str) -> Result<String<A>, Fault<A>>
-    ensures written { IfOk result (λ s. IsWritten json text.now (string_bytes s)) }
+    ensures written { IfOk result (λ s. IsWritten A json text.now (string_bytes s)) }
     ensures refused { IfErr result (IsFaultOfInput json text.now) }
 {
     match to_json(alloc, text) {
@@ -59,7 +73,7 @@ fn output_of<A: Allocator + Copy>(
     request: &Request<A>,
     input: &[u8],
 ) -> Result<String<A>, Fault<A>>
-    ensures written { (asked : Asked) → Asks asked request.now → IfOk result (λ s. IsWritten asked input.now (string_bytes s)) }
+    ensures written { (asked : Asked) → Asks asked request.now → IfOk result (λ s. IsWritten A asked input.now (string_bytes s)) }
     ensures refused { (asked : Asked) → Asks asked request.now → IfErr result (IsFaultOfInput asked input.now) }
 {
     let Ok(text) = str::from_utf8(input) else {
@@ -67,6 +81,8 @@ fn output_of<A: Allocator + Copy>(
     };
     match request {
         Request::Find(pointer) => shown_at(alloc, text, pointer),
+        Request::Apply(patch) => patched(alloc, text, patch),
+        Request::Merge(patch) => merged(alloc, text, patch),
         Request::Json => json_of(alloc, text),
     }
 }
@@ -77,7 +93,7 @@ pub fn run_on<A: Allocator + Copy>(
     command: Command,
     input: &[u8],
 ) -> Result<String<A>, Fault<A>>
-    ensures written { IfOk result (λ s. IsWritten (request_of command.entry) input.now (string_bytes s)) }
+    ensures written { IfOk result (λ s. IsWritten A (request_of command.entry) input.now (string_bytes s)) }
     ensures refused { IfErr result (IsFaultOn (request_of command.entry) input.now) }
 {
     match read_request(alloc, command) {
@@ -89,21 +105,21 @@ pub fn run_on<A: Allocator + Copy>(
 /// Does what the words ask: reads the source to its end, and writes what the command makes of it to the sink.
 ///
 /// Words that name no command are `Fault::Usage`, failed calls `Fault::Read` and `Fault::Write`; else the faults
-/// are those of `run_on`. A command's pointer is read before the source is.
+/// are those of `run_on`. A command's pointer or patch is read before the source is.
 pub fn engine<A: Allocator + Copy, S: Source, K: Sink>(
     alloc: A,
     words: &[&str],
     source: &mut S,
     sink: &mut K,
 ) -> Result<(), Fault<A>>
-    // Words that name no command are refused, and no others; and they, and a pointer, before anything is read.
+    // Words that name no command are refused, and no others; and they, a pointer and a patch, before anything is read.
     ensures usage { IsErrOf result Fault.Usage ↔ ((asked : Asked) → ¬ (Name words.now asked)) }
     ensures unread { IfErr result (λ fault. TellsOfWords fault → source.new ≡ source.old) }
 
     // What a success wrote.
     ensures written { (asked : Asked)
         → OnOk result (Name words.now asked
-        → IfSome (S.remaining source.old) (Puts asked (K.contents sink.old) (K.contents sink.new))) }
+        → IfSome (S.remaining source.old) (Puts A asked (K.contents sink.old) (K.contents sink.new))) }
     ensures flushed { OnOk result (K.is_flushed sink.new) }
 
     // The cause that an error names holds, and it names no other.

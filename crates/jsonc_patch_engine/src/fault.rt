@@ -6,7 +6,7 @@ ghost use Rattle.jsonc_patch_engine.specs.declared.fault.Fault.TheVariants.{OutO
 
 use jsonc_parser::LineAndColumn;
 use jsonc_parser::errors::ParseError;
-use jsonc_parser::patch::PointerError;
+use jsonc_parser::patch::{MergePatchError, PatchError, PatchFault, PointerError};
 use std::alloc::{AllocError, AllocFailed, Allocator};
 use std::error::Error;
 use std::fmt;
@@ -18,7 +18,13 @@ pub enum Fault<A: Allocator> {
     Input(ParseError),
     /// The command's text is no pointer.
     Pointer(PointerError),
-    /// More than one property of an object on the pointer's way has this name.
+    /// The command's text is no patch.
+    Patch(PatchError<A>),
+    /// The command's text is no merge patch.
+    MergePatch(MergePatchError<A>),
+    /// An operation of the patch was not made.
+    Operation(PatchFault<A>),
+    /// More than one property of an object has this name, where a pointer or a merge patch names it.
     RepeatedName(String<A>),
     /// The pointer refers to nothing.
     NoSuchValue,
@@ -68,6 +74,18 @@ impl<A: Allocator> fmt::Display for Fault<A> {
                 f.write_str("jsonc_patch: pointer: ")?;
                 error.fmt(f)
             }
+            Fault::Patch(error) => {
+                f.write_str("jsonc_patch: patch: ")?;
+                error.fmt(f)
+            }
+            Fault::MergePatch(error) => {
+                f.write_str("jsonc_patch: patch: ")?;
+                error.fmt(f)
+            }
+            Fault::Operation(fault) => {
+                f.write_str("jsonc_patch: ")?;
+                fault.fmt(f)
+            }
             Fault::RepeatedName(name) => {
                 f.write_str("jsonc_patch: Name stands twice: ")?;
                 f.write_str(name.as_str())
@@ -82,7 +100,9 @@ impl<A: Allocator> fmt::Display for Fault<A> {
             Fault::NotUtf8 => f.write_str("jsonc_patch: input is not UTF-8"),
             Fault::Read => f.write_str("jsonc_patch: read failed"),
             Fault::Write => f.write_str("jsonc_patch: write failed"),
-            Fault::Usage => f.write_str("usage: jsonc_patch find POINTER|json"),
+            Fault::Usage => {
+                f.write_str("usage: jsonc_patch find POINTER|apply PATCH|merge PATCH|json")
+            }
         }
     }
 }

@@ -8,3 +8,4 @@ pub mod fault;
 mod find;
 pub mod json;
 pub mod laws;
+mod patching;

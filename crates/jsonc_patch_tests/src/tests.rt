@@ -1,5 +1,7 @@
 //! The tests, and what they share.
 
+mod patch_rows;
+mod patches;
 mod refusals;
 mod rows;
 mod runs;

@@ -5,6 +5,7 @@ ghost use Rattle.jsonc_cst.specs.Nodes.{object_node};
 
 use crate::documents::{elements, parsed};
 use crate::edits::{appended, inserted, removed, replaced, set};
+use crate::patches::patched;
 use jsonc_engine::command::Command;
 use jsonc_engine::engine::run_on;
 use jsonc_engine::fault::Fault;
@@ -48,6 +49,8 @@ pub enum Call {
     Inserted,
     /// `remove` of the elements of an array that is parsed once, from the last on.
     Removed,
+    /// Parse, a patch of ten operations and print, of settings of 1 MB.
+    Patched,
     /// What a linter does: parse, and walk all nodes with ranges, for lines, columns and names that stand twice.
     Lint,
     /// `repeated_names` of the document's object, which is parsed once.
@@ -75,6 +78,7 @@ impl Call {
             "appended" => Some(Call::Appended),
             "inserted" => Some(Call::Inserted),
             "removed" => Some(Call::Removed),
+            "patched" => Some(Call::Patched),
             "lint" => Some(Call::Lint),
             "repeated" => Some(Call::Repeated),
             "last" => Some(Call::Last),
@@ -128,6 +132,7 @@ impl Call {
             Call::Value => value(alloc, text),
             Call::Document => document(alloc, text),
             Call::Program => program(alloc, text),
+            Call::Patched => patched(alloc, text),
             Call::Lint => lint(alloc, text),
         }
     }

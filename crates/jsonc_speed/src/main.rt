@@ -7,6 +7,7 @@
 mod call;
 mod documents;
 mod edits;
+mod patches;
 
 use call::Call;
 use jsonc_engine::fault::Fault;

@@ -116,6 +116,25 @@ pub fn edit(text: &str, options: Options, edits: &[Edit]) -> Result<Text, Error>
     handed!(jsonc_edit, options, text, edits)
 }
 
+/// The value that a JSON Pointer (RFC 6901) refers to as it is written, if there is one.
+pub fn find(text: &str, options: Options, pointer: &str) -> Result<Option<Text>, Error> {
+    match handed!(jsonc_find, options, text, pointer) {
+        Ok(value) => Ok(Some(value)),
+        Err(Error::NoSuchValue(_)) => Ok(None),
+        Err(error) => Err(error),
+    }
+}
+
+/// Makes the operations of a JSON Patch (RFC 6902), a JSON text of the options. Where one is not made, none is.
+pub fn apply_patch(text: &str, options: Options, patch: &str) -> Result<Text, Error> {
+    handed!(jsonc_apply_patch, options, text, patch)
+}
+
+/// Merges a JSON Merge Patch (RFC 7396), a JSON text of the options.
+pub fn merge_patch(text: &str, options: Options, patch: &str) -> Result<Text, Error> {
+    handed!(jsonc_merge_patch, options, text, patch)
+}
+
 /// Writes the text that the document prints into a buffer, and answers its length, as each of the next calls.
 pub fn print_into(text: &str, options: Options, room: &mut [u8]) -> Result<usize, Error> {
     filled!(jsonc_print_into, room, options, text)
@@ -167,4 +186,23 @@ pub fn drop_at_into(text: &str, options: Options, names: &[&str], room: &mut [u8
 pub fn edit_into(text: &str, options: Options, edits: &[Edit], room: &mut [u8]) -> Result<usize, Error> {
     let edits: Vec<ffi::Edit> = edits.iter().map(Edit::listed).collect();
     filled!(jsonc_edit_into, room, options, text, edits)
+}
+
+/// As [`find`], of whose value it answers the length, if there is one.
+pub fn find_into(text: &str, options: Options, pointer: &str, room: &mut [u8]) -> Result<Option<usize>, Error> {
+    match filled!(jsonc_find_into, room, options, text, pointer) {
+        Ok(len) => Ok(Some(len)),
+        Err(Error::NoSuchValue(_)) => Ok(None),
+        Err(error) => Err(error),
+    }
+}
+
+/// As [`apply_patch`].
+pub fn apply_patch_into(text: &str, options: Options, patch: &str, room: &mut [u8]) -> Result<usize, Error> {
+    filled!(jsonc_apply_patch_into, room, options, text, patch)
+}
+
+/// As [`merge_patch`].
+pub fn merge_patch_into(text: &str, options: Options, patch: &str, room: &mut [u8]) -> Result<usize, Error> {
+    filled!(jsonc_merge_patch_into, room, options, text, patch)
 }

@@ -2,7 +2,7 @@
 use crate::ffi;
 use std::fmt;
 
-/// What is wrong with a text, and where.
+/// What is wrong with a text, a pointer or a patch, and where.
 #[derive(Clone, Debug, PartialEq, Eq)]
 pub struct Fault {
     /// The kind, as `UNEXPECTED_TOKEN`.
@@ -53,6 +53,19 @@ pub enum Error {
     OnTheWay,
     /// An edit has no place; so many stand before it in the list.
     NoSuchPlace(usize),
+    /// The pointer is none.
+    Pointer(Fault),
+    /// The patch is no array, or an operation is none; so many stand before it.
+    NotPatch(usize, Fault),
+    /// A pointer of a patch leads to nothing; so many operations stand before the one that has it.
+    NoSuchValue(usize),
+    /// A name stands twice in an object where it is looked up, or in one of a merge patch; so many operations of a patch
+    /// stand before.
+    RepeatedName(usize, Fault),
+    /// An operation of a patch was to move a value into itself; so many stand before it.
+    IntoItself(usize),
+    /// An operation of a patch tested a value, which is another; so many stand before it.
+    NotEqual(usize),
     /// The buffer is too small; so many bytes are wanted.
     NoRoom(usize),
     OutOfMemory,
@@ -71,6 +84,12 @@ impl Error {
             ffi::NOT_ARRAY => Error::NotArray,
             ffi::ON_THE_WAY => Error::OnTheWay,
             ffi::NO_SUCH_PLACE => Error::NoSuchPlace(fault.made),
+            ffi::POINTER => Error::Pointer(Fault::of(fault)),
+            ffi::NOT_PATCH => Error::NotPatch(fault.made, Fault::of(fault)),
+            ffi::NO_SUCH_VALUE => Error::NoSuchValue(fault.made),
+            ffi::REPEATED_NAME => Error::RepeatedName(fault.made, Fault::of(fault)),
+            ffi::INTO_ITSELF => Error::IntoItself(fault.made),
+            ffi::NOT_EQUAL => Error::NotEqual(fault.made),
             ffi::NO_ROOM => Error::NoRoom(len),
             other => Error::Other(other),
         }
@@ -87,6 +106,12 @@ impl fmt::Display for Error {
             Error::NotArray => f.write_str("root value is not an array"),
             Error::OnTheWay => f.write_str("a value on the path is not an object"),
             Error::NoSuchPlace(made) => write!(f, "No such place, edits made before: {made}"),
+            Error::Pointer(fault) => write!(f, "pointer: {fault}"),
+            Error::NotPatch(_, fault) => write!(f, "patch: {fault}"),
+            Error::NoSuchValue(made) => write!(f, "Operation {made}: Pointer leads to nothing"),
+            Error::RepeatedName(_, fault) => fault.fmt(f),
+            Error::IntoItself(made) => write!(f, "Operation {made}: Value cannot be moved into itself"),
+            Error::NotEqual(made) => write!(f, "Operation {made}: Value is another"),
             Error::NoRoom(len) => write!(f, "the text has {len} bytes"),
             Error::OutOfMemory => f.write_str("Out of memory"),
             Error::Other(status) => write!(f, "status {status}"),

@@ -18,7 +18,7 @@ pub const FAULT_TEXT_LEN: usize = 192;
 pub const OK: u32 = 0;
 /// An allocation failed.
 pub const OUT_OF_MEMORY: u32 = 1;
-/// A name, path or JSON text is not UTF-8.
+/// A name, path, pointer or JSON text is not UTF-8.
 pub const WORD_NOT_UTF8: u32 = 2;
 /// The text is not UTF-8.
 pub const NOT_UTF8: u32 = 3;
@@ -28,7 +28,7 @@ pub const TEXT: u32 = 4;
 pub const PATH: u32 = 5;
 /// The path is no array of strings.
 pub const NOT_NAMES: u32 = 6;
-/// The JSON text of a value is no document. The fault tells what is wrong with it.
+/// The JSON text of a value or patch is no document. The fault tells what is wrong with it.
 pub const JSON: u32 = 7;
 /// The JSON text has no value.
 pub const NO_VALUE: u32 = 8;
@@ -52,6 +52,18 @@ pub const NO_SUCH_EDIT: u32 = 16;
 pub const NO_ROOM: u32 = 17;
 /// Anything else. No call answers it.
 pub const OTHER: u32 = 18;
+/// The pointer is none. The fault tells what is wrong with it.
+pub const POINTER: u32 = 19;
+/// A pointer leads to nothing.
+pub const NO_SUCH_VALUE: u32 = 20;
+/// A name stands twice in an object where it is looked up, or in one of a merge patch. The fault's text has the name.
+pub const REPEATED_NAME: u32 = 21;
+/// The patch is no array, or an operation is none. The fault tells which, and what is wrong with it.
+pub const NOT_PATCH: u32 = 22;
+/// A value was to be moved into itself.
+pub const INTO_ITSELF: u32 = 23;
+/// A value is not equal to the one that it was tested against.
+pub const NOT_EQUAL: u32 = 24;
 
 pub const ALLOW_COMMENTS: u32 = 1;
 pub const ALLOW_LOOSE_OBJECT_PROPERTY_NAMES: u32 = 2;
@@ -65,7 +77,7 @@ pub const ALLOW_NON_FINITE_NUMBERS: u32 = 256;
 pub const ALLOW_EXTENDED_STRING_ESCAPES: u32 = 512;
 
 /// The kinds of faults by their numbers.
-pub const KINDS: [(u32, &str); 35] = [
+pub const KINDS: [(u32, &str); 44] = [
     (101, "STRING_INVALID_ESCAPE_IN_SINGLE_QUOTE_STRING"),
     (102, "STRING_INVALID_ESCAPE_IN_DOUBLE_QUOTE_STRING"),
     (103, "STRING_EXPECTED_FOUR_HEX_DIGITS"),
@@ -101,6 +113,15 @@ pub const KINDS: [(u32, &str); 35] = [
     (26, "UNTERMINATED_OBJECT"),
     (27, "NESTING_DEPTH_EXCEEDED"),
     (28, "OUT_OF_MEMORY"),
+    (201, "POINTER_NO_LEADING_SLASH"),
+    (202, "POINTER_INVALID_ESCAPE"),
+    (203, "POINTER_OUT_OF_MEMORY"),
+    (301, "PATCH_NOT_AN_ARRAY"),
+    (302, "OPERATION_NOT_AN_OBJECT"),
+    (303, "OPERATION_MISSING"),
+    (304, "OPERATION_WRONG"),
+    (305, "OPERATION_REPEATED_NAME"),
+    (306, "OPERATION_OUT_OF_MEMORY"),
 ];
 
 /// Replaces the value at the path.
@@ -142,13 +163,13 @@ pub const EDIT_SORT: u32 = 17;
 /// Gives the property at the path another name.
 pub const EDIT_RENAME_PROPERTY: u32 = 18;
 
-/// What is wrong with a text. All of it is 0 where no text is at fault.
+/// What is wrong with a text, a pointer or a patch. All of it is 0 where none is at fault.
 #[repr(C)]
 #[derive(Clone, Copy)]
 pub struct Fault {
     /// The number of its kind.
     pub kind: u32,
-    /// How many edits of a list were made, or read, before the one that was refused.
+    /// How many edits of a list, or operations of a patch, were made, or read, before the one that was refused.
     pub made: usize,
     /// The byte offset at which it begins.
     pub start: usize,
@@ -262,6 +283,33 @@ unsafe extern "C" {
     /// how many edits stand before it.
     pub fn jsonc_edit(text: *const u8, text_len: usize, edits: *const Edit, edits_len: usize, options: u32, out: *mut Slice<u8>, fault: *mut Fault) -> u32;
 
+    /// Hands out the value that a JSON Pointer (RFC 6901) refers to, as it is written.
+    ///
+    /// 0: it is done. 1, 3 and 4 as of `jsonc_check`. 2 and 19: the pointer is not UTF-8, or none. 20: it
+    /// refers to nothing. 21: a name on its way stands twice in its object.
+    pub fn jsonc_find(text: *const u8, text_len: usize, pointer: *const u8, pointer_len: usize, options: u32, out: *mut Slice<u8>, fault: *mut Fault) -> u32;
+
+    /// Makes the operations of a JSON Patch (RFC 6902), and hands out the text after them. Where one is not
+    /// made, none is.
+    ///
+    /// The patch is a JSON text, which is read under the options of the document's.
+    ///
+    /// 0: it is done. 1, 3 and 4 as of `jsonc_check`. 2 and 7: the patch is not UTF-8, or no document of the
+    /// options. 22: it is no patch. Of an operation that is not made, 20: a pointer leads to nothing; 21: a
+    /// name on its way stands twice in its object; 23: a value would be moved into itself; 24: the value is
+    /// another than that of a `test`. With 20 to 24 the fault tells how many operations stand before.
+    pub fn jsonc_apply_patch(text: *const u8, text_len: usize, patch: *const u8, patch_len: usize, options: u32, out: *mut Slice<u8>, fault: *mut Fault) -> u32;
+
+    /// Merges a JSON Merge Patch (RFC 7396) into the document, and hands out the text after it. Where a name
+    /// cannot be looked up, nothing is merged.
+    ///
+    /// The patch is a JSON text, which is read under the options of the document's.
+    ///
+    /// 0: it is done. 1, 3 and 4 as of `jsonc_check`. 2, 7 and 8: the patch is not UTF-8, or no document of the
+    /// options, or has no value. 21: a name stands twice in an object of the patch, or in one of the document
+    /// where it is looked up.
+    pub fn jsonc_merge_patch(text: *const u8, text_len: usize, patch: *const u8, patch_len: usize, options: u32, out: *mut Slice<u8>, fault: *mut Fault) -> u32;
+
     /// Writes the text that the document prints into a buffer, as `jsonc_print` hands it out.
     ///
     /// 17: the buffer is too small. `len` tells how long the text is then, too.
@@ -306,6 +354,22 @@ unsafe extern "C" {
     ///
     /// 17: the buffer is too small. `len` tells how long the text is then, too.
     pub fn jsonc_edit_into(text: *const u8, text_len: usize, edits: *const Edit, edits_len: usize, options: u32, room: *mut u8, room_len: usize, len: *mut usize, fault: *mut Fault) -> u32;
+
+    /// Writes the value that a JSON Pointer refers to, as it is written, into a buffer, as `jsonc_find` hands
+    /// it out.
+    ///
+    /// 17: the buffer is too small. `len` tells how long the value is then, too.
+    pub fn jsonc_find_into(text: *const u8, text_len: usize, pointer: *const u8, pointer_len: usize, options: u32, room: *mut u8, room_len: usize, len: *mut usize, fault: *mut Fault) -> u32;
+
+    /// Writes the text after the operations of a JSON Patch into a buffer, as `jsonc_apply_patch` hands it out.
+    ///
+    /// 17: the buffer is too small. `len` tells how long the text is then, too.
+    pub fn jsonc_apply_patch_into(text: *const u8, text_len: usize, patch: *const u8, patch_len: usize, options: u32, room: *mut u8, room_len: usize, len: *mut usize, fault: *mut Fault) -> u32;
+
+    /// Writes the text after a JSON Merge Patch into a buffer, as `jsonc_merge_patch` hands it out.
+    ///
+    /// 17: the buffer is too small. `len` tells how long the text is then, too.
+    pub fn jsonc_merge_patch_into(text: *const u8, text_len: usize, patch: *const u8, patch_len: usize, options: u32, room: *mut u8, room_len: usize, len: *mut usize, fault: *mut Fault) -> u32;
 
     /// The C library's.
     pub fn free(at: *mut c_void);

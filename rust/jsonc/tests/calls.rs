@@ -1,6 +1,7 @@
 //! Each call: its text, its faults, and its threads.
-use jsonc::{Edit, Error, Options, Shape, append, check, drop_at, edit, get, print, put, remove, set, sort};
-use jsonc::{append_into, drop_at_into, edit_into, get_into, print_into, put_into, remove_into, set_into, sort_into};
+use jsonc::{Edit, Error, Options, Shape, append, apply_patch, check, drop_at, edit, find, get, merge_patch, print, put};
+use jsonc::{append_into, apply_patch_into, drop_at_into, edit_into, find_into, get_into, merge_patch_into, print_into};
+use jsonc::{put_into, remove, remove_into, set, set_into, sort, sort_into};
 
 const TEXT: &str = "{\n  // one\n  \"a\": 1, // first\n  \"b\": {\"c\": [1, 2]},\n}\n";
 
@@ -101,10 +102,99 @@ fn each_edit_is_made() {
 }
 
 #[test]
+fn pointers_find_values() {
+    // (RFC 6901, 5)
+    let text = r##"{ "foo": ["bar", "baz"], "": 0, "a/b": 1, "c%d": 2, "e^f": 3, "g|h": 4, "i\\j": 5, "k\"l": 6, " ": 7, "m~n": 8 }"##;
+    let rows = [
+        ("", text), ("/foo", r#"["bar", "baz"]"#), ("/foo/0", r#""bar""#), ("/", "0"), ("/a~1b", "1"), ("/c%d", "2"),
+        ("/e^f", "3"), ("/g|h", "4"), ("/i\\j", "5"), ("/k\"l", "6"), ("/ ", "7"), ("/m~0n", "8"),
+    ];
+    let mut room = [0; 128];
+    for (pointer, value) in rows {
+        assert_eq!(find(text, Options::JSON, pointer).expect("it is found").as_deref(), Some(value), "{pointer}");
+        assert_eq!(find_into(text, Options::JSON, pointer, &mut room), Ok(Some(value.len())));
+        assert_eq!(&room[..value.len()], value.as_bytes());
+    }
+    // (4: `-` is the element behind the last, and an index has no leading zeros)
+    for pointer in ["/foo/2", "/foo/-", "/foo/00", "/bar", "/foo/0/0"] {
+        assert!(find(text, Options::JSON, pointer).expect("it is followed").is_none(), "{pointer}");
+        assert_eq!(find_into(text, Options::JSON, pointer, &mut room), Ok(None));
+    }
+    // (3: the place, counted by hand)
+    for (pointer, kind, place) in [("foo", "POINTER_NO_LEADING_SLASH", 0), ("/a~2", "POINTER_INVALID_ESCAPE", 2), ("/\u{e9}/~", "POINTER_INVALID_ESCAPE", 4)] {
+        let Err(Error::Pointer(fault)) = find(text, Options::JSON, pointer) else { panic!("{pointer} is none") };
+        assert_eq!((fault.kind, fault.range), (kind, place..place), "{pointer}");
+    }
+    let Err(Error::RepeatedName(0, fault)) = find(r#"{"a": 1, "a": 2}"#, Options::JSON, "/a") else { panic!("the name stands twice") };
+    assert_eq!(fault.to_string(), "Name stands twice: a");
+    assert!(matches!(find("[1,]", Options::JSON, "/0"), Err(Error::Text(_))));
+    assert_eq!(find_into("[100]", Options::JSON, "/0", &mut room[..2]), Err(Error::NoRoom(3)));
+}
+
+#[test]
+fn patches_are_made_whole_or_not() {
+    // (RFC 6902, appendix A: 4, 5, 8, and of those that are errors 9, 12 and 13)
+    let patched = |text: &str, patch: &str| apply_patch(text, Options::JSONC, patch);
+    assert_eq!(made(patched(r#"{ "foo": ["bar", "qux", "baz"] } // c"#, r#"[{ "op": "remove", "path": "/foo/1" }]"#)), r#"{ "foo": ["bar", "baz"] } // c"#);
+    assert_eq!(made(patched(r#"{ "baz": "qux", "foo": "bar" }"#, r#"[{ "op": "replace", "path": "/baz", "value": "boo" }, /* c */]"#)), r#"{ "baz": "boo", "foo": "bar" }"#);
+    let tests = r#"[{ "op": "test", "path": "/baz", "value": "qux" }, { "op": "test", "path": "/foo/1", "value": 2 }]"#;
+    assert_eq!(made(patched(r#"{ "baz": "qux", "foo": ["a", 2.0, "c"] }"#, tests)), r#"{ "baz": "qux", "foo": ["a", 2.0, "c"] }"#);
+    assert_eq!(patched(r#"{ "baz": "qux" }"#, r#"[{ "op": "test", "path": "/baz", "value": "bar" }]"#).map(drop), Err(Error::NotEqual(0)));
+    let behind = r#"[{ "op": "remove", "path": "/a" }, { "op": "add", "path": "/baz/bat", "value": "qux" }]"#;
+    assert_eq!(patched(r#"{ "a": 1, "foo": "bar" }"#, behind).map(drop), Err(Error::NoSuchValue(1)));
+    let within = r#"[{ "op": "move", "from": "/a", "path": "/a/b" }]"#;
+    assert_eq!(patched(r#"{ "a": {} }"#, within).map(drop), Err(Error::IntoItself(0)));
+    let rows = [
+        (r#"{}"#, "PATCH_NOT_AN_ARRAY", 0, 0),
+        (r#"[1]"#, "OPERATION_NOT_AN_OBJECT", 0, 0),
+        (r#"[{ "op": "remove" }]"#, "OPERATION_MISSING", 0, 0),
+        (r#"[{ "op": "take", "path": "" }]"#, "OPERATION_WRONG", 0, 0),
+        (r#"[{ "op": "remove", "path": "" }, { "op": "remove", "path": "/a~" }]"#, "POINTER_INVALID_ESCAPE", 1, 2),
+        (r#"[{ "op": "add", "path": "/baz", "value": "qux", "op": "remove" }]"#, "OPERATION_REPEATED_NAME", 0, 0),
+    ];
+    for (patch, kind, before, place) in rows {
+        let Err(Error::NotPatch(number, fault)) = patched("{}", patch) else { panic!("{patch} is none") };
+        assert_eq!((number, fault.kind, fault.range), (before, kind, place..place), "{patch}");
+    }
+    // (it is read under the options of the document)
+    assert!(matches!(apply_patch("[]", Options::JSON, "[/* c */]"), Err(Error::Json(_))));
+    let twice = patched(r#"{ "a": 1, "a": 2 }"#, r#"[{ "op": "remove", "path": "/a" }]"#);
+    let Err(Error::RepeatedName(0, fault)) = twice else { panic!("the name stands twice: {twice:?}") };
+    assert_eq!(fault.to_string(), "Operation 0: Name stands twice: a");
+}
+
+#[test]
+fn merge_patches_are_merged() {
+    // (RFC 7396, appendix A, but for its rows that add a member or take one away, whose blanks no standard says)
+    let rows = [
+        (r#"{"a":"b"}"#, r#"{"a":"c"}"#, r#"{"a":"c"}"#),
+        (r#"{"a":["b"]}"#, r#"{"a":"c"}"#, r#"{"a":"c"}"#),
+        (r#"{"a":"c"}"#, r#"{"a":["b"]}"#, r#"{"a":["b"]}"#),
+        (r#"{"a":[{"b":"c"}]}"#, r#"{"a":[1]}"#, r#"{"a":[1]}"#),
+        (r#"["a","b"]"#, r#"["c"]"#, r#"["c"]"#),
+        (r#"{"a":"foo"}"#, "null", "null"),
+        (r#"{"a":"foo"}"#, r#""bar""#, r#""bar""#),
+        (r#"{"e":null}"#, r#"{"a":null}"#, r#"{"e":null}"#),
+    ];
+    for (text, patch, value) in rows {
+        assert_eq!(made(merge_patch(text, Options::JSON, patch)), value, "{text} {patch}");
+    }
+    assert_eq!(made(merge_patch(TEXT, Options::ALL, r#"{"b": {"c": 3}}"#)), TEXT.replace("[1, 2]", "3"));
+    for (text, patch) in [(r#"{"a": 1, "a": 2}"#, r#"{"a": 3}"#), ("{}", r#"{"b": {"a": 1, "a": 2}}"#)] {
+        let Err(Error::RepeatedName(0, fault)) = merge_patch(text, Options::JSON, patch) else { panic!("the name stands twice") };
+        assert_eq!(fault.to_string(), "Name stands twice: a");
+    }
+    assert!(matches!(merge_patch("1", Options::ALL, "// c"), Err(Error::NoValue)));
+    assert!(matches!(merge_patch("1", Options::JSON, "[2,]"), Err(Error::Json(_))));
+}
+
+#[test]
 fn buffers_take_the_same() {
     const ALL: Options = Options::ALL;
     type Call<'a> = Box<dyn Fn(&mut [u8]) -> Result<usize, Error> + 'a>;
-    let rows: [(Result<jsonc::Text, Error>, Call); 8] = [
+    const PATCH: &str = r#"[{"op": "replace", "path": "/a", "value": 2}]"#;
+    const MERGE: &str = r#"{"a": 2}"#;
+    let rows: [(Result<jsonc::Text, Error>, Call); 10] = [
         (print(TEXT, ALL), Box::new(|room| print_into(TEXT, ALL, room))),
         (set(TEXT, ALL, "a", "2"), Box::new(|room| set_into(TEXT, ALL, "a", "2", room))),
         (append("[1]", ALL, "2"), Box::new(|room| append_into("[1]", ALL, "2", room))),
@@ -112,6 +202,8 @@ fn buffers_take_the_same() {
         (sort(TEXT, ALL), Box::new(|room| sort_into(TEXT, ALL, room))),
         (put(TEXT, ALL, &["b", "c"], "2"), Box::new(|room| put_into(TEXT, ALL, &["b", "c"], "2", room))),
         (drop_at(TEXT, ALL, &["b", "c"]), Box::new(|room| drop_at_into(TEXT, ALL, &["b", "c"], room))),
+        (apply_patch(TEXT, ALL, PATCH), Box::new(|room| apply_patch_into(TEXT, ALL, PATCH, room))),
+        (merge_patch(TEXT, ALL, MERGE), Box::new(|room| merge_patch_into(TEXT, ALL, MERGE, room))),
         (edit(TEXT, ALL, &[Edit::ClearRoot]), Box::new(|room| edit_into(TEXT, ALL, &[Edit::ClearRoot], room))),
     ];
     for (handed, call) in rows {

@@ -220,7 +220,7 @@ fn prints<A: Allocator + Copy>(alloc: A, pointer: &Pointer<A>, text: &str) -> Ou
 }
 
 /// A value is that of this text.
-fn is_value<A: Allocator + Copy>(alloc: A, value: &CstInputValue<A>, text: &str) -> Outcome {
+pub fn is_value<A: Allocator + Copy>(alloc: A, value: &CstInputValue<A>, text: &str) -> Outcome {
     let doc = match CstRootNode::parse(alloc, text, &ParseOptions::default()) {
         Ok(doc) => doc,
         Err(error) => return Outcome::from(error),

@@ -32,7 +32,7 @@ enum Answer<'a> {
 type Row<'a> = (&'a str, &'a str, Answer<'a>);
 
 /// Appendix A of RFC 6902, and more.
-static PATCHES: [Row; 30] = [
+static PATCHES: [Row; 33] = [
     (
         r#"{"foo":"bar"}"#,
         r#"[{"op":"add","path":"/baz","value":"qux"}]"#,
@@ -156,6 +156,22 @@ static PATCHES: [Row; 30] = [
         r#"{"a":{"b":1}}"#,
         r#"[{"op":"move","from":"/a","path":"/a"}]"#,
         Answer::Text(r#"{"a":{"b":1}}"#),
+    ),
+    // Within one object the name alone is replaced, if no member has the new one.
+    (
+        "{a: [1 /* one */], // a\n \"b\": 2}",
+        r#"[{"op":"move","from":"/a","path":"/c"}]"#,
+        Answer::Text("{\"c\": [1 /* one */], // a\n \"b\": 2}"),
+    ),
+    (
+        r#"{"a": 1, "b": 2}"#,
+        r#"[{"op":"move","from":"/a","path":"/b"}]"#,
+        Answer::Value(r#"{"b":1}"#),
+    ),
+    (
+        r#"{"a": 1, "b": 2, "b": 3}"#,
+        r#"[{"op":"move","from":"/a","path":"/b"}]"#,
+        Answer::Twice(0, "b"),
     ),
     (
         "[1]",

@@ -86,8 +86,7 @@ fn clear_comment<A: Allocator>(tree: &mut Tree<A>, container: usize, comment: us
 /// Takes those of these comments out that a container still has, each that is alone on its line with the line, and then
 /// the blanks that are left alone between its brackets. No memory is wanted.
 ///
-/// A comment without which two literals without quotes would stand directly beside each other stays. No comment of an
-/// element is one, once that is taken out.
+/// A comment without which two literals without quotes would stand directly beside each other stays.
 pub fn clear_comments<A: Allocator>(tree: &mut Tree<A>, container: usize, comments: &[usize])
     requires in_tree { container < length tree.old.nodes }
     requires container { IsTrue (is_container_at tree.old.nodes container) }

@@ -6,10 +6,7 @@ use Rattle.jsonc_parser.specs.patch.Equality.{AreEqual}
 use Rattle.jsonc_parser.specs.patch.Numbers.{SameNumber}
 use Rattle.jsonc_parser.specs.patch.Operations.{add, remove, replace, move, copy, test, Operation, Removes}
 use Rattle.jsonc_parser.specs.patch.References.{FailsAt, IsIndex, RefersTo}
-
--- the tokens refer to nothing, and on the way to where they end no name stands twice
-abbrev pub ReferToNothing : Option Plain → List (List ℕ) → Type 0
-ReferToNothing w tokens = ((v : Plain) → RefersTo w tokens v → ⊥) × ((name : List ℕ) → FailsAt w tokens name → ⊥)
+pub use Rattle.jsonc_parser.specs.patch.References.{ReferToNothing}
 
 -- 4.1: There is no place for a value that is to be added: the tokens before the last refer to nothing; or to a value that is neither an array nor an object; or to
 -- an array, and the last is neither `-` nor an index that is no greater than the number of elements.

@@ -3,6 +3,8 @@ use Rattle.std.specs.Prelude.{◌++◌, ℕ, List, codes, string_bytes}
 use Rattle.std.specs.Fmt.{decimal}
 use Rattle.jsonc_text.specs.EditErrors.{edit_error_text}
 use Rattle.jsonc_parser.specs.declared.patch.apply.PatchFault.{PatchFault}
+use Rattle.jsonc_parser.specs.declared.patch.merging.MergeFault.{MergeFault}
+use Rattle.jsonc_parser.specs.declared.patch.merging.MergeFault.TheVariants as merge
 use Rattle.jsonc_parser.specs.declared.patch.making.PatchCause.{PatchCause}
 use Rattle.jsonc_parser.specs.declared.patch.making.PatchCause.TheVariants.{NoTarget, RepeatedName, IntoItself, NotEqual, Edit}
 
@@ -16,3 +18,7 @@ module _ {A : Type 0} where
 
   abbrev pub patch_fault_text : PatchFault A → List ℕ
   patch_fault_text fault = codes "Operation " ++ (decimal fault.operation ++ (codes ": " ++ patch_cause_text fault.cause))
+
+  abbrev pub merge_fault_text : MergeFault A → List ℕ
+  merge_fault_text (merge.RepeatedName name) = codes "Name stands twice: " ++ string_bytes name
+  merge_fault_text merge.OutOfMemory = codes "Out of memory"

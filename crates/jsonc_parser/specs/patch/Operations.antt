@@ -3,11 +3,11 @@ use Rattle.std.specs.Prelude.{◌≡◌, ◌≢◌, ◌⊎◌, ℕ, List, [], �
 use Rattle.std.specs.List.{All}
 use Rattle.jsonc_text.specs.Plain.{Plain, collapse}
 use Rattle.jsonc_run.specs.texts.Entries.{of, Becomes, Named}
-use Rattle.jsonc_run.specs.texts.Edits.{Loses}
+use Rattle.jsonc_run.specs.texts.Edits.{BecomesProperty, Loses}
 use Rattle.jsonc_run.specs.texts.Paths.{an_array, an_object}
 use Rattle.jsonc_parser.specs.patch.Equality.{AreEqual}
 use Rattle.jsonc_parser.specs.patch.Numbers.{SameNumber}
-use Rattle.jsonc_parser.specs.patch.References.{IsIndex, Refers, RefersTo}
+use Rattle.jsonc_parser.specs.patch.References.{IsIndex, Refers, RefersTo, ReferToNothing}
 
 -- an operation at the tokens of its pointers, with the value that it has
 pub data Operation : Type 0 where
@@ -47,10 +47,13 @@ Replaces v tokens w y = (path : List ℕ) × (x : Plain) × StandsAt w tokens pa
 abbrev pub LeadsElsewhere : List (List ℕ) → List (List ℕ) → Type 0
 LeadsElsewhere from to = (token : List ℕ) (rest : List (List ℕ)) → to ≢ from ++ token ∷ rest
 
--- 4.4: The value that the first tokens refer to leaves, and is added at the others, which do not lead into it. What is moved to its own place stays.
+-- 4.4: The value that the first tokens refer to leaves, and is added at the others, which do not lead into it. What is moved to its own place stays; and what is moved
+-- within one object, to a name that no member has, stays in its place under this name.
 pub data Moves (from : List (List ℕ)) : List (List ℕ) → Option Plain → Option Plain → Type 0 where
   stays : {w : Option Plain} {x : Plain} → RefersTo w from x → Moves from from w w
   moved : {to : List (List ℕ)} {w u y : Option Plain} {x : Plain} → LeadsElsewhere from to → RefersTo w from x → Removes from w u → Adds (collapse x) to u y → Moves from to w y
+  renamed : {path : List ℕ} {w y : Option Plain} {x : Plain} (tokens : List (List ℕ)) (last name : List ℕ) → from ≡ tokens ++ last ∷ [] → StandsAt w from path x
+      → ReferToNothing w (tokens ++ name ∷ []) → BecomesProperty (λ old. record { name = name; value = old.value }) path w y → Moves from (tokens ++ name ∷ []) w y
 
 -- 4.5: the value that the first tokens refer to is added at the others
 abbrev pub Copies : List (List ℕ) → List (List ℕ) → Option Plain → Option Plain → Type 0

@@ -49,3 +49,7 @@ RefersTo w tokens v = (x : Plain) × (w ≡ Some x) × (path : List ℕ) × Refe
 
 abbrev pub FailsAt : Option Plain → List (List ℕ) → List ℕ → Type 0
 FailsAt w tokens name = (x : Plain) × (w ≡ Some x) × MeetsRepeated name x tokens
+
+-- the tokens refer to nothing, and on the way to where they end no name stands twice
+abbrev pub ReferToNothing : Option Plain → List (List ℕ) → Type 0
+ReferToNothing w tokens = ((v : Plain) → RefersTo w tokens v → ⊥) × ((name : List ℕ) → FailsAt w tokens name → ⊥)

@@ -45,7 +45,11 @@ impl<A: Allocator + Copy> Patch<A> {
     ///
     /// What is added to an object comes behind its other members, or in the place of the value of the one that
     /// has the name. A value that is copied or moved is taken as by [`read`](super::read) and written as edits
-    /// write values. Every comment stays, and every byte outside of what the operations change.
+    /// write values; but a member that is moved within its object, to a name that no member has, gets this name and
+    /// stays as it is. Comments stay, but for those inside what is replaced or removed, and those that a removal takes
+    /// with its entry; and so does every byte outside of what the operations change.
+    ///
+    /// A document keeps no options: the numbers that are written are to be numbers of those that it was parsed with.
     ///
     /// On an error the answer is which operation was not made, and why, and the document and each of its nodes
     /// are as they were.

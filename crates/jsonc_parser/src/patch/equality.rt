@@ -81,7 +81,7 @@ fn members_in<A: Allocator>(value: &CstInputValue<A>) -> Option<&[(String<A>, Cs
 }
 
 // Whether a value is null.
-fn is_null<A: Allocator>(value: &CstInputValue<A>) -> bool
+pub(super) fn is_null<A: Allocator>(value: &CstInputValue<A>) -> bool
     ensures { Decides result (plain value.now ≡ null) }
 {
     matches!(value, CstInputValue::Null)

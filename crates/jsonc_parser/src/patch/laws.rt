@@ -1,11 +1,15 @@
-//! Laws of pointers: each is the contract of a function that does nothing.
+//! Laws of pointers and of merges: each is the contract of a function that does nothing.
 
-ghost use Rattle.std.specs.Prelude.{◌≡◌, ℕ, List, Option};
+ghost use Rattle.std.specs.Prelude.{◌≡◌, [], ℕ, List, Option};
 ghost use Rattle.jsonc_text.specs.Plain.{Plain};
 ghost use Rattle.jsonc_cst.specs.declared.cst.CstRootNode.{CstRootNode};
 ghost use Rattle.jsonc_cst.specs.declared.cst.node.CstNode.{CstNode};
+ghost use Rattle.jsonc_parser.specs.patch.Equality.{HasUniqueNames};
 ghost use Rattle.jsonc_parser.specs.patch.Laws.{FailsWithNone, IsReadBack, RefersToOne};
 ghost use Rattle.jsonc_parser.specs.patch.Locations.{LeadsBack};
+ghost use Rattle.jsonc_parser.specs.patch.MergeCases.{cases, AllHold};
+ghost use Rattle.jsonc_parser.specs.patch.MergePatch.{IsEqualToMergePatch, IsMergePatch, RepeatsNoName};
+ghost use Rattle.jsonc_parser.specs.patch.Merging.{Merges};
 ghost use Rattle.jsonc_parser.specs.patch.Pointer.{pointer_text, HasLooseTilde, LacksSlash};
 
 use std::alloc::Allocator;
@@ -34,4 +38,19 @@ pub fn pointers_refer_to_one_value()
 /// [`pointer_of`](super::pointer_of) answers.
 pub fn pointers_lead_back<A: Allocator>()
     ensures { (doc : CstRootNode A) (node : CstNode) (tokens : List (List ℕ)) → LeadsBack doc node tokens }
+{}
+
+/// What [`merge`](super::merge) makes of the value of a document is what `MergePatch` of RFC 7396 makes of it, with its
+/// members in this order; but an array that is equal to the patch's is not touched. Merging makes one value, and makes
+/// one wherever no name stands twice.
+pub fn merges_are_merge_patches()
+    ensures exact { (p : Plain) (w y : Option Plain) → HasUniqueNames p → Merges [] p w y → IsMergePatch p w y }
+    ensures equal { (p : Plain) (w y : Option Plain) → HasUniqueNames p → Merges [] p w y → IsEqualToMergePatch p w y }
+    ensures one { (p : Plain) (w y z : Option Plain) → HasUniqueNames p → Merges [] p w y → Merges [] p w z → y ≡ z }
+    ensures some { (p : Plain) (w : Option Plain) → HasUniqueNames p → RepeatsNoName w → (y : Option Plain) × Merges [] p w y }
+{}
+
+/// Worked rows: `MergePatch`, as it is defined here, makes the results of the test cases of RFC 7396 (appendix A).
+pub fn worked_merge_patches()
+    ensures { AllHold cases }
 {}

@@ -23,6 +23,7 @@ use super::equality::{Numbers, are_equal};
 use super::operation::Operation;
 use super::pointer::Pointer;
 use super::reference::{FindError, element_place, follow, read};
+use super::renaming::{rename, renaming};
 use jsonc_cst::cst::{CstInputValue, CstNode, CstRootNode, EditError, TypedNode};
 use jsonc_run::Edit;
 use std::alloc::Allocator;
@@ -88,7 +89,7 @@ pub(super) fn make<A: Allocator + Copy>(
 }
 
 // The cause of a pointer that was not followed.
-fn cause_of<A: Allocator>(error: FindError<A>) -> PatchCause<A>
+pub(super) fn cause_of<A: Allocator>(error: FindError<A>) -> PatchCause<A>
     ensures { Tells error result }
 {
     match error {
@@ -98,7 +99,7 @@ fn cause_of<A: Allocator>(error: FindError<A>) -> PatchCause<A>
 }
 
 // The value that tokens refer to, where there has to be one.
-fn target<A: Allocator + Copy>(
+pub(super) fn target<A: Allocator + Copy>(
     doc: &CstRootNode<A>,
     tokens: &[String<A>],
 ) -> Result<CstNode, PatchCause<A>>
@@ -115,7 +116,7 @@ fn target<A: Allocator + Copy>(
 }
 
 // The path of a node.
-fn path_to<A: Allocator + Copy>(
+pub(super) fn path_to<A: Allocator + Copy>(
     doc: &CstRootNode<A>,
     node: CstNode,
 ) -> Result<Vec<usize, A>, PatchCause<A>>
@@ -164,7 +165,10 @@ fn value_at<A: Allocator + Copy>(
 }
 
 // Makes one edit, whole or not at all.
-fn edit<A: Allocator + Copy>(doc: &mut CstRootNode<A>, edit: Edit<A>) -> Result<(), PatchCause<A>>
+pub(super) fn edit<A: Allocator + Copy>(
+    doc: &mut CstRootNode<A>,
+    edit: Edit<A>,
+) -> Result<(), PatchCause<A>>
     requires { is_whole edit ≡ true }
     ensures made { OnOk result (EditStep (nodes_of doc.old) (operation_of unsorted edit) (nodes_of doc.new)) }
     ensures kept { OnErr result (IsKept doc.old doc.new) }
@@ -177,7 +181,7 @@ fn edit<A: Allocator + Copy>(doc: &mut CstRootNode<A>, edit: Edit<A>) -> Result<
 }
 
 // Removes the value that a pointer refers to.
-fn remove<A: Allocator + Copy>(
+pub(super) fn remove<A: Allocator + Copy>(
     doc: &mut CstRootNode<A>,
     pointer: &Pointer<A>,
 ) -> Result<(), PatchCause<A>>
@@ -232,7 +236,7 @@ fn add_whole<A: Allocator + Copy>(
 }
 
 // Adds a value where a pointer leads.
-fn add<A: Allocator + Copy>(
+pub(super) fn add<A: Allocator + Copy>(
     doc: &mut CstRootNode<A>,
     pointer: &Pointer<A>,
     value: CstInputValue<A>,
@@ -389,7 +393,7 @@ fn are_same<A: Allocator>(left: &String<A>, right: &String<A>) -> bool
 }
 
 // Whether the tokens of one pointer are the first of another's.
-fn leads_on<A: Allocator>(front: &[String<A>], tokens: &[String<A>]) -> bool
+pub(super) fn leads_on<A: Allocator>(front: &[String<A>], tokens: &[String<A>]) -> bool
     ensures { Decides result (LeadsOn (names_of front.now) (names_of tokens.now)) }
 {
     if front.len() > tokens.len() {
@@ -423,7 +427,7 @@ fn stay<A: Allocator + Copy>(
     Err(PatchCause::IntoItself)
 }
 
-// Removes the value that a pointer refers to, and adds it where another leads.
+// Removes the value that a pointer refers to, and adds it where another leads; or renames it within its object.
 fn move_value<A: Allocator + Copy>(
     doc: &mut CstRootNode<A>,
     from: &Pointer<A>,
@@ -434,6 +438,12 @@ fn move_value<A: Allocator + Copy>(
 {
     if leads_on(from.tokens(), path.tokens()) {
         return stay(doc, from, path);
+    }
+    if let Some((node, name)) = renaming(doc, from, path) {
+        return match rename(doc, node, name) {
+            Ok(()) => Ok(()),
+            Err(cause) => Err(cause),
+        };
     }
     let value = match value_at(doc, from) {
         Ok(value) => value,

@@ -1,14 +1,15 @@
 //! The text of a pointer.
 
-ghost use Rattle.std.specs.Prelude.{◌≡◌, ◌++◌, [], ◌∷◌, chars, encode_utf8_all, string_bytes, IfErr, IfOk, OnOk, Some};
+ghost use Rattle.std.specs.Prelude.{◌≡◌, ◌++◌, [], ◌∷◌, ℕ, List, chars, encode_utf8_all, string_bytes, IfErr, IfOk, OnOk, Some};
 ghost use Rattle.std.specs.Char.{encode_utf8};
 ghost use Rattle.std.specs.Fmt.{WritesOnOk, WritesStyledOnOk};
+ghost use Rattle.jsonc_layout.specs.input.Views.{chars_of};
 ghost use Rattle.jsonc_parser.specs.paths.Found.{names_of};
 ghost use Rattle.jsonc_parser.specs.patch.Messages.{pointer_error_text};
 ghost use Rattle.jsonc_parser.specs.patch.Pointer.{escaped, place_of, pointer_text, token_text, tokens_of, IsPointerFault};
 ghost use Rattle.jsonc_parser.specs.patch.Reading.{text_so_far, IsFaultOfChar};
 
-use std::alloc::Allocator;
+use std::alloc::{AllocError, Allocator};
 use std::error::Error;
 use std::{fmt, mem};
 
@@ -101,6 +102,23 @@ impl<A: Allocator> Pointer<A> {
         ensures { names_of result.now ≡ tokens_of self.now }
     {
         &self.tokens
+    }
+
+    // Puts a token behind the others.
+    pub(super) fn push(&mut self, token: String<A>) -> Result<(), AllocError>
+        ensures { OnOk result (tokens_of self.new ≡ tokens_of self.old ++ chars_of token ∷ []) }
+    {
+        match self.tokens.push(token) {
+            Ok(()) => Ok(()),
+            Err(_) => Err(AllocError),
+        }
+    }
+
+    // Takes the last token away.
+    pub(super) fn pop(&mut self)
+        ensures { (front : List (List ℕ)) (last : List ℕ) → tokens_of self.old ≡ front ++ last ∷ [] → tokens_of self.new ≡ front }
+    {
+        self.tokens.pop();
     }
 }
 

@@ -7,6 +7,7 @@ use failing_alloc::in_turn::is_refused_in_turn;
 use failing_alloc::outcome::Outcome;
 use jsonc_engine::calls::{FromReader, ToWriter};
 use jsonc_parser::errors::ParseErrorKind;
+use jsonc_parser::patch::{MergePatchError, PatchError};
 use jsonc_patch_engine::engine::engine;
 use jsonc_patch_engine::fault::Fault;
 use jsonc_patch_engine::json::{JsonError, to_json};
@@ -14,16 +15,19 @@ use std::alloc::{Allocator, Global};
 use std::test::Fail;
 
 /// Whether a fault tells of memory alone.
-fn is_of_memory<A: Allocator>(fault: &Fault<A>) -> bool {
+pub fn is_of_memory<A: Allocator>(fault: &Fault<A>) -> bool {
     match fault {
         Fault::OutOfMemory => prints(fault, "jsonc_patch: Out of memory"),
         Fault::Input(error) => *error.kind() == ParseErrorKind::OutOfMemory,
+        Fault::Patch(PatchError::Parse(error)) => *error.kind() == ParseErrorKind::OutOfMemory,
+        Fault::MergePatch(MergePatchError::Parse(error)) => *error.kind()
+            == ParseErrorKind::OutOfMemory,
         _ => false,
     }
 }
 
 /// What came of a run that can succeed.
-fn outcome_of<A: Allocator + Copy>(heap: A, row: &Row) -> Outcome {
+pub fn outcome_of<A: Allocator + Copy>(heap: A, row: &Row) -> Outcome {
     let (words, input, output) = *row;
     let mut source = FromReader::new(input.as_bytes());
     let mut sink = ToWriter::new(Awaited {

@@ -69,7 +69,7 @@ pub static WRITTEN: [Row; 40] = [
 ];
 
 /// What is told of a run that cannot succeed, and the status.
-pub static TOLD: [(&[&str], &str, &str, u8); 22] = [
+pub static TOLD: [(&[&str], &str, &str, u8); 44] = [
     (&["json"], "", "jsonc_patch: root value is missing", 1),
     (&["json"], "// c", "jsonc_patch: root value is missing", 1),
     (
@@ -127,19 +127,187 @@ pub static TOLD: [(&[&str], &str, &str, u8); 22] = [
         "jsonc_patch: Unterminated object on line 1 column 1",
         1,
     ),
-    (&[], "1", "usage: jsonc_patch find POINTER|json", 2),
-    (&["find"], "1", "usage: jsonc_patch find POINTER|json", 2),
+    (
+        &["apply", ""],
+        "[",
+        "jsonc_patch: patch: Patch is no array",
+        1,
+    ),
+    (
+        &["apply", "{\"op\":\"remove\",\"path\":\"\"}"],
+        "[",
+        "jsonc_patch: patch: Patch is no array",
+        1,
+    ),
+    (
+        &["apply", "[1"],
+        "[",
+        "jsonc_patch: patch: Unterminated array on line 1 column 1",
+        1,
+    ),
+    (
+        &["apply", "[{}]"],
+        "[",
+        "jsonc_patch: patch: Operation 0: Operation lacks op",
+        1,
+    ),
+    (
+        &[
+            "apply",
+            "[{op: 'remove', path: '/a'}, {op: 'spam', path: ''}]",
+        ],
+        "[",
+        "jsonc_patch: patch: Operation 1: Operation has a wrong op",
+        1,
+    ),
+    (
+        &["apply", "[{op: 'remove', path: 'a'}]"],
+        "[",
+        "jsonc_patch: patch: Operation 0: path: Pointer does not begin with a slash",
+        1,
+    ),
+    (
+        &[
+            "apply",
+            "[{ \"op\": \"add\", \"path\": \"/baz\", \"value\": \"qux\", \"op\": \"remove\" }]",
+        ],
+        "{ \"foo\": \"bar\" }",
+        "jsonc_patch: patch: Operation 0: Name stands twice: op",
+        1,
+    ),
+    (
+        &[
+            "apply",
+            "[{op: 'add', path: '', value: [{a: 1, '\\u0061': 2}]}]",
+        ],
+        "[",
+        "jsonc_patch: patch: Operation 0: Name stands twice: a",
+        1,
+    ),
+    (
+        &[
+            "apply",
+            "[{ \"op\": \"test\", \"path\": \"/baz\", \"value\": \"bar\" }]",
+        ],
+        "{ \"baz\": \"qux\" }",
+        "jsonc_patch: Operation 0: Value is another",
+        1,
+    ),
+    (
+        &[
+            "apply",
+            "[{ \"op\": \"add\", \"path\": \"/baz/bat\", \"value\": \"qux\" }]",
+        ],
+        "{ \"foo\": \"bar\" }",
+        "jsonc_patch: Operation 0: Pointer leads to nothing",
+        1,
+    ),
+    (
+        &[
+            "apply",
+            "[{\"op\": \"test\", \"path\": \"/~01\", \"value\": \"10\"}]",
+        ],
+        "{ \"/\": 9, \"~1\": 10 }",
+        "jsonc_patch: Operation 0: Value is another",
+        1,
+    ),
+    (
+        &[
+            "apply",
+            "[{op: 'replace', path: '/0', value: 3}, {op: 'replace', path: '/2', value: 4}]",
+        ],
+        "[1, 2]",
+        "jsonc_patch: Operation 1: Pointer leads to nothing",
+        1,
+    ),
+    (
+        &["apply", "[{op: 'move', from: '/a', path: '/a/b'}]"],
+        "{a: {b: 1}}",
+        "jsonc_patch: Operation 0: Value cannot be moved into itself",
+        1,
+    ),
+    (
+        &["apply", "[{op: 'remove', path: '/a'}]"],
+        "{a: 1, \"\\u0061\": 2}",
+        "jsonc_patch: Operation 0: Name stands twice: a",
+        1,
+    ),
+    (
+        &["apply", "[]"],
+        "[1",
+        "jsonc_patch: Unterminated array on line 1 column 1",
+        1,
+    ),
+    (
+        &["merge", ""],
+        "[",
+        "jsonc_patch: patch: Patch has no value",
+        1,
+    ),
+    (
+        &["merge", "[1"],
+        "[",
+        "jsonc_patch: patch: Unterminated array on line 1 column 1",
+        1,
+    ),
+    (
+        &["merge", "{b: [{a: 1, '\\u0061': 2}]}"],
+        "[",
+        "jsonc_patch: patch: Name stands twice: a",
+        1,
+    ),
+    (
+        &["merge", "{b: {a: 1}}"],
+        "{b: {a: 1, \"\\u0061\": 2}}",
+        "jsonc_patch: Name stands twice: a",
+        1,
+    ),
+    (
+        &["merge", "1"],
+        "{a: 1",
+        "jsonc_patch: Unterminated object on line 1 column 1",
+        1,
+    ),
+    (
+        &["apply"],
+        "1",
+        "usage: jsonc_patch find POINTER|apply PATCH|merge PATCH|json",
+        2,
+    ),
+    (
+        &["merge", "1", "2"],
+        "1",
+        "usage: jsonc_patch find POINTER|apply PATCH|merge PATCH|json",
+        2,
+    ),
+    (
+        &[],
+        "1",
+        "usage: jsonc_patch find POINTER|apply PATCH|merge PATCH|json",
+        2,
+    ),
+    (
+        &["find"],
+        "1",
+        "usage: jsonc_patch find POINTER|apply PATCH|merge PATCH|json",
+        2,
+    ),
     (
         &["json", ""],
         "1",
-        "usage: jsonc_patch find POINTER|json",
+        "usage: jsonc_patch find POINTER|apply PATCH|merge PATCH|json",
         2,
     ),
     (
         &["find", "", ""],
         "1",
-        "usage: jsonc_patch find POINTER|json",
+        "usage: jsonc_patch find POINTER|apply PATCH|merge PATCH|json",
         2,
     ),
-    (&["get", ""], "1", "usage: jsonc_patch find POINTER|json", 2),
+    (
+        &["get", ""],
+        "1",
+        "usage: jsonc_patch find POINTER|apply PATCH|merge PATCH|json",
+        2,
+    ),
 ];

@@ -61,7 +61,12 @@ fn each_fault_is_told_with_its_status(rt: HostRuntime) -> Result<(), Fail> {
 
 #[test]
 fn bytes_that_are_no_text_are_told(rt: HostRuntime) -> Result<(), Fail> {
-    for words in [["find", ""].as_slice(), ["json"].as_slice()] {
+    for words in [
+        ["find", ""].as_slice(),
+        ["apply", "[]"].as_slice(),
+        ["merge", "1"].as_slice(),
+        ["json"].as_slice(),
+    ] {
         let is_told = match made(rt.alloc(), words, b"[\xFF]") {
             Ok(_) => false,
             Err(fault) => prints(&fault, "jsonc_patch: input is not UTF-8"),

@@ -78,7 +78,7 @@ impl Write for Writer {
 
 /// The words, the input, what is written, how many reads bring the input, the one that finds its end among them, and how
 /// many writes and a flush bring the output.
-static CASES: [(&[&str], &[u8], &[u8], usize, usize); 2] = [
+static CASES: [(&[&str], &[u8], &[u8], usize, usize); 3] = [
     (
         &["find", "/a/1"],
         b"{a: [0, 'one two']}",
@@ -92,6 +92,13 @@ static CASES: [(&[&str], &[u8], &[u8], usize, usize); 2] = [
         b"{\"a\": [0, \"one\"] \n}",
         6,
         5,
+    ),
+    (
+        &["apply", "[{op: 'replace', path: '/a', value: 1}]"],
+        b"{a: 0, // b\n}",
+        b"{a: 1, // b\n}",
+        4,
+        4,
     ),
 ];
 
@@ -183,9 +190,13 @@ fn all_is_read_and_written(rt: HostRuntime) -> Result<(), Fail> {
 }
 
 #[test]
-fn usage_and_a_refused_pointer_come_before_reading(rt: HostRuntime) -> Result<(), Fail> {
+fn usage_and_a_refused_word_come_before_reading(rt: HostRuntime) -> Result<(), Fail> {
     for words in [
         ["find", "a"].as_slice(),
+        ["apply", "{}"].as_slice(),
+        ["apply", "[{}]"].as_slice(),
+        ["merge", ""].as_slice(),
+        ["merge", "{a: 1, a: 2}"].as_slice(),
         ["find"].as_slice(),
         ["json", ""].as_slice(),
     ] {

@@ -41,7 +41,7 @@ use Rattle.jsonc_parser.proofs.lemmas.patch.Failing.{memory_cause}
 use Rattle.jsonc_parser.proofs.lemmas.patch.Operating.{nothing_more}
 use Rattle.jsonc_parser.proofs.lemmas.patch.Unique.{unique_collapse}
 
-joined : {A : Type 0} {d e f : Document} {es fs : List (Edit A)} → EditsTo d es e → EditsTo e fs f → EditsTo d (es ++ fs) f
+pub joined : {A : Type 0} {d e f : Document} {es fs : List (Edit A)} → EditsTo d es e → EditsTo e fs f → EditsTo d (es ++ fs) f
 joined (none_asked one) k = k
 joined (one_asked order op place asks run rest) k = one_asked order op place asks run (joined rest k)
 

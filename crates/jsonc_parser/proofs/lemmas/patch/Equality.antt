@@ -161,7 +161,7 @@ unique_member [] i p h l e = absurd (omega (arith, l))
 unique_member (x ∷ ps) zero p (equal.unique_member f h k) l e = subst (λ q. HasUniqueNames (plain q.1)) (sym e) h
 unique_member (x ∷ ps) (suc i) p (equal.unique_member f h k) l e = unique_member ps i p k (omega (arith, l)) e
 
-has_member : {A : Type 0} (ps : List (String A × CstInputValue A)) (i : ℕ) (p : String A × CstInputValue A) → i < length ps → p ≡ get_or ps i p → HasMember (chars_of p.0) (plain p.1) (members_plain ps)
+pub has_member : {A : Type 0} (ps : List (String A × CstInputValue A)) (i : ℕ) (p : String A × CstInputValue A) → i < length ps → p ≡ get_or ps i p → HasMember (chars_of p.0) (plain p.1) (members_plain ps)
 has_member [] i p l e = absurd (omega (arith, l))
 has_member (x ∷ ps) zero p l e = subst (λ q. HasMember (chars_of q.0) (plain q.1) (members_plain (x ∷ ps))) (sym e) this_has
 has_member (x ∷ ps) (suc i) p l e = later_has (has_member ps i p (omega (arith, l)) e)

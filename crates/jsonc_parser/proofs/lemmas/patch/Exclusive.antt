@@ -24,20 +24,20 @@ pub none_fails : (w : Option Plain) (tokens : List (List ℕ)) (path : List ℕ)
 none_fails w tokens path x name (v, is, r) fails = fails_with_none w tokens x name (v, is, path, r) fails
 
 -- which entry is meant
-data Place (kind : Kind) (es : List Named) (token : List ℕ) : Type 0 where
+pub data Place (kind : Kind) (es : List Named) (token : List ℕ) : Type 0 where
   by_index : (i : ℕ) → IsIndex token i → i ≤ length es → Place kind es token
   by_dash : token ≡ 0x2D ∷ [] → Place kind es token
   by_name : kind ≡ an_object → Place kind es token
 
-record Below (w : Option Plain) (all : List (List ℕ)) : Type 0 where
-  tokens : List (List ℕ)
-  token : List ℕ
-  path : List ℕ
-  kind : Kind
-  es : List Named
-  is : all ≡ tokens ++ token ∷ []
-  stands : StandsAt w tokens path (of kind es)
-  place : Place kind es token
+pub record Below (w : Option Plain) (all : List (List ℕ)) : Type 0 where
+  pub tokens : List (List ℕ)
+  pub token : List ℕ
+  pub path : List ℕ
+  pub kind : Kind
+  pub es : List Named
+  pub is : all ≡ tokens ++ token ∷ []
+  pub stands : StandsAt w tokens path (of kind es)
+  pub place : Place kind es token
 
 front_within : (front back : List Named) → length front ≤ length (front ++ back)
 front_within front back = omega (arith, length-append front back)
@@ -87,7 +87,7 @@ element_there an_array es vs token is other past (by_dash e) = other e
 element_there an_array es vs token is other past (by_name e) = cc
 element_there an_object es vs token is other past place = no_array vs (members es) is
 
-place_there : (w : Option Plain) (all : List (List ℕ)) → HasNoPlace w all → Below w all → ⊥
+pub place_there : (w : Option Plain) (all : List (List ℕ)) → HasNoPlace w all → Below w all → ⊥
 place_there w _ (behind_nothing {tokens = tokens} token none) b =
     let s = same_last tokens b.tokens token b.token b.is in
     none_stands w b.tokens b.path (of b.kind b.es) b.stands (subst (ReferToNothing w) s.front none)
@@ -100,7 +100,7 @@ place_there w _ (past_elements {tokens = tokens} {vs = vs} token at other past) 
     let same : plain.array vs ≡ of b.kind b.es = refers_to_one w b.tokens (plain.array vs) (of b.kind b.es) (subst (λ l. RefersTo w l (plain.array vs)) s.front at) (b.stands.0, b.stands.1, b.path, b.stands.2) in
     element_there b.kind b.es vs token same other past (subst (Place b.kind b.es) (sym s.last) b.place)
 
-no_place_whole : (w : Option Plain) (all : List (List ℕ)) → HasNoPlace w all → all ≡ [] → ⊥
+pub no_place_whole : (w : Option Plain) (all : List (List ℕ)) → HasNoPlace w all → all ≡ [] → ⊥
 no_place_whole w _ (behind_nothing {tokens = tokens} token none) e = no_last tokens token e
 no_place_whole w _ (behind_scalar {tokens = tokens} token at a b) e = no_last tokens token e
 no_place_whole w _ (past_elements {tokens = tokens} token at a b) e = no_last tokens token e
@@ -141,7 +141,7 @@ fails_in w tokens token path name x (v, is, r) (u, so, m) =
     let same : u ≡ v = cc in
     fails_behind (token ∷ []) r (subst (λ k. MeetsRepeated name k (tokens ++ token ∷ [])) same m)
 
-fails_whole : (w : Option Plain) (name : List ℕ) → FailsAt w [] name → ⊥
+pub fails_whole : (w : Option Plain) (name : List ℕ) → FailsAt w [] name → ⊥
 fails_whole w name (u, so, m) = meets_none m refl
 
 pub none_added_twice : {v : Plain} {all : List (List ℕ)} {w y : Option Plain} (name : List ℕ) → Adds v all w y → FailsAt w all name → ⊥

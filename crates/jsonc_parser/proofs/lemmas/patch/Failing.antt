@@ -174,7 +174,7 @@ module _ {A : Type 0} where
 
   -- an edit that has its place is refused for memory alone
   module _ (doc : CstRootNode A) (tree : IsTree (nodes_of doc)) where
-    refusal_memory : (e : Edit A) (c : PatchCause A) → IsRefusal doc e c → (d : Document) → Shows d (tree_of doc) → IsNamed d.value (comment_count (tree_of doc)) (operation_of unsorted e) → IsNoMemory c
+    pub refusal_memory : (e : Edit A) (c : PatchCause A) → IsRefusal doc e c → (d : Document) → Shows d (tree_of doc) → IsNamed d.value (comment_count (tree_of doc)) (operation_of unsorted e) → IsNoMemory c
     refusal_memory e (causes.Edit why) told d shown named = for_memory d (nodes_of doc) (operation_of unsorted e) why tree shown named told
     refusal_memory e causes.NoTarget told d shown named = absurd told
     refusal_memory e (causes.RepeatedName name) told d shown named = absurd told

@@ -25,7 +25,7 @@ use Rattle.jsonc_parser.specs.patch.References.{FailsAt, IsIndex, IsItem, this_i
 use Rattle.jsonc_parser.proofs.lemmas.patch.Evaluation.{fails_further, member_further}
 
 -- the member of a number, and the item
-member_value : {name : List ℕ} {x : Plain} {i : ℕ} {ms : Members} → IsOnly name x i ms → (front back : List Named) (e : Named) → ms ≡ members (front ++ e ∷ back) → i ≡ length front → x ≡ e.value
+pub member_value : {name : List ℕ} {x : Plain} {i : ℕ} {ms : Members} → IsOnly name x i ms → (front back : List Named) (e : Named) → ms ≡ members (front ++ e ∷ back) → i ≡ length front → x ≡ e.value
 member_value {x = x} (this_only {ms = rest} l) [] back e is at = cc
 member_value (this_only l) (f ∷ front) back e is at = absurd (omega (arith, at))
 member_value (later_only ne p) [] back e is at = absurd (omega (arith, at))
@@ -33,7 +33,7 @@ member_value (later_only {i = i} {n = n} {w = w} {ms = rest} ne p) (f ∷ front)
     let tail : rest ≡ members (front ++ e ∷ back) = cc in
     member_value p front back e tail (omega (arith, at))
 
-item_value : {x : Plain} {i : ℕ} {vs : Items} → IsItem x i vs → (front back : List Named) (e : Named) → vs ≡ items (front ++ e ∷ back) → i ≡ length front → x ≡ e.value
+pub item_value : {x : Plain} {i : ℕ} {vs : Items} → IsItem x i vs → (front back : List Named) (e : Named) → vs ≡ items (front ++ e ∷ back) → i ≡ length front → x ≡ e.value
 item_value (this_item {vs = rest}) [] back e is at = cc
 item_value this_item (f ∷ front) back e is at = absurd (omega (arith, at))
 item_value (later_item p) [] back e is at = absurd (omega (arith, at))
@@ -41,17 +41,17 @@ item_value (later_item {w = w} {vs = rest} p) (f ∷ front) back e is at =
     let tail : rest ≡ items (front ++ e ∷ back) = cc in
     item_value p front back e tail (omega (arith, at))
 
-first_same : {i j : ℕ} {p q : List ℕ} → i ∷ p ≡ j ∷ q → i ≡ j
+pub first_same : {i j : ℕ} {p q : List ℕ} → i ∷ p ≡ j ∷ q → i ≡ j
 first_same e = cc
 
-rest_same : {i j : ℕ} {p q : List ℕ} → i ∷ p ≡ j ∷ q → p ≡ q
+pub rest_same : {i j : ℕ} {p q : List ℕ} → i ∷ p ≡ j ∷ q → p ≡ q
 rest_same e = cc
 
-same_members : (kind : Kind) (es : List Named) (ms : Members) → of kind es ≡ plain.object ms → ms ≡ members es
+pub same_members : (kind : Kind) (es : List Named) (ms : Members) → of kind es ≡ plain.object ms → ms ≡ members es
 same_members an_object es ms e = cc
 same_members an_array es ms e = cc
 
-same_items : (kind : Kind) (es : List Named) (vs : Items) → of kind es ≡ plain.array vs → vs ≡ items es
+pub same_items : (kind : Kind) (es : List Named) (vs : Items) → of kind es ≡ plain.array vs → vs ≡ items es
 same_items an_array es vs e = cc
 same_items an_object es vs e = cc
 
@@ -86,7 +86,7 @@ first_cases name (member n v ms) =
           ])
     ]
 
-name_cases : (name : List ℕ) (ms : Members) → LacksMember name ms ⊎ (((i : ℕ) × (v : Plain) × IsOnly name v i ms) ⊎ IsRepeated name ms)
+pub name_cases : (name : List ℕ) (ms : Members) → LacksMember name ms ⊎ (((i : ℕ) × (v : Plain) × IsOnly name v i ms) ⊎ IsRepeated name ms)
 name_cases name no_members = inl no_more
 name_cases name (member n v ms) =
     elim (cases_Bool (bytes_eq n name)) [

@@ -1,5 +1,5 @@
 -- In a value in which of equal names the last stands at the first place, no name stands twice.
-use Rattle.std.proofs.Common.{ℕ, ◌≡◌, ◌≢◌, true, false, cond, Bool, List, refl, sym, subst}
+use Rattle.std.proofs.Common.{ℕ, ◌≡◌, ◌≢◌, true, false, cond, Bool, List, refl}
 use Rattle.std.specs.Str.{bytes_eq}
 use Rattle.std.proofs.lemmas.Slice.Eq.{bytes_eq-Decides}
 use Rattle.jsonc_text.specs.Plain.{Plain, Items, no_items, item, Members, no_members, member, collapse, collapse_items, collapse_members, last_of, without}
@@ -28,7 +28,7 @@ one_unique : (n : List ℕ) (v : Plain) (b : Bool) (rest : Members) → LacksMem
 one_unique n v true rest lacks one all = all
 one_unique n v false rest lacks one all = unique_member lacks one all
 
-unique_without : (name : List ℕ) {ms : Members} → MembersHaveUniqueNames ms → MembersHaveUniqueNames (without name ms)
+pub unique_without : (name : List ℕ) {ms : Members} → MembersHaveUniqueNames ms → MembersHaveUniqueNames (without name ms)
 unique_without name unique_last = unique_last
 unique_without name (unique_member {name = n} {v = v} {ms = ms} lacks one rest) = one_unique n v (bytes_eq n name) (without name ms) (lacks_without n name lacks) one (unique_without name rest)
 

@@ -20,20 +20,20 @@ other_names n name ne =
     ]
 
 -- past a property of another name, and of this one
-last_past : (name n : List ℕ) (v w : Plain) (ms : Members) → n ≢ name → last_of name v (member n w ms) ≡ last_of name v ms
+pub last_past : (name n : List ℕ) (v w : Plain) (ms : Members) → n ≢ name → last_of name v (member n w ms) ≡ last_of name v ms
 last_past name n v w ms ne = ap (λ b. last_of name (cond b w v) ms) (other_names n name ne)
 
-last_here : (name : List ℕ) (v w : Plain) (ms : Members) → last_of name v (member name w ms) ≡ last_of name w ms
+pub last_here : (name : List ℕ) (v w : Plain) (ms : Members) → last_of name v (member name w ms) ≡ last_of name w ms
 last_here name v w ms = ap (λ b. last_of name (cond b w v) ms) (same_names name)
 
-without_past : (name n : List ℕ) (w : Plain) (ms : Members) → n ≢ name → without name (member n w ms) ≡ member n w (without name ms)
+pub without_past : (name n : List ℕ) (w : Plain) (ms : Members) → n ≢ name → without name (member n w ms) ≡ member n w (without name ms)
 without_past name n w ms ne = ap (λ b. cond b (without name ms) (member n w (without name ms))) (other_names n name ne)
 
-without_here : (name : List ℕ) (w : Plain) (ms : Members) → without name (member name w ms) ≡ without name ms
+pub without_here : (name : List ℕ) (w : Plain) (ms : Members) → without name (member name w ms) ≡ without name ms
 without_here name w ms = ap (λ b. cond b (without name ms) (member name w (without name ms))) (same_names name)
 
 -- where none has the name
-lacks_last : {name : List ℕ} {ms : Members} → LacksMember name ms → (v : Plain) → last_of name v ms ≡ v
+pub lacks_last : {name : List ℕ} {ms : Members} → LacksMember name ms → (v : Plain) → last_of name v ms ≡ v
 lacks_last no_more v = refl
 lacks_last {name} (other_name {n = n} {v = w} {ms = ms} ne l) v = last_past name n v w ms ne ∙ lacks_last l v
 

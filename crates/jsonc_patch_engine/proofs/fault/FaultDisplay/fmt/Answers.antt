@@ -26,3 +26,18 @@ pub returns-in_ok-write_str-in-NonFinite-clause-styled : goal.returns-in_ok-writ
 returns-in_ok-write_str-in-NonFinite-clause-styled g c = λ flush ok.
     let front = c.in_ok-write_str-in-NonFinite.ensures.styled flush refl in
     rw c.in-NonFinite.is (has_written_styled_append _ _ _ _ _ _ front (c.write_place.ensures.styled front.flush ok))
+
+pub returns-in_ok-write_str-in-Patch-clause-styled : goal.returns-in_ok-write_str-in-Patch-clause-styled
+returns-in_ok-write_str-in-Patch-clause-styled g c = λ flush ok.
+    let front = c.in_ok-write_str-in-Patch.ensures.styled flush refl in
+    rw c.in-Patch.is (has_written_styled_append _ _ _ _ _ _ front (c.fmt-in-Patch.ensures.styled front.flush ok))
+
+pub returns-in_ok-write_str-in-MergePatch-clause-styled : goal.returns-in_ok-write_str-in-MergePatch-clause-styled
+returns-in_ok-write_str-in-MergePatch-clause-styled g c = λ flush ok.
+    let front = c.in_ok-write_str-in-MergePatch.ensures.styled flush refl in
+    rw c.in-MergePatch.is (has_written_styled_append _ _ _ _ _ _ front (c.fmt-in-MergePatch.ensures.styled front.flush ok))
+
+pub returns-in_ok-write_str-in-Operation-clause-styled : goal.returns-in_ok-write_str-in-Operation-clause-styled
+returns-in_ok-write_str-in-Operation-clause-styled g c = λ flush ok.
+    let front = c.in_ok-write_str-in-Operation.ensures.styled flush refl in
+    rw c.in-Operation.is (has_written_styled_append _ _ _ _ _ _ front (c.fmt-in-Operation.ensures.styled front.flush ok))

@@ -1,0 +1,103 @@
+-- What the parts of a merge make of a document, and why they stop.
+use Rattle.std.specs.Prelude.{◌≡◌, ◌≢◌, ◌⊎◌, ◌++◌, ◌∷◌, [], ℕ, List, Option}
+use Rattle.jsonc_text.specs.Documents.{Document}
+use Rattle.jsonc_text.specs.Options.{Options}
+use Rattle.jsonc_text.specs.Plain.{Plain, null, object, Members}
+use Rattle.jsonc_text.specs.declared.edit.EditError.TheVariants.{OutOfMemory}
+use Rattle.jsonc_edit.specs.Writing.{IsOfNumbers, AreNamedOfNumbers}
+use Rattle.jsonc_layout.specs.input.Views.{chars_of}
+use Rattle.jsonc_sound.specs.Documents.{Shows}
+use Rattle.jsonc_run.specs.declared.edit.Edit.{Edit}
+use Rattle.jsonc_run.specs.promise.Asked.{EditsTo}
+use Rattle.jsonc_cst.specs.declared.cst.CstRootNode.{CstRootNode}
+use Rattle.jsonc_cst.specs.Document.{tree_of}
+use Rattle.jsonc_parser.specs.patch.Failing.{ReferToNothing}
+use Rattle.jsonc_parser.specs.patch.Merging.{GoesInto, Merges, Stops}
+use Rattle.jsonc_parser.specs.patch.Operations.{Removes}
+use Rattle.jsonc_parser.specs.patch.PatchFaults.{RepeatsName}
+use Rattle.jsonc_parser.specs.patch.References.{FailsAt, IsRepeated, RefersTo}
+use Rattle.jsonc_parser.specs.declared.patch.making.PatchCause.{PatchCause}
+use Rattle.jsonc_parser.specs.declared.patch.making.PatchCause.TheVariants as causes
+use Rattle.jsonc_parser.specs.declared.patch.merging.MergeFault.{MergeFault}
+use Rattle.jsonc_parser.specs.declared.patch.merging.MergeFault.TheVariants as merge
+
+-- the tokens refer to an object
+abbrev pub RefersToObject : Option Plain → List (List ℕ) → Type 0
+RefersToObject w tokens = (ns : Members) × RefersTo w tokens (object ns)
+
+-- a value may be put where the tokens lead: they are none, or all but the last refer to an object
+pub data IsPlace (w : Option Plain) : List (List ℕ) → Type 0 where
+  at_root : IsPlace w []
+  in_object : {tokens : List (List ℕ)} (name : List ℕ) → RefersToObject w tokens → IsPlace w (tokens ++ name ∷ [])
+
+-- what the tokens refer to leaves, if they refer to something
+abbrev pub Drops : List (List ℕ) → Option Plain → Option Plain → Type 0
+Drops tokens w y = Removes tokens w y ⊎ (ReferToNothing w tokens × (y ≡ w))
+
+-- where the patch does not go into the value, it is merged
+abbrev pub Sets : List (List ℕ) → Plain → Option Plain → Option Plain → Type 0
+Sets tokens p w y = ¬ (GoesInto p tokens w) → Merges tokens p w y
+
+-- null drops the value, and any other patch is merged
+abbrev pub MergesNamed : List (List ℕ) → Plain → Option Plain → Option Plain → Type 0
+MergesNamed tokens p w y = (p ≡ null → Drops tokens w y) × (p ≢ null → Merges tokens p w y)
+
+-- Edits lead from the one document to the other, of the same options, and so between their values.
+pub record IsReached (A : Type 0) (d : Document) (Leads : Option Plain → Option Plain → Type 0) (e : Document) : Type 0 where
+  pub edits : List (Edit A)
+  pub edited : EditsTo d edits e
+  pub options : e.options ≡ d.options
+  pub leads : Leads d.value e.value
+
+module _ {A : Type 0} where
+  -- so it is of whatever document the old one shows, if the numbers that are written fit
+  abbrev pub ReachesWhatShown : CstRootNode A → (Options → Type 0) → (Option Plain → Option Plain → Type 0) → CstRootNode A → Type 0
+  ReachesWhatShown old Fit Leads new = (d : Document) → Shows d (tree_of old) → Fit d.options → (e : Document) × Shows e (tree_of new) × IsReached A d Leads e
+
+  -- a name stands twice where the tokens are looked up, or there was no memory
+  abbrev pub IsTwice : Option Plain → List (List ℕ) → PatchCause A → Type 0
+  IsTwice w tokens (causes.RepeatedName name) = FailsAt w tokens (chars_of name)
+  IsTwice w tokens (causes.Edit why) = why ≡ OutOfMemory
+  IsTwice w tokens cause = ⊥
+
+  -- so it is, or merging stops inside
+  abbrev pub IsMergeCause : List (List ℕ) → Plain → Option Plain → PatchCause A → Type 0
+  IsMergeCause tokens p w (causes.RepeatedName name) = FailsAt w tokens (chars_of name) ⊎ Stops (chars_of name) tokens p w
+  IsMergeCause tokens p w (causes.Edit why) = why ≡ OutOfMemory
+  IsMergeCause tokens p w cause = ⊥
+
+  -- merging stops inside, or there was no memory
+  abbrev pub IsStop : List (List ℕ) → Plain → Option Plain → PatchCause A → Type 0
+  IsStop tokens p w (causes.RepeatedName name) = Stops (chars_of name) tokens p w
+  IsStop tokens p w (causes.Edit why) = why ≡ OutOfMemory
+  IsStop tokens p w cause = ⊥
+
+  -- so it is of whatever document it shows, where a value may be put at the tokens
+  abbrev pub FailsToSet : CstRootNode A → List (List ℕ) → PatchCause A → Type 0
+  FailsToSet doc tokens cause = (d : Document) → Shows d (tree_of doc) → IsPlace d.value tokens → IsTwice d.value tokens cause
+
+  abbrev pub FailsToMerge : CstRootNode A → List (List ℕ) → Plain → PatchCause A → Type 0
+  FailsToMerge doc tokens p cause = (d : Document) → Shows d (tree_of doc) → IsOfNumbers d.options p → IsPlace d.value tokens → IsMergeCause tokens p d.value cause
+
+  -- and where the tokens refer to an object
+  abbrev pub FailsToMergeAll : CstRootNode A → List (List ℕ) → Members → PatchCause A → Type 0
+  FailsToMergeAll doc tokens ms cause = (d : Document) → Shows d (tree_of doc) → AreNamedOfNumbers d.options ms → RefersToObject d.value tokens → IsStop tokens (object ms) d.value cause
+
+  -- the fault of a cause
+  abbrev pub TellsFault : PatchCause A → MergeFault A → Type 0
+  TellsFault (causes.RepeatedName name) fault = fault ≡ merge.RepeatedName name
+  TellsFault cause fault = fault ≡ merge.OutOfMemory
+
+  -- the fault has this name, or tells that there was no memory for it
+  abbrev pub TellsName : List ℕ → MergeFault A → Type 0
+  TellsName name (merge.RepeatedName s) = chars_of s ≡ name
+  TellsName name merge.OutOfMemory = Unit {0}
+
+  -- more than one member has the name of the fault; or more than one member of an object in the value
+  abbrev pub AreNamesTwice : Members → MergeFault A → Type 0
+  AreNamesTwice ms (merge.RepeatedName name) = IsRepeated (chars_of name) ms
+  AreNamesTwice ms merge.OutOfMemory = Unit {0}
+
+  abbrev pub HasNameTwice : Plain → MergeFault A → Type 0
+  HasNameTwice p (merge.RepeatedName name) = RepeatsName (chars_of name) p
+  HasNameTwice p merge.OutOfMemory = Unit {0}

@@ -1,0 +1,137 @@
+-- What a patch made of the document of the input that was read.
+use Rattle.std.proofs.Common.{◌≡◌, ◌≢◌, ◌∙◌, ◌⊎◌, ℕ, List, [], Option, String, IsUtf8, ap, chars, inl, inr, refl, string_bytes, subst, sym, IfOk, Result}
+use Rattle.std.proofs.lemmas.List.Elements.{All-take}
+use Rattle.std.specs.List.{All}
+use Rattle.jsonc_text.specs.Documents.{Document}
+use Rattle.jsonc_text.specs.Grammar.{IsDocument}
+use Rattle.jsonc_text.specs.Options.{Options, all_on}
+use Rattle.jsonc_text.specs.Plain.{Plain, Items, Members}
+use Rattle.jsonc_text.specs.declared.edit.EditError.{EditError}
+use Rattle.jsonc_edit.specs.Writing.{IsOfNumbers}
+use Rattle.jsonc_layout.specs.declared.input.value.CstInputValue.{CstInputValue}
+use Rattle.jsonc_layout.specs.input.Views.{chars_of, plain}
+use Rattle.jsonc_sound.specs.Documents.{Shows, ShowsText}
+use Rattle.jsonc_cst.specs.declared.cst.CstRootNode.{CstRootNode}
+use Rattle.jsonc_cst.specs.Document.{printed_of, tree_of}
+use Rattle.jsonc_insert.specs.named.Members.{LacksMember, other_name, IsFirstMember, first_is, first_later}
+use Rattle.jsonc_parser.specs.patch.Applied.{IsPatched, IsStopped, PatchesWhatShown, StopsWhatShown}
+use Rattle.jsonc_parser.specs.patch.Asked.{asked, FitsIn}
+use Rattle.jsonc_parser.specs.patch.Equality.{HasMember, this_has, later_has, HasUniqueNames, ItemsHaveUniqueNames, MembersHaveUniqueNames, unique_array, unique_object, unique_item, unique_member}
+use Rattle.jsonc_parser.specs.patch.Merged.{IsMerged, MergesWhatShown, MergeStopsWhatShown}
+use Rattle.jsonc_parser.specs.patch.Merging.{Stops}
+use Rattle.jsonc_parser.specs.patch.PatchFaults.{RepeatsName, repeats_here, repeats_in_member, repeats_in_element}
+use Rattle.jsonc_parser.specs.patch.References.{IsItem, this_item, later_item, IsRepeated, this_again, later_again}
+use Rattle.jsonc_parser.specs.declared.patch.apply.PatchFault.{PatchFault}
+use Rattle.jsonc_parser.specs.declared.patch.making.PatchCause.TheVariants as cause
+use Rattle.jsonc_parser.specs.declared.patch.merging.MergeFault.TheVariants as merging
+use Rattle.jsonc_parser.specs.declared.patch.operation.Operation.{Operation}
+use Rattle.jsonc_patch_engine.specs.Command.{apply, find, json, merge, Request}
+use Rattle.jsonc_patch_engine.specs.Patched.{IsAccepted, IsApplied, IsMergedInto, IsMergePatchOf, IsPatchOf, IsTextOf, IsToldFor, MeetsTwice, OfDocument, StopsOn}
+use Rattle.jsonc_patch_engine.specs.Results.{IsFaultOfInput, IsWritten}
+use Rattle.jsonc_patch_engine.specs.Runs.{Asks}
+use Rattle.jsonc_patch_engine.specs.declared.engine.Request.TheVariants as read
+use Rattle.jsonc_patch_engine.specs.declared.fault.Fault.{Fault}
+use Rattle.jsonc_patch_engine.specs.declared.fault.Fault.TheVariants as told
+
+first_lacks : {name : List ℕ} {i : ℕ} {ms : Members} → IsFirstMember name i ms → LacksMember name ms → ⊥
+first_lacks first_is (other_name ne l) = ne refl
+first_lacks (first_later ne f) (other_name other l) = first_lacks f l
+
+-- where no name stands twice, none does
+repeated_not : {name : List ℕ} (ms : Members) → MembersHaveUniqueNames ms → IsRepeated name ms → ⊥
+repeated_not Members.no_members h r = elim r [ ]
+repeated_not (Members.member n v ms) (unique_member lacks h k) (this_again first) = first_lacks first lacks
+repeated_not (Members.member n v ms) (unique_member lacks h k) (later_again ne r) = repeated_not ms k r
+
+mutual
+  pub no_repeat : {name : List ℕ} (p : Plain) → HasUniqueNames p → RepeatsName name p → ⊥
+  no_repeat Plain.null h r = elim r [ ]
+  no_repeat (Plain.boolean b) h r = elim r [ ]
+  no_repeat (Plain.number s) h r = elim r [ ]
+  no_repeat (Plain.string s) h r = elim r [ ]
+  no_repeat (Plain.object ms) (unique_object h) (repeats_here r) = repeated_not ms h r
+  no_repeat (Plain.object ms) (unique_object h) (repeats_in_member m r) = no_repeat_in ms h m r
+  no_repeat (Plain.array vs) (unique_array h) (repeats_in_element i r) = no_repeat_at vs h i r
+
+  no_repeat_in : {name n : List ℕ} {v : Plain} (ms : Members) → MembersHaveUniqueNames ms → HasMember n v ms → RepeatsName name v → ⊥
+  no_repeat_in Members.no_members h m r = elim m [ ]
+  no_repeat_in (Members.member n v ms) (unique_member lacks h k) this_has r = no_repeat v h r
+  no_repeat_in (Members.member n v ms) (unique_member lacks h k) (later_has m) r = no_repeat_in ms k m r
+
+  no_repeat_at : {name : List ℕ} {i : ℕ} {v : Plain} (vs : Items) → ItemsHaveUniqueNames vs → IsItem v i vs → RepeatsName name v → ⊥
+  no_repeat_at Items.no_items h i r = elim i [ ]
+  no_repeat_at (Items.item v vs) (unique_item h k) this_item r = no_repeat v h r
+  no_repeat_at (Items.item v vs) (unique_item h k) (later_item i) r = no_repeat_at vs k i r
+
+-- the text of a document that is shown
+text_of_shown : {A : Type 0} (e : Document) (new : CstRootNode A) (output : List ℕ) → Shows e (tree_of new) → output ≡ printed_of new → e.text ≡ chars output
+text_of_shown e new output shown prints = ap (λ d. d.text) shown.is ∙ ap chars (sym prints)
+
+module _ {A : Type 0} (input : List ℕ) (doc : CstRootNode A) (o : Options) (all : o ≡ all_on) (shown : ShowsText o (chars input) (tree_of doc)) where
+  shows : ShowsText all_on (chars input) (tree_of doc)
+  shows = subst (λ o. ShowsText o (chars input) (tree_of doc)) all shown
+
+  of_it : (is_so : Document → Type 0) → is_so shows.0 → OfDocument input is_so
+  of_it is_so h = record { document = shows.0; options = shows.1; text = shows.2; so = h }
+
+  text_of_new : (new : CstRootNode A) (output : List ℕ) (is_so : Document → Type 0) (e : Document) → Shows e (tree_of new) → is_so e → output ≡ printed_of new → IsUtf8 output → IsTextOf output is_so
+  text_of_new new output is_so e s h prints utf8 = record { document = e; bytes = utf8; text = text_of_shown e new output s prints; so = h }
+
+  module _ (words : List ℕ) (ops : List (Operation A)) (patch : IsPatchOf words ops) where
+    fits : All (FitsIn shows.0.options) ops
+    fits = subst (λ o. All (FitsIn o) ops) (sym shows.1) patch.1
+
+    pub applied : (new : CstRootNode A) (output : List ℕ) → PatchesWhatShown doc ops new → output ≡ printed_of new → IsUtf8 output → IsApplied A words input output
+    applied new output h prints utf8 =
+        let e = h shows.0 shows.3 fits in
+        record { operations = ops; patch = patch.0; made = of_it _ (text_of_new new output (λ e. IsPatched shows.0 ops e) e.0 e.1 e.2 prints utf8) }
+
+    stopped : (fault : PatchFault A) → StopsWhatShown doc ops fault → ((why : EditError) → fault.cause ≢ cause.Edit why) → StopsOn words input fault
+    stopped fault h another =
+        let fit = All-take (FitsIn shows.0.options) fault.operation ops fits in
+        record { operations = ops; patch = patch.0; stopped = of_it (λ d. IsStopped d ops fault) (h shows.0 shows.3 fit); cause = another }
+
+    pub told_of : (fault : PatchFault A) (f : Fault A) → IsAccepted input → StopsWhatShown doc ops fault → IsToldFor fault f → IsFaultOfInput (apply words) input f
+    told_of fault (told.Operation g) accepted h (is, another) = subst (λ x. StopsOn words input x) (sym is) (stopped fault h another)
+    told_of fault told.OutOfMemory accepted h t = accepted
+    told_of fault (told.Input e) accepted h t = absurd t
+    told_of fault (told.Pointer e) accepted h t = absurd t
+    told_of fault (told.Patch e) accepted h t = absurd t
+    told_of fault (told.MergePatch e) accepted h t = absurd t
+    told_of fault (told.RepeatedName name) accepted h t = absurd t
+    told_of fault told.NoSuchValue accepted h t = absurd t
+    told_of fault told.NoValue accepted h t = absurd t
+    told_of fault (told.NonFinite at) accepted h t = absurd t
+    told_of fault told.NotUtf8 accepted h t = absurd t
+    told_of fault told.Read accepted h t = absurd t
+    told_of fault told.Write accepted h t = absurd t
+    told_of fault told.Usage accepted h t = absurd t
+
+  module _ (words : List ℕ) (p : Plain) (patch : IsMergePatchOf words p) where
+    numbers : IsOfNumbers shows.0.options p
+    numbers = subst (λ o. IsOfNumbers o p) (sym shows.1) patch.1
+
+    pub merged : (new : CstRootNode A) (output : List ℕ) → MergesWhatShown doc p new → output ≡ printed_of new → IsUtf8 output → IsMergedInto A words input output
+    merged new output h prints utf8 =
+        let e = h shows.0 shows.3 numbers in
+        record { value = p; patch = patch.0; made = of_it _ (text_of_new new output (λ e. IsMerged A shows.0 p e) e.0 e.1 e.2 prints utf8) }
+
+    pub met_twice : (name : String A) → MergeStopsWhatShown doc p (merging.RepeatedName name) → MeetsTwice words input (chars_of name)
+    met_twice name h = go (h shows.0 shows.3 numbers)
+      where
+        go : RepeatsName (chars_of name) p ⊎ Stops (chars_of name) [] p shows.0.value → MeetsTwice words input (chars_of name)
+        go (inl r) = absurd (no_repeat p patch.0.1 r)
+        go (inr s) = record { value = p; patch = patch.0; stops = of_it _ s }
+
+-- a text that was parsed
+pub accepted : (input : List ℕ) (o : Options) → o ≡ all_on → (w : Option Plain) → IsDocument o (chars input) w → IsAccepted input
+accepted input o all w d = (w, subst (λ o. IsDocument o (chars input) w) all d)
+
+-- what merging wrote is what was asked for
+module _ {A : Type 0} (p : CstInputValue A) (text input : List ℕ) (same : text ≡ input) (r : Result (String A) (Fault A)) where
+  pub merged_for : (asked : Request) → Asks asked (read.Merge p) → ((words : List ℕ) → IsMergePatchOf words (plain p) → IfOk r (λ s. IsMergedInto A words text (string_bytes s)))
+      → IfOk r (λ s. IsWritten A asked input (string_bytes s))
+  merged_for (merge words) a h = subst (λ t. IfOk r (λ s. IsMergedInto A words t (string_bytes s))) same (h words a)
+  merged_for (apply words) a h = absurd a
+  merged_for (find words) a h = absurd a
+  merged_for json a h = absurd a

@@ -1,0 +1,78 @@
+-- What a patch makes of the input, and why it is not made (RFC 6902 and RFC 7396).
+use Rattle.std.specs.Prelude.{◌≡◌, ◌≢◌, ℕ, List, [], Option, IsUtf8, chars, map}
+use Rattle.std.specs.List.{All}
+use Rattle.jsonc_edit.specs.Writing.{IsOfNumbers}
+use Rattle.jsonc_layout.specs.input.Views.{chars_of}
+use Rattle.jsonc_text.specs.Documents.{Document}
+use Rattle.jsonc_text.specs.Grammar.{IsDocument}
+use Rattle.jsonc_text.specs.Options.{all_on}
+use Rattle.jsonc_text.specs.Plain.{Plain}
+use Rattle.jsonc_text.specs.declared.edit.EditError.{EditError}
+use Rattle.jsonc_parser.specs.patch.Applied.{IsPatched, IsStopped}
+use Rattle.jsonc_parser.specs.patch.Asked.{asked, FitsIn}
+use Rattle.jsonc_parser.specs.patch.Merged.{IsMerged}
+use Rattle.jsonc_parser.specs.patch.MergeTexts.{IsMergePatch}
+use Rattle.jsonc_parser.specs.patch.Merging.{Stops}
+use Rattle.jsonc_parser.specs.patch.PatchTexts.{IsPatch}
+use Rattle.jsonc_parser.specs.declared.patch.apply.PatchFault.{PatchFault}
+use Rattle.jsonc_parser.specs.declared.patch.making.PatchCause.TheVariants as cause
+use Rattle.jsonc_parser.specs.declared.patch.operation.Operation.{Operation}
+use Rattle.jsonc_patch_engine.specs.declared.fault.Fault.{Fault}
+use Rattle.jsonc_patch_engine.specs.declared.fault.Fault.TheVariants as told
+
+-- the text of these bytes is the patch of these operations, and they write numbers that all options allow
+abbrev pub IsPatchOf : {A : Type 0} → List ℕ → List (Operation A) → Type 0
+IsPatchOf text operations = IsPatch all_on (chars text) (map asked operations) × All (FitsIn all_on) operations
+
+-- it is the merge patch of this value, with such numbers
+abbrev pub IsMergePatchOf : List ℕ → Plain → Type 0
+IsMergePatchOf text p = IsMergePatch all_on (chars text) p × IsOfNumbers all_on p
+
+-- the input is the text of a document of all options, of which this is so
+pub record OfDocument (input : List ℕ) (is_so : Document → Type 0) : Type 0 where
+  pub document : Document
+  pub options : document.options ≡ all_on
+  pub text : document.text ≡ chars input
+  pub so : is_so document
+
+-- the output is the text of a document, of which this is so
+pub record IsTextOf (output : List ℕ) (is_so : Document → Type 0) : Type 0 where
+  pub document : Document
+  pub bytes : IsUtf8 output
+  pub text : document.text ≡ chars output
+  pub so : is_so document
+
+-- the operations of the patch lead from the document of the input to that of the output
+pub record IsApplied (A : Type 0) (text input output : List ℕ) : Type 0 where
+  pub operations : List (Operation A)
+  pub patch : IsPatch all_on (chars text) (map asked operations)
+  pub made : OfDocument input (λ d. IsTextOf output (λ e. IsPatched d operations e))
+
+-- merging the patch leads from the document of the input to that of the output
+pub record IsMergedInto (A : Type 0) (text input output : List ℕ) : Type 0 where
+  pub value : Plain
+  pub patch : IsMergePatch all_on (chars text) value
+  pub made : OfDocument input (λ d. IsTextOf output (λ e. IsMerged A d value e))
+
+-- in the document of the input the operations of the patch stop with this fault, and not for memory
+pub record StopsOn {A : Type 0} (text input : List ℕ) (fault : PatchFault A) : Type 0 where
+  pub operations : List (Operation A)
+  pub patch : IsPatch all_on (chars text) (map asked operations)
+  pub stopped : OfDocument input (λ d. IsStopped d operations fault)
+  pub cause : (why : EditError) → fault.cause ≢ cause.Edit why
+
+-- in the document of the input more than one property of an object has this name, which the merge patch names there
+pub record MeetsTwice (text input name : List ℕ) : Type 0 where
+  pub value : Plain
+  pub patch : IsMergePatch all_on (chars text) value
+  pub stops : OfDocument input (λ d. Stops name [] value d.value)
+
+-- the input is a document
+abbrev pub IsAccepted : List ℕ → Type 0
+IsAccepted input = (w : Option Plain) × IsDocument all_on (chars input) w
+
+-- what is told of an operation that was not made: itself, or that there was no memory
+abbrev pub IsToldFor : {A : Type 0} → PatchFault A → Fault A → Type 0
+IsToldFor fault (told.Operation f) = (f ≡ fault) × ((why : EditError) → fault.cause ≢ cause.Edit why)
+IsToldFor fault told.OutOfMemory = (why : EditError) × (fault.cause ≡ cause.Edit why)
+IsToldFor fault other = ⊥
