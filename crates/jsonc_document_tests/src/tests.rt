@@ -4,6 +4,7 @@ mod copies;
 mod edits;
 mod entry_comments;
 mod inputs;
+mod inserted_comments;
 mod large;
 mod merge_texts;
 mod merges;

@@ -29,14 +29,14 @@ use Rattle.jsonc_edit.proofs.FittingFinds.{found_one}
 use Rattle.jsonc_edit.proofs.FittingNodes.{FollowsFromShape, holds_of_each, children_over}
 
 -- No blanks are an indent, and so are two spaces, one indent after another, one so many times, and what one has more than another at its front.
-indent_empty : IsIndent []
+pub indent_empty : IsIndent []
 indent_empty = (IsUtf8-nil, subst (λ t. Many is_inner_blank t []) (sym chars-nil) stop)
 
 two_spaces : IsIndent (0x20 ∷ 0x20 ∷ [])
 two_spaces =
     (IsUtf8-from_ascii (0x20 ∷ 0x20 ∷ []) (search rules), subst (λ t. Many is_inner_blank t []) (sym (chars-IsAscii (0x20 ∷ 0x20 ∷ []) (search rules))) (step refl (step refl stop)))
 
-indent_joined : (s t : List ℕ) → IsIndent s → IsIndent t → IsIndent (s ++ t)
+pub indent_joined : (s t : List ℕ) → IsIndent s → IsIndent t → IsIndent (s ++ t)
 indent_joined s t a b =
     (IsUtf8-append s t a.0 b.0, subst (λ l. Many is_inner_blank l []) (sym (chars-append s t a.0)) (many_append (many_more a.1 (chars t)) b.1))
 
@@ -57,18 +57,18 @@ indent_repeated zero s a = indent_empty
 indent_repeated (suc count) s a = indent_joined s (repeated count s) a (indent_repeated count s a)
 
 -- an indent, if there is one
-abbrev MayIndent : Option (List ℕ) → Type 0
+abbrev pub MayIndent : Option (List ℕ) → Type 0
 MayIndent r = IfSome r IsIndent
 
 -- both are indents
-abbrev AreIndents : IndentTexts → Type 0
+abbrev pub AreIndents : IndentTexts → Type 0
 AreIndents texts = IsIndent texts.current × IsIndent texts.single
 
 or_kept : {A : Type 0} (P : A → Type 0) (r s : Option A) → IfSome r P → IfSome s P → IfSome (option_or r s) P
 or_kept P None s a b = b
 or_kept P (Some x) s a b = a
 
-unwrap_kept : {A : Type 0} (P : A → Type 0) (r : Option A) (x : A) → IfSome r P → P x → P (unwrap_or r x)
+pub unwrap_kept : {A : Type 0} (P : A → Type 0) (r : Option A) (x : A) → IfSome r P → P x → P (unwrap_or r x)
 unwrap_kept P None x a b = b
 unwrap_kept P (Some y) x a b = a
 
@@ -196,7 +196,7 @@ module _ (ns : List Node) (tree : IsTree ns) where
         (λ e. indent_empty))
 
     -- the indent of a node of the document
-    line_indent : (n : ℕ) → IsOver ns 0 n → MayIndent (indent_at ns n)
+    pub line_indent : (n : ℕ) → IsOver ns 0 n → MayIndent (indent_at ns n)
     line_indent n over =
         cond_both (begins_line ns n && is_some (first_blank_at ns n)) (Some (blanks_at ns n)) None MayIndent (λ e. row_indent (line_before ns n) (line_over n over)) (λ e. tt)
 
@@ -234,3 +234,7 @@ module _ (ns : List Node) (tree : IsTree ns) where
     pub indents_fit : (n : ℕ) → IsOver ns 0 n → AreIndents (indents_at ns n)
     indents_fit n over =
         unwrap_kept AreIndents (told_at ns n (levels_above ns n)) (levels_in [] (length (levels_above ns n)) (single_at ns n)) (told_fits n over) (levels_indent [] (single_at ns n) (length (levels_above ns n)) indent_empty (single_fits n over))
+
+    -- and so is what a leaf of whitespace holds
+    pub trivia_blank : (n : ℕ) (s : List ℕ) → IsOver ns 0 n → content_at ns n ≡ Content.whitespace s → IsIndent s
+    trivia_blank n s over e = subst (λ (w : Content). IndentIfBlank w (row_below ns n)) e (holds_of_each o IndentIfBlank (blanks_indent o) ns tree shaped n over)

@@ -31,7 +31,7 @@ document_is ns tree = ap (λ c. more c (grown (length ns) ns 0) none) (sym tree.
 pub row_shown : (ns : List Node) (n : ℕ) (t : OrderedTree) → Shows ns (n ∷ []) t → (below : OrderedTree) × Shows ns (children_at ns n) below
 row_shown ns n _ (shows_more {below = b} p q) = (b, p)
 
-first_of : (ns : List Node) (n : ℕ) (rest : List ℕ) (t : OrderedTree) → Shows ns (n ∷ rest) t
+pub first_of : (ns : List Node) (n : ℕ) (rest : List ℕ) (t : OrderedTree) → Shows ns (n ∷ rest) t
     → (below : OrderedTree) × (after : OrderedTree) × (t ≡ more (content_at ns n) below after) × Shows ns (children_at ns n) below × Shows ns rest after
 first_of ns n rest _ (shows_more {below = b} {after = a} p q) = (b, a, refl, p, q)
 

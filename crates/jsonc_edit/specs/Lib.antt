@@ -22,3 +22,4 @@ pub mod multiline
 pub mod commas
 pub mod remove
 pub mod set
+pub mod commenting

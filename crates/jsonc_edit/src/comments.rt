@@ -17,7 +17,8 @@ use jsonc_layout::nodes::{is_newline, is_whitespace};
 use jsonc_tree::{Kind, Tree};
 use std::alloc::Allocator;
 
-fn begins_line(text: &str) -> bool
+// Whether a comment with this text is a line comment.
+pub(crate) fn begins_line(text: &str) -> bool
     ensures { result ≡ is_line_comment (Content.comment text.now) }
 {
     matches!(text.as_bytes(), [b'/', b'/', ..])

@@ -25,10 +25,11 @@
 //! [`put_spaces`] puts it in, which takes no memory (`specs/Put.antt`).
 //!
 //! [`set`] has the edits that set values, [`remove`] those that take entries out; [`multiline`] puts arrays and objects on
-//! several lines, and [`commas`] sets trailing commas.
+//! several lines, [`commas`] sets trailing commas, and [`commenting`] puts comments in.
 #![tactic(auto)]
 
 pub mod commas;
+pub mod commenting;
 mod comments;
 mod due;
 pub mod laws;

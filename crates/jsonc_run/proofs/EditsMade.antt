@@ -9,7 +9,7 @@ use Rattle.jsonc_edit.proofs.Uniqueness.{element_parent}
 use Rattle.jsonc_text.specs.declared.edit.Over.{Over}
 use Rattle.jsonc_text.specs.declared.edit.Shape.{Shape}
 use Rattle.jsonc_text.specs.declared.edit.EditError.{EditError}
-use Rattle.jsonc_text.specs.declared.edit.EditError.TheVariants.{OutOfMemory, MissingBrackets, MissingName, NoSuchPlace}
+use Rattle.jsonc_text.specs.declared.edit.EditError.TheVariants.{OutOfMemory, MissingBrackets, MissingName, NoSuchPlace, InvalidComment, LineContinues, NotAnEntry}
 use Rattle.jsonc_edit.specs.remove.Removed.{IsKeptFor, TakesElement}
 use Rattle.jsonc_edit.specs.Reading.{IsReplaced}
 use Rattle.jsonc_edit.specs.set.RootSet.{FirstValue}
@@ -60,6 +60,16 @@ none_is r P e h = subst (λ (q : Option ℕ). IfNone q P) e h
 pub nowhere : (ns : List Node) (e : PlainEdit) → ((HasItsPlace ns e) → ⊥) → IsAnswer ns ns e (Err NoSuchPlace)
 nowhere ns e none = record { made = tt; error = none; left = as_it_was (Keeps-same (length ns) ns) refl }
 
+-- what is refused at its place is not refused for want of one
+pub told_at : (ns : List Node) (e : PlainEdit) (why : EditError) → ¬ (why ≡ NoSuchPlace) → AtPlace ns (place_of e) (λ n. RefusedAt ns n e why) → FailsWith ns e why
+told_at ns e OutOfMemory other k = k
+told_at ns e MissingBrackets other k = k
+told_at ns e MissingName other k = k
+told_at ns e NoSuchPlace other k = absurd (other refl)
+told_at ns e InvalidComment other k = k
+told_at ns e LineContinues other k = k
+told_at ns e NotAnEntry other k = k
+
 pub answers : (old new : List Node) (e : PlainEdit) (r : Result (Unit {0}) EditError) → OnOk r (EditStep old e new) → IfErr r (FailsWith old e)
     → OnErr r (Keeps (length old) old new) → OnErr r (ordered_tree new 0 ≡ ordered_tree old 0) → IsAnswer old new e r
 answers old new e (Ok x) made told kept same = record { made = made; error = tt; left = tt }
@@ -81,10 +91,7 @@ module _ (ns : List Node) (path : List ℕ) (n : ℕ) (at : IsEntryAt ns path n)
   entry_made (Err e) new takes = tt
 
   kept_told : (e : EditError) → IsKeptFor ns n e → FailsWith ns (remove path) e
-  kept_told OutOfMemory why = (n, at, why)
-  kept_told MissingBrackets why = (n, at, why)
-  kept_told MissingName why = (n, at, why)
-  kept_told NoSuchPlace why = absurd why
+  kept_told e why = told_at ns (remove path) e (λ is. subst (IsKeptFor ns n) is why) (n, at, why)
 
   pub entry_told : {T : Type 0} (r : Result T EditError) → IfErr r (IsKeptFor ns n) → IfErr r (FailsWith ns (remove path))
   entry_told (Ok x) why = tt

@@ -35,16 +35,10 @@ comes_last old new c k v m tree all brackets put = past_the_end old new c k (len
 -- why nothing came in
 module _ (ns : List Node) (path : List ℕ) (n : ℕ) (v : Plain) (at : IsArrayAt ns path n) where
   pub told_in : (i : ℕ) (e : EditError) → e ≡ refusal ns n → FailsWith ns (insert_element path i v) e
-  told_in i OutOfMemory is = (n, at, is)
-  told_in i MissingBrackets is = (n, at, is)
-  told_in i MissingName is = (n, at, is)
-  told_in i NoSuchPlace is = absurd ((no_other (has_brackets ns (children_at ns n)) NoSuchPlace is).1 refl)
+  told_in i e is = told_at ns (insert_element path i v) e (no_other (has_brackets ns (children_at ns n)) e is) (n, at, is)
 
   pub told_behind : (e : EditError) → e ≡ refusal ns n → FailsWith ns (append_element path v) e
-  told_behind OutOfMemory is = (n, at, is)
-  told_behind MissingBrackets is = (n, at, is)
-  told_behind MissingName is = (n, at, is)
-  told_behind NoSuchPlace is = absurd ((no_other (has_brackets ns (children_at ns n)) NoSuchPlace is).1 refl)
+  told_behind e is = told_at ns (append_element path v) e (no_other (has_brackets ns (children_at ns n)) e is) (n, at, is)
 
 -- marks that have come in stand in one place
 pub gained_marks : (ms : List Mark) (i : ℕ) (row t u : OrderedTree) → GainsMarks ms i row t u → MarksDifferIn [] ms (marks t) (marks u)

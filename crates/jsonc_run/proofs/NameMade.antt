@@ -3,7 +3,7 @@ use Rattle.std.proofs.Common.{◌≡◌, ℕ, ◌+◌, ◌<◌, cond, List, [], 
 use Rattle.std.specs.List.{find}
 use Rattle.jsonc_text.specs.Options.{Options}
 use Rattle.jsonc_text.specs.declared.edit.EditError.{EditError}
-use Rattle.jsonc_text.specs.declared.edit.EditError.TheVariants.{OutOfMemory, MissingBrackets, MissingName, NoSuchPlace}
+use Rattle.jsonc_text.specs.declared.edit.EditError.TheVariants.{OutOfMemory, MissingBrackets, MissingName, NoSuchPlace, InvalidComment, LineContinues, NotAnEntry}
 use Rattle.jsonc_tree.specs.Building.{Keeps}
 use Rattle.jsonc_tree.specs.Changes.{CanJoin, Splices}
 use Rattle.jsonc_tree.specs.Content.{Content, object, property}
@@ -41,10 +41,7 @@ use Rattle.jsonc_run.proofs.lemmas.promise.Naming.{held_here}
 
 -- why a property has not got it
 pub name_told : (ns : List Node) (path : List ℕ) (n : ℕ) (name : List ℕ) → IsPropertyAt ns path n → (e : EditError) → RenameError ns n e → FailsWith ns (rename_property path name) e
-name_told ns path n name at OutOfMemory why = (n, at, why)
-name_told ns path n name at MissingBrackets why = absurd why
-name_told ns path n name at MissingName why = (n, at, why)
-name_told ns path n name at NoSuchPlace why = absurd why
+name_told ns path n name at e why = told_at ns (rename_property path name) e (λ is. subst (RenameError ns n) is why) (n, at, why)
 
 -- a property's name stands first in its row
 record NameFirst (o : Options) (held : OrderedTree) : Type 0 where

@@ -2,7 +2,7 @@
 use Rattle.std.proofs.Common.{ℕ, List, IfErr, OnOk, Result, Ok, Err}
 use Rattle.jsonc_tree.specs.Tree.{Node}
 use Rattle.jsonc_text.specs.declared.edit.EditError.{EditError}
-use Rattle.jsonc_text.specs.declared.edit.EditError.TheVariants.{OutOfMemory, MissingBrackets, MissingName, NoSuchPlace}
+use Rattle.jsonc_text.specs.declared.edit.EditError.TheVariants.{OutOfMemory, MissingBrackets, MissingName, NoSuchPlace, InvalidComment, LineContinues, NotAnEntry}
 use Rattle.jsonc_edit.specs.multiline.Multiline.{IsUnspread, MadeMultiline}
 use Rattle.jsonc_run.specs.Edits.{ensure_multiline, EditStep}
 use Rattle.jsonc_run.specs.Places.{IsContainerAt}
@@ -15,10 +15,7 @@ module _ (ns : List Node) (path : List ℕ) (n : ℕ) (at : IsContainerAt ns pat
   lines_made (Err e) new made = tt
 
   why_told : (e : EditError) → IsUnspread ns n e → FailsWith ns (ensure_multiline path) e
-  why_told OutOfMemory why = (n, at, why)
-  why_told MissingBrackets why = (n, at, why)
-  why_told MissingName why = (n, at, why)
-  why_told NoSuchPlace why = absurd why
+  why_told e why = told_at ns (ensure_multiline path) e (λ is. subst (IsUnspread ns n) is why) (n, at, why)
 
   pub lines_told : {T : Type 0} (r : Result T EditError) → IfErr r (IsUnspread ns n) → IfErr r (FailsWith ns (ensure_multiline path))
   lines_told (Ok x) why = tt

@@ -12,7 +12,7 @@ use Rattle.jsonc_sound.specs.Changes.{Changed}
 use Rattle.jsonc_sound.specs.SoundTrees.{SoundTree}
 use Rattle.jsonc_edit.specs.Writing.{IsWritable}
 use Rattle.jsonc_text.specs.declared.edit.EditError.{EditError}
-use Rattle.jsonc_text.specs.declared.edit.EditError.TheVariants.{OutOfMemory, MissingBrackets, MissingName, NoSuchPlace}
+use Rattle.jsonc_text.specs.declared.edit.EditError.TheVariants.{OutOfMemory, MissingBrackets, MissingName, NoSuchPlace, InvalidComment, LineContinues, NotAnEntry}
 use Rattle.jsonc_edit.proofs.FittingNodes.{over_there}
 use Rattle.jsonc_insert.specs.Inserted.{refusal}
 use Rattle.jsonc_insert.specs.Planned.{has_brackets}
@@ -44,24 +44,19 @@ comes_last old new c k name v m tree all there brackets put = past_the_end old n
 -- why nothing came in
 module _ (ns : List Node) (path : List ℕ) (n : ℕ) (name : List ℕ) (v : Plain) (at : IsObjectAt ns path n) where
   pub told_in : (i : ℕ) (e : EditError) → e ≡ refusal ns n → FailsWith ns (insert_property path i name v) e
-  told_in i OutOfMemory is = (n, at, is)
-  told_in i MissingBrackets is = (n, at, is)
-  told_in i MissingName is = (n, at, is)
-  told_in i NoSuchPlace is = absurd ((no_other (has_brackets ns (children_at ns n)) NoSuchPlace is).1 refl)
+  told_in i e is = told_at ns (insert_property path i name v) e (no_other (has_brackets ns (children_at ns n)) e is) (n, at, is)
 
   pub told_behind : (e : EditError) → e ≡ refusal ns n → FailsWith ns (append_property path name v) e
-  told_behind OutOfMemory is = (n, at, is)
-  told_behind MissingBrackets is = (n, at, is)
-  told_behind MissingName is = (n, at, is)
-  told_behind NoSuchPlace is = absurd ((no_other (has_brackets ns (children_at ns n)) NoSuchPlace is).1 refl)
+  told_behind e is = told_at ns (append_property path name v) e (no_other (has_brackets ns (children_at ns n)) e is) (n, at, is)
 
 -- or why the first property of a name was not as it was to be
 module _ (ns : List Node) (path : List ℕ) (n : ℕ) (name : List ℕ) (shape : Shape) (how : Over) (at : IsObjectAt ns path n) where
   pub told_for : (e : EditError) → EnsureError shape how ns n name e → FailsWith ns (ensure_property path name shape how) e
-  told_for OutOfMemory why = (n, at, why)
-  told_for MissingBrackets why = (n, at, why)
-  told_for MissingName why = (n, at, why)
-  told_for NoSuchPlace why = absurd why
+  told_for e why = told_at ns (ensure_property path name shape how) e (λ is. named_error how (subst (EnsureError shape how ns n name) is why)) (n, at, why)
+    where
+      named_error : (h : Over) → EnsureError shape h ns n name NoSuchPlace → ⊥
+      named_error over.Keep k = absurd k
+      named_error over.Replace k = absurd k
 
 -- what a property that came into the object at the path of a sound document makes of it
 pub record CameIn (o : Options) (path : List ℕ) (i : ℕ) (name : List ℕ) (v : Plain) (t u : OrderedTree) : Type 0 where

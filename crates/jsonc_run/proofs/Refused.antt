@@ -9,7 +9,7 @@ use Rattle.jsonc_layout.specs.lines.Kinds.{is_array_or_object}
 use Rattle.jsonc_sound.specs.SoundTrees.{SoundTree}
 use Rattle.jsonc_text.specs.declared.edit.Shape.{Shape}
 use Rattle.jsonc_text.specs.declared.edit.EditError.{EditError}
-use Rattle.jsonc_text.specs.declared.edit.EditError.TheVariants.{OutOfMemory, MissingBrackets, MissingName, NoSuchPlace}
+use Rattle.jsonc_text.specs.declared.edit.EditError.TheVariants.{OutOfMemory, MissingBrackets, MissingName, NoSuchPlace, InvalidComment, LineContinues, NotAnEntry}
 use Rattle.jsonc_edit.specs.Paths as paths
 use Rattle.jsonc_edit.specs.Paths.{IsAt, IsElementOf, LeadsTo}
 use Rattle.jsonc_edit.proofs.Uniqueness.{element_parent}
@@ -71,24 +71,36 @@ module _ (o : Options) (ns : List Node) (tree : IsTree ns) (sound : SoundTree o 
   entry_memory path n at MissingBrackets k = absurd (entry_kept path n at k)
   entry_memory path n at MissingName k = absurd k
   entry_memory path n at NoSuchPlace k = absurd k
+  entry_memory path n at InvalidComment k = absurd k
+  entry_memory path n at LineContinues k = absurd k
+  entry_memory path n at NotAnEntry k = absurd k
 
   lines_memory : (path : List ℕ) (n : ℕ) → IsContainerAt ns path n → (why : EditError) → IsUnspread ns n why → why ≡ OutOfMemory
   lines_memory path n at OutOfMemory k = refl
   lines_memory path n at MissingBrackets k = absurd (lines_kept path n at k)
   lines_memory path n at MissingName k = absurd k
   lines_memory path n at NoSuchPlace k = absurd k
+  lines_memory path n at InvalidComment k = absurd k
+  lines_memory path n at LineContinues k = absurd k
+  lines_memory path n at NotAnEntry k = absurd k
 
   value_memory : (path : List ℕ) (n : ℕ) (shape : Shape) → IsPropertyAt ns path n → (why : EditError) → IsUnset shape ns n why → why ≡ OutOfMemory
   value_memory path n shape at OutOfMemory k = refl
   value_memory path n shape at MissingName k = absurd (name_there path n at k)
   value_memory path n shape at MissingBrackets k = absurd k
   value_memory path n shape at NoSuchPlace k = absurd k
+  value_memory path n shape at InvalidComment k = absurd k
+  value_memory path n shape at LineContinues k = absurd k
+  value_memory path n shape at NotAnEntry k = absurd k
 
   name_memory : (path : List ℕ) (n : ℕ) → IsPropertyAt ns path n → (why : EditError) → RenameError ns n why → why ≡ OutOfMemory
   name_memory path n at OutOfMemory k = refl
   name_memory path n at MissingName k = absurd (name_there path n at k)
   name_memory path n at MissingBrackets k = absurd k
   name_memory path n at NoSuchPlace k = absurd k
+  name_memory path n at InvalidComment k = absurd k
+  name_memory path n at LineContinues k = absurd k
+  name_memory path n at NotAnEntry k = absurd k
 
   -- what has its place is refused for memory alone
   memory_alone : (e : PlainEdit) (why : EditError) → AtPlace ns (place_of e) (λ n. RefusedAt ns n e why) → why ≡ OutOfMemory

@@ -5,5 +5,6 @@ pub mod Written
 pub mod Named
 pub mod Steps
 pub mod Parents
+pub mod EntriesHeld
 pub mod texts
 pub mod promise

@@ -2,3 +2,4 @@ pub mod PlaceLaws
 pub mod Chains
 pub mod Asked
 pub mod Steps
+pub mod CommentsCome

@@ -5,3 +5,4 @@ pub mod Layout
 pub mod Entering
 pub mod Sorting
 pub mod Edits
+pub mod Commenting

@@ -19,6 +19,12 @@ pub enum EditError {
     MissingName,
     /// The path leads to nothing that the edit needs, or no comment has the number.
     NoSuchPlace,
+    /// The text is not one comment and nothing else.
+    InvalidComment,
+    /// The comment ends with its line, and something follows on the line that it is to end.
+    LineContinues,
+    /// The node is no element or property of an array or object, and not the document's value.
+    NotAnEntry,
 }
 
 impl fmt::Display for EditError {
@@ -32,6 +38,9 @@ impl fmt::Display for EditError {
             EditError::MissingBrackets => f.write_str("Missing brackets"),
             EditError::MissingName => f.write_str("Missing name"),
             EditError::NoSuchPlace => f.write_str("No such place"),
+            EditError::InvalidComment => f.write_str("Invalid comment"),
+            EditError::LineContinues => f.write_str("Line continues after the comment"),
+            EditError::NotAnEntry => f.write_str("Not an entry"),
         }
     }
 }
@@ -85,4 +94,13 @@ pub enum Over {
     Keep,
     /// It is replaced.
     Replace,
+}
+
+/// Where a comment of an entry is inserted.
+#[derive(Clone, Copy, Debug, PartialEq, Eq)]
+pub enum Place {
+    /// Above the entry, on a line of its own.
+    Above,
+    /// After the entry on its line, and after its comma.
+    After,
 }

@@ -6,7 +6,7 @@ use Rattle.jsonc_tree.specs.Tree.{Node, children_at, IsTree}
 use Rattle.jsonc_layout.specs.nodes.Kinds.{is_newline_at}
 use Rattle.jsonc_edit.specs.Put.{Extends}
 use Rattle.jsonc_text.specs.declared.edit.EditError.{EditError}
-use Rattle.jsonc_text.specs.declared.edit.EditError.TheVariants.{OutOfMemory, MissingBrackets, MissingName, NoSuchPlace}
+use Rattle.jsonc_text.specs.declared.edit.EditError.TheVariants.{OutOfMemory, MissingBrackets}
 use Rattle.jsonc_edit.specs.remove.Removed.{has_brackets}
 use Rattle.jsonc_edit.specs.multiline.Slots.{Slot, AreFilled}
 use Rattle.jsonc_edit.specs.multiline.Lines.{lines_for, spread_row}
@@ -35,5 +35,4 @@ pub record MadeMultiline (old new : List Node) (c : ℕ) : Type 0 where
 abbrev pub IsUnspread : List Node → ℕ → EditError → Type 0
 IsUnspread ns c OutOfMemory = IsTrue (has_brackets ns c) × IsTrue (not (has_line_end ns c))
 IsUnspread ns c MissingBrackets = IsTrue (not (has_brackets ns c))
-IsUnspread ns c MissingName = ⊥
-IsUnspread ns c NoSuchPlace = ⊥
+IsUnspread ns c why = ⊥

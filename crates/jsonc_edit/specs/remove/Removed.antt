@@ -9,7 +9,7 @@ use Rattle.jsonc_layout.specs.lines.Kinds.{is_array_or_object}
 use Rattle.jsonc_edit.specs.Due.{space_needed_between, listed, seen_before}
 use Rattle.jsonc_edit.specs.Put.{AreDue, AreSpaced, Extends}
 use Rattle.jsonc_text.specs.declared.edit.EditError.{EditError}
-use Rattle.jsonc_text.specs.declared.edit.EditError.TheVariants.{OutOfMemory, MissingBrackets, MissingName, NoSuchPlace}
+use Rattle.jsonc_text.specs.declared.edit.EditError.TheVariants.{OutOfMemory, MissingBrackets}
 use Rattle.jsonc_edit.specs.remove.Leaving.{comes_to, comma_gone, first_gone, last_gone}
 
 -- the first and the last child of a container are tokens, and two
@@ -113,5 +113,4 @@ TakesElement old new n = (c : ℕ) → parent_at old n ≡ Some c → HasBracket
 abbrev pub IsKeptFor : List Node → ℕ → EditError → Type 0
 IsKeptFor ns n OutOfMemory = (c : ℕ) × (parent_at ns n ≡ Some c) × AreDue (space_needed_before_gap ns c n) (space_needed_after_gap ns c n)
 IsKeptFor ns n MissingBrackets = (c : ℕ) × (parent_at ns n ≡ Some c) × IsTrue (is_array_or_object (content_at ns c)) × IsTrue (not (has_brackets ns c))
-IsKeptFor ns n MissingName = ⊥
-IsKeptFor ns n NoSuchPlace = ⊥
+IsKeptFor ns n why = ⊥

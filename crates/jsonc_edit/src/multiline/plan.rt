@@ -23,7 +23,7 @@ fn is_empty(text: &str) -> bool
 }
 
 // Makes a leaf and puts it behind a row that is being planned.
-fn push_leaf<A: Allocator + Copy>(
+pub(crate) fn push_leaf<A: Allocator + Copy>(
     tree: &mut Tree<A>,
     row: &mut Vec<usize, A>,
     kind: Kind<A>,

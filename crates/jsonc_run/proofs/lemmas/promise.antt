@@ -48,3 +48,6 @@ pub mod NoneLeft
 pub mod NoneMissing
 pub mod Hexadecimal
 pub mod LinesInside
+pub mod EntriesHeld
+pub mod CommentsCome
+pub mod CommentsInserted

@@ -1,11 +1,12 @@
 //! Laws of edits of texts: each is the contract of a function that does nothing.
 
-ghost use Rattle.std.specs.Prelude.{List};
+ghost use Rattle.std.specs.Prelude.{List, ℕ};
 ghost use Rattle.jsonc_text.specs.Documents.{Document};
 ghost use Rattle.jsonc_text.specs.Options.{Options};
 ghost use Rattle.jsonc_tree.specs.OrderedTree.{OrderedTree};
 ghost use Rattle.jsonc_tree.specs.Tree.{Node};
 ghost use Rattle.jsonc_run.specs.promise.Chains.{EditsLead, RunsJoin, ShownAreDocuments, StepsAreRun};
+ghost use Rattle.jsonc_run.specs.promise.CommentsCome.{AboveInText, BehindInText};
 
 /// One chain of sound trees is one chain of the texts that they print, for every list of edits.
 pub fn steps_are_run()
@@ -25,4 +26,13 @@ pub fn shown_are_documents()
 /// Two lists of edits, of which the second begins where the first ends, are one.
 pub fn runs_join()
     ensures { (d e f : Document) → RunsJoin d e f }
+{}
+
+/// A comment that came above or behind the entry at a path of a sound document whose options allow
+/// comments did so in its text: all before and behind it stays, the document says the same, and of its
+/// literals and comments this one alone has come. A line comment comes behind an entry where its line
+/// ends.
+pub fn comments_come_in_texts()
+    ensures above { (o : Options) (old new : List Node) (text : List ℕ) → AboveInText o old new text }
+    ensures behind { (o : Options) (old new : List Node) (text : List ℕ) → BehindInText o old new text }
 {}

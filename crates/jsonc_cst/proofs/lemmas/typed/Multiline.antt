@@ -7,7 +7,7 @@ use Rattle.jsonc_tree.specs.OrderedTree.{ordered_tree}
 use Rattle.jsonc_tree.specs.Tree.{Node, content_at, IsTree}
 use Rattle.jsonc_layout.specs.lines.Kinds.{is_array_or_object}
 use Rattle.jsonc_text.specs.declared.edit.EditError.{EditError}
-use Rattle.jsonc_text.specs.declared.edit.EditError.TheVariants.{OutOfMemory, MissingBrackets, MissingName, NoSuchPlace}
+use Rattle.jsonc_text.specs.declared.edit.EditError.TheVariants.{OutOfMemory, MissingBrackets, MissingName, NoSuchPlace, InvalidComment, LineContinues, NotAnEntry}
 use Rattle.jsonc_edit.proofs.lemmas.commas.Holders.{holder_path}
 use Rattle.jsonc_edit.specs.multiline.Multiline.{has_line_end, IsUnspread, MadeMultiline}
 use Rattle.jsonc_edit.proofs.lemmas.multiline.Documents.{spread_at}
@@ -52,6 +52,9 @@ module _ (old new : List Node) (n : ℕ) (before : IsTree old) (after : IsTree n
       absurd (contradicts _ has why)
   memory_alone o MissingName why = absurd why
   memory_alone o NoSuchPlace why = absurd why
+  memory_alone o InvalidComment why = absurd why
+  memory_alone o LineContinues why = absurd why
+  memory_alone o NotAnEntry why = absurd why
 
   pub but_for_memory : {T : Type 0} (o : Options) (r : Result T EditError) → IfErr r (IsUnspread old n) → IfErr r (OnlyOutOfMemory o old n)
   but_for_memory o (Ok x) why = tt

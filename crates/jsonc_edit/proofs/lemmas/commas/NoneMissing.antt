@@ -23,7 +23,7 @@ use Rattle.jsonc_edit.proofs.lemmas.commas.Children.{children_are, IsChild}
 use Rattle.jsonc_edit.proofs.lemmas.commas.CommaRows.{comma_first}
 use Rattle.jsonc_edit.proofs.lemmas.commas.Documents.{keeps_document, sets_all}
 use Rattle.jsonc_edit.proofs.lemmas.commas.Holders.{row_stands}
-use Rattle.jsonc_edit.proofs.lemmas.commas.NoneLeft.{stays, tree_now, Stays}
+use Rattle.jsonc_edit.proofs.lemmas.commas.NoneLeft.{stays, tree_now}
 use Rattle.jsonc_edit.proofs.lemmas.commas.Reaching.{each_holder}
 use Rattle.jsonc_edit.proofs.lemmas.commas.Splits.{comma_found, none_found_back, parted_last, split_after, standing, NoneOf}
 

@@ -41,7 +41,7 @@ token_parts o (Content.token c) h = record { prints = unkept_prints (Content.tok
 token_parts o x h = cc
 
 -- line comments of the new row end, and one before the row that ended with the old one ends with the new one
-abbrev Kept : Bool → Bool → OrderedTree → OrderedTree → Type 0
+abbrev pub Kept : Bool → Bool → OrderedTree → OrderedTree → Type 0
 Kept loose at_end row new = LinesEndLoosely loose at_end new × (IsTrue (ends_loosely loose at_end row) → IsTrue (ends_loosely loose at_end new))
 
 both : (a b c : Bool) → (IsTrue b → IsTrue c) → IsTrue (a && b) → IsTrue (a && c)
@@ -53,18 +53,18 @@ over_end loose at_end (Content.newline k) below x y f h = refl
 over_end loose at_end (Content.whitespace k) below x y f h = both loose (ends_loosely loose at_end x) (ends_loosely loose at_end y) f h
 over_end loose at_end content below x y f h = cc
 
-below_same : (loose at_end : Bool) (content : Content) (below other after : OrderedTree) → ends_loosely loose at_end (more content below after) ≡ ends_loosely loose at_end (more content other after)
+pub below_same : (loose at_end : Bool) (content : Content) (below other after : OrderedTree) → ends_loosely loose at_end (more content below after) ≡ ends_loosely loose at_end (more content other after)
 below_same loose at_end (Content.newline k) below other after = refl
 below_same loose at_end (Content.whitespace k) below other after = refl
 below_same loose at_end content below other after = refl
 
-over_lines : (loose at_end : Bool) (content : Content) (below x y : OrderedTree) → LinesEndLoosely loose at_end (more content below x) → Kept loose at_end x y → Kept loose at_end (more content below x) (more content below y)
+pub over_lines : (loose at_end : Bool) (content : Content) (below x y : OrderedTree) → LinesEndLoosely loose at_end (more content below x) → Kept loose at_end x y → Kept loose at_end (more content below x) (more content below y)
 over_lines loose at_end content below x y l k = ((λ h. k.1 (l.0 h), l.1, k.0), over_end loose at_end content below x y k.1)
 
-no_replaced : {was now y : OrderedTree} → Replaced was now none y → ⊥
+pub no_replaced : {was now y : OrderedTree} → Replaced was now none y → ⊥
 no_replaced r = elim r [ ]
 
-around : (f a y z b : List Content) → f ++ ((a ++ (y ++ z)) ++ b) ≡ (f ++ a) ++ (y ++ (z ++ b))
+pub around : (f a y z b : List Content) → f ++ ((a ++ (y ++ z)) ++ b) ≡ (f ++ a) ++ (y ++ (z ++ b))
 around f a y z b = ap (λ l. f ++ l) (append_assoc a (y ++ z) b ∙ ap (λ l. a ++ l) (append_assoc y z b)) ∙ sym (append_assoc f a (y ++ (z ++ b)))
 
 module _ (o : Options) (x : Content) (p : Parts o x) (was : List Content) (old : AreTrivia was) (back : OrderedTree) where

@@ -1,10 +1,10 @@
 -- Why the first property of a name is not as it is to be: nothing else is told where memory is.
-use Rattle.std.proofs.Common.{◌≡◌, ℕ, Bool, true, false, cond, List, Option, Some, None, Result, Ok, Err, IfErr, refl, sym, subst, ◌∙◌}
+use Rattle.std.proofs.Common.{◌≡◌, ◌⊎◌, ¬◌, ℕ, Bool, true, false, cond, inl, inr, List, Option, Some, None, Result, Ok, Err, IfErr, refl, sym, subst, ◌∙◌}
 use Rattle.jsonc_tree.specs.Tree.{Node, children_at}
 use Rattle.jsonc_layout.specs.nodes.Names.{FirstInObject, HoldsEscapedName}
 use Rattle.jsonc_layout.specs.nodes.Properties.{lacks_name_at}
 use Rattle.jsonc_text.specs.declared.edit.EditError.{EditError}
-use Rattle.jsonc_text.specs.declared.edit.EditError.TheVariants.{OutOfMemory, MissingBrackets, MissingName, NoSuchPlace}
+use Rattle.jsonc_text.specs.declared.edit.EditError.TheVariants.{OutOfMemory, MissingBrackets, MissingName, NoSuchPlace, InvalidComment, LineContinues, NotAnEntry}
 use Rattle.jsonc_insert.specs.Inserted.{refusal}
 use Rattle.jsonc_insert.specs.Planned.{has_brackets}
 use Rattle.jsonc_edit.specs.set.PropertyValues.{EnsureValueError}
@@ -18,9 +18,13 @@ no_name : {X : Type 0} → OutOfMemory ≡ MissingName → X
 no_name e = absurd (let wrong : OutOfMemory ≡ MissingName = e in cc)
 
 -- an insertion is refused for memory or for a bracket
-pub no_other : (b : Bool) (e : EditError) → e ≡ cond b OutOfMemory MissingBrackets → (e ≡ MissingName → ⊥) × (e ≡ NoSuchPlace → ⊥)
-no_other true e is = (λ w. let wrong : OutOfMemory ≡ MissingName = sym is ∙ w in cc, λ w. let wrong : OutOfMemory ≡ NoSuchPlace = sym is ∙ w in cc)
-no_other false e is = (λ w. let wrong : MissingBrackets ≡ MissingName = sym is ∙ w in cc, λ w. let wrong : MissingBrackets ≡ NoSuchPlace = sym is ∙ w in cc)
+either : (b : Bool) (e : EditError) → e ≡ cond b OutOfMemory MissingBrackets → (e ≡ OutOfMemory) ⊎ (e ≡ MissingBrackets)
+either true e is = inl is
+either false e is = inr is
+
+pub no_other : (b : Bool) (e : EditError) → e ≡ cond b OutOfMemory MissingBrackets → ¬ (e ≡ NoSuchPlace)
+no_other true e is w = let wrong : OutOfMemory ≡ NoSuchPlace = sym is ∙ w in cc
+no_other false e is w = let wrong : MissingBrackets ≡ NoSuchPlace = sym is ∙ w in cc
 
 -- a flag that would tell of a name is not set where memory is told
 pub named : (b : Bool) → (b ≡ true → OutOfMemory ≡ MissingName) → b ≡ false
@@ -35,10 +39,11 @@ module _ (shape : Shape) (ns : List Node) (c : ℕ) (name : List ℕ) where
 
   -- none has the name, and none has come
   come_by : (how : Over) (e : EditError) → FirstInObject ns c name None → e ≡ refusal ns c → EnsureError shape how ns c name e
-  come_by how OutOfMemory first is = to_come first (sym is)
-  come_by how MissingBrackets first is = (first, sym is)
-  come_by how MissingName first is = absurd ((no_other (has_brackets ns (children_at ns c)) MissingName is).0 refl)
-  come_by how NoSuchPlace first is = absurd ((no_other (has_brackets ns (children_at ns c)) NoSuchPlace is).1 refl)
+  come_by how e first is = by (either (has_brackets ns (children_at ns c)) e is)
+    where
+      by : (e ≡ OutOfMemory) ⊎ (e ≡ MissingBrackets) → EnsureError shape how ns c name e
+      by (inl same) = subst (EnsureError shape how ns c name) (sym same) (to_come first (sym is ∙ same))
+      by (inr same) = subst (EnsureError shape how ns c name) (sym same) (first, sym is ∙ same)
 
   pub none_come : (how : Over) (found : Option ℕ) (e : EditError) → FirstInObject ns c name found → ((r : ℕ) → found ≡ Some r → ⊥) → e ≡ refusal ns c
       → EnsureError shape how ns c name e
@@ -52,6 +57,9 @@ module _ (shape : Shape) (ns : List Node) (c : ℕ) (name : List ℕ) where
   set_by r MissingName first unset missing = (r, first, unset)
   set_by r MissingBrackets first unset missing = absurd unset
   set_by r NoSuchPlace first unset missing = absurd unset
+  set_by r InvalidComment first unset missing = absurd unset
+  set_by r LineContinues first unset missing = absurd unset
+  set_by r NotAnEntry first unset missing = absurd unset
 
   pub none_set : (how : Over) (found : Option ℕ) (r : ℕ) (e : EditError) → how ≡ over.Replace → found ≡ Some r → FirstInObject ns c name found → EnsureValueError (is_of shape) ns r e
       → (lacks_name_at ns r ≡ true → e ≡ MissingName) → EnsureError shape how ns c name e

@@ -44,7 +44,7 @@ use Rattle.jsonc_run.proofs.lemmas.promise.Places.{document_itself, silent_then,
 use Rattle.jsonc_run.proofs.lemmas.promise.Bare.{AllSpelled, BeginsBare, EndsBareWith, begins_so, ends_behind, ends_with, meets, seam_due, spelled, spelled_first, spelled_second}
 
 -- the leaves of a row with an element in it
-held_leaves : {top : Top} {i : ℕ} {row : OrderedTree} {f b : List Content} → RowHolds top i row f b → leaves row ≡ f ++ (leaves_of top ++ b)
+pub held_leaves : {top : Top} {i : ℕ} {row : OrderedTree} {f b : List Content} → RowHolds top i row f b → leaves row ≡ f ++ (leaves_of top ++ b)
 held_leaves {top} (this_element {after = after} p) = sym (append_assoc (own_leaf top.content) (leaves top.below) (leaves after))
 held_leaves {top} (past_other {content = content} {below = below} {f = f} {b = b} p h) =
     let own : List Content = own_leaf content in

@@ -1,0 +1,16 @@
+pub mod Whole
+pub mod Planned
+pub mod Coming
+pub mod Around
+pub mod Lines
+pub mod Ends
+pub mod Sound
+pub mod Rows
+pub mod Arriving
+pub mod Indents
+pub mod Above
+pub mod Blanks
+pub mod Behind
+pub mod Places
+pub mod Documents
+pub mod Inserting

@@ -1,0 +1,95 @@
+-- Laws of comments that come: what becomes of the document.
+use Rattle.std.specs.Prelude.{◌≡◌, ◌==◌, ◌||◌, ℕ, List, [], ◌∷◌, ◌++◌, Option, Some, IsTrue, chars}
+use Rattle.std.specs.List.{list_any}
+use Rattle.jsonc_text.specs.Options.{Options}
+use Rattle.jsonc_text.specs.Plain.{Plain}
+use Rattle.jsonc_text.specs.Gaps.{IsComment}
+use Rattle.jsonc_text.specs.Grammar.{IsDocument}
+use Rattle.jsonc_tree.specs.Content.{Content, comment, token}
+use Rattle.jsonc_tree.specs.OrderedTree.{OrderedTree, leaves, ordered_tree}
+use Rattle.jsonc_tree.specs.Tree.{Node, content_at, parent_at, IsOver, IsTree}
+use Rattle.jsonc_layout.specs.lines.Kinds.{is_array_or_object}
+use Rattle.jsonc_layout.specs.nodes.Kinds.{is_element_at, is_newline}
+use Rattle.jsonc_sound.specs.ChangeLaws.{DiffersIn}
+use Rattle.jsonc_sound.specs.Leaving.{AreInlineTrivia}
+use Rattle.jsonc_sound.specs.Lines.{is_line_comment}
+use Rattle.jsonc_sound.specs.MarkChanges.{AreBlanks, MarksDifferIn}
+use Rattle.jsonc_sound.specs.Marks.{comment_mark, marks}
+use Rattle.jsonc_sound.specs.Shape.{printed_text, IsText}
+use Rattle.jsonc_sound.specs.SoundTrees.{SoundTree}
+use Rattle.jsonc_sound.specs.TreeChanges.{leaves_of}
+use Rattle.jsonc_edit.specs.Changes.{top_at}
+use Rattle.jsonc_edit.specs.Put.{a_space}
+use Rattle.jsonc_edit.specs.Seams.{StandsBetween}
+use Rattle.jsonc_edit.specs.commenting.Above.{ComesAbove}
+use Rattle.jsonc_edit.specs.commenting.Behind.{may_end_line, ComesBehind}
+
+-- the node is an element or a property of an array or object of the document, or the document's value
+pub record IsEntry (ns : List Node) (n : ℕ) : Type 0 where
+  pub container : ℕ
+  pub parent : parent_at ns n ≡ Some container
+  pub below : IsOver ns 0 n
+  pub element : IsTrue (is_element_at ns n)
+  pub holds : IsTrue (container == 0 || is_array_or_object (content_at ns container))
+
+-- The document is one again, with the value that it had, or none as before; of its marks that of this comment alone has come; and it is sound.
+pub record IsCommentInserted (o : Options) (text : List ℕ) (t u : OrderedTree) : Type 0 where
+  pub value : Option Plain
+  pub old_text : IsDocument o (printed_text t) value
+  pub new_text : IsDocument o (printed_text u) value
+  pub marked : MarksDifferIn [] (comment_mark (chars text) ∷ []) (marks t) (marks u)
+  pub sound : SoundTree o u
+
+-- so it is where one comes above an entry of a sound document whose options allow comments
+abbrev pub InsertsAbove : Options → List Node → List Node → ℕ → List ℕ → Type 0
+InsertsAbove o old new n text =
+    IsTree old → SoundTree o (ordered_tree old 0) → IsTrue o.comments → IsText IsComment text → IsEntry old n
+    → ComesAbove old new n text → IsCommentInserted o text (ordered_tree old 0) (ordered_tree new 0)
+
+-- and where one comes behind, if that is no line comment or its line ends there
+abbrev pub InsertsBehind : Options → List Node → List Node → ℕ → List ℕ → Type 0
+InsertsBehind o old new n text =
+    IsTree old → SoundTree o (ordered_tree old 0) → IsTrue o.comments → IsText IsComment text → IsEntry old n
+    → (IsTrue (is_line_comment (comment text)) → IsTrue (may_end_line old n))
+    → ComesBehind old new n text → IsCommentInserted o text (ordered_tree old 0) (ordered_tree new 0)
+
+-- the comment of this text has come into the document, with whitespace and ends of lines around it: all leaves before and behind it stay
+pub record GainsComment (text : List ℕ) (old new : OrderedTree) : Type 0 where
+  pub before : List Content
+  pub behind : List Content
+  pub blanks_before : AreBlanks before
+  pub blanks_behind : AreBlanks behind
+  pub around : DiffersIn [] (before ++ comment text ∷ behind) (leaves old) (leaves new)
+
+-- It stands directly above a node with these leaves, before which these stand, and behind it those: behind the comment its line ends, and blanks alone stand between.
+pub record StandsAbove {text : List ℕ} {old new : OrderedTree} (gains : GainsComment text old new) (own front back : List Content) : Type 0 where
+  pub blanks : List Content
+  pub are_blanks : AreBlanks blanks
+  pub ahead : front ≡ gains.around.front ++ blanks
+  pub next : gains.around.back ≡ blanks ++ (own ++ back)
+  pub line : IsTrue (list_any is_newline gains.behind)
+
+-- whitespace and comments; or such, a comma, and such
+pub data IsTrail : List Content → Type 0 where
+  on_line : (x : List Content) → AreInlineTrivia x → IsTrail x
+  past_comma : (x y : List Content) → AreInlineTrivia x → AreInlineTrivia y → IsTrail (x ++ token 0x2C ∷ y)
+
+-- It stands behind such a node: before it stands one space, and such a trail alone between the node and that; behind it nothing comes.
+pub record StandsBehind {text : List ℕ} {old new : OrderedTree} (gains : GainsComment text old new) (own front back : List Content) : Type 0 where
+  pub trail : List Content
+  pub is_trail : IsTrail trail
+  pub last : gains.around.front ≡ front ++ (own ++ trail)
+  pub rest : back ≡ trail ++ gains.around.back
+  pub space : gains.before ≡ a_space ∷ []
+  pub none : gains.behind ≡ []
+
+-- it comes so above a node of the document, or behind it, in a document that is not sound too
+abbrev pub GainsAbove : List Node → List Node → ℕ → List ℕ → Type 0
+GainsAbove old new n text =
+    IsTree old → ComesAbove old new n text → (c : ℕ) → parent_at old n ≡ Some c → (front back : List Content) → StandsBetween old n front back
+    → (gains : GainsComment text (ordered_tree old 0) (ordered_tree new 0)) × StandsAbove gains (leaves_of (top_at old n)) front back
+
+abbrev pub GainsBehind : List Node → List Node → ℕ → List ℕ → Type 0
+GainsBehind old new n text =
+    IsTree old → ComesBehind old new n text → (c : ℕ) → parent_at old n ≡ Some c → (front back : List Content) → StandsBetween old n front back
+    → (gains : GainsComment text (ordered_tree old 0) (ordered_tree new 0)) × StandsBehind gains (leaves_of (top_at old n)) front back

@@ -1,0 +1,36 @@
+-- Comments that come into a document, said of its text alone.
+use Rattle.std.specs.Prelude.{ℕ, ◌≡◌, List, [], ◌∷◌, ◌++◌}
+use Rattle.jsonc_text.specs.Marks.{Mark}
+use Rattle.jsonc_text.specs.Documents.{Document}
+use Rattle.jsonc_run.specs.texts.Paths.{Entry}
+use Rattle.jsonc_run.specs.texts.Stretches.{IsLineEnd, AreBlanks, InLine, Come}
+
+-- Between front and back the comment comes, with blanks before and behind; all before and all behind stays, to the character. The document says the same, and of
+-- its literals and comments this one alone has come.
+pub record ComesBetween (comment before behind front back : List ℕ) (d e : Document) : Type 0 where
+  pub old_text : d.text ≡ front ++ back
+  pub new_text : e.text ≡ front ++ (before ++ (comment ++ (behind ++ back)))
+  pub blanks_before : AreBlanks before
+  pub blanks_behind : AreBlanks behind
+  pub value : e.value ≡ d.value
+  pub mark : List ℕ
+  pub marks : Come (Mark.comment mark ∷ []) (comment ++ (behind ++ back)) (behind ++ back) d e
+
+-- a line ends in the stretch
+abbrev pub EndsLine : List ℕ → Type 0
+EndsLine s = (x line y : List ℕ) × (s ≡ x ++ (line ++ y)) × IsLineEnd line
+
+-- it comes above the entry at the path, before which blanks alone stand from there on, and behind the comment its line ends
+abbrev pub ComesAbove : List ℕ → List ℕ → Document → Document → Type 0
+ComesAbove path comment d e = (before behind front blanks rest back : List ℕ) × ComesBetween comment before behind front (blanks ++ rest) d e
+    × AreBlanks blanks × Entry path d.options d.text rest back × EndsLine behind
+
+-- what may stand between an entry and a comment behind it: no line ends in it but inside of a comment, and one comma may stand in it
+pub data CommentTrail : List ℕ → Type 0 where
+  on_line : {s : List ℕ} → InLine s → CommentTrail s
+  past_comma : {s t : List ℕ} → InLine s → InLine t → CommentTrail (s ++ 0x2C ∷ t)
+
+-- it comes behind the entry at the path, behind such a trail, with one space before it
+abbrev pub ComesBehind : List ℕ → List ℕ → Document → Document → Type 0
+ComesBehind path comment d e = (front own trail back : List ℕ) × ComesBetween comment (0x20 ∷ []) [] (front ++ (own ++ trail)) back d e
+    × CommentTrail trail × Entry path d.options d.text (own ++ (trail ++ back)) (trail ++ back)
