@@ -8,8 +8,8 @@
 //! Edits are methods of the document and of its nodes. `set_value`, `clear_children`, `object_value_or_set` and
 //! its kin of a document set its value; of a property they set the property's, and of an object that of the first
 //! property of a name. `append` and `insert` put a value into an array, and a property into an object;
-//! `replace_with` replaces a node, and `remove` removes one; `ensure_multiline` puts an array or object on
-//! several lines, `set_trailing_commas` sets or removes trailing commas, and `sort_elements` and
+//! `replace_with` replaces a node, `remove` removes one, and `insert_comment` inserts a comment above an entry or
+//! after it; `ensure_multiline` puts an array or object on several lines, `set_trailing_commas` sets or removes trailing commas, and `sort_elements` and
 //! `sort_properties` sort. `set_raw_value` and its kin write the text of one leaf, which is not checked.
 //! [`run`] makes a list of edits, each at its path, and [`edit_text`] does so of a text.
 
@@ -20,7 +20,7 @@ pub use jsonc_cst::cst::{
     AncestorIterator, CstArray, CstBooleanLit, CstComment, CstContainerNode, CstInputValue,
     CstLeafNode, CstNewline, CstNewlineKind, CstNode, CstNullKeyword, CstNumberLit, CstObject,
     CstObjectProp, CstRoot, CstRootNode, CstStringLit, CstToken, CstWhitespace, CstWordLit,
-    DescendantIterator, EditError, NextSiblingIterator, ObjectPropName, ParentNode, Pieces,
+    DescendantIterator, EditError, NextSiblingIterator, ObjectPropName, ParentNode, Pieces, Place,
     PreviousSiblingIterator, RangedDescendantIterator, Shown, TrailingCommaMode, TypedNode, input,
 };
 pub use jsonc_cst::sorting::{
