@@ -24,7 +24,7 @@ use Rattle.jsonc_insert.proofs.lemmas.elements.Containers.{wants_memory_alone}
 use Rattle.jsonc_insert.proofs.lemmas.members.SpreadObjects as objects
 use Rattle.jsonc_insert.specs.named.Places.{IsPropertyAt, a_property}
 use Rattle.jsonc_run.specs.Places.{IsArrayAt, IsContainerAt, IsEntryAt, IsObjectAt, an_entry, in_array, in_object, the_value, AtPlace}
-use Rattle.jsonc_run.specs.Refusals.{FailsWith, IsUnset, RefusedAt, WantsMemoryOrPlace}
+use Rattle.jsonc_run.specs.Refusals.{FailsWith, IsUnset, RefusedAt, MayFailWith}
 use Rattle.jsonc_insert.proofs.lemmas.named.PropertyValues.{held_by_name, value_held}
 
 not_brackets : MissingBrackets ≡ OutOfMemory → ⊥
@@ -126,13 +126,13 @@ module _ (o : Options) (ns : List Node) (tree : IsTree ns) (sound : SoundTree o 
   memory_alone (rename_property path name) why (n, at, k) = name_memory path n at why k
 
   -- so memory or the edit's place was wanted
-  pub refused_so : (e : PlainEdit) (stop : EditError) → FailsWith ns e stop → WantsMemoryOrPlace stop
+  pub refused_so : (e : PlainEdit) (stop : EditError) → FailsWith ns e stop → MayFailWith stop
   refused_so e OutOfMemory k = tt
   refused_so e NoSuchPlace k = tt
   refused_so e MissingBrackets k = not_brackets (memory_alone e MissingBrackets k)
   refused_so e MissingName k = not_name (memory_alone e MissingName k)
 
-  pub answer_refused : {T : Type 0} (e : PlainEdit) (r : Result T EditError) → IfErr r (FailsWith ns e) → IfErr r WantsMemoryOrPlace
+  pub answer_refused : {T : Type 0} (e : PlainEdit) (r : Result T EditError) → IfErr r (FailsWith ns e) → IfErr r MayFailWith
   answer_refused e (Ok x) k = tt
   answer_refused e (Err stop) k = refused_so e stop k
 

@@ -9,7 +9,7 @@ use Rattle.jsonc_text.proofs.SameOptions.{lexeme_same}
 use Rattle.jsonc_edit.proofs.lemmas.commas.WiderShapes.{as_allowed, with_trailing}
 use Rattle.jsonc_edit.specs.Writing.{IsOfNumbers, AreOfNumbers, AreNamedOfNumbers}
 use Rattle.jsonc_text.specs.declared.edit.TrailingCommaMode.TheVariants.{Never, IfMultiline}
-use Rattle.jsonc_run.specs.Edits.{PlainEdit, NumbersAreOf, NumbersFit, Writes, a_property, a_value, written_by}
+use Rattle.jsonc_run.specs.Edits.{PlainEdit, AllowsWritten, Allows, Writes, a_property, a_value, written_by}
 use Rattle.jsonc_run.specs.texts.Edits.{Operation, set_commas, options_behind}
 
 number_wider : {o p : Options} → AgreeOnLexemes o p → (s : List ℕ) → NumberLit o s → NumberLit p s
@@ -33,7 +33,7 @@ module _ {o p : Options} (m : AllowsMore o p) where
     members_wider no_members h = h
     members_wider (member name v ms) (h, k) = (numbers_wider v h, members_wider ms k)
 
-  fits_wider : (w : Writes) → NumbersAreOf o w → NumbersAreOf p w
+  fits_wider : (w : Writes) → AllowsWritten o w → AllowsWritten p w
   fits_wider (a_value v) fit = numbers_wider v fit
   fits_wider (a_property name v) fit = numbers_wider v fit
   fits_wider w fit = tt
@@ -44,5 +44,5 @@ by_wider o (set_commas whole path IfMultiline) = with_trailing o
 by_wider o op = as_allowed o
 
 -- numbers of the options before an operation are numbers of those behind it
-pub fits_behind : (o : Options) (op : Operation) (e : PlainEdit) → NumbersFit o e → NumbersFit (options_behind o op) e
+pub fits_behind : (o : Options) (op : Operation) (e : PlainEdit) → Allows o e → Allows (options_behind o op) e
 fits_behind o op e fit = fits_wider (by_wider o op) (written_by e) fit

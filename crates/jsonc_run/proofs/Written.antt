@@ -65,7 +65,7 @@ use Rattle.jsonc_insert.proofs.lemmas.named.Values as property_values
 use Rattle.jsonc_insert.proofs.lemmas.named.Values.{empty_writable, marks_given, same_shape, value_gives_way, value_marked}
 use Rattle.jsonc_insert.proofs.lemmas.named.Writing.{finds_member, first_named}
 use Rattle.jsonc_run.specs.Named.{entry, ensures, kept_or_emptied, may_stay, Asks, StandsAt}
-use Rattle.jsonc_run.specs.Edits.{PlainEdit, replace, remove, remove_comment, set_root, clear_root, replace_property, ensure_root, set_value, ensure_value, set_boolean, ensure_multiline, insert_element, append_element, insert_property, append_property, ensure_property, set_commas, set_some_commas, rearrange, rename_property, RootSet, EditStep, IsOfCharacters, NumbersFit}
+use Rattle.jsonc_run.specs.Edits.{PlainEdit, replace, remove, remove_comment, set_root, clear_root, replace_property, ensure_root, set_value, ensure_value, set_boolean, ensure_multiline, insert_element, append_element, insert_property, append_property, ensure_property, set_commas, set_some_commas, rearrange, rename_property, RootSet, EditStep, IsOfCharacters, Allows}
 use Rattle.jsonc_run.specs.Written.{IsMarked, MadeIn, IsChanged, by_nothing, by_value, by_entry, by_all, by_comment, by_first, by_clearing, by_property, by_boolean, by_lines, by_inserting, by_inserting_member, by_commas, by_sorting, by_name, EntryRemoved, entry_left, value_left, FirstComes, ReplacesProperty, property_given}
 use Rattle.jsonc_run.specs.Places.{IsEntryAt, the_value, an_entry, IsEntryOf, in_array, in_object, IsBooleanAt, IsObjectAt}
 use Rattle.jsonc_run.specs.texts.Edits as texts
@@ -407,7 +407,7 @@ module _ (o : Options) (old new : List Node) (tree : IsTree old) (after : IsTree
       }
 
   -- Each edit that was made.
-  pub edit_made : (e : PlainEdit) → IsOfCharacters e → NumbersFit o e → EditStep old e new → EditMade o e t u
+  pub edit_made : (e : PlainEdit) → IsOfCharacters e → Allows o e → EditStep old e new → EditMade o e t u
   edit_made (replace path v) h k (n, at, (m, r)) =
       let g = replaced_made path n m v at (record { texts = h; numbers = k }) r in
       record { before = Some g.0; op = texts.replace path v; asks = refl; is = g.1 }

@@ -1,5 +1,5 @@
 -- Where an edit has its place, said of the document's value and of its comments, with no number of a node; and which operation it asks for there.
-use Rattle.std.specs.Prelude.{◌≡◌, ◌↔◌, ◌⊎◌, ◌<◌, ℕ, Bool, List, [], ◌∷◌, ◌++◌, length, Option, Some, ◌≤◌, true, false, None}
+use Rattle.std.specs.Prelude.{◌≡◌, ◌↔◌, ◌⊎◌, ◌<◌, ℕ, Bool, List, [], ◌∷◌, ◌++◌, length, Option, Some, ◌≤◌, true, false, None, chars}
 use Rattle.jsonc_text.specs.Options.{Options}
 use Rattle.jsonc_text.specs.Plain.{Plain, boolean, array, object, Items, Members}
 use Rattle.jsonc_tree.specs.OrderedTree.{OrderedTree, ordered_tree}
@@ -122,6 +122,7 @@ Asks w (set_commas path mode) op = op ≡ texts.set_commas true path mode
 Asks w (set_some_commas path mode) op = op ≡ texts.set_commas false path mode
 Asks w (rearrange path headers order) op = op ≡ texts.rearrange path order
 Asks w (rename_property path name) op = op ≡ texts.rename_property path name
+Asks w (insert_comment path place text) op = op ≡ texts.insert_comment path place (chars text)
 
 -- how many comments a document has
 abbrev pub comment_count : OrderedTree → ℕ

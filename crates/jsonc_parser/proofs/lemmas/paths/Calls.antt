@@ -13,7 +13,7 @@ use Rattle.jsonc_text.specs.declared.edit.EditError.{EditError}
 use Rattle.jsonc_text.specs.declared.edit.EditError.TheVariants.{OutOfMemory, MissingBrackets, MissingName, NoSuchPlace}
 use Rattle.jsonc_edit.proofs.OneValue.{document_once}
 use Rattle.jsonc_text.specs.declared.edit.Over.{Over}
-use Rattle.jsonc_run.specs.Edits.{PlainEdit, EditStep, first_made, none_made, IsOfCharacters, NumbersFit}
+use Rattle.jsonc_run.specs.Edits.{PlainEdit, EditStep, first_made, none_made, IsOfCharacters, Allows}
 use Rattle.jsonc_run.specs.Named.{comment_count, IsNamed, Asks}
 use Rattle.jsonc_run.specs.Refusals.{FailsWith}
 use Rattle.jsonc_run.specs.Steps.{Step, Steps, no_step, one_step}
@@ -35,14 +35,14 @@ nest_numbers : (o : Options) (names : List (List ℕ)) (v : Plain) → IsOfNumbe
 nest_numbers o [] v h = h
 nest_numbers o (name ∷ names) v h = (nest_numbers o names v h, tt)
 
-put_numbers : (o : Options) {which : Which} {v : Plain} {over : Over} {w : Option Plain} {names : List (List ℕ)} {e : PlainEdit} → IsPutBy which v over w names e → IsOfNumbers o v → NumbersFit o e
+put_numbers : (o : Options) {which : Which} {v : Plain} {over : Over} {w : Option Plain} {names : List (List ℕ)} {e : PlainEdit} → IsPutBy which v over w names e → IsOfNumbers o v → Allows o e
 put_numbers o sets_root m = m
 put_numbers o {v} (sets_first {name = name} {names = names}) m = nest_numbers o (name ∷ names) v m
 put_numbers o (sets_value l) m = m
 put_numbers o {v} (appends front rest {name = name} l lacks) m = nest_numbers o rest v m
 put_numbers o {v} (replaces front rest {name = name} l non how) m = nest_numbers o (name ∷ rest) v m
 
-drop_numbers : (o : Options) {w : Option Plain} {names : List (List ℕ)} {e : PlainEdit} → IsDroppedBy w names e → NumbersFit o e
+drop_numbers : (o : Options) {w : Option Plain} {names : List (List ℕ)} {e : PlainEdit} → IsDroppedBy w names e → Allows o e
 drop_numbers o (removes l) = tt
 
 drop_characters : {w : Option Plain} {names : List (List ℕ)} {e : PlainEdit} → IsDroppedBy w names e → IsOfCharacters e
@@ -62,14 +62,14 @@ one_step_only : {o : Options} {t u : OrderedTree} {w y : Option Plain} {e : Plai
 one_step_only (one_step {op = op} named asks s (no_step says)) e = (op, refl, asks, s)
 one_step_only (one_step named asks s (one_step {e = k} {es = ks} n a t rest)) e = let wrong : k ∷ ks ≡ [] = e in cc
 
-module _ (d : Document) (asked : PlainEdit) (old new : List Node) (tree : IsTree old) (after : IsTree new) (shown : Shows d (ordered_tree old 0)) (characters : IsOfCharacters asked) (numbers : NumbersFit d.options asked)
+module _ (d : Document) (asked : PlainEdit) (old new : List Node) (tree : IsTree old) (after : IsTree new) (shown : Shows d (ordered_tree old 0)) (characters : IsOfCharacters asked) (numbers : Allows d.options asked)
     (made : EditStep old asked new) where
   led : LedTo d asked new
   led =
       let t : OrderedTree = ordered_tree old 0 in
       let u : OrderedTree = ordered_tree new 0 in
       let all : All IsOfCharacters (asked ∷ []) = All-cons IsOfCharacters asked [] characters (All-nil IsOfCharacters) in
-      let chain = makes_steps d.options old new (asked ∷ []) tree (first_made made after none_made) shown.sound all (All-cons (NumbersFit d.options) asked [] numbers (All-nil (NumbersFit d.options))) in
+      let chain = makes_steps d.options old new (asked ∷ []) tree (first_made made after none_made) shown.sound all (All-cons (Allows d.options) asked [] numbers (All-nil (Allows d.options))) in
       let one = one_step_only chain.3 refl in
       let op : Operation = one.0 in
       let step = one.3 in
