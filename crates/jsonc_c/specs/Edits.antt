@@ -124,7 +124,7 @@ pub data IsUnread (c : JsoncEdit) : ℕ → JsoncFault → Type 0 where
 abbrev pub IsUnreadIn : List JsoncEdit → ℕ → JsoncFault → Type 0
 IsUnreadIn cs status f = (status ≡ 1) ⊎ ((c : JsoncEdit) × (slice_get cs f.made ≡ Some c) × IsUnread c status f)
 
--- The text is a document, and if each number that the edits write is, whole, one of the options, they lead from it to one of the other text.
+-- The text is a document, and if the options allow what the edits write, they lead from it to one of the other text.
 abbrev pub IsEdited : Type 0 → Options → List ℕ → List JsoncEdit → List ℕ → Type 0
 IsEdited A o text cs made = (es : List (Edit A)) × AreReadAs cs es × IsEditedText o (chars text) es (chars made)
 
