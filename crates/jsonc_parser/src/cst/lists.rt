@@ -94,8 +94,9 @@ fn make_all<A: Allocator + Copy, D: DocumentArg<A>, C: Fn(&D, CstNode, CstNode) 
 /// If the document is sound, as a parsed one is, and stays so under the edits of single leaves,
 /// then its text after the edits is a document again, whose value is what the same edits make of
 /// the old value, under options that allow trailing commas where an edit was to set some. Where a
-/// comment is inserted, the options have to allow comments. All leaves around what is replaced or removed stay, comments among them; of the literals and
-/// comments of the text, as they are written, each edit changes what it names alone.
+/// comment is inserted, the options have to allow comments. All leaves around what is replaced or
+/// removed stay, comments among them; of the literals and comments of the text, as they are
+/// written, each edit changes what it names alone.
 pub fn run<A: Allocator + Copy, D: DocumentArg<A>, C: Fn(&D, CstNode, CstNode) -> Ordering>(
     doc: &mut CstRootNode<A>,
     edits: Vec<Edit<A>, A>,
