@@ -84,13 +84,23 @@ abbrev pub FailsWith : List Node → PlainEdit → EditError → Type 0
 FailsWith ns e NoSuchPlace = ¬ (HasItsPlace ns e)
 FailsWith ns e why = AtPlace ns (place_of e) (λ n. RefusedAt ns n e why)
 
+-- the edit is to insert a text that is no comment
+abbrev pub InsertsNoComment : PlainEdit → Type 0
+InsertsNoComment (insert_comment path place text) = ¬ (IsComment (chars text) [])
+InsertsNoComment e = ⊥
+
+-- the edit is to insert, after an entry, a comment that ends with its line
+abbrev pub InsertsLineAfter : PlainEdit → Type 0
+InsertsLineAfter (insert_comment path After text) = IsTrue (is_line_comment (comment text))
+InsertsLineAfter e = ⊥
+
 -- Why an edit is refused in a sound document: allocation failed, or the edit has no place, and neither a bracket nor a name is missing. A comment is refused besides
 -- that is none, or, after an entry, one that ends with its line.
 abbrev pub MayFailWith : PlainEdit → EditError → Type 0
 MayFailWith e OutOfMemory = Unit {0}
 MayFailWith e NoSuchPlace = Unit {0}
-MayFailWith (insert_comment path place text) InvalidComment = ¬ (IsComment (chars text) [])
-MayFailWith (insert_comment path After text) LineContinues = IsTrue (is_line_comment (comment text))
+MayFailWith e InvalidComment = InsertsNoComment e
+MayFailWith e LineContinues = InsertsLineAfter e
 MayFailWith e why = ⊥
 
 -- What a refused edit leaves: the document and all nodes that were there as they were; or commas were to be set, and those of the first have been.

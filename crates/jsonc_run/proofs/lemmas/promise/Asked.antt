@@ -91,7 +91,7 @@ stops_so old now new edits k ops next why tree after made characters numbers ask
         made = edits_to asked lead.4;
         next = next;
         is_next = is_next;
-        memory_or_place = refused_so m.options now whole there.sound op why told;
+        may_fail = refused_so m.options now whole there.sound op why told;
         named = subst (λ (n : ℕ). (why ≡ NoSuchPlace) ↔ ¬ (IsNamed m.value n op)) (counted m (ordered_tree now 0) there) unnamed;
         begun = l.begun;
         is_begun = l.is_begun;
