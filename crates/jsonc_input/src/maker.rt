@@ -89,16 +89,16 @@ impl<'a, A: Allocator + Copy> Receiver<String<A>> for InputMaker<'a, A> {
 
     fn string(&mut self, range: Range) -> Result<CstInputValue<A>, AllocError> {
         let value = self.part(range.start + 1, range.end - 1)?;
-        Ok(CstInputValue::String(value))
+        Ok(CstInputValue::from(value))
     }
 
     fn decoded(&mut self, _range: Range, value: String<A>) -> Result<CstInputValue<A>, AllocError> {
-        Ok(CstInputValue::String(value))
+        Ok(CstInputValue::from(value))
     }
 
     fn passed(&mut self, range: Range) -> Result<CstInputValue<A>, AllocError> {
         let value = decode_passed(self.alloc, self.text, range, &self.options)?;
-        Ok(CstInputValue::String(value))
+        Ok(CstInputValue::from(value))
     }
 
     fn number(&mut self, range: Range) -> Result<CstInputValue<A>, AllocError> {
@@ -107,7 +107,7 @@ impl<'a, A: Allocator + Copy> Receiver<String<A>> for InputMaker<'a, A> {
     }
 
     fn boolean(&mut self, _range: Range, value: bool) -> Result<CstInputValue<A>, AllocError> {
-        Ok(CstInputValue::Bool(value))
+        Ok(CstInputValue::from(value))
     }
 
     fn null(&mut self, _range: Range) -> Result<CstInputValue<A>, AllocError> {
@@ -132,7 +132,7 @@ impl<'a, A: Allocator + Copy> Receiver<String<A>> for InputMaker<'a, A> {
         array: Vec<CstInputValue<A>, A>,
         _range: Range,
     ) -> Result<CstInputValue<A>, AllocError> {
-        Ok(CstInputValue::Array(array))
+        Ok(CstInputValue::from(array))
     }
 
     fn open_object(&mut self, _start: usize) -> Result<Properties<A>, AllocError> {
@@ -177,6 +177,6 @@ impl<'a, A: Allocator + Copy> Receiver<String<A>> for InputMaker<'a, A> {
         for property in object {
             properties.push(property)?;
         }
-        Ok(CstInputValue::Object(properties))
+        Ok(CstInputValue::from(properties))
     }
 }
