@@ -18,7 +18,7 @@ use Rattle.jsonc_layout.specs.input.Views.{plain}
 use Rattle.jsonc_layout.specs.declared.input.value.CstInputValue.{CstInputValue}
 use Rattle.jsonc_run.specs.declared.edit.Edit.{Edit}
 use Rattle.jsonc_run.specs.declared.edit.Edit.TheVariants as edit
-use Rattle.jsonc_cst.specs.Values.{IsValueOfText}
+use Rattle.jsonc_input.specs.Reads.{IsValueOfText}
 use Rattle.jsonc_parser.specs.Promise.{IsEditedText, StopsText}
 use Rattle.jsonc_engine.specs.Input.{IsRefusal, IsRefusalOf}
 use Rattle.jsonc_c.specs.Told.{IsToldOf, edit_status}
