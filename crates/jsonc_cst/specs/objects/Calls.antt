@@ -10,8 +10,8 @@ use Rattle.jsonc_cst.specs.declared.cst.node.CstNode.{CstNode}
 use Rattle.jsonc_cst.specs.declared.cst.node.CstObjectProp.{CstObjectProp}
 use Rattle.jsonc_cst.specs.Document.{nodes_of, tree_of, HasNode}
 use Rattle.jsonc_cst.specs.Nodes.{number_of, object_prop_node}
-use Rattle.jsonc_cst.specs.objects.Members.{HasNamedComeIn, IsItsProperty, IsNamedAtItsPath}
-use Rattle.jsonc_cst.specs.objects.Named.{EnsureErrorIn, HasEnsured, HasWrittenNamed, IsEnsuringNamed}
+use Rattle.jsonc_cst.specs.objects.Members.{HasNamedComeIn, IsItsProperty}
+use Rattle.jsonc_cst.specs.objects.Named.{EnsureErrorIn, HasEnsured, IsEnsuringNamed}
 use Rattle.jsonc_cst.specs.typed.Edits.{KeepsDocument, Unchanged, HandlesStay}
 use Rattle.jsonc_cst.specs.typed.Inserting.{InsertError, KeepsOthers}
 use Rattle.jsonc_cst.specs.typed.Removing.{IsKeptForMemory}
@@ -21,7 +21,6 @@ use Rattle.jsonc_cst.specs.typed.Removing.{IsKeptForMemory}
 pub record IsNamedInsertion {A : Type 0} (old new : CstRootNode A) (node : CstNode) (i place : ℕ) (name : List ℕ) (v : Plain) (is_step : Type 0) (r : Result CstObjectProp EditError) : Type 0 where
   pub put : IfOk r (HasNamedComeIn old new node place name v)
   pub property : IfOk r (IsItsProperty old new node i)
-  pub written : (o : Options) → OnOk r (IsNamedAtItsPath old new o node place name v)
   pub step : OnOk r is_step
   pub others : OnOk r (KeepsOthers old new node)
   pub detached : OnOk r (KeepsDocument old new node)
@@ -52,7 +51,6 @@ module _ {T : Type 0} (node : T → CstNode) where
 module _ {A T : Type 0} (old new : CstRootNode A) (shape : Shape) (how : Over) (node : CstNode) (name : List ℕ) where
   pub record IsNamedEnsured (number : T → Option ℕ) (is_said : T → (CstNode → Type 0) → Type 0) (r : Result T EditError) : Type 0 where
     pub ensured : IfOk r (λ a. HasEnsured old new shape how node name (number a))
-    pub written : (o : Options) → OnOk r (HasWrittenNamed old new o node name shape how)
     pub step : OnOk r (IsEnsuringNamed (nodes_of old) (nodes_of new) (number_of node) name shape how)
     pub detached : OnOk r (KeepsDocument old new node)
     pub error : IfErr r (EnsureErrorIn old shape how node name)

@@ -12,11 +12,11 @@ use Rattle.jsonc_cst.specs.declared.cst.CstRootNode.{CstRootNode}
 use Rattle.jsonc_cst.specs.declared.cst.node.CstNode.{CstNode}
 use Rattle.jsonc_cst.specs.Document.{nodes_of, parent_of, tree_of, HasNode}
 use Rattle.jsonc_cst.specs.Nodes.{number_of}
-use Rattle.jsonc_cst.specs.typed.Commas.{CommasSaid, CommasSet, CommasSetInPart, CommasStand, CommasStay, CommasWritten}
-use Rattle.jsonc_cst.specs.typed.Edits.{IsReplacedBy, NodeIsDetached, HasMarked, HasStayedAround, HasWritten, IsUntouched}
+use Rattle.jsonc_cst.specs.typed.Commas.{CommasSaid, CommasSet, CommasSetInPart, CommasStand, CommasStay}
+use Rattle.jsonc_cst.specs.typed.Edits.{IsReplacedBy, NodeIsDetached, HasMarked, HasStayedAround, IsUntouched}
 use Rattle.jsonc_cst.specs.typed.Edits.{KeepsDocument, KeepsDocumentOf, Unchanged, HandlesStay}
-use Rattle.jsonc_cst.specs.typed.Inserting.{HasComeIn, InsertError, IsItsElement, IsPutAtItsPath, KeepsOthers}
-use Rattle.jsonc_cst.specs.typed.Lines.{HasSpreadOut, IsOnLines, LinesWritten, StaysUnspread}
+use Rattle.jsonc_cst.specs.typed.Inserting.{HasComeIn, InsertError, IsItsElement, KeepsOthers}
+use Rattle.jsonc_cst.specs.typed.Lines.{HasSpreadOut, IsOnLines, StaysUnspread}
 use Rattle.jsonc_cst.specs.typed.Removing.{removal_of, EntryCleared, NodeRemoved, IsKeptForMemory, IsKeptIn, IsKeptWithComments, IsLoose}
 use Rattle.jsonc_cst.specs.typed.Removing.{RemovalAround, RemovalKeepsDocument, RemovedIsDetached, RemovalWritten}
 use Rattle.jsonc_cst.specs.typed.Steps.{IsHolder, IsRemoving, IsReplacing, IsSettingCommas, IsSettingSomeCommas, IsSpreading, IsValueIn}
@@ -54,7 +54,6 @@ pub record IsRemovalWithComments {A : Type 0} (old new : CstRootNode A) (node : 
 -- node's place, and its marks and all leaves around stay. It had no parent, and nothing has changed; or memory was refused, and every node is as it was.
 pub record IsReplacement {A : Type 0} (old new : CstRootNode A) (node : CstNode) (v : Plain) (r : Result (Option CstNode) EditError) : Type 0 where
   pub replaced : IfOk r (λ o. IfSome o (IsReplacedBy old new node v))
-  pub written : (p : Options) → IfOk r (λ o. IfSome o (HasWritten old new p node v))
   pub marked : IfOk r (λ o. IfSome o (λ m. HasMarked old new node v))
   pub around : IfOk r (λ o. IfSome o (λ m. HasStayedAround old new node v))
   pub step : IfOk r (λ o. IfSome o (λ m. IsValueIn (nodes_of old) node → IsReplacing (nodes_of old) (nodes_of new) (number_of node) v))
@@ -74,7 +73,6 @@ pub record IsReplacement {A : Type 0} (old new : CstRootNode A) (node : CstNode)
 pub record IsInsertion {A : Type 0} (old new : CstRootNode A) (node : CstNode) (i place : ℕ) (v : Plain) (is_step : Type 0) (r : Result CstNode EditError) : Type 0 where
   pub put : IfOk r (HasComeIn old new node place v)
   pub element : IfOk r (IsItsElement old new node i)
-  pub written : (o : Options) → OnOk r (IsPutAtItsPath old new o node place v)
   pub step : OnOk r is_step
   pub others : OnOk r (KeepsOthers old new node)
   pub detached : OnOk r (KeepsDocument old new node)
@@ -89,7 +87,6 @@ pub record IsInsertion {A : Type 0} (old new : CstRootNode A) (node : CstNode) (
 -- had. Or an error has left every node as it was, for memory or for brackets that are missing.
 pub record IsPutOnLines {A : Type 0} (old new : CstRootNode A) (node : CstNode) (r : Result (Unit {0}) EditError) : Type 0 where
   pub made : OnOk r (HasSpreadOut old new node)
-  pub written : (o : Options) → OnOk r (LinesWritten old new o node)
   pub step : OnOk r (IsSpreading (nodes_of old) (nodes_of new) (number_of node))
   pub lines : OnOk r (IsOnLines new node)
   pub detached : OnOk r (KeepsDocument old new node)
@@ -113,7 +110,6 @@ pub record AreCommasSet {A : Type 0} (old new : CstRootNode A) (mode : TrailingC
   pub set : OnOk r (CommasSet (nodes_of old) (nodes_of new) mode n)
   pub said : OnOk r (CommasSaid (nodes_of old) (nodes_of new) mode n)
   pub part : OnErr r (CommasSetInPart (nodes_of old) (nodes_of new) mode n)
-  pub written : (o : Options) → CommasWritten (nodes_of old) (nodes_of new) mode o n
   pub stand : (o : Options) → OnOk r (CommasStand (nodes_of old) (nodes_of new) mode o n)
   pub once : (o : Options) → OnOk r (CommasStay (nodes_of old) (nodes_of new) mode o n)
   pub step : OnOk r (is_told (IsSettingCommas (nodes_of old) (nodes_of new) mode n))
