@@ -18,8 +18,8 @@ use Rattle.jsonc_cst.specs.Nodes.{array_node, number_of, object_node}
 use Rattle.jsonc_cst.specs.sorting.Pins.{pins_where}
 use Rattle.jsonc_cst.specs.sorting.Rows.{elements_asked, properties_asked, starts_of}
 
--- The elements of c have come in the order, with what belongs to them; where there are less than two, no node has changed, and where c does not stand in the
--- document, nothing of this has. Where it does, that is one step.
+-- The elements of c are in the order now, with what belongs to them. Where there are less than two, no node has changed; where c is not in the document, nothing of
+-- this has, and where it is, that is one step.
 pub record IsPlaced (old new : List Node) (c : ℕ) (h : Headers) (order : List ℕ) : Type 0 where
   pub all : IsOrderIn old c order
   pub made : Rearranged old new c h order

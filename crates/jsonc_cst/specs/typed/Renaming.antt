@@ -22,9 +22,9 @@ module _ (old new : List Node) where
 abbrev pub HasBeenRenamed : {A : Type 0} → CstRootNode A → CstRootNode A → CstNode → List ℕ → CstNode → Type 0
 HasBeenRenamed old new node name now = IsRenamed (nodes_of old) (nodes_of new) (number_of node) name (number_of now)
 
--- The property has this name, whose node is answered, and the old one is detached: the call is one step. If the document was sound, it is
--- so with that name there. Sound or not, of its leaves that name alone is another, and of its literals and comments. Or an error has left
--- every node as it was: for memory, or since the name or the colon is missing.
+-- The property has this name, whose node is answered, and the old one is detached: one step. Sound or not, of the document's leaves that name
+-- alone is another, and of its literals and comments. Or an error has left every node as it was: for memory, or since the name or the colon
+-- is missing.
 pub record IsRenaming {A : Type 0} (old new : CstRootNode A) (node : CstNode) (name : List ℕ) (r : Result CstNode EditError) : Type 0 where
   pub renamed : IfOk r (HasBeenRenamed old new node name)
   pub step : OnOk r (IsRenamingProperty (nodes_of old) (nodes_of new) (number_of node) name)
