@@ -1,6 +1,5 @@
 -- What an edit makes of a document: in which node a child is replaced by a value, and which nodes the document still has.
 use Rattle.std.specs.Prelude.{◌≡◌, ◌==◌, ℕ, Bool, true, false, List, length, Option, Some, None, if◌then◌else◌}
-use Rattle.jsonc_text.specs.Options.{Options}
 use Rattle.jsonc_text.specs.Plain.{Plain}
 use Rattle.jsonc_tree.specs.Building.{Keeps}
 use Rattle.jsonc_tree.specs.OrderedTree.{ordered_tree}
@@ -8,7 +7,6 @@ use Rattle.jsonc_tree.specs.Tree.{Node, content_at, parent_at, place_at, IsOver}
 use Rattle.jsonc_layout.specs.nodes.Kinds.{is_property}
 use Rattle.jsonc_layout.specs.nodes.Properties.{name_at}
 use Rattle.jsonc_edit.specs.Reading.{IsReplaced, IsReplacedRaw}
-use Rattle.jsonc_edit.specs.Written.{Writes}
 use Rattle.jsonc_cst.specs.declared.cst.CstRootNode.{CstRootNode}
 use Rattle.jsonc_cst.specs.declared.cst.node.CstNode.{CstNode}
 use Rattle.jsonc_cst.specs.Document.{nodes_of}
@@ -67,11 +65,6 @@ module _ {A : Type 0} (old new : CstRootNode A) where
   -- the node has been replaced by a new one, which is the value, laid out as the old document tells
   abbrev pub IsReplacedBy : CstNode → Plain → CstNode → Type 0
   IsReplacedBy node v now = IsReplacedAs (is_name_in (nodes_of old) (number_of node)) (nodes_of old) (nodes_of new) (number_of node) v (number_of now)
-
-  -- if the old document is sound, and the node a value at a path, then with the new value there the text is a
-  -- document again, whose value has changed there alone
-  abbrev pub HasWritten : Options → CstNode → Plain → CstNode → Type 0
-  HasWritten o node v now = is_name_in (nodes_of old) (number_of node) ≡ false → Writes o (nodes_of old) (nodes_of new) (number_of node) (number_of now) v
 
   -- where the node stood at a path, its literals and comments have been replaced by the literals that are written for the value, and all others stay, in order
   abbrev pub HasMarked : CstNode → Plain → Type 0

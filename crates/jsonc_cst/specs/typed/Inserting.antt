@@ -1,17 +1,12 @@
 -- Elements that come into arrays.
 use Rattle.std.specs.Prelude.{◌≡◌, ℕ, List, length, min}
-use Rattle.jsonc_text.specs.Options.{Options}
 use Rattle.jsonc_text.specs.Plain.{Plain}
-use Rattle.jsonc_tree.specs.OrderedTree.{OrderedTree, ordered_tree}
 use Rattle.jsonc_tree.specs.Tree.{Node}
 use Rattle.jsonc_layout.specs.nodes.Siblings.{elements_at}
-use Rattle.jsonc_sound.specs.SoundTrees.{SoundTree}
-use Rattle.jsonc_edit.specs.Paths.{IsAt, IsElementOf}
-use Rattle.jsonc_edit.specs.Writing.{IsWritable}
+use Rattle.jsonc_edit.specs.Paths.{IsElementOf}
 use Rattle.jsonc_text.specs.declared.edit.EditError.{EditError}
 use Rattle.jsonc_insert.specs.Inserted.{refusal, ElementPut}
 use Rattle.jsonc_insert.specs.Laws.{KeepsNodesBut}
-use Rattle.jsonc_insert.specs.elements.Laws.{ElementInsertedAt, IsInserted}
 use Rattle.jsonc_cst.specs.declared.cst.CstRootNode.{CstRootNode}
 use Rattle.jsonc_cst.specs.declared.cst.node.CstNode.{CstNode}
 use Rattle.jsonc_cst.specs.Document.{nodes_of}
@@ -26,16 +21,6 @@ module _ (old new : List Node) where
   abbrev pub StandsAt : ℕ → ℕ → CstNode → Type 0
   StandsAt c i now = IsElementOf new c (min i (length (elements_at old c))) (number_of now)
 
--- v has come into the array at the path, at this number or behind its last, and the text is a document again that has it there
-pub record IsPutIn (o : Options) (path : List ℕ) (i : ℕ) (v : Plain) (t u : OrderedTree) : Type 0 where
-  pub come : ElementInsertedAt o path i v t u
-  pub is : IsInserted o path i v t u come
-
--- so it is where c stands at a path of a sound document, and v may be written
-abbrev pub PutsAtItsPath : Options → List Node → List Node → ℕ → ℕ → Plain → Type 0
-PutsAtItsPath o old new c i v =
-    SoundTree o (ordered_tree old 0) → IsWritable o v → (path : List ℕ) → IsAt old path c → IsPutIn o path i v (ordered_tree old 0) (ordered_tree new 0)
-
 -- the same of a document
 module _ {A : Type 0} (old new : CstRootNode A) where
   abbrev pub HasComeIn : CstNode → ℕ → Plain → CstNode → Type 0
@@ -43,9 +28,6 @@ module _ {A : Type 0} (old new : CstRootNode A) where
 
   abbrev pub IsItsElement : CstNode → ℕ → CstNode → Type 0
   IsItsElement node i now = StandsAt (nodes_of old) (nodes_of new) (number_of node) i now
-
-  abbrev pub IsPutAtItsPath : Options → CstNode → ℕ → Plain → Type 0
-  IsPutAtItsPath o node i v = PutsAtItsPath o (nodes_of old) (nodes_of new) (number_of node) i v
 
   -- each other node is what it was, with the children that it had
   abbrev pub KeepsOthers : CstNode → Type 0

@@ -9,7 +9,6 @@ returns g c =
       set = rw first at made.set;
       said = rw first at made.said;
       part = rw first at made.part;
-      written = λ o. rw first at (made.written o);
       stand = λ o. rw first at (made.stand o);
       once = λ o. rw first at (made.once o);
       step = ok_then c.set_commas_of.result (λ step. step tt) (rw first at made.step);
