@@ -10,12 +10,12 @@ use Rattle.jsonc_tree.specs.Tree.{Node, IsTree}
 use Rattle.jsonc_sound.specs.Documents.{document_of, Shows}
 use Rattle.jsonc_edit.specs.Writing.{IsOfNumbers}
 use Rattle.jsonc_text.specs.declared.edit.EditError.{EditError}
-use Rattle.jsonc_text.specs.declared.edit.EditError.TheVariants.{OutOfMemory, MissingBrackets, MissingName, NoSuchPlace, InvalidComment, LineContinues, NotAnEntry}
+use Rattle.jsonc_text.specs.declared.edit.EditError.TheVariants.{OutOfMemory, NoSuchPlace, InvalidComment, LineContinues}
 use Rattle.jsonc_edit.proofs.OneValue.{document_once}
 use Rattle.jsonc_text.specs.declared.edit.Over.{Over}
-use Rattle.jsonc_run.specs.Edits.{PlainEdit, EditStep, first_made, insert_comment, none_made, IsOfCharacters, Allows}
+use Rattle.jsonc_run.specs.Edits.{PlainEdit, EditStep, first_made, none_made, IsOfCharacters, Allows}
 use Rattle.jsonc_run.specs.Named.{comment_count, IsNamed, Asks}
-use Rattle.jsonc_run.specs.Refusals.{FailsWith, MayFailWith}
+use Rattle.jsonc_run.specs.Refusals.{FailsWith, InsertsLineAfter, InsertsNoComment}
 use Rattle.jsonc_run.specs.Steps.{Step, Steps, no_step, one_step}
 use Rattle.jsonc_run.specs.Written.{options_after, IsChanged}
 use Rattle.jsonc_run.proofs.NamedPlaces.{tells_unnamed}
@@ -47,6 +47,20 @@ drop_numbers o (removes l) = tt
 
 drop_characters : {w : Option Plain} {names : List (List ℕ)} {e : PlainEdit} → IsDroppedBy w names e → IsOfCharacters e
 drop_characters (removes l) = tt
+
+-- it is no comment that is inserted
+IsNoRemark : PlainEdit → Type 0
+IsNoRemark e = (InsertsNoComment e → ⊥) × (InsertsLineAfter e → ⊥)
+
+put_no_remark : {which : Which} {v : Plain} {over : Over} {w : Option Plain} {names : List (List ℕ)} {e : PlainEdit} → IsPutBy which v over w names e → IsNoRemark e
+put_no_remark sets_root = (λ h. h, λ h. h)
+put_no_remark sets_first = (λ h. h, λ h. h)
+put_no_remark (sets_value l) = (λ h. h, λ h. h)
+put_no_remark (appends front rest l lacks) = (λ h. h, λ h. h)
+put_no_remark (replaces front rest l non how) = (λ h. h, λ h. h)
+
+drop_no_remark : {w : Option Plain} {names : List (List ℕ)} {e : PlainEdit} → IsDroppedBy w names e → IsNoRemark e
+drop_no_remark (removes l) = (λ h. h, λ h. h)
 
 -- What one edit leads to: a document that the new tree shows, and whose value the operation makes that the edit asks for.
 record LedTo (d : Document) (asked : PlainEdit) (new : List Node) : Type 0 where
@@ -105,39 +119,16 @@ drops_by_one_edit d names op old new tree after shown by made =
     let dropped = (drops_by_it d.value names op by).1 l.e.value l.op l.asks l.changed in
     (op, by, made, l.e, l.shown, record { op = l.op; asked = l.asks; edited = l.edited; dropped = dropped; elsewhere = λ path u k. dropped_same dropped path u k })
 
--- no comment is inserted
-abbrev pub InsertsNone : PlainEdit → Type 0
-InsertsNone (insert_comment path place text) = ⊥
-InsertsNone e = Unit {0}
-
-put_inserts_none : {which : Which} {v : Plain} {over : Over} {w : Option Plain} {names : List (List ℕ)} {e : PlainEdit} → IsPutBy which v over w names e → InsertsNone e
-put_inserts_none sets_root = tt
-put_inserts_none sets_first = tt
-put_inserts_none (sets_value l) = tt
-put_inserts_none (appends front rest l lacks) = tt
-put_inserts_none (replaces front rest l non how) = tt
-
-drop_inserts_none : {w : Option Plain} {names : List (List ℕ)} {e : PlainEdit} → IsDroppedBy w names e → InsertsNone e
-drop_inserts_none (removes l) = tt
-
--- so memory or the edit's place is wanted
-memory_or_place : (op : PlainEdit) → InsertsNone op → (why : EditError) → MayFailWith op why → ¬ (why ≡ NoSuchPlace) → why ≡ OutOfMemory
-memory_or_place (insert_comment path place text) none why may other = absurd none
-memory_or_place op none OutOfMemory may other = refl
-memory_or_place op none NoSuchPlace may other = absurd (other refl)
-memory_or_place op none MissingBrackets may other = absurd may
-memory_or_place op none MissingName may other = absurd may
-memory_or_place op none InvalidComment may other = absurd may
-memory_or_place op none LineContinues may other = absurd may
-memory_or_place op none NotAnEntry may other = absurd may
-
--- and of what is named memory alone
-pub for_memory : (d : Document) (old : List Node) (op : PlainEdit) → InsertsNone op → (why : EditError) → IsTree old → Shows d (ordered_tree old 0) → IsNamed d.value (comment_count (ordered_tree old 0)) op → FailsWith old op why → why ≡ OutOfMemory
-for_memory d old op none why tree shown named told =
-    memory_or_place op none why (refused_so d.options old tree shown.sound op why told) (λ is. (tells_unnamed old d.options tree shown.sound op why told d.value shown.value).0 is named)
+-- what is named is refused for memory alone
+pub for_memory : (d : Document) (old : List Node) (op : PlainEdit) (why : EditError) → IsTree old → Shows d (ordered_tree old 0) → IsNamed d.value (comment_count (ordered_tree old 0)) op → IsNoRemark op → FailsWith old op why → why ≡ OutOfMemory
+for_memory d old op OutOfMemory tree shown named other told = refl
+for_memory d old op NoSuchPlace tree shown named other told = absurd ((tells_unnamed old d.options tree shown.sound op NoSuchPlace told d.value shown.value).0 refl named)
+for_memory d old op InvalidComment tree shown named other told = absurd (other.0 (refused_so d.options old tree shown.sound op InvalidComment told))
+for_memory d old op LineContinues tree shown named other told = absurd (other.1 (refused_so d.options old tree shown.sound op LineContinues told))
+for_memory d old op why tree shown named other told = absurd (refused_so d.options old tree shown.sound op why told)
 
 pub puts_but_for_memory : (which : Which) (d : Document) (v : Plain) (over : Over) (names : List (List ℕ)) (op : PlainEdit) (old : List Node) (why : EditError) → PutsUnlessOutOfMemory which d v over names op old why
-puts_but_for_memory which d v over names op old why tree shown by = for_memory d old op (put_inserts_none by) why tree shown ((puts_by_it which v over d.value names op by).0 (comment_count (ordered_tree old 0)))
+puts_but_for_memory which d v over names op old why tree shown by = for_memory d old op why tree shown ((puts_by_it which v over d.value names op by).0 (comment_count (ordered_tree old 0))) (put_no_remark by)
 
 pub drops_but_for_memory : (d : Document) (names : List (List ℕ)) (op : PlainEdit) (old : List Node) (why : EditError) → DropsButForMemory d names op old why
-drops_but_for_memory d names op old why tree shown by = for_memory d old op (drop_inserts_none by) why tree shown ((drops_by_it d.value names op by).0 (comment_count (ordered_tree old 0)))
+drops_but_for_memory d names op old why tree shown by = for_memory d old op why tree shown ((drops_by_it d.value names op by).0 (comment_count (ordered_tree old 0))) (drop_no_remark by)
