@@ -1,5 +1,5 @@
 -- Edits that were made: one more of them, and where none can be.
-use Rattle.std.proofs.Common.{◌≡◌, ℕ, List, Option, Some, None, IfSome, IfNone, IfErr, OnOk, OnErr, Result, Ok, Err, length, refl, sym, subst, ◌∙◌}
+use Rattle.std.proofs.Common.{◌≡◌, ◌⊎◌, inl, inr, ℕ, List, Option, Some, None, IfSome, IfNone, IfErr, OnOk, OnErr, Result, Ok, Err, length, refl, sym, subst, ◌∙◌}
 use Rattle.jsonc_tree.specs.Building.{Keeps}
 use Rattle.jsonc_tree.specs.OrderedTree.{ordered_tree}
 use Rattle.jsonc_tree.specs.Tree.{Node, IsTree, parent_at}
@@ -15,9 +15,9 @@ use Rattle.jsonc_edit.specs.Reading.{IsReplaced}
 use Rattle.jsonc_edit.specs.set.RootSet.{FirstValue}
 use Rattle.jsonc_text.specs.Plain.{Plain}
 use Rattle.jsonc_insert.specs.named.Places.{IsPropertyAt, a_property}
-use Rattle.jsonc_run.specs.Places.{IsEntryAt}
-use Rattle.jsonc_run.specs.Edits.{PlainEdit, ensure_root, remove, EditStep, RootSet}
-use Rattle.jsonc_run.specs.Refusals.{as_it_was, HasItsPlace, IsAnswer, FailsWith, WantsEmpty}
+use Rattle.jsonc_run.specs.Places.{IsEntryAt, AtPlace}
+use Rattle.jsonc_run.specs.Edits.{PlainEdit, ensure_root, remove, place_of, EditStep, RootSet}
+use Rattle.jsonc_run.specs.Refusals.{as_it_was, HasItsPlace, IsAnswer, FailsWith, RefusedAt, WantsEmpty}
 
 -- what a path leads to has a parent
 module _ (ns : List Node) (tree : IsTree ns) where
@@ -69,6 +69,11 @@ told_at ns e NoSuchPlace other k = absurd (other refl)
 told_at ns e InvalidComment other k = k
 told_at ns e LineContinues other k = k
 told_at ns e NotAnEntry other k = k
+
+-- what is refused has no place, or is refused there
+pub fails_at : (ns : List Node) (e : PlainEdit) (why : EditError) → FailsWith ns e why → ((why ≡ NoSuchPlace) × ¬ (HasItsPlace ns e)) ⊎ AtPlace ns (place_of e) (λ n. RefusedAt ns n e why)
+fails_at ns e NoSuchPlace k = inl (refl, k)
+fails_at ns e why k = inr k
 
 pub answers : (old new : List Node) (e : PlainEdit) (r : Result (Unit {0}) EditError) → OnOk r (EditStep old e new) → IfErr r (FailsWith old e)
     → OnErr r (Keeps (length old) old new) → OnErr r (ordered_tree new 0 ≡ ordered_tree old 0) → IsAnswer old new e r

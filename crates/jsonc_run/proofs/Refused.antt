@@ -1,7 +1,15 @@
 -- In a sound document no edit is refused for a bracket or a name: arrays and objects have their brackets, and properties their names.
-use Rattle.std.proofs.Common.{◌≡◌, ℕ, true, not, IsTrue, List, [], Some, Result, Ok, Err, IfErr, refl, sym, ap, subst, ◌∙◌}
+use Rattle.std.proofs.Common.{◌≡◌, ℕ, true, not, IsTrue, List, [], Some, Result, Ok, Err, IfErr, inl, inr, refl, sym, ap, subst, ◌∙◌}
 use Rattle.std.proofs.lemmas.Bool.{false≢true}
 use Rattle.jsonc_text.specs.Options.{Options}
+use Rattle.jsonc_text.proofs.Basics.{and_both}
+use Rattle.jsonc_tree.specs.Content.{comment}
+use Rattle.jsonc_sound.specs.Lines.{is_line_comment}
+use Rattle.jsonc_text.specs.declared.edit.Place.{Place}
+use Rattle.jsonc_text.specs.declared.edit.Place.TheVariants.{Above, After}
+use Rattle.jsonc_edit.specs.commenting.Behind.{may_end_line}
+use Rattle.jsonc_edit.specs.commenting.Inserting.{runs_on}
+use Rattle.jsonc_run.proofs.EditsMade.{fails_at}
 use Rattle.jsonc_tree.specs.OrderedTree.{ordered_tree}
 use Rattle.jsonc_tree.specs.Tree.{Node, content_at, IsTree}
 use Rattle.jsonc_layout.specs.nodes.Properties.{lacks_name_at, value_by}
@@ -18,20 +26,25 @@ use Rattle.jsonc_edit.specs.multiline.Multiline.{IsUnspread}
 use Rattle.jsonc_edit.specs.set.Names.{RenameError}
 use Rattle.jsonc_edit.proofs.lemmas.multiline.LineEnds.{has_its_brackets}
 use Rattle.jsonc_insert.proofs.lemmas.named.Writing as named_laws
-use Rattle.jsonc_run.specs.Edits.{PlainEdit, replace, remove, remove_comment, set_root, clear_root, replace_property, ensure_root, set_value, ensure_value, set_boolean, ensure_multiline, insert_element, append_element, insert_property, append_property, ensure_property, set_commas, set_some_commas, rearrange, rename_property, place_of, EditSteps, none_made, first_made}
+use Rattle.jsonc_run.specs.Edits.{PlainEdit, replace, remove, remove_comment, set_root, clear_root, replace_property, ensure_root, set_value, ensure_value, set_boolean, ensure_multiline, insert_element, append_element, insert_property, append_property, ensure_property, set_commas, set_some_commas, rearrange, rename_property, insert_comment, place_of, EditSteps, none_made, first_made}
 use Rattle.jsonc_insert.specs.Inserted.{refusal}
 use Rattle.jsonc_insert.proofs.lemmas.elements.Containers.{wants_memory_alone}
 use Rattle.jsonc_insert.proofs.lemmas.members.SpreadObjects as objects
 use Rattle.jsonc_insert.specs.named.Places.{IsPropertyAt, a_property}
 use Rattle.jsonc_run.specs.Places.{IsArrayAt, IsContainerAt, IsEntryAt, IsObjectAt, an_entry, in_array, in_object, the_value, AtPlace}
-use Rattle.jsonc_run.specs.Refusals.{FailsWith, IsUnset, RefusedAt, WantsMemoryOrPlace}
+use Rattle.jsonc_run.specs.Refusals.{CommentError, FailsWith, IsUnset, RefusedAt, MayFailWith}
 use Rattle.jsonc_insert.proofs.lemmas.named.PropertyValues.{held_by_name, value_held}
 
-not_brackets : MissingBrackets ≡ OutOfMemory → ⊥
-not_brackets e = cc
+-- a comment that would take the rest of a line ends with it
+line_after : (ns : List Node) (path : List ℕ) (n : ℕ) (place : Place) (text : List ℕ) → IsTrue (runs_on place ns n text) → MayFailWith (insert_comment path place text) LineContinues
+line_after ns path n Above text k = false≢true k
+line_after ns path n After text k = (and_both (is_line_comment (comment text)) (not (may_end_line ns n)) k).0
 
-not_name : MissingName ≡ OutOfMemory → ⊥
-not_name e = cc
+comment_may : (ns : List Node) (path : List ℕ) (n : ℕ) (place : Place) (text : List ℕ) (why : EditError) → CommentError place ns n text why → MayFailWith (insert_comment path place text) why
+comment_may ns path n place text OutOfMemory k = tt
+comment_may ns path n place text NoSuchPlace k = tt
+comment_may ns path n place text LineContinues k = line_after ns path n place text k
+comment_may ns path n place text why k = k
 
 module _ (o : Options) (ns : List Node) (tree : IsTree ns) (sound : SoundTree o (ordered_tree ns 0)) where
   -- an entry of an array or object at a path stands between brackets
@@ -102,8 +115,12 @@ module _ (o : Options) (ns : List Node) (tree : IsTree ns) (sound : SoundTree o 
   name_memory path n at LineContinues k = absurd k
   name_memory path n at NotAnEntry k = absurd k
 
-  -- what has its place is refused for memory alone
-  memory_alone : (e : PlainEdit) (why : EditError) → AtPlace ns (place_of e) (λ n. RefusedAt ns n e why) → why ≡ OutOfMemory
+  -- what has its place is refused for memory alone, but for a comment
+  abbrev WantsMemory : PlainEdit → EditError → Type 0
+  WantsMemory (insert_comment path place text) why = MayFailWith (insert_comment path place text) why
+  WantsMemory e why = why ≡ OutOfMemory
+
+  memory_alone : (e : PlainEdit) (why : EditError) → AtPlace ns (place_of e) (λ n. RefusedAt ns n e why) → WantsMemory e why
   memory_alone (remove path) why (n, at, k) = entry_memory path n at why k
   memory_alone (remove_comment number) why (n, at, k) = k.0
   memory_alone (set_root v) why k = k
@@ -124,15 +141,20 @@ module _ (o : Options) (ns : List Node) (tree : IsTree ns) (sound : SoundTree o 
   memory_alone (set_value path v) why (n, at, k) = k
   memory_alone (rearrange path headers order) why (n, at, k) = k
   memory_alone (rename_property path name) why (n, at, k) = name_memory path n at why k
+  memory_alone (insert_comment path place text) why (n, at, k) = comment_may ns path n place text why k
+
+  may_fail : (e : PlainEdit) (why : EditError) → WantsMemory e why → MayFailWith e why
+  may_fail (insert_comment path place text) why k = k
+  may_fail e why k = subst (MayFailWith e) (sym k) tt
 
   -- so memory or the edit's place was wanted
-  pub refused_so : (e : PlainEdit) (stop : EditError) → FailsWith ns e stop → WantsMemoryOrPlace stop
-  refused_so e OutOfMemory k = tt
-  refused_so e NoSuchPlace k = tt
-  refused_so e MissingBrackets k = not_brackets (memory_alone e MissingBrackets k)
-  refused_so e MissingName k = not_name (memory_alone e MissingName k)
+  pub refused_so : (e : PlainEdit) (stop : EditError) → FailsWith ns e stop → MayFailWith e stop
+  refused_so e stop k = elim (fails_at ns e stop k) [
+    | inl told ↦ subst (MayFailWith e) (sym told.0) tt
+    | inr at ↦ may_fail e stop (memory_alone e stop at)
+  ]
 
-  pub answer_refused : {T : Type 0} (e : PlainEdit) (r : Result T EditError) → IfErr r (FailsWith ns e) → IfErr r WantsMemoryOrPlace
+  pub answer_refused : {T : Type 0} (e : PlainEdit) (r : Result T EditError) → IfErr r (FailsWith ns e) → IfErr r (MayFailWith e)
   answer_refused e (Ok x) k = tt
   answer_refused e (Err stop) k = refused_so e stop k
 

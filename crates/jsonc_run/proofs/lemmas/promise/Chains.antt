@@ -33,6 +33,7 @@ use Rattle.jsonc_run.specs.promise.Chains.{none_named, one_named, RunsJoin, Step
 use Rattle.jsonc_sound.specs.Marks as tree_marks
 use Rattle.jsonc_text.specs.Marks.{comments_of}
 use Rattle.jsonc_run.proofs.lemmas.promise.Commenting.{comment_leaves, comments_counted}
+use Rattle.jsonc_run.proofs.lemmas.promise.CommentsCome.{remark_put}
 use Rattle.jsonc_sound.specs.Adjacent.{last_printed}
 use Rattle.jsonc_sound.specs.Booleans.{is_hex_leaf}
 use Rattle.jsonc_run.proofs.lemmas.promise.Inserting.{gained, in_place, gains_so}
@@ -147,6 +148,7 @@ step_made o t u w x (texts.set_commas true path mode) s f =
 step_made o t u w x (texts.set_commas false path mode) s f = (some_commas_made o t u w x path mode s.old.sound s.new.sound (lines.same_by_commas s.changed) s.marked s.made.0 (inr s.made.1), tt)
 step_made o t u w x (texts.rearrange path order) s f = rearranged o t u w x path order s.old.sound s.new.sound s.old.value s.new.value s.changed s.marked s.made.0
 step_made o t u w x (texts.rename_property path name) s f = name_made o t u w x path name f s.old.sound s.new.sound s.changed s.made
+step_made o t u w x (texts.insert_comment path place comment) s f = remark_put o s.old.sound s.new.sound w x path place comment s.changed s.made
 
 -- a tree has as many comments as the document that it prints
 as_many_comments : (o : Options) (t : OrderedTree) (w : Option Plain) → comment_count t ≡ length (comments_of (document_of o t w).marks)
