@@ -9,8 +9,9 @@
 //! its kin of a document set its value; of a property they set the property's, and of an object that of the first
 //! property of a name. `append` and `insert` put a value into an array, and a property into an object;
 //! `replace_with` replaces a node, `remove` removes one, and `insert_comment` inserts a comment above an entry or
-//! after it; `ensure_multiline` puts an array or object on several lines, `set_trailing_commas` sets or removes trailing commas, and `sort_elements` and
-//! `sort_properties` sort. `set_raw_value` and its kin write the text of one leaf, which is not checked.
+//! after it; `ensure_multiline` puts an array or object on several lines, `set_trailing_commas` sets or removes
+//! trailing commas, and `sort_elements` and `sort_properties` sort. `set_raw_value` and its kin write the text of one
+//! leaf, which is not checked.
 //! [`run`] makes a list of edits, each at its path, and [`edit_text`] does so of a text.
 
 mod lists;

@@ -15,7 +15,7 @@ use std::test::Fail;
 
 /// Which node of a document.
 #[derive(Clone, Copy)]
-enum At {
+pub enum At {
     /// The document's value.
     Value,
     /// Its child at a place.
@@ -200,7 +200,7 @@ static DAMAGED: [(&str, At, At, &str); 4] = [
 ];
 
 /// The node of a document.
-fn node_of<A: Allocator>(doc: &CstRootNode<A>, at: At) -> Option<CstNode>
+pub fn node_of<A: Allocator>(doc: &CstRootNode<A>, at: At) -> Option<CstNode>
     ensures { IfSome result (HasNode doc.now) }
 {
     match at {
