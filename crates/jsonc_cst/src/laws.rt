@@ -34,14 +34,14 @@ ghost use Rattle.jsonc_cst.specs.typed.Values.{HasSetBoolean, NodeValueIs, NowHo
 
 use std::alloc::Allocator;
 
-/// What `to_value` answers of a document that was parsed stands for the text's value, of equal names
+/// What `to_value` answers of a document that was parsed represents the text's value, of equal names
 /// the last at the first place: `parse` says that its tree has the shape of the grammar and this value.
 pub fn documents_give_their_value<A: Allocator>()
     ensures { (o : Options) (tree : OrderedTree) → GivesTheValue A o tree }
 {}
 
-/// What an iterator over a node and all below it gives: the node and each node of the document that it stands
-/// above, each once, and no other. In what order they come says `in_order`, by which the tree is walked.
+/// What an iterator over a node and all below it gives: the node and each node of the document that it is
+/// above, each once, and no other. In what order says `in_order`, by which the tree is walked.
 pub fn descendants_are_those_below<A: Allocator>()
     ensures { (d : CstRootNode A) (node : CstNode) → HasNode d node → AreAllBelow d node (descendants_of d node) }
 {}

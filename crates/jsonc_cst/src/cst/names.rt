@@ -13,7 +13,7 @@ use jsonc_text::errors::ParseStringErrorKind;
 use std::alloc::Allocator;
 
 impl CstStringLit {
-    /// What the string stands for, its escapes decoded.
+    /// What the string represents, its escapes decoded.
     ///
     /// What follows its closing quote is ignored. A leaf with no quote in front is the error
     /// `UnterminatedStringLiteral`, an allocation failure `OutOfMemory`.
@@ -30,7 +30,7 @@ impl CstStringLit {
 }
 
 impl ObjectPropName {
-    /// What the name stands for, its escapes decoded.
+    /// What the name represents, its escapes decoded.
     ///
     /// A string is decoded as by its own call; a word is as it is written.
     pub fn decoded_value<A: Allocator + Copy>(
