@@ -141,17 +141,17 @@ module _ {A : Type 0} where
   IsFirstNamed d object name found = FirstNamed (nodes_of d) name (children_at (nodes_of d) object.number) (option_map (λ p. p.number) found)
 
   -- a string stands for these characters, whatever follows it in its leaf
-  abbrev pub LeafStandsFor : CstRootNode A → CstStringLit → List ℕ → Type 0
-  LeafStandsFor d string v = StandsFor (text_of (content_of d (string_lit_node string))) v
+  abbrev pub LeafRepresents : CstRootNode A → CstStringLit → List ℕ → Type 0
+  LeafRepresents d string v = StandsFor (text_of (content_of d (string_lit_node string))) v
 
   -- no string stands at the front of its leaf, and the kind of fault is true of that
   abbrev pub LeafIsNoString : CstRootNode A → CstStringLit → ParseStringErrorKind → Type 0
   LeafIsNoString d string kind = IsNoString (text_of (content_of d (string_lit_node string))) kind
 
   -- a name stands for these characters: a string decoded, a word by its text
-  abbrev pub NameStandsFor : CstRootNode A → ObjectPropName → List ℕ → Type 0
-  NameStandsFor d (String x) v = LeafStandsFor d x v
-  NameStandsFor d (Word x) v = v ≡ chars (text_of (content_of d (word_lit_node x)))
+  abbrev pub NameRepresents : CstRootNode A → ObjectPropName → List ℕ → Type 0
+  NameRepresents d (String x) v = LeafRepresents d x v
+  NameRepresents d (Word x) v = v ≡ chars (text_of (content_of d (word_lit_node x)))
 
   -- it is a string, which stands for nothing, and the kind of fault is true of that
   abbrev pub NameIsNoString : CstRootNode A → ObjectPropName → ParseStringErrorKind → Type 0

@@ -12,10 +12,10 @@ use Rattle.jsonc_cst.specs.declared.cst.CstRootNode.{CstRootNode}
 use Rattle.jsonc_cst.specs.declared.cst.node.CstNode.{CstNode}
 use Rattle.jsonc_cst.specs.Document.{nodes_of, parent_of, tree_of, HasNode}
 use Rattle.jsonc_cst.specs.Nodes.{number_of}
-use Rattle.jsonc_cst.specs.typed.Commas.{CommasSaid, CommasSet, CommasSetInPart, CommasStand, CommasStay}
+use Rattle.jsonc_cst.specs.typed.Commas.{CommasSaid, CommasSet, CommasSetInPart, AllCommasSet, CommasStay}
 use Rattle.jsonc_cst.specs.typed.Edits.{IsReplacedBy, NodeIsDetached, HasMarked, HasStayedAround, IsUntouched}
 use Rattle.jsonc_cst.specs.typed.Edits.{KeepsDocument, KeepsDocumentOf, Unchanged, HandlesStay}
-use Rattle.jsonc_cst.specs.typed.Inserting.{HasComeIn, InsertError, IsItsElement, KeepsOthers}
+use Rattle.jsonc_cst.specs.typed.Inserting.{HasInsertedElement, InsertError, IsItsElement, KeepsOthers}
 use Rattle.jsonc_cst.specs.typed.Lines.{HasSpreadOut, IsOnLines, StaysUnspread}
 use Rattle.jsonc_cst.specs.typed.Removing.{removal_of, EntryCleared, NodeRemoved, IsKeptForMemory, IsKeptIn, IsKeptWithComments, IsLoose}
 use Rattle.jsonc_cst.specs.typed.Removing.{RemovalAround, RemovalKeepsDocument, RemovedIsDetached, RemovalWritten}
@@ -72,7 +72,7 @@ pub record IsReplacement {A : Type 0} (old new : CstRootNode A) (node : CstNode)
 -- The value has been inserted into the array at the place, as its element of the number i or its last, and its node is answered: the call is the step that is
 -- named. All other nodes stay. Or an error has left every node as it was, for memory or for brackets that are missing.
 pub record IsInsertion {A : Type 0} (old new : CstRootNode A) (node : CstNode) (i place : ℕ) (v : Plain) (is_step : Type 0) (r : Result CstNode EditError) : Type 0 where
-  pub put : IfOk r (HasComeIn old new node place v)
+  pub put : IfOk r (HasInsertedElement old new node place v)
   pub element : IfOk r (IsItsElement old new node i)
   pub step : OnOk r is_step
   pub others : OnOk r (KeepsOthers old new node)
@@ -111,7 +111,7 @@ pub record AreCommasSet {A : Type 0} (old new : CstRootNode A) (mode : TrailingC
   pub set : OnOk r (CommasSet (nodes_of old) (nodes_of new) mode n)
   pub said : OnOk r (CommasSaid (nodes_of old) (nodes_of new) mode n)
   pub part : OnErr r (CommasSetInPart (nodes_of old) (nodes_of new) mode n)
-  pub stand : (o : Options) → OnOk r (CommasStand (nodes_of old) (nodes_of new) mode o n)
+  pub all_set : (o : Options) → OnOk r (AllCommasSet (nodes_of old) (nodes_of new) mode o n)
   pub once : (o : Options) → OnOk r (CommasStay (nodes_of old) (nodes_of new) mode o n)
   pub step : OnOk r (in_case (IsSettingCommas (nodes_of old) (nodes_of new) mode n))
   pub begun : OnErr r (in_case (IsSettingSomeCommas (nodes_of old) (nodes_of new) mode n))
