@@ -21,8 +21,8 @@ use Rattle.jsonc_cst.specs.typed.Removing.{removal_of, EntryCleared, NodeRemoved
 use Rattle.jsonc_cst.specs.typed.Removing.{RemovalAround, RemovalKeepsDocument, RemovedIsDetached, RemovalWritten}
 use Rattle.jsonc_cst.specs.typed.Steps.{IsHolder, IsRemoving, IsReplacing, IsSettingCommas, IsSettingSomeCommas, IsSpreading, IsValueIn}
 
--- The node has been taken out with what leaves with it, and is detached. If the document was sound, it is so without that entry, value or comment, and what
--- stands around stays. Or an error has left every node as it was, for the memory of a space or for brackets that are missing.
+-- The node has been removed with what is removed with it, and is detached: one step. If the document was sound, it is so without that entry, value or comment, and
+-- what is around stays. Or an error has left every node as it was, for the memory of a space or for brackets that are missing.
 pub record IsRemoval {A : Type 0} (old new : CstRootNode A) (node : CstNode) (r : Result (Unit {0}) EditError) : Type 0 where
   pub removed : OnOk r (NodeRemoved old new node)
   pub written : (o : Options) → OnOk r (RemovalWritten old new o node)

@@ -18,7 +18,7 @@ module _ (old new : List Node) where
   abbrev pub CommasSetInPart : TrailingCommaMode → ℕ → Type 0
   CommasSetInPart mode n = AreSetInPart mode old (holders old n) new
 
-  -- each of them is as the mode says now, save where more than one comma stood behind the last element; n may be a node of a damaged document, or of none
+  -- each of them is as the mode says now, save where more than one comma was after the last element; n may be a node of a damaged document, or of none
   abbrev pub CommasSaid : TrailingCommaMode → ℕ → Type 0
   CommasSaid mode n = AreAsSaid mode old new n
 
