@@ -2,10 +2,10 @@
 //!
 //! A [`Pointer`] is a text that leads from a document's value to one inside it, through objects by names and through
 //! arrays by indexes, parsed, or made of its tokens. [`find`] finds the node that it refers to in a document, [`read`]
-//! takes its value, and [`pointer_of`] tells the pointer of a node.
+//! takes its value, and [`pointer_of`] answers the pointer of a node.
 //!
 //! A [`Patch`] is a list of operations at pointers, read from its text, which [`Patch::apply`] makes on a document
-//! whole or not at all: every comment stays, and every byte outside of what they change. [`same_number`] tells whether
+//! whole or not at all: every comment stays, and every byte outside of what they change. [`same_number`] answers whether
 //! two texts of numbers have one value, as a patch's `test` asks.
 //!
 //! [`merge`] merges a value into a document's value, object into object, whole or not at all too: what does not differ
