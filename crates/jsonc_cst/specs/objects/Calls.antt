@@ -10,7 +10,7 @@ use Rattle.jsonc_cst.specs.declared.cst.node.CstNode.{CstNode}
 use Rattle.jsonc_cst.specs.declared.cst.node.CstObjectProp.{CstObjectProp}
 use Rattle.jsonc_cst.specs.Document.{nodes_of, tree_of, HasNode}
 use Rattle.jsonc_cst.specs.Nodes.{number_of, object_prop_node}
-use Rattle.jsonc_cst.specs.objects.Members.{HasNamedComeIn, IsItsProperty}
+use Rattle.jsonc_cst.specs.objects.Members.{HasInsertedProperty, IsItsProperty}
 use Rattle.jsonc_cst.specs.objects.Named.{EnsureErrorIn, HasEnsured, IsEnsuringNamed}
 use Rattle.jsonc_cst.specs.typed.Edits.{KeepsDocument, Unchanged, HandlesStay}
 use Rattle.jsonc_cst.specs.typed.Inserting.{InsertError, KeepsOthers}
@@ -19,7 +19,7 @@ use Rattle.jsonc_cst.specs.typed.Removing.{IsKeptForMemory}
 -- The property has been inserted into the object at the place, as its property of the number i or its last, and is answered: the call is the step that is named.
 -- All other nodes stay. Or an error has left every node as it was, for memory or for brackets that are missing.
 pub record IsNamedInsertion {A : Type 0} (old new : CstRootNode A) (node : CstNode) (i place : ℕ) (name : List ℕ) (v : Plain) (is_step : Type 0) (r : Result CstObjectProp EditError) : Type 0 where
-  pub put : IfOk r (HasNamedComeIn old new node place name v)
+  pub put : IfOk r (HasInsertedProperty old new node place name v)
   pub property : IfOk r (IsItsProperty old new node i)
   pub step : OnOk r is_step
   pub others : OnOk r (KeepsOthers old new node)

@@ -1,4 +1,4 @@
--- Properties that come into objects.
+-- Properties that are inserted into objects.
 use Rattle.std.specs.Prelude.{ℕ, List, length, min}
 use Rattle.jsonc_text.specs.Plain.{Plain}
 use Rattle.jsonc_tree.specs.Tree.{Node}
@@ -14,15 +14,11 @@ use Rattle.jsonc_run.specs.promise.Steps.{IsStep}
 use Rattle.jsonc_run.specs.Edits.{insert_property, append_property}
 
 module _ (old new : List Node) where
-  -- the property of this name and value has come into the object c at this number, or behind its last property where it has fewer: it is this node
+  -- the property of this name and value has been inserted into the object c at this number, or after its last property where it has fewer: it is this node
   abbrev pub NamedInsertedAt : ℕ → ℕ → List ℕ → Plain → CstObjectProp → Type 0
   NamedInsertedAt c i name v now = PropertyPut old new c i name v now.number
 
-  -- the node is the property of c at this number, or at the last
-  abbrev pub PropertyStandsAt : ℕ → ℕ → CstObjectProp → Type 0
-  PropertyStandsAt c i now = IsElementOf new c (min i (length (elements_at old c))) now.number
-
--- Which edit that is, where c is an object that stands in the document.
+-- Which edit that is, where c is an object in the document.
 module _ (old new : List Node) where
   abbrev pub IsInsertingNamed : ℕ → ℕ → List ℕ → Plain → Type 0
   IsInsertingNamed c i name v = IsStep IsAt (λ path. insert_property path i name v) old new c
@@ -32,8 +28,9 @@ module _ (old new : List Node) where
 
 -- the same of a document
 module _ {A : Type 0} (old new : CstRootNode A) where
-  abbrev pub HasNamedComeIn : CstNode → ℕ → List ℕ → Plain → CstObjectProp → Type 0
-  HasNamedComeIn node i name v now = NamedInsertedAt (nodes_of old) (nodes_of new) (number_of node) i name v now
+  abbrev pub HasInsertedProperty : CstNode → ℕ → List ℕ → Plain → CstObjectProp → Type 0
+  HasInsertedProperty node i name v now = NamedInsertedAt (nodes_of old) (nodes_of new) (number_of node) i name v now
 
+  -- it is the property of this number in it, or the last
   abbrev pub IsItsProperty : CstNode → ℕ → CstObjectProp → Type 0
-  IsItsProperty node i now = PropertyStandsAt (nodes_of old) (nodes_of new) (number_of node) i now
+  IsItsProperty node i now = IsElementOf (nodes_of new) (number_of node) (min i (length (elements_at (nodes_of old) (number_of node)))) now.number

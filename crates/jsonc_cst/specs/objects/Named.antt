@@ -14,7 +14,7 @@ use Rattle.jsonc_run.specs.Edits.{ensure_property}
 use Rattle.jsonc_cst.specs.Nodes.{number_of}
 
 module _ (old new : List Node) where
-  -- which edit that is, if c is an object that stands in the document
+  -- which edit that is, if c is an object in the document
   abbrev pub IsEnsuringNamed : ℕ → List ℕ → Shape → Over → Type 0
   IsEnsuringNamed c name shape how = IsStep IsAt (λ path. ensure_property path name shape how) old new c
 

@@ -27,7 +27,7 @@ pub record IsPlaced (old new : List Node) (c : ℕ) (h : Headers) (order : List 
   pub detached : KeepsDocumentOf old new c
   pub step : IsStep IsAt (λ path. rearrange path h order) old new c
 
--- they have come in an order that is wanted
+-- they are in an order that is wanted
 pub record HasSorted {A : Type 0} (old new : CstRootNode A) (node : CstNode) (h : Headers) (IsWanted : List ℕ → Type 0) : Type 0 where
   pub order : List ℕ
   pub wanted : IsWanted order

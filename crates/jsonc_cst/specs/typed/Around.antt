@@ -16,14 +16,14 @@ use Rattle.jsonc_edit.specs.Spaced.{SpacesPut}
 use Rattle.jsonc_edit.specs.set.Giving.{property_top}
 use Rattle.jsonc_edit.specs.set.Shapes.{empty_of, is_of}
 
--- spaces have come into the document, and then in one place of its leaves these have been replaced by those: all before and after stay
+-- spaces have been inserted into the document, and then in one place of its leaves these have been replaced by those: all before and after stay
 pub record LeavesReplaced (was now : List Content) (old new : OrderedTree) : Type 0 where
   pub spaced : OrderedTree
   pub spaces : SpacesPut old spaced
   pub around : DiffersIn was now (leaves spaced) (leaves new)
 
 module _ (old new : List Node) where
-  -- where n stood at a path, its leaves have been replaced by those that v is laid out as, by what the old nodes tell where n stood
+  -- where n was at a path, its leaves have been replaced by those that v is laid out as, as the old nodes determine where n was
   abbrev pub StaysAroundValue : ℕ → Plain → Type 0
   StaysAroundValue n v =
       (path : List ℕ) (c : ℕ) → IsAt old path n → parent_at old n ≡ Some c
@@ -37,6 +37,6 @@ module _ (old new : List Node) where
   abbrev pub HeldShapeStaysAround : Shape → ℕ → Type 0
   HeldShapeStaysAround shape p = (n : ℕ) → value_at old p ≡ Some n → is_of shape (content_at old n) ≡ false → StaysAroundValue n (empty_of shape)
 
-  -- the node m is what this name and value are laid out as, by what the old nodes tell where n stood
+  -- the node m is what this name and value are laid out as, as the old nodes determine where n was
   abbrev pub IsLaidProperty : ℕ → List ℕ → Plain → ℕ → Type 0
   IsLaidProperty n name v m = (c : ℕ) → parent_at old n ≡ Some c → top_at new m ≡ property_top (layout_for old c n) name v

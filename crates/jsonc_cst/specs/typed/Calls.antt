@@ -12,17 +12,17 @@ use Rattle.jsonc_cst.specs.declared.cst.CstRootNode.{CstRootNode}
 use Rattle.jsonc_cst.specs.declared.cst.node.CstNode.{CstNode}
 use Rattle.jsonc_cst.specs.Document.{nodes_of, parent_of, tree_of, HasNode}
 use Rattle.jsonc_cst.specs.Nodes.{number_of}
-use Rattle.jsonc_cst.specs.typed.Commas.{CommasSaid, CommasSet, CommasSetInPart, CommasStand, CommasStay}
+use Rattle.jsonc_cst.specs.typed.Commas.{CommasSaid, CommasSet, CommasSetInPart, AllCommasSet, CommasStay}
 use Rattle.jsonc_cst.specs.typed.Edits.{IsReplacedBy, NodeIsDetached, HasMarked, HasStayedAround, IsUntouched}
 use Rattle.jsonc_cst.specs.typed.Edits.{KeepsDocument, KeepsDocumentOf, Unchanged, HandlesStay}
-use Rattle.jsonc_cst.specs.typed.Inserting.{HasComeIn, InsertError, IsItsElement, KeepsOthers}
+use Rattle.jsonc_cst.specs.typed.Inserting.{HasInsertedElement, InsertError, IsItsElement, KeepsOthers}
 use Rattle.jsonc_cst.specs.typed.Lines.{HasSpreadOut, IsOnLines, StaysUnspread}
 use Rattle.jsonc_cst.specs.typed.Removing.{removal_of, EntryCleared, NodeRemoved, IsKeptForMemory, IsKeptIn, IsKeptWithComments, IsLoose}
 use Rattle.jsonc_cst.specs.typed.Removing.{RemovalAround, RemovalKeepsDocument, RemovedIsDetached, RemovalWritten}
 use Rattle.jsonc_cst.specs.typed.Steps.{IsHolder, IsRemoving, IsReplacing, IsSettingCommas, IsSettingSomeCommas, IsSpreading, IsValueIn}
 
--- The node has been taken out with what leaves with it, and is detached. If the document was sound, it is so without that entry, value or comment, and what
--- stands around stays. Or an error has left every node as it was, for the memory of a space or for brackets that are missing.
+-- The node has been removed with what is removed with it, and is detached: one step. If the document was sound, it is so without that entry, value or comment, and
+-- what is around stays. Or an error has left every node as it was, for the memory of a space or for brackets that are missing.
 pub record IsRemoval {A : Type 0} (old new : CstRootNode A) (node : CstNode) (r : Result (Unit {0}) EditError) : Type 0 where
   pub removed : OnOk r (NodeRemoved old new node)
   pub written : (o : Options) → OnOk r (RemovalWritten old new o node)
@@ -72,7 +72,7 @@ pub record IsReplacement {A : Type 0} (old new : CstRootNode A) (node : CstNode)
 -- The value has been inserted into the array at the place, as its element of the number i or its last, and its node is answered: the call is the step that is
 -- named. All other nodes stay. Or an error has left every node as it was, for memory or for brackets that are missing.
 pub record IsInsertion {A : Type 0} (old new : CstRootNode A) (node : CstNode) (i place : ℕ) (v : Plain) (is_step : Type 0) (r : Result CstNode EditError) : Type 0 where
-  pub put : IfOk r (HasComeIn old new node place v)
+  pub put : IfOk r (HasInsertedElement old new node place v)
   pub element : IfOk r (IsItsElement old new node i)
   pub step : OnOk r is_step
   pub others : OnOk r (KeepsOthers old new node)
@@ -111,7 +111,7 @@ pub record AreCommasSet {A : Type 0} (old new : CstRootNode A) (mode : TrailingC
   pub set : OnOk r (CommasSet (nodes_of old) (nodes_of new) mode n)
   pub said : OnOk r (CommasSaid (nodes_of old) (nodes_of new) mode n)
   pub part : OnErr r (CommasSetInPart (nodes_of old) (nodes_of new) mode n)
-  pub stand : (o : Options) → OnOk r (CommasStand (nodes_of old) (nodes_of new) mode o n)
+  pub all_set : (o : Options) → OnOk r (AllCommasSet (nodes_of old) (nodes_of new) mode o n)
   pub once : (o : Options) → OnOk r (CommasStay (nodes_of old) (nodes_of new) mode o n)
   pub step : OnOk r (in_case (IsSettingCommas (nodes_of old) (nodes_of new) mode n))
   pub begun : OnErr r (in_case (IsSettingSomeCommas (nodes_of old) (nodes_of new) mode n))

@@ -18,13 +18,13 @@ module _ (old new : List Node) where
   abbrev pub CommasSetInPart : TrailingCommaMode → ℕ → Type 0
   CommasSetInPart mode n = AreSetInPart mode old (holders old n) new
 
-  -- each of them is as the mode says now, save where more than one comma stood behind the last element; n may be a node of a damaged document, or of none
+  -- each of them is as the mode says now, save where more than one comma was after the last element; n may be a node of a damaged document, or of none
   abbrev pub CommasSaid : TrailingCommaMode → ℕ → Type 0
   CommasSaid mode n = AreAsSaid mode old new n
 
   -- and in a sound document each of them is as the mode says
-  abbrev pub CommasStand : TrailingCommaMode → Options → ℕ → Type 0
-  CommasStand mode o n = SoundTree o (ordered_tree old 0) → IsOver old 0 n → All (IsSet mode new) (holders new n)
+  abbrev pub AllCommasSet : TrailingCommaMode → Options → ℕ → Type 0
+  AllCommasSet mode o n = SoundTree o (ordered_tree old 0) → IsOver old 0 n → All (IsSet mode new) (holders new n)
 
   -- so a further call by the same mode changes nothing
   abbrev pub CommasStay : TrailingCommaMode → Options → ℕ → Type 0

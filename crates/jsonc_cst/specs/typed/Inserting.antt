@@ -1,4 +1,4 @@
--- Elements that come into arrays.
+-- Elements that are inserted into arrays.
 use Rattle.std.specs.Prelude.{◌≡◌, ℕ, List, length, min}
 use Rattle.jsonc_text.specs.Plain.{Plain}
 use Rattle.jsonc_tree.specs.Tree.{Node}
@@ -13,21 +13,18 @@ use Rattle.jsonc_cst.specs.Document.{nodes_of}
 use Rattle.jsonc_cst.specs.Nodes.{number_of}
 
 module _ (old new : List Node) where
-  -- v has come into the array c at this number, or behind its last element where it has fewer: it is this node
+  -- v has been inserted into the array c at this number, or after its last element where it has fewer: it is this node
   abbrev pub InsertedAt : ℕ → ℕ → Plain → CstNode → Type 0
   InsertedAt c i v now = ElementPut old new c i v (number_of now)
 
-  -- the node is the element of c at this number, or at the last
-  abbrev pub StandsAt : ℕ → ℕ → CstNode → Type 0
-  StandsAt c i now = IsElementOf new c (min i (length (elements_at old c))) (number_of now)
-
 -- the same of a document
 module _ {A : Type 0} (old new : CstRootNode A) where
-  abbrev pub HasComeIn : CstNode → ℕ → Plain → CstNode → Type 0
-  HasComeIn node i v now = InsertedAt (nodes_of old) (nodes_of new) (number_of node) i v now
+  abbrev pub HasInsertedElement : CstNode → ℕ → Plain → CstNode → Type 0
+  HasInsertedElement node i v now = InsertedAt (nodes_of old) (nodes_of new) (number_of node) i v now
 
+  -- the node is the element of this number in it, or the last
   abbrev pub IsItsElement : CstNode → ℕ → CstNode → Type 0
-  IsItsElement node i now = StandsAt (nodes_of old) (nodes_of new) (number_of node) i now
+  IsItsElement node i now = IsElementOf (nodes_of new) (number_of node) (min i (length (elements_at (nodes_of old) (number_of node)))) (number_of now)
 
   -- each other node is what it was, with the children that it had
   abbrev pub KeepsOthers : CstNode → Type 0
@@ -37,6 +34,6 @@ module _ {A : Type 0} (old new : CstRootNode A) where
 abbrev pub element_count : {A : Type 0} → CstRootNode A → CstNode → ℕ
 element_count d node = length (elements_at (nodes_of d) (number_of node))
 
--- why nothing has come in
+-- why nothing was inserted
 abbrev pub InsertError : {A : Type 0} → CstRootNode A → CstNode → EditError → Type 0
 InsertError d node e = e ≡ refusal (nodes_of d) (number_of node)

@@ -18,7 +18,7 @@ module _ (old new : List Node) where
   abbrev pub MarksReplaced : List Mark → List Mark → Type 0
   MarksReplaced was now = MarksDifferIn was now (marks (ordered_tree old 0)) (marks (ordered_tree new 0))
 
-  -- where n stood at a path, its marks have been replaced by the literals that are written for v
+  -- where n was at a path, its marks have been replaced by the literals that are written for v
   abbrev pub IsMarkedFor : ℕ → Plain → Type 0
   IsMarkedFor n v = (path : List ℕ) → IsAt old path n → IsOfTexts v → MarksReplaced (marks_under (top_at old n)) (written v)
 

@@ -31,7 +31,7 @@ pub record IsRootSet {A : Type 0} (old new : CstRootNode A) (v : Plain) (r : Res
   pub marked : OnOk r (HeldIsMarked (nodes_of old) (nodes_of new) 0 v)
   pub around : OnOk r (HeldStaysAround (nodes_of old) (nodes_of new) 0 v)
   pub step : OnOk r (IsSettingRoot (nodes_of old) (nodes_of new) v)
-  pub stands : IfOk r (λ m. value_under new 0 ≡ Some m)
+  pub is_value : IfOk r (λ m. value_under new 0 ≡ Some m)
   pub in_document : IfOk r (HasNode new)
   pub handles : HandlesStay old new
   pub memory : IfErr r (λ e. e ≡ OutOfMemory)
@@ -43,7 +43,7 @@ pub record IsRootSet {A : Type 0} (old new : CstRootNode A) (v : Plain) (r : Res
 pub record IsRootCreated {A T : Type 0} (old new : CstRootNode A) (shape : Shape) (node : T → CstNode) (r : Result (Option T) EditError) : Type 0 where
   pub value : IfOk r (λ o. FindsOrCreates (nodes_of old) (nodes_of new) shape (option_map (λ x. number_of (node x)) o))
   pub step : OnOk r (IsEnsuringRoot (nodes_of old) (nodes_of new) shape Keep)
-  pub stands : IfOk r (λ o. IfSome o (λ x. value_under new 0 ≡ Some (node x)))
+  pub is_value : IfOk r (λ o. IfSome o (λ x. value_under new 0 ≡ Some (node x)))
   pub in_document : IfOk r (λ o. IfSome o (λ x. HasNode new (node x)))
   pub handles : HandlesStay old new
   pub memory : IfErr r (λ e. e ≡ OutOfMemory)
@@ -58,7 +58,7 @@ pub record IsRootEnsured {A T : Type 0} (old new : CstRootNode A) (shape : Shape
   pub marked : OnOk r (HeldShapeIsMarked (nodes_of old) (nodes_of new) shape 0)
   pub around : OnOk r (HeldShapeStaysAround (nodes_of old) (nodes_of new) shape 0)
   pub step : OnOk r (IsEnsuringRoot (nodes_of old) (nodes_of new) shape Replace)
-  pub stands : IfOk r (λ x. value_under new 0 ≡ Some (node x))
+  pub is_value : IfOk r (λ x. value_under new 0 ≡ Some (node x))
   pub in_document : IfOk r (λ x. HasNode new (node x))
   pub handles : HandlesStay old new
   pub memory : IfErr r (λ e. e ≡ OutOfMemory)

@@ -16,7 +16,7 @@ use Rattle.jsonc_cst.specs.Nodes.{number_of}
 use Rattle.jsonc_cst.specs.Readings.{typed_if}
 use Rattle.jsonc_cst.specs.typed.Around.{IsLaidProperty}
 
--- the root's value, if there was one, has been replaced by v, and else v has come as the first: it is the node m now
+-- the root's value, if there was one, has been replaced by v, and else v has been set as the first: it is the node m now
 abbrev pub ValueBecomes : List Node → List Node → Plain → Option ℕ → ℕ → Type 0
 ValueBecomes old new v None m = FirstValue old new v m
 ValueBecomes old new v (Some n) m = IsReplaced old new n v m
@@ -30,7 +30,7 @@ module _ (old new : List Node) where
   abbrev pub RootBecomes : Plain → CstNode → Type 0
   RootBecomes v now = ValueBecomes old new v (value_at old 0) (number_of now)
 
-  -- the root's value, if it is of the shape; an empty one has come where there was none; and there is none where the value is another
+  -- the root's value, if it is of the shape; an empty one has been set where there was none; and there is none where the value is another
   abbrev pub FindsOrCreates : Shape → Option ℕ → Type 0
   FindsOrCreates shape answer = FoundOrCreated (is_of shape) (empty_of shape) old new (value_at old 0) answer
 

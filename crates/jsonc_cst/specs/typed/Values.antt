@@ -13,7 +13,7 @@ use Rattle.jsonc_cst.specs.declared.cst.node.CstNode.{CstNode}
 use Rattle.jsonc_cst.specs.Document.{nodes_of}
 use Rattle.jsonc_cst.specs.Nodes.{number_of}
 
--- the value that the property p held, if it held one, has been replaced by v, and else v has come behind all that it holds: it is the node m now
+-- the value that the property p held, if it held one, has been replaced by v, and else v has been inserted after all that it holds: it is the node m now
 abbrev pub HeldBecomes : List Node → List Node → ℕ → Plain → Option ℕ → ℕ → Type 0
 HeldBecomes old new p v None m = LastValue old new p v m
 HeldBecomes old new p v (Some n) m = IsReplaced old new n v m

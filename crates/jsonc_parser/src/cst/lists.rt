@@ -113,7 +113,7 @@ pub fn run<A: Allocator + Copy, D: DocumentArg<A>, C: Fn(&D, CstNode, CstNode) -
 /// Makes edits in order, without a comparison.
 ///
 /// It does what [`run`] does, and answers as it does. It is for edits that do not sort: in which
-/// order an edit that sorts leaves what it sorts is not said. [`run`] takes a comparison.
+/// order an edit that sorts puts what it sorts is not said. [`run`] takes a comparison.
 pub fn run_unsorted<A: Allocator + Copy>(
     doc: &mut CstRootNode<A>,
     edits: Vec<Edit<A>, A>,

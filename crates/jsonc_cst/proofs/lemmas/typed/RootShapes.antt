@@ -22,10 +22,10 @@ module _ {A T : Type 0} (old new : CstRootNode A) (shape : Shape) (node : T → 
   abbrev number : Option T → Option ℕ
   number answer = option_map (λ x. number_of (node x)) answer
 
-  stands_if : (answer : Option T) → FindsOrCreates (nodes_of old) (nodes_of new) shape (number answer) → IfSome answer (λ x. HasNode new (node x))
+  value_if : (answer : Option T) → FindsOrCreates (nodes_of old) (nodes_of new) shape (number answer) → IfSome answer (λ x. HasNode new (node x))
       → IfSome answer (λ x. value_under new 0 ≡ Some (node x))
-  stands_if None found there = tt
-  stands_if (Some x) found there =
+  value_if None found there = tt
+  value_if (Some x) found there =
       stands_as (nodes_of new) (number_of (node x)) (node x)
       (created_found (is_of shape) (empty_of shape) (nodes_of old) (nodes_of new) old.tree.tree new.tree.tree (value_at (nodes_of old) 0) (number_of (node x)) refl found)
       refl there
@@ -35,7 +35,7 @@ module _ {A T : Type 0} (old new : CstRootNode A) (shape : Shape) (node : T → 
   root_created answer found there = record {
     value = found;
     step = created_step (nodes_of old) (nodes_of new) old.tree.tree new.tree.tree shape (number answer) found;
-    stands = stands_if answer found there;
+    is_value = value_if answer found there;
     in_document = there;
     handles = nodes_stay (nodes_of old) (nodes_of new) (stay_created (is_of shape) (empty_of shape) (nodes_of old) (nodes_of new) (value_at (nodes_of old) 0) (number answer) found);
     memory = tt;
@@ -53,7 +53,7 @@ module _ {A T : Type 0} (old new : CstRootNode A) (shape : Shape) (node : T → 
         marked = λ n was other. replaced_marked (nodes_of old) (nodes_of new) (empty_of shape) old.tree.tree n m (replaced n was other);
         around = λ n was other. replaced_around (nodes_of old) (nodes_of new) (empty_of shape) old.tree.tree n m (replaced n was other);
         step = set_step (nodes_of old) (nodes_of new) old.tree.tree new.tree.tree shape m found;
-        stands = stands_as (nodes_of new) m (node x) (set_found (is_of shape) (empty_of shape) (nodes_of old) (nodes_of new) old.tree.tree new.tree.tree (value_at (nodes_of old) 0) m refl found) refl there;
+        is_value = stands_as (nodes_of new) m (node x) (set_found (is_of shape) (empty_of shape) (nodes_of old) (nodes_of new) old.tree.tree new.tree.tree (value_at (nodes_of old) 0) m refl found) refl there;
         in_document = there;
         handles = nodes_stay (nodes_of old) (nodes_of new) (stay_found (is_of shape) (empty_of shape) (nodes_of old) (nodes_of new) (value_at (nodes_of old) 0) m found);
         memory = tt;

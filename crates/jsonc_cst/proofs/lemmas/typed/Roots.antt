@@ -6,7 +6,7 @@ use Rattle.std.proofs.lemmas.List.{get_or_past}
 use Rattle.jsonc_text.specs.Plain.{Plain}
 use Rattle.jsonc_tree.specs.Content.{Content}
 use Rattle.jsonc_tree.specs.OrderedTree.{Top}
-use Rattle.jsonc_tree.specs.Tree.{Node, nowhere, content_at, IsTree}
+use Rattle.jsonc_tree.specs.Tree.{Node, nowhere, content_at}
 use Rattle.jsonc_layout.specs.from_input.Layout.{Layout}
 use Rattle.jsonc_layout.specs.from_input.Laid.{laid}
 use Rattle.jsonc_edit.specs.Reading.{layout_for, IsReplaced}
