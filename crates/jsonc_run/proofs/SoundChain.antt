@@ -32,7 +32,7 @@ module _ {A : Type 0} where
   name_of_characters : (s : String A) → IsCharacters (chars_of s)
   name_of_characters s = scalars-chars (string_bytes s) (IsUtf8-string_bytes s)
 
-  ruleset characters = (of_texts A, name_of_characters, IsUtf8-string_bytes)
+  ruleset characters = (of_texts, name_of_characters, IsUtf8-string_bytes)
 
   -- what an edit writes is characters
   pub of_characters : (s : Sorting) (e : Edit A) → IsOfCharacters (operation_of s e)
