@@ -6,7 +6,7 @@ use Rattle.jsonc_tree.specs.OrderedTree.{ordered_tree}
 use Rattle.jsonc_tree.specs.Tree.{Node, parent_at, IsTree}
 use Rattle.jsonc_sound.specs.TreeChanges.{leaves_of}
 use Rattle.jsonc_text.specs.declared.edit.EditError.{EditError}
-use Rattle.jsonc_text.specs.declared.edit.EditError.TheVariants.{OutOfMemory, MissingBrackets, MissingName, NoSuchPlace, InvalidComment, LineContinues, NotAnEntry}
+use Rattle.jsonc_text.specs.declared.edit.EditError.TheVariants.{NotAnEntry}
 use Rattle.jsonc_text.specs.declared.edit.Place.{Place}
 use Rattle.jsonc_text.specs.declared.edit.Place.TheVariants.{Above, After}
 use Rattle.jsonc_edit.specs.Changes.{top_at}
@@ -33,13 +33,8 @@ module _ (ns : List Node) (tree : IsTree ns) (path : List ℕ) (n : ℕ) (place 
   is_one = let e = entry_is ns tree path n at in ap (λ b. b && holds_entries ns (parent_at ns n)) e.element ∙ ap (holds_entries ns) e.parent ∙ e.holds
 
   error_there : (why : EditError) → IsRefusedFor place ns n text why → CommentError place ns n text why
-  error_there OutOfMemory k = k
-  error_there MissingBrackets k = k
-  error_there MissingName k = k
-  error_there NoSuchPlace k = k
-  error_there InvalidComment k = k
-  error_there LineContinues k = k
   error_there NotAnEntry k = absurd (false≢true (sym k ∙ is_one))
+  error_there why k = k
 
   pub comment_told : {T : Type 0} (r : Result T EditError) → IfErr r (IsRefusedFor place ns n text) → IfErr r (FailsWith ns (insert_comment path place text))
   comment_told (Ok x) why = tt

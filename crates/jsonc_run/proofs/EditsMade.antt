@@ -72,13 +72,8 @@ told_at ns e NotAnEntry other k = k
 
 -- what is refused has no place, or is refused there
 pub fails_at : (ns : List Node) (e : PlainEdit) (why : EditError) → FailsWith ns e why → ((why ≡ NoSuchPlace) × ¬ (HasItsPlace ns e)) ⊎ AtPlace ns (place_of e) (λ n. RefusedAt ns n e why)
-fails_at ns e OutOfMemory k = inr k
-fails_at ns e MissingBrackets k = inr k
-fails_at ns e MissingName k = inr k
 fails_at ns e NoSuchPlace k = inl (refl, k)
-fails_at ns e InvalidComment k = inr k
-fails_at ns e LineContinues k = inr k
-fails_at ns e NotAnEntry k = inr k
+fails_at ns e why k = inr k
 
 pub answers : (old new : List Node) (e : PlainEdit) (r : Result (Unit {0}) EditError) → OnOk r (EditStep old e new) → IfErr r (FailsWith old e)
     → OnErr r (Keeps (length old) old new) → OnErr r (ordered_tree new 0 ≡ ordered_tree old 0) → IsAnswer old new e r

@@ -42,12 +42,9 @@ line_after ns path n After text k = (and_both (is_line_comment (comment text)) (
 
 comment_may : (ns : List Node) (path : List ℕ) (n : ℕ) (place : Place) (text : List ℕ) (why : EditError) → CommentError place ns n text why → MayFailWith (insert_comment path place text) why
 comment_may ns path n place text OutOfMemory k = tt
-comment_may ns path n place text MissingBrackets k = k
-comment_may ns path n place text MissingName k = k
 comment_may ns path n place text NoSuchPlace k = tt
-comment_may ns path n place text InvalidComment k = k
 comment_may ns path n place text LineContinues k = line_after ns path n place text k
-comment_may ns path n place text NotAnEntry k = k
+comment_may ns path n place text why k = k
 
 module _ (o : Options) (ns : List Node) (tree : IsTree ns) (sound : SoundTree o (ordered_tree ns 0)) where
   -- an entry of an array or object at a path stands between brackets
@@ -119,7 +116,7 @@ module _ (o : Options) (ns : List Node) (tree : IsTree ns) (sound : SoundTree o 
   name_memory path n at NotAnEntry k = absurd k
 
   -- what has its place is refused for memory alone, but for a comment
-  WantsMemory : PlainEdit → EditError → Type 0
+  abbrev WantsMemory : PlainEdit → EditError → Type 0
   WantsMemory (insert_comment path place text) why = MayFailWith (insert_comment path place text) why
   WantsMemory e why = why ≡ OutOfMemory
 

@@ -11,7 +11,7 @@ use Rattle.jsonc_sound.specs.SoundTrees.{SoundTree}
 use Rattle.jsonc_text.specs.declared.edit.EditError.{EditError}
 use Rattle.jsonc_text.specs.declared.edit.EditError.TheVariants.{NoSuchPlace}
 use Rattle.jsonc_insert.specs.elements.Members.{member_count}
-use Rattle.jsonc_run.specs.Edits.{PlainEdit, place_of, replace, remove, remove_comment, set_root, clear_root, replace_property, ensure_root, set_value, ensure_value, set_boolean, ensure_multiline, insert_element, append_element, insert_property, append_property, ensure_property, set_commas, set_some_commas, rearrange, rename_property}
+use Rattle.jsonc_run.specs.Edits.{PlainEdit, place_of, replace, remove, remove_comment, set_root, clear_root, replace_property, ensure_root, set_value, ensure_value, set_boolean, ensure_multiline, insert_element, append_element, insert_property, append_property, ensure_property, set_commas, set_some_commas, rearrange, rename_property, insert_comment}
 use Rattle.jsonc_run.specs.Places.{Place, in_document, at_value, at_entry, at_property, at_boolean, at_array, at_object, at_container, at_comment}
 use Rattle.jsonc_run.specs.Refusals.{HasItsPlace}
 use Rattle.jsonc_text.specs.declared.edit.Over.{Over}

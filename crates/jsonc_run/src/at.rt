@@ -330,8 +330,8 @@ pub(crate) fn insert_comment_at<A: Allocator + Copy>(
 ) -> Result<(), EditError>
     ensures { IsAnswer tree.old.nodes tree.new.nodes (op.insert_comment path.now place text.now) result }
 {
-    let Some(node) = find_entry(tree, path) else {
+    let Some(entry) = find_entry(tree, path) else {
         return Err(EditError::NoSuchPlace);
     };
-    insert_comment(alloc, tree, node, text, place)
+    insert_comment(alloc, tree, entry, text, place)
 }

@@ -11,8 +11,9 @@ ghost use Rattle.jsonc_run.specs.Steps.{MakesSteps};
 
 use crate::at::{
     append_element_at, append_property_at, ensure_multiline_at, ensure_property_at, ensure_value,
-    ensure_value_at, insert_comment_at, insert_element_at, insert_property_at, remove_at, remove_entry,
-    rename_at, replace_at, replace_property_at, set_boolean_at, set_commas_at, set_value, set_value_at,
+    ensure_value_at, insert_comment_at, insert_element_at, insert_property_at, remove_at,
+    remove_entry, rename_at, replace_at, replace_property_at, set_boolean_at, set_commas_at,
+    set_value, set_value_at,
 };
 use crate::edit::Edit;
 use jsonc_edit::EditError;
@@ -84,7 +85,9 @@ fn make_by_kind<A: Allocator + Copy>(
         }
         Edit::SetTrailingCommas(path, mode) => set_commas_at(tree, path, *mode),
         Edit::RenameProperty(path, name) => rename_at(alloc, tree, path, name),
-        Edit::InsertComment(path, place, text) => insert_comment_at(alloc, tree, path, *place, text),
+        Edit::InsertComment(path, place, text) => insert_comment_at(
+            alloc, tree, path, *place, text,
+        ),
         Edit::Sort(_, _, _) => unreachable!(),
     }
 }
