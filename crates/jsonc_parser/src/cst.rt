@@ -21,13 +21,13 @@ pub use jsonc_cst::cst::{
     AncestorIterator, CstArray, CstBooleanLit, CstComment, CstContainerNode, CstInputValue,
     CstLeafNode, CstNewline, CstNewlineKind, CstNode, CstNullKeyword, CstNumberLit, CstObject,
     CstObjectProp, CstRoot, CstRootNode, CstStringLit, CstToken, CstWhitespace, CstWordLit,
-    DescendantIterator, EditError, NextSiblingIterator, ObjectPropName, ParentNode, Pieces, Place,
+    DescendantIterator, EditError, NextSiblingIterator, ObjectPropName, ParentNode, Pieces,
     PreviousSiblingIterator, RangedDescendantIterator, Shown, TrailingCommaMode, TypedNode, input,
 };
 pub use jsonc_cst::sorting::{
     BlankLineHeaders, ElementSort, HeaderRule, HeadersBy, KeptHeaders, NoHeaders, PropertySort,
 };
 pub use jsonc_cst::typed::DocumentArg;
-pub use jsonc_run::{Edit, Over, Shape};
+pub use jsonc_run::{Edit, Over, Place, Shape};
 pub use lists::{run, run_unsorted};
 pub use texts::{EditTextError, edit_text};
