@@ -43,7 +43,6 @@ pub use descendants::{DescendantIterator, RangedDescendantIterator};
 pub use input::CstInputValue;
 use jsonc_build::parse_tree;
 pub use jsonc_edit::{EditError, TrailingCommaMode};
-pub use jsonc_text::edit::Place;
 use jsonc_text::errors::ParseError;
 use jsonc_text::options::ParseOptions;
 use jsonc_tree::Tree;

@@ -21,7 +21,7 @@ pub use jsonc_cst::cst::{
     AncestorIterator, CstArray, CstBooleanLit, CstComment, CstContainerNode, CstInputValue,
     CstLeafNode, CstNewline, CstNewlineKind, CstNode, CstNullKeyword, CstNumberLit, CstObject,
     CstObjectProp, CstRoot, CstRootNode, CstStringLit, CstToken, CstWhitespace, CstWordLit,
-    DescendantIterator, EditError, NextSiblingIterator, ObjectPropName, ParentNode, Pieces, Place,
+    DescendantIterator, EditError, NextSiblingIterator, ObjectPropName, ParentNode, Pieces,
     PreviousSiblingIterator, RangedDescendantIterator, Shown, TrailingCommaMode, TypedNode, input,
 };
 pub use jsonc_cst::sorting::{

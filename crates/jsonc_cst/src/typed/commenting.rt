@@ -4,8 +4,9 @@ ghost use Rattle.jsonc_cst.specs.Document.{HasNode};
 ghost use Rattle.jsonc_cst.specs.Nodes.{object_prop_node};
 ghost use Rattle.jsonc_cst.specs.typed.Commenting.{IsCommentInsertion};
 
-use crate::cst::{CstNode, CstObjectProp, CstRootNode, EditError, Place, TypedNode};
+use crate::cst::{CstNode, CstObjectProp, CstRootNode, EditError, TypedNode};
 use jsonc_edit::commenting;
+use jsonc_text::edit::Place;
 use std::alloc::Allocator;
 
 impl CstNode {

@@ -1,6 +1,6 @@
-use Rattle.jsonc_cst.proofs.lemmas.typed.Commented.{comment_beside, stay_beside}
-use Rattle.jsonc_cst.proofs.lemmas.typed.HandlesKept.{nodes_stay}
 use Rattle.jsonc_cst.specs.Nodes.{number_of}
+use Rattle.jsonc_cst.proofs.lemmas.typed.Commented.{comment_elsewhere, comment_inserted, comment_stays, comment_step}
+use Rattle.jsonc_cst.proofs.lemmas.typed.HandlesKept.{nodes_stay}
 use Rattle.jsonc_cst.proofs.cst.node.CstNode.insert_comment.Goals as goal
 
 pub returns : goal.returns
@@ -13,13 +13,13 @@ returns g c =
     let r = c.insert_comment.result in
     let said = rw c.number.ensures at c.insert_comment.ensures in
     record {
-      inserted = said.come;
-      may = said.may;
+      inserted = comment_inserted old.nodes new.nodes place n text r said.may said.come;
+      step = comment_step old.nodes new.nodes place n text old.tree new.tree c.utf8.text r said.may said.come;
       written = said.written;
       among = said.among;
-      detached = comment_beside old.nodes new.nodes place n text r old.tree new.tree said.may said.come;
+      detached = comment_elsewhere old.nodes new.nodes place n text old.tree new.tree r said.may said.come;
       error = said.error;
-      handles = nodes_stay old.nodes new.nodes (stay_beside old.nodes new.nodes place n text r said.may said.come said.kept);
+      handles = nodes_stay old.nodes new.nodes (comment_stays old.nodes new.nodes place n text r said.may said.come said.kept);
       kept = said.kept;
       document = said.document;
     }
