@@ -2,7 +2,7 @@
 //!
 //! A [`CstRootNode`] owns its nodes and names each by a number. A caller holds a [`CstNode`], or a
 //! node of one kind as [`CstObject`]: a number that says what it is the number of, and can be copied.
-//! It is asked together with its document, and [`CstRootNode::holds`] tells whether that has it; all
+//! It is asked together with its document, and [`CstRootNode::holds`] answers whether that has it; all
 //! nodes that a call answers are nodes of the document that was asked.
 //!
 //! Edits are methods of the document and of its nodes. `set_value`, `clear_children`, `object_value_or_set` and

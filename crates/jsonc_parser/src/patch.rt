@@ -2,7 +2,7 @@
 //!
 //! A [`Pointer`] is a text that leads from a document's value to one inside it, through objects by names and through
 //! arrays by indexes, parsed, or made of its tokens. [`find`] finds the node that it refers to in a document, [`read`]
-//! takes its value, and [`pointer_of`] tells the pointer of a node.
+//! takes its value, and [`pointer_of`] answers the pointer of a node.
 //!
 //! A [`Patch`] is a list of operations at pointers, read from its text, which [`Patch::apply`] makes on a document
 //! whole or not at all. Every comment outside what was replaced or removed stays, and every byte outside of what the

@@ -1,5 +1,5 @@
 -- Edits that were made: one more of them, and where none can be.
-use Rattle.std.proofs.Common.{◌≡◌, ◌⊎◌, inl, inr, ℕ, List, Option, Some, None, IfSome, IfNone, IfErr, OnOk, OnErr, Result, Ok, Err, length, refl, sym, subst, ◌∙◌}
+use Rattle.std.proofs.Common.{◌≡◌, ℕ, List, Option, Some, None, IfSome, IfNone, IfErr, OnOk, OnErr, Result, Ok, Err, length, refl, sym, subst, ◌∙◌}
 use Rattle.jsonc_tree.specs.Building.{Keeps}
 use Rattle.jsonc_tree.specs.OrderedTree.{ordered_tree}
 use Rattle.jsonc_tree.specs.Tree.{Node, IsTree, parent_at}
@@ -9,7 +9,7 @@ use Rattle.jsonc_edit.proofs.Uniqueness.{element_parent}
 use Rattle.jsonc_text.specs.declared.edit.Over.{Over}
 use Rattle.jsonc_text.specs.declared.edit.Shape.{Shape}
 use Rattle.jsonc_text.specs.declared.edit.EditError.{EditError}
-use Rattle.jsonc_text.specs.declared.edit.EditError.TheVariants.{OutOfMemory, MissingBrackets, MissingName, NoSuchPlace, InvalidComment, LineContinues, NotAnEntry}
+use Rattle.jsonc_text.specs.declared.edit.EditError.TheVariants.{OutOfMemory, NoSuchPlace}
 use Rattle.jsonc_edit.specs.remove.Removed.{IsKeptFor, TakesElement}
 use Rattle.jsonc_edit.specs.Reading.{IsReplaced}
 use Rattle.jsonc_edit.specs.set.RootSet.{FirstValue}
@@ -62,18 +62,8 @@ nowhere ns e none = record { made = tt; error = none; left = as_it_was (Keeps-sa
 
 -- what is refused at its place is not refused for want of one
 pub told_at : (ns : List Node) (e : PlainEdit) (why : EditError) → ¬ (why ≡ NoSuchPlace) → AtPlace ns (place_of e) (λ n. RefusedAt ns n e why) → FailsWith ns e why
-told_at ns e OutOfMemory other k = k
-told_at ns e MissingBrackets other k = k
-told_at ns e MissingName other k = k
 told_at ns e NoSuchPlace other k = absurd (other refl)
-told_at ns e InvalidComment other k = k
-told_at ns e LineContinues other k = k
-told_at ns e NotAnEntry other k = k
-
--- what is refused has no place, or is refused there
-pub fails_at : (ns : List Node) (e : PlainEdit) (why : EditError) → FailsWith ns e why → ((why ≡ NoSuchPlace) × ¬ (HasItsPlace ns e)) ⊎ AtPlace ns (place_of e) (λ n. RefusedAt ns n e why)
-fails_at ns e NoSuchPlace k = inl (refl, k)
-fails_at ns e why k = inr k
+told_at ns e why other k = k
 
 pub answers : (old new : List Node) (e : PlainEdit) (r : Result (Unit {0}) EditError) → OnOk r (EditStep old e new) → IfErr r (FailsWith old e)
     → OnErr r (Keeps (length old) old new) → OnErr r (ordered_tree new 0 ≡ ordered_tree old 0) → IsAnswer old new e r

@@ -42,7 +42,6 @@ use Rattle.jsonc_run.specs.Places.{IsArrayAt, IsBooleanAt, IsContainerAt, IsEntr
 use Rattle.jsonc_run.specs.Refusals.{HasItsPlace, FailsWith, RefusedAt}
 use Rattle.jsonc_run.proofs.Booleans.{boolean_value}
 use Rattle.jsonc_run.proofs.CommentCount.{comments_counted}
-use Rattle.jsonc_run.proofs.EditsMade.{fails_at}
 use Rattle.jsonc_run.proofs.ValueNodes.{is_array, is_object, node_found, property_found}
 
 -- the value of an array's node is an array, and that of an object's an object
@@ -227,10 +226,8 @@ at_found ns (at_comment number) Is (n, at, h) = (n, at)
 module _ (ns : List Node) where
   -- whatever else is told of an edit, it has its place
   no_place : (e : PlainEdit) (why : EditError) → FailsWith ns e why → ¬ (HasItsPlace ns e) → why ≡ NoSuchPlace
-  no_place e why k none = elim (fails_at ns e why k) [
-    | inl told ↦ told.0
-    | inr at ↦ absurd (none (at_found ns (place_of e) (λ n. RefusedAt ns n e why) at))
-  ]
+  no_place e NoSuchPlace k none = refl
+  no_place e why k none = absurd (none (at_found ns (place_of e) (λ n. RefusedAt ns n e why) k))
 
   -- so that it has none is told where none is named
   pub tells_unnamed : (o : Options) → IsTree ns → SoundTree o (ordered_tree ns 0) → (e : PlainEdit) (why : EditError) → FailsWith ns e why → NoSuchPlaceIff o ns e why

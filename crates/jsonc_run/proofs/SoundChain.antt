@@ -18,7 +18,7 @@ use Rattle.std.proofs.Common.{string_bytes}
 use Rattle.std.proofs.lemmas.Str.{scalars-chars, IsUtf8-string_bytes}
 use Rattle.std.specs.declared.string.String.{String}
 use Rattle.jsonc_run.specs.declared.edit.Edit.{Edit}
-use Rattle.jsonc_run.specs.declared.edit.Edit.TheVariants.{Replace, SetRoot, ReplaceProperty, SetValue, InsertElement, AppendElement, InsertProperty, AppendProperty, EnsureProperty, Sort, RenameProperty, InsertComment}
+use Rattle.jsonc_run.specs.declared.edit.Edit.TheVariants.{Sort}
 use Rattle.jsonc_run.specs.Edits.{Sorting, operation_of, PlainEdit, place_of, EditSteps, none_made, first_made, EditStep, MakesAt, Fits, Allows, IsOfCharacters}
 use Rattle.jsonc_run.specs.Steps.{Says, Step, Steps, no_step, one_step, MakesSteps}
 use Rattle.jsonc_run.specs.Named.{Asks, comment_count, IsNamed}
@@ -32,20 +32,12 @@ module _ {A : Type 0} where
   name_of_characters : (s : String A) → IsCharacters (chars_of s)
   name_of_characters s = scalars-chars (string_bytes s) (IsUtf8-string_bytes s)
 
+  ruleset characters = (of_texts, name_of_characters, IsUtf8-string_bytes)
+
   -- what an edit writes is characters
   pub of_characters : (s : Sorting) (e : Edit A) → IsOfCharacters (operation_of s e)
-  of_characters s (Replace path value) = of_texts A value
-  of_characters s (SetRoot value) = of_texts A value
-  of_characters s (ReplaceProperty path name value) = (name_of_characters name, of_texts A value)
-  of_characters s (SetValue path value) = of_texts A value
-  of_characters s (InsertElement path index value) = of_texts A value
-  of_characters s (AppendElement path value) = of_texts A value
-  of_characters s (InsertProperty path index name value) = (name_of_characters name, of_texts A value)
-  of_characters s (AppendProperty path name value) = (name_of_characters name, of_texts A value)
-  of_characters s (EnsureProperty path name shape how) = name_of_characters name
-  of_characters s (RenameProperty path name) = name_of_characters name
-  of_characters s (InsertComment path place text) = IsUtf8-string_bytes text
-  of_characters s e = tt
+  of_characters s (Sort path pin groups) = tt
+  of_characters s e = search characters
 
   -- and it is allowed however it sorts
   pub fits_alike : (o : Options) (s : Sorting) (e : Edit A) → Fits o e → Allows o (operation_of s e)

@@ -55,7 +55,7 @@ module _ (old new : List Node) where
   abbrev pub IsInsertingComment : ℕ → Place → List ℕ → Type 0
   IsInsertingComment n place text = IsStep IsEntryAt (λ path. insert_comment path place text) old new n
 
-  -- of what is taken out an entry of an array or object, the document's value or a comment; a token or whitespace that leaves alone is no edit
+  -- of what is removed an entry of an array or object, the document's value or a comment; a token or whitespace that is removed alone is no edit
   abbrev pub IsRemoving : Removal → ℕ → Type 0
   IsRemoving Clearing n = IsStepOf clear_root old new
   IsRemoving OfComment n = IsStep IsCommentAt remove_comment old new n

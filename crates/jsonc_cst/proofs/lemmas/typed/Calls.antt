@@ -23,14 +23,14 @@ use Rattle.jsonc_cst.specs.declared.typed.removing.Removal.{Removal}
 use Rattle.jsonc_cst.specs.declared.typed.removing.Removal.TheVariants.{Clearing, OfComment, OfElement, OfLeaf}
 use Rattle.jsonc_cst.specs.Document.{nodes_of, HasNode}
 use Rattle.jsonc_cst.specs.Nodes.{container_of, number_of, object_prop_node}
-use Rattle.jsonc_cst.specs.objects.Members.{HasNamedComeIn}
+use Rattle.jsonc_cst.specs.objects.Members.{HasInsertedProperty}
 use Rattle.jsonc_cst.specs.objects.Named.{HasEnsured}
 use Rattle.jsonc_cst.specs.sorting.Sorted.{IsPlaced}
 use Rattle.jsonc_cst.specs.typed.AsCalls.{number_taken, IsCallIf, IsRootCallIf, LoneRemovalIsCall, RemovalIsCall}
 use Rattle.jsonc_cst.specs.typed.Commas.{CommasSet, CommasSetInPart}
 use Rattle.jsonc_cst.specs.typed.Commenting.{HasCommentInserted}
 use Rattle.jsonc_cst.specs.typed.Edits.{is_name_in, IsReplacedBy, IsReplacedAs, IsUntouched, Unchanged}
-use Rattle.jsonc_cst.specs.typed.Inserting.{HasComeIn}
+use Rattle.jsonc_cst.specs.typed.Inserting.{HasInsertedElement}
 use Rattle.jsonc_cst.specs.typed.Lines.{HasSpreadOut}
 use Rattle.jsonc_cst.specs.typed.Raw.{HasBecome}
 use Rattle.jsonc_cst.specs.typed.Removing.{removal_of, IsCleared, IsLooseFor, IsTakenBy, RemovedAlone}
@@ -146,10 +146,10 @@ module _ {A : Type 0} (old new : CstRootNode A) where
     pub lines_are_call : IsCallIf old new node (HasSpreadOut old new node)
     lines_are_call = λ tree held made. call_of (nodes_of old) (nodes_of new) tree (number_of node) held.0 (comes_on_lines (number_of node) made)
 
-    pub element_is_call : (i : ℕ) (v : Plain) (now : CstNode) → IsCallIf old new node (HasComeIn old new node i v now)
+    pub element_is_call : (i : ℕ) (v : Plain) (now : CstNode) → IsCallIf old new node (HasInsertedElement old new node i v now)
     element_is_call i v now = λ tree held put. call_of (nodes_of old) (nodes_of new) tree (number_of node) held.0 (element_comes (number_of node) i (number_of now) v put)
 
-    pub named_is_call : (i : ℕ) (name : List ℕ) (v : Plain) (now : CstObjectProp) → IsCallIf old new node (HasNamedComeIn old new node i name v now)
+    pub named_is_call : (i : ℕ) (name : List ℕ) (v : Plain) (now : CstObjectProp) → IsCallIf old new node (HasInsertedProperty old new node i name v now)
     named_is_call i name v now = λ tree held put. call_of (nodes_of old) (nodes_of new) tree (number_of node) held.0 (property_comes (number_of node) i now.number name v put)
 
     pub ensured_is_call : (shape : Shape) (how : Over) (name : List ℕ) (x : Option ℕ) → IsCallIf old new node (HasEnsured old new shape how node name x)

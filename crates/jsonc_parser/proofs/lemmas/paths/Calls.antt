@@ -49,7 +49,7 @@ drop_characters : {w : Option Plain} {names : List (List ℕ)} {e : PlainEdit} �
 drop_characters (removes l) = tt
 
 -- it is no comment that is inserted
-IsNoRemark : PlainEdit → Type 0
+abbrev pub IsNoRemark : PlainEdit → Type 0
 IsNoRemark e = (InsertsNoComment e → ⊥) × (InsertsLineAfter e → ⊥)
 
 put_no_remark : {which : Which} {v : Plain} {over : Over} {w : Option Plain} {names : List (List ℕ)} {e : PlainEdit} → IsPutBy which v over w names e → IsNoRemark e
