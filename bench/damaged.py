@@ -8,7 +8,7 @@ import re
 import typing
 
 from definitions import document_of, gap_end, lexeme
-from edits import drawn_edit, edit_of, makes, refusal
+from edits import EDITS, drawn_edit, edit_of, makes, refusal
 
 
 class Damage(typing.NamedTuple):
@@ -57,7 +57,7 @@ def is_below(path, other):
 
 def may_need(document, edit, damage):
     """The errors that an edit may have since this is missing, or None where it may do something else than in the whole document."""
-    name, path = edit[0], edit[1] if len(edit) > 1 and isinstance(edit[1], tuple) else ()
+    name, path = edit[0], edit[1] if EDITS[edit[0]].words.startswith('path') else ()
     if damage.part == 'bracket':
         is_needed = damage.path in (path, path[:-1]) or name == 'SetTrailingCommas' and is_below(damage.path, path)
         # (a comma that is last in an array or object is taken for its bracket)
@@ -89,8 +89,8 @@ def lacking(document, place, text, part):
 
 
 def random_lists(answers, drawn, count):
-    """Draws damaged documents and lists of one to three edits of each, and yields for each edit its name, the list, the text before and after it, and whether all is as it
-    must be. `answers` tells what the library makes of texts by lists of edits."""
+    """Draws damaged documents and lists of one to three edits of each, and yields for each edit its name, the list, the text before and after it, and whether all
+    is as it must be. `answers` tells what the library makes of texts by lists of edits."""
     whole = []
     while len(whole) < count:
         document = document_of(drawn.text())
@@ -98,7 +98,8 @@ def random_lists(answers, drawn, count):
         if found:
             whole.append((document, drawn.draw.choice(found)))
     damaged = answers([(document.text, [damage.edit]) for document, damage in whole])
-    # each a text and the edits so far; what the library has made of it; the whole document that this would be; what that lost, and where; and how many edits there are to be
+    # each a text and the edits so far; what the library has made of it; the whole document that this would be; what that lacks, where that stood, and its text; and
+    # how many edits there are to be
     lists = [(document.text, [damage.edit], made, document, damage, missing(document.text, made, damage), drawn.draw.choice([2, 2, 3, 3, 4]))
              for (document, damage), (_, made) in zip(whole, damaged) if '/' not in missing(document.text, made, damage)[1]]
     while lists:
