@@ -2,6 +2,7 @@ pub mod Around
 pub mod AsCalls
 pub mod Calls
 pub mod Commas
+pub mod Commenting
 pub mod Edits
 pub mod Inserting
 pub mod Lines

@@ -7,6 +7,7 @@ ghost use Rattle.jsonc_tree.specs.Content.{Content};
 ghost use Rattle.jsonc_tree.specs.OrderedTree.{OrderedTree};
 ghost use Rattle.jsonc_text.specs.declared.edit.TrailingCommaMode.{TrailingCommaMode};
 ghost use Rattle.jsonc_text.specs.declared.edit.Over.{Over};
+ghost use Rattle.jsonc_text.specs.declared.edit.Place.{Place};
 ghost use Rattle.jsonc_text.specs.declared.edit.Shape.{Shape};
 ghost use Rattle.jsonc_sort.specs.Sorting.{Headers};
 ghost use Rattle.jsonc_cst.specs.declared.cst.CstRootNode.{CstRootNode};
@@ -23,6 +24,7 @@ ghost use Rattle.jsonc_cst.specs.objects.Named.{HasEnsured};
 ghost use Rattle.jsonc_cst.specs.sorting.Sorted.{IsPlaced};
 ghost use Rattle.jsonc_cst.specs.typed.AsCalls.{IsCallIf, IsRootCallIf, LoneRemovalIsCall, RemovalIsCall};
 ghost use Rattle.jsonc_cst.specs.typed.Commas.{CommasSet, CommasSetInPart};
+ghost use Rattle.jsonc_cst.specs.typed.Commenting.{HasCommentInserted};
 ghost use Rattle.jsonc_cst.specs.typed.Edits.{IsReplacedBy, IsUntouched, Unchanged};
 ghost use Rattle.jsonc_cst.specs.typed.Inserting.{HasInsertedElement};
 ghost use Rattle.jsonc_cst.specs.typed.Lines.{HasSpreadOut};
@@ -69,6 +71,8 @@ pub fn typed_calls_are_calls<A: Allocator>()
         → IsCallIf old new node (HasBecomeProperty old new node name v now) }
     ensures renamed { (old new : CstRootNode A) (node : CstNode) (name : List ℕ) (now : CstNode)
         → IsCallIf old new node (HasBeenRenamed old new node name now) }
+    ensures commented { (old new : CstRootNode A) (node : CstNode) (place : Place) (text : List ℕ)
+        → IsCallIf old new node (HasCommentInserted old new node place text) }
     ensures cleared { (old new : CstRootNode A) → IsRootCallIf old new (IsCleared (nodes_of old) (nodes_of new)) }
     ensures root { (old new : CstRootNode A) (v : Plain) (now : CstNode)
         → IsRootCallIf old new (RootBecomes (nodes_of old) (nodes_of new) v now) }

@@ -17,6 +17,7 @@
 //! (`specs/typed/Raw.antt`). A closure that reads the document is lent one by [`DocumentArg`].
 
 mod commas;
+mod commenting;
 mod document;
 mod inserting;
 mod lines;
