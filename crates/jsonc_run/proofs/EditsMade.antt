@@ -10,13 +10,12 @@ use Rattle.jsonc_text.specs.declared.edit.Over.{Over}
 use Rattle.jsonc_text.specs.declared.edit.Shape.{Shape}
 use Rattle.jsonc_text.specs.declared.edit.EditError.{EditError}
 use Rattle.jsonc_text.specs.declared.edit.EditError.TheVariants.{OutOfMemory, NoSuchPlace}
-use Rattle.jsonc_edit.specs.remove.Removed.{IsKeptFor, TakesElement}
 use Rattle.jsonc_edit.specs.Reading.{IsReplaced}
 use Rattle.jsonc_edit.specs.set.RootSet.{FirstValue}
 use Rattle.jsonc_text.specs.Plain.{Plain}
 use Rattle.jsonc_insert.specs.named.Places.{IsPropertyAt, a_property}
-use Rattle.jsonc_run.specs.Places.{IsEntryAt, AtPlace}
-use Rattle.jsonc_run.specs.Edits.{PlainEdit, ensure_root, remove, place_of, EditStep, RootSet}
+use Rattle.jsonc_run.specs.Places.{AtPlace}
+use Rattle.jsonc_run.specs.Edits.{PlainEdit, ensure_root, place_of, EditStep, MakesAt, RootSet}
 use Rattle.jsonc_run.specs.Refusals.{as_it_was, HasItsPlace, IsAnswer, FailsWith, RefusedAt, WantsEmpty}
 
 -- what a path leads to has a parent
@@ -65,10 +64,35 @@ pub told_at : (ns : List Node) (e : PlainEdit) (why : EditError) → ¬ (why ≡
 told_at ns e NoSuchPlace other k = absurd (other refl)
 told_at ns e why other k = k
 
+-- An edit that was made at its place answers so,
+pub made_there : {old new : List Node} {e : PlainEdit} {x : Unit {0}} → EditStep old e new → IsAnswer old new e (Ok x)
+made_there made = record { made = made; error = tt; left = tt }
+
+-- and so does one that was refused where n stands, which is never told for want of a place,
+pub refused_there : (old new : List Node) (e : PlainEdit) (n : ℕ) → ((Is : ℕ → Type 0) → Is n → AtPlace old (place_of e) Is) → (RefusedAt old n e NoSuchPlace → ⊥) → (why : EditError) → RefusedAt old n e why
+    → Keeps (length old) old new → ordered_tree new 0 ≡ ordered_tree old 0 → IsAnswer old new e (Err why)
+refused_there old new e n there never why k kept same =
+    record { made = tt; error = told_at old e why (λ is. never (subst (RefusedAt old n e) is k)) (there (λ m. RefusedAt old m e why) k); left = as_it_was kept same }
+
+-- whichever it was,
+pub done_there : (old new : List Node) (e : PlainEdit) (n : ℕ) → ((Is : ℕ → Type 0) → Is n → AtPlace old (place_of e) Is) → (RefusedAt old n e NoSuchPlace → ⊥) → (r : Result (Unit {0}) EditError)
+    → OnOk r (MakesAt old n e new) → IfErr r (RefusedAt old n e) → OnErr r (Keeps (length old) old new) → OnErr r (ordered_tree new 0 ≡ ordered_tree old 0) → IsAnswer old new e r
+done_there old new e n there never (Ok x) made k kept same = made_there (there (λ m. MakesAt old m e new) made)
+done_there old new e n there never (Err why) made k kept same = refused_there old new e n there never why k kept same
+
+-- and one that was not found
+pub not_found : {ns : List Node} {e : PlainEdit} (found : Option ℕ) (R : ℕ → Type 0) → FindsExactly found R → (HasItsPlace ns e → (n : ℕ) × R n) → ((n : ℕ) → found ≡ Some n → ⊥) → IsAnswer ns ns e (Err NoSuchPlace)
+not_found {ns} {e} found R finds there none = nowhere ns e (λ h. no_place found R finds none (there h))
+
 pub answers : (old new : List Node) (e : PlainEdit) (r : Result (Unit {0}) EditError) → OnOk r (EditStep old e new) → IfErr r (FailsWith old e)
     → OnErr r (Keeps (length old) old new) → OnErr r (ordered_tree new 0 ≡ ordered_tree old 0) → IsAnswer old new e r
 answers old new e (Ok x) made told kept same = record { made = made; error = tt; left = tt }
 answers old new e (Err x) made told kept same = record { made = tt; error = told; left = as_it_was kept same }
+
+-- what was made with what a path and a text dereference to is the edit that has the two
+pub made_with : (Made : List ℕ → List ℕ → PlainEdit) (old new : List Node) (r : Result (Unit {0}) EditError) {p q s t : List ℕ} {e : PlainEdit} → p ≡ q → s ≡ t → e ≡ Made q t → IsAnswer old new (Made p s) r → IsAnswer old new e r
+made_with Made old new r {p} {q} {s} {t} {e} path text is made =
+    subst (λ x. IsAnswer old new x r) (sym is) (subst (λ x. IsAnswer old new (Made q x) r) text (subst (λ x. IsAnswer old new (Made x s) r) path made))
 
 -- where memory alone is told of, what holds of want of it holds of what is told
 pub told_of_memory : {T : Type 0} (P : EditError → Type 0) (r : Result T EditError) → IfErr r (λ e. e ≡ OutOfMemory) → P OutOfMemory → IfErr r P
@@ -78,16 +102,3 @@ told_of_memory P (Err e) memory wanted = subst P (sym memory) wanted
 pub told_as_wanted : {T : Type 0} (ns : List Node) (shape : Shape) (how : Over) (r : Result T EditError) → IfErr r (λ x. x ≡ OutOfMemory) → OnErr r (WantsEmpty shape how ns) → IfErr r (FailsWith ns (ensure_root shape how))
 told_as_wanted ns shape how (Ok x) memory wanted = tt
 told_as_wanted ns shape how (Err x) memory wanted = subst (FailsWith ns (ensure_root shape how)) (sym memory) (refl, wanted)
-
--- what is answered where an entry is taken out
-module _ (ns : List Node) (path : List ℕ) (n : ℕ) (at : IsEntryAt ns path n) where
-  pub entry_made : {T E : Type 0} (r : Result T E) (new : List Node) → OnOk r (TakesElement ns new n) → OnOk r (EditStep ns (remove path) new)
-  entry_made (Ok x) new takes = (n, at, takes)
-  entry_made (Err e) new takes = tt
-
-  kept_told : (e : EditError) → IsKeptFor ns n e → FailsWith ns (remove path) e
-  kept_told e why = told_at ns (remove path) e (λ is. subst (IsKeptFor ns n) is why) (n, at, why)
-
-  pub entry_told : {T : Type 0} (r : Result T EditError) → IfErr r (IsKeptFor ns n) → IfErr r (FailsWith ns (remove path))
-  entry_told (Ok x) why = tt
-  entry_told (Err e) why = kept_told e why

@@ -12,7 +12,7 @@ use Rattle.jsonc_sound.specs.MarkChanges.{MarksDifferIn}
 use Rattle.jsonc_sound.specs.Marks.{Mark, marks}
 use Rattle.jsonc_sound.specs.SoundTrees.{SoundTree}
 use Rattle.jsonc_edit.specs.Writing.{IsWritable}
-use Rattle.jsonc_text.specs.declared.edit.EditError.{EditError}
+use Rattle.jsonc_text.specs.declared.edit.EditError.TheVariants.{NoSuchPlace}
 use Rattle.jsonc_insert.specs.Inserted.{refusal, ElementPut}
 use Rattle.jsonc_insert.specs.Planned.{has_brackets}
 use Rattle.jsonc_insert.proofs.PastTheEnd.{past_the_end}
@@ -21,24 +21,17 @@ use Rattle.jsonc_insert.specs.elements.Laws.{item_count, ElementInsertedAt, Gain
 use Rattle.jsonc_insert.proofs.lemmas.elements.InsertedValues.{elements_come_at}
 use Rattle.jsonc_insert.proofs.lemmas.elements.Containers.{has_its_brackets}
 use Rattle.jsonc_insert.proofs.lemmas.elements.Written.{inserts_element}
-use Rattle.jsonc_run.specs.Edits.{append_element, insert_element}
 use Rattle.jsonc_run.specs.Places.{IsArrayAt}
-use Rattle.jsonc_run.specs.Refusals.{FailsWith}
 use Rattle.jsonc_insert.proofs.lemmas.named.PathValues.{value_once}
 use Rattle.jsonc_insert.proofs.lemmas.named.EnsureErrors.{no_other}
-use Rattle.jsonc_run.proofs.EditsMade.{told_at}
 
 -- what came at the number of the nodes came behind the last element
 pub comes_last : (old new : List Node) (c k : ℕ) (v : Plain) (m : ℕ) → IsTree old → k ≡ length old → has_brackets old (children_at old c) ≡ true → ElementPut old new c k v m → ElementPut old new c (length (elements_at old c)) v m
 comes_last old new c k v m tree all brackets put = past_the_end old new c k (length (elements_at old c)) v m brackets (omega (arith, few_elements old tree c k all)) (omega arith) put
 
--- why nothing came in
-module _ (ns : List Node) (path : List ℕ) (n : ℕ) (v : Plain) (at : IsArrayAt ns path n) where
-  pub told_in : (i : ℕ) (e : EditError) → e ≡ refusal ns n → FailsWith ns (insert_element path i v) e
-  told_in i e is = told_at ns (insert_element path i v) e (no_other (has_brackets ns (children_at ns n)) e is) (n, at, is)
-
-  pub told_behind : (e : EditError) → e ≡ refusal ns n → FailsWith ns (append_element path v) e
-  told_behind e is = told_at ns (append_element path v) e (no_other (has_brackets ns (children_at ns n)) e is) (n, at, is)
+-- that nothing came in is never for want of a place
+pub never_place : (ns : List Node) (n : ℕ) → NoSuchPlace ≡ refusal ns n → ⊥
+never_place ns n is = no_other (has_brackets ns (children_at ns n)) NoSuchPlace is refl
 
 -- marks that have come in stand in one place
 pub gained_marks : (ms : List Mark) (i : ℕ) (row t u : OrderedTree) → GainsMarks ms i row t u → MarksDifferIn [] ms (marks t) (marks u)

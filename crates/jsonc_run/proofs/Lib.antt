@@ -7,7 +7,6 @@ pub mod CommentMade
 pub mod ValueMade
 pub mod CommasNeeded
 pub mod Booleans
-pub mod OnLines
 pub mod Inserted
 pub mod Properties
 pub mod EnsuredValues

@@ -2,7 +2,6 @@
 use Rattle.std.proofs.Common.{◌≡◌, ℕ, ◌+◌, ◌<◌, cond, List, [], ◌∷◌, ◌++◌, length, take, drop, filter, slice_get, slice_index, Some, refl, sym, ap, subst, ◌∙◌, arith}
 use Rattle.std.specs.List.{find}
 use Rattle.jsonc_text.specs.Options.{Options}
-use Rattle.jsonc_text.specs.declared.edit.EditError.{EditError}
 use Rattle.jsonc_tree.specs.Building.{Keeps}
 use Rattle.jsonc_tree.specs.Changes.{CanJoin, Splices}
 use Rattle.jsonc_tree.specs.Content.{Content, object, property}
@@ -20,7 +19,7 @@ use Rattle.jsonc_edit.specs.Paths.{IsAt, IsElementOf}
 use Rattle.jsonc_edit.specs.Replacing.{ReplacedByRaw}
 use Rattle.jsonc_edit.specs.SeamEntries.{PropertyHolds}
 use Rattle.jsonc_edit.specs.Seams.{StandsBetween}
-use Rattle.jsonc_edit.specs.set.Names.{IsRenamed, RenameError}
+use Rattle.jsonc_edit.specs.set.Names.{IsRenamed}
 use Rattle.jsonc_edit.proofs.ChangesUpward.{Shows-row_below}
 use Rattle.jsonc_edit.proofs.Elements.{Some_same}
 use Rattle.jsonc_edit.proofs.LeavesAroundNodes.{between_above}
@@ -33,15 +32,8 @@ use Rattle.jsonc_edit.proofs.lemmas.set.RenamedPlace.{keeps_propertys_place}
 use Rattle.jsonc_edit.proofs.lemmas.set.RenamedProperty.{Renamed, renamed_nodes}
 use Rattle.jsonc_edit.proofs.lemmas.set.Renaming.{named_child}
 use Rattle.jsonc_insert.specs.named.Places.{IsPropertyAt, a_property}
-use Rattle.jsonc_run.specs.Edits.{rename_property}
-use Rattle.jsonc_run.specs.Refusals.{FailsWith}
 use Rattle.jsonc_run.specs.Written.{RenamesProperty, property_renamed}
-use Rattle.jsonc_run.proofs.EditsMade.{told_at}
 use Rattle.jsonc_run.proofs.lemmas.promise.Naming.{held_here}
-
--- why a property has not got it
-pub name_told : (ns : List Node) (path : List ℕ) (n : ℕ) (name : List ℕ) → IsPropertyAt ns path n → (e : EditError) → RenameError ns n e → FailsWith ns (rename_property path name) e
-name_told ns path n name at e why = told_at ns (rename_property path name) e (λ is. subst (RenameError ns n) is why) (n, at, why)
 
 -- a property's name stands first in its row
 record NameFirst (o : Options) (held : OrderedTree) : Type 0 where

@@ -11,10 +11,8 @@ use Rattle.jsonc_layout.specs.from_input.Texts.{IsCharacters}
 use Rattle.jsonc_sound.specs.Changes.{Changed}
 use Rattle.jsonc_sound.specs.SoundTrees.{SoundTree}
 use Rattle.jsonc_edit.specs.Writing.{IsWritable}
-use Rattle.jsonc_text.specs.declared.edit.EditError.{EditError}
 use Rattle.jsonc_text.specs.declared.edit.EditError.TheVariants.{NoSuchPlace}
 use Rattle.jsonc_edit.proofs.FittingNodes.{over_there}
-use Rattle.jsonc_insert.specs.Inserted.{refusal}
 use Rattle.jsonc_insert.specs.Planned.{has_brackets}
 use Rattle.jsonc_edit.proofs.lemmas.multiline.Documents.{over_at}
 use Rattle.jsonc_insert.specs.members.Inserted.{PropertyPut}
@@ -28,11 +26,7 @@ use Rattle.jsonc_text.specs.declared.edit.Over.{Over}
 use Rattle.jsonc_text.specs.declared.edit.Over.TheVariants as over
 use Rattle.jsonc_text.specs.declared.edit.Shape.{Shape}
 use Rattle.jsonc_insert.specs.named.Named.{EnsureError}
-use Rattle.jsonc_run.specs.Edits.{append_property, ensure_property, insert_property}
 use Rattle.jsonc_run.specs.Places.{IsObjectAt}
-use Rattle.jsonc_run.specs.Refusals.{FailsWith}
-use Rattle.jsonc_insert.proofs.lemmas.named.EnsureErrors.{no_other}
-use Rattle.jsonc_run.proofs.EditsMade.{told_at}
 use Rattle.jsonc_insert.proofs.lemmas.named.PathValues.{value_once}
 
 -- it is one of the nodes
@@ -43,22 +37,10 @@ object_there ns tree path n at = over_there ns tree n (over_at ns tree path n at
 pub comes_last : (old new : List Node) (c k : ℕ) (name : List ℕ) (v : Plain) (m : ℕ) → IsTree old → k ≡ length old → c < length old → has_brackets old (children_at old c) ≡ true → PropertyPut old new c k name v m → PropertyPut old new c (length (elements_at old c)) name v m
 comes_last old new c k name v m tree all there brackets put = past_the_end old new c k (length (elements_at old c)) name v m tree there brackets (omega (arith, few_elements old tree c k all)) (omega arith) put
 
--- why nothing came in
-module _ (ns : List Node) (path : List ℕ) (n : ℕ) (name : List ℕ) (v : Plain) (at : IsObjectAt ns path n) where
-  pub told_in : (i : ℕ) (e : EditError) → e ≡ refusal ns n → FailsWith ns (insert_property path i name v) e
-  told_in i e is = told_at ns (insert_property path i name v) e (no_other (has_brackets ns (children_at ns n)) e is) (n, at, is)
-
-  pub told_behind : (e : EditError) → e ≡ refusal ns n → FailsWith ns (append_property path name v) e
-  told_behind e is = told_at ns (append_property path name v) e (no_other (has_brackets ns (children_at ns n)) e is) (n, at, is)
-
--- or why the first property of a name was not as it was to be
-module _ (ns : List Node) (path : List ℕ) (n : ℕ) (name : List ℕ) (shape : Shape) (how : Over) (at : IsObjectAt ns path n) where
-  pub told_for : (e : EditError) → EnsureError shape how ns n name e → FailsWith ns (ensure_property path name shape how) e
-  told_for e why = told_at ns (ensure_property path name shape how) e (λ is. named_error how (subst (EnsureError shape how ns n name) is why)) (n, at, why)
-    where
-      named_error : (h : Over) → EnsureError shape h ns n name NoSuchPlace → ⊥
-      named_error over.Keep k = absurd k
-      named_error over.Replace k = absurd k
+-- that the first property of a name was not as it was to be is never for want of a place
+pub never_named : (ns : List Node) (n : ℕ) (name : List ℕ) (shape : Shape) (how : Over) → EnsureError shape how ns n name NoSuchPlace → ⊥
+never_named ns n name shape over.Keep k = k
+never_named ns n name shape over.Replace k = k
 
 -- what a property that came into the object at the path of a sound document makes of it
 pub record CameIn (o : Options) (path : List ℕ) (i : ℕ) (name : List ℕ) (v : Plain) (t u : OrderedTree) : Type 0 where

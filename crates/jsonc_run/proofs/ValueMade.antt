@@ -10,7 +10,7 @@ use Rattle.jsonc_sound.specs.SoundTrees.{SoundTree}
 use Rattle.jsonc_edit.specs.Paths.{IsAt}
 use Rattle.jsonc_edit.specs.Reading.{IsReplaced}
 use Rattle.jsonc_text.specs.declared.edit.EditError.{EditError}
-use Rattle.jsonc_text.specs.declared.edit.EditError.TheVariants.{OutOfMemory, MissingBrackets, MissingName, NoSuchPlace, InvalidComment, LineContinues, NotAnEntry}
+use Rattle.jsonc_text.specs.declared.edit.EditError.TheVariants.{OutOfMemory, MissingName}
 use Rattle.jsonc_edit.specs.set.PropertyValues.{EnsureValueError, LastValue}
 use Rattle.jsonc_text.specs.declared.edit.Shape.{Shape}
 use Rattle.jsonc_run.specs.Edits.{ensure_value, PropertyValueSet}
@@ -34,11 +34,7 @@ module _ (ns : List Node) (path : List ℕ) (r : ℕ) (shape : Shape) (at : IsPr
   unset_told : (e : EditError) → EnsureValueError (is_of shape) ns r e → (lacks_name_at ns r ≡ true → e ≡ MissingName) → FailsWith ns (ensure_value path shape) e
   unset_told OutOfMemory why missing = (r, at, (named (lacks_name_at ns r) missing, why))
   unset_told MissingName why missing = (r, at, why)
-  unset_told MissingBrackets why missing = (r, at, why)
-  unset_told NoSuchPlace why missing = absurd why
-  unset_told InvalidComment why missing = absurd why
-  unset_told LineContinues why missing = absurd why
-  unset_told NotAnEntry why missing = absurd why
+  unset_told e why missing = absurd why
 
   pub unset_answer : {T : Type 0} (a : Result T EditError) → IfErr a (EnsureValueError (is_of shape) ns r) → IfErr a (λ e. lacks_name_at ns r ≡ true → e ≡ MissingName) → IfErr a (FailsWith ns (ensure_value path shape))
   unset_answer (Ok x) why missing = tt

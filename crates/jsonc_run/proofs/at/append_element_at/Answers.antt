@@ -1,33 +1,22 @@
 use Rattle.jsonc_layout.specs.input.Views.{plain}
-use Rattle.jsonc_run.specs.Places.{IsArrayAt}
-use Rattle.jsonc_run.proofs.Inserted.{comes_last, told_behind}
-use Rattle.jsonc_run.proofs.EditsMade.{no_place, nowhere}
-use Rattle.jsonc_run.specs.Edits.{append_element}
-use Rattle.jsonc_run.specs.Refusals.{as_it_was}
+use Rattle.jsonc_run.proofs.Inserted.{comes_last, never_place}
+use Rattle.jsonc_run.proofs.EditsMade.{made_there, not_found, refused_there}
 use Rattle.jsonc_run.proofs.at.append_element_at.Goals as goal
 
 pub returns-in_default : goal.returns-in_default
-returns-in_default g c =
-    nowhere c.args.tree.now.nodes (append_element c.args.path.now (plain c.args.value.now))
-    (no_place c.find_needed.result (IsArrayAt c.args.tree.now.nodes c.args.path.now) c.find_needed.ensures.found c.in_default.not-Some)
+returns-in_default g c = not_found _ _ c.find_needed.ensures.found (λ h. h) c.in_default.not-Some
 
 pub insert_element-requires-clause-array : goal.insert_element-requires-clause-array
 insert_element-requires-clause-array g c = ((c.find_needed.ensures.found c.in-Some.array).0 c.in-Some.is).1
 
 pub returns-in-Ok : goal.returns-in-Ok
-returns-in-Ok g c = record {
-  made = (
-    c.in-Some.array,
-    (c.find_needed.ensures.found c.in-Some.array).0 c.in-Some.is,
-    (c.in-Ok.field-0, comes_last c.args.tree.now.nodes c.insert_element.new.tree.nodes c.in-Some.array c.len-count.result (plain c.args.value.now) c.in-Ok.field-0 c.args.tree.now.tree c.len-count.ensures.len c.in-Ok.ensures.brackets c.in-Ok.ensures.put),
-  );
-  error = tt;
-  left = tt;
-}
+returns-in-Ok g c =
+    let n = c.in-Some.array in
+    let last = comes_last c.args.tree.now.nodes c.insert_element.new.tree.nodes n c.len-count.result (plain c.args.value.now) c.in-Ok.field-0 c.args.tree.now.tree c.len-count.ensures.len c.in-Ok.ensures.brackets c.in-Ok.ensures.put in
+    made_there (n, (c.find_needed.ensures.found c.in-Some.array).0 c.in-Some.is, (c.in-Ok.field-0, last))
 
 pub returns-in-Err : goal.returns-in-Err
-returns-in-Err g c = record {
-  made = tt;
-  error = told_behind c.args.tree.now.nodes c.args.path.now c.in-Some.array (plain c.args.value.now) ((c.find_needed.ensures.found c.in-Some.array).0 c.in-Some.is) c.in-Err.error c.in-Err.ensures.error;
-  left = as_it_was c.in-Err.ensures.kept c.in-Err.ensures.document;
-}
+returns-in-Err g c =
+    let n = c.in-Some.array in
+    let at = (c.find_needed.ensures.found c.in-Some.array).0 c.in-Some.is in
+    refused_there _ _ _ n (λ Is h. (n, at, h)) (never_place c.args.tree.now.nodes n) _ c.in-Err.ensures.error c.in-Err.ensures.kept c.in-Err.ensures.document

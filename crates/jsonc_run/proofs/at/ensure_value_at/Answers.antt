@@ -4,7 +4,7 @@ use Rattle.jsonc_text.specs.declared.edit.EditError.TheVariants.{MissingName}
 use Rattle.jsonc_edit.specs.set.PropertyValues.{EnsureValueError}
 use Rattle.jsonc_insert.specs.named.Places.{IsPropertyAt}
 use Rattle.jsonc_edit.specs.set.Shapes.{is_of}
-use Rattle.jsonc_run.proofs.EditsMade.{no_place, nowhere, answers}
+use Rattle.jsonc_run.proofs.EditsMade.{answers, not_found}
 use Rattle.jsonc_run.proofs.ValueMade.{property_kind, unset_answer}
 use Rattle.jsonc_run.specs.Edits.{ensure_value, EditStep}
 use Rattle.jsonc_tree.specs.Building.{Keeps}
@@ -12,9 +12,7 @@ use Rattle.jsonc_tree.specs.OrderedTree.{ordered_tree}
 use Rattle.jsonc_run.proofs.at.ensure_value_at.Goals as goal
 
 pub returns-in_default : goal.returns-in_default
-returns-in_default g c =
-    nowhere c.args.tree.now.nodes (ensure_value c.args.path.now c.args.shape)
-    (no_place c.find_property.result (IsPropertyAt c.args.tree.now.nodes c.args.path.now) c.find_property.ensures.found c.in_default.not-Some)
+returns-in_default g c = not_found _ _ c.find_property.ensures.found (λ h. h) c.in_default.not-Some
 
 pub property_value_or_set-requires-clause-property : goal.property_value_or_set-requires-clause-property
 property_value_or_set-requires-clause-property g c = property_kind c.args.tree.now.nodes c.args.path.now c.in-Some.property ((c.find_property.ensures.found c.in-Some.property).0 c.in-Some.is)

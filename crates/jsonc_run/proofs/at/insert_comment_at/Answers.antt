@@ -1,13 +1,11 @@
 use Rattle.jsonc_run.specs.Places.{IsEntryAt}
 use Rattle.jsonc_run.proofs.CommentMade.{comment_made, comment_told}
-use Rattle.jsonc_run.proofs.EditsMade.{no_place, nowhere, answers}
+use Rattle.jsonc_run.proofs.EditsMade.{answers, not_found}
 use Rattle.jsonc_run.specs.Edits.{insert_comment}
 use Rattle.jsonc_run.proofs.at.insert_comment_at.Goals as goal
 
 pub returns-in_default : goal.returns-in_default
-returns-in_default g c =
-    nowhere c.args.tree.now.nodes (insert_comment c.args.path.now c.args.place c.args.text.now)
-    (no_place c.find_entry.result (IsEntryAt c.args.tree.now.nodes c.args.path.now) c.find_entry.ensures.found c.in_default.not-Some)
+returns-in_default g c = not_found _ _ c.find_entry.ensures.found (λ h. h) c.in_default.not-Some
 
 pub returns : goal.returns
 returns g c =

@@ -1,29 +1,18 @@
-use Rattle.jsonc_layout.specs.input.Views.{plain}
-use Rattle.jsonc_run.specs.Places.{IsArrayAt}
-use Rattle.jsonc_run.proofs.Inserted.{told_in}
-use Rattle.jsonc_run.proofs.EditsMade.{no_place, nowhere}
-use Rattle.jsonc_run.specs.Edits.{insert_element}
-use Rattle.jsonc_run.specs.Refusals.{as_it_was}
+use Rattle.jsonc_run.proofs.Inserted.{never_place}
+use Rattle.jsonc_run.proofs.EditsMade.{made_there, not_found, refused_there}
 use Rattle.jsonc_run.proofs.at.insert_element_at.Goals as goal
 
 pub returns-in_default : goal.returns-in_default
-returns-in_default g c =
-    nowhere c.args.tree.now.nodes (insert_element c.args.path.now c.args.index (plain c.args.value.now))
-    (no_place c.find_needed.result (IsArrayAt c.args.tree.now.nodes c.args.path.now) c.find_needed.ensures.found c.in_default.not-Some)
+returns-in_default g c = not_found _ _ c.find_needed.ensures.found (λ h. h) c.in_default.not-Some
 
 pub insert_element-requires-clause-array : goal.insert_element-requires-clause-array
 insert_element-requires-clause-array g c = ((c.find_needed.ensures.found c.in-Some.array).0 c.in-Some.is).1
 
 pub returns-in-Ok : goal.returns-in-Ok
-returns-in-Ok g c = record {
-  made = (c.in-Some.array, (c.find_needed.ensures.found c.in-Some.array).0 c.in-Some.is, (c.in-Ok.field-0, c.in-Ok.ensures.put));
-  error = tt;
-  left = tt;
-}
+returns-in-Ok g c = made_there (c.in-Some.array, (c.find_needed.ensures.found c.in-Some.array).0 c.in-Some.is, (c.in-Ok.field-0, c.in-Ok.ensures.put))
 
 pub returns-in-Err : goal.returns-in-Err
-returns-in-Err g c = record {
-  made = tt;
-  error = told_in c.args.tree.now.nodes c.args.path.now c.in-Some.array (plain c.args.value.now) ((c.find_needed.ensures.found c.in-Some.array).0 c.in-Some.is) c.args.index c.in-Err.error c.in-Err.ensures.error;
-  left = as_it_was c.in-Err.ensures.kept c.in-Err.ensures.document;
-}
+returns-in-Err g c =
+    let n = c.in-Some.array in
+    let at = (c.find_needed.ensures.found c.in-Some.array).0 c.in-Some.is in
+    refused_there _ _ _ n (λ Is h. (n, at, h)) (never_place c.args.tree.now.nodes n) _ c.in-Err.ensures.error c.in-Err.ensures.kept c.in-Err.ensures.document

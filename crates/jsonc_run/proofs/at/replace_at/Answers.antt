@@ -5,13 +5,11 @@ use Rattle.jsonc_edit.specs.Paths.{IsAt}
 use Rattle.jsonc_edit.specs.Reading.{IsReplaced}
 use Rattle.jsonc_run.specs.Edits.{replace}
 use Rattle.jsonc_run.specs.Refusals.{FailsWith, as_it_was}
-use Rattle.jsonc_run.proofs.EditsMade.{no_place, not_alone, none_is, some_is, nowhere}
+use Rattle.jsonc_run.proofs.EditsMade.{none_is, not_alone, not_found, some_is}
 use Rattle.jsonc_run.proofs.at.replace_at.Goals as goal
 
 pub returns-in_default : goal.returns-in_default
-returns-in_default g c =
-    nowhere c.args.tree.now.nodes (replace c.args.path.now (plain c.args.value.now))
-    (no_place c.find.result (IsAt c.args.tree.now.nodes c.args.path.now) c.find.ensures.found c.in_default.not-Some)
+returns-in_default g c = not_found _ _ c.find.ensures.found (λ h. h) c.in_default.not-Some
 
 pub returns-in-Ok-Some : goal.returns-in-Ok-Some
 returns-in-Ok-Some g c = record {

@@ -6,15 +6,13 @@ use Rattle.jsonc_edit.specs.set.Giving.{IsPropertyReplaced}
 use Rattle.jsonc_run.specs.Edits.{replace_property, EditStep}
 use Rattle.jsonc_insert.specs.named.Places.{IsPropertyAt}
 use Rattle.jsonc_run.specs.Refusals.{FailsWith}
-use Rattle.jsonc_run.proofs.EditsMade.{no_place, property_not_alone, none_is, some_is, told_of_memory, nowhere, answers}
+use Rattle.jsonc_run.proofs.EditsMade.{answers, none_is, not_found, property_not_alone, some_is, told_of_memory}
 use Rattle.jsonc_tree.specs.Building.{Keeps}
 use Rattle.jsonc_tree.specs.OrderedTree.{ordered_tree}
 use Rattle.jsonc_run.proofs.at.replace_property_at.Goals as goal
 
 pub returns-in_default : goal.returns-in_default
-returns-in_default g c =
-    nowhere c.args.tree.now.nodes (replace_property c.args.path.now (chars c.args.name.now) (plain c.args.value.now))
-    (no_place c.find_property.result (IsPropertyAt c.args.tree.now.nodes c.args.path.now) c.find_property.ensures.found c.in_default.not-Some)
+returns-in_default g c = not_found _ _ c.find_property.ensures.found (λ h. h) c.in_default.not-Some
 
 pub returns : goal.returns
 returns g c = record {

@@ -1,13 +1,11 @@
 use Rattle.jsonc_run.specs.Places.{IsBooleanAt}
 use Rattle.jsonc_run.proofs.Booleans.{boolean_made, boolean_told}
-use Rattle.jsonc_run.proofs.EditsMade.{no_place, nowhere, answers}
+use Rattle.jsonc_run.proofs.EditsMade.{answers, not_found}
 use Rattle.jsonc_run.specs.Edits.{set_boolean}
 use Rattle.jsonc_run.proofs.at.set_boolean_at.Goals as goal
 
 pub returns-in_default : goal.returns-in_default
-returns-in_default g c =
-    nowhere c.args.tree.now.nodes (set_boolean c.args.path.now c.args.value)
-    (no_place c.find_needed.result (IsBooleanAt c.args.tree.now.nodes c.args.path.now) c.find_needed.ensures.found c.in_default.not-Some)
+returns-in_default g c = not_found _ _ c.find_needed.ensures.found (λ h. h) c.in_default.not-Some
 
 pub set_boolean-requires-clause-boolean : goal.set_boolean-requires-clause-boolean
 set_boolean-requires-clause-boolean g c = ((c.find_needed.ensures.found c.in-Some.leaf).0 c.in-Some.is).1

@@ -1,13 +1,11 @@
 use Rattle.jsonc_run.specs.Places.{IsContainerAt}
 use Rattle.jsonc_run.proofs.CommasSet.{commas_left, commas_made, commas_told}
-use Rattle.jsonc_run.proofs.EditsMade.{no_place, nowhere}
+use Rattle.jsonc_run.proofs.EditsMade.{not_found}
 use Rattle.jsonc_run.specs.Edits.{set_commas}
 use Rattle.jsonc_run.proofs.at.set_commas_at.Goals as goal
 
 pub returns-in_default : goal.returns-in_default
-returns-in_default g c =
-    nowhere c.args.tree.now.nodes (set_commas c.args.path.now c.args.mode)
-    (no_place c.find_container.result (IsContainerAt c.args.tree.now.nodes c.args.path.now) c.find_container.ensures.found c.in_default.not-Some)
+returns-in_default g c = not_found _ _ c.find_container.ensures.found (λ h. h) c.in_default.not-Some
 
 pub returns : goal.returns
 returns g c = record {

@@ -5,16 +5,14 @@ use Rattle.jsonc_text.specs.declared.edit.EditError.TheVariants.{OutOfMemory}
 use Rattle.jsonc_run.specs.Edits.{set_value, EditStep}
 use Rattle.jsonc_insert.specs.named.Places.{IsPropertyAt}
 use Rattle.jsonc_run.specs.Refusals.{FailsWith}
-use Rattle.jsonc_run.proofs.EditsMade.{no_place, told_of_memory, nowhere, answers}
+use Rattle.jsonc_run.proofs.EditsMade.{answers, not_found, told_of_memory}
 use Rattle.jsonc_run.proofs.ValueMade.{property_kind, property_value_set}
 use Rattle.jsonc_tree.specs.Building.{Keeps}
 use Rattle.jsonc_tree.specs.OrderedTree.{ordered_tree}
 use Rattle.jsonc_run.proofs.at.set_value_at.Goals as goal
 
 pub returns-in_default : goal.returns-in_default
-returns-in_default g c =
-    nowhere c.args.tree.now.nodes (set_value c.args.path.now (plain c.args.value.now))
-    (no_place c.find_property.result (IsPropertyAt c.args.tree.now.nodes c.args.path.now) c.find_property.ensures.found c.in_default.not-Some)
+returns-in_default g c = not_found _ _ c.find_property.ensures.found (λ h. h) c.in_default.not-Some
 
 pub set_property_value-requires-clause-property : goal.set_property_value-requires-clause-property
 set_property_value-requires-clause-property g c = property_kind c.args.tree.now.nodes c.args.path.now c.in-Some.property ((c.find_property.ensures.found c.in-Some.property).0 c.in-Some.is)
