@@ -12,6 +12,7 @@ import re
 import sys
 
 import vectors
+from edits import EDITS
 
 HERE = vectors.HERE
 CRATE = os.path.join(HERE, '..', 'crates', 'jsonc_bench')
@@ -36,20 +37,6 @@ NO_CASES = [
     ("bad-look-up\tjobj\t1111111111\t{}\tget_null 'a", LOOKUP),
     ('bad-name\tjobj\t1111111111\t{}\ttake a', LOOKUP),
     ('bad-edit\tedit\t1111111111\t1\tMove / /0', EDIT),
-    ('bad-path\tedit\t1111111111\t1\tReplace /a N', EDIT),
-    ('bad-value\tedit\t1111111111\t1\tReplace / [2 N', EDIT),
-    ('bad-more\tedit\t1111111111\t1\tReplace / N N', EDIT),
-    ('bad-mark\tedit\t1111111111\t1\tReplace / X', EDIT),
-    ('bad-property\tedit\t1111111111\t1\tReplace / {1 N N', EDIT),
-    ('bad-number\tedit\t1111111111\t1\tRemoveComment x', EDIT),
-    ('bad-root\tedit\t1111111111\t1\tSetRoot', EDIT),
-    ('bad-kind-of-value\tedit\t1111111111\t1\tEnsureRoot one keep', EDIT),
-    ('bad-way\tedit\t1111111111\t1\tEnsureRoot obj away', EDIT),
-    ('bad-new-name\tedit\t1111111111\t{}\tReplaceProperty /0 a N', EDIT),
-    ('bad-other-name\tedit\t1111111111\t{}\tRenameProperty /0 a', EDIT),
-    ('bad-truth-value\tedit\t1111111111\t[true]\tSetBoolean /0 N', EDIT),
-    ('bad-lines\tedit\t1111111111\t[]\tEnsureMultiline /a', EDIT),
-    ('bad-element\tedit\t1111111111\t[]\tInsertElement / a N', EDIT),
     ('bad-leaf\tedit\t1111111111\t1\tRawRemove x', EDIT),
     ('bad-text\tedit\t1111111111\t1\tRawSet 0 1', EDIT),
     ("bad-call\tjobj\t1111111111\t{}\thas 'a", LOOKUP),
@@ -120,8 +107,9 @@ def edits_shown(case, answer):
     text, edits = case[3], vectors.edits_of(case)
     signs = [sign for sign in ('\\x0A', '\\x0D', '\\x09', '//', '/*', ',]', ',}') if sign in text]
     for name, *words in edits:
-        place, value = ('', words) if name in ('SetRoot', 'ClearRoot', 'EnsureRoot') else (words[0], words[1:])
-        yield name, int(place) > 1 if name == 'RemoveComment' else place, len(edits) > 1
+        first = EDITS[name].words.split()[:1] if name in EDITS else ['path']
+        place, value = (words[0], words[1:]) if first in (['path'], ['comment']) else ('', words)
+        yield name, int(place) > 1 if first == ['comment'] else place, len(edits) > 1
         yield name, signs, [word[:1] for word in value][:2]
         for word in value:
             yield name, word if word[0] in '[{' else word[0]
@@ -251,7 +239,8 @@ def main(folder):
     for case, answer in vectors.one_line(os.path.join(HERE, 'one_line')):
         put(case, answer)
     lines.append('% Lines that are passed over, and lines that are no case')
-    for line, message in NO_CASES:
+    no_edits = [('bad-%s-%d\tedit\t%s\t1\t%s' % (name, number, ALL, (name + ' ' + words).rstrip()), EDIT) for name, row in EDITS.items() for number, words in enumerate(row.no_case)]
+    for line, message in NO_CASES + no_edits:
         lines.append(line)
         if message:
             answers.append('line %d is no case: %s' % (len(lines), message))

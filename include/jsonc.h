@@ -43,7 +43,7 @@ JSONC_ASSERT(sizeof(jsonc_path_t) == 16);
 enum jsonc_status {
   JSONC_OK = 0, /* It succeeded. */
   JSONC_OUT_OF_MEMORY = 1, /* An allocation failed. */
-  JSONC_WORD_NOT_UTF8 = 2, /* A name, path, pointer or JSON text is not UTF-8. */
+  JSONC_WORD_NOT_UTF8 = 2, /* A name, comment, path, pointer or JSON text is not UTF-8. */
   JSONC_NOT_UTF8 = 3, /* The text is not UTF-8. */
   JSONC_TEXT = 4, /* The text is no document. The fault tells what is wrong with it. */
   JSONC_PATH = 5, /* The path is no document. The fault tells what is wrong with it. */
@@ -66,6 +66,9 @@ enum jsonc_status {
   JSONC_NOT_PATCH = 22, /* The patch is no array, or an operation is none. The fault tells which, and what is wrong with it. */
   JSONC_INTO_ITSELF = 23, /* A value was to be moved into itself. */
   JSONC_NOT_EQUAL = 24, /* A value is not equal to the one that it was tested against. */
+  JSONC_INVALID_COMMENT = 25, /* The text of a comment that is to be inserted is not one comment and nothing else. */
+  JSONC_LINE_CONTINUES = 26, /* A comment that ends with its line is to be inserted, and something follows there on the line. */
+  JSONC_NOT_AN_ENTRY = 27, /* A comment is to be inserted at a node that is no entry. No call answers it of a text. */
 };
 
 /* What a text may hold beyond JSON. */
@@ -154,6 +157,7 @@ enum jsonc_edit_kind {
   JSONC_EDIT_SET_TRAILING_COMMAS = 16, /* Sets trailing commas from the path down, or removes them if `first`. */
   JSONC_EDIT_SORT = 17, /* Sorts the array or object at the path. */
   JSONC_EDIT_RENAME_PROPERTY = 18, /* Gives the property at the path another name. */
+  JSONC_EDIT_INSERT_COMMENT = 19, /* Inserts the comment in `name` above the element or property at the path, or after it if `first`. */
 };
 
 #define JSONC_FAULT_TEXT_LEN 192
@@ -183,10 +187,10 @@ JSONC_ASSERT(offsetof(jsonc_fault_t, text) == 56);
 typedef struct {
   uint32_t kind; /* The number of its kind. */
   jsonc_path_t path; /* The steps of its path, each a place among elements or properties, from 0. */
-  jsonc_text_t name; /* A name. */
+  jsonc_text_t name; /* A name, or the text of a comment. */
   jsonc_text_t json; /* A value, as a JSON text. */
   size_t index; /* The place to insert at, or the number of the comment. */
-  bool first; /* An array and no object; the truth value; no trailing commas; or to pin comments. */
+  bool first; /* An array and no object; the truth value; no trailing commas; to pin comments; or after an entry and not above it. */
   bool second; /* To replace a value of another kind; or to sort within groups. */
 } jsonc_edit_t;
 JSONC_ASSERT(sizeof(jsonc_edit_t) == 72);
@@ -277,9 +281,10 @@ uint32_t jsonc_drop(const void *text, size_t text_len, const void *path, size_t 
 /*
  * Makes edits in order, and hands out the text after them. Where one is refused, none is made.
  *
- * 0: it is done. 1, 3 and 4 as of `jsonc_check`. 2: a name or JSON text is not UTF-8. 7 and 8: a JSON text is
- * no document, or has no value. 13: an edit has no place. 16: an edit has no such kind. The fault tells how
- * many edits stand before it.
+ * 0: it is done. 1, 3 and 4 as of `jsonc_check`. 2: a name, comment or JSON text is not UTF-8. 7 and 8: a JSON
+ * text is no document, or has no value. 13: an edit has no place. 16: an edit has no such kind. 25: a text to
+ * be inserted as a comment is not one comment. 26: such a comment ends with its line, and something follows
+ * there on the line. The fault tells how many edits stand before it.
  */
 uint32_t jsonc_edit(const void *text, size_t text_len, const jsonc_edit_t *edits, size_t edits_len,
                     uint32_t options, jsonc_text_t *out, jsonc_fault_t *fault);

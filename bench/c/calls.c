@@ -140,14 +140,50 @@ static void lists(void) {
   is(s == JSONC_NO_SUCH_EDIT && fault.made == 3 && out.len == 0, "an edit of no kind");
 }
 
-static const size_t whole_document[1];
+/* By hand: above on a line of its own with the entry's indent, after it one space behind its comma. */
+static void comments(void) {
+  static const size_t first[1] = {0}, third[1] = {2};
+  jsonc_edit_t edits[] = {
+      {JSONC_EDIT_INSERT_COMMENT, {first, 1}, T("// above"), JSONC_NO_TEXT, 0, false, false},
+      {JSONC_EDIT_INSERT_COMMENT, {first, 1}, T("/* after */"), JSONC_NO_TEXT, 0, true, false},
+      {JSONC_EDIT_INSERT_COMMENT, {first, 1}, T("// after"), JSONC_NO_TEXT, 0, true, false},
+      {JSONC_EDIT_INSERT_COMMENT, {first, 1}, T("/* c */ "), JSONC_NO_TEXT, 0, true, false},
+      {JSONC_EDIT_INSERT_COMMENT, {third, 1}, T("// c"), JSONC_NO_TEXT, 0, false, false},
+      {JSONC_EDIT_INSERT_COMMENT, {first, 1}, T("// \xff"), JSONC_NO_TEXT, 0, false, false},
+  };
+  jsonc_fault_t fault = {0};
+  jsonc_text_t out = JSONC_NO_TEXT;
+  uint32_t s = jsonc_edit(B("{\n  \"a\": 1, \"b\": 2\n}\n"), edits, 2, JSONC_WITH_COMMENTS, &out, &fault);
+  is(made(s, out, "{\n  // above\n  \"a\": 1, /* after */ \"b\": 2\n}\n"), "comments above and after a property");
+  s = jsonc_edit(B("[\n\t1,\n\t2\n]"), edits + 2, 1, JSONC_WITH_COMMENTS, &out, &fault);
+  is(made(s, out, "[\n\t1, // after\n\t2\n]"), "a line comment after an element");
+  s = jsonc_edit(B("[1, 2]"), edits + 1, 2, JSONC_WITH_COMMENTS, &out, &fault);
+  is(s == JSONC_LINE_CONTINUES && fault.made == 1 && out.len == 0, "a line comment where the line continues");
+  s = jsonc_edit(B("[1, 2]"), edits + 3, 1, JSONC_WITH_COMMENTS, &out, &fault);
+  is(s == JSONC_INVALID_COMMENT && fault.made == 0 && out.len == 0, "a text that is not one comment");
+  s = jsonc_edit(B("[1, 2]"), edits + 4, 1, JSONC_WITH_COMMENTS, &out, &fault);
+  is(s == JSONC_NO_SUCH_PLACE && fault.made == 0 && out.len == 0, "a comment without a place");
+  s = jsonc_edit(B("[1, 2]"), edits + 4, 2, JSONC_WITH_COMMENTS, &out, &fault);
+  is(s == JSONC_WORD_NOT_UTF8 && fault.made == 1 && out.len == 0, "a comment that is not UTF-8");
+}
+
+static const size_t whole_document[1], first_entry[1] = {0}, nested_entry[2] = {1, 0};
 static const jsonc_edit_t edits_made[] = {
     {JSONC_EDIT_APPEND_PROPERTY, {whole_document, 0}, T("z"), T("{\"x\": [1, \"two\"]}"), 0, false, false},
     {JSONC_EDIT_SORT, {whole_document, 0}, JSONC_NO_TEXT, JSONC_NO_TEXT, 0, false, false},
+    {JSONC_EDIT_INSERT_COMMENT, {first_entry, 1}, T("// above"), JSONC_NO_TEXT, 0, false, false},
+    {JSONC_EDIT_INSERT_COMMENT, {first_entry, 1}, T("/* after */"), JSONC_NO_TEXT, 0, true, false},
+};
+static const jsonc_edit_t edits_refused[] = {
+    {JSONC_EDIT_INSERT_COMMENT, {nested_entry, 2}, T("// c"), JSONC_NO_TEXT, 0, true, false},
+    {JSONC_EDIT_INSERT_COMMENT, {nested_entry, 2}, T("c"), JSONC_NO_TEXT, 0, false, false},
 };
 
 #define PATCH "[{\"op\": \"copy\", \"from\": \"/a\", \"path\": \"/d\"}, {\"op\": \"move\", \"from\": \"/b\", \"path\": \"/a/c/-\"}]"
 #define MERGE "{\"b\": null, \"a\": {\"c\": {\"x\": null, \"y\": [1]}}, \"z\": 1}"
+
+/* The greatest number of a call, and of one into a buffer. */
+enum { LAST_CALL = 19, LAST_INTO = 12 };
 
 /* One of the calls, by its number. */
 static uint32_t call(int which, jsonc_text_t *out, jsonc_fault_t *fault) {
@@ -161,7 +197,7 @@ static uint32_t call(int which, jsonc_text_t *out, jsonc_fault_t *fault) {
   case 6: return jsonc_get(B(text), B("[\"a\", \"c\"]"), JSONC_ALL, out, fault);
   case 7: return jsonc_put(B(text), B("[\"x\", \"y\"]"), B("1"), JSONC_ALL, out, fault);
   case 8: return jsonc_drop(B(text), B("[\"a\", \"c\"]"), JSONC_ALL, out, fault);
-  case 9: return jsonc_edit(B(text), edits_made, 2, JSONC_ALL, out, fault);
+  case 9: return jsonc_edit(B(text), edits_made, 4, JSONC_ALL, out, fault);
   case 10: return jsonc_find(B(text), B("/a/c"), JSONC_ALL, out, fault);
   case 11: return jsonc_apply_patch(B(text), B(PATCH), JSONC_ALL, out, fault);
   case 12: return jsonc_merge_patch(B(text), B(MERGE), JSONC_ALL, out, fault);
@@ -169,6 +205,8 @@ static uint32_t call(int which, jsonc_text_t *out, jsonc_fault_t *fault) {
   case 14: return jsonc_apply_patch(B(text), B("[{\"op\": \"remove\"}]"), JSONC_ALL, out, fault);
   case 15: return jsonc_apply_patch(B(text), B("[{\"op\": \"remove\", \"path\": \"/e\"}]"), JSONC_ALL, out, fault);
   case 16: return jsonc_merge_patch(B(text), B("[{\"a\": 1, \"a\": 2}]"), JSONC_ALL, out, fault);
+  case 17: return jsonc_edit(B(text), edits_refused, 1, JSONC_ALL, out, fault);
+  case 18: return jsonc_edit(B(text), edits_refused + 1, 1, JSONC_ALL, out, fault);
   default: return jsonc_check(B("[1,"), JSONC_ALL, fault);
   }
 }
@@ -184,7 +222,7 @@ static uint32_t call_into(int which, char *room, size_t size, size_t *len, jsonc
   case 6: return jsonc_get_into(B(text), B("[\"a\", \"c\"]"), JSONC_ALL, room, size, len, fault);
   case 7: return jsonc_put_into(B(text), B("[\"x\", \"y\"]"), B("1"), JSONC_ALL, room, size, len, fault);
   case 8: return jsonc_drop_into(B(text), B("[\"a\", \"c\"]"), JSONC_ALL, room, size, len, fault);
-  case 9: return jsonc_edit_into(B(text), edits_made, 2, JSONC_ALL, room, size, len, fault);
+  case 9: return jsonc_edit_into(B(text), edits_made, 4, JSONC_ALL, room, size, len, fault);
   case 10: return jsonc_find_into(B(text), B("/a/c"), JSONC_ALL, room, size, len, fault);
   case 11: return jsonc_apply_patch_into(B(text), B(PATCH), JSONC_ALL, room, size, len, fault);
   default: return jsonc_merge_patch_into(B(text), B(MERGE), JSONC_ALL, room, size, len, fault);
@@ -192,7 +230,7 @@ static uint32_t call_into(int which, char *room, size_t size, size_t *len, jsonc
 }
 
 static void buffers(void) {
-  for (int which = 1; which <= 12; which++) {
+  for (int which = 1; which <= LAST_INTO; which++) {
     char room[256];
     size_t len = 0;
     jsonc_text_t out = JSONC_NO_TEXT;
@@ -235,18 +273,18 @@ static int refuses(void) { return left >= 0 && left-- == 0; }
 void *__wrap_malloc(size_t n) { return refuses() ? 0 : __real_malloc(n); }
 void *__wrap_realloc(void *p, size_t n) { return refuses() ? 0 : __real_realloc(p, n); }
 
-/* So numbered, or, past 17, into a buffer, which is copied. */
+/* So numbered, or, past the last of these, into a buffer, which is copied. */
 static uint32_t call_either(int which, jsonc_text_t *out, jsonc_fault_t *fault) {
-  if (which <= 17) return call(which, out, fault);
+  if (which <= LAST_CALL) return call(which, out, fault);
   char room[256];
   size_t len = 0;
-  uint32_t s = call_into(which - 17, room, sizeof room, &len, fault);
+  uint32_t s = call_into(which - LAST_CALL, room, sizeof room, &len, fault);
   if (len) *out = (jsonc_text_t){memcpy(__real_malloc(len), room, len), len};
   return s;
 }
 
 static void refusals(void) {
-  for (int which = 0; which <= 29; which++) {
+  for (int which = 0; which <= LAST_CALL + LAST_INTO; which++) {
     jsonc_text_t whole = JSONC_NO_TEXT;
     jsonc_fault_t fault = {0};
     uint32_t ample = call_either(which, &whole, &fault);
@@ -271,6 +309,7 @@ int main(void) {
   patch_faults();
   texts();
   lists();
+  comments();
   buffers();
   threads();
 #ifdef REFUSE

@@ -1,7 +1,7 @@
 //! Edits that are drawn, and made by the Rust crate.
 use crate::generate::{Draw, NAMES, Paths, value};
 use crate::theirs::{escaped, json, words};
-use jsonc::{Edit, Shape};
+use jsonc::{Edit, Place, Shape};
 use jsonc_parser::cst::*;
 
 fn node_at(root: &CstRootNode, path: &[usize]) -> Option<CstNode> {
@@ -168,6 +168,8 @@ pub fn make(root: &CstRootNode, drawn: &Drawn) -> Option<()> {
             ObjectPropName::String(it) => it.set_raw_value(json(&CstInputValue::String(name.clone()))),
             ObjectPropName::Word(it) => it.set_raw_value(json(&CstInputValue::String(name.clone()))),
         },
+        // (the crate has no call for it, nor one that a comment can be made with: it is not drawn)
+        Edit::InsertComment { .. } => unreachable!("an edit that the crate lacks was drawn"),
         Edit::EnsureRoot { shape: Shape::Object, replace: false } => drop(root.object_value_or_create()),
         Edit::EnsureRoot { shape: Shape::Array, replace: false } => drop(root.array_value_or_create()),
         Edit::EnsureRoot { shape: Shape::Object, replace: true } => drop(root.object_value_or_set()),
@@ -223,6 +225,9 @@ pub fn shown(drawn: &Drawn) -> String {
         Edit::ClearRoot => "ClearRoot".to_string(),
         Edit::ReplaceProperty { path, name, .. } => format!("ReplaceProperty {} {} {v}", at(path), n(name)),
         Edit::RenameProperty { path, name } => format!("RenameProperty {} {}", at(path), n(name)),
+        Edit::InsertComment { path, place, text } => {
+            format!("InsertComment {} {} {}", at(path), if *place == Place::After { "after" } else { "above" }, n(text))
+        }
         Edit::EnsureRoot { shape, replace } => format!("EnsureRoot {} {}", s(shape), o(replace)),
         Edit::SetValue { path, .. } => format!("SetValue {} {v}", at(path)),
         Edit::EnsureValue { path, shape } => format!("EnsureValue {} {}", at(path), s(shape)),

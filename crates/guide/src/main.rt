@@ -3,6 +3,7 @@
 #![tactic(auto)]
 
 mod files;
+mod migrate;
 mod patches;
 mod read;
 mod recipes;
@@ -31,10 +32,11 @@ enum Recipe {
     NeverThenIfMultiline,
     DropFirst,
     WriteNumber,
+    Migrate,
 }
 
 /// Each recipe with its name and the texts that it is shown on.
-static RECIPES: [(&str, Recipe, &str); 24] = [
+static RECIPES: [(&str, Recipe, &str); 26] = [
     ("set_font_size", Recipe::SetFontSize, texts::EDITOR),
     ("set_font_size", Recipe::SetFontSize, "{}"),
     ("set_font_size", Recipe::SetFontSize, "{\"editor\": 1}"),
@@ -71,6 +73,8 @@ static RECIPES: [(&str, Recipe, &str); 24] = [
     ("insert_first", Recipe::InsertFirst, texts::USES),
     ("add_ruler", Recipe::AddRuler, texts::TRAILING),
     ("sort_by_name", Recipe::SortWithHeaders, texts::CARRIED),
+    ("migrate", Recipe::Migrate, texts::SETTINGS),
+    ("migrate", Recipe::Migrate, texts::MIGRATED),
 ];
 
 /// Makes a recipe of a document.
@@ -88,6 +92,7 @@ fn make<A: Allocator + Copy>(recipe: Recipe, doc: &mut CstRootNode<A>) -> Result
         Recipe::NeverThenIfMultiline => recipes::never_then_if_multiline(doc),
         Recipe::DropFirst => recipes::drop_first(doc),
         Recipe::WriteNumber => recipes::write_number(doc),
+        Recipe::Migrate => migrate::migrate(doc),
     }
 }
 

@@ -84,3 +84,29 @@ pub(crate) const COMMAS: &str = r#"{
     2
   ]
 }"#;
+
+pub(crate) const SETTINGS: &str = r#"{
+  // How it looks.
+  "colour": "dark",
+  "editor": {
+    // In points.
+    "fontSize": 14, // was 12
+    // No longer read.
+    "ligatures": true,
+    "tabSize": 4
+  }
+}"#;
+
+pub(crate) const MIGRATED: &str = r#"{
+  // How it looks.
+  "theme": "dark",
+  "editor": {
+    "tabSize": 4
+  },
+  "terminal": {
+    // In points.
+    // was 12
+    "fontSize": 14
+  },
+  "version": 2
+}"#;

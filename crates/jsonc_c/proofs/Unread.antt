@@ -5,7 +5,7 @@ use Rattle.jsonc_text.specs.Options.{Options, all_on}
 use Rattle.jsonc_text.specs.Plain.{Plain, collapse}
 use Rattle.jsonc_engine.specs.Input.{IsRefusal, IsRefusalOf}
 use Rattle.jsonc_engine.specs.Parser.{IsFault, ParseError, ParseFault, RefusesText}
-use Rattle.jsonc_c.specs.Edits.{HasValue, IsOfRoot, IsUnread, IsWanting, for_kind, for_memory, for_name, for_text}
+use Rattle.jsonc_c.specs.Edits.{HasValue, IsOfRoot, IsUnread, IsWanting, for_kind, for_memory, for_name, for_text, greatest_kind}
 use Rattle.jsonc_c.specs.Told.{IsToldOf}
 use Rattle.jsonc_c.specs.declared.edits.JsoncEdit.{JsoncEdit}
 use Rattle.jsonc_c.specs.declared.fault.JsoncFault.{JsoncFault}
@@ -35,7 +35,7 @@ unread_text c e status f has refused (inl is) = unread_memory c status f is
 unread_text c e status f has refused (inr told) = subst (λ (s : ℕ). IsUnread c s f) (sym told.0) (for_text e has refused told.1)
 
 -- no edit has the kind
-pub unread_kind : (c : JsoncEdit) (f : JsoncFault) → 18 < c.kind → IsUnread c 16 f
+pub unread_kind : (c : JsoncEdit) (f : JsoncFault) → greatest_kind < c.kind → IsUnread c 16 f
 unread_kind c f past = for_kind past
 
 -- of the edits of the document's value or of a comment, one alone has a value

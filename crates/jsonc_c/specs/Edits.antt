@@ -7,6 +7,8 @@ use Rattle.jsonc_text.specs.declared.edit.EditError.{EditError}
 use Rattle.jsonc_text.specs.declared.edit.Over.{Over}
 use Rattle.jsonc_text.specs.declared.edit.Over.TheVariants.{Keep}
 use Rattle.jsonc_text.specs.declared.edit.Over.TheVariants as over
+use Rattle.jsonc_text.specs.declared.edit.Place.{Place}
+use Rattle.jsonc_text.specs.declared.edit.Place.TheVariants as place
 use Rattle.jsonc_text.specs.declared.edit.Shape.{Shape}
 use Rattle.jsonc_text.specs.declared.edit.Shape.TheVariants as shape
 use Rattle.jsonc_text.specs.declared.errors.ParseError.{ParseError}
@@ -16,7 +18,7 @@ use Rattle.jsonc_layout.specs.input.Views.{plain}
 use Rattle.jsonc_layout.specs.declared.input.value.CstInputValue.{CstInputValue}
 use Rattle.jsonc_run.specs.declared.edit.Edit.{Edit}
 use Rattle.jsonc_run.specs.declared.edit.Edit.TheVariants as edit
-use Rattle.jsonc_cst.specs.Values.{IsValueOfText}
+use Rattle.jsonc_input.specs.Reads.{IsValueOfText}
 use Rattle.jsonc_parser.specs.Promise.{IsEditedText, StopsText}
 use Rattle.jsonc_engine.specs.Input.{IsRefusal, IsRefusalOf}
 use Rattle.jsonc_c.specs.Told.{IsToldOf, edit_status}
@@ -37,6 +39,11 @@ over_of false = over.Keep
 abbrev pub mode_of : Bool → TrailingCommaMode
 mode_of true = commas.Never
 mode_of false = commas.IfMultiline
+
+-- after an entry on its line, or above it
+abbrev pub place_of : Bool → Place
+place_of true = place.After
+place_of false = place.Above
 
 module _ {A : Type 0} where
   -- v is the value of the JSON text, which may hold all that options allow
@@ -64,13 +71,19 @@ module _ {A : Type 0} where
   IsReadAs c (edit.SetTrailingCommas path mode) = (c.kind ≡ 16) × (path.items ≡ c.path.now) × (mode ≡ mode_of c.first)
   IsReadAs c (edit.Sort path pin groups) = (c.kind ≡ 17) × (path.items ≡ c.path.now) × (pin ≡ c.first) × (groups ≡ c.second)
   IsReadAs c (edit.RenameProperty path name) = (c.kind ≡ 18) × (path.items ≡ c.path.now) × (string_bytes name ≡ c.name.now)
+  IsReadAs c (edit.InsertComment path place comment) = (c.kind ≡ 19) × (path.items ≡ c.path.now) × (place ≡ place_of c.first) × (string_bytes comment ≡ c.name.now)
 
   -- the edits are those that C's edits ask for, in their order
   pub data AreReadAs : List JsoncEdit → List (Edit A) → Type 0 where
     none_read : AreReadAs [] []
     one_read : {c : JsoncEdit} {e : Edit A} {cs : List JsoncEdit} {es : List (Edit A)} → IsReadAs c e → AreReadAs cs es → AreReadAs (c ∷ cs) (e ∷ es)
 
--- the kinds of edits: of the document's value or of a comment; at a path, writing no value; at one, writing a value; at one, writing a property; at one, with a name
+-- no edit has a greater kind
+abbrev pub greatest_kind : ℕ
+greatest_kind = 19
+
+-- the kinds of edits: of the document's value or of a comment that is there; at a path, writing no value; at one, writing a value; at one, writing a property; at
+-- one, with a name or the text of a comment
 abbrev pub IsOfRoot : ℕ → Type 0
 IsOfRoot kind = (kind ≡ 2) ⊎ ((kind ≡ 3) ⊎ ((kind ≡ 4) ⊎ (kind ≡ 6)))
 
@@ -84,34 +97,34 @@ abbrev pub IsOfProperty : ℕ → Type 0
 IsOfProperty kind = (kind ≡ 5) ⊎ ((kind ≡ 13) ⊎ (kind ≡ 14))
 
 abbrev pub IsOfName : ℕ → Type 0
-IsOfName kind = (kind ≡ 15) ⊎ (kind ≡ 18)
+IsOfName kind = (kind ≡ 15) ⊎ ((kind ≡ 18) ⊎ (kind ≡ 19))
 
--- the kinds that have a name, and those that have a value
+-- the kinds that have a name or a comment, and those that have a value
 abbrev pub HasName : ℕ → Type 0
 HasName kind = IsOfProperty kind ⊎ IsOfName kind
 
 abbrev pub HasValue : ℕ → Type 0
 HasValue kind = (kind ≡ 3) ⊎ (IsOfValue kind ⊎ IsOfProperty kind)
 
--- an allocation failed, or the name that the kind has is not UTF-8
+-- an allocation failed, or the name or comment that the kind has is not UTF-8
 abbrev pub IsWanting : JsoncEdit → ℕ → Type 0
 IsWanting c status = (status ≡ 1) ⊎ ((status ≡ 2) × HasName c.kind × ¬ (IsUtf8 c.name.now))
 
--- Why C's edit is none: an allocation failed; a name or JSON text that its kind has is not UTF-8; that text is no document, and the fault tells what is wrong with
--- it; it has no value; or no edit has its kind.
+-- Why C's edit is none: an allocation failed; a name, comment or JSON text that its kind has is not UTF-8; that JSON text is no document, and the fault tells what
+-- is wrong with it; it has no value; or no edit has its kind.
 pub data IsUnread (c : JsoncEdit) : ℕ → JsoncFault → Type 0 where
   for_memory : {f : JsoncFault} → IsUnread c 1 f
   for_name : {f : JsoncFault} → HasName c.kind → ¬ (IsUtf8 c.name.now) → IsUnread c 2 f
   for_json : {f : JsoncFault} → HasValue c.kind → ¬ (IsUtf8 c.json.now) → IsUnread c 2 f
   for_text : {f : JsoncFault} (e : ParseError) → HasValue c.kind → IsRefusal c.json.now e → IsToldOf e f → IsUnread c 7 f
   for_value : {f : JsoncFault} → HasValue c.kind → IsDocument all_on (chars c.json.now) None → IsUnread c 8 f
-  for_kind : {f : JsoncFault} → 18 < c.kind → IsUnread c 16 f
+  for_kind : {f : JsoncFault} → greatest_kind < c.kind → IsUnread c 16 f
 
 -- why one of C's edits is none: an allocation failed, or so it is of the one of the number that the fault tells
 abbrev pub IsUnreadIn : List JsoncEdit → ℕ → JsoncFault → Type 0
 IsUnreadIn cs status f = (status ≡ 1) ⊎ ((c : JsoncEdit) × (slice_get cs f.made ≡ Some c) × IsUnread c status f)
 
--- The text is a document, and if each number that the edits write is, whole, one of the options, they lead from it to one of the other text.
+-- The text is a document, and if the options allow what the edits write, they lead from it to one of the other text.
 abbrev pub IsEdited : Type 0 → Options → List ℕ → List JsoncEdit → List ℕ → Type 0
 IsEdited A o text cs made = (es : List (Edit A)) × AreReadAs cs es × IsEditedText o (chars text) es (chars made)
 

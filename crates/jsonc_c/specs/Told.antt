@@ -85,6 +85,9 @@ edit_status refused.OutOfMemory = 1
 edit_status refused.NoSuchPlace = 13
 edit_status refused.MissingBrackets = 14
 edit_status refused.MissingName = 15
+edit_status refused.InvalidComment = 25
+edit_status refused.LineContinues = 26
+edit_status refused.NotAnEntry = 27
 
 -- the status of a fault, and what is told with it
 abbrev pub IsTold : Fault → ℕ → JsoncFault → Type 0

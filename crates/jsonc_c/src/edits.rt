@@ -8,13 +8,13 @@ pub struct JsoncEdit<'a> {
     pub kind: u32,
     /// The steps of its path, each a place among elements or properties, from 0.
     pub path: &'a [usize],
-    /// A name.
+    /// A name, or the text of a comment.
     pub name: &'a [u8],
     /// A value, as a JSON text.
     pub json: &'a [u8],
     /// The place to insert at, or the number of the comment.
     pub index: usize,
-    /// An array and no object; the truth value; no trailing commas; or to pin comments.
+    /// An array and no object; the truth value; no trailing commas; to pin comments; or after an entry and not above it.
     pub first: bool,
     /// To replace a value of another kind; or to sort within groups.
     pub second: bool,
@@ -76,3 +76,6 @@ pub(crate) const SORT: u32 = 17;
 
 /// Gives the property at the path another name.
 pub(crate) const RENAME_PROPERTY: u32 = 18;
+
+/// Inserts the comment in `name` above the element or property at the path, or after it if `first`.
+pub(crate) const INSERT_COMMENT: u32 = 19;

@@ -55,7 +55,7 @@ pub(crate) const OK: u32 = 0;
 /// An allocation failed.
 pub(crate) const OUT_OF_MEMORY: u32 = 1;
 
-/// A name, path, pointer or JSON text is not UTF-8.
+/// A name, comment, path, pointer or JSON text is not UTF-8.
 pub(crate) const WORD_NOT_UTF8: u32 = 2;
 
 /// The text is not UTF-8.
@@ -123,6 +123,15 @@ pub(crate) const INTO_ITSELF: u32 = 23;
 
 /// A value is not equal to the one that it was tested against.
 pub(crate) const NOT_EQUAL: u32 = 24;
+
+/// The text of a comment that is to be inserted is not one comment and nothing else.
+pub(crate) const INVALID_COMMENT: u32 = 25;
+
+/// A comment that ends with its line is to be inserted, and something follows there on the line.
+pub(crate) const LINE_CONTINUES: u32 = 26;
+
+/// A comment is to be inserted at a node that is no entry. No call answers it of a text.
+pub(crate) const NOT_AN_ENTRY: u32 = 27;
 
 fn string_kind_number(kind: &ParseStringErrorKind) -> u32
     ensures { result ≡ string_kind_number kind.now }
@@ -228,6 +237,9 @@ pub(crate) fn edit_status(error: EditError) -> u32
         EditError::NoSuchPlace => NO_SUCH_PLACE,
         EditError::MissingBrackets => MISSING_BRACKETS,
         EditError::MissingName => MISSING_NAME,
+        EditError::InvalidComment => INVALID_COMMENT,
+        EditError::LineContinues => LINE_CONTINUES,
+        EditError::NotAnEntry => NOT_AN_ENTRY,
     }
 }
 

@@ -71,9 +71,10 @@ pub(crate) fn text_after(
 
 /// Makes edits in order, and hands out the text after them. Where one is refused, none is made.
 ///
-/// 0: it is done. 1, 3 and 4 as of `jsonc_check`. 2: a name or JSON text is not UTF-8. 7 and 8: a JSON text is no
-/// document, or has no value. 13: an edit has no place. 16: an edit has no such kind. The fault tells how many edits
-/// stand before it.
+/// 0: it is done. 1, 3 and 4 as of `jsonc_check`. 2: a name, comment or JSON text is not UTF-8. 7 and 8: a JSON text is
+/// no document, or has no value. 13: an edit has no place. 16: an edit has no such kind. 25: a text to be inserted as
+/// a comment is not one comment. 26: such a comment ends with its line, and something follows there on the line. The
+/// fault tells how many edits stand before it.
 #[tactic(auto, using(crate::proofs::Telling::tells_no_edits))]
 #[unsafe(no_mangle)]
 pub extern "C" fn jsonc_edit(

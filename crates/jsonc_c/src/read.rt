@@ -1,19 +1,19 @@
 //! Edits of C, read.
 ghost use Rattle.std.specs.Prelude.{◌≡◌, IfErr, IfOk, IsUtf8, OnOk, string_bytes};
 ghost use Rattle.jsonc_c.specs.Edits.{AreReadAs, HasName, HasValue, IsReadAs, IsUnread, IsUnreadIn, IsValueOf, IsWanting};
-ghost use Rattle.jsonc_c.specs.Edits.{IsOfName, IsOfPath, IsOfProperty, IsOfRoot, IsOfValue, mode_of, over_of, shape_of};
+ghost use Rattle.jsonc_c.specs.Edits.{IsOfName, IsOfPath, IsOfProperty, IsOfRoot, IsOfValue, mode_of, over_of, place_of, shape_of};
 
 use crate::edits::{
     APPEND_ELEMENT, APPEND_PROPERTY, CLEAR_ROOT, ENSURE_MULTILINE, ENSURE_PROPERTY, ENSURE_ROOT,
-    ENSURE_VALUE, INSERT_ELEMENT, INSERT_PROPERTY, JsoncEdit, REMOVE, REMOVE_COMMENT,
-    RENAME_PROPERTY, REPLACE, REPLACE_PROPERTY, SET_BOOLEAN, SET_ROOT, SET_TRAILING_COMMAS,
-    SET_VALUE, SORT,
+    ENSURE_VALUE, INSERT_COMMENT, INSERT_ELEMENT, INSERT_PROPERTY, JsoncEdit, REMOVE,
+    REMOVE_COMMENT, RENAME_PROPERTY, REPLACE, REPLACE_PROPERTY, SET_BOOLEAN, SET_ROOT,
+    SET_TRAILING_COMMAS, SET_VALUE, SORT,
 };
 use crate::fault::{
     JSON, JsoncFault, NO_SUCH_EDIT, NO_VALUE, OUT_OF_MEMORY, WORD_NOT_UTF8, tell_error,
 };
 use jsonc_parser::ParseOptions;
-use jsonc_parser::cst::{CstInputValue, Edit, Over, Shape, TrailingCommaMode, input};
+use jsonc_parser::cst::{CstInputValue, Edit, Over, Place, Shape, TrailingCommaMode, input};
 use std::alloc::Global;
 
 fn shape_of(is_array: bool) -> Shape
@@ -42,6 +42,12 @@ fn mode_of(never: bool) -> TrailingCommaMode
     }
 }
 
+fn place_of(after: bool) -> Place
+    ensures { result ≡ place_of after }
+{
+    if after { Place::After } else { Place::Above }
+}
+
 /// The path of an edit.
 fn path_of(alloc: Global, edit: &JsoncEdit) -> Result<Vec<usize>, u32>
     ensures path { IfOk result (λ path. path.items ≡ edit.now.path.now) }
@@ -53,7 +59,7 @@ fn path_of(alloc: Global, edit: &JsoncEdit) -> Result<Vec<usize>, u32>
     }
 }
 
-/// Its name.
+/// Its name, or the text of its comment.
 fn name_of(alloc: Global, edit: &JsoncEdit) -> Result<String, u32>
     requires { HasName edit.now.kind }
     ensures name { IfOk result (λ name. string_bytes name ≡ edit.now.name.now) }
@@ -154,7 +160,7 @@ fn value_edit(alloc: Global, edit: &JsoncEdit, fault: &mut JsoncFault) -> Result
     }
 }
 
-/// An edit at a path that has a name and no value.
+/// An edit at a path that has a name or a comment's text, and no value.
 fn name_edit(alloc: Global, edit: &JsoncEdit) -> Result<Edit<Global>, u32>
     requires { IsOfName edit.now.kind }
     ensures read { IfOk result (IsReadAs edit.now) }
@@ -170,6 +176,7 @@ fn name_edit(alloc: Global, edit: &JsoncEdit) -> Result<Edit<Global>, u32>
     };
     match edit.kind {
         RENAME_PROPERTY => Ok(Edit::RenameProperty(path, name)),
+        INSERT_COMMENT => Ok(Edit::InsertComment(path, place_of(edit.first), name)),
         _ => {
             let (shape, over) = (shape_of(edit.first), over_of(edit.second));
             Ok(Edit::EnsureProperty(path, name, shape, over))
@@ -224,7 +231,7 @@ fn read_edit(alloc: Global, edit: &JsoncEdit, fault: &mut JsoncFault) -> Result<
         }
         REPLACE | SET_VALUE | INSERT_ELEMENT | APPEND_ELEMENT => value_edit(alloc, edit, fault),
         REPLACE_PROPERTY | INSERT_PROPERTY | APPEND_PROPERTY => property_edit(alloc, edit, fault),
-        ENSURE_PROPERTY | RENAME_PROPERTY => name_edit(alloc, edit),
+        ENSURE_PROPERTY | RENAME_PROPERTY | INSERT_COMMENT => name_edit(alloc, edit),
         _ => Err(NO_SUCH_EDIT),
     }
 }

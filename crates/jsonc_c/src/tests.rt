@@ -260,6 +260,49 @@ fn edit_at<'a>(kind: u32, path: &'a [usize], json: &'a [u8]) -> JsoncEdit<'a> {
     }
 }
 
+/// A comment that is to be inserted at a path.
+fn comment_at<'a>(path: &'a [usize], text: &'a [u8], is_after: bool) -> JsoncEdit<'a> {
+    JsoncEdit {
+        kind: 19,
+        path,
+        name: text,
+        json: b"",
+        index: 0,
+        first: is_after,
+        second: false,
+    }
+}
+
+#[test]
+fn comments(rt: HostRuntime) -> Result<(), Fail> {
+    let alloc = rt.alloc();
+    let mut fault = no_fault();
+    let mut out: &'static [u8] = &[];
+    let made = [
+        comment_at(&[1], b"// y", false),
+        comment_at(&[1], b"/* z */", true),
+    ];
+    assert_eq!(rt;
+        jsonc_edit(alloc, TEXT, made.as_slice(), ALL, &mut out, &mut fault),
+        0
+    );
+    assert_eq!(rt;
+        out,
+        b"{\n  \"b\": 1, // x\n  // y\n  \"a\": [2] /* z */\n}\n".as_slice()
+    );
+    let continues = [comment_at(&[0], b"// c", true)];
+    assert_eq!(rt;
+        jsonc_edit(alloc, TEXT, continues.as_slice(), ALL, &mut out, &mut fault),
+        26
+    );
+    let invalid = [comment_at(&[0], b"c", true)];
+    assert_eq!(rt;
+        jsonc_edit(alloc, TEXT, invalid.as_slice(), ALL, &mut out, &mut fault),
+        25
+    );
+    Ok(())
+}
+
 #[test]
 fn edits(rt: HostRuntime) -> Result<(), Fail> {
     let alloc = rt.alloc();

@@ -2,7 +2,7 @@
 
 use crate::error::CaseError;
 use crate::escape::unescaped_text;
-use jsonc_parser::cst::{CstInputValue, Edit, Over, Shape, TrailingCommaMode};
+use jsonc_parser::cst::{CstInputValue, Edit, Over, Place, Shape, TrailingCommaMode};
 use std::alloc::Global;
 
 /// An edit of a case.
@@ -88,6 +88,8 @@ static MODES: [(&str, TrailingCommaMode); 2] = [
     ("ifmultiline", TrailingCommaMode::IfMultiline),
 ];
 
+static PLACES: [(&str, Place); 2] = [("above", Place::Above), ("after", Place::After)];
+
 static KEYS: [(&str, SortKey); 5] = [
     ("text", SortKey::Text),
     ("rev", SortKey::Reversed),
@@ -166,6 +168,11 @@ fn read_edit(alloc: Global, words: &[&str]) -> Result<Edit<Global>, CaseError> {
         }
         ["Remove", path] => Ok(Edit::Remove(read_path(alloc, path)?)),
         ["RemoveComment", number] => Ok(Edit::RemoveComment(read_number(number)?)),
+        ["InsertComment", path, place, text] => {
+            let place = chosen(place, &PLACES)?;
+            let (path, text) = read_name_at(alloc, path, text)?;
+            Ok(Edit::InsertComment(path, place, text))
+        }
         ["ReplaceProperty", path, name, value @ ..] => {
             let (path, name, value) = read_property_at(alloc, path, name, value)?;
             Ok(Edit::ReplaceProperty(path, name, value))
@@ -266,7 +273,7 @@ fn read_value_at(
     Ok((path, read_value(alloc, value)?))
 }
 
-/// A path and a name.
+/// A path and a name, or the text of a comment.
 fn read_name_at(alloc: Global, path: &str, name: &str) -> Result<(Vec<usize>, String), CaseError> {
     let path = read_path(alloc, path)?;
     Ok((path, read_name(alloc, name)?))
@@ -293,7 +300,7 @@ fn chosen<T: Copy>(word: &str, choices: &[(&str, T)]) -> Result<T, CaseError> {
     Err(CaseError::Edit)
 }
 
-/// The name of a property or the text of a leaf, which stands after a `'`.
+/// The name of a property or the text of a leaf or comment, which stands after a `'`.
 fn read_name(alloc: Global, word: &str) -> Result<String, CaseError> {
     match word.strip_prefix("'") {
         Some(name) => unescaped_text(alloc, name),

@@ -20,6 +20,9 @@ impl Refusal {
             Refusal::Error(EditError::NoSuchPlace) => Ok("NoSuchPlace"),
             Refusal::Error(EditError::MissingBrackets) => Ok("MissingBrackets"),
             Refusal::Error(EditError::MissingName) => Ok("MissingName"),
+            Refusal::Error(EditError::InvalidComment) => Ok("InvalidComment"),
+            Refusal::Error(EditError::LineContinues) => Ok("LineContinues"),
+            Refusal::Error(EditError::NotAnEntry) => Ok("NotAnEntry"),
             Refusal::Error(EditError::OutOfMemory) => Err(AllocError),
         }
     }

@@ -9,16 +9,11 @@ use Rattle.jsonc_text.specs.Numbers.{Number}
 use Rattle.jsonc_text.specs.Grammar as grammar
 use Rattle.jsonc_text.specs.Grammar.{IsValue, AreElements, AreProperties, IsProperty, IsDocument, literal_value}
 use Rattle.jsonc_text.proofs.NumberFrames.{number_whole}
-use Rattle.jsonc_tree.specs.OrderedTree.{OrderedTree}
-use Rattle.jsonc_tree.specs.Values.{DocumentValueOf}
-use Rattle.jsonc_sound.specs.Shape.{DocumentShaped}
 use Rattle.jsonc_layout.specs.input.Views.{plain}
 use Rattle.jsonc_layout.specs.declared.input.value.CstInputValue.{CstInputValue}
 use Rattle.jsonc_layout.proofs.lemmas.from_input.Texts.{of_texts}
-use Rattle.jsonc_layout.specs.to_input.Taken.{IsTaken}
 use Rattle.jsonc_edit.specs.Writing.{IsOfNumbers, AreOfNumbers, AreNamedOfNumbers, IsWritable}
-use Rattle.jsonc_cst.specs.Values.{IsValueOfText}
-use Rattle.jsonc_cst.proofs.Colons.{taken_is_the_value}
+use Rattle.jsonc_input.specs.Reads.{IsValueOfText}
 
 module _ (o : Options) where
   -- a literal's number is one
@@ -92,17 +87,13 @@ module _ (o : Options) where
   pub document_numbers : (t : List ℕ) (v : Plain) → IsDocument o t (Some v) → IsOfNumbers o v
   document_numbers t v d = value_numbers d.3
 
--- what was taken of a document of the text
-module _ {A : Type 0} (text : List ℕ) (o : Options) (tree : OrderedTree) (shaped : DocumentShaped o tree) (value : (w : Option Plain) × IsDocument o (chars text) w × DocumentValueOf o tree w) where
-  pub value_of_text : (taken : Option (CstInputValue A)) → IsTaken tree taken → IsValueOfText o text (option_map plain taken)
-  value_of_text taken is = record { value = value.0; document = value.1; collapsed = taken_is_the_value o tree value.0 taken shaped value.2 is }
-
-  pub value_may_be_written : (taken : Option (CstInputValue A)) → IsTaken tree taken → IfSome taken (λ v. IsWritable o (plain v))
-  value_may_be_written taken is = go taken value.0 value.1 (taken_is_the_value o tree value.0 taken shaped value.2 is)
+  -- what was read of a text may be written
+  pub value_may_be_written : {A : Type 0} (text : List ℕ) (found : Option (CstInputValue A)) → IsValueOfText o text (option_map plain found) → IfSome found (λ v. IsWritable o (plain v))
+  value_may_be_written {A} text found read = go found read.value read.document read.collapsed
     where
-      go : (taken : Option (CstInputValue A)) (w : Option Plain) → IsDocument o (chars text) w → option_map plain taken ≡ option_map collapse w → IfSome taken (λ v. IsWritable o (plain v))
+      go : (found : Option (CstInputValue A)) (w : Option Plain) → IsDocument o (chars text) w → option_map plain found ≡ option_map collapse w → IfSome found (λ v. IsWritable o (plain v))
       go None w d e = tt
       go (Some v) None d e = cc
       go (Some v) (Some x) d e =
           let same : plain v ≡ collapse x = cc in
-          record { texts = of_texts A v; numbers = subst (IsOfNumbers o) (sym same) (collapsed_numbers o x (document_numbers o (chars text) x d)) }
+          record { texts = of_texts A v; numbers = subst (IsOfNumbers o) (sym same) (collapsed_numbers x (document_numbers (chars text) x d)) }

@@ -13,7 +13,7 @@ use Rattle.jsonc_cst.specs.Nodes.{number_of}
 use Rattle.jsonc_cst.specs.Readings.{comment_under, token_under}
 
 module _ {A : Type 0} where
-  -- the whitespace that a node's line begins with, if nothing but trivia stands before it there
+  -- the whitespace that a node's line begins with, if nothing but trivia is before it there
   abbrev pub indent_of : CstRootNode A → CstNode → Option (List ℕ)
   indent_of d node = indent_at (nodes_of d) (number_of node)
 
@@ -21,7 +21,7 @@ module _ {A : Type 0} where
   abbrev pub level_indent : CstRootNode A → Option (List ℕ)
   level_indent d = single_indent_of (nodes_of d)
 
-  -- a comma stands after the last element of the first array or object, breadth first, with whitespace and an element
+  -- a comma is after the last element of the first array or object, breadth first, with whitespace and an element
   abbrev pub uses_trailing_commas_of : CstRootNode A → CstNode → Bool
   uses_trailing_commas_of d node = uses_trailing_commas_at (nodes_of d) (number_of node)
 

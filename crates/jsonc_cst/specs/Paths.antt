@@ -1,4 +1,4 @@
--- Where a property stands, and the names that lead to a value.
+-- Where a property is, and the names that lead to a value.
 use Rattle.std.specs.Prelude.{◌≡◌, ℕ, List, [], ◌∷◌}
 use Rattle.jsonc_tree.specs.Content.{object}
 use Rattle.jsonc_tree.specs.Tree.{Node, content_at}

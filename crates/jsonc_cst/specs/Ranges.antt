@@ -1,4 +1,4 @@
--- Where a node stands in the text that its document prints.
+-- Where a node is in the text that its document prints.
 use Rattle.std.specs.Prelude.{◌≡◌, ◌≤◌, ◌<◌, ◌+◌, ◌^◌, ℕ, List, [], ◌∷◌, ◌++◌, length, nat_lt, option_and_then, option_map, IfNone, IfSome, Option, None, Some, if◌then◌else◌}
 use Rattle.std.specs.List.{flat_map}
 use Rattle.jsonc_tree.specs.Order.{following, printed_at, text_at}
@@ -8,11 +8,11 @@ use Rattle.jsonc_text.specs.declared.common.Range.{Range}
 use Rattle.jsonc_cst.specs.declared.cst.node.CstNode.{CstNode}
 use Rattle.jsonc_cst.specs.Nodes.{typed_at}
 
--- the bytes of the document that come after those of the node
+-- the bytes of the document after those of the node
 abbrev pub printed_after : List Node → ℕ → List ℕ
 printed_after ns n = flat_map (text_at ns) (following ns 0 n)
 
--- The node stands in the document, and prints the bytes from start up to end: the text is so many bytes, then what the node and those below it print, and then
+-- The node is in the document, and prints the bytes from start up to end: the text is so many bytes, then what the node and those below it print, and then
 -- what those after them print.
 pub record PrintsRange (ns : List Node) (n start end : ℕ) : Type 0 where
   pub in_document : IsOver ns 0 n
@@ -21,7 +21,7 @@ pub record PrintsRange (ns : List Node) (n start end : ℕ) : Type 0 where
   pub starts : start ≡ length before
   pub ends : end ≡ length before + length (printed_at ns n)
 
--- the node stands in the document, and its bytes begin after so many
+-- the node is in the document, and its bytes begin after so many
 abbrev pub IsBefore : List Node → ℕ → ℕ → Type 0
 IsBefore ns n start = PrintsRange ns n start (start + length (printed_at ns n))
 
@@ -29,7 +29,7 @@ IsBefore ns n start = PrintsRange ns n start (start + length (printed_at ns n))
 abbrev pub PrintsByte : List Node → ℕ → ℕ → Type 0
 PrintsByte ns place n = (children_at ns n ≡ []) × (start : ℕ) × (end : ℕ) × PrintsRange ns n start end × (start ≤ place) × (place < end)
 
--- This is what is answered as the range of the node. Where it is a range, the node prints these bytes; where it is none, the node does not stand in the document,
+-- This is what is answered as the range of the node. Where it is a range, the node prints these bytes; where it is none, the node is not in the document,
 -- or the text has more bytes than memory can count.
 pub record IsRangeOf (ns : List Node) (n : ℕ) (answer : Option Range) : Type 0 where
   pub range : IfSome answer (λ r. PrintsRange ns n r.start r.end)

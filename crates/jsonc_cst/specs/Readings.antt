@@ -65,7 +65,7 @@ name_if _ = None
 abbrev pub is_property_at : List Node → ℕ → Bool
 is_property_at ns n = is_property (content_at ns n)
 
--- the properties in a row
+-- the properties in a list of children
 abbrev pub properties_among : List Node → List ℕ → List CstObjectProp
 properties_among ns row = map property_under (filter (is_property_at ns) row)
 
@@ -95,7 +95,7 @@ module _ {A : Type 0} where
   abbrev pub previous_siblings_of : CstRootNode A → CstNode → List CstNode
   previous_siblings_of d node = typed_all (nodes_of d) (siblings_before (nodes_of d) (number_of node))
 
-  -- the root, where it stands above the node
+  -- the root, where it is above the node
   abbrev pub root_above_of : CstRootNode A → CstNode → Option CstRoot
   root_above_of d node = option_map root_under (root_above (nodes_of d) (number_of node))
 
@@ -140,20 +140,20 @@ module _ {A : Type 0} where
   abbrev pub IsFirstNamed : CstRootNode A → CstObject → List ℕ → Option CstObjectProp → Type 0
   IsFirstNamed d object name found = FirstNamed (nodes_of d) name (children_at (nodes_of d) object.number) (option_map (λ p. p.number) found)
 
-  -- a string stands for these characters, whatever follows it in its leaf
-  abbrev pub LeafStandsFor : CstRootNode A → CstStringLit → List ℕ → Type 0
-  LeafStandsFor d string v = StandsFor (text_of (content_of d (string_lit_node string))) v
+  -- a string represents these characters, whatever follows it in its leaf
+  abbrev pub LeafRepresents : CstRootNode A → CstStringLit → List ℕ → Type 0
+  LeafRepresents d string v = StandsFor (text_of (content_of d (string_lit_node string))) v
 
-  -- no string stands at the front of its leaf, and the kind of fault is true of that
+  -- no string is at the front of its leaf, and the kind of fault is true of that
   abbrev pub LeafIsNoString : CstRootNode A → CstStringLit → ParseStringErrorKind → Type 0
   LeafIsNoString d string kind = IsNoString (text_of (content_of d (string_lit_node string))) kind
 
-  -- a name stands for these characters: a string decoded, a word by its text
-  abbrev pub NameStandsFor : CstRootNode A → ObjectPropName → List ℕ → Type 0
-  NameStandsFor d (String x) v = LeafStandsFor d x v
-  NameStandsFor d (Word x) v = v ≡ chars (text_of (content_of d (word_lit_node x)))
+  -- a name represents these characters: a string decoded, a word by its text
+  abbrev pub NameRepresents : CstRootNode A → ObjectPropName → List ℕ → Type 0
+  NameRepresents d (String x) v = LeafRepresents d x v
+  NameRepresents d (Word x) v = v ≡ chars (text_of (content_of d (word_lit_node x)))
 
-  -- it is a string, which stands for nothing, and the kind of fault is true of that
+  -- it is a string, which represents nothing, and the kind of fault is true of that
   abbrev pub NameIsNoString : CstRootNode A → ObjectPropName → ParseStringErrorKind → Type 0
   NameIsNoString d (String x) kind = LeafIsNoString d x kind
   NameIsNoString d (Word x) kind = ⊥

@@ -16,7 +16,7 @@ HasNamed ns row v = (m : ℕ) × Contains row m × IsNamed ns v m
 abbrev pub RepeatsName : List Node → List ℕ → ℕ → Type 0
 RepeatsName ns row n = (v : List ℕ) × HasNamed ns row v × IsNamed ns v n
 
--- Those nodes of a row whose name an earlier one has, in order. A node that has no name repeats none.
+-- Those of some children whose name an earlier one has, in order. A node that has no name repeats none.
 pub data AreRepeated (ns : List Node) : List ℕ → List ℕ → Type 0 where
   none : AreRepeated ns [] []
   fresh : (row found : List ℕ) (n : ℕ) → AreRepeated ns row found → (RepeatsName ns row n → ⊥) → AreRepeated ns (row ++ n ∷ []) found

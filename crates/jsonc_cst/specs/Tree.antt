@@ -16,13 +16,13 @@ module _ {A : Type 0} where
   abbrev pub place_of : CstRootNode A → CstNode → ℕ
   place_of d node = place_at (nodes_of d) (number_of node)
 
-  -- the node stands among the children of the container, at this place
+  -- the node is among the children of the container, at this place
   abbrev pub IsChildAt : CstRootNode A → CstContainerNode → ℕ → CstNode → Type 0
   IsChildAt d c k node = slice_get (children_of d (Container c)) k ≡ Some node
 
   -- The nodes are a tree. The root has no parent, and a leaf has no children. A node with a parent is the parent's
   -- child at the node's place; and the child of a container at a place has the container as its parent, and that place.
-  -- Above a node stand its parent, if it has one, and those above the parent; and none of them is the node.
+  -- Above a node are its parent, if it has one, and those above the parent; and none of them is the node.
   pub record NodesAreTree (d : CstRootNode A) : Type 0 where
     pub root_alone : parent_of d (root_node (root_under 0)) ≡ None
     pub leaf : (l : CstLeafNode) → HasNode d (Leaf l) → children_of d (Leaf l) ≡ []

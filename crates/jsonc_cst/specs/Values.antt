@@ -1,6 +1,5 @@
 -- The values of a document: those of named properties, and what its nodes give as values for edits.
-use Rattle.std.specs.Prelude.{◌≡◌, ℕ, List, Option, chars, option_map}
-use Rattle.jsonc_text.specs.Grammar.{IsDocument}
+use Rattle.std.specs.Prelude.{◌≡◌, ℕ, List, Option, option_map}
 use Rattle.jsonc_text.specs.Options.{Options}
 use Rattle.jsonc_text.specs.Plain.{Plain, collapse}
 use Rattle.jsonc_tree.specs.OrderedTree.{OrderedTree, ordered_tree}
@@ -35,9 +34,3 @@ abbrev pub GivesTheValue : Type 0 → Options → OrderedTree → Type 0
 GivesTheValue A o tree =
     (found : Option Plain) (taken : Option (CstInputValue A)) → DocumentShaped o tree → DocumentValueOf o tree found → IsTaken tree taken
     → option_map plain taken ≡ option_map collapse found
-
--- The text is a document, and v is its value, if it has one, where of equal names the last value stands at the first place.
-pub record IsValueOfText (o : Options) (text : List ℕ) (v : Option Plain) : Type 0 where
-  pub value : Option Plain
-  pub document : IsDocument o (chars text) value
-  pub collapsed : v ≡ option_map collapse value

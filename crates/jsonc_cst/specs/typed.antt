@@ -3,6 +3,7 @@ pub mod AsCalls
 pub mod Calls
 pub mod Clearing
 pub mod Commas
+pub mod Commenting
 pub mod Edits
 pub mod Inserting
 pub mod Lines

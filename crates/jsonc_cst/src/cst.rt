@@ -1,8 +1,8 @@
-//! The document: the tree of a text, in which every byte of it stands.
+//! The document: the tree of a text, which keeps every byte of it.
 //!
 //! A [`CstRootNode`] owns its nodes and names each by a number. A caller holds a [`CstNode`], or a
 //! node of one kind as [`CstObject`]: a number that says what it is the number of, and can be copied.
-//! It is asked together with its document, and [`CstRootNode::holds`] tells whether that has it; all
+//! It is asked together with its document, and [`CstRootNode::holds`] answers whether that has it; all
 //! nodes that a call answers are nodes of the document that was asked.
 ghost use Rattle.std.specs.List.{concat};
 ghost use Rattle.std.specs.Prelude.{◌≡◌, length, IfErr, IfOk, OnOk, Option, Some, true, chars, string_bytes};
@@ -109,7 +109,7 @@ impl<A: Allocator + Copy> CstRootNode<A> {
 
     /// A copy of the document, with the same nodes under the same numbers.
     ///
-    /// An edit of the one leaves the other as it is. What was parsed shares its text with the copy.
+    /// An edit of the one does not change the other. What was parsed shares its text with the copy.
     pub fn try_clone(&self) -> Result<CstRootNode<A>, AllocError>
         ensures nodes { IfOk result (λ d. nodes_of d ≡ nodes_of self.now) }
         ensures allocator { IfOk result (λ d. allocator_of d ≡ allocator_of self.now) }
@@ -146,7 +146,7 @@ impl<A: Allocator> fmt::Display for CstRootNode<A> {
     }
 }
 
-/// Writes `CstRootNode(`, the document's text as it stands, and `)`.
+/// Writes `CstRootNode(`, the document's text as it is, and `)`.
 impl<A: Allocator> fmt::Debug for CstRootNode<A> {
     fn fmt<W: fmt::Write>(&self, f: &mut fmt::Formatter<W>) -> fmt::Result {
         f.write_str("CstRootNode(")?;

@@ -7,6 +7,7 @@ ghost use Rattle.jsonc_tree.specs.Content.{Content};
 ghost use Rattle.jsonc_tree.specs.OrderedTree.{OrderedTree};
 ghost use Rattle.jsonc_text.specs.declared.edit.TrailingCommaMode.{TrailingCommaMode};
 ghost use Rattle.jsonc_text.specs.declared.edit.Over.{Over};
+ghost use Rattle.jsonc_text.specs.declared.edit.Place.{Place};
 ghost use Rattle.jsonc_text.specs.declared.edit.Shape.{Shape};
 ghost use Rattle.jsonc_sort.specs.Sorting.{Headers};
 ghost use Rattle.jsonc_cst.specs.declared.cst.CstRootNode.{CstRootNode};
@@ -18,13 +19,14 @@ ghost use Rattle.jsonc_cst.specs.EntryComments.{MoveTheirComments};
 ghost use Rattle.jsonc_cst.specs.Nodes.{number_of, object_prop_node};
 ghost use Rattle.jsonc_cst.specs.Readings.{descendants_of};
 ghost use Rattle.jsonc_cst.specs.Values.{GivesTheValue};
-ghost use Rattle.jsonc_cst.specs.objects.Members.{HasNamedComeIn};
+ghost use Rattle.jsonc_cst.specs.objects.Members.{HasInsertedProperty};
 ghost use Rattle.jsonc_cst.specs.objects.Named.{HasEnsured};
 ghost use Rattle.jsonc_cst.specs.sorting.Sorted.{IsPlaced};
 ghost use Rattle.jsonc_cst.specs.typed.AsCalls.{IsCallIf, IsRootCallIf, LoneRemovalIsCall, RemovalIsCall};
 ghost use Rattle.jsonc_cst.specs.typed.Commas.{CommasSet, CommasSetInPart};
+ghost use Rattle.jsonc_cst.specs.typed.Commenting.{HasCommentInserted};
 ghost use Rattle.jsonc_cst.specs.typed.Edits.{IsReplacedBy, IsUntouched, Unchanged};
-ghost use Rattle.jsonc_cst.specs.typed.Inserting.{HasComeIn};
+ghost use Rattle.jsonc_cst.specs.typed.Inserting.{HasInsertedElement};
 ghost use Rattle.jsonc_cst.specs.typed.Lines.{HasSpreadOut};
 ghost use Rattle.jsonc_cst.specs.typed.Raw.{HasBecome};
 ghost use Rattle.jsonc_cst.specs.typed.Removing.{IsCleared};
@@ -34,14 +36,14 @@ ghost use Rattle.jsonc_cst.specs.typed.Values.{HasSetBoolean, NodeValueIs, NowHo
 
 use std::alloc::Allocator;
 
-/// What `to_value` answers of a document that was parsed stands for the text's value, of equal names
+/// What `to_value` answers of a document that was parsed represents the text's value, of equal names
 /// the last at the first place: `parse` says that its tree has the shape of the grammar and this value.
 pub fn documents_give_their_value<A: Allocator>()
     ensures { (o : Options) (tree : OrderedTree) → GivesTheValue A o tree }
 {}
 
-/// What an iterator over a node and all below it gives: the node and each node of the document that it stands
-/// above, each once, and no other. In what order they come says `in_order`, by which the tree is walked.
+/// What an iterator over a node and all below it gives: the node and each node of the document that it is
+/// above, each once, and no other. In what order says `in_order`, by which the tree is walked.
 pub fn descendants_are_those_below<A: Allocator>()
     ensures { (d : CstRootNode A) (node : CstNode) → HasNode d node → AreAllBelow d node (descendants_of d node) }
 {}
@@ -69,6 +71,8 @@ pub fn typed_calls_are_calls<A: Allocator>()
         → IsCallIf old new node (HasBecomeProperty old new node name v now) }
     ensures renamed { (old new : CstRootNode A) (node : CstNode) (name : List ℕ) (now : CstNode)
         → IsCallIf old new node (HasBeenRenamed old new node name now) }
+    ensures commented { (old new : CstRootNode A) (node : CstNode) (place : Place) (text : List ℕ)
+        → IsCallIf old new node (HasCommentInserted old new node place text) }
     ensures cleared { (old new : CstRootNode A) → IsRootCallIf old new (IsCleared (nodes_of old) (nodes_of new)) }
     ensures root { (old new : CstRootNode A) (v : Plain) (now : CstNode)
         → IsRootCallIf old new (RootBecomes (nodes_of old) (nodes_of new) v now) }
@@ -84,9 +88,9 @@ pub fn typed_calls_are_calls<A: Allocator>()
         → IsCallIf old new node (HasSetBoolean old new node b) }
     ensures lines { (old new : CstRootNode A) (node : CstNode) → IsCallIf old new node (HasSpreadOut old new node) }
     ensures element { (old new : CstRootNode A) (node : CstNode) (i : ℕ) (v : Plain) (now : CstNode)
-        → IsCallIf old new node (HasComeIn old new node i v now) }
+        → IsCallIf old new node (HasInsertedElement old new node i v now) }
     ensures named { (old new : CstRootNode A) (node : CstNode) (i : ℕ) (name : List ℕ) (v : Plain) (now : CstObjectProp)
-        → IsCallIf old new node (HasNamedComeIn old new node i name v now) }
+        → IsCallIf old new node (HasInsertedProperty old new node i name v now) }
     ensures ensured { (old new : CstRootNode A) (node : CstNode) (shape : Shape) (how : Over) (name : List ℕ) (x : Option ℕ)
         → IsCallIf old new node (HasEnsured old new shape how node name x) }
     ensures commas { (old new : CstRootNode A) (node : CstNode) (mode : TrailingCommaMode)

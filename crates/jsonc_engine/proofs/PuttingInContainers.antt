@@ -9,7 +9,6 @@ use Rattle.jsonc_layout.specs.nodes.Names.{FirstNamed, FirstInObject}
 use Rattle.jsonc_layout.specs.nodes.Names as names
 use Rattle.jsonc_layout.specs.nodes.Properties.{value_at}
 use Rattle.jsonc_layout.specs.nodes.Siblings.{elements_at}
-use Rattle.jsonc_layout.specs.from_input.Texts.{IsCharacters}
 use Rattle.jsonc_sound.specs.SoundTrees.{SoundTree}
 use Rattle.jsonc_edit.specs.Paths.{IsAt, IsElementOf}
 use Rattle.jsonc_text.specs.declared.edit.EditError.{EditError}
@@ -17,12 +16,15 @@ use Rattle.jsonc_text.specs.declared.edit.EditError.TheVariants.{OutOfMemory}
 use Rattle.jsonc_edit.proofs.FittingFinds.{none_is_some}
 use Rattle.jsonc_edit.proofs.lemmas.set.PropertyRows.{over_at}
 use Rattle.jsonc_edit.specs.set.Kinds.{FoundOrCreated}
+use Rattle.jsonc_edit.proofs.lemmas.set.FirstValueSet.{gives_first_value}
 use Rattle.jsonc_insert.specs.named.Places.{IsPropertyOf, a_property}
 use Rattle.jsonc_edit.specs.set.Shapes.{has_shape, is_array, is_object, is_of, empty_of}
+use Rattle.jsonc_text.specs.declared.edit.Over.TheVariants.{Keep}
 use Rattle.jsonc_text.specs.declared.edit.Shape.{Shape}
 use Rattle.jsonc_text.specs.declared.edit.Shape.TheVariants.{Object, Array}
 use Rattle.jsonc_run.proofs.EnsuredValues.{held}
 use Rattle.jsonc_insert.proofs.lemmas.named.PropertyValues.{value_held}
+use Rattle.jsonc_insert.proofs.lemmas.named.Values.{empty_writable}
 use Rattle.jsonc_run.proofs.Roots.{value_stands}
 use Rattle.jsonc_cst.specs.declared.cst.node.CstArray.{CstArray}
 use Rattle.jsonc_cst.specs.declared.cst.node.CstObject.{CstObject}
@@ -30,11 +32,12 @@ use Rattle.jsonc_cst.specs.declared.cst.node.CstNode.{CstNode}
 use Rattle.jsonc_cst.specs.declared.cst.node.CstObjectProp.{CstObjectProp}
 use Rattle.jsonc_cst.specs.Nodes.{array_node, object_node}
 use Rattle.jsonc_cst.specs.Readings.{array_if, object_if, typed_if}
-use Rattle.jsonc_cst.specs.typed.Inserting.{InsertedAt, PutsAtItsPath}
+use Rattle.jsonc_cst.specs.typed.Inserting.{InsertedAt}
 use Rattle.jsonc_cst.specs.typed.Removing.{OnlyOutOfMemory}
-use Rattle.jsonc_cst.specs.objects.Members.{NamedInsertedAt, PutsNamedAtItsPath}
-use Rattle.jsonc_cst.specs.typed.Setting.{FindsOrCreates, FirstAround, FirstOrSame, FirstWritten}
-use Rattle.jsonc_cst.specs.typed.Values.{HeldIsMarked, HeldIsWritten, ValueIs}
+use Rattle.jsonc_cst.specs.objects.Members.{IsAppendingNamed, NamedInsertedAt}
+use Rattle.jsonc_cst.specs.typed.Setting.{FindsOrCreates}
+use Rattle.jsonc_cst.specs.typed.Steps.{IsAppending, IsEnsuringRoot, IsSettingValue}
+use Rattle.jsonc_cst.specs.typed.Values.{ValueIs}
 use Rattle.jsonc_engine.specs.declared.fault.Fault.TheVariants.{Edit, NotArray, NotObject}
 use Rattle.jsonc_engine.specs.Appending.{AppendsLast}
 use Rattle.jsonc_engine.specs.Fault.{EndsAppending, EndsOnObject, EndsSetting}
@@ -70,9 +73,10 @@ if_none false n e = refl
 
 module _ (o : Options) (old made : List Node) where
   -- a document that has got its first value, or is the same, is sound where it was
-  sound_by : (v : Plain) (w : Option ℕ) → FirstOrSame old made o v w → SoundTree o (ordered_tree old 0) → SoundTree o (ordered_tree made 0)
-  sound_by v None first s = (first s).after.sound
-  sound_by v (Some n) same s = subst (λ (ns : List Node). SoundTree o (ordered_tree ns 0)) (sym same) s
+  sound_by : (shape : Shape) → IsTree old → SoundTree o (ordered_tree old 0) → (w answer : Option ℕ) → value_at old 0 ≡ w
+      → FoundOrCreated (is_of shape) (empty_of shape) old made w answer → SoundTree o (ordered_tree made 0)
+  sound_by shape tree s None answer e (m, told, f) = (gives_first_value o old made (empty_of shape) m tree s e (empty_writable o shape) f).after.sound
+  sound_by shape tree s (Some n) answer e (told, same) = subst (λ (ns : List Node). SoundTree o (ordered_tree ns 0)) (sym same) s
 
   -- where none of the shape was found another value stands
   another_by : (shape : Shape) → IsTree old → SoundTree o (ordered_tree old 0) → (w : Option ℕ) → value_at old 0 ≡ w
@@ -81,12 +85,6 @@ module _ (o : Options) (old made : List Node) where
   another_by shape tree s (Some n) e (told, same) =
       let h = held o old tree s n e in
       (h.value, h.text, sym (h.error shape) ∙ if_none (is_of shape (content_at old n)) n told)
-
-  pub sound_array : FirstWritten old made Array o → SoundTree o (ordered_tree old 0) → SoundTree o (ordered_tree made 0)
-  sound_array first s = sound_by (empty_of Array) (value_at old 0) first s
-
-  pub sound_object : FirstWritten old made Object o → SoundTree o (ordered_tree old 0) → SoundTree o (ordered_tree made 0)
-  sound_object first s = sound_by (empty_of Object) (value_at old 0) first s
 
   pub no_array : IsTree old → SoundTree o (ordered_tree old 0) → (found : Option CstArray) → found ≡ None → CreatesArray old made found
       → EndsAppending o (printed (ordered_tree old 0)) NotArray
@@ -117,8 +115,7 @@ module _ (o : Options) (old : List Node) (tree : IsTree old) (s : SoundTree o (o
   object_wanted e is = memory_setting o (printed (ordered_tree old 0)) e is (wanted o old tree s Object none)
 
 -- what is put into the array
-module _ (o : Options) (old made : List Node) (tree : IsTree made) (x : CstArray) (stands : typed_if made (value_at made 0) ≡ Some (array_node x))
-    (first : FirstWritten old made Array o) (s : SoundTree o (ordered_tree old 0)) where
+module _ (o : Options) (old made : List Node) (tree : IsTree made) (x : CstArray) (stands : typed_if made (value_at made 0) ≡ Some (array_node x)) where
   abbrev c : ℕ
   c = x.number
 
@@ -128,24 +125,24 @@ module _ (o : Options) (old made : List Node) (tree : IsTree made) (x : CstArray
   at : IsAt made [] c
   at = value_stands made tree c is.0
 
-  pub appends_last : (new : List Node) (v : Plain) → CreatesArray old made (Some x) → FirstAround old made Array o → (now : CstNode)
-      → InsertedAt made new c (length (elements_at made c)) v now → PutsAtItsPath o made new c (length (elements_at made c)) v → AppendsLast o v old new
-  appends_last new v found around now comes put = record {
+  pub appends_last : (new : List Node) (v : Plain) → CreatesArray old made (Some x) → IsEnsuringRoot old made Array Keep → (now : CstNode)
+      → InsertedAt made new c (length (elements_at made c)) v now → IsAppending made new c v → AppendsLast v old new
+  appends_last new v found first now inserted step = record {
     made = made;
     x = x;
     found = found;
     first = first;
-    around = around;
     value = is.0;
     is_array = is.1;
     now = now;
-    comes = comes;
-    put = λ may. put (sound_array o old made first s) may [] at;
+    inserted = inserted;
+    step = step;
   }
 
-  pub array_memory : IsTree old → CreatesArray old made (Some x) → (e : EditError) → OnlyOutOfMemory o made c e → EndsAppending o (printed (ordered_tree old 0)) (Edit e)
-  array_memory before found e told =
-      memory_appending o (printed (ordered_tree old 0)) e (told (sound_array o old made first s) (over_at made tree [] c at)) (of_found o old before s Array made c found)
+  pub array_memory : IsTree old → SoundTree o (ordered_tree old 0) → CreatesArray old made (Some x) → (e : EditError) → OnlyOutOfMemory o made c e → EndsAppending o (printed (ordered_tree old 0)) (Edit e)
+  array_memory before s found e told =
+      let sound = sound_by o old made Array before s (value_at old 0) (Some c) refl found in
+      memory_appending o (printed (ordered_tree old 0)) e (told sound (over_at made tree [] c at)) (of_found o old before s Array made c found)
 
 -- a property that was found is one
 Property : List Node → Option ℕ → Type 0
@@ -159,8 +156,8 @@ found_property ns v _ _ (names.here is) = is.0
 found_property ns v _ _ (names.later {rest = rest} {found = found} other f) = found_property ns v rest found f
 
 -- what is set in the object
-module _ (o : Options) (old made : List Node) (tree : IsTree made) (x : CstObject) (stands : typed_if made (value_at made 0) ≡ Some (object_node x))
-    (first : FirstWritten old made Object o) (s : SoundTree o (ordered_tree old 0)) where
+module _ (o : Options) (old made : List Node) (before : IsTree old) (tree : IsTree made) (x : CstObject) (stands : typed_if made (value_at made 0) ≡ Some (object_node x))
+    (found : CreatesObject old made (Some x)) (s : SoundTree o (ordered_tree old 0)) where
   abbrev k : ℕ
   k = x.number
 
@@ -171,16 +168,15 @@ module _ (o : Options) (old made : List Node) (tree : IsTree made) (x : CstObjec
   stands_there = value_stands made tree k is_found.0
 
   sound : SoundTree o (ordered_tree made 0)
-  sound = sound_object o old made first s
+  sound = sound_by o old made Object before s (value_at old 0) (Some k) refl found
 
-  module _ (new : List Node) (name : List ℕ) (v : Plain) (found : CreatesObject old made (Some x)) (around : FirstAround old made Object o) where
-    sets_by : (p : Option ℕ) → FirstInObject made k name p → SetOrAppended o name v made new k p → SetsFirst o name v old new
+  module _ (new : List Node) (name : List ℕ) (v : Plain) (first : IsEnsuringRoot old made Object Keep) where
+    sets_by : (p : Option ℕ) → FirstInObject made k name p → SetOrAppended name v made new k p → SetsFirst name v old new
     sets_by p named set = record {
       made = made;
       x = x;
       found = found;
       first = first;
-      around = around;
       value = is_found.0;
       is_object = is_found.1;
       property = p;
@@ -188,9 +184,9 @@ module _ (o : Options) (old made : List Node) (tree : IsTree made) (x : CstObjec
       set = set;
     }
 
-    pub appends_property : FirstInObject made k name None → IsCharacters name → (now : CstObjectProp) → NamedInsertedAt made new k (length (elements_at made k)) name v now
-        → PutsNamedAtItsPath o made new k (length (elements_at made k)) name v → SetsFirst o name v old new
-    appends_property named texts now comes put = sets_by None named (record { now = now; comes = comes; put = λ may. put sound texts may [] stands_there })
+    pub appends_property : FirstInObject made k name None → (now : CstObjectProp) → NamedInsertedAt made new k (length (elements_at made k)) name v now
+        → IsAppendingNamed made new k name v → SetsFirst name v old new
+    appends_property named now inserted step = sets_by None named (record { now = now; inserted = inserted; step = step })
 
     module _ (p : ℕ) (now : CstNode) (named : FirstInObject made k name (Some p)) where
       element : (i : ℕ) × IsElementOf made k i p
@@ -200,8 +196,8 @@ module _ (o : Options) (old made : List Node) (tree : IsTree made) (x : CstObjec
       unfolding Property
       inside = record { of_object = is_found.1; element = element.1; is = found_property made name (children_at made k) (Some p) named }
 
-      sets_value : ValueIs made new p v now → HeldIsWritten made new o p v now → HeldIsMarked made new p v → HasSet o v made new k p
-      sets_value becomes written marked =
+      sets_value : ValueIs made new p v now → IsSettingValue made new p v → HasSet v made new k p
+      sets_value becomes step =
           let h = value_held o made tree sound (element.0 ∷ []) p (a_property [] k element.0 stands_there inside) in
           record {
             i = element.0;
@@ -210,15 +206,14 @@ module _ (o : Options) (old made : List Node) (tree : IsTree made) (x : CstObjec
             element = element.1;
             holds = h.holds;
             becomes = becomes;
-            written = λ may. written h.value h.holds (element.0 ∷ []) sound h.at may;
-            marked = λ may. marked h.value h.holds (element.0 ∷ []) h.at may.texts;
+            step = step;
           }
 
-      pub sets_property : ValueIs made new p v now → HeldIsWritten made new o p v now → HeldIsMarked made new p v → SetsFirst o name v old new
-      sets_property becomes written marked = sets_by (Some p) named (sets_value becomes written marked)
+      pub sets_property : ValueIs made new p v now → IsSettingValue made new p v → SetsFirst name v old new
+      sets_property becomes step = sets_by (Some p) named (sets_value becomes step)
 
-  pub object_memory : IsTree old → CreatesObject old made (Some x) → (e : EditError) → e ≡ OutOfMemory → EndsSetting o (printed (ordered_tree old 0)) (Edit e)
-  object_memory before found e is = memory_setting o (printed (ordered_tree old 0)) e is (of_found o old before s Object made k found)
+  pub object_memory : (e : EditError) → e ≡ OutOfMemory → EndsSetting o (printed (ordered_tree old 0)) (Edit e)
+  object_memory e is = memory_setting o (printed (ordered_tree old 0)) e is (of_found o old before s Object made k found)
 
-  pub append_memory : IsTree old → CreatesObject old made (Some x) → (e : EditError) → OnlyOutOfMemory o made k e → EndsSetting o (printed (ordered_tree old 0)) (Edit e)
-  append_memory before found e told = object_memory before found e (told sound (over_at made tree [] k stands_there))
+  pub append_memory : (e : EditError) → OnlyOutOfMemory o made k e → EndsSetting o (printed (ordered_tree old 0)) (Edit e)
+  append_memory e told = object_memory e (told sound (over_at made tree [] k stands_there))

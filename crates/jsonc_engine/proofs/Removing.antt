@@ -15,7 +15,6 @@ use Rattle.jsonc_tree.specs.Values as values
 use Rattle.jsonc_tree.specs.Values.{HoldsValue, DocumentValueOf}
 use Rattle.jsonc_sound.specs.Shape.{printed_text}
 use Rattle.jsonc_sound.proofs.ShapeValues.{document_printed}
-use Rattle.jsonc_layout.specs.lines.Kinds.{is_array_or_object}
 use Rattle.jsonc_layout.specs.nodes.Kinds.{is_element, is_element_at}
 use Rattle.jsonc_layout.specs.nodes.Names.{FirstNamed, FirstInObject}
 use Rattle.jsonc_layout.specs.nodes.Names as names
@@ -34,6 +33,9 @@ use Rattle.jsonc_edit.proofs.Uniqueness.{element_parent}
 use Rattle.jsonc_edit.proofs.ChangesUpward.{Shows-row_below}
 use Rattle.jsonc_edit.specs.set.Shapes.{is_of}
 use Rattle.jsonc_text.specs.declared.edit.Shape.TheVariants.{Object}
+use Rattle.jsonc_run.specs.Edits.{remove}
+use Rattle.jsonc_run.specs.Places.{IsEntryAt}
+use Rattle.jsonc_run.specs.promise.Steps.{IsNoPart, IsStep}
 use Rattle.jsonc_run.proofs.EnsuredValues.{held}
 use Rattle.jsonc_run.proofs.Roots.{root_is, value_stands}
 use Rattle.jsonc_edit.specs.set.Kinds as kinds
@@ -43,7 +45,7 @@ use Rattle.jsonc_cst.specs.declared.cst.node.CstObjectProp.{CstObjectProp}
 use Rattle.jsonc_cst.specs.declared.cst.CstRootNode.{CstRootNode}
 use Rattle.jsonc_cst.specs.Document.{nodes_of}
 use Rattle.jsonc_cst.specs.Readings.{object_if, typed_if, IsFirstNamed}
-use Rattle.jsonc_cst.specs.typed.Removing.{IsElementRemoved, OnlyOutOfMemory}
+use Rattle.jsonc_cst.specs.typed.Removing.{OnlyOutOfMemory}
 use Rattle.jsonc_engine.specs.Removal.{IsNoObject, LosesFirst}
 
 -- a node that reads as an object is one
@@ -147,22 +149,30 @@ module _ (o : Options) (old new : List Node) (tree : IsTree old) (name : List �
   stands = value_stands old tree c is.0
 
   -- without a property of the name nothing leaves
-  pub none_loses : FirstInObject old c name None → new ≡ old → LosesFirst o name old new
-  none_loses first same = record { c = c; value = is.0; is_object = is.1; found = None; first = first; left = same }
+  pub none_loses : FirstInObject old c name None → new ≡ old → LosesFirst name old new
+  none_loses first same = record { c = c; value = is.0; is_object = is.1; found = None; first = first; removed = same }
 
   module _ (n : ℕ) (first : FirstInObject old c name (Some n)) where
     element : (i : ℕ) × IsElementOf old c i n
     element = found_element old name c n first
 
+    -- an entry of the object is no part of a property
+    alone : IsNoPart old n
+    alone k said inside =
+        let one : Some c ≡ Some k = sym (element_parent old tree c element.0 n element.1) ∙ said in
+        let it : c ≡ k = cc in
+        let wrong : object ≡ property = sym is.1 ∙ ap (content_at old) it ∙ inside in
+        cc
+
     -- else the first of them does
-    pub one_loses : TakesElement old new n → IsElementRemoved o old new n → LosesFirst o name old new
-    one_loses taken gone = record {
+    pub one_loses : TakesElement old new n → (IsNoPart old n → IsStep IsEntryAt remove old new n) → LosesFirst name old new
+    one_loses taken step = record {
       c = c;
       value = is.0;
       is_object = is.1;
       found = Some n;
       first = first;
-      left = record { i = element.0; element = element.1; taken = taken; entry = gone.entry [] c element.0 stands (ap is_array_or_object is.1) element.1 };
+      removed = record { i = element.0; element = element.1; taken = taken; step = step alone };
     }
 
     over : IsOver old 0 n

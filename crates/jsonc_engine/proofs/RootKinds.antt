@@ -1,7 +1,5 @@
 -- The kind of a sound document's value, as its nodes tell.
 use Rattle.std.proofs.Common.{◌≡◌, ℕ, Bool, true, false, List, chars, Option, Some, None, if◌then◌else◌, refl, sym, ap, subst, ◌∙◌}
-use Rattle.std.proofs.lemmas.Bool.{false≢true, true≢false}
-use Rattle.std.specs.Prelude.{is_some}
 use Rattle.jsonc_text.specs.Options.{Options}
 use Rattle.jsonc_text.specs.Plain.{Plain}
 use Rattle.jsonc_text.specs.Grammar.{IsDocument}
@@ -16,7 +14,6 @@ use Rattle.jsonc_edit.proofs.FittingFinds.{none_is_some}
 use Rattle.jsonc_edit.specs.set.Kinds as kinds
 use Rattle.jsonc_edit.specs.set.Kinds.{FoundOrCreated}
 use Rattle.jsonc_cst.specs.declared.cst.node.CstArray.{CstArray}
-use Rattle.jsonc_cst.specs.declared.cst.node.CstNode.{CstNode}
 use Rattle.jsonc_cst.specs.declared.cst.node.CstObject.{CstObject}
 use Rattle.jsonc_cst.specs.Nodes.{typed}
 use Rattle.jsonc_cst.specs.Readings.{array_if, object_if, typed_if}
@@ -72,24 +69,7 @@ module _ (o : Options) (ns : List Node) (tree : IsTree ns) (sound : SoundTree o 
       let t = text o ns tree sound in
       none_by t.0 e t.1 t.2
 
-  valueless_by : (w : Option ℕ) → value_at ns 0 ≡ w → is_some (typed_if ns w) ≡ false → IsDocument o (chars bytes) None
-  valueless_by None e none = valueless e
-  valueless_by (Some n) e none = absurd (true≢false none)
-
-  pub reads_none : (w : Option CstNode) → w ≡ typed_if ns (value_at ns 0) → is_some w ≡ false → IsDocument o (chars bytes) None
-  reads_none w same none = valueless_by (value_at ns 0) refl (ap is_some (sym same) ∙ none)
-
-  -- and else there is one
-  valued_by : (w : Option ℕ) → value_at ns 0 ≡ w → is_some (typed_if ns w) ≡ true → (x : Plain) × IsDocument o (chars bytes) (Some x)
-  valued_by None e one = absurd (false≢true one)
-  valued_by (Some n) e one =
-      let h = held o ns tree sound n e in
-      (h.value, h.text)
-
-  pub reads_one : (w : Option CstNode) → w ≡ typed_if ns (value_at ns 0) → is_some w ≡ true → (x : Plain) × IsDocument o (chars bytes) (Some x)
-  reads_one w same one = valued_by (value_at ns 0) refl (ap is_some (sym same) ∙ one)
-
-  -- whose kind is that of its node
+  -- the kind of its value is that of the node
   pub of_shape : (shape : Shape) (n : ℕ) (b : Bool) → value_at ns 0 ≡ Some n → is_of shape (content_at ns n) ≡ b → (x : Plain) × IsDocument o (chars bytes) (Some x) × (has_shape shape x ≡ b)
   of_shape shape n b e is =
       let h = held o ns tree sound n e in
@@ -112,8 +92,3 @@ module _ (o : Options) (ns : List Node) (tree : IsTree ns) (sound : SoundTree o 
 
   pub wanted : (shape : Shape) → value_at ns 0 ≡ None → MayHave (has_shape shape) o bytes
   wanted shape e = (None, valueless e, tt)
-
--- what is said of the text that a document prints, where it is another's
-pub said_of_text : (w : Option Plain) (o p : Options) (printed_bytes same_bytes : List ℕ) → o ≡ p → printed_bytes ≡ same_bytes → IsDocument o (chars printed_bytes) w → IsDocument p (chars same_bytes) w
-said_of_text w o p printed_bytes same_bytes same_options same d =
-    subst (λ (q : Options). IsDocument q (chars same_bytes) w) same_options (subst (λ (b : List ℕ). IsDocument o (chars b) w) same d)

@@ -35,6 +35,8 @@ use Rattle.jsonc_edit.proofs.NodesKept.{filter_same}
 use Rattle.jsonc_edit.proofs.ChangesUpward.{Shows-row_below}
 use Rattle.jsonc_edit.proofs.lemmas.remove.Containers.{Held, held_at}
 use Rattle.jsonc_edit.proofs.lemmas.set.PropertyRows.{over_at}
+use Rattle.jsonc_run.specs.Edits.{rearrange}
+use Rattle.jsonc_run.specs.promise.Steps.{IsStep}
 use Rattle.jsonc_run.proofs.Roots.{value_stands}
 use Rattle.jsonc_sort.specs.ordering.Asking.{ComparesBy}
 use Rattle.jsonc_sort.specs.ordering.Order.{IsOrderedBy, comes_before, node_in, option_before}
@@ -181,7 +183,7 @@ module _ {A F : Type 0} (g : Shared F (Bor (CstRootNode A) × (CstObjectProp × 
         order = sorted.order;
         by_name = by_name ns x.number sorted.order (subst (λ (n : ℕ). IsOrderedBy (before ns x.number) n sorted.order) (length-map row (λ (n : ℕ). Some (property_under n))) ordered);
         moved = subst (λ (ps : List (Option ℕ)). Rearranged ns (nodes_of new) x.number (headers_of ps false) sorted.order) unpinned sorted.placed.made;
-        written = sorted.placed.written o sound [] at;
+        step = subst (λ (ps : List (Option ℕ)). IsStep IsAt (λ path. rearrange path (headers_of ps false) sorted.order) ns (nodes_of new) x.number) unpinned sorted.placed.step;
       }
 
   -- the object has been sorted by names

@@ -69,11 +69,10 @@ IsFaultOfPath path NotNames = (w : Option Plain) × IsDocument all_on (chars pat
 IsFaultOfPath path (Edit OutOfMemory) = (names : List (List ℕ)) × IsPath path names
 IsFaultOfPath path other = ⊥
 
--- the fault is true of the bytes of a JSON text, and reading its value can end with it; for allocation failure, told by no parse, where their text is a document with a value
+-- the fault is true of the bytes of a JSON text, and reading its value can end with it
 abbrev pub IsFaultOfJson : List ℕ → Fault → Type 0
 IsFaultOfJson json (Argument error) = IsRefusal json error
 IsFaultOfJson json NoValue = IsDocument all_on (chars json) None
-IsFaultOfJson json (Edit OutOfMemory) = (x : Plain) × IsDocument all_on (chars json) (Some x)
 IsFaultOfJson json other = ⊥
 
 -- the fault is true of the path that the command has; or of its JSON text, which is not read before the path is known to be a list of names

@@ -42,10 +42,10 @@ GetsNothing {A} change = (names : Vec (String A) A) → change ≡ Get names →
 abbrev pub Makes : Options → Request → List Node → List Node → Type 0
 Makes o check old new = new ≡ old
 Makes o print old new = new ≡ old
-Makes o (set name json) old new = (v : Plain) × IsArgument json v × SetsFirst o (chars name) v old new
-Makes o (append json) old new = (v : Plain) × IsArgument json v × AppendsLast o v old new
-Makes o (remove name) old new = LosesFirst o (chars name) old new
-Makes o sort old new = SortsByName o old new
+Makes o (set name json) old new = (v : Plain) × IsArgument json v × SetsFirst (chars name) v old new
+Makes o (append json) old new = (v : Plain) × IsArgument json v × AppendsLast v old new
+Makes o (remove name) old new = LosesFirst (chars name) old new
+Makes o sort old new = SortsByName old new
 Makes o (get path) old new = new ≡ old
 Makes o (put path json) old new = (names : List (List ℕ)) × (v : Plain) × IsPath path names × IsArgument json v × PutsSetting o v names old new
 Makes o (drop path) old new = (names : List (List ℕ)) × IsPath path names × DropsSetting o names old new

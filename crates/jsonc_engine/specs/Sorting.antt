@@ -11,8 +11,10 @@ use Rattle.jsonc_tree.specs.Tree.{Node, content_at}
 use Rattle.jsonc_layout.specs.nodes.Properties.{name_at, value_at}
 use Rattle.jsonc_layout.specs.nodes.Siblings.{elements_at}
 use Rattle.jsonc_sound.specs.SoundTrees.{SoundTree}
+use Rattle.jsonc_edit.specs.Paths.{IsAt}
+use Rattle.jsonc_run.specs.Edits.{rearrange}
+use Rattle.jsonc_run.specs.promise.Steps.{IsStep}
 use Rattle.jsonc_sort.specs.Rearranged.{Rearranged, headers_of}
-use Rattle.jsonc_cst.specs.sorting.Sorted.{IsSortedAt}
 
 -- the bytes of a string without its quotes: all but the first and the last
 abbrev pub between_quotes : List ℕ → List ℕ
@@ -51,17 +53,17 @@ pub record IsByName (ns : List Node) (c : ℕ) (order : List ℕ) : Type 0 where
   pub ascends : IsSortedBy (has_less_name ns c) order
   pub stable : (i : ℕ) → i < length (elements_at ns c) → filter (ties (has_less_name ns c) i) order ≡ filter (ties (has_less_name ns c) i) (numbers_in ns c)
 
--- The document's value is an object, whose properties have come in the order of their names, each with all that belongs to it. The text is a document again,
--- sound, whose value has the entries in that order; each literal and comment is there as often, and all leaves outside of the object stay.
-pub record SortsByName (o : Options) (old new : List Node) : Type 0 where
+-- The document's value is an object, whose properties are now in the order of their names, each with all that belongs to it: in one step, and nothing else has
+-- changed.
+pub record SortsByName (old new : List Node) : Type 0 where
   pub c : ℕ
   pub value : value_at old 0 ≡ Some c
   pub is_object : content_at old c ≡ object
   pub order : List ℕ
   pub by_name : IsByName old c order
   pub moved : Rearranged old new c (headers_of [] false) order
-  pub written : IsSortedAt o [] order (ordered_tree old 0) (ordered_tree new 0)
+  pub step : IsStep IsAt (λ path. rearrange path (headers_of [] false) order) old new c
 
 -- so it is if the document was sound
 abbrev pub SortsIfSound : Options → List Node → List Node → Type 0
-SortsIfSound o old new = SoundTree o (ordered_tree old 0) → SortsByName o old new
+SortsIfSound o old new = SoundTree o (ordered_tree old 0) → SortsByName old new

@@ -12,7 +12,7 @@ ghost use Rattle.jsonc_engine.specs.Command.{put, request_of};
 use crate::command::Command;
 use crate::fault::Fault;
 use jsonc_parser::ast::Value;
-use jsonc_parser::cst::{CstInputValue, CstRootNode};
+use jsonc_parser::cst::{CstInputValue, input};
 use jsonc_parser::{CollectOptions, ParseOptions, parse_to_ast};
 use std::alloc::Allocator;
 
@@ -45,18 +45,10 @@ fn value_of<A: Allocator + Copy>(alloc: A, json: &str) -> Result<CstInputValue<A
     ensures value { IfOk result (λ value. IsArgument json.now (plain value)) }
     ensures refused { IfErr result (IsFaultOfJson json.now) }
 {
-    let document = match CstRootNode::parse(alloc, json, &ParseOptions::default()) {
-        Ok(document) => document,
-        Err(error) => return Err(Fault::Argument(error)),
-    };
-    // That there is no value is seen without memory.
-    if document.value().is_none() {
-        return Err(Fault::NoValue);
-    }
-    match document.to_value() {
+    match input::from_json(alloc, json, &ParseOptions::default()) {
         Ok(Some(value)) => Ok(value),
         Ok(None) => Err(Fault::NoValue),
-        Err(error) => Err(Fault::Edit(error)),
+        Err(error) => Err(Fault::Argument(error)),
     }
 }
 

@@ -12,7 +12,7 @@ use Rattle.jsonc_text.specs.declared.edit.EditError.{EditError}
 use Rattle.jsonc_run.specs.declared.edit.Edit.{Edit}
 use Rattle.jsonc_run.specs.declared.edit.Edit.TheVariants.{Sort}
 use Rattle.jsonc_run.specs.Edits as nodes
-use Rattle.jsonc_run.specs.Edits.{PlainEdit, Sorting, is_sort, operation_of, rearrange, unsorted, EditSteps, EditStep, Fits, IsOfCharacters, NumbersFit}
+use Rattle.jsonc_run.specs.Edits.{PlainEdit, Sorting, is_sort, operation_of, rearrange, unsorted, EditSteps, EditStep, Fits, IsOfCharacters, Allows}
 use Rattle.jsonc_run.specs.Refusals.{IsLeft, FailsWith}
 use Rattle.jsonc_run.proofs.SoundChain.{of_characters, fits_alike}
 use Rattle.jsonc_run.proofs.lemmas.promise.Asked.{Ask, edits_to, none_asks, one_asks, stops_so}
@@ -98,10 +98,10 @@ module _ {C D A : Type 0} (call : Shared C (Bor D × (CstNode × (CstNode × Uni
   are_characters none_made = All-nil IsOfCharacters
   are_characters (first_made {e = e} {operations = operations} is after rest) = All-cons IsOfCharacters _ operations (subst IsOfCharacters (sym is.is) (of_characters is.sorting e)) (are_characters rest)
 
-  pub numbers_fit : (o : Options) {old new : CstRootNode A} {es : List (Edit A)} {ops : List PlainEdit} → RunSteps call compare same old es ops new → All (Fits o) es → All (NumbersFit o) ops
-  numbers_fit o none_made f = All-nil (NumbersFit o)
+  pub numbers_fit : (o : Options) {old new : CstRootNode A} {es : List (Edit A)} {ops : List PlainEdit} → RunSteps call compare same old es ops new → All (Fits o) es → All (Allows o) ops
+  numbers_fit o none_made f = All-nil (Allows o)
   numbers_fit o (first_made {e = e} {es = es} {operations = operations} is after rest) f =
-      All-cons (NumbersFit o) _ operations (subst (NumbersFit o) (sym is.is) (fits_alike o is.sorting e (All-head (Fits o) e es f))) (numbers_fit o rest (All-tail (Fits o) e es f))
+      All-cons (Allows o) _ operations (subst (Allows o) (sym is.is) (fits_alike o is.sorting e (All-head (Fits o) e es f))) (numbers_fit o rest (All-tail (Fits o) e es f))
 
   -- one more edit
   pub made_more : (es : List (Edit A)) (ops : List PlainEdit) (e : Edit A) (op : PlainEdit) {old now new : CstRootNode A} → RunSteps call compare same old es ops now → RunStep call compare same now e op new → IsTree (nodes_of new) → RunSteps call compare same old (es ++ e ∷ []) (ops ++ op ∷ []) new

@@ -56,7 +56,7 @@ module _ {C D A : Type 0} (call : Shared C (Bor D × (CstNode × (CstNode × Uni
     first_made : {old now new : CstRootNode A} {e : Edit A} {operation : PlainEdit} {es : List (Edit A)} {operations : List PlainEdit}
         → RunStep old e operation now → IsTree (nodes_of now) → RunSteps now es operations new → RunSteps old (e ∷ es) (operation ∷ operations) new
 
-  -- They were all made. Whatever document the old one shows, if the numbers that they write are numbers, they lead from it to one that the new one shows.
+  -- They were all made. Whatever document the old one shows, if its options allow what they write, they lead from it to one that the new one shows.
   pub record RunOk (old : CstRootNode A) (edits : List (Edit A)) (new : CstRootNode A) : Type 0 where
     pub operations : List PlainEdit
     pub made : RunSteps old edits operations new
@@ -80,7 +80,7 @@ module _ {A : Type 0} where
     none_asked : AreAsked [] []
     one_asked : {e : Edit A} {es : List (Edit A)} {operations : List PlainEdit} (s : Sorting) → AreAsked es operations → AreAsked (e ∷ es) (operation_of s e ∷ operations)
 
-  -- The edits were all made, without a comparison. Whatever document the old one shows, if the numbers that they write are numbers, they lead from it to one that
+  -- The edits were all made, without a comparison. Whatever document the old one shows, if its options allow what they write, they lead from it to one that
   -- the new one shows.
   pub record RunUnsortedOk (old : CstRootNode A) (edits : List (Edit A)) (new : CstRootNode A) : Type 0 where
     pub operations : List PlainEdit

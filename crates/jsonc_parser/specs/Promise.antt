@@ -14,7 +14,7 @@ use Rattle.jsonc_run.specs.promise.Asked.{EditsTo, IsStopped}
 use Rattle.jsonc_parser.specs.declared.cst.texts.EditTextError.{EditTextError}
 use Rattle.jsonc_parser.specs.declared.cst.texts.EditTextError.TheVariants as error
 
--- The first text is a document of these options. If each number that the edits write is, whole, one of them, the edits lead from it to one of the second text.
+-- The first text is a document of these options. If they allow what the edits write, the edits lead from it to one of the second text.
 abbrev pub IsEditedText : {A : Type 0} → Options → List ℕ → List (Edit A) → List ℕ → Type 0
 IsEditedText o text edits edited = (d : Document) × (d.options ≡ o) × (d.text ≡ text) × IsOne d
     × (All (Fits o) edits → (e : Document) × (e.text ≡ edited) × EditsTo d edits e)

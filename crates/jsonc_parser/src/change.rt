@@ -120,7 +120,7 @@ fn start_outside(text: &str, place: usize) -> usize
     place
 }
 
-// The place, or that behind the LF where it is inside a CR LF.
+// The place, or that after the LF where it is inside a CR LF.
 fn end_outside(text: &str, place: usize) -> usize
     requires { IsCharBoundary text.now place }
     ensures { EndsOutside (chars text.now) place result }

@@ -71,7 +71,7 @@ pub fn parse_f64(text: &str) -> Option<f64>
     nearest_f64(negative, unsigned)
 }
 
-// Whether a minus stands first, and what follows the sign, if there is one.
+// Whether a minus is first, and what follows the sign, if there is one.
 pub(crate) fn split_sign(text: &str) -> (bool, &str)
     ensures sign { Sign text.now result.0 result.1.now }
     ensures only { (negative : Bool) (u : List ℕ) → Sign text.now negative u → IsTrue (no is_sign (next u))

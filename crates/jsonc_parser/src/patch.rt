@@ -2,11 +2,12 @@
 //!
 //! A [`Pointer`] is a text that leads from a document's value to one inside it, through objects by names and through
 //! arrays by indexes, parsed, or made of its tokens. [`find`] finds the node that it refers to in a document, [`read`]
-//! takes its value, and [`pointer_of`] tells the pointer of a node.
+//! takes its value, and [`pointer_of`] answers the pointer of a node.
 //!
 //! A [`Patch`] is a list of operations at pointers, read from its text, which [`Patch::apply`] makes on a document
-//! whole or not at all: every comment stays, and every byte outside of what they change. [`same_number`] tells whether
-//! two texts of numbers have one value, as a patch's `test` asks.
+//! whole or not at all. Every comment outside what was replaced or removed stays, and every byte outside of what the
+//! operations change; what a removal takes is said at [`crate::cst::CstNode::remove`]. [`same_number`] determines
+//! whether two texts of numbers have one value, as a patch's `test` asks.
 //!
 //! [`merge`] merges a value into a document's value, object into object, whole or not at all too: what does not differ
 //! is not touched.

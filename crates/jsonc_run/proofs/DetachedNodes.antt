@@ -44,7 +44,7 @@ use Rattle.jsonc_insert.specs.members.Inserted.{PropertyPut}
 use Rattle.jsonc_insert.proofs.lemmas.members.RowReplaced.{prepared_all}
 use Rattle.jsonc_sort.specs.Rearranged.{moves, Rearranged}
 use Rattle.jsonc_sort.specs.Sorting.{Headers}
-use Rattle.jsonc_run.specs.Parents.{IsCall, all_stay, leaf_set, leaf_leaves, children_leave, gives_way, gives_way_raw, property_gives_way, comment_leaves, element_leaves, first_comes, last_comes, boolean_set, comes_on_lines, element_comes, property_comes, commas_set, some_commas_set, sorted, no_call, next_call, IsApart, CallStaysApart, CallsStayApart}
+use Rattle.jsonc_run.specs.Parents.{IsCall, all_stay, leaf_set, leaf_leaves, children_leave, gives_way, gives_way_raw, property_gives_way, comment_leaves, element_leaves, first_comes, last_comes, boolean_set, comes_on_lines, element_comes, property_comes, commas_set, some_commas_set, sorted, comment_comes, no_call, next_call, IsApart, CallStaysApart, CallsStayApart}
 
 none_behind : (ns : List Node) (k x : ℕ) → parent_at ns k ≡ None → nearest ns (siblings_after ns k) ≡ Some x → ⊥
 none_behind ns k x alone e = let wrong : None ≡ Some x = sym (ap (λ o. nearest ns (drop (place_at ns k + 1) (with_parent o (children_at ns)))) alone ∙ nothing_left (place_at ns k + 1)) ∙ e in cc
@@ -201,6 +201,10 @@ module _ (old : List Node) (tree : IsTree old) where
   -- a row that was made ready, and took its place
   pub row_elsewhere : (ready new : List Node) (c i j : ℕ) (xs : List ℕ) → IsTree new → Keeps (length old) old ready → Splices ready new c i j xs → StaysApart old c new
   row_elsewhere ready new c i j xs after keeps s = λ out. same_tree new after (same_both old ready new (same_kept ready keeps) (same_spliced ready new c i j xs s out))
+
+  -- and so of a child of its container
+  pub beside_elsewhere : (ready new : List Node) (n c i j : ℕ) (xs : List ℕ) → parent_at old n ≡ Some c → IsTree new → Keeps (length old) old ready → Splices ready new c i j xs → StaysApart old n new
+  beside_elsewhere ready new n c i j xs said after keeps s = λ out. row_elsewhere ready new c i j xs after keeps s (out_up n c said out)
 
   -- an array or object that is put on several lines
   pub spread_elsewhere : (new : List Node) (c : ℕ) (b : Bool) → has_line_end old c ≡ b → IsTree new → MadeMultiline old new c → StaysApart old c new
@@ -364,6 +368,7 @@ call_elsewhere old new _ tree after low (property_comes c i m name v e) = put_el
 call_elsewhere old new _ tree after low (commas_set mode n set) = leaves_others mode old n new tree low set
 call_elsewhere old new _ tree after low (some_commas_set mode n part) = leaves_others_in_part mode old n new tree low part
 call_elsewhere old new _ tree after low (sorted c h order made) = order_elsewhere old tree new c h order after made
+call_elsewhere old new _ tree after low (comment_comes n c place contents said r) = beside_elsewhere old tree r.ready new n c _ _ r.row said after r.prepared.keeps r.put
 
 pub call_stays_apart : (old new : List Node) (n : ℕ) → CallStaysApart old new n
 call_stays_apart old new n tree after call = λ out.

@@ -9,15 +9,15 @@ use Rattle.jsonc_edit.proofs.Uniqueness.{element_parent}
 use Rattle.jsonc_text.specs.declared.edit.Over.{Over}
 use Rattle.jsonc_text.specs.declared.edit.Shape.{Shape}
 use Rattle.jsonc_text.specs.declared.edit.EditError.{EditError}
-use Rattle.jsonc_text.specs.declared.edit.EditError.TheVariants.{OutOfMemory, MissingBrackets, MissingName, NoSuchPlace, InvalidComment, LineContinues, NotAnEntry}
+use Rattle.jsonc_text.specs.declared.edit.EditError.TheVariants.{OutOfMemory, NoSuchPlace}
 use Rattle.jsonc_edit.specs.remove.Removed.{IsKeptFor, TakesElement}
 use Rattle.jsonc_edit.specs.Reading.{IsReplaced}
 use Rattle.jsonc_edit.specs.set.RootSet.{FirstValue}
 use Rattle.jsonc_text.specs.Plain.{Plain}
 use Rattle.jsonc_insert.specs.named.Places.{IsPropertyAt, a_property}
-use Rattle.jsonc_run.specs.Places.{IsEntryAt}
-use Rattle.jsonc_run.specs.Edits.{PlainEdit, ensure_root, remove, EditStep, RootSet}
-use Rattle.jsonc_run.specs.Refusals.{as_it_was, HasItsPlace, IsAnswer, FailsWith, WantsEmpty}
+use Rattle.jsonc_run.specs.Places.{IsEntryAt, AtPlace}
+use Rattle.jsonc_run.specs.Edits.{PlainEdit, ensure_root, remove, place_of, EditStep, RootSet}
+use Rattle.jsonc_run.specs.Refusals.{as_it_was, HasItsPlace, IsAnswer, FailsWith, RefusedAt, WantsEmpty}
 
 -- what a path leads to has a parent
 module _ (ns : List Node) (tree : IsTree ns) where
@@ -62,13 +62,8 @@ nowhere ns e none = record { made = tt; error = none; left = as_it_was (Keeps-sa
 
 -- what is refused at its place is not refused for want of one
 pub told_at : (ns : List Node) (e : PlainEdit) (why : EditError) → ¬ (why ≡ NoSuchPlace) → AtPlace ns (place_of e) (λ n. RefusedAt ns n e why) → FailsWith ns e why
-told_at ns e OutOfMemory other k = k
-told_at ns e MissingBrackets other k = k
-told_at ns e MissingName other k = k
 told_at ns e NoSuchPlace other k = absurd (other refl)
-told_at ns e InvalidComment other k = k
-told_at ns e LineContinues other k = k
-told_at ns e NotAnEntry other k = k
+told_at ns e why other k = k
 
 pub answers : (old new : List Node) (e : PlainEdit) (r : Result (Unit {0}) EditError) → OnOk r (EditStep old e new) → IfErr r (FailsWith old e)
     → OnErr r (Keeps (length old) old new) → OnErr r (ordered_tree new 0 ≡ ordered_tree old 0) → IsAnswer old new e r

@@ -13,7 +13,6 @@ use Rattle.jsonc_sound.specs.Marks.{Mark, marks}
 use Rattle.jsonc_sound.specs.SoundTrees.{SoundTree}
 use Rattle.jsonc_edit.specs.Writing.{IsWritable}
 use Rattle.jsonc_text.specs.declared.edit.EditError.{EditError}
-use Rattle.jsonc_text.specs.declared.edit.EditError.TheVariants.{OutOfMemory, MissingBrackets, MissingName, NoSuchPlace}
 use Rattle.jsonc_insert.specs.Inserted.{refusal, ElementPut}
 use Rattle.jsonc_insert.specs.Planned.{has_brackets}
 use Rattle.jsonc_insert.proofs.PastTheEnd.{past_the_end}
@@ -27,6 +26,7 @@ use Rattle.jsonc_run.specs.Places.{IsArrayAt}
 use Rattle.jsonc_run.specs.Refusals.{FailsWith}
 use Rattle.jsonc_insert.proofs.lemmas.named.PathValues.{value_once}
 use Rattle.jsonc_insert.proofs.lemmas.named.EnsureErrors.{no_other}
+use Rattle.jsonc_run.proofs.EditsMade.{told_at}
 
 -- what came at the number of the nodes came behind the last element
 pub comes_last : (old new : List Node) (c k : ℕ) (v : Plain) (m : ℕ) → IsTree old → k ≡ length old → has_brackets old (children_at old c) ≡ true → ElementPut old new c k v m → ElementPut old new c (length (elements_at old c)) v m

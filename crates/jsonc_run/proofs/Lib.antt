@@ -3,6 +3,7 @@ pub mod EntryPaths
 pub mod Roots
 pub mod PropertyMade
 pub mod NameMade
+pub mod CommentMade
 pub mod ValueMade
 pub mod CommasNeeded
 pub mod Booleans

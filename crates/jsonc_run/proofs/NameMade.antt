@@ -3,7 +3,6 @@ use Rattle.std.proofs.Common.{◌≡◌, ℕ, ◌+◌, ◌<◌, cond, List, [], 
 use Rattle.std.specs.List.{find}
 use Rattle.jsonc_text.specs.Options.{Options}
 use Rattle.jsonc_text.specs.declared.edit.EditError.{EditError}
-use Rattle.jsonc_text.specs.declared.edit.EditError.TheVariants.{OutOfMemory, MissingBrackets, MissingName, NoSuchPlace, InvalidComment, LineContinues, NotAnEntry}
 use Rattle.jsonc_tree.specs.Building.{Keeps}
 use Rattle.jsonc_tree.specs.Changes.{CanJoin, Splices}
 use Rattle.jsonc_tree.specs.Content.{Content, object, property}
@@ -37,6 +36,7 @@ use Rattle.jsonc_insert.specs.named.Places.{IsPropertyAt, a_property}
 use Rattle.jsonc_run.specs.Edits.{rename_property}
 use Rattle.jsonc_run.specs.Refusals.{FailsWith}
 use Rattle.jsonc_run.specs.Written.{RenamesProperty, property_renamed}
+use Rattle.jsonc_run.proofs.EditsMade.{told_at}
 use Rattle.jsonc_run.proofs.lemmas.promise.Naming.{held_here}
 
 -- why a property has not got it

@@ -22,7 +22,7 @@ use Rattle.jsonc_edit.specs.Changes.{top_at}
 use Rattle.jsonc_edit.specs.Paths as paths
 use Rattle.jsonc_edit.specs.Paths.{IsAt, LeadsTo, StepsTo}
 use Rattle.jsonc_text.specs.declared.edit.EditError.{EditError}
-use Rattle.jsonc_text.specs.declared.edit.EditError.TheVariants.{OutOfMemory, MissingBrackets, MissingName, NoSuchPlace}
+use Rattle.jsonc_text.specs.declared.edit.EditError.TheVariants.{NoSuchPlace}
 use Rattle.jsonc_edit.proofs.FittingNodes.{over_there}
 use Rattle.jsonc_edit.proofs.OneValue.{document_once}
 use Rattle.jsonc_edit.proofs.ShapedPlaces.{at_further}
@@ -226,10 +226,8 @@ at_found ns (at_comment number) Is (n, at, h) = (n, at)
 module _ (ns : List Node) where
   -- whatever else is told of an edit, it has its place
   no_place : (e : PlainEdit) (why : EditError) → FailsWith ns e why → ¬ (HasItsPlace ns e) → why ≡ NoSuchPlace
-  no_place e OutOfMemory k none = absurd (none (at_found ns (place_of e) (λ n. RefusedAt ns n e OutOfMemory) k))
   no_place e NoSuchPlace k none = refl
-  no_place e MissingBrackets k none = absurd (none (at_found ns (place_of e) (λ n. RefusedAt ns n e MissingBrackets) k))
-  no_place e MissingName k none = absurd (none (at_found ns (place_of e) (λ n. RefusedAt ns n e MissingName) k))
+  no_place e why k none = absurd (none (at_found ns (place_of e) (λ n. RefusedAt ns n e why) k))
 
   -- so that it has none is told where none is named
   pub tells_unnamed : (o : Options) → IsTree ns → SoundTree o (ordered_tree ns 0) → (e : PlainEdit) (why : EditError) → FailsWith ns e why → NoSuchPlaceIff o ns e why

@@ -1,12 +1,12 @@
 -- An array or object at a path that is put on several lines.
-use Rattle.std.proofs.Common.{ℕ, List, IfErr, OnOk, Result, Ok, Err}
+use Rattle.std.proofs.Common.{ℕ, List, IfErr, OnOk, Result, Ok, Err, subst}
 use Rattle.jsonc_tree.specs.Tree.{Node}
 use Rattle.jsonc_text.specs.declared.edit.EditError.{EditError}
-use Rattle.jsonc_text.specs.declared.edit.EditError.TheVariants.{OutOfMemory, MissingBrackets, MissingName, NoSuchPlace, InvalidComment, LineContinues, NotAnEntry}
 use Rattle.jsonc_edit.specs.multiline.Multiline.{IsUnspread, MadeMultiline}
 use Rattle.jsonc_run.specs.Edits.{ensure_multiline, EditStep}
 use Rattle.jsonc_run.specs.Places.{IsContainerAt}
 use Rattle.jsonc_run.specs.Refusals.{FailsWith}
+use Rattle.jsonc_run.proofs.EditsMade.{told_at}
 
 -- what is answered where one is put on several lines
 module _ (ns : List Node) (path : List ℕ) (n : ℕ) (at : IsContainerAt ns path n) where

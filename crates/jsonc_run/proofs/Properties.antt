@@ -12,7 +12,7 @@ use Rattle.jsonc_sound.specs.Changes.{Changed}
 use Rattle.jsonc_sound.specs.SoundTrees.{SoundTree}
 use Rattle.jsonc_edit.specs.Writing.{IsWritable}
 use Rattle.jsonc_text.specs.declared.edit.EditError.{EditError}
-use Rattle.jsonc_text.specs.declared.edit.EditError.TheVariants.{OutOfMemory, MissingBrackets, MissingName, NoSuchPlace, InvalidComment, LineContinues, NotAnEntry}
+use Rattle.jsonc_text.specs.declared.edit.EditError.TheVariants.{NoSuchPlace}
 use Rattle.jsonc_edit.proofs.FittingNodes.{over_there}
 use Rattle.jsonc_insert.specs.Inserted.{refusal}
 use Rattle.jsonc_insert.specs.Planned.{has_brackets}
@@ -25,12 +25,14 @@ use Rattle.jsonc_insert.specs.elements.Members.{member_count, IsMemberInserted, 
 use Rattle.jsonc_insert.proofs.lemmas.elements.NamedProperties.{inserts_member}
 use Rattle.jsonc_insert.proofs.lemmas.properties.InsertedRows.{properties_come_at}
 use Rattle.jsonc_text.specs.declared.edit.Over.{Over}
+use Rattle.jsonc_text.specs.declared.edit.Over.TheVariants as over
 use Rattle.jsonc_text.specs.declared.edit.Shape.{Shape}
 use Rattle.jsonc_insert.specs.named.Named.{EnsureError}
 use Rattle.jsonc_run.specs.Edits.{append_property, ensure_property, insert_property}
 use Rattle.jsonc_run.specs.Places.{IsObjectAt}
 use Rattle.jsonc_run.specs.Refusals.{FailsWith}
 use Rattle.jsonc_insert.proofs.lemmas.named.EnsureErrors.{no_other}
+use Rattle.jsonc_run.proofs.EditsMade.{told_at}
 use Rattle.jsonc_insert.proofs.lemmas.named.PathValues.{value_once}
 
 -- it is one of the nodes

@@ -18,8 +18,8 @@ use Rattle.std.proofs.Common.{string_bytes}
 use Rattle.std.proofs.lemmas.Str.{scalars-chars, IsUtf8-string_bytes}
 use Rattle.std.specs.declared.string.String.{String}
 use Rattle.jsonc_run.specs.declared.edit.Edit.{Edit}
-use Rattle.jsonc_run.specs.declared.edit.Edit.TheVariants.{Replace, SetRoot, ReplaceProperty, SetValue, InsertElement, AppendElement, InsertProperty, AppendProperty, EnsureProperty, Sort, RenameProperty}
-use Rattle.jsonc_run.specs.Edits.{Sorting, operation_of, PlainEdit, place_of, EditSteps, none_made, first_made, EditStep, MakesAt, Fits, NumbersFit, IsOfCharacters}
+use Rattle.jsonc_run.specs.declared.edit.Edit.TheVariants.{Sort}
+use Rattle.jsonc_run.specs.Edits.{Sorting, operation_of, PlainEdit, place_of, EditSteps, none_made, first_made, EditStep, MakesAt, Fits, Allows, IsOfCharacters}
 use Rattle.jsonc_run.specs.Steps.{Says, Step, Steps, no_step, one_step, MakesSteps}
 use Rattle.jsonc_run.specs.Named.{Asks, comment_count, IsNamed}
 use Rattle.jsonc_run.specs.Written.{IsChanged}
@@ -32,22 +32,15 @@ module _ {A : Type 0} where
   name_of_characters : (s : String A) → IsCharacters (chars_of s)
   name_of_characters s = scalars-chars (string_bytes s) (IsUtf8-string_bytes s)
 
+  ruleset characters = (of_texts, name_of_characters, IsUtf8-string_bytes)
+
   -- what an edit writes is characters
   pub of_characters : (s : Sorting) (e : Edit A) → IsOfCharacters (operation_of s e)
-  of_characters s (Replace path value) = of_texts A value
-  of_characters s (SetRoot value) = of_texts A value
-  of_characters s (ReplaceProperty path name value) = (name_of_characters name, of_texts A value)
-  of_characters s (SetValue path value) = of_texts A value
-  of_characters s (InsertElement path index value) = of_texts A value
-  of_characters s (AppendElement path value) = of_texts A value
-  of_characters s (InsertProperty path index name value) = (name_of_characters name, of_texts A value)
-  of_characters s (AppendProperty path name value) = (name_of_characters name, of_texts A value)
-  of_characters s (EnsureProperty path name shape how) = name_of_characters name
-  of_characters s (RenameProperty path name) = name_of_characters name
-  of_characters s e = tt
+  of_characters s (Sort path pin groups) = tt
+  of_characters s e = search characters
 
-  -- and its numbers fit however it sorts
-  pub fits_alike : (o : Options) (s : Sorting) (e : Edit A) → Fits o e → NumbersFit o (operation_of s e)
+  -- and it is allowed however it sorts
+  pub fits_alike : (o : Options) (s : Sorting) (e : Edit A) → Fits o e → Allows o (operation_of s e)
   fits_alike o s (Sort path pin groups) h = h
   fits_alike o s e h = h
 
@@ -65,7 +58,7 @@ record OneStep (o : Options) (t : OrderedTree) (w : Option Plain) (e : PlainEdit
   asks : Asks w e op
   step : Step o t w op u value
 
-step_made : (o : Options) (old new : List Node) (w : Option Plain) (e : PlainEdit) → IsTree old → IsTree new → Says o (ordered_tree old 0) w → IsOfCharacters e → NumbersFit o e → EditStep old e new → OneStep o (ordered_tree old 0) w e (ordered_tree new 0)
+step_made : (o : Options) (old new : List Node) (w : Option Plain) (e : PlainEdit) → IsTree old → IsTree new → Says o (ordered_tree old 0) w → IsOfCharacters e → Allows o e → EditStep old e new → OneStep o (ordered_tree old 0) w e (ordered_tree new 0)
 step_made o old new w e tree after was characters numbers made =
     let m = edit_made o old new tree after was.sound e characters numbers made in
     let now = says (options_behind o m.op) (ordered_tree new 0) m.is.sound in
@@ -91,12 +84,12 @@ record AllSteps (o : Options) (t : OrderedTree) (w : Option Plain) (es : List Pl
   ops : List Operation
   steps : Steps o t w es ops u value
 
-steps_made : (o : Options) (old new : List Node) (w : Option Plain) (es : List PlainEdit) → IsTree old → EditSteps old es new → Says o (ordered_tree old 0) w → All IsOfCharacters es → All (NumbersFit o) es → AllSteps o (ordered_tree old 0) w es (ordered_tree new 0)
+steps_made : (o : Options) (old new : List Node) (w : Option Plain) (es : List PlainEdit) → IsTree old → EditSteps old es new → Says o (ordered_tree old 0) w → All IsOfCharacters es → All (Allows o) es → AllSteps o (ordered_tree old 0) w es (ordered_tree new 0)
 steps_made o old _ w [] tree none_made was characters numbers = record { value = w; ops = []; steps = no_step was }
 steps_made o old new w (e ∷ es) tree (first_made {now = now} made after rest) was characters numbers =
-    let first = step_made o old now w e tree after was (All-head IsOfCharacters e es characters) (All-head (NumbersFit o) e es numbers) made in
+    let first = step_made o old now w e tree after was (All-head IsOfCharacters e es characters) (All-head (Allows o) e es numbers) made in
     let others = steps_made (options_behind o first.op) now new first.value es after rest first.step.new (All-tail IsOfCharacters e es characters)
-    (λ k d h. fits_behind o first.op (get_or es k d) (All-tail (NumbersFit o) e es numbers k d h)) in
+    (λ k d h. fits_behind o first.op (get_or es k d) (All-tail (Allows o) e es numbers k d h)) in
     record { value = others.value; ops = first.op ∷ others.ops; steps = one_step first.named first.asks first.step others.steps }
 
 pub makes_steps : (o : Options) (old new : List Node) (es : List PlainEdit) → IsTree old → EditSteps old es new → MakesSteps o old es new

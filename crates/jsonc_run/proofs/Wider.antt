@@ -1,4 +1,4 @@
--- Options behind operations allow what those before allow, so numbers that may be written may be written then.
+-- Options behind operations allow what those before allow, so what may be written may be written then.
 use Rattle.std.proofs.Common.{ℕ, List, [], sym}
 use Rattle.std.proofs.lemmas.List.{append-nil}
 use Rattle.jsonc_text.specs.Lexemes.{LexemeKind}
@@ -9,7 +9,7 @@ use Rattle.jsonc_text.proofs.SameOptions.{lexeme_same}
 use Rattle.jsonc_edit.proofs.lemmas.commas.WiderShapes.{as_allowed, with_trailing}
 use Rattle.jsonc_edit.specs.Writing.{IsOfNumbers, AreOfNumbers, AreNamedOfNumbers}
 use Rattle.jsonc_text.specs.declared.edit.TrailingCommaMode.TheVariants.{Never, IfMultiline}
-use Rattle.jsonc_run.specs.Edits.{PlainEdit, NumbersAreOf, NumbersFit, Writes, a_property, a_value, written_by}
+use Rattle.jsonc_run.specs.Edits.{PlainEdit, AllowsWritten, Allows, Writes, a_comment, a_property, a_value, written_by}
 use Rattle.jsonc_run.specs.texts.Edits.{Operation, set_commas, options_behind}
 
 number_wider : {o p : Options} → AgreeOnLexemes o p → (s : List ℕ) → NumberLit o s → NumberLit p s
@@ -33,9 +33,10 @@ module _ {o p : Options} (m : AllowsMore o p) where
     members_wider no_members h = h
     members_wider (member name v ms) (h, k) = (numbers_wider v h, members_wider ms k)
 
-  fits_wider : (w : Writes) → NumbersAreOf o w → NumbersAreOf p w
+  fits_wider : (w : Writes) → AllowsWritten o w → AllowsWritten p w
   fits_wider (a_value v) fit = numbers_wider v fit
   fits_wider (a_property name v) fit = numbers_wider v fit
+  fits_wider (a_comment text) fit = m.comments fit
   fits_wider w fit = tt
 
 by_wider : (o : Options) (op : Operation) → AllowsMore o (options_behind o op)
@@ -43,6 +44,6 @@ by_wider o (set_commas whole path Never) = as_allowed o
 by_wider o (set_commas whole path IfMultiline) = with_trailing o
 by_wider o op = as_allowed o
 
--- numbers of the options before an operation are numbers of those behind it
-pub fits_behind : (o : Options) (op : Operation) (e : PlainEdit) → NumbersFit o e → NumbersFit (options_behind o op) e
+-- what the options before an operation allow those behind it do
+pub fits_behind : (o : Options) (op : Operation) (e : PlainEdit) → Allows o e → Allows (options_behind o op) e
 fits_behind o op e fit = fits_wider (by_wider o op) (written_by e) fit

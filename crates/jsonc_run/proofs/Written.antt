@@ -1,5 +1,5 @@
 -- What each edit that was made asks for in a sound document, and what the operation makes of that.
-use Rattle.std.proofs.Common.{◌≡◌, ℕ, length, Bool, true, false, List, [], ◌∷◌, ◌++◌, Option, Some, None, IsTrue, inl, inr, sym, refl, ap, subst, ◌∙◌, chars}
+use Rattle.std.proofs.Common.{◌≡◌, ℕ, length, Bool, true, false, List, [], ◌∷◌, ◌++◌, Option, Some, None, IsTrue, IsUtf8, inl, inr, sym, refl, ap, subst, ◌∙◌, chars}
 use Rattle.jsonc_text.specs.Options.{Options}
 use Rattle.jsonc_text.specs.Plain.{Plain, Items, Members}
 use Rattle.jsonc_text.specs.Grammar.{IsDocument}
@@ -25,10 +25,12 @@ use Rattle.jsonc_layout.specs.from_input.Texts.{IsCharacters}
 use Rattle.jsonc_layout.specs.lines.Kinds.{is_array_or_object}
 use Rattle.jsonc_layout.specs.nodes.Names.{FirstInObject}
 use Rattle.jsonc_layout.specs.nodes.Properties.{value_at}
+use Rattle.jsonc_text.specs.declared.edit.Place.{Place}
 use Rattle.jsonc_text.specs.declared.edit.Over.{Over}
 use Rattle.jsonc_text.specs.declared.edit.Over.TheVariants as over
 use Rattle.jsonc_text.specs.declared.edit.Shape.{Shape}
 use Rattle.jsonc_edit.specs.Changes.{row_below, top_at}
+use Rattle.jsonc_edit.specs.commenting.Inserting.{Comes, MayCome}
 use Rattle.jsonc_edit.specs.Comments.{CommentTaken, LosesComment}
 use Rattle.jsonc_edit.specs.Paths.{IsAt, IsElementOf, LeadsTo, itself}
 use Rattle.jsonc_edit.specs.Reading.{layout_for, IsReplaced}
@@ -44,6 +46,7 @@ use Rattle.jsonc_edit.proofs.ReplacedValues.{replaced_written}
 use Rattle.jsonc_edit.proofs.SeamsOfComments.{comment_has_seam}
 use Rattle.jsonc_edit.proofs.Spacing.{spaces_marks}
 use Rattle.jsonc_edit.proofs.TakingOut.{loses_comment, numbered, taken_sound, taken_value}
+use Rattle.jsonc_edit.proofs.lemmas.commenting.Inserting.{inserts}
 use Rattle.jsonc_edit.proofs.lemmas.multiline.Documents.{spread_at}
 use Rattle.jsonc_edit.proofs.lemmas.multiline.SameDocument.{keeps_document}
 use Rattle.jsonc_edit.proofs.lemmas.remove.Entries.{entry_taken}
@@ -65,8 +68,8 @@ use Rattle.jsonc_insert.proofs.lemmas.named.Values as property_values
 use Rattle.jsonc_insert.proofs.lemmas.named.Values.{empty_writable, marks_given, same_shape, value_gives_way, value_marked}
 use Rattle.jsonc_insert.proofs.lemmas.named.Writing.{finds_member, first_named}
 use Rattle.jsonc_run.specs.Named.{entry, ensures, kept_or_emptied, may_stay, Asks, StandsAt}
-use Rattle.jsonc_run.specs.Edits.{PlainEdit, replace, remove, remove_comment, set_root, clear_root, replace_property, ensure_root, set_value, ensure_value, set_boolean, ensure_multiline, insert_element, append_element, insert_property, append_property, ensure_property, set_commas, set_some_commas, rearrange, rename_property, RootSet, EditStep, IsOfCharacters, NumbersFit}
-use Rattle.jsonc_run.specs.Written.{IsMarked, MadeIn, IsChanged, by_nothing, by_value, by_entry, by_all, by_comment, by_first, by_clearing, by_property, by_boolean, by_lines, by_inserting, by_inserting_member, by_commas, by_sorting, by_name, EntryRemoved, entry_left, value_left, FirstComes, ReplacesProperty, property_given}
+use Rattle.jsonc_run.specs.Edits.{PlainEdit, replace, remove, remove_comment, set_root, clear_root, replace_property, ensure_root, set_value, ensure_value, set_boolean, ensure_multiline, insert_element, append_element, insert_property, append_property, ensure_property, set_commas, set_some_commas, rearrange, rename_property, insert_comment, RootSet, EditStep, IsOfCharacters, Allows}
+use Rattle.jsonc_run.specs.Written.{IsMarked, MadeIn, IsChanged, by_nothing, by_value, by_entry, by_all, by_comment, by_first, by_clearing, by_property, by_boolean, by_lines, by_inserting, by_inserting_member, by_commas, by_sorting, by_name, by_inserting_comment, EntryRemoved, entry_left, value_left, FirstComes, ReplacesProperty, property_given}
 use Rattle.jsonc_run.specs.Places.{IsEntryAt, the_value, an_entry, IsEntryOf, in_array, in_object, IsBooleanAt, IsObjectAt}
 use Rattle.jsonc_run.specs.texts.Edits as texts
 use Rattle.jsonc_run.specs.texts.Edits.{Operation, options_behind}
@@ -76,6 +79,8 @@ use Rattle.jsonc_run.proofs.EnsuredValues.{held, Ensured, created, stayed, other
 use Rattle.jsonc_run.proofs.Inserted as elements
 use Rattle.jsonc_run.proofs.Inserted.{gained_marks}
 use Rattle.jsonc_run.proofs.Calls.{property_over}
+use Rattle.jsonc_run.proofs.CommentMade.{comment_inserted}
+use Rattle.jsonc_run.proofs.lemmas.promise.EntriesHeld.{entry_is}
 use Rattle.jsonc_run.proofs.NameMade.{renames_property}
 use Rattle.jsonc_run.proofs.Properties as properties
 use Rattle.jsonc_run.proofs.PropertyMade.{property_gives_way}
@@ -372,6 +377,25 @@ module _ (o : Options) (old new : List Node) (tree : IsTree old) (after : IsTree
         };
       }
 
+  -- a comment is inserted beside an entry
+  remark_made : (path : List ℕ) (n : ℕ) (place : Place) (text : List ℕ) → IsEntryAt old path n → IsUtf8 text → IsTrue o.comments → MayCome place old n text → Comes place old new n text → EditMade o (insert_comment path place text) t u
+  remark_made path n place text at utf8 allowed may comes =
+      let w = inserts old new n text tree utf8 place may comes o s allowed (entry_is old tree path n at).below in
+      record {
+        before = w.value;
+        op = texts.insert_comment path place (chars text);
+        asks = refl;
+        is = record {
+          after = w.value;
+          old_text = w.old_text;
+          new_text = w.new_text;
+          changed = by_inserting_comment;
+          sound = w.sound;
+          marked = w.marked;
+          made = comment_inserted old new tree path n at text utf8 place may comes;
+        };
+      }
+
   -- a truth value is set
   boolean_set : (path : List ℕ) (n : ℕ) (b : Bool) → IsBooleanAt old path n → BooleanSet old new n b → EditMade o (set_boolean path b) t u
   boolean_set path n b at set =
@@ -407,7 +431,7 @@ module _ (o : Options) (old new : List Node) (tree : IsTree old) (after : IsTree
       }
 
   -- Each edit that was made.
-  pub edit_made : (e : PlainEdit) → IsOfCharacters e → NumbersFit o e → EditStep old e new → EditMade o e t u
+  pub edit_made : (e : PlainEdit) → IsOfCharacters e → Allows o e → EditStep old e new → EditMade o e t u
   edit_made (replace path v) h k (n, at, (m, r)) =
       let g = replaced_made path n m v at (record { texts = h; numbers = k }) r in
       record { before = Some g.0; op = texts.replace path v; asks = refl; is = g.1 }
@@ -483,3 +507,4 @@ module _ (o : Options) (old new : List Node) (tree : IsTree old) (after : IsTree
         is = record { after = Some w.new; old_text = w.old_text; new_text = w.new_text; changed = by_sorting w.entries; sound = w.sound; marked = w.marks; made = (a, sorted_outside path order old new a) };
       }
   edit_made (rename_property path name) h k (n, at, (m, r)) = property_renamed path n m name at h r
+  edit_made (insert_comment path place text) h k (n, at, (may, comes)) = remark_made path n place text at h k may comes

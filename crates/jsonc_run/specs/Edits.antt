@@ -1,11 +1,12 @@
 -- Edits over plain values, what each makes of the nodes, and that they are made in order.
-use Rattle.std.specs.Prelude.{ℕ, Bool, true, false, List, [], ◌∷◌, length, Option, Some, None}
+use Rattle.std.specs.Prelude.{ℕ, Bool, true, false, List, [], ◌∷◌, length, Option, Some, None, IsTrue, IsUtf8, string_bytes}
 use Rattle.jsonc_text.specs.Plain.{Plain}
 use Rattle.jsonc_layout.specs.input.Views.{chars_of, plain}
 use Rattle.jsonc_tree.specs.Changes.{Splices}
 use Rattle.jsonc_tree.specs.Tree.{Node, children_at, IsTree}
 use Rattle.jsonc_layout.specs.nodes.Properties.{value_at}
 use Rattle.jsonc_layout.specs.nodes.Siblings.{elements_at}
+use Rattle.jsonc_edit.specs.commenting.Inserting.{Comes, MayCome}
 use Rattle.jsonc_edit.specs.commas.InTurn.{holders, AreSetInPart, AreSetInTurn}
 use Rattle.jsonc_edit.specs.Comments.{CommentTaken}
 use Rattle.jsonc_edit.specs.Reading.{IsReplaced}
@@ -23,7 +24,8 @@ use Rattle.jsonc_edit.specs.set.RootSet.{FirstValue}
 use Rattle.jsonc_sort.specs.Rearranged.{IsOrderIn, Rearranged}
 use Rattle.jsonc_sort.specs.Sorting.{Headers}
 use Rattle.jsonc_run.specs.declared.edit.Edit.{Edit}
-use Rattle.jsonc_run.specs.declared.edit.Edit.TheVariants.{Replace, Remove, RemoveComment, SetRoot, ClearRoot, ReplaceProperty, EnsureRoot, SetValue, EnsureValue, SetBoolean, EnsureMultiline, InsertElement, AppendElement, InsertProperty, AppendProperty, EnsureProperty, SetTrailingCommas, Sort, RenameProperty}
+use Rattle.jsonc_run.specs.declared.edit.Edit.TheVariants.{Replace, Remove, RemoveComment, SetRoot, ClearRoot, ReplaceProperty, EnsureRoot, SetValue, EnsureValue, SetBoolean, EnsureMultiline, InsertElement, AppendElement, InsertProperty, AppendProperty, EnsureProperty, SetTrailingCommas, Sort, RenameProperty, InsertComment}
+use Rattle.jsonc_text.specs.declared.edit.Place as comments
 use Rattle.jsonc_text.specs.declared.edit.Over.{Over}
 use Rattle.jsonc_text.specs.declared.edit.Over.TheVariants as over
 use Rattle.jsonc_text.specs.declared.edit.Shape.{Shape}
@@ -40,7 +42,8 @@ use Rattle.jsonc_layout.specs.from_input.Texts.{IsCharacters, IsOfTexts}
 -- that the array or object at the path is on several lines; that the value comes into the array at the path, as its element of this number or behind the last;
 -- that a property of this name and value so comes into the object at the path; that the first property of this name in the object at the path has a value of
 -- a shape; that the trailing commas of the array or object at the path, and of those below it, are set, or, where memory was refused on the way, of the first of
--- them; that the entries of the array or object at the path come in an order, with headers that are pinned; that the property at the path has this name.
+-- them; that the entries of the array or object at the path come in an order, with headers that are pinned; that the property at the path has this name; that the
+-- comment of this text, in bytes, is inserted above the entry at the path, or after it.
 pub data PlainEdit : Type 0 where
   replace : List ℕ → Plain → PlainEdit
   remove : List ℕ → PlainEdit
@@ -62,6 +65,7 @@ pub data PlainEdit : Type 0 where
   set_some_commas : List ℕ → TrailingCommaMode → PlainEdit
   rearrange : List ℕ → Headers → List ℕ → PlainEdit
   rename_property : List ℕ → List ℕ → PlainEdit
+  insert_comment : List ℕ → comments.Place → List ℕ → PlainEdit
 
 -- how a sort was done: which comments are pinned, and whether blank lines part the entries; and the order in which these come
 pub record Sorting : Type 0 where
@@ -104,6 +108,7 @@ operation_of s (EnsureProperty path name shape how) = ensure_property path.items
 operation_of s (SetTrailingCommas path mode) = set_commas path.items mode
 operation_of s (Sort path pin groups) = rearrange path.items s.headers s.order
 operation_of s (RenameProperty path name) = rename_property path.items (chars_of name)
+operation_of s (InsertComment path place text) = insert_comment path.items place (string_bytes text)
 
 -- where it is to be made
 abbrev pub place_of : PlainEdit → Place
@@ -127,13 +132,15 @@ place_of (set_commas path mode) = at_container path
 place_of (set_some_commas path mode) = at_container path
 place_of (rearrange path headers order) = at_container path
 place_of (rename_property path name) = at_property path
+place_of (insert_comment path place text) = at_entry path
 
--- what an edit writes into a document: a value, a name, or a property
+-- what an edit writes into a document: a value, a name, a property, or a comment
 pub data Writes : Type 0 where
   nothing : Writes
   a_value : Plain → Writes
   a_name : List ℕ → Writes
   a_property : List ℕ → Plain → Writes
+  a_comment : List ℕ → Writes
 
 abbrev pub written_by : PlainEdit → Writes
 written_by (replace path v) = a_value v
@@ -146,27 +153,30 @@ written_by (insert_property path i name v) = a_property name v
 written_by (append_property path name v) = a_property name v
 written_by (ensure_property path name shape how) = a_name name
 written_by (rename_property path name) = a_name name
+written_by (insert_comment path place text) = a_comment text
 written_by e = nothing
 
--- each number in it is, whole, one of these options
-abbrev pub NumbersAreOf : Options → Writes → Type 0
-NumbersAreOf o (a_value v) = IsOfNumbers o v
-NumbersAreOf o (a_property name v) = IsOfNumbers o v
-NumbersAreOf o w = Unit {0}
+-- these options allow it: each number in it is, whole, one of theirs; and a comment wants options that allow comments
+abbrev pub AllowsWritten : Options → Writes → Type 0
+AllowsWritten o (a_value v) = IsOfNumbers o v
+AllowsWritten o (a_property name v) = IsOfNumbers o v
+AllowsWritten o (a_comment text) = IsTrue o.comments
+AllowsWritten o w = Unit {0}
 
-abbrev pub NumbersFit : Options → PlainEdit → Type 0
-NumbersFit o e = NumbersAreOf o (written_by e)
+abbrev pub Allows : Options → PlainEdit → Type 0
+Allows o e = AllowsWritten o (written_by e)
 
 -- so it is of an edit that is asked for: how it sorts is of no weight
 abbrev pub Fits : {A : Type 0} → Options → Edit A → Type 0
-Fits o e = NumbersFit o (operation_of unsorted e)
+Fits o e = Allows o (operation_of unsorted e)
 
--- and each string, name and number is characters, as those of an `Edit` are
+-- and each string, name, number and comment is characters, as those of an `Edit` are
 abbrev pub AreOfCharacters : Writes → Type 0
 AreOfCharacters nothing = Unit {0}
 AreOfCharacters (a_value v) = IsOfTexts v
 AreOfCharacters (a_name name) = IsCharacters name
 AreOfCharacters (a_property name v) = IsCharacters name × IsOfTexts v
+AreOfCharacters (a_comment text) = IsUtf8 text
 
 abbrev pub IsOfCharacters : PlainEdit → Type 0
 IsOfCharacters e = AreOfCharacters (written_by e)
@@ -193,7 +203,7 @@ PropertyValueSet old new r v (Some n) = (m : ℕ) × IsReplaced old new n v m
 -- truth value, has become this one; or n, an array or object, has been put on several lines, or was on several; or into n the value has come as m, at this number or
 -- behind all elements, or the property so; or the first property of the name in n has a value of the shape, or another that was to stay, or has come; or the
 -- trailing commas of n and of those below it have been set, or those of the first of these; or its entries have come in the order; or n, a property, has the name,
--- whose node is m, and else what it had.
+-- whose node is m, and else what it had; or the comment, which may be inserted there, has been inserted above n or after it.
 abbrev pub MakesAt : List Node → ℕ → PlainEdit → List Node → Type 0
 MakesAt old n (replace path v) new = (m : ℕ) × IsReplaced old new n v m
 MakesAt old n (remove path) new = TakesElement old new n
@@ -215,6 +225,7 @@ MakesAt old n (set_commas path mode) new = AreSetInTurn mode old (holders old n)
 MakesAt old n (set_some_commas path mode) new = AreSetInPart mode old (holders old n) new
 MakesAt old n (rearrange path headers order) new = IsOrderIn old n order × Rearranged old new n headers order
 MakesAt old n (rename_property path name) new = (m : ℕ) × IsRenamed old new n name m
+MakesAt old n (insert_comment path place text) new = MayCome place old n text × Comes place old new n text
 
 -- the edit was made at its place
 abbrev pub EditStep : List Node → PlainEdit → List Node → Type 0

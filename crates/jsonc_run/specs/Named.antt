@@ -1,5 +1,5 @@
 -- Where an edit has its place, said of the document's value and of its comments, with no number of a node; and which operation it asks for there.
-use Rattle.std.specs.Prelude.{◌≡◌, ◌↔◌, ◌⊎◌, ◌<◌, ℕ, Bool, List, [], ◌∷◌, ◌++◌, length, Option, Some, ◌≤◌, true, false, None}
+use Rattle.std.specs.Prelude.{◌≡◌, ◌↔◌, ◌⊎◌, ◌<◌, ℕ, Bool, List, [], ◌∷◌, ◌++◌, length, Option, Some, ◌≤◌, true, false, None, chars}
 use Rattle.jsonc_text.specs.Options.{Options}
 use Rattle.jsonc_text.specs.Plain.{Plain, boolean, array, object, Items, Members}
 use Rattle.jsonc_tree.specs.OrderedTree.{OrderedTree, ordered_tree}
@@ -11,7 +11,7 @@ use Rattle.jsonc_sound.specs.SoundTrees.{SoundTree}
 use Rattle.jsonc_text.specs.declared.edit.EditError.{EditError}
 use Rattle.jsonc_text.specs.declared.edit.EditError.TheVariants.{NoSuchPlace}
 use Rattle.jsonc_insert.specs.elements.Members.{member_count}
-use Rattle.jsonc_run.specs.Edits.{PlainEdit, place_of, replace, remove, remove_comment, set_root, clear_root, replace_property, ensure_root, set_value, ensure_value, set_boolean, ensure_multiline, insert_element, append_element, insert_property, append_property, ensure_property, set_commas, set_some_commas, rearrange, rename_property}
+use Rattle.jsonc_run.specs.Edits.{PlainEdit, place_of, replace, remove, remove_comment, set_root, clear_root, replace_property, ensure_root, set_value, ensure_value, set_boolean, ensure_multiline, insert_element, append_element, insert_property, append_property, ensure_property, set_commas, set_some_commas, rearrange, rename_property, insert_comment}
 use Rattle.jsonc_run.specs.Places.{Place, in_document, at_value, at_entry, at_property, at_boolean, at_array, at_object, at_container, at_comment}
 use Rattle.jsonc_run.specs.Refusals.{HasItsPlace}
 use Rattle.jsonc_text.specs.declared.edit.Over.{Over}
@@ -122,6 +122,7 @@ Asks w (set_commas path mode) op = op ≡ texts.set_commas true path mode
 Asks w (set_some_commas path mode) op = op ≡ texts.set_commas false path mode
 Asks w (rearrange path headers order) op = op ≡ texts.rearrange path order
 Asks w (rename_property path name) op = op ≡ texts.rename_property path name
+Asks w (insert_comment path place text) op = op ≡ texts.insert_comment path place (chars text)
 
 -- how many comments a document has
 abbrev pub comment_count : OrderedTree → ℕ

@@ -9,6 +9,7 @@ use Rattle.jsonc_tree.specs.Tree.{Node, parent_at, place_at, IsOver, IsTree}
 use Rattle.jsonc_edit.specs.Comments.{IsTakenOut}
 use Rattle.jsonc_edit.specs.Reading.{IsReplaced, IsReplacedRaw}
 use Rattle.jsonc_text.specs.declared.edit.TrailingCommaMode.{TrailingCommaMode}
+use Rattle.jsonc_edit.specs.commenting.Come.{LeavesCome}
 use Rattle.jsonc_edit.specs.commas.InTurn.{holders, AreSetInPart, AreSetInTurn}
 use Rattle.jsonc_edit.specs.commas.Laws.{StaysApart}
 use Rattle.jsonc_edit.specs.multiline.Multiline.{MadeMultiline}
@@ -27,7 +28,8 @@ use Rattle.jsonc_run.specs.Refusals.{IsLeft}
 -- What one call of a node makes of the nodes. It changes none of those that were there, as a reading and an error; a leaf is written anew as it stands; a node
 -- leaves alone, or children of it do; a node is replaced by a value, with spaces or without, or a property to a property; a comment leaves, or an element or
 -- property; a first value comes into the root, or a last one into a property; a truth value becomes another; an array or object is put on several lines; an
--- element or a property comes in; trailing commas are set, of all that stand below a node or of the first of these; or elements come in another order.
+-- element or a property comes in; trailing commas are set, of all that stand below a node or of the first of these; or elements come in another order; or a comment
+-- is inserted beside a node, with whitespace.
 pub data IsCall (old new : List Node) : ℕ → Type 0 where
   all_stay : (n : ℕ) → Keeps (length old) old new → IsCall old new n
   leaf_set : (leaf : ℕ) (now : Content) → LeafBecomes old new leaf now → IsCall old new leaf
@@ -47,6 +49,7 @@ pub data IsCall (old new : List Node) : ℕ → Type 0 where
   commas_set : (mode : TrailingCommaMode) (n : ℕ) → AreSetInTurn mode old (holders old n) new → IsCall old new n
   some_commas_set : (mode : TrailingCommaMode) (n : ℕ) → AreSetInPart mode old (holders old n) new → IsCall old new n
   sorted : (c : ℕ) (h : Headers) (order : List ℕ) → Rearranged old new c h order → IsCall old new c
+  comment_comes : (n c place : ℕ) (contents : List Content) → parent_at old n ≡ Some c → LeavesCome old new c place contents → IsCall old new n
 
 -- a call of a node that is there: of this node itself, or of one that stands in it
 pub record IsCallOf (old new : List Node) (n : ℕ) : Type 0 where

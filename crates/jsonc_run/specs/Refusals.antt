@@ -1,13 +1,19 @@
 -- Why an edit is not made, and what a list of edits has made until then.
-use Rattle.std.specs.Prelude.{◌≡◌, ℕ, true, false, List, None, length, Result, IfErr, OnErr, OnOk}
+use Rattle.std.specs.Prelude.{◌≡◌, ℕ, true, false, List, [], None, length, Result, IfErr, OnErr, OnOk, IsTrue, chars}
 use Rattle.std.specs.List.{Contains}
 use Rattle.jsonc_tree.specs.Building.{Keeps}
 use Rattle.jsonc_tree.specs.OrderedTree.{ordered_tree}
 use Rattle.jsonc_tree.specs.Tree.{Node}
 use Rattle.jsonc_layout.specs.nodes.Properties.{lacks_name_at, value_at}
 use Rattle.jsonc_text.specs.declared.edit.EditError.{EditError}
-use Rattle.jsonc_text.specs.declared.edit.EditError.TheVariants.{OutOfMemory, MissingBrackets, MissingName, NoSuchPlace}
+use Rattle.jsonc_text.specs.declared.edit.EditError.TheVariants.{OutOfMemory, MissingName, NoSuchPlace, InvalidComment, LineContinues, NotAnEntry}
 use Rattle.jsonc_edit.specs.commas.Commas.{WantsComma}
+use Rattle.jsonc_edit.specs.commenting.Inserting.{IsRefusedFor}
+use Rattle.jsonc_text.specs.declared.edit.Place.{Place}
+use Rattle.jsonc_text.specs.declared.edit.Place.TheVariants.{After}
+use Rattle.jsonc_text.specs.Gaps.{IsComment}
+use Rattle.jsonc_tree.specs.Content.{comment}
+use Rattle.jsonc_sound.specs.Lines.{is_line_comment}
 use Rattle.jsonc_edit.specs.commas.InTurn.{holders, AreSetInPart}
 use Rattle.jsonc_edit.specs.Comments.{WantsSpace}
 use Rattle.jsonc_text.specs.declared.edit.TrailingCommaMode.{TrailingCommaMode}
@@ -24,7 +30,7 @@ use Rattle.jsonc_text.specs.declared.edit.Shape.{Shape}
 use Rattle.jsonc_insert.specs.named.Named.{EnsureError}
 use Rattle.jsonc_edit.specs.set.Shapes.{is_of}
 use Rattle.jsonc_run.specs.Places.{IsContainerAt, AtPlace, IsFound}
-use Rattle.jsonc_run.specs.Edits.{PlainEdit, remove, remove_comment, clear_root, ensure_root, ensure_value, set_boolean, ensure_multiline, insert_element, append_element, insert_property, append_property, ensure_property, set_commas, set_some_commas, rename_property, place_of, EditStep}
+use Rattle.jsonc_run.specs.Edits.{PlainEdit, remove, remove_comment, clear_root, ensure_root, ensure_value, set_boolean, ensure_multiline, insert_element, append_element, insert_property, append_property, ensure_property, set_commas, set_some_commas, rename_property, insert_comment, place_of, EditStep}
 
 -- a node stands where the edit is to be made; edits of the root always have their place
 abbrev pub HasItsPlace : List Node → PlainEdit → Type 0
@@ -45,9 +51,15 @@ IsUnset shape ns n OutOfMemory = (lacks_name_at ns n ≡ false) × LacksKind (is
 IsUnset shape ns n MissingName = lacks_name_at ns n ≡ true
 IsUnset shape ns n why = ⊥
 
+-- the comment is not inserted above the entry n, or after it: it is none, or would take the rest of the line; or memory is wanted
+abbrev pub CommentError : Place → List Node → ℕ → List ℕ → EditError → Type 0
+CommentError place ns n text NotAnEntry = ⊥
+CommentError place ns n text why = IsRefusedFor place ns n text why
+
 -- Why it is refused that has its place, where n stands. Memory may be wanted for what is written, for the space that is due where an entry or a comment leaves, or
 -- before `false`, and for a comma that is due. Brackets may be missing around the entry that is to leave, or of the array or object that is to be on several lines
--- or that a value or property is to come into; and a name, or a colon, of the property whose value is to be of a shape, or that is to have another name.
+-- or that a value or property is to come into; and a name, or a colon, of the property whose value is to be of a shape, or that is to have another name. A comment is
+-- refused besides that is none, or that would take the rest of the line.
 abbrev pub RefusedAt : List Node → ℕ → PlainEdit → EditError → Type 0
 RefusedAt ns n (remove path) why = IsKeptFor ns n why
 RefusedAt ns n (remove_comment number) why = (why ≡ OutOfMemory) × WantsSpace ns n
@@ -64,6 +76,7 @@ RefusedAt ns n (ensure_property path name shape how) why = EnsureError shape how
 RefusedAt ns n (set_commas path mode) why = (why ≡ OutOfMemory) × (mode ≡ IfMultiline) × WantsSomeComma ns n
 RefusedAt ns n (set_some_commas path mode) why = ⊥
 RefusedAt ns n (rename_property path name) why = RenameError ns n why
+RefusedAt ns n (insert_comment path place text) why = CommentError place ns n text why
 RefusedAt ns n e why = why ≡ OutOfMemory
 
 -- why the edit was not made: it has no place, or it is refused there
@@ -71,12 +84,24 @@ abbrev pub FailsWith : List Node → PlainEdit → EditError → Type 0
 FailsWith ns e NoSuchPlace = ¬ (HasItsPlace ns e)
 FailsWith ns e why = AtPlace ns (place_of e) (λ n. RefusedAt ns n e why)
 
--- allocation failed, or the edit has no place: neither a bracket nor a name is missing
-abbrev pub WantsMemoryOrPlace : EditError → Type 0
-WantsMemoryOrPlace OutOfMemory = Unit {0}
-WantsMemoryOrPlace NoSuchPlace = Unit {0}
-WantsMemoryOrPlace MissingBrackets = ⊥
-WantsMemoryOrPlace MissingName = ⊥
+-- the edit is to insert a text that is no comment
+abbrev pub InsertsNoComment : PlainEdit → Type 0
+InsertsNoComment (insert_comment path place text) = ¬ (IsComment (chars text) [])
+InsertsNoComment e = ⊥
+
+-- the edit is to insert, after an entry, a comment that ends with its line
+abbrev pub InsertsLineAfter : PlainEdit → Type 0
+InsertsLineAfter (insert_comment path After text) = IsTrue (is_line_comment (comment text))
+InsertsLineAfter e = ⊥
+
+-- Why an edit is refused in a sound document: allocation failed, or the edit has no place, and neither a bracket nor a name is missing. A comment is refused besides
+-- that is none, or, after an entry, one that ends with its line.
+abbrev pub MayFailWith : PlainEdit → EditError → Type 0
+MayFailWith e OutOfMemory = Unit {0}
+MayFailWith e NoSuchPlace = Unit {0}
+MayFailWith e InvalidComment = InsertsNoComment e
+MayFailWith e LineContinues = InsertsLineAfter e
+MayFailWith e why = ⊥
 
 -- What a refused edit leaves: the document and all nodes that were there as they were; or commas were to be set, and those of the first have been.
 pub data IsLeft (old : List Node) : PlainEdit → List Node → Type 0 where

@@ -10,7 +10,7 @@ use Rattle.jsonc_tree.specs.Values.{DocumentValueOf}
 use Rattle.jsonc_sound.specs.Shape.{printed_text}
 use Rattle.jsonc_sound.specs.Marks.{AreMarks, marks}
 use Rattle.jsonc_sound.specs.SoundTrees.{SoundTree}
-use Rattle.jsonc_run.specs.Edits.{IsOfCharacters, NumbersFit, PlainEdit}
+use Rattle.jsonc_run.specs.Edits.{IsOfCharacters, Allows, PlainEdit}
 use Rattle.jsonc_run.specs.Written.{IsMarked, IsChanged, MadeIn}
 use Rattle.jsonc_run.specs.Named.{comment_count, IsNamed, Asks}
 use Rattle.jsonc_run.specs.texts.Edits.{Operation, options_behind}
@@ -36,8 +36,8 @@ pub data Steps : Options → OrderedTree → Option Plain → List PlainEdit →
   one_step : {o : Options} {t s u : OrderedTree} {w x y : Option Plain} {e : PlainEdit} {es : List PlainEdit} {op : Operation} {ops : List Operation}
       → IsNamed w (comment_count t) e → Asks w e op → Step o t w op s x → Steps (options_behind o op) s x es ops u y → Steps o t w (e ∷ es) (op ∷ ops) u y
 
--- so it is of every sound document, if the numbers that are written are numbers
+-- so it is of every sound document whose options allow what is written
 abbrev pub MakesSteps : Options → List Node → List PlainEdit → List Node → Type 0
 MakesSteps o old es new =
-    SoundTree o (ordered_tree old 0) → All IsOfCharacters es → All (NumbersFit o) es
+    SoundTree o (ordered_tree old 0) → All IsOfCharacters es → All (Allows o) es
     → (w x : Option Plain) × (ops : List Operation) × Steps o (ordered_tree old 0) w es ops (ordered_tree new 0) x

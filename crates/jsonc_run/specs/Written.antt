@@ -1,5 +1,5 @@
 -- What each operation makes of a document: of its value, its marks, which are its literals and comments as they are written, and its leaves.
-use Rattle.std.specs.Prelude.{◌≡◌, ℕ, Bool, true, false, List, [], ◌∷◌, ◌++◌, Option, Some, None, count_by, length}
+use Rattle.std.specs.Prelude.{◌≡◌, ℕ, Bool, true, false, List, [], ◌∷◌, ◌++◌, Option, Some, None, chars, count_by, length}
 use Rattle.jsonc_text.specs.Options.{Options}
 use Rattle.jsonc_text.specs.Plain.{Plain, boolean}
 use Rattle.jsonc_text.specs.Spelling.{spelled}
@@ -10,6 +10,7 @@ use Rattle.jsonc_sound.specs.ChangeLaws.{DiffersIn}
 use Rattle.jsonc_sound.specs.TreeChanges.{leaves_of, property_of, DocumentChanged}
 use Rattle.jsonc_layout.specs.from_input.Layout.{Layout}
 use Rattle.jsonc_edit.specs.commas.Laws.{IsAsSaid, OnlyCommas}
+use Rattle.jsonc_edit.specs.commenting.Laws.{GainsComment, StandsAbove, StandsBehind}
 use Rattle.jsonc_edit.specs.SeamEntries.{PropertyHolds, PropertyReplacedWithSeam}
 use Rattle.jsonc_layout.specs.from_input.Laid.{laid, laid_property, string_leaf}
 use Rattle.jsonc_edit.specs.Spaced.{SpacesPut}
@@ -22,14 +23,18 @@ use Rattle.jsonc_insert.specs.named.Values.{ReplacesValue}
 use Rattle.jsonc_edit.specs.remove.Laws.{EntryTaken, ValueTaken}
 use Rattle.jsonc_edit.specs.set.Giving.{is_bare_value}
 use Rattle.jsonc_edit.specs.set.Names.{RenamesMember}
+use Rattle.jsonc_text.specs.Gaps.{IsComment}
+use Rattle.jsonc_text.specs.declared.edit.Place.{Place}
+use Rattle.jsonc_text.specs.declared.edit.Place.TheVariants.{Above, After}
 use Rattle.jsonc_text.specs.declared.edit.TrailingCommaMode.{TrailingCommaMode}
 use Rattle.jsonc_sort.specs.Laws.{SortsEntries}
-use Rattle.jsonc_run.specs.texts.Edits.{Operation, nothing, replace, set_boolean, replace_property, come_first, insert, remove, remove_comment, clear_root, ensure_multiline, set_commas, rearrange, rename_property, options_behind}
+use Rattle.jsonc_run.specs.texts.Edits.{Operation, nothing, replace, set_boolean, replace_property, come_first, insert, remove, remove_comment, clear_root, ensure_multiline, set_commas, rearrange, rename_property, insert_comment, options_behind}
+use Rattle.jsonc_run.specs.EntriesHeld.{EntryHolds}
 use Rattle.jsonc_run.specs.texts.Entries.{Named}
 use Rattle.jsonc_run.specs.texts.Paths.{an_array, an_object}
 use Rattle.jsonc_sound.specs.MarkChanges.{MarksDifferIn}
 use Rattle.jsonc_sound.specs.Marks as marks
-use Rattle.jsonc_sound.specs.Marks.{Mark, comments_of}
+use Rattle.jsonc_sound.specs.Marks.{Mark, comment_mark, comments_of}
 use Rattle.jsonc_sound.specs.Written.{property_written, written}
 use Rattle.jsonc_sound.specs.Adjacent.{last_printed}
 use Rattle.jsonc_sound.specs.Booleans.{boolean_leaf, is_hex_leaf}
@@ -65,6 +70,7 @@ pub data IsChanged : Option Plain → Operation → Option Plain → Type 0 wher
   by_commas : {w : Option Plain} {whole : Bool} {path : List ℕ} {mode : TrailingCommaMode} → IsChanged w (set_commas whole path mode) w
   by_sorting : {path order : List ℕ} {x y : Plain} → SortsEntries path order x y → IsChanged (Some x) (rearrange path order) (Some y)
   by_name : (path : List ℕ) (i : ℕ) {name : List ℕ} {x y : Plain} → RenamesMember path i name x y → IsChanged (Some x) (rename_property (path ++ i ∷ []) name) (Some y)
+  by_inserting_comment : {w : Option Plain} {path comment : List ℕ} {place : Place} → IsChanged w (insert_comment path place comment) w
 
 -- an entry has left a sound document, with what leaves with it and no more; or the document's value has
 pub data EntryRemoved (t u : OrderedTree) : List ℕ → Type 0 where
@@ -91,9 +97,26 @@ pub data RenamesProperty (name : List ℕ) (t u : OrderedTree) : List ℕ → Ty
   property_renamed : (path : List ℕ) (i : ℕ) (was : Content) (rest : OrderedTree) (front back : List Content) → PropertyHolds (more was none rest) path i t front back
       → PropertyHolds (more (string_leaf name) none rest) path i u front back → RenamesProperty name t u (path ++ i ∷ [])
 
+-- beside the entry, between these leaves, the comment has been inserted
+abbrev pub StandsBeside : Place → {text : List ℕ} {t u : OrderedTree} → GainsComment text t u → (own front back : List Content) → Type 0
+StandsBeside Above gains own front back = StandsAbove gains own front back
+StandsBeside After gains own front back = StandsBehind gains own front back
+
+-- The comment, which is one, has been inserted at its place beside the entry at the path; all leaves before and after stay.
+pub record CommentInserted (path : List ℕ) (place : Place) (comment : List ℕ) (t u : OrderedTree) : Type 0 where
+  pub text : List ℕ
+  pub is : chars text ≡ comment
+  pub whole : IsComment comment []
+  pub own : Top
+  pub front : List Content
+  pub back : List Content
+  pub entry : EntryHolds own path t front back
+  pub gains : GainsComment text t u
+  pub stands : StandsBeside place gains (leaves_of own) front back
+
 -- All stay; or one stretch of the marks has been replaced by the literals that are written for the new value, for the truth value, or for the new name and value of
 -- a property, or for its name alone; or the literals of a value that comes have come, those of a property with its name; or those of an entry have left, with comments beside it; or one
--- comment has left, the one of that number. All others stay, in order. Of a cleared document none stay. Lines and commas change none, and where entries come in an
+-- comment has left, the one of that number, or one been inserted. All others stay, in order. Of a cleared document none stay. Lines and commas change none, and where entries come in an
 -- order each mark is there as often as before.
 abbrev pub IsMarked : List Mark → Operation → List Mark → Type 0
 IsMarked x nothing y = y ≡ x
@@ -110,6 +133,7 @@ IsMarked x (ensure_multiline path) y = y ≡ x
 IsMarked x (set_commas whole path mode) y = y ≡ x
 IsMarked x (rearrange path order) y = (test : Mark → Bool) → count_by test y ≡ count_by test x
 IsMarked x (rename_property path name) y = (was : List Mark) × MarksDifferIn was (marks.literal (spelled name) ∷ []) x y
+IsMarked x (insert_comment path place comment) y = MarksDifferIn [] (comment_mark comment ∷ []) x y
 
 -- the value at the path has changed, and nothing outside of it
 abbrev pub IsChangedAt : List ℕ → OrderedTree → OrderedTree → Type 0
@@ -133,3 +157,4 @@ MadeIn o t (set_commas true path mode) u = OnlyCommas mode t u × (at : IsChange
 MadeIn o t (set_commas false path mode) u = OnlyCommas mode t u × IsChangedAt path t u
 MadeIn o t (rearrange path order) u = (sorted : SortedAt path order t u) × KeepsOutside sorted
 MadeIn o t (rename_property path name) u = RenamesProperty name t u path
+MadeIn o t (insert_comment path place comment) u = CommentInserted path place comment t u

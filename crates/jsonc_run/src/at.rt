@@ -7,6 +7,7 @@ ghost use Rattle.jsonc_run.specs.Refusals.{IsAnswer};
 
 use crate::places::{Needed, find_comment, find_container, find_entry, find_needed, find_property};
 use jsonc_edit::commas::set_trailing_commas;
+use jsonc_edit::commenting::insert_comment;
 use jsonc_edit::multiline::ensure_multiline;
 use jsonc_edit::remove::remove;
 use jsonc_edit::set::{
@@ -18,6 +19,7 @@ use jsonc_insert::insert_element;
 use jsonc_insert::members::insert_property;
 use jsonc_insert::named::ensure_property;
 use jsonc_layout::input::CstInputValue;
+use jsonc_text::edit::Place;
 use jsonc_tree::Tree;
 use std::alloc::Allocator;
 
@@ -316,4 +318,20 @@ pub(crate) fn set_commas_at<A: Allocator>(
         return Err(EditError::NoSuchPlace);
     };
     set_trailing_commas(tree, container, mode)
+}
+
+// Inserts a comment above the entry at a path, or after it.
+pub(crate) fn insert_comment_at<A: Allocator + Copy>(
+    alloc: A,
+    tree: &mut Tree<A>,
+    path: &[usize],
+    place: Place,
+    text: &str,
+) -> Result<(), EditError>
+    ensures { IsAnswer tree.old.nodes tree.new.nodes (op.insert_comment path.now place text.now) result }
+{
+    let Some(entry) = find_entry(tree, path) else {
+        return Err(EditError::NoSuchPlace);
+    };
+    insert_comment(alloc, tree, entry, text, place)
 }

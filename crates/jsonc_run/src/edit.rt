@@ -2,6 +2,7 @@
 
 use jsonc_edit::{Over, Shape, TrailingCommaMode};
 use jsonc_layout::input::CstInputValue;
+use jsonc_text::edit::Place;
 use std::alloc::Allocator;
 
 /// An edit of a document.
@@ -96,4 +97,13 @@ pub enum Edit<A: Allocator> {
     /// no space is ever needed: `{a:1b:2}` with `b` renamed `c` is `{a:1"c":2}`. A property that
     /// lacks its name or its colon is an error.
     RenameProperty(Vec<usize, A>, String<A>),
+    /// Inserts a comment above the element or property at a path, or after it on its line.
+    ///
+    /// At the empty path it is a comment of the document's value. The text is one whole comment, from
+    /// `//` without a line's end, or from `/*` to the first `*/`, and the options have to allow
+    /// comments. Above, it stands on a line of its own with the entry's indent: `{ "a": 1 }` is put on
+    /// lines there. After, it stands behind the entry's comma, with one space before it: `[1, 2]` with
+    /// `/*c*/` after its first element is `[1, /*c*/ 2]`. Any other text is an error, and so is, after
+    /// an entry, a comment that begins with `//` where anything follows on the line.
+    InsertComment(Vec<usize, A>, Place, String<A>),
 }

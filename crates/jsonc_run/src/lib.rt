@@ -9,6 +9,7 @@
 //! - replaces the property at a path, sets its value, or gives it another name ([`find_property`]);
 //! - ensures that the document, a property, or an object's first property of a name is an array or an object;
 //! - puts the array or object at a path on several lines ([`find_container`]), or inserts an entry into it;
+//! - inserts a comment above the entry at a path, or after it;
 //! - sets the trailing commas of the value at a path and of all below it.
 //!
 //! One that is refused leaves the document as it was, trailing commas aside (`specs/Refusals.antt`).
@@ -28,5 +29,6 @@ pub mod promise;
 
 pub use edit::Edit;
 pub use jsonc_edit::{Over, Shape};
+pub use jsonc_text::edit::Place;
 pub use making::make;
 pub use places::{find_comment, find_container, find_entry, find_property};

@@ -6,13 +6,14 @@ ghost use Rattle.jsonc_tree.specs.OrderedTree.{ordered_tree};
 ghost use Rattle.jsonc_run.specs.Edits.{is_sort, operation_of, unsorted, EditStep};
 ghost use Rattle.jsonc_sound.specs.SoundTrees.{SoundTree};
 ghost use Rattle.jsonc_run.specs.Named.{NoSuchPlaceIff};
-ghost use Rattle.jsonc_run.specs.Refusals.{IsAnswer, IsLeft, FailsWith, WantsMemoryOrPlace};
+ghost use Rattle.jsonc_run.specs.Refusals.{IsAnswer, IsLeft, FailsWith, MayFailWith};
 ghost use Rattle.jsonc_run.specs.Steps.{MakesSteps};
 
 use crate::at::{
     append_element_at, append_property_at, ensure_multiline_at, ensure_property_at, ensure_value,
-    ensure_value_at, insert_element_at, insert_property_at, remove_at, remove_entry, rename_at,
-    replace_at, replace_property_at, set_boolean_at, set_commas_at, set_value, set_value_at,
+    ensure_value_at, insert_comment_at, insert_element_at, insert_property_at, remove_at,
+    remove_entry, rename_at, replace_at, replace_property_at, set_boolean_at, set_commas_at,
+    set_value, set_value_at,
 };
 use crate::edit::Edit;
 use jsonc_edit::EditError;
@@ -34,8 +35,8 @@ pub fn make<A: Allocator + Copy>(
     ensures error { IfErr result (FailsWith tree.old.nodes (operation_of unsorted edit.now)) }
     ensures named { (o : Options) → SoundTree o (ordered_tree tree.old.nodes 0)
         → IfErr result (NoSuchPlaceIff o tree.old.nodes (operation_of unsorted edit.now)) }
-    ensures memory_or_place { (o : Options) → SoundTree o (ordered_tree tree.old.nodes 0)
-        → IfErr result WantsMemoryOrPlace }
+    ensures may_fail { (o : Options) → SoundTree o (ordered_tree tree.old.nodes 0)
+        → IfErr result (MayFailWith (operation_of unsorted edit.now)) }
     ensures steps { (o : Options)
         → OnOk result (MakesSteps o tree.old.nodes (operation_of unsorted edit.now ∷ []) tree.new.nodes) }
     ensures left { OnErr result (IsLeft tree.old.nodes (operation_of unsorted edit.now) tree.new.nodes) }
@@ -84,6 +85,9 @@ fn make_by_kind<A: Allocator + Copy>(
         }
         Edit::SetTrailingCommas(path, mode) => set_commas_at(tree, path, *mode),
         Edit::RenameProperty(path, name) => rename_at(alloc, tree, path, name),
+        Edit::InsertComment(path, place, text) => insert_comment_at(
+            alloc, tree, path, *place, text,
+        ),
         Edit::Sort(_, _, _) => unreachable!(),
     }
 }

@@ -8,6 +8,15 @@ pub enum Shape {
     Array,
 }
 
+/// Where a comment is inserted.
+#[derive(Clone, Copy, Debug, PartialEq, Eq)]
+pub enum Place {
+    /// Above an element or property, on a line of its own.
+    Above,
+    /// After it on its line, and after its comma.
+    After,
+}
+
 /// An edit. Each step of a path is a place among elements or properties, from 0; a value is a JSON text.
 /// `docs/EDITS.md` shows what each writes.
 #[derive(Clone, Debug, PartialEq, Eq)]
@@ -31,6 +40,7 @@ pub enum Edit {
     SetTrailingCommas { path: Vec<usize>, never: bool },
     Sort { path: Vec<usize>, pin: bool, groups: bool },
     RenameProperty { path: Vec<usize>, name: String },
+    InsertComment { path: Vec<usize>, place: Place, text: String },
 }
 
 fn slice<T>(of: &[T]) -> ffi::Slice<T> {
@@ -76,6 +86,7 @@ impl Edit {
             Edit::SetTrailingCommas { path, never } => at(ffi::EDIT_SET_TRAILING_COMMAS, path, *never, false),
             Edit::Sort { path, pin, groups } => at(ffi::EDIT_SORT, path, *pin, *groups),
             Edit::RenameProperty { path, name } => with(at(ffi::EDIT_RENAME_PROPERTY, path, false, false), 0, name, ""),
+            Edit::InsertComment { path, place, text } => with(at(ffi::EDIT_INSERT_COMMENT, path, *place == Place::After, false), 0, text, ""),
         }
     }
 }

@@ -53,6 +53,11 @@ pub enum Error {
     OnTheWay,
     /// An edit has no place; so many stand before it in the list.
     NoSuchPlace(usize),
+    /// The text of a comment that is to be inserted is not one comment; so many edits stand before it in the list.
+    InvalidComment(usize),
+    /// A comment that ends with its line is to be inserted, and something follows there on the line; so many edits stand
+    /// before it.
+    LineContinues(usize),
     /// The pointer is none.
     Pointer(Fault),
     /// The patch is no array, or an operation is none; so many stand before it.
@@ -84,6 +89,8 @@ impl Error {
             ffi::NOT_ARRAY => Error::NotArray,
             ffi::ON_THE_WAY => Error::OnTheWay,
             ffi::NO_SUCH_PLACE => Error::NoSuchPlace(fault.made),
+            ffi::INVALID_COMMENT => Error::InvalidComment(fault.made),
+            ffi::LINE_CONTINUES => Error::LineContinues(fault.made),
             ffi::POINTER => Error::Pointer(Fault::of(fault)),
             ffi::NOT_PATCH => Error::NotPatch(fault.made, Fault::of(fault)),
             ffi::NO_SUCH_VALUE => Error::NoSuchValue(fault.made),
@@ -106,6 +113,8 @@ impl fmt::Display for Error {
             Error::NotArray => f.write_str("root value is not an array"),
             Error::OnTheWay => f.write_str("a value on the path is not an object"),
             Error::NoSuchPlace(made) => write!(f, "No such place, edits made before: {made}"),
+            Error::InvalidComment(made) => write!(f, "Invalid comment, edits made before: {made}"),
+            Error::LineContinues(made) => write!(f, "Line continues after the comment, edits made before: {made}"),
             Error::Pointer(fault) => write!(f, "pointer: {fault}"),
             Error::NotPatch(_, fault) => write!(f, "patch: {fault}"),
             Error::NoSuchValue(made) => write!(f, "Operation {made}: Pointer leads to nothing"),

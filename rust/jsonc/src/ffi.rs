@@ -18,7 +18,7 @@ pub const FAULT_TEXT_LEN: usize = 192;
 pub const OK: u32 = 0;
 /// An allocation failed.
 pub const OUT_OF_MEMORY: u32 = 1;
-/// A name, path, pointer or JSON text is not UTF-8.
+/// A name, comment, path, pointer or JSON text is not UTF-8.
 pub const WORD_NOT_UTF8: u32 = 2;
 /// The text is not UTF-8.
 pub const NOT_UTF8: u32 = 3;
@@ -64,6 +64,12 @@ pub const NOT_PATCH: u32 = 22;
 pub const INTO_ITSELF: u32 = 23;
 /// A value is not equal to the one that it was tested against.
 pub const NOT_EQUAL: u32 = 24;
+/// The text of a comment that is to be inserted is not one comment and nothing else.
+pub const INVALID_COMMENT: u32 = 25;
+/// A comment that ends with its line is to be inserted, and something follows there on the line.
+pub const LINE_CONTINUES: u32 = 26;
+/// A comment is to be inserted at a node that is no entry. No call answers it of a text.
+pub const NOT_AN_ENTRY: u32 = 27;
 
 pub const ALLOW_COMMENTS: u32 = 1;
 pub const ALLOW_LOOSE_OBJECT_PROPERTY_NAMES: u32 = 2;
@@ -162,6 +168,8 @@ pub const EDIT_SET_TRAILING_COMMAS: u32 = 16;
 pub const EDIT_SORT: u32 = 17;
 /// Gives the property at the path another name.
 pub const EDIT_RENAME_PROPERTY: u32 = 18;
+/// Inserts the comment in `name` above the element or property at the path, or after it if `first`.
+pub const EDIT_INSERT_COMMENT: u32 = 19;
 
 /// What is wrong with a text, a pointer or a patch. All of it is 0 where none is at fault.
 #[repr(C)]
@@ -202,13 +210,14 @@ pub struct Edit {
     pub kind: u32,
     /// The steps of its path, each a place among elements or properties, from 0.
     pub path: Slice<usize>,
-    /// A name.
+    /// A name, or the text of a comment.
     pub name: Slice<u8>,
     /// A value, as a JSON text.
     pub json: Slice<u8>,
     /// The place to insert at, or the number of the comment.
     pub index: usize,
-    /// An array and no object; the truth value; no trailing commas; or to pin comments.
+    /// An array and no object; the truth value; no trailing commas; to pin comments; or after an entry and not
+    /// above it.
     pub first: bool,
     /// To replace a value of another kind; or to sort within groups.
     pub second: bool,
@@ -278,9 +287,10 @@ unsafe extern "C" {
 
     /// Makes edits in order, and hands out the text after them. Where one is refused, none is made.
     ///
-    /// 0: it is done. 1, 3 and 4 as of `jsonc_check`. 2: a name or JSON text is not UTF-8. 7 and 8: a JSON text
-    /// is no document, or has no value. 13: an edit has no place. 16: an edit has no such kind. The fault tells
-    /// how many edits stand before it.
+    /// 0: it is done. 1, 3 and 4 as of `jsonc_check`. 2: a name, comment or JSON text is not UTF-8. 7 and 8: a
+    /// JSON text is no document, or has no value. 13: an edit has no place. 16: an edit has no such kind. 25: a
+    /// text to be inserted as a comment is not one comment. 26: such a comment ends with its line, and
+    /// something follows there on the line. The fault tells how many edits stand before it.
     pub fn jsonc_edit(text: *const u8, text_len: usize, edits: *const Edit, edits_len: usize, options: u32, out: *mut Slice<u8>, fault: *mut Fault) -> u32;
 
     /// Hands out the value that a JSON Pointer (RFC 6901) refers to, as it is written.

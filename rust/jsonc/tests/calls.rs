@@ -1,5 +1,5 @@
 //! Each call: its text, its faults, and its threads.
-use jsonc::{Edit, Error, Options, Shape, append, apply_patch, check, drop_at, edit, find, get, merge_patch, print, put};
+use jsonc::{Edit, Error, Options, Place, Shape, append, apply_patch, check, drop_at, edit, find, get, merge_patch, print, put};
 use jsonc::{append_into, apply_patch_into, drop_at_into, edit_into, find_into, get_into, merge_patch_into, print_into};
 use jsonc::{put_into, remove, remove_into, set, set_into, sort, sort_into};
 
@@ -99,6 +99,30 @@ fn each_edit_is_made() {
     let mut room = [0; 16];
     assert_eq!(edit_into("[1, 2]", Options::ALL, &stopped[..1], &mut room), Ok(4));
     assert_eq!(&room[..4], b"[ 2]");
+}
+
+#[test]
+fn comments_are_inserted() {
+    // (by hand: above on a line of its own with the entry's indent, after it one space behind its comma)
+    let insert = |path: &[usize], place, text: &str| Edit::InsertComment { path: path.to_vec(), place, text: text.to_string() };
+    let list = |edits: &[Edit], text: &str| made(edit(text, Options::JSONC, edits));
+    let text = "{\r\n\t\"a\": 1,\r\n\t\"b\": [3, 4]\r\n}";
+    assert_eq!(list(&[insert(&[0], Place::Above, "// c")], text), text.replace("\t\"a\"", "\t// c\r\n\t\"a\""));
+    assert_eq!(list(&[insert(&[0], Place::After, "// c")], text), text.replace("1,", "1, // c"));
+    assert_eq!(list(&[insert(&[1, 0], Place::After, "/* \u{e9} */")], text), text.replace("3,", "3, /* \u{e9} */"));
+    assert_eq!(list(&[insert(&[], Place::Above, "/**/")], "1"), "/**/\n1");
+    assert_eq!(list(&[insert(&[], Place::After, "// c"), Edit::RemoveComment { index: 0 }], "1\n"), "1\n");
+    let first = insert(&[0], Place::Above, "// c");
+    for (text, path, comment, why) in [
+        ("[1, 2]", 0, "c", Error::InvalidComment(1)),
+        ("[1, 2]", 0, "// c\n", Error::InvalidComment(1)),
+        ("[1, 2]", 0, "// c", Error::LineContinues(1)),
+        ("[1, 2]", 2, "// c", Error::NoSuchPlace(1)),
+    ] {
+        let edits = [first.clone(), insert(&[path], Place::After, comment)];
+        assert_eq!(edit(text, Options::JSONC, &edits).map(drop), Err(why.clone()), "{comment}");
+        assert_eq!(edit_into(text, Options::JSONC, &edits, &mut [0; 64]), Err(why), "{comment}");
+    }
 }
 
 #[test]

@@ -19,3 +19,4 @@ pub mod RootShapes
 pub mod HeldShapes
 pub mod Renamed
 pub mod ClearedEntries
+pub mod Commented

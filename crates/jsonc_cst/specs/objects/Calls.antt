@@ -10,18 +10,17 @@ use Rattle.jsonc_cst.specs.declared.cst.node.CstNode.{CstNode}
 use Rattle.jsonc_cst.specs.declared.cst.node.CstObjectProp.{CstObjectProp}
 use Rattle.jsonc_cst.specs.Document.{nodes_of, tree_of, HasNode}
 use Rattle.jsonc_cst.specs.Nodes.{number_of, object_prop_node}
-use Rattle.jsonc_cst.specs.objects.Members.{HasNamedComeIn, IsItsProperty, IsNamedAtItsPath}
-use Rattle.jsonc_cst.specs.objects.Named.{EnsureErrorIn, HasEnsured, HasWrittenNamed, IsEnsuringNamed}
+use Rattle.jsonc_cst.specs.objects.Members.{HasInsertedProperty, IsItsProperty}
+use Rattle.jsonc_cst.specs.objects.Named.{EnsureErrorIn, HasEnsured, IsEnsuringNamed}
 use Rattle.jsonc_cst.specs.typed.Edits.{KeepsDocument, Unchanged, HandlesStay}
 use Rattle.jsonc_cst.specs.typed.Inserting.{InsertError, KeepsOthers}
 use Rattle.jsonc_cst.specs.typed.Removing.{IsKeptForMemory}
 
--- The property has come into the object at the place, as its property of the number i or its last, and is answered. If the document was sound, it is so with the
--- property there; the call is the step that is named; all other nodes stay. Or an error has left every node as it was, for memory or for brackets that are missing.
+-- The property has been inserted into the object at the place, as its property of the number i or its last, and is answered: the call is the step that is named.
+-- All other nodes stay. Or an error has left every node as it was, for memory or for brackets that are missing.
 pub record IsNamedInsertion {A : Type 0} (old new : CstRootNode A) (node : CstNode) (i place : ℕ) (name : List ℕ) (v : Plain) (is_step : Type 0) (r : Result CstObjectProp EditError) : Type 0 where
-  pub put : IfOk r (HasNamedComeIn old new node place name v)
+  pub put : IfOk r (HasInsertedProperty old new node place name v)
   pub property : IfOk r (IsItsProperty old new node i)
-  pub written : (o : Options) → OnOk r (IsNamedAtItsPath old new o node place name v)
   pub step : OnOk r is_step
   pub others : OnOk r (KeepsOthers old new node)
   pub detached : OnOk r (KeepsDocument old new node)
@@ -46,13 +45,12 @@ module _ {T : Type 0} (node : T → CstNode) where
   abbrev pub IsSaidIf : Option T → (CstNode → Type 0) → Type 0
   IsSaidIf answer Said = IfSome answer (λ x. Said (node x))
 
--- The value of the first property of the name is answered, if it is of the shape. Where no property has the name, one with an empty value of the shape has come,
--- which is answered; where another value was to give way, an empty one has its place. If the document was sound, it is so, and has changed there alone. Or an
--- error has left every node as it was: for memory, for brackets that are missing, or for a colon.
+-- The value of the first property of the name is answered, if it is of the shape. Where no property has the name, one with an empty value of the shape has been
+-- inserted, which is answered; where another value was to be replaced, an empty one has its place. The call is one step. Or an error has left every node as it
+-- was: for memory, for brackets that are missing, or for a colon.
 module _ {A T : Type 0} (old new : CstRootNode A) (shape : Shape) (how : Over) (node : CstNode) (name : List ℕ) where
   pub record IsNamedEnsured (number : T → Option ℕ) (is_said : T → (CstNode → Type 0) → Type 0) (r : Result T EditError) : Type 0 where
     pub ensured : IfOk r (λ a. HasEnsured old new shape how node name (number a))
-    pub written : (o : Options) → OnOk r (HasWrittenNamed old new o node name shape how)
     pub step : OnOk r (IsEnsuringNamed (nodes_of old) (nodes_of new) (number_of node) name shape how)
     pub detached : OnOk r (KeepsDocument old new node)
     pub error : IfErr r (EnsureErrorIn old shape how node name)

@@ -1,15 +1,9 @@
--- Properties that come into objects.
+-- Properties that are inserted into objects.
 use Rattle.std.specs.Prelude.{ℕ, List, length, min}
-use Rattle.jsonc_text.specs.Options.{Options}
 use Rattle.jsonc_text.specs.Plain.{Plain}
-use Rattle.jsonc_tree.specs.OrderedTree.{OrderedTree, ordered_tree}
 use Rattle.jsonc_tree.specs.Tree.{Node}
 use Rattle.jsonc_layout.specs.nodes.Siblings.{elements_at}
-use Rattle.jsonc_layout.specs.from_input.Texts.{IsCharacters}
-use Rattle.jsonc_sound.specs.SoundTrees.{SoundTree}
 use Rattle.jsonc_edit.specs.Paths.{IsAt, IsElementOf}
-use Rattle.jsonc_edit.specs.Writing.{IsWritable}
-use Rattle.jsonc_insert.specs.elements.Members.{IsMemberInserted, PropertyInsertedAt}
 use Rattle.jsonc_insert.specs.members.Inserted.{PropertyPut}
 use Rattle.jsonc_cst.specs.declared.cst.CstRootNode.{CstRootNode}
 use Rattle.jsonc_cst.specs.declared.cst.node.CstNode.{CstNode}
@@ -20,15 +14,11 @@ use Rattle.jsonc_run.specs.promise.Steps.{IsStep}
 use Rattle.jsonc_run.specs.Edits.{insert_property, append_property}
 
 module _ (old new : List Node) where
-  -- the property of this name and value has come into the object c at this number, or behind its last property where it has fewer: it is this node
+  -- the property of this name and value has been inserted into the object c at this number, or after its last property where it has fewer: it is this node
   abbrev pub NamedInsertedAt : ℕ → ℕ → List ℕ → Plain → CstObjectProp → Type 0
   NamedInsertedAt c i name v now = PropertyPut old new c i name v now.number
 
-  -- the node is the property of c at this number, or at the last
-  abbrev pub PropertyStandsAt : ℕ → ℕ → CstObjectProp → Type 0
-  PropertyStandsAt c i now = IsElementOf new c (min i (length (elements_at old c))) now.number
-
--- Which edit that is, where c is an object that stands in the document.
+-- Which edit that is, where c is an object in the document.
 module _ (old new : List Node) where
   abbrev pub IsInsertingNamed : ℕ → ℕ → List ℕ → Plain → Type 0
   IsInsertingNamed c i name v = IsStep IsAt (λ path. insert_property path i name v) old new c
@@ -36,24 +26,11 @@ module _ (old new : List Node) where
   abbrev pub IsAppendingNamed : ℕ → List ℕ → Plain → Type 0
   IsAppendingNamed c name v = IsStep IsAt (λ path. append_property path name v) old new c
 
--- the property has come into the object at the path, at this number or behind its last, and the text is a document again that has it there
-pub record IsNamedPutIn (o : Options) (path : List ℕ) (i : ℕ) (name : List ℕ) (v : Plain) (t u : OrderedTree) : Type 0 where
-  pub come : PropertyInsertedAt o path i name v t u
-  pub is : IsMemberInserted o path i name v t u come
-
--- so it is where c stands at a path of a sound document, and name and v may be written
-abbrev pub PutsNamedAtItsPath : Options → List Node → List Node → ℕ → ℕ → List ℕ → Plain → Type 0
-PutsNamedAtItsPath o old new c i name v =
-    SoundTree o (ordered_tree old 0) → IsCharacters name → IsWritable o v → (path : List ℕ) → IsAt old path c
-    → IsNamedPutIn o path i name v (ordered_tree old 0) (ordered_tree new 0)
-
 -- the same of a document
 module _ {A : Type 0} (old new : CstRootNode A) where
-  abbrev pub HasNamedComeIn : CstNode → ℕ → List ℕ → Plain → CstObjectProp → Type 0
-  HasNamedComeIn node i name v now = NamedInsertedAt (nodes_of old) (nodes_of new) (number_of node) i name v now
+  abbrev pub HasInsertedProperty : CstNode → ℕ → List ℕ → Plain → CstObjectProp → Type 0
+  HasInsertedProperty node i name v now = NamedInsertedAt (nodes_of old) (nodes_of new) (number_of node) i name v now
 
+  -- it is the property of this number in it, or the last
   abbrev pub IsItsProperty : CstNode → ℕ → CstObjectProp → Type 0
-  IsItsProperty node i now = PropertyStandsAt (nodes_of old) (nodes_of new) (number_of node) i now
-
-  abbrev pub IsNamedAtItsPath : Options → CstNode → ℕ → List ℕ → Plain → Type 0
-  IsNamedAtItsPath o node i name v = PutsNamedAtItsPath o (nodes_of old) (nodes_of new) (number_of node) i name v
+  IsItsProperty node i now = IsElementOf (nodes_of new) (number_of node) (min i (length (elements_at (nodes_of old) (number_of node)))) now.number

@@ -1,15 +1,10 @@
 -- Values of properties by name: found, or set.
 use Rattle.std.specs.Prelude.{ℕ, List, Option}
-use Rattle.jsonc_text.specs.Options.{Options}
-use Rattle.jsonc_tree.specs.OrderedTree.{ordered_tree}
 use Rattle.jsonc_tree.specs.Tree.{Node}
-use Rattle.jsonc_layout.specs.from_input.Texts.{IsCharacters}
-use Rattle.jsonc_sound.specs.SoundTrees.{SoundTree}
 use Rattle.jsonc_edit.specs.Paths.{IsAt}
 use Rattle.jsonc_text.specs.declared.edit.EditError.{EditError}
 use Rattle.jsonc_text.specs.declared.edit.Over.{Over}
 use Rattle.jsonc_text.specs.declared.edit.Shape.{Shape}
-use Rattle.jsonc_insert.specs.named.Laws.{IsNamedWritten}
 use Rattle.jsonc_insert.specs.named.Named.{EnsureError, NamedEnsured}
 use Rattle.jsonc_cst.specs.declared.cst.CstRootNode.{CstRootNode}
 use Rattle.jsonc_cst.specs.declared.cst.node.CstNode.{CstNode}
@@ -19,14 +14,7 @@ use Rattle.jsonc_run.specs.Edits.{ensure_property}
 use Rattle.jsonc_cst.specs.Nodes.{number_of}
 
 module _ (old new : List Node) where
-  -- If c stands at a path of a sound document, that may hold the name, the text is a document again, in which that property alone has changed, or has come
-  -- last; and the document is sound.
-  abbrev pub NamedIsWritten : Options → ℕ → List ℕ → Shape → Over → Type 0
-  NamedIsWritten o c name shape how =
-      SoundTree o (ordered_tree old 0) → IsCharacters name → (path : List ℕ) → IsAt old path c
-      → IsNamedWritten o path name shape how (ordered_tree old 0) (ordered_tree new 0)
-
-  -- which edit that is, if c is an object that stands in the document
+  -- which edit that is, if c is an object in the document
   abbrev pub IsEnsuringNamed : ℕ → List ℕ → Shape → Over → Type 0
   IsEnsuringNamed c name shape how = IsStep IsAt (λ path. ensure_property path name shape how) old new c
 
@@ -35,9 +23,6 @@ module _ {A : Type 0} (old new : CstRootNode A) where
   -- the first property of the name has a value of the shape, or another that was to stay; the value of the shape is answered, if there is one
   abbrev pub HasEnsured : Shape → Over → CstNode → List ℕ → Option ℕ → Type 0
   HasEnsured shape how node name answer = NamedEnsured shape how (nodes_of old) (nodes_of new) (number_of node) name answer
-
-  abbrev pub HasWrittenNamed : Options → CstNode → List ℕ → Shape → Over → Type 0
-  HasWrittenNamed o node name shape how = NamedIsWritten (nodes_of old) (nodes_of new) o (number_of node) name shape how
 
 -- why not
 abbrev pub EnsureErrorIn : {A : Type 0} → CstRootNode A → Shape → Over → CstNode → List ℕ → EditError → Type 0

@@ -42,7 +42,7 @@ module _ {A : Type 0} where
 
   module _ {F D N K : Type 0} (g : Shared F (Bor D × (N × Unit {0})) (Result K EditError)) (key : F) (same : CstRootNode A → D) (node_of : N → CstNode)
       (cmp : K → K → Ordering) where
-    -- the keys that are given of nodes of this document come in an order of what the nodes are
+    -- the keys that are given of nodes of this document are in an order of what the nodes are
     pub record KeysCompareTops (lt : Top → Top → Bool) (d : CstRootNode A) : Type 0 where
       pub tells : (x y : N) (k l : K) → HasNode d (node_of x) → HasNode d (node_of y) → Answers g key (same d) x (Ok k) → Answers g key (same d) y (Ok l)
           → is_lt (cmp k l) ≡ lt (top_of d (node_of x)) (top_of d (node_of y))
@@ -94,7 +94,7 @@ module _ {A : Type 0} where
       → IsSortedByKey g key same object_prop_node cmp now new (object_node object) (properties_asked now (object_node object)) k
       → IsUntouched now new
 
--- What a sort leaves is in order: if what was asked answers before and behind by one order of what the elements are, any further sort by it, whatever comments
+-- What a sort makes is in order: if what was asked answers before and after by one order of what the elements are, any further sort by it, whatever comments
 -- are pinned, changes no byte. So of an array that was sorted by a comparison, and an object; and by keys.
 module _ {A F D : Type 0} (compare : F) (same : CstRootNode A → D) (old new : CstRootNode A) where
   abbrev pub ElementsStayInOrder : Shared F (Bor D × (CstNode × (CstNode × Unit {0}))) Ordering → CstArray → Type 0

@@ -1,4 +1,4 @@
--- What the closures of a sort are asked, of the document as it stands before, and what they answer.
+-- What the closures of a sort are asked, of the document as it is before, and what they answer.
 use Rattle.std.specs.Prelude.{◌≡◌, ◌⊎◌, ◌<◌, ℕ, Bool, List, length, Option}
 use Rattle.std.specs.Ordering.{is_lt}
 use Rattle.std.specs.declared.cmp.Ordering.{Ordering}
@@ -17,7 +17,7 @@ module _ {F D N : Type 0} (g : Shared F (Bor D × (N × (N × Unit {0}))) Orderi
   abbrev pub MayBeCompared : Type 0
   MayBeCompared = (d : Bor D) (x y : N) → d.now ≡ doc → Held x → Held y → g.pre compare (d, (x, (y, tt)))
 
-  -- the places of these nodes come in its order, group by group, if it answers by one: mirrored and transitive, ties allowed
+  -- the places of these nodes are in its order, group by group, if it answers by one: mirrored and transitive, ties allowed
   abbrev pub IsInItsOrder : List (Option N) → List ℕ → List ℕ → Type 0
   IsInItsOrder nodes starts order = (lt : N → N → Bool) → ComparesBy g compare doc Held lt → IsOrderedBy (comes_before lt nodes starts) (length nodes) order
 
@@ -27,18 +27,18 @@ module _ {F D N K : Type 0} (g : Shared F (Bor D × (N × Unit {0})) (Result K E
   abbrev pub MayBeKeyed : (N → Type 0) → Type 0
   MayBeKeyed Held = (d : Bor D) (x : N) → d.now ≡ doc → Held x → g.pre key (d, (x, tt))
 
-  -- the places of these nodes come in the order of keys that it has given, group by group
+  -- the places of these nodes are in the order of keys that it has given, group by group
   abbrev pub IsInKeyOrder : (K → K → Ordering) → List (Option N) → List ℕ → List ℕ → Type 0
   IsInKeyOrder cmp nodes starts order =
       (keys : List (Option K)) × AreKeys g key doc nodes keys × IsOrderedBy (comes_before (λ x y. is_lt (cmp x y)) keys starts) (length nodes) order
 
-  -- the keys of the first nodes were told, of one at least, if there is any
+  -- the keys of the first nodes were given, of one at least, if there is any
   pub record HaveAnswered (nodes : List (Option N)) : Type 0 where
     pub count : ℕ
     pub some : count ≡ 0 → length nodes ≡ 0
     pub keys : (i : ℕ) → i < count → (k : Option K) × IsKeyOf g key doc (node_in nodes i) k
 
-  -- why they come in no order: allocation failed where each key that was asked so far had been told; or the first was refused
+  -- why they are in no order: allocation failed where each key that was asked so far had been given; or the first was refused
   abbrev pub LacksKeys : List (Option N) → EditError → Type 0
   LacksKeys nodes e = ((e ≡ OutOfMemory) × HaveAnswered nodes) ⊎ IsFirstRefused g key doc nodes e
 

@@ -14,7 +14,7 @@ use Rattle.jsonc_cst.specs.declared.cst.node.CstLeafNode.TheVariants.{Comment}
 use Rattle.jsonc_cst.specs.declared.cst.node.CstNode.TheVariants.{Leaf}
 use Rattle.jsonc_cst.specs.Nodes.{comment_node, number_of, typed_at}
 
--- by blank lines: all comments above an element before which a blank line stands, else none
+-- by blank lines: all comments above an element before which a blank line is, else none
 abbrev pub blank_line_pin : LeadRead → Option ℕ
 blank_line_pin lead = Some (if lead.blank_line then lead.comments else 0)
 
@@ -28,7 +28,7 @@ comment_if (Leaf (Comment x)) = Some x
 comment_if _ = None
 
 module _ {A : Type 0} where
-  -- what stands before each element of a container
+  -- what is before each element of a container
   abbrev pub leads_of : CstRootNode A → CstNode → List LeadRead
   leads_of d node = leads_read (nodes_of d) (number_of node)
 
@@ -54,7 +54,7 @@ module _ {F D N : Type 0} (g : Shared F (Bor D × (N × (Bor (List CstComment) �
   MayPin Held HeldComment =
       (d : Bor D) (x : N) (above : Bor (List CstComment)) → d.now ≡ doc → Held x → All HeldComment above.now → g.pre rule (d, (x, (above, tt)))
 
-  -- the rule is asked where comments stand above a node, and has answered so many
+  -- the rule is asked where comments are above a node, and has answered so many
   abbrev pub IsPin : Option N → List CstComment → Option ℕ → Type 0
   IsPin None comments pin = pin ≡ Some 0
   IsPin (Some x) [] pin = pin ≡ Some 0
@@ -62,7 +62,7 @@ module _ {F D N : Type 0} (g : Shared F (Bor D × (N × (Bor (List CstComment) �
       (count : ℕ) × (pin ≡ Some count) × (d : Bor D) × (above : Bor (List CstComment)) × (d.now ≡ doc) × (above.now ≡ c ∷ comments)
       × g.post rule (d, (x, (above, tt))) count
 
-  -- so for the nodes from a place on, by what stands before each: the comments of each are as many as its lead has
+  -- so for the nodes from a place on, by what is before each: the comments of each are as many as its lead has
   abbrev pub ArePins : List (Option N) → ℕ → List LeadRead → List CstComment → List (Option ℕ) → Type 0
   ArePins nodes place [] comments pins = pins ≡ []
   ArePins nodes place (lead ∷ leads) comments [] = ⊥

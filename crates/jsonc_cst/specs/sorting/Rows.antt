@@ -17,7 +17,7 @@ abbrev pub property_if : CstNode → Option CstObjectProp
 property_if (Container (ObjectProp x)) = Some x
 property_if _ = None
 
--- a blank line stands before the element
+-- a blank line is before the element
 abbrev pub is_separated : LeadRead → Bool
 is_separated lead = lead.blank_line
 
@@ -26,7 +26,7 @@ module _ {A : Type 0} where
   abbrev pub elements_asked : CstRootNode A → CstNode → List (Option CstNode)
   elements_asked d node = map Some (elements_of d node)
 
-  -- the properties of an object, where nothing else stands in it; of what else does, nothing is asked
+  -- the properties of an object, where nothing else is in it; of what else is, nothing is asked
   abbrev pub properties_asked : CstRootNode A → CstNode → List (Option CstObjectProp)
   properties_asked d node = map property_if (elements_of d node)
 

@@ -1,15 +1,11 @@
 -- What a sort makes of a document.
 use Rattle.std.specs.Prelude.{◌≡◌, ◌<◌, ℕ, Bool, List, length, Option}
-use Rattle.jsonc_text.specs.Options.{Options}
-use Rattle.jsonc_tree.specs.OrderedTree.{OrderedTree, ordered_tree}
 use Rattle.jsonc_tree.specs.Tree.{Node}
 use Rattle.jsonc_layout.specs.nodes.Siblings.{elements_at}
-use Rattle.jsonc_sound.specs.SoundTrees.{SoundTree}
 use Rattle.jsonc_edit.specs.Paths.{IsAt}
 use Rattle.jsonc_run.specs.promise.Steps.{IsStep}
 use Rattle.jsonc_run.specs.Edits.{rearrange}
 use Rattle.jsonc_cst.specs.typed.Edits.{KeepsDocumentOf}
-use Rattle.jsonc_sort.specs.Paths.{KeepsOutside, SaysSorted, SortedAt}
 use Rattle.jsonc_sort.specs.Rearranged.{IsOrderIn, Rearranged, headers_of}
 use Rattle.jsonc_sort.specs.Sorting.{Headers}
 use Rattle.jsonc_cst.specs.declared.cst.CstRootNode.{CstRootNode}
@@ -22,28 +18,16 @@ use Rattle.jsonc_cst.specs.Nodes.{array_node, number_of, object_node}
 use Rattle.jsonc_cst.specs.sorting.Pins.{pins_where}
 use Rattle.jsonc_cst.specs.sorting.Rows.{elements_asked, properties_asked, starts_of}
 
--- the entries at the path have come in this order, no leaf outside of them has changed, and the text is a document again that says so
-pub record IsSortedAt (o : Options) (path order : List ℕ) (t u : OrderedTree) : Type 0 where
-  pub sorted : SortedAt path order t u
-  pub outside : KeepsOutside sorted
-  pub says : SaysSorted o path order t u
-
--- so it is where c stands at a path of a sound document
-abbrev pub SortsAtItsPath : Options → List Node → List Node → ℕ → List ℕ → Type 0
-SortsAtItsPath o old new c order =
-    SoundTree o (ordered_tree old 0) → (path : List ℕ) → IsAt old path c → IsSortedAt o path order (ordered_tree old 0) (ordered_tree new 0)
-
--- The elements of c have come in the order, with what belongs to them; where there are less than two, no node has changed, and where c does not stand in the
--- document, nothing of this has. Where it does, that is one step.
+-- The elements of c are in the order now, with what belongs to them. Where there are less than two, no node has changed; where c is not in the document, nothing of
+-- this has, and where it is, that is one step.
 pub record IsPlaced (old new : List Node) (c : ℕ) (h : Headers) (order : List ℕ) : Type 0 where
   pub all : IsOrderIn old c order
   pub made : Rearranged old new c h order
   pub few : length (elements_at old c) < 2 → new ≡ old
   pub detached : KeepsDocumentOf old new c
-  pub written : (o : Options) → SortsAtItsPath o old new c order
   pub step : IsStep IsAt (λ path. rearrange path h order) old new c
 
--- they have come in an order that is wanted
+-- they are in an order that is wanted
 pub record HasSorted {A : Type 0} (old new : CstRootNode A) (node : CstNode) (h : Headers) (IsWanted : List ℕ → Type 0) : Type 0 where
   pub order : List ℕ
   pub wanted : IsWanted order

@@ -11,7 +11,7 @@ use Rattle.jsonc_cst.specs.Nodes.{number_of}
 use Rattle.jsonc_cst.specs.typed.Edits.{IsUntouched}
 use Rattle.jsonc_cst.specs.typed.Removing.{removal_of, NodeRemoved, NodeRemovedAlone, IsLoose}
 
--- the number of the node that a removal is of: where all leave the root, the document's
+-- the number of the node that a removal is of: where all are removed from the root, the document's
 abbrev pub number_taken : Removal → ℕ → ℕ
 number_taken Clearing n = 0
 number_taken OfComment n = n
@@ -27,7 +27,7 @@ module _ {A : Type 0} (old new : CstRootNode A) where
   abbrev pub IsRootCallIf : Type 0 → Type 0
   IsRootCallIf Said = IsTree (nodes_of old) → Said → IsCallOf (nodes_of old) (nodes_of new) 0
 
-  -- so is what has left with what leaves with it, or alone; where the node was detached nothing has
+  -- so is what was removed with what is removed with it, or alone; where the node was detached nothing was
   abbrev pub RemovalIsCall : CstNode → Type 0
   RemovalIsCall node =
       IsTree (nodes_of old) → HasNode old node → NodeRemoved old new node → (IsLoose old node → IsUntouched old new)

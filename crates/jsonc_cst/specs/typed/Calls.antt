@@ -12,17 +12,17 @@ use Rattle.jsonc_cst.specs.declared.cst.CstRootNode.{CstRootNode}
 use Rattle.jsonc_cst.specs.declared.cst.node.CstNode.{CstNode}
 use Rattle.jsonc_cst.specs.Document.{nodes_of, parent_of, tree_of, HasNode}
 use Rattle.jsonc_cst.specs.Nodes.{number_of}
-use Rattle.jsonc_cst.specs.typed.Commas.{CommasSaid, CommasSet, CommasSetInPart, CommasStand, CommasStay, CommasWritten}
-use Rattle.jsonc_cst.specs.typed.Edits.{IsReplacedBy, NodeIsDetached, HasMarked, HasStayedAround, HasWritten, IsUntouched}
+use Rattle.jsonc_cst.specs.typed.Commas.{CommasSaid, CommasSet, CommasSetInPart, AllCommasSet, CommasStay}
+use Rattle.jsonc_cst.specs.typed.Edits.{IsReplacedBy, NodeIsDetached, HasMarked, HasStayedAround, IsUntouched}
 use Rattle.jsonc_cst.specs.typed.Edits.{KeepsDocument, KeepsDocumentOf, Unchanged, HandlesStay}
-use Rattle.jsonc_cst.specs.typed.Inserting.{HasComeIn, InsertError, IsItsElement, IsPutAtItsPath, KeepsOthers}
-use Rattle.jsonc_cst.specs.typed.Lines.{HasSpreadOut, IsOnLines, LinesWritten, StaysUnspread}
+use Rattle.jsonc_cst.specs.typed.Inserting.{HasInsertedElement, InsertError, IsItsElement, KeepsOthers}
+use Rattle.jsonc_cst.specs.typed.Lines.{HasSpreadOut, IsOnLines, StaysUnspread}
 use Rattle.jsonc_cst.specs.typed.Removing.{removal_of, EntryCleared, NodeRemoved, IsKeptForMemory, IsKeptIn, IsKeptWithComments, IsLoose}
 use Rattle.jsonc_cst.specs.typed.Removing.{RemovalAround, RemovalKeepsDocument, RemovedIsDetached, RemovalWritten}
 use Rattle.jsonc_cst.specs.typed.Steps.{IsHolder, IsRemoving, IsReplacing, IsSettingCommas, IsSettingSomeCommas, IsSpreading, IsValueIn}
 
--- The node has been taken out with what leaves with it, and is detached. If the document was sound, it is so without that entry, value or comment, and what
--- stands around stays. Or an error has left every node as it was, for the memory of a space or for brackets that are missing.
+-- The node has been removed with what is removed with it, and is detached: one step. If the document was sound, it is so without that entry, value or comment, and
+-- what is around stays. Or an error has left every node as it was, for the memory of a space or for brackets that are missing.
 pub record IsRemoval {A : Type 0} (old new : CstRootNode A) (node : CstNode) (r : Result (Unit {0}) EditError) : Type 0 where
   pub removed : OnOk r (NodeRemoved old new node)
   pub written : (o : Options) → OnOk r (RemovalWritten old new o node)
@@ -50,11 +50,11 @@ pub record IsRemovalWithComments {A : Type 0} (old new : CstRootNode A) (node : 
   pub kept : OnErr r (Unchanged old new)
   pub document : OnErr r (tree_of new ≡ tree_of old)
 
--- The node has been replaced by the value, which is the node that is answered, and is detached. If the document was sound, it is so with the value in the
--- node's place, and its marks and all leaves around stay. It had no parent, and nothing has changed; or memory was refused, and every node is as it was.
+-- The node has been replaced by the value, which is the node that is answered, and is detached; of a value in the document that is one step. Sound or not, the
+-- node's literals and comments have been replaced by the value's literals, and all leaves around stay. Or it had no parent, and nothing has changed; or memory was
+-- refused, and every node is as it was.
 pub record IsReplacement {A : Type 0} (old new : CstRootNode A) (node : CstNode) (v : Plain) (r : Result (Option CstNode) EditError) : Type 0 where
   pub replaced : IfOk r (λ o. IfSome o (IsReplacedBy old new node v))
-  pub written : (p : Options) → IfOk r (λ o. IfSome o (HasWritten old new p node v))
   pub marked : IfOk r (λ o. IfSome o (λ m. HasMarked old new node v))
   pub around : IfOk r (λ o. IfSome o (λ m. HasStayedAround old new node v))
   pub step : IfOk r (λ o. IfSome o (λ m. IsValueIn (nodes_of old) node → IsReplacing (nodes_of old) (nodes_of new) (number_of node) v))
@@ -69,12 +69,11 @@ pub record IsReplacement {A : Type 0} (old new : CstRootNode A) (node : CstNode)
   pub kept : OnErr r (Unchanged old new)
   pub document : OnErr r (tree_of new ≡ tree_of old)
 
--- The value has come into the array at the place, as its element of the number i or its last, and its node is answered. If the document was sound, it is so with
--- the value there; the call is the step that is named; all other nodes stay. Or an error has left every node as it was, for memory or for brackets that are missing.
+-- The value has been inserted into the array at the place, as its element of the number i or its last, and its node is answered: the call is the step that is
+-- named. All other nodes stay. Or an error has left every node as it was, for memory or for brackets that are missing.
 pub record IsInsertion {A : Type 0} (old new : CstRootNode A) (node : CstNode) (i place : ℕ) (v : Plain) (is_step : Type 0) (r : Result CstNode EditError) : Type 0 where
-  pub put : IfOk r (HasComeIn old new node place v)
+  pub put : IfOk r (HasInsertedElement old new node place v)
   pub element : IfOk r (IsItsElement old new node i)
-  pub written : (o : Options) → OnOk r (IsPutAtItsPath old new o node place v)
   pub step : OnOk r is_step
   pub others : OnOk r (KeepsOthers old new node)
   pub detached : OnOk r (KeepsDocument old new node)
@@ -85,11 +84,10 @@ pub record IsInsertion {A : Type 0} (old new : CstRootNode A) (node : CstNode) (
   pub kept : OnErr r (Unchanged old new)
   pub document : OnErr r (tree_of new ≡ tree_of old)
 
--- The array or object has been put on several lines, or was on several. If the document was sound, it is so, with the value, the literals and the comments that it
--- had. Or an error has left every node as it was, for memory or for brackets that are missing.
+-- The array or object has been put on several lines, or was on several: one step. Or an error has left every node as it was, for memory or for brackets that are
+-- missing.
 pub record IsPutOnLines {A : Type 0} (old new : CstRootNode A) (node : CstNode) (r : Result (Unit {0}) EditError) : Type 0 where
   pub made : OnOk r (HasSpreadOut old new node)
-  pub written : (o : Options) → OnOk r (LinesWritten old new o node)
   pub step : OnOk r (IsSpreading (nodes_of old) (nodes_of new) (number_of node))
   pub lines : OnOk r (IsOnLines new node)
   pub detached : OnOk r (KeepsDocument old new node)
@@ -106,18 +104,17 @@ IfHolder node Said = IsHolder node → Said
 abbrev pub InAnyCase : Type 0 → Type 0
 InAnyCase Said = Said
 
--- The trailing commas of the node n, and of all arrays and objects below it, have been set. If n stands in a sound document, this is sound, with the value, the
--- literals and the comments that it had; a further call changes nothing. Or an error has left the first of them set, for the memory of a comma. A document that
--- n does not stand in is what it was. In which case either is a step says `is_told`.
-pub record AreCommasSet {A : Type 0} (old new : CstRootNode A) (mode : TrailingCommaMode) (n : ℕ) (is_told : Type 0 → Type 0) (r : Result (Unit {0}) EditError) : Type 0 where
+-- The trailing commas of the node n, and of all arrays and objects below it, have been set: one step, where `in_case` says so. If n is in a sound document, each of
+-- them is as the mode says, and a further call changes nothing. Or an error has left the first of them set, for the memory of a comma, which is a step too. A
+-- document that n is not in is what it was.
+pub record AreCommasSet {A : Type 0} (old new : CstRootNode A) (mode : TrailingCommaMode) (n : ℕ) (in_case : Type 0 → Type 0) (r : Result (Unit {0}) EditError) : Type 0 where
   pub set : OnOk r (CommasSet (nodes_of old) (nodes_of new) mode n)
   pub said : OnOk r (CommasSaid (nodes_of old) (nodes_of new) mode n)
   pub part : OnErr r (CommasSetInPart (nodes_of old) (nodes_of new) mode n)
-  pub written : (o : Options) → CommasWritten (nodes_of old) (nodes_of new) mode o n
-  pub stand : (o : Options) → OnOk r (CommasStand (nodes_of old) (nodes_of new) mode o n)
+  pub all_set : (o : Options) → OnOk r (AllCommasSet (nodes_of old) (nodes_of new) mode o n)
   pub once : (o : Options) → OnOk r (CommasStay (nodes_of old) (nodes_of new) mode o n)
-  pub step : OnOk r (is_told (IsSettingCommas (nodes_of old) (nodes_of new) mode n))
-  pub begun : OnErr r (is_told (IsSettingSomeCommas (nodes_of old) (nodes_of new) mode n))
+  pub step : OnOk r (in_case (IsSettingCommas (nodes_of old) (nodes_of new) mode n))
+  pub begun : OnErr r (in_case (IsSettingSomeCommas (nodes_of old) (nodes_of new) mode n))
   pub detached : KeepsDocumentOf (nodes_of old) (nodes_of new) n
   pub oom_only_if : OnErr r (mode ≡ IfMultiline)
   pub due : OnErr r (CommaIsDue (nodes_of old) n)

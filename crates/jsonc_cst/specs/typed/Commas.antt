@@ -7,7 +7,7 @@ use Rattle.jsonc_tree.specs.Tree.{Node, IsOver}
 use Rattle.jsonc_sound.specs.SoundTrees.{SoundTree}
 use Rattle.jsonc_text.specs.declared.edit.TrailingCommaMode.{TrailingCommaMode}
 use Rattle.jsonc_edit.specs.commas.InTurn.{holders, AreSetInPart, AreSetInTurn}
-use Rattle.jsonc_edit.specs.commas.Laws.{AreAsSaid, IsSet, SaysTheSame}
+use Rattle.jsonc_edit.specs.commas.Laws.{AreAsSaid, IsSet}
 
 module _ (old new : List Node) where
   -- the trailing comma of n, and of each array and object below it, has been set, one after another
@@ -18,18 +18,13 @@ module _ (old new : List Node) where
   abbrev pub CommasSetInPart : TrailingCommaMode → ℕ → Type 0
   CommasSetInPart mode n = AreSetInPart mode old (holders old n) new
 
-  -- If n is a node of a sound document, the text is one of the same value, with what the mode sets allowed; its literals and comments are those that it had,
-  -- commas alone have left or come, and the document is sound.
-  abbrev pub CommasWritten : TrailingCommaMode → Options → ℕ → Type 0
-  CommasWritten mode o n = SoundTree o (ordered_tree old 0) → IsOver old 0 n → SaysTheSame mode o (ordered_tree old 0) (ordered_tree new 0)
-
-  -- each of them is as the mode says now, save where more than one comma stood behind the last element; n may be a node of a damaged document, or of none
+  -- each of them is as the mode says now, save where more than one comma was after the last element; n may be a node of a damaged document, or of none
   abbrev pub CommasSaid : TrailingCommaMode → ℕ → Type 0
   CommasSaid mode n = AreAsSaid mode old new n
 
   -- and in a sound document each of them is as the mode says
-  abbrev pub CommasStand : TrailingCommaMode → Options → ℕ → Type 0
-  CommasStand mode o n = SoundTree o (ordered_tree old 0) → IsOver old 0 n → All (IsSet mode new) (holders new n)
+  abbrev pub AllCommasSet : TrailingCommaMode → Options → ℕ → Type 0
+  AllCommasSet mode o n = SoundTree o (ordered_tree old 0) → IsOver old 0 n → All (IsSet mode new) (holders new n)
 
   -- so a further call by the same mode changes nothing
   abbrev pub CommasStay : TrailingCommaMode → Options → ℕ → Type 0

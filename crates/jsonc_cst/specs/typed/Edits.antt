@@ -1,6 +1,5 @@
 -- What an edit makes of a document: in which node a child is replaced by a value, and which nodes the document still has.
 use Rattle.std.specs.Prelude.{◌≡◌, ◌==◌, ℕ, Bool, true, false, List, length, Option, Some, None, if◌then◌else◌}
-use Rattle.jsonc_text.specs.Options.{Options}
 use Rattle.jsonc_text.specs.Plain.{Plain}
 use Rattle.jsonc_tree.specs.Building.{Keeps}
 use Rattle.jsonc_tree.specs.OrderedTree.{ordered_tree}
@@ -8,7 +7,6 @@ use Rattle.jsonc_tree.specs.Tree.{Node, content_at, parent_at, place_at, IsOver}
 use Rattle.jsonc_layout.specs.nodes.Kinds.{is_property}
 use Rattle.jsonc_layout.specs.nodes.Properties.{name_at}
 use Rattle.jsonc_edit.specs.Reading.{IsReplaced, IsReplacedRaw}
-use Rattle.jsonc_edit.specs.Written.{Writes}
 use Rattle.jsonc_cst.specs.declared.cst.CstRootNode.{CstRootNode}
 use Rattle.jsonc_cst.specs.declared.cst.node.CstNode.{CstNode}
 use Rattle.jsonc_cst.specs.Document.{nodes_of}
@@ -20,7 +18,7 @@ use Rattle.jsonc_cst.specs.typed.Marked.{IsMarkedFor}
 abbrev pub NodesStillThere : List Node → List Node → Type 0
 NodesStillThere old new = (node : CstNode) → IsNodeOf old node → IsNodeOf new node
 
--- every node that was there is as it was: what it is, its parent and its children; so what stands apart from the document is printed as it was too
+-- every node that was there is as it was: what it is, its parent and its children; so what is apart from the document is printed as it was too
 abbrev pub NodesUnchanged : List Node → List Node → Type 0
 NodesUnchanged old new = Keeps (length old) old new
 
@@ -28,7 +26,7 @@ NodesUnchanged old new = Keeps (length old) old new
 abbrev pub IsDetached : List Node → ℕ → Type 0
 IsDetached ns n = (parent_at ns n ≡ None) × (place_at ns n ≡ 0)
 
--- where the node does not stand in the document, as it is part of what was taken out or has been replaced, the document is what it was
+-- where the node is not in the document, as it is part of what was removed or has been replaced, the document is what it was
 abbrev pub KeepsDocumentOf : List Node → List Node → ℕ → Type 0
 KeepsDocumentOf old new n = (IsOver old 0 n → ⊥) → ordered_tree new 0 ≡ ordered_tree old 0
 
@@ -42,11 +40,11 @@ abbrev pub is_name_under : List Node → Option ℕ → ℕ → Bool
 is_name_under ns None n = false
 is_name_under ns (Some p) n = if is_property (content_at ns p) then is_found (name_at ns p) n else false
 
--- whether the node is the name of the property that it stands in
+-- whether the node is the name of the property that it is in
 abbrev pub is_name_in : List Node → ℕ → Bool
 is_name_in ns n = is_name_under ns (parent_at ns n) n
 
--- the child n has been replaced by m, which is the value, laid out as the old nodes tell: a space comes where one is due, but none for a name
+-- the child n has been replaced by m, which is the value, laid out as the old nodes determine: a space is inserted where one is due, but none for a name
 abbrev pub IsReplacedAs : Bool → List Node → List Node → ℕ → Plain → ℕ → Type 0
 IsReplacedAs true old new n v m = IsReplacedRaw old new n v m
 IsReplacedAs false old new n v m = IsReplaced old new n v m
@@ -64,24 +62,19 @@ module _ {A : Type 0} (old new : CstRootNode A) where
   abbrev pub IsUntouched : Type 0
   IsUntouched = nodes_of new ≡ nodes_of old
 
-  -- the node has been replaced by a new one, which is the value, laid out as the old document tells
+  -- the node has been replaced by a new one, which is the value, laid out as the old document determines
   abbrev pub IsReplacedBy : CstNode → Plain → CstNode → Type 0
   IsReplacedBy node v now = IsReplacedAs (is_name_in (nodes_of old) (number_of node)) (nodes_of old) (nodes_of new) (number_of node) v (number_of now)
 
-  -- if the old document is sound, and the node a value at a path, then with the new value there the text is a
-  -- document again, whose value has changed there alone
-  abbrev pub HasWritten : Options → CstNode → Plain → CstNode → Type 0
-  HasWritten o node v now = is_name_in (nodes_of old) (number_of node) ≡ false → Writes o (nodes_of old) (nodes_of new) (number_of node) (number_of now) v
-
-  -- where the node stood at a path, its literals and comments have been replaced by the literals that are written for the value, and all others stay, in order
+  -- where the node was at a path, its literals and comments have been replaced by the literals that are written for the value, and all others stay, in order
   abbrev pub HasMarked : CstNode → Plain → Type 0
   HasMarked node v = is_name_in (nodes_of old) (number_of node) ≡ false → IsMarkedFor (nodes_of old) (nodes_of new) (number_of node) v
 
-  -- and all leaves around its own stay, but for the spaces that have come
+  -- and all leaves around its own stay, but for the spaces that were inserted
   abbrev pub HasStayedAround : CstNode → Plain → Type 0
   HasStayedAround node v = is_name_in (nodes_of old) (number_of node) ≡ false → StaysAroundValue (nodes_of old) (nodes_of new) (number_of node) v
 
-  -- where the node does not stand in the document, this is what it was
+  -- where the node is not in the document, this is what it was
   abbrev pub KeepsDocument : CstNode → Type 0
   KeepsDocument node = KeepsDocumentOf (nodes_of old) (nodes_of new) (number_of node)
 

@@ -1,51 +1,30 @@
--- Elements that come into arrays.
+-- Elements that are inserted into arrays.
 use Rattle.std.specs.Prelude.{◌≡◌, ℕ, List, length, min}
-use Rattle.jsonc_text.specs.Options.{Options}
 use Rattle.jsonc_text.specs.Plain.{Plain}
-use Rattle.jsonc_tree.specs.OrderedTree.{OrderedTree, ordered_tree}
 use Rattle.jsonc_tree.specs.Tree.{Node}
 use Rattle.jsonc_layout.specs.nodes.Siblings.{elements_at}
-use Rattle.jsonc_sound.specs.SoundTrees.{SoundTree}
-use Rattle.jsonc_edit.specs.Paths.{IsAt, IsElementOf}
-use Rattle.jsonc_edit.specs.Writing.{IsWritable}
+use Rattle.jsonc_edit.specs.Paths.{IsElementOf}
 use Rattle.jsonc_text.specs.declared.edit.EditError.{EditError}
 use Rattle.jsonc_insert.specs.Inserted.{refusal, ElementPut}
 use Rattle.jsonc_insert.specs.Laws.{KeepsNodesBut}
-use Rattle.jsonc_insert.specs.elements.Laws.{ElementInsertedAt, IsInserted}
 use Rattle.jsonc_cst.specs.declared.cst.CstRootNode.{CstRootNode}
 use Rattle.jsonc_cst.specs.declared.cst.node.CstNode.{CstNode}
 use Rattle.jsonc_cst.specs.Document.{nodes_of}
 use Rattle.jsonc_cst.specs.Nodes.{number_of}
 
 module _ (old new : List Node) where
-  -- v has come into the array c at this number, or behind its last element where it has fewer: it is this node
+  -- v has been inserted into the array c at this number, or after its last element where it has fewer: it is this node
   abbrev pub InsertedAt : ℕ → ℕ → Plain → CstNode → Type 0
   InsertedAt c i v now = ElementPut old new c i v (number_of now)
 
-  -- the node is the element of c at this number, or at the last
-  abbrev pub StandsAt : ℕ → ℕ → CstNode → Type 0
-  StandsAt c i now = IsElementOf new c (min i (length (elements_at old c))) (number_of now)
-
--- v has come into the array at the path, at this number or behind its last, and the text is a document again that has it there
-pub record IsPutIn (o : Options) (path : List ℕ) (i : ℕ) (v : Plain) (t u : OrderedTree) : Type 0 where
-  pub come : ElementInsertedAt o path i v t u
-  pub is : IsInserted o path i v t u come
-
--- so it is where c stands at a path of a sound document, and v may be written
-abbrev pub PutsAtItsPath : Options → List Node → List Node → ℕ → ℕ → Plain → Type 0
-PutsAtItsPath o old new c i v =
-    SoundTree o (ordered_tree old 0) → IsWritable o v → (path : List ℕ) → IsAt old path c → IsPutIn o path i v (ordered_tree old 0) (ordered_tree new 0)
-
 -- the same of a document
 module _ {A : Type 0} (old new : CstRootNode A) where
-  abbrev pub HasComeIn : CstNode → ℕ → Plain → CstNode → Type 0
-  HasComeIn node i v now = InsertedAt (nodes_of old) (nodes_of new) (number_of node) i v now
+  abbrev pub HasInsertedElement : CstNode → ℕ → Plain → CstNode → Type 0
+  HasInsertedElement node i v now = InsertedAt (nodes_of old) (nodes_of new) (number_of node) i v now
 
+  -- the node is the element of this number in it, or the last
   abbrev pub IsItsElement : CstNode → ℕ → CstNode → Type 0
-  IsItsElement node i now = StandsAt (nodes_of old) (nodes_of new) (number_of node) i now
-
-  abbrev pub IsPutAtItsPath : Options → CstNode → ℕ → Plain → Type 0
-  IsPutAtItsPath o node i v = PutsAtItsPath o (nodes_of old) (nodes_of new) (number_of node) i v
+  IsItsElement node i now = IsElementOf (nodes_of new) (number_of node) (min i (length (elements_at (nodes_of old) (number_of node)))) (number_of now)
 
   -- each other node is what it was, with the children that it had
   abbrev pub KeepsOthers : CstNode → Type 0
@@ -55,6 +34,6 @@ module _ {A : Type 0} (old new : CstRootNode A) where
 abbrev pub element_count : {A : Type 0} → CstRootNode A → CstNode → ℕ
 element_count d node = length (elements_at (nodes_of d) (number_of node))
 
--- why nothing has come in
+-- why nothing was inserted
 abbrev pub InsertError : {A : Type 0} → CstRootNode A → CstNode → EditError → Type 0
 InsertError d node e = e ≡ refusal (nodes_of d) (number_of node)

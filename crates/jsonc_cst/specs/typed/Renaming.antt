@@ -2,14 +2,9 @@
 use Rattle.std.specs.Prelude.{◌≡◌, ℕ, false, List, Some, Result, IfErr, IfOk, OnErr, OnOk}
 use Rattle.jsonc_text.specs.Options.{Options}
 use Rattle.jsonc_text.specs.declared.edit.EditError.{EditError}
-use Rattle.jsonc_tree.specs.Content.{object}
-use Rattle.jsonc_tree.specs.OrderedTree.{ordered_tree}
-use Rattle.jsonc_tree.specs.Tree.{Node, content_at}
-use Rattle.jsonc_layout.specs.from_input.Texts.{IsCharacters}
+use Rattle.jsonc_tree.specs.Tree.{Node}
 use Rattle.jsonc_layout.specs.nodes.Properties.{lacks_name_at, name_at}
-use Rattle.jsonc_sound.specs.SoundTrees.{SoundTree}
-use Rattle.jsonc_edit.specs.Paths.{IsAt, IsElementOf}
-use Rattle.jsonc_edit.specs.set.Names.{IsMarkedForName, IsNameWritten, IsRenamed, RenameError, StaysAroundName}
+use Rattle.jsonc_edit.specs.set.Names.{IsMarkedForName, IsRenamed, RenameError, StaysAroundName}
 use Rattle.jsonc_cst.specs.declared.cst.CstRootNode.{CstRootNode}
 use Rattle.jsonc_cst.specs.declared.cst.node.CstNode.{CstNode}
 use Rattle.jsonc_cst.specs.Document.{nodes_of, HasNode}
@@ -19,13 +14,6 @@ use Rattle.jsonc_cst.specs.typed.Removing.{IsKeptForMemory}
 use Rattle.jsonc_cst.specs.typed.Steps.{IsRenamingProperty}
 
 module _ (old new : List Node) where
-  -- If the old document was sound, and p the property number i of the object at the path, the text is a document again, whose value has
-  -- changed in that name alone, and sound.
-  abbrev pub NameIsWritten : Options → ℕ → List ℕ → Type 0
-  NameIsWritten o p name =
-      (path : List ℕ) (c i : ℕ) → SoundTree o (ordered_tree old 0) → IsAt old path c → content_at old c ≡ object → IsElementOf old c i p
-      → IsCharacters name → IsNameWritten o path i name (ordered_tree old 0) (ordered_tree new 0)
-
   -- the node that was the name of the property p is detached
   abbrev pub NameIsDetached : ℕ → Type 0
   NameIsDetached p = (n : ℕ) → name_at old p ≡ Some n → IsDetached new n
@@ -34,13 +22,12 @@ module _ (old new : List Node) where
 abbrev pub HasBeenRenamed : {A : Type 0} → CstRootNode A → CstRootNode A → CstNode → List ℕ → CstNode → Type 0
 HasBeenRenamed old new node name now = IsRenamed (nodes_of old) (nodes_of new) (number_of node) name (number_of now)
 
--- The property has this name, whose node is answered, and the old one is detached: the call is one step. If the document was sound, it is
--- so with that name there. Sound or not, of its leaves that name alone is another, and of its literals and comments. Or an error has left
--- every node as it was: for memory, or since the name or the colon is missing.
+-- The property has this name, whose node is answered, and the old one is detached: one step. Sound or not, of the document's leaves that name
+-- alone is another, and of its literals and comments. Or an error has left every node as it was: for memory, or since the name or the colon
+-- is missing.
 pub record IsRenaming {A : Type 0} (old new : CstRootNode A) (node : CstNode) (name : List ℕ) (r : Result CstNode EditError) : Type 0 where
   pub renamed : IfOk r (HasBeenRenamed old new node name)
   pub step : OnOk r (IsRenamingProperty (nodes_of old) (nodes_of new) (number_of node) name)
-  pub written : (o : Options) → OnOk r (NameIsWritten (nodes_of old) (nodes_of new) o (number_of node) name)
   pub marked : OnOk r (IsMarkedForName (nodes_of old) (nodes_of new) (number_of node) name)
   pub around : OnOk r (StaysAroundName (nodes_of old) (nodes_of new) (number_of node) name)
   pub detached : OnOk r (KeepsDocument old new node)

@@ -17,39 +17,33 @@ use Rattle.jsonc_cst.specs.Document.{nodes_of, parent_of, tree_of, HasNode}
 use Rattle.jsonc_cst.specs.Nodes.{number_of}
 use Rattle.jsonc_cst.specs.Readings.{value_under}
 use Rattle.jsonc_cst.specs.typed.Edits.{NodeIsDetached, IsUntouched, KeepsDocument, Unchanged, HandlesStay}
-use Rattle.jsonc_cst.specs.typed.Marked.{MarksStay}
+use Rattle.jsonc_cst.specs.typed.Around.{HeldShapeStaysAround, HeldStaysAround}
+use Rattle.jsonc_cst.specs.typed.Marked.{HeldIsMarked, HeldShapeIsMarked}
 use Rattle.jsonc_cst.specs.typed.Removing.{IsKeptForMemory}
-use Rattle.jsonc_cst.specs.typed.Setting.{FindsOrCreates, FindsOrSets, FirstAround, FirstWritten, ShapeAround, ShapeMarked, ShapeWritten}
-use Rattle.jsonc_cst.specs.typed.Setting.{HasBecomeProperty, HasWrittenProperty, IsLaidAsProperty}
-use Rattle.jsonc_cst.specs.typed.Setting.{RootBecomes, RootIsMarked, RootIsWritten, RootStaysAround}
+use Rattle.jsonc_cst.specs.typed.Setting.{FindsOrCreates, FindsOrSets, HasBecomeProperty, IsLaidAsProperty, RootBecomes}
 use Rattle.jsonc_cst.specs.typed.Steps.{IsEnsuringRoot, IsEnsuringValue, IsReplacingProperty, IsSettingBoolean, IsSettingRoot, IsSettingValue}
-use Rattle.jsonc_cst.specs.typed.Values.{HasMarkedShape, HasMarkedValue, HasSetBoolean, HasStayedAroundValue, IsChildOf, NodeValueIs, NowHolds}
-use Rattle.jsonc_cst.specs.typed.Values.{HasWrittenBoolean, HasWrittenShape, HasWrittenValue}
+use Rattle.jsonc_cst.specs.typed.Values.{HasSetBoolean, IsChildOf, NodeValueIs, NowHolds}
 
--- The document has this value, and its node is answered. If the document was sound, it is so with this value; the marks of an old value have given way to those
--- of the new one, and all leaves around stay. Or memory was refused, and every node is as it was.
+-- The document has this value, and its node is answered: one step. Sound or not, the literals and comments of an old value have been replaced by the new one's
+-- literals, and all leaves around stay. Or memory was refused, and every node is as it was.
 pub record IsRootSet {A : Type 0} (old new : CstRootNode A) (v : Plain) (r : Result CstNode EditError) : Type 0 where
   pub set : IfOk r (RootBecomes (nodes_of old) (nodes_of new) v)
-  pub written : (p : Options) → IfOk r (RootIsWritten (nodes_of old) (nodes_of new) p v)
-  pub marked : (p : Options) → OnOk r (RootIsMarked (nodes_of old) (nodes_of new) p v)
-  pub around : (p : Options) → OnOk r (RootStaysAround (nodes_of old) (nodes_of new) p v)
+  pub marked : OnOk r (HeldIsMarked (nodes_of old) (nodes_of new) 0 v)
+  pub around : OnOk r (HeldStaysAround (nodes_of old) (nodes_of new) 0 v)
   pub step : OnOk r (IsSettingRoot (nodes_of old) (nodes_of new) v)
-  pub stands : IfOk r (λ m. value_under new 0 ≡ Some m)
+  pub is_value : IfOk r (λ m. value_under new 0 ≡ Some m)
   pub in_document : IfOk r (HasNode new)
   pub handles : HandlesStay old new
   pub memory : IfErr r (λ e. e ≡ OutOfMemory)
   pub kept : OnErr r (Unchanged old new)
   pub document : OnErr r (tree_of new ≡ tree_of old)
 
--- The document's value is answered if it is of the shape; an empty one has come, and is answered, where there was none; where it is another, nothing is answered
--- and nothing has changed. A sound document is sound, and all marks and leaves stay. Or memory was refused for a first value, and every node is as it was.
+-- The document's value is answered if it is of the shape; where there was none an empty one has been set, and is answered; where it is another, nothing is answered
+-- and nothing has changed. The call is one step. Or memory was refused for a first value, and every node is as it was.
 pub record IsRootCreated {A T : Type 0} (old new : CstRootNode A) (shape : Shape) (node : T → CstNode) (r : Result (Option T) EditError) : Type 0 where
   pub value : IfOk r (λ o. FindsOrCreates (nodes_of old) (nodes_of new) shape (option_map (λ x. number_of (node x)) o))
-  pub written : (p : Options) → OnOk r (FirstWritten (nodes_of old) (nodes_of new) shape p)
-  pub marked : (p : Options) → OnOk r (MarksStay (nodes_of old) (nodes_of new) p)
-  pub around : (p : Options) → OnOk r (FirstAround (nodes_of old) (nodes_of new) shape p)
   pub step : OnOk r (IsEnsuringRoot (nodes_of old) (nodes_of new) shape Keep)
-  pub stands : IfOk r (λ o. IfSome o (λ x. value_under new 0 ≡ Some (node x)))
+  pub is_value : IfOk r (λ o. IfSome o (λ x. value_under new 0 ≡ Some (node x)))
   pub in_document : IfOk r (λ o. IfSome o (λ x. HasNode new (node x)))
   pub handles : HandlesStay old new
   pub memory : IfErr r (λ e. e ≡ OutOfMemory)
@@ -57,15 +51,14 @@ pub record IsRootCreated {A T : Type 0} (old new : CstRootNode A) (shape : Shape
   pub kept : OnErr r (Unchanged old new)
   pub document : OnErr r (tree_of new ≡ tree_of old)
 
--- The document's value is answered, which is of the shape, or an empty one that has come where there was none, or in the place of another. A sound document is
--- sound; the marks of another value have left, and all other marks and leaves stay. Or memory was refused for a new value, and every node is as it was.
+-- The document's value is answered, which is of the shape, or an empty one that has been set where there was none, or in the place of another: one step. Sound or
+-- not, the literals and comments of another value have been removed, and all leaves around stay. Or memory was refused for a new value, and every node is as it was.
 pub record IsRootEnsured {A T : Type 0} (old new : CstRootNode A) (shape : Shape) (node : T → CstNode) (r : Result T EditError) : Type 0 where
   pub value : IfOk r (λ x. FindsOrSets (nodes_of old) (nodes_of new) shape (number_of (node x)))
-  pub written : (p : Options) → IfOk r (λ x. ShapeWritten (nodes_of old) (nodes_of new) shape p (number_of (node x)))
-  pub marked : (p : Options) → OnOk r (ShapeMarked (nodes_of old) (nodes_of new) shape p)
-  pub around : (p : Options) → OnOk r (ShapeAround (nodes_of old) (nodes_of new) shape p)
+  pub marked : OnOk r (HeldShapeIsMarked (nodes_of old) (nodes_of new) shape 0)
+  pub around : OnOk r (HeldShapeStaysAround (nodes_of old) (nodes_of new) shape 0)
   pub step : OnOk r (IsEnsuringRoot (nodes_of old) (nodes_of new) shape Replace)
-  pub stands : IfOk r (λ x. value_under new 0 ≡ Some (node x))
+  pub is_value : IfOk r (λ x. value_under new 0 ≡ Some (node x))
   pub in_document : IfOk r (λ x. HasNode new (node x))
   pub handles : HandlesStay old new
   pub memory : IfErr r (λ e. e ≡ OutOfMemory)
@@ -73,11 +66,10 @@ pub record IsRootEnsured {A T : Type 0} (old new : CstRootNode A) (shape : Shape
   pub kept : OnErr r (Unchanged old new)
   pub document : OnErr r (tree_of new ≡ tree_of old)
 
--- The property has been replaced by one of this name and value, which is the node that is answered, and is detached. If the document was sound, it is so with that
--- entry in its place. Or it had no parent, and nothing has changed; or memory was refused, and every node is as it was.
+-- The property has been replaced by one of this name and value, which is the node that is answered, and is detached: one step. The new one is laid out by what is
+-- around the old one. Or it had no parent, and nothing has changed; or memory was refused, and every node is as it was.
 pub record IsPropertyReplacement {A : Type 0} (old new : CstRootNode A) (node : CstNode) (name : List ℕ) (v : Plain) (r : Result (Option CstNode) EditError) : Type 0 where
   pub replaced : IfOk r (λ o. IfSome o (HasBecomeProperty old new node name v))
-  pub written : (p : Options) → IfOk r (λ o. IfSome o (HasWrittenProperty old new p node name v))
   pub laid : IfOk r (λ o. IfSome o (IsLaidAsProperty old new node name v))
   pub step : IfOk r (λ o. IfSome o (λ m. IsReplacingProperty (nodes_of old) (nodes_of new) (number_of node) name v))
   pub detached : IfOk r (λ o. IfSome o (λ m. KeepsDocument old new node))
@@ -91,13 +83,12 @@ pub record IsPropertyReplacement {A : Type 0} (old new : CstRootNode A) (node : 
   pub kept : OnErr r (Unchanged old new)
   pub document : OnErr r (tree_of new ≡ tree_of old)
 
--- The property has this value, and the value's node is answered, a child of it. If the document was sound, it is so with this value there; the marks of the old one
--- have given way to those of the new one, and all leaves around stay. Or memory was refused, and every node is as it was.
+-- The property has this value, and the value's node is answered, a child of it: one step. Sound or not, the literals and comments of the old value have been replaced
+-- by the new one's literals, and all leaves around stay. Or memory was refused, and every node is as it was.
 pub record IsValueSet {A : Type 0} (old new : CstRootNode A) (node : CstNode) (v : Plain) (r : Result CstNode EditError) : Type 0 where
   pub set : IfOk r (NodeValueIs old new node v)
-  pub written : (p : Options) → IfOk r (HasWrittenValue old new p node v)
-  pub marked : OnOk r (HasMarkedValue old new node v)
-  pub around : OnOk r (HasStayedAroundValue old new node v)
+  pub marked : OnOk r (HeldIsMarked (nodes_of old) (nodes_of new) (number_of node) v)
+  pub around : OnOk r (HeldStaysAround (nodes_of old) (nodes_of new) (number_of node) v)
   pub step : OnOk r (IsSettingValue (nodes_of old) (nodes_of new) (number_of node) v)
   pub detached : OnOk r (KeepsDocument old new node)
   pub child : IfOk r (IsChildOf new node)
@@ -107,12 +98,13 @@ pub record IsValueSet {A : Type 0} (old new : CstRootNode A) (node : CstNode) (v
   pub kept : OnErr r (Unchanged old new)
   pub document : OnErr r (tree_of new ≡ tree_of old)
 
--- The property's value is answered, which is of the shape, or an empty one that has come where there was none, or in the place of another, as a set value does.
--- The property has a name and a colon. Or an error has left every node as it was: for memory, or since the name or the colon is missing.
+-- The property's value is answered, which is of the shape, or an empty one that has been set where there was none, or in the place of another: one step. Sound or
+-- not, the literals and comments of another value have been removed, and all leaves around stay. The property has a name and a colon. Or an error has left every
+-- node as it was: for memory, or since the name or the colon is missing.
 pub record IsValueEnsured {A T : Type 0} (old new : CstRootNode A) (shape : Shape) (node : CstNode) (answered : T → CstNode) (r : Result T EditError) : Type 0 where
   pub value : IfOk r (λ x. NowHolds old new shape node (number_of (answered x)))
-  pub written : (p : Options) → IfOk r (λ x. HasWrittenShape old new shape p node (number_of (answered x)))
-  pub marked : OnOk r (HasMarkedShape old new shape node)
+  pub marked : OnOk r (HeldShapeIsMarked (nodes_of old) (nodes_of new) shape (number_of node))
+  pub around : OnOk r (HeldShapeStaysAround (nodes_of old) (nodes_of new) shape (number_of node))
   pub step : OnOk r (IsEnsuringValue (nodes_of old) (nodes_of new) (number_of node) shape)
   pub detached : OnOk r (KeepsDocument old new node)
   pub named : OnOk r (lacks_name_at (nodes_of old) (number_of node) ≡ false)
@@ -125,10 +117,9 @@ pub record IsValueEnsured {A T : Type 0} (old new : CstRootNode A) (shape : Shap
   pub kept : OnErr r (Unchanged old new)
   pub document : OnErr r (tree_of new ≡ tree_of old)
 
--- The truth value is this one. If the document was sound, it is so with this one there. Or memory was refused for a space, and every node is as it was.
+-- The truth value is this one: one step. Or memory was refused for a space, and every node is as it was.
 pub record IsBooleanSet {A : Type 0} (old new : CstRootNode A) (node : CstNode) (b : Bool) (r : Result (Unit {0}) EditError) : Type 0 where
   pub set : OnOk r (HasSetBoolean old new node b)
-  pub written : (p : Options) → OnOk r (HasWrittenBoolean old new p node b)
   pub step : OnOk r (IsSettingBoolean (nodes_of old) (nodes_of new) (number_of node) b)
   pub detached : OnOk r (KeepsDocument old new node)
   pub handles : HandlesStay old new

@@ -5,9 +5,10 @@ use Rattle.jsonc_tree.specs.Tree.{Node}
 use Rattle.jsonc_edit.specs.Paths.{IsAt}
 use Rattle.jsonc_text.specs.declared.edit.TrailingCommaMode.{TrailingCommaMode}
 use Rattle.jsonc_text.specs.declared.edit.Over.{Over}
+use Rattle.jsonc_text.specs.declared.edit.Place.{Place}
 use Rattle.jsonc_text.specs.declared.edit.Shape.{Shape}
 use Rattle.jsonc_insert.specs.named.Places.{IsPropertyAt}
-use Rattle.jsonc_run.specs.Edits.{replace, remove, remove_comment, set_root, clear_root, replace_property, ensure_root, set_value, ensure_value, set_boolean, ensure_multiline, insert_element, append_element, set_commas, set_some_commas, rename_property}
+use Rattle.jsonc_run.specs.Edits.{replace, remove, remove_comment, set_root, clear_root, replace_property, ensure_root, set_value, ensure_value, set_boolean, ensure_multiline, insert_element, append_element, set_commas, set_some_commas, rename_property, insert_comment}
 use Rattle.jsonc_run.specs.Places.{IsEntryAt}
 use Rattle.jsonc_run.specs.promise.Steps.{IsCommentAt, IsNoPart, IsStep, IsStepOf}
 use Rattle.jsonc_cst.specs.declared.cst.node.CstNode.{CstNode}
@@ -51,7 +52,10 @@ module _ (old new : List Node) where
   abbrev pub IsRenamingProperty : ℕ → List ℕ → Type 0
   IsRenamingProperty n name = IsStep IsPropertyAt (λ path. rename_property path name) old new n
 
-  -- of what is taken out an entry of an array or object, the document's value or a comment; a token or whitespace that leaves alone is no edit
+  abbrev pub IsInsertingComment : ℕ → Place → List ℕ → Type 0
+  IsInsertingComment n place text = IsStep IsEntryAt (λ path. insert_comment path place text) old new n
+
+  -- of what is removed an entry of an array or object, the document's value or a comment; a token or whitespace that is removed alone is no edit
   abbrev pub IsRemoving : Removal → ℕ → Type 0
   IsRemoving Clearing n = IsStepOf clear_root old new
   IsRemoving OfComment n = IsStep IsCommentAt remove_comment old new n

@@ -21,7 +21,7 @@ use jsonc_tree::{Ancestors, Kind, Tree};
 use std::alloc::{AllocError, Allocator};
 use std::marker::Model;
 
-/// The node that stands under a number.
+/// The node of a number.
 pub fn node_at<A: Allocator>(tree: &Tree<A>, number: usize) -> CstNode
     requires { number < length tree.now.nodes }
     ensures node { result ≡ typed_at tree.now.nodes number }
@@ -44,7 +44,7 @@ pub fn node_at<A: Allocator>(tree: &Tree<A>, number: usize) -> CstNode
     }
 }
 
-// The container that stands under a number.
+// The container of a number.
 fn container_at<A: Allocator>(tree: &Tree<A>, number: usize) -> CstContainerNode
     requires in_tree { number < length tree.now.nodes }
     requires container { IsTrue (is_container_at tree.now.nodes number) }
@@ -130,7 +130,7 @@ impl<A: Allocator> CstRootNode<A> {
 
     /// Whether the document has this node.
     ///
-    /// It has where a node of this kind stands under the node's number. That may be so of a node of
+    /// It has where the node of its number there is of this kind. That may be so of a node of
     /// another document too, since nodes are known by their numbers.
     pub fn holds(&self, node: CstNode) -> bool
         ensures { IsTrue result ↔ HasNode self.now node }
@@ -169,7 +169,7 @@ impl CstNode {
 
 /// An iterator over the containers above a node, nearest first.
 ///
-/// It is seen as the list of those that are left.
+/// It is seen as the list of those that remain.
 #[derive(Drop)]
 pub struct AncestorIterator<'a, A: Allocator> {
     pub(super) tree: &'a Tree<A>,

@@ -22,7 +22,7 @@ use jsonc_sort::{own_lead, tail_length};
 use jsonc_tree::Tree;
 use std::alloc::{AllocError, Allocator};
 
-// The comments of an entry, by what stands before it, and what is between it and what comes next.
+// The comments of an entry, by what is before it, and what is between it and what follows.
 fn comments_around<A: Allocator>(
     alloc: A,
     tree: &Tree<A>,
@@ -123,7 +123,7 @@ impl<A: Allocator + Copy> CstRootNode<A> {
     /// The comments that belong to an entry, an element of an array or a property of an object, as they are printed.
     ///
     /// Before it they are those below the last blank line, but none on the line of the entry or bracket before it if
-    /// a line ends in between. Then come those up to its comma, and those behind it if nothing else follows on that
+    /// a line ends in between. Then those up to its comma, and those after it if nothing else follows on that
     /// line. They move with it in a sort that keeps those above blank lines. None of another node, and where a
     /// bracket is missing. In `[1, // one` and, on the next lines, `// two` and `2]` the 2 has `// two`.
     pub fn comments_of(&self, node: CstNode) -> Result<Vec<CstComment, A>, EditError>

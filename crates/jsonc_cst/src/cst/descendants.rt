@@ -19,7 +19,7 @@ use std::marker::Model;
 
 /// An iterator over a node and all below it, in the order of the document.
 ///
-/// It is seen as the list of those that are left.
+/// It is seen as the list of those that remain.
 #[derive(Drop)]
 pub struct DescendantIterator<'a, A: Allocator> {
     tree: &'a Tree<A>,
@@ -60,7 +60,7 @@ impl<'a, A: Allocator> Iterator for DescendantIterator<'a, A> {
 
 /// An iterator over a node and all below it, each with its range, in the order of the document.
 ///
-/// It is seen as the list of those that are left.
+/// It is seen as the list of those that remain.
 #[derive(Drop)]
 pub struct RangedDescendantIterator<'a, A: Allocator> {
     tree: &'a Tree<A>,
@@ -107,7 +107,7 @@ impl<'a, A: Allocator> Iterator for RangedDescendantIterator<'a, A> {
 impl<A: Allocator> CstRootNode<A> {
     /// An iterator over a node and all below it, in the order of the document.
     ///
-    /// A node comes before its children, and each comes once; tokens, blanks and comments are among them.
+    /// A node is before its children, and each is given once; tokens, blanks and comments are among them.
     /// Nothing is allocated. In `{"a": [1]}` the property's are itself, `"a"`, `:`, a blank, the array, `[`,
     /// `1` and `]`.
     pub fn descendants(&self, node: CstNode) -> DescendantIterator<'_, A>

@@ -17,7 +17,7 @@ use jsonc_layout::nodes::{children_from, next_siblings, previous_siblings};
 use jsonc_tree::{Kind, Tree};
 use std::alloc::{AllocError, Allocator};
 
-// The node that stands under a number. A number that names no node reads as `null`, as in contracts.
+// The node of a number. A number that names no node reads as `null`, as in contracts.
 fn node_under<A: Allocator>(tree: &Tree<A>, number: usize) -> CstNode
     ensures { result ≡ typed_at tree.now.nodes number }
 {
@@ -27,7 +27,7 @@ fn node_under<A: Allocator>(tree: &Tree<A>, number: usize) -> CstNode
     node_at(tree, number)
 }
 
-// Whether a property stands under a number.
+// Whether the node of a number is a property.
 fn is_property<A: Allocator>(tree: &Tree<A>, number: usize) -> bool
     ensures { result ≡ is_property_at tree.now.nodes number }
 {

@@ -9,9 +9,11 @@ ghost use Rattle.jsonc_ast.specs.to_ast.Faults.{ParseFault};
 ghost use Rattle.jsonc_ast.specs.to_ast.Refusals.{RefusesText};
 ghost use Rattle.jsonc_layout.specs.input.Views.{plain};
 ghost use Rattle.jsonc_edit.specs.Writing.{IsOfNumbers, IsWritable};
-ghost use Rattle.jsonc_cst.specs.Values.{IsDocumentTaken, IsValueOfText};
+ghost use Rattle.jsonc_input.specs.Reads.{IsValueOfText};
+ghost use Rattle.jsonc_cst.specs.Values.{IsDocumentTaken};
 
 use super::{CstRootNode, EditError};
+use jsonc_input::parse_to_input;
 pub use jsonc_layout::input::CstInputValue;
 use jsonc_scan::is_number;
 use jsonc_text::errors::ParseError;
@@ -55,11 +57,7 @@ pub fn from_json<A: Allocator + Copy>(
     ensures fault { IfErr result (IsFault text.now) }
     ensures error { IfErr result (ParseFault (parse_options options.now) text.now true) }
 {
-    let document = CstRootNode::parse(alloc, text, options)?;
-    let Ok(value) = document.to_value() else {
-        return Err(ParseError::out_of_memory());
-    };
-    Ok(value)
+    parse_to_input(alloc, text, options)
 }
 
 impl<A: Allocator + Copy> CstRootNode<A> {

@@ -25,9 +25,9 @@ pub(super) fn comments_under<A: Allocator>(
 }
 
 impl<A: Allocator + Copy> CstRootNode<A> {
-    /// The whitespace that indents one level, if the document tells.
+    /// The whitespace that indents one level, if the document determines it.
     ///
-    /// It is what stands directly after the nearest line end before the first element of the
+    /// It is what is directly after the nearest line end before the first element of the
     /// document's value. None where no line ends there, or something else follows.
     pub fn single_indent_text(&self) -> Result<Option<String<A>>, EditError>
         ensures indent { IfOk result (λ o. option_map string_bytes o ≡ level_indent self.now) }

@@ -5,7 +5,7 @@ ghost use Rattle.jsonc_text.specs.declared.errors.ParseStringErrorKind.TheVarian
 ghost use Rattle.jsonc_layout.specs.nodes.Names.{HasName, HoldsEscapedName, NameReads};
 ghost use Rattle.jsonc_cst.specs.Document.{nodes_of, HasNode};
 ghost use Rattle.jsonc_cst.specs.Nodes.{name_node, object_node, object_prop_node, string_lit_node};
-ghost use Rattle.jsonc_cst.specs.Readings.{IsFirstNamed, LeafIsNoString, LeafStandsFor, NameIsNoString, NameStandsFor};
+ghost use Rattle.jsonc_cst.specs.Readings.{IsFirstNamed, LeafIsNoString, LeafRepresents, NameIsNoString, NameRepresents};
 
 use super::node::{CstObject, CstObjectProp, CstStringLit, ObjectPropName};
 use super::{CstRootNode, EditError};
@@ -13,7 +13,7 @@ use jsonc_text::errors::ParseStringErrorKind;
 use std::alloc::Allocator;
 
 impl CstStringLit {
-    /// What the string stands for, its escapes decoded.
+    /// What the string represents, its escapes decoded.
     ///
     /// What follows its closing quote is ignored. A leaf with no quote in front is the error
     /// `UnterminatedStringLiteral`, an allocation failure `OutOfMemory`.
@@ -22,7 +22,7 @@ impl CstStringLit {
         doc: &CstRootNode<A>,
     ) -> Result<String<A>, ParseStringErrorKind>
         requires { HasNode doc.now (string_lit_node self) }
-        ensures found { IfOk result (λ s. LeafStandsFor doc.now self (chars (string_bytes s))) }
+        ensures found { IfOk result (λ s. LeafRepresents doc.now self (chars (string_bytes s))) }
         ensures fault { IfErr result (λ k. k ≢ OutOfMemory → LeafIsNoString doc.now self k) }
     {
         jsonc_layout::nodes::decoded_value(doc.alloc, &doc.tree, self.number)
@@ -30,7 +30,7 @@ impl CstStringLit {
 }
 
 impl ObjectPropName {
-    /// What the name stands for, its escapes decoded.
+    /// What the name represents, its escapes decoded.
     ///
     /// A string is decoded as by its own call; a word is as it is written.
     pub fn decoded_value<A: Allocator + Copy>(
@@ -38,7 +38,7 @@ impl ObjectPropName {
         doc: &CstRootNode<A>,
     ) -> Result<String<A>, ParseStringErrorKind>
         requires { HasNode doc.now (name_node self) }
-        ensures found { IfOk result (λ s. NameStandsFor doc.now self (chars (string_bytes s))) }
+        ensures found { IfOk result (λ s. NameRepresents doc.now self (chars (string_bytes s))) }
         ensures fault { IfErr result (λ k. k ≢ OutOfMemory → NameIsNoString doc.now self k) }
     {
         match self {

@@ -1,4 +1,4 @@
-//! The calls that every kind of node has: who stands above, beside and below it, how it is laid out, and what it
+//! The calls that every kind of node has: what is above, beside and below it, how it is laid out, and what it
 //! prints and gives.
 
 ghost use Rattle.std.specs.Prelude.{◌≡◌, option_map, string_bytes, IfErr, IfOk, IfSome, IsOk, OnErr};
@@ -71,7 +71,7 @@ pub trait TypedNode: Copy {
         doc.tree.child_index(self.node().number())
     }
 
-    /// The root, if it stands below it.
+    /// The root, if it is below it.
     ///
     /// None for the root itself, and for a detached node and all below it.
     final fn root_node<A: Allocator>(self, doc: &CstRootNode<A>) -> Option<CstRoot>
@@ -137,7 +137,7 @@ pub trait TypedNode: Copy {
         }
     }
 
-    /// Prints the node, and all below it, as it stands in the text.
+    /// Prints the node, and all below it, as it is in the text.
     ///
     /// The answer has `Display`.
     final fn shown<A: Allocator>(self, doc: &CstRootNode<A>) -> Shown<'_, A>
@@ -148,7 +148,7 @@ pub trait TypedNode: Copy {
         doc.tree.shown(self.node().number())
     }
 
-    /// The whitespace that its line begins with, if only blanks and comments stand before it.
+    /// The whitespace that its line begins with, if only blanks and comments are before it.
     ///
     /// None also where the line does not begin with whitespace.
     final fn indent_text<A: Allocator + Copy>(
@@ -169,7 +169,7 @@ pub trait TypedNode: Copy {
         Ok(indent)
     }
 
-    /// Whether a blank line stands among the blanks, line ends and comments directly before it.
+    /// Whether a blank line is among the blanks, line ends and comments directly before it.
     ///
     /// A blank line is two line ends with nothing but whitespace between them.
     final fn has_blank_line_before<A: Allocator>(self, doc: &CstRootNode<A>) -> bool
@@ -179,7 +179,7 @@ pub trait TypedNode: Copy {
         jsonc_layout::lines::has_blank_line_before(&doc.tree, self.node().number())
     }
 
-    /// The comma after it, if only blanks, line ends and comments stand between.
+    /// The comma after it, if only blanks, line ends and comments are between.
     final fn trailing_comma<A: Allocator>(self, doc: &CstRootNode<A>) -> Option<CstToken>
         requires { HasNode doc.now (node_of self) }
         ensures comma { result ≡ trailing_comma_of doc.now (node_of self) }
@@ -192,7 +192,7 @@ pub trait TypedNode: Copy {
         Some(CstToken { number })
     }
 
-    /// Whether the nearest laid-out array or object, from the node down, has a comma behind its
+    /// Whether the nearest laid-out array or object, from the node down, has a comma after its
     /// last element.
     ///
     /// Laid out is one that has whitespace between its brackets and an element, and the nearest is
@@ -236,9 +236,9 @@ pub trait TypedNode: Copy {
         Ok(comments)
     }
 
-    /// The comments after it on its line, where only whitespace and comments stand there.
+    /// The comments after it on its line, where only whitespace and comments are there.
     ///
-    /// None of them where anything else stands there.
+    /// None of them where anything else is there.
     final fn trailing_comments_same_line<A: Allocator + Copy>(
         self,
         doc: &CstRootNode<A>,
@@ -260,10 +260,10 @@ pub trait TypedNode: Copy {
         Ok(comments)
     }
 
-    /// What it stands for, as a value for edits.
+    /// What it represents, as a value for edits.
     ///
     /// A property gives its value's, the root its value's. Numbers are as written, strings decoded;
-    /// of equal names the last value stands at the first place. A word, a token, trivia and a
+    /// of equal names the last value is at the first place. A word, a token, trivia and a
     /// string that does not decode give None. What gives None inside a container, or has no name
     /// that decodes, is passed over. Of a leaf only a number and a string that decodes want memory.
     final fn to_value<A: Allocator + Copy>(

@@ -417,7 +417,7 @@ impl CstNode {
 }
 
 impl ObjectPropName {
-    /// The string, if the name stands between quotes.
+    /// The string, if the name is between quotes.
     pub fn as_string_lit(self) -> Option<CstStringLit>
         ensures { IsAs ObjectPropName.String self result }
     {
@@ -427,7 +427,7 @@ impl ObjectPropName {
         }
     }
 
-    /// The word, if the name stands without quotes.
+    /// The word, if the name is without quotes.
     pub fn as_word_lit(self) -> Option<CstWordLit>
         ensures { IsAs ObjectPropName.Word self result }
     {

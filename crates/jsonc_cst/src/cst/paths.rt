@@ -163,7 +163,7 @@ fn step_by_name<A: Allocator, B: Allocator + Copy>(
     }
 }
 
-// The names through which one comes from the document's value to a node, if names lead there.
+// The names that lead from the document's value to a node, if names lead there.
 fn names_to<A: Allocator, B: Allocator + Copy>(
     alloc: B,
     tree: &Tree<A>,

@@ -1,4 +1,4 @@
-//! Where nodes stand in the text that their document prints.
+//! Where nodes are in the text that their document prints.
 
 ghost use Rattle.std.specs.Prelude.{◌≡◌, ◌<◌, ◌≤◌, ◌^◌, length, IfNone, IfSome};
 ghost use Rattle.jsonc_tree.specs.Content.{text_of};
@@ -43,7 +43,7 @@ pub(super) fn own_length<A: Allocator>(kind: &Kind<A>) -> usize
     }
 }
 
-// How many bytes the document prints before a node, if the node stands in it.
+// How many bytes the document prints before a node, if the node is in it.
 pub(super) fn bytes_before<A: Allocator>(tree: &Tree<A>, node: usize) -> Option<usize>
     requires { node < length tree.now.nodes }
     ensures found { IfSome result (IsBefore tree.now.nodes node) }
@@ -148,7 +148,7 @@ impl<A: Allocator> CstRootNode<A> {
     /// The innermost node that prints the byte at a place of the document's text.
     ///
     /// It is a leaf: a string, a bracket, a comment, a run of blanks and so on; its parents are around
-    /// the place too. None at the end of the text and behind it. Nothing is allocated. In
+    /// the place too. None at the end of the text and after it. Nothing is allocated. In
     /// `{"a": [1]}` place 7 is in the number, and place 5 in the blank before the array.
     pub fn node_at(&self, place: usize) -> Option<CstNode>
         ensures found { IfSome result (λ node. PrintsByte (nodes_of self.now) place (number_of node)) }

@@ -1,4 +1,4 @@
-//! Names that stand twice in an object. They should be unique there: RFC 8259, section 4.
+//! Names that an object has twice. They should be unique there: RFC 8259, section 4.
 
 ghost use Rattle.std.specs.Prelude.{◌≡◌, ◌<◌, chars, length, map, string_bytes, IfErr, IfOk, OnOk};
 ghost use Rattle.std.specs.Bool.{Decides};

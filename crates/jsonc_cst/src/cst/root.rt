@@ -1,4 +1,4 @@
-//! What a document tells of itself: its value.
+//! What a document reports of itself: its value.
 
 ghost use Rattle.std.specs.Prelude.{◌≡◌, IfSome};
 ghost use Rattle.jsonc_cst.specs.Document.{HasNode};

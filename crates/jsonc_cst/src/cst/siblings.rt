@@ -11,7 +11,7 @@ use std::marker::Model;
 
 /// An iterator over the siblings before a node, nearest first.
 ///
-/// It is seen as the list of those that are left.
+/// It is seen as the list of those that remain.
 #[derive(Drop)]
 pub struct PreviousSiblingIterator<'a, A: Allocator> {
     pub(super) tree: &'a Tree<A>,
@@ -48,7 +48,7 @@ impl<'a, A: Allocator> Iterator for PreviousSiblingIterator<'a, A> {
 
 /// An iterator over the siblings after a node, nearest first.
 ///
-/// It is seen as the list of those that are left.
+/// It is seen as the list of those that remain.
 #[derive(Drop)]
 pub struct NextSiblingIterator<'a, A: Allocator> {
     pub(super) tree: &'a Tree<A>,

@@ -35,7 +35,7 @@ impl CstObjectProp {
 
     /// Its value, if it has one.
     ///
-    /// That is the first element behind a colon behind its name.
+    /// That is the first element after a colon after its name.
     pub fn value<A: Allocator>(self, doc: &CstRootNode<A>) -> Option<CstNode>
         requires { HasNode doc.now (object_prop_node self) }
         ensures value { result ≡ value_under doc.now self.number }

@@ -1,4 +1,4 @@
-//! Properties that come into objects.
+//! Properties that are inserted into objects.
 
 ghost use Rattle.std.specs.Prelude.{◌≡◌, ◌<◌, chars, length, min};
 ghost use Rattle.jsonc_layout.specs.input.Views.{plain};
@@ -56,11 +56,11 @@ impl CstObject {
     /// Inserts a property before its property of this number, and answers the new one.
     ///
     /// The number counts from 0; where the object has fewer properties, the new one is inserted
-    /// behind the last.
+    /// after the last.
     ///
     /// An object in which no line ends is put on several lines first. The property is inserted on a
     /// line of its own, one level deeper than the object's. A comma is inserted between it and its
-    /// neighbours, and behind it where the object's last property has one, or where the document's
+    /// neighbours, and after it where the object's last property has one, or where the document's
     /// other containers on several lines do. Blank lines directly inside the brackets are removed.
     /// Comments stay where they are. `{"a":1}` with `"b": true` at 1:
     ///
@@ -72,9 +72,9 @@ impl CstObject {
     /// ```
     ///
     /// If the document is sound, it is sound again, and its value is the old one with this property
-    /// in the object: if the object stands in it, the call is one step, the edit that inserts the
+    /// in the object: if the object is in it, the call is one step, the edit that inserts the
     /// property at the object's path. An object that lacks a bracket, which is so only after edits
-    /// of single leaves, is the error `MissingBrackets`, and none that stands in a sound document.
+    /// of single leaves, is the error `MissingBrackets`, and none that is in a sound document.
     /// On an error the document stays as it was.
     pub fn insert<A: Allocator + Copy>(
         self,

@@ -21,7 +21,7 @@ impl CstObject {
     /// None too. An empty object is appended with the name, as by [`CstObject::append`], and is the
     /// answer.
     ///
-    /// For an object that stands in a sound document the call is one step, and the one error is an
+    /// For an object that is in a sound document the call is one step, and the one error is an
     /// allocation failure. An object that a property is to be appended to, and that lacks a
     /// bracket, which is so only after edits of single leaves, is the error `MissingBrackets`. On
     /// an error the document stays as it was.
@@ -50,7 +50,7 @@ impl CstObject {
     /// property. Where no property has the name, one with an empty object is appended, as by
     /// [`CstObject::append`].
     ///
-    /// For an object that stands in a sound document the call is one step, and the one error is an
+    /// For an object that is in a sound document the call is one step, and the one error is an
     /// allocation failure. A property whose value is to be set, and that lacks its colon, is the
     /// error `MissingName`; an object that one is to be appended to, and that lacks a bracket, is
     /// `MissingBrackets`. Both are so only after edits of single leaves. On an error the document
@@ -80,7 +80,7 @@ impl CstObject {
     /// None too. An empty array is appended with the name, as by [`CstObject::append`], and is the
     /// answer.
     ///
-    /// For an object that stands in a sound document the call is one step, and the one error is an
+    /// For an object that is in a sound document the call is one step, and the one error is an
     /// allocation failure. An object that a property is to be appended to, and that lacks a
     /// bracket, which is so only after edits of single leaves, is the error `MissingBrackets`. On
     /// an error the document stays as it was.
@@ -109,7 +109,7 @@ impl CstObject {
     /// property. Where no property has the name, one with an empty array is appended, as by
     /// [`CstObject::append`].
     ///
-    /// For an object that stands in a sound document the call is one step, and the one error is an
+    /// For an object that is in a sound document the call is one step, and the one error is an
     /// allocation failure. A property whose value is to be set, and that lacks its colon, is the
     /// error `MissingName`; an object that one is to be appended to, and that lacks a bracket, is
     /// `MissingBrackets`. Both are so only after edits of single leaves. On an error the document

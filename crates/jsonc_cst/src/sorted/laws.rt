@@ -28,7 +28,7 @@ pub fn second_sorts_change_no_byte<
         (h k : Headers) → PropertiesSortOnce P.Fn compare D.same lt old now new object h k }
 {}
 
-/// A second sort of a typed array or object by keys changes no byte, where the keys come both times in an
+/// A second sort of a typed array or object by keys changes no byte, where the keys are both times in an
 /// order of what the elements are, each with what is below it.
 pub fn second_sorts_by_key_change_no_byte<
     A: Allocator + Copy,

@@ -17,9 +17,9 @@ use std::alloc::Allocator;
 use std::cmp::Ordering;
 
 /// Sorts an array or an object by a comparison, which is asked of two elements or properties and the
-/// document as it stands before.
+/// document as it is before.
 ///
-/// Where `pin` is set, all comments above an element before which a blank line stands are pinned; where
+/// Where `pin` is set, all comments above an element before which a blank line is are pinned; where
 /// `groups` is, each stretch between blank lines is sorted by itself. Only memory is ever wanted, and then
 /// the document is what it was.
 pub fn sort_container<

@@ -37,14 +37,14 @@ impl CstArray {
 impl<H: Drop> Sort<CstArray, H> {
     /// Sorts by a comparison of two elements.
     ///
-    /// The comparison is asked with the document as it stands before. Elements that compare equal
+    /// The comparison is asked with the document as it is before. Elements that compare equal
     /// stay in their order. What belongs to an element moves with it: its comma, the comments
-    /// behind it on its line, and those above it that are not pinned. Where the order is the old
+    /// after it on its line, and those above it that are not pinned. Where the order is the old
     /// one, or a bracket is missing, nothing changes. `[11, 0, 10]` by first digit is `[0, 11, 10]`.
     ///
     /// If the document is sound, it is sound again, its value has the elements in their order, and
-    /// every comment is there as often: if the array stands in it, the call is one step, the edit
-    /// that rearranges what stands at its path. Without groups a second sort by the same comparison
+    /// every comment is there as often: if the array is in it, the call is one step, the edit
+    /// that rearranges what is at its path. Without groups a second sort by the same comparison
     /// changes no byte, if this answers by what the elements are. The one error is an allocation
     /// failure, and then the document stays as it was.
     pub fn by<A: Allocator + Copy, D: DocumentArg<A>, C: Fn(&D, CstNode, CstNode) -> Ordering>(
@@ -81,7 +81,7 @@ impl<H: Drop> Sort<CstArray, H> {
 
     /// Sorts by keys, one of each element.
     ///
-    /// A key is asked of the element and the document as it stands before. Elements of equal keys
+    /// A key is asked of the element and the document as it is before. Elements of equal keys
     /// stay in their order. The first error of a key is the answer, and then the document stays as
     /// it was. Else it is as [`ElementSort::by`] says.
     pub fn by_key<

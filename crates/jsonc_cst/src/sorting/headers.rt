@@ -35,7 +35,7 @@ fn comment_at<A: Allocator>(doc: &CstRootNode<A>, number: usize) -> Option<CstCo
     comment_if(node_at(&doc.tree, number))
 }
 
-// What stands before each element of a container.
+// What is before each element of a container.
 pub(crate) fn leads_of<A: Allocator + Copy>(
     doc: &CstRootNode<A>,
     container: CstNode,
@@ -114,7 +114,7 @@ fn node_at_place<N: Copy>(nodes: &[Option<N>], place: usize) -> Option<N>
     None
 }
 
-// The same for each node of a row.
+// The same for each node of a list of children.
 fn pins_by<
     A: Allocator + Copy,
     D: DocumentArg<A>,
@@ -234,7 +234,7 @@ impl<A: Allocator + Copy, D: DocumentArg<A>, N: TypedNode> HeaderRule<A, D, N> f
     }
 }
 
-/// All comments above an element stay where a blank line stands before it.
+/// All comments above an element stay where a blank line is before it.
 ///
 /// They are a header of what follows.
 #[derive(Clone, Copy)]
@@ -256,7 +256,7 @@ impl<A: Allocator + Copy, D: DocumentArg<A>, N: TypedNode> HeaderRule<A, D, N>
     }
 }
 
-// How many comments stand above the last blank line before each element.
+// How many comments are above the last blank line before each element.
 fn header_pins<A: Allocator + Copy>(
     alloc: A,
     leads: &[LeadRead],
@@ -266,7 +266,7 @@ fn header_pins<A: Allocator + Copy>(
     leads.iter().map(|lead| header_pin(*lead)).collect(alloc)
 }
 
-// How many stand there before one.
+// How many are there before one.
 fn header_pin(lead: LeadRead) -> Option<usize>
     ensures { result ≡ header_pin lead }
 {

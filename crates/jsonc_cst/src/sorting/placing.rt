@@ -1,4 +1,4 @@
-//! Elements that come in an order.
+//! Elements that are put in an order.
 
 ghost use Rattle.std.specs.Prelude.{◌≡◌, ◌<◌, IfErr, IsTrue, OnErr, OnOk, length};
 ghost use Rattle.jsonc_tree.specs.Building.{Keeps};

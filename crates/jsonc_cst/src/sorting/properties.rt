@@ -37,9 +37,9 @@ impl CstObject {
 impl<H: Drop> Sort<CstObject, H> {
     /// Sorts by a comparison of two properties.
     ///
-    /// The comparison is asked with the document as it stands before. Properties that compare equal
+    /// The comparison is asked with the document as it is before. Properties that compare equal
     /// stay in their order. What belongs to a property moves with it: its comma, the comments
-    /// behind it on its line, and those above it that are not pinned. Where the order is the old
+    /// after it on its line, and those above it that are not pinned. Where the order is the old
     /// one, or a bracket is missing, nothing changes. Before, and sorted by names:
     ///
     /// ```text
@@ -51,8 +51,8 @@ impl<H: Drop> Sort<CstObject, H> {
     /// ```
     ///
     /// If the document is sound, it is sound again, its value has the properties in their order,
-    /// and every comment is there as often: if the object stands in it, the call is one step, the
-    /// edit that rearranges what stands at its path. Without groups a second sort by the same
+    /// and every comment is there as often: if the object is in it, the call is one step, the
+    /// edit that rearranges what is at its path. Without groups a second sort by the same
     /// comparison changes no byte, if this answers by what the properties are. The one error is an
     /// allocation failure, and then the document stays as it was.
     pub fn by<
@@ -89,7 +89,7 @@ impl<H: Drop> Sort<CstObject, H> {
 
     /// Sorts by keys, one of each property.
     ///
-    /// A key is asked of the property and the document as it stands before. Properties of equal
+    /// A key is asked of the property and the document as it is before. Properties of equal
     /// keys stay in their order. The first error of a key is the answer, and then the document
     /// stays as it was. Else it is as [`PropertySort::by`] says.
     pub fn by_key<

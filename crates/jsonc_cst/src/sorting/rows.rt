@@ -17,7 +17,7 @@ use jsonc_sort::LeadRead;
 use jsonc_sort::ordering::group_starts;
 use std::alloc::{AllocError, Allocator};
 
-// Before which elements a blank line stands.
+// Before which elements a blank line is.
 fn parted<A: Allocator + Copy>(alloc: A, leads: &[LeadRead]) -> Result<Vec<bool, A>, AllocError>
     ensures { IfOk result (λ v. v.items ≡ map is_separated leads.now) }
 {

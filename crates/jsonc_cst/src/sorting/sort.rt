@@ -1,11 +1,11 @@
-//! A sort of an array or object, and what it is told before it sorts.
+//! A sort of an array or object, and what it takes before it sorts.
 
 ghost use Rattle.std.specs.Prelude.{◌≡◌, true};
 
 use crate::cst::{CstArray, CstObject};
 use crate::sorting::headers::{BlankLineHeaders, HeadersBy, KeptHeaders};
 
-/// A sort of what stands in an array or an object.
+/// A sort of what is in an array or an object.
 ///
 /// It sorts nothing until `by` or `by_key` is called.
 #[derive(Drop)]
@@ -29,7 +29,7 @@ pub type ElementSort<H> = Sort<CstArray, H>;
 pub type PropertySort<H> = Sort<CstObject, H>;
 
 impl<C: Copy, H: Drop> Sort<C, H> {
-    /// Leaves all comments above an entry in their place where a blank line stands before it.
+    /// Keeps all comments above an entry in their place where a blank line is before it.
     ///
     /// An entry is an element or a property; the comments are a header of what follows. Before, and
     /// sorted by names:
@@ -79,10 +79,10 @@ impl<C: Copy, H: Drop> Sort<C, H> {
         }
     }
 
-    /// Leaves so many comments above each entry in their place as a rule answers.
+    /// Keeps so many comments above each entry in their place as a rule answers.
     ///
     /// An entry is an element or a property. The comments count from the first on. The rule is
-    /// asked with the document as it stands before, where comments stand above an entry.
+    /// asked with the document as it is before, where comments are above an entry.
     /// [`ElementSort::pin_comment_headers`] shows what stays.
     pub fn pin_comment_headers_with<F>(self, rule: F) -> Sort<C, HeadersBy<F>>
         ensures container { result.container ≡ self.container }

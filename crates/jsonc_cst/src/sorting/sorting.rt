@@ -44,7 +44,7 @@ fn order_of<A: Allocator + Copy, D: DocumentArg<A>, N: TypedNode, C: Fn(&D, N, N
     Ok(order)
 }
 
-// Sorts an array or object by a comparison of what stands in it.
+// Sorts an array or object by a comparison of what is in it.
 pub(crate) fn sort_by<
     A: Allocator + Copy,
     D: DocumentArg<A>,
@@ -124,7 +124,7 @@ fn order_of_keys<
     Ok(order)
 }
 
-// Sorts an array or object by keys of what stands in it.
+// Sorts an array or object by keys of what is in it.
 pub(crate) fn sort_by_key<
     A: Allocator + Copy,
     D: DocumentArg<A>,

@@ -41,21 +41,21 @@ impl<A: Allocator> CstRootNode<A> {
 impl CstRoot {
     /// Sets or removes its trailing commas, and those of all arrays and objects below it.
     ///
-    /// With `Never` the comma behind the last element or property is removed. With `IfMultiline`
-    /// one is inserted directly behind the last element or property of each array and object that
-    /// has a line end among its children, where none stands there. `[1, 2,]` stays with
+    /// With `Never` the comma after the last element or property is removed. With `IfMultiline`
+    /// one is inserted directly after the last element or property of each array and object that
+    /// has a line end among its children, where none is there. `[1, 2,]` stays with
     /// `IfMultiline`, and is `[1, 2]` with `Never`.
     ///
     /// If the document is sound, its text is a document again, of the same value and with the same
     /// literals and comments, and sound: under options that allow trailing commas, where the mode
-    /// sets some; and a further call by the same mode changes nothing. If the node stands in it,
+    /// sets some; and a further call by the same mode changes nothing. If the node is in it,
     /// the call is one step. In a damaged document, and below a detached node, each array and
     /// object is then as the mode says too, but that `Never` removes one comma where more than one
-    /// stood behind the last element.
+    /// was after the last element.
     ///
     /// Memory is allocated only where a comma is inserted. Where that fails, the commas of arrays
     /// and objects before have been set, and nothing else has changed: that too is a step. A
-    /// document that the node does not stand in prints what it did, on an error too.
+    /// document that the node is not in prints what it did, on an error too.
     pub fn set_trailing_commas<A: Allocator>(
         self,
         doc: &mut CstRootNode<A>,

@@ -1,4 +1,4 @@
-//! Elements that come into arrays.
+//! Elements that are inserted into arrays.
 
 ghost use Rattle.std.specs.Prelude.{min};
 ghost use Rattle.jsonc_layout.specs.input.Views.{plain};
@@ -34,18 +34,18 @@ impl CstArray {
 
     /// Inserts a value before its element of this number, and answers the value's node.
     ///
-    /// The number counts from 0; where the array has fewer elements, the value is inserted behind
+    /// The number counts from 0; where the array has fewer elements, the value is inserted after
     /// the last.
     ///
-    /// The array tells how: on several lines the value has a line of its own, one level deeper. A
-    /// comma is inserted between it and its neighbours, and behind it where the array's last
+    /// The array determines how: on several lines the value has a line of its own, one level deeper. A
+    /// comma is inserted between it and its neighbours, and after it where the array's last
     /// elements have one. Blank lines directly inside the brackets are removed. Comments stay where
     /// they are. `[1, 2]` with 9 at 1 is `[1, 9,  2]`.
     ///
     /// If the document is sound, it is sound again, and its value is the old one with this value in
-    /// the array: if the array stands in it, the call is one step, the edit that inserts the value
+    /// the array: if the array is in it, the call is one step, the edit that inserts the value
     /// at the array's path. An array that lacks a bracket, which is so only after edits of single
-    /// leaves, is the error `MissingBrackets`, and none that stands in a sound document. On an
+    /// leaves, is the error `MissingBrackets`, and none that is in a sound document. On an
     /// error the document stays as it was.
     pub fn insert<A: Allocator + Copy>(
         self,

@@ -12,7 +12,7 @@ impl CstArray {
     /// Puts each entry, and the closing bracket, on a line of its own, where no line ends between
     /// the brackets yet.
     ///
-    /// An entry is each part of what stands between the brackets, through its comma. It is put one
+    /// An entry is each part of what is between the brackets, through its comma. It is put one
     /// level deeper, without the whitespace around it. Only line ends among its own children count.
     /// `{"a":1, "b":[2]}` is then:
     ///
@@ -24,8 +24,8 @@ impl CstArray {
     /// ```
     ///
     /// If the document is sound, the text is a document again, of the same value and with the same
-    /// literals and comments, and sound: if the node stands in it, the call is one step. An array
-    /// or object that lacks a bracket is the error `MissingBrackets`, which none that stands in a
+    /// literals and comments, and sound: if the node is in it, the call is one step. An array
+    /// or object that lacks a bracket is the error `MissingBrackets`, which none that is in a
     /// sound document is. On an error the document stays as it was.
     pub fn ensure_multiline<A: Allocator + Copy>(
         self,
@@ -43,7 +43,7 @@ impl CstObject {
     /// Puts each entry, and the closing bracket, on a line of its own, where no line ends between
     /// the brackets yet.
     ///
-    /// An entry is each part of what stands between the brackets, through its comma. It is put one
+    /// An entry is each part of what is between the brackets, through its comma. It is put one
     /// level deeper, without the whitespace around it. Only line ends among its own children count.
     /// `{"a":1, "b":[2]}` is then:
     ///
@@ -55,8 +55,8 @@ impl CstObject {
     /// ```
     ///
     /// If the document is sound, the text is a document again, of the same value and with the same
-    /// literals and comments, and sound: if the node stands in it, the call is one step. An array
-    /// or object that lacks a bracket is the error `MissingBrackets`, which none that stands in a
+    /// literals and comments, and sound: if the node is in it, the call is one step. An array
+    /// or object that lacks a bracket is the error `MissingBrackets`, which none that is in a
     /// sound document is. On an error the document stays as it was.
     pub fn ensure_multiline<A: Allocator + Copy>(
         self,

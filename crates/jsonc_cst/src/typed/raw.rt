@@ -1,4 +1,4 @@
-//! Leaves that are written anew as they stand, whatever the document makes of that.
+//! Leaves that are written anew, whatever the document makes of that.
 
 ghost use Rattle.std.specs.Prelude.{◌≡◌, false, string_bytes};
 ghost use Rattle.jsonc_tree.specs.Content.{Content, is_container};

@@ -59,7 +59,7 @@ fn remove_alone<A: Allocator>(tree: &mut Tree<A>, number: usize)
     tree.remove_between(container, number, number);
 }
 
-// Takes a node out of the document, with what leaves with it.
+// Takes a node out of the document, with what is removed with it.
 fn remove_node<A: Allocator + Copy, N: TypedNode>(
     doc: &mut CstRootNode<A>,
     node: N,
@@ -107,7 +107,7 @@ fn remove_entry<A: Allocator + Copy, N: TypedNode>(
     let Some(container) = doc.tree.parent(entry.number()) else {
         return remove_node(doc, entry);
     };
-    // All memory is wanted before the first node leaves.
+    // All memory is wanted before the first node is removed.
     let Ok(comments) = doc.comment_numbers(entry) else {
         return Err(EditError::OutOfMemory);
     };
@@ -123,16 +123,16 @@ impl CstNode {
     ///
     /// With an element of an array, a property of an object or the document's value are removed the
     /// whitespace and comments directly before it, one comma, and the rest of its line where
-    /// nothing else stands on that; with a line comment the whitespace directly before it and the
+    /// nothing else is on that; with a line comment the whitespace directly before it and the
     /// newline before that. A property's name or value is removed with no comma; a token,
     /// whitespace or a newline alone; and of the root all its children are. Where two literals
-    /// without quotes would come to stand directly beside each other, a space is inserted between
+    /// without quotes would then be directly beside each other, a space is inserted between
     /// them. `{ "a": 1, "b": 2 }` without `b` is `{ "a": 1 }`.
     ///
-    /// If the document is sound, and the node stands in an array or object at a path, or is the
+    /// If the document is sound, and the node is in an array or object at a path, or is the
     /// document's value, the document is one again, without that entry or that value, and sound. If
     /// the node is a comment of it, the document keeps its value and all literals and other
-    /// comments, and is sound. The call is one step then, the edit that removes what stands at that
+    /// comments, and is sound. The call is one step then, the edit that removes what is at that
     /// path, or the comment of that number.
     ///
     /// Memory is allocated for a space alone. An array or object from which an element is to be

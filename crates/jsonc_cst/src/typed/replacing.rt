@@ -18,7 +18,7 @@ use jsonc_layout::input::CstInputValue;
 use jsonc_tree::{Kind, Tree};
 use std::alloc::Allocator;
 
-// Whether the node of this number is the name of the property that it stands in.
+// Whether the node of this number is the name of the property that it is in.
 fn is_name_in<A: Allocator>(tree: &Tree<A>, number: usize) -> bool
     requires { number < length tree.now.nodes }
     ensures { result ≡ is_name_in tree.now.nodes number }
@@ -70,17 +70,17 @@ fn replace_with<A: Allocator + Copy, N: TypedNode>(
 impl CstArray {
     /// Replaces it by a value, and answers the value's node.
     ///
-    /// The document tells how the value is laid out: the indents are those at the container that
-    /// the node stands in, lines end as the document's do, and the last of several lines has a
+    /// The document determines how the value is laid out: the indents are those at the container that
+    /// the node is in, lines end as the document's do, and the last of several lines has a
     /// comma where that is so in the container, or, for the value of a property, in the old value.
-    /// Where two literals without quotes would come to stand directly beside each other, a space is
+    /// Where two literals without quotes would then be directly beside each other, a space is
     /// inserted between them, but none beside the name of a property. `{a:[1]b:2}` with 7 for its
     /// array is `{a:7 b:2}`; `{a:1"b":2}` with 7 for its second name is `{a:17:2}`.
     ///
     /// If the document is sound, and the node a value in it, the document is sound again, and its
     /// value is the old one with the new value at the node's path. The call is one step then, the
     /// edit that replaces the value at that path: it leads from the document before to the document
-    /// behind it.
+    /// after it.
     ///
     /// The node is detached then. Where it had no parent before, the answer is None, and the
     /// document stays as it was, as it does on an error.

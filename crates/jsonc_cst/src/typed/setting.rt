@@ -23,7 +23,7 @@ use jsonc_layout::input::CstInputValue;
 use jsonc_tree::Tree;
 use std::alloc::Allocator;
 
-/// The object that stands under a number.
+/// The object of a number.
 pub fn object_at<A: Allocator>(tree: &Tree<A>, number: usize) -> CstObject
     requires { content_at tree.now.nodes number ≡ Content.object }
     ensures number { result.number ≡ number }
@@ -35,7 +35,7 @@ pub fn object_at<A: Allocator>(tree: &Tree<A>, number: usize) -> CstObject
     object
 }
 
-/// The array that stands under a number.
+/// The array of a number.
 pub fn array_at<A: Allocator>(tree: &Tree<A>, number: usize) -> CstArray
     requires { content_at tree.now.nodes number ≡ Content.array }
     ensures number { result.number ≡ number }
@@ -50,11 +50,11 @@ pub fn array_at<A: Allocator>(tree: &Tree<A>, number: usize) -> CstArray
 impl<A: Allocator + Copy> CstRootNode<A> {
     /// Sets the document's value, and answers its node.
     ///
-    /// Where a value stands, it is replaced by the new one, as by `replace_with` of a value. Where
-    /// none does, the new value is laid out as the document tells and is inserted before the
-    /// newline that the document ends with, if it does, and else behind all. Where a comment stands
-    /// directly before that place, a newline is inserted between them, and where nothing stands
-    /// behind it, a newline is inserted behind the value. The document of a comment alone, and with
+    /// Where there is a value, it is replaced by the new one, as by `replace_with` of a value. Where
+    /// there is none, the new value is laid out as the document determines and is inserted before the
+    /// newline that the document ends with, if it does, and else after all. Where a comment is
+    /// directly before that place, a newline is inserted between them, and where nothing is
+    /// after it, a newline is inserted after the value. The document of a comment alone, and with
     /// 1:
     ///
     /// ```text
@@ -139,8 +139,8 @@ impl<A: Allocator + Copy> CstRootNode<A> {
 impl CstObjectProp {
     /// Replaces it by a property of this name and value, and answers that.
     ///
-    /// The document tells how it is laid out, as for `replace_with` of a value. Where the value is
-    /// a literal without quotes that would come to stand directly before another, a space is
+    /// The document determines how it is laid out, as for `replace_with` of a value. Where the value is
+    /// a literal without quotes that would then be directly before another, a space is
     /// inserted between them. The first property replaced by `c` with an array of 1 and 2:
     ///
     /// ```text
@@ -151,7 +151,7 @@ impl CstObjectProp {
     /// ```
     ///
     /// If the document is sound, it is sound again, and its value is the old one but for that
-    /// entry: if the property stands in it, the call is one step, the edit that replaces the
+    /// entry: if the property is in it, the call is one step, the edit that replaces the
     /// property at its path. The old property is detached then. Where it had no parent before, the
     /// answer is None, and the document stays as it was, as it does on an error.
     pub fn replace_with<A: Allocator + Copy>(

@@ -23,9 +23,9 @@ impl CstObjectProp {
     /// then. `{a:[1]b:2}` with 7 as the value of `a` is `{a:7 b:2}`.
     ///
     /// If the document is sound, it is sound again, and its value is the old one but for that
-    /// entry: if the property stands in it, the call is one step, the edit that sets the value at
+    /// entry: if the property is in it, the call is one step, the edit that sets the value at
     /// its path. Where there was no value, which is so only after edits of single leaves, the new
-    /// one is laid out as the document tells and is inserted behind all that the property holds. On
+    /// one is laid out as the document determines and is inserted after all that the property holds. On
     /// an error the document stays as it was.
     pub fn set_value<A: Allocator + Copy>(
         self,
@@ -43,7 +43,7 @@ impl CstObjectProp {
     /// Answers the value if it is an object; sets an empty one where there is none, or in the place
     /// of any other.
     ///
-    /// It is set as by [`CstObjectProp::set_value`]. For a property that stands in a sound document
+    /// It is set as by [`CstObjectProp::set_value`]. For a property that is in a sound document
     /// the call is one step. A property without its name or its colon, which is so only after edits
     /// of single leaves, is the error `MissingName`, and none of a sound document is. On an error
     /// the document stays as it was.
@@ -64,7 +64,7 @@ impl CstObjectProp {
     /// Answers the value if it is an array; sets an empty one where there is none, or in the place
     /// of any other.
     ///
-    /// It is set as by [`CstObjectProp::set_value`]. For a property that stands in a sound document
+    /// It is set as by [`CstObjectProp::set_value`]. For a property that is in a sound document
     /// the call is one step. A property without its name or its colon, which is so only after edits
     /// of single leaves, is the error `MissingName`, and none of a sound document is. On an error
     /// the document stays as it was.
@@ -86,7 +86,7 @@ impl CstObjectProp {
 impl CstBooleanLit {
     /// Sets it to `true` or `false`, in its place.
     ///
-    /// Where `false` would come to stand directly behind a hexadecimal number, whose digits would
+    /// Where `false` would then be directly after a hexadecimal number, whose digits would
     /// read on into it, a space is inserted between them: `[0x1true]` is `[0x1 false]` then. Memory
     /// is allocated for that space alone, and on an error the document stays as it was. If the
     /// document is sound, and the node a value in it, the document is sound again, and its value is

@@ -1,11 +1,15 @@
 //! The comments that belong to entries, and the memory that they want.
 ghost use Rattle.jsonc_cst.specs.Document.{HasNode};
 
+use crate::tests::inserted_comments::{At, node_of};
 use crate::tests::reading::{asked_by, child_at, read};
 use failing_alloc::Refusing;
+use failing_alloc::awaited::prints;
 use failing_alloc::in_turn::answers_in_turn;
 use failing_alloc::outcome::Outcome;
-use jsonc_parser::cst::{CstComment, CstNode, CstRootNode, ParentNode, TypedNode};
+use jsonc_parser::cst::{
+    CstComment, CstLeafNode, CstNode, CstRootNode, EditError, ParentNode, TypedNode,
+};
 use std::alloc::{Allocator, Global};
 use std::test::Fail;
 
@@ -62,6 +66,32 @@ static REMOVED: [(&str, usize, &str); 11] = [
     ("[1/*a*/2/*b*/3]", 1, "[1 3]"),
     ("[1 2\n, // c\n3]", 1, "[1\n3]"),
     ("[\n/*a*/ /*b*/  \n1]", 0, "[]"),
+];
+
+/// A text, a leaf that is removed from it, an entry, what the removal of that with its comments answers then, and the
+/// text after it.
+static DAMAGED: [(&str, At, At, Result<(), EditError>, &str); 3] = [
+    (
+        "[1, /* b */ 2]",
+        At::Child(7),
+        At::Child(6),
+        Err(EditError::MissingBrackets),
+        "[1, /* b */ 2",
+    ),
+    (
+        "{\n// c\na: 1\n}",
+        At::Below(4, 1),
+        At::Child(4),
+        Ok(()),
+        "{}",
+    ),
+    (
+        "{\n// c\na: 1, b: 2\n}",
+        At::Child(5),
+        At::Child(4),
+        Ok(()),
+        "{\n b: 2\n}",
+    ),
 ];
 
 /// An object with a comment before its property, whose value has one before it and one behind it.
@@ -183,6 +213,41 @@ fn entries_are_removed_with_their_comments_in_turn(rt: HostRuntime) -> Result<()
     for (text, index, wanted) in &REMOVED {
         assert!(rt; removed::<Global>(rt.alloc(), text, *index, wanted) == Outcome::Answered);
         assert!(rt; answers_in_turn(rt.alloc(), |heap| removed(heap, text, *index, wanted)));
+    }
+    Ok(())
+}
+
+/// A token is removed, and then an entry with its comments; a further removal changes nothing.
+fn damaged<A: Allocator + Copy>(
+    doc: &mut CstRootNode<A>,
+    damage: At,
+    entry: At,
+    answer: Result<(), EditError>,
+    wanted: &str,
+) -> bool {
+    let (Some(CstNode::Leaf(CstLeafNode::Token(token))), Some(entry)) = (
+        node_of(doc, damage),
+        node_of(doc, entry),
+    ) else {
+        return false;
+    };
+    token.remove(doc);
+    let removed = entry.remove_with_comments(doc);
+    let is_removed = removed == answer && prints(&*doc, wanted);
+    let again = entry.remove_with_comments(doc);
+    is_removed && again == answer && prints(&*doc, wanted)
+}
+
+#[test]
+fn entries_of_damaged_documents_are_removed_with_their_comments(
+    rt: HostRuntime,
+) -> Result<(), Fail> {
+    for (text, damage, entry, answer, wanted) in &DAMAGED {
+        let is_removed = match read(rt.alloc(), text) {
+            Ok(mut doc) => damaged(&mut doc, *damage, *entry, *answer, wanted),
+            Err(_) => false,
+        };
+        assert!(rt; is_removed, "{text}");
     }
     Ok(())
 }

@@ -1,10 +1,10 @@
-//! Documents of many nodes, and of a long leaf.
+//! Documents of many nodes, of many entries on one line, and of a long leaf.
 
 use crate::tests::node_edits::{NodeEdit, edit_node};
 use crate::tests::reading::{asked_by, child_at, read};
 use failing_alloc::awaited::prints;
 use failing_alloc::outcome::Outcome;
-use jsonc_parser::cst::CstRootNode;
+use jsonc_parser::cst::{CstRootNode, Place};
 use std::alloc::{AllocError, Global};
 use std::test::Fail;
 
@@ -69,5 +69,71 @@ fn is_asked_alike(alloc: Global) -> Result<bool, AllocError> {
 #[test]
 fn a_long_string_asks_for_no_further_room(rt: HostRuntime) -> Result<(), Fail> {
     assert!(rt; is_asked_alike(rt.alloc())?);
+    Ok(())
+}
+
+/// Puts 10,000 zeros on a line.
+fn push_zeros(line: &mut String<Global>) -> Result<(), AllocError> {
+    line.push_str("0")?;
+    for _zero in 1..10_000usize {
+        line.push_str(", 0")?;
+    }
+    Ok(())
+}
+
+/// An array on one line of 20,000 zeros, with this between the comma of one in the middle and the blank before the next.
+fn on_one_line(alloc: Global, between: &str) -> Result<String<Global>, AllocError> {
+    let mut line = String::from_str(alloc, "[")?;
+    push_zeros(&mut line)?;
+    line.push_str(",")?;
+    line.push_str(between)?;
+    line.push_str(" ")?;
+    push_zeros(&mut line)?;
+    line.push_str("]")?;
+    Ok(line)
+}
+
+/// What is done to the entry in the middle of a line.
+#[derive(Clone, Copy)]
+enum OnLine {
+    Insert(Place),
+    RemoveWithComments,
+}
+
+/// Each with what is between the zeros, the place of the entry, and what is between them then.
+static ON_LINE: [(OnLine, &str, usize, &str); 3] = [
+    (
+        OnLine::Insert(Place::Above),
+        " 1,",
+        30_001,
+        "\n  /* c */\n  1,",
+    ),
+    (OnLine::Insert(Place::After), " 1,", 30_001, " 1, /* c */"),
+    (OnLine::RemoveWithComments, " /* c */ 1,", 30_003, ""),
+];
+
+fn is_made_on_line(doc: CstRootNode<Global>, edit: OnLine, place: usize, after: &str) -> bool {
+    let mut doc = doc;
+    let Some(entry) = child_at(&doc, place) else {
+        return false;
+    };
+    let made = match edit {
+        OnLine::Insert(place) => entry.insert_comment(&mut doc, "/* c */", place),
+        OnLine::RemoveWithComments => entry.remove_with_comments(&mut doc),
+    };
+    made.is_ok() && prints(&doc, after)
+}
+
+#[test]
+fn entries_on_a_line_of_20000_gain_and_lose_comments(rt: HostRuntime) -> Result<(), Fail> {
+    for (edit, before, place, after) in &ON_LINE {
+        let before = on_one_line(rt.alloc(), before)?;
+        let after = on_one_line(rt.alloc(), after)?;
+        let is_made = match read(rt.alloc(), before.as_str()) {
+            Ok(doc) => is_made_on_line(doc, *edit, *place, after.as_str()),
+            Err(_) => false,
+        };
+        assert!(rt; is_made);
+    }
     Ok(())
 }

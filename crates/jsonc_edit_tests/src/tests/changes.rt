@@ -1,7 +1,7 @@
 //! Edits, told without memory.
 
 use crate::tests::reading::value_of;
-use jsonc_parser::cst::{CstInputValue, Edit, Over, Shape, TrailingCommaMode};
+use jsonc_parser::cst::{CstInputValue, Edit, Over, Place, Shape, TrailingCommaMode};
 use std::alloc::{AllocError, Allocator};
 
 /// How a value or a property comes to a path: in the place of what stands there, or into the array or
@@ -36,6 +36,7 @@ pub enum Change {
     Property(Way, &'static str, &'static str),
     EnsureProperty(&'static str, Shape, Over),
     RenameProperty(&'static str),
+    InsertComment(Place, &'static str),
 }
 
 /// An edit of a list: its path, and what it does there.
@@ -92,6 +93,10 @@ fn edit_at<A: Allocator + Copy>(
         }
         Change::RenameProperty(name) => {
             Ok(Edit::RenameProperty(path, String::from_str(alloc, name)?))
+        }
+        Change::InsertComment(place, text) => {
+            let text = String::from_str(alloc, text)?;
+            Ok(Edit::InsertComment(path, place, text))
         }
     }
 }

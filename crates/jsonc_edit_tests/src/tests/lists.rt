@@ -5,7 +5,7 @@ use crate::tests::reading::read;
 use crate::tests::rows::{Edits, Memory, Row, run_steps, wants};
 use failing_alloc::Refusing;
 use failing_alloc::awaited::prints;
-use jsonc_parser::cst::{EditError, Over, Shape, TrailingCommaMode};
+use jsonc_parser::cst::{EditError, Over, Place, Shape, TrailingCommaMode};
 use std::alloc::Global;
 use std::slice::from_ref;
 use std::test::Fail;
@@ -25,7 +25,7 @@ const SET: &str = "[\n  1,\n  {\"a\": [2]},\n]";
 type OneEdit = (Memory, Step, &'static str, &'static str);
 
 /// A removal wants memory for a space that is due alone.
-static SINGLE: [OneEdit; 26] = [
+static SINGLE: [OneEdit; 28] = [
     (
         Memory::Some,
         (&[], Change::RemoveComment(0)),
@@ -142,6 +142,18 @@ static SINGLE: [OneEdit; 26] = [
         "{a:1\"x\":2b:3}",
         "{a:1 b:3}",
     ),
+    (
+        Memory::Edits,
+        (&[0], Change::InsertComment(Place::Above, "// c")),
+        "[1]",
+        "[\n  // c\n  1]",
+    ),
+    (
+        Memory::Edits,
+        (&[0, 0], Change::InsertComment(Place::After, "/* c */")),
+        "[{\"a\": 1, \"b\": 2}]",
+        "[{\"a\": 1, /* c */ \"b\": 2}]",
+    ),
 ];
 
 /// Three values that come behind an array's last.
@@ -151,7 +163,7 @@ const APPENDED: [Step; 3] = [
     (&[], Change::Value(Way::Append, "4")),
 ];
 
-pub static ROWS: [Row; 11] = [
+pub static ROWS: [Row; 13] = [
     (
         Edits::List(&[
             (&[0, 0], Change::EnsureValue(Shape::Object)),
@@ -206,6 +218,25 @@ pub static ROWS: [Row; 11] = [
         ]),
         "{\"a\": {d:1}}",
         &["{\"b\": {d:1}}", "{\"b\": {\"c\":1}}", "{\"b\": []}"],
+    ),
+    // The line continues after the element.
+    (
+        Edits::List(&[
+            (&[0], Change::InsertComment(Place::Above, "// c")),
+            (&[0], Change::InsertComment(Place::After, "/* d */")),
+            (&[0], Change::InsertComment(Place::After, "// e")),
+        ]),
+        "[1, 2]",
+        &["[\n  // c\n  1, 2]", "[\n  // c\n  1, /* d */ 2]"],
+    ),
+    // The text is no comment.
+    (
+        Edits::List(&[
+            (&[], Change::InsertComment(Place::After, "// c")),
+            (&[], Change::InsertComment(Place::After, "// c\n")),
+        ]),
+        "1",
+        &["1 // c"],
     ),
     // An element has no name.
     (

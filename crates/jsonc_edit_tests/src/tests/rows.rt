@@ -23,7 +23,7 @@ pub enum Edits<'a> {
 }
 
 /// Edits, the text before them, and the text after each that is made: where these are fewer than the edits,
-/// the next has no place.
+/// the next has no place, or the comment that it is to insert is refused.
 pub type Row<'a> = (Edits<'a>, &'a str, &'a [&'a str]);
 
 /// Makes a list of edits, none where there is no memory for the list.
@@ -80,7 +80,10 @@ fn outcome<A: Allocator + Copy>(alloc: A, row: &Row<'_>) -> Outcome {
         return Outcome::Other;
     }
     match done {
-        Ok(()) | Err(EditError::NoSuchPlace) => Outcome::of(made == row.2.len()),
+        Ok(())
+        | Err(EditError::NoSuchPlace | EditError::InvalidComment | EditError::LineContinues) => {
+            Outcome::of(made == row.2.len())
+        }
         Err(error) => Outcome::from(error),
     }
 }

@@ -87,13 +87,16 @@ fn make_all<A: Allocator + Copy, D: DocumentArg<A>, C: Fn(&D, CstNode, CstNode) 
 /// of single leaves can bring about more: an array or object that an entry was to be removed from,
 /// or that was to be put on several lines, may lack a bracket then, and a property its name or
 /// colon. In a sound document there is no place exactly where the document's value has at the path
-/// nothing that the edit needs, or the document no comment of that number.
+/// nothing that the edit needs, or the document no comment of that number. A comment that is to be
+/// inserted is refused too where its text is not one comment, or where it ends with its line and
+/// something follows the entry there.
 ///
 /// If the document is sound, as a parsed one is, and stays so under the edits of single leaves,
 /// then its text after the edits is a document again, whose value is what the same edits make of
-/// the old value, under options that allow trailing commas where an edit was to set some. All
-/// leaves around what is replaced or removed stay, comments among them; of the literals and
-/// comments of the text, as they are written, each edit changes what it names alone.
+/// the old value, under options that allow trailing commas where an edit was to set some. Where a
+/// comment is inserted, the options have to allow comments. All leaves around what is replaced or
+/// removed stay, comments among them; of the literals and comments of the text, as they are
+/// written, each edit changes what it names alone.
 pub fn run<A: Allocator + Copy, D: DocumentArg<A>, C: Fn(&D, CstNode, CstNode) -> Ordering>(
     doc: &mut CstRootNode<A>,
     edits: Vec<Edit<A>, A>,
@@ -110,7 +113,7 @@ pub fn run<A: Allocator + Copy, D: DocumentArg<A>, C: Fn(&D, CstNode, CstNode) -
 /// Makes edits in order, without a comparison.
 ///
 /// It does what [`run`] does, and answers as it does. It is for edits that do not sort: in which
-/// order an edit that sorts leaves what it sorts is not said. [`run`] takes a comparison.
+/// order an edit that sorts puts what it sorts is not said. [`run`] takes a comparison.
 pub fn run_unsorted<A: Allocator + Copy>(
     doc: &mut CstRootNode<A>,
     edits: Vec<Edit<A>, A>,

@@ -43,7 +43,7 @@ impl<A: Allocator + fmt::Debug> Error for PatchFault<A> {}
 impl<A: Allocator + Copy> Patch<A> {
     /// Makes the operations in order, each in the document that the ones before it made.
     ///
-    /// What is added to an object comes behind its other members, or in the place of the value of the one that
+    /// What is added to an object is put after its other members, or in the place of the value of the one that
     /// has the name. A value that is copied or moved is taken as by [`read`](super::read) and written as edits
     /// write values; but a member that is moved within its object, to a name that no member has, gets this name and
     /// stays as it is. Comments stay, but for those inside what is replaced or removed, and those that a removal takes
@@ -82,7 +82,7 @@ fn is_one_edit<A: Allocator>(operation: &Operation<A>) -> bool
     !matches!(operation, Operation::Move(_, _))
 }
 
-// Whether an operation is one edit at most, and no other comes behind it.
+// Whether an operation is one edit at most, and no other follows it.
 fn is_alone<A: Allocator>(operation: &Operation<A>, rest: &[Operation<A>]) -> bool
     ensures { result ≡ true → (is_one_edit operation.now ≡ true) × (rest.now ≡ []) }
 {

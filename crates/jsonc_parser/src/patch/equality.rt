@@ -101,7 +101,7 @@ fn are_numbers_equal<A: Allocator + Copy>(
     }
 }
 
-// The names of members, or none where one stands twice.
+// The names of members, or none where one occurs twice.
 fn names_of<'a, A: Allocator + Copy>(
     alloc: A,
     members: &'a [(String<A>, CstInputValue<A>)],
@@ -178,7 +178,7 @@ fn are_members_equal<A: Allocator + Copy>(
     Ok(true)
 }
 
-/// Whether two values are equal, where no name stands twice in an object of the second.
+/// Whether two values are equal, where no name occurs twice in an object of the second.
 ///
 /// Objects are equal where they have the same names with equal values, in any order.
 #[cycle(equality)]

@@ -28,7 +28,7 @@ pub fn pointers_are_read_in_one_way()
     ensures first { (text : List ℕ) (k l : ℕ) → HasLooseTilde text k → HasLooseTilde text l → k ≡ l }
 {}
 
-/// A pointer refers to one value at most, and to none where a name on the way stands twice.
+/// A pointer refers to one value at most, and to none where a name on the way occurs twice.
 pub fn pointers_refer_to_one_value()
     ensures one { (w : Option Plain) (tokens : List (List ℕ)) → RefersToOne w tokens }
     ensures fails { (w : Option Plain) (tokens : List (List ℕ)) → FailsWithNone w tokens }
@@ -42,7 +42,7 @@ pub fn pointers_lead_back<A: Allocator>()
 
 /// What [`merge`](super::merge) makes of the value of a document is what `MergePatch` of RFC 7396 makes of it, with its
 /// members in this order; but an array that is equal to the patch's is not touched. Merging makes one value, and makes
-/// one wherever no name stands twice.
+/// one wherever no name occurs twice.
 pub fn merges_are_merge_patches()
     ensures exact { (p : Plain) (w y : Option Plain) → HasUniqueNames p → Merges [] p w y → IsMergePatch p w y }
     ensures equal { (p : Plain) (w y : Option Plain) → HasUniqueNames p → Merges [] p w y → IsEqualToMergePatch p w y }

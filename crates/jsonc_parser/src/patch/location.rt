@@ -99,7 +99,7 @@ fn tokens_over<A: Allocator + Copy>(
 
 /// The pointer that refers to a node: [`find`](super::find) finds the node by it.
 ///
-/// None where no pointer refers to the node: a name on the way stands twice in its object, or the node is
+/// None where no pointer refers to the node: a name on the way occurs twice in its object, or the node is
 /// no value of the document, but a property, a name, a comment, blanks, a token, or what was removed or
 /// replaced.
 pub fn pointer_of<A: Allocator + Copy>(

@@ -407,7 +407,7 @@ pub(super) fn leads_on<A: Allocator>(front: &[String<A>], tokens: &[String<A>]) 
     true
 }
 
-// Sees that a value that is to be moved to where it stands, or into itself, stays.
+// Sees that a value that is to be moved to where it is, or into itself, stays.
 fn stay<A: Allocator + Copy>(
     doc: &CstRootNode<A>,
     from: &Pointer<A>,

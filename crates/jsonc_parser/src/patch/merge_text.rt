@@ -27,7 +27,7 @@ pub enum MergePatchError<A: Allocator> {
     NoValue,
     /// More than one member of an object of the value has this name.
     RepeatedName(String<A>),
-    /// An allocation failed behind the parse.
+    /// An allocation failed after the parse.
     OutOfMemory,
 }
 
@@ -53,7 +53,7 @@ impl<A: Allocator + fmt::Debug> Error for MergePatchError<A> {}
 
 /// The value of a JSON text, for [`merge`](super::merge).
 ///
-/// Where [`from_json`](jsonc_cst::cst::input::from_json) takes the last of equal names, a name that stands twice
+/// Where [`from_json`](jsonc_cst::cst::input::from_json) takes the last of equal names, a name that occurs twice
 /// in an object of the value is an error here. The text is parsed under the options as by `parse_to_ast`, with the
 /// same errors, and its numbers are numbers of these options.
 pub fn merge_patch_from_json<A: Allocator + Copy>(

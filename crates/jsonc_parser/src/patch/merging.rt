@@ -29,7 +29,7 @@ use std::fmt;
 /// Why a patch was not merged.
 #[derive(Debug, Drop)]
 pub enum MergeFault<A: Allocator> {
-    /// This name stands twice in an object of the patch, or in the object of the document that it is looked up in.
+    /// This name occurs twice in an object of the patch, or in the object of the document that it is looked up in.
     RepeatedName(String<A>),
     /// An allocation failed.
     OutOfMemory,
@@ -122,7 +122,7 @@ fn is_there<A: Allocator + Copy>(
     }
 }
 
-// Puts what merging makes of a patch where a pointer leads, unless it stands there.
+// Puts what merging makes of a patch where a pointer leads, unless it is there.
 fn set_value<A: Allocator + Copy>(
     doc: &mut CstRootNode<A>,
     pointer: &Pointer<A>,
@@ -266,7 +266,7 @@ fn merge_members<A: Allocator + Copy>(
     Ok(())
 }
 
-// The fault of a cause. Others than a name that stands twice and a lack of memory do not come of a merge.
+// The fault of a cause. Others than a name that occurs twice and a lack of memory do not come of a merge.
 fn fault_of<A: Allocator>(cause: PatchCause<A>) -> MergeFault<A>
     ensures { TellsFault cause result }
 {
@@ -301,7 +301,7 @@ fn merge_whole<A: Allocator + Copy>(
 /// takes the place of the value, and of an object the members with the value `null` are left out. A value that is there
 /// already, with the same texts of numbers, is not touched. An array is a value as a whole.
 ///
-/// A name that stands twice in an object of the patch, or in the object of the document that it is looked
+/// A name that occurs twice in an object of the patch, or in the object of the document that it is looked
 /// up in, is an error. On an error the document and each of its nodes are as they were.
 ///
 /// A document keeps no options: the numbers of the patch have to be numbers of those that it was parsed with.

@@ -13,7 +13,7 @@ use std::fmt;
 /// One operation of a patch (RFC 6902, 4).
 #[derive(Debug, Drop)]
 pub enum Operation<A: Allocator> {
-    /// Puts a value where a pointer leads: behind the other elements of an array or before one of them, as a
+    /// Puts a value where a pointer leads: after the other elements of an array or before one of them, as a
     /// member of an object, in the place of the one that has the name, or as the document's value.
     Add(Pointer<A>, CstInputValue<A>),
     /// Removes the value that a pointer refers to.

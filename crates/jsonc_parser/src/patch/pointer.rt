@@ -15,7 +15,7 @@ use std::{fmt, mem};
 
 /// A JSON Pointer: tokens that lead from a value to one inside it, each a name or an index.
 ///
-/// It prints as its text: a `/` before each token, in which `~0` stands for `~` and `~1` for `/`.
+/// It prints as its text: a `/` before each token, in which `~0` represents `~`, and `~1` a `/`.
 #[derive(Debug, Drop)]
 pub struct Pointer<A: Allocator> {
     tokens: Vec<String<A>, A>,
@@ -26,7 +26,7 @@ pub struct Pointer<A: Allocator> {
 pub enum PointerError {
     /// The text is not empty, and its first character is no `/`.
     NoLeadingSlash,
-    /// The `~` at this byte has neither `0` nor `1` behind it.
+    /// The `~` at this byte has neither `0` nor `1` after it.
     InvalidEscape(usize),
     /// An allocation failed.
     OutOfMemory,
@@ -69,7 +69,7 @@ impl<A: Allocator + Copy> Pointer<A> {
     /// The pointer of a text.
     ///
     /// The empty text is the pointer without tokens. Any other begins with a `/`, and has `0` or `1`
-    /// behind each `~`.
+    /// after each `~`.
     pub fn parse(alloc: A, text: &str) -> Result<Pointer<A>, PointerError>
         ensures parsed { IfOk result (λ p. pointer_text (tokens_of p) ≡ chars text.now) }
         ensures refused { IfErr result (IsPointerFault (chars text.now)) }
@@ -104,7 +104,7 @@ impl<A: Allocator> Pointer<A> {
         &self.tokens
     }
 
-    // Puts a token behind the others.
+    // Puts a token after the others.
     pub(super) fn push(&mut self, token: String<A>) -> Result<(), AllocError>
         ensures { OnOk result (tokens_of self.new ≡ tokens_of self.old ++ chars_of token ∷ []) }
     {
@@ -122,7 +122,7 @@ impl<A: Allocator> Pointer<A> {
     }
 }
 
-// The tokens of a text behind its first `/`.
+// The tokens of a text after its first `/`.
 fn read_tokens<A: Allocator + Copy>(alloc: A, text: &str) -> Result<Vec<String<A>, A>, PointerError>
     ensures read { IfOk result (λ v. pointer_text (names_of v.items) ≡ 0x2F ∷ chars text.now) }
     ensures fault { IfErr result (IsPointerFault (0x2F ∷ chars text.now)) }
@@ -130,7 +130,7 @@ fn read_tokens<A: Allocator + Copy>(alloc: A, text: &str) -> Result<Vec<String<A
     let mut tokens = Vec::new(alloc);
     let mut token = String::new(alloc);
     let mut tilde = false;
-    // As many bytes were read, and so many stand before a `~` read last, with the first `/`.
+    // As many bytes were read, and so many are before a `~` read last, with the first `/`.
     let mut place = 0;
     for c in text.chars() {
         match read_char(alloc, &mut tokens, &mut token, tilde, place, c) {
@@ -146,7 +146,7 @@ fn read_tokens<A: Allocator + Copy>(alloc: A, text: &str) -> Result<Vec<String<A
     Ok(tokens)
 }
 
-// Reads one more character of a token, or the `/` behind it. The answer is whether it is a `~`, whose
+// Reads one more character of a token, or the `/` after it. The answer is whether it is a `~`, whose
 // second character is to come. The place is that of such a `~` before.
 fn read_char<A: Allocator + Copy>(
     alloc: A,
@@ -182,7 +182,7 @@ fn push<A: Allocator>(token: &mut String<A>, c: char) -> Result<(), PointerError
     }
 }
 
-// Puts a token behind those that ended, and begins another.
+// Puts a token after those that ended, and begins another.
 fn end_token<A: Allocator + Copy>(
     alloc: A,
     tokens: &mut Vec<String<A>, A>,
@@ -212,7 +212,7 @@ impl<A: Allocator> fmt::Display for Pointer<A> {
     }
 }
 
-// Writes a token behind its `/`.
+// Writes a token after its `/`.
 fn write_token<W: fmt::Write>(token: &str, f: &mut fmt::Formatter<W>) -> fmt::Result
     ensures writes { WritesOnOk W.write_str_gives f.old result (encode_utf8_all (token_text (chars token.now))) f.new }
     ensures styled { WritesStyledOnOk W.write_str_gives f.old result (encode_utf8_all (token_text (chars token.now))) f.new }

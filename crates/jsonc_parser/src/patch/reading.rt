@@ -40,7 +40,7 @@ impl<A: Allocator + Copy> Patch<A> {
     /// The patch that a JSON text is.
     ///
     /// The text is an array of operations. Each is an object with the members `op` and `path`, and with `value` or
-    /// `from` where it wants one; other members are ignored. No name may stand twice in an operation, or in an
+    /// `from` where it wants one; other members are ignored. No name may occur twice in an operation, or in an
     /// object in its value. This is one:
     ///
     /// ```text

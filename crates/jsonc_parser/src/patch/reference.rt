@@ -105,7 +105,7 @@ pub(super) fn value_under<A: Allocator>(doc: &CstRootNode<A>, property: usize) -
     Some(node_at(doc.tree(), value))
 }
 
-// The error of a name that stands twice, or of no memory for it.
+// The error of a name that occurs twice, or of no memory for it.
 fn repeated<A: Allocator>(alloc: A, name: &str) -> FindError<A>
     ensures { SaysRepeated (chars name.now) result }
 {
@@ -145,7 +145,7 @@ fn digits_usize(text: &str) -> Option<usize>
     usize::from_str_radix(text, 10).ok()
 }
 
-// Whether a 0 stands first and not alone.
+// Whether a 0 is first and not alone.
 fn is_padded(text: &str) -> bool
     ensures { IsTrue result ↔ ((1 < length text.now) × (slice_index text.now 0 ≡ 0x30)) }
 {
@@ -191,7 +191,7 @@ fn is_hyphen(token: &str) -> bool
 }
 
 // The element of an array before which a token says that another is to come; none of the two where it says
-// behind the last.
+// after the last.
 pub(super) fn element_place<A: Allocator>(
     doc: &CstRootNode<A>,
     node: usize,
@@ -267,9 +267,9 @@ pub(super) fn follow<A: Allocator + Copy>(
 /// From the document's value each token leads on: in an object to the value of the one property of that
 /// name, in an array to the element of that index, which counts from 0 and is written without leading
 /// zeros. None where a step finds no array or object, no such name, or no such element; `-`, which
-/// stands for the element behind the last, leads to none.
+/// represents the element after the last, leads to none.
 ///
-/// A name that stands twice where it is looked up is an error. Memory is allocated only for its text, or
+/// A name that occurs twice where it is looked up is an error. Memory is allocated only for its text, or
 /// to look up a name in an object that has a name with a backslash.
 pub fn find<A: Allocator + Copy>(
     doc: &CstRootNode<A>,
@@ -284,9 +284,9 @@ pub fn find<A: Allocator + Copy>(
 
 /// The value that a pointer refers to, as a value for edits.
 ///
-/// Of equal names in it the last value stands at the first place. None where [`find`] answers none.
+/// Of equal names in it the last value is at the first place. None where [`find`] answers none.
 ///
-/// Memory is allocated only as by [`find`], or for a value that stands there.
+/// Memory is allocated only as by [`find`], or for a value that is there.
 pub fn read<A: Allocator + Copy>(
     doc: &CstRootNode<A>,
     pointer: &Pointer<A>,

@@ -1,4 +1,4 @@
-//! Names that stand twice in an object of a value.
+//! Names that occur twice in an object of a value.
 
 ghost use Rattle.std.specs.Prelude.{chars, IfErr, OnOk};
 ghost use Rattle.jsonc_layout.specs.input.Views.{items_plain, members_plain, plain};
@@ -16,7 +16,7 @@ use std::hash::{BuildHasherDefault, FoldHasher};
 // Names that were seen, each once.
 type Names<'a, A> = IndexSet<&'a str, BuildHasherDefault<FoldHasher>, A>;
 
-// The fault of a name that stands twice, or of no memory for it.
+// The fault of a name that occurs twice, or of no memory for it.
 fn repeated<A: Allocator>(alloc: A, name: &str) -> MergeFault<A>
     ensures { TellsName (chars name.now) result }
 {
@@ -47,7 +47,7 @@ fn see_names<A: Allocator + Copy>(
     Ok(())
 }
 
-// Sees that no name stands twice in an object of an element.
+// Sees that no name occurs twice in an object of an element.
 #[cycle(unique)]
 fn see_elements<A: Allocator + Copy>(
     alloc: A,
@@ -86,7 +86,7 @@ fn see_members<A: Allocator + Copy>(
     Ok(())
 }
 
-/// Sees that no name stands twice in an object of a value.
+/// Sees that no name occurs twice in an object of a value.
 #[cycle(unique)]
 pub(super) fn see_unique_names<A: Allocator + Copy>(
     alloc: A,

@@ -70,7 +70,7 @@ pub(super) fn elements_in<'b, 'a, A: Allocator>(
     }
 }
 
-// The fault of a name that stands twice.
+// The fault of a name that occurs twice.
 fn repeated<A: Allocator>(alloc: A, name: &str) -> OperationFault<A>
     ensures { TellsRepeated (chars name.now) result }
 {
@@ -181,7 +181,7 @@ fn members_of<A: Allocator + Copy>(
     Ok(members)
 }
 
-/// The value, if no name stands twice in an object in it.
+/// The value, if no name occurs twice in an object in it.
 #[cycle(values)]
 pub(super) fn value_of<A: Allocator + Copy>(
     alloc: A,

@@ -13,7 +13,7 @@ use Rattle.jsonc_text.specs.declared.edit.TrailingCommaMode.{TrailingCommaMode}
 use Rattle.jsonc_run.specs.declared.edit.Edit.{Edit}
 use Rattle.jsonc_run.specs.Edits.{PlainEdit, operation_of, set_commas, unsorted, Fits}
 use Rattle.jsonc_run.specs.Named.{IsNamed, Asks}
-use Rattle.jsonc_run.specs.Refusals.{WantsMemoryOrPlace}
+use Rattle.jsonc_run.specs.Refusals.{MayFailWith}
 
 -- what an edit asks for, over plain values; what is sorted comes in this order
 abbrev pub in_order : {A : Type 0} → List ℕ → Edit A → PlainEdit
@@ -30,7 +30,7 @@ pub data EditsTo {A : Type 0} : Document → List (Edit A) → Document → Type
   one_asked : {d m f : Document} {e : Edit A} {es : List (Edit A)} (order : List ℕ) (op : Operation) → HasPlace d e → Asks d.value (in_order order e) op → Run d (op ∷ []) m
       → EditsTo m es f → EditsTo d (e ∷ es) f
 
--- Whatever document the old tree shows: if each number that the edits write is, whole, one of its options, the new tree shows one to which the edits lead.
+-- Whatever document the old tree shows: if its options allow what the edits write, the new tree shows one to which the edits lead.
 abbrev pub EditsTheText : {A : Type 0} → OrderedTree → List (Edit A) → OrderedTree → Type 0
 EditsTheText t edits u = (d : Document) → Shows d t → All (Fits d.options) edits → (e : Document) × Shows e u × EditsTo d edits e
 
@@ -39,14 +39,14 @@ pub data IsBegun {A : Type 0} (next : Edit A) : List Operation → Type 0 where
   nothing : IsBegun next []
   some_commas : (path : List ℕ) {mode : TrailingCommaMode} → operation_of unsorted next ≡ set_commas path mode → IsBegun next (texts.set_commas false path mode ∷ [])
 
--- The first k edits lead from d to m. The next one was refused for memory, or since m has no place for it, and that exactly where m has none. What was done of
+-- The first k edits lead from d to m. The next one was refused, in a sound document, and for want of a place exactly where m has none. What was done of
 -- it leads to e.
 pub record IsStopped {A : Type 0} (d : Document) (edits : List (Edit A)) (k : ℕ) (why : EditError) (e : Document) : Type 0 where
   pub m : Document
   pub made : EditsTo d (take k edits) m
   pub next : Edit A
   pub is_next : slice_get edits k ≡ Some next
-  pub memory_or_place : WantsMemoryOrPlace why
+  pub may_fail : MayFailWith (operation_of unsorted next) why
   pub named : (why ≡ NoSuchPlace) ↔ ¬ (HasPlace m next)
   pub begun : List Operation
   pub is_begun : IsBegun next begun

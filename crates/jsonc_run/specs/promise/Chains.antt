@@ -8,7 +8,7 @@ use Rattle.jsonc_text.specs.Plain.{Plain}
 use Rattle.jsonc_tree.specs.OrderedTree.{OrderedTree, ordered_tree}
 use Rattle.jsonc_tree.specs.Tree.{Node, IsTree}
 use Rattle.jsonc_sound.specs.Documents.{document_of, Shows}
-use Rattle.jsonc_run.specs.Edits.{PlainEdit, EditSteps, IsOfCharacters, NumbersFit}
+use Rattle.jsonc_run.specs.Edits.{PlainEdit, EditSteps, IsOfCharacters, Allows}
 use Rattle.jsonc_run.specs.Steps.{Steps}
 use Rattle.jsonc_run.specs.Written.{options_after}
 use Rattle.jsonc_run.specs.Named.{Asks, IsNamed}
@@ -25,9 +25,9 @@ abbrev pub StepsAreRun : Options → OrderedTree → OrderedTree → Type 0
 StepsAreRun o t u = (w x : Option Plain) (es : List PlainEdit) (ops : List Operation) → Steps o t w es ops u x → All IsOfCharacters es
     → Run (document_of o t w) ops (document_of (options_after o ops) u x) × NamedRun (document_of o t w) es ops (document_of (options_after o ops) u x)
 
--- Whatever document the old nodes show: if each number that the edits write is, whole, one of its options, then the new nodes show one to which the edits lead.
+-- Whatever document the old nodes show: if its options allow what the edits write, then the new nodes show one to which the edits lead.
 abbrev pub Leads : List Node → List PlainEdit → List Node → Type 0
-Leads old es new = (d : Document) → Shows d (ordered_tree old 0) → All (NumbersFit d.options) es
+Leads old es new = (d : Document) → Shows d (ordered_tree old 0) → All (Allows d.options) es
     → (e : Document) × Shows e (ordered_tree new 0) × (ops : List Operation) × Run d ops e × NamedRun d es ops e
 
 -- edits that were made in order lead from each document to the next

@@ -7,12 +7,12 @@ use Rattle.jsonc_tree.specs.OrderedTree.{ordered_tree}
 use Rattle.jsonc_tree.specs.Tree.{Node, content_at, parent_at, IsOver}
 use Rattle.jsonc_sound.specs.Documents.{Shows}
 use Rattle.jsonc_edit.specs.Comments.{comment_at}
-use Rattle.jsonc_run.specs.Edits.{PlainEdit, NumbersFit}
+use Rattle.jsonc_run.specs.Edits.{PlainEdit, Allows}
 use Rattle.jsonc_run.specs.Named.{Asks}
 
--- if the numbers that it writes are numbers of d, the edit leads from d, by the operation that it asks for there, to a document that the nodes show
+-- if the options of d allow what it writes, the edit leads from d, by the operation that it asks for there, to a document that the nodes show
 abbrev pub LeadsTo : Document → PlainEdit → List Node → Type 0
-LeadsTo d asked new = NumbersFit d.options asked → (e : Document) × Shows e (ordered_tree new 0) × (op : Operation) × Asks d.value asked op × Run d (op ∷ []) e
+LeadsTo d asked new = Allows d.options asked → (e : Document) × Shows e (ordered_tree new 0) × (op : Operation) × Asks d.value asked op × Run d (op ∷ []) e
 
 -- whatever document the old nodes show, the edit leads from it to one that the new nodes show
 abbrev pub IsStepOf : PlainEdit → List Node → List Node → Type 0

@@ -1,13 +1,17 @@
 -- Comments that come into a document, said of its text alone.
 use Rattle.std.specs.Prelude.{ℕ, ◌≡◌, List, [], ◌∷◌, ◌++◌}
+use Rattle.jsonc_text.specs.Gaps.{IsComment}
 use Rattle.jsonc_text.specs.Marks.{Mark}
 use Rattle.jsonc_text.specs.Documents.{Document}
+use Rattle.jsonc_text.specs.declared.edit.Place.{Place}
+use Rattle.jsonc_text.specs.declared.edit.Place.TheVariants.{Above, After}
 use Rattle.jsonc_run.specs.texts.Paths.{Entry}
 use Rattle.jsonc_run.specs.texts.Stretches.{IsLineEnd, AreBlanks, InLine, Come}
 
--- Between front and back the comment comes, with blanks before and behind; all before and all behind stays, to the character. The document says the same, and of
--- its literals and comments this one alone has come.
+-- Between front and back the comment, one whole comment, comes, with blanks before and behind; all before and all behind stays, to the character. The document says
+-- the same, and of its literals and comments this one alone has come.
 pub record ComesBetween (comment before behind front back : List ℕ) (d e : Document) : Type 0 where
+  pub whole : IsComment comment []
   pub old_text : d.text ≡ front ++ back
   pub new_text : e.text ≡ front ++ (before ++ (comment ++ (behind ++ back)))
   pub blanks_before : AreBlanks before
@@ -34,3 +38,8 @@ pub data CommentTrail : List ℕ → Type 0 where
 abbrev pub ComesBehind : List ℕ → List ℕ → Document → Document → Type 0
 ComesBehind path comment d e = (front own trail back : List ℕ) × ComesBetween comment (0x20 ∷ []) [] (front ++ (own ++ trail)) back d e
     × CommentTrail trail × Entry path d.options d.text (own ++ (trail ++ back)) (trail ++ back)
+
+-- the comment is inserted above the entry at the path, or after it
+abbrev pub InsertsComment : Place → List ℕ → List ℕ → Document → Document → Type 0
+InsertsComment Above path comment d e = ComesAbove path comment d e
+InsertsComment After path comment d e = ComesBehind path comment d e

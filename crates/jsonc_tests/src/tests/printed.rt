@@ -11,11 +11,14 @@ use std::fmt::Write;
 use std::test::Fail;
 
 /// Why a document was not changed, and what that prints.
-static EDIT_ERRORS: [(EditError, &str); 4] = [
+static EDIT_ERRORS: [(EditError, &str); 7] = [
     (EditError::OutOfMemory, "Out of memory"),
     (EditError::MissingBrackets, "Missing brackets"),
     (EditError::MissingName, "Missing name"),
     (EditError::NoSuchPlace, "No such place"),
+    (EditError::InvalidComment, "Invalid comment"),
+    (EditError::LineContinues, "Line continues after the comment"),
+    (EditError::NotAnEntry, "Not an entry"),
 ];
 
 #[test]

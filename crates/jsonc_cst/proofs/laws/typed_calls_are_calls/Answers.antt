@@ -25,6 +25,9 @@ returns-clause-property g c = calls.property_is_call
 pub returns-clause-renamed : goal.returns-clause-renamed
 returns-clause-renamed g c = calls.renamed_is_call
 
+pub returns-clause-commented : goal.returns-clause-commented
+returns-clause-commented g c = calls.comment_is_call
+
 pub returns-clause-cleared : goal.returns-clause-cleared
 returns-clause-cleared g c = calls.clearing_is_call
 

@@ -1,4 +1,4 @@
--- Values of properties by name: what is answered, what is written, and which nodes stay.
+-- Values of properties by name: which nodes stay, and what is refused.
 use Rattle.std.proofs.Common.{◌≡◌, ℕ, ◌<◌, List, length, Option, Some, None, refl, ap}
 use Rattle.jsonc_text.specs.Options.{Options}
 use Rattle.jsonc_tree.specs.Content as content
@@ -14,10 +14,9 @@ use Rattle.jsonc_text.specs.declared.edit.Over.TheVariants as over
 use Rattle.jsonc_text.specs.declared.edit.Shape.{Shape}
 use Rattle.jsonc_insert.specs.named.Named.{EnsuredFor, EnsureError, NamedEnsured}
 use Rattle.jsonc_edit.specs.set.Shapes.{is_of, empty_of}
-use Rattle.jsonc_insert.proofs.lemmas.named.Writing.{wants_memory, writes_named}
+use Rattle.jsonc_insert.proofs.lemmas.named.Writing.{wants_memory}
 use Rattle.jsonc_cst.specs.typed.Edits.{KeepsDocumentOf}
 use Rattle.jsonc_cst.specs.typed.Removing.{OnlyOutOfMemory}
-use Rattle.jsonc_cst.specs.objects.Named.{NamedIsWritten}
 use Rattle.jsonc_layout.specs.lines.Kinds.{is_array_or_object}
 use Rattle.jsonc_edit.proofs.lemmas.commas.Holders.{holder_path}
 use Rattle.jsonc_run.proofs.Calls.{found_there}
@@ -49,9 +48,6 @@ module _ (old new : List Node) (c : ℕ) (name : List ℕ) (shape : Shape) (tree
   named_elsewhere how answer (found, first, by) = elsewhere_for how found answer first by
 
 module _ (old new : List Node) (c : ℕ) (name : List ℕ) (shape : Shape) (how : Over) (tree : IsTree old) (is : content_at old c ≡ content.object) where
-  pub named_written : (o : Options) (answer : Option ℕ) → NamedEnsured shape how old new c name answer → NamedIsWritten old new o c name shape how
-  named_written o answer e = λ sound texts path at. writes_named o old new path c name shape how answer tree sound at is texts e
-
   pub named_for_memory : (o : Options) (e : EditError) → EnsureError shape how old c name e → OnlyOutOfMemory o old c e
   named_for_memory o e told = λ sound over.
       let place = holder_path o old tree sound c over (ap is_array_or_object is) in

@@ -5,7 +5,7 @@ use Rattle.std.proofs.lemmas.Bool.{cases_lt}
 use Rattle.jsonc_text.specs.Options.{Options}
 use Rattle.jsonc_text.specs.Plain.{Plain}
 use Rattle.jsonc_tree.specs.Content as content
-use Rattle.jsonc_tree.specs.OrderedTree.{ordered_tree, Top}
+use Rattle.jsonc_tree.specs.OrderedTree.{Top}
 use Rattle.jsonc_tree.specs.Tree.{Node, children_at, content_at, IsTree}
 use Rattle.jsonc_tree.proofs.Order.{parent_there}
 use Rattle.jsonc_layout.specs.nodes.Siblings.{elements_at}
@@ -22,10 +22,7 @@ use Rattle.jsonc_insert.proofs.lemmas.members.RowReplaced.{prepared_all}
 use Rattle.jsonc_insert.proofs.lemmas.members.Numbering.{changes_one_row, takes_number}
 use Rattle.jsonc_insert.proofs.lemmas.members.PastTheEnd.{past_the_end}
 use Rattle.jsonc_insert.proofs.lemmas.members.SpreadObjects.{wants_memory_alone}
-use Rattle.jsonc_insert.proofs.lemmas.elements.NamedProperties.{inserts_member}
-use Rattle.jsonc_insert.proofs.lemmas.properties.InsertedRows.{properties_come_at}
 use Rattle.jsonc_cst.specs.typed.Removing.{OnlyOutOfMemory}
-use Rattle.jsonc_cst.specs.objects.Members.{PutsNamedAtItsPath}
 use Rattle.jsonc_edit.proofs.lemmas.commas.Holders.{holder_path}
 use Rattle.jsonc_cst.proofs.lemmas.typed.HandlesKept.{Stays, stay_both, stay_kept, stay_spliced}
 
@@ -49,11 +46,6 @@ module _ (old new : List Node) (c i : ℕ) (name : List ℕ) (v : Plain) (m : �
       stay_both old e.ready new (stay_kept old e.ready ready.keeps) (stay_spliced e.ready new _ _ _ _ e.put)
 
 module _ (old new : List Node) (c : ℕ) (name : List ℕ) (v : Plain) (tree : IsTree old) (is : content_at old c ≡ content.object) where
-  pub put_written : (o : Options) (i m : ℕ) → PropertyPut old new c i name v m → PutsNamedAtItsPath o old new c i name v
-  put_written o i m e = λ sound texts may path at.
-      let come = properties_come_at o old new path c i name v m tree sound at is e in
-      record { come = come; is = inserts_member o path i name v (ordered_tree old 0) (ordered_tree new 0) come sound texts may }
-
   pub put_for_memory : (o : Options) (e : EditError) → e ≡ refusal old c → OnlyOutOfMemory o old c e
   put_for_memory o e told = λ sound over.
       let place = holder_path o old tree sound c over (ap is_array_or_object is) in

@@ -14,7 +14,7 @@ use Rattle.jsonc_cst.specs.Document.{nodes_of, tree_of, HasNode}
 use Rattle.jsonc_cst.specs.Nodes.{object_node}
 use Rattle.jsonc_cst.specs.objects.Calls.{IsNamedEnsured}
 use Rattle.jsonc_cst.specs.typed.Edits.{Unchanged}
-use Rattle.jsonc_cst.proofs.lemmas.objects.ByName.{named_elsewhere, named_for_memory, named_stays, named_written}
+use Rattle.jsonc_cst.proofs.lemmas.objects.ByName.{named_elsewhere, named_for_memory, named_stays}
 use Rattle.jsonc_cst.proofs.lemmas.objects.Steps.{ensured_step}
 use Rattle.jsonc_cst.proofs.lemmas.typed.HandlesKept.{nodes_stay, stay_kept}
 use Rattle.jsonc_cst.proofs.lemmas.typed.PropertyValues.{held_object}
@@ -28,7 +28,6 @@ module _ {A T : Type 0} (old new : CstRootNode A) (shape : Shape) (how : Over) (
       → IsNamedEnsured old new shape how (object_node x) name number is_said (Ok a)
   named_ensured a texts ensured there = record {
     ensured = ensured;
-    written = λ o. named_written (nodes_of old) (nodes_of new) x.number name shape how old.tree.tree is o (number a) ensured;
     step = ensured_step (nodes_of old) (nodes_of new) old.tree.tree new.tree.tree x.number name texts is shape how (number a) ensured;
     detached = named_elsewhere (nodes_of old) (nodes_of new) x.number name shape old.tree.tree new.tree.tree held.0 how (number a) ensured;
     error = tt;
@@ -44,7 +43,6 @@ module _ {A T : Type 0} (old new : CstRootNode A) (shape : Shape) (how : Over) (
       → IsNamedEnsured old new shape how (object_node x) name number is_said (Err e)
   named_refused e told kept same = record {
     ensured = tt;
-    written = λ o. tt;
     step = tt;
     detached = tt;
     error = told;

@@ -1,15 +1,11 @@
 -- Elements that come in an order: what becomes of a document and its nodes.
 use Rattle.std.proofs.Common.{ℕ, List, IsTrue, inl, inr}
 use Rattle.std.proofs.lemmas.Bool.{cases_Bool}
-use Rattle.jsonc_text.specs.Options.{Options}
-use Rattle.jsonc_tree.specs.OrderedTree.{ordered_tree}
 use Rattle.jsonc_tree.specs.Tree.{Node, content_at, IsTree}
 use Rattle.jsonc_layout.specs.lines.Kinds.{is_array_or_object}
 use Rattle.jsonc_sort.specs.Rearranged.{moves, IsOrderIn, Rearranged}
 use Rattle.jsonc_sort.specs.Sorting.{Headers}
-use Rattle.jsonc_sort.proofs.AtPaths.{sorts_at}
 use Rattle.jsonc_sort.proofs.Orders.{few_stay}
-use Rattle.jsonc_sort.proofs.SortedDocuments.{keeps_outside, sorts_document}
 use Rattle.jsonc_edit.specs.Paths.{IsAt}
 use Rattle.jsonc_run.specs.promise.Steps.{IsStep}
 use Rattle.jsonc_run.specs.Edits.{rearrange}
@@ -17,20 +13,15 @@ use Rattle.jsonc_edit.proofs.lemmas.commas.Holders.{holder_path}
 use Rattle.jsonc_run.proofs.lemmas.promise.NodePlaces.{made_step}
 use Rattle.jsonc_run.proofs.DetachedNodes.{order_elsewhere}
 use Rattle.jsonc_cst.proofs.lemmas.typed.HandlesKept.{Stays, stay_both, stay_kept, stay_same, stay_spliced}
-use Rattle.jsonc_cst.specs.sorting.Sorted.{IsPlaced, SortsAtItsPath}
+use Rattle.jsonc_cst.specs.sorting.Sorted.{IsPlaced}
 
 module _ (old new : List Node) (c : ℕ) (h : Headers) (order : List ℕ) (before : IsTree old) (after : IsTree new) (holds : IsTrue (is_array_or_object (content_at old c))) (all : IsOrderIn old c order) where
-  written : Rearranged old new c h order → (o : Options) → SortsAtItsPath o old new c order
-  written made o = λ sound path at.
-      let s = sorts_at o old new path c h order before after sound at holds all made in
-      record { sorted = s; outside = keeps_outside s; says = sorts_document o (ordered_tree old 0) (ordered_tree new 0) path order sound s }
-
   step : Rearranged old new c h order → IsStep IsAt (λ path. rearrange path h order) old new c
   step made =
       made_step old new before after IsAt (λ path. rearrange path h order) c (λ path. tt) (λ o sound over. holder_path o old before sound c over holds) (λ path over at. (c, (at, holds), (all, made)))
 
   pub is_placed : Rearranged old new c h order → IsPlaced old new c h order
-  is_placed made = record { all = all; made = made; few = λ less. few_stay old new c h order less all made; detached = order_elsewhere old before new c h order after made; written = written made; step = step made }
+  is_placed made = record { all = all; made = made; few = λ less. few_stay old new c h order less all made; detached = order_elsewhere old before new c h order after made; step = step made }
 
   pub rearranged_stays : Rearranged old new c h order → Stays old new
   rearranged_stays made =

@@ -10,10 +10,11 @@ use Rattle.jsonc_edit.proofs.lemmas.set.Renaming.{named_child}
 use Rattle.jsonc_text.specs.declared.edit.TrailingCommaMode.{TrailingCommaMode}
 use Rattle.jsonc_edit.specs.remove.Removed.{TakesElement}
 use Rattle.jsonc_text.specs.declared.edit.Over.{Over}
+use Rattle.jsonc_text.specs.declared.edit.Place.{Place}
 use Rattle.jsonc_text.specs.declared.edit.Shape.{Shape}
 use Rattle.jsonc_insert.specs.named.Named.{NamedEnsured}
 use Rattle.jsonc_sort.specs.Sorting.{Headers}
-use Rattle.jsonc_run.specs.Parents.{all_stay, boolean_set, children_leave, comes_on_lines, comment_leaves, commas_set, element_comes, element_leaves, gives_way, gives_way_raw, leaf_leaves, leaf_set, property_comes, property_gives_way, some_commas_set, sorted, IsCallOf}
+use Rattle.jsonc_run.specs.Parents.{all_stay, boolean_set, children_leave, comes_on_lines, comment_leaves, commas_set, element_comes, element_leaves, gives_way, gives_way_raw, leaf_leaves, leaf_set, property_comes, property_gives_way, some_commas_set, sorted, comment_comes, IsCallOf}
 use Rattle.jsonc_run.proofs.Calls.{call_of, call_of_same, found_or_created, found_or_set, held_given, held_last, held_or_set, named_ensured, root_first, root_given}
 use Rattle.jsonc_cst.specs.declared.cst.CstRootNode.{CstRootNode}
 use Rattle.jsonc_cst.specs.declared.cst.node.CstNode.{CstNode}
@@ -22,19 +23,21 @@ use Rattle.jsonc_cst.specs.declared.typed.removing.Removal.{Removal}
 use Rattle.jsonc_cst.specs.declared.typed.removing.Removal.TheVariants.{Clearing, OfComment, OfElement, OfLeaf}
 use Rattle.jsonc_cst.specs.Document.{nodes_of, HasNode}
 use Rattle.jsonc_cst.specs.Nodes.{container_of, number_of, object_prop_node}
-use Rattle.jsonc_cst.specs.objects.Members.{HasNamedComeIn}
+use Rattle.jsonc_cst.specs.objects.Members.{HasInsertedProperty}
 use Rattle.jsonc_cst.specs.objects.Named.{HasEnsured}
 use Rattle.jsonc_cst.specs.sorting.Sorted.{IsPlaced}
 use Rattle.jsonc_cst.specs.typed.AsCalls.{number_taken, IsCallIf, IsRootCallIf, LoneRemovalIsCall, RemovalIsCall}
 use Rattle.jsonc_cst.specs.typed.Commas.{CommasSet, CommasSetInPart}
+use Rattle.jsonc_cst.specs.typed.Commenting.{HasCommentInserted}
 use Rattle.jsonc_cst.specs.typed.Edits.{is_name_in, IsReplacedBy, IsReplacedAs, IsUntouched, Unchanged}
-use Rattle.jsonc_cst.specs.typed.Inserting.{HasComeIn}
+use Rattle.jsonc_cst.specs.typed.Inserting.{HasInsertedElement}
 use Rattle.jsonc_cst.specs.typed.Lines.{HasSpreadOut}
 use Rattle.jsonc_cst.specs.typed.Raw.{HasBecome}
 use Rattle.jsonc_cst.specs.typed.Removing.{removal_of, IsCleared, IsLooseFor, IsTakenBy, RemovedAlone}
 use Rattle.jsonc_cst.specs.typed.Renaming.{HasBeenRenamed}
 use Rattle.jsonc_cst.specs.typed.Setting.{FindsOrCreates, FindsOrSets, HasBecomeProperty, RootBecomes, ValueBecomes}
 use Rattle.jsonc_cst.specs.typed.Values.{HasSetBoolean, HeldBecomes, NodeValueIs, NowHolds}
+use Rattle.jsonc_cst.proofs.lemmas.typed.Commented.{beside}
 use Rattle.jsonc_cst.proofs.lemmas.typed.PropertyValues.{held_property}
 
 -- what the nodes are, by numbers
@@ -106,6 +109,11 @@ module _ {A : Type 0} (old new : CstRootNode A) where
         is = gives_way_raw given.0 (number_of now) (Plain.string name) given.2;
       }
 
+  pub comment_is_call : (node : CstNode) (place : Place) (text : List ℕ) → IsCallIf old new node (HasCommentInserted old new node place text)
+  comment_is_call node place text = λ tree held came.
+      let b = beside (nodes_of old) (nodes_of new) place (number_of node) text came.0 came.1 in
+      call_of (nodes_of old) (nodes_of new) tree (number_of node) held.0 (comment_comes (number_of node) b.0 b.2 b.3 b.1 b.4)
+
   pub clearing_is_call : IsRootCallIf old new (IsCleared (nodes_of old) (nodes_of new))
   clearing_is_call = λ tree s. cleared (nodes_of old) (nodes_of new) tree s
 
@@ -138,10 +146,10 @@ module _ {A : Type 0} (old new : CstRootNode A) where
     pub lines_are_call : IsCallIf old new node (HasSpreadOut old new node)
     lines_are_call = λ tree held made. call_of (nodes_of old) (nodes_of new) tree (number_of node) held.0 (comes_on_lines (number_of node) made)
 
-    pub element_is_call : (i : ℕ) (v : Plain) (now : CstNode) → IsCallIf old new node (HasComeIn old new node i v now)
+    pub element_is_call : (i : ℕ) (v : Plain) (now : CstNode) → IsCallIf old new node (HasInsertedElement old new node i v now)
     element_is_call i v now = λ tree held put. call_of (nodes_of old) (nodes_of new) tree (number_of node) held.0 (element_comes (number_of node) i (number_of now) v put)
 
-    pub named_is_call : (i : ℕ) (name : List ℕ) (v : Plain) (now : CstObjectProp) → IsCallIf old new node (HasNamedComeIn old new node i name v now)
+    pub named_is_call : (i : ℕ) (name : List ℕ) (v : Plain) (now : CstObjectProp) → IsCallIf old new node (HasInsertedProperty old new node i name v now)
     named_is_call i name v now = λ tree held put. call_of (nodes_of old) (nodes_of new) tree (number_of node) held.0 (property_comes (number_of node) i now.number name v put)
 
     pub ensured_is_call : (shape : Shape) (how : Over) (name : List ℕ) (x : Option ℕ) → IsCallIf old new node (HasEnsured old new shape how node name x)

@@ -19,8 +19,9 @@ use Rattle.jsonc_cst.specs.typed.Values.{NowHolds}
 use Rattle.jsonc_cst.proofs.lemmas.typed.CompleteNodes.{value_for_memory}
 use Rattle.jsonc_cst.proofs.lemmas.typed.DetachedNodes.{found_elsewhere}
 use Rattle.jsonc_cst.proofs.lemmas.typed.HandlesKept.{nodes_stay, stay_kept}
-use Rattle.jsonc_cst.proofs.lemmas.typed.Marked.{held_empty_marked}
-use Rattle.jsonc_cst.proofs.lemmas.typed.PropertyValues.{found_is_child, found_is_written, held_property, stay_found}
+use Rattle.jsonc_cst.proofs.lemmas.typed.Around.{replaced_around}
+use Rattle.jsonc_cst.proofs.lemmas.typed.Marked.{replaced_marked}
+use Rattle.jsonc_cst.proofs.lemmas.typed.PropertyValues.{found_is_child, held_property, other_replaced, stay_found}
 use Rattle.jsonc_cst.proofs.lemmas.typed.Steps.{held_shape_step}
 
 module _ {A T : Type 0} (old new : CstRootNode A) (shape : Shape) (p : CstObjectProp) (held : HasNode old (object_prop_node p)) (answered : T → CstNode) where
@@ -31,10 +32,11 @@ module _ {A T : Type 0} (old new : CstRootNode A) (shape : Shape) (p : CstObject
       → IsValueEnsured old new shape (object_prop_node p) answered (Ok x)
   value_ensured x named found there =
       let m : ℕ = number_of (answered x) in
+      let replaced = other_replaced (is_of shape) (empty_of shape) (nodes_of old) (nodes_of new) p.number (value_at (nodes_of old) p.number) m found in
       record {
         value = found;
-        written = λ o. found_is_written (is_of shape) (empty_of shape) (nodes_of old) (nodes_of new) p.number o old.tree.tree (value_at (nodes_of old) p.number) m found;
-        marked = held_empty_marked (nodes_of old) (nodes_of new) (empty_of shape) old.tree.tree (is_of shape) p.number (value_at (nodes_of old) p.number) m found;
+        marked = λ n was other. replaced_marked (nodes_of old) (nodes_of new) (empty_of shape) old.tree.tree n m (replaced n was other);
+        around = λ n was other. replaced_around (nodes_of old) (nodes_of new) (empty_of shape) old.tree.tree n m (replaced n was other);
         step = held_shape_step (nodes_of old) (nodes_of new) old.tree.tree new.tree.tree p.number shape m named found is;
         detached = found_elsewhere (nodes_of old) (nodes_of new) old.tree.tree new.tree.tree p.number held.0 is (empty_of shape) (is_of shape) (value_at (nodes_of old) p.number) m refl found;
         named = named;
@@ -53,8 +55,8 @@ module _ {A T : Type 0} (old new : CstRootNode A) (shape : Shape) (p : CstObject
       → Unchanged old new → tree_of new ≡ tree_of old → IsValueEnsured old new shape (object_prop_node p) answered (Err e)
   value_refused e told missing kept same = record {
     value = tt;
-    written = λ o. tt;
     marked = tt;
+    around = tt;
     step = tt;
     detached = tt;
     named = tt;

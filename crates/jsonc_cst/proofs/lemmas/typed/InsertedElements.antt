@@ -5,7 +5,6 @@ use Rattle.std.proofs.lemmas.Bool.{cases_lt}
 use Rattle.jsonc_text.specs.Options.{Options}
 use Rattle.jsonc_text.specs.Plain.{Plain}
 use Rattle.jsonc_tree.specs.Content as content
-use Rattle.jsonc_tree.specs.OrderedTree.{ordered_tree}
 use Rattle.jsonc_tree.specs.Tree.{Node, children_at, content_at, IsTree}
 use Rattle.jsonc_tree.proofs.Order.{parent_there}
 use Rattle.jsonc_layout.specs.nodes.Siblings.{elements_at}
@@ -20,10 +19,7 @@ use Rattle.jsonc_insert.specs.Planned.{has_brackets}
 use Rattle.jsonc_insert.proofs.Numbering.{changes_one_row, takes_number}
 use Rattle.jsonc_insert.proofs.ElementsInTree.{few_elements}
 use Rattle.jsonc_insert.proofs.PastTheEnd.{past_the_end}
-use Rattle.jsonc_insert.proofs.lemmas.elements.InsertedValues.{elements_come_at}
 use Rattle.jsonc_insert.proofs.lemmas.elements.Containers.{wants_memory_alone}
-use Rattle.jsonc_insert.proofs.lemmas.elements.Written.{inserts_element}
-use Rattle.jsonc_cst.specs.typed.Inserting.{PutsAtItsPath}
 use Rattle.jsonc_cst.specs.typed.Removing.{OnlyOutOfMemory}
 use Rattle.jsonc_cst.proofs.lemmas.typed.HandlesKept.{Stays, stay_both, stay_kept, stay_spliced}
 
@@ -41,11 +37,6 @@ module _ (old new : List Node) (c i : ℕ) (v : Plain) (m : ℕ) (tree : IsTree 
   put_stays = stay_both old e.ready new (stay_kept old e.ready e.prepared.keeps) (stay_spliced e.ready new _ _ _ _ e.put)
 
 module _ (old new : List Node) (c : ℕ) (v : Plain) (tree : IsTree old) (is : content_at old c ≡ content.array) where
-  pub put_written : (o : Options) (i m : ℕ) → ElementPut old new c i v m → PutsAtItsPath o old new c i v
-  put_written o i m e = λ sound may path at.
-      let come = elements_come_at o old new path c i v m tree sound at is e in
-      record { come = come; is = inserts_element o path i v (ordered_tree old 0) (ordered_tree new 0) come sound may }
-
   pub put_for_memory : (o : Options) (e : EditError) → e ≡ refusal old c → OnlyOutOfMemory o old c e
   put_for_memory o e told = λ sound over.
       let place = holder_path o old tree sound c over (ap is_array_or_object is) in

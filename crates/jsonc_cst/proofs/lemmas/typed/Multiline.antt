@@ -3,23 +3,19 @@ use Rattle.std.proofs.Common.{◌≡◌, ℕ, Bool, true, false, not, List, leng
 use Rattle.std.proofs.lemmas.Bool.{cases_Bool}
 use Rattle.jsonc_text.specs.Options.{Options}
 use Rattle.jsonc_tree.specs.Building.{Keeps}
-use Rattle.jsonc_tree.specs.OrderedTree.{ordered_tree}
 use Rattle.jsonc_tree.specs.Tree.{Node, content_at, IsTree}
 use Rattle.jsonc_layout.specs.lines.Kinds.{is_array_or_object}
 use Rattle.jsonc_text.specs.declared.edit.EditError.{EditError}
 use Rattle.jsonc_text.specs.declared.edit.EditError.TheVariants.{OutOfMemory, MissingBrackets, MissingName, NoSuchPlace, InvalidComment, LineContinues, NotAnEntry}
 use Rattle.jsonc_edit.proofs.lemmas.commas.Holders.{holder_path}
 use Rattle.jsonc_edit.specs.multiline.Multiline.{has_line_end, IsUnspread, MadeMultiline}
-use Rattle.jsonc_edit.proofs.lemmas.multiline.Documents.{spread_at}
 use Rattle.jsonc_edit.proofs.lemmas.multiline.LineEnds.{has_end, has_its_brackets}
-use Rattle.jsonc_edit.proofs.lemmas.multiline.SameDocument.{keeps_document}
 use Rattle.jsonc_cst.specs.declared.cst.CstRootNode.{CstRootNode}
 use Rattle.jsonc_cst.specs.declared.cst.node.CstNode.{CstNode}
 use Rattle.jsonc_cst.specs.Document.{nodes_of, tree_of}
 use Rattle.jsonc_cst.specs.Nodes.{number_of}
 use Rattle.jsonc_cst.specs.typed.Calls.{IsPutOnLines}
 use Rattle.jsonc_cst.specs.typed.Edits.{Unchanged}
-use Rattle.jsonc_cst.specs.typed.Lines.{SpreadsAtItsPath}
 use Rattle.jsonc_cst.specs.typed.Removing.{OnlyOutOfMemory}
 use Rattle.jsonc_cst.proofs.lemmas.typed.DetachedNodes.{spread_elsewhere}
 use Rattle.jsonc_cst.proofs.lemmas.typed.HandlesKept.{Stays, nodes_stay, stay_both, stay_kept, stay_same, stay_spliced}
@@ -31,15 +27,6 @@ contradicts true h k = let wrong : false ≡ true = k in cc
 contradicts false h k = let wrong : false ≡ true = h in cc
 
 module _ (old new : List Node) (n : ℕ) (before : IsTree old) (after : IsTree new) (holds : IsTrue (is_array_or_object (content_at old n))) where
-  written_so : (o : Options) → MadeMultiline old new n → SpreadsAtItsPath o old new n
-  written_so o made = λ sound path at.
-      let spread = spread_at o old new path n before after sound at holds made in
-      record { spread = spread; same = keeps_document o (ordered_tree old 0) (ordered_tree new 0) path sound spread }
-
-  pub lines_written : {T E : Type 0} (o : Options) (r : Result T E) → OnOk r (MadeMultiline old new n) → OnOk r (SpreadsAtItsPath o old new n)
-  lines_written o (Ok x) made = written_so o made
-  lines_written o (Err e) made = tt
-
   pub on_lines : {T E : Type 0} (r : Result T E) → OnOk r (MadeMultiline old new n) → OnOk r (IsTrue (has_line_end new n))
   on_lines (Ok x) made = has_end old new n before made
   on_lines (Err e) made = tt
@@ -77,7 +64,6 @@ pub put_on_lines : {A : Type 0} (old new : CstRootNode A) (node : CstNode) → I
     → OnErr r (Unchanged old new) → OnErr r (tree_of new ≡ tree_of old) → IsPutOnLines old new node r
 put_on_lines old new node holds r made told kept same = record {
   made = made;
-  written = λ o. lines_written (nodes_of old) (nodes_of new) (number_of node) old.tree.tree new.tree.tree holds o r made;
   step = ok_then r (λ spread. spread_step (nodes_of old) (nodes_of new) old.tree.tree new.tree.tree (number_of node) spread holds) made;
   lines = on_lines (nodes_of old) (nodes_of new) (number_of node) old.tree.tree new.tree.tree holds r made;
   detached = spread_elsewhere (nodes_of old) old.tree.tree (nodes_of new) (number_of node) new.tree.tree r made;

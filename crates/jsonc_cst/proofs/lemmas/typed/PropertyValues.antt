@@ -1,6 +1,5 @@
 -- The value of a property that was set or found, and a truth value that was set: every node that was there is there still.
 use Rattle.std.proofs.Common.{◌≡◌, ℕ, ◌<◌, Bool, true, false, List, length, Option, Some, None, Result, Ok, Err, OnErr, OnOk, IfNone, IfSome, refl, ap, subst, sym, ◌∙◌, arith}
-use Rattle.jsonc_text.specs.Options.{Options}
 use Rattle.jsonc_text.specs.Plain.{Plain}
 use Rattle.jsonc_tree.specs.Building.{Keeps}
 use Rattle.jsonc_tree.specs.Changes.{Appends}
@@ -13,16 +12,13 @@ use Rattle.jsonc_layout.specs.from_input.Laid.{laid}
 use Rattle.jsonc_layout.specs.from_input.Layout.{Layout}
 use Rattle.jsonc_edit.specs.Reading.{layout_for, IsReplaced}
 use Rattle.jsonc_edit.specs.Replacing.{ReplacedBy}
-use Rattle.jsonc_edit.specs.Written.{Writes}
 use Rattle.jsonc_edit.proofs.ReplacedChildren.{put_parent}
-use Rattle.jsonc_edit.proofs.ReplacedValues.{replaced_written}
 use Rattle.jsonc_edit.proofs.TakingOut.{parents_spaced}
 use Rattle.jsonc_edit.specs.set.Booleans.{is_boolean, BooleanSet}
 use Rattle.jsonc_edit.specs.set.Kinds.{KeptOrReplaced}
 use Rattle.jsonc_edit.specs.set.PropertyValues.{HeldOrSet, LastValue}
 use Rattle.jsonc_edit.proofs.lemmas.set.BooleanSetting.{boolean_of}
 use Rattle.jsonc_edit.proofs.lemmas.set.PropertyValue.{held_child}
-use Rattle.jsonc_edit.proofs.lemmas.set.WrittenBoolean.{writes_boolean}
 use Rattle.jsonc_cst.specs.declared.cst.node.CstArray.{CstArray}
 use Rattle.jsonc_cst.specs.declared.cst.node.CstBooleanLit.{CstBooleanLit}
 use Rattle.jsonc_cst.specs.declared.cst.node.CstNode.{CstNode}
@@ -30,8 +26,8 @@ use Rattle.jsonc_cst.specs.declared.cst.node.CstObject.{CstObject}
 use Rattle.jsonc_cst.specs.declared.cst.node.CstObjectProp.{CstObjectProp}
 use Rattle.jsonc_cst.specs.Nodes.{array_node, boolean_lit_node, object_node, object_prop_node, typed, IsNodeOf}
 use Rattle.jsonc_cst.specs.typed.Edits.{NodesStillThere}
-use Rattle.jsonc_cst.specs.typed.Values.{BooleanIsWritten, HeldBecomes}
-use Rattle.jsonc_cst.proofs.lemmas.typed.HandlesKept.{Stays, nodes_stay, of_some, replaced_there, stay_both, stay_kept, stay_replaced, stay_spaced}
+use Rattle.jsonc_cst.specs.typed.Values.{HeldBecomes}
+use Rattle.jsonc_cst.proofs.lemmas.typed.HandlesKept.{Stays, nodes_stay, replaced_there, stay_both, stay_kept, stay_replaced, stay_spaced}
 use Rattle.jsonc_cst.proofs.lemmas.typed.Leaves.{leaf_stays}
 use Rattle.jsonc_cst.proofs.lemmas.typed.Roots.{kept_is, kept_stays}
 
@@ -127,20 +123,15 @@ pub held_becomes : (old new : List Node) (p : ℕ) (v : Plain) (o : Option ℕ) 
 held_becomes old new p v None m r l = l
 held_becomes old new p v (Some n) m r l = r
 
-pub held_is_written : (o : Options) (old new : List Node) (v : Plain) (found : Option ℕ) (m : ℕ) → IfSome found (λ n. Writes o old new n m v) → (n : ℕ) → found ≡ Some n → Writes o old new n m v
-held_is_written o old new v found m w = λ n e. of_some (λ k. Writes o old new k m v) found n e w
-
 -- an array or object that was found, or has been set
 module _ (kind : content.Content → Bool) (v : Plain) (old new : List Node) (p : ℕ) where
   pub stay_found : (o : Option ℕ) (m : ℕ) → HeldOrSet kind v old new p o m → Stays old new
   stay_found None m l = stay_last old new p v m l
   stay_found (Some n) m r = kept_stays kind v old new n m (kind (content_at old n)) r
 
-  -- where another value stood, what was set for it is written
-  pub found_is_written : (o : Options) → IsTree old → (found : Option ℕ) (m : ℕ) → HeldOrSet kind v old new p found m → (n : ℕ) → found ≡ Some n → kind (content_at old n) ≡ false → Writes o old new n m v
-  found_is_written o tree found m r n e other =
-      replaced_written o old new n m v tree
-      (subst (λ b. KeptOrReplaced b v old new n m) other (subst (λ w. HeldOrSet kind v old new p w m) e r))
+  -- a value of another kind has been replaced
+  pub other_replaced : (found : Option ℕ) (m : ℕ) → HeldOrSet kind v old new p found m → (n : ℕ) → found ≡ Some n → kind (content_at old n) ≡ false → IsReplaced old new n v m
+  other_replaced found m r n e other = subst (λ b. KeptOrReplaced b v old new n m) other (subst (λ w. HeldOrSet kind v old new p w m) e r)
 
 -- it is of its kind
 module _ (kind : content.Content → Bool) (v : Plain) (what : content.Content) (made : (l : Layout) → (laid l v).content ≡ what)
@@ -162,7 +153,3 @@ module _ (old new : List Node) (n : ℕ) (b : Bool) (there : n < length old) (is
   pub boolean_or_kept : {T E : Type 0} (r : Result T E) → OnOk r (BooleanSet old new n b) → OnErr r (Keeps (length old) old new) → NodesStillThere old new
   boolean_or_kept (Ok x) set kept = boolean_stays set
   boolean_or_kept (Err e) set kept = nodes_stay old new (stay_kept old new kept)
-
-  pub boolean_is_written : {T E : Type 0} (o : Options) → IsTree old → (r : Result T E) → OnOk r (BooleanSet old new n b) → OnOk r (BooleanIsWritten old new o n b)
-  boolean_is_written o tree (Ok x) set = λ path sound at. writes_boolean o old new path n b tree sound at is set
-  boolean_is_written o tree (Err e) set = tt

@@ -11,7 +11,7 @@ use Rattle.jsonc_layout.specs.nodes.Properties.{lacks_name_at}
 use Rattle.jsonc_edit.specs.set.Names.{IsRenamed, RenameError}
 use Rattle.jsonc_edit.proofs.Elements.{Some_same}
 use Rattle.jsonc_edit.proofs.lemmas.set.RenamedPlace.{has_new_name}
-use Rattle.jsonc_edit.proofs.lemmas.set.RenamedProperty.{is_marked, stays_around, writes_name}
+use Rattle.jsonc_edit.proofs.lemmas.set.RenamedProperty.{is_marked, stays_around}
 use Rattle.jsonc_edit.proofs.lemmas.set.Renaming.{named_child}
 use Rattle.jsonc_run.proofs.DetachedNodes.{out_down, raw_elsewhere}
 use Rattle.jsonc_cst.specs.declared.cst.CstRootNode.{CstRootNode}
@@ -57,7 +57,6 @@ module _ {A : Type 0} (old new : CstRootNode A) (p : CstObjectProp) (held : HasN
       record {
         renamed = given;
         step = renamed_step (nodes_of old) (nodes_of new) old.tree.tree new.tree.tree p.number m name characters given (held_property (nodes_of old) p held);
-        written = λ o path c i sound at is element texts. writes_name o (nodes_of old) (nodes_of new) path c i p.number m name old.tree.tree sound at is element texts given;
         marked = λ n told over texts. is_marked (nodes_of old) (nodes_of new) p.number m name old.tree.tree given n told over texts;
         around = stays_around (nodes_of old) (nodes_of new) p.number m name old.tree.tree given;
         detached = elsewhere (nodes_of old) (nodes_of new) old.tree.tree new.tree.tree p.number m name given;
@@ -75,7 +74,6 @@ module _ {A : Type 0} (old new : CstRootNode A) (p : CstObjectProp) (held : HasN
   refused e told same = record {
     renamed = tt;
     step = tt;
-    written = λ o. tt;
     marked = tt;
     around = tt;
     detached = tt;

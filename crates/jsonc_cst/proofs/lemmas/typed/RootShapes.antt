@@ -10,11 +10,11 @@ use Rattle.jsonc_cst.specs.Nodes.{number_of}
 use Rattle.jsonc_cst.specs.Readings.{value_under}
 use Rattle.jsonc_cst.specs.typed.SetCalls.{IsRootCreated, IsRootEnsured}
 use Rattle.jsonc_cst.specs.typed.Setting.{FindsOrCreates, FindsOrSets}
-use Rattle.jsonc_cst.proofs.lemmas.typed.Around.{created_around, set_around}
+use Rattle.jsonc_cst.proofs.lemmas.typed.Around.{replaced_around}
 use Rattle.jsonc_cst.proofs.lemmas.typed.Found.{created_found, set_found, stands_as}
 use Rattle.jsonc_cst.proofs.lemmas.typed.HandlesKept.{nodes_stay}
-use Rattle.jsonc_cst.proofs.lemmas.typed.Marked.{created_marked, created_written, empty_bare, empty_writable, set_marked, set_written}
-use Rattle.jsonc_cst.proofs.lemmas.typed.Roots.{stay_created, stay_found}
+use Rattle.jsonc_cst.proofs.lemmas.typed.Marked.{replaced_marked}
+use Rattle.jsonc_cst.proofs.lemmas.typed.Roots.{other_replaced, stay_created, stay_found}
 use Rattle.jsonc_cst.proofs.lemmas.typed.Steps.{created_step, set_step}
 
 module _ {A T : Type 0} (old new : CstRootNode A) (shape : Shape) (node : T → CstNode) where
@@ -22,10 +22,10 @@ module _ {A T : Type 0} (old new : CstRootNode A) (shape : Shape) (node : T → 
   abbrev number : Option T → Option ℕ
   number answer = option_map (λ x. number_of (node x)) answer
 
-  stands_if : (answer : Option T) → FindsOrCreates (nodes_of old) (nodes_of new) shape (number answer) → IfSome answer (λ x. HasNode new (node x))
+  value_if : (answer : Option T) → FindsOrCreates (nodes_of old) (nodes_of new) shape (number answer) → IfSome answer (λ x. HasNode new (node x))
       → IfSome answer (λ x. value_under new 0 ≡ Some (node x))
-  stands_if None found there = tt
-  stands_if (Some x) found there =
+  value_if None found there = tt
+  value_if (Some x) found there =
       stands_as (nodes_of new) (number_of (node x)) (node x)
       (created_found (is_of shape) (empty_of shape) (nodes_of old) (nodes_of new) old.tree.tree new.tree.tree (value_at (nodes_of old) 0) (number_of (node x)) refl found)
       refl there
@@ -34,11 +34,8 @@ module _ {A T : Type 0} (old new : CstRootNode A) (shape : Shape) (node : T → 
       → IsRootCreated old new shape node (Ok answer)
   root_created answer found there = record {
     value = found;
-    written = λ p. created_written p (is_of shape) (empty_of shape) (empty_writable shape p) (empty_bare shape) (nodes_of old) (nodes_of new) old.tree.tree (value_at (nodes_of old) 0) (number answer) refl found;
-    marked = λ p. created_marked p (is_of shape) (empty_of shape) (empty_writable shape p) (empty_bare shape) (nodes_of old) (nodes_of new) old.tree.tree (value_at (nodes_of old) 0) (number answer) refl found;
-    around = λ p. created_around (nodes_of old) (nodes_of new) (empty_of shape) old.tree.tree (is_of shape) p (value_at (nodes_of old) 0) (number answer) refl found;
     step = created_step (nodes_of old) (nodes_of new) old.tree.tree new.tree.tree shape (number answer) found;
-    stands = stands_if answer found there;
+    is_value = value_if answer found there;
     in_document = there;
     handles = nodes_stay (nodes_of old) (nodes_of new) (stay_created (is_of shape) (empty_of shape) (nodes_of old) (nodes_of new) (value_at (nodes_of old) 0) (number answer) found);
     memory = tt;
@@ -50,13 +47,13 @@ module _ {A T : Type 0} (old new : CstRootNode A) (shape : Shape) (node : T → 
   pub root_ensured : (x : T) → FindsOrSets (nodes_of old) (nodes_of new) shape (number_of (node x)) → HasNode new (node x) → IsRootEnsured old new shape node (Ok x)
   root_ensured x found there =
       let m : ℕ = number_of (node x) in
+      let replaced = other_replaced (is_of shape) (empty_of shape) (nodes_of old) (nodes_of new) (value_at (nodes_of old) 0) m found in
       record {
         value = found;
-        written = λ p. set_written p (is_of shape) (empty_of shape) (empty_writable shape p) (empty_bare shape) (nodes_of old) (nodes_of new) old.tree.tree (value_at (nodes_of old) 0) m refl found;
-        marked = λ p. set_marked p (is_of shape) (empty_of shape) (empty_writable shape p) (empty_bare shape) (nodes_of old) (nodes_of new) old.tree.tree (value_at (nodes_of old) 0) m refl found;
-        around = λ p. set_around (nodes_of old) (nodes_of new) (empty_of shape) old.tree.tree (is_of shape) p (value_at (nodes_of old) 0) m refl found;
+        marked = λ n was other. replaced_marked (nodes_of old) (nodes_of new) (empty_of shape) old.tree.tree n m (replaced n was other);
+        around = λ n was other. replaced_around (nodes_of old) (nodes_of new) (empty_of shape) old.tree.tree n m (replaced n was other);
         step = set_step (nodes_of old) (nodes_of new) old.tree.tree new.tree.tree shape m found;
-        stands = stands_as (nodes_of new) m (node x) (set_found (is_of shape) (empty_of shape) (nodes_of old) (nodes_of new) old.tree.tree new.tree.tree (value_at (nodes_of old) 0) m refl found) refl there;
+        is_value = stands_as (nodes_of new) m (node x) (set_found (is_of shape) (empty_of shape) (nodes_of old) (nodes_of new) old.tree.tree new.tree.tree (value_at (nodes_of old) 0) m refl found) refl there;
         in_document = there;
         handles = nodes_stay (nodes_of old) (nodes_of new) (stay_found (is_of shape) (empty_of shape) (nodes_of old) (nodes_of new) (value_at (nodes_of old) 0) m found);
         memory = tt;

@@ -1,26 +1,20 @@
 -- The nodes that set a document's value, or a property: they are there, of their kind, and every other node stays.
-use Rattle.std.proofs.Common.{◌≡◌, ℕ, ◌<◌, ◌++◌, Bool, true, false, inl, inr, List, ◌∷◌, length, get_or, Option, Some, None, IfSome, IfNone, cond, refl, ap, ◌∙◌, arith, length-append}
+use Rattle.std.proofs.Common.{◌≡◌, ℕ, ◌<◌, ◌++◌, Bool, true, false, inl, inr, List, ◌∷◌, length, get_or, Option, Some, None, IfSome, IfNone, cond, refl, ap, subst, ◌∙◌, arith, length-append}
 use Rattle.std.proofs.Math.Seq.{get_or-append_seam}
 use Rattle.std.proofs.lemmas.Bool.{cases_lt, false≢true}
 use Rattle.std.proofs.lemmas.List.{get_or_past}
-use Rattle.jsonc_text.specs.Options.{Options}
 use Rattle.jsonc_text.specs.Plain.{Plain}
 use Rattle.jsonc_tree.specs.Content.{Content}
 use Rattle.jsonc_tree.specs.OrderedTree.{Top}
-use Rattle.jsonc_tree.specs.Tree.{Node, nowhere, content_at, IsTree}
-use Rattle.jsonc_layout.specs.nodes.Properties.{value_at}
+use Rattle.jsonc_tree.specs.Tree.{Node, nowhere, content_at}
 use Rattle.jsonc_layout.specs.from_input.Layout.{Layout}
 use Rattle.jsonc_layout.specs.from_input.Laid.{laid}
 use Rattle.jsonc_edit.specs.Reading.{layout_for, IsReplaced}
-use Rattle.jsonc_edit.specs.Written.{Writes}
 use Rattle.jsonc_edit.specs.set.Giving.{IsPropertyReplaced}
 use Rattle.jsonc_edit.specs.set.Kinds.{is_array, is_object, FoundOrCreated, FoundOrSet, KeptOrReplaced}
 use Rattle.jsonc_edit.specs.set.RootSet.{FirstValue}
-use Rattle.jsonc_edit.proofs.lemmas.set.FirstValueSet.{gives_first_value}
-use Rattle.jsonc_edit.proofs.lemmas.set.WrittenProperty.{writes_property}
-use Rattle.jsonc_cst.specs.declared.cst.node.CstNode.{CstNode}
-use Rattle.jsonc_cst.specs.Nodes.{array_node, number_of, object_node, typed, typed_at}
-use Rattle.jsonc_cst.specs.typed.Setting.{PropertyBecomes, PropertyIsWritten, ValueBecomes, ValueIsWritten}
+use Rattle.jsonc_cst.specs.Nodes.{array_node, object_node, typed, typed_at}
+use Rattle.jsonc_cst.specs.typed.Setting.{ValueBecomes}
 use Rattle.jsonc_cst.proofs.lemmas.typed.HandlesKept.{Stays, stay_both, stay_kept, stay_replaced, stay_same, stay_spaced, stay_spliced, replaced_there}
 
 -- where a first value has come
@@ -58,11 +52,6 @@ pub becomes : (old new : List Node) (v : Plain) (o : Option ℕ) (m : ℕ) → I
 becomes old new v None m r f = f
 becomes old new v (Some n) m r f = r
 
-pub is_written : (p : Options) (old new : List Node) (v : Plain) (o : Option ℕ) (m : ℕ) → IsTree old → value_at old 0 ≡ o
-    → IfSome o (λ n. Writes p old new n m v) → IfNone o (FirstValue old new v m) → ValueIsWritten p old new v o m
-is_written p old new v None m tree e r f = λ sound writable. gives_first_value p old new v m tree sound e writable f
-is_written p old new v (Some n) m tree e r f = r
-
 -- an array or object that was found, or has been set
 module _ (kind : Content → Bool) (v : Plain) (old new : List Node) where
   pub stay_created : (o answer : Option ℕ) → FoundOrCreated kind v old new o answer → Stays old new
@@ -76,6 +65,10 @@ module _ (kind : Content → Bool) (v : Plain) (old new : List Node) where
   pub stay_found : (o : Option ℕ) (m : ℕ) → FoundOrSet kind v old new o m → Stays old new
   stay_found None m f = stay_first old new v m f
   stay_found (Some n) m r = kept_stays n m (kind (content_at old n)) r
+
+  -- a value of another kind has been replaced
+  pub other_replaced : (found : Option ℕ) (m : ℕ) → FoundOrSet kind v old new found m → (n : ℕ) → found ≡ Some n → kind (content_at old n) ≡ false → IsReplaced old new n v m
+  other_replaced found m r n e other = subst (λ b. KeptOrReplaced b v old new n m) other (subst (λ w. FoundOrSet kind v old new w m) e r)
 
 -- it is of its kind
 module _ (kind : Content → Bool) (v : Plain) (content : Content) (made : (l : Layout) → (laid l v).content ≡ content)
@@ -135,9 +128,3 @@ module _ (old new : List Node) (n : ℕ) (name : List ℕ) (v : Plain) (m : ℕ)
   stay_property (c, said, g) =
       stay_both old g.ready new (stay_kept old g.ready g.prepared.keeps)
       (stay_both g.ready g.spaced new (stay_spaced _ g.ready g.spaced g.spaces) (stay_spliced g.spaced new _ _ _ _ g.place.replaces.spliced))
-
--- and what that makes of a sound document
-pub property_is_written : (o : Options) (old new : List Node) (n : ℕ) (name : List ℕ) (v : Plain) (now : CstNode) → IsTree old
-    → PropertyBecomes old new n name v now → PropertyIsWritten old new o n name v now
-property_is_written o old new n name v now tree r = λ path c i sound at is element texts writable.
-    writes_property o old new path c i n (number_of now) name v tree sound at is element texts writable r

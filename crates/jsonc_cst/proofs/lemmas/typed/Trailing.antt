@@ -4,10 +4,10 @@ use Rattle.jsonc_text.specs.Options.{Options}
 use Rattle.jsonc_tree.specs.Tree.{Node, IsTree}
 use Rattle.jsonc_text.specs.declared.edit.TrailingCommaMode.{TrailingCommaMode}
 use Rattle.jsonc_edit.specs.commas.InTurn.{AreSetInTurn}
-use Rattle.jsonc_edit.proofs.lemmas.commas.Documents.{keeps_document, keeps_in_part, sets_all, sets_once}
+use Rattle.jsonc_edit.proofs.lemmas.commas.Documents.{sets_all, sets_once}
 use Rattle.jsonc_edit.proofs.lemmas.commas.InOrder.{KeepsContainers}
 use Rattle.jsonc_edit.proofs.lemmas.commas.ContainersKept.{set_keeps}
-use Rattle.jsonc_cst.specs.typed.Commas.{CommasSet, CommasSetInPart, CommasStand, CommasStay, CommasWritten}
+use Rattle.jsonc_cst.specs.typed.Commas.{CommasSet, AllCommasSet, CommasStay}
 use Rattle.jsonc_cst.proofs.lemmas.typed.HandlesKept.{Stays, stay_both, stay_same}
 
 longer : (m n : ℕ) → (n ≡ m) ⊎ (n ≡ suc m) → m ≤ n
@@ -22,14 +22,8 @@ stay_in_turn mode [] old new tree same = stay_same old new same
 stay_in_turn mode (n ∷ ns) old new tree (now, set, after, rest) = stay_both old now new (stay_containers old now (set_keeps mode old now tree n set)) (stay_in_turn mode ns now new after rest)
 
 module _ (mode : TrailingCommaMode) (old new : List Node) (n : ℕ) (tree : IsTree old) where
-  pub commas_written : (o : Options) → CommasSet old new mode n → CommasWritten old new mode o n
-  commas_written o set = λ sound over. keeps_document mode o old n (record { tree = tree; over = over; sound = sound }) new set
-
-  pub part_written : (o : Options) → CommasSetInPart old new mode n → CommasWritten old new mode o n
-  part_written o part = λ sound over. keeps_in_part mode o old n (record { tree = tree; over = over; sound = sound }) new part
-
-  pub commas_stand : (o : Options) → CommasSet old new mode n → CommasStand old new mode o n
-  commas_stand o set = λ sound over. sets_all mode o old n (record { tree = tree; over = over; sound = sound }) new set
+  pub all_commas_set : (o : Options) → CommasSet old new mode n → AllCommasSet old new mode o n
+  all_commas_set o set = λ sound over. sets_all mode o old n (record { tree = tree; over = over; sound = sound }) new set
 
   pub commas_stay : (o : Options) → CommasSet old new mode n → CommasStay old new mode o n
   commas_stay o set = λ sound over later again. sets_once mode o old new n later (record { tree = tree; over = over; sound = sound }) set again

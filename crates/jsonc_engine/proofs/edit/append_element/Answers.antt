@@ -12,16 +12,16 @@ returns-in-Ok-None-clause-error g c = λ o sound.
 pub returns-in-Ok-clause-appended : goal.returns-in-Ok-clause-appended
 returns-in-Ok-clause-appended g c = λ o sound.
     let made = nodes_of c.array_value_or_create.new.self in
-    appends_last o (nodes_of c.args.document.now) made c.array_value_or_create.new.self.tree.tree c.in-Ok-Some.array (array_stands (nodes_of c.array_value_or_create.new.self) c.in-Ok-Some.field-0 c.in-Ok-Some.array c.in-Ok-Some.field-0-is c.in-Ok-Some.ensures.stands)
-    (c.in-Ok-Some.ensures.written o) sound (nodes_of c.append.new.doc) (plain c.args.value)
+    appends_last o (nodes_of c.args.document.now) made c.array_value_or_create.new.self.tree.tree c.in-Ok-Some.array (array_stands (nodes_of c.array_value_or_create.new.self) c.in-Ok-Some.field-0 c.in-Ok-Some.array c.in-Ok-Some.field-0-is c.in-Ok-Some.ensures.is_value)
+    (nodes_of c.append.new.doc) (plain c.args.value)
     (said_of c.in-Ok-Some.field-0 c.in-Ok-Some.array (λ (f : Option CstArray). CreatesArray (nodes_of c.args.document.now) made f) c.in-Ok-Some.field-0-is c.in-Ok-Some.ensures.value)
-    (c.in-Ok-Some.ensures.around o) c.in-Ok.field-0 c.in-Ok.ensures.put (c.in-Ok.ensures.written o)
+    c.in-Ok-Some.ensures.step c.in-Ok.field-0 c.in-Ok.ensures.put c.in-Ok.ensures.step
 
 pub returns-in-Err-append-clause-error : goal.returns-in-Err-append-clause-error
 returns-in-Err-append-clause-error g c = λ o sound.
     let made = nodes_of c.array_value_or_create.new.self in
-    array_memory o (nodes_of c.args.document.now) made c.array_value_or_create.new.self.tree.tree c.in-Ok-Some.array (array_stands (nodes_of c.array_value_or_create.new.self) c.in-Ok-Some.field-0 c.in-Ok-Some.array c.in-Ok-Some.field-0-is c.in-Ok-Some.ensures.stands)
-    (c.in-Ok-Some.ensures.written o) sound c.args.document.now.tree.tree
+    array_memory o (nodes_of c.args.document.now) made c.array_value_or_create.new.self.tree.tree c.in-Ok-Some.array (array_stands (nodes_of c.array_value_or_create.new.self) c.in-Ok-Some.field-0 c.in-Ok-Some.array c.in-Ok-Some.field-0-is c.in-Ok-Some.ensures.is_value)
+    c.args.document.now.tree.tree sound
     (said_of c.in-Ok-Some.field-0 c.in-Ok-Some.array (λ (f : Option CstArray). CreatesArray (nodes_of c.args.document.now) made f) c.in-Ok-Some.field-0-is c.in-Ok-Some.ensures.value)
     c.in-Err-append.error (c.in-Err-append.ensures.memory o)
 

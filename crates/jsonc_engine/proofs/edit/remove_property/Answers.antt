@@ -32,4 +32,4 @@ pub returns-in-Ok-clause-removed : goal.returns-in-Ok-clause-removed
 returns-in-Ok-clause-removed g c = λ o sound.
     let first = first_found c.args.document.now c.in-Some.object (chars c.args.name.now) c.in_ok-property.field-0 c.in-Some-2.property c.in_ok-property.ensures.found c.in-Some-2.is in
     one_loses o (nodes_of c.args.document.now) (nodes_of c.remove.new.doc) c.args.document.now.tree.tree (chars c.args.name.now) c.in-Some.object
-    (sym c.object_value.ensures.value ∙ c.in-Some.is) c.in-Some-2.property.number first c.in-Ok.ensures.removed (c.in-Ok.ensures.written o sound)
+    (sym c.object_value.ensures.value ∙ c.in-Some.is) c.in-Some-2.property.number first c.in-Ok.ensures.removed c.in-Ok.ensures.step

@@ -1,5 +1,5 @@
 -- Why the first property of a name is not as it is to be: nothing else is told where memory is.
-use Rattle.std.proofs.Common.{◌≡◌, ◌⊎◌, ¬◌, ℕ, Bool, true, false, cond, inl, inr, List, Option, Some, None, Result, Ok, Err, IfErr, refl, sym, subst, ◌∙◌}
+use Rattle.std.proofs.Common.{◌≡◌, ◌⊎◌, ℕ, Bool, true, false, cond, inl, inr, List, Option, Some, None, Result, Ok, Err, IfErr, refl, sym, subst, ◌∙◌}
 use Rattle.jsonc_tree.specs.Tree.{Node, children_at}
 use Rattle.jsonc_layout.specs.nodes.Names.{FirstInObject, HoldsEscapedName}
 use Rattle.jsonc_layout.specs.nodes.Properties.{lacks_name_at}

@@ -43,7 +43,7 @@ use Rattle.jsonc_parser.specs.declared.patch.making.PatchCause.TheVariants as ca
 use Rattle.jsonc_parser.specs.declared.patch.reference.FindError.{FindError}
 use Rattle.jsonc_parser.specs.declared.patch.reference.FindError.TheVariants as errors
 use Rattle.jsonc_text.specs.declared.edit.EditError.TheVariants.{OutOfMemory}
-use Rattle.jsonc_parser.proofs.lemmas.paths.Calls.{for_memory}
+use Rattle.jsonc_parser.proofs.lemmas.paths.Calls.{for_memory, IsNoRemark}
 use Rattle.jsonc_parser.proofs.lemmas.patch.Evaluation.{refers_changed}
 use Rattle.jsonc_parser.proofs.lemmas.patch.Nodes.{array_content, array_value, its, object_content, there}
 use Rattle.jsonc_parser.proofs.lemmas.patch.Unique.{unique_collapse}
@@ -174,15 +174,15 @@ module _ {A : Type 0} where
 
   -- an edit that has its place is refused for memory alone
   module _ (doc : CstRootNode A) (tree : IsTree (nodes_of doc)) where
-    pub refusal_memory : (e : Edit A) (c : PatchCause A) → IsRefusal doc e c → (d : Document) → Shows d (tree_of doc) → IsNamed d.value (comment_count (tree_of doc)) (operation_of unsorted e) → IsNoMemory c
-    refusal_memory e (causes.Edit why) told d shown named = for_memory d (nodes_of doc) (operation_of unsorted e) why tree shown named told
-    refusal_memory e causes.NoTarget told d shown named = absurd told
-    refusal_memory e (causes.RepeatedName name) told d shown named = absurd told
-    refusal_memory e causes.IntoItself told d shown named = absurd told
-    refusal_memory e causes.NotEqual told d shown named = absurd told
+    pub refusal_memory : (e : Edit A) → IsNoRemark (operation_of unsorted e) → (c : PatchCause A) → IsRefusal doc e c → (d : Document) → Shows d (tree_of doc) → IsNamed d.value (comment_count (tree_of doc)) (operation_of unsorted e) → IsNoMemory c
+    refusal_memory e none (causes.Edit why) told d shown named = for_memory d (nodes_of doc) (operation_of unsorted e) why tree shown named none told
+    refusal_memory e none causes.NoTarget told d shown named = absurd told
+    refusal_memory e none (causes.RepeatedName name) told d shown named = absurd told
+    refusal_memory e none causes.IntoItself told d shown named = absurd told
+    refusal_memory e none causes.NotEqual told d shown named = absurd told
 
     pub unset : (v : CstInputValue A) (c : PatchCause A) → IsRefusal doc (SetRoot v) c → FailsWhatShown doc (value.add [] (plain v)) c
-    unset v c told d shown = memory_cause (value.add [] (plain v)) d.value c (refusal_memory (SetRoot v) c told d shown tt)
+    unset v c told d shown = memory_cause (value.add [] (plain v)) d.value c (refusal_memory (SetRoot v) (λ h. h, λ h. h) c told d shown tt)
 
     module _ (path : Vec ℕ A) (tokens : List (List ℕ)) (n : ℕ) (at : IsAt (nodes_of doc) path.items n) (d : Document) (shown : Shows d (tree_of doc)) (w : RefersToNode d (nodes_of doc) tokens n) where
       over : w.path ≡ path.items
@@ -192,26 +192,26 @@ module _ {A : Type 0} where
       stands = (w.value, w.is, subst (λ p. Changed w.v w.v p w.value w.value) over (refers_changed w.refers))
 
       pub memory_to_remove : (c : PatchCause A) → IsRefusal doc (Remove path) c → IsNoMemory c
-      memory_to_remove c told = refusal_memory (Remove path) c told d shown (w.v, stands)
+      memory_to_remove c told = refusal_memory (Remove path) (λ h. h, λ h. h) c told d shown (w.v, stands)
 
       module _ (v : CstInputValue A) (c : PatchCause A) where
         pub memory_to_replace : IsRefusal doc (Replace path v) c → IsNoMemory c
-        memory_to_replace told = refusal_memory (Replace path v) c told d shown (w.v, stands)
+        memory_to_replace told = refusal_memory (Replace path v) (λ h. h, λ h. h) c told d shown (w.v, stands)
 
         module _ (kind : content_at (nodes_of doc) n ≡ content.array) where
           items_there : (vs : _) × StandsAt (array vs) path.items d.value
           items_there = let a = array_value d.options (content_at (nodes_of doc) n) (row_below (nodes_of doc) n) w.v kind w.has in (a.0, subst (λ x. StandsAt x path.items d.value) a.1 stands)
 
           pub memory_to_insert : (index : ℕ) → IsRefusal doc (InsertElement path index v) c → IsNoMemory c
-          memory_to_insert index told = refusal_memory (InsertElement path index v) c told d shown items_there
+          memory_to_insert index told = refusal_memory (InsertElement path index v) (λ h. h, λ h. h) c told d shown items_there
 
           pub memory_to_append : IsRefusal doc (AppendElement path v) c → IsNoMemory c
-          memory_to_append told = refusal_memory (AppendElement path v) c told d shown items_there
+          memory_to_append told = refusal_memory (AppendElement path v) (λ h. h, λ h. h) c told d shown items_there
 
         pub memory_for_member : content_at (nodes_of doc) n ≡ content.object → (name : String A) → IsRefusal doc (AppendProperty path name v) c → IsNoMemory c
         memory_for_member kind name told =
             let m = its d (nodes_of doc) tree shown tokens n w (chars_of name) kind in
-            refusal_memory (AppendProperty path name v) c told d shown (m.0, subst (λ x. StandsAt x path.items d.value) m.1 stands)
+            refusal_memory (AppendProperty path name v) (λ h. h, λ h. h) c told d shown (m.0, subst (λ x. StandsAt x path.items d.value) m.1 stands)
 
     module _ (path : Vec ℕ A) (tokens : List (List ℕ)) (leads : LeadsOver doc tokens path.items) (c : PatchCause A) where
       pub removes_not : IsRefusal doc (Remove path) c → FailsWhatShown doc (value.remove tokens) c

@@ -108,7 +108,7 @@ module _ {A : Type 0} (doc : CstRootNode A) (tree : IsTree (nodes_of doc)) (node
       let over : w.path ≡ path.items = path_once (nodes_of doc) tree w.path path.items (number_of node) w.at at in
       let there : Refers o.1.0 (r.tokens ++ r.beside.last ∷ []) w.path w.v = subst (λ l. Refers o.1.0 l w.path w.v) r.beside.first (subst (λ k. Refers k from w.path w.v) (same_value w.value o.1.0 d.value w.is o.1.1) w.refers) in
       let has : HasPropertyAt path.items d.value = subst (λ p. HasPropertyAt p d.value) over (property_there d.value r.beside.last o.1.1 o.1.3 there) in
-      memory_cause (value.move from to) d.value c (refusal_memory doc tree (RenameProperty path name) c told d shown has)
+      memory_cause (value.move from to) d.value c (refusal_memory doc tree (RenameProperty path name) (λ h. h, λ h. h) c told d shown has)
 
   pub pathless_name : (last : List ℕ) → IsPathless doc node c → FailsToRename doc node last c
   pathless_name last is from to r d shown = memory_cause (value.move from to) d.value c (has_path doc from node r.refers c is d shown)

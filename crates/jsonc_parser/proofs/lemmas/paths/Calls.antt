@@ -10,12 +10,12 @@ use Rattle.jsonc_tree.specs.Tree.{Node, IsTree}
 use Rattle.jsonc_sound.specs.Documents.{document_of, Shows}
 use Rattle.jsonc_edit.specs.Writing.{IsOfNumbers}
 use Rattle.jsonc_text.specs.declared.edit.EditError.{EditError}
-use Rattle.jsonc_text.specs.declared.edit.EditError.TheVariants.{OutOfMemory, MissingBrackets, MissingName, NoSuchPlace}
+use Rattle.jsonc_text.specs.declared.edit.EditError.TheVariants.{OutOfMemory, NoSuchPlace, InvalidComment, LineContinues}
 use Rattle.jsonc_edit.proofs.OneValue.{document_once}
 use Rattle.jsonc_text.specs.declared.edit.Over.{Over}
-use Rattle.jsonc_run.specs.Edits.{PlainEdit, EditStep, first_made, none_made, IsOfCharacters, NumbersFit}
+use Rattle.jsonc_run.specs.Edits.{PlainEdit, EditStep, first_made, none_made, IsOfCharacters, Allows}
 use Rattle.jsonc_run.specs.Named.{comment_count, IsNamed, Asks}
-use Rattle.jsonc_run.specs.Refusals.{FailsWith}
+use Rattle.jsonc_run.specs.Refusals.{FailsWith, InsertsLineAfter, InsertsNoComment}
 use Rattle.jsonc_run.specs.Steps.{Step, Steps, no_step, one_step}
 use Rattle.jsonc_run.specs.Written.{options_after, IsChanged}
 use Rattle.jsonc_run.proofs.NamedPlaces.{tells_unnamed}
@@ -35,18 +35,32 @@ nest_numbers : (o : Options) (names : List (List ℕ)) (v : Plain) → IsOfNumbe
 nest_numbers o [] v h = h
 nest_numbers o (name ∷ names) v h = (nest_numbers o names v h, tt)
 
-put_numbers : (o : Options) {which : Which} {v : Plain} {over : Over} {w : Option Plain} {names : List (List ℕ)} {e : PlainEdit} → IsPutBy which v over w names e → IsOfNumbers o v → NumbersFit o e
+put_numbers : (o : Options) {which : Which} {v : Plain} {over : Over} {w : Option Plain} {names : List (List ℕ)} {e : PlainEdit} → IsPutBy which v over w names e → IsOfNumbers o v → Allows o e
 put_numbers o sets_root m = m
 put_numbers o {v} (sets_first {name = name} {names = names}) m = nest_numbers o (name ∷ names) v m
 put_numbers o (sets_value l) m = m
 put_numbers o {v} (appends front rest {name = name} l lacks) m = nest_numbers o rest v m
 put_numbers o {v} (replaces front rest {name = name} l non how) m = nest_numbers o (name ∷ rest) v m
 
-drop_numbers : (o : Options) {w : Option Plain} {names : List (List ℕ)} {e : PlainEdit} → IsDroppedBy w names e → NumbersFit o e
+drop_numbers : (o : Options) {w : Option Plain} {names : List (List ℕ)} {e : PlainEdit} → IsDroppedBy w names e → Allows o e
 drop_numbers o (removes l) = tt
 
 drop_characters : {w : Option Plain} {names : List (List ℕ)} {e : PlainEdit} → IsDroppedBy w names e → IsOfCharacters e
 drop_characters (removes l) = tt
+
+-- it is no comment that is inserted
+abbrev pub IsNoRemark : PlainEdit → Type 0
+IsNoRemark e = (InsertsNoComment e → ⊥) × (InsertsLineAfter e → ⊥)
+
+put_no_remark : {which : Which} {v : Plain} {over : Over} {w : Option Plain} {names : List (List ℕ)} {e : PlainEdit} → IsPutBy which v over w names e → IsNoRemark e
+put_no_remark sets_root = (λ h. h, λ h. h)
+put_no_remark sets_first = (λ h. h, λ h. h)
+put_no_remark (sets_value l) = (λ h. h, λ h. h)
+put_no_remark (appends front rest l lacks) = (λ h. h, λ h. h)
+put_no_remark (replaces front rest l non how) = (λ h. h, λ h. h)
+
+drop_no_remark : {w : Option Plain} {names : List (List ℕ)} {e : PlainEdit} → IsDroppedBy w names e → IsNoRemark e
+drop_no_remark (removes l) = (λ h. h, λ h. h)
 
 -- What one edit leads to: a document that the new tree shows, and whose value the operation makes that the edit asks for.
 record LedTo (d : Document) (asked : PlainEdit) (new : List Node) : Type 0 where
@@ -62,14 +76,14 @@ one_step_only : {o : Options} {t u : OrderedTree} {w y : Option Plain} {e : Plai
 one_step_only (one_step {op = op} named asks s (no_step says)) e = (op, refl, asks, s)
 one_step_only (one_step named asks s (one_step {e = k} {es = ks} n a t rest)) e = let wrong : k ∷ ks ≡ [] = e in cc
 
-module _ (d : Document) (asked : PlainEdit) (old new : List Node) (tree : IsTree old) (after : IsTree new) (shown : Shows d (ordered_tree old 0)) (characters : IsOfCharacters asked) (numbers : NumbersFit d.options asked)
+module _ (d : Document) (asked : PlainEdit) (old new : List Node) (tree : IsTree old) (after : IsTree new) (shown : Shows d (ordered_tree old 0)) (characters : IsOfCharacters asked) (numbers : Allows d.options asked)
     (made : EditStep old asked new) where
   led : LedTo d asked new
   led =
       let t : OrderedTree = ordered_tree old 0 in
       let u : OrderedTree = ordered_tree new 0 in
       let all : All IsOfCharacters (asked ∷ []) = All-cons IsOfCharacters asked [] characters (All-nil IsOfCharacters) in
-      let chain = makes_steps d.options old new (asked ∷ []) tree (first_made made after none_made) shown.sound all (All-cons (NumbersFit d.options) asked [] numbers (All-nil (NumbersFit d.options))) in
+      let chain = makes_steps d.options old new (asked ∷ []) tree (first_made made after none_made) shown.sound all (All-cons (Allows d.options) asked [] numbers (All-nil (Allows d.options))) in
       let one = one_step_only chain.3 refl in
       let op : Operation = one.0 in
       let step = one.3 in
@@ -106,14 +120,15 @@ drops_by_one_edit d names op old new tree after shown by made =
     (op, by, made, l.e, l.shown, record { op = l.op; asked = l.asks; edited = l.edited; dropped = dropped; elsewhere = λ path u k. dropped_same dropped path u k })
 
 -- what is named is refused for memory alone
-pub for_memory : (d : Document) (old : List Node) (op : PlainEdit) (why : EditError) → IsTree old → Shows d (ordered_tree old 0) → IsNamed d.value (comment_count (ordered_tree old 0)) op → FailsWith old op why → why ≡ OutOfMemory
-for_memory d old op OutOfMemory tree shown named told = refl
-for_memory d old op NoSuchPlace tree shown named told = absurd ((tells_unnamed old d.options tree shown.sound op NoSuchPlace told d.value shown.value).0 refl named)
-for_memory d old op MissingBrackets tree shown named told = absurd (refused_so d.options old tree shown.sound op MissingBrackets told)
-for_memory d old op MissingName tree shown named told = absurd (refused_so d.options old tree shown.sound op MissingName told)
+pub for_memory : (d : Document) (old : List Node) (op : PlainEdit) (why : EditError) → IsTree old → Shows d (ordered_tree old 0) → IsNamed d.value (comment_count (ordered_tree old 0)) op → IsNoRemark op → FailsWith old op why → why ≡ OutOfMemory
+for_memory d old op OutOfMemory tree shown named other told = refl
+for_memory d old op NoSuchPlace tree shown named other told = absurd ((tells_unnamed old d.options tree shown.sound op NoSuchPlace told d.value shown.value).0 refl named)
+for_memory d old op InvalidComment tree shown named other told = absurd (other.0 (refused_so d.options old tree shown.sound op InvalidComment told))
+for_memory d old op LineContinues tree shown named other told = absurd (other.1 (refused_so d.options old tree shown.sound op LineContinues told))
+for_memory d old op why tree shown named other told = absurd (refused_so d.options old tree shown.sound op why told)
 
 pub puts_but_for_memory : (which : Which) (d : Document) (v : Plain) (over : Over) (names : List (List ℕ)) (op : PlainEdit) (old : List Node) (why : EditError) → PutsUnlessOutOfMemory which d v over names op old why
-puts_but_for_memory which d v over names op old why tree shown by = for_memory d old op why tree shown ((puts_by_it which v over d.value names op by).0 (comment_count (ordered_tree old 0)))
+puts_but_for_memory which d v over names op old why tree shown by = for_memory d old op why tree shown ((puts_by_it which v over d.value names op by).0 (comment_count (ordered_tree old 0))) (put_no_remark by)
 
 pub drops_but_for_memory : (d : Document) (names : List (List ℕ)) (op : PlainEdit) (old : List Node) (why : EditError) → DropsButForMemory d names op old why
-drops_but_for_memory d names op old why tree shown by = for_memory d old op why tree shown ((drops_by_it d.value names op by).0 (comment_count (ordered_tree old 0)))
+drops_but_for_memory d names op old why tree shown by = for_memory d old op why tree shown ((drops_by_it d.value names op by).0 (comment_count (ordered_tree old 0))) (drop_no_remark by)

@@ -17,7 +17,7 @@ use Rattle.jsonc_text.specs.declared.edit.TrailingCommaMode.{TrailingCommaMode}
 use Rattle.jsonc_text.specs.declared.edit.EditError.TheVariants.{NoSuchPlace}
 use Rattle.jsonc_run.specs.declared.edit.Edit.{Edit}
 use Rattle.jsonc_run.specs.declared.edit.Edit.TheVariants.{Sort}
-use Rattle.jsonc_run.specs.Edits.{PlainEdit, Sorting, operation_of, set_some_commas, unsorted, EditSteps, first_made, none_made, Fits, IsOfCharacters, NumbersFit}
+use Rattle.jsonc_run.specs.Edits.{PlainEdit, Sorting, operation_of, set_some_commas, unsorted, EditSteps, first_made, none_made, Fits, IsOfCharacters, Allows}
 use Rattle.jsonc_run.specs.Named.{comment_count, IsNamed, Asks}
 use Rattle.jsonc_run.specs.Refusals.{IsLeft, FailsWith, as_it_was, set_in_part}
 use Rattle.jsonc_run.proofs.NamedPlaces.{tells_unnamed}
@@ -69,12 +69,12 @@ left_so now new next _ m tree after shown asked (as_it_was kept same) =
     record { e = m; shown = subst (Shows m) (sym same) shown; begun = []; is_begun = nothing; done = texts.none_made (shown_are_documents (ordered_tree now 0) m shown) }
 left_so now new next _ m tree after shown asked (set_in_part {path = path} {mode = mode} n at part) =
     let op : PlainEdit = set_some_commas path mode in
-    let lead = edits_lead now new (op ∷ []) tree (first_made (n, at, part) after none_made) (All-cons IsOfCharacters op [] tt (All-nil IsOfCharacters)) m shown (All-cons (NumbersFit m.options) op [] tt (All-nil (NumbersFit m.options))) in
+    let lead = edits_lead now new (op ∷ []) tree (first_made (n, at, part) after none_made) (All-cons IsOfCharacters op [] tt (All-nil IsOfCharacters)) m shown (All-cons (Allows m.options) op [] tt (All-nil (Allows m.options))) in
     record { e = lead.0; shown = lead.1; begun = texts.set_commas false path mode ∷ []; is_begun = some_commas path asked; done = begun_so m lead.0 path mode lead.2 lead.3 lead.4 }
 
 -- The first edits were made, and the next was refused.
 pub stops_so : {A : Type 0} (old now new : List Node) (edits : List (Edit A)) (k : ℕ) (ops : List PlainEdit) (next : Edit A) (why : EditError) → IsTree old → IsTree new → EditSteps old ops now → All IsOfCharacters ops
-    → ((o : Options) → All (Fits o) (take k edits) → All (NumbersFit o) ops) → Ask (take k edits) ops → slice_get edits k ≡ Some next
+    → ((o : Options) → All (Fits o) (take k edits) → All (Allows o) ops) → Ask (take k edits) ops → slice_get edits k ≡ Some next
     → FailsWith now (operation_of unsorted next) why → IsLeft now (operation_of unsorted next) new → StopsInText (ordered_tree old 0) edits k why (ordered_tree new 0)
 stops_so old now new edits k ops next why tree after made characters numbers asked is_next told left d shown fit =
     let lead = edits_lead old now ops tree made characters d shown (numbers d.options fit) in
@@ -91,7 +91,7 @@ stops_so old now new edits k ops next why tree after made characters numbers ask
         made = edits_to asked lead.4;
         next = next;
         is_next = is_next;
-        memory_or_place = refused_so m.options now whole there.sound op why told;
+        may_fail = refused_so m.options now whole there.sound op why told;
         named = subst (λ (n : ℕ). (why ≡ NoSuchPlace) ↔ ¬ (IsNamed m.value n op)) (counted m (ordered_tree now 0) there) unnamed;
         begun = l.begun;
         is_begun = l.is_begun;

@@ -25,7 +25,7 @@ use Rattle.jsonc_text.specs.declared.edit.Shape.TheVariants.{Object, Array}
 use Rattle.jsonc_edit.specs.set.Shapes.{empty_of}
 use Rattle.jsonc_edit.specs.remove.Laws.{ValueTaken}
 use Rattle.jsonc_edit.proofs.lemmas.remove.RemovedValue.{removes_value}
-use Rattle.jsonc_run.specs.Edits.{PlainEdit, replace, set_root, replace_property, ensure_root, set_value, ensure_value, insert_element, append_element, insert_property, append_property, ensure_property, rename_property, IsOfCharacters}
+use Rattle.jsonc_run.specs.Edits.{PlainEdit, set_root, ensure_root, ensure_value, append_element, append_property, ensure_property, IsOfCharacters}
 use Rattle.jsonc_run.specs.Steps.{Says, Step, Steps, no_step, one_step}
 use Rattle.jsonc_run.specs.Named.{ensures_root, kept_or_emptied, may_stay, sets_root, Asks, comment_count, IsNamed}
 use Rattle.jsonc_run.specs.Written.{IsChanged, by_boolean, by_comment, by_inserting, by_nothing, EntryRemoved, entry_left, value_left}
@@ -33,6 +33,7 @@ use Rattle.jsonc_run.specs.promise.Chains.{none_named, one_named, RunsJoin, Step
 use Rattle.jsonc_sound.specs.Marks as tree_marks
 use Rattle.jsonc_text.specs.Marks.{comments_of}
 use Rattle.jsonc_run.proofs.lemmas.promise.Commenting.{comment_leaves, comments_counted}
+use Rattle.jsonc_run.proofs.lemmas.promise.CommentsCome.{remark_put}
 use Rattle.jsonc_sound.specs.Adjacent.{last_printed}
 use Rattle.jsonc_sound.specs.Booleans.{is_hex_leaf}
 use Rattle.jsonc_run.proofs.lemmas.promise.Inserting.{gained, in_place, gains_so}
@@ -112,21 +113,16 @@ empty_characters : (shape : Shape) (how : Over) (w : Option Plain) → OfCharact
 empty_characters shape how None = empty_texts shape
 empty_characters shape how (Some v) = emptied_characters shape [] (may_stay shape how v)
 
+-- so it is of what an edit asks for: what that writes is what the edit writes, but where an empty value is written or nothing
 asked_characters : (w : Option Plain) (e : PlainEdit) (op : Operation) → Asks w e op → IsOfCharacters e → OfCharacters op
-asked_characters w (replace path v) op is h = subst OfCharacters (sym is) h
 asked_characters w (set_root v) op is h = subst OfCharacters (sym is) (root_characters w v h)
-asked_characters w (replace_property path name v) op is h = subst OfCharacters (sym is) h
 asked_characters w (ensure_root shape how) op is h = subst OfCharacters (sym is) (empty_characters shape how w)
-asked_characters w (set_value path v) op is h = subst OfCharacters (sym is) h
 asked_characters w (ensure_value path shape) op (v, stands, is) h = subst OfCharacters (sym is) (emptied_characters shape path (may_stay shape over.Replace v))
-asked_characters w (insert_element path i v) op is h = subst OfCharacters (sym is) (h, refl)
 asked_characters w (append_element path v) op (vs, i, stands, far, is) h = subst OfCharacters (sym is) (h, refl)
-asked_characters w (insert_property path i name v) op is h = subst OfCharacters (sym is) h
 asked_characters w (append_property path name v) op (ms, i, stands, far, is) h = subst OfCharacters (sym is) h
 asked_characters w (ensure_property path name shape how) op (ms, stands, inl (i, v, first, there, is)) h = subst OfCharacters (sym is) (emptied_characters shape (path ++ i ∷ []) (may_stay shape how v))
 asked_characters w (ensure_property path name shape how) op (ms, stands, inr (lacks, i, far, is)) h = subst OfCharacters (sym is) (h, empty_texts shape)
-asked_characters w (rename_property path name) op is h = subst OfCharacters (sym is) h
-asked_characters w e op is h = subst OfCharacters (sym is) tt
+asked_characters w e op is h = subst OfCharacters (sym is) (search)
 
 -- what one step makes of a text
 step_made : (o : Options) (t u : OrderedTree) (w x : Option Plain) (op : Operation) → Step o t w op u x → OfCharacters op → Makes (document_of o t w) op (document_of (options_behind o op) u x)
@@ -147,6 +143,7 @@ step_made o t u w x (texts.set_commas true path mode) s f =
 step_made o t u w x (texts.set_commas false path mode) s f = (some_commas_made o t u w x path mode s.old.sound s.new.sound (lines.same_by_commas s.changed) s.marked s.made.0 (inr s.made.1), tt)
 step_made o t u w x (texts.rearrange path order) s f = rearranged o t u w x path order s.old.sound s.new.sound s.old.value s.new.value s.changed s.marked s.made.0
 step_made o t u w x (texts.rename_property path name) s f = name_made o t u w x path name f s.old.sound s.new.sound s.changed s.made
+step_made o t u w x (texts.insert_comment path place comment) s f = remark_put o s.old.sound s.new.sound w x path place comment s.changed s.made
 
 -- a tree has as many comments as the document that it prints
 as_many_comments : (o : Options) (t : OrderedTree) (w : Option Plain) → comment_count t ≡ length (comments_of (document_of o t w).marks)

@@ -23,7 +23,13 @@ use Rattle.jsonc_run.specs.texts.Paths.{Entry}
 use Rattle.jsonc_run.specs.texts.Stretches.{Come, InLine}
 use Rattle.jsonc_run.specs.texts.Stretches as documents
 use Rattle.jsonc_run.specs.texts.Commenting as texts
-use Rattle.jsonc_run.specs.texts.Commenting.{ComesBetween, ComesAbove, ComesBehind, EndsLine, CommentTrail}
+use Rattle.jsonc_run.specs.texts.Commenting.{ComesBetween, ComesAbove, ComesBehind, InsertsComment, EndsLine, CommentTrail}
+use Rattle.jsonc_run.specs.texts.Edits as edits
+use Rattle.jsonc_run.specs.Written.{CommentInserted, IsChanged, by_inserting_comment}
+use Rattle.jsonc_text.specs.declared.edit.Place.{Place}
+use Rattle.jsonc_text.specs.declared.edit.Place.TheVariants.{Above, After}
+use Rattle.jsonc_sound.specs.TreeChanges.{leaves_of}
+use Rattle.jsonc_run.proofs.lemmas.promise.EntriesHeld.{entry_stands}
 use Rattle.jsonc_edit.specs.commenting.Laws.{GainsComment, StandsAbove, StandsBehind, IsTrail, on_line, past_comma}
 use Rattle.jsonc_run.specs.promise.PlaceLaws.{text_of_leaves}
 use Rattle.jsonc_run.proofs.lemmas.promise.CommentTexts.{blanks_text}
@@ -52,7 +58,7 @@ module _ (o : Options) where
       ∙ ap (λ l. text_of_leaves x ++ l) (text_joined (token 0x2C ∷ []) y (good_first o (token 0x2C ∷ []) y later).utf8 ∙ ap (λ l. l ++ text_of_leaves y) (one_token comma_mark)) in
       subst CommentTrail (sym written) (texts.past_comma (beside_text o x h (good_first o x (token 0x2C ∷ y) g).pieces) (beside_text o y k (good_second o (token 0x2C ∷ []) y later).pieces))
 
-  module _ {t u : OrderedTree} (s : SoundTree o t) (r : SoundTree o u) {text : List ℕ} (g : GainsComment text t u) where
+  module _ {t u : OrderedTree} (s : SoundTree o t) (r : SoundTree o u) {text : List ℕ} (whole : IsComment (chars text) []) (g : GainsComment text t u) where
     abbrev own : List Content
     own = content.comment text ∷ []
 
@@ -114,6 +120,7 @@ module _ (o : Options) where
     pub comes_between : (w : Option Plain) → ComesBetween (chars text) (text_of_leaves g.before) (text_of_leaves g.behind) (text_of_leaves front) (text_of_leaves back) (document_of o t w) (document_of o u w)
     comes_between w =
         record {
+          whole = whole;
           old_text = old_text;
           new_text = new_text;
           blanks_before = blanks_text o g.before g.blanks_before (good_second o front g.before ahead_good).pieces;
@@ -164,3 +171,17 @@ module _ (o : Options) where
           trail_text h.trail h.is_trail trail_good,
           subst (λ x. Entry path o (printed_text t) x (text_of_leaves h.trail ++ text_of_leaves back)) from (subst (λ x. Entry path o (printed_text t) (text_of_leaves (node ++ behind)) x) rest e),
         )
+
+-- what the operation makes of a tree it makes of the text
+module _ (o : Options) {t u : OrderedTree} (s : SoundTree o t) (r : SoundTree o u) where
+  inserted : (w : Option Plain) (path : List ℕ) (place : Place) (comment : List ℕ) → CommentInserted path place comment t u → InsertsComment place path comment (document_of o t w) (document_of o u w)
+  inserted w path Above comment c =
+      subst (λ k. ComesAbove path k (document_of o t w) (document_of o u w)) c.is
+      (comes_above o s r (subst (λ k. IsComment k []) (sym c.is) c.whole) c.gains path w (leaves_of c.own) c.front c.back c.stands (entry_stands o s c.entry))
+  inserted w path After comment c =
+      subst (λ k. ComesBehind path k (document_of o t w) (document_of o u w)) c.is
+      (comes_behind o s r (subst (λ k. IsComment k []) (sym c.is) c.whole) c.gains path w (leaves_of c.own) c.front c.back c.stands (entry_stands o s c.entry))
+
+  pub remark_put : (w x : Option Plain) (path : List ℕ) (place : Place) (comment : List ℕ) → IsChanged w (edits.insert_comment path place comment) x → CommentInserted path place comment t u
+      → InsertsComment place path comment (document_of o t w) (document_of o u x)
+  remark_put w _ path place comment by_inserting_comment c = inserted w path place comment c

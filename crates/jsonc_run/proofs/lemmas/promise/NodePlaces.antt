@@ -19,7 +19,7 @@ use Rattle.jsonc_edit.specs.Paths.{IsAt, IsElementOf, LeadsTo, StepsTo, itself, 
 use Rattle.jsonc_edit.proofs.ShapedPlaces.{all_stand, at_further}
 use Rattle.jsonc_edit.proofs.Uniqueness.{element_parent}
 use Rattle.jsonc_insert.specs.named.Places.{IsPropertyAt, a_property}
-use Rattle.jsonc_run.specs.Edits.{PlainEdit, none_made, first_made, EditStep, IsOfCharacters, NumbersFit}
+use Rattle.jsonc_run.specs.Edits.{PlainEdit, none_made, first_made, EditStep, IsOfCharacters, Allows}
 use Rattle.jsonc_run.specs.Places.{IsEntryAt, the_value, an_entry, IsEntryOf}
 use Rattle.jsonc_run.specs.promise.Steps.{IsCommentAt, IsNoPart, IsStep, IsStepOf}
 use Rattle.jsonc_run.specs.promise.Chains.{NamedRun, none_named, one_named}
@@ -141,7 +141,7 @@ module _ (old new : List Node) (tree : IsTree old) (after : IsTree new) where
   -- an edit that was made is a step
   pub made_leads : (op : PlainEdit) → IsOfCharacters op → EditStep old op new → IsStepOf op old new
   made_leads op characters made = λ d shown fit.
-      let lead = edits_lead old new (op ∷ []) tree (first_made made after none_made) (one_only IsOfCharacters op characters) d shown (one_only (NumbersFit d.options) op fit) in
+      let lead = edits_lead old new (op ∷ []) tree (first_made made after none_made) (one_only IsOfCharacters op characters) d shown (one_only (Allows d.options) op fit) in
       asked_alone d lead.0 op lead.2 lead.4 lead.1
 
   -- and of a node that has its place one at that place

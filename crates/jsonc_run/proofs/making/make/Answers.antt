@@ -4,8 +4,8 @@ use Rattle.jsonc_run.proofs.NamedPlaces.{answer_unnamed}
 use Rattle.jsonc_run.proofs.SoundChain.{answer_steps}
 use Rattle.jsonc_run.proofs.making.make.Goals as goal
 
-pub returns-clause-memory_or_place : goal.returns-clause-memory_or_place
-returns-clause-memory_or_place g c = λ o sound.
+pub returns-clause-may_fail : goal.returns-clause-may_fail
+returns-clause-may_fail g c = λ o sound.
     answer_refused o c.args.tree.now.nodes c.args.tree.now.tree sound (operation_of unsorted c.args.edit.now) c.make_by_kind.result c.make_by_kind.ensures.error
 
 pub returns-clause-named : goal.returns-clause-named

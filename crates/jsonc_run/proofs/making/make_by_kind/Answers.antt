@@ -1,6 +1,6 @@
-use Rattle.std.proofs.Common.{◌≡◌, List, ℕ, true, false, chars, sym, subst}
+use Rattle.std.proofs.Common.{◌≡◌, List, ℕ, true, false, chars, string_bytes, sym, subst}
 use Rattle.jsonc_layout.specs.input.Views.{chars_of, plain}
-use Rattle.jsonc_run.specs.Edits.{is_sort, operation_of, unsorted, append_property, ensure_property, insert_property, rename_property, set_value}
+use Rattle.jsonc_run.specs.Edits.{is_sort, operation_of, unsorted, append_property, ensure_property, insert_comment, insert_property, rename_property, set_value}
 use Rattle.jsonc_run.specs.Refusals.{IsAnswer}
 use Rattle.jsonc_run.proofs.making.make_by_kind.Goals as goal
 
@@ -37,6 +37,13 @@ returns-in-RenameProperty g c =
     let at : Made c.in-RenameProperty.path.items (chars c.deref-in-RenameProperty-2.result.now) = subst (λ (path : List ℕ). Made path (chars c.deref-in-RenameProperty-2.result.now)) c.deref-in-RenameProperty.ensures.value c.rename_at.ensures in
     let given : Made c.in-RenameProperty.path.items (chars_of c.in-RenameProperty.name) = subst (λ (s : List ℕ). Made c.in-RenameProperty.path.items (chars s)) c.deref-in-RenameProperty-2.ensures at in
     subst (λ e. IsAnswer c.args.tree.now.nodes c.rename_at.new.tree.nodes (operation_of unsorted e) c.rename_at.result) (sym c.in-RenameProperty.is) given
+
+pub returns-in-InsertComment : goal.returns-in-InsertComment
+returns-in-InsertComment g c =
+    let Made : List ℕ → List ℕ → Type 0 = λ path text. IsAnswer c.args.tree.now.nodes c.insert_comment_at.new.tree.nodes (insert_comment path c.in-InsertComment.place text) c.insert_comment_at.result in
+    let at : Made c.in-InsertComment.path.items c.deref-in-InsertComment-2.result.now = subst (λ (path : List ℕ). Made path c.deref-in-InsertComment-2.result.now) c.deref-in-InsertComment.ensures.value c.insert_comment_at.ensures in
+    let given : Made c.in-InsertComment.path.items (string_bytes c.in-InsertComment.text) = subst (λ (s : List ℕ). Made c.in-InsertComment.path.items s) c.deref-in-InsertComment-2.ensures at in
+    subst (λ e. IsAnswer c.args.tree.now.nodes c.insert_comment_at.new.tree.nodes (operation_of unsorted e) c.insert_comment_at.result) (sym c.in-InsertComment.is) given
 
 pub unreachable-requires : goal.unreachable-requires
 unreachable-requires g c =

@@ -2,14 +2,15 @@ use Rattle.std.proofs.Common.{refl, ap, ◌∙◌}
 use Rattle.jsonc_layout.specs.input.Views.{plain}
 use Rattle.jsonc_tree.specs.Tree.{content_at}
 use Rattle.jsonc_layout.specs.nodes.Properties.{value_at}
+use Rattle.jsonc_edit.specs.Reading.{IsReplaced}
 use Rattle.jsonc_cst.specs.Nodes.{number_of}
 use Rattle.jsonc_cst.proofs.Family.{number_of-typed}
-use Rattle.jsonc_cst.specs.typed.Setting.{ValueBecomes, ValueIsWritten}
+use Rattle.jsonc_cst.specs.typed.Setting.{ValueBecomes}
 use Rattle.jsonc_cst.proofs.lemmas.typed.Found.{stands_as, value_found}
-use Rattle.jsonc_cst.proofs.lemmas.typed.HandlesKept.{as_typed, nodes_stay}
-use Rattle.jsonc_cst.proofs.lemmas.typed.Roots.{becomes, is_written, set_there, stay_set}
-use Rattle.jsonc_cst.proofs.lemmas.typed.Marked.{root_marked}
-use Rattle.jsonc_cst.proofs.lemmas.typed.Around.{root_around}
+use Rattle.jsonc_cst.proofs.lemmas.typed.HandlesKept.{as_typed, nodes_stay, of_some}
+use Rattle.jsonc_cst.proofs.lemmas.typed.Roots.{becomes, set_there, stay_set}
+use Rattle.jsonc_cst.proofs.lemmas.typed.Marked.{replaced_marked}
+use Rattle.jsonc_cst.proofs.lemmas.typed.Around.{replaced_around}
 use Rattle.jsonc_cst.proofs.lemmas.typed.Steps.{root_step}
 use Rattle.jsonc_layout.proofs.lemmas.from_input.Texts.{of_texts}
 use Rattle.jsonc_cst.proofs.cst.CstRootNode.set_value.Goals as goal
@@ -36,11 +37,10 @@ returns g c =
     let set = becomes old new v was m replaced first in
     record {
       set = as_typed (ValueBecomes old new v was) new m c.node_at.result is set;
-      written = λ p. as_typed (ValueIsWritten p old new v was) new m c.node_at.result is (is_written p old new v was m tree refl (c.in_ok-number.ensures.written p) first);
-      marked = λ p. root_marked old new v tree p was m refl replaced first;
-      around = λ p. root_around old new v tree p was m refl replaced first;
+      marked = λ n e. replaced_marked old new v tree n m (of_some (λ k. IsReplaced old new k v m) was n e replaced);
+      around = λ n e. replaced_around old new v tree n m (of_some (λ k. IsReplaced old new k v m) was n e replaced);
       step = root_step old new tree after v m (of_texts _ c.args.value) set;
-      stands = stands_as new m c.node_at.result (value_found old new v was m tree after refl set) (ap number_of is ∙ number_of-typed (content_at new m) m) c.node_at.ensures.in_document;
+      is_value = stands_as new m c.node_at.result (value_found old new v was m tree after refl set) (ap number_of is ∙ number_of-typed (content_at new m) m) c.node_at.ensures.in_document;
       in_document = c.node_at.ensures.in_document;
       handles = nodes_stay old new (stay_set old new v was m set);
       memory = tt;

@@ -3,7 +3,7 @@ use Rattle.jsonc_edit.specs.commas.InTurn.{holders}
 use Rattle.jsonc_cst.specs.Nodes.{number_of}
 use Rattle.jsonc_cst.specs.typed.Steps.{IsHolder}
 use Rattle.jsonc_cst.proofs.lemmas.typed.HandlesKept.{nodes_stay}
-use Rattle.jsonc_cst.proofs.lemmas.typed.Trailing.{commas_stand, commas_stay, commas_written, part_written, stay_in_turn}
+use Rattle.jsonc_cst.proofs.lemmas.typed.Trailing.{all_commas_set, commas_stay, stay_in_turn}
 use Rattle.jsonc_cst.proofs.lemmas.typed.Steps.{commas_step, some_commas_step}
 use Rattle.jsonc_cst.proofs.typed.commas.set_commas_of.Goals as goal
 
@@ -20,8 +20,7 @@ returns-in-Ok g c =
       set = set;
       said = rw same at c.in-Ok.ensures.said;
       part = tt;
-      written = λ o. commas_written mode old new n tree o set;
-      stand = λ o. commas_stand mode old new n tree o set;
+      all_set = λ o. all_commas_set mode old new n tree o set;
       once = λ o. commas_stay mode old new n tree o set;
       step = λ is. commas_step old new tree mode n set (subst IsHolder (sym c.requires.1) is);
       begun = tt;
@@ -45,8 +44,7 @@ returns-in-Err g c =
       set = tt;
       said = tt;
       part = part;
-      written = λ o. part_written mode old new n tree o part;
-      stand = λ o. tt;
+      all_set = λ o. tt;
       once = λ o. tt;
       step = tt;
       begun = λ is. some_commas_step old new tree mode n part (subst IsHolder (sym c.requires.1) is);

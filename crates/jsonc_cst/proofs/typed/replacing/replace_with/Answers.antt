@@ -2,7 +2,6 @@ use Rattle.std.proofs.Common.{◌≡◌, true, false, ap, subst, sym, ◌∙◌}
 use Rattle.std.proofs.lemmas.Bool.{false≢true}
 use Rattle.jsonc_layout.specs.input.Views.{plain}
 use Rattle.jsonc_edit.specs.Reading.{IsReplaced, IsReplacedRaw}
-use Rattle.jsonc_edit.specs.Written.{Writes}
 use Rattle.jsonc_cst.specs.Nodes.{number_of}
 use Rattle.jsonc_cst.specs.typed.Edits.{is_name_in, IsReplacedAs}
 use Rattle.jsonc_cst.specs.typed.Steps.{IsValueIn}
@@ -36,7 +35,6 @@ returns-then-is_name_in g c =
     let other : is_name_in old n ≡ false → ⊥ = λ e. false≢true (sym e ∙ named) in
     record {
       replaced = subst (λ b. IsReplacedAs b old new n v (number_of c.node_at.result)) (sym named) (as_typed (IsReplacedRaw old new n v) new m c.node_at.result c.node_at.ensures.node given);
-      written = λ p e. absurd (other e);
       marked = λ e. absurd (other e);
       around = λ e. absurd (other e);
       step = λ is. absurd (other (value_unnamed old n (subst (IsValueIn old) (sym c.requires.1) is)));
@@ -71,7 +69,6 @@ returns g c =
     let unnamed : is_name_in old n ≡ false = ap (is_name_in old) (sym same) ∙ sym c.is_name_in.ensures ∙ c.if-is_name_in.false in
     record {
       replaced = subst (λ b. IsReplacedAs b old new n v (number_of c.node_at-2.result)) (sym unnamed) (as_typed (IsReplaced old new n v) new m c.node_at-2.result c.node_at-2.ensures.node given);
-      written = λ p e. as_typed (λ k. Writes p old new n k v) new m c.node_at-2.result c.node_at-2.ensures.node (rw (c.in-Some-3.is, same) at (c.in_ok-new.ensures.written p));
       marked = λ e. replaced_marked old new v tree n m given;
       around = λ e. replaced_around old new v tree n m given;
       step = λ is. replaced_step old new tree after n m v (of_texts _ c.args.value) given (subst (IsValueIn old) (sym c.requires.1) is);

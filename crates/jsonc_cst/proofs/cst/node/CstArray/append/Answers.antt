@@ -19,7 +19,6 @@ returns g c =
     record {
       put = put;
       element = appended_element number_of old new tree n c.len-count.result c.len-count.ensures.len c.insert.result made.element;
-      written = λ o. rw last at (made.written o);
       step = ok_with c.insert.result (λ x put. appended_step old new tree c.insert.new.doc.tree.tree n (number_of x) v (of_texts _ c.args.value) put (held_array old c.args.self c.requires)) put;
       others = made.others;
       detached = made.detached;

@@ -5,7 +5,7 @@ use Rattle.jsonc_layout.specs.nodes.Siblings.{elements_at}
 use Rattle.jsonc_edit.specs.Paths.{IsElementOf}
 use Rattle.jsonc_insert.specs.Inserted.{ElementPut}
 use Rattle.jsonc_cst.specs.Nodes.{number_of}
-use Rattle.jsonc_cst.proofs.lemmas.typed.InsertedElements.{put_at_place, put_element, put_for_memory, put_others, put_stays, put_there, put_written}
+use Rattle.jsonc_cst.proofs.lemmas.typed.InsertedElements.{put_at_place, put_element, put_for_memory, put_others, put_stays, put_there}
 use Rattle.jsonc_run.proofs.DetachedNodes.{row_elsewhere}
 use Rattle.jsonc_cst.proofs.lemmas.typed.PropertyValues.{held_array}
 use Rattle.jsonc_cst.proofs.lemmas.typed.HandlesKept.{as_typed, nodes_stay, stay_kept}
@@ -42,7 +42,6 @@ returns-in-Ok g c =
     record {
       put = as_typed (λ (k : ℕ). ElementPut old new n last v k) new m c.node_at.result c.node_at.ensures.node placed;
       element = as_typed (λ (k : ℕ). IsElementOf new n last k) new m c.node_at.result c.node_at.ensures.node (put_element old new n i v m tree c.requires.0 brackets put);
-      written = λ o. put_written old new n v tree array o last m placed;
       step = inserted_step old new tree put.tree n i m v (of_texts _ c.args.value) put array;
       others = put_others old new n i v m tree c.requires.0 brackets put;
       detached = row_elsewhere old tree put.ready new n _ _ put.row put.tree put.prepared.keeps put.put;
@@ -62,7 +61,6 @@ returns g c =
     record {
       put = tt;
       element = tt;
-      written = λ o. tt;
       step = tt;
       others = tt;
       detached = tt;

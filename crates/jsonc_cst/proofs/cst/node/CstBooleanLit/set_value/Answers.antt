@@ -2,7 +2,7 @@ use Rattle.std.proofs.Common.{ap, ◌∙◌}
 use Rattle.jsonc_tree.specs.Tree.{content_at}
 use Rattle.jsonc_edit.specs.set.Booleans.{is_boolean}
 use Rattle.jsonc_cst.specs.Nodes.{number_of}
-use Rattle.jsonc_cst.proofs.lemmas.typed.PropertyValues.{boolean_is_written, boolean_or_kept, held_boolean}
+use Rattle.jsonc_cst.proofs.lemmas.typed.PropertyValues.{boolean_or_kept, held_boolean}
 use Rattle.jsonc_cst.proofs.lemmas.typed.DetachedNodes.{if_boolean}
 use Rattle.jsonc_cst.proofs.lemmas.typed.Steps.{boolean_step, ok_then}
 use Rattle.jsonc_cst.proofs.cst.node.CstBooleanLit.set_value.Goals as goal
@@ -26,7 +26,6 @@ returns g c =
     let boolean = held_boolean old c.args.self c.requires in
     record {
       set = set;
-      written = λ o. boolean_is_written old new n value c.requires.0 boolean o tree result set;
       step = ok_then result (λ made. boolean_step old new tree after n value made boolean) set;
       detached = if_boolean old new tree after n value c.requires.0 result set;
       handles = boolean_or_kept old new n value c.requires.0 boolean result set c.set_boolean.ensures.kept;

@@ -22,7 +22,6 @@ returns g c =
     record {
       put = put;
       property = appended_element (λ x. x.number) old new tree n c.len-count.result c.len-count.ensures.len c.insert.result made.property;
-      written = λ o. rw last at (made.written o);
       step = ok_with c.insert.result (λ x put. appended_step old new tree c.insert.new.doc.tree.tree n name (scalars-chars c.args.name.now c.utf8.name) (held_object old c.args.self c.requires) x.number v (of_texts _ c.args.value) put) put;
       others = made.others;
       detached = made.detached;

@@ -6,7 +6,7 @@ use Rattle.jsonc_edit.specs.Paths.{IsElementOf}
 use Rattle.jsonc_insert.specs.members.Inserted.{PropertyPut}
 use Rattle.jsonc_cst.specs.Nodes.{number_of}
 use Rattle.jsonc_run.proofs.DetachedNodes.{put_elsewhere}
-use Rattle.jsonc_cst.proofs.lemmas.objects.InsertedProperties.{put_at_place, put_element, put_for_memory, put_others, put_property, put_stays, put_there, put_written}
+use Rattle.jsonc_cst.proofs.lemmas.objects.InsertedProperties.{put_at_place, put_element, put_for_memory, put_others, put_property, put_stays, put_there}
 use Rattle.jsonc_cst.proofs.lemmas.typed.PropertyValues.{held_object}
 use Rattle.jsonc_cst.proofs.lemmas.typed.HandlesKept.{nodes_stay, stay_kept}
 use Rattle.jsonc_cst.proofs.lemmas.objects.Steps.{inserted_step}
@@ -50,7 +50,6 @@ returns-in-Ok g c =
     record {
       put = subst (λ (k : ℕ). PropertyPut old new n last name v k) (sym c.property_at.ensures.number) placed;
       property = subst (λ (k : ℕ). IsElementOf new n last k) (sym c.property_at.ensures.number) (put_element old new n i name v m tree c.requires.0 brackets put);
-      written = λ o. put_written old new n name v tree object o last m placed;
       step = inserted_step old new tree c.insert_property.new.tree.tree n name (scalars-chars c.args.name.now c.utf8.name) object i m v (of_texts _ c.args.value) put;
       others = put_others old new n i name v m tree c.requires.0 brackets put;
       detached = put_elsewhere old tree new n i name v m c.requires.0 put;
@@ -70,7 +69,6 @@ returns g c =
     record {
       put = tt;
       property = tt;
-      written = λ o. tt;
       step = tt;
       others = tt;
       detached = tt;

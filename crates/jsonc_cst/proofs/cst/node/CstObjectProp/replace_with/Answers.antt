@@ -5,7 +5,7 @@ use Rattle.jsonc_cst.specs.Nodes.{number_of}
 use Rattle.jsonc_cst.specs.typed.Around.{IsLaidProperty}
 use Rattle.jsonc_cst.proofs.lemmas.typed.PropertyValues.{held_property}
 use Rattle.jsonc_cst.proofs.lemmas.typed.HandlesKept.{as_typed, nodes_stay}
-use Rattle.jsonc_cst.proofs.lemmas.typed.Roots.{property_is_written, property_there, stay_property}
+use Rattle.jsonc_cst.proofs.lemmas.typed.Roots.{property_there, stay_property}
 use Rattle.jsonc_cst.proofs.lemmas.typed.Around.{property_laid}
 use Rattle.jsonc_run.proofs.DetachedNodes.{property_elsewhere}
 use Rattle.jsonc_cst.proofs.lemmas.typed.Detached.{property_nobodys}
@@ -32,7 +32,6 @@ returns-in-Ok-Some g c =
     let given = as_typed (IsPropertyReplaced old new n name v) new m c.node_at.result c.node_at.ensures.node replaced in
     record {
       replaced = given;
-      written = λ p. property_is_written p old new n name v c.node_at.result tree given;
       laid = as_typed (IsLaidProperty old new n name v) new m c.node_at.result c.node_at.ensures.node (property_laid old new n m name v replaced);
       step = property_replaced_step old new tree after n m name v (scalars-chars c.args.name.now c.utf8.name) (of_texts _ c.args.value) replaced (held_property old c.args.self c.requires);
       detached = property_elsewhere old tree new n m name v after replaced;

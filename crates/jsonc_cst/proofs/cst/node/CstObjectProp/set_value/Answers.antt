@@ -1,14 +1,14 @@
-use Rattle.std.proofs.Common.{◌≡◌, ℕ, Some, refl, ap, ◌∙◌}
+use Rattle.std.proofs.Common.{◌≡◌, Some, refl, ap, ◌∙◌}
 use Rattle.jsonc_layout.specs.input.Views.{plain}
 use Rattle.jsonc_tree.specs.Tree.{content_at, parent_at}
 use Rattle.jsonc_layout.specs.nodes.Properties.{value_at}
-use Rattle.jsonc_edit.specs.Written.{Writes}
+use Rattle.jsonc_edit.specs.Reading.{IsReplaced}
 use Rattle.jsonc_cst.specs.Nodes.{number_of}
 use Rattle.jsonc_cst.specs.typed.Values.{HeldBecomes}
-use Rattle.jsonc_cst.proofs.lemmas.typed.HandlesKept.{as_typed, nodes_stay}
-use Rattle.jsonc_cst.proofs.lemmas.typed.PropertyValues.{held_becomes, held_is_child, held_is_written, held_property, held_there, stay_held}
-use Rattle.jsonc_cst.proofs.lemmas.typed.Marked.{held_marked}
-use Rattle.jsonc_cst.proofs.lemmas.typed.Around.{held_around}
+use Rattle.jsonc_cst.proofs.lemmas.typed.HandlesKept.{as_typed, nodes_stay, of_some}
+use Rattle.jsonc_cst.proofs.lemmas.typed.PropertyValues.{held_becomes, held_is_child, held_property, held_there, stay_held}
+use Rattle.jsonc_cst.proofs.lemmas.typed.Marked.{replaced_marked}
+use Rattle.jsonc_cst.proofs.lemmas.typed.Around.{replaced_around}
 use Rattle.jsonc_cst.proofs.lemmas.typed.DetachedNodes.{held_elsewhere}
 use Rattle.jsonc_cst.proofs.lemmas.typed.Steps.{held_step}
 use Rattle.jsonc_layout.proofs.lemmas.from_input.Texts.{of_texts}
@@ -43,9 +43,8 @@ returns g c =
     let property = held_property old c.args.self c.requires in
     record {
       set = as_typed (HeldBecomes old new p v held) new m c.node_at.result c.node_at.ensures.node becomes;
-      written = λ o. as_typed (λ k. (n : ℕ) → held ≡ Some n → Writes o old new n k v) new m c.node_at.result c.node_at.ensures.node (held_is_written o old new v held m (rw same at (c.in_ok-new.ensures.written o)));
-      marked = held_marked old new v tree held m replaced;
-      around = held_around old new v tree held m replaced;
+      marked = λ n e. replaced_marked old new v tree n m (of_some (λ k. IsReplaced old new k v m) held n e replaced);
+      around = λ n e. replaced_around old new v tree n m (of_some (λ k. IsReplaced old new k v m) held n e replaced);
       step = held_step old new tree after p v m (of_texts _ c.args.value) becomes property;
       detached = held_elsewhere old new tree after p c.requires.0 property v held m refl becomes;
       child = as_typed (λ k. parent_at new k ≡ Some p) new m c.node_at.result c.node_at.ensures.node (held_is_child old new p v tree property held m refl becomes);
