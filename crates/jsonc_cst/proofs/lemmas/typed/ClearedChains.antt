@@ -44,6 +44,7 @@ use Rattle.jsonc_run.proofs.lemmas.promise.Leaves.{document_utf8, text_joined, u
 use Rattle.jsonc_run.proofs.lemmas.promise.ReplacedTexts.{is_one}
 use Rattle.jsonc_run.proofs.lemmas.promise.Stretches.{marks_in, marks_in_both, blanks_behind_unmarked, pieces_first, pieces_second}
 use Rattle.jsonc_cst.specs.typed.Clearing as clearing
+use Rattle.jsonc_cst.specs.typed.Removing.{AreClearedIfAny, CommentsRemoved}
 use Rattle.jsonc_cst.specs.typed.Clearing.{LosesComments, RemovesBlanks, RemovesComment}
 use Rattle.jsonc_cst.proofs.lemmas.typed.ClearedRows.{gone_alone, gone_with_line}
 
@@ -197,3 +198,20 @@ module _ (o : Options) (w : Option Plain) (c : ℕ) where
       by false (Some k) h e same more =
           let r = more (subst IsSo (sym same) s) (subst (λ ns. All (λ m. IsTrue (is_comment_at ns m)) rest) (sym same) others) in
           (r.0, clearing.one_kept (due_there old n k said e) (subst (λ ns. LosesComments c new (doc new) ns (doc ns) rest) same r.1))
+
+-- whatever document the nodes show
+pub steps_made : (old new : List Node) (c : ℕ) (ns : List ℕ) → IsTree old → IsTree new → All (λ m. IsTrue (is_comment_at old m)) ns → AreClearedIfAny old new c ns → CommentsRemoved old new c ns
+steps_made old new c [] tree later all same over holds d shows =
+    let w = d.value in
+    let o = d.options in
+    let at_old : RemovesBlanks (document_of o (ordered_tree old 0) w) (document_of o (ordered_tree old 0) w) = (all_same (printed_text (ordered_tree old 0)), refl, (refl, refl)) in
+    let one = one_shown o (ordered_tree old 0) w shows.sound shows.value in
+    let stays : LosesComments c old (document_of o (ordered_tree old 0) w) old (document_of o (ordered_tree old 0) w) [] = clearing.none_left one at_old one (shown o (ordered_tree old 0) w shows.sound shows.value) in
+    subst (λ ns. (e : Document) × Shows e (ordered_tree ns 0) × LosesComments c ns e old d []) (sym same)
+    (document_of o (ordered_tree old 0) w, shown o (ordered_tree old 0) w shows.sound shows.value, subst (λ x. LosesComments c old (document_of o (ordered_tree old 0) w) old x []) (sym shows.is) stays)
+steps_made old new c (n ∷ rest) tree later all cleared over holds d shows =
+    let o = d.options in
+    let w = d.value in
+    let so : IsSo o w c old = record { tree = tree; sound = shows.sound; value = shows.value; over = over; holds = holds } in
+    let r = chain o w c old new (n ∷ rest) so later all cleared in
+    (document_of o (ordered_tree new 0) w, shown o (ordered_tree new 0) w r.0.0 r.0.1, subst (λ x. LosesComments c new (document_of o (ordered_tree new 0) w) old x (n ∷ rest)) (sym shows.is) r.1)
