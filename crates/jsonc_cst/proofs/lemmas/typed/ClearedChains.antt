@@ -1,6 +1,5 @@
 -- Comments of an entry are removed one after another, and then blanks that are left alone: the chain of documents.
-use Rattle.std.proofs.Common.{◌≡◌, ◌≢◌, ℕ, ◌+◌, Bool, true, false, List, [], ◌∷◌, ◌++◌, map, Option, Some, None, IsTrue, refl, sym, ap, subst, ◌∙◌}
-use Rattle.std.proofs.lemmas.List.{append_assoc}
+use Rattle.std.proofs.Common.{◌≡◌, ℕ, ◌+◌, Bool, true, false, List, [], ◌∷◌, ◌++◌, map, Option, Some, None, IsTrue, refl, sym, ap, subst, ◌∙◌}
 use Rattle.std.proofs.lemmas.List.Elements.{All-head, All-nil, All-tail, All-weaker}
 use Rattle.std.specs.List.{All}
 use Rattle.jsonc_text.specs.Options.{Options}
@@ -14,21 +13,18 @@ use Rattle.jsonc_text.proofs.UniqueValues.{document_unique}
 use Rattle.jsonc_tree.specs.Changes.{Splices}
 use Rattle.jsonc_tree.specs.Content.{Content}
 use Rattle.jsonc_tree.specs.OrderedTree.{OrderedTree, leaves, ordered_tree}
-use Rattle.jsonc_tree.specs.Tree.{Node, content_at, parent_at, children_at, place_at, IsOver, IsTree}
+use Rattle.jsonc_tree.specs.Tree.{Node, content_at, parent_at, children_at, IsOver, IsTree}
 use Rattle.jsonc_tree.specs.Values.{DocumentValueOf}
-use Rattle.jsonc_tree.proofs.Order.{parent_there}
 use Rattle.jsonc_layout.specs.lines.Kinds.{is_array_or_object}
 use Rattle.jsonc_layout.specs.nodes.Kinds.{is_comment, is_comment_at}
-use Rattle.jsonc_sound.specs.ChangeLaws.{DiffersIn}
 use Rattle.jsonc_sound.specs.Documents.{document_of, Shows}
-use Rattle.jsonc_sound.specs.MarkChanges.{AreBlanks}
 use Rattle.jsonc_sound.specs.Shape.{printed_text}
 use Rattle.jsonc_sound.specs.SoundTrees.{SoundTree}
 use Rattle.jsonc_sound.proofs.NodesAlone.{document_alone}
 use Rattle.jsonc_sound.proofs.Pieces.{Pieces, document_pieces}
 use Rattle.jsonc_sound.proofs.ShapeValues.{document_printed}
 use Rattle.jsonc_sound.proofs.Texts.{AllUtf8}
-use Rattle.jsonc_edit.specs.Comments.{comment_at, space_needed_without, IsRemoved, WantsSpace}
+use Rattle.jsonc_edit.specs.Comments.{comment_at, space_needed_without, WantsSpace}
 use Rattle.jsonc_edit.specs.Put.{IfDue}
 use Rattle.jsonc_edit.specs.remove.CommentLaws.{AreSomeOf, LoseComments, blanks_lost, comment_lost, no_more, none_lost}
 use Rattle.jsonc_edit.specs.remove.Removed.{IsClosedUp}
@@ -68,7 +64,7 @@ front_same (c ∷ f) h = texts.stays (front_same f h)
 
 run_gone : {r t : List ℕ} (s : List ℕ) → Many is_blank s r → r ≡ [] → Without is_blank (s ++ t) t
 run_gone {t = t} _ many.stop e = subst (λ x. Without is_blank (x ++ t) t) (sym e) (all_same t)
-run_gone _ (many.step {s = s} b m) e = texts.leaves b (run_gone s m e)
+run_gone _ (many.step {t = rest} b m) e = texts.leaves b (run_gone rest m e)
 
 without_both : {r s t : List ℕ} → Without is_blank r s → Without is_blank s t → Without is_blank r t
 without_both (texts.leaves b h) k = texts.leaves b (without_both h k)
@@ -115,15 +111,15 @@ nothing_some _ no_more = refl
 
 -- what is said of the nodes behind
 module _ (o : Options) (w : Option Plain) (c : ℕ) where
-  abbrev doc : List Node → Document
+  abbrev pub doc : List Node → Document
   doc ns = document_of o (ordered_tree ns 0) w
 
-  record IsSo (ns : List Node) : Type 0 where
-    tree : IsTree ns
-    sound : SoundTree o (ordered_tree ns 0)
-    value : DocumentValueOf o (ordered_tree ns 0) w
-    over : IsOver ns 0 c
-    holds : IsTrue (is_array_or_object (content_at ns c))
+  pub record IsSo (ns : List Node) : Type 0 where
+    pub tree : IsTree ns
+    pub sound : SoundTree o (ordered_tree ns 0)
+    pub value : DocumentValueOf o (ordered_tree ns 0) w
+    pub over : IsOver ns 0 c
+    pub holds : IsTrue (is_array_or_object (content_at ns c))
 
   is_doc : (ns : List Node) → IsSo ns → IsOne (doc ns)
   is_doc ns s = one_shown o (ordered_tree ns 0) w s.sound s.value
@@ -163,7 +159,7 @@ module _ (o : Options) (w : Option Plain) (c : ℕ) where
   same_comments old mid rest same all = All-weaker (λ m. IsTrue (is_comment_at old m)) (λ m. IsTrue (is_comment_at mid m)) (λ m h. subst (λ x. IsTrue (is_comment x)) (sym (same m)) h) rest all
 
   -- the chain
-  abbrev Ends : List Node → Type 0
+  abbrev pub Ends : List Node → Type 0
   Ends new = SoundTree o (ordered_tree new 0) × DocumentValueOf o (ordered_tree new 0) w
 
   pub chain : (old new : List Node) (ns : List ℕ) → IsSo old → IsTree new → All (λ m. IsTrue (is_comment_at old m)) ns → AreCleared old new c ns → Ends new × LosesComments c new (doc new) old (doc old) ns

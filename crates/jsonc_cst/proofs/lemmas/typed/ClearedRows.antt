@@ -1,5 +1,5 @@
 -- Comments of an entry are removed one after another, and then blanks that are left alone: which document each makes of the one before.
-use Rattle.std.proofs.Common.{◌≡◌, ◌≢◌, ℕ, zero, suc, ◌+◌, ◌-◌, ◌<◌, ◌≤◌, ◌||◌, ◌==◌, Bool, true, false, cond, List, [], ◌∷◌, ◌++◌, drop, eq-eqb, get_or, length, map, slice_index, slice_range, take, Option, Some, None, IsTrue, inl, inr, if◌then◌else◌, refl, sym, ap, subst, ◌∙◌, arith, length-take, length-drop, get_or-take, get_or-drop}
+use Rattle.std.proofs.Common.{◌≡◌, ℕ, zero, suc, ◌+◌, ◌-◌, ◌<◌, ◌≤◌, ◌||◌, ◌==◌, Bool, true, false, cond, List, [], ◌∷◌, ◌++◌, drop, eq-eqb, get_or, length, map, slice_index, slice_range, take, Option, Some, None, IsTrue, inl, inr, if◌then◌else◌, refl, sym, ap, subst, ◌∙◌, arith, length-take, length-drop, get_or-take, get_or-drop}
 use Rattle.std.proofs.Math.Seq.{take-add}
 use Rattle.std.proofs.lemmas.Bool.{cases_Bool, cases_eq, ne_eqb}
 use Rattle.std.proofs.lemmas.List.{append_assoc, drop-drop, drop_more, map-append, take_more}
@@ -145,7 +145,7 @@ module _ (old new : List Node) (tree : IsTree old) (later : IsTree new) (c n : �
             parents = λ m.
                 elim (cases_eq m x) [
                   | inl same ↦ subst (λ k. parent_at new k ≡ cond (is_in k (x ∷ [])) (Some c) (cond (is_in k (slice_range row l j)) None (parent_at old k))) (sym same)
-                  (ap (parent_at new) (sym at_l) ∙ later.named c l short ∙ sym (ap (λ h. cond (h || false) (Some c) (cond (is_in x (slice_range row l j)) None (parent_at old x))) (same_eqb x)))
+                      (ap (parent_at new) (sym at_l) ∙ later.named c l short ∙ sym (ap (λ h. cond (h || false) (Some c) (cond (is_in x (slice_range row l j)) None (parent_at old x))) (same_eqb x)))
                   | inr apart ↦ s.parents m ∙ sym (ap (λ h. cond (h || false) (Some c) (cond (is_in m (slice_range row l j)) None (parent_at old m))) (ne_eqb m x apart) ∙ ap (λ f. cond (is_in m f) None (parent_at old m)) longer ∙ ap (λ h. cond (h || is_in m (slice_range row i j)) None (parent_at old m)) (ne_eqb m x apart))
                 ];
           }

@@ -1,30 +1,27 @@
 -- A comment of a sound document is removed with blanks beside it: what that makes of the text.
-use Rattle.std.proofs.Common.{◌≡◌, ℕ, suc, ◌+◌, ◌-◌, ◌<◌, ◌≤◌, ◌||◌, ◌&&◌, not, Bool, true, false, cond, List, [], ◌∷◌, ◌++◌, chars, drop, filter, get_or, length, map, slice_index, slice_range, take, Option, Some, None, IsTrue, inl, inr, refl, sym, ap, subst, ◌∙◌, arith, length-append, length-take, length-drop, get_or-take, get_or-drop}
-use Rattle.std.proofs.lemmas.List.{append_assoc, append-nil, drop_more, map-append, take-append-drop}
+use Rattle.std.proofs.Common.{◌≡◌, ℕ, ◌+◌, ◌-◌, ◌<◌, ◌≤◌, ◌||◌, cond, List, [], ◌∷◌, ◌++◌, chars, drop, filter, length, map, slice_range, take, Option, Some, IsTrue, refl, sym, ap, subst, ◌∙◌}
+use Rattle.std.proofs.lemmas.List.{append_assoc, map-append}
 use Rattle.std.proofs.lemmas.List.Concat.{flat_map-append}
-use Rattle.std.proofs.lemmas.List.Elements.{All-cons, All-drop, All-nil, All-take, filter-append}
+use Rattle.std.proofs.lemmas.List.Elements.{All-drop, All-take, filter-append}
 use Rattle.std.proofs.lemmas.Str.{chars-nil}
 use Rattle.std.specs.List.{flat_map, slice_get}
 use Rattle.jsonc_text.specs.Options.{Options}
 use Rattle.jsonc_text.specs.Plain.{Plain}
-use Rattle.jsonc_text.specs.Grammar.{IsDocument}
 use Rattle.jsonc_text.specs.Text.{Many}
 use Rattle.jsonc_text.specs.Text as many
 use Rattle.jsonc_text.specs.Marks as texts
-use Rattle.jsonc_text.specs.Documents.{Document, IsOne}
 use Rattle.jsonc_tree.specs.Changes.{Splices}
-use Rattle.jsonc_tree.specs.Content.{Content, is_container, newline_text}
+use Rattle.jsonc_tree.specs.Content.{Content}
 use Rattle.jsonc_tree.specs.Content as content
 use Rattle.jsonc_tree.specs.declared.node.CstNewlineKind.{CstNewlineKind}
 use Rattle.jsonc_tree.specs.Order.{in_order}
 use Rattle.jsonc_tree.specs.OrderedTree.{OrderedTree, leaves, ordered_tree, own_leaf}
-use Rattle.jsonc_tree.specs.Tree.{Node, content_at, parent_at, children_at, place_at, IsOver, IsTree}
-use Rattle.jsonc_tree.specs.Values.{DocumentValueOf}
+use Rattle.jsonc_tree.specs.Tree.{Node, content_at, parent_at, children_at, IsOver, IsTree}
 use Rattle.jsonc_tree.proofs.Order.{parent_there}
-use Rattle.jsonc_layout.specs.nodes.Kinds.{is_blank_at, is_comment, is_comment_at, is_newline, is_newline_at, is_trivia, is_whitespace, is_whitespace_at}
+use Rattle.jsonc_layout.specs.nodes.Kinds.{is_comment, is_comment_at, is_newline, is_trivia, is_whitespace}
 use Rattle.jsonc_layout.specs.nodes.Siblings.{AreThere}
 use Rattle.jsonc_layout.proofs.lemmas.nodes.InTree.{children_there}
-use Rattle.jsonc_sound.specs.Documents.{document_of, Shows}
+use Rattle.jsonc_sound.specs.Documents.{document_of}
 use Rattle.jsonc_sound.specs.Leaves.{is_inner_blank}
 use Rattle.jsonc_sound.specs.MarkChanges.{AreBlanks}
 use Rattle.jsonc_sound.specs.Marks as tree_marks
@@ -33,28 +30,19 @@ use Rattle.jsonc_sound.specs.SoundTrees.{SoundTree}
 use Rattle.jsonc_sound.specs.TriviaChanges.{AreTrivia}
 use Rattle.jsonc_sound.proofs.NodesAlone.{document_alone}
 use Rattle.jsonc_sound.proofs.Pieces.{Pieces, document_pieces}
-use Rattle.jsonc_sound.proofs.ShapeTexts.{trivia_utf8}
-use Rattle.jsonc_sound.proofs.ShapeValues.{document_printed}
 use Rattle.jsonc_sound.proofs.Texts.{AllUtf8}
-use Rattle.jsonc_edit.specs.Comments.{blanks_from, comment_at, newline_from, removed_from, space_needed_without, IsRemoved}
-use Rattle.jsonc_edit.specs.remove.Comments.{begins_line, blanks_at, last_cleared, line_behind, or_itself, ClearedBy, IsCleared, AreCleared, none_left, not_there, one_cleared}
-use Rattle.jsonc_edit.specs.remove.CommentLaws.{LoseComments, none_lost, blanks_lost}
+use Rattle.jsonc_edit.specs.Comments.{comment_at}
 use Rattle.jsonc_edit.proofs.CommentOrder.{blanks_uncounted, comments_counted, trivia_in_order, trivia_leaves}
 use Rattle.jsonc_edit.proofs.InOrder.{leaf_at, leaves_in_order, spliced_order, SplicedOrder}
-use Rattle.jsonc_edit.proofs.OneValue.{document_once}
-use Rattle.jsonc_edit.proofs.lemmas.remove.ClearedComments.{line_of, line_place, LineThere}
-use Rattle.jsonc_edit.proofs.lemmas.remove.ClearedSteps.{blanks_trivia, has_left, has_stayed, outcome, over_kept, Outcome, OneGone}
-use Rattle.jsonc_edit.proofs.lemmas.remove.CommentsGone.{comments_gone}
-use Rattle.jsonc_run.specs.texts.Stretches as documents
-use Rattle.jsonc_run.specs.texts.Stretches.{AreSpaces, IsLineEnd}
+use Rattle.jsonc_edit.proofs.lemmas.remove.ClearedSteps.{blanks_trivia}
+use Rattle.jsonc_run.specs.texts.Stretches.{AreSpaces}
 use Rattle.jsonc_run.specs.promise.PlaceLaws.{text_of_leaves}
 use Rattle.jsonc_run.proofs.lemmas.promise.Commenting as commenting
-use Rattle.jsonc_run.proofs.lemmas.promise.CommentTexts.{blanks_text}
 use Rattle.jsonc_run.proofs.lemmas.promise.Leaves.{document_utf8, text_joined, utf8_first, utf8_second}
 use Rattle.jsonc_run.proofs.lemmas.promise.ReplacedTexts.{is_one}
 use Rattle.jsonc_run.proofs.lemmas.promise.Stretches.{blanks_behind_unmarked, marks_in, marks_in_both, parted, pieces_first, pieces_second}
 use Rattle.jsonc_run.proofs.lemmas.promise.Trivia.{first_text, line_end_text, piece_trivia}
-use Rattle.jsonc_cst.specs.typed.Clearing.{RemovesBlanks, RemovesComment, WithItsLine, shares_its_line, whole_line}
+use Rattle.jsonc_cst.specs.typed.Clearing.{RemovesComment, WithItsLine, shares_its_line, whole_line}
 
 -- what stands behind as many as stand before it
 after_all : (xs ys : List ℕ) (n : ℕ) → slice_get (xs ++ n ∷ ys) (length xs) ≡ Some n
@@ -175,7 +163,7 @@ module _ (o : Options) where
       text_was,
       text_is,
       beside_text beside (utf8_first front (before ++ (content.comment text ∷ (after ++ back))) utf8) (utf8_first after back utf8_own.1)
-      (pieces_first o before (content.comment text ∷ (after ++ back)) pieces) (pieces_first o after back pieces_own.1),
+          (pieces_first o before (content.comment text ∷ (after ++ back)) pieces) (pieces_first o after back pieces_own.1),
       (piece_trivia o (content.comment text) refl pieces_own.0).1.1,
       refl,
       refl,
