@@ -93,47 +93,33 @@ fn on_one_line(alloc: Global, between: &str) -> Result<String<Global>, AllocErro
     Ok(line)
 }
 
-/// What is done to the entry in the middle of a line.
-#[derive(Clone, Copy)]
-enum OnLine {
-    Insert(Place),
-    RemoveWithComments,
-}
-
-/// Each with what is between the zeros, the place of the entry, and what is between them then.
-static ON_LINE: [(OnLine, &str, usize, &str); 3] = [
-    (
-        OnLine::Insert(Place::Above),
-        " 1,",
-        30_001,
-        "\n  /* c */\n  1,",
-    ),
-    (OnLine::Insert(Place::After), " 1,", 30_001, " 1, /* c */"),
-    (OnLine::RemoveWithComments, " /* c */ 1,", 30_003, ""),
-];
-
-fn is_made_on_line(doc: CstRootNode<Global>, edit: OnLine, place: usize, after: &str) -> bool {
+/// Of three entries in the middle of a line the first is removed with its comments, and the others get one.
+fn is_commented_on_line(doc: CstRootNode<Global>, after: &str) -> bool {
     let mut doc = doc;
-    let Some(entry) = child_at(&doc, place) else {
+    let (Some(one), Some(two), Some(three)) = (
+        child_at(&doc, 30_003),
+        child_at(&doc, 30_006),
+        child_at(&doc, 30_009),
+    ) else {
         return false;
     };
-    let made = match edit {
-        OnLine::Insert(place) => entry.insert_comment(&mut doc, "/* c */", place),
-        OnLine::RemoveWithComments => entry.remove_with_comments(&mut doc),
-    };
-    made.is_ok() && prints(&doc, after)
+    let removed = one.remove_with_comments(&mut doc);
+    let behind = two.insert_comment(&mut doc, "/* d */", Place::After);
+    let above = three.insert_comment(&mut doc, "// e", Place::Above);
+    removed == Ok(()) && behind == Ok(()) && above == Ok(()) && prints(&doc, after)
+}
+
+fn is_long_line_commented(alloc: Global) -> Result<bool, AllocError> {
+    let text = on_one_line(alloc, " /* c */ 1, 2, 3,")?;
+    let after = on_one_line(alloc, " 2, /* d */\n  // e\n  3,")?;
+    match read(alloc, text.as_str()) {
+        Ok(doc) => Ok(is_commented_on_line(doc, after.as_str())),
+        Err(_) => Ok(false),
+    }
 }
 
 #[test]
 fn entries_on_a_line_of_20000_gain_and_lose_comments(rt: HostRuntime) -> Result<(), Fail> {
-    for (edit, before, place, after) in &ON_LINE {
-        let before = on_one_line(rt.alloc(), before)?;
-        let after = on_one_line(rt.alloc(), after)?;
-        let is_made = match read(rt.alloc(), before.as_str()) {
-            Ok(doc) => is_made_on_line(doc, *edit, *place, after.as_str()),
-            Err(_) => false,
-        };
-        assert!(rt; is_made);
-    }
+    assert!(rt; is_long_line_commented(rt.alloc())?);
     Ok(())
 }
