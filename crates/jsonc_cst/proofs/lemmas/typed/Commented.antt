@@ -1,5 +1,5 @@
 -- A comment was inserted beside an entry: which edit the call is, and which nodes stay.
-use Rattle.std.proofs.Common.{◌≡◌, ◌≢◌, ◌==◌, ◌∙◌, ℕ, true, false, List, [], ◌∷◌, ◌++◌, length, Option, Some, None, Result, Ok, Err, OnErr, OnOk, IsUtf8, inl, inr, refl, sym, ap, subst}
+use Rattle.std.proofs.Common.{◌≡◌, ◌≢◌, ◌==◌, ◌∙◌, ℕ, true, false, List, length, Option, Some, None, Result, Ok, Err, OnErr, OnOk, IsUtf8, inl, inr, refl, sym, ap, subst}
 use Rattle.std.proofs.lemmas.Bool.{and_parts, false≢true, not-true}
 use Rattle.jsonc_text.specs.Options.{Options}
 use Rattle.jsonc_text.specs.declared.edit.Place.{Place}
@@ -18,15 +18,17 @@ use Rattle.jsonc_edit.specs.commenting.Come.{LeavesCome}
 use Rattle.jsonc_edit.specs.commenting.Inserting.{holds_entries, is_entry_at, Comes, MayCome}
 use Rattle.jsonc_edit.proofs.ShapedPlaces.{all_stand}
 use Rattle.jsonc_edit.proofs.Uniqueness.{element_parent}
+use Rattle.jsonc_edit.proofs.lemmas.commas.Holders.{value_at_path}
 use Rattle.jsonc_run.specs.Edits.{insert_comment}
-use Rattle.jsonc_run.specs.Places.{IsEntryAt, an_entry, IsEntryOf}
+use Rattle.jsonc_run.specs.Places.{IsEntryAt}
 use Rattle.jsonc_run.specs.promise.Steps.{IsNoPart}
 use Rattle.jsonc_run.proofs.CommentMade.{leaves_come}
 use Rattle.jsonc_run.proofs.DetachedNodes.{beside_elsewhere}
-use Rattle.jsonc_run.proofs.lemmas.promise.NodePlaces.{made_step, value_entry}
+use Rattle.jsonc_run.proofs.lemmas.promise.NodePlaces.{entry_place, made_step}
 use Rattle.jsonc_cst.specs.typed.Edits.{KeepsDocumentOf}
 use Rattle.jsonc_cst.specs.typed.Steps.{IsInsertingComment}
 use Rattle.jsonc_cst.proofs.lemmas.typed.HandlesKept.{stay_both, stay_kept, stay_spliced, Stays}
+use Rattle.jsonc_cst.proofs.lemmas.typed.Places.{no_root_value}
 
 module _ (old : List Node) (n : ℕ) (entry : is_entry_at old n ≡ true) where
   parts : (is_element_at old n ≡ true) × (holds_entries old (parent_at old n) ≡ true)
@@ -47,21 +49,28 @@ module _ (old : List Node) (n : ℕ) (entry : is_entry_at old n ≡ true) where
         | inr holds ↦ false≢true (sym (ap is_array_or_object is) ∙ holds)
       ]
 
-  -- in a sound document it has a path
-  entry_path : (o : Options) → IsTree old → SoundTree o (ordered_tree old 0) → IsOver old 0 n → (path : List ℕ) × IsEntryAt old path n
-  entry_path o tree sound over =
-      elim (all_stand o old tree sound.shaped n over) [
-        | as_root e ↦ absurd (let wrong : None ≡ Some parent_of_entry.0 = sym tree.root_alone ∙ sym (ap (parent_at old) e) ∙ parent_of_entry.1 in cc)
-        | as_value {path = path} at ↦ value_entry old tree n path at (no_part tree)
-        | as_property {path = path} {p = p} i at outer element named ↦ (path ++ i ∷ [], an_entry path p i at (IsEntryOf.in_object (record { of_object = outer; element = element; is = named })))
-        | as_name r named element ↦ absurd (no_part tree r (element_parent old tree r 0 n element) named)
-        | between over ↦ absurd (false≢true (sym (not-true (is_passed_over (content_at old n)) parts.0) ∙ over))
-      ]
+  no_trivia : is_passed_over (content_at old n) ≡ false
+  no_trivia = not-true (is_passed_over (content_at old n)) parts.0
+
+  -- in a sound document it is no root, and has a path
+  module _ (o : Options) (tree : IsTree old) (sound : SoundTree o (ordered_tree old 0)) (over : IsOver old 0 n) where
+    no_root : content_at old n ≡ content.root → ⊥
+    no_root is =
+        elim (all_stand o old tree sound.shaped n over) [
+          | as_root e ↦ (let wrong : None ≡ Some parent_of_entry.0 = sym tree.root_alone ∙ sym (ap (parent_at old) e) ∙ parent_of_entry.1 in cc)
+          | as_value {path = path} at ↦ no_root_value (value_at_path o old tree sound path n at) is
+          | as_property i at outer element named ↦ (let wrong : content.property ≡ content.root = sym named ∙ is in cc)
+          | as_name r named element ↦ no_part tree r (element_parent old tree r 0 n element) named
+          | between passed ↦ false≢true (sym no_trivia ∙ passed)
+        ]
+
+    entry_path : (path : List ℕ) × IsEntryAt old path n
+    entry_path = entry_place o old tree sound n over (no_root, no_trivia) (no_part tree)
 
 module _ (old new : List Node) (place : Place) (n : ℕ) (text : List ℕ) where
   -- leaves have come among the children of its parent
   pub beside : MayCome place old n text → Comes place old new n text → (c : ℕ) × (parent_at old n ≡ Some c) × (at : ℕ) × (contents : List Content) × LeavesCome old new c at contents
-  beside may comes = let up = parent_of_entry old n may.entry in (up.0, up.1, leaves_come old new n up.0 text up.1 place comes)
+  beside may comes = let up = parent_of_entry old n may.entry in let row = leaves_come old new n up.0 text up.1 place comes in (up.0, up.1, row.0, row.1, row.2)
 
   stays : MayCome place old n text → Comes place old new n text → Stays old new
   stays may comes = let r = (beside may comes).4 in stay_both old r.ready new (stay_kept old r.ready r.prepared.keeps) (stay_spliced r.ready new _ _ _ _ r.put)
@@ -86,5 +95,5 @@ module _ (old new : List Node) (place : Place) (n : ℕ) (text : List ℕ) where
 
       pub comment_step : IsUtf8 text → (r : Result T E) → OnOk r (MayCome place old n text) → OnOk r (Comes place old new n text) → OnOk r (IsInsertingComment old new n place text)
       comment_step utf8 (Ok x) may comes =
-          made_step old new tree after IsEntryAt (λ path. insert_comment path place text) n (λ path. utf8) (λ o sound. entry_path old n may.entry o tree sound) (λ path over at. (n, at, (may, comes)))
+          made_step old new tree after IsEntryAt (λ path. insert_comment path place text) n (λ path. utf8) (λ o sound over. entry_path old n may.entry o tree sound over) (λ path over at. (n, at, (may, comes)))
       comment_step utf8 (Err e) may comes = tt

@@ -85,7 +85,7 @@ no_property_value (alone.an_array g) e = let wrong : content.array ≡ content.p
 no_property_value (alone.an_object g) e = let wrong : content.object ≡ content.property = e in cc
 
 -- nor is one the root
-no_root_value : {o : Options} {c : Content} {below : OrderedTree} → ValueAlone o c below → c ≡ content.root → ⊥
+pub no_root_value : {o : Options} {c : Content} {below : OrderedTree} → ValueAlone o c below → c ≡ content.root → ⊥
 no_root_value {o} (alone.literal {content = c} l) e = subst (λ c. IsLiteralBefore o c []) e l
 no_root_value (alone.an_array g) e = let wrong : content.array ≡ content.root = e in cc
 no_root_value (alone.an_object g) e = let wrong : content.object ≡ content.root = e in cc
