@@ -2,7 +2,6 @@ use Rattle.std.proofs.Common.{rules, ◌≡◌, true, IfErr, OnOk, OnErr, length
 use Rattle.jsonc_layout.specs.nodes.Properties.{lacks_name_at}
 use Rattle.jsonc_text.specs.declared.edit.EditError.TheVariants.{MissingName}
 use Rattle.jsonc_edit.specs.set.PropertyValues.{EnsureValueError}
-use Rattle.jsonc_insert.specs.named.Places.{IsPropertyAt}
 use Rattle.jsonc_edit.specs.set.Shapes.{is_of}
 use Rattle.jsonc_run.proofs.EditsMade.{answers, not_found}
 use Rattle.jsonc_run.proofs.ValueMade.{property_kind, unset_answer}

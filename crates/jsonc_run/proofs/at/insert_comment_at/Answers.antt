@@ -1,4 +1,3 @@
-use Rattle.jsonc_run.specs.Places.{IsEntryAt}
 use Rattle.jsonc_run.proofs.CommentMade.{comment_made, comment_told}
 use Rattle.jsonc_run.proofs.EditsMade.{answers, not_found}
 use Rattle.jsonc_run.specs.Edits.{insert_comment}

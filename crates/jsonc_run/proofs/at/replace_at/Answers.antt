@@ -1,7 +1,6 @@
 use Rattle.std.proofs.Common.{◌≡◌, None, refl, sym, subst}
 use Rattle.jsonc_layout.specs.input.Views.{plain}
 use Rattle.jsonc_tree.specs.Tree.{parent_at}
-use Rattle.jsonc_edit.specs.Paths.{IsAt}
 use Rattle.jsonc_edit.specs.Reading.{IsReplaced}
 use Rattle.jsonc_run.specs.Edits.{replace}
 use Rattle.jsonc_run.specs.Refusals.{FailsWith, as_it_was}

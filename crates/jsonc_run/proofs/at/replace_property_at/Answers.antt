@@ -4,7 +4,6 @@ use Rattle.jsonc_tree.specs.Tree.{parent_at}
 use Rattle.jsonc_text.specs.declared.edit.EditError.TheVariants.{OutOfMemory}
 use Rattle.jsonc_edit.specs.set.Giving.{IsPropertyReplaced}
 use Rattle.jsonc_run.specs.Edits.{replace_property, EditStep}
-use Rattle.jsonc_insert.specs.named.Places.{IsPropertyAt}
 use Rattle.jsonc_run.specs.Refusals.{FailsWith}
 use Rattle.jsonc_run.proofs.EditsMade.{answers, none_is, not_found, property_not_alone, some_is, told_of_memory}
 use Rattle.jsonc_tree.specs.Building.{Keeps}

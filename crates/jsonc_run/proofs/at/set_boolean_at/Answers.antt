@@ -1,4 +1,3 @@
-use Rattle.jsonc_run.specs.Places.{IsBooleanAt}
 use Rattle.jsonc_run.proofs.Booleans.{boolean_made, boolean_told}
 use Rattle.jsonc_run.proofs.EditsMade.{answers, not_found}
 use Rattle.jsonc_run.specs.Edits.{set_boolean}

@@ -1,7 +1,5 @@
-use Rattle.jsonc_run.specs.Places.{IsContainerAt}
 use Rattle.jsonc_run.proofs.CommasSet.{commas_left, commas_made, commas_told}
 use Rattle.jsonc_run.proofs.EditsMade.{not_found}
-use Rattle.jsonc_run.specs.Edits.{set_commas}
 use Rattle.jsonc_run.proofs.at.set_commas_at.Goals as goal
 
 pub returns-in_default : goal.returns-in_default

@@ -3,7 +3,6 @@ use Rattle.jsonc_layout.specs.input.Views.{plain}
 use Rattle.jsonc_layout.specs.nodes.Properties.{value_at}
 use Rattle.jsonc_text.specs.declared.edit.EditError.TheVariants.{OutOfMemory}
 use Rattle.jsonc_run.specs.Edits.{set_value, EditStep}
-use Rattle.jsonc_insert.specs.named.Places.{IsPropertyAt}
 use Rattle.jsonc_run.specs.Refusals.{FailsWith}
 use Rattle.jsonc_run.proofs.EditsMade.{answers, not_found, told_of_memory}
 use Rattle.jsonc_run.proofs.ValueMade.{property_kind, property_value_set}

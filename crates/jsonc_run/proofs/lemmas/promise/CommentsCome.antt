@@ -1,7 +1,7 @@
 -- Where a comment comes into a sound tree, it comes into the text so.
-use Rattle.std.proofs.Common.{ℕ, ◌≡◌, ◌∙◌, sym, ap, subst, refl, Bool, true, false, List, [], ◌∷◌, ◌++◌, Option, IsTrue, chars}
+use Rattle.std.proofs.Common.{ℕ, ◌≡◌, ◌∙◌, sym, ap, subst, refl, List, [], ◌∷◌, ◌++◌, Option, IsTrue, chars}
 use Rattle.std.specs.List.{list_any}
-use Rattle.std.proofs.lemmas.List.{append-nil, append_assoc}
+use Rattle.std.proofs.lemmas.List.{append_assoc}
 use Rattle.std.proofs.lemmas.Str.{chars-nil, chars-IsAscii}
 use Rattle.std.proofs.Common.{rules}
 use Rattle.jsonc_text.specs.Options.{Options}
@@ -18,10 +18,7 @@ use Rattle.jsonc_sound.specs.Documents.{all_marks, document_of}
 use Rattle.jsonc_sound.specs.Marks as tree_marks
 use Rattle.jsonc_sound.proofs.ReplacedStretches.{blanks_unmarked}
 use Rattle.jsonc_sound.proofs.ShapeValues.{comma_mark}
-use Rattle.jsonc_edit.specs.Put.{a_space}
 use Rattle.jsonc_run.specs.texts.Paths.{Entry}
-use Rattle.jsonc_run.specs.texts.Stretches.{Come, InLine}
-use Rattle.jsonc_run.specs.texts.Stretches as documents
 use Rattle.jsonc_run.specs.texts.Commenting as texts
 use Rattle.jsonc_run.specs.texts.Commenting.{ComesBetween, ComesAbove, ComesBehind, InsertsComment, EndsLine, CommentTrail}
 use Rattle.jsonc_run.specs.texts.Edits as edits

@@ -1,11 +1,11 @@
 -- The entry at a path, its node between leaves, and its text.
-use Rattle.std.proofs.Common.{ℕ, ◌≡◌, ◌∙◌, sym, ap, subst, refl, Bool, true, false, ◌==◌, ◌||◌, List, [], ◌∷◌, ◌++◌, Some, IsTrue}
+use Rattle.std.proofs.Common.{ℕ, ◌≡◌, ◌∙◌, sym, ap, subst, refl, ◌==◌, List, [], ◌∷◌, ◌++◌, IsTrue}
 use Rattle.std.proofs.lemmas.List.{append_assoc}
 use Rattle.jsonc_text.specs.Options.{Options}
 use Rattle.jsonc_text.proofs.Basics.{or_right}
-use Rattle.jsonc_tree.specs.Content.{Content, array, object, property}
+use Rattle.jsonc_tree.specs.Content.{Content}
 use Rattle.jsonc_tree.specs.OrderedTree.{OrderedTree, leaves, ordered_tree, Top}
-use Rattle.jsonc_tree.specs.Tree.{Node, children_at, content_at, parent_at, IsOver, IsTree}
+use Rattle.jsonc_tree.specs.Tree.{Node, children_at, IsOver, IsTree}
 use Rattle.jsonc_layout.specs.lines.Kinds.{is_array_or_object}
 use Rattle.jsonc_layout.specs.nodes.Kinds.{is_element_at}
 use Rattle.jsonc_sound.specs.Shape.{printed_text}
@@ -15,14 +15,13 @@ use Rattle.jsonc_sound.proofs.Texts.{AllUtf8}
 use Rattle.jsonc_edit.specs.Changes.{row_below, top_at}
 use Rattle.jsonc_edit.specs.Paths.{IsElementOf, LeadsTo, itself}
 use Rattle.jsonc_edit.specs.Seams.{StandsBetween}
-use Rattle.jsonc_edit.specs.SeamPlaces.{RowHolds, DocumentHolds}
-use Rattle.jsonc_edit.specs.SeamEntries.{PropertyHolds}
+use Rattle.jsonc_edit.specs.SeamPlaces.{DocumentHolds}
 use Rattle.jsonc_edit.proofs.Elements.{stands_at}
 use Rattle.jsonc_edit.proofs.PathPlaces.{at_between, element_between, stands_once}
 use Rattle.jsonc_edit.proofs.SeamsOfEntries.{property_front, property_back, property_stands, property_holds}
 use Rattle.jsonc_edit.proofs.Uniqueness.{element_parent}
 use Rattle.jsonc_edit.proofs.lemmas.multiline.Documents.{over_at}
-use Rattle.jsonc_run.specs.Places.{IsEntryAt, the_value, an_entry, IsEntryOf, in_array, in_object}
+use Rattle.jsonc_run.specs.Places.{IsEntryAt, the_value, an_entry, in_array, in_object}
 use Rattle.jsonc_run.specs.EntriesHeld as held
 use Rattle.jsonc_run.specs.EntriesHeld.{EntryHolds, an_element, a_property}
 use Rattle.jsonc_edit.specs.commenting.Laws.{IsEntry}
