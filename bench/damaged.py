@@ -4,11 +4,12 @@ The definitions speak of whole documents. So what is missing is put back: where 
 with which the definitions say that the edit makes this of the whole document; and where the edit is refused for another reason than in that, what is missing is
 something that it needs.
 """
+import itertools
 import re
 import typing
 
-from definitions import document_of, gap_end, lexeme
-from edits import drawn_edit, edit_of, makes, refusal
+from definitions import document_of, gap_end, is_seam, lexeme
+from edits import EDITS, drawn_edit, edit_of, makes, refusal
 
 
 class Damage(typing.NamedTuple):
@@ -57,7 +58,7 @@ def is_below(path, other):
 
 def may_need(document, edit, damage):
     """The errors that an edit may have since this is missing, or None where it may do something else than in the whole document."""
-    name, path = edit[0], edit[1] if len(edit) > 1 and isinstance(edit[1], tuple) else ()
+    name, path = edit[0], edit[1] if EDITS[edit[0]].words.startswith('path') else ()
     if damage.part == 'bracket':
         is_needed = damage.path in (path, path[:-1]) or name == 'SetTrailingCommas' and is_below(damage.path, path)
         # (a comma that is last in an array or object is taken for its bracket)
@@ -69,14 +70,26 @@ def may_need(document, edit, damage):
     return {'NoSuchPlace', 'MissingName'} if is_below(path, damage.path) or name == 'EnsureProperty' and path == damage.path[:-1] else set()
 
 
+def put_back(text, part, places):
+    """The documents that the text may be with this part put back, and where: those first where it stands at one of the places. A space leaves that stands there, and
+    without the part between literals without quotes."""
+    for place in sorted(range(len(text) + 1), key=lambda place: place not in places):
+        yield document_of(text[:place] + part + text[place:]), place
+        if text[place:place + 1] == ' ' and is_seam(text[:place], text[place + 1:], ' '):
+            yield document_of(text[:place] + part + text[place + 1:]), place
+
+
 def after_edit(old, edit, lost, made):
-    """The document that the edit makes of the whole one, where the text is what it makes of the damaged one, and where in it the lost part stands; or None."""
+    """The document that the edit makes of the whole one, where the text is what it makes of the damaged one, and where in it the lost part stands; or None. What is
+    lost may stand elsewhere among the blanks and comments around it."""
     start, part = lost
-    places = [start, len(made) - (len(old.text) - start - len(part))]
-    for place in [None, *places, *(place for place in range(len(made) + 1) if place not in places)]:
-        new = document_of(made if place is None else made[:place] + part + made[place:])
-        if new is not None and makes(old, edit, new):
-            return new, place
+    damaged = old.text[:start] + old.text[start + len(part):]
+    places = [start, len(made) - len(damaged) + start]
+    olds = (document for document, _ in put_back(damaged, part, [start]) if document is not None and (document.value, document.marks) == (old.value, old.marks))
+    for whole in itertools.chain([old], olds):
+        for new, place in itertools.chain([(document_of(made), None)], put_back(made, part, places)):
+            if new is not None and makes(whole, edit, new):
+                return new, place
     return None
 
 
@@ -89,8 +102,8 @@ def lacking(document, place, text, part):
 
 
 def random_lists(answers, drawn, count):
-    """Draws damaged documents and lists of one to three edits of each, and yields for each edit its name, the list, the text before and after it, and whether all is as it
-    must be. `answers` tells what the library makes of texts by lists of edits."""
+    """Draws damaged documents and lists of one to three edits of each, and yields for each edit its name, the list, the text before and after it, and whether all
+    is as it must be. `answers` tells what the library makes of texts by lists of edits."""
     whole = []
     while len(whole) < count:
         document = document_of(drawn.text())
@@ -98,7 +111,8 @@ def random_lists(answers, drawn, count):
         if found:
             whole.append((document, drawn.draw.choice(found)))
     damaged = answers([(document.text, [damage.edit]) for document, damage in whole])
-    # each a text and the edits so far; what the library has made of it; the whole document that this would be; what that lost, and where; and how many edits there are to be
+    # each a text and the edits so far; what the library has made of it; the whole document that this would be; what that lacks, where that stood, and its text; and
+    # how many edits there are to be
     lists = [(document.text, [damage.edit], made, document, damage, missing(document.text, made, damage), drawn.draw.choice([2, 2, 3, 3, 4]))
              for (document, damage), (_, made) in zip(whole, damaged) if '/' not in missing(document.text, made, damage)[1]]
     while lists:
@@ -113,7 +127,7 @@ def random_lists(answers, drawn, count):
             stopped = 'stop %d ' % (len(edits) - 1)
             good = new is not None if outcome == 'ok' else made == now and outcome in {stopped + str(why) for why in {refusal(old, edit), *errors}}
             yield edit[0] if outcome == 'ok' else outcome.removeprefix(stopped), (text, edits, now, made), good
-            again = lacking(*new, made, damage.part) if new and new[1] is not None else []
+            again = lacking(*new, made, damage.part) if new and len(new[0].text) == len(made) + len(lost[1]) else []
             # (where two brackets stand side by side each may be the one that is missing)
             if len(again) == 1 and len(edits) < most and len(made) <= 120:
                 left.append((text, edits, made, new[0], again[0], (again[0].start if damage.part != 'name' else new[1], lost[1]), most))

@@ -1,6 +1,7 @@
 pub mod Around
 pub mod AsCalls
 pub mod Calls
+pub mod Clearing
 pub mod Commas
 pub mod Commenting
 pub mod Edits

@@ -1,5 +1,5 @@
 -- The value of a command's JSON text may be written into any document that allows all.
-use Rattle.std.proofs.Common.{◌≡◌, List, ℕ, chars, Option, Some, None, option_map, refl, sym, ap, subst, ◌∙◌}
+use Rattle.std.proofs.Common.{◌≡◌, List, ℕ, chars, Option, Some, None, IfSome, option_map, refl, sym, ap, subst, ◌∙◌}
 use Rattle.std.specs.Borrow.{Bor}
 use Rattle.std.specs.declared.string.String.{String}
 use Rattle.std.specs.declared.vec.Vec.{Vec}
@@ -21,7 +21,7 @@ use Rattle.jsonc_engine.specs.Command.{put, request_of}
 
 -- what was read of a JSON text tells of its value
 module _ {A : Type 0} (json : List ℕ) (o : Options) (all : o ≡ all_on) (found : Option (CstInputValue A)) (read : IsValueOfText o json (option_map plain found)) where
-  pub argument_is : (v : CstInputValue A) → found ≡ Some v → IsWritable o (plain v) → IsArgument json (plain v)
+  pub argument_is : (v : CstInputValue A) → found ≡ Some v → IfSome found (λ w. IsWritable o (plain w)) → IsArgument json (plain v)
   argument_is v is writable = go read.value read.document (ap (option_map plain) (sym is) ∙ read.collapsed)
     where
       go : (w : Option Plain) → IsDocument o (chars json) w → option_map plain (Some v) ≡ option_map collapse w → IsArgument json (plain v)
@@ -32,13 +32,13 @@ module _ {A : Type 0} (json : List ℕ) (o : Options) (all : o ≡ all_on) (foun
             value = x;
             document = subst (λ (p : Options). IsDocument p (chars json) (Some x)) all d;
             collapsed = same;
-            writable = subst (λ (p : Options). IsWritable p (plain v)) all writable;
+            writable = subst (λ (p : Options). IsWritable p (plain v)) all (subst (λ (f : Option (CstInputValue A)). IfSome f (λ w. IsWritable o (plain w))) is writable);
           }
 
   pub no_argument : found ≡ None → IsDocument all_on (chars json) None
   no_argument is = go read.value read.document (ap (option_map plain) (sym is) ∙ read.collapsed)
     where
-      go : (w : Option Plain) → IsDocument o (chars json) w → option_map plain {X = CstInputValue A} None ≡ option_map collapse w → IsDocument all_on (chars json) None
+      go : (w : Option Plain) → IsDocument o (chars json) w → None ≡ option_map collapse w → IsDocument all_on (chars json) None
       go None d e = subst (λ (p : Options). IsDocument p (chars json) None) all d
       go (Some x) d e = cc
 

@@ -29,6 +29,8 @@
 //! from one parent to another, and after any list of calls the nodes are a tree; calls that are refused, or
 //! of nodes that are not in the document, leave it as it was ([`calls_keep_parents`]); and what each call
 //! of a typed node says is such a call ([`typed_calls_are_calls`]).
+//! What becomes of the text of a sound document is the step of the call, and what becomes of its tree follows from
+//! what the call says of the nodes, by the laws of [`nodes`].
 //! Where commas may not be missing no space is due where children are removed ([`nearest_tell`]), so a removal from
 //! a sound document wants no memory, of a value, a property or a comment ([`removals_want_no_memory`]).
 //!

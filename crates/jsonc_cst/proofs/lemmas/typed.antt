@@ -18,5 +18,8 @@ pub mod Calls
 pub mod RootShapes
 pub mod HeldShapes
 pub mod Renamed
+pub mod ClearedTexts
+pub mod ClearedRows
+pub mod ClearedChains
 pub mod ClearedEntries
 pub mod Commented

@@ -1,10 +1,12 @@
 -- What is taken out with a node, by its kind, and why it is not.
 use Rattle.std.specs.Prelude.{◌≡◌, ℕ, ◌+◌, ◌⊎◌, List, [], ◌∷◌, length, Some, None, IsTrue}
 use Rattle.jsonc_text.specs.Options.{Options}
+use Rattle.jsonc_text.specs.Documents.{Document}
 use Rattle.jsonc_tree.specs.Changes.{Splices}
 use Rattle.jsonc_tree.specs.OrderedTree.{ordered_tree}
 use Rattle.jsonc_tree.specs.Tree.{Node, content_at, parent_at, children_at, place_at, IsOver, IsTree}
 use Rattle.jsonc_layout.specs.lines.Kinds.{is_array_or_object}
+use Rattle.jsonc_sound.specs.Documents.{Shows}
 use Rattle.jsonc_sound.specs.SoundTrees.{SoundTree}
 use Rattle.jsonc_text.specs.declared.edit.EditError.{EditError}
 use Rattle.jsonc_text.specs.declared.edit.EditError.TheVariants.{OutOfMemory}
@@ -23,7 +25,9 @@ use Rattle.jsonc_cst.specs.declared.cst.node.CstNode.TheVariants.{Container, Lea
 use Rattle.jsonc_cst.specs.Document.{nodes_of}
 use Rattle.jsonc_cst.specs.EntryComments.{comment_numbers}
 use Rattle.jsonc_cst.specs.Nodes.{number_of}
+use Rattle.jsonc_cst.specs.typed.Clearing.{LosesComments}
 use Rattle.jsonc_cst.specs.typed.Edits.{IsDetached, KeepsDocumentOf}
+use Rattle.jsonc_cst.specs.typed.Steps.{IsRemoving}
 use Rattle.jsonc_cst.specs.declared.typed.removing.Removal.{Removal}
 use Rattle.jsonc_cst.specs.declared.typed.removing.Removal.TheVariants.{Clearing, OfComment, OfElement, OfLeaf}
 
@@ -160,14 +164,23 @@ abbrev pub AreClearedIfAny : List Node → List Node → ℕ → List ℕ → Ty
 AreClearedIfAny old new c [] = new ≡ old
 AreClearedIfAny old new c (n ∷ rest) = AreCleared old new c (n ∷ rest)
 
--- the node has been taken out of its container, c, and then those of these comments that c had still, each that was alone on its line with the line
+-- What the removal of these comments, after that of an entry, makes of the document that the nodes show then, if it is sound: it loses those that are still
+-- there, one after another, each that is alone on its line with the line.
+abbrev pub CommentsRemoved : List Node → List Node → ℕ → List ℕ → Type 0
+CommentsRemoved old new c comments = IsOver old 0 c → IsTrue (is_array_or_object (content_at old c)) → (d : Document) → Shows d (ordered_tree old 0)
+    → (e : Document) × Shows e (ordered_tree new 0) × LosesComments c new e old d comments
+
+-- The node has been removed from its container, c, which is one step of the chain, and then those of these comments that c had still, each that was alone on its
+-- line with the line: each a further step.
 pub record IsTakenWithComments (r : Removal) (old new : List Node) (n c : ℕ) (comments : List ℕ) : Type 0 where
   pub without : List Node
   pub tree : IsTree without
   pub taken : IsTakenBy r old without n
   pub written : (o : Options) → IsWrittenBy r o old without n
   pub around : (o : Options) → StaysAround r o old without n
+  pub step : IsRemoving old without r n
   pub cleared : AreClearedIfAny without new c comments
+  pub steps : CommentsRemoved without new c comments
 
 module _ {A : Type 0} where
   -- so it is wherever the node has a parent

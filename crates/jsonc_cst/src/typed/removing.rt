@@ -149,8 +149,13 @@ impl CstNode {
     /// Removes it from the document, and with an entry the comments that belong to it.
     ///
     /// These are those that [`CstRootNode::comments_of`] answers. Each that is alone on its line is removed
-    /// with the line. All else is as [`CstNode::remove`] says; of a node that is no entry it is that. On an
-    /// error the document stays as it was.
+    /// with the line, any other alone or with whitespace directly before it. If the document is sound, so is what
+    /// [`CstNode::remove`] makes of it, and what the removal of each comment makes of that: the value and all
+    /// other literals and comments stay. A comment stays where a space would be needed in its place, between
+    /// two literals without quotes; without `allow_missing_commas` that is none.
+    ///
+    /// All else is as [`CstNode::remove`] says; of a node that is no entry it is that. On an error the
+    /// document stays as it was.
     pub fn remove_with_comments<A: Allocator + Copy>(
         self,
         doc: &mut CstRootNode<A>,

@@ -26,12 +26,18 @@ fn edited<A: Allocator + Copy>(alloc: A, row: &Row<'_>) -> Result<String<A>, Edi
     edit_text(alloc, row.1, &ParseOptions::default(), edits, &compare)
 }
 
-/// The edits of a row lead to its last text, or the first that has no place is told by its number.
+/// The edits of a row lead to its last text, or the first that has no place, or whose comment is refused, is told by its
+/// number.
 fn outcome<A: Allocator + Copy>(alloc: A, row: &Row<'_>) -> Outcome {
     match edited(alloc, row) {
         Ok(text) => Outcome::of(row.2.last() == Some(&text.as_str())),
         Err(EditTextError::Parse(error)) => Outcome::from(error),
-        Err(EditTextError::Edit(made, EditError::NoSuchPlace)) => Outcome::of(made == row.2.len()),
+        Err(
+            EditTextError::Edit(
+                made,
+                EditError::NoSuchPlace | EditError::InvalidComment | EditError::LineContinues,
+            ),
+        ) => Outcome::of(made == row.2.len()),
         Err(EditTextError::Edit(_, error)) => Outcome::from(error),
     }
 }

@@ -1,14 +1,17 @@
 -- An entry is taken out, and then its comments.
-use Rattle.std.proofs.Common.{◌≡◌, inl, inr, ℕ, ◌<◌, Bool, true, false, cond, not, List, [], ◌∷◌, length, slice_range, Option, Some, None, Result, Ok, Err, is_ok, IfErr, OnOk, refl, sym, ap, subst, ◌∙◌, arith}
+use Rattle.std.proofs.Common.{◌≡◌, inl, inr, ℕ, ◌<◌, Bool, true, false, cond, ◌==◌, if◌then◌else◌, filter, IsTrue, ◌++◌, not, List, [], ◌∷◌, length, slice_range, Option, Some, None, Result, Ok, Err, is_ok, IfErr, OnOk, refl, sym, ap, subst, ◌∙◌, arith}
 use Rattle.std.specs.List.{All}
 use Rattle.std.proofs.lemmas.Bool.{cases_Bool}
-use Rattle.std.proofs.lemmas.List.Elements.{All-weaker}
+use Rattle.std.proofs.lemmas.List.Elements.{All-cons, All-head, All-nil, All-tail, All-weaker}
 use Rattle.jsonc_text.specs.declared.edit.EditError.{EditError}
 use Rattle.jsonc_text.specs.declared.edit.EditError.TheVariants.{OutOfMemory}
 use Rattle.jsonc_tree.specs.Changes.{Splices}
 use Rattle.jsonc_tree.specs.Content as content
 use Rattle.jsonc_tree.specs.Content.{Content, is_container}
 use Rattle.jsonc_tree.specs.Tree.{Node, content_at, children_at, parent_at, is_container_at, is_in, IsTree}
+use Rattle.jsonc_layout.specs.nodes.Kinds.{is_comment, is_comment_at}
+use Rattle.jsonc_sort.specs.Leads.{own_lead}
+use Rattle.jsonc_sort.specs.Parts.{Part}
 use Rattle.jsonc_edit.specs.Comments.{space_needed_without}
 use Rattle.jsonc_edit.specs.remove.Removed.{is_hollow, IsClosedUp}
 use Rattle.jsonc_edit.specs.remove.Comments.{begins_line, blanks_at, AreCleared, ClearedBy, IsCleared, none_left, not_there, one_cleared}
@@ -21,11 +24,13 @@ use Rattle.jsonc_cst.specs.declared.cst.CstRootNode.{CstRootNode}
 use Rattle.jsonc_cst.specs.declared.typed.removing.Removal.{Removal}
 use Rattle.jsonc_cst.specs.declared.typed.removing.Removal.TheVariants.{Clearing, OfComment, OfElement, OfLeaf}
 use Rattle.jsonc_cst.specs.Document.{nodes_of}
-use Rattle.jsonc_cst.specs.EntryComments.{comment_numbers}
+use Rattle.jsonc_cst.specs.EntryComments.{comment_numbers, comments_around, comments_at, comments_of_part, is_entry_at}
 use Rattle.jsonc_cst.specs.typed.Calls.{IsRemoval, IsRemovalWithComments}
-use Rattle.jsonc_cst.specs.typed.Removing.{removal_of, AreClearedIfAny, EntryCleared, IsDetachedBy, IsKeptIn, IsKeptWithComments, IsLooseFor}
+use Rattle.jsonc_cst.specs.typed.Removing.{removal_of, AreClearedIfAny, CommentsRemoved, EntryCleared, IsDetachedBy, IsKeptIn, IsKeptWithComments, IsLooseFor}
 use Rattle.jsonc_cst.proofs.Family.{number_of-typed, typed_held}
+use Rattle.jsonc_cst.proofs.lemmas.typed.ClearedChains.{steps_made}
 use Rattle.jsonc_cst.proofs.lemmas.typed.Detached.{nobodys}
+use Rattle.jsonc_cst.proofs.lemmas.typed.Places.{comment_kind}
 use Rattle.jsonc_cst.proofs.lemmas.typed.HandlesKept.{nodes_stay, stay_both, stay_same, stay_spliced, Stays}
 
 -- nodes that are there still are there by their numbers, and containers are ones
@@ -61,6 +66,48 @@ module _ (old new : List Node) (handles : NodesStillThere old new) (n : ℕ) (th
   pub contains_still : is_container_at new n ≡ is_container_at old n
   contains_still =
       sym (holder_typed (content_at new n) n) ∙ ap is_holder (subst (λ k. typed_at new k ≡ typed_at old n) same held.1) ∙ holder_typed (content_at old n) n
+
+-- comments are still comments
+module _ (old new : List Node) (handles : NodesStillThere old new) where
+  kind_comment : (x : Content) (n : ℕ) → IsTrue (is_comment x) → removal_of (typed x n) ≡ OfComment
+  kind_comment (content.comment s) n h = refl
+  kind_comment x n h = cc
+
+  comment_still : (n : ℕ) → n < length old → IsTrue (is_comment_at old n) → IsTrue (is_comment_at new n)
+  comment_still n there h =
+      let same : typed_at new n ≡ typed_at old n = subst (λ k. typed_at new k ≡ typed_at old n) (number_of-typed (content_at old n) n) (handles (typed_at old n) (typed_held old n there)).1 in
+      comment_kind (content_at new n) n (ap removal_of same ∙ kind_comment (content_at old n) n h)
+
+  pub comments_still : (ns : List ℕ) → All (λ n. n < length old) ns → All (λ n. IsTrue (is_comment_at old n)) ns → All (λ n. IsTrue (is_comment_at new n)) ns
+  comments_still [] there h = All-nil (λ n. IsTrue (is_comment_at new n))
+  comments_still (n ∷ ns) there h =
+      All-cons (λ k. IsTrue (is_comment_at new k)) n ns (comment_still n (All-head (λ k. k < length old) n ns there) (All-head (λ k. IsTrue (is_comment_at old k)) n ns h))
+      (comments_still ns (All-tail (λ k. k < length old) n ns there) (All-tail (λ k. IsTrue (is_comment_at old k)) n ns h))
+
+-- those of an entry are comments
+filtered : (p : ℕ → Bool) (xs : List ℕ) → All (λ n. IsTrue (p n)) (filter p xs)
+filtered p [] = All-nil (λ n. IsTrue (p n))
+filtered p (x ∷ xs) = by (p x) refl (filtered p xs)
+  where
+    by : (b : Bool) → p x ≡ b → All (λ n. IsTrue (p n)) (filter p xs) → All (λ n. IsTrue (p n)) (cond b (x ∷ filter p xs) (filter p xs))
+    by true h rest = All-cons (λ n. IsTrue (p n)) x (filter p xs) h rest
+    by false h rest = rest
+
+part_comments : (at : ℕ → Content) (n : ℕ) (lead : List ℕ) (ps : List Part) → All (λ m. IsTrue (is_comment (at m))) (comments_of_part at n lead ps)
+part_comments at n lead [] = All-nil (λ m. IsTrue (is_comment (at m)))
+part_comments at n lead (part ∷ rest) = by (part.element == n) (part_comments at n part.behind rest)
+  where
+    by : (b : Bool) → All (λ m. IsTrue (is_comment (at m))) (comments_of_part at n part.behind rest)
+        → All (λ m. IsTrue (is_comment (at m))) (if b then comments_around at lead part.tail else comments_of_part at n part.behind rest)
+    by true more = filtered (λ m. is_comment (at m)) (own_lead at lead ++ part.tail)
+    by false more = more
+
+entry_comments : {A : Type 0} (d : CstRootNode A) (node : CstNode) → All (λ n. IsTrue (is_comment_at (nodes_of d) n)) (comment_numbers d node)
+entry_comments d node = by (is_entry_at (nodes_of d) (number_of node))
+  where
+    by : (b : Bool) → All (λ n. IsTrue (is_comment_at (nodes_of d) n)) (if b then comments_at (nodes_of d) (number_of node) else [])
+    by true = part_comments (content_at (nodes_of d)) (number_of node) _ _
+    by false = All-nil (λ n. IsTrue (is_comment_at (nodes_of d) n))
 
 -- a node's parent is a container
 pub parent_contains : (ns : List Node) → IsTree ns → (n c : ℕ) → parent_at ns n ≡ Some c → is_container_at ns c ≡ true
@@ -192,9 +239,9 @@ module _ {A : Type 0} (old : CstRootNode A) (node : CstNode) where
 
   -- and then its comments leave
   pub cleared_entry : (mid new : CstRootNode A) (c : ℕ) → parent_at (nodes_of old) (number_of node) ≡ Some c → IsTree (nodes_of mid) → IsTree (nodes_of new) → (r : Result (Unit {0}) EditError) → is_ok r ≡ true → IsRemoval old mid node r
-      → AreClearedIfAny (nodes_of mid) (nodes_of new) c (comment_numbers old node) → IsRemovalWithComments old new node r
-  cleared_entry mid new c said between after (Err e) made i cleared = absurd (let wrong : false ≡ true = made in cc)
-  cleared_entry mid new c said between after (Ok u) made i cleared = record {
+      → All (λ n. n < length (nodes_of old)) (comment_numbers old node) → AreClearedIfAny (nodes_of mid) (nodes_of new) c (comment_numbers old node) → IsRemovalWithComments old new node r
+  cleared_entry mid new c said between after (Err e) made i there cleared = absurd (let wrong : false ≡ true = made in cc)
+  cleared_entry mid new c said between after (Ok u) made i there cleared = record {
     removed = λ d told.
         let both : Some c ≡ Some d = sym said ∙ told in
         let same : c ≡ d = cc in
@@ -204,7 +251,11 @@ module _ {A : Type 0} (old : CstRootNode A) (node : CstNode) where
           taken = i.removed;
           written = i.written;
           around = i.around;
+          step = i.step;
           cleared = subst (λ k. AreClearedIfAny (nodes_of mid) (nodes_of new) k (comment_numbers old node)) same cleared;
+          steps =
+              subst (λ k. CommentsRemoved (nodes_of mid) (nodes_of new) k (comment_numbers old node)) same
+              (steps_made (nodes_of mid) (nodes_of new) c (comment_numbers old node) between after (comments_still (nodes_of old) (nodes_of mid) i.handles (comment_numbers old node) there (entry_comments old node)) cleared);
         };
     alone = λ none. absurd (let wrong : None ≡ Some c = sym none ∙ said in cc);
     gone = detached_still (removal_of node) (nodes_of mid) (nodes_of new) c (comment_numbers old node) (number_of node) after cleared i.gone;

@@ -52,6 +52,7 @@ returns g c =
           let numbers : w.deref.result.now ≡ comment_numbers old node = w.deref.ensures.value ∙ c.in-Ok.ensures.numbers ∙ ap (comment_numbers old) c.node-entry.ensures in
           subst (λ d. IsRemovalWithComments old d node r) (sym w.doc-is)
           (cleared_entry old node mid _ c.in-Some.container said mid.tree.tree w.clear_any.new.tree.tree r (sym c.is_ok.ensures.value ∙ w.if-is_ok.true) removal
+          (subst (All (λ n. n < length old.tree.nodes)) (c.in-Ok.ensures.numbers ∙ ap (comment_numbers old) c.node-entry.ensures) c.in-Ok.ensures.in_tree)
           (subst (AreClearedIfAny mid.tree.nodes w.clear_any.new.tree.nodes c.in-Some.container) numbers w.clear_any.ensures))
       | else-is_ok w ↦ subst (λ d. IsRemovalWithComments old d node r) (sym w.doc-is) (cleared_refused old node mid r (sym c.is_ok.ensures.value ∙ w.if-is_ok.false) removal)
     ]
