@@ -1,5 +1,5 @@
 -- A comment was inserted beside an entry: which edit the call is, and which nodes stay.
-use Rattle.std.proofs.Common.{◌≡◌, ◌≢◌, ◌==◌, ◌∙◌, ℕ, true, false, List, length, Option, Some, None, Result, Ok, Err, OnErr, OnOk, IsUtf8, inl, inr, refl, sym, ap, subst}
+use Rattle.std.proofs.Common.{◌≡◌, ◌==◌, ◌∙◌, ℕ, true, false, List, length, Option, Some, None, Result, Ok, Err, OnErr, OnOk, IsUtf8, inl, inr, refl, sym, ap, subst}
 use Rattle.std.proofs.lemmas.Bool.{and_parts, false≢true, not-true}
 use Rattle.jsonc_text.specs.Options.{Options}
 use Rattle.jsonc_text.specs.declared.edit.Place.{Place}
