@@ -11,6 +11,7 @@ pub mod Indents
 pub mod Above
 pub mod Blanks
 pub mod Behind
+pub mod Commas
 pub mod Places
 pub mod Documents
 pub mod Inserting

@@ -1,5 +1,5 @@
 -- Laws of comments that come: what becomes of the document.
-use Rattle.std.specs.Prelude.{◌≡◌, ◌==◌, ◌||◌, ℕ, List, [], ◌∷◌, ◌++◌, Option, Some, IsTrue, chars}
+use Rattle.std.specs.Prelude.{◌≡◌, ◌==◌, ◌||◌, ℕ, Bool, false, List, [], ◌∷◌, ◌++◌, Option, Some, IsTrue, chars, if◌then◌else◌}
 use Rattle.std.specs.List.{list_any}
 use Rattle.jsonc_text.specs.Options.{Options}
 use Rattle.jsonc_text.specs.Plain.{Plain}
@@ -9,7 +9,7 @@ use Rattle.jsonc_tree.specs.Content.{Content, comment, token}
 use Rattle.jsonc_tree.specs.OrderedTree.{OrderedTree, leaves, ordered_tree}
 use Rattle.jsonc_tree.specs.Tree.{Node, content_at, parent_at, IsOver, IsTree}
 use Rattle.jsonc_layout.specs.lines.Kinds.{is_array_or_object}
-use Rattle.jsonc_layout.specs.nodes.Kinds.{is_element_at, is_newline}
+use Rattle.jsonc_layout.specs.nodes.Kinds.{is_comma, is_element_at, is_inline_trivia, is_newline}
 use Rattle.jsonc_sound.specs.ChangeLaws.{DiffersIn}
 use Rattle.jsonc_sound.specs.Leaving.{AreInlineTrivia}
 use Rattle.jsonc_sound.specs.Lines.{is_line_comment}
@@ -69,21 +69,27 @@ pub record StandsAbove {text : List ℕ} {old new : OrderedTree} (gains : GainsC
   pub next : gains.around.back ≡ blanks ++ (own ++ back)
   pub line : IsTrue (list_any is_newline gains.behind)
 
--- whitespace and comments; or such, a comma, and such
-pub data IsTrail : List Content → Type 0 where
-  on_line : (x : List Content) → AreInlineTrivia x → IsTrail x
-  past_comma : (x y : List Content) → AreInlineTrivia x → AreInlineTrivia y → IsTrail (x ++ token 0x2C ∷ y)
+-- past whitespace and comments a comma comes
+abbrev pub comma_follows : List Content → Bool
+comma_follows [] = false
+comma_follows (content ∷ rest) = if is_inline_trivia content then comma_follows rest else is_comma content
+
+-- what stands between a node of the document, behind which there are these leaves, and a comment behind it: whitespace and comments, where in a sound document no comma
+-- follows the node on its line; or such, a comma, and such
+pub data IsTrail (t : OrderedTree) (back : List Content) : List Content → Type 0 where
+  on_line : (x : List Content) → AreInlineTrivia x → ((o : Options) → SoundTree o t → comma_follows back ≡ false) → IsTrail t back x
+  past_comma : (x y : List Content) → AreInlineTrivia x → AreInlineTrivia y → IsTrail t back (x ++ token 0x2C ∷ y)
 
 -- It stands behind such a node: before it stands one space, and such a trail alone between the node and that; behind it nothing comes.
 pub record StandsBehind {text : List ℕ} {old new : OrderedTree} (gains : GainsComment text old new) (own front back : List Content) : Type 0 where
   pub trail : List Content
-  pub is_trail : IsTrail trail
+  pub is_trail : IsTrail old back trail
   pub last : gains.around.front ≡ front ++ (own ++ trail)
   pub rest : back ≡ trail ++ gains.around.back
   pub space : gains.before ≡ a_space ∷ []
   pub none : gains.behind ≡ []
 
--- it comes so above a node of the document, or behind it, in a document that is not sound too
+-- it comes so above a node of the document, or behind an entry, in a document that is not sound too
 abbrev pub GainsAbove : List Node → List Node → ℕ → List ℕ → Type 0
 GainsAbove old new n text =
     IsTree old → ComesAbove old new n text → (c : ℕ) → parent_at old n ≡ Some c → (front back : List Content) → StandsBetween old n front back
@@ -91,5 +97,5 @@ GainsAbove old new n text =
 
 abbrev pub GainsBehind : List Node → List Node → ℕ → List ℕ → Type 0
 GainsBehind old new n text =
-    IsTree old → ComesBehind old new n text → (c : ℕ) → parent_at old n ≡ Some c → (front back : List Content) → StandsBetween old n front back
+    IsTree old → ComesBehind old new n text → IsEntry old n → (front back : List Content) → StandsBetween old n front back
     → (gains : GainsComment text (ordered_tree old 0) (ordered_tree new 0)) × StandsBehind gains (leaves_of (top_at old n)) front back

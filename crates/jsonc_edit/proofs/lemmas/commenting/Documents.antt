@@ -35,7 +35,8 @@ use Rattle.jsonc_edit.proofs.lemmas.commenting.Around.{come_around}
 use Rattle.jsonc_edit.proofs.lemmas.commenting.Behind.{comes_behind}
 use Rattle.jsonc_edit.proofs.lemmas.commenting.Blanks.{end_child}
 use Rattle.jsonc_edit.proofs.lemmas.commenting.Coming.{come_replaced, cut_at}
-use Rattle.jsonc_edit.proofs.lemmas.commenting.Places.{ends_behind, starts_itself, starts_seam}
+use Rattle.jsonc_edit.proofs.lemmas.commenting.Commas.{no_comma_follows}
+use Rattle.jsonc_edit.proofs.lemmas.commenting.Places.{ends_behind, starts_itself, starts_seam, NoneFollows}
 use Rattle.jsonc_edit.proofs.lemmas.commenting.Sound.{come_differs, Arrival}
 
 -- the leaves that come are a comment and blanks
@@ -139,11 +140,11 @@ module _ (old new : List Node) (n : ℕ) (text : List ℕ) (tree : IsTree old) w
           },
         )
 
-    behind_it : LeavesCome old new c (place_at old (comment_follows old n text) + 1) (spaced text) → (gains : GainsComment text (ordered_tree old 0) (ordered_tree new 0)) × StandsBehind gains (leaves_of (top_at old n)) front back
-    behind_it r =
+    behind_it : NoneFollows old tree back (drop (place_at old n + 1) (children_at old c)) → LeavesCome old new c (place_at old (comment_follows old n text) + 1) (spaced text) → (gains : GainsComment text (ordered_tree old 0) (ordered_tree new 0)) × StandsBehind gains (leaves_of (top_at old n)) front back
+    behind_it none_follows r =
         let place = place_at old (comment_follows old n text) + 1 in
         let cut = cut_at old tree c there place in
-        let s = ends_behind old tree n c said text (end_child old tree n c said) cut.front cut.back cut.ahead cut.behind in
+        let s = ends_behind old tree n c said back none_follows text (end_child old tree n c said) cut.front cut.back cut.ahead cut.behind in
         let own = leaves_of (top_at old n) in
         let first : w.g ++ leaves s.before ≡ front = ap (λ t. w.g ++ leaves t) (Shows-unique old (take (place_at old n) (children_at old c)) s.before w.front s.shown w.before) ∙ sym w.first in (
           record {
@@ -189,4 +190,5 @@ pub gains_above : (old new : List Node) (n : ℕ) (text : List ℕ) → GainsAbo
 gains_above old new n text tree r c said front back stands = gains_by old new n text tree c said front back stands (begins_own_line old n) (r c said)
 
 pub gains_behind : (old new : List Node) (n : ℕ) (text : List ℕ) → GainsBehind old new n text
-gains_behind old new n text tree r c said front back stands = behind_it old new n text tree c said front back stands (r c said)
+gains_behind old new n text tree r e front back stands =
+    behind_it old new n text tree e.container e.parent front back stands (no_comma_follows old tree n e front back stands) (r e.container e.parent)

@@ -15,6 +15,7 @@ use Rattle.jsonc_text.specs.declared.edit.Place.{Place}
 use Rattle.jsonc_text.specs.declared.edit.Place.TheVariants.{Above, After}
 use Rattle.jsonc_edit.specs.declared.commenting.whole.CommentKind.{CommentKind}
 use Rattle.jsonc_edit.specs.declared.commenting.whole.CommentKind.TheVariants.{Line, Block}
+use Rattle.jsonc_edit.proofs.lemmas.commenting.Commas.{over_between}
 use Rattle.jsonc_edit.proofs.lemmas.commenting.Documents.{gains_above, gains_behind, inserts_above, inserts_behind}
 
 pub whole_of : (kind : CommentKind) (t : List ℕ) → IsWhole kind t → IsComment t []
@@ -52,4 +53,4 @@ module _ (old new : List Node) (n : ℕ) (text : List ℕ) (tree : IsTree old) (
 
   pub among : (place : Place) → MayCome place old n text → Comes place old new n text → InsertsAmong place old new n text
   among Above may comes = λ front back stands. gains_above old new n text tree comes (has_parent may.entry).0 (has_parent may.entry).1 front back stands
-  among After may comes = λ front back stands. gains_behind old new n text tree comes (has_parent may.entry).0 (has_parent may.entry).1 front back stands
+  among After may comes = λ front back stands. gains_behind old new n text tree comes (an_entry may.entry (over_between old n front back stands)) front back stands

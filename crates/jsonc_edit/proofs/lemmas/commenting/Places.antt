@@ -4,10 +4,11 @@ use Rattle.std.specs.List.{find}
 use Rattle.std.proofs.lemmas.Bool.{cases_Bool}
 use Rattle.std.proofs.lemmas.List.{append_cancel_left, drop_more, take_more, take-append-drop}
 use Rattle.std.proofs.Math.Seq.{get_or-append_seam, take-append-add, take-append_seam}
+use Rattle.jsonc_text.specs.Options.{Options}
 use Rattle.jsonc_text.proofs.Basics.{tails}
 use Rattle.jsonc_tree.specs.Content.{Content, is_container, token}
 use Rattle.jsonc_tree.specs.Order.{with_parent}
-use Rattle.jsonc_tree.specs.OrderedTree.{OrderedTree, none, own_leaf, leaves, Shows, shows_none, shows_more}
+use Rattle.jsonc_tree.specs.OrderedTree.{OrderedTree, none, own_leaf, leaves, ordered_tree, Shows, shows_none, shows_more}
 use Rattle.jsonc_tree.specs.Siblings.{first, siblings_before}
 use Rattle.jsonc_tree.specs.Tree.{Node, content_at, children_at, parent_at, place_at, IsTree}
 use Rattle.jsonc_tree.proofs.Order.{parent_there}
@@ -20,17 +21,19 @@ use Rattle.jsonc_layout.specs.nodes.Kinds.{is_comma, is_inline_trivia, is_inline
 use Rattle.jsonc_sound.specs.Leaving.{AreInlineTrivia}
 use Rattle.jsonc_sound.specs.Lines.{is_line_comment}
 use Rattle.jsonc_sound.specs.MarkChanges.{AreBlanks}
+use Rattle.jsonc_sound.specs.SoundTrees.{SoundTree}
 use Rattle.jsonc_sound.specs.TreeChanges.{leaves_of}
 use Rattle.jsonc_edit.specs.Changes.{row_below, top_at}
 use Rattle.jsonc_edit.specs.commenting.Above.{seam_at, seam_behind, seam_by, without_end, Seam}
 use Rattle.jsonc_edit.specs.commenting.Behind.{comment_follows, end_of_entry, last_blank}
-use Rattle.jsonc_edit.specs.commenting.Laws.{on_line, past_comma, IsTrail}
+use Rattle.jsonc_edit.specs.commenting.Laws.{comma_follows, on_line, past_comma, IsTrail}
 use Rattle.jsonc_edit.specs.remove.Comments.{or_itself}
 use Rattle.jsonc_edit.proofs.ChangesUpward.{Shows-row_below}
 use Rattle.jsonc_edit.proofs.InsertedSpaces.{first_of}
 use Rattle.jsonc_edit.proofs.RowEnds.{before_is, previous_at}
 use Rattle.jsonc_edit.proofs.lemmas.commenting.Above.{is_blank_text}
 use Rattle.jsonc_edit.proofs.lemmas.commenting.Behind.{comma_kind}
+use Rattle.jsonc_edit.proofs.lemmas.commenting.Commas.{comma_among, comma_none, comma_other}
 use Rattle.jsonc_edit.proofs.lemmas.commenting.Blanks.{follows_blanks, follows_itself, BlankNodes, Follows}
 
 module _ (ns : List Node) (tree : IsTree ns) where
@@ -159,10 +162,10 @@ module _ (ns : List Node) (tree : IsTree ns) where
   inline_leaf (Content.comment s) h = (refl, refl)
   inline_leaf content h = cc
 
-  -- or such, a comma, and such
-  data TrailNodes : List ℕ → Type 0 where
-    nodes_on_line : (xs : List ℕ) → InlineNodes xs → TrailNodes xs
-    nodes_past_comma : (xs ys : List ℕ) (m : ℕ) → InlineNodes xs → content_at ns m ≡ token 0x2C → InlineNodes ys → TrailNodes (xs ++ m ∷ ys)
+  -- such where no comma follows the node before; or such, a comma, and such
+  data TrailNodes (behind : List ℕ) : List ℕ → Type 0 where
+    nodes_on_line : (xs : List ℕ) → InlineNodes xs → comma_among ns behind ≡ false → TrailNodes behind xs
+    nodes_past_comma : (xs ys : List ℕ) (m : ℕ) → InlineNodes xs → content_at ns m ≡ token 0x2C → InlineNodes ys → TrailNodes behind (xs ++ m ∷ ys)
 
   inline_shown : (xs : List ℕ) (t : OrderedTree) → InlineNodes xs → Shows ns xs t → AreInlineTrivia (leaves t)
   inline_shown _ _ h shows_none = tt
@@ -170,14 +173,18 @@ module _ (ns : List Node) (tree : IsTree ns) where
       let leaf = inline_leaf (content_at ns n) h.0 in
       subst (λ b. AreInlineTrivia (own_leaf (content_at ns n) ++ (leaves b ++ leaves after))) (sym (bare_leaf n below leaf.0 p)) (subst (λ l. AreInlineTrivia (l ++ leaves after)) (sym leaf.1) (h.0, inline_shown rest after h.1 q))
 
-  trail_shown : (xs : List ℕ) (t : OrderedTree) → TrailNodes xs → Shows ns xs t → IsTrail (leaves t)
-  trail_shown _ t (nodes_on_line xs h) shown = on_line (leaves t) (inline_shown xs t h shown)
-  trail_shown _ t (nodes_past_comma xs ys m h e k) shown =
+  -- so in a sound document none follows among the leaves
+  abbrev pub NoneFollows : List Content → List ℕ → Type 0
+  NoneFollows back behind = comma_among ns behind ≡ false → (o : Options) → SoundTree o (ordered_tree ns 0) → comma_follows back ≡ false
+
+  trail_shown : (back : List Content) (behind : List ℕ) → NoneFollows back behind → (xs : List ℕ) (t : OrderedTree) → TrailNodes behind xs → Shows ns xs t → IsTrail (ordered_tree ns 0) back (leaves t)
+  trail_shown back behind none_follows _ t (nodes_on_line xs h lacks) shown = on_line (leaves t) (inline_shown xs t h shown) (none_follows lacks)
+  trail_shown back behind none_follows _ t (nodes_past_comma xs ys m h e k) shown =
       let parts = Shows-part ns xs (m ∷ ys) t shown in
       let one = first_of ns m ys parts.1 parts.4 in
       let bare : one.0 ≡ none = bare_leaf m one.0 (ap is_container e) one.3 in
       let second : leaves parts.1 ≡ token 0x2C ∷ leaves one.1 = ap leaves one.2 ∙ ap (λ b. own_leaf (content_at ns m) ++ (leaves b ++ leaves one.1)) bare ∙ ap (λ w. own_leaf w ++ leaves one.1) e in
-      subst IsTrail (sym (ap leaves parts.2 ∙ leaves-followed_by parts.0 parts.1 ∙ ap (λ l. leaves parts.0 ++ l) second)) (past_comma (leaves parts.0) (leaves one.1) (inline_shown xs parts.0 h parts.3) (inline_shown ys one.1 k one.4))
+      subst (IsTrail (ordered_tree ns 0) back) (sym (ap leaves parts.2 ∙ leaves-followed_by parts.0 parts.1 ∙ ap (λ l. leaves parts.0 ++ l) second)) (past_comma (leaves parts.0) (leaves one.1) (inline_shown xs parts.0 h parts.3) (inline_shown ys one.1 k one.4))
 
   -- what a search passes over
   record PassedOver (xs : List ℕ) (m : ℕ) : Type 0 where
@@ -207,15 +214,18 @@ module _ (ns : List Node) (tree : IsTree ns) where
 
     record Trails (l : ℕ) : Type 0 where
       between : List ℕ
-      trail : TrailNodes between
+      trail : TrailNodes (drop (p + 1) children) between
       ahead : take (place_at ns l + 1) children ≡ take p children ++ (n ∷ between)
 
-    trails_itself : (l : ℕ) → Follows ns c n l → Trails l
-    trails_itself l f = record { between = f.blanks; trail = nodes_on_line f.blanks (blanks_inline f.blanks f.all); ahead = f.ahead }
+    trails_itself : comma_among ns (drop (p + 1) children) ≡ false → (l : ℕ) → Follows ns c n l → Trails l
+    trails_itself lacks l f = record { between = f.blanks; trail = nodes_on_line f.blanks (blanks_inline f.blanks f.all) lacks; ahead = f.ahead }
+
+    first_behind : (o : Option ℕ) → after_inline_trivia_at ns n ≡ o → find (is_not_inline_trivia_at ns) (drop (p + 1) children) ≡ o
+    first_behind o is = sym (ap (λ k. find (is_not_inline_trivia_at ns) (drop (p + 1) (with_parent k (children_at ns)))) said) ∙ is
 
     module _ (m : ℕ) (is : after_inline_trivia_at ns n ≡ Some m) (comma : is_comma (content_at ns m) ≡ true) where
       r : PassedOver (drop (p + 1) children) m
-      r = passed_over (drop (p + 1) children) m (sym (ap (λ o. find (is_not_inline_trivia_at ns) (drop (p + 1) (with_parent o (children_at ns)))) said) ∙ is)
+      r = passed_over (drop (p + 1) children) m (first_behind (Some m) is)
 
       whole : children ≡ take p children ++ ((n ∷ r.inline) ++ (m ∷ r.rest))
       whole = sym (take-append-drop p children) ∙ ap (λ (l : List ℕ). take p children ++ l) (drop_more children p 0 (tree.within n c said) ∙ ap (λ (k : ℕ). k ∷ drop (p + 1) children) (tree.found n c said) ∙ ap (λ (l : List ℕ). n ∷ l) r.split)
@@ -254,12 +264,12 @@ module _ (ns : List Node) (tree : IsTree ns) where
       }
 
     by_next : (o : Option ℕ) → after_inline_trivia_at ns n ≡ o → (l : ℕ) → Follows ns c (or_itself n (if_comma ns o)) l → Trails l
-    by_next None is l f = trails_itself l f
+    by_next None is l f = trails_itself (comma_none ns (drop (p + 1) children) (first_behind None is)) l f
     by_next (Some m) is l f = by (is_comma (content_at ns m)) refl f
       where
         by : (b : Bool) → is_comma (content_at ns m) ≡ b → Follows ns c (or_itself n (cond b (Some m) None)) l → Trails l
         by true h f = trails_comma m is h l f
-        by false h f = trails_itself l f
+        by false h f = trails_itself (comma_other ns (drop (p + 1) children) m (first_behind (Some m) is) h) l f
 
     follows_end : (text : List ℕ) → parent_at ns (end_of_entry ns n) ≡ Some c → Follows ns c (end_of_entry ns n) (comment_follows ns n text)
     follows_end text child = by (is_line_comment (Content.comment text))
@@ -269,15 +279,15 @@ module _ (ns : List Node) (tree : IsTree ns) where
         by false = follows_itself ns tree c (end_of_entry ns n) child
 
     -- these trees stand before the comment and behind it
-    pub record Ended (t u : OrderedTree) : Type 0 where
+    pub record Ended (back : List Content) (t u : OrderedTree) : Type 0 where
       pub trail : List Content
-      pub is_trail : IsTrail trail
+      pub is_trail : IsTrail (ordered_tree ns 0) back trail
       pub before : OrderedTree
       pub shown : Shows ns (take p children) before
       pub last : leaves t ≡ leaves before ++ (leaves_of (top_at ns n) ++ trail)
       pub rest : (v : OrderedTree) → Shows ns (drop (p + 1) children) v → leaves v ≡ trail ++ leaves u
 
-    module _ (l : ℕ) (e : Trails l) where
+    module _ (back : List Content) (none_follows : NoneFollows back (drop (p + 1) children)) (l : ℕ) (e : Trails l) where
       both_ways : take p children ++ (n ∷ drop (p + 1) children) ≡ take p children ++ (n ∷ (e.between ++ drop (place_at ns l + 1) children))
       both_ways =
           sym (sym (take-append-drop p children) ∙ ap (λ (x : List ℕ). take p children ++ x) (drop_more children p 0 (tree.within n c said) ∙ ap (λ (k : ℕ). k ∷ drop (p + 1) children) (tree.found n c said)))
@@ -286,13 +296,13 @@ module _ (ns : List Node) (tree : IsTree ns) where
       behind_n : drop (p + 1) children ≡ e.between ++ drop (place_at ns l + 1) children
       behind_n = tails (append_cancel_left (take p children) (n ∷ drop (p + 1) children) (n ∷ (e.between ++ drop (place_at ns l + 1) children)) both_ways)
 
-      ended : (t u : OrderedTree) → Shows ns (take (place_at ns l + 1) children) t → Shows ns (drop (place_at ns l + 1) children) u → Ended t u
+      ended : (t u : OrderedTree) → Shows ns (take (place_at ns l + 1) children) t → Shows ns (drop (place_at ns l + 1) children) u → Ended back t u
       ended t u before behind =
           let parts = Shows-part ns (take p children) (n ∷ e.between) t (subst (λ (x : List ℕ). Shows ns x t) e.ahead before) in
           let one = from_node n (parent_there ns tree n c said).0 e.between parts.1 parts.4 in
           record {
             trail = leaves one.0;
-            is_trail = trail_shown e.between one.0 e.trail one.2;
+            is_trail = trail_shown back (drop (p + 1) children) none_follows e.between one.0 e.trail one.2;
             before = parts.0;
             shown = parts.3;
             last = ap leaves parts.2 ∙ leaves-followed_by parts.0 parts.1 ∙ ap (λ x. leaves parts.0 ++ x) one.1;
@@ -302,6 +312,6 @@ module _ (ns : List Node) (tree : IsTree ns) where
                 ∙ ap (λ x. leaves one.0 ++ leaves x) (Shows-unique ns (drop (place_at ns l + 1) children) both.1 u both.4 behind);
           }
 
-    pub ends_behind : (text : List ℕ) → parent_at ns (end_of_entry ns n) ≡ Some c → (t u : OrderedTree) → Shows ns (take (place_at ns (comment_follows ns n text) + 1) children) t → Shows ns (drop (place_at ns (comment_follows ns n text) + 1) children) u → Ended t u
-    ends_behind text child t u before behind =
-        ended (comment_follows ns n text) (by_next (after_inline_trivia_at ns n) refl (comment_follows ns n text) (follows_end text child)) t u before behind
+    pub ends_behind : (back : List Content) → NoneFollows back (drop (p + 1) children) → (text : List ℕ) → parent_at ns (end_of_entry ns n) ≡ Some c → (t u : OrderedTree) → Shows ns (take (place_at ns (comment_follows ns n text) + 1) children) t → Shows ns (drop (place_at ns (comment_follows ns n text) + 1) children) u → Ended back t u
+    ends_behind back none_follows text child t u before behind =
+        ended back none_follows (comment_follows ns n text) (by_next (after_inline_trivia_at ns n) refl (comment_follows ns n text) (follows_end text child)) t u before behind
