@@ -16,7 +16,8 @@ pub fn comments_are_inserted()
 /// In every document, also one that is not sound, the comment comes with whitespace and ends of lines
 /// alone, and all other leaves stay, in order. Above an entry the comment's line ends behind it, and
 /// blanks alone stand between that and the entry. Behind it a space comes before the comment, and
-/// whitespace and comments alone stand between the two, and the entry's comma.
+/// whitespace and comments alone stand between the two, and the entry's comma: in a sound document
+/// always where it follows on the line.
 pub fn comments_come_among_leaves()
     ensures above { (old new : List Node) (n : ℕ) (text : List ℕ) → GainsAbove old new n text }
     ensures behind { (old new : List Node) (n : ℕ) (text : List ℕ) → GainsBehind old new n text }

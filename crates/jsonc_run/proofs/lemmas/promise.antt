@@ -49,5 +49,6 @@ pub mod NoneMissing
 pub mod Hexadecimal
 pub mod LinesInside
 pub mod EntriesHeld
+pub mod CommasBehind
 pub mod CommentsCome
 pub mod CommentsInserted

@@ -29,6 +29,7 @@ use Rattle.jsonc_sound.specs.TreeChanges.{leaves_of}
 use Rattle.jsonc_run.proofs.lemmas.promise.EntriesHeld.{entry_stands}
 use Rattle.jsonc_edit.specs.commenting.Laws.{GainsComment, StandsAbove, StandsBehind, IsTrail, on_line, past_comma}
 use Rattle.jsonc_run.specs.promise.PlaceLaws.{text_of_leaves}
+use Rattle.jsonc_run.proofs.lemmas.promise.CommasBehind.{none_follows}
 use Rattle.jsonc_run.proofs.lemmas.promise.CommentTexts.{blanks_text}
 use Rattle.jsonc_run.proofs.lemmas.promise.Joined.{Good, good_as, good_first, good_second, good_tree, one_token}
 use Rattle.jsonc_run.proofs.lemmas.promise.Leaves.{text_joined}
@@ -46,14 +47,14 @@ module _ (o : Options) where
   line_ends (newline k ∷ ls) h g e = ([], text_of_leaves (newline k ∷ []), text_of_leaves ls, text_joined (newline k ∷ []) ls (good_first o (newline k ∷ []) ls g).utf8, line_end_text k)
   line_ends (c ∷ ls) h g e = cc
 
-  trail_text : (trail : List Content) → IsTrail trail → Good o trail → CommentTrail (text_of_leaves trail)
-  trail_text trail (on_line x h) g = texts.on_line (beside_text o x h g.pieces)
-  trail_text trail (past_comma x y h k) g =
+  trail_text : {t : OrderedTree} (behind trail : List Content) → SoundTree o t → Good o behind → IsTrail t behind trail → Good o trail → CommentTrail (text_of_leaves behind) (text_of_leaves trail)
+  trail_text behind trail s d (on_line x h lacks) g = texts.on_line (beside_text o x h g.pieces) (none_follows o behind (lacks o s) d)
+  trail_text behind trail s d (past_comma x y h k) g =
       let later = good_second o x (token 0x2C ∷ y) g in
       let written : text_of_leaves (x ++ token 0x2C ∷ y) ≡ text_of_leaves x ++ 0x2C ∷ text_of_leaves y =
       text_joined x (token 0x2C ∷ y) (good_first o x (token 0x2C ∷ y) g).utf8
       ∙ ap (λ l. text_of_leaves x ++ l) (text_joined (token 0x2C ∷ []) y (good_first o (token 0x2C ∷ []) y later).utf8 ∙ ap (λ l. l ++ text_of_leaves y) (one_token comma_mark)) in
-      subst CommentTrail (sym written) (texts.past_comma (beside_text o x h (good_first o x (token 0x2C ∷ y) g).pieces) (beside_text o y k (good_second o (token 0x2C ∷ []) y later).pieces))
+      subst (CommentTrail (text_of_leaves behind)) (sym written) (texts.past_comma (beside_text o x h (good_first o x (token 0x2C ∷ y) g).pieces) (beside_text o y k (good_second o (token 0x2C ∷ []) y later).pieces))
 
   module _ {t u : OrderedTree} (s : SoundTree o t) (r : SoundTree o u) {text : List ℕ} (whole : IsComment (chars text) []) (g : GainsComment text t u) where
     abbrev own : List Content
@@ -156,6 +157,9 @@ module _ (o : Options) where
         ap text_of_leaves h.last ∙ text_joined before (node ++ h.trail) (good_first o before (node ++ h.trail) ahead).utf8 ∙ ap (λ l. text_of_leaves before ++ l) (text_joined node h.trail own_good.utf8) in
         let rest : text_of_leaves behind ≡ text_of_leaves h.trail ++ text_of_leaves back = ap text_of_leaves h.rest ∙ text_joined h.trail back trail_good.utf8 in
         let from : text_of_leaves (node ++ behind) ≡ text_of_leaves node ++ (text_of_leaves h.trail ++ text_of_leaves back) = text_joined node behind own_good.utf8 ∙ ap (λ l. text_of_leaves node ++ l) rest in
+        let whole : front ++ back ≡ (before ++ node) ++ behind =
+        ap (λ l. l ++ back) (h.last ∙ sym (append_assoc before node h.trail)) ∙ append_assoc (before ++ node) h.trail back ∙ ap (λ l. (before ++ node) ++ l) (sym h.rest) in
+        let rest_good : Good o behind = good_second o (before ++ node) behind (good_as o whole old_good) in
         let space : text_of_leaves g.before ≡ 0x20 ∷ [] = ap text_of_leaves h.space ∙ chars-IsAscii (0x20 ∷ []) (search rules) in
         let nothing : text_of_leaves g.behind ≡ [] = ap text_of_leaves h.none ∙ chars-nil in
         let c1 = subst (λ l. ComesBetween (chars text) l (text_of_leaves g.behind) (text_of_leaves front) (text_of_leaves back) (document_of o t w) (document_of o u w)) space (comes_between w) in
@@ -165,7 +169,7 @@ module _ (o : Options) where
           text_of_leaves h.trail,
           text_of_leaves back,
           subst (λ l. ComesBetween (chars text) (0x20 ∷ []) [] l (text_of_leaves back) (document_of o t w) (document_of o u w)) led c2,
-          trail_text h.trail h.is_trail trail_good,
+          subst (λ x. CommentTrail x (text_of_leaves h.trail)) rest (trail_text behind h.trail s rest_good h.is_trail trail_good),
           subst (λ x. Entry path o (printed_text t) x (text_of_leaves h.trail ++ text_of_leaves back)) from (subst (λ x. Entry path o (printed_text t) (text_of_leaves (node ++ behind)) x) rest e),
         )
 
