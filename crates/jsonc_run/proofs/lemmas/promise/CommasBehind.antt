@@ -1,5 +1,5 @@
 -- Where no comma leaf follows on the line, none follows in the text.
-use Rattle.std.proofs.Common.{ℕ, ◌≡◌, ◌∙◌, sym, ap, subst, refl, Bool, true, false, not, ◌&&◌, ◌==◌, ◌||◌, inl, inr, List, [], ◌∷◌, ◌++◌, IsTrue, IsUtf8, chars}
+use Rattle.std.proofs.Common.{ℕ, ◌≡◌, ◌∙◌, sym, ap, subst, refl, Bool, true, false, not, ◌==◌, ◌||◌, inl, inr, List, [], ◌∷◌, ◌++◌, IsTrue, chars}
 use Rattle.std.proofs.Common.{rules}
 use Rattle.std.proofs.lemmas.Bool.{false≢true}
 use Rattle.std.proofs.lemmas.List.{append-nil}
@@ -18,7 +18,7 @@ use Rattle.jsonc_tree.specs.declared.node.CstNewlineKind.TheVariants.{LineFeed, 
 use Rattle.jsonc_layout.specs.nodes.Kinds.{is_comma, is_trivia}
 use Rattle.jsonc_sound.specs.Leaves.{is_inner_blank}
 use Rattle.jsonc_sound.specs.Shape.{IsLiteralBefore, IsNameBefore, IsTrivia}
-use Rattle.jsonc_sound.proofs.Pieces.{Piece, Pieces, a_literal, a_name, a_token, a_trivia}
+use Rattle.jsonc_sound.proofs.Pieces.{Piece, a_literal, a_name, a_token, a_trivia}
 use Rattle.jsonc_sound.proofs.ShapeValues.{Mark, colon_mark, bracket_mark, close_bracket_mark, brace_mark, close_brace_mark}
 use Rattle.jsonc_run.specs.promise.PlaceLaws.{text_of_leaves}
 use Rattle.jsonc_run.proofs.lemmas.promise.Joined.{Good, good_first, good_second, one_token}
