@@ -39,6 +39,8 @@ NO_CASES = [
     ('bad-edit\tedit\t1111111111\t1\tMove / /0', EDIT),
     ('bad-leaf\tedit\t1111111111\t1\tRawRemove x', EDIT),
     ('bad-text\tedit\t1111111111\t1\tRawSet 0 1', EDIT),
+    ('bad-names\tedit\t1111111111\t1\tSetLast keep a N', EDIT),
+    ('bad-rule\tedit\t1111111111\t[]\tSortX / text header 0', EDIT),
     ("bad-call\tjobj\t1111111111\t{}\thas 'a", LOOKUP),
 ]
 # What the Rust crate's test of deep objects states (bench/crate has it with 600 of them, and here they are all), and arrays.

@@ -38,6 +38,8 @@ pub enum SortRule {
     NoRule,
     /// Those behind blank lines.
     BlankLines,
+    /// Those above the last blank line.
+    Headers,
     /// So many above each.
     Pins(usize),
 }
@@ -58,8 +60,9 @@ pub struct SortEdit {
     pub groups: bool,
 }
 
-/// An edit of one leaf, of a property's name, or of its value by the node that this is. Leaves are
-/// counted from 0 as they are printed; a path leads to a property.
+/// An edit of one leaf, of a property's name, or of its value by the node that this is; or a call that
+/// no list of edits has. Leaves are counted from 0 as they are printed; a path leads to a property, or to an
+/// entry.
 #[derive(Drop)]
 pub enum RawEdit {
     /// The leaf gets this text.
@@ -72,6 +75,10 @@ pub enum RawEdit {
     ReplaceName(Vec<usize>, CstInputValue<Global>),
     /// The value is taken out.
     RemoveValue(Vec<usize>),
+    /// The entry is taken out with its comments.
+    RemoveWithComments(Vec<usize>),
+    /// The value is set at these names, of which the last in each object counts.
+    SetLast(Vec<String>, CstInputValue<Global>, Over),
 }
 
 static FLAGS: [(&str, bool); 2] = [("0", false), ("1", true)];
@@ -134,6 +141,21 @@ fn read_raw(alloc: Global, words: &[&str]) -> Result<Option<RawEdit>, CaseError>
             Ok(Some(RawEdit::ReplaceName(path, value)))
         }
         ["RawRemoveValue", path] => Ok(Some(RawEdit::RemoveValue(read_path(alloc, path)?))),
+        _ => read_call(alloc, words),
+    }
+}
+
+/// A call that no list of edits has.
+fn read_call(alloc: Global, words: &[&str]) -> Result<Option<RawEdit>, CaseError> {
+    match words {
+        ["RemoveWithComments", path] => {
+            Ok(Some(RawEdit::RemoveWithComments(read_path(alloc, path)?)))
+        }
+        ["SetLast", over, names, value @ ..] => {
+            let over = chosen(over, &OVERS)?;
+            let names = read_names(alloc, names)?;
+            Ok(Some(RawEdit::SetLast(names, read_value(alloc, value)?, over)))
+        }
         _ => Ok(None),
     }
 }
@@ -155,6 +177,7 @@ fn read_rule(word: &str) -> Result<SortRule, CaseError> {
     match word {
         "-" => Ok(SortRule::NoRule),
         "pin" => Ok(SortRule::BlankLines),
+        "headers" => Ok(SortRule::Headers),
         "max" => Ok(SortRule::Pins(usize::MAX)),
         _ => Ok(SortRule::Pins(read_number(word)?)),
     }
@@ -306,6 +329,19 @@ fn read_name(alloc: Global, word: &str) -> Result<String, CaseError> {
         Some(name) => unescaped_text(alloc, name),
         None => Err(CaseError::Edit),
     }
+}
+
+/// Names, which stand with `/` between them after a `'`: none where nothing does.
+fn read_names(alloc: Global, word: &str) -> Result<Vec<String>, CaseError> {
+    let text = read_name(alloc, word)?;
+    let mut names = Vec::new(alloc);
+    if text.is_empty() {
+        return Ok(names);
+    }
+    for name in text.split('/') {
+        names.push(String::from_str(alloc, name)?)?;
+    }
+    Ok(names)
 }
 
 /// The places of a path, each after a `/`.

@@ -35,6 +35,26 @@ pub fn value_at(doc: &CstRootNode<Global>, path: &[usize]) -> Result<CstNode, Re
     }
 }
 
+/// The element or property that a path leads to, or the document's value.
+pub fn entry_at(doc: &CstRootNode<Global>, path: &[usize]) -> Result<CstNode, Refusal> {
+    let [front @ .., place] = path else {
+        return value_at(doc, path);
+    };
+    let node = value_at(doc, front)?;
+    if !doc.holds(node) {
+        return Err(Refusal::Error(EditError::NoSuchPlace));
+    }
+    match node {
+        CstNode::Container(CstContainerNode::Object(_)) => {
+            Ok(property_below(doc, node, *place)?.into())
+        }
+        _ => match value_below(doc, node, *place)? {
+            Some(element) => Ok(element),
+            None => Err(Refusal::Error(EditError::NoSuchPlace)),
+        },
+    }
+}
+
 /// The element at a place of an array, or the value of the property at a place of an object.
 fn value_below(
     doc: &CstRootNode<Global>,

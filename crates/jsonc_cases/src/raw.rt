@@ -1,12 +1,13 @@
-//! Edits of one leaf, or of a property's name or value.
+//! Edits of one leaf, or of a property's name or value, and calls that no list of edits has.
 
 use crate::edits::RawEdit;
-use crate::paths::{property_at, push_children};
+use crate::paths::{entry_at, property_at, push_children};
 use crate::refusal::Refusal;
 use jsonc_parser::cst::{
     CstContainerNode, CstInputValue, CstLeafNode, CstNewlineKind, CstNode, CstRootNode, EditError,
-    ObjectPropName, TypedNode,
+    ObjectPropName, Over, TypedNode,
 };
+use jsonc_parser::settings::set_last_at;
 use std::alloc::Global;
 
 /// Makes an edit.
@@ -36,6 +37,8 @@ pub fn make_raw(
             let (_, value) = parts_at(doc, path.as_slice())?;
             remove_node(doc, value)
         }
+        RawEdit::RemoveWithComments(path) => remove_entry(doc, path.as_slice()),
+        RawEdit::SetLast(names, value, over) => set_last(doc, names.as_slice(), value, over),
     }
 }
 
@@ -125,6 +128,27 @@ fn remove_node(doc: &mut CstRootNode<Global>, node: Option<CstNode>) -> Result<(
         }
         _ => Err(Refusal::Error(EditError::NoSuchPlace)),
     }
+}
+
+fn remove_entry(doc: &mut CstRootNode<Global>, path: &[usize]) -> Result<(), Refusal> {
+    let entry = entry_at(doc, path)?;
+    if !doc.holds(entry) {
+        return Err(Refusal::Error(EditError::NoSuchPlace));
+    }
+    entry.remove_with_comments(doc)?;
+    Ok(())
+}
+
+fn set_last(
+    doc: &mut CstRootNode<Global>,
+    names: &[String],
+    value: CstInputValue<Global>,
+    over: Over,
+) -> Result<(), Refusal> {
+    if set_last_at(doc, names, value, over)? {
+        return Ok(());
+    }
+    Err(Refusal::Usage)
 }
 
 fn replace_name(

@@ -157,6 +157,7 @@ fn sort_array(
     match edit.rule {
         SortRule::NoRule => sort.by_key(doc, by),
         SortRule::BlankLines => sort.pin_comment_headers().by_key(doc, by),
+        SortRule::Headers => sort.keep_headers().by_key(doc, by),
         SortRule::Pins(count) => sort
             .pin_comment_headers_with(move |_: &CstRootNode<
                 Global,
@@ -191,6 +192,7 @@ fn sort_object(
     match edit.rule {
         SortRule::NoRule => sort.by_key(doc, by),
         SortRule::BlankLines => sort.pin_comment_headers().by_key(doc, by),
+        SortRule::Headers => sort.keep_headers().by_key(doc, by),
         SortRule::Pins(count) => sort
             .pin_comment_headers_with(move |_: &CstRootNode<
                 Global,
