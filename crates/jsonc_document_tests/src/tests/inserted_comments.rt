@@ -275,6 +275,9 @@ fn is_no_entry<A: Allocator + Copy>(doc: &mut CstRootNode<A>, at: At) -> bool {
         return false;
     };
     let above = insert(doc, node, "// c", Place::Above);
+    if !doc.holds(node) {
+        return false;
+    }
     let after = insert(doc, node, "/* c */", Place::After);
     above == Err(EditError::NotAnEntry)
         && after == Err(EditError::NotAnEntry)
