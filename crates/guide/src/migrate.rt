@@ -1,10 +1,11 @@
 //! A recipe that brings settings to another version.
 
-use jsonc_parser::cst::{CstInputValue, CstRootNode, EditError, Place, TypedNode};
+use jsonc_parser::cst::{
+    CstComment, CstInputValue, CstObjectProp, CstRootNode, EditError, Place, TypedNode,
+};
 use std::alloc::Allocator;
 
 type Done = Result<(), EditError>;
-
 /// Renames a property.
 fn rename<A: Allocator + Copy>(doc: &mut CstRootNode<A>, name: &str, to: &str) -> Done {
     if let Some(property) = doc.object_value_or_set()?.get(doc, name)? {
@@ -23,6 +24,17 @@ fn remove<A: Allocator + Copy>(doc: &mut CstRootNode<A>, of: &str, name: &str) -
     Ok(())
 }
 
+/// Inserts a comment of the document above a property too.
+fn copy<A: Allocator + Copy>(doc: &mut CstRootNode<A>, it: CstComment, to: CstObjectProp) -> Done {
+    if doc.holds(it.node()) {
+        let text = String::from_str(*doc.allocator(), it.raw_value(doc))?;
+        if doc.holds(to.node()) {
+            to.insert_comment(doc, text.as_str(), Place::Above)?;
+        }
+    }
+    Ok(())
+}
+
 /// Moves a property from one object to another, and its comments above it.
 fn shift<A: Allocator + Copy>(doc: &mut CstRootNode<A>, of: &str, name: &str, to: &str) -> Done {
     let settings = doc.object_value_or_set()?;
@@ -34,10 +46,7 @@ fn shift<A: Allocator + Copy>(doc: &mut CstRootNode<A>, of: &str, name: &str, to
         let target = settings.object_value_or_set(doc, to)?;
         let moved = target.append(doc, name, value)?;
         for comment in &comments {
-            if doc.holds(comment.node()) && doc.holds(moved.node()) {
-                let text = String::from_str(*doc.allocator(), comment.raw_value(doc))?;
-                moved.insert_comment(doc, text.as_str(), Place::Above)?;
-            }
+            copy(doc, *comment, moved)?;
         }
         remove(doc, of, name)?;
     }
