@@ -6,13 +6,14 @@ use Rattle.std.specs.List.{flat_map}
 use denote.Param.Weighed.{most, at_most}
 use Rattle.jsonc_text.specs.declared.common.Range.{Range}
 use Rattle.jsonc_text.specs.Plain.{string}
-use Rattle.jsonc_ast.specs.Located.{Located, LocatedName, leaf_at, array_at, object_at}
-use Rattle.jsonc_ast.specs.Views.{LocatedMember, located, object_located, member_of, name_at, items_of, members_of}
-use Rattle.jsonc_ast.specs.Copies.{array_located, in_quotes, quotes, quotes_in_array, quotes_in_object, quotes_in_property}
+use Rattle.jsonc_walk.specs.Located.{Located, LocatedName, leaf_at, array_at, object_at, LocatedMember, items_of, members_of}
+use Rattle.jsonc_ast.specs.Views.{located, object_located, member_of}
+use Rattle.jsonc_walk.specs.Name.{name_at, in_quotes}
+use Rattle.jsonc_ast.specs.Copies.{array_located, quotes, quotes_in_array, quotes_in_object, quotes_in_property}
 use Rattle.jsonc_ast.specs.declared.ast.Value.{Value, size-Value, the_lemmas}
 use Rattle.jsonc_ast.specs.declared.ast.Value as value
-use Rattle.jsonc_ast.specs.declared.ast.StringLit.{StringLit}
-use Rattle.jsonc_ast.specs.declared.ast.ObjectPropName.{ObjectPropName}
+use Rattle.jsonc_walk.specs.declared.name.StringLit.{StringLit}
+use Rattle.jsonc_walk.specs.declared.name.ObjectPropName.{ObjectPropName}
 use Rattle.jsonc_ast.specs.declared.ast.Array.{Array, roll-Array, size-Array}
 use Rattle.jsonc_ast.specs.declared.ast.Object.{Object, roll-Object, size-Object}
 use Rattle.jsonc_ast.specs.declared.ast.Object as object_parts

@@ -1,21 +1,16 @@
 -- What a value holds, by its kind, and the properties of an object, by their names.
 use Rattle.std.specs.Prelude.{ℕ, Bool, cond, List, Option, Some, None, option_map}
-use Rattle.std.specs.declared.borrow.CowStr.{CowStr}
-use Rattle.std.specs.declared.borrow.CowStr.TheVariants as cow
-use Rattle.std.specs.declared.string.String.{String as Text}
-use Rattle.std.specs.Cow.{cow_str_bytes}
 use Rattle.std.specs.List.{find}
 use Rattle.std.specs.Set.{remove_key}
 use Rattle.std.specs.Str.{bytes_eq}
 use Rattle.jsonc_text.specs.declared.common.Range.{Range}
-use Rattle.jsonc_ast.specs.Located.{range_at}
+use Rattle.jsonc_walk.specs.Located.{range_at}
 use Rattle.jsonc_ast.specs.Views.{object_located}
-use Rattle.jsonc_ast.specs.declared.ast.StringLit.{StringLit}
+use Rattle.jsonc_walk.specs.declared.name.StringLit.{StringLit}
 use Rattle.jsonc_ast.specs.declared.ast.NumberLit.{NumberLit}
 use Rattle.jsonc_ast.specs.declared.ast.BooleanLit.{BooleanLit}
 use Rattle.jsonc_ast.specs.declared.ast.NullKeyword.{NullKeyword}
-use Rattle.jsonc_ast.specs.declared.ast.ObjectPropName.{ObjectPropName}
-use Rattle.jsonc_ast.specs.declared.ast.ObjectPropName.TheVariants.{String, Word}
+use Rattle.jsonc_walk.specs.Name.{name_text}
 use Rattle.jsonc_ast.specs.declared.ast.Value.{Value, out-Value}
 use Rattle.jsonc_ast.specs.declared.ast.Array.{Array}
 use Rattle.jsonc_ast.specs.declared.ast.Object.{Object, out-Object}
@@ -68,20 +63,6 @@ module _ {A : Type 0} (v : Value A) where
   as_null_keyword = null_of (out-Value A v)
 
 module _ {A : Type 0} where
-  -- the bytes of a name
-  abbrev pub name_text : ObjectPropName A → List ℕ
-  name_text (String s) = cow_str_bytes s.value
-  name_text (Word w) = w.value.now
-
-  abbrev owned_in : CowStr A → Option (Text A)
-  owned_in (cow.Borrowed s) = None
-  owned_in (cow.Owned s) = Some s
-
-  -- the text that a name owns, if it owns one
-  abbrev pub owned_text : ObjectPropName A → Option (Text A)
-  owned_text (String s) = owned_in s.value
-  owned_text (Word w) = None
-
   -- whether a property has this name
   abbrev pub is_named : List ℕ → ObjectProp A → Bool
   is_named name p = bytes_eq name (name_text p.name)

@@ -1,12 +1,11 @@
 -- What a copy has besides its value and the places of its nodes: which names are in quotes; and which copies take memory.
-use Rattle.std.specs.Prelude.{◌≢◌, Bool, true, false, List, [], ◌∷◌}
+use Rattle.std.specs.Prelude.{◌≢◌, Bool, List, [], ◌∷◌}
 use Rattle.std.specs.Cow.{IsOwnedStr}
 use Rattle.std.specs.List.{flat_map}
 use Rattle.jsonc_ast.specs.Access.{properties}
-use Rattle.jsonc_ast.specs.Located.{Located}
-use Rattle.jsonc_ast.specs.Views.{LocatedMember, value_step, array_step, object_step, property_step}
-use Rattle.jsonc_ast.specs.declared.ast.ObjectPropName.{ObjectPropName}
-use Rattle.jsonc_ast.specs.declared.ast.ObjectPropName.TheVariants.{String, Word}
+use Rattle.jsonc_walk.specs.Located.{Located, LocatedMember}
+use Rattle.jsonc_ast.specs.Views.{value_step, array_step, object_step, property_step}
+use Rattle.jsonc_walk.specs.Name.{in_quotes}
 use Rattle.jsonc_ast.specs.declared.ast.Value.{Value, fold-Value, out-Value}
 use Rattle.jsonc_ast.specs.declared.ast.Array.{Array, fold-Array}
 use Rattle.jsonc_ast.specs.declared.ast.Object.{Object, fold-Object}
@@ -17,10 +16,6 @@ module _ {A : Type 0} where
   -- an array with the place of each of its nodes
   abbrev pub array_located : Array A → Located
   array_located = fold-Array A Located Located Located LocatedMember value_step array_step object_step property_step
-
-  abbrev pub in_quotes : ObjectPropName A → Bool
-  in_quotes (String s) = true
-  in_quotes (Word w) = false
 
   -- one level, where what is inside stands for the quotes of its names
   abbrev value_quotes : Value-F A (List Bool) (List Bool) (List Bool) (List Bool) → List Bool
@@ -50,11 +45,6 @@ module _ {A : Type 0} where
 
   abbrev pub quotes_in_property : ObjectProp A → List Bool
   quotes_in_property = fold-ObjectProp A (List Bool) (List Bool) (List Bool) (List Bool) value_quotes array_quotes object_quotes property_quotes
-
-  -- the name is in quotes, and owns its text
-  abbrev pub OwnsText : ObjectPropName A → Type 0
-  OwnsText (String s) = IsOwnedStr s.value
-  OwnsText (Word w) = ⊥
 
   abbrev level_takes_memory : Value-F A (Value A) (Array A) (Object A) (ObjectProp A) → Type 0
   level_takes_memory (Value-F.StringLit s) = IsOwnedStr s.value

@@ -3,13 +3,13 @@ use Rattle.std.specs.Prelude.{Option, Some, None}
 use Rattle.jsonc_text.specs.declared.common.Range.{Range}
 use Rattle.jsonc_ast.specs.Views.{member_of}
 use Rattle.jsonc_ast.specs.Access.{range_of}
-use Rattle.jsonc_ast.specs.declared.ast.StringLit.{StringLit}
-use Rattle.jsonc_ast.specs.declared.ast.WordLit.{WordLit}
+use Rattle.jsonc_walk.specs.declared.name.StringLit.{StringLit}
+use Rattle.jsonc_walk.specs.declared.name.WordLit.{WordLit}
 use Rattle.jsonc_ast.specs.declared.ast.NumberLit.{NumberLit}
 use Rattle.jsonc_ast.specs.declared.ast.BooleanLit.{BooleanLit}
 use Rattle.jsonc_ast.specs.declared.ast.NullKeyword.{NullKeyword}
-use Rattle.jsonc_ast.specs.declared.ast.ObjectPropName.{ObjectPropName}
-use Rattle.jsonc_ast.specs.declared.ast.ObjectPropName.TheVariants.{String, Word}
+use Rattle.jsonc_walk.specs.declared.name.ObjectPropName.{ObjectPropName}
+use Rattle.jsonc_walk.specs.declared.name.ObjectPropName.TheVariants.{String, Word}
 use Rattle.jsonc_ast.specs.declared.ast.Value.{Value, out-Value}
 use Rattle.jsonc_ast.specs.declared.ast.Value.TheOpen.{Value-F}
 use Rattle.jsonc_ast.specs.declared.ast.Array.{Array}

@@ -1,8 +1,8 @@
 -- The strings and names of a value, as they are kept: lent by the text or copied, in quotes or without.
 use Rattle.std.specs.Prelude.{List, [], ◌∷◌, map}
 use Rattle.std.specs.List.{flat_map}
-use Rattle.jsonc_ast.specs.declared.ast.ObjectPropName.{ObjectPropName}
-use Rattle.jsonc_ast.specs.declared.ast.ObjectPropName.TheVariants.{String}
+use Rattle.jsonc_walk.specs.declared.name.ObjectPropName.{ObjectPropName}
+use Rattle.jsonc_walk.specs.declared.name.ObjectPropName.TheVariants.{String}
 use Rattle.jsonc_ast.specs.declared.ast.Value.{Value, fold-Value}
 use Rattle.jsonc_ast.specs.declared.ast.ObjectProp.{ObjectProp, fold-ObjectProp}
 use Rattle.jsonc_ast.specs.declared.ast.Value.TheOpen.{Value-F, Array-F, Object-F, ObjectProp-F}

@@ -1,36 +1,13 @@
 -- What the values of `ast` stand for.
 use Rattle.std.specs.Prelude.{◌≡◌, List, [], ◌∷◌, ◌++◌, map, chars}
 use Rattle.std.specs.Cow.{cow_str_bytes}
-use Rattle.jsonc_text.specs.declared.common.Range.{Range}
 use Rattle.jsonc_text.specs.Plain.{Plain, null, boolean, number, string}
-use Rattle.jsonc_ast.specs.Located.{Located, LocatedItems, LocatedMembers, LocatedName, leaf_at, array_at, object_at, no_items_at, item_at, no_members_at, member_at, value_at}
-use Rattle.jsonc_ast.specs.declared.ast.ObjectPropName.{ObjectPropName}
-use Rattle.jsonc_ast.specs.declared.ast.ObjectPropName.TheVariants.{String, Word}
+use Rattle.jsonc_walk.specs.Located.{Located, LocatedItems, LocatedMember, LocatedMembers, items_of, leaf_at, array_at, members_of, object_at, value_at}
+use Rattle.jsonc_walk.specs.Name.{name_at}
 use Rattle.jsonc_ast.specs.declared.ast.Value.{Value, fold-Value}
 use Rattle.jsonc_ast.specs.declared.ast.ObjectProp.{ObjectProp, fold-ObjectProp}
 use Rattle.jsonc_ast.specs.declared.ast.Object.{Object, fold-Object}
 use Rattle.jsonc_ast.specs.declared.ast.Value.TheOpen.{Value-F, Array-F, Object-F, ObjectProp-F}
-
--- a property with the places of its nodes
-pub record LocatedMember : Type 0 where
-  pub range : Range
-  pub name : LocatedName
-  pub value : Located
-
--- located values, as the elements of an array
-abbrev pub items_of : List Located → LocatedItems
-items_of [] = no_items_at
-items_of (x ∷ xs) = item_at x (items_of xs)
-
--- and as the properties of an object
-abbrev pub members_of : List LocatedMember → LocatedMembers
-members_of [] = no_members_at
-members_of (m ∷ ms) = member_at m.range m.name m.value (members_of ms)
-
--- a name with its range
-abbrev pub name_at : {A : Type 0} → ObjectPropName A → LocatedName
-name_at (String s) = record { range = s.range; name = chars (cow_str_bytes s.value) }
-name_at (Word w) = record { range = w.range; name = chars w.value.now }
 
 -- one level, where what is inside stands for its located values
 abbrev pub value_step : {A : Type 0} → Value-F A Located Located Located LocatedMember → Located

@@ -1,17 +1,2 @@
 pub mod Results
-pub mod Scanned
-pub mod Containers
-pub mod Context
-pub mod Reads
-pub mod Comments
-pub mod Refusals
-pub mod Lent
-pub mod Collected
-pub mod Reached
-pub mod Faults
-pub mod Laws
-pub mod Written
-pub mod Ranges
-pub mod Handed
-pub mod Walked
 pub mod Trees

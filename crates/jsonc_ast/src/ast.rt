@@ -1,35 +1,19 @@
 //! Values, and where they stand in their text.
 ghost use Rattle.std.specs.Prelude.{◌≡◌, ◌++◌, ◌∷◌, [], OnErr, OnOk};
-ghost use Rattle.jsonc_ast.specs.Located.{array_at, object_at, range_at};
-ghost use Rattle.jsonc_ast.specs.Views.{located, object_located, items_located, member_of, members_located, name_at, Grown};
+ghost use Rattle.jsonc_walk.specs.Located.{array_at, object_at, range_at};
+ghost use Rattle.jsonc_ast.specs.Views.{located, object_located, items_located, member_of, members_located, Grown};
+ghost use Rattle.jsonc_walk.specs.Name.{name_at};
 ghost use Rattle.jsonc_ast.specs.Spelled.{spelled, spelled_in_property, spelled_in_elements, spelled_in_properties};
 
 mod access;
-mod comment;
 mod copies;
 mod node;
 
-pub use comment::{Comment, CommentBlock, CommentKind, CommentLine};
 use jsonc_text::common::{Range, Ranged};
+pub use jsonc_walk::comment::{Comment, CommentBlock, CommentKind, CommentLine};
+pub use jsonc_walk::name::{ObjectPropName, StringLit, WordLit};
 pub use node::{Node, NodeKind};
 use std::alloc::{AllocError, Allocator};
-use std::borrow::CowStr;
-
-/// A string, as `"name"`.
-#[derive(Drop)]
-#[derive_where(Debug, PartialEq, Eq)]
-pub struct StringLit<'a, A: Allocator> {
-    pub range: Range,
-    /// What stands between the quotes, with its escapes decoded.
-    pub value: CowStr<'a, A>,
-}
-
-/// A name without quotes.
-#[derive(Clone, Debug, PartialEq, Eq, Drop)]
-pub struct WordLit<'a> {
-    pub range: Range,
-    pub value: &'a str,
-}
 
 /// A number, as `123` or `-1.2e+2`.
 #[derive(Clone, Debug, PartialEq, Eq, Drop)]
@@ -50,14 +34,6 @@ pub struct BooleanLit {
 #[derive(Clone, Debug, PartialEq, Eq, Drop)]
 pub struct NullKeyword {
     pub range: Range,
-}
-
-/// The name of a property, with or without quotes.
-#[derive(Drop)]
-#[derive_where(Debug, PartialEq, Eq)]
-pub enum ObjectPropName<'a, A: Allocator> {
-    String(StringLit<'a, A>),
-    Word(WordLit<'a>),
 }
 
 /// A value.
@@ -159,22 +135,6 @@ pub fn push_property<'a, A: Allocator>(
     Ok(())
 }
 
-impl<'a, A: Allocator> Ranged for StringLit<'a, A> {
-    ghost range_of = { λ x. x.range };
-
-    fn range(&self) -> Range {
-        self.range
-    }
-}
-
-impl<'a> Ranged for WordLit<'a> {
-    ghost range_of = { λ x. x.range };
-
-    fn range(&self) -> Range {
-        self.range
-    }
-}
-
 impl<'a> Ranged for NumberLit<'a> {
     ghost range_of = { λ x. x.range };
 
@@ -196,17 +156,6 @@ impl Ranged for NullKeyword {
 
     fn range(&self) -> Range {
         self.range
-    }
-}
-
-impl<'a, A: Allocator> Ranged for ObjectPropName<'a, A> {
-    ghost range_of = { λ x. (name_at x).range };
-
-    fn range(&self) -> Range {
-        match self {
-            ObjectPropName::String(name) => name.range,
-            ObjectPropName::Word(name) => name.range,
-        }
     }
 }
 

@@ -1,18 +1,5 @@
-//! From a text to its syntax tree; and the walk over a text, whatever is made of it.
+//! From a text to its syntax tree.
 
-pub mod collect;
-mod collecting;
-pub mod comments;
-pub mod container;
-pub mod context;
-pub mod laws;
-mod names;
-pub mod passed;
-pub mod receiver;
-mod room;
-pub mod stack;
-pub mod stops;
 mod values;
-pub mod walk;
 
-pub use values::parse_to_ast;
+pub use values::{ParseResult, parse_to_ast};

@@ -10,9 +10,8 @@ use Rattle.jsonc_tree.specs.OrderedTree.{OrderedTree, none, more, followed_by}
 use Rattle.jsonc_tree.specs.Tree.{Node, is_container_at}
 use Rattle.jsonc_tree.specs.Growing.{IsGrowing, container_of, nodes_so_far}
 use Rattle.jsonc_tree.specs.declared.growing.Growing.{Growing}
-use Rattle.jsonc_ast.specs.Located.{Between, Located, LocatedName, One, array_at, object_at, range_at}
-use Rattle.jsonc_ast.specs.Views.{LocatedMember, items_of, members_of}
-use Rattle.jsonc_ast.specs.to_ast.Handed.{Source, Covers, IsBehind, at_place, behind_mark}
+use Rattle.jsonc_walk.specs.Located.{Between, Located, LocatedName, One, array_at, object_at, range_at, LocatedMember, items_of, members_of}
+use Rattle.jsonc_walk.specs.Handed.{Source, Covers, IsBehind, at_place, behind_mark}
 use Rattle.jsonc_sound.specs.Filling.{is_separator}
 use Rattle.jsonc_build.specs.declared.maker.DocumentMaker.{DocumentMaker}
 use Rattle.jsonc_build.specs.Growth.{Grows}

@@ -3,9 +3,9 @@ use Rattle.std.proofs.Common.{ℕ, ◌≡◌, ◌∙◌, sym, ap, subst, refl, L
 use Rattle.jsonc_text.specs.Options.{Options}
 use Rattle.jsonc_tree.specs.OrderedTree.{OrderedTree, none, more, followed_by, ordered_tree}
 use Rattle.jsonc_tree.specs.Tree.{Node, children_at, IsTree}
-use Rattle.jsonc_ast.specs.Located.{Located, range_at, value_at, IsLocatedDocument}
-use Rattle.jsonc_ast.specs.to_ast.Handed.{Source, IsDocumentMade, MadeBetweenGaps}
-use Rattle.jsonc_ast.specs.to_ast.Reached.{FitsIn}
+use Rattle.jsonc_walk.specs.Located.{Located, range_at, value_at, IsLocatedDocument}
+use Rattle.jsonc_walk.specs.Handed.{Source, IsDocumentMade, MadeBetweenGaps}
+use Rattle.jsonc_walk.specs.Reached.{FitsIn}
 use Rattle.jsonc_build.specs.declared.maker.DocumentMaker.{DocumentMaker}
 use Rattle.jsonc_build.specs.Growth.{Grows}
 use Rattle.jsonc_build.specs.Laid.{DocumentLaid, FillsBetween, Laid, RootLaid}

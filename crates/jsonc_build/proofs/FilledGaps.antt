@@ -4,7 +4,7 @@ use Rattle.jsonc_text.specs.Text.{rest, next, starts}
 use Rattle.jsonc_text.proofs.Basics.{test_eq}
 use Rattle.jsonc_tree.specs.Content.{Content, token}
 use Rattle.jsonc_tree.specs.OrderedTree.{OrderedTree, none, more, followed_by}
-use Rattle.jsonc_ast.specs.Located.{LocatedItems, LocatedMembers, Between, One}
+use Rattle.jsonc_walk.specs.Located.{LocatedItems, LocatedMembers, Between, One}
 use Rattle.jsonc_sound.specs.Filling.{is_separator}
 use Rattle.jsonc_sound.specs.Leaves.{end}
 use Rattle.jsonc_build.specs.Laid.{FillsBetween, ItemsLaid, MembersLaid, no_element, an_element, no_property, a_property}

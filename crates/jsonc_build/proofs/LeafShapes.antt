@@ -15,7 +15,7 @@ use Rattle.jsonc_text.proofs.Basics.{front_same, text_same, no_front}
 use Rattle.jsonc_text.proofs.Cuts.{chars_between, slice_chars}
 use Rattle.jsonc_text.proofs.NumberFrames.{number_cut}
 use Rattle.jsonc_tree.specs.Content.{Content}
-use Rattle.jsonc_ast.specs.Located.{In, IsLeaf}
+use Rattle.jsonc_walk.specs.Located.{In, IsLeaf}
 use Rattle.jsonc_build.specs.Laid as laid
 use Rattle.jsonc_build.specs.Laid.{bytes_in, NameLaid}
 use Rattle.jsonc_sound.specs.Shape.{IsLexemeBefore, IsLiteralBefore, IsNameBefore}

@@ -8,7 +8,7 @@ use Rattle.jsonc_text.proofs.Basics.{clash, and_both, heads, tails}
 use Rattle.jsonc_text.proofs.UniqueTokens.{not_blank}
 use Rattle.jsonc_tree.specs.Content.{Content, token}
 use Rattle.jsonc_tree.specs.OrderedTree.{OrderedTree, none, more, followed_by}
-use Rattle.jsonc_ast.specs.Located.{Located, LocatedItems, LocatedMembers, LocatedName, Between, One, IsLocated, IsLocatedDocument}
+use Rattle.jsonc_walk.specs.Located.{Located, LocatedItems, LocatedMembers, LocatedName, Between, One, IsLocated, IsLocatedDocument}
 use Rattle.jsonc_sound.specs.Filling.{is_separator}
 use Rattle.jsonc_sound.specs.Leaves.{GapLeaf, line_feed, cr_lf, cr, blanks, a_comment, mark, Fills, end, leaf, is_inner_blank}
 use Rattle.jsonc_build.specs.Laid as laid

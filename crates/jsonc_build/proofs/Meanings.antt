@@ -17,7 +17,7 @@ use Rattle.jsonc_text.proofs.Cuts.{slice_chars, slice_encodes}
 use Rattle.jsonc_tree.specs.Content.{Content, text_of}
 use Rattle.jsonc_tree.specs.OrderedTree.{OrderedTree, none, more, followed_by, printed}
 use Rattle.jsonc_tree.proofs.OrderedTrees.{printed-more, printed-followed_by}
-use Rattle.jsonc_ast.specs.Located.{Located, LocatedItems, LocatedMembers, LocatedName, Between, One, Brackets, In, IsLeaf, no_items_at, item_at, no_members_at, member_at, range_at, value_at, items_at, members_at, IsLocated, AreItems, AreFurtherItems, AreMembers, AreFurtherMembers, IsNamed, IsLocatedDocument}
+use Rattle.jsonc_walk.specs.Located.{Located, LocatedItems, LocatedMembers, LocatedName, Between, One, Brackets, In, IsLeaf, no_items_at, item_at, no_members_at, member_at, range_at, value_at, items_at, members_at, IsLocated, AreItems, AreFurtherItems, AreMembers, AreFurtherMembers, IsNamed, IsLocatedDocument}
 use Rattle.jsonc_sound.specs.Leaves as leaves
 use Rattle.jsonc_sound.specs.Leaves.{Fills, GapLeaf}
 use Rattle.jsonc_build.specs.Laid as laid

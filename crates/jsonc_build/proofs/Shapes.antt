@@ -11,7 +11,7 @@ use Rattle.jsonc_text.proofs.Cuts.{chars_between}
 use Rattle.jsonc_text.proofs.CharacterSteps.{no_at_end}
 use Rattle.jsonc_tree.specs.Content.{Content}
 use Rattle.jsonc_tree.specs.OrderedTree.{OrderedTree, none, more, followed_by}
-use Rattle.jsonc_ast.specs.Located.{Located, LocatedItems, LocatedMembers, LocatedName, Between, One, range_at, IsLocated, AreItems, AreFurtherItems, AreMembers, AreFurtherMembers, IsNamed, IsLocatedDocument}
+use Rattle.jsonc_walk.specs.Located.{Located, LocatedItems, LocatedMembers, LocatedName, Between, One, range_at, IsLocated, AreItems, AreFurtherItems, AreMembers, AreFurtherMembers, IsNamed, IsLocatedDocument}
 use Rattle.jsonc_sound.specs.Filling.{is_separator}
 use Rattle.jsonc_build.specs.Laid as laid
 use Rattle.jsonc_build.specs.Laid.{bracketed, FillsBetween, Laid, ItemsLaid, MembersLaid, PropertyLaid, RootLaid, DocumentLaid}

@@ -7,7 +7,7 @@ use Rattle.jsonc_text.specs.Gaps.{is_blank}
 use Rattle.jsonc_text.specs.Grammar.{IsName}
 use Rattle.jsonc_text.specs.Lexemes.{LexemeKind, lexeme}
 use Rattle.jsonc_text.proofs.UniqueTokens.{not_blank, scanned_no_blank}
-use Rattle.jsonc_ast.specs.Located.{Located, LocatedName, leaf_at, array_at, object_at, range_at, IsLocated, IsNamed}
+use Rattle.jsonc_walk.specs.Located.{Located, LocatedName, leaf_at, array_at, object_at, range_at, IsLocated, IsNamed}
 
 -- something stands at a place, and no blank
 abbrev pub StartsAt : List ℕ → ℕ → Type 0

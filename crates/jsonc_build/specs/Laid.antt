@@ -8,7 +8,7 @@ use Rattle.jsonc_text.specs.Text.{next, starts, rest, Spans}
 use Rattle.jsonc_text.specs.Plain.{Plain}
 use Rattle.jsonc_tree.specs.Content.{Content, token}
 use Rattle.jsonc_tree.specs.OrderedTree.{OrderedTree, none, more, followed_by}
-use Rattle.jsonc_ast.specs.Located.{Located, LocatedItems, LocatedMembers, LocatedName, leaf_at, array_at, object_at, no_items_at, item_at, no_members_at, member_at, range_at, Between, IsLocatedDocument}
+use Rattle.jsonc_walk.specs.Located.{Located, LocatedItems, LocatedMembers, LocatedName, leaf_at, array_at, object_at, no_items_at, item_at, no_members_at, member_at, range_at, Between, IsLocatedDocument}
 use Rattle.jsonc_tree.specs.Tree.{Node}
 use Rattle.jsonc_build.specs.Growth.{Grows}
 use Rattle.jsonc_sound.specs.Leaves.{Fills}

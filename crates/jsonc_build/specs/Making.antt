@@ -10,10 +10,9 @@ use Rattle.jsonc_tree.specs.Content.{Content, array, object, property, token}
 use Rattle.jsonc_tree.specs.OrderedTree.{OrderedTree, none, more, followed_by}
 use Rattle.jsonc_tree.specs.Growing.{IsGrowing, container_of, nodes_so_far}
 use Rattle.jsonc_tree.specs.Tree.{Node}
-use Rattle.jsonc_ast.specs.Located.{Located, LocatedName, range_at, value_at, IsLocatedDocument}
-use Rattle.jsonc_ast.specs.Views.{LocatedMember, items_of, members_of}
-use Rattle.jsonc_ast.specs.to_ast.Handed.{Source}
-use Rattle.jsonc_ast.specs.to_ast.Reached.{FitsIn}
+use Rattle.jsonc_walk.specs.Located.{Located, LocatedName, range_at, value_at, IsLocatedDocument, LocatedMember, items_of, members_of}
+use Rattle.jsonc_walk.specs.Handed.{Source}
+use Rattle.jsonc_walk.specs.Reached.{FitsIn}
 use Rattle.jsonc_build.specs.declared.maker.DocumentMaker.{DocumentMaker}
 use Rattle.jsonc_build.specs.Growth.{Grows}
 use Rattle.jsonc_build.specs.Laid.{FillsBetween, ItemsLaid, Laid, MembersLaid, NameLaid, RootLaid}

@@ -9,19 +9,19 @@ ghost use Rattle.jsonc_tree.specs.OrderedTree.{OrderedTree, none};
 ghost use Rattle.jsonc_tree.specs.Stored.{content_of};
 ghost use Rattle.jsonc_tree.specs.Tree.{children_at, is_container_at};
 ghost use Rattle.jsonc_text.specs.Gaps.{Gap};
-ghost use Rattle.jsonc_ast.specs.Located.{Between};
-ghost use Rattle.jsonc_ast.specs.to_ast.Handed.{Follows, IsBehind};
+ghost use Rattle.jsonc_walk.specs.Located.{Between};
+ghost use Rattle.jsonc_walk.specs.Handed.{Follows, IsBehind};
 ghost use Rattle.jsonc_sound.specs.Filling.{is_separator};
 ghost use Rattle.jsonc_build.specs.Laid.{EndsGap, FillsGap, NameLaid, is_quote_at};
 ghost use Rattle.jsonc_build.specs.Making.{container_in, source_in, nodes_in, Closes, Holds, IsAt, Names, Opens, Passes, Puts, PutsLeaf};
 
 use crate::fill::fill_gap;
 use crate::room::make_room;
-use jsonc_ast::to_ast::receiver::Receiver;
 use jsonc_text::chars::{char_at, has_byte};
 use jsonc_text::common::Range;
 use jsonc_text::options::ParseOptions;
 use jsonc_tree::{Ends, Growing, Kind, Part, Tree};
+use jsonc_walk::receiver::Receiver;
 use std::alloc::{AllocError, Allocator};
 use std::rc::RcStr;
 

@@ -6,19 +6,19 @@ ghost use Rattle.jsonc_text.specs.OptionsOf.{parse_options};
 ghost use Rattle.jsonc_text.specs.Plain.{Plain};
 ghost use Rattle.jsonc_tree.specs.OrderedTree.{ordered_tree, printed};
 ghost use Rattle.jsonc_tree.specs.Values.{DocumentValueOf};
-ghost use Rattle.jsonc_ast.specs.Located.{Located, IsLocatedDocument, value_at};
-ghost use Rattle.jsonc_ast.specs.to_ast.Faults.{ParseFault};
-ghost use Rattle.jsonc_ast.specs.to_ast.Refusals.{IsWithin, RefusesText};
+ghost use Rattle.jsonc_walk.specs.Located.{Located, IsLocatedDocument, value_at};
+ghost use Rattle.jsonc_walk.specs.Faults.{ParseFault};
+ghost use Rattle.jsonc_walk.specs.Refusals.{IsWithin, RefusesText};
 ghost use Rattle.jsonc_sound.specs.Lines.{DocumentLinesEnd};
 ghost use Rattle.jsonc_sound.specs.Shape.{DocumentShaped};
 ghost use Rattle.jsonc_build.specs.Laid.{LiesIn};
 
 use crate::maker::DocumentMaker;
-use jsonc_ast::to_ast::context::Context;
-use jsonc_ast::to_ast::walk::read_document;
 use jsonc_text::errors::ParseError;
 use jsonc_text::options::ParseOptions;
 use jsonc_tree::Tree;
+use jsonc_walk::context::Context;
+use jsonc_walk::walk::read_document;
 use std::alloc::Allocator;
 
 /// Parses a text to its tree, which is made as the text is read.

@@ -9,7 +9,7 @@ use Rattle.jsonc_tree.specs.OrderedTree.{OrderedTree, ordered_tree, printed}
 pub use Rattle.jsonc_text.specs.EditErrors.{edit_error_text}
 pub use Rattle.jsonc_text.specs.declared.edit.EditError.{EditError}
 pub use Rattle.jsonc_text.specs.declared.edit.EditError.TheVariants.{OutOfMemory}
-pub use Rattle.jsonc_ast.specs.to_ast.Refusals.{RefusesText, IsWithin}
+pub use Rattle.jsonc_walk.specs.Refusals.{RefusesText, IsWithin}
 pub use Rattle.jsonc_build.specs.Laid.{DocumentLaid, LiesIn}
 use Rattle.jsonc_cst.specs.declared.cst.CstRootNode.{CstRootNode}
 use Rattle.jsonc_cst.specs.declared.cst.node.CstContainerNode.{CstContainerNode}

@@ -2,9 +2,9 @@
 use Rattle.std.proofs.Common.{◌≡◌, rules, chars}
 use Rattle.std.specs.Cow.{cow_str_bytes}
 use Rattle.jsonc_text.specs.Plain.{null, boolean, number, string}
-use Rattle.jsonc_ast.specs.Located.{leaf_at, array_at, object_at}
+use Rattle.jsonc_walk.specs.Located.{leaf_at, array_at, object_at}
 use Rattle.jsonc_ast.specs.Views.{located, items_located, members_located}
-use Rattle.jsonc_ast.specs.declared.ast.StringLit.{StringLit}
+use Rattle.jsonc_walk.specs.declared.name.StringLit.{StringLit}
 use Rattle.jsonc_ast.specs.declared.ast.NumberLit.{NumberLit}
 use Rattle.jsonc_ast.specs.declared.ast.BooleanLit.{BooleanLit}
 use Rattle.jsonc_ast.specs.declared.ast.NullKeyword.{NullKeyword}

@@ -8,14 +8,14 @@ use Rattle.jsonc_text.specs.Grammar.{IsDocument}
 use Rattle.jsonc_text.specs.Options.{Options, all_on}
 use Rattle.jsonc_text.specs.Plain as plains
 use Rattle.jsonc_text.specs.Plain.{Plain, Items, no_items, item}
-use Rattle.jsonc_ast.specs.Located.{items_at, value_at}
+use Rattle.jsonc_walk.specs.Located.{items_at, value_at}
 use Rattle.jsonc_ast.specs.Views.{items_located, plain}
 use Rattle.jsonc_ast.specs.declared.ast.Array.{Array}
 use Rattle.jsonc_ast.specs.declared.ast.BooleanLit.{BooleanLit}
 use Rattle.jsonc_ast.specs.declared.ast.NullKeyword.{NullKeyword}
 use Rattle.jsonc_ast.specs.declared.ast.NumberLit.{NumberLit}
 use Rattle.jsonc_ast.specs.declared.ast.Object.{Object}
-use Rattle.jsonc_ast.specs.declared.ast.StringLit.{StringLit}
+use Rattle.jsonc_walk.specs.declared.name.StringLit.{StringLit}
 use Rattle.jsonc_ast.specs.declared.ast.Value.{Value}
 use Rattle.jsonc_ast.specs.declared.ast.Value as values
 use Rattle.jsonc_engine.proofs.LocatedValues.{view-Array, view-BooleanLit, view-NullKeyword, view-NumberLit, view-Object, view-StringLit}

@@ -7,4 +7,4 @@ pub use Rattle.jsonc_text.specs.Options.{Options, all_on}
 pub use Rattle.jsonc_text.specs.OptionsOf.{parse_options}
 pub use Rattle.jsonc_text.specs.Plain.{Plain}
 pub use Rattle.jsonc_text.specs.declared.errors.ParseError.{ParseError}
-pub use Rattle.jsonc_ast.specs.to_ast.Faults.{ParseFault}
+pub use Rattle.jsonc_walk.specs.Faults.{ParseFault}

@@ -7,10 +7,9 @@ use Rattle.jsonc_text.specs.Options.{Options}
 use Rattle.jsonc_text.specs.Plain.{Plain, Items, no_items, item, member, collapse, collapse_items, collapse_members}
 use Rattle.jsonc_text.proofs.Collapse.{push, put, collapse_push}
 use Rattle.jsonc_text.proofs.TokenTexts.{same_bytes}
-use Rattle.jsonc_ast.specs.Located.{Located, value_at, items_at, members_at}
-use Rattle.jsonc_ast.specs.Views.{LocatedMember, items_of, members_of}
-use Rattle.jsonc_ast.specs.to_ast.Handed.{IsDocumentMade}
-use Rattle.jsonc_ast.proofs.lemmas.to_ast.Grammar.{located_document}
+use Rattle.jsonc_walk.specs.Located.{Located, value_at, items_at, members_at, LocatedMember, items_of, members_of}
+use Rattle.jsonc_walk.specs.Handed.{IsDocumentMade}
+use Rattle.jsonc_walk.proofs.lemmas.Grammar.{located_document}
 use Rattle.jsonc_layout.specs.declared.input.value.CstInputValue.{CstInputValue}
 use Rattle.jsonc_layout.specs.input.Views.{plain, chars_of, items_plain, members_plain}
 use Rattle.jsonc_layout.specs.to_input.Taken.{inserted}

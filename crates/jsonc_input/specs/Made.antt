@@ -3,9 +3,8 @@ use Rattle.std.specs.Prelude.{◌≡◌, List}
 use Rattle.std.specs.declared.string.String.{String}
 use Rattle.jsonc_text.specs.OptionsOf.{parse_options}
 use Rattle.jsonc_text.specs.Plain.{collapse, collapse_items, collapse_members}
-use Rattle.jsonc_ast.specs.Located.{Located, LocatedName, value_at, items_at, members_at}
-use Rattle.jsonc_ast.specs.Views.{LocatedMember, items_of, members_of}
-use Rattle.jsonc_ast.specs.to_ast.Handed.{Source}
+use Rattle.jsonc_walk.specs.Located.{Located, LocatedName, value_at, items_at, members_at, LocatedMember, items_of, members_of}
+use Rattle.jsonc_walk.specs.Handed.{Source}
 use Rattle.jsonc_layout.specs.declared.input.value.CstInputValue.{CstInputValue}
 use Rattle.jsonc_layout.specs.input.Views.{plain, chars_of, items_plain, members_plain}
 use Rattle.jsonc_input.specs.declared.maker.InputMaker.{InputMaker}

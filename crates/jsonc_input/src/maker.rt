@@ -2,16 +2,16 @@
 ghost use Rattle.std.specs.Prelude.{◌≡◌, IfOk};
 ghost use Rattle.jsonc_text.specs.OptionsOf.{parse_options};
 ghost use Rattle.jsonc_text.specs.Text.{Spans};
-ghost use Rattle.jsonc_ast.specs.to_ast.Handed.{chars_between};
+ghost use Rattle.jsonc_walk.specs.Handed.{chars_between};
 ghost use Rattle.jsonc_layout.specs.input.Views.{chars_of};
 ghost use Rattle.jsonc_input.specs.Made.{source_in};
 
 use indexmap::IndexMap;
-use jsonc_ast::to_ast::passed::decode_passed;
-use jsonc_ast::to_ast::receiver::Receiver;
 use jsonc_layout::input::CstInputValue;
 use jsonc_text::common::Range;
 use jsonc_text::options::ParseOptions;
+use jsonc_walk::passed::decode_passed;
+use jsonc_walk::receiver::Receiver;
 use std::alloc::{AllocError, Allocator};
 use std::hash::{BuildHasherDefault, FoldHasher};
 

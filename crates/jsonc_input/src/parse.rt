@@ -2,18 +2,18 @@
 ghost use Rattle.std.specs.Prelude.{IfErr, IfOk, option_map, true};
 ghost use Rattle.jsonc_text.specs.Faults.{IsFault};
 ghost use Rattle.jsonc_text.specs.OptionsOf.{parse_options};
-ghost use Rattle.jsonc_ast.specs.to_ast.Faults.{ParseFault};
-ghost use Rattle.jsonc_ast.specs.to_ast.Refusals.{RefusesText};
+ghost use Rattle.jsonc_walk.specs.Faults.{ParseFault};
+ghost use Rattle.jsonc_walk.specs.Refusals.{RefusesText};
 ghost use Rattle.jsonc_layout.specs.input.Views.{plain};
 ghost use Rattle.jsonc_input.specs.Reads.{IsValueOfText};
 
 use crate::maker::InputMaker;
-use jsonc_ast::to_ast::collect::CollectOptions;
-use jsonc_ast::to_ast::context::Context;
-use jsonc_ast::to_ast::walk::read_document;
 use jsonc_layout::input::CstInputValue;
 use jsonc_text::errors::ParseError;
 use jsonc_text::options::ParseOptions;
+use jsonc_walk::collect::CollectOptions;
+use jsonc_walk::context::Context;
+use jsonc_walk::walk::read_document;
 use std::alloc::Allocator;
 
 /// Parses a text to its value, as a value for edits.

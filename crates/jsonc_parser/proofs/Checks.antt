@@ -2,9 +2,9 @@
 use Rattle.std.proofs.Common.{ℕ, Bool, ◌≡◌, ◌||◌, ◌⊎◌, inl, inr, true, false, IsTrue, List, Option, None, Some, chars}
 use Rattle.std.specs.declared.convert.Infallible.{Infallible}
 use Rattle.jsonc_text.specs.Options.{Options}
-use Rattle.jsonc_ast.specs.Located.{Located, value_at}
-use Rattle.jsonc_ast.specs.to_ast.Handed.{IsDocumentMade}
-use Rattle.jsonc_ast.proofs.lemmas.to_ast.Grammar.{located_document}
+use Rattle.jsonc_walk.specs.Located.{Located, value_at}
+use Rattle.jsonc_walk.specs.Handed.{IsDocumentMade}
+use Rattle.jsonc_walk.proofs.lemmas.Grammar.{located_document}
 use Rattle.jsonc_parser.specs.Checker.{HasValueWithin}
 
 pub value_within : {I : Type 0} (makes : I → Located → Type 0) (whole : Bool) (o : Options) (bytes : List ℕ) (found : Option I) → IsDocumentMade (record { bytes = bytes; options = o }) whole makes found → HasValueWithin whole o (chars bytes)

@@ -4,8 +4,8 @@ use Rattle.jsonc_text.specs.Grammar.{IsDocument}
 use Rattle.jsonc_text.specs.Options.{Options}
 use Rattle.jsonc_text.specs.OptionsOf.{parse_options}
 use Rattle.jsonc_text.specs.Plain.{Plain}
-use Rattle.jsonc_ast.specs.to_ast.Handed.{Source}
-use Rattle.jsonc_ast.specs.to_ast.Reached.{FitsIn}
+use Rattle.jsonc_walk.specs.Handed.{Source}
+use Rattle.jsonc_walk.specs.Reached.{FitsIn}
 use Rattle.jsonc_parser.specs.declared.checker.Checker.{Checker}
 
 -- the text is a document, with some value or with none, which is within the depth: of containers, or of these and properties

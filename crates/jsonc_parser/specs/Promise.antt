@@ -4,8 +4,8 @@ use Rattle.std.specs.List.{All}
 use Rattle.jsonc_text.specs.Documents.{Document, IsOne}
 use Rattle.jsonc_text.specs.Faults.{IsFault}
 use Rattle.jsonc_text.specs.Options.{Options}
-use Rattle.jsonc_ast.specs.to_ast.Refusals.{RefusesText}
-use Rattle.jsonc_ast.specs.to_ast.Faults.{ParseFault}
+use Rattle.jsonc_walk.specs.Refusals.{RefusesText}
+use Rattle.jsonc_walk.specs.Faults.{ParseFault}
 use Rattle.jsonc_text.specs.declared.edit.EditError.{EditError}
 use Rattle.jsonc_text.specs.declared.edit.EditError.TheVariants.{OutOfMemory}
 use Rattle.jsonc_run.specs.declared.edit.Edit.{Edit}

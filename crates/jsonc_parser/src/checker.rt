@@ -1,17 +1,17 @@
 //! Whether a text is read, and what is wrong with one that is not.
 ghost use Rattle.std.specs.Prelude.{◌≢◌, IfErr, OnOk, chars, false, true};
-ghost use Rattle.jsonc_ast.specs.to_ast.Faults.{ParseFault};
-ghost use Rattle.jsonc_ast.specs.to_ast.Refusals.{Refuses};
+ghost use Rattle.jsonc_walk.specs.Faults.{ParseFault};
+ghost use Rattle.jsonc_walk.specs.Refusals.{Refuses};
 ghost use Rattle.jsonc_parser.specs.Checker.{HasValueWithin};
 ghost use Rattle.jsonc_text.specs.Faults.{IsFault, kind_of};
 ghost use Rattle.jsonc_text.specs.OptionsOf.{parse_options};
 
-use jsonc_ast::to_ast::context::Context;
-use jsonc_ast::to_ast::receiver::Receiver;
-use jsonc_ast::to_ast::walk::read_document;
 use jsonc_text::common::Range;
 use jsonc_text::errors::{ParseError, ParseErrorKind};
 use jsonc_text::options::ParseOptions;
+use jsonc_walk::context::Context;
+use jsonc_walk::receiver::Receiver;
+use jsonc_walk::walk::read_document;
 use std::alloc::Allocator;
 use std::convert::Infallible;
 

@@ -60,7 +60,6 @@ pub use crate::paths::laws::{
     worked_equal_names,
 };
 pub use crate::places::laws::one_place;
-pub use jsonc_ast::to_ast::laws::{faults_are_of_no_document, one_reading, reading_to_the_end};
 pub use jsonc_cst::laws::{
     descendants_are_those_below, documents_give_their_value, entries_move_their_comments,
     typed_calls_are_calls,
@@ -85,3 +84,4 @@ pub use jsonc_text::laws::{
 };
 pub use jsonc_text::string::laws::{one_fault as one_fault_of_a_string, strings_are_computed};
 pub use jsonc_value::laws::{equality, equality_by_parts, equality_of_copies};
+pub use jsonc_walk::laws::{faults_are_of_no_document, one_reading, reading_to_the_end};

@@ -22,15 +22,13 @@ pub mod string;
 pub use change::{TextChange, Utf16Change, text_change, utf16_change};
 pub use checker::{check, check_document};
 pub use jsonc_ast::ast;
-pub use jsonc_ast::to_ast::collect::{
-    CollectOptions, CommentCollectionStrategy, CommentMap, ParseResult,
-};
-pub use jsonc_ast::to_ast::parse_to_ast;
+pub use jsonc_ast::to_ast::{ParseResult, parse_to_ast};
 pub use jsonc_scan::scanner::Scanner;
 pub use jsonc_text::errors::ParseStringErrorKind;
 pub use jsonc_text::options::{ParseOptions, ScannerOptions};
 pub use jsonc_text::{common, errors, tokens};
 pub use jsonc_value::to_value::parse_to_value;
 pub use jsonc_value::{JsonArray, JsonObject, JsonValue, Map, map};
+pub use jsonc_walk::collect::{CollectOptions, CommentCollectionStrategy, CommentMap};
 pub use line_index::LineIndex;
 pub use places::{LineAndColumn, line_and_column, line_and_column_utf16, place_of, place_of_utf16};

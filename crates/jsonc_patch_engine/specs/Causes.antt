@@ -8,8 +8,8 @@ use Rattle.jsonc_text.specs.Text.{rest}
 use Rattle.jsonc_text.specs.Faults.{IsFault, kind_of}
 use Rattle.jsonc_text.specs.declared.errors.ParseError.{ParseError}
 use Rattle.jsonc_text.specs.declared.errors.ParseErrorKind.TheVariants as ErrorKind
-use Rattle.jsonc_ast.specs.to_ast.Faults.{ParseFault}
-use Rattle.jsonc_ast.specs.to_ast.Refusals.{Refuses}
+use Rattle.jsonc_walk.specs.Faults.{ParseFault}
+use Rattle.jsonc_walk.specs.Refusals.{Refuses}
 use Rattle.jsonc_patch_engine.specs.Json.{IsJson}
 use Rattle.jsonc_patch_engine.specs.Rewritten.{ComesNext, IsNonFinite, Rewritten, is_named}
 use Rattle.jsonc_patch_engine.specs.Same.{SameValue}

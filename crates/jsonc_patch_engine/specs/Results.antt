@@ -6,8 +6,8 @@ use Rattle.jsonc_text.specs.Faults.{IsFault}
 use Rattle.jsonc_text.specs.Grammar.{IsDocument}
 use Rattle.jsonc_text.specs.Places.{LineColumn}
 use Rattle.jsonc_text.specs.declared.errors.ParseError.{ParseError}
-use Rattle.jsonc_ast.specs.to_ast.Faults.{ParseFault}
-use Rattle.jsonc_ast.specs.to_ast.Refusals.{Refuses}
+use Rattle.jsonc_walk.specs.Faults.{ParseFault}
+use Rattle.jsonc_walk.specs.Refusals.{Refuses}
 use Rattle.jsonc_tree.specs.OrderedTree.{ordered_tree, printed}
 use Rattle.jsonc_tree.specs.Tree.{Node}
 use Rattle.jsonc_sound.specs.Documents.{Shows}

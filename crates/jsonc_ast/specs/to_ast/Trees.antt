@@ -2,14 +2,15 @@
 use Rattle.std.specs.Prelude.{◌≡◌, ◌++◌, ℕ, List, length, map}
 use Rattle.jsonc_text.specs.OptionsOf.{parse_options}
 use Rattle.jsonc_ast.specs.declared.ast.ObjectProp.{ObjectProp}
-use Rattle.jsonc_ast.specs.declared.ast.ObjectPropName.{ObjectPropName}
+use Rattle.jsonc_walk.specs.declared.name.ObjectPropName.{ObjectPropName}
 use Rattle.jsonc_ast.specs.declared.ast.Value.{Value}
 use Rattle.jsonc_ast.specs.declared.to_ast.values.TreeMaker.{TreeMaker}
-use Rattle.jsonc_ast.specs.Located.{Located, LocatedName}
+use Rattle.jsonc_walk.specs.Located.{Located, LocatedName, LocatedMember}
 use Rattle.jsonc_ast.specs.Spelled.{spelled, spelled_in_elements, spelled_in_properties}
-use Rattle.jsonc_ast.specs.Views.{LocatedMember, located, member_of, name_at}
-use Rattle.jsonc_ast.specs.to_ast.Handed.{Source}
-use Rattle.jsonc_ast.specs.to_ast.Written.{AreWritten, IsWritten}
+use Rattle.jsonc_ast.specs.Views.{located, member_of}
+use Rattle.jsonc_walk.specs.Name.{name_at}
+use Rattle.jsonc_walk.specs.Handed.{Source}
+use Rattle.jsonc_walk.specs.Written.{AreWritten, IsWritten}
 
 module _ {A : Type 0} where
   abbrev pub source_in : TreeMaker A → Source

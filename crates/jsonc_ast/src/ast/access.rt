@@ -1,14 +1,11 @@
 //! Values by their kind, and properties by their names.
-ghost use Rattle.std.specs.Prelude.{◌≡◌, IfOk, IfSome, Ok, is_some, option_copied, string_bytes, true};
+ghost use Rattle.std.specs.Prelude.{◌≡◌, is_some, option_copied, true};
 ghost use Rattle.std.specs.List.{position};
 ghost use Rattle.std.specs.Option.{option_and_then};
-ghost use Rattle.jsonc_ast.specs.Access.{as_string_lit, as_number_lit, as_boolean_lit, as_object, as_array, as_null_keyword, name_text, owned_text, is_named, properties, range_of, first_named, value_named, left};
+ghost use Rattle.jsonc_ast.specs.Access.{as_string_lit, as_number_lit, as_boolean_lit, as_object, as_array, as_null_keyword, is_named, properties, range_of, first_named, value_named, left};
 
-use super::{
-    Array, BooleanLit, NullKeyword, NumberLit, Object, ObjectProp, ObjectPropName, StringLit, Value,
-};
-use std::alloc::{AllocError, Allocator};
-use std::borrow::CowStr;
+use super::{Array, BooleanLit, NullKeyword, NumberLit, Object, ObjectProp, StringLit, Value};
+use std::alloc::Allocator;
 
 impl<'a, A: Allocator> Value<'a, A> {
     /// The string, if it is one.
@@ -119,34 +116,6 @@ impl<'a, A: Allocator> Value<'a, A> {
             return None;
         };
         Some(array)
-    }
-}
-
-impl<'a, A: Allocator> ObjectPropName<'a, A> {
-    /// The name, without quotes and with its escapes decoded.
-    pub fn as_str(&self) -> &str
-        ensures { result.now ≡ name_text self.now }
-    {
-        match self {
-            ObjectPropName::String(name) => name.value.as_str(),
-            ObjectPropName::Word(name) => name.value,
-        }
-    }
-
-    /// The name, as a string of its own.
-    ///
-    /// One that owns its text already is answered as it is, and nothing is allocated.
-    pub fn into_string(self, alloc: A) -> Result<String<A>, AllocError>
-        ensures text { IfOk result (λ s. string_bytes s ≡ name_text self.entry) }
-        ensures owned { IfSome (owned_text self.entry) (λ s. result ≡ Ok s) }
-    {
-        match self {
-            ObjectPropName::String(name) => match name.value {
-                CowStr::Borrowed(text) => String::from_str(alloc, text),
-                CowStr::Owned(text) => Ok(text),
-            },
-            ObjectPropName::Word(name) => String::from_str(alloc, name.value),
-        }
     }
 }
 

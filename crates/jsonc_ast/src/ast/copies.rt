@@ -1,46 +1,12 @@
 //! Copies of values.
 ghost use Rattle.std.specs.Prelude.{◌≡◌, ◌≢◌, ◌⊎◌, [], IfOk, Ok, OnErr, map};
-ghost use Rattle.std.specs.Cow.{IsOwnedStr, cow_str_bytes};
 ghost use Rattle.jsonc_ast.specs.Access.{properties};
-ghost use Rattle.jsonc_ast.specs.Views.{located, object_located, member_of, name_at};
-ghost use Rattle.jsonc_ast.specs.Copies.{OwnsText, TakesMemory, array_located, in_quotes, quotes, quotes_in_array, quotes_in_object, quotes_in_property};
+ghost use Rattle.jsonc_ast.specs.Views.{located, object_located, member_of};
+ghost use Rattle.jsonc_walk.specs.Name.{OwnsText};
+ghost use Rattle.jsonc_ast.specs.Copies.{TakesMemory, array_located, quotes, quotes_in_array, quotes_in_object, quotes_in_property};
 
-use super::{
-    Array, BooleanLit, NullKeyword, NumberLit, Object, ObjectProp, ObjectPropName, StringLit,
-    Value, WordLit,
-};
+use super::{Array, BooleanLit, NullKeyword, NumberLit, Object, ObjectProp, Value};
 use std::alloc::{AllocError, Allocator};
-use std::borrow::CowStr;
-
-impl<'a, A: Allocator + Copy> StringLit<'a, A> {
-    /// A copy of the string, with the same range. Only that of a string which owns its text takes memory.
-    pub fn try_clone(&self) -> Result<Self, AllocError>
-        ensures range { IfOk result (λ s. s.range ≡ self.now.range) }
-        ensures text { IfOk result (λ s. cow_str_bytes s.value ≡ cow_str_bytes self.now.value) }
-        ensures memory { OnErr result (IsOwnedStr self.now.value) }
-    {
-        let value = match &self.value {
-            CowStr::Borrowed(text) => CowStr::Borrowed(*text),
-            CowStr::Owned(text) => CowStr::Owned(text.clone()?),
-        };
-        Ok(StringLit {
-            range: self.range,
-            value,
-        })
-    }
-}
-
-impl<'a> WordLit<'a> {
-    /// A copy of the name, with the same range. Nothing is allocated.
-    pub fn try_clone(&self) -> Result<Self, AllocError>
-        ensures { result ≡ Ok self.now }
-    {
-        Ok(WordLit {
-            range: self.range,
-            value: self.value,
-        })
-    }
-}
 
 impl<'a> NumberLit<'a> {
     /// A copy of the number, with the same range. Nothing is allocated.
@@ -72,23 +38,6 @@ impl NullKeyword {
         ensures { result ≡ Ok self.now }
     {
         Ok(NullKeyword { range: self.range })
-    }
-}
-
-impl<'a, A: Allocator + Copy> ObjectPropName<'a, A> {
-    /// A copy of the name, with the same range. It is in quotes where the name is.
-    pub fn try_clone(&self) -> Result<Self, AllocError>
-        ensures name { IfOk result (λ n. name_at n ≡ name_at self.now) }
-        ensures quotes { IfOk result (λ n. in_quotes n ≡ in_quotes self.now) }
-        ensures memory { OnErr result (OwnsText self.now) }
-    {
-        match self {
-            ObjectPropName::String(name) => Ok(ObjectPropName::String(name.try_clone()?)),
-            ObjectPropName::Word(name) => Ok(ObjectPropName::Word(WordLit {
-                range: name.range,
-                value: name.value,
-            })),
-        }
     }
 }
 

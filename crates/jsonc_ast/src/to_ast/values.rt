@@ -4,34 +4,47 @@ ghost use Rattle.jsonc_text.specs.Faults.{IsFault, kind_of};
 ghost use Rattle.jsonc_text.specs.Grammar.{IsDocument};
 ghost use Rattle.jsonc_text.specs.OptionsOf.{parse_options};
 ghost use Rattle.jsonc_text.specs.Plain.{around};
-ghost use Rattle.jsonc_ast.specs.to_ast.Collected.{HoldsCollected, is_separate, HoldsComments, Collects, ShowsNoted};
-ghost use Rattle.jsonc_ast.specs.to_ast.Context.{text_in, options_in, token_end, comments_asked, Keeps, AtEnd};
-ghost use Rattle.jsonc_ast.specs.Located.{IsLocatedDocument};
-ghost use Rattle.jsonc_ast.specs.to_ast.Refusals.{RefusesText};
-ghost use Rattle.jsonc_ast.specs.to_ast.Faults.{ParseFault};
+ghost use Rattle.jsonc_walk.specs.Collected.{is_separate, Collects, ShowsNoted};
+ghost use Rattle.jsonc_walk.specs.Context.{text_in, options_in, token_end, comments_asked, Keeps, AtEnd};
+ghost use Rattle.jsonc_walk.specs.Located.{IsLocatedDocument};
+ghost use Rattle.jsonc_walk.specs.Refusals.{RefusesText};
+ghost use Rattle.jsonc_walk.specs.Faults.{ParseFault};
 ghost use Rattle.jsonc_ast.specs.Spelled.{spelled};
 ghost use Rattle.jsonc_ast.specs.Views.{located, plain};
-ghost use Rattle.jsonc_ast.specs.to_ast.Lent.{AreLentIn};
-ghost use Rattle.jsonc_ast.specs.to_ast.Ranges.{CommentsLieIn, TokensLieIn};
-ghost use Rattle.jsonc_ast.specs.to_ast.Results.{located_in, plain_in};
-ghost use Rattle.jsonc_ast.specs.to_ast.Written.{AreWritten, AreWrittenIn};
+ghost use Rattle.jsonc_walk.specs.Lent.{AreLentIn};
+ghost use Rattle.jsonc_walk.specs.Ranges.{CommentsLieIn, TokensLieIn};
+ghost use Rattle.jsonc_ast.specs.to_ast.Results.{HoldsCollected, HoldsComments, located_in, plain_in};
+ghost use Rattle.jsonc_walk.specs.Written.{AreWritten, AreWrittenIn};
 
 use crate::ast::{
     BooleanLit, NullKeyword, NumberLit, ObjectProp, ObjectPropName, StringLit, Value, WordLit,
     array_of, object_of, property_of, push_property, push_value,
 };
-use crate::to_ast::collect::{CollectOptions, ParseResult};
-use crate::to_ast::context::Context;
-use crate::to_ast::passed::decode_passed;
-use crate::to_ast::receiver::Receiver;
-use crate::to_ast::room::make_room;
-use crate::to_ast::stack::taken_from;
-use crate::to_ast::walk::read_document;
 use jsonc_text::common::Range;
 use jsonc_text::errors::{ParseError, ParseErrorKind};
 use jsonc_text::options::ParseOptions;
+use jsonc_text::tokens::TokenAndRange;
+use jsonc_walk::collect::{CollectOptions, CommentMap};
+use jsonc_walk::context::Context;
+use jsonc_walk::passed::decode_passed;
+use jsonc_walk::receiver::Receiver;
+use jsonc_walk::room::make_room;
+use jsonc_walk::stack::taken_from;
+use jsonc_walk::walk::read_document;
 use std::alloc::{AllocError, Allocator};
 use std::borrow::CowStr;
+
+/// The value of a text, with its comments and tokens where they are collected.
+#[derive(Drop)]
+pub struct ParseResult<'a, A: Allocator> {
+    /// Its comments, where they are to stand in a map of their own.
+    pub comments: Option<CommentMap<'a, A>>,
+    /// Its value, or none where it holds blanks and comments alone.
+    pub value: Option<Value<'a, A>>,
+    /// Its tokens in order, where they were asked for: all the lexemes, and the comments among them
+    /// where they stand among the tokens.
+    pub tokens: Option<Vec<TokenAndRange<'a, A>, A>>,
+}
 
 /// What makes a syntax tree of a text as it is read.
 #[derive(Drop)]

@@ -1,7 +1,7 @@
 -- What the JSON text of a merge patch says (RFC 7396, 1), and why a text is none.
 use Rattle.std.specs.Prelude.{◌≡◌, ℕ, List, true, None, Some, chars}
-use Rattle.jsonc_ast.specs.to_ast.Faults.{ParseFault}
-use Rattle.jsonc_ast.specs.to_ast.Refusals.{RefusesText}
+use Rattle.jsonc_walk.specs.Faults.{ParseFault}
+use Rattle.jsonc_walk.specs.Refusals.{RefusesText}
 use Rattle.jsonc_layout.specs.input.Views.{chars_of}
 use Rattle.jsonc_text.specs.Faults.{IsFault}
 use Rattle.jsonc_text.specs.Grammar.{IsDocument}

@@ -1,7 +1,7 @@
 -- Why a text is no patch.
 use Rattle.std.specs.Prelude.{◌≡◌, ◌≢◌, ◌⊎◌, ℕ, suc, true, List, ◌∷◌, [], ◌++◌, Option, Some, Contains, chars, codes}
-use Rattle.jsonc_ast.specs.to_ast.Faults.{ParseFault}
-use Rattle.jsonc_ast.specs.to_ast.Refusals.{RefusesText}
+use Rattle.jsonc_walk.specs.Faults.{ParseFault}
+use Rattle.jsonc_walk.specs.Refusals.{RefusesText}
 use Rattle.jsonc_text.specs.Faults.{IsFault}
 use Rattle.jsonc_text.specs.Grammar.{IsDocument}
 use Rattle.jsonc_text.specs.Options.{Options}

@@ -1,7 +1,7 @@
 -- How the objects of a patch's text are read.
 use Rattle.std.specs.Prelude.{◌≡◌, ◌≢◌, ℕ, List, chars, codes}
-use Rattle.jsonc_ast.specs.Access.{name_text}
-use Rattle.jsonc_ast.specs.Located.{members_at}
+use Rattle.jsonc_walk.specs.Name.{name_text}
+use Rattle.jsonc_walk.specs.Located.{members_at}
 use Rattle.jsonc_ast.specs.Views as ast
 use Rattle.jsonc_ast.specs.Views.{members_located}
 use Rattle.jsonc_ast.specs.declared.ast.ObjectProp.{ObjectProp}

@@ -9,11 +9,11 @@ ghost use Rattle.jsonc_text.specs.OptionsOf.{parse_options};
 
 use super::operation::OperationFault;
 use super::values::value_of;
-use jsonc_ast::to_ast::collect::CollectOptions;
 use jsonc_ast::to_ast::parse_to_ast;
 use jsonc_cst::cst::CstInputValue;
 use jsonc_text::errors::ParseError;
 use jsonc_text::options::ParseOptions;
+use jsonc_walk::collect::CollectOptions;
 use std::alloc::Allocator;
 use std::error::Error;
 use std::fmt;

@@ -2,7 +2,7 @@
 
 ghost use Rattle.std.specs.Prelude.{◌≡◌, chars, map, IfErr, IfOk, IfNone, IfSome, Some};
 ghost use Rattle.std.specs.List.{All};
-ghost use Rattle.jsonc_ast.specs.Located.{items_at};
+ghost use Rattle.jsonc_walk.specs.Located.{items_at};
 ghost use Rattle.jsonc_ast.specs.Views as ast;
 ghost use Rattle.jsonc_ast.specs.Views.{items_located};
 ghost use Rattle.jsonc_layout.specs.input.Views.{plain};
@@ -21,11 +21,11 @@ use super::operation::{Member, Operation, OperationFault};
 use super::pointer::{Pointer, PointerError};
 use super::values::{elements_in, properties_of, see_names, text_of, value_of};
 use jsonc_ast::ast::{ObjectProp, Value};
-use jsonc_ast::to_ast::collect::CollectOptions;
 use jsonc_ast::to_ast::parse_to_ast;
 use jsonc_cst::cst::CstInputValue;
 use jsonc_text::errors::ParseError;
 use jsonc_text::options::ParseOptions;
+use jsonc_walk::collect::CollectOptions;
 use std::alloc::Allocator;
 use std::error::Error;
 use std::fmt;

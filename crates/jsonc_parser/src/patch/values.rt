@@ -1,7 +1,7 @@
 //! Values of a parsed text, taken as values for edits.
 
 ghost use Rattle.std.specs.Prelude.{◌≡◌, ◌≢◌, ℕ, List, chars, string_bytes, IfErr, IfNone, IfOk, IfSome, OnOk};
-ghost use Rattle.jsonc_ast.specs.Located.{items_at};
+ghost use Rattle.jsonc_walk.specs.Located.{items_at};
 ghost use Rattle.jsonc_ast.specs.Views as ast;
 ghost use Rattle.jsonc_ast.specs.Views.{items_located};
 ghost use Rattle.jsonc_layout.specs.input.Views.{items_plain, members_plain, named, plain};

@@ -5,7 +5,7 @@ use Rattle.std.specs.List.{All, flat_map}
 use Rattle.std.specs.declared.borrow.CowStr.{CowStr}
 use Rattle.jsonc_text.specs.declared.common.Range.{Range}
 use Rattle.jsonc_text.specs.Options.{Options}
-use Rattle.jsonc_ast.specs.to_ast.Handed.{HasEscapedString, Source}
+use Rattle.jsonc_walk.specs.Handed.{HasEscapedString, Source}
 use Rattle.jsonc_value.specs.declared.value.JsonValue.{JsonValue, fold-JsonValue}
 use Rattle.jsonc_value.specs.declared.value.JsonValue.TheOpen.{JsonValue-F, JsonObject-F, JsonArray-F}
 use Rattle.jsonc_value.specs.to_value.Views.{name_of}

@@ -6,9 +6,8 @@ use Rattle.std.specs.declared.borrow.CowStr.{CowStr}
 use Rattle.indexmap.specs.IndexMap.{insert_all}
 use Rattle.jsonc_text.specs.OptionsOf.{parse_options}
 use Rattle.jsonc_text.specs.Plain.{collapse, collapse_items, collapse_members}
-use Rattle.jsonc_ast.specs.Located.{Located, LocatedName, value_at, items_at, members_at}
-use Rattle.jsonc_ast.specs.Views.{LocatedMember, items_of, members_of}
-use Rattle.jsonc_ast.specs.to_ast.Handed.{Source}
+use Rattle.jsonc_walk.specs.Located.{Located, LocatedName, value_at, items_at, members_at, LocatedMember, items_of, members_of}
+use Rattle.jsonc_walk.specs.Handed.{Source}
 use Rattle.jsonc_value.specs.declared.to_value.values.ValueMaker.{ValueMaker}
 use Rattle.jsonc_value.specs.declared.value.JsonValue.{JsonValue}
 use Rattle.jsonc_value.specs.to_value.Lent.{AreLent, IsLent, texts, texts_in_elements, texts_in_properties}

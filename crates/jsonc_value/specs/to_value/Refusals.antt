@@ -3,8 +3,8 @@ use Rattle.std.specs.Prelude.{ℕ, false, List, Option}
 use Rattle.jsonc_text.specs.declared.errors.ParseError.{ParseError}
 use Rattle.jsonc_text.specs.Options.{Options}
 use Rattle.jsonc_text.specs.Plain.{Plain}
-use Rattle.jsonc_ast.specs.to_ast.Reached.{FitsIn}
-use Rattle.jsonc_ast.specs.to_ast.Refusals.{Refuses}
+use Rattle.jsonc_walk.specs.Reached.{FitsIn}
+use Rattle.jsonc_walk.specs.Refusals.{Refuses}
 
 -- at most 512 containers nest in one another
 abbrev pub IsWithin : Option Plain → Type 0

@@ -6,22 +6,22 @@ ghost use Rattle.jsonc_value.specs.to_value.Views.{plain, name_of, items_plain, 
 ghost use Rattle.jsonc_value.specs.to_value.Lent.{IsLentBy, texts, texts_in_elements, texts_in_properties};
 ghost use Rattle.jsonc_value.specs.to_value.Reads.{IsValueOf};
 ghost use Rattle.jsonc_value.specs.to_value.Refusals.{RefusesText};
-ghost use Rattle.jsonc_ast.specs.to_ast.Faults.{ParseFault};
+ghost use Rattle.jsonc_walk.specs.Faults.{ParseFault};
 ghost use Rattle.jsonc_text.specs.Faults.{IsFault};
 ghost use Rattle.jsonc_text.specs.OptionsOf.{parse_options};
 ghost use Rattle.jsonc_text.specs.Plain.{array, object};
 
 use crate::to_value::names::are_few_distinct;
 use crate::{JsonArray, JsonObject, JsonValue, Map};
-use jsonc_ast::to_ast::collect::CollectOptions;
-use jsonc_ast::to_ast::context::Context;
-use jsonc_ast::to_ast::passed::decode_passed;
-use jsonc_ast::to_ast::receiver::Receiver;
-use jsonc_ast::to_ast::stack::taken_from;
-use jsonc_ast::to_ast::walk::read_document;
 use jsonc_text::common::Range;
 use jsonc_text::errors::ParseError;
 use jsonc_text::options::ParseOptions;
+use jsonc_walk::collect::CollectOptions;
+use jsonc_walk::context::Context;
+use jsonc_walk::passed::decode_passed;
+use jsonc_walk::receiver::Receiver;
+use jsonc_walk::stack::taken_from;
+use jsonc_walk::walk::read_document;
 use std::alloc::{AllocError, Allocator};
 use std::borrow::CowStr;
 

@@ -5,7 +5,7 @@ use Rattle.jsonc_ast.specs.Copies.{quotes, quotes_in_property}
 use Rattle.jsonc_ast.specs.declared.ast.Value.{size-Value}
 use Rattle.jsonc_ast.specs.declared.ast.ObjectProp.{size-ObjectProp}
 use Rattle.jsonc_ast.proofs.Copies.{located-Array, located-Object, quotes-Array, quotes-Object, none_copied, one_copied, all_copied, not_empty, array_copied, array_quotes_copied, object_copied, object_quotes_copied, property_copied, property_quotes_copied, string_copied, string_quotes_copied, size-in-array, size-of-array, size-in-object, size-of-object, size-in-property, size-element, size-member}
-use Rattle.jsonc_ast.proofs.lemmas.to_ast.Refusals.{on_err}
+use Rattle.jsonc_walk.proofs.lemmas.Refusals.{on_err}
 use Rattle.jsonc_ast.proofs.ast.+copy.Goals as goal
 
 pub Array::try_clone-copy_elements-requires :

@@ -11,19 +11,20 @@ use Rattle.std.proofs.lemmas.List.{map_push}
 use Rattle.std.proofs.lemmas.List.Elements.{All-cons, All-nil}
 use Rattle.jsonc_text.specs.declared.common.Range.{Range}
 use Rattle.jsonc_ast.specs.declared.ast.ObjectProp.{ObjectProp}
-use Rattle.jsonc_ast.specs.declared.ast.ObjectPropName.{ObjectPropName}
-use Rattle.jsonc_ast.specs.declared.ast.ObjectPropName.TheVariants.{String}
-use Rattle.jsonc_ast.specs.declared.ast.StringLit.{StringLit}
+use Rattle.jsonc_walk.specs.declared.name.ObjectPropName.{ObjectPropName}
+use Rattle.jsonc_walk.specs.declared.name.ObjectPropName.TheVariants.{String}
+use Rattle.jsonc_walk.specs.declared.name.StringLit.{StringLit}
 use Rattle.jsonc_ast.specs.declared.ast.Value.{Value, the_lemmas}
 use Rattle.jsonc_ast.specs.declared.ast.Value as value
 use Rattle.jsonc_ast.specs.declared.to_ast.values.TreeMaker.{TreeMaker}
-use Rattle.jsonc_ast.specs.Located.{In, Located, LocatedName, IsLocatedDocument, leaf_at, array_at, object_at, value_at}
+use Rattle.jsonc_walk.specs.Located.{In, Located, LocatedName, IsLocatedDocument, leaf_at, array_at, object_at, value_at, LocatedMember, items_of, members_of}
 use Rattle.jsonc_ast.specs.Spelled.{spelled, spelled_in_property, spelled_in_elements, spelled_in_properties}
-use Rattle.jsonc_ast.specs.Views.{LocatedMember, located, member_of, name_at, items_of, members_of, items_located, members_located}
-use Rattle.jsonc_ast.specs.to_ast.Handed.{Source, HasPlainString, chars_between, IsDocumentMade, MadeBetweenGaps}
-use Rattle.jsonc_ast.specs.to_ast.Reached.{size}
+use Rattle.jsonc_ast.specs.Views.{located, member_of, items_located, members_located}
+use Rattle.jsonc_walk.specs.Name.{name_at}
+use Rattle.jsonc_walk.specs.Handed.{Source, HasPlainString, chars_between, IsDocumentMade, MadeBetweenGaps}
+use Rattle.jsonc_walk.specs.Reached.{size}
 use Rattle.jsonc_ast.specs.to_ast.Trees.{source_in, AreProperties, AreTrees, IsName, IsTree, SameOpen}
-use Rattle.jsonc_ast.specs.to_ast.Written.{AreWritten, IsWritten}
+use Rattle.jsonc_walk.specs.Written.{AreWritten, IsWritten}
 use Rattle.jsonc_ast.proofs.lemmas.to_ast.Spelling.{element_written, property_written}
 
 pushed : {X : Type 0} (xs : List X) (x y : X) → x ≡ y → xs ++ x ∷ [] ≡ xs ++ y ∷ []

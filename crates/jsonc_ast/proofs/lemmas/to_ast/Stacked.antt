@@ -1,43 +1,20 @@
 -- Elements and properties of containers that have not ended, one behind the other.
-use Rattle.std.proofs.Common.{◌≡◌, ◌≤◌, ℕ, List, [], ◌∷◌, ◌++◌, length, take, drop, length-append, append_assoc, refl, sym, ap, ◌∙◌, arith}
+use Rattle.std.proofs.Common.{◌≡◌, ℕ, List, [], ◌∷◌, ◌++◌, length, refl, sym, ◌∙◌}
 use Rattle.std.proofs.lemmas.List.{append-nil}
 use Rattle.std.proofs.lemmas.List.Elements.{All-nil}
 use Rattle.jsonc_text.specs.declared.common.Range.{Range}
 use Rattle.jsonc_ast.specs.declared.ast.ObjectProp.{ObjectProp}
-use Rattle.jsonc_ast.specs.declared.ast.ObjectPropName.{ObjectPropName}
+use Rattle.jsonc_walk.specs.declared.name.ObjectPropName.{ObjectPropName}
 use Rattle.jsonc_ast.specs.declared.ast.Value.{Value}
 use Rattle.jsonc_ast.specs.declared.to_ast.values.TreeMaker.{TreeMaker}
-use Rattle.jsonc_ast.specs.Located.{Located, LocatedName}
+use Rattle.jsonc_walk.specs.Located.{Located, LocatedName, LocatedMember}
 use Rattle.jsonc_ast.specs.Spelled.{spelled, spelled_in_property}
-use Rattle.jsonc_ast.specs.Views.{LocatedMember, located, member_of, name_at}
+use Rattle.jsonc_ast.specs.Views.{located, member_of}
+use Rattle.jsonc_walk.specs.Name.{name_at}
 use Rattle.jsonc_ast.specs.to_ast.Trees.{source_in, HoldsElements, HoldsProperties, IsName, IsTree}
-use Rattle.jsonc_ast.specs.to_ast.Written.{IsWritten}
+use Rattle.jsonc_walk.specs.Written.{IsWritten}
+use Rattle.jsonc_walk.proofs.lemmas.Stacked.{behind}
 use Rattle.jsonc_ast.proofs.lemmas.to_ast.MadeTrees.{element_made, property_made}
-
-module _ {X : Type 0} where
-  first_ones : (xs ys : List X) → take (length xs) (xs ++ ys) ≡ xs
-  first_ones [] ys = refl
-  first_ones (x ∷ xs) ys = ap (λ l. x ∷ l) (first_ones xs ys)
-
-  last_ones : (xs ys : List X) → drop (length xs) (xs ++ ys) ≡ ys
-  last_ones [] ys = refl
-  last_ones (x ∷ xs) ys = last_ones xs ys
-
-  -- of a stack the items up to a place, those behind it, and that the place is in it
-  pub record Parted (stack below above : List X) (start : ℕ) : Type 0 where
-    pub within : start ≤ length stack
-    pub left : take start stack ≡ below
-    pub taken : drop start stack ≡ above
-
-  pub parted : (stack below above : List X) (start : ℕ) → start ≡ length below → stack ≡ below ++ above → Parted stack below above start
-  parted stack below above start at whole = record {
-    within = omega (arith, at, ap length whole, length-append below above);
-    left = (λ j. take (at j) (whole j)) ∙ first_ones below above;
-    taken = (λ j. drop (at j) (whole j)) ∙ last_ones below above;
-  }
-
-  pub behind : (stack below above new : List X) (x : X) → stack ≡ below ++ above → new ≡ stack ++ x ∷ [] → new ≡ below ++ (above ++ x ∷ [])
-  behind stack below above new x whole pushed = pushed ∙ ap (λ l. l ++ x ∷ []) whole ∙ append_assoc below above (x ∷ [])
 
 module _ {A : Type 0} where
   pub no_element_yet : (s : TreeMaker A) (start : ℕ) → start ≡ length s.elements.items → HoldsElements s s start []

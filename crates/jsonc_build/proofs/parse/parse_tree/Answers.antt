@@ -4,13 +4,13 @@ use Rattle.jsonc_text.specs.Faults.{IsFault}
 use Rattle.jsonc_text.specs.Options.{Options}
 use Rattle.jsonc_text.specs.OptionsOf.{parse_options}
 use Rattle.jsonc_tree.specs.OrderedTree.{ordered_tree}
-use Rattle.jsonc_ast.specs.Located.{value_at}
-use Rattle.jsonc_ast.specs.to_ast.Faults.{ParseFault}
-use Rattle.jsonc_ast.specs.to_ast.Handed.{Source, source_of}
-use Rattle.jsonc_ast.specs.to_ast.Refusals.{RefusesText}
-use Rattle.jsonc_ast.proofs.lemmas.to_ast.Grammar.{located_document}
-use Rattle.jsonc_ast.proofs.lemmas.to_ast.Refusals.{err_of}
-use Rattle.jsonc_ast.proofs.lemmas.to_ast.Scans.{moved}
+use Rattle.jsonc_walk.specs.Located.{value_at}
+use Rattle.jsonc_walk.specs.Faults.{ParseFault}
+use Rattle.jsonc_walk.specs.Handed.{Source, source_of}
+use Rattle.jsonc_walk.specs.Refusals.{RefusesText}
+use Rattle.jsonc_walk.proofs.lemmas.Grammar.{located_document}
+use Rattle.jsonc_walk.proofs.lemmas.Refusals.{err_of}
+use Rattle.jsonc_walk.proofs.lemmas.Scans.{moved}
 use Rattle.jsonc_build.specs.Making.{source_in, IsAt}
 use Rattle.jsonc_build.proofs.Documents.{HasRead, has_read}
 use Rattle.jsonc_build.proofs.Lines.{document_lines}

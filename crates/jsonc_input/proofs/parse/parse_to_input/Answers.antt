@@ -1,8 +1,8 @@
 use Rattle.std.proofs.Common.{option_map, true}
-use Rattle.jsonc_ast.specs.to_ast.Faults.{ParseFault}
-use Rattle.jsonc_ast.specs.to_ast.Refusals.{RefusesText}
-use Rattle.jsonc_ast.proofs.lemmas.to_ast.Refusals.{err_some, ok_of}
-use Rattle.jsonc_ast.proofs.lemmas.to_ast.Scans.{moved}
+use Rattle.jsonc_walk.specs.Faults.{ParseFault}
+use Rattle.jsonc_walk.specs.Refusals.{RefusesText}
+use Rattle.jsonc_walk.proofs.lemmas.Refusals.{err_some, ok_of}
+use Rattle.jsonc_walk.proofs.lemmas.Scans.{moved}
 use Rattle.jsonc_layout.specs.input.Views.{plain}
 use Rattle.jsonc_input.specs.Reads.{IsValueOfText}
 use Rattle.jsonc_input.proofs.Values.{document_read}

@@ -1,8 +1,8 @@
 use Rattle.std.proofs.Common.{chars, ◌≢◌}
 use Rattle.jsonc_text.specs.Faults.{kind_of}
 use Rattle.jsonc_text.specs.declared.errors.ParseErrorKind.TheVariants.{OutOfMemory}
-use Rattle.jsonc_ast.proofs.lemmas.to_ast.Refusals.{err_of}
-use Rattle.jsonc_ast.proofs.lemmas.to_ast.Scans.{moved}
+use Rattle.jsonc_walk.proofs.lemmas.Refusals.{err_of}
+use Rattle.jsonc_walk.proofs.lemmas.Scans.{moved}
 use Rattle.jsonc_parser.specs.Checker.{HasValueWithin}
 use Rattle.jsonc_parser.proofs.Checks.{neither, value_within}
 use Rattle.jsonc_parser.proofs.checker.check_by.Goals as goal

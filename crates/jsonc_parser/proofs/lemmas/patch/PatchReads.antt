@@ -9,7 +9,7 @@ use Rattle.jsonc_layout.proofs.lemmas.nodes.NodeNames.{same_text}
 use Rattle.jsonc_text.specs.Plain.{Plain, string, array, object, Items, item, no_items, Members}
 use Rattle.jsonc_text.specs.Grammar.{IsDocument}
 use Rattle.jsonc_text.specs.Options.{Options}
-use Rattle.jsonc_ast.specs.Located.{items_at}
+use Rattle.jsonc_walk.specs.Located.{items_at}
 use Rattle.jsonc_ast.specs.Views.{items_located}
 use Rattle.jsonc_ast.specs.Views as ast
 use Rattle.jsonc_ast.specs.declared.ast.Value.{Value}

@@ -8,9 +8,9 @@ use Rattle.std.specs.Cow.{cow_str_bytes}
 use Rattle.std.specs.Str.{bytes_eq}
 use Rattle.std.specs.declared.string.String.{String as Text}
 use Rattle.jsonc_text.specs.Plain.{Plain, null, boolean, number, string, array, object, Items, item, Members, no_members, member}
-use Rattle.jsonc_ast.specs.Access.{name_text}
-use Rattle.jsonc_ast.specs.Located.{array_at, items_at, leaf_at, object_at, value_at}
-use Rattle.jsonc_ast.specs.Views.{LocatedMember, items_located, located, member_of, name_at, members_located}
+use Rattle.jsonc_walk.specs.Name.{name_text, name_at}
+use Rattle.jsonc_walk.specs.Located.{array_at, items_at, leaf_at, object_at, value_at, LocatedMember}
+use Rattle.jsonc_ast.specs.Views.{items_located, located, member_of, members_located}
 use Rattle.jsonc_ast.specs.Views as ast
 use Rattle.jsonc_ast.specs.declared.ast.Array.{Array}
 use Rattle.jsonc_ast.specs.declared.ast.BooleanLit.{BooleanLit}
@@ -19,9 +19,9 @@ use Rattle.jsonc_ast.specs.declared.ast.NumberLit.{NumberLit}
 use Rattle.jsonc_ast.specs.declared.ast.Object.{Object}
 use Rattle.jsonc_ast.specs.declared.ast.Object as object_parts
 use Rattle.jsonc_ast.specs.declared.ast.ObjectProp.{ObjectProp}
-use Rattle.jsonc_ast.specs.declared.ast.ObjectPropName.{ObjectPropName}
-use Rattle.jsonc_ast.specs.declared.ast.ObjectPropName.TheVariants.{String, Word}
-use Rattle.jsonc_ast.specs.declared.ast.StringLit.{StringLit}
+use Rattle.jsonc_walk.specs.declared.name.ObjectPropName.{ObjectPropName}
+use Rattle.jsonc_walk.specs.declared.name.ObjectPropName.TheVariants.{String, Word}
+use Rattle.jsonc_walk.specs.declared.name.StringLit.{StringLit}
 use Rattle.jsonc_ast.specs.declared.ast.Value.{Value, the_lemmas}
 use Rattle.jsonc_ast.specs.declared.ast.Value as value
 use Rattle.jsonc_insert.specs.named.Members as lacks

@@ -1,7 +1,7 @@
 use Rattle.std.proofs.Common.{ℕ, ◌≡◌, ◌++◌, ◌∙◌, List, [], ◌∷◌, ap, string_bytes, subst, true}
 use Rattle.jsonc_text.specs.OptionsOf.{parse_options}
-use Rattle.jsonc_ast.specs.to_ast.Faults.{ParseFault}
-use Rattle.jsonc_ast.specs.to_ast.Refusals.{Refuses}
+use Rattle.jsonc_walk.specs.Faults.{ParseFault}
+use Rattle.jsonc_walk.specs.Refusals.{Refuses}
 use Rattle.jsonc_tree.specs.OrderedTree.{ordered_tree, printed}
 use Rattle.jsonc_tree.specs.Tree.{Node}
 use Rattle.jsonc_cst.specs.Document.{nodes_of}

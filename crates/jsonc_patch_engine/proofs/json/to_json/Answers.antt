@@ -1,6 +1,6 @@
 use Rattle.std.proofs.Common.{chars, subst, true}
-use Rattle.jsonc_ast.specs.to_ast.Faults.{ParseFault}
-use Rattle.jsonc_ast.specs.to_ast.Refusals.{Refuses}
+use Rattle.jsonc_walk.specs.Faults.{ParseFault}
+use Rattle.jsonc_walk.specs.Refusals.{Refuses}
 use Rattle.jsonc_text.specs.Grammar.{IsDocument}
 use Rattle.jsonc_patch_engine.proofs.json.to_json.Goals as goal
 

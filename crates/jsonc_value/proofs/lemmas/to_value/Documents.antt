@@ -1,9 +1,9 @@
 -- The value of a document.
 use Rattle.std.proofs.Common.{ap, refl, false, ℕ, List, Option, None, Some, chars}
 use Rattle.jsonc_text.specs.Options.{Options}
-use Rattle.jsonc_ast.specs.Located.{Located, value_at}
-use Rattle.jsonc_ast.specs.to_ast.Handed.{IsDocumentMade}
-use Rattle.jsonc_ast.proofs.lemmas.to_ast.Grammar.{located_document}
+use Rattle.jsonc_walk.specs.Located.{Located, value_at}
+use Rattle.jsonc_walk.specs.Handed.{IsDocumentMade}
+use Rattle.jsonc_walk.proofs.lemmas.Grammar.{located_document}
 use Rattle.jsonc_value.specs.declared.value.JsonValue.{JsonValue}
 use Rattle.jsonc_value.specs.to_value.Made.{IsCollapsed}
 use Rattle.jsonc_value.specs.to_value.Reads.{IsValueOf}

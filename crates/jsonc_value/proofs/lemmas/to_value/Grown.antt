@@ -4,9 +4,8 @@ use Rattle.std.proofs.lemmas.List.{map_push}
 use Rattle.std.specs.declared.borrow.CowStr.{CowStr}
 use Rattle.jsonc_text.specs.Plain.{Plain, Items, item, no_items, member, collapse, collapse_items, collapse_members}
 use Rattle.jsonc_text.proofs.Collapse as members
-use Rattle.jsonc_ast.specs.Located.{Located, value_at, items_at, members_at}
-use Rattle.jsonc_ast.specs.Views as located
-use Rattle.jsonc_ast.specs.Views.{LocatedMember}
+use Rattle.jsonc_walk.specs.Located.{Located, value_at, items_at, members_at, LocatedMember}
+use Rattle.jsonc_walk.specs.Located as located
 use Rattle.jsonc_value.specs.declared.value.JsonValue.{JsonValue}
 use Rattle.jsonc_value.specs.to_value.Made.{AreElements, AreProperties, IsCollapsed, IsName}
 use Rattle.jsonc_value.specs.to_value.Views.{plain, name_of, inserted, items_of}

@@ -9,8 +9,8 @@ use Rattle.std.proofs.lemmas.Grind.{flat_map-append}
 use Rattle.indexmap.specs.IndexMap.{insert_all}
 use Rattle.jsonc_text.specs.declared.common.Range.{Range}
 use Rattle.jsonc_text.specs.Plain.{string}
-use Rattle.jsonc_ast.specs.Located.{Located, leaf_at}
-use Rattle.jsonc_ast.specs.to_ast.Handed.{IsDocumentMade, MadeBetweenGaps, Source}
+use Rattle.jsonc_walk.specs.Located.{Located, leaf_at}
+use Rattle.jsonc_walk.specs.Handed.{IsDocumentMade, MadeBetweenGaps, Source}
 use Rattle.jsonc_value.specs.Kinds.{elements, properties}
 use Rattle.jsonc_value.specs.declared.to_value.values.ValueMaker.{ValueMaker}
 use Rattle.jsonc_value.specs.declared.value.JsonArray.{JsonArray}

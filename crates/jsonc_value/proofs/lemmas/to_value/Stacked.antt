@@ -4,14 +4,13 @@ use Rattle.std.proofs.lemmas.List.{append-nil}
 use Rattle.std.proofs.lemmas.List.Elements.{All-nil}
 use Rattle.std.specs.declared.borrow.CowStr.{CowStr}
 use Rattle.indexmap.specs.IndexMap.{insert_all}
-use Rattle.jsonc_ast.specs.Located.{Located}
-use Rattle.jsonc_ast.specs.Views.{LocatedMember}
+use Rattle.jsonc_walk.specs.Located.{Located, LocatedMember}
 use Rattle.jsonc_value.specs.declared.to_value.values.ValueMaker.{ValueMaker}
 use Rattle.jsonc_value.specs.declared.value.JsonValue.{JsonValue}
 use Rattle.jsonc_value.specs.to_value.Made.{IsMade, IsNamed, HoldsElements, HoldsProperties, source_in}
 use Rattle.jsonc_value.specs.to_value.Lent.{AreLent, IsLent, texts}
 use Rattle.jsonc_value.specs.to_value.Views.{same_name}
-use Rattle.jsonc_ast.proofs.lemmas.to_ast.Stacked.{behind}
+use Rattle.jsonc_walk.proofs.lemmas.Stacked.{behind}
 use Rattle.jsonc_value.proofs.Lists.{one_later}
 use Rattle.jsonc_value.proofs.lemmas.to_value.Grown.{element_grown, property_grown}
 use Rattle.jsonc_value.proofs.lemmas.to_value.Lending.{element_lent, property_lent}

@@ -5,17 +5,17 @@ use Rattle.jsonc_text.specs.Options.{Options}
 use Rattle.jsonc_text.specs.OptionsOf.{parse_options}
 use Rattle.jsonc_text.specs.Plain.{around}
 use Rattle.jsonc_ast.specs.declared.ast.Value.{Value}
-use Rattle.jsonc_ast.specs.Located.{IsLocatedDocument}
+use Rattle.jsonc_walk.specs.Located.{IsLocatedDocument}
 use Rattle.jsonc_ast.specs.Spelled.{spelled}
 use Rattle.jsonc_ast.specs.Views.{located, plain}
-use Rattle.jsonc_ast.specs.to_ast.Refusals.{RefusesText}
-use Rattle.jsonc_ast.specs.to_ast.Faults.{ParseFault}
-use Rattle.jsonc_ast.specs.to_ast.Written.{AreWritten}
-use Rattle.jsonc_ast.proofs.lemmas.to_ast.Grammar.{located_document}
-use Rattle.jsonc_ast.proofs.lemmas.to_ast.Collecting.{all_collected, all_lent, all_noted}
-use Rattle.jsonc_ast.proofs.lemmas.to_ast.Ranges.{tokens_lie, comments_lie}
-use Rattle.jsonc_ast.proofs.lemmas.to_ast.Refusals.{err_of, err_some, ok_of}
-use Rattle.jsonc_ast.proofs.lemmas.to_ast.Scans.{moved}
+use Rattle.jsonc_walk.specs.Refusals.{RefusesText}
+use Rattle.jsonc_walk.specs.Faults.{ParseFault}
+use Rattle.jsonc_walk.specs.Written.{AreWritten}
+use Rattle.jsonc_walk.proofs.lemmas.Grammar.{located_document}
+use Rattle.jsonc_walk.proofs.lemmas.Collecting.{all_collected, all_lent, all_noted}
+use Rattle.jsonc_walk.proofs.lemmas.Ranges.{tokens_lie, comments_lie}
+use Rattle.jsonc_walk.proofs.lemmas.Refusals.{err_of, err_some, ok_of}
+use Rattle.jsonc_walk.proofs.lemmas.Scans.{moved}
 use Rattle.jsonc_ast.proofs.to_ast.values.parse_to_ast.Goals as goal
 
 plain_document : {A : Type 0} (o : Options) (bytes : List ℕ) (v : Option (Value A)) → IsLocatedDocument o bytes (option_map located v) → IsDocument o (chars bytes) (option_map plain v)

@@ -1,8 +1,8 @@
 use Rattle.std.proofs.Common.{◌∙◌, ap}
 use Rattle.jsonc_text.specs.OptionsOf.{parse_options}
-use Rattle.jsonc_ast.specs.to_ast.Context.{text_in}
+use Rattle.jsonc_walk.specs.Context.{text_in}
 use Rattle.jsonc_ast.proofs.lemmas.to_ast.MadeTrees.{tree_located, tree_within, tree_written}
-use Rattle.jsonc_ast.proofs.lemmas.to_ast.Refusals.{ok_of}
+use Rattle.jsonc_walk.proofs.lemmas.Refusals.{ok_of}
 use Rattle.jsonc_ast.proofs.to_ast.values.parse_whole.Goals as goal
 
 pub returns-clause-located : goal.returns-clause-located

@@ -2,7 +2,7 @@ use Rattle.std.proofs.Common.{◌≡◌, refl, sym, subst}
 use Rattle.std.specs.Rc.{rc_str_bytes}
 use Rattle.jsonc_text.specs.Gaps.{Gap}
 use Rattle.jsonc_text.specs.OptionsOf.{parse_options}
-use Rattle.jsonc_ast.specs.Located.{Between}
+use Rattle.jsonc_walk.specs.Located.{Between}
 use Rattle.jsonc_build.specs.Laid.{EndsGap}
 use Rattle.jsonc_build.proofs.Building.{at_before, gap_passed}
 use Rattle.jsonc_build.proofs.maker.DocumentMaker.pass.Goals as goal

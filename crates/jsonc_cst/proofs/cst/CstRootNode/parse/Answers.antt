@@ -2,7 +2,7 @@ use Rattle.std.proofs.Common.{chars, subst}
 use Rattle.jsonc_text.specs.Options.{Options}
 use Rattle.jsonc_text.specs.OptionsOf.{parse_options}
 use Rattle.jsonc_text.proofs.UniqueValues.{document_unique}
-use Rattle.jsonc_ast.specs.to_ast.Refusals.{IsWithin}
+use Rattle.jsonc_walk.specs.Refusals.{IsWithin}
 use Rattle.jsonc_cst.proofs.Shown.{shows_parsed}
 use Rattle.jsonc_cst.proofs.Tree.{nodes_are_tree}
 use Rattle.jsonc_cst.proofs.cst.CstRootNode.parse.Goals as goal

@@ -1,5 +1,5 @@
 use Rattle.jsonc_text.specs.OptionsOf.{parse_options}
-use Rattle.jsonc_ast.proofs.lemmas.to_ast.Refusals.{ok_of}
+use Rattle.jsonc_walk.proofs.lemmas.Refusals.{ok_of}
 use Rattle.jsonc_cst.proofs.JsonValues.{value_may_be_written}
 use Rattle.jsonc_cst.proofs.cst.input.from_json.Goals as goal
 

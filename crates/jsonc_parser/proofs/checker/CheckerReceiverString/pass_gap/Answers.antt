@@ -1,6 +1,6 @@
 use Rattle.jsonc_text.specs.Gaps.{Gap, none}
 use Rattle.jsonc_text.specs.OptionsOf.{parse_options}
-use Rattle.jsonc_ast.proofs.lemmas.to_ast.Gaps.{nothing}
+use Rattle.jsonc_walk.proofs.lemmas.Gaps.{nothing}
 use Rattle.jsonc_parser.proofs.checker.CheckerReceiverString.pass_gap.Goals as goal
 
 pub returns-clause-gap : goal.returns-clause-gap

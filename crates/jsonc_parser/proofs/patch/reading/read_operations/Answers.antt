@@ -1,6 +1,6 @@
 use Rattle.std.proofs.Common.{map, subst, sym, take}
 use Rattle.std.proofs.lemmas.List.{take_all}
-use Rattle.jsonc_ast.specs.Located.{items_at}
+use Rattle.jsonc_walk.specs.Located.{items_at}
 use Rattle.jsonc_ast.specs.Views.{items_located}
 use Rattle.jsonc_ast.specs.Views as ast
 use Rattle.jsonc_parser.proofs.lemmas.patch.PatchReads.{first_fault, no_room, operations_so_far}

@@ -1,5 +1,5 @@
 use Rattle.std.proofs.Common.{map, take}
-use Rattle.jsonc_ast.specs.Located.{items_at}
+use Rattle.jsonc_walk.specs.Located.{items_at}
 use Rattle.jsonc_ast.specs.Views.{items_located}
 use Rattle.jsonc_parser.specs.patch.Asked.{asked}
 use Rattle.jsonc_parser.specs.patch.PatchTexts.{AreOperations}

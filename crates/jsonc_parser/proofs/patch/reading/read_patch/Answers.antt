@@ -3,7 +3,7 @@ use Rattle.std.proofs.lemmas.Result.{IfErr-weaker, IfOk-weaker}
 use Rattle.jsonc_cst.proofs.JsonValues.{document_numbers}
 use Rattle.jsonc_text.specs.Plain.{array}
 use Rattle.jsonc_text.specs.OptionsOf.{parse_options}
-use Rattle.jsonc_ast.specs.Located.{items_at}
+use Rattle.jsonc_walk.specs.Located.{items_at}
 use Rattle.jsonc_ast.specs.Views.{items_located}
 use Rattle.jsonc_parser.proofs.lemmas.patch.PatchReads.{document_is, fault_of_text, no_array, no_value, operations_fit}
 use Rattle.jsonc_parser.proofs.patch.reading.read_patch.Goals as goal

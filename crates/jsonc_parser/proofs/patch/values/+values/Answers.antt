@@ -1,7 +1,7 @@
 use Rattle.std.proofs.Common.{◌∙◌, ap, arith, chars, sym}
 use Rattle.std.specs.Cow.{cow_str_bytes}
 use Rattle.jsonc_text.specs.Plain.{array, object}
-use Rattle.jsonc_ast.specs.Located.{items_at}
+use Rattle.jsonc_walk.specs.Located.{items_at}
 use Rattle.jsonc_ast.specs.Views.{items_located}
 use Rattle.jsonc_ast.specs.Views as ast
 use Rattle.jsonc_ast.proofs.Copies.{size-member}

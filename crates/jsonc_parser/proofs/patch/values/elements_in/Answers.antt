@@ -1,6 +1,6 @@
 use Rattle.std.proofs.Common.{◌∙◌, ap, sym}
 use Rattle.jsonc_text.specs.Plain.{array}
-use Rattle.jsonc_ast.specs.Located.{items_at}
+use Rattle.jsonc_walk.specs.Located.{items_at}
 use Rattle.jsonc_ast.specs.Views.{items_located}
 use Rattle.jsonc_ast.specs.Views as ast
 use Rattle.jsonc_parser.proofs.lemmas.patch.PatchValues.{plain-Array}

@@ -1,8 +1,8 @@
 use Rattle.std.proofs.Common.{◌∙◌, ap, chars, false, sym}
 use Rattle.jsonc_text.specs.OptionsOf.{parse_options}
-use Rattle.jsonc_ast.specs.to_ast.Faults.{ParseFault}
-use Rattle.jsonc_ast.proofs.lemmas.to_ast.Refusals.{err_some, ok_of}
-use Rattle.jsonc_ast.proofs.lemmas.to_ast.Scans.{moved}
+use Rattle.jsonc_walk.specs.Faults.{ParseFault}
+use Rattle.jsonc_walk.proofs.lemmas.Refusals.{err_some, ok_of}
+use Rattle.jsonc_walk.proofs.lemmas.Scans.{moved}
 use Rattle.jsonc_value.specs.to_value.Lent.{IsLentBy}
 use Rattle.jsonc_value.specs.to_value.Reads.{IsValueOf}
 use Rattle.jsonc_value.specs.to_value.Refusals.{RefusesText}

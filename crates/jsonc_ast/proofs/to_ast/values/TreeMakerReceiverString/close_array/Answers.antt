@@ -1,9 +1,9 @@
 use Rattle.std.proofs.Common.{refl, ap, ◌∙◌}
-use Rattle.jsonc_ast.specs.Located.{array_at}
+use Rattle.jsonc_walk.specs.Located.{array_at}
 use Rattle.jsonc_ast.specs.Spelled.{spelled_in_elements}
 use Rattle.jsonc_ast.specs.Views.{items_located}
 use Rattle.jsonc_ast.proofs.lemmas.to_ast.MadeTrees.{array_made}
-use Rattle.jsonc_ast.proofs.lemmas.to_ast.Stacked.{Parted, parted}
+use Rattle.jsonc_walk.proofs.lemmas.Stacked.{Parted, parted}
 use Rattle.jsonc_ast.proofs.to_ast.values.TreeMakerReceiverString.close_array.Goals as goal
 
 pub taken_from-requires : goal.taken_from-requires

@@ -3,7 +3,7 @@ use Rattle.jsonc_text.specs.Plain.{array}
 use Rattle.jsonc_value.specs.to_value.Lent.{AreLent, texts_in_elements}
 use Rattle.jsonc_value.specs.to_value.Made.{source_in}
 use Rattle.jsonc_value.specs.to_value.Views.{items_plain}
-use Rattle.jsonc_ast.proofs.lemmas.to_ast.Stacked.{Parted, parted}
+use Rattle.jsonc_walk.proofs.lemmas.Stacked.{Parted, parted}
 use Rattle.jsonc_value.proofs.to_value.values.ValueMakerReceiverString.close_array.Goals as goal
 
 pub taken_from-requires : goal.taken_from-requires

@@ -8,7 +8,7 @@ use Rattle.jsonc_value.specs.to_value.Lent.{AreLent, IsLent, texts_in_properties
 use Rattle.jsonc_value.specs.to_value.Made.{source_in}
 use Rattle.jsonc_value.specs.to_value.Views.{same_name, members_plain}
 use Rattle.jsonc_value.proofs.lemmas.to_value.Lending.{all_lent}
-use Rattle.jsonc_ast.proofs.lemmas.to_ast.Stacked.{Parted, parted}
+use Rattle.jsonc_walk.proofs.lemmas.Stacked.{Parted, parted}
 use Rattle.jsonc_value.proofs.to_value.values.ValueMakerReceiverString.close_object.Goals as goal
 
 pub taken_from-requires : goal.taken_from-requires

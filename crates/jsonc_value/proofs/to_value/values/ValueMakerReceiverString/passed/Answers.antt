@@ -1,6 +1,6 @@
 use Rattle.std.proofs.Common.{subst, sym}
 use Rattle.std.specs.declared.borrow.CowStr.TheVariants.{Owned}
-use Rattle.jsonc_ast.specs.to_ast.Handed.{HasEscapedString}
+use Rattle.jsonc_walk.specs.Handed.{HasEscapedString}
 use Rattle.jsonc_value.specs.to_value.Made.{source_in}
 use Rattle.jsonc_value.proofs.lemmas.to_value.Lending.{string_made}
 use Rattle.jsonc_value.proofs.to_value.values.ValueMakerReceiverString.passed.Goals as goal

@@ -1,5 +1,5 @@
 use Rattle.std.proofs.Common.{refl, subst, sym}
-use Rattle.jsonc_ast.specs.to_ast.Handed.{HasEscapedString}
+use Rattle.jsonc_walk.specs.Handed.{HasEscapedString}
 use Rattle.std.proofs.lemmas.Str.{IsUtf8-string_bytes}
 use Rattle.jsonc_value.specs.to_value.Made.{source_in}
 use Rattle.jsonc_value.proofs.to_value.values.ValueMakerReceiverString.passed_name.Goals as goal

@@ -1,5 +1,0 @@
-use Rattle.jsonc_ast.proofs.lemmas.to_ast.NotedComments.{shows_all}
-use Rattle.jsonc_ast.proofs.to_ast.comments.GapComments.finish.Goals as goal
-
-pub returns : goal.returns
-returns g c = shows_all c.args.self c.end_gap.new.self c.args.end c.in_ok-end_gap.ensures

@@ -1,8 +1,0 @@
-use Rattle.jsonc_ast.proofs.lemmas.to_ast.Order.{one_way, one_fault}
-use Rattle.jsonc_ast.proofs.to_ast.laws.one_reading.Goals as goal
-
-pub returns-clause-way : goal.returns-clause-way
-returns-clause-way c = λ o whole s. one_way
-
-pub returns-clause-fault : goal.returns-clause-fault
-returns-clause-fault c = λ o whole s. one_fault

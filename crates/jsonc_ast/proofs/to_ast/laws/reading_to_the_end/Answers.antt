@@ -1,5 +1,0 @@
-use Rattle.jsonc_ast.proofs.lemmas.to_ast.ReadsToEnd.{reads_to_document}
-use Rattle.jsonc_ast.proofs.to_ast.laws.reading_to_the_end.Goals as goal
-
-pub returns : goal.returns
-returns c = λ o whole s. reads_to_document o whole
