@@ -1,6 +1,6 @@
 -- Choices, and lists in parts.
-use Rattle.std.proofs.Common.{◌≡◌, ℕ, zero, suc, Bool, true, false, List, [], ◌∷◌, ◌++◌, length, take, drop, map, refl, subst, arith}
-use Rattle.std.specs.Prelude.{if◌then◌else◌, slice_index_or, All, IsPermutation}
+use Rattle.std.proofs.Common.{◌≡◌, ℕ, zero, suc, Bool, true, false, List, [], ◌∷◌, ◌++◌, length, take, drop, map, refl, ap, subst, arith}
+use Rattle.std.specs.Prelude.{if◌then◌else◌, slice_index_or, zip, All, IsPermutation}
 use Rattle.std.specs.List.{range_with_len}
 use Rattle.std.proofs.lemmas.List.{ext_get_or}
 use Rattle.std.proofs.lemmas.List.Sorted.{All-permutation, IsPermutation-map}
@@ -26,6 +26,18 @@ all_members d xs =
 abbrev pub Each : {A : Type 0} → (A → Type 0) → List A → Type 0
 Each P [] = Unit {0}
 Each P (x ∷ xs) = P x × Each P xs
+
+-- pairs of two lists: each of a pair has what its list has, and the second of each are the second list
+pub each_zipped : {A : Type 0} (P : A → Type 0) (xs ys : List A) → Each P xs → Each P ys → Each (λ p. P p.0 × P p.1) (zip xs ys)
+each_zipped P [] ys h k = tt
+each_zipped P (x ∷ xs) [] h k = tt
+each_zipped P (x ∷ xs) (y ∷ ys) h k = ((h.0, k.0), each_zipped P xs ys h.1 k.1)
+
+pub zipped_seconds : {A B : Type 0} (f : A → B) (xs ys : List A) → length ys ≡ length xs → map (λ p. f p.1) (zip xs ys) ≡ map f ys
+zipped_seconds f [] [] e = refl
+zipped_seconds f [] (y ∷ ys) e = absurd (omega arith)
+zipped_seconds f (x ∷ xs) [] e = absurd (omega arith)
+zipped_seconds f (x ∷ xs) (y ∷ ys) e = ap (λ l. f y ∷ l) (zipped_seconds f xs ys (omega arith))
 
 module _ {A : Type 0} (P : A → Type 0) where
   pub each_take : (k : ℕ) (xs : List A) → Each P xs → Each P (take k xs)

@@ -14,7 +14,7 @@ use Rattle.jsonc_sort.specs.Parts.{Part, Parts, has_comma, is_comma_at, is_newli
 use Rattle.jsonc_sort.specs.Leads.{LeadParts, begins_group, blank_lines, first_line, header_length, lead_parts, parts_of_line, parts_of_lines, spaces}
 use Rattle.jsonc_sort.specs.Sorting.{Entry, Headers, end_of, ends_with_comma, entries, entries_from, entry_at, first_pin, goes_on, lines_ended, no_entry, placed, placed_one, rearranged, row_end, slot_content, tail_with, travelling, without_comma}
 use Rattle.jsonc_sort.specs.Laws.{content_of}
-use Rattle.jsonc_sort.proofs.Choices.{Each, all_moved, choose, choose_by, each_drop, each_joined, each_moved, each_take}
+use Rattle.jsonc_sort.proofs.Choices.{Each, all_moved, choose, choose_by, each_drop, each_joined, each_moved, each_take, each_zipped}
 use Rattle.jsonc_sort.proofs.Runs as runs
 use Rattle.jsonc_sort.proofs.Runs.{IsQuiet, IsComma, IsWhole, Parted, Runs, Quiets, Gap, comma_gap, comma_is, cut_gap, no_comma_gap, other_no_comma, quiet_gap, runs_gap, runs_joined, runs_quiets}
 
@@ -134,11 +134,6 @@ module _ (o : Options) (kind : RowKind) (top : ℕ → Top) where
   placed_runs first commas (p ∷ []) h = one_runs first commas p (started_parted first) h.0.0 h.0.1
   placed_runs first commas (p ∷ q ∷ rest) h = runs_joined o kind top (one_runs first true p (started_parted first) h.0.0 h.0.1) (placed_runs false commas (q ∷ rest) h.1)
 
-  zipped : (es xs : List Entry) → Each IsEntry es → Each IsEntry xs → Each (λ p. IsEntry p.0 × IsEntry p.1) (zip es xs)
-  zipped [] xs h k = tt
-  zipped (e ∷ es) [] h k = tt
-  zipped (e ∷ es) (x ∷ xs) h k = ((h.0, k.0), zipped es xs h.1 k.1)
-
   -- ends of lines are trivia
   lines_run : {last to : Last} (newline_kind : CstNewlineKind) {xs : List Slot} → Runs_ last xs to → Runs_ last (lines_ended at newline_kind xs) to
   lines_run k runs.over = runs.over
@@ -208,7 +203,7 @@ module _ (o : Options) (kind : RowKind) (top : ℕ → Top) where
       record {
         to = ended true commas (zip es xs);
         ends = end_may commas (zip es xs) (last_comma h.groups h.pinned (parts at row).lead (parts at row).rest r.rest);
-        runs = runs_joined o kind top (placed_runs true commas (zip es xs) (zipped es xs are.0 moved)) (runs_quiets o kind top (row_end at row) are.1);
+        runs = runs_joined o kind top (placed_runs true commas (zip es xs) (each_zipped IsEntry es xs are.0 moved)) (runs_quiets o kind top (row_end at row) are.1);
       }
 
   pub row_rearranges : (newline_kind : CstNewlineKind) (h : Headers) (row order : List ℕ) → IsRow rows.nothing_yet (parts at row) → IsPermutation (range_with_len 0 (length (entries at h row))) order

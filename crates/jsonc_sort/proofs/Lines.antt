@@ -17,7 +17,7 @@ use Rattle.jsonc_sort.specs.Leads.{blank_lines}
 use Rattle.jsonc_sort.specs.Sorting.{Entry, Headers, ends_with_comma, entries, entry_at, goes_on, lines_ended, no_entry, placed, placed_one, rearranged, row_end, slot_content, tail_with, travelling, without_comma}
 use Rattle.jsonc_sort.specs.Laws.{closed, content_of}
 use Rattle.jsonc_sort.proofs.NodesOfEntries.{ByKind, HeldEntry, row_held}
-use Rattle.jsonc_sort.proofs.Choices.{Each, all_moved, choose, choose_by, each_drop, each_joined, each_moved}
+use Rattle.jsonc_sort.proofs.Choices.{Each, all_moved, choose, choose_by, each_drop, each_joined, each_moved, each_zipped}
 
 -- what holds of each child of a row holds of each that stays in the sorted row
 module _ (at : ℕ → Content) (P : ℕ → Type 0) where
@@ -58,11 +58,6 @@ module _ (at : ℕ → Content) (P : ℕ → Type 0) where
   placed_held first commas (p ∷ []) h = one_held first commas p h.0.0 h.0.1
   placed_held first commas (p ∷ q ∷ rest) h = each_joined Held (placed_one at first true p) (placed at false commas (q ∷ rest)) (one_held first true p h.0.0 h.0.1) (placed_held false commas (q ∷ rest) h.1)
 
-  zipped_held : (es xs : List Entry) → Each (HeldEntry at P P) es → Each (HeldEntry at P P) xs → Each (λ p. HeldEntry at P P p.0 × HeldEntry at P P p.1) (zip es xs)
-  zipped_held [] xs h k = tt
-  zipped_held (e ∷ es) [] h k = tt
-  zipped_held (e ∷ es) (x ∷ xs) h k = ((h.0, k.0), zipped_held es xs h.1 k.1)
-
   by_kinds : (row : List ℕ) → Each P row → Each (ByKind at P P) row
   by_kinds [] h = tt
   by_kinds (n ∷ row) h = (record { element = λ e. h.0; other = λ e. h.0 }, by_kinds row h.1)
@@ -73,7 +68,7 @@ module _ (at : ℕ → Content) (P : ℕ → Type 0) where
       let xs : List Entry = map (entry_at es) order in
       let are = row_held at P P h row (by_kinds row each) in
       let moved : Each (HeldEntry at P P) xs = each_moved (HeldEntry at P P) es xs (all_moved no_entry es order p) are.0 in
-      each_joined Held (rearranged at es order) (all_stay (row_end at row)) (placed_held true (ends_with_comma at es) (zip es xs) (zipped_held es xs are.0 moved)) (all_held (row_end at row) are.1)
+      each_joined Held (rearranged at es order) (all_stay (row_end at row)) (placed_held true (ends_with_comma at es) (zip es xs) (each_zipped (HeldEntry at P P) es xs are.0 moved)) (all_held (row_end at row) are.1)
 
 -- line comments
 module _ (kind : RowKind) (top : ℕ → Top) where

@@ -23,7 +23,7 @@ use Rattle.jsonc_sort.specs.Laws.{IsOrderOf, content_of, item_at, items_in, name
 use Rattle.jsonc_sound.proofs.RemovedEntries.{item_taken, member_taken}
 use Rattle.jsonc_sort.proofs.NodesOfEntries.{ByKind, HeldEntry, row_held}
 use Rattle.jsonc_sort.proofs.Weights.{entry_count}
-use Rattle.jsonc_sort.proofs.Choices.{Each, all_members, all_moved, choose, choose_by, each_drop, each_moved}
+use Rattle.jsonc_sort.proofs.Choices.{Each, all_members, all_moved, choose, choose_by, each_drop, each_moved, each_zipped, zipped_seconds}
 
 -- the elements among places
 module _ (at : ℕ → Content) where
@@ -94,17 +94,6 @@ module _ (at : ℕ → Content) where
       ∙ ap (λ l. l ++ elements (placed at false commas (q ∷ rest))) (one_element first true p h.0.0 h.0.1)
       ∙ ap (λ l. second p ∷ l) (placed_elements false commas (q ∷ rest) h.1)
 
-  zipped_entries : (es xs : List Entry) → Each IsEntry es → Each IsEntry xs → Each (λ p. IsEntry p.0 × IsEntry p.1) (zip es xs)
-  zipped_entries [] xs h k = tt
-  zipped_entries (e ∷ es) [] h k = tt
-  zipped_entries (e ∷ es) (x ∷ xs) h k = ((h.0, k.0), zipped_entries es xs h.1 k.1)
-
-  seconds : (es xs : List Entry) → length xs ≡ length es → map second (zip es xs) ≡ map (λ e. stays e.element) xs
-  seconds [] [] e = refl
-  seconds [] (x ∷ xs) e = absurd (omega arith)
-  seconds (y ∷ es) [] e = absurd (omega arith)
-  seconds (y ∷ es) (x ∷ xs) e = ap (λ l. stays x.element ∷ l) (seconds es xs (omega arith))
-
   lines_elements : (k : CstNewlineKind) (xs : List Slot) → elements (lines_ended at k xs) ≡ elements xs
   lines_elements k [] = refl
   lines_elements k (s ∷ xs) =
@@ -157,7 +146,7 @@ module _ (at : ℕ → Content) where
           let are = row_held at Idle IsOne h row (by_kind row) in
           let held : Each IsEntry (map (entry_at (entries at h row)) order) = each_moved IsEntry (entries at h row) (map (entry_at (entries at h row)) order) moves are.0 in
           lines_elements k (rearranged at (entries at h row) order ++ all_stay (row_end at row)) ∙ elements_joined (rearranged at (entries at h row) order) (all_stay (row_end at row))
-          ∙ ap (λ l. l ++ elements (all_stay (row_end at row))) (placed_elements true (ends_with_comma at (entries at h row)) (zip (entries at h row) (map (entry_at (entries at h row)) order)) (zipped_entries (entries at h row) (map (entry_at (entries at h row)) order) are.0 held) ∙ seconds (entries at h row) (map (entry_at (entries at h row)) order) (length_permutation (entries at h row) (map (entry_at (entries at h row)) order) moves) ∙ mapped (entries at h row) order)
+          ∙ ap (λ l. l ++ elements (all_stay (row_end at row))) (placed_elements true (ends_with_comma at (entries at h row)) (zip (entries at h row) (map (entry_at (entries at h row)) order)) (each_zipped IsEntry (entries at h row) (map (entry_at (entries at h row)) order) are.0 held) ∙ zipped_seconds (λ e. stays e.element) (entries at h row) (map (entry_at (entries at h row)) order) (length_permutation (entries at h row) (map (entry_at (entries at h row)) order) moves) ∙ mapped (entries at h row) order)
           ∙ ap (λ l. map (λ i. stays (entry_at (entries at h row) i).element) order ++ l) (idle_none (row_end at row) are.1) ∙ append-nil (map (λ i. stays (entry_at (entries at h row) i).element) order)
 
 -- numbers below a length

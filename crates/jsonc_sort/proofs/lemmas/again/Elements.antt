@@ -12,7 +12,7 @@ use Rattle.jsonc_sort.specs.Slots.{Slot, stays, comes, all_stay}
 use Rattle.jsonc_sort.specs.Parts.{has_comma, is_comma_at, is_whitespace_at}
 use Rattle.jsonc_sort.specs.Leads.{blank_lines}
 use Rattle.jsonc_sort.specs.Sorting.{Entry, Headers, ends_with_comma, entries, entry_at, goes_on, lines_ended, no_entry, placed, placed_one, rearranged, row_end, slot_content, tail_with, travelling, without_comma}
-use Rattle.jsonc_sort.proofs.Choices.{Each, all_moved, choose, each_drop, each_joined, each_moved}
+use Rattle.jsonc_sort.proofs.Choices.{Each, all_moved, choose, each_drop, each_joined, each_moved, each_zipped, zipped_seconds}
 use Rattle.jsonc_sort.proofs.NodesOfEntries.{ByKind, HeldEntry, row_held}
 use Rattle.jsonc_sort.proofs.Values.{elements, row_elements}
 
@@ -115,17 +115,6 @@ module _ (at : ℕ → Content) where
       ∙ ap (λ l. l ++ own (placed at false commas (q ∷ rest))) (own_one first true p h.0.0 h.0.1)
       ∙ ap (λ l. second p ∷ l) (own_placed false commas (q ∷ rest) h.1)
 
-  zipped : (es xs : List Entry) → Each IsEntry es → Each IsEntry xs → Each (λ p. IsEntry p.0 × IsEntry p.1) (zip es xs)
-  zipped [] xs h k = tt
-  zipped (e ∷ es) [] h k = tt
-  zipped (e ∷ es) (x ∷ xs) h k = ((h.0, k.0), zipped es xs h.1 k.1)
-
-  seconds : (es xs : List Entry) → length xs ≡ length es → map second (zip es xs) ≡ map (λ e. stays e.element) xs
-  seconds [] [] e = refl
-  seconds [] (x ∷ xs) e = absurd (omega arith)
-  seconds (y ∷ es) [] e = absurd (omega arith)
-  seconds (y ∷ es) (x ∷ xs) e = ap (λ l. stays x.element ∷ l) (seconds es xs (omega arith))
-
   own_lines : (k : CstNewlineKind) (xs : List Slot) → own (lines_ended at k xs) ≡ own xs
   own_lines k [] = refl
   own_lines k (s ∷ xs) =
@@ -146,7 +135,7 @@ module _ (at : ℕ → Content) where
       let are = row_held at Idle IsOne h row (by_kind row) in
       let held : Each IsEntry xs = each_moved IsEntry es xs moves are.0 in
       own_lines k (rearranged at es order ++ all_stay (row_end at row)) ∙ own_joined (rearranged at es order) (all_stay (row_end at row))
-      ∙ ap (λ l. l ++ own (all_stay (row_end at row))) (own_placed true (ends_with_comma at es) (zip es xs) (zipped es xs are.0 held) ∙ seconds es xs (length_permutation es xs moves))
+      ∙ ap (λ l. l ++ own (all_stay (row_end at row))) (own_placed true (ends_with_comma at es) (zip es xs) (each_zipped IsEntry es xs are.0 held) ∙ zipped_seconds (λ e. stays e.element) es xs (length_permutation es xs moves))
       ∙ ap (λ l. map (λ e. stays e.element) xs ++ l) (own_none (all_stay (row_end at row)) (stay_quiet (row_end at row) are.1)) ∙ append-nil (map (λ e. stays e.element) xs)
 
   -- the elements of a row stay as they are listed
