@@ -132,7 +132,7 @@ module _ {A : Type 0} (old new : CstRootNode A) (tree : IsTree (nodes_of old)) (
       let m = makes_so d l.e l.op op l.asks l.makes in
       let was : w.0.v ≡ m.0 = was_referred d ns (tokens ++ name ∷ []) leads.0 w.0 path.items w.1 m.0 (plain v) l.e.value m.1.1 in
       let place = stands d ns (tokens ++ name ∷ []) leads.0 w.0 path.items w.1 in
-      let member : Adds (plain v) (tokens ++ name ∷ []) d.value l.e.value = in_member name (list_of_members ms.0) (subst (value.StandsAt d.value tokens c.path) object_so (stands d ns tokens n c c.path refl)) place (subst (λ k. Becomes k (plain v) path.items d.value l.e.value) (sym was) m.1.1) in
+      let member : Adds (plain v) (tokens ++ name ∷ []) d.value l.e.value = in_member name (list_of_members ms.0) (subst (value.RefersAlong d.value tokens c.path) object_so (stands d ns tokens n c c.path refl)) place (subst (λ k. Becomes k (plain v) path.items d.value l.e.value) (sym was) m.1.1) in
       (l.e, l.shown, record { edits = edit ∷ []; edited = l.edited; options = options_so d l.e l.op op l.asks l.options; made = member })
 
   -- the document's value is set

@@ -17,7 +17,7 @@ use Rattle.jsonc_parser.proofs.lemmas.patch.Equality.{has_member, name_bytes}
 use Rattle.jsonc_parser.proofs.lemmas.patch.SeenNames.{Distinct}
 use Rattle.jsonc_parser.specs.patch.Equality as equal
 use Rattle.jsonc_parser.specs.patch.Equality.{HasUniqueNames, ItemsHaveUniqueNames, MembersHaveUniqueNames}
-use Rattle.jsonc_parser.specs.patch.MergeSteps.{AreNamesTwice, HasNameTwice, TellsName}
+use Rattle.jsonc_parser.specs.patch.MergeSteps.{AreNamesTwice, HasNameTwice, ReportsName}
 use Rattle.jsonc_parser.specs.patch.PatchFaults.{repeats_here, repeats_in_element, repeats_in_member}
 use Rattle.jsonc_parser.specs.patch.PatchTexts.{NamesDiffer}
 use Rattle.jsonc_parser.specs.patch.References.{IsItem, this_item, later_item, IsRepeated, this_again, later_again}
@@ -75,9 +75,9 @@ module _ {A : Type 0} where
           later_again other rest
 
   -- a fault that tells of a name that stands twice
-  pub tells_repeated : (ms : Members) (name : List ℕ) (e : MergeFault A) → TellsName name e → IsRepeated name ms → AreNamesTwice ms e
-  tells_repeated ms name (fault.RepeatedName s) h r = subst (λ n. IsRepeated n ms) (sym h) r
-  tells_repeated ms name fault.OutOfMemory h r = tt
+  pub reports_repeated : (ms : Members) (name : List ℕ) (e : MergeFault A) → ReportsName name e → IsRepeated name ms → AreNamesTwice ms e
+  reports_repeated ms name (fault.RepeatedName s) h r = subst (λ n. IsRepeated n ms) (sym h) r
+  reports_repeated ms name fault.OutOfMemory h r = tt
 
   -- no name stands twice in what is inside
   pub items_unique : (vs : List (CstInputValue A)) → All (λ v. HasUniqueNames (plain v)) vs → ItemsHaveUniqueNames (items_plain vs)

@@ -9,7 +9,7 @@ use Rattle.jsonc_insert.specs.named.Members.{LacksMember, no_more, other_name}
 use Rattle.jsonc_run.specs.texts.Entries as entries
 use Rattle.jsonc_run.specs.texts.Entries.{of, members, Becomes, Changed, Named}
 use Rattle.jsonc_run.specs.texts.Paths.{an_array, an_object}
-use Rattle.jsonc_parser.specs.patch.Operations.{StandsAt}
+use Rattle.jsonc_parser.specs.patch.Operations.{RefersAlong}
 use Rattle.jsonc_parser.specs.patch.References.{IsOnly, this_only, later_only, Refers, RefersTo, whole, to_member, to_element}
 use Rattle.jsonc_parser.proofs.lemmas.patch.Evaluation.{one_value}
 
@@ -218,12 +218,12 @@ no_path (to_member {token = t} {tokens = ts} p r) e = let wrong : t ∷ ts ≡ [
 no_path (to_element {token = t} {tokens = ts} k p r) e = let wrong : t ∷ ts ≡ [] = e in cc
 
 module _ (os : List Around) (v : Plain) (w : Option Plain) (is : w ≡ Some (within os v)) where
-  pub stands_behind : (tokens rest : List (List ℕ)) → tokens ≡ tokens_to os ++ rest → {path : List ℕ} {u : Plain} → StandsAt w tokens path u → Behind os v rest path u
+  pub stands_behind : (tokens rest : List (List ℕ)) → tokens ≡ tokens_to os ++ rest → {path : List ℕ} {u : Plain} → RefersAlong w tokens path u → Behind os v rest path u
   stands_behind tokens rest e {path} {u} (x, so, r) =
       behind_tokens os v rest (subst (λ l. Refers (within os v) l path u) e (subst (λ k. Refers k tokens path u) (same_value so is) r))
 
   -- at the tokens themselves
-  pub stands_there : (tokens : List (List ℕ)) → tokens ≡ tokens_to os → {path : List ℕ} {u : Plain} → StandsAt w tokens path u → (path ≡ path_to os) × (v ≡ u)
+  pub stands_there : (tokens : List (List ℕ)) → tokens ≡ tokens_to os → {path : List ℕ} {u : Plain} → RefersAlong w tokens path u → (path ≡ path_to os) × (v ≡ u)
   stands_there tokens e s =
       let b = stands_behind tokens [] (e ∙ sym (append-nil (tokens_to os))) s in
       (b.is ∙ ap (λ l. path_to os ++ l) (no_path b.refers refl) ∙ append-nil (path_to os), one_value whole b.refers)

@@ -8,7 +8,7 @@ use Rattle.jsonc_run.specs.texts.Entries.{of, members}
 use Rattle.jsonc_run.specs.texts.Paths.{an_array, an_object}
 use Rattle.jsonc_parser.specs.patch.Failing.{ReferToNothing}
 use Rattle.jsonc_parser.specs.patch.MergePatch.{with_member}
-use Rattle.jsonc_parser.specs.patch.Operations.{as_element, as_member, as_whole, in_member, Adds, Removes, StandsAt}
+use Rattle.jsonc_parser.specs.patch.Operations.{as_element, as_member, as_whole, in_member, Adds, Removes, RefersAlong}
 use Rattle.jsonc_parser.specs.patch.References as references
 use Rattle.jsonc_parser.specs.patch.References.{IsOnly, this_only, later_only, IsRepeated, this_again, later_again, RefersTo}
 use Rattle.jsonc_parser.proofs.lemmas.patch.Evaluation.{fails_further, member_further}
@@ -59,7 +59,7 @@ pub data AddsMember (v : Plain) (os : List Around) (name : List ℕ) (ns : Membe
   comes : LacksMember name ns → u ≡ Some (within os (object (with_member name v ns))) → AddsMember v os name ns u
 
 module _ (os : List Around) (name : List ℕ) (ns : Members) where
-  pub stands_member : {all : List (List ℕ)} {w : Option Plain} {path : List ℕ} {x : Plain} → StandsAt w all path x → all ≡ tokens_to os ++ name ∷ [] → w ≡ Some (within os (object ns))
+  pub stands_member : {all : List (List ℕ)} {w : Option Plain} {path : List ℕ} {x : Plain} → RefersAlong w all path x → all ≡ tokens_to os ++ name ∷ [] → w ≡ Some (within os (object ns))
       → (i : ℕ) × (z : Plain) × IsOnly name z i ns × (path ≡ path_to os ++ i ∷ [])
   stands_member {all} {w} stands e is =
       let b = stands_behind os (object ns) w is all (name ∷ []) e stands in

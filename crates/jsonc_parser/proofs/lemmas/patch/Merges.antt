@@ -119,8 +119,8 @@ is_put tokens p w y other adds none = put none other adds
 -- whether a value that was read is equal to another
 module _ (v taken : Plain) (tokens : List (List ℕ)) (w : Option Plain) where
   pub there_told : (b : Bool) → (x : Plain) → RefersTo w tokens x → taken ≡ collapse x → (HasUniqueNames taken → Decides b (AreEqual (λ s t. s ≡ t) v taken)) → Decides b (IsThere v tokens w)
-  there_told b x refers is told =
-      let d = told (subst HasUniqueNames (sym is) (unique_collapse x)) in (
+  there_told b x refers is reported =
+      let d = reported (subst HasUniqueNames (sym is) (unique_collapse x)) in (
         λ e. (x, refers, subst (AreEqual (λ s t. s ≡ t) v) is (d.0 e)),
         λ h. d.1 (subst (AreEqual (λ s t. s ≡ t) v) (ap collapse (refers_to_one w tokens h.0 x h.1 refers) ∙ sym is) h.2),
       )

@@ -20,7 +20,7 @@ use Rattle.jsonc_run.specs.texts.Paths.{Kind, an_array, an_object}
 use Rattle.jsonc_run.proofs.lemmas.promise.Inserting.{counted}
 use Rattle.jsonc_run.proofs.lemmas.promise.Plains.{changed}
 use Rattle.jsonc_parser.specs.patch.Found.{RefersToNode, RefersToNothing}
-use Rattle.jsonc_parser.specs.patch.Operations.{as_element, as_member, as_whole, in_member, Adds, Removes, Replaces, StandsAt}
+use Rattle.jsonc_parser.specs.patch.Operations.{as_element, as_member, as_whole, in_member, Adds, Removes, Replaces, RefersAlong}
 use Rattle.jsonc_parser.specs.patch.References.{FailsAt, IsIndex, IsItem, this_item, later_item, IsOnly, this_only, later_only, IsRepeated, this_again, later_again, MeetsRepeated, here, Refers, RefersTo, whole, to_member, to_element}
 use Rattle.jsonc_parser.proofs.lemmas.patch.Evaluation.{fails_further, member_further}
 
@@ -131,7 +131,7 @@ module _ (d : Document) (ns : List Node) (tokens : List (List ℕ)) (n : ℕ) (w
   refers : Refers w.value tokens path w.v
   refers = subst (λ p. Refers w.value tokens p w.v) over w.refers
 
-  pub stands : StandsAt d.value tokens path w.v
+  pub stands : RefersAlong d.value tokens path w.v
   stands = (w.value, w.is, refers)
 
   pub removed : (y : Option Plain) → Loses d.value y path → Removes tokens d.value y
@@ -166,7 +166,7 @@ module _ (d : Document) (ns : List Node) (tokens : List (List ℕ)) (n : ℕ) (w
       → IsIndex token (length front) ⊎ ((token ≡ 0x2D ∷ []) × (back ≡ [])) → Adds v (tokens ++ token ∷ []) d.value y
   element_added v y token front back b place =
       let was = was_referred (of an_array (front ++ back)) (of an_array (front ++ record { name = []; value = v } ∷ back)) y b in
-      as_element front back (subst (StandsAt d.value tokens path) was stands) place b
+      as_element front back (subst (RefersAlong d.value tokens path) was stands) place b
 
   -- a member comes into the object that has none of the name
   nothing_there : (name : List ℕ) (ms : Members) → w.v ≡ plain.object ms → RefersToNothing d (tokens ++ name ∷ []) → LacksMember name ms
@@ -186,4 +186,4 @@ module _ (d : Document) (ns : List Node) (tokens : List (List ℕ)) (n : ℕ) (w
       let b : Becomes (of an_object (front ++ [])) new path d.value y = subst (λ es. Becomes (of an_object (front ++ es)) (of an_object (front ++ record { name = name; value = v } ∷ es)) path d.value y) end all in
       let c : Becomes (of an_object front) new path d.value y = subst (λ es. Becomes (of an_object es) new path d.value y) (append-nil front) b in
       let was : w.v ≡ of an_object front = was_referred (of an_object front) new y c in
-      as_member name front (subst (StandsAt d.value tokens path) was stands) (lacks_all name front (members front) (nothing_there name (members front) was none) refl) c
+      as_member name front (subst (RefersAlong d.value tokens path) was stands) (lacks_all name front (members front) (nothing_there name (members front) was none) refl) c

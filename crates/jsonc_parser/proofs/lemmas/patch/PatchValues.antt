@@ -34,7 +34,7 @@ use Rattle.jsonc_parser.proofs.lemmas.patch.SeenNames.{AreTexts, Distinct}
 use Rattle.jsonc_parser.specs.patch.Equality as equal
 use Rattle.jsonc_parser.specs.patch.Equality.{HasMember, HasUniqueNames, ItemsHaveUniqueNames, MembersHaveUniqueNames, this_has, later_has}
 use Rattle.jsonc_parser.specs.patch.PatchFaults.{IsFaultOfNames, IsFaultOfValue, repeats_here, repeats_in_element, repeats_in_member}
-use Rattle.jsonc_parser.specs.patch.PatchReading.{TellsRepeated, pair_of, said}
+use Rattle.jsonc_parser.specs.patch.PatchReading.{ReportsRepeated, pair_of, said}
 use Rattle.jsonc_parser.specs.patch.PatchTexts.{NamesDiffer}
 use Rattle.jsonc_parser.specs.patch.References.{IsItem, this_item, later_item, IsRepeated, this_again, later_again}
 use Rattle.jsonc_parser.specs.declared.patch.operation.OperationFault.{OperationFault}
@@ -197,13 +197,13 @@ module _ {A : Type 0} where
   no_memory v e is = subst (IsFaultOfValue v) (sym is) tt
 
   -- a fault that tells of a name that stands twice
-  pub tells_repeated : (ms : Members) (name : List ℕ) (e : OperationFault A) → TellsRepeated name e → IsRepeated name ms → IsFaultOfNames ms e
-  tells_repeated ms name (fault.RepeatedName s) h r = subst (λ n. IsRepeated n ms) (sym h) r
-  tells_repeated ms name fault.OutOfMemory h r = tt
-  tells_repeated ms name fault.NotAnObject h r = absurd h
-  tells_repeated ms name (fault.Missing m) h r = absurd h
-  tells_repeated ms name (fault.Wrong m) h r = absurd h
-  tells_repeated ms name (fault.Pointer m e) h r = absurd h
+  pub reports_repeated : (ms : Members) (name : List ℕ) (e : OperationFault A) → ReportsRepeated name e → IsRepeated name ms → IsFaultOfNames ms e
+  reports_repeated ms name (fault.RepeatedName s) h r = subst (λ n. IsRepeated n ms) (sym h) r
+  reports_repeated ms name fault.OutOfMemory h r = tt
+  reports_repeated ms name fault.NotAnObject h r = absurd h
+  reports_repeated ms name (fault.Missing m) h r = absurd h
+  reports_repeated ms name (fault.Wrong m) h r = absurd h
+  reports_repeated ms name (fault.Pointer m e) h r = absurd h
 
 pub plain-NumberLit : (A : Type 0) (n : NumberLit) → ast.plain {A = A} (value.NumberLit n) ≡ number (chars n.value.now)
 plain-NumberLit A n = ap value_at (view A n)

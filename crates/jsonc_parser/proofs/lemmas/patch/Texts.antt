@@ -64,8 +64,8 @@ front_loose (c ∷ r) h = rw (not_true (is_escape c) h) refl
 front_fault : (text : List ℕ) (place : ℕ) (h : HasLooseTilde text place) → front false text ≡ pointer_text h.tokens
 front_fault text place h =
     ap (front false) h.is
-    ∙ front_pointer h.tokens (0x7E ∷ h.behind)
-    ∙ ap (λ l. pointer_text h.tokens ++ l) (front_loose h.behind h.loose)
+    ∙ front_pointer h.tokens (0x7E ∷ h.rest)
+    ∙ ap (λ l. pointer_text h.tokens ++ l) (front_loose h.rest h.loose)
     ∙ append-nil (pointer_text h.tokens)
 
 -- the rest of the token that is read, and those behind it; a `~` stands before the text, or not
@@ -115,12 +115,12 @@ begins (t ∷ ts) r some = (flat_map escaped t ++ pointer_text ts ++ r, refl)
 pub no_tilde : (t : List (List ℕ)) (place : ℕ) → HasLooseTilde (pointer_text t) place → ⊥
 no_tilde t place h =
     let same : pointer_text t ≡ pointer_text h.tokens = sym (front_whole t) ∙ front_fault (pointer_text t) place h in
-    let longer = ap length (sym same ∙ h.is) ∙ length-append (pointer_text h.tokens) (0x7E ∷ h.behind) in
+    let longer = ap length (sym same ∙ h.is) ∙ length-append (pointer_text h.tokens) (0x7E ∷ h.rest) in
     omega (arith, longer)
 
 pub not_both : (text : List ℕ) (place : ℕ) → LacksSlash text → HasLooseTilde text place → ⊥
 not_both text place l h =
-    let b = begins h.tokens (0x7E ∷ h.behind) h.in_token in
+    let b = begins h.tokens (0x7E ∷ h.rest) h.in_token in
     l.another (heads (sym l.is ∙ h.is ∙ b.1))
 
 pub one_tilde : (text : List ℕ) (k l : ℕ) → HasLooseTilde text k → HasLooseTilde text l → k ≡ l
@@ -259,7 +259,7 @@ loose_tilde tokens token yielded text behind tilde place so_far t at is loose =
     let counted = sym (joined_length before (0x7E ∷ [])) ∙ ap byte_length read ∙ joined_length (0x2F ∷ []) yielded in
     record {
       tokens = tokens ++ token ∷ [];
-      behind = behind;
+      rest = behind;
       is = ap (λ l. 0x2F ∷ l) is ∙ ap (λ l. l ++ behind) (sym read) ∙ append_assoc before (0x7E ∷ []) behind;
       in_token = not_empty tokens token;
       at = omega (arith, at, counted, char_length 0x7E, char_length 0x2F);

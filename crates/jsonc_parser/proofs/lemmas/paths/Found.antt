@@ -17,7 +17,7 @@ use Rattle.jsonc_cst.specs.Nodes.{number_of, object_node, typed, typed_at}
 use Rattle.jsonc_cst.specs.Readings.{value_under}
 use Rattle.jsonc_cst.proofs.Family.{number_of-typed}
 use Rattle.jsonc_parser.specs.paths.Found.{FindsInside, FindsInsideWhatShown, FindsWhatShown, names_of}
-use Rattle.jsonc_parser.specs.paths.Standing.{LeadsOnIn, NamesNode, NamesNothing}
+use Rattle.jsonc_parser.specs.paths.NamedNodes.{LeadsOnIn, NamesNode, NamesNothing}
 use Rattle.jsonc_parser.specs.declared.paths.which.Which.{Which}
 use Rattle.jsonc_parser.specs.declared.paths.which.Which.TheVariants.{First}
 use Rattle.jsonc_parser.proofs.lemmas.paths.Paths.{at_none}

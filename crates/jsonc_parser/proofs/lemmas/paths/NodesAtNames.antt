@@ -41,7 +41,7 @@ use Rattle.jsonc_parser.proofs.lemmas.paths.Leading.{leads_at, leads_value}
 use Rattle.jsonc_parser.proofs.lemmas.paths.Members.{first_once}
 use Rattle.jsonc_parser.proofs.lemmas.paths.Paths.{in_members, no_object_inside}
 use Rattle.jsonc_parser.proofs.lemmas.paths.LongestPrefix.{lacking}
-use Rattle.jsonc_parser.specs.paths.Standing.{NamesNode, NamesNothing, BeginsThere, StopsThere, LeadsOn}
+use Rattle.jsonc_parser.specs.paths.NamedNodes.{NamesNode, NamesNothing, BeginsThere, StopsThere, LeadsOn}
 
 -- names lead further
 leads_further : {which : Which} {front : List (List ℕ)} {path : List ℕ} {x y : Plain} (name : List ℕ) (i : ℕ) {ms : Members} → Leads which front path x (plain.object ms) → IsChosenAt which name y i ms
@@ -88,7 +88,7 @@ module _ (which : Which) (d : Document) (ns : List Node) (tree : IsTree ns) (sho
         v = v;
         path = path;
         leads = leads;
-        stands = subst (λ (w : Option Plain). At (seen_if which w) names (seen which v)) (sym is) (subst (λ (w : Option Plain). At w names (seen which v)) (sym (seen_some which x)) (leads_at leads));
+        there = subst (λ (w : Option Plain). At (seen_if which w) names (seen which v)) (sym is) (subst (λ (w : Option Plain). At w names (seen which v)) (sym (seen_some which x)) (leads_at leads));
         at = at;
         has = subst (HasValue d.options (top_at ns n)) same held.has;
       }
