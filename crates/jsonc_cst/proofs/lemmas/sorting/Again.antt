@@ -27,7 +27,7 @@ use Rattle.jsonc_sort.specs.again.Again.{top_if, tops_asked, IsInOrderOf}
 use Rattle.jsonc_cst.specs.sorting.Again.{ComparesTops, ElementsSortOnce, IsSortedBy, IsUntouched, PropertiesSortOnce}
 use Rattle.jsonc_sort.proofs.lemmas.again.SecondSort.{sorts_once}
 
--- an order of what nodes are told to be
+-- an order of what nodes are, as a function determines it
 module _ {N T : Type 0} (lt : T → T → Bool) (told : N → T) where
   pub told_in : (nodes : List (Option N)) (i : ℕ) → node_in (map (option_map told) nodes) i ≡ option_map told (node_in nodes i)
   told_in [] i = refl

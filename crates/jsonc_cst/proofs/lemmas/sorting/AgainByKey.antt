@@ -59,7 +59,7 @@ module _ {A F D N K : Type 0} (g : Shared F (Bor D × (N × Unit {0})) (Result K
   abbrev before : K → K → Bool
   before k l = is_lt (cmp k l)
 
-  -- the keys of two nodes come in the order of what the nodes are
+  -- the keys of two nodes are in the order of what the nodes are
   module _ (d : CstRootNode A) (tell : KeysCompareTops g key same node_of cmp lt d) where
     abbrev told : N → Top
     told x = top_at (nodes_of d) (number_of (node_of x))
@@ -75,7 +75,7 @@ module _ {A F D N K : Type 0} (g : Shared F (Bor D × (N × Unit {0})) (Result K
     both None (Some y) k l hx hy kx ky = ap (λ (o : Option K). option_before before o l) kx ∙ ap (λ (o : Option K). option_before before None o) ky.1
     both None None k l hx hy kx ky = ap (λ (o : Option K). option_before before o l) kx ∙ ap (λ (o : Option K). option_before before None o) ky
 
-    -- past the row there is neither node nor key
+    -- past the children there is neither node nor key
     key_at : (nodes : List (Option N)) (keys : List (Option K)) → AreKeys g key (same d) nodes keys → (i : ℕ) → IsKeyOf g key (same d) (node_in nodes i) (node_in keys i)
     key_at nodes keys are i =
         elim (cases_lt i (length nodes)) [

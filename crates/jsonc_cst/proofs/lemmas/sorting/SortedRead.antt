@@ -1,4 +1,4 @@
--- A sort of what was read: by the container, the nodes and the pins as they are lent.
+-- A sort of what was read: by the container, the nodes and the pins as they are borrowed.
 use Rattle.std.proofs.Common.{◌≡◌, ℕ, Bool, List, Option, Result, Ok, Err, OnOk, subst}
 use Rattle.jsonc_sort.specs.Rearranged.{headers_of}
 use Rattle.jsonc_cst.specs.declared.cst.CstRootNode.{CstRootNode}

@@ -1,4 +1,4 @@
--- Where an element is to come.
+-- Where an element is to be inserted.
 use Rattle.std.proofs.Common.{ℕ, zero, suc, ◌≡◌, ◌≢◌, ◌<◌, ◌≤◌, ◌-◌, ◌∙◌, sym, ap, subst, refl, inl, inr, List, [], ◌∷◌, Option, Some, None, length, slice_get, chars, arith}
 use Rattle.std.proofs.lemmas.List.Filters.{length-filter_both}
 use Rattle.std.proofs.lemmas.Option.{slice_get_cases, slice_get_within}

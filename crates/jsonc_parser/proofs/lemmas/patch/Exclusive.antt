@@ -1,4 +1,4 @@
--- An operation for which a cause tells that it is not made makes nothing.
+-- An operation for which a cause reports that it is not made makes nothing.
 use Rattle.std.proofs.Common.{ℕ, ◌≡◌, ◌≢◌, ◌≤◌, ◌<◌, ◌∙◌, ◌++◌, ◌⊎◌, inl, inr, sym, ap, subst, refl, List, [], ◌∷◌, length, Option, Some, None, arith}
 use Rattle.std.specs.List.{All}
 use Rattle.std.proofs.lemmas.List.{length-append}
@@ -16,7 +16,7 @@ use Rattle.jsonc_parser.specs.patch.References.{FailsAt, IsIndex, IsRepeated, Me
 use Rattle.jsonc_parser.specs.patch.References as references
 use Rattle.jsonc_parser.proofs.lemmas.patch.Evaluation.{fails_behind, fails_with_none, index_once, refers_to_one, repeated_lacks}
 
--- nothing stands where tokens refer to nothing, or where evaluation fails
+-- nothing is there where tokens refer to nothing, or where evaluation fails
 pub none_stands : (w : Option Plain) (tokens : List (List ℕ)) (path : List ℕ) (x : Plain) → RefersAlong w tokens path x → ReferToNothing w tokens → ⊥
 none_stands w tokens path x (v, is, r) none = none.0 x (v, is, path, r)
 
@@ -112,7 +112,7 @@ none_added {all = all} {w = w} adds none =
       | inr b ↦ place_there w all none b
     ]
 
--- a name that stands twice
+-- a name that occurs twice
 meets_none : {name : List ℕ} {x : Plain} {tokens : List (List ℕ)} → MeetsRepeated name x tokens → tokens ≡ [] → ⊥
 meets_none (references.here {tokens = ts} r) e = cc
 meets_none (references.in_member {token = t} {tokens = ts} p m) e = cc

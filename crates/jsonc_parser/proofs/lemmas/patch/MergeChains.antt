@@ -282,7 +282,7 @@ module _ {A : Type 0} (old new : CstRootNode A) (tokens : List (List ℕ)) where
   pub failed_value : (p q : Plain) (cause : PatchCause A) → p ≡ q → FailsToMerge old tokens q cause → FailsToMerge old tokens p cause
   failed_value p q cause is fails = subst (λ k. FailsToMerge old tokens k cause) (sym is) fails
 
--- what was told of the tokens
+-- what was answered of the tokens
 module _ {A : Type 0} (doc : CstRootNode A) (names tokens : List (List ℕ)) (same : names ≡ tokens) (b : Bool) (reported : IsOfShown doc (λ d. Decides b (RefersToObject d.value names))) where
   pub object_so : b ≡ true → IsOfShown doc (λ d. RefersToObject d.value tokens)
   object_so e d shown = subst (RefersToObject d.value) same ((reported d shown).0 e)
@@ -290,7 +290,7 @@ module _ {A : Type 0} (doc : CstRootNode A) (names tokens : List (List ℕ)) (sa
   pub no_object_so : (p : Plain) → b ≡ false → IsOfShown doc (λ d. ¬ (GoesInto p tokens d.value))
   no_object_so p e d shown = goes_nowhere p tokens d.value (λ h. false≢true (sym e ∙ (reported d shown).1 (subst (RefersToObject d.value) (sym same) h)))
 
--- what was told of the value that is to be put, of what is made of the patch
+-- what was answered of the value that is to be put, of what is made of the patch
 module _ {A : Type 0} (doc : CstRootNode A) (tokens : List (List ℕ)) (p v : Plain) (is : v ≡ made_of p) (b : Bool) (reported : IsOfShown doc (λ d. Decides b (IsThere v tokens d.value))) where
   pub there_so : b ≡ true → IsOfShown doc (λ d. IsThere (made_of p) tokens d.value)
   there_so e d shown = subst (λ q. IsThere q tokens d.value) is ((reported d shown).0 e)

@@ -52,7 +52,7 @@ all_others : (name : List ℕ) (es : List Named) → LacksMember name (members e
 all_others name [] l = All-nil (λ (e : Named). e.name ≢ name)
 all_others name (e ∷ es) l = let m = lacks_more l e.name e.value (members es) refl in All-cons (λ (e : Named). e.name ≢ name) e es m.other (all_others name es m.rest)
 
--- a member comes behind all
+-- a member is appended
 pub adds_new : (os : List Around) → AreAlone os → (name : List ℕ) (ns : Members) → LacksMember name ns → (v : Plain)
     → Adds v (tokens_to os ++ name ∷ []) (Some (within os (object ns))) (Some (within os (object (with_member name v ns))))
 adds_new os alone name ns lacks v =

@@ -13,7 +13,7 @@ use Rattle.jsonc_parser.specs.patch.Operations.{RefersAlong}
 use Rattle.jsonc_parser.specs.patch.References.{IsOnly, this_only, later_only, Refers, RefersTo, whole, to_member, to_element}
 use Rattle.jsonc_parser.proofs.lemmas.patch.Evaluation.{one_value}
 
--- an object around a value: the members before it, its name, and those behind it
+-- an object around a value: the members before it, its name, and those after it
 pub record Around : Type 0 where
   pub front : List Named
   pub name : List ℕ
@@ -67,7 +67,7 @@ same_members (f ∷ fs) (g ∷ gs) e =
     let s = same_first f g fs gs e in
     ap (λ h. h ∷ fs) (same_entry f g s.name s.value) ∙ ap (λ l. g ∷ l) (same_members fs gs s.rest)
 
--- two rows with an entry at the same place
+-- two lists of members with an entry at the same place
 pub record SameRows (f g : Named) (xs xs2 ys ys2 : List Named) : Type 0 where
   pub front : xs ≡ xs2
   pub name : f.name ≡ g.name
@@ -149,7 +149,7 @@ only_at [] name v back before behind = this_only behind
 only_at (f ∷ fs) name v back before behind =
     let l = lacks_more before f.name f.value (members fs) refl in later_only l.other (only_at fs name v back l.rest behind)
 
--- the row around the one member of a name
+-- the members around the one member of a name
 pub record Split (name : List ℕ) (v : Plain) (i : ℕ) (ms : Members) : Type 0 where
   pub front : List Named
   pub back : List Named
@@ -182,7 +182,7 @@ pub record InMember (token : List ℕ) (tokens : List (List ℕ)) (path : List �
 pub in_member : {token : List ℕ} {tokens : List (List ℕ)} {ms : Members} {path : List ℕ} {v : Plain} → Refers (plain.object ms) (token ∷ tokens) path v → InMember token tokens path ms v
 in_member (to_member {i = i} {path = path} {x = x} p r) = record { i = i; x = x; rest = path; is = refl; only = p; refers = r }
 
--- what tokens behind those to a value refer to
+-- what tokens after those to a value refer to
 pub record Behind (os : List Around) (v : Plain) (rest : List (List ℕ)) (path : List ℕ) (u : Plain) : Type 0 where
   pub last : List ℕ
   pub is : path ≡ path_to os ++ last

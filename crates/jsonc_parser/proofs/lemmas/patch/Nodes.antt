@@ -76,7 +76,7 @@ leads_more : (ns : List Node) (n i q : ℕ) {v : ℕ} {path : List ℕ} → Lead
 leads_more ns n i q paths.itself s = paths.step s paths.itself
 leads_more ns n i q (paths.step t l) s = paths.step t (leads_more ns n i q l s)
 
--- what stands at a place of what stands at a path
+-- what is at a place of what is at a path
 item_at : {a b : Plain} {i : ℕ} {vs ws : Items} → ItemChanged a b i vs ws → IsItem a i vs
 item_at changes.this_item = this_item
 item_at (changes.later_item c) = later_item (item_at c)

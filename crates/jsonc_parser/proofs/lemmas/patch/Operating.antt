@@ -145,7 +145,7 @@ module _ (d : Document) (ns : List Node) (tokens : List (List ℕ)) (n : ℕ) (w
   pub was_standing : (u : Plain) → asks.StandsAt u path d.value → w.v ≡ u
   was_standing u (x, is, c) = becomes_there d.value (Some x) u w.is (subst (λ k. Becomes u u path k (Some x)) (sym is) (changed c)) refers
 
-  -- none stands behind where all that there are stand before
+  -- none is after a place that is past all of them
   pub last_item : (vs : Items) (i : ℕ) (front back : List Named) → asks.StandsAt (plain.array vs) path d.value → item_count vs ≤ i → w.v ≡ of an_array (front ++ back) → length front ≡ min i (length (front ++ back)) → back ≡ []
   last_item vs i front back stands far was place =
       let same : vs ≡ items (front ++ back) = same_array vs (front ++ back) (sym (was_standing (plain.array vs) stands) ∙ was) in
@@ -161,14 +161,14 @@ module _ (d : Document) (ns : List Node) (tokens : List (List ℕ)) (n : ℕ) (w
   pub replaced : (was v : Plain) (y : Option Plain) → Becomes was v path d.value y → Replaces v tokens d.value y
   replaced was v y b = (path, w.v, stands, subst (λ k. Becomes k v path d.value y) (sym (was_referred was v y b)) b)
 
-  -- an element comes into the array, behind those before its place or behind all
+  -- an element is inserted into the array, after those before its place or after all
   pub element_added : (v : Plain) (y : Option Plain) (token : List ℕ) (front back : List Named) → Becomes (of an_array (front ++ back)) (of an_array (front ++ record { name = []; value = v } ∷ back)) path d.value y
       → IsIndex token (length front) ⊎ ((token ≡ 0x2D ∷ []) × (back ≡ [])) → Adds v (tokens ++ token ∷ []) d.value y
   element_added v y token front back b place =
       let was = was_referred (of an_array (front ++ back)) (of an_array (front ++ record { name = []; value = v } ∷ back)) y b in
       as_element front back (subst (RefersAlong d.value tokens path) was stands) place b
 
-  -- a member comes into the object that has none of the name
+  -- a member is inserted into the object that has none of the name
   nothing_there : (name : List ℕ) (ms : Members) → w.v ≡ plain.object ms → RefersToNothing d (tokens ++ name ∷ []) → LacksMember name ms
   nothing_there name ms is none =
       elim (name_cases name ms) [

@@ -73,7 +73,7 @@ one_path {w = w} (to_element {tokens = tokens} {i = i} {path = p} {vs = vs} k it
 same_value : (x y : Plain) (w : Option Plain) → w ≡ Some x → w ≡ Some y → x ≡ y
 same_value x y w e f = cc
 
--- a property is where they refer to, behind an object
+-- where they refer to, by a name in an object, there is a property
 property_there : {x v : Plain} {ns : Members} {tokens : List (List ℕ)} {q p : List ℕ} (w : Option Plain) (last : List ℕ) → w ≡ Some x → Refers x tokens q (object ns) → Refers x (tokens ++ last ∷ []) p v → HasPropertyAt p w
 property_there {x} {v} {ns} {tokens} {q} {p} w last is holder r =
     elim (name_cases last ns) [

@@ -1,4 +1,4 @@
--- One edit that was made puts a value at names, or drops what stands there.
+-- One edit that was made puts a value at names, or drops what is there.
 use Rattle.std.proofs.Common.{ℕ, ◌≡◌, ◌∙◌, sym, ap, subst, refl, List, [], ◌∷◌, Option, All}
 use Rattle.std.proofs.lemmas.List.Elements.{All-nil, All-cons}
 use Rattle.jsonc_text.specs.Documents.{Document}

@@ -97,7 +97,7 @@ pub chosen_within : (which : Which) (name : List ℕ) (v : Plain) (i : ℕ) (ms 
 chosen_within First name v i ms f = at_within f
 chosen_within Last name v i ms f = last_within f
 
--- one of a name that none had, put behind all, comes last
+-- one of a name that none had, put after all, is appended
 appended_after_all : {name : List ℕ} {v : Plain} {ms ns : Members} {i : ℕ} → i ≡ member_count ms → LacksMember name ms → MemberInserted name v i ms ns → IsAppended name v ms ns
 appended_after_all e no_more inserted.this_member = appended_alone
 appended_after_all e (other_name {ms = ms} ne l) inserted.this_member = absurd (omega (arith, e))

@@ -135,7 +135,7 @@ sliced {A} names k w v h = h ∙ ap (λ (l : List (String A)). nest (names_of l)
 pub nested_rest : {A : Type 0} (names : List (String A)) (count : ℕ) (w v : Plain) → w ≡ nest (names_of (drop count names)) v → w ≡ nest (drop count (names_of names)) v
 nested_rest names count w v h = h ∙ ap (λ (l : List (List ℕ)). nest l v) (sym (drop-map chars_of count names))
 
--- nothing stands at names that lead to an object without the next of them, or to another value
+-- nothing is at names that lead to an object without the next of them, or to another value
 module _ (d : Document) (names : List (List ℕ)) (path : List ℕ) (count : ℕ) where
   behind_reached : (z : Plain) (to : ReachesTo First d names path count z) (u : Plain) → At d.value names u → At (Some z) (to.name ∷ drop (count + 1) names) u
   behind_reached z to u a =

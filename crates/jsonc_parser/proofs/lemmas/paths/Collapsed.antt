@@ -124,7 +124,7 @@ becomes_last : {name : List ℕ} {x y : Plain} {ms ns : Members} → FirstBecome
 becomes_last {name} {x} {y} (this_becomes {ms = ms}) n ne v = let other : name ≢ n = λ e. ne (sym e) in last_past n name v x ms other ∙ sym (last_past n name v y ms other)
 becomes_last (later_becomes {n = m} {w = w} other b) n ne v = becomes_last b n ne (cond (bytes_eq m n) w v)
 
--- where one comes behind all, the others stay
+-- where one is appended, the others stay
 comes_without : {name : List ℕ} {v : Plain} {ms ns : Members} → IsAppended name v ms ns → (n : List ℕ) → n ≢ name → IsAppended name v (without n ms) (without n ns)
 comes_without {name} {v} appended_alone n ne = subst (IsAppended name v no_members) (sym (without_past n name v no_members (λ e. ne (sym e)))) appended_alone
 comes_without {name} {v} (appended_after {n = m} {w = w} {ms = ms} {ns = ns} other c) n ne =
@@ -148,7 +148,7 @@ comes_collapsed {name} {v} (appended_after {n = n} {w = w} {ms = ms} {ns = ns} n
     subst (λ k. IsAppended name (collapse v) (member n k (without n (collapse_members ms))) (collapse_members (member n w ns))) (sym (comes_last_of inner n ne (collapse w)))
     (appended_after ne (comes_without inner n ne))
 
--- a property of the name before the last one: the last stands for it
+-- a property of the name before the last one: the last has its name
 pub first_behind : {name : List ℕ} {z : Plain} (n : List ℕ) (w : Plain) (ms : Members) → FirstIs name z (collapse_members ms) → FirstIs name z (collapse_members (member n w ms))
 first_behind {name} {z} n w ms f =
     elim (same_or_not n name) [
@@ -174,7 +174,7 @@ becomes_behind {name} {x} {y} n w ms ns b =
           (later_becomes ne (becomes_without b n ne))
     ]
 
--- the last of the name, with none behind it
+-- the last of the name, with none after it
 pub first_alone : {name : List ℕ} {ms : Members} (v : Plain) → LacksMember name ms → FirstIs name (collapse v) (collapse_members (member name v ms))
 first_alone {name} {ms} v l =
     subst (λ x. FirstIs name (collapse v) (member name x (without name (collapse_members ms)))) (sym (lacks_last (lacks_collapsed l) (collapse v))) this_one

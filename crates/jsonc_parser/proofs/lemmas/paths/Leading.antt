@@ -24,7 +24,7 @@ pub no_path : {which : Which} {names : List (List ℕ)} {path : List ℕ} {x v :
 no_path leads_nowhere e = refl
 no_path (leads_on {name = name} {names = names} f l) e = cc
 
--- the property of a number that is the first of its name is what has left
+-- the property of a number that is the first of its name is what was removed
 at_leaves : {name : List ℕ} {v : Plain} {i : ℕ} {ms ns : Members} → FirstAt name v i ms → MemberRemoved i ms ns → FirstIsRemoved name ms ns
 at_leaves this_at removed.this_member = this_removed
 at_leaves (later_at ne f) (removed.later_member c) = later_removed ne (at_leaves f c)
@@ -33,7 +33,7 @@ first_at : {name : List ℕ} {v : Plain} {ms : Members} → FirstIs name v ms �
 first_at this_one = (0, this_at)
 first_at (later_one ne f) = let g = first_at f in (suc g.0, later_at ne g.1)
 
--- what names lead to stands there, and the other way round
+-- what names lead to is there, and the other way round
 pub leads_at : {which : Which} {names : List (List ℕ)} {path : List ℕ} {x v : Plain} → Leads which names path x v → At (Some (seen which x)) names (seen which v)
 leads_at leads_nowhere = settings.itself
 leads_at {which} {v = v} (leads_on {name = name} {names = names} {i = i} {ms = ms} {x = x} f l) =
@@ -47,7 +47,7 @@ at_leads (settings.in_object {names = names} {ms = ms} {x = x} {v = v} f a) =
     let i = first_at f in
     (plain.object ms, refl, i.0 ∷ l.2, leads_on i.1 (subst (λ k. Leads First names l.2 k v) same l.3))
 
--- at the positions that names lead over stands what they lead to
+-- at the positions that names lead over is what they lead to
 pub leads_changed : {which : Which} {names : List (List ℕ)} {path : List ℕ} {x v : Plain} → Leads which names path x v → Changed v v path x x
 leads_changed leads_nowhere = itself
 leads_changed {which} (leads_on {name = name} {i = i} {ms = ms} {x = x} f l) = in_object (chosen_itself which name x i ms f) (leads_changed l)
@@ -119,7 +119,7 @@ last_name {which} (leads_on {name = name} {names = names} {i = k} {path = q} {ms
       at = inner.at;
     }
 
--- an entry that names lead to has left an object, and is the first of its name
+-- an entry that names lead to was removed from an object, and is the first of its name
 object_no_array : (ms : Members) (vs : Items) → plain.object ms ≡ plain.array vs → ⊥
 object_no_array ms vs e = cc
 

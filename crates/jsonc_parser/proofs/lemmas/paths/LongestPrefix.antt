@@ -42,7 +42,7 @@ reaches x (name ∷ names) =
       | inr non ↦ to_another [] name names leads_nowhere non
     ]
 
--- a value of another kind that names lead to, before the last, stands in the way
+-- a value of another kind that names lead to, before the last, is in the way
 pub in_the_way : {which : Which} {front : List (List ℕ)} {path : List ℕ} {x other : Plain} (name : List ℕ) (rest : List (List ℕ)) → Leads which front path x other → IsNoObject other
     → IsInTheWay (Some (seen which x)) (front ++ name ∷ rest)
 in_the_way {which} name rest leads_nowhere non = this_in_the_way (seen_other which non)
@@ -64,7 +64,7 @@ put_by_one v over None [] = inl (set_root v, sets_root)
 put_by_one v over None (name ∷ names) = inl (set_root (nest (name ∷ names) v), sets_first)
 put_by_one v over (Some x) names = by_reach v over (reaches x names)
 
--- nothing stands in the way where an operation puts a value, or it may give way
+-- nothing is in the way where an operation puts a value, or it may give way
 pub lacking : {name : List ℕ} {v : Plain} {ms : Members} → LacksMember name ms → FirstIs name v ms → ⊥
 lacking no_more f = elim f [ ]
 lacking (other_name ne l) this_one = ne refl

@@ -14,7 +14,7 @@ same_or_not n m =
       | inr not ↦ inr (λ e. let wrong : true ≡ false = sym ((bytes_eq-Decides n m).1 e) ∙ not in cc)
     ]
 
--- the first of a name in a list that begins with this property: it, or one behind it
+-- the first of a name in a list that begins with this property: it, or one after it
 pub first_of_more : {name : List ℕ} {v : Plain} {all : Members} → FirstIs name v all → (n : List ℕ) (w : Plain) (ms : Members) → all ≡ member n w ms
     → ((n ≡ name) × (w ≡ v)) ⊎ ((n ≢ name) × FirstIs name v ms)
 first_of_more {name} {v} (this_one {ms = rest}) n w ms e = let a : n ≡ name = cc in let b : w ≡ v = cc in inl (a, b)
@@ -60,7 +60,7 @@ first_not_last {name} (appended_after {n = n} {w = w} {ms = ms} ne c) f =
       | inr other ↦ first_not_last c other.1
     ]
 
--- a property that is the first can become another, and can leave
+-- a property that is the first can become another, and can be removed
 pub first_becomes : {name : List ℕ} {x : Plain} {ms : Members} → FirstIs name x ms → (y : Plain) → (ns : Members) × FirstBecomes name x y ms ns
 first_becomes {name} {x} (this_one {ms = ms}) y = (member name y ms, this_becomes)
 first_becomes (later_one {n = n} {w = w} ne f) y = let g = first_becomes f y in (member n w g.0, later_becomes ne g.1)
@@ -73,7 +73,7 @@ pub first_leaves : {name : List ℕ} {x : Plain} {ms : Members} → FirstIs name
 first_leaves (this_one {ms = ms}) = (ms, this_removed)
 first_leaves (later_one {n = n} {w = w} ne f) = let g = first_leaves f in (member n w g.0, later_removed ne g.1)
 
--- what has become another, or has left, was the first; and it is the other now
+-- what has become another, or was removed, was the first; and it is the other now
 pub first_was : {name : List ℕ} {x y : Plain} {ms ns : Members} → FirstBecomes name x y ms ns → FirstIs name x ms
 first_was this_becomes = this_one
 first_was (later_becomes ne f) = later_one ne (first_was f)
@@ -94,7 +94,7 @@ last_is_now (appended_after ne c) = later_one ne (last_is_now c)
 abbrev pub Stays : List ℕ → Plain → Members → Members → Type 0
 Stays a u ms ns = (FirstIs a u ms → FirstIs a u ns) × (FirstIs a u ns → FirstIs a u ms)
 
--- behind the same property
+-- after the same property
 behind : {a : List ℕ} {u : Plain} {ms ns : Members} (n : List ℕ) (w : Plain) → (FirstIs a u ms → FirstIs a u ns) → FirstIs a u (member n w ms) → FirstIs a u (member n w ns)
 behind {a} {u} {ms} {ns} n w go f =
     elim (first_of_more f n w ms refl) [

@@ -1,4 +1,4 @@
--- What memory is wanted for at a path of names, and what stands in their way.
+-- What memory is needed for at a path of names, and what is in their way.
 use Rattle.std.proofs.Common.{ℕ, ◌≡◌, ◌<◌, ◌≤◌, ◌+◌, ◌++◌, ◌∙◌, true, false, Bool, List, [], ◌∷◌, Option, Some, None, Result, Ok, Err, IfOk, OnErr, sym, ap, subst, refl, inl, inr, drop, take, length, get_or}
 use Rattle.std.proofs.lemmas.Bool.{false≢true}
 use Rattle.std.proofs.lemmas.List.{take_all}
@@ -71,7 +71,7 @@ module _ {A : Type 0} (which : Which) (doc : CstRootNode A) where
           (let all : names_of (take (k + 1) names) ≡ names_of (take k names) ++ name ∷ [] = one_more names k s h ∙ ap (λ n. names_of (take k names) ++ n ∷ []) (sym item) in
           subst (λ (l : List (List ℕ)). NamesNode which d (nodes_of doc) l (number_of inner)) (sym all) (step d (names_of (take k names)) shown (so_far d shown)).0)
 
-      -- where they lead to a value of another kind it stands in the way
+      -- where they lead to a value of another kind it is in the way
       stands_here : (d : Document) (w : NamesNode which d (nodes_of doc) (names_of (take k names)) (number_of node)) → IsNoObject w.v → IsInTheWay (seen_if which d.value) (names_of names)
       stands_here d w non =
           subst (λ (v : Option Plain). IsInTheWay (seen_if which v) (names_of names)) (sym w.is)
@@ -105,7 +105,7 @@ module _ {A : Type 0} (doc : CstRootNode A) where
   pub escaped_here : (node : CstNode) (x : CstObject) → node ≡ object_node x → HoldsEscapedName (nodes_of doc) x.number → HoldsEscapedName (nodes_of doc) (number_of node)
   escaped_here node x is h = subst (λ (k : CstNode). HoldsEscapedName (nodes_of doc) (number_of k)) (sym is) h
 
-  -- what stands at names where they lead to a node
+  -- what is at names where they lead to a node
   pub something_found : (names : List (List ℕ)) (node : CstNode) → FindsWhatShown doc names (Some node) → WantsForSomething (nodes_of doc) names
   something_found names node found d shown = (let w = found d shown in inr (w.v, w.there))
 
@@ -113,14 +113,14 @@ module _ {A : Type 0} (doc : CstRootNode A) where
   something_wanted names node r found = err_always r (something_found names node found)
 
 module _ (ns : List Node) (names : List (List ℕ)) where
-  -- memory that is wanted to look up a name is wanted in any case
+  -- memory that is needed to look up a name is needed in any case
   pub looked_up : WantsToLookUp First ns names → WantsForSomething ns names
   looked_up wants d shown = inl (wants d shown)
 
   pub looked_up_first : (which : Which) (over : Over) → WantsToLookUp which ns names → WantsToPut which over ns names
   looked_up_first which over wants d shown = inl (wants d shown)
 
-  -- behind that nothing is to stay
+  -- after that nothing is to stay
   pub put_freely : (which : Which) (over : Over) (b : Bool) → DecidesMustStay which over ns names b → b ≡ false → WantsToPut which over ns names
   put_freely which over b tells none d shown = inr (λ stays. false≢true (sym none ∙ (tells d shown).1 stays))
 

@@ -1,4 +1,4 @@
--- Values at paths of names: one stands there, it is put, and it leaves; at other paths all stays.
+-- Values at paths of names: one is there, it is put, and it is dropped; at other paths all stays.
 use Rattle.std.proofs.Common.{ℕ, ◌≡◌, ◌≢◌, ◌⊎◌, ◌∙◌, sym, subst, refl, List, [], ◌∷◌, Option, Some, None, inl, inr}
 use Rattle.jsonc_text.specs.Plain.{Plain, Members, no_members, member}
 use Rattle.jsonc_text.specs.Plain as plain
@@ -8,7 +8,7 @@ use Rattle.jsonc_parser.specs.paths.Laws.{MustStay, PutsOrMustStay}
 use Rattle.jsonc_parser.specs.paths.Settings.{FirstIs, this_one, FirstBecomes, IsAppended, At, itself, in_object, nest, IsNoObject, IsInTheWay, this_in_the_way, inner_in_the_way, Put, is_there, changes_inside, is_appended, is_nested, gives_way, Dropped, value_dropped, property_dropped, dropped_inside, Differ, differ_here, differ_later}
 use Rattle.jsonc_parser.proofs.lemmas.paths.Members.{same_or_not, first_of_more, first_of_none, first_once, first_or_last, first_not_last, first_becomes, first_stays, first_leaves, first_was, first_is_now, leaver_was, last_is_now, others_stay, others_left, others_before}
 
--- what stands at a path that begins with this name, in a document of this value
+-- what is at a path that begins with this name, in a document of this value
 record Inside (name : List ℕ) (names : List (List ℕ)) (w : Option Plain) (v : Plain) : Type 0 where
   ms : Members
   x : Plain
@@ -46,14 +46,14 @@ at_end (in_object {name = n} {names = ns} f a) e = cc
 pub no_object_inside : {x : Plain} {name : List ℕ} {names : List (List ℕ)} {v : Plain} → IsNoObject x → At (Some x) (name ∷ names) v → ⊥
 no_object_inside {x} {name} {names} non a = let i = at_more a name names refl in non i.ms (some_same _ _ i.is)
 
--- no two values stand at the names
+-- no two values are at the names
 pub at_once : {w : Option Plain} {path : List (List ℕ)} {u v : Plain} → At w path u → At w path v → u ≡ v
 at_once {u = u} {v = v} itself b = let e : Some u ≡ Some v = at_end b refl in cc
 at_once {v = v} (in_object {name = name} {names = names} {ms = ms} {x = x} f a) b =
     let i = in_members b in
     at_once a (subst (λ k. At (Some k) names v) (first_once i.1 f) i.2)
 
--- a value stands in what it is nested in, and at no path that differs
+-- a value is in what it is nested in, and at no path that differs
 pub nest_at : (names : List (List ℕ)) (v : Plain) → At (Some (nest names v)) names v
 nest_at [] v = itself
 nest_at (name ∷ names) v = in_object this_one (nest_at names v)
@@ -69,7 +69,7 @@ pub nest_only : {path names : List (List ℕ)} → Differ path names → (v u : 
 nest_only (differ_here {a = a} {b = b} ne) v u h = let i = in_members h in ne (sym (in_one i.1).0)
 nest_only (differ_later {p = p} d) v u h = let i = in_members h in nest_only d v u (subst (λ x. At (Some x) p u) (sym (in_one i.1).1) i.2)
 
--- what was put stands there
+-- what was put is there
 pub put_at : {v : Plain} {over : Over} {w x : Option Plain} {names : List (List ℕ)} → Put v over w names x → At x names v
 put_at is_there = itself
 put_at (changes_inside f p) = in_object (first_is_now f) (put_at p)
@@ -77,12 +77,12 @@ put_at {v} (is_appended {names = names} c) = in_object (last_is_now c) (nest_at 
 put_at {v} (is_nested {name = name} {names = names}) = nest_at (name ∷ names) v
 put_at {v} (gives_way {name = name} {names = names} non how) = nest_at (name ∷ names) v
 
--- what stands there is put by no change
+-- what is there is put by no change
 pub put_again : {v : Plain} {w : Option Plain} {names : List (List ℕ)} → (over : Over) → At w names v → Put v over w names w
 put_again over itself = is_there
 put_again over (in_object f a) = changes_inside (first_stays f) (put_again over a)
 
--- at other paths all stays: the same stands there, in either direction
+-- at other paths all stays: the same is there, in either direction
 abbrev Same : List (List ℕ) → Plain → Option Plain → Option Plain → Type 0
 Same path u x y = (At x path u → At y path u) × (At y path u → At x path u)
 
@@ -144,7 +144,7 @@ differs_from : {path q : List (List ℕ)} → Differ path q → (name : List ℕ
 differs_from (differ_here {a = a} {b = b} {p = p} ne) name names e = let is : b ≡ name = cc in at_once_other a p refl (λ s. ne (s ∙ sym is))
 differs_from (differ_later {a = a} {p = p} {q = q} d) name names e = let is : q ≡ names = cc in later_other a p refl (subst (Differ p) is d)
 
--- where the rest nested stands in the place of what had nothing inside
+-- where the rest nested takes the place of what had nothing inside
 fresh_same : {name : List ℕ} {names path : List (List ℕ)} (v : Plain) {u : Plain} {w : Option Plain} → ((a : List ℕ) (p : List (List ℕ)) → At w (a ∷ p) u → ⊥) → Differ path (name ∷ names)
     → Same path u w (Some (nest (name ∷ names) v))
 fresh_same {name} {names} {path} v {u} {w} non d =
@@ -178,13 +178,13 @@ dropped_same (dropped_inside {name = name} {names = names} {ms = ms} {ns = ns} {
       | later_other a q e k ↦ subst (λ k. Same k u (Some (plain.object ms)) (Some (plain.object ns))) (sym e) (inside_same f a q (dropped_same p q u k))
     ]
 
--- what leaves stood there
+-- what is dropped was there
 pub dropped_at : {w x : Option Plain} {names : List (List ℕ)} → Dropped w names x → (v : Plain) × At w names v
 dropped_at (value_dropped {v = v}) = (v, itself)
 dropped_at (property_dropped l) = let f = leaver_was l in (f.0, in_object f.1 itself)
 dropped_at (dropped_inside f d) = let a = dropped_at d in (a.0, in_object (first_was f) a.1)
 
--- and what stands there can leave
+-- and what is there can be dropped
 inner_drop : {x v : Plain} {name : List ℕ} {names : List (List ℕ)} → At (Some x) (name ∷ names) v → (y : Plain) × Dropped (Some x) (name ∷ names) (Some y)
 inner_drop {x} {v} {name} {names} a = go names name x a
   where
@@ -213,7 +213,7 @@ object_or_not (plain.string s) = inr (λ ms e. cc)
 object_or_not (plain.array vs) = inr (λ ms e. cc)
 object_or_not (plain.object ms) = inl (ms, refl)
 
--- it can be put, or something stands in the way
+-- it can be put, or something is in the way
 module _ (v : Plain) (over : Over) where
   puts_value : (names : List (List ℕ)) (z : Plain) → ((y : Plain) × Put v over (Some z) names (Some y)) ⊎ MustStay over (Some z) names
   puts_value [] z = inl (v, is_there)
@@ -249,7 +249,7 @@ module _ (v : Plain) (over : Over) where
 pub keep_no_replace : (over : Over) → over ≡ Keep → over ≡ Replace → ⊥
 keep_no_replace over e f = let wrong : Keep ≡ Replace = sym e ∙ f in cc
 
--- where something stands in the way
+-- where something is in the way
 pub record WayBlocked (name : List ℕ) (names : List (List ℕ)) (ms : Members) : Type 0 where
   pub x : Plain
   pub first : FirstIs name x ms

@@ -1,4 +1,4 @@
--- What is taken of a node that names lead to stands for its value.
+-- What is taken of a node that names lead to represents its value.
 use Rattle.std.proofs.Common.{◌≡◌, ◌∙◌, ℕ, List, Option, Some, None, Result, Ok, Err, IfOk, option_map, sym, ap, subst}
 use Rattle.jsonc_text.specs.Documents.{Document}
 use Rattle.jsonc_text.specs.Plain.{Plain, collapse}

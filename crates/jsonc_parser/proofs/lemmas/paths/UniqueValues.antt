@@ -1,4 +1,4 @@
--- Values are put, and leave, in one way alone: as functions put and drop them.
+-- Values are put, and dropped, in one way alone: as functions put and drop them.
 use Rattle.std.proofs.Common.{ℕ, ◌≡◌, ◌∙◌, sym, ap, refl, cond, List, [], ◌∷◌, Option, Some, None}
 use Rattle.std.specs.Str.{bytes_eq}
 use Rattle.jsonc_text.specs.Plain.{Plain, Members, no_members, member}
@@ -7,7 +7,7 @@ use Rattle.jsonc_text.specs.declared.edit.Over.{Over}
 use Rattle.jsonc_parser.specs.paths.Settings.{FirstBecomes, this_becomes, later_becomes, FirstIsRemoved, this_removed, later_removed, IsAppended, appended_alone, appended_after, nest, IsNoObject, Put, is_there, changes_inside, is_appended, is_nested, gives_way, Dropped, value_dropped, property_dropped, dropped_inside}
 use Rattle.jsonc_parser.proofs.lemmas.paths.Collapsed.{other_names, same_names}
 
--- the first value of a name becomes another, or a new one comes last
+-- the first value of a name becomes another, or a new one is appended
 abbrev put_members : List ℕ → (Plain → Plain) → Plain → Members → Members
 put_members name f new no_members = member name new no_members
 put_members name f new (member n w ms) = cond (bytes_eq n name) (member n (f w) ms) (member n w (put_members name f new ms))
@@ -66,7 +66,7 @@ put_is {v} (gives_way {name = name} {names = names} {x = x} non how) = ap Some (
 pub put_once : {v : Plain} {over : Over} {w x y : Option Plain} {names : List (List ℕ)} → Put v over w names x → Put v over w names y → x ≡ y
 put_once p q = put_is p ∙ sym (put_is q)
 
--- what stood at the names leaves
+-- what was at the names is dropped
 abbrev drop_value : List (List ℕ) → Plain → Plain
 drop_value [] x = x
 drop_value (name ∷ []) (plain.object ms) = plain.object (drop_member name ms)
