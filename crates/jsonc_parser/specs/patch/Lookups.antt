@@ -46,7 +46,7 @@ module _ {A : Type 0} where
   IsOfNode doc node P =
       (d : Document) (tokens : List (List ℕ)) → Shows d (ordered_tree (nodes_of doc) 0) → RefersToNode d (nodes_of doc) tokens (number_of node) → P d tokens
 
-  -- one token further: they refer to nothing with it, whatever comes after it; or to this node
+  -- one token further: they refer to nothing with it, whatever follows it; or to this node
   abbrev pub Steps : CstRootNode A → List ℕ → Option CstNode → Document → List (List ℕ) → Type 0
   Steps doc token None d tokens = (rest : List (List ℕ)) → RefersToNothing d (tokens ++ token ∷ rest)
   Steps doc token (Some inner) d tokens = RefersToNode d (nodes_of doc) (tokens ++ token ∷ []) (number_of inner)

@@ -6,7 +6,7 @@ ghost use Rattle.jsonc_edit.specs.Paths.{IsAt, IsElementOf, IsHeldBy, StepsTo};
 ghost use Rattle.jsonc_cst.specs.Document.{content_of, nodes_of, HasNode};
 ghost use Rattle.jsonc_cst.specs.Nodes.{number_of};
 ghost use Rattle.jsonc_parser.specs.patch.Found.{IsOfShown};
-ghost use Rattle.jsonc_parser.specs.patch.Locations.{IsPointerTo, IsTokenTo, AreTokensTo};
+ghost use Rattle.jsonc_parser.specs.patch.Locations.{AreTokensTo, IsPointerTo, IsTokenTo};
 
 use super::pointer::Pointer;
 use super::reference::{Lookup, look_up, value_under};

@@ -12,7 +12,7 @@ ghost use Rattle.jsonc_cst.specs.Nodes.{number_of};
 ghost use Rattle.jsonc_parser.specs.paths.Found.{names_of};
 ghost use Rattle.jsonc_parser.specs.patch.Applied.{is_one_edit, AddsMember, AppendsTo, FailsBelow, FailsForMemory};
 ghost use Rattle.jsonc_parser.specs.patch.Applied.{FailsWhatShown, IsKept, IsPathless, IsRefusal, IsUnfound};
-ghost use Rattle.jsonc_parser.specs.patch.Applied.{LeadsOn, LeadsOver, MakesWhatShown, PutsAt, Takes, HasCause};
+ghost use Rattle.jsonc_parser.specs.patch.Applied.{HasCause, LeadsOn, LeadsOver, MakesWhatShown, PutsAt, Takes};
 ghost use Rattle.jsonc_parser.specs.patch.Asked.{asked, FitsIn};
 ghost use Rattle.jsonc_parser.specs.patch.FaultMessages.{patch_cause_text};
 ghost use Rattle.jsonc_parser.specs.patch.Found.{IsOfShown, RefersToNode};

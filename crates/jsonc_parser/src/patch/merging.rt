@@ -11,7 +11,7 @@ ghost use Rattle.jsonc_parser.specs.patch.FaultMessages.{merge_fault_text};
 ghost use Rattle.jsonc_parser.specs.patch.Found.{IsOfShown};
 ghost use Rattle.jsonc_parser.specs.patch.Merged.{MergesWhatShown, MergeStopsWhatShown};
 ghost use Rattle.jsonc_parser.specs.patch.MergeSteps.{Drops, FailsToMerge, FailsToMergeAll, FailsToSet, IsTwice, MergesNamed};
-ghost use Rattle.jsonc_parser.specs.patch.MergeSteps.{ReachesWhatShown, RefersToObject, Sets, IsReportedAs};
+ghost use Rattle.jsonc_parser.specs.patch.MergeSteps.{IsReportedAs, ReachesWhatShown, RefersToObject, Sets};
 ghost use Rattle.jsonc_parser.specs.patch.Merging.{made_of, members_made, IsThere, Merges, MembersMerge};
 ghost use Rattle.jsonc_parser.specs.patch.Pointer.{tokens_of};
 ghost use Rattle.jsonc_text.specs.Plain.{member, no_members, object};

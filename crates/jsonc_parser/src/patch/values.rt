@@ -7,7 +7,7 @@ ghost use Rattle.jsonc_ast.specs.Views.{items_located};
 ghost use Rattle.jsonc_layout.specs.input.Views.{items_plain, members_plain, named, plain};
 ghost use Rattle.jsonc_parser.specs.patch.Equality.{HasUniqueNames, ItemsHaveUniqueNames, MembersHaveUniqueNames};
 ghost use Rattle.jsonc_parser.specs.patch.PatchFaults.{IsFaultOfNames, IsFaultOfValue};
-ghost use Rattle.jsonc_parser.specs.patch.PatchReading.{pair_of, said, ReportsRepeated};
+ghost use Rattle.jsonc_parser.specs.patch.PatchReading.{pair_of, ReportsRepeated, said};
 ghost use Rattle.jsonc_parser.specs.patch.PatchTexts.{NamesDiffer};
 ghost use Rattle.jsonc_text.specs.Plain.{array, object, string, Items, Members};
 

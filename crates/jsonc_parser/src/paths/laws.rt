@@ -10,7 +10,7 @@ ghost use Rattle.jsonc_parser.specs.declared.paths.which.Which.TheVariants.{Firs
 ghost use Rattle.jsonc_parser.specs.paths.Operations.{PlainEdit};
 ghost use Rattle.jsonc_parser.specs.paths.Positions.{DropsByIt, IsPutByOne, LeadToWhatIsThere, PutsByIt, Reaches};
 ghost use Rattle.jsonc_parser.specs.paths.Worked.{a, both, one};
-ghost use Rattle.jsonc_parser.specs.paths.AtPaths.{FindsFirst, NodesHaveValues, PropertyHolds, RootHolds, IsAtItsPlace};
+ghost use Rattle.jsonc_parser.specs.paths.AtPaths.{FindsFirst, IsAtItsPlace, NodesHaveValues, PropertyHolds, RootHolds};
 ghost use Rattle.jsonc_parser.specs.paths.Calls.{DropsButForMemory, DropsByOneEdit, PutsUnlessOutOfMemory, PutsByOneEdit};
 ghost use Rattle.jsonc_parser.specs.paths.Settings.{At, Put, Dropped};
 ghost use Rattle.jsonc_parser.specs.paths.NamedNodes.{BeginsThere, CountsItsNumber, LeadsOn, StopsThere};

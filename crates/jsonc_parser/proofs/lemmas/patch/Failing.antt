@@ -30,7 +30,7 @@ use Rattle.jsonc_cst.specs.declared.cst.CstRootNode.{CstRootNode}
 use Rattle.jsonc_cst.specs.declared.cst.node.CstNode.{CstNode}
 use Rattle.jsonc_cst.specs.Document.{nodes_of, tree_of}
 use Rattle.jsonc_cst.specs.Nodes.{number_of}
-use Rattle.jsonc_parser.specs.patch.Applied.{FailsBelow, FailsForMemory, FailsWhatShown, IsCause, IsNoMemory, IsPathless, IsPlaceBy, IsRefusal, IsUnfound, LeadsOn, LeadsOver, MakesWhatShown, Takes, HasCause}
+use Rattle.jsonc_parser.specs.patch.Applied.{FailsBelow, FailsForMemory, FailsWhatShown, HasCause, IsCause, IsNoMemory, IsPathless, IsPlaceBy, IsRefusal, IsUnfound, LeadsOn, LeadsOver, MakesWhatShown, Takes}
 use Rattle.jsonc_parser.specs.patch.Equality.{AreEqual, HasUniqueNames}
 use Rattle.jsonc_parser.specs.patch.Failing.{below_nothing, below_scalar, past_elements, HasNoTarget, MeetsTwice, ReferToNothing}
 use Rattle.jsonc_parser.specs.patch.Found.{FindFails, IsOfShown, ReadFails, RefersToNode, RefersToNothing}

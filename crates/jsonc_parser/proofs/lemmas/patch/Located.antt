@@ -30,7 +30,7 @@ use Rattle.jsonc_cst.specs.Readings.{value_under}
 use Rattle.jsonc_cst.proofs.Family.{number_of-typed}
 use Rattle.jsonc_parser.specs.paths.Found.{names_of}
 use Rattle.jsonc_parser.specs.patch.Found.{IsOfShown, RefersToNode}
-use Rattle.jsonc_parser.specs.patch.Locations.{HasNoToken, LeadsBack, IsPointerTo, IsTokenTo, AreTokensTo}
+use Rattle.jsonc_parser.specs.patch.Locations.{AreTokensTo, HasNoToken, IsPointerTo, IsTokenTo, LeadsBack}
 use Rattle.jsonc_parser.specs.patch.Lookups as lookups
 use Rattle.jsonc_parser.specs.patch.Lookups.{IsLookedUp}
 use Rattle.jsonc_parser.specs.patch.Pointer.{tokens_of}

@@ -27,12 +27,12 @@ use Rattle.jsonc_cst.specs.declared.cst.node.CstObject.{CstObject}
 use Rattle.jsonc_cst.specs.Document.{nodes_of, tree_of, HasNode}
 use Rattle.jsonc_cst.specs.Nodes.{number_of, object_node, IsAs}
 use Rattle.jsonc_parser.specs.paths.Found.{names_of}
-use Rattle.jsonc_parser.specs.patch.Applied.{FailsWhatShown, IsCause, IsMade, MakesWhatShown, HasCause}
+use Rattle.jsonc_parser.specs.patch.Applied.{FailsWhatShown, HasCause, IsCause, IsMade, MakesWhatShown}
 use Rattle.jsonc_parser.specs.patch.Equality.{AreEqual, HasUniqueNames}
 use Rattle.jsonc_parser.specs.patch.Failing.{ReferToNothing}
 use Rattle.jsonc_parser.specs.patch.Found.{FindFails, Finds, IsOfShown, ReadFails, Reads, RefersToNode, RefersToNothing}
 use Rattle.jsonc_parser.specs.patch.Merged.{IsMergeFault, MergesWhatShown, MergeStopsWhatShown}
-use Rattle.jsonc_parser.specs.patch.MergeSteps.{at_root, Drops, FailsToMerge, FailsToMergeAll, FailsToSet, HasNameTwice, IsMergeCause, IsPlace, IsReached, IsStop, IsTwice, MergesNamed, ReachesWhatShown, RefersToObject, Sets, IsReportedAs}
+use Rattle.jsonc_parser.specs.patch.MergeSteps.{at_root, Drops, FailsToMerge, FailsToMergeAll, FailsToSet, HasNameTwice, IsMergeCause, IsPlace, IsReached, IsReportedAs, IsStop, IsTwice, MergesNamed, ReachesWhatShown, RefersToObject, Sets}
 use Rattle.jsonc_parser.specs.patch.Merging.{inside, made_of, members_made, GoesInto, IsThere, Merges, MembersMerge, Stops}
 use Rattle.jsonc_parser.specs.patch.Merging as merging
 use Rattle.jsonc_parser.specs.patch.Operations as value

@@ -14,7 +14,7 @@ use Rattle.jsonc_parser.specs.patch.Equality.{HasUniqueNames, MembersHaveUniqueN
 use Rattle.jsonc_parser.specs.patch.Failing.{ReferToNothing}
 use Rattle.jsonc_parser.specs.patch.MergePatch.{with_member}
 use Rattle.jsonc_parser.specs.patch.Merging.{made_of, members_made}
-use Rattle.jsonc_parser.specs.patch.Operations.{as_member, as_whole, in_member, Adds, Removes, RefersAlong}
+use Rattle.jsonc_parser.specs.patch.Operations.{as_member, as_whole, in_member, Adds, RefersAlong, Removes}
 use Rattle.jsonc_parser.specs.patch.References.{FailsAt, IsOnly, this_only, later_only, MeetsRepeated, Refers, RefersTo, whole}
 use Rattle.jsonc_parser.proofs.lemmas.patch.Evaluation.{fails_behind, object_stops}
 use Rattle.jsonc_parser.proofs.lemmas.paths.Members.{same_or_not}

@@ -8,7 +8,7 @@ use Rattle.jsonc_run.specs.texts.Entries.{of, members}
 use Rattle.jsonc_run.specs.texts.Paths.{an_array, an_object}
 use Rattle.jsonc_parser.specs.patch.Failing.{ReferToNothing}
 use Rattle.jsonc_parser.specs.patch.MergePatch.{with_member}
-use Rattle.jsonc_parser.specs.patch.Operations.{as_element, as_member, as_whole, in_member, Adds, Removes, RefersAlong}
+use Rattle.jsonc_parser.specs.patch.Operations.{as_element, as_member, as_whole, in_member, Adds, RefersAlong, Removes}
 use Rattle.jsonc_parser.specs.patch.References as references
 use Rattle.jsonc_parser.specs.patch.References.{IsOnly, this_only, later_only, IsRepeated, this_again, later_again, RefersTo}
 use Rattle.jsonc_parser.proofs.lemmas.patch.Evaluation.{fails_further, member_further}

@@ -9,7 +9,7 @@ use Rattle.jsonc_run.specs.texts.Paths.{Kind, an_array, an_object}
 use Rattle.jsonc_parser.specs.patch.MergeSteps.{RefersToObject}
 use Rattle.jsonc_parser.specs.patch.Merging.{Merges, MembersMerge}
 use Rattle.jsonc_parser.specs.patch.Merging as merging
-use Rattle.jsonc_parser.specs.patch.Operations.{as_element, as_member, as_whole, in_member, Adds, Removes, RefersAlong}
+use Rattle.jsonc_parser.specs.patch.Operations.{as_element, as_member, as_whole, in_member, Adds, RefersAlong, Removes}
 use Rattle.jsonc_parser.specs.patch.References.{IsIndex, IsItem, this_item, later_item, IsOnly, this_only, later_only, Refers, RefersTo, whole, to_member, to_element}
 use Rattle.jsonc_parser.proofs.lemmas.patch.Evaluation.{index_once, item_once, only_of_more, only_once}
 use Rattle.jsonc_parser.proofs.lemmas.patch.Operating.{first_same, item_value, member_value, rest_same, same_items, same_members}

@@ -16,7 +16,7 @@ use Rattle.jsonc_insert.specs.named.Places.{IsPropertyAt, IsPropertyOf, a_proper
 use Rattle.jsonc_insert.proofs.lemmas.named.PropertyValues.{value_held}
 use Rattle.jsonc_insert.proofs.lemmas.named.Writing.{finds_member}
 use Rattle.jsonc_parser.specs.declared.paths.which.Which.TheVariants.{First}
-use Rattle.jsonc_parser.specs.paths.AtPaths.{FindsFirst, PropertyHolds, RootHolds, IsAtItsPlace}
+use Rattle.jsonc_parser.specs.paths.AtPaths.{FindsFirst, IsAtItsPlace, PropertyHolds, RootHolds}
 use Rattle.jsonc_parser.proofs.lemmas.paths.Chosen.{at_first}
 use Rattle.jsonc_parser.proofs.lemmas.paths.ChosenNodes.{first_named, value_of_first}
 use Rattle.jsonc_parser.proofs.lemmas.paths.Leading.{no_path}

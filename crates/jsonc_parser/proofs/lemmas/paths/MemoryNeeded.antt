@@ -23,7 +23,7 @@ use Rattle.jsonc_parser.specs.paths.Found.{names_of, FindsWhatShown}
 use Rattle.jsonc_parser.specs.paths.Memory.{DecidesInTheWay, DecidesMustStay, WantsForSomething, WantsToLookUp, WantsToPut}
 use Rattle.jsonc_parser.specs.paths.Positions.{appends, Leads}
 use Rattle.jsonc_parser.specs.paths.Reach.{StepsWhatShown}
-use Rattle.jsonc_parser.specs.paths.Settings.{IsNoObject, IsInTheWay}
+use Rattle.jsonc_parser.specs.paths.Settings.{IsInTheWay, IsNoObject}
 use Rattle.jsonc_parser.specs.paths.NamedNodes.{NamesNode}
 use Rattle.jsonc_parser.specs.paths.Which.{seen, seen_if}
 use Rattle.jsonc_parser.specs.declared.paths.which.Which.{Which}
