@@ -114,7 +114,7 @@ module _ (o : Options) where
   document_colons (DocumentShaped.no_value trivia) = (tt, trivia_colons trivia tt, tt)
   document_colons (DocumentShaped.a_value before value after) = (tt, trivia_colons before (value_colon value, value_colons value, trivia_colons after tt), tt)
 
--- the first node of a row, and what is below it
+-- the first node among children, and what is below it
 abbrev first_content : OrderedTree → Content
 first_content none = Content.null
 first_content (more content below after) = content
@@ -123,7 +123,7 @@ abbrev first_below : OrderedTree → OrderedTree
 first_below none = none
 first_below (more content below after) = below
 
--- what is taken of a document of the grammar's shape stands for its value
+-- what is taken of a document of the grammar's shape represents its value
 pub taken_is_the_value : {A : Type 0} (o : Options) (tree : OrderedTree) (found : Option Plain) (taken : Option (CstInputValue A)) → DocumentShaped o tree → DocumentValueOf o tree found → IsTaken tree taken
     → option_map plain taken ≡ option_map collapse found
 taken_is_the_value o tree found taken shaped value is =

@@ -1,4 +1,4 @@
--- The nodes below a node, in the order of the document: those that it stands above.
+-- The nodes below a node, in the order of the document.
 use Rattle.std.proofs.Common.{◌≡◌, ◌∙◌, ap, ℕ, zero, suc, ◌<◌, List, [], ◌∷◌, ◌++◌, length, slice_index, Some}
 use Rattle.std.specs.List.{All, flat_map}
 use Rattle.std.proofs.lemmas.List.{append-nil}
@@ -10,7 +10,7 @@ use Rattle.jsonc_cst.specs.Nodes.{IsNodeOf}
 use Rattle.jsonc_cst.specs.Readings.{typed_all}
 use Rattle.jsonc_cst.proofs.Readings.{typed_all_held}
 
--- the node is there, and the first one is it or stands above it
+-- the node is there, and the first one is it or is above it
 abbrev pub IsUnder : List Node → ℕ → ℕ → Type 0
 IsUnder ns top n = (n < length ns) × IsOver ns top n
 
@@ -30,7 +30,7 @@ module _ (ns : List Node) (tree : IsTree ns) where
       All-from_get_or (λ c. All (IsUnder ns top) (below depth ns c)) (children_at ns n) 0 (λ i l. below_under depth top (slice_index (children_at ns n) i) (tree.in_tree n i l, above (tree.named n i l) h.1)) in
       All-cons (IsUnder ns top) n (flat_map (below depth ns) (children_at ns n)) h (all_flat (IsUnder ns top) (below depth ns) (children_at ns n) children)
 
-  -- what stands in the order of a node is below it, or is it
+  -- what is in the order of a node is below it, or is it
   pub order_under : (n : ℕ) → n < length ns → All (IsUnder ns n) (in_order ns n)
   unfolding in_order
   order_under n h = below_under (length ns) n n (h, itself)

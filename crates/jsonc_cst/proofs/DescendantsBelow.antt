@@ -34,7 +34,7 @@ once_append (x ∷ xs) ys h k apart =
     AllPairs-cons (λ a b. a ≢ b) x (xs ++ ys) (All-append (λ y. x ≢ y) xs ys (once_head x xs h) (All-head (λ a. All (λ y. a ≢ y) ys) x xs apart))
     (once_append xs ys (once_tail x xs h) k (All-tail (λ a. All (λ y. a ≢ y) ys) x xs apart))
 
--- the nodes of numbers that come once
+-- the nodes of numbers that occur once
 pub typed_once : (ns : List Node) (row : List ℕ) → Once row → Once (typed_all ns row)
 typed_once ns row h i j d less within = λ e.
     let last : j < length row = omega (arith, within, length-map row (typed_at ns)) in
@@ -63,7 +63,7 @@ module _ (ns : List Node) (tree : IsTree ns) where
       let first : i < length (children_at ns n) = omega (arith, less, within) in
       omega (arith, less, tree.placed n i first, tree.placed n j within, ap (place_at ns) (get_or_default (children_at ns n) i 0 d first ∙ e ∙ sym (get_or_default (children_at ns n) j 0 d within)))
 
-  -- what stands below one child stands below no sibling of it
+  -- what is below one child is below no sibling of it
   siblings_apart : (n c b x y : ℕ) → IsChild n c → IsChild n b → c ≢ b → IsUnder ns c x → IsUnder ns b y → x ≢ y
   unfolding IsChild
   siblings_apart n c b x y child other ne up on e = elim (over_either ns c b x up.1 (subst (IsOver ns b) (sym e) on.1)) [

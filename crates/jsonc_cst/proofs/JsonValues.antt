@@ -46,7 +46,7 @@ module _ (o : Options) where
     property_numbers : {name : List ℕ} {v : Plain} {t r : List ℕ} → IsProperty o t name v r → IsOfNumbers o v
     property_numbers (grammar.named n g h v) = value_numbers v
 
-  -- so it is where of equal names the last value stands at the first place
+  -- so it is where of equal names the last value is at the first place
   one_of : (b : Bool) (v w : Plain) → IsOfNumbers o v → IsOfNumbers o w → IsOfNumbers o (cond b v w)
   one_of true v w h g = h
   one_of false v w h g = g

@@ -19,7 +19,7 @@ use Rattle.jsonc_edit.proofs.Uniqueness.{element_parent}
 use Rattle.jsonc_edit.proofs.ValuePlaces.{HeldAt, by_root, by_array, by_property, held_at}
 use Rattle.jsonc_cst.specs.Paths.{IsEntryOf}
 
--- a row read backwards has as many that pass a test
+-- a list read backwards has as many that pass a test
 one_more_back : (test : ℕ → Bool) (x : ℕ) (xs : List ℕ) → length (filter test (reverse xs)) ≡ length (filter test xs)
     → length (filter test (reverse xs)) + length (filter test (x ∷ [])) ≡ length (filter test (x ∷ xs))
 one_more_back test x xs rest =

@@ -12,7 +12,7 @@ use Rattle.jsonc_tree.proofs.Order.{following_end, following_is, in_order_is, pa
 use Rattle.jsonc_tree.proofs.OrderedTrees.{printed_at-ordered_tree}
 use Rattle.jsonc_cst.specs.Ranges.{IsBefore, PrintsByte}
 
--- a walk over what is below `end` has come to this node, or is done, and what it has passed prints so many bytes
+-- a walk over what is below `end` is at this node, or is done, and what it has passed prints so many bytes
 pub record HasCounted (ns : List Node) (end count : ℕ) (next : Option ℕ) : Type 0 where
   pub done : List ℕ
   pub split : printed_at ns end ≡ done ++ flat_map (text_at ns) (rest_at ns end next)
@@ -59,7 +59,7 @@ module _ (ns : List Node) (tree : IsTree ns) where
       ap (λ o. flat_map (text_at ns) (rest_at ns end o)) here ∙ ap (λ l. flat_map (text_at ns) (l ++ following ns end n)) (in_order_is ns tree n in_tree) in
       omega (arith, w.size, size, ap (λ (c : Content). length (text_of c)) same, ap length (w.split ∙ ap (λ l. w.done ++ l) rest), length-append w.done (text_at ns n ++ later), length-append (text_at ns n) later)
 
-  -- the walk over the document stands at a node
+  -- the walk over the document is at a node
   pub stands_at : (count n : ℕ) (next : Option ℕ) → HasCounted ns 0 count next → next ≡ Some n → IsOver ns 0 n → IsBefore ns n count
   stands_at count n next w here over = record {
     in_document = over;

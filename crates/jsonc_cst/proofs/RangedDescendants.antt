@@ -48,11 +48,11 @@ module _ (ns : List Node) (tree : IsTree ns) where
   over_root _ itself = itself
   over_root n (above {c = c} said rest) = let wrong : None ≡ Some c = sym tree.root_alone ∙ said in cc
 
-  -- where a node stands in the document, so does each above it
+  -- where a node is in the document, so is each above it
   above_stands : (end n : ℕ) → IsOver ns end n → IsOver ns 0 n → IsOver ns 0 end
   above_stands end n up over = elim (over_either ns 0 end n over up) [ inl it ↦ it | inr root ↦ over_root end root ]
 
-  -- behind a node below `end` comes the next one
+  -- after a node below `end` the next one follows
   climb_by : (end n c : ℕ) (said : parent_at ns n ≡ Some c) (over : IsOver ns end c) → n ≢ end → (place_at ns n + 1 < length (children_at ns c)) ⊎ (length (children_at ns c) ≤ place_at ns n + 1)
       → (o : Option ℕ) × (following ns end c ≡ rest_at ns end o) × IfSome o (IsUnder ns end) → (o : Option ℕ) × (following ns end n ≡ rest_at ns end o) × IfSome o (IsUnder ns end)
   climb_by end n c said over ne (inl more) up =

@@ -22,7 +22,7 @@ typed_all_held ns row there k d h =
     let within : k < length row = omega (arith, h, length-map row (typed_at ns)) in
     subst (IsNodeOf ns) (sym (get_or-map (typed_at ns) row k 0 d within)) (typed_held ns (get_or row k 0) (there k 0 within))
 
--- what is left of a row
+-- what is left of children
 pub rest_there : (ns : List Node) (row rest : List ℕ) (n : ℕ) → row ≡ n ∷ rest → AreThere ns row → AreThere ns rest
 rest_there ns row rest n e there k d h = subst (AreThere ns) e there (suc k) d (omega (arith, h))
 
@@ -113,14 +113,14 @@ module _ (ns : List Node) where
   named_held v _ _ (here {n = n} named) = property_held n (ap is_property named.0)
   named_held v _ found (later other rest) = named_held v _ found rest
 
-  -- a root that stands above a node
+  -- a root that is above a node
   pub root_held : IsTree ns → (xs : List ℕ) (n : ℕ) → Some n ≡ find (λ m. m == 0) xs → IsNodeOf ns (root_node (root_under n))
   root_held tree xs n found =
       let passes : (n == 0) ≡ true = subst (λ o. IfSome o (λ m. (m == 0) ≡ true)) (sym found) (find_passes (λ m. m == 0) xs) in
       let first : n ≡ 0 = search (passes, tests) in
       subst (λ m. IsNodeOf ns (root_node (root_under m))) (sym first) (tree.first, ap (λ what. typed what 0) tree.root_first)
 
-  -- the first property of a row
+  -- the first property among children
   pub first_property_held : (xs : List ℕ) (n : ℕ) → Some n ≡ find (is_property_at ns) xs → IsNodeOf ns (object_prop_node (property_under n))
   first_property_held xs n found = property_held n (subst (λ o. IfSome o (λ m. is_property_at ns m ≡ true)) (sym found) (find_passes (is_property_at ns) xs))
 

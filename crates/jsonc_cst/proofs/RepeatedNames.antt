@@ -103,7 +103,7 @@ module _ {A : Type 0} where
           back (inl k) = k
           back (inr k) = absurd (nobody v k)
 
-  -- the texts are the names in the row
+  -- the texts are the names of the children
   abbrev pub AreNames : List Node → List ℕ → List (String A) → Type 0
   AreNames ns row texts = (v : List ℕ) → HasText texts v ↔ HasNamed ns row v
 
@@ -129,7 +129,7 @@ module _ {A : Type 0} where
     pub repeats_earlier : (b : Bool) → Decides b (RepeatsOneOf ns old n) → Decides b (RepeatsName ns row n)
     repeats_earlier b d = (λ e. let r = d.0 e in (r.0, (names r.0).0 r.1, r.2), λ r. d.1 (r.0, (names r.0).1 r.1, r.2))
 
-  -- the same after one more of a row
+  -- the same after one more child
   pub next_names : (ns : List Node) (row : List ℕ) (k n : ℕ) (old new : List (String A)) → k < length row → n ≡ get_or row k 0 → AreNames ns (take k row) old → IsNameJoined ns old n new → AreNames ns (take (k + 1) row) new
   next_names ns row k n old new h e names joined =
       subst (λ l. AreNames ns l new) (sym (take_more row k 0 h)) (one_more_name ns (take k row) (get_or row k 0) old names new (subst (λ m. IsNameJoined ns old m new) e joined))
@@ -139,7 +139,7 @@ pub none_repeated : (ns : List Node) (found : List ℕ) → found ≡ [] → Are
 none_repeated ns found e = subst (AreRepeated ns []) (sym e) none
 
 module _ (ns : List Node) (row : List ℕ) (k n : ℕ) (found : List ℕ) (h : k < length row) (e : n ≡ get_or row k 0) (so_far : AreRepeated ns (take k row) found) where
-  -- one more of a row, with a name of its own or with one that stood before
+  -- one more child, with a name of its own or with one that occurred before
   pub next_fresh : (RepeatsName ns (take k row) n → ⊥) → AreRepeated ns (take (k + 1) row) found
   next_fresh other = subst (λ l. AreRepeated ns l found) (sym (take_more row k 0 h ∙ ap (λ m. take k row ++ m ∷ []) (sym e))) (fresh (take k row) found n so_far other)
 

@@ -1,4 +1,4 @@
--- The comments that belong to an entry, an element of an array or a property of an object. What stands before it, its lead, and what belongs to it behind it
+-- The comments that belong to an entry, an element of an array or a property of an object. What is before it, its lead, and what belongs to it after it
 -- are read as a sort reads them (`Rattle.jsonc_sort.specs.Parts`).
 use Rattle.std.specs.Prelude.{◌≡◌, ℕ, Bool, false, ◌&&◌, ◌==◌, List, [], ◌∷◌, ◌++◌, filter, map, take, IsTrue, Option, Some, None, if◌then◌else◌}
 use Rattle.std.specs.List.{All}
@@ -20,14 +20,14 @@ use Rattle.jsonc_cst.specs.Readings.{comment_under}
 use Rattle.jsonc_cst.specs.sorting.Pins.{kept_headers}
 
 module _ (at : ℕ → Content) where
-  -- what belongs to an entry, the last or not, of what stands between it and the next one or the last bracket
+  -- what belongs to an entry, the last or not, of what is between it and the next one or the last bracket
   abbrev pub tail_of : Bool → List ℕ → List ℕ
   tail_of last gap = take (tail_length at last gap) gap
 
   abbrev pub comments_around : List ℕ → List ℕ → List ℕ
   comments_around lead tail = filter (is_comment_at at) (own_lead at lead ++ tail)
 
-  -- the comments of the part whose element this is, and of no other; the lead stands before the first part
+  -- the comments of the part whose element this is, and of no other; the lead is before the first part
   abbrev pub comments_of_part : ℕ → List ℕ → List Part → List ℕ
   comments_of_part n lead [] = []
   comments_of_part n lead (part ∷ rest) = if part.element == n then comments_around lead part.tail else comments_of_part n part.behind rest
@@ -47,7 +47,7 @@ is_entry_in ns n (Some c) = is_element_at ns n && (is_array_or_object (content_a
 abbrev pub is_entry_at : List Node → ℕ → Bool
 is_entry_at ns n = is_entry_in ns n (parent_at ns n)
 
--- what stands between the brackets
+-- what is between the brackets
 abbrev pub row_at : List Node → Option ℕ → List ℕ
 row_at ns None = []
 row_at ns (Some c) = between (children_at ns c)

@@ -29,7 +29,7 @@ module _ {A : Type 0} where
   abbrev pub IsDocumentTaken : CstRootNode A → Option (CstInputValue A) → Type 0
   IsDocumentTaken d taken = IsTaken (tree_of d) taken
 
--- where a document has the shape of the grammar, and a value or none, what is taken of it stands for that, of equal names the last at the first place
+-- where a document has the shape of the grammar, and a value or none, what is taken of it represents that, of equal names the last at the first place
 abbrev pub GivesTheValue : Type 0 → Options → OrderedTree → Type 0
 GivesTheValue A o tree =
     (found : Option Plain) (taken : Option (CstInputValue A)) → DocumentShaped o tree → DocumentValueOf o tree found → IsTaken tree taken

@@ -125,7 +125,7 @@ impl<A: Allocator + Copy> CstRootNode<A> {
 impl<A: Allocator> CstRootNode<A> {
     /// An iterator over the bytes that each leaf prints, in order.
     ///
-    /// A leaf that prints nothing has an empty piece. The bytes are lent, and nothing is allocated.
+    /// A leaf that prints nothing has an empty piece. The bytes are borrowed, and nothing is allocated.
     pub fn pieces(&self) -> Pieces<'_, A>
         ensures pieces { result ≡ pieces (tree_of self.now) }
         ensures joined { concat result ≡ printed_of self.now }

@@ -14,7 +14,7 @@
 //! The edits are methods of the document and of its typed nodes, which take the document first. `set_raw_value`
 //! of strings, numbers, words and comments, `set_value` of tokens and whitespace, and `set_kind` of ends of lines
 //! write one leaf anew, without memory, whatever the document makes of that
-//! (`specs/typed/Raw.antt`). A closure that reads the document is lent one by [`DocumentArg`].
+//! (`specs/typed/Raw.antt`). A closure that reads the document borrows it as a [`DocumentArg`].
 
 mod commas;
 mod commenting;

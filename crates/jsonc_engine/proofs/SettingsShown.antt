@@ -91,4 +91,4 @@ module _ {A : Type 0} (o : Options) (doc : CstRootNode A) (sound : SoundTree o (
   memory_showing node finds =
       let t = text o (nodes_of doc) sound in
       let w = finds (d o (nodes_of doc) sound) (shown o (nodes_of doc) sound) in
-      inr (t.0, t.1, (w.v, w.stands))
+      inr (t.0, t.1, (w.v, w.there))

@@ -175,7 +175,7 @@ module _ {A F : Type 0} (g : Shared F (Bor (CstRootNode A) × (CstObjectProp × 
       let at : IsAt ns [] x.number = value_stands ns tree x.number is.0 in
       let row : List ℕ = elements_at ns x.number in
       let ordered : IsOrderedBy (before ns x.number) (length (named ns row)) sorted.order =
-      subst (λ (l : List (Option CstObjectProp)). IsOrderedBy (comes_before (less ns) l []) (length l) sorted.order) (object_asked o ns tree sound x.number at is.1) (sorted.wanted (less ns) (compares told)) in
+      subst (λ (l : List (Option CstObjectProp)). IsOrderedBy (comes_before (less ns) l []) (length l) sorted.order) (object_asked o ns tree sound x.number at is.1) (sorted.required (less ns) (compares told)) in
       record {
         c = x.number;
         value = is.0;

@@ -12,8 +12,8 @@ use Rattle.jsonc_text.specs.declared.edit.Over.TheVariants.{Keep}
 use Rattle.jsonc_parser.specs.declared.paths.which.Which.TheVariants.{First}
 use Rattle.jsonc_parser.specs.paths.Calls.{DropsAt, PutsAt}
 use Rattle.jsonc_parser.specs.paths.Memory.{PassesEscaped, SomethingAt}
-use Rattle.jsonc_parser.specs.paths.Settings.{At, StandsInTheWay}
-use Rattle.jsonc_parser.specs.paths.Standing.{NamesNode}
+use Rattle.jsonc_parser.specs.paths.Settings.{At, IsInTheWay}
+use Rattle.jsonc_parser.specs.paths.NamedNodes.{NamesNode}
 
 -- the nodes show a document under these options
 pub record ShowsOne (o : Options) (ns : List Node) : Type 0 where
@@ -45,7 +45,7 @@ HasNothingAt o bytes names = (w : Option Plain) × IsDocument o (chars bytes) w 
 
 -- it is one, and a value of another kind than an object stands in the way
 abbrev pub HasInTheWay : Options → List ℕ → List (List ℕ) → Type 0
-HasInTheWay o bytes names = (w : Option Plain) × IsDocument o (chars bytes) w × StandsInTheWay w names
+HasInTheWay o bytes names = (w : Option Plain) × IsDocument o (chars bytes) w × IsInTheWay w names
 
 -- it is one, and something stands at the names
 abbrev pub HasSomethingAt : Options → List ℕ → List (List ℕ) → Type 0
@@ -53,7 +53,7 @@ HasSomethingAt o bytes names = (w : Option Plain) × IsDocument o (chars bytes) 
 
 -- it is one, and nothing stands in their way
 abbrev pub HasFreeWay : Options → List ℕ → List (List ℕ) → Type 0
-HasFreeWay o bytes names = (w : Option Plain) × IsDocument o (chars bytes) w × ¬ (StandsInTheWay w names)
+HasFreeWay o bytes names = (w : Option Plain) × IsDocument o (chars bytes) w × ¬ (IsInTheWay w names)
 
 -- The bytes are what the nodes of a document print, where the names before one of these lead to an object that has a name with a backslash.
 pub record LooksUpEscaped (o : Options) (bytes : List ℕ) (names : List (List ℕ)) : Type 0 where

@@ -86,7 +86,7 @@ in_front (d ∷ front) xs ys (c ∷ f) p q e h apart =
     let inner = in_front front xs ys f p q (cc) (cc) apart in
     (inner.0, cc)
 
--- What was replaced is no longer than w, where the one list ends with h behind w, and the other with h behind n.
+-- What was replaced is no longer than w, where the one list ends with h after w, and the other with h after n.
 no_later : (g was now w n h : List ℕ) → g ++ was ≡ w ++ h → g ++ now ≡ n ++ h → HaveNoLast was now → Back was → Back now → Back h → byte_length was ≤ byte_length w
 no_later g was now w n h e f apart (Back.empty z) o k = rw (z) omega (arith)
 no_later g was now w n h e f apart x (Back.empty z) k =
@@ -101,7 +101,7 @@ no_later g was now w n h e f apart (Back.ends a c p) (Back.ends b d q) (Back.end
     let right = same_from_push (g ++ b) (n ++ k) d l (append_assoc g b (d ∷ []) ∙ ap (λ t. g ++ t) (sym q) ∙ f ∙ ap (λ t. n ++ t) r ∙ sym (append_assoc n k (l ∷ []))) in
     absurd (apart l a b (p ∙ ap (λ t. a ++ t ∷ []) left.1) (q ∙ ap (λ t. b ++ t ∷ []) right.1))
 
--- the same of any change behind g
+-- the same of any change after g
 pub no_longer : (g was now back w n b : List ℕ) → g ++ (was ++ back) ≡ w ++ b → g ++ (now ++ back) ≡ n ++ b → HaveNoLast was now
     → Later (g ++ was) back w b → byte_length was ≤ byte_length w
 no_longer g was now back w n b e f apart (Later.second_later h p q) =
@@ -115,7 +115,7 @@ no_longer g was now back w n b e f apart (Later.first_later h p q) =
 pub size_of : (bs : List ℕ) → IsUtf8 bs → byte_length (chars bs) ≡ length bs
 size_of bs u = ap length (encodes-chars bs u)
 
--- behind a beginning stands no more than in all
+-- after a beginning there is no more than in all
 pub no_more : (old xs : List ℕ) (new ys : List ℕ) → IsUtf8 old → IsUtf8 xs → BeginsApart (chars old) new (chars xs) ys → length xs ≤ length old
 no_more old xs new ys u v begins =
     let sizes : byte_length (chars old) ≡ byte_length begins.0 + byte_length (chars xs) = ap byte_length begins.1 ∙ byte_length-append begins.0 (chars xs) in
@@ -149,7 +149,7 @@ module _ (old new xs ys was now : List ℕ) (begins : BeginsApart old new xs ys)
   pub least_change : (end : ℕ) → end ≡ start + byte_length was → IsLeastChange old new start end now
   least_change end to = subst (λ k. IsLeastChange old new start k now) (sym to) (record { change = (begins.0, was, ends.0, replaces, starts, stops); least = least })
 
--- the place behind some characters at the front of a text is on a boundary
+-- the place after some characters at the front of a text is on a boundary
 pub boundary_behind : (bytes front r : List ℕ) → IsUtf8 bytes → chars bytes ≡ front ++ r → IsCharBoundary bytes (byte_length front)
 boundary_behind bytes front r u e = let zero : 0 + byte_length front ≡ byte_length front = omega (arith) in subst (IsCharBoundary bytes) zero (rest_past bytes front r 0 u (IsCharBoundary-start bytes u) e).1
 

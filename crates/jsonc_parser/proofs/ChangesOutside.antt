@@ -39,7 +39,7 @@ byte_length-pushed xs c low = byte_length-append xs (c ∷ []) ∙ ap (λ n. byt
 encodes-ascii : (c : ℕ) (r : List ℕ) → c < 128 → encode_utf8_all (c ∷ r) ≡ c ∷ encode_utf8_all r
 encodes-ascii c r low = ap (λ t. t ++ encode_utf8_all r) (encode_ascii c low)
 
--- where a change may begin: behind the one beginning of both texts, and as late as any
+-- where a change may begin: after the one beginning of both texts, and as late as any
 pub record Begun (old new : List ℕ) (start : ℕ) : Type 0 where
   pub front : List ℕ
   pub xs : List ℕ
@@ -51,7 +51,7 @@ pub record Begun (old new : List ℕ) (start : ℕ) : Type 0 where
   pub latest : (s e : ℕ) (n : List ℕ) → IsChangeOutside old new s e n → s ≤ start
 
 module _ (old new xs ys : List ℕ) (begins : BeginsApart old new xs ys) (place : ℕ) (at : place ≡ byte_length begins.0) where
-  -- no change begins behind what both begin with
+  -- no change begins after what both begin with
   no_later_start : (s e : ℕ) (n : List ℕ) → IsChange old new s e n → s ≤ place
   no_later_start s e n (f, w, b, r, from, to) =
       let inner = in_front begins.0 xs ys f (w ++ b) (n ++ b) (sym begins.1 ∙ r.before) (sym begins.2 ∙ r.after) begins.3 in
@@ -104,7 +104,7 @@ module _ (old new : List ℕ) (start : ℕ) (b : Begun old new start) (was now :
       let longer = no_longer [] was now ends.0 w n r left right ends.3 (later was ends.0 w r left) in
       omega (arith, at, to, same, from, longer, byte_length-append f w)
 
-  -- what is new, and what both texts end with behind it
+  -- what is new, and what both texts end with after it
   pub record Ended (end : ℕ) : Type 0 where
     pub mid : List ℕ
     pub back : List ℕ
@@ -180,7 +180,7 @@ module _ (bytes front back : List ℕ) (place : ℕ) (whole : bytes ≡ front ++
         sym (encodes-chars back v) ∙ ap encode_utf8_all cut.1 ∙ encodes-ascii 0x0A i.after (omega arith),
       )
 
-  -- behind an LF that a place is before stands the rest
+  -- after an LF that a place is before is the rest
   lf_there : (t : List ℕ) → get_or t 0 0 ≡ 0x0A → (r : List ℕ) × (t ≡ 0x0A ∷ r)
   lf_there [] e = absurd (omega (arith, e))
   lf_there (b ∷ r) e = (r, ap (λ k. k ∷ r) e)
@@ -245,7 +245,7 @@ pub begun_boundary : (bytes xs : List ℕ) (new ys : List ℕ) (place : ℕ) →
 begun_boundary bytes xs new ys place u v begins e =
     subst (IsCharBoundary bytes) (sym (begun_place bytes xs new ys place u v begins e)) (boundary_behind bytes begins.0 (chars xs) u begins.1)
 
--- what stands behind the place where both texts have the same characters before it
+-- what is after the place where both texts have the same characters before it
 pub behind_front : (bytes tail front xs : List ℕ) (start : ℕ) → IsUtf8 bytes → chars bytes ≡ front ++ xs → start ≡ byte_length front → tail ≡ drop start bytes → chars tail ≡ xs
 behind_front bytes tail front xs start u e at from =
     let zero : 0 + byte_length front ≡ start = omega (arith, at) in
@@ -254,7 +254,7 @@ behind_front bytes tail front xs start u e at from =
 pub front_boundary : (bytes front xs : List ℕ) (start : ℕ) → IsUtf8 bytes → chars bytes ≡ front ++ xs → start ≡ byte_length front → IsCharBoundary bytes start
 front_boundary bytes front xs start u e at = subst (IsCharBoundary bytes) (sym at) (boundary_behind bytes front xs u e)
 
--- the whole of it, by the bytes: o and n are the texts, s and t what stands in them behind the start, and was and now what is left of these before the common end
+-- the whole of it, by the bytes: o and n are the texts, s and t what is in them after the start, and was and now what is left of these before the common end
 module _ (o n s t was now : List ℕ) (start : ℕ) (uo : IsUtf8 o) (un : IsUtf8 n) (uw : IsUtf8 was) (b : Begun (chars o) (chars n) start) (from : s ≡ drop start o) (to : t ≡ drop start n)
     (ends : EndsApart (chars s) (chars t) (chars was) (chars now)) where
   apart : EndsApart b.xs b.ys (chars was) (chars now)

@@ -11,7 +11,7 @@ pub value_within : {I : Type 0} (makes : I → Located → Type 0) (whole : Bool
 value_within makes whole o bytes None h = (None, located_document o bytes None h, tt)
 value_within makes whole o bytes (Some i) (x, document, small, made) = (Some (value_at x), located_document o bytes (Some x) document, small)
 
--- neither condition holds, and a failure without a value has not come
+-- neither condition holds, and there has been no failure without a value
 pub neither : (b d : Bool) → b ≡ false → d ≡ false → IsTrue (b || d) ⊎ Infallible → ⊥
 neither true d e f asks = let apart : true ≡ false = e in cc
 neither false true e f asks = let apart : true ≡ false = f in cc

@@ -47,7 +47,7 @@ no_later w t passed rest n p line column s e x h f g =
     ap (λ u. walked_by w (1, 1) u rest) f ∙ walked_append w (1, 1) x.before h rest ∙ ap (λ u. walked_by w (walked_by w (1, 1) x.before u) h rest) (sym g) in
     omega (arith, e, ap (λ q. q.0) whole, ap (λ q. q.0) x.position, lines_rise w (walked_by w (1, 1) x.before x.after) h rest)
 
--- behind a character that ends a line begins the next one
+-- after a character that ends a line the next one begins
 begins_line : (w : ℕ → ℕ) (t passed : List ℕ) (c : ℕ) (r : List ℕ) (n : ℕ) → t ≡ passed ++ c ∷ r → (walked_by w (1, 1) passed (c ∷ r)).0 ≡ n → ends_line c r ≡ true → IsFirst w t (byte_length (passed ++ c ∷ [])) (n + 1)
 begins_line w t passed c r n s e ends = record {
   at = record {

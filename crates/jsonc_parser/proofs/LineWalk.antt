@@ -75,7 +75,7 @@ none_in_characters t line column (Some p) h = h
 pub text_start : (w : ℕ → ℕ) (t : List ℕ) → LineColumnBy w t 0 1 1
 text_start w t = record { before = []; after = t; split = refl; at = refl; position = refl }
 
--- a walk over a text has passed these characters, and come to this line and column
+-- a walk over a text has passed these characters, and is at this line and column
 pub record Walked (w : ℕ → ℕ) (text rest : List ℕ) (line column : ℕ) : Type 0 where
   pub passed : List ℕ
   pub split : text ≡ passed ++ rest
@@ -94,7 +94,7 @@ few_by w n p (c ∷ s) r least few =
     let more = few_by w (n + len_utf8 c) (past w p c (s ++ r)) s r least (few_past (ends_line c (s ++ r)) (w c) (len_utf8 c) n p.0 p.1 (least c) (len_utf8_bounds c).0 few) in
     (omega (arith, size, more.0), omega (arith, size, more.1))
 
--- what stands behind a place whose line and column are known
+-- what is after a place whose line and column are known
 pub behind_place : (w : ℕ → ℕ) (text : List ℕ) (p line column : ℕ) → IsUtf8 text → (x : LineColumnBy w (chars text) p line column) → rest text p ≡ x.after
 behind_place w text p line column u x =
     let zero : 0 + byte_length x.before ≡ p = omega (arith, x.at) in
@@ -138,7 +138,7 @@ walked_fits w text rest h k u v walk =
     let size = passed_size text rest walk.passed u v walk.split in
     (omega (arith, size, walk.few.0), omega (arith, size, walk.few.1))
 
--- the place that the walk has come to
+-- the place that the walk is at
 pub walked_place : (w : ℕ → ℕ) (text rest : List ℕ) (place h k : ℕ) → IsUtf8 text → IsUtf8 rest → place ≡ length text - length rest → Walked w (chars text) (chars rest) h k → LineColumnBy w (chars text) place h k
 walked_place w text rest place h k u v e walk =
     record { before = walk.passed; after = chars rest; split = walk.split; at = omega (arith, e, passed_size text rest walk.passed u v walk.split); position = walk.position }
@@ -152,7 +152,7 @@ walked_boundary w text rest h k u v walk =
 abbrev pub NotYet : (ℕ → ℕ) → List ℕ → List ℕ → ℕ → ℕ → Type 0
 NotYet w passed r line column = (b : List ℕ) (x : ℕ) (m : List ℕ) → passed ≡ b ++ x ∷ m → (line, column) ≡ walked_by w (1, 1) b (x ∷ (m ++ r)) → ⊥
 
--- a walk that has not met the one line and column, and has come to the other
+-- a walk that has not met the one line and column, and is at the other
 pub record HasWalked (w : ℕ → ℕ) (text rest : List ℕ) (line column here_line here_column : ℕ) : Type 0 where
   pub walk : Walked w text rest here_line here_column
   pub not_yet : NotYet w walk.passed rest line column
@@ -180,7 +180,7 @@ not_yet_after w passed c r line column before here b x m (Back.ends n d z) e p =
     let same = same_from_push passed (b ++ x ∷ n) c d (e ∙ ap (λ t. b ++ x ∷ t) z ∙ sym (append_assoc b (x ∷ n) (d ∷ []))) in
     before b x n same.0 (p ∙ ap (λ t. walked_by w (1, 1) b (x ∷ (t ++ r))) z ∙ ap (λ t. walked_by w (1, 1) b (x ∷ t)) (append_assoc n (d ∷ []) r) ∙ ap (λ k. walked_by w (1, 1) b (x ∷ (n ++ k ∷ r))) (sym same.1))
 
--- the walk has come to another line and column
+-- the walk is at another line and column
 abbrev pub IsElsewhere : ℕ → ℕ → ℕ → ℕ → Type 0
 IsElsewhere line column h k = (line ≡ h) × (column ≡ k) → ⊥
 
@@ -204,7 +204,7 @@ walk_ends w text rest line column h k x e other p at = by at.before at.after (sy
     by b [] g q = not_here w text rest line column h k x.walk other (q ∙ ap (λ t. walked_by w (1, 1) t []) (sym (append-nil b) ∙ g) ∙ ap (λ t. walked_by w (1, 1) x.walk.passed t) (sym e))
     by b (y ∷ m) g q = x.not_yet b y m (sym g) (q ∙ ap (λ t. walked_by w (1, 1) b (y ∷ t)) (sym (append-nil m) ∙ ap (λ t. m ++ t) (sym e)))
 
--- a walk that has come to a line and column, and has these characters ahead before the last ones
+-- a walk that is at a line and column, and has these characters ahead before the last ones
 pub record WalksTo (w : ℕ → ℕ) (text rest last : List ℕ) (line column : ℕ) : Type 0 where
   pub walk : Walked w text rest line column
   pub ahead : List ℕ

@@ -34,7 +34,7 @@ no_sort e other = refl
 
 -- what is said of an edit that is no sort, however sorts are done
 pub told_alike : {T A : Type 0} (ns : List Node) (s : Sorting) (e : Edit A) (r : Result T EditError) → is_sort e ≡ false → IfErr r (FailsWith ns (operation_of unsorted e)) → IfErr r (FailsWith ns (operation_of s e))
-told_alike ns s e r plain told = subst (λ (op : PlainEdit). IfErr r (FailsWith ns op)) (asks_alike s e plain) told
+told_alike ns s e r plain reported = subst (λ (op : PlainEdit). IfErr r (FailsWith ns op)) (asks_alike s e plain) reported
 
 pub left_alike : {T E A : Type 0} (old new : List Node) (s : Sorting) (e : Edit A) (r : Result T E) → is_sort e ≡ false → OnErr r (IsLeft old (operation_of unsorted e) new) → OnErr r (IsLeft old (operation_of s e) new)
 left_alike old new s e r plain left = subst (λ (op : PlainEdit). OnErr r (IsLeft old op new)) (asks_alike s e plain) left
@@ -45,7 +45,7 @@ module _ {A : Type 0} (e : Edit A) (path : Vec ℕ A) (pin groups : Bool) (is : 
   sort_asks s = ap (λ p. rearrange p s.headers s.order) same_path ∙ sym (ap (operation_of s) is)
 
   pub sort_told : {T : Type 0} (ns : List Node) (s : Sorting) (r : Result T EditError) → IfErr r (FailsWith ns (rearrange seen s.headers s.order)) → IfErr r (FailsWith ns (operation_of s e))
-  sort_told ns s r told = subst (λ (op : PlainEdit). IfErr r (FailsWith ns op)) (sort_asks s) told
+  sort_told ns s r reported = subst (λ (op : PlainEdit). IfErr r (FailsWith ns op)) (sort_asks s) reported
 
   pub sort_left : {T E : Type 0} (old new : List Node) (s : Sorting) (r : Result T E) → OnErr r (IsLeft old (rearrange seen s.headers s.order) new) → OnErr r (IsLeft old (operation_of s e) new)
   sort_left old new s r left = subst (λ (op : PlainEdit). OnErr r (IsLeft old op new)) (sort_asks s) left
@@ -137,15 +137,15 @@ module _ {C D A : Type 0} (call : Shared C (Bor D × (CstNode × (CstNode × Uni
   -- the first of them, and why the next was not
   pub have_stopped : (old now new : CstRootNode A) (es : List (Edit A)) (k : ℕ) (ops : List PlainEdit) (next : Edit A) (why : EditError) → IsTree (nodes_of old) → IsTree (nodes_of new) → RunSteps call compare same old (take k es) ops now → slice_get es k ≡ Some next
       → ((s : Sorting) → FailsWith (nodes_of now) (operation_of s next) why) → ((s : Sorting) → IsLeft (nodes_of now) (operation_of s next) (nodes_of new)) → RunErr call compare same old es k why new
-  have_stopped old now new es k ops next why tree after made is_next told left = record {
+  have_stopped old now new es k ops next why tree after made is_next reported left = record {
     operations = ops;
     now = now;
     made = made;
     next = next;
     is_next = is_next;
-    error = told;
+    error = reported;
     left = left;
-    edited = stops_so (nodes_of old) (nodes_of now) (nodes_of new) es k ops next why tree after (as_nodes made) (are_characters made) (λ o fit. numbers_fit o made fit) (asked_for made) is_next (told unsorted) (left unsorted);
+    edited = stops_so (nodes_of old) (nodes_of now) (nodes_of new) es k ops next why tree after (as_nodes made) (are_characters made) (λ o fit. numbers_fit o made fit) (asked_for made) is_next (reported unsorted) (left unsorted);
   }
 
   -- without the comparison, they are what the edits ask for

@@ -165,7 +165,7 @@ sign_back Sign.none = (false, grammar.Sign.none)
 sign_back Sign.plus = (true, grammar.Sign.plus refl)
 sign_back Sign.minus = (true, grammar.Sign.minus)
 
--- what stands behind a run of digits begins with none of these
+-- what is after a run of digits begins with none of these
 record Ends (t : List ℕ) : Type 0 where
   no_digit : IsTrue (no is_digit (next t))
   no_x : IsTrue (no is_x (next t))
@@ -279,7 +279,7 @@ number_first (Unsigned.decimal (Decimal.decimal {w = w} {x = x} h fraction expon
     go (c ∷ w) p f h fraction some = let r = digit_from_value c h.digits.0 in omega (arith, r.1)
 number_first (Unsigned.hexadecimal (Hexadecimal.hexadecimal is n)) = omega arith
 
--- the float of a text behind its sign
+-- the float of a text after its sign
 data FloatOf (u : List ℕ) (b : Bool) : Float → Type 0 where
   number : {m d : ℕ} → Unsigned u m d → FloatOf u b (round binary64 b m d)
   infinity : u ≡ codes "Infinity" → FloatOf u b (inf b)

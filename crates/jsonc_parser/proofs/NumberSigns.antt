@@ -45,7 +45,7 @@ pub unsigned_first : {u : List ℕ} {m d : ℕ} → Unsigned u m d → IsTrue (n
 unsigned_first (Unsigned.decimal (Decimal.decimal {w = w} {p = p} {f = f} {x = x} h fraction exponent some)) = decimal_first w p f x h fraction some
 unsigned_first (Unsigned.hexadecimal (Hexadecimal.hexadecimal is n)) = refl
 
--- the sign of an integer, and the whole number behind it
+-- the sign of an integer, and the whole number after it
 pub record HasInteger (s : List ℕ) (z : ℤ) : Type 0 where
   pub negative : Bool
   pub u : List ℕ
@@ -175,7 +175,7 @@ integer_behind s t b only utf8 z h =
     let o = only p.negative p.u p.sign p.first in
     record { k = p.k; whole = subst (λ u. WritesWhole u p.k) (sym o.1) p.whole; is = p.is ∙ ap (λ n. with_sign n p.k) (sym o.0) }
 
--- t, behind the sign, is a number, or one of two words
+-- t, after the sign, is a number, or one of two words
 pub data FloatText (t : List ℕ) : Type 0 where
   number : (m d : ℕ) → Unsigned t m d → FloatText t
   infinity : t ≡ codes "Infinity" → FloatText t
@@ -198,7 +198,7 @@ infinity_text s t b x sign e v = float_to_chars s x (subst (WritesFloat s) (sym 
 pub nan_text : (s t : List ℕ) (b : Bool) (x : Float) → Sign s b t → t ≡ codes "NaN" → x ≡ not_a_number → WritesFloat (chars s) x
 nan_text s t b x sign e v = float_to_chars s x (subst (WritesFloat s) (sym v) (WritesFloat.nan (subst (Sign s b) e sign)))
 
--- what is found of the number t behind the sign
+-- what is found of the number t after the sign
 abbrev IsNearest : List ℕ → Bool → Float → Type 0
 IsNearest t b x = (m d : ℕ) × Unsigned t m d × (x ≡ round binary64 b m d)
 

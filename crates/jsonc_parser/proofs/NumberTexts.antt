@@ -10,7 +10,7 @@ use Rattle.jsonc_parser.specs.Numbers.{Whole, Fraction, Exponent, Decimal, Hexad
 use Rattle.jsonc_parser.proofs.NumberScan.{scanned, parsed}
 use Rattle.jsonc_parser.proofs.NumberValues.{AllDigits-append, whole_value, value_whole}
 
--- a zero stands first only alone
+-- a zero is first only alone
 abbrev pub HasLoneZero : List ℕ → Type 0
 HasLoneZero w = get_or w 0 0 ≡ 0x30 → length w ≡ 1
 
@@ -96,7 +96,7 @@ pub decimal_no_hex : {u : List ℕ} {m d : ℕ} (ds : List ℕ) → Decimal u m 
 decimal_no_hex ds (Decimal.decimal {w = w} {p = p} {f = f} {x = x} {up = up} {down = down} h fraction exponent more) hex =
     no_hex w p f x up down hex.0 ds h fraction exponent more hex.1 hex.2
 
--- a hexadecimal number has the value of the digits behind its prefix
+-- a hexadecimal number has the value of the digits after its prefix
 pub record IsHexValue (ds : List ℕ) (m d : ℕ) : Type 0 where
   pub numeral : IsNumeral 16 ds
   pub digits : m ≡ digits_value 16 ds

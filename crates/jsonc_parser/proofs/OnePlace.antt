@@ -48,7 +48,7 @@ module _ (u : ColumnUnit) where
   not_further p q e (inl a) = omega (arith, a, ap (λ x. x.0) e)
   not_further p q e (inr a) = omega (arith, a.1, ap (λ x. x.1) e)
 
-  -- where one place is behind another
+  -- where one place is after another
   no_further : (t : List ℕ) (p q line column : ℕ) (x : LineColumnBy w t p line column) (y : LineColumnBy w t q line column) (h : List ℕ) → y.before ≡ x.before ++ h → x.after ≡ h ++ y.after → p ≡ q
   no_further t p q line column x y [] e f = sym x.at ∙ ap byte_length (sym (e ∙ append-nil x.before)) ∙ y.at
   no_further t p q line column x y (c ∷ s) e f =

@@ -44,7 +44,7 @@ module _ {A : Type 0} (old : CstRootNode A) (path : List ℕ) (n : ℕ) (at : Is
         let number = number_of-typed (content_at (nodes_of old) n) n in
         let headers = headers_of (pins_where old (typed_at (nodes_of old) n) pin) groups in (
           record { headers = headers; order = h.order },
-          record { n = n; at = at; headers = refl; order = h.wanted },
+          record { n = n; at = at; headers = refl; order = h.required },
           (n, at, (subst (λ k. IsOrderIn (nodes_of old) k h.order) number h.placed.all, subst (λ k. Rearranged (nodes_of old) (nodes_of new) k headers h.order) number h.placed.made)),
         )
 

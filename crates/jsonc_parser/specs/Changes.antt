@@ -27,7 +27,7 @@ HaveNoFirst xs ys = (c : ℕ) (a b : List ℕ) → xs ≡ c ∷ a → ys ≡ c �
 abbrev pub HaveNoLast : List ℕ → List ℕ → Type 0
 HaveNoLast xs ys = (c : ℕ) (a b : List ℕ) → xs ≡ a ++ c ∷ [] → ys ≡ b ++ c ∷ [] → ⊥
 
--- behind the longest beginning that both have the one text has xs, and the other ys
+-- after the longest beginning that both have the one text has xs, and the other ys
 abbrev pub BeginsApart : List ℕ → List ℕ → List ℕ → List ℕ → Type 0
 BeginsApart old new xs ys = (front : List ℕ) × (old ≡ front ++ xs) × (new ≡ front ++ ys) × HaveNoFirst xs ys
 
@@ -46,7 +46,7 @@ pub record IsInsideCrLf (t : List ℕ) (place : ℕ) : Type 0 where
 abbrev pub StartsOutside : List ℕ → ℕ → ℕ → Type 0
 StartsOutside t place start = (¬ (IsInsideCrLf t place) × (start ≡ place)) ⊎ (IsInsideCrLf t place × (place ≡ start + 1))
 
--- this place, or that behind the LF
+-- this place, or that after the LF
 abbrev pub EndsOutside : List ℕ → ℕ → ℕ → Type 0
 EndsOutside t place end = (¬ (IsInsideCrLf t place) × (end ≡ place)) ⊎ (IsInsideCrLf t place × (end ≡ place + 1))
 

@@ -2,7 +2,7 @@
 use Rattle.std.specs.Prelude.{ℕ, ◌+◌, ◌<◌, ◌≤◌, List, length, slice_index}
 use Rattle.jsonc_parser.specs.Places.{LineColumnBy}
 
--- These are the places where the lines of t begin, in their order. Each is in column 1 of its line, whatever a column counts; what stands before it is in a line
+-- These are the places where the lines of t begin, in their order. Each is in column 1 of its line, whatever a column counts; what is before it is in a line
 -- before; and there are no more lines.
 pub record AreLineStarts (t starts : List ℕ) : Type 0 where
   pub begins : (w : ℕ → ℕ) (i : ℕ) → i < length starts → LineColumnBy w t (slice_index starts i) (i + 1) 1

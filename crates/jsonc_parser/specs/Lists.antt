@@ -27,8 +27,8 @@ module _ {C D A : Type 0} (call : Shared C (Bor D × (CstNode × (CstNode × Uni
   abbrev pub MayBeAsked : Type 0
   MayBeAsked = (doc : CstRootNode A) (d : Bor D) (x y : CstNode) → d.now ≡ same doc → HasNode doc x → HasNode doc y → call.pre compare (d, (x, (y, tt)))
 
-  -- What a sort asks for: an array or object stands at the path; where comments are to be pinned, those that blank lines pin are; and its elements or properties
-  -- come in the order of the comparison, within groups that blank lines part, or all as one.
+  -- What a sort asks for: an array or object is at the path; where comments are to be pinned, those that blank lines pin are; and its elements or properties
+  -- are put in the order of the comparison, within groups that blank lines part, or all as one.
   pub record IsSorting (d : CstRootNode A) (path : List ℕ) (pin groups : Bool) (s : Sorting) : Type 0 where
     pub n : ℕ
     pub at : IsContainerAt (nodes_of d) path n

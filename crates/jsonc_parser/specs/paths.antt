@@ -4,7 +4,7 @@ pub mod Laws
 pub mod Operations
 pub mod Positions
 pub mod Worked
-pub mod Standing
+pub mod NamedNodes
 pub mod Calls
 pub mod Found
 pub mod Reach

@@ -56,7 +56,7 @@ impl Depth for ContainersAndProperties {
     }
 }
 
-/// What makes nothing of a text as it is read, and wants no memory.
+/// What makes nothing of a text as it is read, and needs no memory.
 #[derive(Drop)]
 pub(crate) struct Checker<'a, D: Depth> {
     text: &'a str,

@@ -31,8 +31,8 @@
 //! of a typed node says is such a call ([`typed_calls_are_calls`]).
 //! What becomes of the text of a sound document is the step of the call, and what becomes of its tree follows from
 //! what the call says of the nodes, by the laws of [`nodes`].
-//! Where commas may not be missing no space is due where children are removed ([`nearest_tell`]), so a removal from
-//! a sound document wants no memory, of a value, a property or a comment ([`removals_want_no_memory`]).
+//! Where commas may not be missing no space is needed where children are removed ([`nearest_tell`]), so a removal from
+//! a sound document needs no memory, of a value, a property or a comment ([`removals_want_no_memory`]).
 //!
 //! The groups of a sort keep their places ([`groups_keep_their_places`], [`blank_lines_part_groups`]); a
 //! sorted list of children has each comment and each element once ([`sorted_rows_keep_their_nodes`]), and so has the sorted

@@ -39,7 +39,7 @@ fn count_to(places: &[usize], place: usize) -> usize
     requires { IsNonDecreasing places.now }
     ensures within { result ≤ length places.now }
     ensures to { (k : ℕ) → k < result → slice_index places.now k ≤ place }
-    ensures behind { (k : ℕ) → result ≤ k → k < length places.now
+    ensures after { (k : ℕ) → result ≤ k → k < length places.now
         → place < slice_index places.now k }
 {
     places.partition_point(|other| *other <= place)

@@ -78,27 +78,27 @@ pub(crate) fn place_from(
     text: &str,
     from: usize,
     at: LineAndColumn,
-    wanted: LineAndColumn,
+    target: LineAndColumn,
     unit: ColumnUnit,
 ) -> Option<usize>
     requires boundary { IsCharBoundary text.now from }
     requires at { LineColumnBy (units unit) (chars text.now) from at.line at.column }
     requires ahead { (p : ℕ)
-        → LineColumnBy (units unit) (chars text.now) p wanted.line wanted.column → from ≤ p }
+        → LineColumnBy (units unit) (chars text.now) p target.line target.column → from ≤ p }
     ensures found { IfSome result
-        (λ p. LineColumnBy (units unit) (chars text.now) p wanted.line wanted.column) }
+        (λ p. LineColumnBy (units unit) (chars text.now) p target.line target.column) }
     ensures boundary { IfSome result (IsCharBoundary text.now) }
     ensures none { IfNone result
-        ((p : ℕ) → LineColumnBy (units unit) (chars text.now) p wanted.line wanted.column → ⊥) }
+        ((p : ℕ) → LineColumnBy (units unit) (chars text.now) p target.line target.column → ⊥) }
 {
     let mut rest = text[from..].chars();
     let mut here = at;
     loop {
         let left = rest.as_str();
-        if here.line == wanted.line && here.column == wanted.column {
+        if here.line == target.line && here.column == target.column {
             return Some(text.len() - left.len());
         }
-        if here.line > wanted.line {
+        if here.line > target.line {
             return None;
         }
         let Some(c) = rest.next() else {
@@ -120,8 +120,8 @@ pub fn place_of(text: &str, line: usize, column: usize) -> Option<usize>
     ensures none { IfNone result ((p : ℕ) → LineColumn (chars text.now) p line column → ⊥) }
 {
     let start = LineAndColumn { line: 1, column: 1 };
-    let wanted = LineAndColumn { line, column };
-    place_from(text, 0, start, wanted, ColumnUnit::Character)
+    let target = LineAndColumn { line, column };
+    place_from(text, 0, start, target, ColumnUnit::Character)
 }
 
 /// The place of a line and a UTF-16 column, if the text has them.
@@ -136,8 +136,8 @@ pub fn place_of_utf16(text: &str, line: usize, column: usize) -> Option<usize>
     ensures none { IfNone result ((p : ℕ) → LineColumnUtf16 (chars text.now) p line column → ⊥) }
 {
     let start = LineAndColumn { line: 1, column: 1 };
-    let wanted = LineAndColumn { line, column };
-    place_from(text, 0, start, wanted, ColumnUnit::Utf16)
+    let target = LineAndColumn { line, column };
+    place_from(text, 0, start, target, ColumnUnit::Utf16)
 }
 
 /// The line and the UTF-16 column of a place.

@@ -44,7 +44,7 @@ module _ {A : Type 0} where
       (cmp : K → K → Ordering) where
     -- the keys that are given of nodes of this document are in an order of what the nodes are
     pub record KeysCompareTops (lt : Top → Top → Bool) (d : CstRootNode A) : Type 0 where
-      pub tells : (x y : N) (k l : K) → HasNode d (node_of x) → HasNode d (node_of y) → Answers g key (same d) x (Ok k) → Answers g key (same d) y (Ok l)
+      pub agree : (x y : N) (k l : K) → HasNode d (node_of x) → HasNode d (node_of y) → Answers g key (same d) x (Ok k) → Answers g key (same d) y (Ok l)
           → is_lt (cmp k l) ≡ lt (top_of d (node_of x)) (top_of d (node_of y))
 
     -- a container of the document has been sorted by them, without groups

@@ -27,31 +27,31 @@ pub record IsPlaced (old new : List Node) (c : ℕ) (h : Headers) (order : List 
   pub detached : KeepsDocumentOf old new c
   pub step : IsStep IsAt (λ path. rearrange path h order) old new c
 
--- they are in an order that is wanted
-pub record HasSorted {A : Type 0} (old new : CstRootNode A) (node : CstNode) (h : Headers) (IsWanted : List ℕ → Type 0) : Type 0 where
+-- they are in an order that is required
+pub record HasSorted {A : Type 0} (old new : CstRootNode A) (node : CstNode) (h : Headers) (IsRequired : List ℕ → Type 0) : Type 0 where
   pub order : List ℕ
-  pub wanted : IsWanted order
+  pub required : IsRequired order
   pub placed : IsPlaced (nodes_of old) (nodes_of new) (number_of node) h order
 
 -- so many comments are pinned above each as a rule has said, and blank lines part the elements, or do not
 abbrev pub HasSortedBy : {A : Type 0} → CstRootNode A → CstRootNode A → CstNode → (List (Option ℕ) → Type 0) → Bool → (List ℕ → Type 0) → Type 0
-HasSortedBy old new node ArePinned groups IsWanted =
-    (pins : List (Option ℕ)) × ArePinned pins × HasSorted old new node (headers_of pins groups) IsWanted
+HasSortedBy old new node ArePinned groups IsRequired =
+    (pins : List (Option ℕ)) × ArePinned pins × HasSorted old new node (headers_of pins groups) IsRequired
 
--- So the elements of an array, by what a rule pins of them and what is wanted of them and their groups; and the properties of an object.
+-- So the elements of an array, by what a rule pins of them and what is required of them and their groups; and the properties of an object.
 abbrev pub ElementsSorted : {A : Type 0} → CstRootNode A → CstRootNode A → CstArray → (CstNode → List (Option CstNode) → List (Option ℕ) → Type 0)
     → Bool → (List (Option CstNode) → List ℕ → List ℕ → Type 0) → Type 0
-ElementsSorted old new array ArePinned groups IsWanted =
+ElementsSorted old new array ArePinned groups IsRequired =
     HasSortedBy old new (array_node array) (ArePinned (array_node array) (elements_asked old (array_node array))) groups
-    (IsWanted (elements_asked old (array_node array)) (starts_of old (array_node array) groups))
+    (IsRequired (elements_asked old (array_node array)) (starts_of old (array_node array) groups))
 
 abbrev pub PropertiesSorted : {A : Type 0} → CstRootNode A → CstRootNode A → CstObject → (CstNode → List (Option CstObjectProp) → List (Option ℕ) → Type 0)
     → Bool → (List (Option CstObjectProp) → List ℕ → List ℕ → Type 0) → Type 0
-PropertiesSorted old new object ArePinned groups IsWanted =
+PropertiesSorted old new object ArePinned groups IsRequired =
     HasSortedBy old new (object_node object) (ArePinned (object_node object) (properties_asked old (object_node object))) groups
-    (IsWanted (properties_asked old (object_node object)) (starts_of old (object_node object) groups))
+    (IsRequired (properties_asked old (object_node object)) (starts_of old (object_node object) groups))
 
--- So an array or object, with comments pinned by blank lines or not, and blank lines that part its entries or do not, by what is wanted of these and their groups.
+-- So an array or object, with comments pinned by blank lines or not, and blank lines that part its entries or do not, by what is required of these and their groups.
 abbrev pub ContainerSorted : {A : Type 0} → CstRootNode A → CstRootNode A → CstNode → Bool → Bool → (List (Option CstNode) → List ℕ → List ℕ → Type 0) → Type 0
-ContainerSorted old new node pin groups IsWanted =
-    HasSorted old new node (headers_of (pins_where old node pin) groups) (IsWanted (elements_asked old node) (starts_of old node groups))
+ContainerSorted old new node pin groups IsRequired =
+    HasSorted old new node (headers_of (pins_where old node pin) groups) (IsRequired (elements_asked old node) (starts_of old node groups))

@@ -117,6 +117,6 @@ pub record AreCommasSet {A : Type 0} (old new : CstRootNode A) (mode : TrailingC
   pub begun : OnErr r (in_case (IsSettingSomeCommas (nodes_of old) (nodes_of new) mode n))
   pub detached : KeepsDocumentOf (nodes_of old) (nodes_of new) n
   pub oom_only_if : OnErr r (mode ≡ IfMultiline)
-  pub due : OnErr r (CommaIsDue (nodes_of old) n)
+  pub needed : OnErr r (CommaIsDue (nodes_of old) n)
   pub memory : IfErr r (λ e. e ≡ OutOfMemory)
   pub handles : HandlesStay old new

@@ -14,7 +14,7 @@ pub data WithItsLine (front before : List ℕ) : List ℕ → Type 0 where
   shares_its_line : AreSpaces before → WithItsLine front before []
   whole_line : (rest end after line : List ℕ) → front ≡ rest ++ end → IsLineEnd end → AreSpaces before → AreSpaces after → IsLineEnd line → WithItsLine front before (after ++ line)
 
--- The comment is removed before which n others stand in the text. All before and after it stays, to the character; so do all other marks, and the value.
+-- The comment is removed before which there are n others in the text. All before and after it stays, to the character; so do all other marks, and the value.
 abbrev pub RemovesComment : ℕ → Document → Document → Type 0
 RemovesComment n d e = (front before comment after back : List ℕ) × (d.text ≡ front ++ (before ++ (comment ++ (after ++ back)))) × (e.text ≡ front ++ back)
     × WithItsLine front before after × IsComment comment [] × (e.options ≡ d.options) × (e.value ≡ d.value)

@@ -14,7 +14,7 @@ module _ (old new : List Node) where
   abbrev pub CommasSet : TrailingCommaMode → ℕ → Type 0
   CommasSet mode n = AreSetInTurn mode old (holders old n) new
 
-  -- those of the first of them have, and the next wants a comma
+  -- those of the first of them have, and the next needs a comma
   abbrev pub CommasSetInPart : TrailingCommaMode → ℕ → Type 0
   CommasSetInPart mode n = AreSetInPart mode old (holders old n) new
 

@@ -44,7 +44,7 @@ is_name_under ns (Some p) n = if is_property (content_at ns p) then is_found (na
 abbrev pub is_name_in : List Node → ℕ → Bool
 is_name_in ns n = is_name_under ns (parent_at ns n) n
 
--- the child n has been replaced by m, which is the value, laid out as the old nodes determine: a space is inserted where one is due, but none for a name
+-- the child n has been replaced by m, which is the value, laid out as the old nodes determine: a space is inserted where one is needed, but none for a name
 abbrev pub IsReplacedAs : Bool → List Node → List Node → ℕ → Plain → ℕ → Type 0
 IsReplacedAs true old new n v m = IsReplacedRaw old new n v m
 IsReplacedAs false old new n v m = IsReplaced old new n v m

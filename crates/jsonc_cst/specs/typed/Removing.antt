@@ -1,4 +1,4 @@
--- What is taken out with a node, by its kind, and why it is not.
+-- What is removed with a node, by its kind, and why it is not.
 use Rattle.std.specs.Prelude.{◌≡◌, ℕ, ◌+◌, ◌⊎◌, List, [], ◌∷◌, length, Some, None, IsTrue}
 use Rattle.jsonc_text.specs.Options.{Options}
 use Rattle.jsonc_text.specs.Documents.{Document}
@@ -31,7 +31,7 @@ use Rattle.jsonc_cst.specs.typed.Steps.{IsRemoving}
 use Rattle.jsonc_cst.specs.declared.typed.removing.Removal.{Removal}
 use Rattle.jsonc_cst.specs.declared.typed.removing.Removal.TheVariants.{Clearing, OfComment, OfElement, OfLeaf}
 
--- how a node is taken out: of the root all that stands in it, a comment and an element with what leaves with it, and any other leaf alone
+-- how a node is removed: of the root all that is in it, a comment and an element with what is removed with it, and any other leaf alone
 abbrev pub removal_of : CstNode → Removal
 removal_of (Container (Root x)) = Clearing
 removal_of (Container (Array x)) = OfElement
@@ -47,15 +47,15 @@ removal_of (Leaf (Whitespace x)) = OfLeaf
 removal_of (Leaf (Newline x)) = OfLeaf
 removal_of (Leaf (Comment x)) = OfComment
 
--- wherever the node has a parent it alone has left that
+-- wherever the node has a parent it alone is removed from that
 abbrev pub RemovedAlone : List Node → List Node → ℕ → Type 0
 RemovedAlone old new n = (c : ℕ) → parent_at old n ≡ Some c → Splices old new c (place_at old n) (place_at old n + 1) []
 
--- the root's children have all left it
+-- the root's children have all been removed
 abbrev pub IsCleared : List Node → List Node → Type 0
 IsCleared old new = Splices old new 0 0 (length (children_at old 0)) []
 
--- so the node n has been taken out
+-- so the node n has been removed
 abbrev pub IsTakenBy : Removal → List Node → List Node → ℕ → Type 0
 IsTakenBy Clearing old new n = IsCleared old new
 IsTakenBy OfComment old new n = TakesOut old new n
@@ -69,42 +69,42 @@ IsLooseFor OfComment ns n = parent_at ns n ≡ None
 IsLooseFor OfElement ns n = parent_at ns n ≡ None
 IsLooseFor OfLeaf ns n = parent_at ns n ≡ None
 
--- why it has not been taken out: the memory of a space that is due was wanted, or the array or object of an element lacks brackets
+-- why it has not been removed: memory was needed for a space that is required, or the array or object of an element lacks brackets
 abbrev pub IsKeptBy : Removal → List Node → ℕ → EditError → Type 0
 IsKeptBy Clearing ns n e = ⊥
 IsKeptBy OfComment ns n e = (e ≡ OutOfMemory) × WantsSpace ns n
 IsKeptBy OfElement ns n e = IsKeptFor ns n e
 IsKeptBy OfLeaf ns n e = ⊥
 
--- Where the node stood in an array or object at a path of a document, this is one without that entry, sound, and of its marks those of the entry have left, and
+-- Where the node was in an array or object at a path of a document, this is one without that entry, sound, and of its marks those of the entry are removed, and
 -- comments beside it; where it was the document's value, the document has none.
 pub record IsElementRemoved (o : Options) (old new : List Node) (n : ℕ) : Type 0 where
   pub entry : (path : List ℕ) (c i : ℕ) → IsAt old path c → IsTrue (is_array_or_object (content_at old c)) → IsElementOf old c i n
       → IsEntryRemoved o path i (top_at old n) (ordered_tree old 0) (ordered_tree new 0)
   pub value : IsElementOf old 0 0 n → IsValueRemoved o (top_at old n) (ordered_tree old 0) (ordered_tree new 0)
 
--- so it is if the old document is sound and the node leaves with what leaves with it; a cleared document has no value and no marks, and is sound
+-- so it is if the old document is sound and the node is removed with what is removed with it; a cleared document has no value and no marks, and is sound
 abbrev pub IsWrittenBy : Removal → Options → List Node → List Node → ℕ → Type 0
 IsWrittenBy Clearing o old new n = IsBareDocument o (ordered_tree new 0)
 IsWrittenBy OfComment o old new n = RemovesComment o old new n
 IsWrittenBy OfElement o old new n = SoundTree o (ordered_tree old 0) → IsElementRemoved o old new n
 IsWrittenBy OfLeaf o old new n = Unit {0}
 
--- Where the node stood in an array or object at a path of a sound document, nothing outside that has changed but for the spaces that have come, and in its row
--- the entry has left with what leaves with it; where it was the document's value, so in the root's row.
+-- Where the node was in an array or object at a path of a sound document, nothing outside that has changed but for the spaces that were inserted, and of its
+-- children the entry has been removed with what is removed with it; where it was the document's value, so of the root's children.
 pub record IsTakenAlone (old new : List Node) (n : ℕ) : Type 0 where
   pub entry : (path : List ℕ) (c i : ℕ) → IsAt old path c → IsTrue (is_array_or_object (content_at old c)) → IsElementOf old c i n
       → EntryTaken path i (top_at old n) (ordered_tree old 0) (ordered_tree new 0)
   pub value : IsElementOf old 0 0 n → ValueTaken (top_at old n) (ordered_tree old 0) (ordered_tree new 0)
 
--- what stays around the node that was taken out: around a comment of the document all leaves but for the blanks before it that leave with it
+-- what stays around the node that was removed: around a comment of the document all leaves but for the blanks before it that are removed with it
 abbrev pub StaysAround : Removal → Options → List Node → List Node → ℕ → Type 0
 StaysAround Clearing o old new n = Unit {0}
 StaysAround OfComment o old new n = RemovesCommentAlone old new n
 StaysAround OfElement o old new n = SoundTree o (ordered_tree old 0) → IsTakenAlone old new n
 StaysAround OfLeaf o old new n = Unit {0}
 
--- where the node does not stand in the document, this is what it was; the root always does
+-- where the node is not in the document, this is what it was; the root always is
 abbrev pub KeepsDocumentBy : Removal → List Node → List Node → ℕ → Type 0
 KeepsDocumentBy Clearing old new n = Unit {0}
 KeepsDocumentBy OfComment old new n = KeepsDocumentOf old new n
@@ -139,11 +139,11 @@ module _ {A : Type 0} where
   abbrev pub RemovedIsDetached : CstRootNode A → CstNode → Type 0
   RemovedIsDetached d node = IsDetachedBy (removal_of node) (nodes_of d) (number_of node)
 
-  -- the node has been taken out of the document, with what leaves with it
+  -- the node has been removed from the document, with what is removed with it
   abbrev pub NodeRemoved : CstRootNode A → CstRootNode A → CstNode → Type 0
   NodeRemoved old new node = IsTakenBy (removal_of node) (nodes_of old) (nodes_of new) (number_of node)
 
-  -- the node alone has left its parent
+  -- the node alone has been removed from its parent
   abbrev pub NodeRemovedAlone : CstRootNode A → CstRootNode A → CstNode → Type 0
   NodeRemovedAlone old new node = RemovedAlone (nodes_of old) (nodes_of new) (number_of node)
 
@@ -151,7 +151,7 @@ module _ {A : Type 0} where
   abbrev pub IsLoose : CstRootNode A → CstNode → Type 0
   IsLoose d node = IsLooseFor (removal_of node) (nodes_of d) (number_of node)
 
-  -- why it has not been taken out
+  -- why it has not been removed
   abbrev pub IsKeptIn : CstRootNode A → CstNode → EditError → Type 0
   IsKeptIn d node e = IsKeptBy (removal_of node) (nodes_of d) (number_of node) e
 
@@ -159,7 +159,7 @@ module _ {A : Type 0} where
   abbrev pub IsKeptForMemory : CstRootNode A → Options → CstNode → EditError → Type 0
   IsKeptForMemory d o node e = OnlyOutOfMemory o (nodes_of d) (number_of node) e
 
--- comments have left a container, if there are any
+-- comments have been removed from a container, if there are any
 abbrev pub AreClearedIfAny : List Node → List Node → ℕ → List ℕ → Type 0
 AreClearedIfAny old new c [] = new ≡ old
 AreClearedIfAny old new c (n ∷ rest) = AreCleared old new c (n ∷ rest)
@@ -188,6 +188,6 @@ module _ {A : Type 0} where
   EntryCleared old new node = (c : ℕ) → parent_at (nodes_of old) (number_of node) ≡ Some c
       → IsTakenWithComments (removal_of node) (nodes_of old) (nodes_of new) (number_of node) c (comment_numbers old node)
 
-  -- why it has not been: the memory of its comments' numbers was wanted, or as without comments
+  -- why it has not been: memory was needed for its comments' numbers, or as without comments
   abbrev pub IsKeptWithComments : CstRootNode A → CstNode → EditError → Type 0
   IsKeptWithComments d node e = (e ≡ OutOfMemory) ⊎ IsKeptIn d node e

@@ -63,7 +63,7 @@ fn gap_before<A: Allocator>(
 }
 
 // The nodes between an entry and the next one; where it is the last, the bracket is the last of them.
-fn gap_behind<A: Allocator>(
+fn gap_after<A: Allocator>(
     alloc: A,
     tree: &Tree<A>,
     node: usize,
@@ -109,14 +109,14 @@ fn comments_of<A: Allocator + Copy>(
 {
     let mut before = gap_before(alloc, tree, node)?;
     before.reverse();
-    let behind = gap_behind(alloc, tree, node)?;
+    let after = gap_after(alloc, tree, node)?;
     let last = next_element(tree, node).is_none();
     let from = match previous_element(tree, node) {
         Some(_) => tail_length(tree, false, &before),
         None => 1,
     };
-    let upto = if last { behind.len() - 1 } else { behind.len() };
-    comments_around(alloc, tree, &before[from..], last, &behind[..upto])
+    let upto = if last { after.len() - 1 } else { after.len() };
+    comments_around(alloc, tree, &before[from..], last, &after[..upto])
 }
 
 impl<A: Allocator + Copy> CstRootNode<A> {

@@ -22,7 +22,7 @@ use std::alloc::{AllocError, Allocator};
 
 /// The number of this text, if it is, whole, a number that the options allow.
 ///
-/// Nothing may stand before or after the number, blanks neither. `1e5` is one, and so is `0x1F` where
+/// Nothing may be before or after the number, blanks neither. `1e5` is one, and so is `0x1F` where
 /// hexadecimal numbers are allowed; `01`, `1.` and `one` give None under the options of JSON, and ask
 /// for no memory.
 pub fn number<A: Allocator>(
@@ -43,7 +43,7 @@ pub fn number<A: Allocator>(
 
 /// The value of a JSON text, for an edit to write.
 ///
-/// None where the text has no value. Of equal names the last value stands at the first place. The
+/// None where the text has no value. Of equal names the last value is at the first place. The
 /// text is parsed under the options as by `CstRootNode::parse`, with the same errors, and its numbers
 /// are numbers of these options.
 pub fn from_json<A: Allocator + Copy>(
@@ -63,7 +63,7 @@ pub fn from_json<A: Allocator + Copy>(
 impl<A: Allocator + Copy> CstRootNode<A> {
     /// The document's value, as a value for edits.
     ///
-    /// For a parsed document that is the text's value; of equal names the last value stands at the
+    /// For a parsed document that is the text's value; of equal names the last value is at the
     /// first place.
     pub fn to_value(&self) -> Result<Option<CstInputValue<A>>, EditError>
         ensures value { IfOk result (IsDocumentTaken self.now) }

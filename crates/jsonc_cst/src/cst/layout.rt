@@ -41,7 +41,7 @@ impl<A: Allocator + Copy> CstRootNode<A> {
 
     /// How the document's lines end.
     ///
-    /// They end as the first of them, level after level from the root down, or by LF. No memory is wanted.
+    /// They end as the first of them, level after level from the root down, or by LF. No memory is needed.
     pub fn newline_kind(&self) -> Result<CstNewlineKind, EditError>
         ensures kind { IfOk result (λ kind. kind ≡ newline_kind_of (nodes_of self.now)) }
         ensures memory { IfErr result (λ e. e ≡ EditError.OutOfMemory) }

@@ -196,7 +196,7 @@ pub trait TypedNode: Copy {
     /// last element.
     ///
     /// Laid out is one that has whitespace between its brackets and an element, and the nearest is
-    /// the first of them, level after level. False where there is none. No memory is wanted.
+    /// the first of them, level after level. False where there is none. No memory is needed.
     final fn uses_trailing_commas<A: Allocator + Copy>(
         self,
         doc: &CstRootNode<A>,
@@ -265,7 +265,7 @@ pub trait TypedNode: Copy {
     /// A property gives its value's, the root its value's. Numbers are as written, strings decoded;
     /// of equal names the last value is at the first place. A word, a token, trivia and a
     /// string that does not decode give None. What gives None inside a container, or has no name
-    /// that decodes, is passed over. Of a leaf only a number and a string that decodes want memory.
+    /// that decodes, is passed over. Of a leaf only a number and a string that decodes need memory.
     final fn to_value<A: Allocator + Copy>(
         self,
         doc: &CstRootNode<A>,
@@ -273,7 +273,7 @@ pub trait TypedNode: Copy {
         requires { HasNode doc.now (node_of self) }
         ensures value { IfOk result (IsValueTaken doc.now (node_of self)) }
         ensures memory { IfErr result (λ e. e ≡ EditError.OutOfMemory) }
-        ensures wanted { OnErr result (MayTakeMemory (content_of doc.now (node_of self))) }
+        ensures oom_only_if { OnErr result (MayTakeMemory (content_of doc.now (node_of self))) }
     {
         let number = self.node().number();
         let Ok(value) = jsonc_layout::to_input::to_value(doc.alloc, &doc.tree, number) else {

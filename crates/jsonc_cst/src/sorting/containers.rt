@@ -20,8 +20,8 @@ use std::cmp::Ordering;
 /// document as it is before.
 ///
 /// Where `pin` is set, all comments above an element before which a blank line is are pinned; where
-/// `groups` is, each stretch between blank lines is sorted by itself. Only memory is ever wanted, and then
-/// the document is what it was.
+/// `groups` is, each stretch between blank lines is sorted by itself. The one error is a lack of
+/// memory, and then the document is what it was.
 pub fn sort_container<
     A: Allocator + Copy,
     D: DocumentArg<A>,

@@ -1,4 +1,4 @@
-//! What a closure that reads a document is lent.
+//! What a closure that reads a document borrows.
 
 ghost use Rattle.std.specs.Prelude.{◌≡◌};
 ghost use Rattle.jsonc_cst.specs.declared.cst.CstRootNode.{CstRootNode};

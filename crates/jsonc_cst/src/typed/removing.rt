@@ -107,7 +107,7 @@ fn remove_entry<A: Allocator + Copy, N: TypedNode>(
     let Some(container) = doc.tree.parent(entry.number()) else {
         return remove_node(doc, entry);
     };
-    // All memory is wanted before the first node is removed.
+    // All memory is allocated before the first node is removed.
     let Ok(comments) = doc.comment_numbers(entry) else {
         return Err(EditError::OutOfMemory);
     };

@@ -36,7 +36,7 @@ use Rattle.jsonc_parser.specs.declared.patch.reference.FindError.TheVariants as 
 use Rattle.jsonc_parser.specs.declared.patch.operation.Operation.{Operation}
 use Rattle.jsonc_parser.specs.declared.patch.operation.Operation.TheVariants.{Move}
 
--- before the element of this index, or behind all, the token says that another is to come; it says neither where it is not `-`, and each index that it is leads past all
+-- before the element of this index, or after all, the token says that another is to be inserted; it says neither where it is not `-`, and each index that it is leads past all
 abbrev pub IsPlaceBy : List Node → ℕ → List ℕ → Option (Option ℕ) → Type 0
 IsPlaceBy ns n token None = (token ≢ 0x2D ∷ []) × ((i : ℕ) → IsIndex token i → length (elements_at ns n) < i)
 IsPlaceBy ns n token (Some None) = token ≡ 0x2D ∷ []
@@ -77,13 +77,13 @@ module _ {A : Type 0} where
       (tokens : List (List ℕ)) → all ≡ tokens ++ last ∷ [] → IsOfShown old (λ d. RefersToNode d (nodes_of old) tokens (number_of node))
       → MakesWhatShown old (value.add all v) (λ o. IsOfNumbers o v) new
 
-  -- the value is put in the place of the one at the node, where tokens refer to it behind an object
+  -- the value is put in the place of the one at the node, where tokens refer to it by a name in an object
   abbrev pub PutsAt : CstRootNode A → CstNode → Plain → CstRootNode A → Type 0
   PutsAt old node v new =
       (n : ℕ) (tokens : List (List ℕ)) (name : List ℕ) → content_at (nodes_of old) n ≡ object → IsOfShown old (λ d. RefersToNode d (nodes_of old) tokens n)
       → IsOfShown old (λ d. RefersToNode d (nodes_of old) (tokens ++ name ∷ []) (number_of node)) → MakesWhatShown old (value.add (tokens ++ name ∷ []) v) (λ o. IsOfNumbers o v) new
 
-  -- the member comes into the object, where tokens refer to it and to nothing with the name behind them
+  -- the member is inserted into the object, where tokens refer to it and to nothing with the name after them
   abbrev pub AppendsTo : CstRootNode A → CstNode → List ℕ → Plain → CstRootNode A → Type 0
   AppendsTo old node name v new =
       (tokens : List (List ℕ)) → IsOfShown old (λ d. RefersToNode d (nodes_of old) tokens (number_of node)) → IsOfShown old (λ d. RefersToNothing d (tokens ++ name ∷ []))
@@ -101,9 +101,9 @@ module _ {A : Type 0} where
   IsUnfound w tokens cause = IsNoMemory cause
 
   -- the cause of an error of evaluation
-  abbrev pub Tells : FindError A → PatchCause A → Type 0
-  Tells (errors.RepeatedName name) c = c ≡ causes.RepeatedName name
-  Tells errors.OutOfMemory c = c ≡ causes.Edit OutOfMemory
+  abbrev pub HasCause : FindError A → PatchCause A → Type 0
+  HasCause (errors.RepeatedName name) c = c ≡ causes.RepeatedName name
+  HasCause errors.OutOfMemory c = c ≡ causes.Edit OutOfMemory
 
   -- why an operation was not made
   abbrev pub IsCause : value.Operation → Option Plain → PatchCause A → Type 0
@@ -117,7 +117,7 @@ module _ {A : Type 0} where
   abbrev pub FailsWhatShown : CstRootNode A → value.Operation → PatchCause A → Type 0
   FailsWhatShown doc operation cause = IsOfShown doc (λ d. IsCause operation d.value cause)
 
-  -- why the path of a node was not told: it has none
+  -- why no path of a node was answered: it has none
   abbrev pub IsPathless : CstRootNode A → CstNode → PatchCause A → Type 0
   IsPathless doc node causes.NoTarget = (path : List ℕ) → IsAt (nodes_of doc) path (number_of node) → ⊥
   IsPathless doc node cause = IsNoMemory cause

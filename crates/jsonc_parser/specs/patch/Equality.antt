@@ -10,7 +10,7 @@ pub data HasMember (name : List ℕ) (v : Plain) : Members → Type 0 where
   later_has : {n : List ℕ} {w : Plain} {ms : Members} → HasMember name v ms → HasMember name v (member n w ms)
 
 mutual
-  -- no name stands twice in an object of the value
+  -- no name occurs twice in an object of the value
   pub data HasUniqueNames : Plain → Type 0 where
     unique_null : HasUniqueNames null
     unique_boolean : {b : Bool} → HasUniqueNames (boolean b)

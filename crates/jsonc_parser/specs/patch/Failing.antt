@@ -11,14 +11,14 @@ pub use Rattle.jsonc_parser.specs.patch.References.{ReferToNothing}
 -- 4.1: There is no place for a value that is to be added: the tokens before the last refer to nothing; or to a value that is neither an array nor an object; or to
 -- an array, and the last is neither `-` nor an index that is no greater than the number of elements.
 pub data HasNoPlace (w : Option Plain) : List (List ℕ) → Type 0 where
-  behind_nothing : {tokens : List (List ℕ)} (token : List ℕ) → ReferToNothing w tokens → HasNoPlace w (tokens ++ token ∷ [])
-  behind_scalar : {tokens : List (List ℕ)} {x : Plain} (token : List ℕ) → RefersTo w tokens x → ((vs : Items) → x ≢ array vs) → ((ms : Members) → x ≢ object ms)
+  below_nothing : {tokens : List (List ℕ)} (token : List ℕ) → ReferToNothing w tokens → HasNoPlace w (tokens ++ token ∷ [])
+  below_scalar : {tokens : List (List ℕ)} {x : Plain} (token : List ℕ) → RefersTo w tokens x → ((vs : Items) → x ≢ array vs) → ((ms : Members) → x ≢ object ms)
       → HasNoPlace w (tokens ++ token ∷ [])
   past_elements : {tokens : List (List ℕ)} {vs : Items} (token : List ℕ) → RefersTo w tokens (array vs) → token ≢ 0x2D ∷ [] → ((i : ℕ) → IsIndex token i → item_count vs < i)
       → HasNoPlace w (tokens ++ token ∷ [])
 
 -- The value that the operation is to take, replace or test is not there; or there is no place for the one that it adds. What is moved is added to the value that
--- its removal leaves.
+-- is left after its removal.
 abbrev pub HasNoTarget : Operation → Option Plain → Type 0
 HasNoTarget (add tokens v) w = HasNoPlace w tokens
 HasNoTarget (remove tokens) w = ReferToNothing w tokens
@@ -36,7 +36,7 @@ MeetsTwice name (move from to) w = FailsAt w from name ⊎ ((u : Option Plain) �
 MeetsTwice name (copy from to) w = FailsAt w from name ⊎ ((x : Plain) × RefersTo w from x × FailsAt w to name)
 MeetsTwice name (test tokens v) w = FailsAt w tokens name
 
--- 4.4: a value was to be moved into itself: the pointer to where it goes leads on from the one to where it stands
+-- 4.4: a value was to be moved into itself: the pointer to where it goes leads on from the one to where it is
 abbrev pub GoesIntoItself : Operation → Option Plain → Type 0
 GoesIntoItself (move from to) w = (x : Plain) × RefersTo w from x × (token : List ℕ) × (rest : List (List ℕ)) × (to ≡ from ++ token ∷ rest)
 GoesIntoItself o w = ⊥

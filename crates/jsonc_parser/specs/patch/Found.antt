@@ -19,7 +19,7 @@ use Rattle.jsonc_parser.specs.patch.References.{FailsAt, Refers, RefersTo}
 use Rattle.jsonc_parser.specs.declared.patch.reference.FindError.{FindError}
 use Rattle.jsonc_parser.specs.declared.patch.reference.FindError.TheVariants as error
 
--- In the document's value the tokens refer to v; and at the positions that they lead over stands the node n, which has v.
+-- In the document's value the tokens refer to v; and at the positions that they lead over is the node n, which has v.
 pub record RefersToNode (d : Document) (ns : List Node) (tokens : List (List ℕ)) (n : ℕ) : Type 0 where
   pub value : Plain
   pub is : d.value ≡ Some value
@@ -44,7 +44,7 @@ pub record PassesEscaped (d : Document) (ns : List Node) (tokens : List (List �
   pub leads : RefersToNode d ns front object
   pub escaped : HoldsEscapedName ns object
 
--- memory was wanted to look up a name, or for a name that stands twice
+-- memory was needed to look up a name, or for a name that occurs twice
 abbrev pub WantsToFind : Document → List Node → List (List ℕ) → Type 0
 WantsToFind d ns tokens = PassesEscaped d ns tokens ⊎ ((name : List ℕ) × FailsAt d.value tokens name)
 
@@ -54,12 +54,12 @@ module _ {A : Type 0} where
   Finds d doc tokens None = RefersToNothing d tokens
   Finds d doc tokens (Some node) = RefersToNode d (nodes_of doc) tokens (number_of node)
 
-  -- what was taken stands for the value that they refer to, of equal names the last at the first place
+  -- what was taken represents the value that they refer to, of equal names the last at the first place
   abbrev pub Reads : Document → List (List ℕ) → Option (CstInputValue A) → Type 0
   Reads d tokens None = RefersToNothing d tokens
   Reads d tokens (Some taken) = (v : Plain) × RefersTo d.value tokens v × (plain taken ≡ collapse v)
 
-  -- the name stands twice where it is looked up; or memory was wanted
+  -- the name occurs twice where it is looked up; or memory was needed
   abbrev pub FindFails : Document → CstRootNode A → List (List ℕ) → FindError A → Type 0
   FindFails d doc tokens (error.RepeatedName name) = FailsAt d.value tokens (chars_of name)
   FindFails d doc tokens error.OutOfMemory = WantsToFind d (nodes_of doc) tokens

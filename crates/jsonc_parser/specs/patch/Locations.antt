@@ -26,19 +26,19 @@ module _ {A : Type 0} where
       → (token : List ℕ) (x : Plain) → Refers w.v (token ∷ []) (place ∷ []) x → ⊥
 
   -- the token that leads from a node to that of this number, which is at the place there; none where there is no such token
-  abbrev pub TellsToken : CstRootNode A → CstNode → ℕ → ℕ → Option (String A × CstNode) → Type 0
-  TellsToken doc node place n None = HasNoToken doc node place
-  TellsToken doc node place n (Some told) = (number_of told.1 ≡ n) × StepsTo doc node (chars_of told.0) (Some told.1)
+  abbrev pub IsTokenTo : CstRootNode A → CstNode → ℕ → ℕ → Option (String A × CstNode) → Type 0
+  IsTokenTo doc node place n None = HasNoToken doc node place
+  IsTokenTo doc node place n (Some found) = (number_of found.1 ≡ n) × StepsTo doc node (chars_of found.0) (Some found.1)
 
   -- tokens that refer to the node of this number; none where no tokens refer to it
-  abbrev pub TellsTokens : CstRootNode A → ℕ → Option (Vec (String A) A) → Document → Type 0
-  TellsTokens doc n None d = (tokens : List (List ℕ)) → RefersToNode d (nodes_of doc) tokens n → ⊥
-  TellsTokens doc n (Some told) d = RefersToNode d (nodes_of doc) (names_of told.items) n
+  abbrev pub AreTokensTo : CstRootNode A → ℕ → Option (Vec (String A) A) → Document → Type 0
+  AreTokensTo doc n None d = (tokens : List (List ℕ)) → RefersToNode d (nodes_of doc) tokens n → ⊥
+  AreTokensTo doc n (Some found) d = RefersToNode d (nodes_of doc) (names_of found.items) n
 
   -- the same of a pointer
-  abbrev pub TellsPointer : CstRootNode A → ℕ → Option (Pointer A) → Document → Type 0
-  TellsPointer doc n None d = (tokens : List (List ℕ)) → RefersToNode d (nodes_of doc) tokens n → ⊥
-  TellsPointer doc n (Some pointer) d = RefersToNode d (nodes_of doc) (tokens_of pointer) n
+  abbrev pub IsPointerTo : CstRootNode A → ℕ → Option (Pointer A) → Document → Type 0
+  IsPointerTo doc n None d = (tokens : List (List ℕ)) → RefersToNode d (nodes_of doc) tokens n → ⊥
+  IsPointerTo doc n (Some pointer) d = RefersToNode d (nodes_of doc) (tokens_of pointer) n
 
   -- what is found by tokens that refer to a node is that node
   abbrev pub LeadsBack : CstRootNode A → CstNode → List (List ℕ) → Type 0

@@ -46,7 +46,7 @@ module _ {A : Type 0} where
   IsOfNode doc node P =
       (d : Document) (tokens : List (List ℕ)) → Shows d (ordered_tree (nodes_of doc) 0) → RefersToNode d (nodes_of doc) tokens (number_of node) → P d tokens
 
-  -- one token further: they refer to nothing with it, whatever comes behind it; or to this node
+  -- one token further: they refer to nothing with it, whatever follows it; or to this node
   abbrev pub Steps : CstRootNode A → List ℕ → Option CstNode → Document → List (List ℕ) → Type 0
   Steps doc token None d tokens = (rest : List (List ℕ)) → RefersToNothing d (tokens ++ token ∷ rest)
   Steps doc token (Some inner) d tokens = RefersToNode d (nodes_of doc) (tokens ++ token ∷ []) (number_of inner)
@@ -54,11 +54,11 @@ module _ {A : Type 0} where
   abbrev pub StepsTo : CstRootNode A → CstNode → List ℕ → Option CstNode → Type 0
   StepsTo doc node token found = IsOfNode doc node (Steps doc token found)
 
-  -- the token is a name that stands twice there
+  -- the token is a name that occurs twice there
   abbrev pub FailsThere : CstRootNode A → CstNode → List ℕ → Type 0
   FailsThere doc node token = IsOfNode doc node (λ d tokens. (rest : List (List ℕ)) → FailsAt d.value (tokens ++ token ∷ rest) token)
 
-  -- that is so of the name; or memory was wanted for it, or for a name with a backslash
+  -- that is so of the name; or memory was needed for it, or for a name with a backslash
   abbrev pub StepFails : CstRootNode A → CstNode → List ℕ → FindError A → Type 0
   StepFails doc node token (error.RepeatedName name) = (chars_of name ≡ token) × FailsThere doc node token
   StepFails doc node token error.OutOfMemory = HoldsEscapedName (nodes_of doc) (number_of node) ⊎ FailsThere doc node token

@@ -14,7 +14,7 @@ abbrev pub value_in : List ℕ → Members → Option Plain
 value_in name no_members = None
 value_in name (member n v ms) = cond (bytes_eq n name) (Some v) (value_in name ms)
 
--- the first member of this name has this value, or comes behind all
+-- the first member of this name has this value, or is appended
 abbrev pub with_member : List ℕ → Plain → Members → Members
 with_member name v no_members = member name v no_members
 with_member name v (member n w ms) = cond (bytes_eq n name) (member name v ms) (member n w (with_member name v ms))
@@ -55,7 +55,7 @@ IsMergePatch patch target y = (v : Plain) × (y ≡ Some v) × IsUpToArrays (mer
 abbrev pub IsEqualToMergePatch : Plain → Option Plain → Option Plain → Type 0
 IsEqualToMergePatch patch target y = (v : Plain) × (y ≡ Some v) × AreEqual (λ s t. s ≡ t) (collapse (merged target patch)) (collapse v)
 
--- no name stands twice in an object of the value, if there is one
+-- no name occurs twice in an object of the value, if there is one
 abbrev pub RepeatsNoName : Option Plain → Type 0
 RepeatsNoName None = Unit {0}
 RepeatsNoName (Some v) = HasUniqueNames v

@@ -30,7 +30,7 @@ pub data IsPlace (w : Option Plain) : List (List ℕ) → Type 0 where
   at_root : IsPlace w []
   in_object : {tokens : List (List ℕ)} (name : List ℕ) → RefersToObject w tokens → IsPlace w (tokens ++ name ∷ [])
 
--- what the tokens refer to leaves, if they refer to something
+-- what the tokens refer to is removed, if they refer to something
 abbrev pub Drops : List (List ℕ) → Option Plain → Option Plain → Type 0
 Drops tokens w y = Removes tokens w y ⊎ (ReferToNothing w tokens × (y ≡ w))
 
@@ -54,7 +54,7 @@ module _ {A : Type 0} where
   abbrev pub ReachesWhatShown : CstRootNode A → (Options → Type 0) → (Option Plain → Option Plain → Type 0) → CstRootNode A → Type 0
   ReachesWhatShown old Fit Leads new = (d : Document) → Shows d (tree_of old) → Fit d.options → (e : Document) × Shows e (tree_of new) × IsReached A d Leads e
 
-  -- a name stands twice where the tokens are looked up, or there was no memory
+  -- a name occurs twice where the tokens are looked up, or there was no memory
   abbrev pub IsTwice : Option Plain → List (List ℕ) → PatchCause A → Type 0
   IsTwice w tokens (causes.RepeatedName name) = FailsAt w tokens (chars_of name)
   IsTwice w tokens (causes.Edit why) = why ≡ OutOfMemory
@@ -83,15 +83,15 @@ module _ {A : Type 0} where
   abbrev pub FailsToMergeAll : CstRootNode A → List (List ℕ) → Members → PatchCause A → Type 0
   FailsToMergeAll doc tokens ms cause = (d : Document) → Shows d (tree_of doc) → AreNamedOfNumbers d.options ms → RefersToObject d.value tokens → IsStop tokens (object ms) d.value cause
 
-  -- the fault of a cause
-  abbrev pub TellsFault : PatchCause A → MergeFault A → Type 0
-  TellsFault (causes.RepeatedName name) fault = fault ≡ merge.RepeatedName name
-  TellsFault cause fault = fault ≡ merge.OutOfMemory
+  -- the fault by which a cause is reported
+  abbrev pub IsReportedAs : PatchCause A → MergeFault A → Type 0
+  IsReportedAs (causes.RepeatedName name) fault = fault ≡ merge.RepeatedName name
+  IsReportedAs cause fault = fault ≡ merge.OutOfMemory
 
-  -- the fault has this name, or tells that there was no memory for it
-  abbrev pub TellsName : List ℕ → MergeFault A → Type 0
-  TellsName name (merge.RepeatedName s) = chars_of s ≡ name
-  TellsName name merge.OutOfMemory = Unit {0}
+  -- the fault has this name, or reports that there was no memory for it
+  abbrev pub ReportsName : List ℕ → MergeFault A → Type 0
+  ReportsName name (merge.RepeatedName s) = chars_of s ≡ name
+  ReportsName name merge.OutOfMemory = Unit {0}
 
   -- more than one member has the name of the fault; or more than one member of an object in the value
   abbrev pub AreNamesTwice : Members → MergeFault A → Type 0

@@ -14,7 +14,7 @@ use Rattle.jsonc_parser.specs.declared.patch.merge_text.MergePatchError.TheVaria
 use Rattle.jsonc_parser.specs.declared.patch.operation.OperationFault.{OperationFault}
 use Rattle.jsonc_parser.specs.declared.patch.operation.OperationFault.TheVariants.{OutOfMemory, RepeatedName}
 
--- under these options the text is a document of this value, in which no name stands twice
+-- under these options the text is a document of this value, in which no name occurs twice
 abbrev pub IsMergePatch : Options → List ℕ → Plain → Type 0
 IsMergePatch o text p = IsDocument o text (Some p) × HasUniqueNames p
 
@@ -30,7 +30,7 @@ module _ {A : Type 0} where
   IsFaultOfMergePatch o bytes (error.RepeatedName name) = OfValue o bytes (RepeatsName (chars_of name))
   IsFaultOfMergePatch o bytes error.OutOfMemory = OfValue o bytes (λ p. Unit {0})
 
-  -- what is told of the fault of a value
-  abbrev pub TellsFault : OperationFault A → MergePatchError A → Type 0
-  TellsFault (RepeatedName name) e = e ≡ error.RepeatedName name
-  TellsFault other e = e ≡ error.OutOfMemory
+  -- the error by which the fault of a value is reported
+  abbrev pub IsReportedAs : OperationFault A → MergePatchError A → Type 0
+  IsReportedAs (RepeatedName name) e = e ≡ error.RepeatedName name
+  IsReportedAs other e = e ≡ error.OutOfMemory

@@ -27,7 +27,7 @@ module _ {A : Type 0} where
   abbrev pub MergesWhatShown : CstRootNode A → Plain → CstRootNode A → Type 0
   MergesWhatShown old p new = (d : Document) → Shows d (tree_of old) → IsOfNumbers d.options p → (e : Document) × Shows e (tree_of new) × IsMerged A d p e
 
-  -- a name stands twice in an object of the patch, or where it is looked up in the document
+  -- a name occurs twice in an object of the patch, or where it is looked up in the document
   abbrev pub IsMergeFault : Plain → Document → MergeFault A → Type 0
   IsMergeFault p d (RepeatedName name) = RepeatsName (chars_of name) p ⊎ Stops (chars_of name) [] p d.value
   IsMergeFault p d OutOfMemory = Unit {0}

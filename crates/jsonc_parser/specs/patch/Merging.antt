@@ -35,7 +35,7 @@ abbrev pub IsThere : Plain → List (List ℕ) → Option Plain → Type 0
 IsThere v tokens w = (x : Plain) × RefersTo w tokens x × AreEqual (λ s t. s ≡ t) v (collapse x)
 
 mutual
-  -- A patch goes into an object member by member. Else what it makes of nothing is the value, or comes in its place.
+  -- A patch goes into an object member by member. Else what it makes of nothing is the value, or takes its place.
   pub data Merges : List (List ℕ) → Plain → Option Plain → Option Plain → Type 0 where
     inside : {tokens : List (List ℕ)} {ms ns : Members} {w y : Option Plain} → RefersTo w tokens (object ns) → MembersMerge tokens ms w y → Merges tokens (object ms) w y
     same : {tokens : List (List ℕ)} {p : Plain} {w : Option Plain} → ¬ (GoesInto p tokens w) → IsThere (made_of p) tokens w → Merges tokens p w w

@@ -18,41 +18,41 @@ pub data Operation : Type 0 where
   copy : List (List ℕ) → List (List ℕ) → Operation
   test : List (List ℕ) → Plain → Operation
 
--- where the tokens lead the value x stands, over this path
-abbrev pub StandsAt : Option Plain → List (List ℕ) → List ℕ → Plain → Type 0
-StandsAt w tokens path x = (v : Plain) × (w ≡ Some v) × Refers v tokens path x
+-- the tokens refer to the value x, along this path
+abbrev pub RefersAlong : Option Plain → List (List ℕ) → List ℕ → Plain → Type 0
+RefersAlong w tokens path x = (v : Plain) × (w ≡ Some v) × Refers v tokens path x
 
--- 4.1: The value becomes the document's. Or in the array that the tokens before the last refer to it comes as the element of the index, behind those before it, or with
--- `-` behind all; or into the object as a member, if it has none of the name; or in the place of the value of the member that is there.
+-- 4.1: The value becomes the document's. Or in the array that the tokens before the last refer to it is inserted as the element of the index, after those before it, or
+-- with `-` after all; or into the object as a member, if it has none of the name; or in the place of the value of the member that is there.
 pub data Adds (v : Plain) : List (List ℕ) → Option Plain → Option Plain → Type 0 where
   as_whole : {w : Option Plain} → Adds v [] w (Some v)
-  as_element : {tokens : List (List ℕ)} {token path : List ℕ} {w y : Option Plain} (front back : List Named) → StandsAt w tokens path (of an_array (front ++ back))
+  as_element : {tokens : List (List ℕ)} {token path : List ℕ} {w y : Option Plain} (front back : List Named) → RefersAlong w tokens path (of an_array (front ++ back))
       → IsIndex token (length front) ⊎ ((token ≡ 0x2D ∷ []) × (back ≡ []))
       → Becomes (of an_array (front ++ back)) (of an_array (front ++ record { name = []; value = v } ∷ back)) path w y → Adds v (tokens ++ token ∷ []) w y
-  as_member : {tokens : List (List ℕ)} {path : List ℕ} {w y : Option Plain} (name : List ℕ) (front : List Named) → StandsAt w tokens path (of an_object front)
+  as_member : {tokens : List (List ℕ)} {path : List ℕ} {w y : Option Plain} (name : List ℕ) (front : List Named) → RefersAlong w tokens path (of an_object front)
       → All (λ e. e.name ≢ name) front
       → Becomes (of an_object front) (of an_object (front ++ record { name = name; value = v } ∷ [])) path w y → Adds v (tokens ++ name ∷ []) w y
-  in_member : {tokens : List (List ℕ)} {path place : List ℕ} {w y : Option Plain} {x : Plain} (name : List ℕ) (members : List Named) → StandsAt w tokens path (of an_object members)
-      → StandsAt w (tokens ++ name ∷ []) place x → Becomes x v place w y → Adds v (tokens ++ name ∷ []) w y
+  in_member : {tokens : List (List ℕ)} {path place : List ℕ} {w y : Option Plain} {x : Plain} (name : List ℕ) (members : List Named) → RefersAlong w tokens path (of an_object members)
+      → RefersAlong w (tokens ++ name ∷ []) place x → Becomes x v place w y → Adds v (tokens ++ name ∷ []) w y
 
--- 4.2: the value that the tokens refer to leaves, with its member or as the element
+-- 4.2: the value that the tokens refer to is removed, with its member or as the element
 abbrev pub Removes : List (List ℕ) → Option Plain → Option Plain → Type 0
-Removes tokens w y = (path : List ℕ) × (x : Plain) × StandsAt w tokens path x × Loses w y path
+Removes tokens w y = (path : List ℕ) × (x : Plain) × RefersAlong w tokens path x × Loses w y path
 
 -- 4.3: the value that the tokens refer to is replaced by another
 abbrev pub Replaces : Plain → List (List ℕ) → Option Plain → Option Plain → Type 0
-Replaces v tokens w y = (path : List ℕ) × (x : Plain) × StandsAt w tokens path x × Becomes x v path w y
+Replaces v tokens w y = (path : List ℕ) × (x : Plain) × RefersAlong w tokens path x × Becomes x v path w y
 
 -- the first tokens do not begin the others, or are they all
 abbrev pub LeadsElsewhere : List (List ℕ) → List (List ℕ) → Type 0
 LeadsElsewhere from to = (token : List ℕ) (rest : List (List ℕ)) → to ≢ from ++ token ∷ rest
 
--- 4.4: The value that the first tokens refer to leaves, and is added at the others, which do not lead into it. What is moved to its own place stays; and what is moved
+-- 4.4: The value that the first tokens refer to is removed, and is added at the others, which do not lead into it. What is moved to its own place stays; and what is moved
 -- within one object, to a name that no member has, stays in its place under this name.
 pub data Moves (from : List (List ℕ)) : List (List ℕ) → Option Plain → Option Plain → Type 0 where
   stays : {w : Option Plain} {x : Plain} → RefersTo w from x → Moves from from w w
   moved : {to : List (List ℕ)} {w u y : Option Plain} {x : Plain} → LeadsElsewhere from to → RefersTo w from x → Removes from w u → Adds (collapse x) to u y → Moves from to w y
-  renamed : {path : List ℕ} {w y : Option Plain} {x : Plain} (tokens : List (List ℕ)) (last name : List ℕ) → from ≡ tokens ++ last ∷ [] → StandsAt w from path x
+  renamed : {path : List ℕ} {w y : Option Plain} {x : Plain} (tokens : List (List ℕ)) (last name : List ℕ) → from ≡ tokens ++ last ∷ [] → RefersAlong w from path x
       → ReferToNothing w (tokens ++ name ∷ []) → BecomesProperty (λ old. record { name = name; value = old.value }) path w y → Moves from (tokens ++ name ∷ []) w y
 
 -- 4.5: the value that the first tokens refer to is added at the others

@@ -33,8 +33,8 @@ kind_name Test = codes "test"
 abbrev pub IsNoKind : List ℕ → Type 0
 IsNoKind name = (kind : Kind) → name ≢ kind_name kind
 
--- the fault has this name, or tells that there was no memory for it
-abbrev pub TellsRepeated : {A : Type 0} → List ℕ → OperationFault A → Type 0
-TellsRepeated name (RepeatedName s) = chars_of s ≡ name
-TellsRepeated name OutOfMemory = Unit {0}
-TellsRepeated name other = ⊥
+-- the fault has this name, or reports that there was no memory for it
+abbrev pub ReportsRepeated : {A : Type 0} → List ℕ → OperationFault A → Type 0
+ReportsRepeated name (RepeatedName s) = chars_of s ≡ name
+ReportsRepeated name OutOfMemory = Unit {0}
+ReportsRepeated name other = ⊥

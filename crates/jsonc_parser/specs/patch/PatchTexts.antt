@@ -21,7 +21,7 @@ IsNamed name ms = HasMember (codes "op") (string name) ms
 abbrev pub PointsTo : List ℕ → List (List ℕ) → Members → Type 0
 PointsTo name tokens ms = HasMember name (string (pointer_text tokens)) ms
 
--- the member `value` is this value, in which no name stands twice
+-- the member `value` is this value, in which no name occurs twice
 abbrev pub HasOperand : Plain → Members → Type 0
 HasOperand v ms = HasMember (codes "value") v ms × HasUniqueNames v
 

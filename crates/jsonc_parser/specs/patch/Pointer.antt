@@ -1,4 +1,4 @@
--- The text of a JSON Pointer (RFC 6901, 3): tokens, each behind a `/`.
+-- The text of a JSON Pointer (RFC 6901, 3): tokens, each after a `/`.
 use Rattle.std.specs.Prelude.{◌≡◌, ◌≢◌, ◌++◌, [], ◌∷◌, ◌==◌, ◌||◌, ℕ, Bool, List, flat_map, if◌then◌else◌, IsTrue, Option, Some, None}
 use Rattle.jsonc_text.specs.Text.{byte_length, next, no}
 use Rattle.jsonc_parser.specs.paths.Found.{names_of}
@@ -24,20 +24,20 @@ pub record LacksSlash (text : List ℕ) : Type 0 where
   pub is : text ≡ first ∷ rest
   pub another : first ≢ 0x2F
 
--- the character of an escape behind its `~`
+-- the character of an escape after its `~`
 abbrev pub is_escape : ℕ → Bool
 is_escape c = c == 0x30 || c == 0x31
 
--- at this place, behind a pointer of one token or more, stands a `~` with neither `0` nor `1` behind it
+-- at this place, after a pointer of one token or more, is a `~` with neither `0` nor `1` after it
 pub record HasLooseTilde (text : List ℕ) (place : ℕ) : Type 0 where
   pub tokens : List (List ℕ)
-  pub behind : List ℕ
-  pub is : text ≡ pointer_text tokens ++ 0x7E ∷ behind
+  pub rest : List ℕ
+  pub is : text ≡ pointer_text tokens ++ 0x7E ∷ rest
   pub in_token : tokens ≢ []
   pub at : place ≡ byte_length (pointer_text tokens)
-  pub loose : IsTrue (no is_escape (next behind))
+  pub loose : IsTrue (no is_escape (next rest))
 
--- why the text was refused; memory is wanted only for a token
+-- why the text was refused; memory is needed only for a token
 abbrev pub IsPointerFault : List ℕ → PointerError → Type 0
 IsPointerFault text NoLeadingSlash = LacksSlash text
 IsPointerFault text (InvalidEscape place) = HasLooseTilde text place

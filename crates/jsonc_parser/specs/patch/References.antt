@@ -5,7 +5,7 @@ use Rattle.jsonc_text.specs.Plain.{Plain, array, object, Items, item, Members, m
 use Rattle.jsonc_text.specs.Text.{next}
 use Rattle.jsonc_insert.specs.named.Members.{LacksMember, IsFirstMember}
 
--- the token is digits, of which a 0 stands first only where it is alone, and they write this number
+-- the token is digits, of which a 0 is first only where it is alone, and they write this number
 pub record IsIndex (token : List ℕ) (i : ℕ) : Type 0 where
   pub digits : IsNumeral 10 token
   pub leading : next token ≡ Some 0x30 → length token ≡ 1
@@ -35,7 +35,7 @@ pub data Refers : Plain → List (List ℕ) → List ℕ → Plain → Type 0 wh
   to_element : {token : List ℕ} {tokens : List (List ℕ)} {i : ℕ} {path : List ℕ} {vs : Items} {x v : Plain} → IsIndex token i → IsItem x i vs → Refers x tokens path v
       → Refers (array vs) (token ∷ tokens) (i ∷ path) v
 
--- on the way the tokens come to an object where this name, the next of them, is that of more than one member: evaluation fails
+-- on the way the tokens lead to an object where this name, the next of them, is that of more than one member: evaluation fails
 pub data MeetsRepeated (name : List ℕ) : Plain → List (List ℕ) → Type 0 where
   here : {tokens : List (List ℕ)} {ms : Members} → IsRepeated name ms → MeetsRepeated name (object ms) (name ∷ tokens)
   in_member : {token : List ℕ} {tokens : List (List ℕ)} {i : ℕ} {ms : Members} {x : Plain} → IsOnly token x i ms → MeetsRepeated name x tokens
@@ -50,6 +50,6 @@ RefersTo w tokens v = (x : Plain) × (w ≡ Some x) × (path : List ℕ) × Refe
 abbrev pub FailsAt : Option Plain → List (List ℕ) → List ℕ → Type 0
 FailsAt w tokens name = (x : Plain) × (w ≡ Some x) × MeetsRepeated name x tokens
 
--- the tokens refer to nothing, and on the way to where they end no name stands twice
+-- the tokens refer to nothing, and on the way to where they end no name occurs twice
 abbrev pub ReferToNothing : Option Plain → List (List ℕ) → Type 0
 ReferToNothing w tokens = ((v : Plain) → RefersTo w tokens v → ⊥) × ((name : List ℕ) → FailsAt w tokens name → ⊥)

@@ -1,4 +1,4 @@
--- What stands at paths of positions: which node is found there, what it has, and what is taken of it.
+-- What is at paths of positions: which node is found there, what it has, and what is taken of it.
 use Rattle.std.specs.Prelude.{◌≡◌, ◌↔◌, ◌++◌, ◌∷◌, [], ℕ, List, Option, Some, None, option_map}
 use Rattle.jsonc_text.specs.Documents.{Document}
 use Rattle.jsonc_text.specs.Plain.{Plain, Members, collapse}
@@ -19,13 +19,13 @@ use Rattle.jsonc_edit.specs.Paths.{IsAt, Stands}
 use Rattle.jsonc_insert.specs.named.Members.{IsFirstMember, LacksMember}
 use Rattle.jsonc_insert.specs.named.Places.{IsPropertyAt}
 
--- The node at the path has the value v, which stands there in the document's: there v may be replaced by itself. What is taken of the node stands for v, of equal names
--- the last at the first place.
+-- The node at the path has the value v, which is there in the document's: there v may be replaced by itself. What is taken of the node represents v, of equal
+-- names the last at the first place.
 pub record HasItsValue (A : Type 0) (d : Document) (ns : List Node) (path : List ℕ) (n : ℕ) : Type 0 where
   pub x : Plain
   pub is : d.value ≡ Some x
   pub v : Plain
-  pub stands : Changed v v path x x
+  pub there : Changed v v path x x
   pub has : HasValue d.options (top_at ns n) v
   pub taken : (taken : Option (CstInputValue A)) → IsTaken (ordered_tree ns n) taken → option_map plain taken ≡ Some (collapse v)
 
@@ -50,7 +50,7 @@ pub record IsFoundFirst (d : Document) (ns : List Node) (path name : List ℕ) (
   pub x : Plain
   pub is : d.value ≡ Some x
   pub ms : Members
-  pub stands : Changed (plain_values.object ms) (plain_values.object ms) path x x
+  pub there : Changed (plain_values.object ms) (plain_values.object ms) path x x
   pub none : (found ≡ None) ↔ LacksMember name ms
   pub some : (r : ℕ) → found ≡ Some r → (i : ℕ) × IsFirstMember name i ms × IsPropertyAt ns (path ++ i ∷ []) r
 
@@ -58,6 +58,6 @@ abbrev pub FindsFirst : Document → List Node → List ℕ → ℕ → List ℕ
 FindsFirst d ns path n name found =
     IsTree ns → Shows d (ordered_tree ns 0) → IsAt ns path n → content_at ns n ≡ object → FirstInObject ns n name found → IsFoundFirst d ns path name found
 
--- each node that stands in the document has its place in it
-abbrev pub StandsThere : Document → List Node → ℕ → Type 0
-StandsThere d ns n = IsTree ns → Shows d (ordered_tree ns 0) → IsOver ns 0 n → Stands ns n
+-- each node that is in the document is at its place there
+abbrev pub IsAtItsPlace : Document → List Node → ℕ → Type 0
+IsAtItsPlace d ns n = IsTree ns → Shows d (ordered_tree ns 0) → IsOver ns 0 n → Stands ns n

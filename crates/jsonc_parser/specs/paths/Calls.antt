@@ -18,12 +18,12 @@ use Rattle.jsonc_run.specs.Named.{Asks}
 use Rattle.jsonc_parser.specs.paths.Laws.{IsSameElsewhere, MustStay}
 use Rattle.jsonc_parser.specs.paths.Positions.{IsDroppedBy, IsPutBy}
 use Rattle.jsonc_parser.specs.paths.Settings.{At, Dropped, Put}
-use Rattle.jsonc_parser.specs.paths.Standing.{NamesNothing}
+use Rattle.jsonc_parser.specs.paths.NamedNodes.{NamesNothing}
 use Rattle.jsonc_parser.specs.paths.Which.{seen, seen_if}
 use Rattle.jsonc_parser.specs.declared.paths.which.Which.{Which}
 use Rattle.jsonc_parser.specs.declared.paths.which.Which.TheVariants.{First}
 
--- One edit leads from d to e, and in the value of e, as it is seen, v is put at the names: there v stands, and at any path that differs what stood there before.
+-- One edit leads from d to e, and in the value of e, as it is seen, v is put at the names: there v is, and at any path that differs what was there before.
 pub record IsPutIn (which : Which) (d : Document) (v : Plain) (over : Over) (names : List (List ℕ)) (edit : PlainEdit) (e : Document) : Type 0 where
   pub op : Operation
   pub asked : Asks d.value edit op
@@ -32,7 +32,7 @@ pub record IsPutIn (which : Which) (d : Document) (v : Plain) (over : Over) (nam
   pub there : At (seen_if which e.value) names (seen which v)
   pub elsewhere : IsSameElsewhere names (seen_if which d.value) (seen_if which e.value)
 
--- One edit leads from d to e, and of the value of e what stood at the names is dropped; at any path that differs stands what stood there before.
+-- One edit leads from d to e, and of the value of e what was at the names is dropped; at any path that differs is what was there before.
 pub record IsDroppedIn (d : Document) (names : List (List ℕ)) (edit : PlainEdit) (e : Document) : Type 0 where
   pub op : Operation
   pub asked : Asks d.value edit op
@@ -41,15 +41,15 @@ pub record IsDroppedIn (d : Document) (names : List (List ℕ)) (edit : PlainEdi
   pub elsewhere : IsSameElsewhere names d.value e.value
 
 -- Of a document that the old nodes show: the one edit was made that puts v at the names, and nothing had to stay; if the numbers of v are numbers of the options, it is
--- put so in a document that the new nodes show. Or nothing was made, since a value of another kind stands in the way, and is to stay.
+-- put so in a document that the new nodes show. Or nothing was made, since a value of another kind is in the way, and is to stay.
 abbrev pub PutsAt : Which → Document → Plain → Over → List (List ℕ) → List Node → List Node → Bool → Type 0
 PutsAt which d v over names old new true =
     ¬ (MustStay over (seen_if which d.value) names) × (edit : PlainEdit) × IsPutBy which v over d.value names edit × EditStep old edit new
     × (IsOfNumbers d.options v → (e : Document) × Shows e (ordered_tree new 0) × IsPutIn which d v over names edit e)
 PutsAt which d v over names old new false = (new ≡ old) × MustStay over (seen_if which d.value) names
 
--- Of a document that the old nodes show: the one edit was made that drops what stands at the names, and it is dropped so from a document that the new nodes show; or
--- nothing was made, since nothing stands there.
+-- Of a document that the old nodes show: the one edit was made that drops what is at the names, and it is dropped so from a document that the new nodes show; or
+-- nothing was made, since nothing is there.
 abbrev pub DropsAt : Document → List (List ℕ) → List Node → List Node → Bool → Type 0
 DropsAt d names old new true = (edit : PlainEdit) × IsDroppedBy d.value names edit × EditStep old edit new × (e : Document) × Shows e (ordered_tree new 0) × IsDroppedIn d names edit e
 DropsAt d names old new false = (new ≡ old) × NamesNothing First d names
@@ -72,11 +72,11 @@ IsReadThere v names old new true = (d : Document) → Shows d (ordered_tree old 
     → (w : Option Plain) → IsDocument d.options (printed_text (ordered_tree new 0)) w → At (option_map collapse w) names (collapse v)
 IsReadThere v names old new false = Unit {0}
 
--- of a document that the nodes show memory alone is wanted
+-- of a document that the nodes show memory alone is lacking
 abbrev pub WantsMemory : List Node → EditError → Type 0
 WantsMemory old why = (d : Document) → Shows d (ordered_tree old 0) → why ≡ OutOfMemory
 
--- where the one edit that puts the value was made, or that drops what stands there
+-- where the one edit that puts the value was made, or that drops what is there
 abbrev pub PutsByOneEdit : Which → Document → Plain → Over → List (List ℕ) → PlainEdit → List Node → List Node → Type 0
 PutsByOneEdit which d v over names edit old new =
     IsTree old → IsTree new → Shows d (ordered_tree old 0) → IsPutBy which v over d.value names edit → IsOfCharacters edit → EditStep old edit new

@@ -15,7 +15,7 @@ use Rattle.jsonc_parser.specs.paths.Which.{seen_if}
 use Rattle.jsonc_parser.specs.declared.paths.which.Which.{Which}
 
 module _ {A : Type 0} where
-  -- the edit puts v at the names in whatever document the tree shows; or none does, since a value of another kind stands in the way and is to stay
+  -- the edit puts v at the names in whatever document the tree shows; or none does, since a value of another kind is in the way and is to stay
   abbrev pub Chooses : Which → CstRootNode A → Plain → Over → List (List ℕ) → Option (Edit A) → Type 0
   Chooses which doc v over names None = (d : Document) → Shows d (tree_of doc) → MustStay over (seen_if which d.value) names
   Chooses which doc v over names (Some edit) = (is_whole edit ≡ true) × ((d : Document) → Shows d (tree_of doc) → IsPutBy which v over d.value names (operation_of unsorted edit))

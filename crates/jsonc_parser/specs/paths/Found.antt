@@ -11,7 +11,7 @@ use Rattle.jsonc_cst.specs.declared.cst.node.CstNode.{CstNode}
 use Rattle.jsonc_cst.specs.Document.{nodes_of, tree_of}
 use Rattle.jsonc_cst.specs.Nodes.{number_of}
 use Rattle.jsonc_parser.specs.paths.Settings.{At}
-use Rattle.jsonc_parser.specs.paths.Standing.{NamesNode, NamesNothing}
+use Rattle.jsonc_parser.specs.paths.NamedNodes.{NamesNode, NamesNothing}
 use Rattle.jsonc_parser.specs.declared.paths.which.Which.TheVariants.{First}
 
 module _ {A : Type 0} where
@@ -19,7 +19,7 @@ module _ {A : Type 0} where
   abbrev pub names_of : List (String A) → List (List ℕ)
   names_of names = map chars_of names
 
-  -- the node of what stands at the names was found; or none, where nothing stands there
+  -- the node of what is at the names was found; or none, where nothing is there
   abbrev pub Finds : Document → CstRootNode A → List (List ℕ) → Option CstNode → Type 0
   Finds d doc names None = NamesNothing First d names
   Finds d doc names (Some node) = NamesNode First d (nodes_of doc) names (number_of node)
@@ -28,7 +28,7 @@ module _ {A : Type 0} where
   abbrev pub FindsWhatShown : CstRootNode A → List (List ℕ) → Option CstNode → Type 0
   FindsWhatShown doc names found = (d : Document) → Shows d (tree_of doc) → Finds d doc names found
 
-  -- one name further: nothing stands at the names with it, or at any that go on behind them
+  -- one name further: nothing is at the names with it, or at any that go on after them
   abbrev pub FindsInside : Document → CstRootNode A → List (List ℕ) → List ℕ → Option CstNode → Type 0
   FindsInside d doc names name None = (rest : List (List ℕ)) → NamesNothing First d (names ++ name ∷ rest)
   FindsInside d doc names name (Some node) = NamesNode First d (nodes_of doc) (names ++ name ∷ []) (number_of node)
@@ -37,7 +37,7 @@ module _ {A : Type 0} where
   FindsInsideWhatShown doc node name found = (d : Document) (names : List (List ℕ)) → Shows d (tree_of doc)
       → NamesNode First d (nodes_of doc) names (number_of node) → FindsInside d doc names name found
 
-  -- what was taken stands for the value at the names, of equal names the last at the first place; none was taken where nothing stands there
+  -- what was taken represents the value at the names, of equal names the last at the first place; none was taken where nothing is there
   abbrev pub Reads : Document → List (List ℕ) → Option (CstInputValue A) → Type 0
   Reads d names None = NamesNothing First d names
   Reads d names (Some taken) = (v : Plain) × At d.value names v × (plain taken ≡ collapse v)

@@ -1,4 +1,4 @@
--- What memory is wanted for at a path of names: to look up a name, or behind that for what is read, put or dropped there.
+-- What memory is needed for at a path of names: to look up a name, or after that for what is read, put or dropped there.
 use Rattle.std.specs.Prelude.{◌≡◌, ◌⊎◌, ◌++◌, ◌∷◌, ℕ, Bool, List, Option}
 use Rattle.std.specs.Bool.{Decides}
 use Rattle.jsonc_text.specs.Documents.{Document}
@@ -9,8 +9,8 @@ use Rattle.jsonc_layout.specs.nodes.Names.{HoldsEscapedName}
 use Rattle.jsonc_sound.specs.Documents.{Shows}
 use Rattle.jsonc_text.specs.declared.edit.Over.{Over}
 use Rattle.jsonc_parser.specs.paths.Laws.{MustStay}
-use Rattle.jsonc_parser.specs.paths.Settings.{At, StandsInTheWay}
-use Rattle.jsonc_parser.specs.paths.Standing.{NamesNode}
+use Rattle.jsonc_parser.specs.paths.Settings.{At, IsInTheWay}
+use Rattle.jsonc_parser.specs.paths.NamedNodes.{NamesNode}
 use Rattle.jsonc_parser.specs.paths.Which.{seen_if}
 use Rattle.jsonc_parser.specs.declared.paths.which.Which.{Which}
 use Rattle.jsonc_parser.specs.declared.paths.which.Which.TheVariants.{First}
@@ -25,7 +25,7 @@ pub record PassesEscaped (which : Which) (d : Document) (ns : List Node) (names 
   pub leads : NamesNode which d ns front object
   pub escaped : HoldsEscapedName ns object
 
--- something stands at the names
+-- something is at the names
 abbrev pub SomethingAt : Option Plain → List (List ℕ) → Type 0
 SomethingAt w names = (v : Plain) × At w names v
 
@@ -33,7 +33,7 @@ SomethingAt w names = (v : Plain) × At w names v
 abbrev pub WantsToLookUp : Which → List Node → List (List ℕ) → Type 0
 WantsToLookUp which ns names = (d : Document) → Shows d (ordered_tree ns 0) → PassesEscaped which d ns names
 
--- it was so, or something stands at the names, for which it was wanted
+-- it was so, or something is at the names, for which it was needed
 abbrev pub WantsForSomething : List Node → List (List ℕ) → Type 0
 WantsForSomething ns names = (d : Document) → Shows d (ordered_tree ns 0) → PassesEscaped First d ns names ⊎ SomethingAt d.value names
 
@@ -41,10 +41,10 @@ WantsForSomething ns names = (d : Document) → Shows d (ordered_tree ns 0) → 
 abbrev pub WantsToPut : Which → Over → List Node → List (List ℕ) → Type 0
 WantsToPut which over ns names = (d : Document) → Shows d (ordered_tree ns 0) → PassesEscaped which d ns names ⊎ ¬ (MustStay over (seen_if which d.value) names)
 
--- whether a value of another kind than an object stands in the way
-abbrev pub TellsTheWay : Which → List Node → List (List ℕ) → Bool → Type 0
-TellsTheWay which ns names b = (d : Document) → Shows d (ordered_tree ns 0) → Decides b (StandsInTheWay (seen_if which d.value) names)
+-- whether a value of another kind than an object is in the way
+abbrev pub DecidesInTheWay : Which → List Node → List (List ℕ) → Bool → Type 0
+DecidesInTheWay which ns names b = (d : Document) → Shows d (ordered_tree ns 0) → Decides b (IsInTheWay (seen_if which d.value) names)
 
 -- and whether it is to stay
-abbrev pub TellsWhatStays : Which → Over → List Node → List (List ℕ) → Bool → Type 0
-TellsWhatStays which over ns names b = (d : Document) → Shows d (ordered_tree ns 0) → Decides b (MustStay over (seen_if which d.value) names)
+abbrev pub DecidesMustStay : Which → Over → List Node → List (List ℕ) → Bool → Type 0
+DecidesMustStay which over ns names b = (d : Document) → Shows d (ordered_tree ns 0) → Decides b (MustStay over (seen_if which d.value) names)

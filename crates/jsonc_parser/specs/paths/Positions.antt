@@ -1,4 +1,4 @@
--- Names as positions: which positions names lead over, and which one edit at these puts a value, or takes it out.
+-- Names as positions: which positions names lead over, and which one edit at these puts a value, or removes it.
 use Rattle.std.specs.Prelude.{◌≡◌, ◌⊎◌, ℕ, List, [], ◌∷◌, ◌++◌, Option, Some, None}
 use Rattle.jsonc_text.specs.Plain.{Plain, object, Members}
 use Rattle.jsonc_text.specs.declared.edit.Over.{Over}
@@ -17,7 +17,7 @@ pub data Leads (which : Which) : List (List ℕ) → List ℕ → Plain → Plai
       → Leads which (name ∷ names) (i ∷ path) (object ms) v
 
 -- The one edit that puts v at the names: the document's value is set, where there is no name; it is set to v nested, where there was none; the value of the
--- property that all names lead to is set; where one name is missing in the object that those before it lead to, a property of it comes last, with the rest nested;
+-- property that all names lead to is set; where one name is missing in the object that those before it lead to, a property of it is appended, with the rest nested;
 -- and where those before it lead to a value of another kind, the rest nested is written in its place, if it may be.
 pub data IsPutBy (which : Which) (v : Plain) (over : Over) : Option Plain → List (List ℕ) → PlainEdit → Type 0 where
   sets_root : {w : Option Plain} → IsPutBy which v over w [] (set_root v)
@@ -29,13 +29,13 @@ pub data IsPutBy (which : Which) (v : Plain) (over : Over) : Option Plain → Li
   replaces : (front rest : List (List ℕ)) {name : List ℕ} {path : List ℕ} {x other : Plain} → Leads which front path x other → IsNoObject other
       → over ≡ Replace → IsPutBy which v over (Some x) (front ++ name ∷ rest) (replace path (nest (name ∷ rest) v))
 
--- the one edit that takes out what stands at the names: that which removes the entry that they lead to, or the document's value
+-- the one edit that removes what is at the names: that which removes the entry that they lead to, or the document's value
 pub data IsDroppedBy : Option Plain → List (List ℕ) → PlainEdit → Type 0 where
   removes : {names : List (List ℕ)} {path : List ℕ} {x was : Plain} → Leads First names path x was → IsDroppedBy (Some x) names (remove path)
 
--- names lead to a value exactly where it stands at them
-abbrev pub LeadToWhatStands : Option Plain → List (List ℕ) → Plain → Type 0
-LeadToWhatStands w names v = At w names v → (x : Plain) × (w ≡ Some x) × (path : List ℕ) × Leads First names path x v
+-- names lead to a value exactly where it is at them
+abbrev pub LeadToWhatIsThere : Option Plain → List (List ℕ) → Plain → Type 0
+LeadToWhatIsThere w names v = At w names v → (x : Plain) × (w ≡ Some x) × (path : List ℕ) × Leads First names path x v
 
 -- the edit has its place, and what the operation that it asks for makes of a value is seen as that which has v put at the names
 abbrev pub PutsByIt : Which → Plain → Over → Option Plain → List (List ℕ) → PlainEdit → Type 0
@@ -54,6 +54,6 @@ pub data Reaches (x : Plain) : List (List ℕ) → Type 0 where
   to_another : (front : List (List ℕ)) (name : List ℕ) (rest : List (List ℕ)) {path : List ℕ} {other : Plain} → Leads First front path x other → IsNoObject other
       → Reaches x (front ++ name ∷ rest)
 
--- one of the edits puts v at the names, or else something must stay that stands in the way
+-- one of the edits puts v at the names, or else something must stay that is in the way
 abbrev pub IsPutByOne : Plain → Over → Option Plain → List (List ℕ) → Type 0
 IsPutByOne v over w names = ((e : PlainEdit) × IsPutBy First v over w names e) ⊎ MustStay over w names

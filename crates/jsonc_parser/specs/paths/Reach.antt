@@ -11,7 +11,7 @@ use Rattle.jsonc_cst.specs.Document.{nodes_of, tree_of, HasNode}
 use Rattle.jsonc_cst.specs.Nodes.{number_of}
 use Rattle.jsonc_parser.specs.paths.Settings.{IsNoObject}
 use Rattle.jsonc_parser.specs.paths.Positions.{Leads}
-use Rattle.jsonc_parser.specs.paths.Standing.{NamesNode}
+use Rattle.jsonc_parser.specs.paths.NamedNodes.{NamesNode}
 use Rattle.jsonc_parser.specs.declared.paths.which.Which.{Which}
 use Rattle.jsonc_parser.specs.declared.paths.reached.Reached.{Reached}
 use Rattle.jsonc_parser.specs.declared.paths.reached.Reached.TheVariants.{Nothing, Value, Missing, Another}
@@ -24,7 +24,7 @@ Steps which d ns names n name w (steps.On index node) = (further : NamesNode whi
 Steps which d ns names n name w steps.Missing = (ms : Members) × (w.v ≡ object ms) × LacksMember name ms
 Steps which d ns names n name w steps.Another = IsNoObject w.v
 
--- the document's value is x, the names before this number lead in it over the path to v, and then come this name and the rest
+-- the document's value is x, the names before this number lead in it over the path to v, and then this name and the rest follow
 pub record ReachesTo (which : Which) (d : Document) (names : List (List ℕ)) (path : List ℕ) (count : ℕ) (v : Plain) : Type 0 where
   pub x : Plain
   pub is : d.value ≡ Some x

@@ -19,17 +19,17 @@ pub data FirstBecomes (name : List ℕ) (x y : Plain) : Members → Members → 
   this_becomes : {ms : Members} → FirstBecomes name x y (member name x ms) (member name y ms)
   later_becomes : {n : List ℕ} {w : Plain} {ms ns : Members} → n ≢ name → FirstBecomes name x y ms ns → FirstBecomes name x y (member n w ms) (member n w ns)
 
--- the first property of this name has left, and nothing else has changed
-pub data FirstLeaves (name : List ℕ) : Members → Members → Type 0 where
-  this_leaves : {w : Plain} {ms : Members} → FirstLeaves name (member name w ms) ms
-  later_leaves : {n : List ℕ} {w : Plain} {ms ns : Members} → n ≢ name → FirstLeaves name ms ns → FirstLeaves name (member n w ms) (member n w ns)
+-- the first property of this name has been removed, and nothing else has changed
+pub data FirstIsRemoved (name : List ℕ) : Members → Members → Type 0 where
+  this_removed : {w : Plain} {ms : Members} → FirstIsRemoved name (member name w ms) ms
+  later_removed : {n : List ℕ} {w : Plain} {ms ns : Members} → n ≢ name → FirstIsRemoved name ms ns → FirstIsRemoved name (member n w ms) (member n w ns)
 
--- none had this name, and one of this name and value has come behind all
-pub data ComesLast (name : List ℕ) (v : Plain) : Members → Members → Type 0 where
-  comes_alone : ComesLast name v no_members (member name v no_members)
-  comes_behind : {n : List ℕ} {w : Plain} {ms ns : Members} → n ≢ name → ComesLast name v ms ns → ComesLast name v (member n w ms) (member n w ns)
+-- none had this name, and one of this name and value has been appended
+pub data IsAppended (name : List ℕ) (v : Plain) : Members → Members → Type 0 where
+  appended_alone : IsAppended name v no_members (member name v no_members)
+  appended_after : {n : List ℕ} {w : Plain} {ms ns : Members} → n ≢ name → IsAppended name v ms ns → IsAppended name v (member n w ms) (member n w ns)
 
--- the value v stands at the names: in each object that of the first property of the name
+-- the value v is at the names: in each object that of the first property of the name
 pub data At : Option Plain → List (List ℕ) → Plain → Type 0 where
   itself : {v : Plain} → At (Some v) [] v
   in_object : {name : List ℕ} {names : List (List ℕ)} {ms : Members} {x v : Plain} → FirstIs name x ms → At (Some x) names v → At (Some (object ms)) (name ∷ names) v
@@ -43,30 +43,30 @@ nest (name ∷ names) v = object (member name (nest names v) no_members)
 abbrev pub IsNoObject : Plain → Type 0
 IsNoObject x = (ms : Members) → x ≢ object ms
 
--- a value of another kind than an object stands where a name is still to lead on
-pub data StandsInTheWay : Option Plain → List (List ℕ) → Type 0 where
-  this_stands : {name : List ℕ} {names : List (List ℕ)} {x : Plain} → IsNoObject x → StandsInTheWay (Some x) (name ∷ names)
-  inner_stands : {name : List ℕ} {names : List (List ℕ)} {ms : Members} {x : Plain} → FirstIs name x ms → StandsInTheWay (Some x) names
-      → StandsInTheWay (Some (object ms)) (name ∷ names)
+-- a value of another kind than an object is where a name is still to lead on
+pub data IsInTheWay : Option Plain → List (List ℕ) → Type 0 where
+  this_in_the_way : {name : List ℕ} {names : List (List ℕ)} {x : Plain} → IsNoObject x → IsInTheWay (Some x) (name ∷ names)
+  inner_in_the_way : {name : List ℕ} {names : List (List ℕ)} {ms : Members} {x : Plain} → FirstIs name x ms → IsInTheWay (Some x) names
+      → IsInTheWay (Some (object ms)) (name ∷ names)
 
 -- The value v has been put at the names: with no name left it is the value there; the value of the first property of a name that is there changes inside;
--- where none has the name, one comes behind all, with the rest nested; a document that had no value has all nested; and a value of another kind on the way
+-- where none has the name, one is appended, with the rest nested; a document that had no value has all nested; and a value of another kind on the way
 -- has been replaced by the rest nested, where it may.
 pub data Put (v : Plain) (over : Over) : Option Plain → List (List ℕ) → Option Plain → Type 0 where
   is_there : {w : Option Plain} → Put v over w [] (Some v)
   changes_inside : {name : List ℕ} {names : List (List ℕ)} {ms ns : Members} {x y : Plain} → FirstBecomes name x y ms ns → Put v over (Some x) names (Some y)
       → Put v over (Some (object ms)) (name ∷ names) (Some (object ns))
-  comes_last : {name : List ℕ} {names : List (List ℕ)} {ms ns : Members} → ComesLast name (nest names v) ms ns
+  is_appended : {name : List ℕ} {names : List (List ℕ)} {ms ns : Members} → IsAppended name (nest names v) ms ns
       → Put v over (Some (object ms)) (name ∷ names) (Some (object ns))
-  comes_first : {name : List ℕ} {names : List (List ℕ)} → Put v over None (name ∷ names) (Some (nest (name ∷ names) v))
+  is_nested : {name : List ℕ} {names : List (List ℕ)} → Put v over None (name ∷ names) (Some (nest (name ∷ names) v))
   gives_way : {name : List ℕ} {names : List (List ℕ)} {x : Plain} → IsNoObject x → over ≡ Replace
       → Put v over (Some x) (name ∷ names) (Some (nest (name ∷ names) v))
 
--- what stood at the names has left: the document's value, or with its property the first of the last name
+-- what was at the names has been dropped: the document's value, or with its property the first of the last name
 pub data Dropped : Option Plain → List (List ℕ) → Option Plain → Type 0 where
-  value_leaves : {v : Plain} → Dropped (Some v) [] None
-  entry_leaves : {name : List ℕ} {ms ns : Members} → FirstLeaves name ms ns → Dropped (Some (object ms)) (name ∷ []) (Some (object ns))
-  leaves_inside : {name : List ℕ} {names : List (List ℕ)} {ms ns : Members} {x y : Plain} → FirstBecomes name x y ms ns → Dropped (Some x) names (Some y)
+  value_dropped : {v : Plain} → Dropped (Some v) [] None
+  property_dropped : {name : List ℕ} {ms ns : Members} → FirstIsRemoved name ms ns → Dropped (Some (object ms)) (name ∷ []) (Some (object ns))
+  dropped_inside : {name : List ℕ} {names : List (List ℕ)} {ms ns : Members} {x y : Plain} → FirstBecomes name x y ms ns → Dropped (Some x) names (Some y)
       → Dropped (Some (object ms)) (name ∷ names) (Some (object ns))
 
 -- two paths differ at a step that both have

@@ -37,7 +37,7 @@ module _ {A : Type 0} where
   abbrev pub IsChosenNamed : Which → CstRootNode A → CstObject → List ℕ → Option CstObjectProp → Type 0
   IsChosenNamed which d object name found = IsChosenIn which (nodes_of d) object.number name (option_map (λ p. p.number) found)
 
--- A value as it is seen where that property stands for its name: as it is, or with equal names collapsed. In what is seen names are looked up as first ones.
+-- A value as it is seen where a name refers to that property: as it is, or with equal names collapsed. In what is seen names are looked up as first ones.
 abbrev pub seen : Which → Plain → Plain
 seen First x = x
 seen Last x = collapse x

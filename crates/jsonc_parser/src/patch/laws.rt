@@ -50,7 +50,7 @@ pub fn merges_are_merge_patches()
     ensures some { (p : Plain) (w : Option Plain) → HasUniqueNames p → RepeatsNoName w → (y : Option Plain) × Merges [] p w y }
 {}
 
-/// Worked rows: `MergePatch`, as it is defined here, makes the results of the test cases of RFC 7396 (appendix A).
+/// Worked examples: `MergePatch`, as it is defined here, makes the results of the test cases of RFC 7396 (appendix A).
 pub fn worked_merge_patches()
     ensures { AllHold cases }
 {}

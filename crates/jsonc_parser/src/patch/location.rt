@@ -6,7 +6,7 @@ ghost use Rattle.jsonc_edit.specs.Paths.{IsAt, IsElementOf, IsHeldBy, StepsTo};
 ghost use Rattle.jsonc_cst.specs.Document.{content_of, nodes_of, HasNode};
 ghost use Rattle.jsonc_cst.specs.Nodes.{number_of};
 ghost use Rattle.jsonc_parser.specs.patch.Found.{IsOfShown};
-ghost use Rattle.jsonc_parser.specs.patch.Locations.{TellsPointer, TellsToken, TellsTokens};
+ghost use Rattle.jsonc_parser.specs.patch.Locations.{AreTokensTo, IsPointerTo, IsTokenTo};
 
 use super::pointer::Pointer;
 use super::reference::{Lookup, look_up, value_under};
@@ -23,9 +23,9 @@ fn name_to<A: Allocator + Copy>(
     requires in_document { HasNode doc.now object }
     requires object { content_of doc.now object ≡ Content.object }
     requires property { property < length (nodes_of doc.now) }
-    ensures told { IfOk result (λ told. (i q : ℕ) → IsElementOf (nodes_of doc.now) (number_of object) i property
-        → IsHeldBy (nodes_of doc.now) property q → TellsToken doc.now object i q told) }
-    ensures in_document { IfOk result (λ told. IfSome told (λ t. HasNode doc.now t.1)) }
+    ensures token { IfOk result (λ found. (i q : ℕ) → IsElementOf (nodes_of doc.now) (number_of object) i property
+        → IsHeldBy (nodes_of doc.now) property q → IsTokenTo doc.now object i q found) }
+    ensures in_document { IfOk result (λ found. IfSome found (λ t. HasNode doc.now t.1)) }
     ensures memory { IfErr result (λ e. e ≡ EditError.OutOfMemory) }
 {
     let name = match decoded_name(*doc.allocator(), doc.tree(), property) {
@@ -51,9 +51,9 @@ fn token_to<A: Allocator + Copy>(
     place: usize,
 ) -> Result<Option<(String<A>, CstNode)>, EditError>
     requires { HasNode doc.now node }
-    ensures told { IfOk result (λ told. (q : ℕ) → StepsTo (nodes_of doc.now) (number_of node) place q
-        → TellsToken doc.now node place q told) }
-    ensures in_document { IfOk result (λ told. IfSome told (λ t. HasNode doc.now t.1)) }
+    ensures token { IfOk result (λ found. (q : ℕ) → StepsTo (nodes_of doc.now) (number_of node) place q
+        → IsTokenTo doc.now node place q found) }
+    ensures in_document { IfOk result (λ found. IfSome found (λ t. HasNode doc.now t.1)) }
     ensures memory { IfErr result (λ e. e ≡ EditError.OutOfMemory) }
 {
     let Some(entry) = element_at(doc.tree(), node.number(), place) else {
@@ -73,8 +73,8 @@ fn tokens_over<A: Allocator + Copy>(
     doc: &CstRootNode<A>,
     path: &[usize],
 ) -> Result<Option<Vec<String<A>, A>>, EditError>
-    ensures told { IfOk result (λ told. (n : ℕ) → IsAt (nodes_of doc.now) path.now n
-        → IsOfShown doc.now (TellsTokens doc.now n told)) }
+    ensures tokens { IfOk result (λ found. (n : ℕ) → IsAt (nodes_of doc.now) path.now n
+        → IsOfShown doc.now (AreTokensTo doc.now n found)) }
     ensures memory { IfErr result (λ e. e ≡ EditError.OutOfMemory) }
 {
     let Some(value) = doc.value() else {
@@ -107,7 +107,7 @@ pub fn pointer_of<A: Allocator + Copy>(
     node: CstNode,
 ) -> Result<Option<Pointer<A>>, EditError>
     requires { HasNode doc.now node }
-    ensures told { IfOk result (λ told. IsOfShown doc.now (TellsPointer doc.now (number_of node) told)) }
+    ensures pointer { IfOk result (λ found. IsOfShown doc.now (IsPointerTo doc.now (number_of node) found)) }
     ensures memory { IfErr result (λ e. e ≡ EditError.OutOfMemory) }
 {
     let path = match doc.path(node) {

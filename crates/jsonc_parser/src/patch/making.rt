@@ -12,7 +12,7 @@ ghost use Rattle.jsonc_cst.specs.Nodes.{number_of};
 ghost use Rattle.jsonc_parser.specs.paths.Found.{names_of};
 ghost use Rattle.jsonc_parser.specs.patch.Applied.{is_one_edit, AddsMember, AppendsTo, FailsBelow, FailsForMemory};
 ghost use Rattle.jsonc_parser.specs.patch.Applied.{FailsWhatShown, IsKept, IsPathless, IsRefusal, IsUnfound};
-ghost use Rattle.jsonc_parser.specs.patch.Applied.{LeadsOn, LeadsOver, MakesWhatShown, PutsAt, Takes, Tells};
+ghost use Rattle.jsonc_parser.specs.patch.Applied.{HasCause, LeadsOn, LeadsOver, MakesWhatShown, PutsAt, Takes};
 ghost use Rattle.jsonc_parser.specs.patch.Asked.{asked, FitsIn};
 ghost use Rattle.jsonc_parser.specs.patch.FaultMessages.{patch_cause_text};
 ghost use Rattle.jsonc_parser.specs.patch.Found.{IsOfShown, RefersToNode};
@@ -90,7 +90,7 @@ pub(super) fn make<A: Allocator + Copy>(
 
 // The cause of a pointer that was not followed.
 pub(super) fn cause_of<A: Allocator>(error: FindError<A>) -> PatchCause<A>
-    ensures { Tells error result }
+    ensures { HasCause error result }
 {
     match error {
         FindError::RepeatedName(name) => PatchCause::RepeatedName(name),

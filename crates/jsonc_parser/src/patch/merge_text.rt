@@ -4,7 +4,7 @@ ghost use Rattle.std.specs.Prelude.{chars, IfErr, IfOk, Some};
 ghost use Rattle.jsonc_edit.specs.Writing.{IsOfNumbers};
 ghost use Rattle.jsonc_layout.specs.input.Views.{plain};
 ghost use Rattle.jsonc_parser.specs.patch.MergeMessages.{merge_patch_error_text};
-ghost use Rattle.jsonc_parser.specs.patch.MergeTexts.{IsFaultOfMergePatch, IsMergePatch, TellsFault};
+ghost use Rattle.jsonc_parser.specs.patch.MergeTexts.{IsFaultOfMergePatch, IsMergePatch, IsReportedAs};
 ghost use Rattle.jsonc_text.specs.OptionsOf.{parse_options};
 
 use super::operation::OperationFault;
@@ -80,7 +80,7 @@ pub fn merge_patch_from_json<A: Allocator + Copy>(
 
 // The error of the fault of a value.
 fn error_of<A: Allocator>(fault: OperationFault<A>) -> MergePatchError<A>
-    ensures { TellsFault fault result }
+    ensures { IsReportedAs fault result }
 {
     match fault {
         OperationFault::RepeatedName(name) => MergePatchError::RepeatedName(name),

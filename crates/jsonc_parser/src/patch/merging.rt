@@ -11,7 +11,7 @@ ghost use Rattle.jsonc_parser.specs.patch.FaultMessages.{merge_fault_text};
 ghost use Rattle.jsonc_parser.specs.patch.Found.{IsOfShown};
 ghost use Rattle.jsonc_parser.specs.patch.Merged.{MergesWhatShown, MergeStopsWhatShown};
 ghost use Rattle.jsonc_parser.specs.patch.MergeSteps.{Drops, FailsToMerge, FailsToMergeAll, FailsToSet, IsTwice, MergesNamed};
-ghost use Rattle.jsonc_parser.specs.patch.MergeSteps.{ReachesWhatShown, RefersToObject, Sets, TellsFault};
+ghost use Rattle.jsonc_parser.specs.patch.MergeSteps.{IsReportedAs, ReachesWhatShown, RefersToObject, Sets};
 ghost use Rattle.jsonc_parser.specs.patch.Merging.{made_of, members_made, IsThere, Merges, MembersMerge};
 ghost use Rattle.jsonc_parser.specs.patch.Pointer.{tokens_of};
 ghost use Rattle.jsonc_text.specs.Plain.{member, no_members, object};
@@ -93,7 +93,7 @@ pub(super) fn is_object<A: Allocator + Copy>(
     doc: &CstRootNode<A>,
     tokens: &[String<A>],
 ) -> Result<bool, PatchCause<A>>
-    ensures told { IfOk result (λ b. IsOfShown doc.now (λ d. Decides b (RefersToObject d.value (names_of tokens.now)))) }
+    ensures decided { IfOk result (λ b. IsOfShown doc.now (λ d. Decides b (RefersToObject d.value (names_of tokens.now)))) }
     ensures fails { IfErr result (λ cause. IsOfShown doc.now (λ d. IsTwice d.value (names_of tokens.now) cause)) }
 {
     match follow(doc, tokens) {
@@ -109,7 +109,7 @@ fn is_there<A: Allocator + Copy>(
     pointer: &Pointer<A>,
     value: &CstInputValue<A>,
 ) -> Result<bool, PatchCause<A>>
-    ensures told { IfOk result (λ b. IsOfShown doc.now (λ d. Decides b (IsThere (plain value.now) (tokens_of pointer.now) d.value))) }
+    ensures decided { IfOk result (λ b. IsOfShown doc.now (λ d. Decides b (IsThere (plain value.now) (tokens_of pointer.now) d.value))) }
     ensures fails { IfErr result (λ cause. IsOfShown doc.now (λ d. IsTwice d.value (tokens_of pointer.now) cause)) }
 {
     match read(doc, pointer) {
@@ -266,9 +266,9 @@ fn merge_members<A: Allocator + Copy>(
     Ok(())
 }
 
-// The fault of a cause. Others than a name that occurs twice and a lack of memory do not come of a merge.
+// The fault of a cause. Others than a name that occurs twice and a lack of memory do not arise in a merge.
 fn fault_of<A: Allocator>(cause: PatchCause<A>) -> MergeFault<A>
-    ensures { TellsFault cause result }
+    ensures { IsReportedAs cause result }
 {
     match cause {
         PatchCause::RepeatedName(name) => MergeFault::RepeatedName(name),

@@ -147,7 +147,7 @@ fn read_tokens<A: Allocator + Copy>(alloc: A, text: &str) -> Result<Vec<String<A
 }
 
 // Reads one more character of a token, or the `/` after it. The answer is whether it is a `~`, whose
-// second character is to come. The place is that of such a `~` before.
+// second character is still to be read. The place is that of such a `~` before.
 fn read_char<A: Allocator + Copy>(
     alloc: A,
     tokens: &mut Vec<String<A>, A>,

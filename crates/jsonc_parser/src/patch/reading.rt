@@ -40,7 +40,7 @@ impl<A: Allocator + Copy> Patch<A> {
     /// The patch that a JSON text is.
     ///
     /// The text is an array of operations. Each is an object with the members `op` and `path`, and with `value` or
-    /// `from` where it wants one; other members are ignored. No name may occur twice in an operation, or in an
+    /// `from` where it needs one; other members are ignored. No name may occur twice in an operation, or in an
     /// object in its value. This is one:
     ///
     /// ```text
@@ -145,9 +145,9 @@ fn member_value<'b, 'a, A: Allocator>(
     ensures found { IfOk result (λ v. HasMember (member_name member) (ast.plain v.now) (said members.now)) }
     ensures fault { IfErr result (λ fault. Needs member (said members.now) → IsFaultOfMembers (said members.now) fault) }
 {
-    let wanted = member.name();
+    let required = member.name();
     for property in members {
-        if property.name.as_str() == wanted {
+        if property.name.as_str() == required {
             return Ok(&property.value);
         }
     }

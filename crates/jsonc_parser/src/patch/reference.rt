@@ -64,7 +64,7 @@ pub(crate) enum Lookup {
     Twice,
 }
 
-// The one property of a name among the children of an object. Memory is wanted only for a name with a
+// The one property of a name among the children of an object. Memory is needed only for a name with a
 // backslash.
 pub(super) fn look_up<A: Allocator + Copy>(
     doc: &CstRootNode<A>,
@@ -190,7 +190,7 @@ fn is_hyphen(token: &str) -> bool
     token == "-"
 }
 
-// The element of an array before which a token says that another is to come; none of the two where it says
+// The element of an array before which a token says that another is to be inserted; none of the two where it says
 // after the last.
 pub(super) fn element_place<A: Allocator>(
     doc: &CstRootNode<A>,

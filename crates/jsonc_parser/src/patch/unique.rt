@@ -3,7 +3,7 @@
 ghost use Rattle.std.specs.Prelude.{chars, IfErr, OnOk};
 ghost use Rattle.jsonc_layout.specs.input.Views.{items_plain, members_plain, plain};
 ghost use Rattle.jsonc_parser.specs.patch.Equality.{HasUniqueNames, ItemsHaveUniqueNames, MembersHaveUniqueNames};
-ghost use Rattle.jsonc_parser.specs.patch.MergeSteps.{AreNamesTwice, HasNameTwice, TellsName};
+ghost use Rattle.jsonc_parser.specs.patch.MergeSteps.{AreNamesTwice, HasNameTwice, ReportsName};
 ghost use Rattle.jsonc_parser.specs.patch.PatchTexts.{NamesDiffer};
 ghost use Rattle.jsonc_text.specs.Plain.{array, object};
 
@@ -18,7 +18,7 @@ type Names<'a, A> = IndexSet<&'a str, BuildHasherDefault<FoldHasher>, A>;
 
 // The fault of a name that occurs twice, or of no memory for it.
 fn repeated<A: Allocator>(alloc: A, name: &str) -> MergeFault<A>
-    ensures { TellsName (chars name.now) result }
+    ensures { ReportsName (chars name.now) result }
 {
     match String::from_str(alloc, name) {
         Ok(name) => MergeFault::RepeatedName(name),

@@ -7,7 +7,7 @@ ghost use Rattle.jsonc_ast.specs.Views.{items_located};
 ghost use Rattle.jsonc_layout.specs.input.Views.{items_plain, members_plain, named, plain};
 ghost use Rattle.jsonc_parser.specs.patch.Equality.{HasUniqueNames, ItemsHaveUniqueNames, MembersHaveUniqueNames};
 ghost use Rattle.jsonc_parser.specs.patch.PatchFaults.{IsFaultOfNames, IsFaultOfValue};
-ghost use Rattle.jsonc_parser.specs.patch.PatchReading.{pair_of, said, TellsRepeated};
+ghost use Rattle.jsonc_parser.specs.patch.PatchReading.{pair_of, ReportsRepeated, said};
 ghost use Rattle.jsonc_parser.specs.patch.PatchTexts.{NamesDiffer};
 ghost use Rattle.jsonc_text.specs.Plain.{array, object, string, Items, Members};
 
@@ -72,7 +72,7 @@ pub(super) fn elements_in<'b, 'a, A: Allocator>(
 
 // The fault of a name that occurs twice.
 fn repeated<A: Allocator>(alloc: A, name: &str) -> OperationFault<A>
-    ensures { TellsRepeated (chars name.now) result }
+    ensures { ReportsRepeated (chars name.now) result }
 {
     match String::from_str(alloc, name) {
         Ok(name) => OperationFault::RepeatedName(name),

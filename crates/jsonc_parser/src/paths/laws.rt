@@ -8,13 +8,13 @@ ghost use Rattle.jsonc_text.specs.declared.edit.EditError.{EditError};
 ghost use Rattle.jsonc_text.specs.declared.edit.Over.{Over};
 ghost use Rattle.jsonc_parser.specs.declared.paths.which.Which.TheVariants.{First};
 ghost use Rattle.jsonc_parser.specs.paths.Operations.{PlainEdit};
-ghost use Rattle.jsonc_parser.specs.paths.Positions.{DropsByIt, IsPutByOne, LeadToWhatStands, PutsByIt, Reaches};
+ghost use Rattle.jsonc_parser.specs.paths.Positions.{DropsByIt, IsPutByOne, LeadToWhatIsThere, PutsByIt, Reaches};
 ghost use Rattle.jsonc_parser.specs.paths.Worked.{a, both, one};
-ghost use Rattle.jsonc_parser.specs.paths.AtPaths.{FindsFirst, NodesHaveValues, PropertyHolds, RootHolds, StandsThere};
+ghost use Rattle.jsonc_parser.specs.paths.AtPaths.{FindsFirst, IsAtItsPlace, NodesHaveValues, PropertyHolds, RootHolds};
 ghost use Rattle.jsonc_parser.specs.paths.Calls.{DropsButForMemory, DropsByOneEdit, PutsUnlessOutOfMemory, PutsByOneEdit};
 ghost use Rattle.jsonc_parser.specs.paths.Settings.{At, Put, Dropped};
-ghost use Rattle.jsonc_parser.specs.paths.Standing.{BeginsThere, CountsItsNumber, LeadsOn, StopsThere};
-ghost use Rattle.jsonc_parser.specs.paths.Laws.{DropsInOneWay, DropsWhatStands, HasOneAt, IsSameElsewhere};
+ghost use Rattle.jsonc_parser.specs.paths.NamedNodes.{BeginsThere, CountsItsNumber, LeadsOn, StopsThere};
+ghost use Rattle.jsonc_parser.specs.paths.Laws.{DropsInOneWay, DropsWhatIsThere, HasOneAt, IsSameElsewhere};
 ghost use Rattle.jsonc_parser.specs.paths.Laws.{NeverBoth, PutsInOneWay, PutsOrMustStay};
 
 use std::alloc::Allocator;
@@ -46,7 +46,7 @@ pub fn what_was_put_stands_there()
 /// What is at names can be removed, exactly where something is there, and in one way alone; at each path that differs
 /// from the names at a step that both have is what was there before.
 pub fn what_stands_can_leave()
-    ensures exactly { (w : Option Plain) (names : List (List ℕ)) → DropsWhatStands w names }
+    ensures exactly { (w : Option Plain) (names : List (List ℕ)) → DropsWhatIsThere w names }
     ensures one_way { (w : Option Plain) (names : List (List ℕ)) → DropsInOneWay w names }
     ensures elsewhere { (w x : Option Plain) (names : List (List ℕ)) → Dropped w names x → IsSameElsewhere names w x }
 {}
@@ -54,7 +54,7 @@ pub fn what_stands_can_leave()
 /// Names lead over positions to what is at them; and one edit at such positions puts a value at the names, or removes
 /// what is there: it has its place, and the operation that it asks for makes what is put, or removed, and nothing else.
 pub fn one_operation_puts_or_drops()
-    ensures leads { (w : Option Plain) (names : List (List ℕ)) (v : Plain) → LeadToWhatStands w names v }
+    ensures leads { (w : Option Plain) (names : List (List ℕ)) (v : Plain) → LeadToWhatIsThere w names v }
     ensures reaches { (x : Plain) (names : List (List ℕ)) → Reaches x names }
     ensures one { (v : Plain) (how : Over) (w : Option Plain) (names : List (List ℕ)) → IsPutByOne v how w names }
     ensures puts { (v : Plain) (how : Over) (w : Option Plain) (names : List (List ℕ)) (e : PlainEdit)
@@ -62,13 +62,13 @@ pub fn one_operation_puts_or_drops()
     ensures drops { (w : Option Plain) (names : List (List ℕ)) (e : PlainEdit) → DropsByIt w names e }
 {}
 
-/// Worked rows: of two properties of one name the first is put, and not the last; where the first is removed, the
+/// Worked examples: of two properties of one name the first is put, and not the last; where the first is removed, the
 /// second is there.
 pub fn worked_equal_names()
     ensures first { (u v w : Plain) (how : Over) → Put u how (both v w) a (both u w) }
     ensures not_last { (how : Over) → Put (Plain.boolean true) how (both Plain.null Plain.null) a
         (both Plain.null (Plain.boolean true)) → ⊥ }
-    ensures leaves { (v w : Plain) → Dropped (both v w) a (one w) }
+    ensures removed { (v w : Plain) → Dropped (both v w) a (one w) }
     ensures shows { (w : Plain) → At (one w) a w }
 {}
 
@@ -101,7 +101,7 @@ pub fn what_is_read_stands_at_paths()
 /// Each node in a document that nodes show is its root, a value at a path, a property of an object at a path, the name
 /// of a property, trivia or a token.
 pub fn each_node_stands_at_its_place()
-    ensures { (d : Document) (ns : List Node) (n : ℕ) → StandsThere d ns n }
+    ensures { (d : Document) (ns : List Node) (n : ℕ) → IsAtItsPlace d ns n }
 {}
 
 /// The one edit that puts a value at names, or removes what is there, was made. Then the nodes show a document to which

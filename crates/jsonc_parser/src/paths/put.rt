@@ -9,7 +9,7 @@ ghost use Rattle.jsonc_parser.specs.declared.paths.which.Which.TheVariants.{Firs
 ghost use Rattle.jsonc_parser.specs.paths.Calls.{DropsWhatShown, IsReadThere, MakesOneEdit, PutsWhatShown, WantsMemory};
 ghost use Rattle.jsonc_parser.specs.paths.Choices.{Chooses, IsAppending};
 ghost use Rattle.jsonc_parser.specs.paths.Found.{names_of};
-ghost use Rattle.jsonc_parser.specs.paths.Memory.{TellsWhatStays, WantsForSomething, WantsToLookUp, WantsToPut};
+ghost use Rattle.jsonc_parser.specs.paths.Memory.{DecidesMustStay, WantsForSomething, WantsToLookUp, WantsToPut};
 ghost use Rattle.jsonc_parser.specs.paths.Settings.{nest};
 
 use crate::paths::find::find_at;
@@ -136,7 +136,7 @@ fn must_stay<A: Allocator + Copy>(
     over: Over,
     which: Which,
 ) -> Result<bool, EditError>
-    ensures stays { IfOk result (TellsWhatStays which over (nodes_of doc.now) (names_of names.now)) }
+    ensures stays { IfOk result (DecidesMustStay which over (nodes_of doc.now) (names_of names.now)) }
     ensures memory { IfErr result (λ e. e ≡ EditError.OutOfMemory) }
     ensures oom_only_if { OnErr result (WantsToLookUp which (nodes_of doc.now) (names_of names.now)) }
 {
@@ -171,7 +171,7 @@ fn put<A: Allocator + Copy>(
     ensures oom_only_if { OnErr result (WantsToPut which over (nodes_of doc.old) (names_of names.now)) }
     ensures document { OnErr result (tree_of doc.new ≡ tree_of doc.old) }
 {
-    // What is to stay is seen before memory is wanted for the edit.
+    // What is to stay is seen before memory is allocated for the edit.
     let stays = match must_stay(doc, names, over, which) {
         Ok(stays) => stays,
         Err(error) => return Err(error),
@@ -260,7 +260,7 @@ pub fn remove_at<A: Allocator + Copy>(
     ensures oom_only_if { OnErr result (WantsForSomething (nodes_of doc.old) (names_of names.now)) }
     ensures document { OnErr result (tree_of doc.new ≡ tree_of doc.old) }
 {
-    // Whether something is there is seen before memory is wanted for the edit.
+    // Whether something is there is seen before memory is allocated for the edit.
     match find_at(doc, names) {
         Ok(Some(_)) => {}
         Ok(None) => return Ok(false),

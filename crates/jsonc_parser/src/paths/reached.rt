@@ -5,7 +5,7 @@ ghost use Rattle.jsonc_layout.specs.nodes.Names.{HoldsEscapedName};
 ghost use Rattle.jsonc_cst.specs.Document.{nodes_of, HasNode};
 ghost use Rattle.jsonc_cst.specs.Nodes.{number_of};
 ghost use Rattle.jsonc_parser.specs.paths.Found.{names_of};
-ghost use Rattle.jsonc_parser.specs.paths.Memory.{TellsTheWay, WantsToLookUp};
+ghost use Rattle.jsonc_parser.specs.paths.Memory.{DecidesInTheWay, WantsToLookUp};
 ghost use Rattle.jsonc_parser.specs.paths.Reach.{CountsWithin, ReachesWhatShown, StepHolds, StepsWhatShown};
 
 use crate::paths::which::{Which, property_of};
@@ -97,13 +97,13 @@ pub fn reach<A: Allocator + Copy>(
 
 /// Whether a value of another kind than an object is in the way of names.
 ///
-/// Memory is wanted only to look up a name in an object that has a name with a backslash.
+/// Memory is needed only to look up a name in an object that has a name with a backslash.
 pub fn is_in_the_way<A: Allocator + Copy>(
     doc: &CstRootNode<A>,
     names: &[String<A>],
     which: Which,
 ) -> Result<bool, EditError>
-    ensures stands { IfOk result (TellsTheWay which (nodes_of doc.now) (names_of names.now)) }
+    ensures in_the_way { IfOk result (DecidesInTheWay which (nodes_of doc.now) (names_of names.now)) }
     ensures memory { IfErr result (λ e. e ≡ EditError.OutOfMemory) }
     ensures oom_only_if { OnErr result (WantsToLookUp which (nodes_of doc.now) (names_of names.now)) }
 {

@@ -21,7 +21,7 @@ pub enum Which {
     Last,
 }
 
-// The last property of a name among the children of an object. Memory is wanted only for a name with a
+// The last property of a name among the children of an object. Memory is needed only for a name with a
 // backslash.
 fn last_number<A: Allocator + Copy>(
     doc: &CstRootNode<A>,
@@ -65,7 +65,7 @@ fn last_property<A: Allocator + Copy>(
 
 /// The property of a name in an object that leads on.
 ///
-/// Memory is wanted only where one of its names has a backslash.
+/// Memory is needed only where one of its names has a backslash.
 pub(crate) fn property_of<A: Allocator + Copy>(
     doc: &CstRootNode<A>,
     object: CstObject,

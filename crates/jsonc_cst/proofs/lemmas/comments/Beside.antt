@@ -39,7 +39,7 @@ module _ (at : ℕ → Content) where
   elem m = is_element (at m)
 
   module _ (open_ : ℕ) (bs : List ℕ) (opens : elem open_ ≡ false) where
-    -- what stands before, as it was read
+    -- what is before, as it was read
     abbrev pub near : List ℕ
     near = reverse (take_while (no_elem at) (reverse (open_ ∷ bs)))
 
@@ -73,7 +73,7 @@ module _ (at : ℕ → Content) where
         or_none true = refl
         or_none false = refl
 
-    -- behind the last
+    -- after the last
     pub far_last : find elem (ys ++ close ∷ []) ≡ None → far ≡ ys ++ close ∷ []
     far_last e =
         let none : list_any elem ys ≡ false = sym any_behind ∙ find_none elem (ys ++ close ∷ []) e in
@@ -105,7 +105,7 @@ module _ (at : ℕ → Content) where
       ap (λ l. comments_around at l (tail_of at last gap)) f ∙ ap (λ l. comments_around at (lead_in at i.before) (tail_of at last l)) g ∙ ap (λ b. comments_around at (lead_in at i.before) (tail_of at b (parts at i.behind).lead)) (sym h)
       ∙ sym (comments_around_it at n i.before i.behind e apart) ∙ ap (λ l. comments_in at l n) (sym (between_is at cs n i))
 
--- a record of what an entry stands in
+-- a record of where an entry is
 pub record Stands (ns : List Node) (n : ℕ) : Type 0 where
   pub c : ℕ
   pub said : parent_at ns n ≡ Some c
@@ -165,7 +165,7 @@ module _ (ns : List Node) (tree : IsTree ns) where
     comments_are lead gap last f g h =
         around (content_at ns) (children_at ns s.c) n s.inner s.element apart_before lead gap last f g h ∙ sym (ap (λ o. comments_in (content_at ns) (row_at ns o) n) s.said)
 
-    -- what was read before it and behind it
+    -- what was read before it and after it
     abbrev at : ℕ → Content
     at = content_at ns
 
@@ -202,7 +202,7 @@ module _ (ns : List Node) (tree : IsTree ns) where
         let all = gap_next at s.inner.behind s.inner.close s.inner.closes m (ap (find (elem at)) (sym behind_is) ∙ some) in
         (ap (λ l. take (length l) l) (read_behind items e) ∙ all.0, all.1)
 
--- what `is_none` tells
+-- what `is_none` determines
 pub none_there : (o : Option ℕ) (b : Bool) → is_some o ≡ not b → b ≡ true → o ≡ None
 none_there None b e f = refl
 none_there (Some m) b e f = let wrong : true ≡ false = e ∙ ap not f in cc

@@ -96,7 +96,7 @@ module _ (ns : List Node) where
     row_apart : Apart row
     row_apart = apart_from row (λ i j less l e. omega (arith, less, placed i (omega (arith, less, l)), placed j l, ap (place_at ns) e))
 
-    -- each element of the row is an entry
+    -- each element among the children is an entry
     own_there : (n : ℕ) → parent_at ns n ≡ Some c → is_element (at n) ≡ true → own n ≡ comments_in at row n
     own_there n said e =
         let here : is_entry_in ns n (Some c) ≡ true = ap (λ b. b && (is_array_or_object (content_at ns c) && has_brackets ns c)) e ∙ ap (λ b. b && has_brackets ns c) array ∙ closed in

@@ -1,4 +1,4 @@
--- Which comments of what stands before an entry a sort moves where those above the last blank line are pinned: those that belong to the entry.
+-- Which comments of what is before an entry a sort moves where those above the last blank line are pinned: those that belong to the entry.
 use Rattle.std.proofs.Common.{◌≡◌, ℕ, zero, suc, ◌+◌, ◌-◌, ◌<◌, ◌≤◌, Bool, true, false, not, ◌&&◌, ◌||◌, inl, inr, ◌⊎◌, List, [], ◌∷◌, ◌++◌, length, take, drop, max, refl, sym, ap, subst, ◌∙◌, arith, Option, Some, nat_le, reverse, filter, length-take, length-drop}
 use Rattle.std.specs.Prelude.{if◌then◌else◌, slice_index}
 use Rattle.std.specs.List.{list_any, prefix_len, suffix_len, position_or_len}
@@ -13,7 +13,7 @@ use Rattle.jsonc_sort.specs.Above.{above, above_from, header}
 use Rattle.jsonc_sort.specs.Leads.{before_comment, below, blank_lines, comments, first_line, has_blank_line, header_by, header_of, is_blank_at, is_comment_at, lead_parts, line_ends, own_lead, parts_of_line, parts_of_lines, spaces, through_last_line}
 use Rattle.jsonc_sort.specs.Parts.{is_newline_at, is_no_newline_at, is_whitespace_at, up_to_spaces}
 
--- what passes a test, behind so many members
+-- what passes a test, after so many members
 abbrev cnt : (ℕ → Bool) → List ℕ → ℕ
 cnt p row = length (filter p row)
 
@@ -40,7 +40,7 @@ cnt_grows p (suc i) (suc j) (n ∷ row) h = elim (cases_Bool (p n)) [
   | inr e ↦ rw e (cnt_grows p i j row (omega (arith, h)))
 ]
 
--- behind what a row is without the end that passes a test, each member passes
+-- after what children are without the end that passes a test, each member passes
 suffix_passes : (p : ℕ → Bool) (row : List ℕ) (i : ℕ) → length row - suffix_len p row ≤ i → i < length row → p (slice_index row i) ≡ true
 suffix_passes p row i low high =
     let place : length row - 1 - (length row - 1 - i) ≡ i = omega (arith, high) in
@@ -95,7 +95,7 @@ module _ (at : ℕ → Content) where
       by true b h = refl
       by false b h = h
 
-  -- a row whose part in front ends with the end of a line
+  -- children whose part in front ends with the end of a line
   record Cut (row behind : List ℕ) : Type 0 where
     front : List ℕ
     last : ℕ
@@ -122,7 +122,7 @@ module _ (at : ℕ → Content) where
       by true f false g h k = record { front = []; last = n; ends = f; split = refl }
       by false f b g h k = more n row (below at row) (k h)
 
-  -- behind the first end of a line
+  -- after the first end of a line
   abbrev Behind : List ℕ → List ℕ → Type 0
   Behind rest behind = (rest ≡ behind) ⊎ Cut rest behind
 
@@ -139,7 +139,7 @@ module _ (at : ℕ → Content) where
       by true f false g h k = rw f (inl refl)
       by false f b g h k = rw f (shift (position_or_len nl row) (k h))
 
-  -- what stands before a comment, where so many comments are in front
+  -- what is before a comment, where so many comments are in front
   before_passed : (p z : List ℕ) → before_comment at (cnt rem p) (p ++ z) ≡ p ++ before_comment at 0 z
   before_passed [] z = refl
   before_passed (n ∷ p) z = elim (cases_Bool (rem n)) [
@@ -151,7 +151,7 @@ module _ (at : ℕ → Content) where
       by zero e h = rw e (ap (λ l. n ∷ l) h)
       by (suc k) e h = rw e (ap (λ l. n ∷ l) h)
 
-  -- no comment stands before the first
+  -- no comment is before the first
   before_first : (z : List ℕ) (j : ℕ) → j ≤ length (before_comment at 0 z) → filter rem (take j z) ≡ []
   before_first z zero h = refl
   before_first [] (suc j) h = refl
@@ -181,7 +181,7 @@ module _ (at : ℕ → Content) where
     | inr w ↦ nl_rem n (rw w at e)
   ]
 
-  -- no comment stands in blank lines
+  -- no comment is in blank lines
   blanks_none : (row : List ℕ) → cnt rem (take (blank_lines at row) row) ≡ 0
   blanks_none row =
       let short : blank_lines at row ≤ prefix_len is_blank row = omega (arith, length-take (prefix_len is_blank row) row) in
@@ -202,7 +202,7 @@ module _ (at : ℕ → Content) where
         | inr most ↦ (let e : max (blank_lines at above) (through_last_line at (before_comment at (suc i) above)) ≡ through_last_line at (before_comment at (suc i) above) = omega (arith, most) in ap (λ k. cnt rem (take k above)) e ∙ through)
       ]
 
-  -- so many comments are a header where all but those behind a cut are pinned
+  -- so many comments are a header where all but those after a cut are pinned
   header_pinned : (front q : List ℕ) (last k : ℕ) → nl last ≡ true → cnt rem (front ++ last ∷ []) ≡ k → cnt rem (take (header_of at k ((front ++ last ∷ []) ++ q)) ((front ++ last ∷ []) ++ q)) ≡ k
   header_pinned front q last zero ends count = blanks_none ((front ++ last ∷ []) ++ q)
   header_pinned front q last (suc i) ends count = header_counts front q last i ends count
@@ -224,7 +224,7 @@ module _ (at : ℕ → Content) where
   size : (row : List ℕ) → comments at row ≡ cnt rem row
   size row = sym (length-filter rem row)
 
-  -- a row that is pinned up to a cut, with what is cut off
+  -- children that are pinned up to a cut, with what is cut off
   cut_pinned : (front behind above : List ℕ) (last u pin : ℕ) → nl last ≡ true → above ≡ take u ((front ++ last ∷ []) ++ behind) → cnt rem above ≡ cnt rem (front ++ last ∷ []) + cnt rem behind → pin ≡ cnt rem above - cnt rem behind
       → pin < cnt rem above → cnt rem (take (header_of at pin above) above) ≡ cnt rem (front ++ last ∷ [])
   cut_pinned front behind above last u pin ends is counted pinned less =

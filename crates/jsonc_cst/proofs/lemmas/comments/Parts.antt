@@ -1,4 +1,4 @@
--- The comments of entries, part by part: those that a sort moves, and those that stand around an element.
+-- The comments of entries, part by part: those that a sort moves, and those that are around an element.
 use Rattle.std.proofs.Common.{◌≡◌, ◌≢◌, ℕ, suc, ◌+◌, Bool, true, false, not, ◌||◌, List, [], ◌∷◌, ◌++◌, drop, map, refl, sym, ap, ◌∙◌, arith, reverse, filter, eq-eqb}
 use Rattle.std.specs.Prelude.{if◌then◌else◌}
 use Rattle.std.specs.List.{list_any, prefix_len, take_while}
@@ -25,7 +25,7 @@ abbrev pub elements : List Part → List ℕ
 elements ps = map (λ p. p.element) ps
 
 module _ (at : ℕ → Content) where
-  -- of the part itself, and of a part behind it
+  -- of the part itself, and of a part after it
   here : (n : ℕ) (lead : List ℕ) (p : Part) (ps : List Part) → p.element ≡ n → comments_of_part at n lead (p ∷ ps) ≡ comments_around at lead p.tail
   here n lead p ps e = rw (eq-eqb p.element n e) refl
 
@@ -50,12 +50,12 @@ module _ (at : ℕ → Content) where
   abbrev elem : ℕ → Bool
   elem n = is_element (at n)
 
-  -- what stands before an element, of all that stands in front of it in the row
+  -- what is before an element, of all children in front of it
   abbrev pub lead_in : List ℕ → List ℕ
   lead_in [] = []
   lead_in (m ∷ xs) = if list_any elem xs then lead_in xs else (if elem m then drop (tail_length at false xs) xs else m ∷ xs)
 
-  -- the part of an element, by what stands behind it in the row
+  -- the part of an element, by the children after it
   abbrev pub own_part : ℕ → List ℕ → Part
   own_part n ys = part_with at n (is_none (parts at ys).rest) (parts at ys).lead
 
@@ -64,7 +64,7 @@ module _ (at : ℕ → Content) where
     free : list_any elem xs ≡ false → (p.lead ≡ xs) × (p.rest ≡ own_part n ys ∷ (parts at ys).rest)
     some : list_any elem xs ≡ true → (lead : List ℕ) → comments_of_part at n lead p.rest ≡ comments_around at (lead_in xs) (own_part n ys).tail
 
-  -- behind one more element
+  -- after one more element
   behind_one : (n m : ℕ) (xs ys : List ℕ) (p : Parts) → Reads n xs ys p → elem m ≡ true → (b : Bool) → list_any elem xs ≡ b
       → comments_of_part at n (part_with at m (is_none p.rest) p.lead).behind p.rest ≡ comments_around at (lead_in (m ∷ xs)) (own_part n ys).tail
   behind_one n m xs ys p r e true f =
@@ -146,7 +146,7 @@ module _ (at : ℕ → Content) where
           let two : 1 + prefix_len no_elem zs ≡ suc (prefix_len no_elem zs) = omega arith in
           rw (f, one, two) (ap (λ l. m ∷ l) (k g))
 
-  -- what stands behind an element up to the next one
+  -- what is after an element up to the next one
   pub parts_lead : (ys : List ℕ) → (parts at ys).lead ≡ take_while no_elem ys
   parts_lead [] = refl
   parts_lead (m ∷ ys) = by (elem m) refl (parts_lead ys)
@@ -163,7 +163,7 @@ module _ (at : ℕ → Content) where
       by true f k = rw f refl
       by false f k = rw f k
 
-  -- what stands before an element behind the one before it
+  -- what is before an element after the one before it
   abbrev pub gap_in : List ℕ → List ℕ
   gap_in [] = []
   gap_in (m ∷ xs) = if list_any elem xs then gap_in xs else (if elem m then xs else m ∷ xs)

@@ -35,7 +35,7 @@ module _ (old new : List Node) (c : ℕ) (name : List ℕ) (shape : Shape) (how 
   pub named_stays : (answer : Option ℕ) → NamedEnsured shape how old new c name answer → Stays old new
   named_stays answer (found, first, by) = stays_for how found answer by
 
--- an object that does not stand in the document leaves the document as it was
+-- an object that is not in the document leaves the document as it was
 module _ (old new : List Node) (c : ℕ) (name : List ℕ) (shape : Shape) (tree : IsTree old) (after : IsTree new) (there : c < length old) where
   elsewhere_for : (h : Over) (found answer : Option ℕ) → FirstInObject old c name found → EnsuredFor shape h old new c name found answer → KeepsDocumentOf old new c
   elsewhere_for h None answer first (m, told, comes) = put_elsewhere old tree new c _ name (empty_of shape) comes.property there comes.put

@@ -1,4 +1,4 @@
--- Properties that have come into objects: what the new node is, and which nodes stay.
+-- Properties that were inserted into objects: what the new node is, and which nodes stay.
 use Rattle.std.proofs.Common.{◌≡◌, ℕ, ◌<◌, ◌≤◌, ◌⊎◌, inl, inr, true, List, length, min, sym, ap, subst, ◌∙◌, arith}
 use Rattle.std.proofs.Math.Nat.{min-eq_left, min-eq_right}
 use Rattle.std.proofs.lemmas.Bool.{cases_lt}

@@ -1,4 +1,4 @@
--- What comes into an object, or what is ensured in it, is one step, of the edit that the call is.
+-- What is inserted into an object, or what is ensured in it, is one step, of the edit that the call is.
 use Rattle.std.proofs.Common.{◌≡◌, ℕ, List, length, Option, ap}
 use Rattle.jsonc_text.specs.Plain.{Plain}
 use Rattle.jsonc_tree.specs.Content as content

@@ -27,7 +27,7 @@ use Rattle.jsonc_sort.specs.again.Again.{top_if, tops_asked, IsInOrderOf}
 use Rattle.jsonc_cst.specs.sorting.Again.{ComparesTops, ElementsSortOnce, IsSortedBy, IsUntouched, PropertiesSortOnce}
 use Rattle.jsonc_sort.proofs.lemmas.again.SecondSort.{sorts_once}
 
--- an order of what nodes are told to be
+-- an order of what nodes are, as a function determines it
 module _ {N T : Type 0} (lt : T → T → Bool) (told : N → T) where
   pub told_in : (nodes : List (Option N)) (i : ℕ) → node_in (map (option_map told) nodes) i ≡ option_map told (node_in nodes i)
   told_in [] i = refl
@@ -74,7 +74,7 @@ module _ {N : Type 0} (node_of : N → CstNode) (pick : CstNode → Option N) (a
           let nodes : List (Option N) = map pick (map (typed_at ns) es) in
           subst (λ (n : ℕ). IsOrderedBy (comes_before lt (tops_asked asked ns (number_of node)) []) n s.order) (count ns es)
           (subst (λ (l : List (Option Top)). IsOrderedBy (comes_before lt l []) (length nodes) s.order) (tops_of ns es)
-          (told_ordered lt (node_top ns) nodes [] (length nodes) s.order (s.wanted (λ x y. lt (node_top ns x) (node_top ns y)) by)))
+          (told_ordered lt (node_top ns) nodes [] (length nodes) s.order (s.required (λ x y. lt (node_top ns x) (node_top ns y)) by)))
 
       once : (old now new : CstRootNode A) (node : CstNode) (h k : Headers) → IsStrictWeakOrder lt → IsTree (nodes_of old) → HasNode old node
           → ComparesTops g compare same node_of lt old → IsSortedBy g compare same node_of old now node (map pick (map (typed_at (nodes_of old)) (elements_at (nodes_of old) (number_of node)))) h

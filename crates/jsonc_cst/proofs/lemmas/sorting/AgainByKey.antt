@@ -59,7 +59,7 @@ module _ {A F D N K : Type 0} (g : Shared F (Bor D × (N × Unit {0})) (Result K
   abbrev before : K → K → Bool
   before k l = is_lt (cmp k l)
 
-  -- the keys of two nodes come in the order of what the nodes are
+  -- the keys of two nodes are in the order of what the nodes are
   module _ (d : CstRootNode A) (tell : KeysCompareTops g key same node_of cmp lt d) where
     abbrev told : N → Top
     told x = top_at (nodes_of d) (number_of (node_of x))
@@ -70,12 +70,12 @@ module _ {A F D N K : Type 0} (g : Shared F (Bor D × (N × Unit {0})) (Result K
     both : (x y : Option N) (k l : Option K) → IsHeld x → IsHeld y → IsKeyOf g key (same d) x k → IsKeyOf g key (same d) y l → option_before before k l ≡ option_before lt (option_map told x) (option_map told y)
     both (Some x) (Some y) k l hx hy kx ky =
         ap (λ (o : Option K). option_before before o l) kx.1 ∙ ap (λ (o : Option K). option_before before (Some kx.0) o) ky.1
-        ∙ tell.tells x y kx.0 ky.0 (hx x refl) (hy y refl) kx.2 ky.2
+        ∙ tell.agree x y kx.0 ky.0 (hx x refl) (hy y refl) kx.2 ky.2
     both (Some x) None k l hx hy kx ky = ap (λ (o : Option K). option_before before o l) kx.1 ∙ ap (λ (o : Option K). option_before before (Some kx.0) o) ky
     both None (Some y) k l hx hy kx ky = ap (λ (o : Option K). option_before before o l) kx ∙ ap (λ (o : Option K). option_before before None o) ky.1
     both None None k l hx hy kx ky = ap (λ (o : Option K). option_before before o l) kx ∙ ap (λ (o : Option K). option_before before None o) ky
 
-    -- past the row there is neither node nor key
+    -- past the children there is neither node nor key
     key_at : (nodes : List (Option N)) (keys : List (Option K)) → AreKeys g key (same d) nodes keys → (i : ℕ) → IsKeyOf g key (same d) (node_in nodes i) (node_in keys i)
     key_at nodes keys are i =
         elim (cases_lt i (length nodes)) [
@@ -104,7 +104,7 @@ module _ {A F D N K : Type 0} (g : Shared F (Bor D × (N × Unit {0})) (Result K
         let held : (i : ℕ) (x : N) → node_in nodes i ≡ Some x → HasNode old (node_of x) = held_in node_of pick finds ns es (elements_there ns (number_of node) tree) in
         subst (λ (n : ℕ). IsOrderedBy (comes_before lt (tops_asked asked ns (number_of node)) []) n s.order) (count node_of pick asked picks ns es)
         (subst (λ (l : List (Option Top)). IsOrderedBy (comes_before lt l []) (length nodes) s.order) (tops_of node_of pick asked picks ns es)
-        (subst (λ (f : ℕ → ℕ → Bool). IsOrderedBy f (length nodes) s.order) (λ k i j. comes old tell nodes s.wanted.0 s.wanted.1 held i j k) s.wanted.2))
+        (subst (λ (f : ℕ → ℕ → Bool). IsOrderedBy f (length nodes) s.order) (λ k i j. comes old tell nodes s.required.0 s.required.1 held i j k) s.required.2))
 
     once : (old now new : CstRootNode A) (node : CstNode) (h k : Headers) → IsStrictWeakOrder lt → IsTree (nodes_of old) → IsTree (nodes_of now) → HasNode old node
         → KeysCompareTops g key same node_of cmp lt old

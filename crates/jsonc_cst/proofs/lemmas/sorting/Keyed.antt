@@ -14,14 +14,14 @@ module _ {F D N K E : Type 0} (g : Shared F (Bor D × (N × Unit {0})) (Result K
   pub first_refused : (why : KeysError E) (e : E) → why ≡ Refused e → WhyNone g key doc nodes why → IsFirstRefused g key doc nodes e
   first_refused why e is told = subst (λ (w : KeysError E). WhyNone g key doc nodes w) is told
 
-  -- an order of the keys that are lent is one of the nodes
+  -- an order of the keys that are borrowed is one of the nodes
   pub ordered_by : (lt : K → K → Bool) (starts : List ℕ) (keys lent : List (Option K)) (order : List ℕ) → lent ≡ keys → AreKeys g key doc nodes keys
       → IsOrderedBy (comes_before lt lent starts) (length lent) order → IsOrderedBy (comes_before lt keys starts) (length nodes) order
   ordered_by lt starts keys lent order same are by =
       subst (λ (n : ℕ). IsOrderedBy (comes_before lt keys starts) n order) are.count
       (subst (λ (ks : List (Option K)). IsOrderedBy (comes_before lt ks starts) (length ks) order) same by)
 
-  -- the keys that were told, where allocation failed for one
+  -- the keys that were given, where allocation failed for one
   pub told_so_far : (why : KeysError E) → why ≡ OutOfMemory → WhyNone g key doc nodes why → (count : ℕ) × (count ≡ 0 → length nodes ≡ 0) × ((i : ℕ) → i < count → (k : Option K) × IsKeyOf g key doc (node_in nodes i) k)
   told_so_far why is none =
       let m = subst (λ (w : KeysError E). WhyNone g key doc nodes w) is none in

@@ -1,4 +1,4 @@
--- What a sort without groups leaves is in order.
+-- What a sort without groups makes is in order.
 use Rattle.std.proofs.Common.{◌≡◌, ℕ, Bool, false, List, Option, Result, Ok, Err, OnOk, subst}
 use Rattle.std.specs.declared.cmp.Ordering.{Ordering}
 use denote.Ref.{Bor}

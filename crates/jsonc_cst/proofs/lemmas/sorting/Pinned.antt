@@ -24,7 +24,7 @@ module _ {X : Type 0} (n : ℕ) (xs : List X) where
   ]
 
 module _ {F D N : Type 0} (g : Shared F (Bor D × (N × (Bor (List CstComment) × Unit {0}))) ℕ) (rule : F) (doc : D) where
-  -- what the rule has answered of a node above which comments stand
+  -- what the rule has answered of a node above which there are comments
   pub asked_pin : (there : Option N) (x : N) (comments : List CstComment) (count : ℕ) → there ≡ Some x → (length comments ≡ 0 → ⊥)
       → (d : Bor D) → d.now ≡ doc → (above : Bor (List CstComment)) → above.now ≡ comments → g.post rule (d, (x, (above, tt))) count → IsPin g rule doc there comments (Some count)
   asked_pin there x [] count is some d same above all told = absurd (some refl)

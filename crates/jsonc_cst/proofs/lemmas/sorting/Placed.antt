@@ -1,4 +1,4 @@
--- Elements that come in an order: what becomes of a document and its nodes.
+-- Elements that are put in an order: what becomes of a document and its nodes.
 use Rattle.std.proofs.Common.{ℕ, List, IsTrue, inl, inr}
 use Rattle.std.proofs.lemmas.Bool.{cases_Bool}
 use Rattle.jsonc_tree.specs.Tree.{Node, content_at, IsTree}

@@ -99,7 +99,7 @@ module _ {A : Type 0} (old new : CstRootNode A) where
   pub property_is_call : (node : CstNode) (name : List ℕ) (v : Plain) (now : CstNode) → IsCallIf old new node (HasBecomeProperty old new node name v now)
   property_is_call node name v now = λ tree held given. call_of (nodes_of old) (nodes_of new) tree (number_of node) held.0 (property_gives_way (number_of node) (number_of now) name v given)
 
-  -- of the name, which stands in the property
+  -- of the name, which is in the property
   pub renamed_is_call : (node : CstNode) (name : List ℕ) (now : CstNode) → IsCallIf old new node (HasBeenRenamed old new node name now)
   renamed_is_call node name now = λ tree held given.
       record {

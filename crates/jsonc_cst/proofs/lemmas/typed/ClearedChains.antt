@@ -109,7 +109,7 @@ blanks_gone o gone x z e (comment_lost before behind content h k d rest) u p = c
 nothing_some : (gone : List ℕ) → AreSomeOf gone [] → gone ≡ []
 nothing_some _ no_more = refl
 
--- what is said of the nodes behind
+-- what is said of the nodes afterwards
 module _ (o : Options) (w : Option Plain) (c : ℕ) where
   abbrev pub doc : List Node → Document
   doc ns = document_of o (ordered_tree ns 0) w

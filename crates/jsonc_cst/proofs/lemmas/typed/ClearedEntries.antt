@@ -120,7 +120,7 @@ parent_contains ns tree n c said = by (is_container_at ns c) refl
 pub all_still : (old new : List Node) → NodesStillThere old new → (ns : List ℕ) → All (λ n. n < length old) ns → All (λ n. n < length new) ns
 all_still old new handles ns all = All-weaker (λ n. n < length old) (λ n. n < length new) (λ n h. there_still old new handles n h) ns all
 
--- what was there is there still where comments have left
+-- what was there is there still where comments were removed
 stay_one : (old new : List Node) (c n : ℕ) → parent_at old n ≡ Some c → IsCleared old new c n → Stays old new
 stay_one old new c n said cleared = let s = same_cleared old new c n said cleared in record { len = omega (arith, s.len); content = λ m h. s.content m }
 
@@ -237,7 +237,7 @@ module _ {A : Type 0} (old : CstRootNode A) (node : CstNode) where
     document = refl;
   }
 
-  -- and then its comments leave
+  -- and then its comments are removed
   pub cleared_entry : (mid new : CstRootNode A) (c : ℕ) → parent_at (nodes_of old) (number_of node) ≡ Some c → IsTree (nodes_of mid) → IsTree (nodes_of new) → (r : Result (Unit {0}) EditError) → is_ok r ≡ true → IsRemoval old mid node r
       → All (λ n. n < length (nodes_of old)) (comment_numbers old node) → AreClearedIfAny (nodes_of mid) (nodes_of new) c (comment_numbers old node) → IsRemovalWithComments old new node r
   cleared_entry mid new c said between after (Err e) made i there cleared = absurd (let wrong : false ≡ true = made in cc)

@@ -104,7 +104,7 @@ module _ (old new : List Node) (tree : IsTree old) (later : IsTree new) (c n : �
         let is : slice_index before k ≡ slice_index row (i + k) = get_or-take (place - i) (drop i row) k 0 less ∙ get_or-drop i row k 0 in
         subst (λ m. is_whitespace_at old m ≡ true) (sym is) (blanks_are old row place (i + k) (omega (arith, low)) (omega (arith, less, high))))
 
-    -- which nothing is removed with behind it
+    -- after which nothing is removed with it
     pub shared : e ≡ 0 → Splices old new c i (place + 1 + e) [] → Gone
     shared none s =
         let no_more : after ≡ [] = ap (λ k. take k (drop (place + 1) row)) none in

@@ -44,7 +44,7 @@ use Rattle.jsonc_run.proofs.lemmas.promise.Stretches.{blanks_behind_unmarked, ma
 use Rattle.jsonc_run.proofs.lemmas.promise.Trivia.{first_text, line_end_text, piece_trivia}
 use Rattle.jsonc_cst.specs.typed.Clearing.{RemovesComment, WithItsLine, shares_its_line, whole_line}
 
--- what stands behind as many as stand before it
+-- what is after as many as are before it
 after_all : (xs ys : List ℕ) (n : ℕ) → slice_get (xs ++ n ∷ ys) (length xs) ≡ Some n
 after_all [] ys n = refl
 after_all (x ∷ xs) ys n = after_all xs ys n
@@ -102,7 +102,7 @@ module _ (o : Options) where
       (whole_line (text_of_leaves rest) (text_of_leaves (content.newline end ∷ [])) (text_of_leaves after) (text_of_leaves (content.newline line ∷ [])) (ap text_of_leaves e ∙ text_joined rest (content.newline end ∷ []) (utf8_first rest (content.newline end ∷ []) f)) (line_end_text end) (spaces_text before w p)
       (spaces_text after a (pieces_first o after (content.newline line ∷ []) q)) (line_end_text line))
 
-  -- where these leaves leave a sound tree, its text loses a comment
+  -- where a sound tree is left without these leaves, its text loses a comment
   module _ {t u : OrderedTree} (s : SoundTree o t) (r : SoundTree o u) (front before after back : List Content) (text : List ℕ) (beside : Beside front before after)
       (was : leaves t ≡ front ++ (before ++ (content.comment text ∷ (after ++ back)))) (is : leaves u ≡ front ++ back) where
     abbrev own : List Content
@@ -187,12 +187,12 @@ pub comment_text : (c : Content) → IsTrue (is_comment c) → (s : List ℕ) ×
 comment_text (content.comment s) h = (s, refl)
 comment_text c h = cc
 
--- a stretch in parts, with what stands before and after it
+-- a stretch in parts, with what is before and after it
 stretch_parts : {X : Type 0} (f x b a k : List X) (m : X) → f ++ ((x ++ (b ++ m ∷ a)) ++ k) ≡ (f ++ x) ++ (b ++ (m ∷ (a ++ k)))
 stretch_parts f x b a k m =
     ap (λ l. f ++ l) (append_assoc x (b ++ m ∷ a) k ∙ ap (λ l. x ++ l) (append_assoc b (m ∷ a) k)) ∙ sym (append_assoc f x (b ++ (m ∷ (a ++ k))))
 
--- where a stretch of a row of leaves is removed but for what it begins with, these leaves of the document are
+-- where a stretch of leaves is removed but for what it begins with, these leaves of the document are
 module _ (old new : List Node) (tree : IsTree old) (later : IsTree new) (c n : ℕ) (said : parent_at old n ≡ Some c) (over : IsOver old 0 c) (is_one : IsTrue (is_comment_at old n)) (i j : ℕ) (le : i ≤ j) (xs before after : List ℕ)
     (s : Splices old new c i j xs) (split : slice_range (children_at old c) i j ≡ xs ++ (before ++ n ∷ after)) (there_xs : AreThere new xs) (blank_xs : AreBlanks (map (content_at old) xs)) (new_xs : AreBlanks (map (content_at new) xs))
     (blank_before : AreBlanks (map (content_at old) before)) (blank_after : AreBlanks (map (content_at old) after)) where

@@ -68,7 +68,7 @@ module _ (old : List Node) (n : ℕ) (entry : is_entry_at old n ≡ true) where
     entry_path = entry_place o old tree sound n over (no_root, no_trivia) (no_part tree)
 
 module _ (old new : List Node) (place : Place) (n : ℕ) (text : List ℕ) where
-  -- leaves have come among the children of its parent
+  -- leaves were inserted among the children of its parent
   pub beside : MayCome place old n text → Comes place old new n text → (c : ℕ) × (parent_at old n ≡ Some c) × (at : ℕ) × (contents : List Content) × LeavesCome old new c at contents
   beside may comes = let up = parent_of_entry old n may.entry in let row = leaves_come old new n up.0 text up.1 place comes in (up.0, up.1, row.0, row.1, row.2)
 

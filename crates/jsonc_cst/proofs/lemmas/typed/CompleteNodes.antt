@@ -45,7 +45,7 @@ no_property_value o _ _ r e (ValueShaped.array a es) = let wrong : array ≡ pro
 no_property_value o _ _ r e (ValueShaped.empty_object a) = let wrong : object ≡ property = e in cc
 no_property_value o _ _ r e (ValueShaped.object a ps) = let wrong : object ≡ property = e in cc
 
--- what comes behind no element, in a row whose first node is one, is that
+-- what follows no element, among children whose first node is one, is that
 first_is : (content first : Content) (below under after : OrderedTree) (i : ℕ) → i ≡ 0 → IsElement first → Entry content below i (more first under after) → content ≡ first
 first_is content _ below _ after _ e h this = refl
 first_is content first below under after i e h (behind_passed p t) = absurd (not_both first p h)
@@ -74,7 +74,7 @@ no_name o content below _ i r zeroth (PropertyShaped.named {name = name} {after 
     name_no_property o content name (printed_text after) (first_is content name below none after i zeroth (name_element o name (printed_text after) n).1 e) is n
 
 module _ (ns : List Node) (tree : IsTree ns) where
-  -- a child is an entry of its parent's row
+  -- a child is an entry of its parent
   abbrev EntryOf : ℕ → OrderedTree → Type 0
   EntryOf n row = (i : ℕ) × Entry (content_at ns n) (row_below ns n) i row
 
@@ -106,7 +106,7 @@ module _ (ns : List Node) (tree : IsTree ns) where
   leaf_parent : (n p : ℕ) → parent_at ns n ≡ Some p → Passed (content_at ns p) → ⊥
   leaf_parent n p said h = omega (arith, tree.within n p said, ap length (tree.leaf p (passed_leaf (content_at ns p) h)))
 
--- what a node of a document is, and of what shape the row below it
+-- what a node of a document is, and of what shape the children below it
 data Shaped (o : Options) (ns : List Node) (n : ℕ) : Type 0 where
   a_root : n ≡ 0 → Shaped o ns n
   a_value : IsAnyValue o (content_at ns n) (row_below ns n) → Shaped o ns n
@@ -195,14 +195,14 @@ module _ (o : Options) (ns : List Node) (tree : IsTree ns) (sound : SoundTree o 
   brackets_by n c said holds (a_name other bare) = absurd (bare_parent ns tree n c said bare)
   brackets_by n c said holds (a_leaf h) = absurd (leaf_parent ns tree n c said h)
 
-  -- a node of the document, whose parent is an array or object, stands between brackets
+  -- a node of the document, whose parent is an array or object, is between brackets
   parent_has_brackets : (n c : ℕ) → IsOver ns 0 n → parent_at ns n ≡ Some c → IsTrue (is_array_or_object (content_at ns c)) → IsTrue (has_brackets ns c)
   parent_has_brackets _ c IsOver.itself said holds = absurd (let wrong : None ≡ Some c = sym tree.root_alone ∙ said in cc)
   parent_has_brackets n c (IsOver.above {c = p} up rest) said holds =
       let same : p ≡ c = let e : Some p ≡ Some c = sym up ∙ said in cc in
       brackets_by n c said holds (subst (Shaped o ns) same (all_shaped o ns tree sound.shaped p rest))
 
-  -- a colon stands in the row behind trivia
+  -- a colon is among the children after trivia
   or_true : (a b : Bool) → b ≡ true → a || b ≡ true
   or_true true b e = refl
   or_true false b e = e

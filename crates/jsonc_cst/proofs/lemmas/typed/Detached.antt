@@ -1,4 +1,4 @@
--- A node that has been replaced or left is detached.
+-- A node that has been replaced or removed is detached.
 use Rattle.std.proofs.Common.{◌≡◌, ◌≢◌, ℕ, ◌+◌, ◌-◌, ◌<◌, ◌≤◌, true, cond, List, [], ◌∷◌, length, get_or, slice_range, Some, None, Result, Ok, Err, OnOk, Option, refl, sym, ap, subst, ◌∙◌, arith}
 use Rattle.std.proofs.lemmas.List.Edits.{get_or-between, length-between}
 use Rattle.jsonc_text.specs.Plain.{Plain}
@@ -41,7 +41,7 @@ module _ (old new : List Node) (n m : ℕ) (tree : IsTree old) (after : IsTree n
   pub property_nobodys : (name : List ℕ) (v : Plain) → IsPropertyReplaced old new n name v m → IsDetached new n
   property_nobodys name v (c, said, g) = placed_nobodys g.spaced new n m _ (apart c said g.fresh) after g.place
 
--- where it left
+-- where it was removed
 module _ (a new : List Node) (tree : IsTree a) (after : IsTree new) (n c : ℕ) (said : parent_at a n ≡ Some c) where
   abbrev row : List ℕ
   row = children_at a c

@@ -1,4 +1,4 @@
--- The same of answers, and of what has no parent: an edit of a node that does not stand in the document leaves the document as it was.
+-- The same of answers, and of what has no parent: an edit of a node that is not in the document leaves the document as it was.
 use Rattle.std.proofs.Common.{◌≡◌, ℕ, ◌<◌, Bool, true, false, List, length, Option, Some, None, Result, Ok, Err, OnOk, refl, ap}
 use Rattle.jsonc_text.specs.Plain.{Plain}
 use Rattle.jsonc_tree.specs.Content.{Content, property}
@@ -35,7 +35,7 @@ module _ (old : List Node) (tree : IsTree old) where
   element_elsewhere new n None e after untouched takes = λ out. same_document old new (untouched e)
   element_elsewhere new n (Some c) e after untouched takes = calls.element_elsewhere old tree new n c e after (takes c e).1
 
-  -- the value of a property that does not stand in the document
+  -- the value of a property that is not in the document
   module _ (p : ℕ) (is : content_at old p ≡ property) (v : Plain) (new : List Node) (after : IsTree new) where
     replaced_held : (n m : ℕ) → value_at old p ≡ Some n → IsReplaced old new n v m → KeepsDocumentOf old new p
     replaced_held n m e r = λ out. replaced_elsewhere old tree new n m v after r (out_down old tree n p (held_child old tree p n is e) out)

@@ -81,7 +81,7 @@ replaced_found old new n v m tree after e (c, said, g) =
     (at_now g.spaced new (spaced old new n m (laid l v) tree g [] at).tree n m (laid l v) (in_place g.spaced new n m (laid l v) g.place) (laid_element l v) []
     (spaced_at old new n m (laid l v) tree g [] at))
 
--- where a first value has come
+-- where a first value was inserted
 module _ (old new : List Node) (v : Plain) (m : ℕ) (tree : IsTree old) (f : FirstValue old new v m) where
   kids : children_at new 0 ≡ take (first_place old) (children_at old 0) ++ ((f.before ++ m ∷ f.behind) ++ drop (first_place old) (children_at old 0))
   kids =

@@ -67,7 +67,7 @@ stay_replaced old new n v m (c, said, g) = stay_given old new n m _ g
 pub replaced_there : (old new : List Node) (n : ℕ) (v : Plain) (m : ℕ) → IsReplaced old new n v m → m < length new
 replaced_there old new n v m (c, said, g) = given_there old new n m _ g
 
--- the same where no space comes
+-- the same where no space is inserted
 pub stay_raw : (old new : List Node) (n : ℕ) (v : Plain) (m : ℕ) → IsReplacedRaw old new n v m → Stays old new
 stay_raw old new n v m (c, said, g) = stay_both old g.ready new (stay_kept old g.ready g.prepared.keeps) (stay_spliced g.ready new _ _ _ _ g.place.replaces.spliced)
 

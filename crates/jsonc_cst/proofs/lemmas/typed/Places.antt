@@ -31,7 +31,7 @@ use Rattle.jsonc_cst.specs.typed.Steps.{IsHolder, IsValueIn, IsWholeOrAt}
 use Rattle.jsonc_cst.specs.declared.typed.removing.Removal.TheVariants.{Clearing, OfComment, OfElement, OfLeaf}
 use Rattle.jsonc_cst.proofs.lemmas.typed.CompleteNodes.{name_kind}
 
--- what a value is, and what leaves as an element: no root and nothing that is passed over
+-- what a value is, and what is removed as an element: no root and nothing that is passed over
 value_kind : (ns : List Node) (c : Content) (n : ℕ) → IsValueIn ns (typed c n) → IsKind c × (c ≡ content.property → ⊥)
 value_kind ns content.array n v = ((λ e. let w : content.array ≡ content.root = e in cc, refl), λ e. let w : content.array ≡ content.property = e in cc)
 value_kind ns content.object n v = ((λ e. let w : content.object ≡ content.root = e in cc, refl), λ e. let w : content.object ≡ content.property = e in cc)
@@ -111,7 +111,7 @@ name_is_element (content.newline x) h = refl
 name_is_element (content.comment x) h = refl
 name_is_element c h = cc
 
--- the first element of a row, if it is a string or a word, is the first of these
+-- the first element among children, if it is a string or a word, is the first of these
 found_name : (ns : List Node) (n : ℕ) → is_name_at ns n ≡ true → (xs : List ℕ) → slice_get (filter (is_element_at ns) xs) 0 ≡ Some n → find (is_name_at ns) xs ≡ Some n
 found_name ns n named [] e = absurd (let wrong : None ≡ Some n = e in cc)
 found_name ns n named (x ∷ xs) e =

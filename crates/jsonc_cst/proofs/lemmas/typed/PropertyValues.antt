@@ -62,11 +62,11 @@ module _ (ns : List Node) where
   pub held_boolean : (x : CstBooleanLit) → IsNodeOf ns (boolean_lit_node x) → is_boolean (content_at ns x.number) ≡ true
   held_boolean x held = boolean_kind (content_at ns x.number) x.number x held.1
 
--- where a node has come as the last child of a container
+-- where a node was inserted as the last child of a container
 stay_appended : (old new : List Node) (c m : ℕ) → Appends old new c m → Stays old new
 stay_appended old new c m a = record { len = omega (arith, a.len); content = λ n h. a.content n }
 
--- where a value has come behind all that a property holds
+-- where a value was inserted after all that a property holds
 module _ (old new : List Node) (p : ℕ) (v : Plain) (m : ℕ) (l : LastValue old new p v m) where
   spaces_stay : Stays l.held new
   spaces_stay = stay_spaced _ l.held new l.spaces

@@ -1,4 +1,4 @@
--- What is made of a sound document where an element leaves it.
+-- What is made of a sound document from which an element is removed.
 use Rattle.std.proofs.Common.{ℕ, List, Result, Ok, Err, OnOk}
 use Rattle.jsonc_text.specs.Options.{Options}
 use Rattle.jsonc_tree.specs.OrderedTree.{ordered_tree}

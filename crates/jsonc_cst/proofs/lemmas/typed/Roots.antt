@@ -17,7 +17,7 @@ use Rattle.jsonc_cst.specs.Nodes.{array_node, object_node, typed, typed_at}
 use Rattle.jsonc_cst.specs.typed.Setting.{ValueBecomes}
 use Rattle.jsonc_cst.proofs.lemmas.typed.HandlesKept.{Stays, stay_both, stay_kept, stay_replaced, stay_same, stay_spaced, stay_spliced, replaced_there}
 
--- where a first value has come
+-- where a first value was inserted
 module _ (old new : List Node) (v : Plain) (m : ℕ) (f : FirstValue old new v m) where
   pub stay_first : Stays old new
   stay_first = stay_both old f.ready new (stay_kept old f.ready f.prepared.keeps) (stay_spliced f.ready new _ _ _ _ f.put)
@@ -102,7 +102,7 @@ pub array_is : (c : Content) → is_array c ≡ true → c ≡ Content.array
 array_is Content.array e = refl
 array_is c e = absurd (false≢true e)
 
--- what stands there is of its kind
+-- what is there is of its kind
 pub object_there : (ns : List Node) (n : ℕ) → content_at ns n ≡ Content.object → typed_at ns n ≡ object_node (record { number = n })
 object_there ns n e = ap (λ w. typed w n) e
 

@@ -143,7 +143,7 @@ module _ (old new : List Node) (tree : IsTree old) where
   commas_place o sound n holder over path place changed =
       elim place [ inl whole ↦ inl whole.1 | inr at ↦ inr (top_at old n, top_at new n, changed at (holder_at o old tree sound n holder path at)) ]
 
-  -- no trailing comma is left or none is missing, in what stands at the path or in the whole document
+  -- no trailing comma is left or none is missing, in what is at the path or in the whole document
   all_set : (mode : TrailingCommaMode) (n : ℕ) → AreSetInTurn mode old (holders old n) new → IsHolder (typed_at old n) → IsOver old 0 n → (path : List ℕ) → IsWholeOrAt old path n → (o : Options) → SoundTree o (ordered_tree old 0)
       → AreSet mode o path (ordered_tree old 0) (ordered_tree new 0)
   all_set Never n set holder over path (inl (is, whole)) o sound =

@@ -1,4 +1,4 @@
--- Where an element is to come.
+-- Where an element is to be inserted.
 use Rattle.std.proofs.Common.{ℕ, zero, suc, ◌≡◌, ◌≢◌, ◌<◌, ◌≤◌, ◌-◌, ◌∙◌, sym, ap, subst, refl, inl, inr, List, [], ◌∷◌, Option, Some, None, length, slice_get, chars, arith}
 use Rattle.std.proofs.lemmas.List.Filters.{length-filter_both}
 use Rattle.std.proofs.lemmas.Option.{slice_get_cases, slice_get_within}
@@ -27,8 +27,8 @@ hyphen bytes utf8 is = sym (chars_from_encodes (0x2D ∷ []) bytes utf8 (one_byt
 
 pub hyphen_told : (bytes : List ℕ) → IsUtf8 bytes → (b : Bool) → b ≡ bytes_eq bytes (0x2D ∷ []) → Decides b (chars bytes ≡ 0x2D ∷ [])
 hyphen_told bytes utf8 b is =
-    let told = bytes_eq-Decides bytes (0x2D ∷ []) in
-    (λ e. hyphen bytes utf8 (told.0 (sym is ∙ e)), λ same. is ∙ told.1 (sym (encodes-chars bytes utf8) ∙ ap encode_utf8_all same ∙ one_byte))
+    let reported = bytes_eq-Decides bytes (0x2D ∷ []) in
+    (λ e. hyphen bytes utf8 (reported.0 (sym is ∙ e)), λ same. is ∙ reported.1 (sym (encodes-chars bytes utf8) ∙ ap encode_utf8_all same ∙ one_byte))
 
 pub none_of : (o : Option ℕ) → is_some o ≡ false → o ≡ None
 none_of None e = refl

@@ -177,7 +177,7 @@ stays_there from to w x on count r =
 
 -- the tokens of one pointer are the first of another's, or not
 pub leads_told : (front from other to : List (List ℕ)) (b : Bool) → front ≡ from → other ≡ to → Decides b (LeadsOn front other) → Decides b (LeadsOn from to)
-leads_told front from other to b is so told = subst (λ l. Decides b (LeadsOn l to)) is (subst (λ l. Decides b (LeadsOn front l)) so told)
+leads_told front from other to b is so reported = subst (λ l. Decides b (LeadsOn l to)) is (subst (λ l. Decides b (LeadsOn front l)) so reported)
 
 pub leads_so : {A B : Type 0} (front : List (String A)) (tokens : List (String B)) (k : ℕ) → length front ≤ k → names_of (take k front) ≡ names_of (take k tokens) → LeadsOn (names_of front) (names_of tokens)
 leads_so {A} front tokens k all same = (

@@ -67,7 +67,7 @@ module _ {A : Type 0} (old new : CstRootNode A) (tree : IsTree (nodes_of old)) (
           let m = makes_so d l.e l.op (texts.replace path.items (plain v)) l.asks l.makes in
           (l.e, l.shown, record { edits = edit ∷ []; edited = l.edited; options = options_so d l.e l.op (texts.replace path.items (plain v)) l.asks l.options; made = replaced d (nodes_of old) tokens leads.0 w.0 path.items w.1 m.0 (plain v) l.e.value m.1.1 })
 
-      -- an element comes in
+      -- an element is inserted
       module _ (token : List ℕ) where
         pub appends_so : token ≡ 0x2D ∷ [] → EditStep (nodes_of old) (operation_of unsorted (AppendElement path v)) (nodes_of new) → MakesWhatShown old (value.add (tokens ++ token ∷ []) (plain v)) (λ o. IsOfNumbers o (plain v)) new
         appends_so is made d shown fit =
@@ -102,7 +102,7 @@ module _ {A : Type 0} (old new : CstRootNode A) (tree : IsTree (nodes_of old)) (
             let place : index ≡ length front = omega (arith, bound, all, within) in
             (l.e, l.shown, record { edits = edit ∷ []; edited = l.edited; options = options_so d l.e l.op op l.asks l.options; made = element_added d ns tokens leads.0 w.0 path.items w.1 (plain v) l.e.value token front back m.3.0 (inl (subst (IsIndex token) place is)) })
 
-      -- a member comes in
+      -- a member is inserted
       pub member_so : (name : String A) → IsOfShown old (λ d. RefersToNothing d (tokens ++ chars_of name ∷ [])) → EditStep (nodes_of old) (operation_of unsorted (AppendProperty path name v)) (nodes_of new)
           → MakesWhatShown old (value.add (tokens ++ chars_of name ∷ []) (plain v)) (λ o. IsOfNumbers o (plain v)) new
       member_so name none made d shown fit =
@@ -132,7 +132,7 @@ module _ {A : Type 0} (old new : CstRootNode A) (tree : IsTree (nodes_of old)) (
       let m = makes_so d l.e l.op op l.asks l.makes in
       let was : w.0.v ≡ m.0 = was_referred d ns (tokens ++ name ∷ []) leads.0 w.0 path.items w.1 m.0 (plain v) l.e.value m.1.1 in
       let place = stands d ns (tokens ++ name ∷ []) leads.0 w.0 path.items w.1 in
-      let member : Adds (plain v) (tokens ++ name ∷ []) d.value l.e.value = in_member name (list_of_members ms.0) (subst (value.StandsAt d.value tokens c.path) object_so (stands d ns tokens n c c.path refl)) place (subst (λ k. Becomes k (plain v) path.items d.value l.e.value) (sym was) m.1.1) in
+      let member : Adds (plain v) (tokens ++ name ∷ []) d.value l.e.value = in_member name (list_of_members ms.0) (subst (value.RefersAlong d.value tokens c.path) object_so (stands d ns tokens n c c.path refl)) place (subst (λ k. Becomes k (plain v) path.items d.value l.e.value) (sym was) m.1.1) in
       (l.e, l.shown, record { edits = edit ∷ []; edited = l.edited; options = options_so d l.e l.op op l.asks l.options; made = member })
 
   -- the document's value is set
@@ -156,7 +156,7 @@ refused_kept edit old new (Ok x) all left = tt
 refused_kept edit old new (Err x) all left = left_kept edit old new (operation_of unsorted edit) all refl left
 
 module _ {A : Type 0} (old new : CstRootNode A) (object_node : CstNode) (all : List (List ℕ)) (name : List ℕ) (v : Plain) where
-  -- the member is there, or comes
+  -- the member is there, or is inserted
   pub member_put : (node : CstNode) → content_at (nodes_of old) (number_of object_node) ≡ content.object → IsOfShown old (λ d. RefersToNode d (nodes_of old) all (number_of node)) → PutsAt old node v new
       → AddsMember old object_node all name v new
   member_put node kind found puts tokens is container =

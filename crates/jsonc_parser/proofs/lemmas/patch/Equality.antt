@@ -118,7 +118,7 @@ module _ (S : List ℕ → List ℕ → Type 0) where
       first (equal.both h k) = f h
 
   module _ {A : Type 0} where
-    -- what is told of the elements from this place on is told of all
+    -- what is decided of the elements from this place on is decided of all
     abbrev pub AreTold : List (CstInputValue A) → List (CstInputValue A) → ℕ → Type 0
     AreTold vs ws i = (b : Bool) → Decides b (AreItemsEqual S (items_plain (drop i vs)) (items_plain (drop i ws))) → Decides b (AreItemsEqual S (items_plain vs) (items_plain ws))
 
@@ -186,7 +186,7 @@ module _ (S : List ℕ → List ℕ → Type 0) where
   first_in (equal.one {w = w} h e k) = (w, h, e)
 
 module _ (S : List ℕ → List ℕ → Type 0) {A : Type 0} where
-  -- what is told of the members from this place on is told of all
+  -- what is decided of the members from this place on is decided of all
   abbrev pub AreMembersTold : List (String A × CstInputValue A) → List (String A × CstInputValue A) → ℕ → Type 0
   AreMembersTold ps qs i = (b : Bool) → Decides b (AreMembersIn S (members_plain qs) (members_plain (drop i ps))) → Decides b (AreMembersIn S (members_plain qs) (members_plain ps))
 
@@ -233,7 +233,7 @@ module _ {A : Type 0} where
   named_there (p ∷ ps) zero l = (plain p.1, this_has)
   named_there (p ∷ ps) (suc i) l = (let n = named_there ps i (omega (arith, l)) in (n.0, later_has n.1))
 
-  -- where a name stands twice, names are not unique
+  -- where a name occurs twice, names are not unique
   pub twice_named : (ps : List (String A × CstInputValue A)) (i j : ℕ) → j < i → i < length ps → get_or (map name_bytes ps) j [] ≡ get_or (map name_bytes ps) i []
       → MembersHaveUniqueNames (members_plain ps) → ⊥
   twice_named [] i j below l e h = absurd (omega (arith, l))
@@ -250,7 +250,7 @@ module _ {A : Type 0} where
       (λ e. h (0, omega arith, same_text (string_bytes q.0) (string_bytes s) (IsUtf8-string_bytes q.0) (IsUtf8-string_bytes s) e))
       (lacks_from qs s (λ k. h (Contains-append_right (name_bytes q ∷ []) (map name_bytes qs) (string_bytes s) k)))
 
-  -- what stands at the place of a name
+  -- what is at the place of a name
   module _ (qs : List (String A × CstInputValue A)) (keys : List (List ℕ)) (name : List ℕ) (i : ℕ) (are : keys ≡ map name_bytes qs) (at : slice_get keys i ≡ Some name) where
     pub place_within : i < length qs
     place_within = omega (arith, slice_get_within keys i name at, ap length are, length-map qs name_bytes)

@@ -1,4 +1,4 @@
--- What tokens refer to in a value: one value at most, and none where a name on the way stands twice.
+-- What tokens refer to in a value: one value at most, and none where a name on the way occurs twice.
 use Rattle.std.proofs.Common.{ℕ, suc, ◌≡◌, ◌≢◌, ◌∙◌, ◌⊎◌, inl, inr, ◌++◌, sym, subst, refl, List, [], ◌∷◌, Option, Some}
 use Rattle.jsonc_text.specs.Plain.{Plain, array, object, Items, Members, member}
 use Rattle.jsonc_sound.specs.Changes as changes
@@ -26,7 +26,7 @@ pub repeated_lacks : {name : List ℕ} {ms : Members} → IsRepeated name ms →
 repeated_lacks (this_again f) (other_name ne l) = ne refl
 repeated_lacks (later_again ne r) (other_name other l) = repeated_lacks r l
 
--- a member of a name in a list that begins with this one: it, or one behind it
+-- a member of a name in a list that begins with this one: it, or one after it
 pub only_of_more : {name : List ℕ} {v : Plain} {i : ℕ} {all : Members} → IsOnly name v i all → (n : List ℕ) (w : Plain) (ms : Members) → all ≡ member n w ms
     → ((n ≡ name) × (w ≡ v) × (i ≡ 0)) ⊎ ((j : ℕ) × (i ≡ suc j) × (n ≢ name) × IsOnly name v j ms)
 only_of_more {name} {v} (this_only {ms = rest} l) n w ms e = let a : n ≡ name = cc in let b : w ≡ v = cc in inl (a, b, refl)
@@ -135,7 +135,7 @@ behind {u = u} rest (to_element {tokens = tokens} {vs = vs} {x = x} k p r) a =
     let same : IsItem i.x _ vs = subst (λ n. IsItem i.x n vs) (index_once i.index k) i.item in
     behind rest r (subst (λ y. Refers y (tokens ++ rest) i.path u) (item_once same p) i.refers)
 
--- where evaluation fails behind the first token
+-- where evaluation fails after the first token
 data FailsInside (name token : List ℕ) (tokens : List (List ℕ)) (ms : Members) : Type 0 where
   fails_here : name ≡ token → IsRepeated name ms → FailsInside name token tokens ms
   fails_later : {i : ℕ} {x : Plain} → IsOnly token x i ms → MeetsRepeated name x tokens → FailsInside name token tokens ms

@@ -1,4 +1,4 @@
--- An operation for which a cause tells that it is not made makes nothing.
+-- An operation for which a cause reports that it is not made makes nothing.
 use Rattle.std.proofs.Common.{ℕ, ◌≡◌, ◌≢◌, ◌≤◌, ◌<◌, ◌∙◌, ◌++◌, ◌⊎◌, inl, inr, sym, ap, subst, refl, List, [], ◌∷◌, length, Option, Some, None, arith}
 use Rattle.std.specs.List.{All}
 use Rattle.std.proofs.lemmas.List.{length-append}
@@ -10,17 +10,17 @@ use Rattle.jsonc_insert.specs.named.Members.{LacksMember, no_more, other_name}
 use Rattle.jsonc_run.specs.texts.Entries.{of, items, members, Named}
 use Rattle.jsonc_run.specs.texts.Paths.{Kind, an_array, an_object}
 use Rattle.jsonc_run.proofs.lemmas.promise.Inserting.{counted}
-use Rattle.jsonc_parser.specs.patch.Failing.{behind_nothing, behind_scalar, past_elements, HasNoPlace, ReferToNothing}
-use Rattle.jsonc_parser.specs.patch.Operations.{as_element, as_member, as_whole, in_member, Adds, StandsAt}
+use Rattle.jsonc_parser.specs.patch.Failing.{below_nothing, below_scalar, past_elements, HasNoPlace, ReferToNothing}
+use Rattle.jsonc_parser.specs.patch.Operations.{as_element, as_member, as_whole, in_member, Adds, RefersAlong}
 use Rattle.jsonc_parser.specs.patch.References.{FailsAt, IsIndex, IsRepeated, MeetsRepeated, RefersTo}
 use Rattle.jsonc_parser.specs.patch.References as references
 use Rattle.jsonc_parser.proofs.lemmas.patch.Evaluation.{fails_behind, fails_with_none, index_once, refers_to_one, repeated_lacks}
 
--- nothing stands where tokens refer to nothing, or where evaluation fails
-pub none_stands : (w : Option Plain) (tokens : List (List ℕ)) (path : List ℕ) (x : Plain) → StandsAt w tokens path x → ReferToNothing w tokens → ⊥
+-- nothing is there where tokens refer to nothing, or where evaluation fails
+pub none_stands : (w : Option Plain) (tokens : List (List ℕ)) (path : List ℕ) (x : Plain) → RefersAlong w tokens path x → ReferToNothing w tokens → ⊥
 none_stands w tokens path x (v, is, r) none = none.0 x (v, is, path, r)
 
-pub none_fails : (w : Option Plain) (tokens : List (List ℕ)) (path : List ℕ) (x : Plain) (name : List ℕ) → StandsAt w tokens path x → FailsAt w tokens name → ⊥
+pub none_fails : (w : Option Plain) (tokens : List (List ℕ)) (path : List ℕ) (x : Plain) (name : List ℕ) → RefersAlong w tokens path x → FailsAt w tokens name → ⊥
 none_fails w tokens path x name (v, is, r) fails = fails_with_none w tokens x name (v, is, path, r) fails
 
 -- which entry is meant
@@ -36,7 +36,7 @@ pub record Below (w : Option Plain) (all : List (List ℕ)) : Type 0 where
   pub kind : Kind
   pub es : List Named
   pub is : all ≡ tokens ++ token ∷ []
-  pub stands : StandsAt w tokens path (of kind es)
+  pub stands : RefersAlong w tokens path (of kind es)
   pub place : Place kind es token
 
 front_within : (front back : List Named) → length front ≤ length (front ++ back)
@@ -88,10 +88,10 @@ element_there an_array es vs token is other past (by_name e) = cc
 element_there an_object es vs token is other past place = no_array vs (members es) is
 
 pub place_there : (w : Option Plain) (all : List (List ℕ)) → HasNoPlace w all → Below w all → ⊥
-place_there w _ (behind_nothing {tokens = tokens} token none) b =
+place_there w _ (below_nothing {tokens = tokens} token none) b =
     let s = same_last tokens b.tokens token b.token b.is in
     none_stands w b.tokens b.path (of b.kind b.es) b.stands (subst (ReferToNothing w) s.front none)
-place_there w _ (behind_scalar {tokens = tokens} {x = x} token at no_items_there no_members_there) b =
+place_there w _ (below_scalar {tokens = tokens} {x = x} token at no_items_there no_members_there) b =
     let s = same_last tokens b.tokens token b.token b.is in
     let same : x ≡ of b.kind b.es = refers_to_one w b.tokens x (of b.kind b.es) (subst (λ l. RefersTo w l x) s.front at) (b.stands.0, b.stands.1, b.path, b.stands.2) in
     container_there b.kind b.es x same no_items_there no_members_there
@@ -101,8 +101,8 @@ place_there w _ (past_elements {tokens = tokens} {vs = vs} token at other past) 
     element_there b.kind b.es vs token same other past (subst (Place b.kind b.es) (sym s.last) b.place)
 
 pub no_place_whole : (w : Option Plain) (all : List (List ℕ)) → HasNoPlace w all → all ≡ [] → ⊥
-no_place_whole w _ (behind_nothing {tokens = tokens} token none) e = no_last tokens token e
-no_place_whole w _ (behind_scalar {tokens = tokens} token at a b) e = no_last tokens token e
+no_place_whole w _ (below_nothing {tokens = tokens} token none) e = no_last tokens token e
+no_place_whole w _ (below_scalar {tokens = tokens} token at a b) e = no_last tokens token e
 no_place_whole w _ (past_elements {tokens = tokens} token at a b) e = no_last tokens token e
 
 pub none_added : {v : Plain} {all : List (List ℕ)} {w y : Option Plain} → Adds v all w y → HasNoPlace w all → ⊥
@@ -112,7 +112,7 @@ none_added {all = all} {w = w} adds none =
       | inr b ↦ place_there w all none b
     ]
 
--- a name that stands twice
+-- a name that occurs twice
 meets_none : {name : List ℕ} {x : Plain} {tokens : List (List ℕ)} → MeetsRepeated name x tokens → tokens ≡ [] → ⊥
 meets_none (references.here {tokens = ts} r) e = cc
 meets_none (references.in_member {token = t} {tokens = ts} p m) e = cc
@@ -135,7 +135,7 @@ all_lack : (name : List ℕ) (es : List Named) → All (λ e. e.name ≢ name) e
 all_lack name [] others = no_more
 all_lack name (e ∷ es) others = other_name (All-head (λ (e : Named). e.name ≢ name) e es others) (all_lack name es (All-tail (λ (e : Named). e.name ≢ name) e es others))
 
-fails_in : (w : Option Plain) (tokens : List (List ℕ)) (token path name : List ℕ) (x : Plain) → StandsAt w tokens path x → FailsAt w (tokens ++ token ∷ []) name → MeetsRepeated name x (token ∷ [])
+fails_in : (w : Option Plain) (tokens : List (List ℕ)) (token path name : List ℕ) (x : Plain) → RefersAlong w tokens path x → FailsAt w (tokens ++ token ∷ []) name → MeetsRepeated name x (token ∷ [])
 fails_in w tokens token path name x (v, is, r) (u, so, m) =
     let both : Some u ≡ Some v = sym so ∙ is in
     let same : u ≡ v = cc in

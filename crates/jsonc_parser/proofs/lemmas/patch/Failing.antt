@@ -30,9 +30,9 @@ use Rattle.jsonc_cst.specs.declared.cst.CstRootNode.{CstRootNode}
 use Rattle.jsonc_cst.specs.declared.cst.node.CstNode.{CstNode}
 use Rattle.jsonc_cst.specs.Document.{nodes_of, tree_of}
 use Rattle.jsonc_cst.specs.Nodes.{number_of}
-use Rattle.jsonc_parser.specs.patch.Applied.{FailsBelow, FailsForMemory, FailsWhatShown, IsCause, IsNoMemory, IsPathless, IsPlaceBy, IsRefusal, IsUnfound, LeadsOn, LeadsOver, MakesWhatShown, Takes, Tells}
+use Rattle.jsonc_parser.specs.patch.Applied.{FailsBelow, FailsForMemory, FailsWhatShown, HasCause, IsCause, IsNoMemory, IsPathless, IsPlaceBy, IsRefusal, IsUnfound, LeadsOn, LeadsOver, MakesWhatShown, Takes}
 use Rattle.jsonc_parser.specs.patch.Equality.{AreEqual, HasUniqueNames}
-use Rattle.jsonc_parser.specs.patch.Failing.{behind_nothing, behind_scalar, past_elements, HasNoTarget, MeetsTwice, ReferToNothing}
+use Rattle.jsonc_parser.specs.patch.Failing.{below_nothing, below_scalar, past_elements, HasNoTarget, MeetsTwice, ReferToNothing}
 use Rattle.jsonc_parser.specs.patch.Found.{FindFails, IsOfShown, ReadFails, RefersToNode, RefersToNothing}
 use Rattle.jsonc_parser.specs.patch.Numbers.{SameNumber}
 use Rattle.jsonc_parser.specs.patch.Operations as value
@@ -97,7 +97,7 @@ module _ {A : Type 0} where
   unremoved tokens w c is = found_cause (value.remove tokens) w tokens (λ n. n) (λ name f. f) c is
 
   pub unadded : (tokens : List (List ℕ)) (token : List ℕ) (v : Plain) (w : Option Plain) (c : PatchCause A) → IsUnfound w tokens c → IsCause (value.add (tokens ++ token ∷ []) v) w c
-  unadded tokens token v w c is = found_cause (value.add (tokens ++ token ∷ []) v) w tokens (λ n. behind_nothing token n) (λ name f. fails_longer w tokens (token ∷ []) name f) c is
+  unadded tokens token v w c is = found_cause (value.add (tokens ++ token ∷ []) v) w tokens (λ n. below_nothing token n) (λ name f. fails_longer w tokens (token ∷ []) name f) c is
 
   -- of a move: what is to be removed, and what is to be added to the rest
   pub unmoved_first : (from to : List (List ℕ)) (w : Option Plain) (c : PatchCause A) → IsCause (value.remove from) w c → IsCause (value.move from to) w c
@@ -146,15 +146,15 @@ module _ {A : Type 0} where
 
   -- evaluation that failed, and what is nowhere
   module _ (doc : CstRootNode A) (tokens : List (List ℕ)) where
-    pub unfound : (e : FindError A) (c : PatchCause A) → Tells e c → IsOfShown doc (λ d. FindFails d doc tokens e) → IsOfShown doc (λ d. IsUnfound d.value tokens c)
+    pub unfound : (e : FindError A) (c : PatchCause A) → HasCause e c → IsOfShown doc (λ d. FindFails d doc tokens e) → IsOfShown doc (λ d. IsUnfound d.value tokens c)
     unfound (errors.RepeatedName name) c is fails d shown = subst (IsUnfound d.value tokens) (sym is) (fails d shown)
     unfound errors.OutOfMemory c is fails d shown = subst (IsUnfound d.value tokens) (sym is) refl
 
-    pub unread : (e : FindError A) (c : PatchCause A) → Tells e c → IsOfShown doc (λ d. ReadFails d doc tokens e) → IsOfShown doc (λ d. IsUnfound d.value tokens c)
+    pub unread : (e : FindError A) (c : PatchCause A) → HasCause e c → IsOfShown doc (λ d. ReadFails d doc tokens e) → IsOfShown doc (λ d. IsUnfound d.value tokens c)
     unread (errors.RepeatedName name) c is fails d shown = subst (IsUnfound d.value tokens) (sym is) (fails d shown)
     unread errors.OutOfMemory c is fails d shown = subst (IsUnfound d.value tokens) (sym is) refl
 
-    pub unfound_below : (v : Plain) (e : FindError A) (c : PatchCause A) → Tells e c → IsOfShown doc (λ d. FindFails d doc tokens e) → FailsWhatShown doc (value.add tokens v) c
+    pub unfound_below : (v : Plain) (e : FindError A) (c : PatchCause A) → HasCause e c → IsOfShown doc (λ d. FindFails d doc tokens e) → FailsWhatShown doc (value.add tokens v) c
     unfound_below v (errors.RepeatedName name) c is fails d shown = subst (IsCause (value.add tokens v) d.value) (sym is) (fails d shown)
     unfound_below v errors.OutOfMemory c is fails d shown = subst (IsCause (value.add tokens v) d.value) (sym is) refl
 
@@ -175,14 +175,14 @@ module _ {A : Type 0} where
   -- an edit that has its place is refused for memory alone
   module _ (doc : CstRootNode A) (tree : IsTree (nodes_of doc)) where
     pub refusal_memory : (e : Edit A) → IsNoRemark (operation_of unsorted e) → (c : PatchCause A) → IsRefusal doc e c → (d : Document) → Shows d (tree_of doc) → IsNamed d.value (comment_count (tree_of doc)) (operation_of unsorted e) → IsNoMemory c
-    refusal_memory e none (causes.Edit why) told d shown named = for_memory d (nodes_of doc) (operation_of unsorted e) why tree shown named none told
-    refusal_memory e none causes.NoTarget told d shown named = absurd told
-    refusal_memory e none (causes.RepeatedName name) told d shown named = absurd told
-    refusal_memory e none causes.IntoItself told d shown named = absurd told
-    refusal_memory e none causes.NotEqual told d shown named = absurd told
+    refusal_memory e none (causes.Edit why) reported d shown named = for_memory d (nodes_of doc) (operation_of unsorted e) why tree shown named none reported
+    refusal_memory e none causes.NoTarget reported d shown named = absurd reported
+    refusal_memory e none (causes.RepeatedName name) reported d shown named = absurd reported
+    refusal_memory e none causes.IntoItself reported d shown named = absurd reported
+    refusal_memory e none causes.NotEqual reported d shown named = absurd reported
 
     pub unset : (v : CstInputValue A) (c : PatchCause A) → IsRefusal doc (SetRoot v) c → FailsWhatShown doc (value.add [] (plain v)) c
-    unset v c told d shown = memory_cause (value.add [] (plain v)) d.value c (refusal_memory (SetRoot v) (λ h. h, λ h. h) c told d shown tt)
+    unset v c reported d shown = memory_cause (value.add [] (plain v)) d.value c (refusal_memory (SetRoot v) (λ h. h, λ h. h) c reported d shown tt)
 
     module _ (path : Vec ℕ A) (tokens : List (List ℕ)) (n : ℕ) (at : IsAt (nodes_of doc) path.items n) (d : Document) (shown : Shows d (tree_of doc)) (w : RefersToNode d (nodes_of doc) tokens n) where
       over : w.path ≡ path.items
@@ -192,33 +192,33 @@ module _ {A : Type 0} where
       stands = (w.value, w.is, subst (λ p. Changed w.v w.v p w.value w.value) over (refers_changed w.refers))
 
       pub memory_to_remove : (c : PatchCause A) → IsRefusal doc (Remove path) c → IsNoMemory c
-      memory_to_remove c told = refusal_memory (Remove path) (λ h. h, λ h. h) c told d shown (w.v, stands)
+      memory_to_remove c reported = refusal_memory (Remove path) (λ h. h, λ h. h) c reported d shown (w.v, stands)
 
       module _ (v : CstInputValue A) (c : PatchCause A) where
         pub memory_to_replace : IsRefusal doc (Replace path v) c → IsNoMemory c
-        memory_to_replace told = refusal_memory (Replace path v) (λ h. h, λ h. h) c told d shown (w.v, stands)
+        memory_to_replace reported = refusal_memory (Replace path v) (λ h. h, λ h. h) c reported d shown (w.v, stands)
 
         module _ (kind : content_at (nodes_of doc) n ≡ content.array) where
           items_there : (vs : _) × StandsAt (array vs) path.items d.value
           items_there = let a = array_value d.options (content_at (nodes_of doc) n) (row_below (nodes_of doc) n) w.v kind w.has in (a.0, subst (λ x. StandsAt x path.items d.value) a.1 stands)
 
           pub memory_to_insert : (index : ℕ) → IsRefusal doc (InsertElement path index v) c → IsNoMemory c
-          memory_to_insert index told = refusal_memory (InsertElement path index v) (λ h. h, λ h. h) c told d shown items_there
+          memory_to_insert index reported = refusal_memory (InsertElement path index v) (λ h. h, λ h. h) c reported d shown items_there
 
           pub memory_to_append : IsRefusal doc (AppendElement path v) c → IsNoMemory c
-          memory_to_append told = refusal_memory (AppendElement path v) (λ h. h, λ h. h) c told d shown items_there
+          memory_to_append reported = refusal_memory (AppendElement path v) (λ h. h, λ h. h) c reported d shown items_there
 
         pub memory_for_member : content_at (nodes_of doc) n ≡ content.object → (name : String A) → IsRefusal doc (AppendProperty path name v) c → IsNoMemory c
-        memory_for_member kind name told =
+        memory_for_member kind name reported =
             let m = its d (nodes_of doc) tree shown tokens n w (chars_of name) kind in
-            refusal_memory (AppendProperty path name v) (λ h. h, λ h. h) c told d shown (m.0, subst (λ x. StandsAt x path.items d.value) m.1 stands)
+            refusal_memory (AppendProperty path name v) (λ h. h, λ h. h) c reported d shown (m.0, subst (λ x. StandsAt x path.items d.value) m.1 stands)
 
     module _ (path : Vec ℕ A) (tokens : List (List ℕ)) (leads : LeadsOver doc tokens path.items) (c : PatchCause A) where
       pub removes_not : IsRefusal doc (Remove path) c → FailsWhatShown doc (value.remove tokens) c
-      removes_not told d shown = memory_cause (value.remove tokens) d.value c (memory_to_remove path tokens leads.0 leads.1 d shown (leads.2 d shown) c told)
+      removes_not reported d shown = memory_cause (value.remove tokens) d.value c (memory_to_remove path tokens leads.0 leads.1 d shown (leads.2 d shown) c reported)
 
       pub replaces_not : (v : CstInputValue A) → IsRefusal doc (Replace path v) c → FailsWhatShown doc (value.replace tokens (plain v)) c
-      replaces_not v told d shown = memory_cause (value.replace tokens (plain v)) d.value c (memory_to_replace path tokens leads.0 leads.1 d shown (leads.2 d shown) v c told)
+      replaces_not v reported d shown = memory_cause (value.replace tokens (plain v)) d.value c (memory_to_replace path tokens leads.0 leads.1 d shown (leads.2 d shown) v c reported)
 
     -- at a node
     module _ (node : CstNode) (c : PatchCause A) where
@@ -233,16 +233,16 @@ module _ {A : Type 0} where
 
       module _ (path : Vec ℕ A) (at : IsAt (nodes_of doc) path.items (number_of node)) (v : CstInputValue A) where
         pub puts_not : IsRefusal doc (Replace path v) c → FailsForMemory doc node c
-        puts_not told tokens leads d shown = memory_to_replace path tokens (number_of node) at d shown (leads d shown) v c told
+        puts_not reported tokens leads d shown = memory_to_replace path tokens (number_of node) at d shown (leads d shown) v c reported
 
         pub member_not : content_at (nodes_of doc) (number_of node) ≡ content.object → (name : String A) → IsRefusal doc (AppendProperty path name v) c → FailsForMemory doc node c
-        member_not kind name told tokens leads d shown = memory_for_member path tokens (number_of node) at d shown (leads d shown) v c kind name told
+        member_not kind name reported tokens leads d shown = memory_for_member path tokens (number_of node) at d shown (leads d shown) v c kind name reported
 
         pub inserts_not : (all : List (List ℕ)) (last : List ℕ) → content_at (nodes_of doc) (number_of node) ≡ content.array → (index : ℕ) → IsRefusal doc (InsertElement path index v) c → FailsBelow doc node all last (plain v) c
-        inserts_not all last kind index told tokens split leads d shown = memory_cause (value.add all (plain v)) d.value c (memory_to_insert path tokens (number_of node) at d shown (leads d shown) v c kind index told)
+        inserts_not all last kind index reported tokens split leads d shown = memory_cause (value.add all (plain v)) d.value c (memory_to_insert path tokens (number_of node) at d shown (leads d shown) v c kind index reported)
 
         pub appends_not : (all : List (List ℕ)) (last : List ℕ) → content_at (nodes_of doc) (number_of node) ≡ content.array → IsRefusal doc (AppendElement path v) c → FailsBelow doc node all last (plain v) c
-        appends_not all last kind told tokens split leads d shown = memory_cause (value.add all (plain v)) d.value c (memory_to_append path tokens (number_of node) at d shown (leads d shown) v c kind told)
+        appends_not all last kind reported tokens split leads d shown = memory_cause (value.add all (plain v)) d.value c (memory_to_append path tokens (number_of node) at d shown (leads d shown) v c kind reported)
 
     -- there is no place for what is to be added
     module _ (node : CstNode) (all : List (List ℕ)) (last : List ℕ) (v : Plain) where
@@ -252,7 +252,7 @@ module _ {A : Type 0} where
           let n : ℕ = number_of node in
           let w = leads d shown in
           subst (λ l. IsCause {A = A} (value.add l v) d.value causes.NoTarget) (sym split)
-          (behind_scalar last (w.value, w.is, w.path, w.refers)
+          (below_scalar last (w.value, w.is, w.path, w.refers)
           (λ vs e. no_array (array_content d.options (content_at ns n) (row_below ns n) vs (subst (HasValue d.options (top_at ns n)) e w.has)))
           (λ ms e. no_object (object_content d.options (content_at ns n) (row_below ns n) ms (subst (HasValue d.options (top_at ns n)) e w.has))))
 
@@ -266,7 +266,7 @@ module _ {A : Type 0} where
           subst (λ l. IsCause {A = A} (value.add l v) d.value causes.NoTarget) (sym split)
           (past_elements last (w.value, w.is, w.path, subst (Refers w.value tokens w.path) items.1 w.refers) other (λ i index. (let far = past i index in omega (arith, far, count))))
 
-      pub member_unfound : (e : FindError A) (c : PatchCause A) → Tells e c → IsOfShown doc (λ d. FindFails d doc all e) → FailsBelow doc node all last v c
+      pub member_unfound : (e : FindError A) (c : PatchCause A) → HasCause e c → IsOfShown doc (λ d. FindFails d doc all e) → FailsBelow doc node all last v c
       member_unfound e c is fails tokens split leads = unfound_below doc all v e c is fails
 
       -- the value of a member that is there

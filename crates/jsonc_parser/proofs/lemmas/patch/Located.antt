@@ -30,7 +30,7 @@ use Rattle.jsonc_cst.specs.Readings.{value_under}
 use Rattle.jsonc_cst.proofs.Family.{number_of-typed}
 use Rattle.jsonc_parser.specs.paths.Found.{names_of}
 use Rattle.jsonc_parser.specs.patch.Found.{IsOfShown, RefersToNode}
-use Rattle.jsonc_parser.specs.patch.Locations.{HasNoToken, LeadsBack, TellsPointer, TellsToken, TellsTokens}
+use Rattle.jsonc_parser.specs.patch.Locations.{AreTokensTo, HasNoToken, IsPointerTo, IsTokenTo, LeadsBack}
 use Rattle.jsonc_parser.specs.patch.Lookups as lookups
 use Rattle.jsonc_parser.specs.patch.Lookups.{IsLookedUp}
 use Rattle.jsonc_parser.specs.patch.Pointer.{tokens_of}
@@ -83,30 +83,30 @@ module _ {A : Type 0} (doc : CstRootNode A) (tree : IsTree (nodes_of doc)) (node
   module _ (place : ℕ) where
     pub told_element : (content_at (nodes_of doc) (number_of node) ≡ content.object → ⊥) → (entry : ℕ) → Some entry ≡ slice_get (elements_at (nodes_of doc) (number_of node)) place
         → (token : String A) (inner : CstNode) → string_bytes token ≡ decimal place → place < 2 ^ 64 → inner ≡ typed_at (nodes_of doc) entry
-        → (q : ℕ) → paths.StepsTo (nodes_of doc) (number_of node) place q → TellsToken doc node place q (Some (token, inner))
+        → (q : ℕ) → paths.StepsTo (nodes_of doc) (number_of node) place q → IsTokenTo doc node place q (Some (token, inner))
     told_element no_object entry is token inner text fits typed_so q (paths.in_object object e h) = absurd (no_object object)
     told_element no_object entry is token inner text fits typed_so q (paths.in_array array e) =
         let same : entry ≡ q = element_once (nodes_of doc) (number_of node) place entry q (sym is) e in
         let number : number_of inner ≡ entry = ap number_of typed_so ∙ number_of-typed (content_at (nodes_of doc) entry) entry in
         (number ∙ same, step_element doc tree node (chars_of token) array entry (place, written_index (string_bytes token) place text fits, sym is) inner typed_so)
 
-    pub no_element : None ≡ slice_get (elements_at (nodes_of doc) (number_of node)) place → (q : ℕ) → paths.StepsTo (nodes_of doc) (number_of node) place q → TellsToken doc node place q None
+    pub no_element : None ≡ slice_get (elements_at (nodes_of doc) (number_of node)) place → (q : ℕ) → paths.StepsTo (nodes_of doc) (number_of node) place q → IsTokenTo doc node place q None
     no_element none q (paths.in_array array e) = absurd (let wrong : None ≡ Some q = none ∙ e in cc)
     no_element none q (paths.in_object {r = r} object e h) = absurd (let wrong : None ≡ Some r = none ∙ e in cc)
 
     -- what a property's step leads to, by what is known of the property
-    pub told_property : content_at (nodes_of doc) (number_of node) ≡ content.object → (entry : ℕ) → Some entry ≡ slice_get (elements_at (nodes_of doc) (number_of node)) place → (told : Option (String A × CstNode))
-        → ((i q : ℕ) → IsElementOf (nodes_of doc) (number_of node) i entry → IsHeldBy (nodes_of doc) entry q → TellsToken doc node i q told)
-        → (q : ℕ) → paths.StepsTo (nodes_of doc) (number_of node) place q → TellsToken doc node place q told
-    told_property object entry is told by q (paths.in_array array e) = absurd (no_kind_is_two (content_at (nodes_of doc) (number_of node)) array object)
-    told_property object entry is told by q (paths.in_object {r = r} other e h) =
+    pub told_property : content_at (nodes_of doc) (number_of node) ≡ content.object → (entry : ℕ) → Some entry ≡ slice_get (elements_at (nodes_of doc) (number_of node)) place → (reported : Option (String A × CstNode))
+        → ((i q : ℕ) → IsElementOf (nodes_of doc) (number_of node) i entry → IsHeldBy (nodes_of doc) entry q → IsTokenTo doc node i q reported)
+        → (q : ℕ) → paths.StepsTo (nodes_of doc) (number_of node) place q → IsTokenTo doc node place q reported
+    told_property object entry is reported by q (paths.in_array array e) = absurd (no_kind_is_two (content_at (nodes_of doc) (number_of node)) array object)
+    told_property object entry is reported by q (paths.in_object {r = r} other e h) =
         let same : r ≡ entry = element_once (nodes_of doc) (number_of node) place r entry e (sym is) in
         by place q (sym is) (subst (λ k. IsHeldBy (nodes_of doc) k q) same h)
 
     pub told_by_name : {E : Type 0} → content_at (nodes_of doc) (number_of node) ≡ content.object → (entry : ℕ) → Some entry ≡ slice_get (elements_at (nodes_of doc) (number_of node)) place → (r : Result (Option (String A × CstNode)) E)
-        → IfOk r (λ told. (i q : ℕ) → IsElementOf (nodes_of doc) (number_of node) i entry → IsHeldBy (nodes_of doc) entry q → TellsToken doc node i q told)
-        → IfOk r (λ told. (q : ℕ) → paths.StepsTo (nodes_of doc) (number_of node) place q → TellsToken doc node place q told)
-    told_by_name object entry is (Ok told) by = told_property object entry is told by
+        → IfOk r (λ reported. (i q : ℕ) → IsElementOf (nodes_of doc) (number_of node) i entry → IsHeldBy (nodes_of doc) entry q → IsTokenTo doc node i q reported)
+        → IfOk r (λ reported. (q : ℕ) → paths.StepsTo (nodes_of doc) (number_of node) place q → IsTokenTo doc node place q reported)
+    told_by_name object entry is (Ok reported) by = told_property object entry is reported by
     told_by_name object entry is (Err e) by = tt
 
   -- a property of an object, by its name
@@ -125,7 +125,7 @@ module _ {A : Type 0} (doc : CstRootNode A) (tree : IsTree (nodes_of doc)) (node
         let same : named.0 ≡ property = element_once ns n i named.0 property named.1 e in
         (only.0, only.1, subst (λ k. HasName ns k token) same named.2)
 
-    pub nameless : ((v : List ℕ) → HasName (nodes_of doc) property v → ⊥) → (i q : ℕ) → IsElementOf (nodes_of doc) (number_of node) i property → IsHeldBy (nodes_of doc) property q → TellsToken doc node i q None
+    pub nameless : ((v : List ℕ) → HasName (nodes_of doc) property v → ⊥) → (i q : ℕ) → IsElementOf (nodes_of doc) (number_of node) i property → IsHeldBy (nodes_of doc) property q → IsTokenTo doc node i q None
     nameless none i q e h d tokens shown w token x r = none token (leads_by_name i e d tokens shown w token x r).2
 
     module _ (name : List ℕ) (named : HasName (nodes_of doc) property name) where
@@ -137,7 +137,7 @@ module _ {A : Type 0} (doc : CstRootNode A) (tree : IsTree (nodes_of doc)) (node
           let same : token ≡ name = has_name_once (nodes_of doc) property token name by.2 named in
           (by.0, subst (λ t. IsOnly t by.0 i (its d (nodes_of doc) tree shown tokens (number_of node) w t object).0) same by.1)
 
-      pub missing : IsLookedUp (nodes_of doc) name (children_at (nodes_of doc) (number_of node)) Missing → (i q : ℕ) → IsElementOf (nodes_of doc) (number_of node) i property → IsHeldBy (nodes_of doc) property q → TellsToken doc node i q None
+      pub missing : IsLookedUp (nodes_of doc) name (children_at (nodes_of doc) (number_of node)) Missing → (i q : ℕ) → IsElementOf (nodes_of doc) (number_of node) i property → IsHeldBy (nodes_of doc) property q → IsTokenTo doc node i q None
       missing found i q e h d tokens shown w token x r =
           let ns : List Node = nodes_of doc in
           let n : ℕ = number_of node in
@@ -146,7 +146,7 @@ module _ {A : Type 0} (doc : CstRootNode A) (tree : IsTree (nodes_of doc)) (node
           let lacks = looked_up d.options ns (children_at ns n) (row_below ns n) (row_below ns n) ms.0 name Missing row ms.2 refl (all_whole d ns tree shown tokens n w name object) found in
           only_lacks (found_there i e d tokens shown w token x r).1 lacks
 
-      pub twice : IsLookedUp (nodes_of doc) name (children_at (nodes_of doc) (number_of node)) Twice → (i q : ℕ) → IsElementOf (nodes_of doc) (number_of node) i property → IsHeldBy (nodes_of doc) property q → TellsToken doc node i q None
+      pub twice : IsLookedUp (nodes_of doc) name (children_at (nodes_of doc) (number_of node)) Twice → (i q : ℕ) → IsElementOf (nodes_of doc) (number_of node) i property → IsHeldBy (nodes_of doc) property q → IsTokenTo doc node i q None
       twice found i q e h d tokens shown w token x r =
           let ns : List Node = nodes_of doc in
           let n : ℕ = number_of node in
@@ -162,7 +162,7 @@ module _ {A : Type 0} (doc : CstRootNode A) (tree : IsTree (nodes_of doc)) (node
             only_named (nodes_of doc) name only found at.0 property (got_at (children_at (nodes_of doc) (number_of node)) at.0 property at.1 at.2) (h.0, named)
 
         pub told_name : (value : CstNode) → Some value ≡ value_under doc only → (token : String A) → chars_of token ≡ name
-            → (i q : ℕ) → IsElementOf (nodes_of doc) (number_of node) i property → IsHeldBy (nodes_of doc) property q → TellsToken doc node i q (Some (token, value))
+            → (i q : ℕ) → IsElementOf (nodes_of doc) (number_of node) i property → IsHeldBy (nodes_of doc) property q → IsTokenTo doc node i q (Some (token, value))
         told_name value is token text i q e h =
             let ns : List Node = nodes_of doc in
             let same : only ≡ property = only_this i q e h in
@@ -171,7 +171,7 @@ module _ {A : Type 0} (doc : CstRootNode A) (tree : IsTree (nodes_of doc)) (node
             let one : value ≡ typed_at ns q = cc in
             (ap number_of one ∙ number_of-typed (content_at ns q) q, subst (λ t. lookups.StepsTo doc node t (Some value)) (sym text) (step_once doc tree node name object only found (Some value) is))
 
-        pub valueless : None ≡ value_under doc only → (i q : ℕ) → IsElementOf (nodes_of doc) (number_of node) i property → IsHeldBy (nodes_of doc) property q → TellsToken doc node i q None
+        pub valueless : None ≡ value_under doc only → (i q : ℕ) → IsElementOf (nodes_of doc) (number_of node) i property → IsHeldBy (nodes_of doc) property q → IsTokenTo doc node i q None
         valueless is i q e h =
             let ns : List Node = nodes_of doc in
             let held : value_at ns only ≡ Some q = ap (value_at ns) (only_this i q e h) ∙ h.2 in
@@ -189,58 +189,58 @@ module _ {A : Type 0} (doc : CstRootNode A) (tree : IsTree (nodes_of doc)) where
       let first : at.0 ≡ number_of node = element_once (nodes_of doc) 0 0 at.0 here.0 at.1 here.1 ∙ no_step here.2 in
       (w, subst (λ v. LeadsTo (nodes_of doc) n v path) first at.2)
 
-  pub starts_nowhere : None ≡ value_under doc 0 → (n : ℕ) → IsOfShown doc (TellsTokens doc n None)
+  pub starts_nowhere : None ≡ value_under doc 0 → (n : ℕ) → IsOfShown doc (AreTokensTo doc n None)
   starts_nowhere is n d shown tokens u = (begins_without doc tree is tokens d shown).nothing u.v (u.value, u.is, u.path, u.refers)
 
   module _ (n : ℕ) (tokens : List (String A)) (node : CstNode) (place : ℕ) (rest : List ℕ) (way : IsOnTheWay doc n tokens node (place ∷ rest)) where
-    pub goes_on : (token : String A) (inner : CstNode) → ((q : ℕ) → paths.StepsTo (nodes_of doc) (number_of node) place q → TellsToken doc node place q (Some (token, inner))) → IsOnTheWay doc n (tokens ++ token ∷ []) inner rest
-    goes_on token inner told d shown =
+    pub goes_on : (token : String A) (inner : CstNode) → ((q : ℕ) → paths.StepsTo (nodes_of doc) (number_of node) place q → IsTokenTo doc node place q (Some (token, inner))) → IsOnTheWay doc n (tokens ++ token ∷ []) inner rest
+    goes_on token inner reported d shown =
         let so = way d shown in
         let s = next_step so.1 in
-        let t = told s.0 s.1 in
+        let t = reported s.0 s.1 in
         let refers : RefersToNode d (nodes_of doc) (names_of tokens ++ chars_of token ∷ []) (number_of inner) = t.1 d (names_of tokens) shown so.0 in
         (subst (λ l. RefersToNode d (nodes_of doc) l (number_of inner)) (sym (map-append chars_of tokens (token ∷ []))) refers, subst (λ v. LeadsTo (nodes_of doc) n v rest) (sym t.0) s.2)
 
-    pub stops : ((q : ℕ) → paths.StepsTo (nodes_of doc) (number_of node) place q → TellsToken doc node place q None) → IsOfShown doc (TellsTokens doc n None)
-    stops told d shown others u =
+    pub stops : ((q : ℕ) → paths.StepsTo (nodes_of doc) (number_of node) place q → IsTokenTo doc node place q None) → IsOfShown doc (AreTokensTo doc n None)
+    stops reported d shown others u =
         let so = way d shown in
         let s = next_step so.1 in
-        none_over d (nodes_of doc) tree shown (names_of tokens) (number_of node) n place rest so.0 so.1 (told s.0 s.1 d (names_of tokens) shown so.0) others u
+        none_over d (nodes_of doc) tree shown (names_of tokens) (number_of node) n place rest so.0 so.1 (reported s.0 s.1 d (names_of tokens) shown so.0) others u
 
-  module _ (n : ℕ) (tokens : List (String A)) (node : CstNode) (path : List ℕ) (k : ℕ) (h : k < length path) (way : IsOnTheWay doc n tokens node (drop k path)) (told : Option (String A × CstNode))
-      (by : (q : ℕ) → paths.StepsTo (nodes_of doc) (number_of node) (get_or path k 0) q → TellsToken doc node (get_or path k 0) q told) where
+  module _ (n : ℕ) (tokens : List (String A)) (node : CstNode) (path : List ℕ) (k : ℕ) (h : k < length path) (way : IsOnTheWay doc n tokens node (drop k path)) (reported : Option (String A × CstNode))
+      (by : (q : ℕ) → paths.StepsTo (nodes_of doc) (number_of node) (get_or path k 0) q → IsTokenTo doc node (get_or path k 0) q reported) where
     further : IsOnTheWay doc n tokens node (get_or path k 0 ∷ drop (k + 1) path)
     further = subst (IsOnTheWay doc n tokens node) (drop_more path k 0 h) way
 
-    pub goes_on_by : (token : String A) (inner : CstNode) → told ≡ Some (token, inner) → IsOnTheWay doc n (tokens ++ token ∷ []) inner (drop (k + 1) path)
-    goes_on_by token inner is = goes_on n tokens node (get_or path k 0) (drop (k + 1) path) further token inner (λ q s. subst (TellsToken doc node (get_or path k 0) q) is (by q s))
+    pub goes_on_by : (token : String A) (inner : CstNode) → reported ≡ Some (token, inner) → IsOnTheWay doc n (tokens ++ token ∷ []) inner (drop (k + 1) path)
+    goes_on_by token inner is = goes_on n tokens node (get_or path k 0) (drop (k + 1) path) further token inner (λ q s. subst (IsTokenTo doc node (get_or path k 0) q) is (by q s))
 
-    pub stops_here_by : told ≡ None → IsOfShown doc (TellsTokens doc n None)
-    stops_here_by is = stops n tokens node (get_or path k 0) (drop (k + 1) path) further (λ q s. subst (TellsToken doc node (get_or path k 0) q) is (by q s))
+    pub stops_here_by : reported ≡ None → IsOfShown doc (AreTokensTo doc n None)
+    stops_here_by is = stops n tokens node (get_or path k 0) (drop (k + 1) path) further (λ q s. subst (IsTokenTo doc node (get_or path k 0) q) is (by q s))
 
-  pub arrives : (n : ℕ) (tokens : Vec (String A) A) (node : CstNode) → IsOnTheWay doc n tokens.items node [] → IsOfShown doc (TellsTokens doc n (Some tokens))
+  pub arrives : (n : ℕ) (tokens : Vec (String A) A) (node : CstNode) → IsOnTheWay doc n tokens.items node [] → IsOfShown doc (AreTokensTo doc n (Some tokens))
   arrives n tokens node way d shown =
       let so = way d shown in subst (RefersToNode d (nodes_of doc) (names_of tokens.items)) (no_step so.1) so.0
 
   -- a node of no path is one that no tokens refer to
-  pub nowhere : (n : ℕ) → ((path : List ℕ) → IsAt (nodes_of doc) path n → ⊥) → IsOfShown doc (TellsTokens doc n None)
+  pub nowhere : (n : ℕ) → ((path : List ℕ) → IsAt (nodes_of doc) path n → ⊥) → IsOfShown doc (AreTokensTo doc n None)
   nowhere n none d shown tokens u = none u.path u.at
 
   module _ (n : ℕ) (found : Option (Vec ℕ A)) where
-    pub nowhere_by : found ≡ None → IfNone found ((path : List ℕ) → IsAt (nodes_of doc) path n → ⊥) → IsOfShown doc (TellsPointer doc n None)
+    pub nowhere_by : found ≡ None → IfNone found ((path : List ℕ) → IsAt (nodes_of doc) path n → ⊥) → IsOfShown doc (IsPointerTo doc n None)
     nowhere_by is none = nowhere n (subst (λ (o : Option (Vec ℕ A)). IfNone o ((path : List ℕ) → IsAt (nodes_of doc) path n → ⊥)) is none)
 
     -- a path was found, and tokens over it
-    module _ (path : Vec ℕ A) (is : found ≡ Some path) (at : IfSome found (λ path. IsAt (nodes_of doc) path.items n)) (slice : List ℕ) (same : slice ≡ path.items) (told : Option (Vec (String A) A))
-        (by : (n : ℕ) → IsAt (nodes_of doc) slice n → IsOfShown doc (TellsTokens doc n told)) where
-      over_path_there : IsOfShown doc (TellsTokens doc n told)
+    module _ (path : Vec ℕ A) (is : found ≡ Some path) (at : IfSome found (λ path. IsAt (nodes_of doc) path.items n)) (slice : List ℕ) (same : slice ≡ path.items) (reported : Option (Vec (String A) A))
+        (by : (n : ℕ) → IsAt (nodes_of doc) slice n → IsOfShown doc (AreTokensTo doc n reported)) where
+      over_path_there : IsOfShown doc (AreTokensTo doc n reported)
       over_path_there = by n (subst (λ l. IsAt (nodes_of doc) l n) (sym same) (subst (λ (o : Option (Vec ℕ A)). IfSome o (λ path. IsAt (nodes_of doc) path.items n)) is at))
 
-      pub no_pointer : told ≡ None → IsOfShown doc (TellsPointer doc n None)
-      no_pointer none d shown = subst (λ o. TellsTokens doc n o d) none (over_path_there d shown)
+      pub no_pointer : reported ≡ None → IsOfShown doc (IsPointerTo doc n None)
+      no_pointer none d shown = subst (λ o. AreTokensTo doc n o d) none (over_path_there d shown)
 
-      pub a_pointer : (tokens : Vec (String A) A) (pointer : Pointer A) → told ≡ Some tokens → tokens_of pointer ≡ names_of tokens.items → IsOfShown doc (TellsPointer doc n (Some pointer))
-      a_pointer tokens pointer some text d shown = subst (λ l. RefersToNode d (nodes_of doc) l n) (sym text) (subst (λ o. TellsTokens doc n o d) some (over_path_there d shown))
+      pub a_pointer : (tokens : Vec (String A) A) (pointer : Pointer A) → reported ≡ Some tokens → tokens_of pointer ≡ names_of tokens.items → IsOfShown doc (IsPointerTo doc n (Some pointer))
+      a_pointer tokens pointer some text d shown = subst (λ l. RefersToNode d (nodes_of doc) l n) (sym text) (subst (λ o. AreTokensTo doc n o d) some (over_path_there d shown))
 
 -- what tokens refer to is one node
 pub one_node : (d : Document) (ns : List Node) (tokens : List (List ℕ)) (n m : ℕ) → RefersToNode d ns tokens n → RefersToNode d ns tokens m → n ≡ m

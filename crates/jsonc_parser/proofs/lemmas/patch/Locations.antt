@@ -29,7 +29,7 @@ use Rattle.jsonc_parser.specs.declared.patch.reference.Lookup.TheVariants.{Once}
 use Rattle.jsonc_parser.proofs.lemmas.patch.Evaluation.{index_once, item_once, only_of_more, only_once, refers_changed}
 use Rattle.jsonc_parser.proofs.lemmas.patch.Rows.{has_name, name_leaf, others_whole, passed_over, NameLeaf}
 
--- a member of a name stands at one place
+-- a member of a name is at one place
 only_place : {name : List ℕ} {v w : Plain} {i j : ℕ} {ms : Members} → IsOnly name v i ms → IsOnly name w j ms → i ≡ j
 only_place {name} {v} (this_only {ms = rest} l) q =
     elim (only_of_more q name v rest refl) [
@@ -94,7 +94,7 @@ only_path {w = w} (to_element {tokens = tokens} {i = i} {path = path} {vs = vs} 
     let same : IsItem o.there i vs = subst (λ n. IsItem o.there n vs) (sym place) o.item in
     ap (λ k. k ∷ path) place ∙ ap (λ l. o.place ∷ l) (only_path r (subst (λ k. Refers k tokens o.path w) (item_once same item) o.refers)) ∙ sym o.is
 
--- the first step of a path behind another, and the tokens up to there
+-- the first step of a path after another, and the tokens up to there
 pub record Parted (x : Plain) (tokens : List (List ℕ)) (path : List ℕ) (i : ℕ) : Type 0 where
   pub front : List (List ℕ)
   pub token : List ℕ

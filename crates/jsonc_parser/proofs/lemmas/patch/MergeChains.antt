@@ -27,12 +27,12 @@ use Rattle.jsonc_cst.specs.declared.cst.node.CstObject.{CstObject}
 use Rattle.jsonc_cst.specs.Document.{nodes_of, tree_of, HasNode}
 use Rattle.jsonc_cst.specs.Nodes.{number_of, object_node, IsAs}
 use Rattle.jsonc_parser.specs.paths.Found.{names_of}
-use Rattle.jsonc_parser.specs.patch.Applied.{FailsWhatShown, IsCause, IsMade, MakesWhatShown, Tells}
+use Rattle.jsonc_parser.specs.patch.Applied.{FailsWhatShown, HasCause, IsCause, IsMade, MakesWhatShown}
 use Rattle.jsonc_parser.specs.patch.Equality.{AreEqual, HasUniqueNames}
 use Rattle.jsonc_parser.specs.patch.Failing.{ReferToNothing}
 use Rattle.jsonc_parser.specs.patch.Found.{FindFails, Finds, IsOfShown, ReadFails, Reads, RefersToNode, RefersToNothing}
 use Rattle.jsonc_parser.specs.patch.Merged.{IsMergeFault, MergesWhatShown, MergeStopsWhatShown}
-use Rattle.jsonc_parser.specs.patch.MergeSteps.{at_root, Drops, FailsToMerge, FailsToMergeAll, FailsToSet, HasNameTwice, IsMergeCause, IsPlace, IsReached, IsStop, IsTwice, MergesNamed, ReachesWhatShown, RefersToObject, Sets, TellsFault}
+use Rattle.jsonc_parser.specs.patch.MergeSteps.{at_root, Drops, FailsToMerge, FailsToMergeAll, FailsToSet, HasNameTwice, IsMergeCause, IsPlace, IsReached, IsReportedAs, IsStop, IsTwice, MergesNamed, ReachesWhatShown, RefersToObject, Sets}
 use Rattle.jsonc_parser.specs.patch.Merging.{inside, made_of, members_made, GoesInto, IsThere, Merges, MembersMerge, Stops}
 use Rattle.jsonc_parser.specs.patch.Merging as merging
 use Rattle.jsonc_parser.specs.patch.Operations as value
@@ -194,11 +194,11 @@ module _ {A : Type 0} where
 
   -- evaluation that failed
   module _ (doc : CstRootNode A) (tokens : List (List ℕ)) where
-    pub found_twice : (e : FindError A) (c : PatchCause A) → Tells e c → IsOfShown doc (λ d. FindFails d doc tokens e) → IsOfShown doc (λ d. IsTwice d.value tokens c)
+    pub found_twice : (e : FindError A) (c : PatchCause A) → HasCause e c → IsOfShown doc (λ d. FindFails d doc tokens e) → IsOfShown doc (λ d. IsTwice d.value tokens c)
     found_twice (errors.RepeatedName name) c is fails d shown = subst (IsTwice d.value tokens) (sym is) (fails d shown)
     found_twice errors.OutOfMemory c is fails d shown = subst (IsTwice d.value tokens) (sym is) refl
 
-    pub read_twice : (e : FindError A) (c : PatchCause A) → Tells e c → IsOfShown doc (λ d. ReadFails d doc tokens e) → IsOfShown doc (λ d. IsTwice d.value tokens c)
+    pub read_twice : (e : FindError A) (c : PatchCause A) → HasCause e c → IsOfShown doc (λ d. ReadFails d doc tokens e) → IsOfShown doc (λ d. IsTwice d.value tokens c)
     read_twice (errors.RepeatedName name) c is fails d shown = subst (IsTwice d.value tokens) (sym is) (fails d shown)
     read_twice errors.OutOfMemory c is fails d shown = subst (IsTwice d.value tokens) (sym is) refl
 
@@ -225,7 +225,7 @@ module _ {A : Type 0} where
     none_read v none d shown = nothing_there v tokens d.value (none d shown).nothing
 
     pub one_read : (v : Plain) (taken : CstInputValue A) (b : Bool) → IsOfShown doc (λ d. Reads d tokens (Some taken)) → (HasUniqueNames (plain taken) → Decides b (AreEqual (λ s t. s ≡ t) v (plain taken))) → IsOfShown doc (λ d. Decides b (IsThere v tokens d.value))
-    one_read v taken b read told d shown = let r = read d shown in there_told v (plain taken) tokens d.value b r.0 r.1 r.2 told
+    one_read v taken b read reported d shown = let r = read d shown in there_told v (plain taken) tokens d.value b r.0 r.1 r.2 reported
 
   module _ (doc : CstRootNode A) (tree : IsTree (nodes_of doc)) (tokens : List (List ℕ)) (node : CstNode) (held : HasNode doc node) (o : Option CstObject) (as_object : IsAs object_node node o) where
     pub object_told : (b : Bool) → b ≡ is_some o → IsOfShown doc (λ d. Finds d doc tokens (Some node)) → IsOfShown doc (λ d. Decides b (RefersToObject d.value tokens))
@@ -282,38 +282,38 @@ module _ {A : Type 0} (old new : CstRootNode A) (tokens : List (List ℕ)) where
   pub failed_value : (p q : Plain) (cause : PatchCause A) → p ≡ q → FailsToMerge old tokens q cause → FailsToMerge old tokens p cause
   failed_value p q cause is fails = subst (λ k. FailsToMerge old tokens k cause) (sym is) fails
 
--- what was told of the tokens
-module _ {A : Type 0} (doc : CstRootNode A) (names tokens : List (List ℕ)) (same : names ≡ tokens) (b : Bool) (told : IsOfShown doc (λ d. Decides b (RefersToObject d.value names))) where
+-- what was answered of the tokens
+module _ {A : Type 0} (doc : CstRootNode A) (names tokens : List (List ℕ)) (same : names ≡ tokens) (b : Bool) (reported : IsOfShown doc (λ d. Decides b (RefersToObject d.value names))) where
   pub object_so : b ≡ true → IsOfShown doc (λ d. RefersToObject d.value tokens)
-  object_so e d shown = subst (RefersToObject d.value) same ((told d shown).0 e)
+  object_so e d shown = subst (RefersToObject d.value) same ((reported d shown).0 e)
 
   pub no_object_so : (p : Plain) → b ≡ false → IsOfShown doc (λ d. ¬ (GoesInto p tokens d.value))
-  no_object_so p e d shown = goes_nowhere p tokens d.value (λ h. false≢true (sym e ∙ (told d shown).1 (subst (RefersToObject d.value) (sym same) h)))
+  no_object_so p e d shown = goes_nowhere p tokens d.value (λ h. false≢true (sym e ∙ (reported d shown).1 (subst (RefersToObject d.value) (sym same) h)))
 
--- what was told of the value that is to be put, of what is made of the patch
-module _ {A : Type 0} (doc : CstRootNode A) (tokens : List (List ℕ)) (p v : Plain) (is : v ≡ made_of p) (b : Bool) (told : IsOfShown doc (λ d. Decides b (IsThere v tokens d.value))) where
+-- what was answered of the value that is to be put, of what is made of the patch
+module _ {A : Type 0} (doc : CstRootNode A) (tokens : List (List ℕ)) (p v : Plain) (is : v ≡ made_of p) (b : Bool) (reported : IsOfShown doc (λ d. Decides b (IsThere v tokens d.value))) where
   pub there_so : b ≡ true → IsOfShown doc (λ d. IsThere (made_of p) tokens d.value)
-  there_so e d shown = subst (λ q. IsThere q tokens d.value) is ((told d shown).0 e)
+  there_so e d shown = subst (λ q. IsThere q tokens d.value) is ((reported d shown).0 e)
 
   pub not_there : b ≡ false → IsOfShown doc (λ d. ¬ (IsThere (made_of p) tokens d.value))
-  not_there e d shown h = false≢true (sym e ∙ (told d shown).1 (subst (λ q. IsThere q tokens d.value) (sym is) h))
+  not_there e d shown h = false≢true (sym e ∙ (reported d shown).1 (subst (λ q. IsThere q tokens d.value) (sym is) h))
 
-pub twice_in_patch : {A : Type 0} (p : Plain) (d : Document) (told : MergeFault A) → HasNameTwice p told → IsMergeFault p d told
+pub twice_in_patch : {A : Type 0} (p : Plain) (d : Document) (reported : MergeFault A) → HasNameTwice p reported → IsMergeFault p d reported
 twice_in_patch p d (fault.RepeatedName name) h = inl h
 twice_in_patch p d fault.OutOfMemory h = tt
 
 -- the fault of a document's merge
-pub stops_shown : {A : Type 0} (old : CstRootNode A) (p : Plain) (cause : PatchCause A) (told : MergeFault A) → TellsFault cause told → FailsToMerge old [] p cause → MergeStopsWhatShown old p told
-stops_shown old p (causes.RepeatedName name) told is fails d shown fit =
+pub stops_shown : {A : Type 0} (old : CstRootNode A) (p : Plain) (cause : PatchCause A) (reported : MergeFault A) → IsReportedAs cause reported → FailsToMerge old [] p cause → MergeStopsWhatShown old p reported
+stops_shown old p (causes.RepeatedName name) reported is fails d shown fit =
     subst (λ f. IsMergeFault p d f) (sym is)
     (elim (fails d shown fit at_root) [
       | inl twice ↦ absurd (fails_whole d.value (chars_of name) twice)
       | inr stops ↦ inr stops
     ])
-stops_shown old p (causes.Edit why) told is fails d shown fit = subst (λ f. IsMergeFault p d f) (sym is) tt
-stops_shown old p causes.NoTarget told is fails d shown fit = absurd (fails d shown fit at_root)
-stops_shown old p causes.IntoItself told is fails d shown fit = absurd (fails d shown fit at_root)
-stops_shown old p causes.NotEqual told is fails d shown fit = absurd (fails d shown fit at_root)
+stops_shown old p (causes.Edit why) reported is fails d shown fit = subst (λ f. IsMergeFault p d f) (sym is) tt
+stops_shown old p causes.NoTarget reported is fails d shown fit = absurd (fails d shown fit at_root)
+stops_shown old p causes.IntoItself reported is fails d shown fit = absurd (fails d shown fit at_root)
+stops_shown old p causes.NotEqual reported is fails d shown fit = absurd (fails d shown fit at_root)
 
 -- of a copy, of the document
 module _ {A : Type 0} (old copy new : CstRootNode A) (same : nodes_of copy ≡ nodes_of old) (p : Plain) where
@@ -323,8 +323,8 @@ module _ {A : Type 0} (old copy new : CstRootNode A) (same : nodes_of copy ≡ n
   pub merged_by_copy : MergesWhatShown copy p new → MergesWhatShown old p new
   merged_by_copy merged d shown fit = merged d (subst (Shows d) trees shown) fit
 
-  pub stopped_by_copy : (told : MergeFault A) → MergeStopsWhatShown copy p told → MergeStopsWhatShown old p told
-  stopped_by_copy told stops d shown fit = stops d (subst (Shows d) trees shown) fit
+  pub stopped_by_copy : (reported : MergeFault A) → MergeStopsWhatShown copy p reported → MergeStopsWhatShown old p reported
+  stopped_by_copy reported stops d shown fit = stops d (subst (Shows d) trees shown) fit
 
 -- a member is smaller than the members
 pub member_smaller : {P : Type 0} (size : P → ℕ) (xs : List P) (i : ℕ) (p : P) (n t r s : ℕ) → 5 * most size xs + r ≡ t → s < r → i < length xs → p ≡ get_or xs i p → n ≤ size p → 5 * n + s < t

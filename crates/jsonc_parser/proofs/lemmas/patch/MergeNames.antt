@@ -1,4 +1,4 @@
--- Names that stand twice in an object of a value.
+-- Names that occur twice in an object of a value.
 use Rattle.std.proofs.Common.{◌≡◌, ◌≢◌, ◌∙◌, ℕ, zero, suc, ◌+◌, ◌<◌, ◌≤◌, Bool, true, false, List, [], ◌∷◌, length, get_or, map, take, chars, string_bytes, All, IsUtf8, refl, sym, ap, subst, arith}
 use Rattle.std.proofs.lemmas.List.Elements.{All-head, All-more, All-tail}
 use Rattle.std.proofs.lemmas.List.{take_all}
@@ -17,7 +17,7 @@ use Rattle.jsonc_parser.proofs.lemmas.patch.Equality.{has_member, name_bytes}
 use Rattle.jsonc_parser.proofs.lemmas.patch.SeenNames.{Distinct}
 use Rattle.jsonc_parser.specs.patch.Equality as equal
 use Rattle.jsonc_parser.specs.patch.Equality.{HasUniqueNames, ItemsHaveUniqueNames, MembersHaveUniqueNames}
-use Rattle.jsonc_parser.specs.patch.MergeSteps.{AreNamesTwice, HasNameTwice, TellsName}
+use Rattle.jsonc_parser.specs.patch.MergeSteps.{AreNamesTwice, HasNameTwice, ReportsName}
 use Rattle.jsonc_parser.specs.patch.PatchFaults.{repeats_here, repeats_in_element, repeats_in_member}
 use Rattle.jsonc_parser.specs.patch.PatchTexts.{NamesDiffer}
 use Rattle.jsonc_parser.specs.patch.References.{IsItem, this_item, later_item, IsRepeated, this_again, later_again}
@@ -54,7 +54,7 @@ module _ {A : Type 0} where
           let other : chars_of p.0 ≢ chars_of s = λ g. false≢true (sym f ∙ (bytes_eq-Decides (string_bytes p.0) (string_bytes s)).1 (same_text (string_bytes p.0) (string_bytes s) (IsUtf8-string_bytes p.0) (IsUtf8-string_bytes s) g)) in
           (suc rest.0, first_later other rest.1)
 
-  -- a name that two of them have stands twice
+  -- a name that two of them have occurs twice
   pub repeated_name : (ps : List (String A × CstInputValue A)) (s : String A) (j i : ℕ) → j < i → i < length ps → get_or (map name_bytes ps) j [] ≡ string_bytes s → get_or (map name_bytes ps) i [] ≡ string_bytes s
       → IsRepeated (chars_of s) (members_plain ps)
   repeated_name [] s j i b l d e = absurd (omega (arith, l))
@@ -74,12 +74,12 @@ module _ {A : Type 0} where
           let other : chars_of p.0 ≢ chars_of s = λ g. false≢true (sym f ∙ (bytes_eq-Decides (string_bytes p.0) (string_bytes s)).1 (same_text (string_bytes p.0) (string_bytes s) (IsUtf8-string_bytes p.0) (IsUtf8-string_bytes s) g)) in
           later_again other rest
 
-  -- a fault that tells of a name that stands twice
-  pub tells_repeated : (ms : Members) (name : List ℕ) (e : MergeFault A) → TellsName name e → IsRepeated name ms → AreNamesTwice ms e
-  tells_repeated ms name (fault.RepeatedName s) h r = subst (λ n. IsRepeated n ms) (sym h) r
-  tells_repeated ms name fault.OutOfMemory h r = tt
+  -- a fault that reports a name that occurs twice
+  pub reports_repeated : (ms : Members) (name : List ℕ) (e : MergeFault A) → ReportsName name e → IsRepeated name ms → AreNamesTwice ms e
+  reports_repeated ms name (fault.RepeatedName s) h r = subst (λ n. IsRepeated n ms) (sym h) r
+  reports_repeated ms name fault.OutOfMemory h r = tt
 
-  -- no name stands twice in what is inside
+  -- no name occurs twice in what is inside
   pub items_unique : (vs : List (CstInputValue A)) → All (λ v. HasUniqueNames (plain v)) vs → ItemsHaveUniqueNames (items_plain vs)
   items_unique [] h = equal.unique_end
   items_unique (v ∷ vs) h = equal.unique_item (All-head (λ x. HasUniqueNames (plain x)) v vs h) (items_unique vs (All-tail (λ x. HasUniqueNames (plain x)) v vs h))

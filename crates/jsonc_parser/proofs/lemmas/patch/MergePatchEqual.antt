@@ -1,4 +1,4 @@
--- Two values are equal, or not; and what stands in a list of members under a name.
+-- Two values are equal, or not; and what is in a list of members under a name.
 use Rattle.std.proofs.Common.{ℕ, zero, suc, ◌≡◌, ◌⊎◌, ap, sym, subst, refl, inl, inr, List, true, false}
 use Rattle.jsonc_text.specs.Plain.{Plain, null, boolean, number, string, array, object, Items, no_items, item, Members, no_members, member}
 use Rattle.jsonc_insert.specs.elements.Members.{member_count}

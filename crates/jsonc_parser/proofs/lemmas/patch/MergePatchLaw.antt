@@ -100,14 +100,14 @@ pub record OneMerged (os : List Around) (name : List ℕ) (p : Plain) (ns old : 
   pub is : u ≡ Some (within os (object (with_member name new ns)))
   pub up_to : IsUpToArrays (merged (value_in name old) p) new
 
--- at a name of an object: one member has it, or the value comes behind all
+-- at a name of an object: one member has it, or the value is appended
 pub member_place : {all : List (List ℕ)} {p : Plain} {w u : Option Plain} → Merges all p w u → (os : List Around) (name : List ℕ) (ns : Members) → all ≡ tokens_to os ++ name ∷ []
     → w ≡ Some (within os (object ns)) → AddsMember (made_of p) os name ns u
 member_place (merging.inside r mm) os name ns e is = (let m = refers_member os name ns r e is in there m.2)
 member_place (merging.same not_into (x, r, h)) os name ns e is = (let m = refers_member os name ns r e is in there m.2)
 member_place (merging.put not_into another adds) os name ns e is = adds_member os name ns adds e is
 
--- the value that comes behind all
+-- the value that is appended
 pub member_comes : (os : List Around) (name : List ℕ) {p : Plain} (ns old : Members) (u : Option Plain) → HasUniqueNames p → UpTo (value_in name old) None
     → u ≡ Some (within os (object (with_member name (made_of p) ns))) → OneMerged os name p ns old u
 member_comes os name {p} ns old u h up_to is = record {
@@ -136,7 +136,7 @@ is_around os sp is = is ∙ ap (λ l. Some (within os (object l))) sp.is
 pub member_there : (os : List Around) (name : List ℕ) {p x : Plain} {i : ℕ} (ns old : Members) {u : Option Plain} (sp : Split name x i ns) → ValueMerged (around sp ∷ os) p (value_in name old) u → OneMerged os name p ns old u
 member_there os name ns old sp m = record { new = m.new; is = m.is ∙ ap (λ k. Some (within os k)) (sym (with_it sp m.new)); up_to = m.up_to }
 
--- and then those behind it
+-- and then those after it
 member_then : (os : List Around) (name : List ℕ) {p : Plain} {ms : Members} (ns old : Members) {u y : Option Plain} → AreUpToArrays old ns → p ≢ null → OneMerged os name p ns old u
     → ((now before : Members) → AreUpToArrays before now → u ≡ Some (within os (object now)) → MembersMerged os ms before y) → MembersMerged os (member name p ms) old y
 member_then os name {p} {ms} ns old h not_null one rest =

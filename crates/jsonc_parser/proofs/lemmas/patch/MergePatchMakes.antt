@@ -14,7 +14,7 @@ use Rattle.jsonc_parser.specs.patch.Equality.{HasUniqueNames, MembersHaveUniqueN
 use Rattle.jsonc_parser.specs.patch.Failing.{ReferToNothing}
 use Rattle.jsonc_parser.specs.patch.MergePatch.{with_member}
 use Rattle.jsonc_parser.specs.patch.Merging.{made_of, members_made}
-use Rattle.jsonc_parser.specs.patch.Operations.{as_member, as_whole, in_member, Adds, Removes, StandsAt}
+use Rattle.jsonc_parser.specs.patch.Operations.{as_member, as_whole, in_member, Adds, RefersAlong, Removes}
 use Rattle.jsonc_parser.specs.patch.References.{FailsAt, IsOnly, this_only, later_only, MeetsRepeated, Refers, RefersTo, whole}
 use Rattle.jsonc_parser.proofs.lemmas.patch.Evaluation.{fails_behind, object_stops}
 use Rattle.jsonc_parser.proofs.lemmas.paths.Members.{same_or_not}
@@ -37,7 +37,7 @@ refers_path : (os : List Around) → AreAlone os → (v : Plain) → Refers (wit
 refers_path os alone v =
     subst (λ p. Refers (within os v) (tokens_to os) p v) (append-nil (path_to os)) (subst (λ t. Refers (within os v) t (path_to os ++ []) v) (append-nil (tokens_to os)) (refers_behind os alone v [] [] v whole))
 
-stands_at : (os : List Around) → AreAlone os → (v : Plain) → StandsAt (Some (within os v)) (tokens_to os) (path_to os) v
+stands_at : (os : List Around) → AreAlone os → (v : Plain) → RefersAlong (Some (within os v)) (tokens_to os) (path_to os) v
 stands_at os alone v = (within os v, refl, refers_path os alone v)
 
 pub refers_at : (os : List Around) → AreAlone os → (v : Plain) → RefersTo (Some (within os v)) (tokens_to os) v
@@ -52,7 +52,7 @@ all_others : (name : List ℕ) (es : List Named) → LacksMember name (members e
 all_others name [] l = All-nil (λ (e : Named). e.name ≢ name)
 all_others name (e ∷ es) l = let m = lacks_more l e.name e.value (members es) refl in All-cons (λ (e : Named). e.name ≢ name) e es m.other (all_others name es m.rest)
 
--- a member comes behind all
+-- a member is appended
 pub adds_new : (os : List Around) → AreAlone os → (name : List ℕ) (ns : Members) → LacksMember name ns → (v : Plain)
     → Adds v (tokens_to os ++ name ∷ []) (Some (within os (object ns))) (Some (within os (object (with_member name v ns))))
 adds_new os alone name ns lacks v =

@@ -32,7 +32,7 @@ pub lacks_value : {name : List ℕ} {ms : Members} → LacksMember name ms → v
 lacks_value no_more = refl
 lacks_value {name} (other_name {n = n} {v = w} {ms = ms} ne l) = value_past name n w ms ne ∙ lacks_value l
 
--- in a row with the name at one place
+-- in members with the name at one place
 module _ (name : List ℕ) (x : Plain) (back : List Named) where
   pub row_value : (front : List Named) → LacksMember name (members front) → value_in name (members (front ++ entry name x ∷ back)) ≡ Some x
   row_value [] l = value_here name x (members back)

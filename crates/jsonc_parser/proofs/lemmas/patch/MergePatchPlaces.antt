@@ -9,11 +9,11 @@ use Rattle.jsonc_insert.specs.named.Members.{LacksMember, no_more, other_name}
 use Rattle.jsonc_run.specs.texts.Entries as entries
 use Rattle.jsonc_run.specs.texts.Entries.{of, members, Becomes, Changed, Named}
 use Rattle.jsonc_run.specs.texts.Paths.{an_array, an_object}
-use Rattle.jsonc_parser.specs.patch.Operations.{StandsAt}
+use Rattle.jsonc_parser.specs.patch.Operations.{RefersAlong}
 use Rattle.jsonc_parser.specs.patch.References.{IsOnly, this_only, later_only, Refers, RefersTo, whole, to_member, to_element}
 use Rattle.jsonc_parser.proofs.lemmas.patch.Evaluation.{one_value}
 
--- an object around a value: the members before it, its name, and those behind it
+-- an object around a value: the members before it, its name, and those after it
 pub record Around : Type 0 where
   pub front : List Named
   pub name : List ℕ
@@ -67,7 +67,7 @@ same_members (f ∷ fs) (g ∷ gs) e =
     let s = same_first f g fs gs e in
     ap (λ h. h ∷ fs) (same_entry f g s.name s.value) ∙ ap (λ l. g ∷ l) (same_members fs gs s.rest)
 
--- two rows with an entry at the same place
+-- two lists of members with an entry at the same place
 pub record SameRows (f g : Named) (xs xs2 ys ys2 : List Named) : Type 0 where
   pub front : xs ≡ xs2
   pub name : f.name ≡ g.name
@@ -149,7 +149,7 @@ only_at [] name v back before behind = this_only behind
 only_at (f ∷ fs) name v back before behind =
     let l = lacks_more before f.name f.value (members fs) refl in later_only l.other (only_at fs name v back l.rest behind)
 
--- the row around the one member of a name
+-- the members around the one member of a name
 pub record Split (name : List ℕ) (v : Plain) (i : ℕ) (ms : Members) : Type 0 where
   pub front : List Named
   pub back : List Named
@@ -182,7 +182,7 @@ pub record InMember (token : List ℕ) (tokens : List (List ℕ)) (path : List �
 pub in_member : {token : List ℕ} {tokens : List (List ℕ)} {ms : Members} {path : List ℕ} {v : Plain} → Refers (plain.object ms) (token ∷ tokens) path v → InMember token tokens path ms v
 in_member (to_member {i = i} {path = path} {x = x} p r) = record { i = i; x = x; rest = path; is = refl; only = p; refers = r }
 
--- what tokens behind those to a value refer to
+-- what tokens after those to a value refer to
 pub record Behind (os : List Around) (v : Plain) (rest : List (List ℕ)) (path : List ℕ) (u : Plain) : Type 0 where
   pub last : List ℕ
   pub is : path ≡ path_to os ++ last
@@ -218,12 +218,12 @@ no_path (to_member {token = t} {tokens = ts} p r) e = let wrong : t ∷ ts ≡ [
 no_path (to_element {token = t} {tokens = ts} k p r) e = let wrong : t ∷ ts ≡ [] = e in cc
 
 module _ (os : List Around) (v : Plain) (w : Option Plain) (is : w ≡ Some (within os v)) where
-  pub stands_behind : (tokens rest : List (List ℕ)) → tokens ≡ tokens_to os ++ rest → {path : List ℕ} {u : Plain} → StandsAt w tokens path u → Behind os v rest path u
+  pub stands_behind : (tokens rest : List (List ℕ)) → tokens ≡ tokens_to os ++ rest → {path : List ℕ} {u : Plain} → RefersAlong w tokens path u → Behind os v rest path u
   stands_behind tokens rest e {path} {u} (x, so, r) =
       behind_tokens os v rest (subst (λ l. Refers (within os v) l path u) e (subst (λ k. Refers k tokens path u) (same_value so is) r))
 
   -- at the tokens themselves
-  pub stands_there : (tokens : List (List ℕ)) → tokens ≡ tokens_to os → {path : List ℕ} {u : Plain} → StandsAt w tokens path u → (path ≡ path_to os) × (v ≡ u)
+  pub stands_there : (tokens : List (List ℕ)) → tokens ≡ tokens_to os → {path : List ℕ} {u : Plain} → RefersAlong w tokens path u → (path ≡ path_to os) × (v ≡ u)
   stands_there tokens e s =
       let b = stands_behind tokens [] (e ∙ sym (append-nil (tokens_to os))) s in
       (b.is ∙ ap (λ l. path_to os ++ l) (no_path b.refers refl) ∙ append-nil (path_to os), one_value whole b.refers)

@@ -8,7 +8,7 @@ use Rattle.jsonc_run.specs.texts.Entries.{of, members}
 use Rattle.jsonc_run.specs.texts.Paths.{an_array, an_object}
 use Rattle.jsonc_parser.specs.patch.Failing.{ReferToNothing}
 use Rattle.jsonc_parser.specs.patch.MergePatch.{with_member}
-use Rattle.jsonc_parser.specs.patch.Operations.{as_element, as_member, as_whole, in_member, Adds, Removes, StandsAt}
+use Rattle.jsonc_parser.specs.patch.Operations.{as_element, as_member, as_whole, in_member, Adds, RefersAlong, Removes}
 use Rattle.jsonc_parser.specs.patch.References as references
 use Rattle.jsonc_parser.specs.patch.References.{IsOnly, this_only, later_only, IsRepeated, this_again, later_again, RefersTo}
 use Rattle.jsonc_parser.proofs.lemmas.patch.Evaluation.{fails_further, member_further}
@@ -36,7 +36,7 @@ same_last (a ∷ l) (b ∷ m) x y e =
 same_members_in : {ms ns : Members} → object ms ≡ object ns → ms ≡ ns
 same_members_in e = cc
 
--- what is added where a value is comes in its place
+-- what is added where a value is takes its place
 pub adds_there : {v : Plain} {tokens : List (List ℕ)} {w y : Option Plain} → Adds v tokens w y → (os : List Around) (x : Plain) → tokens ≡ tokens_to os → w ≡ Some (within os x) → y ≡ Some (within os v)
 adds_there as_whole [] x e is = refl
 adds_there as_whole (o ∷ os) x e is = absurd (no_last (tokens_to os) o.name (sym e))
@@ -53,13 +53,13 @@ adds_there {v} {w = w} {y = y} (in_member {tokens = ts} {place = place} {x = old
     let t = stands_there os x w is (ts ++ name ∷ []) e inner in
     (becomes_there old v os x w y place is t.0 b).1
 
--- what is added at a name of an object: one member has the name, or the member comes behind all
+-- what is added at a name of an object: one member has the name, or the member is appended
 pub data AddsMember (v : Plain) (os : List Around) (name : List ℕ) (ns : Members) (u : Option Plain) : Type 0 where
   there : {x : Plain} {i : ℕ} → IsOnly name x i ns → AddsMember v os name ns u
   comes : LacksMember name ns → u ≡ Some (within os (object (with_member name v ns))) → AddsMember v os name ns u
 
 module _ (os : List Around) (name : List ℕ) (ns : Members) where
-  pub stands_member : {all : List (List ℕ)} {w : Option Plain} {path : List ℕ} {x : Plain} → StandsAt w all path x → all ≡ tokens_to os ++ name ∷ [] → w ≡ Some (within os (object ns))
+  pub stands_member : {all : List (List ℕ)} {w : Option Plain} {path : List ℕ} {x : Plain} → RefersAlong w all path x → all ≡ tokens_to os ++ name ∷ [] → w ≡ Some (within os (object ns))
       → (i : ℕ) × (z : Plain) × IsOnly name z i ns × (path ≡ path_to os ++ i ∷ [])
   stands_member {all} {w} stands e is =
       let b = stands_behind os (object ns) w is all (name ∷ []) e stands in
@@ -103,7 +103,7 @@ module _ (os : List Around) (name : List ℕ) (ns : Members) where
   pub removes_there : {all : List (List ℕ)} {w u : Option Plain} → Removes all w u → all ≡ tokens_to os ++ name ∷ [] → w ≡ Some (within os (object ns)) → u ≡ Some (within os (object (without name ns)))
   removes_there (path, x, stands, l) e is = (let m = stands_member stands e is in loses_there l m.0 m.1 m.2 m.3 is)
 
--- how often a name stands in a list
+-- how often a name is in a list
 data HowOften (name : List ℕ) (ms : Members) : Type 0 where
   never : LacksMember name ms → HowOften name ms
   once : {i : ℕ} {v : Plain} → IsOnly name v i ms → HowOften name ms

@@ -1,4 +1,4 @@
--- Where no name stands twice, merging makes a value.
+-- Where no name occurs twice, merging makes a value.
 use Rattle.std.proofs.Common.{ℕ, ◌≡◌, ◌≢◌, ◌⊎◌, ◌∙◌, ◌++◌, ap, sym, subst, refl, inl, inr, List, [], ◌∷◌, Option, Some, None}
 use Rattle.jsonc_text.specs.Plain.{Plain, null, boolean, number, string, array, object, collapse, Members, no_members, member, without}
 use Rattle.jsonc_insert.specs.named.Members.{LacksMember}

@@ -19,7 +19,7 @@ use Rattle.jsonc_parser.proofs.lemmas.patch.Exclusive.{by_name, fails_whole, no_
 use Rattle.jsonc_parser.proofs.lemmas.patch.Staying.{still_object}
 use Rattle.jsonc_parser.proofs.lemmas.patch.Unique.{unique_collapse}
 
--- members behind members
+-- members after members
 abbrev pub and_then : Members → Members → Members
 and_then no_members ns = ns
 and_then (member name v ms) ns = member name v (and_then ms ns)
@@ -60,7 +60,7 @@ number_made o (string s) h = tt
 number_made o (array vs) h = h
 number_made o (object ms) h = numbers_made o ms h
 
--- what is made of members behind members
+-- what is made of members after members
 pub made_then : (ms ns : Members) → members_made (and_then ms ns) ≡ and_then (members_made ms) (members_made ns)
 made_then no_members ns = refl
 made_then (member name null ms) ns = made_then ms ns
@@ -109,7 +109,7 @@ goes_not p tokens w no_object (ms, ns, is, refers) = no_object ms is
 pub goes_nowhere : (p : Plain) (tokens : List (List ℕ)) (w : Option Plain) → (RefersToObject w tokens → ⊥) → ¬ (GoesInto p tokens w)
 goes_nowhere p tokens w none (ms, ns, is, refers) = none (ns, refers)
 
--- it stands there, or is put
+-- it is there, or is put
 pub stands_there : (tokens : List (List ℕ)) (p : Plain) (w : Option Plain) → IsThere (made_of p) tokens w → Sets tokens p w w
 stands_there tokens p w there none = same none there
 
@@ -119,8 +119,8 @@ is_put tokens p w y other adds none = put none other adds
 -- whether a value that was read is equal to another
 module _ (v taken : Plain) (tokens : List (List ℕ)) (w : Option Plain) where
   pub there_told : (b : Bool) → (x : Plain) → RefersTo w tokens x → taken ≡ collapse x → (HasUniqueNames taken → Decides b (AreEqual (λ s t. s ≡ t) v taken)) → Decides b (IsThere v tokens w)
-  there_told b x refers is told =
-      let d = told (subst HasUniqueNames (sym is) (unique_collapse x)) in (
+  there_told b x refers is reported =
+      let d = reported (subst HasUniqueNames (sym is) (unique_collapse x)) in (
         λ e. (x, refers, subst (AreEqual (λ s t. s ≡ t) v) is (d.0 e)),
         λ h. d.1 (subst (AreEqual (λ s t. s ≡ t) v) (ap collapse (refers_to_one w tokens h.0 x h.1 refers) ∙ sym is) h.2),
       )

@@ -1,4 +1,4 @@
--- The one property of a name in a row.
+-- The one property of a name among children.
 use Rattle.std.proofs.Common.{ℕ, ◌≡◌, sym, subst, refl, true, false, List, [], ◌∷◌, Option, Some, None, is_some}
 use Rattle.std.proofs.lemmas.Bool.{false≢true}
 use Rattle.jsonc_tree.specs.Tree.{Node}
@@ -8,7 +8,7 @@ use Rattle.jsonc_parser.specs.patch.Lookups.{IsLookedUp, no_more, past, alone, a
 use Rattle.jsonc_parser.specs.declared.patch.reference.Lookup.{Lookup}
 use Rattle.jsonc_parser.specs.declared.patch.reference.Lookup.TheVariants.{Missing, Once, Twice}
 
--- what is looked up, where one was found before the rest of a row, or none
+-- what is looked up, where one was found before the rest of the children, or none
 abbrev pub tells : ℕ → Option ℕ → Lookup
 tells n None = Once n
 tells n (Some m) = Twice

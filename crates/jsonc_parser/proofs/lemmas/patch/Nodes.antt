@@ -76,7 +76,7 @@ leads_more : (ns : List Node) (n i q : ℕ) {v : ℕ} {path : List ℕ} → Lead
 leads_more ns n i q paths.itself s = paths.step s paths.itself
 leads_more ns n i q (paths.step t l) s = paths.step t (leads_more ns n i q l s)
 
--- what stands at a place of what stands at a path
+-- what is at a place of what is at a path
 item_at : {a b : Plain} {i : ℕ} {vs ws : Items} → ItemChanged a b i vs ws → IsItem a i vs
 item_at changes.this_item = this_item
 item_at (changes.later_item c) = later_item (item_at c)
@@ -129,7 +129,7 @@ module _ (d : Document) (ns : List Node) (tree : IsTree ns) (shown : Shows d (or
   referred tokens path n at x v is refers =
       let h = nodes_have_values {A = Unit {0}} d ns path n tree shown at in
       let top : h.x ≡ x = some_same h.x x (sym h.is ∙ is) in
-      let same : v ≡ h.v = value_once (refers_changed refers) (subst (λ k. Changed h.v h.v path k k) top h.stands) in
+      let same : v ≡ h.v = value_once (refers_changed refers) (subst (λ k. Changed h.v h.v path k k) top h.there) in
       record { value = x; is = is; v = v; path = path; refers = refers; at = at; has = subst (HasValue d.options (top_at ns n)) (sym same) h.has }
 
   -- what is taken of the node is the value
@@ -137,7 +137,7 @@ module _ (d : Document) (ns : List Node) (tree : IsTree ns) (shown : Shows d (or
   taken_there {A} tokens n w taken is =
       let h = nodes_have_values {A = A} d ns w.path n tree shown w.at in
       let top : h.x ≡ w.value = some_same h.x w.value (sym h.is ∙ w.is) in
-      let same : w.v ≡ h.v = value_once (refers_changed w.refers) (subst (λ k. Changed h.v h.v w.path k k) top h.stands) in
+      let same : w.v ≡ h.v = value_once (refers_changed w.refers) (subst (λ k. Changed h.v h.v w.path k k) top h.there) in
       h.taken taken is ∙ ap (λ v. Some (plain.collapse v)) (sym same)
 
   pub begins : (n : ℕ) → value_at ns 0 ≡ Some n → RefersToNode d ns [] n
@@ -185,7 +185,7 @@ module _ (d : Document) (ns : List Node) (tree : IsTree ns) (shown : Shows d (or
           let h = nodes_have_values {A = Unit {0}} d ns (w.path ++ i ∷ []) q tree shown at in
           let top : h.x ≡ w.value = some_same h.x w.value (sym h.is ∙ w.is) in
           let its = array_value d.options (content_at ns n) (row_below ns n) w.v is w.has in
-          let item : IsItem h.v i its.0 = inside w.path (subst (λ k. Changed h.v h.v (w.path ++ i ∷ []) k k) top h.stands) (refers_changed w.refers) its.1 in
+          let item : IsItem h.v i its.0 = inside w.path (subst (λ k. Changed h.v h.v (w.path ++ i ∷ []) k k) top h.there) (refers_changed w.refers) its.1 in
           referred (tokens ++ token ∷ []) (w.path ++ i ∷ []) q at w.value h.v w.is (element_further w.refers its.1 index item)
 
       pub element_missing : ((i q : ℕ) → IsIndex token i → IsElementOf ns n i q → ⊥) → (rest : List (List ℕ)) → RefersToNothing d (tokens ++ token ∷ rest)

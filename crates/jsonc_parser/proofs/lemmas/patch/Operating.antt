@@ -20,7 +20,7 @@ use Rattle.jsonc_run.specs.texts.Paths.{Kind, an_array, an_object}
 use Rattle.jsonc_run.proofs.lemmas.promise.Inserting.{counted}
 use Rattle.jsonc_run.proofs.lemmas.promise.Plains.{changed}
 use Rattle.jsonc_parser.specs.patch.Found.{RefersToNode, RefersToNothing}
-use Rattle.jsonc_parser.specs.patch.Operations.{as_element, as_member, as_whole, in_member, Adds, Removes, Replaces, StandsAt}
+use Rattle.jsonc_parser.specs.patch.Operations.{as_element, as_member, as_whole, in_member, Adds, RefersAlong, Removes, Replaces}
 use Rattle.jsonc_parser.specs.patch.References.{FailsAt, IsIndex, IsItem, this_item, later_item, IsOnly, this_only, later_only, IsRepeated, this_again, later_again, MeetsRepeated, here, Refers, RefersTo, whole, to_member, to_element}
 use Rattle.jsonc_parser.proofs.lemmas.patch.Evaluation.{fails_further, member_further}
 
@@ -131,7 +131,7 @@ module _ (d : Document) (ns : List Node) (tokens : List (List ℕ)) (n : ℕ) (w
   refers : Refers w.value tokens path w.v
   refers = subst (λ p. Refers w.value tokens p w.v) over w.refers
 
-  pub stands : StandsAt d.value tokens path w.v
+  pub stands : RefersAlong d.value tokens path w.v
   stands = (w.value, w.is, refers)
 
   pub removed : (y : Option Plain) → Loses d.value y path → Removes tokens d.value y
@@ -145,7 +145,7 @@ module _ (d : Document) (ns : List Node) (tokens : List (List ℕ)) (n : ℕ) (w
   pub was_standing : (u : Plain) → asks.StandsAt u path d.value → w.v ≡ u
   was_standing u (x, is, c) = becomes_there d.value (Some x) u w.is (subst (λ k. Becomes u u path k (Some x)) (sym is) (changed c)) refers
 
-  -- none stands behind where all that there are stand before
+  -- none is after a place that is past all of them
   pub last_item : (vs : Items) (i : ℕ) (front back : List Named) → asks.StandsAt (plain.array vs) path d.value → item_count vs ≤ i → w.v ≡ of an_array (front ++ back) → length front ≡ min i (length (front ++ back)) → back ≡ []
   last_item vs i front back stands far was place =
       let same : vs ≡ items (front ++ back) = same_array vs (front ++ back) (sym (was_standing (plain.array vs) stands) ∙ was) in
@@ -161,14 +161,14 @@ module _ (d : Document) (ns : List Node) (tokens : List (List ℕ)) (n : ℕ) (w
   pub replaced : (was v : Plain) (y : Option Plain) → Becomes was v path d.value y → Replaces v tokens d.value y
   replaced was v y b = (path, w.v, stands, subst (λ k. Becomes k v path d.value y) (sym (was_referred was v y b)) b)
 
-  -- an element comes into the array, behind those before its place or behind all
+  -- an element is inserted into the array, after those before its place or after all
   pub element_added : (v : Plain) (y : Option Plain) (token : List ℕ) (front back : List Named) → Becomes (of an_array (front ++ back)) (of an_array (front ++ record { name = []; value = v } ∷ back)) path d.value y
       → IsIndex token (length front) ⊎ ((token ≡ 0x2D ∷ []) × (back ≡ [])) → Adds v (tokens ++ token ∷ []) d.value y
   element_added v y token front back b place =
       let was = was_referred (of an_array (front ++ back)) (of an_array (front ++ record { name = []; value = v } ∷ back)) y b in
-      as_element front back (subst (StandsAt d.value tokens path) was stands) place b
+      as_element front back (subst (RefersAlong d.value tokens path) was stands) place b
 
-  -- a member comes into the object that has none of the name
+  -- a member is inserted into the object that has none of the name
   nothing_there : (name : List ℕ) (ms : Members) → w.v ≡ plain.object ms → RefersToNothing d (tokens ++ name ∷ []) → LacksMember name ms
   nothing_there name ms is none =
       elim (name_cases name ms) [
@@ -186,4 +186,4 @@ module _ (d : Document) (ns : List Node) (tokens : List (List ℕ)) (n : ℕ) (w
       let b : Becomes (of an_object (front ++ [])) new path d.value y = subst (λ es. Becomes (of an_object (front ++ es)) (of an_object (front ++ record { name = name; value = v } ∷ es)) path d.value y) end all in
       let c : Becomes (of an_object front) new path d.value y = subst (λ es. Becomes (of an_object es) new path d.value y) (append-nil front) b in
       let was : w.v ≡ of an_object front = was_referred (of an_object front) new y c in
-      as_member name front (subst (StandsAt d.value tokens path) was stands) (lacks_all name front (members front) (nothing_there name (members front) was none) refl) c
+      as_member name front (subst (RefersAlong d.value tokens path) was stands) (lacks_all name front (members front) (nothing_there name (members front) was none) refl) c

@@ -110,7 +110,7 @@ module _ {A : Type 0} where
   one_more (w ∷ vs) [] v o k h = elim k [ ]
   one_more (w ∷ vs) (p ∷ os) v o (one_operation is rest) h = one_operation is (one_more vs os v o rest h)
 
-  -- behind operations comes the first that is none
+  -- after operations the first follows that is none
   pub first_fault : (vs : List (Value A)) (os : List value.Operation) (i : ℕ) (v : Value A) (e : OperationFault A) → i < length vs → v ≡ get_or vs i v → AreOperations (items (take i vs)) os → IsFaultOfOperation (ast.plain v) e
       → IsFirstFault e i (items vs)
   first_fault [] os i v e l is h k = absurd (omega (arith, l))

@@ -34,7 +34,7 @@ use Rattle.jsonc_parser.proofs.lemmas.patch.SeenNames.{AreTexts, Distinct}
 use Rattle.jsonc_parser.specs.patch.Equality as equal
 use Rattle.jsonc_parser.specs.patch.Equality.{HasMember, HasUniqueNames, ItemsHaveUniqueNames, MembersHaveUniqueNames, this_has, later_has}
 use Rattle.jsonc_parser.specs.patch.PatchFaults.{IsFaultOfNames, IsFaultOfValue, repeats_here, repeats_in_element, repeats_in_member}
-use Rattle.jsonc_parser.specs.patch.PatchReading.{TellsRepeated, pair_of, said}
+use Rattle.jsonc_parser.specs.patch.PatchReading.{ReportsRepeated, pair_of, said}
 use Rattle.jsonc_parser.specs.patch.PatchTexts.{NamesDiffer}
 use Rattle.jsonc_parser.specs.patch.References.{IsItem, this_item, later_item, IsRepeated, this_again, later_again}
 use Rattle.jsonc_parser.specs.declared.patch.operation.OperationFault.{OperationFault}
@@ -121,7 +121,7 @@ module _ {A : Type 0} where
           let other : chars (prop_name p) ≢ chars s = λ g. false≢true (sym f ∙ (bytes_eq-Decides (prop_name p) s).1 (same_text (prop_name p) s (texts 0 (omega arith)) u g)) in
           (suc rest.0, subst (IsFirstMember (chars s) (suc rest.0)) (sym (said-cons p ps)) (first_later other rest.1))
 
-  -- a name that two of them have stands twice
+  -- a name that two of them have occurs twice
   pub repeated_name : (ps : List (ObjectProp A)) (s : List ℕ) (j i : ℕ) → j < i → i < length ps → IsUtf8 s → AreTexts (map prop_name ps) (i + 1) → get_or (map prop_name ps) j [] ≡ s → get_or (map prop_name ps) i [] ≡ s
       → IsRepeated (chars s) (said ps)
   repeated_name [] s j i b l u texts d e = absurd (omega (arith, l))
@@ -141,7 +141,7 @@ module _ {A : Type 0} where
           let other : chars (prop_name p) ≢ chars s = λ g. false≢true (sym f ∙ (bytes_eq-Decides (prop_name p) s).1 (same_text (prop_name p) s (texts 0 (omega arith)) u g)) in
           subst (IsRepeated (chars s)) (sym (said-cons p ps)) (later_again other rest)
 
-  -- what elements and properties stand for, by lists of them
+  -- what elements and properties represent, by lists of them
   pub items_said : (vs : List (Value A)) → items_at (items_located vs) ≡ input.items_of (map ast.plain vs)
   items_said [] = refl
   items_said (v ∷ vs) = ap (item (ast.plain v)) (items_said vs)
@@ -157,7 +157,7 @@ module _ {A : Type 0} where
   pub members_said : (qs : List (Text A × CstInputValue A)) (ps : List (ObjectProp A)) → map named qs ≡ map pair_of ps → members_plain qs ≡ said ps
   members_said qs ps e = plain_pairs qs ∙ ap to_members e ∙ sym (said_pairs ps)
 
-  -- no name stands twice in what is inside
+  -- no name occurs twice in what is inside
   pub items_unique : (vs : List (Value A)) → All (λ v. HasUniqueNames (ast.plain v)) vs → ItemsHaveUniqueNames (items_at (items_located vs))
   items_unique [] h = equal.unique_end
   items_unique (v ∷ vs) h = equal.unique_item (All-head (λ x. HasUniqueNames (ast.plain x)) v vs h) (items_unique vs (All-tail (λ x. HasUniqueNames (ast.plain x)) v vs h))
@@ -196,14 +196,14 @@ module _ {A : Type 0} where
   pub no_memory : (v : Plain) (e : OperationFault A) → e ≡ fault.OutOfMemory → IsFaultOfValue v e
   no_memory v e is = subst (IsFaultOfValue v) (sym is) tt
 
-  -- a fault that tells of a name that stands twice
-  pub tells_repeated : (ms : Members) (name : List ℕ) (e : OperationFault A) → TellsRepeated name e → IsRepeated name ms → IsFaultOfNames ms e
-  tells_repeated ms name (fault.RepeatedName s) h r = subst (λ n. IsRepeated n ms) (sym h) r
-  tells_repeated ms name fault.OutOfMemory h r = tt
-  tells_repeated ms name fault.NotAnObject h r = absurd h
-  tells_repeated ms name (fault.Missing m) h r = absurd h
-  tells_repeated ms name (fault.Wrong m) h r = absurd h
-  tells_repeated ms name (fault.Pointer m e) h r = absurd h
+  -- a fault that reports a name that occurs twice
+  pub reports_repeated : (ms : Members) (name : List ℕ) (e : OperationFault A) → ReportsRepeated name e → IsRepeated name ms → IsFaultOfNames ms e
+  reports_repeated ms name (fault.RepeatedName s) h r = subst (λ n. IsRepeated n ms) (sym h) r
+  reports_repeated ms name fault.OutOfMemory h r = tt
+  reports_repeated ms name fault.NotAnObject h r = absurd h
+  reports_repeated ms name (fault.Missing m) h r = absurd h
+  reports_repeated ms name (fault.Wrong m) h r = absurd h
+  reports_repeated ms name (fault.Pointer m e) h r = absurd h
 
 pub plain-NumberLit : (A : Type 0) (n : NumberLit) → ast.plain {A = A} (value.NumberLit n) ≡ number (chars n.value.now)
 plain-NumberLit A n = ap value_at (view A n)

@@ -22,7 +22,7 @@ use Rattle.jsonc_cst.specs.Document.{nodes_of, tree_of}
 use Rattle.jsonc_cst.specs.Nodes.{number_of}
 use Rattle.jsonc_parser.specs.patch.Applied.{FailsWhatShown, IsCause, IsNoMemory, IsPathless, IsRefusal, LeadsOn}
 use Rattle.jsonc_parser.specs.patch.Operations as value
-use Rattle.jsonc_parser.specs.patch.Operations.{renamed, Moves, StandsAt}
+use Rattle.jsonc_parser.specs.patch.Operations.{renamed, Moves, RefersAlong}
 use Rattle.jsonc_parser.specs.patch.References.{here, IsItem, IsIndex, IsOnly, this_only, later_only, Refers, whole, to_member, to_element, ReferToNothing}
 use Rattle.jsonc_parser.specs.patch.Renaming.{AreBeside, FailsToRename, IsRenaming, RenamesAt}
 use Rattle.jsonc_parser.specs.declared.patch.making.PatchCause.{PatchCause}
@@ -73,7 +73,7 @@ one_path {w = w} (to_element {tokens = tokens} {i = i} {path = p} {vs = vs} k it
 same_value : (x y : Plain) (w : Option Plain) → w ≡ Some x → w ≡ Some y → x ≡ y
 same_value x y w e f = cc
 
--- a property is where they refer to, behind an object
+-- where they refer to, by a name in an object, there is a property
 property_there : {x v : Plain} {ns : Members} {tokens : List (List ℕ)} {q p : List ℕ} (w : Option Plain) (last : List ℕ) → w ≡ Some x → Refers x tokens q (object ns) → Refers x (tokens ++ last ∷ []) p v → HasPropertyAt p w
 property_there {x} {v} {ns} {tokens} {q} {p} w last is holder r =
     elim (name_cases last ns) [
@@ -94,7 +94,7 @@ module _ {A : Type 0} (old new : CstRootNode A) (tree : IsTree (nodes_of old)) (
       let op : Operation = texts.rename_property path.items (chars_of name) in
       let m = makes_so d l.e l.op op l.asks l.makes in
       let becomes : BecomesProperty (λ e. record { name = last; value = e.value }) path.items d.value l.e.value = subst (λ k. BecomesProperty (λ e. record { name = k; value = e.value }) path.items d.value l.e.value) is m.1 in
-      let stands : StandsAt d.value from path.items w.v = subst (λ p. StandsAt d.value from p w.v) over (w.value, w.is, w.refers) in
+      let stands : RefersAlong d.value from path.items w.v = subst (λ p. RefersAlong d.value from p w.v) over (w.value, w.is, w.refers) in
       let none = r.nothing d shown in
       let nothing : ReferToNothing d.value (r.tokens ++ last ∷ []) = subst (ReferToNothing d.value) r.beside.second (none.nothing, none.unique) in
       let moves : Moves from to d.value l.e.value = subst (λ t. Moves from t d.value l.e.value) (sym r.beside.second) (renamed r.tokens r.beside.last last r.beside.first stands nothing becomes) in
@@ -102,13 +102,13 @@ module _ {A : Type 0} (old new : CstRootNode A) (tree : IsTree (nodes_of old)) (
 
 module _ {A : Type 0} (doc : CstRootNode A) (tree : IsTree (nodes_of doc)) (node : CstNode) (c : PatchCause A) where
   pub renames_not : (path : Vec ℕ A) → IsAt (nodes_of doc) path.items (number_of node) → (name : String A) (last : List ℕ) → IsRefusal doc (RenameProperty path name) c → FailsToRename doc node last c
-  renames_not path at name last told from to r d shown =
+  renames_not path at name last reported from to r d shown =
       let w = r.refers d shown in
       let o = r.object d shown in
       let over : w.path ≡ path.items = path_once (nodes_of doc) tree w.path path.items (number_of node) w.at at in
       let there : Refers o.1.0 (r.tokens ++ r.beside.last ∷ []) w.path w.v = subst (λ l. Refers o.1.0 l w.path w.v) r.beside.first (subst (λ k. Refers k from w.path w.v) (same_value w.value o.1.0 d.value w.is o.1.1) w.refers) in
       let has : HasPropertyAt path.items d.value = subst (λ p. HasPropertyAt p d.value) over (property_there d.value r.beside.last o.1.1 o.1.3 there) in
-      memory_cause (value.move from to) d.value c (refusal_memory doc tree (RenameProperty path name) (λ h. h, λ h. h) c told d shown has)
+      memory_cause (value.move from to) d.value c (refusal_memory doc tree (RenameProperty path name) (λ h. h, λ h. h) c reported d shown has)
 
   pub pathless_name : (last : List ℕ) → IsPathless doc node c → FailsToRename doc node last c
   pathless_name last is from to r d shown = memory_cause (value.move from to) d.value c (has_path doc from node r.refers c is d shown)

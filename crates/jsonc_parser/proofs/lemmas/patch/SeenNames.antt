@@ -59,7 +59,7 @@ module _ (xs : List (List ℕ)) (i : ℕ) (old : List (Bor (List ℕ))) (v : Bor
       let equal = (bytes_eq-Decides v.now (get_or old j v).now).1 (sym (there j v l below ∙ same)) in
       false≢true (sym e ∙ list_any_at (name_eq v) old j v inside equal)
 
--- where a name stands among others
+-- where a name is among others
 module _ (q : Bor (List ℕ)) (names : List (Bor (List ℕ))) where
   pub placed : (r : Option ℕ) → r ≡ position (name_eq q) names → IfSome r (λ i. slice_get (bytes_of names) i ≡ Some q.now)
   placed None e = tt

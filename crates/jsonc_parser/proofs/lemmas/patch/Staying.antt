@@ -1,4 +1,4 @@
--- What is put or removed below an object leaves an object where it stands.
+-- What is put or removed below an object keeps an object where it is.
 use Rattle.std.proofs.Common.{ℕ, zero, suc, ◌≡◌, ◌≢◌, ◌<◌, ◌∙◌, ◌++◌, inl, inr, sym, ap, subst, refl, List, [], ◌∷◌, length, Option, Some, None, arith}
 use Rattle.jsonc_text.specs.Plain.{Plain, Items, item, Members, member}
 use Rattle.jsonc_text.specs.Plain as plain
@@ -9,7 +9,7 @@ use Rattle.jsonc_run.specs.texts.Paths.{Kind, an_array, an_object}
 use Rattle.jsonc_parser.specs.patch.MergeSteps.{RefersToObject}
 use Rattle.jsonc_parser.specs.patch.Merging.{Merges, MembersMerge}
 use Rattle.jsonc_parser.specs.patch.Merging as merging
-use Rattle.jsonc_parser.specs.patch.Operations.{as_element, as_member, as_whole, in_member, Adds, Removes, StandsAt}
+use Rattle.jsonc_parser.specs.patch.Operations.{as_element, as_member, as_whole, in_member, Adds, RefersAlong, Removes}
 use Rattle.jsonc_parser.specs.patch.References.{IsIndex, IsItem, this_item, later_item, IsOnly, this_only, later_only, Refers, RefersTo, whole, to_member, to_element}
 use Rattle.jsonc_parser.proofs.lemmas.patch.Evaluation.{index_once, item_once, only_of_more, only_once}
 use Rattle.jsonc_parser.proofs.lemmas.patch.Operating.{first_same, item_value, member_value, rest_same, same_items, same_members}
@@ -23,7 +23,7 @@ pub no_last : {T : Type 0} (xs : List T) (x : T) → xs ++ x ∷ [] ≡ [] → �
 no_last [] x e = cc
 no_last (y ∷ ys) x e = cc
 
--- where more than the first come before the last, the first come before it
+-- where more than the first are before the last, the first are before it
 front_leads : {T : Type 0} (xs : List T) (x : T) (front rest : List T) → xs ++ x ∷ [] ≡ front ++ rest → (rest ≡ [] → ⊥) → (more : List T) × (xs ≡ front ++ more)
 front_leads [] x [] rest e some = ([], refl)
 front_leads [] x (t ∷ ts) rest e some = (let none : [] ≡ ts ++ rest = cc in absurd (some (no_list ts rest none)))
@@ -47,7 +47,7 @@ only_place {name} {v} (later_only {n = n} {w = x} {ms = rest} ne p) q =
       | inr other ↦ ap suc (only_place p other.3) ∙ sym other.1
     ]
 
--- over which positions tokens go on behind the first of them
+-- over which positions tokens go on after the first of them
 record AtMember (token : List ℕ) (tokens : List (List ℕ)) (ms : Members) (q : List ℕ) (v : Plain) : Type 0 where
   i : ℕ
   x : Plain
@@ -175,7 +175,7 @@ module _ (tokens : List (List ℕ)) (ns : Members) {x : Plain} {p : List ℕ} (r
   object_after r (Some z) None is c path root = absurd c
   object_after r None y is c path root = absurd c
 
--- of a value that is put behind tokens that refer to an object
+-- of a value that is put after tokens that refer to an object
 array_no_object : (es : List Named) (ns : Members) → of an_array es ≡ plain.object ns → (ks : Members) × (plain.array (items es) ≡ plain.object ks)
 array_no_object es ns e = cc
 
@@ -224,7 +224,7 @@ further all_tokens tokens rest name is = ap (λ l. l ++ name ∷ []) is ∙ join
     joined (x ∷ xs) ys zs = ap (λ l. x ∷ l) (joined xs ys zs)
 
 mutual
-  -- what is merged behind tokens that refer to an object leaves an object there
+  -- what is merged after tokens that refer to an object keeps an object there
   merge_stays : {all_tokens : List (List ℕ)} {q : Plain} {w y : Option Plain} → Merges all_tokens q w y → (tokens rest : List (List ℕ)) → all_tokens ≡ tokens ++ rest → (rest ≡ [] → ⊥) → RefersToObject w tokens → RefersToObject y tokens
   merge_stays (merging.inside refers m) tokens rest is some o = members_stay m tokens rest is o
   merge_stays (merging.same n t) tokens rest is some o = o
@@ -236,7 +236,7 @@ mutual
   members_stay (merging.absent a more) tokens rest is o = members_stay more tokens rest is o
   members_stay {all_tokens = ts} (merging.merged {name = name} ne m more) tokens rest is o = members_stay more tokens rest is (merge_stays m tokens (rest ++ name ∷ []) (further ts tokens rest name is) (no_last rest name) o)
 
--- members that are merged into an object leave an object there
+-- members that are merged into an object keep an object there
 pub still_object : {tokens : List (List ℕ)} {ms : Members} {w y : Option Plain} → MembersMerge tokens ms w y → RefersToObject w tokens → RefersToObject y tokens
 still_object {tokens = ts} m o = members_stay m ts [] (sym (append_none ts)) o
   where

@@ -18,7 +18,7 @@ use Rattle.jsonc_parser.specs.patch.Reading.{text_so_far, IsFaultOfChar}
 use Rattle.jsonc_parser.specs.declared.patch.pointer.PointerError.{PointerError}
 use Rattle.jsonc_parser.specs.declared.patch.pointer.PointerError.TheVariants.{InvalidEscape, NoLeadingSlash, OutOfMemory}
 
--- the characters before the first loose `~`; a `~` stands before the text, or not
+-- the characters before the first loose `~`; a `~` is before the text, or not
 abbrev front : Bool → List ℕ → List ℕ
 front tilde [] = []
 front true (c ∷ r) = cond (is_escape c) (0x7E ∷ c ∷ front false r) []
@@ -64,11 +64,11 @@ front_loose (c ∷ r) h = rw (not_true (is_escape c) h) refl
 front_fault : (text : List ℕ) (place : ℕ) (h : HasLooseTilde text place) → front false text ≡ pointer_text h.tokens
 front_fault text place h =
     ap (front false) h.is
-    ∙ front_pointer h.tokens (0x7E ∷ h.behind)
-    ∙ ap (λ l. pointer_text h.tokens ++ l) (front_loose h.behind h.loose)
+    ∙ front_pointer h.tokens (0x7E ∷ h.rest)
+    ∙ ap (λ l. pointer_text h.tokens ++ l) (front_loose h.rest h.loose)
     ∙ append-nil (pointer_text h.tokens)
 
--- the rest of the token that is read, and those behind it; a `~` stands before the text, or not
+-- the rest of the token that is read, and those after it; a `~` is before the text, or not
 abbrev parts : Bool → List ℕ → List ℕ × List (List ℕ)
 parts tilde [] = ([], [])
 parts true (c ∷ r) = let p = parts false r in (cond (c == 0x30) 0x7E 0x2F ∷ p.0, p.1)
@@ -115,12 +115,12 @@ begins (t ∷ ts) r some = (flat_map escaped t ++ pointer_text ts ++ r, refl)
 pub no_tilde : (t : List (List ℕ)) (place : ℕ) → HasLooseTilde (pointer_text t) place → ⊥
 no_tilde t place h =
     let same : pointer_text t ≡ pointer_text h.tokens = sym (front_whole t) ∙ front_fault (pointer_text t) place h in
-    let longer = ap length (sym same ∙ h.is) ∙ length-append (pointer_text h.tokens) (0x7E ∷ h.behind) in
+    let longer = ap length (sym same ∙ h.is) ∙ length-append (pointer_text h.tokens) (0x7E ∷ h.rest) in
     omega (arith, longer)
 
 pub not_both : (text : List ℕ) (place : ℕ) → LacksSlash text → HasLooseTilde text place → ⊥
 not_both text place l h =
-    let b = begins h.tokens (0x7E ∷ h.behind) h.in_token in
+    let b = begins h.tokens (0x7E ∷ h.rest) h.in_token in
     l.another (heads (sym l.is ∙ h.is ∙ b.1))
 
 pub one_tilde : (text : List ℕ) (k l : ℕ) → HasLooseTilde text k → HasLooseTilde text l → k ≡ l
@@ -212,7 +212,7 @@ module _ {A : Type 0} where
 pub token_written : (token : List ℕ) (c : ℕ) → encode_utf8_all (token_text token) ++ encode_utf8_all (escaped c) ≡ encode_utf8_all (token_text (token ++ c ∷ []))
 token_written token c = sym (encodes-append (token_text token) (escaped c)) ∙ ap encode_utf8_all (sym (token_more token c))
 
--- a character behind a text
+-- a character after a text
 pub char_behind : (bytes more : List ℕ) (c : ℕ) → IsUtf8 bytes → IsScalar c → more ≡ bytes ++ encode_utf8 c → chars more ≡ chars bytes ++ c ∷ []
 char_behind bytes more c utf8 scalar e =
     ap chars (e ∙ ap (λ l. bytes ++ l) (sym (append-nil (encode_utf8 c))))
@@ -229,7 +229,7 @@ joined_length s t = ap length (encodes-append s t) ∙ length-append (encode_utf
 pub length_more : (cs : List ℕ) (c : ℕ) → byte_length (cs ++ c ∷ []) ≡ byte_length cs + len_utf8 c
 length_more cs c = joined_length cs (c ∷ []) ∙ ap (λ n. byte_length cs + n) (char_length c)
 
--- characters that were read stand at the front of the text, and behind them the next
+-- characters that were read are at the front of the text, and after them the next
 pub record ReadSoFar (all yielded : List ℕ) (c : ℕ) : Type 0 where
   pub rest : List ℕ
   pub is : all ≡ yielded ++ c ∷ rest
@@ -250,7 +250,7 @@ within text yielded c utf8 r =
     let behind : byte_length (c ∷ r.rest) ≡ byte_length (c ∷ []) + byte_length r.rest = joined_length (c ∷ []) r.rest in
     omega (arith, whole, split, behind, char_length c)
 
--- a `~` stands before the place, and neither `0` nor `1` behind it
+-- a `~` is before the place, and neither `0` nor `1` after it
 pub loose_tilde : (tokens : List (List ℕ)) (token yielded text behind : List ℕ) (tilde : Bool) (place : ℕ) → text_so_far tokens token tilde ≡ 0x2F ∷ yielded → tilde ≡ true → place ≡ byte_length yielded
     → text ≡ yielded ++ behind → IsTrue (no is_escape (next behind)) → HasLooseTilde (0x2F ∷ text) place
 loose_tilde tokens token yielded text behind tilde place so_far t at is loose =
@@ -259,7 +259,7 @@ loose_tilde tokens token yielded text behind tilde place so_far t at is loose =
     let counted = sym (joined_length before (0x7E ∷ [])) ∙ ap byte_length read ∙ joined_length (0x2F ∷ []) yielded in
     record {
       tokens = tokens ++ token ∷ [];
-      behind = behind;
+      rest = behind;
       is = ap (λ l. 0x2F ∷ l) is ∙ ap (λ l. l ++ behind) (sym read) ∙ append_assoc before (0x7E ∷ []) behind;
       in_token = not_empty tokens token;
       at = omega (arith, at, counted, char_length 0x7E, char_length 0x2F);

@@ -1,4 +1,4 @@
--- In a value in which of equal names the last stands at the first place, no name stands twice.
+-- In a value in which of equal names the last is at the first place, no name occurs twice.
 use Rattle.std.proofs.Common.{ℕ, ◌≡◌, ◌≢◌, true, false, cond, Bool, List, refl}
 use Rattle.std.specs.Str.{bytes_eq}
 use Rattle.std.proofs.lemmas.Slice.Eq.{bytes_eq-Decides}

@@ -16,7 +16,7 @@ use Rattle.jsonc_insert.specs.named.Places.{IsPropertyAt, IsPropertyOf, a_proper
 use Rattle.jsonc_insert.proofs.lemmas.named.PropertyValues.{value_held}
 use Rattle.jsonc_insert.proofs.lemmas.named.Writing.{finds_member}
 use Rattle.jsonc_parser.specs.declared.paths.which.Which.TheVariants.{First}
-use Rattle.jsonc_parser.specs.paths.AtPaths.{FindsFirst, PropertyHolds, RootHolds, StandsThere}
+use Rattle.jsonc_parser.specs.paths.AtPaths.{FindsFirst, IsAtItsPlace, PropertyHolds, RootHolds}
 use Rattle.jsonc_parser.proofs.lemmas.paths.Chosen.{at_first}
 use Rattle.jsonc_parser.proofs.lemmas.paths.ChosenNodes.{first_named, value_of_first}
 use Rattle.jsonc_parser.proofs.lemmas.paths.Leading.{no_path}
@@ -64,10 +64,10 @@ finds_first d ns path n name found tree shown at is first =
       x = f.value;
       is = value_once First d ns tree shown f.value f.text;
       ms = f.members;
-      stands = f.at;
+      there = f.at;
       none = none_exactly d ns tree shown path n at is name found f.members f.among;
       some = some_first d ns tree shown path n at is name found f.members first f.among;
     }
 
-pub stands_there : (d : Document) (ns : List Node) (n : ℕ) → StandsThere d ns n
-stands_there d ns n tree shown over = all_stand d.options ns tree shown.sound.shaped n over
+pub is_at_its_place : (d : Document) (ns : List Node) (n : ℕ) → IsAtItsPlace d ns n
+is_at_its_place d ns n tree shown over = all_stand d.options ns tree shown.sound.shaped n over

@@ -1,4 +1,4 @@
--- One edit that was made puts a value at names, or drops what stands there.
+-- One edit that was made puts a value at names, or drops what is there.
 use Rattle.std.proofs.Common.{ℕ, ◌≡◌, ◌∙◌, sym, ap, subst, refl, List, [], ◌∷◌, Option, All}
 use Rattle.std.proofs.lemmas.List.Elements.{All-nil, All-cons}
 use Rattle.jsonc_text.specs.Documents.{Document}
@@ -121,11 +121,11 @@ drops_by_one_edit d names op old new tree after shown by made =
 
 -- what is named is refused for memory alone
 pub for_memory : (d : Document) (old : List Node) (op : PlainEdit) (why : EditError) → IsTree old → Shows d (ordered_tree old 0) → IsNamed d.value (comment_count (ordered_tree old 0)) op → IsNoRemark op → FailsWith old op why → why ≡ OutOfMemory
-for_memory d old op OutOfMemory tree shown named other told = refl
-for_memory d old op NoSuchPlace tree shown named other told = absurd ((tells_unnamed old d.options tree shown.sound op NoSuchPlace told d.value shown.value).0 refl named)
-for_memory d old op InvalidComment tree shown named other told = absurd (other.0 (refused_so d.options old tree shown.sound op InvalidComment told))
-for_memory d old op LineContinues tree shown named other told = absurd (other.1 (refused_so d.options old tree shown.sound op LineContinues told))
-for_memory d old op why tree shown named other told = absurd (refused_so d.options old tree shown.sound op why told)
+for_memory d old op OutOfMemory tree shown named other reported = refl
+for_memory d old op NoSuchPlace tree shown named other reported = absurd ((tells_unnamed old d.options tree shown.sound op NoSuchPlace reported d.value shown.value).0 refl named)
+for_memory d old op InvalidComment tree shown named other reported = absurd (other.0 (refused_so d.options old tree shown.sound op InvalidComment reported))
+for_memory d old op LineContinues tree shown named other reported = absurd (other.1 (refused_so d.options old tree shown.sound op LineContinues reported))
+for_memory d old op why tree shown named other reported = absurd (refused_so d.options old tree shown.sound op why reported)
 
 pub puts_but_for_memory : (which : Which) (d : Document) (v : Plain) (over : Over) (names : List (List ℕ)) (op : PlainEdit) (old : List Node) (why : EditError) → PutsUnlessOutOfMemory which d v over names op old why
 puts_but_for_memory which d v over names op old why tree shown by = for_memory d old op why tree shown ((puts_by_it which v over d.value names op by).0 (comment_count (ordered_tree old 0))) (put_no_remark by)

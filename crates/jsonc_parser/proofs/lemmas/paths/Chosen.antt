@@ -4,7 +4,7 @@ use Rattle.jsonc_text.specs.Plain.{Plain, Members, no_members, member, collapse}
 use Rattle.jsonc_text.specs.Plain as plain
 use Rattle.jsonc_parser.specs.paths.Operations.{MemberChanged, this_member, later_member, MemberInserted, member_count, LacksMember, no_more, other_name}
 use Rattle.jsonc_insert.specs.elements.Members as inserted
-use Rattle.jsonc_parser.specs.paths.Settings.{FirstAt, this_at, later_at, FirstIs, this_one, later_one, FirstBecomes, this_becomes, later_becomes, ComesLast, comes_alone, comes_behind, nest, IsNoObject}
+use Rattle.jsonc_parser.specs.paths.Settings.{FirstAt, this_at, later_at, FirstIs, this_one, later_one, FirstBecomes, this_becomes, later_becomes, IsAppended, appended_alone, appended_after, nest, IsNoObject}
 use Rattle.jsonc_parser.specs.paths.Which.{IsChosenAt, LastAt, last_one, last_later, seen, seen_if, seen_members}
 use Rattle.jsonc_parser.specs.declared.paths.which.Which.{Which}
 use Rattle.jsonc_parser.specs.declared.paths.which.Which.TheVariants.{First, Last}
@@ -97,13 +97,13 @@ pub chosen_within : (which : Which) (name : List ℕ) (v : Plain) (i : ℕ) (ms 
 chosen_within First name v i ms f = at_within f
 chosen_within Last name v i ms f = last_within f
 
--- one of a name that none had, put behind all, comes last
-comes_behind_all : {name : List ℕ} {v : Plain} {ms ns : Members} {i : ℕ} → i ≡ member_count ms → LacksMember name ms → MemberInserted name v i ms ns → ComesLast name v ms ns
-comes_behind_all e no_more inserted.this_member = comes_alone
-comes_behind_all e (other_name {ms = ms} ne l) inserted.this_member = absurd (omega (arith, e))
-comes_behind_all e (other_name {ms = ms} ne l) (inserted.later_member {i = i} c) = comes_behind ne (comes_behind_all (omega (arith, e)) l c)
+-- one of a name that none had, put after all, is appended
+appended_after_all : {name : List ℕ} {v : Plain} {ms ns : Members} {i : ℕ} → i ≡ member_count ms → LacksMember name ms → MemberInserted name v i ms ns → IsAppended name v ms ns
+appended_after_all e no_more inserted.this_member = appended_alone
+appended_after_all e (other_name {ms = ms} ne l) inserted.this_member = absurd (omega (arith, e))
+appended_after_all e (other_name {ms = ms} ne l) (inserted.later_member {i = i} c) = appended_after ne (appended_after_all (omega (arith, e)) l c)
 
 pub chosen_comes : (which : Which) {name : List ℕ} {v : Plain} {ms ns : Members} {i : ℕ} → i ≡ member_count ms → LacksMember name ms → MemberInserted name v i ms ns
-    → ComesLast name (seen which v) (seen_members which ms) (seen_members which ns)
-chosen_comes First e l c = comes_behind_all e l c
-chosen_comes Last e l c = comes_collapsed (comes_behind_all e l c)
+    → IsAppended name (seen which v) (seen_members which ms) (seen_members which ns)
+chosen_comes First e l c = appended_after_all e l c
+chosen_comes Last e l c = comes_collapsed (appended_after_all e l c)

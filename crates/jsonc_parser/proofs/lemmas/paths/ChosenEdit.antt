@@ -22,8 +22,8 @@ use Rattle.jsonc_parser.specs.paths.Choices.{Chooses, IsAppending}
 use Rattle.jsonc_parser.specs.paths.Found.{names_of}
 use Rattle.jsonc_parser.specs.paths.Positions.{Leads, IsPutBy, sets_root, sets_first, sets_value, appends, replaces}
 use Rattle.jsonc_parser.specs.paths.Reach.{ReachesTo}
-use Rattle.jsonc_parser.specs.paths.Settings.{At, nest, IsNoObject, StandsInTheWay}
-use Rattle.jsonc_parser.specs.paths.Standing.{NamesNothing}
+use Rattle.jsonc_parser.specs.paths.Settings.{At, nest, IsNoObject, IsInTheWay}
+use Rattle.jsonc_parser.specs.paths.NamedNodes.{NamesNothing}
 use Rattle.jsonc_parser.specs.paths.Which.{seen, seen_if}
 use Rattle.jsonc_parser.specs.declared.paths.which.Which.{Which}
 use Rattle.jsonc_parser.specs.declared.paths.which.Which.TheVariants.{First}
@@ -60,11 +60,11 @@ module _ (which : Which) (v : Plain) (over : Over) where
       (subst (λ (k : Option Plain). IsPutBy which v over k names op) (sym to.is)
       (subst (λ (l : List (List ℕ)). IsPutBy which v over (Some to.x) l op) (split_to which d names path count z to) (replaces (take count names) (drop (count + 1) names) to.leads non how)))
 
-  kept_by : (d : Document) (names : List (List ℕ)) (path : List ℕ) (count : ℕ) (z : Plain) → ReachesTo which d names path count z → IsNoObject z → StandsInTheWay (seen_if which d.value) names
+  kept_by : (d : Document) (names : List (List ℕ)) (path : List ℕ) (count : ℕ) (z : Plain) → ReachesTo which d names path count z → IsNoObject z → IsInTheWay (seen_if which d.value) names
   kept_by d names path count z to non =
-      subst (λ (k : Option Plain). StandsInTheWay (seen_if which k) names) (sym to.is)
-      (subst (λ (k : Option Plain). StandsInTheWay k names) (sym (seen_some which to.x))
-      (subst (λ (l : List (List ℕ)). StandsInTheWay (Some (seen which to.x)) l) (split_to which d names path count z to) (in_the_way to.name (drop (count + 1) names) to.leads non)))
+      subst (λ (k : Option Plain). IsInTheWay (seen_if which k) names) (sym to.is)
+      (subst (λ (k : Option Plain). IsInTheWay k names) (sym (seen_some which to.x))
+      (subst (λ (l : List (List ℕ)). IsInTheWay (Some (seen which to.x)) l) (split_to which d names path count z to) (in_the_way to.name (drop (count + 1) names) to.leads non)))
 
 module _ {A : Type 0} (which : Which) (doc : CstRootNode A) (v : Plain) (over : Over) (names : List (List ℕ)) where
   pub chosen_first : (new : CstInputValue A) → plain new ≡ nest names v → ((d : Document) → Shows d (tree_of doc) → d.value ≡ None) → Chooses which doc v over names (Some (edits.SetRoot new))
@@ -135,7 +135,7 @@ sliced {A} names k w v h = h ∙ ap (λ (l : List (String A)). nest (names_of l)
 pub nested_rest : {A : Type 0} (names : List (String A)) (count : ℕ) (w v : Plain) → w ≡ nest (names_of (drop count names)) v → w ≡ nest (drop count (names_of names)) v
 nested_rest names count w v h = h ∙ ap (λ (l : List (List ℕ)). nest l v) (sym (drop-map chars_of count names))
 
--- nothing stands at names that lead to an object without the next of them, or to another value
+-- nothing is at names that lead to an object without the next of them, or to another value
 module _ (d : Document) (names : List (List ℕ)) (path : List ℕ) (count : ℕ) where
   behind_reached : (z : Plain) (to : ReachesTo First d names path count z) (u : Plain) → At d.value names u → At (Some z) (to.name ∷ drop (count + 1) names) u
   behind_reached z to u a =

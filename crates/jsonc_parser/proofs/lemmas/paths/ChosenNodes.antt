@@ -72,14 +72,14 @@ module _ (ns : List Node) (c : ℕ) (name : List ℕ) where
   ChosenAmong which (Some r) ms = (i : ℕ) × IsElementOf ns c i r × (v : Plain) × IsChosenAt which name v i ms
 
 module _ (o : Options) (ns : List Node) (name : List ℕ) where
-  -- the last property of the name in a row, and the members of the row
+  -- the last property of the name among children, and their members
   abbrev LastInRow : List ℕ → ℕ → Members → Type 0
   LastInRow xs n ms = (i : ℕ) × (slice_get (filter (is_element_at ns) xs) i ≡ Some n) × (v : Plain) × LastAt name v i ms
 
   others_whole : (n : ℕ) (xs : List ℕ) → All (IsWhole o ns) (n ∷ xs) → All (IsWhole o ns) xs
   others_whole n xs whole = λ k d h. whole (suc k) d (omega (arith, h))
 
-  -- a member that lacks the name behind it, and is the first of the name, has it
+  -- a member that lacks the name after it, and is the first of the name, has it
   has_name : (m : List ℕ) (v : Plain) (ms : Members) (i : ℕ) → LacksMember name ms → IsFirstMember name i (member m v ms) → m ≡ name
   has_name m v ms i lacks first_is = refl
   has_name m v ms i lacks (first_later ne f) = absurd (none_first lacks f)

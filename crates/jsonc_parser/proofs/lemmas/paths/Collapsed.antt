@@ -5,7 +5,7 @@ use Rattle.std.specs.Str.{bytes_eq}
 use Rattle.std.proofs.lemmas.Slice.Eq.{bytes_eq-Decides}
 use Rattle.jsonc_text.specs.Plain.{Plain, Members, no_members, member, collapse, collapse_members, last_of, without}
 use Rattle.jsonc_insert.specs.named.Members.{LacksMember, no_more, other_name}
-use Rattle.jsonc_parser.specs.paths.Settings.{FirstIs, this_one, later_one, FirstBecomes, this_becomes, later_becomes, ComesLast, comes_alone, comes_behind}
+use Rattle.jsonc_parser.specs.paths.Settings.{FirstIs, this_one, later_one, FirstBecomes, this_becomes, later_becomes, IsAppended, appended_alone, appended_after}
 use Rattle.jsonc_parser.proofs.lemmas.paths.Members.{first_is_now, first_of_more, first_of_none, first_was, same_or_not}
 
 -- a test of two names that are the same, or not
@@ -124,31 +124,31 @@ becomes_last : {name : List ℕ} {x y : Plain} {ms ns : Members} → FirstBecome
 becomes_last {name} {x} {y} (this_becomes {ms = ms}) n ne v = let other : name ≢ n = λ e. ne (sym e) in last_past n name v x ms other ∙ sym (last_past n name v y ms other)
 becomes_last (later_becomes {n = m} {w = w} other b) n ne v = becomes_last b n ne (cond (bytes_eq m n) w v)
 
--- where one comes behind all, the others stay
-comes_without : {name : List ℕ} {v : Plain} {ms ns : Members} → ComesLast name v ms ns → (n : List ℕ) → n ≢ name → ComesLast name v (without n ms) (without n ns)
-comes_without {name} {v} comes_alone n ne = subst (ComesLast name v no_members) (sym (without_past n name v no_members (λ e. ne (sym e)))) comes_alone
-comes_without {name} {v} (comes_behind {n = m} {w = w} {ms = ms} {ns = ns} other c) n ne =
+-- where one is appended, the others stay
+comes_without : {name : List ℕ} {v : Plain} {ms ns : Members} → IsAppended name v ms ns → (n : List ℕ) → n ≢ name → IsAppended name v (without n ms) (without n ns)
+comes_without {name} {v} appended_alone n ne = subst (IsAppended name v no_members) (sym (without_past n name v no_members (λ e. ne (sym e)))) appended_alone
+comes_without {name} {v} (appended_after {n = m} {w = w} {ms = ms} {ns = ns} other c) n ne =
     elim (same_or_not m n) [
       | inl is ↦
-          subst (λ k. ComesLast name v (without n (member k w ms)) (without n (member k w ns))) (sym is)
-          (subst (λ t. ComesLast name v t (without n (member n w ns))) (sym (without_here n w ms)) (subst (λ t. ComesLast name v (without n ms) t) (sym (without_here n w ns)) (comes_without c n ne)))
+          subst (λ k. IsAppended name v (without n (member k w ms)) (without n (member k w ns))) (sym is)
+          (subst (λ t. IsAppended name v t (without n (member n w ns))) (sym (without_here n w ms)) (subst (λ t. IsAppended name v (without n ms) t) (sym (without_here n w ns)) (comes_without c n ne)))
       | inr apart ↦
-          subst (λ t. ComesLast name v t (without n (member m w ns))) (sym (without_past n m w ms apart))
-          (subst (λ t. ComesLast name v (member m w (without n ms)) t) (sym (without_past n m w ns apart)) (comes_behind other (comes_without c n ne)))
+          subst (λ t. IsAppended name v t (without n (member m w ns))) (sym (without_past n m w ms apart))
+          (subst (λ t. IsAppended name v (member m w (without n ms)) t) (sym (without_past n m w ns apart)) (appended_after other (comes_without c n ne)))
     ]
 
-comes_last_of : {name : List ℕ} {v : Plain} {ms ns : Members} → ComesLast name v ms ns → (n : List ℕ) → n ≢ name → (w : Plain) → last_of n w ms ≡ last_of n w ns
-comes_last_of {name} {v} comes_alone n ne w = sym (last_past n name w v no_members (λ e. ne (sym e)))
-comes_last_of (comes_behind {n = m} {w = u} other c) n ne w = comes_last_of c n ne (cond (bytes_eq m n) u w)
+comes_last_of : {name : List ℕ} {v : Plain} {ms ns : Members} → IsAppended name v ms ns → (n : List ℕ) → n ≢ name → (w : Plain) → last_of n w ms ≡ last_of n w ns
+comes_last_of {name} {v} appended_alone n ne w = sym (last_past n name w v no_members (λ e. ne (sym e)))
+comes_last_of (appended_after {n = m} {w = u} other c) n ne w = comes_last_of c n ne (cond (bytes_eq m n) u w)
 
-pub comes_collapsed : {name : List ℕ} {v : Plain} {ms ns : Members} → ComesLast name v ms ns → ComesLast name (collapse v) (collapse_members ms) (collapse_members ns)
-comes_collapsed comes_alone = comes_alone
-comes_collapsed {name} {v} (comes_behind {n = n} {w = w} {ms = ms} {ns = ns} ne c) =
+pub comes_collapsed : {name : List ℕ} {v : Plain} {ms ns : Members} → IsAppended name v ms ns → IsAppended name (collapse v) (collapse_members ms) (collapse_members ns)
+comes_collapsed appended_alone = appended_alone
+comes_collapsed {name} {v} (appended_after {n = n} {w = w} {ms = ms} {ns = ns} ne c) =
     let inner = comes_collapsed c in
-    subst (λ k. ComesLast name (collapse v) (member n k (without n (collapse_members ms))) (collapse_members (member n w ns))) (sym (comes_last_of inner n ne (collapse w)))
-    (comes_behind ne (comes_without inner n ne))
+    subst (λ k. IsAppended name (collapse v) (member n k (without n (collapse_members ms))) (collapse_members (member n w ns))) (sym (comes_last_of inner n ne (collapse w)))
+    (appended_after ne (comes_without inner n ne))
 
--- a property of the name before the last one: the last stands for it
+-- a property of the name before the last one: the last has its name
 pub first_behind : {name : List ℕ} {z : Plain} (n : List ℕ) (w : Plain) (ms : Members) → FirstIs name z (collapse_members ms) → FirstIs name z (collapse_members (member n w ms))
 first_behind {name} {z} n w ms f =
     elim (same_or_not n name) [
@@ -174,7 +174,7 @@ becomes_behind {name} {x} {y} n w ms ns b =
           (later_becomes ne (becomes_without b n ne))
     ]
 
--- the last of the name, with none behind it
+-- the last of the name, with none after it
 pub first_alone : {name : List ℕ} {ms : Members} (v : Plain) → LacksMember name ms → FirstIs name (collapse v) (collapse_members (member name v ms))
 first_alone {name} {ms} v l =
     subst (λ x. FirstIs name (collapse v) (member name x (without name (collapse_members ms)))) (sym (lacks_last (lacks_collapsed l) (collapse v))) this_one

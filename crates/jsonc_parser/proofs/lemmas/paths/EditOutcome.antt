@@ -52,7 +52,7 @@ module _ {A : Type 0} (doc now : CstRootNode A) (tree : IsTree (nodes_of doc)) w
     put_made after made d shown = puts_by_one_edit which d v over names (operation_of unsorted edit) (nodes_of doc) (nodes_of now) tree after shown (chosen.1 d shown) (of_characters unsorted edit) made
 
     pub put_refused : (why : EditError) → FailsWith (nodes_of doc) (operation_of unsorted edit) why → WantsMemory (nodes_of doc) why
-    put_refused why told d shown = puts_but_for_memory which d v over names (operation_of unsorted edit) (nodes_of doc) why tree shown (chosen.1 d shown) told
+    put_refused why reported d shown = puts_but_for_memory which d v over names (operation_of unsorted edit) (nodes_of doc) why tree shown (chosen.1 d shown) reported
 
   module _ (names : List (List ℕ)) (path : Vec ℕ A) (reached : (d : Document) → Shows d (tree_of doc) → (x v : Plain) × (d.value ≡ Some x) × Leads First names path.items x v) where
     dropped_by : (d : Document) → Shows d (tree_of doc) → IsDroppedBy d.value names (operation_of unsorted (Remove path))
@@ -62,7 +62,7 @@ module _ {A : Type 0} (doc now : CstRootNode A) (tree : IsTree (nodes_of doc)) w
     drop_made after made d shown = drops_by_one_edit d names (operation_of unsorted (Remove path)) (nodes_of doc) (nodes_of now) tree after shown (dropped_by d shown) made
 
     pub drop_refused : (why : EditError) → FailsWith (nodes_of doc) (operation_of unsorted (Remove path)) why → WantsMemory (nodes_of doc) why
-    drop_refused why told d shown = drops_but_for_memory d names (operation_of unsorted (Remove path)) (nodes_of doc) why tree shown (dropped_by d shown) told
+    drop_refused why reported d shown = drops_but_for_memory d names (operation_of unsorted (Remove path)) (nodes_of doc) why tree shown (dropped_by d shown) reported
 
 -- what is nested in one more object
 pub nest_more : {A : Type 0} (names : List (String A)) (k count : ℕ) (s : String A) (old new v : Plain) → k < length names → k + 1 ≡ count → new ≡ nest (chars_of (get_or names k s) ∷ []) old → old ≡ nest (names_of (drop count names)) v

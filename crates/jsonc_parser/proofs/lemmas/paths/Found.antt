@@ -17,13 +17,13 @@ use Rattle.jsonc_cst.specs.Nodes.{number_of, object_node, typed, typed_at}
 use Rattle.jsonc_cst.specs.Readings.{value_under}
 use Rattle.jsonc_cst.proofs.Family.{number_of-typed}
 use Rattle.jsonc_parser.specs.paths.Found.{FindsInside, FindsInsideWhatShown, FindsWhatShown, names_of}
-use Rattle.jsonc_parser.specs.paths.Standing.{LeadsOnIn, NamesNode, NamesNothing}
+use Rattle.jsonc_parser.specs.paths.NamedNodes.{LeadsOnIn, NamesNode, NamesNothing}
 use Rattle.jsonc_parser.specs.declared.paths.which.Which.{Which}
 use Rattle.jsonc_parser.specs.declared.paths.which.Which.TheVariants.{First}
 use Rattle.jsonc_parser.proofs.lemmas.paths.Paths.{at_none}
 use Rattle.jsonc_parser.proofs.lemmas.paths.NodesAtNames.{begins_there, leads_on_there, stops_there}
 
--- what an object's node stands over
+-- the content of an object's node
 pub object_content : (c : Content) (n : ℕ) (x : CstObject) → typed c n ≡ object_node x → c ≡ object
 object_content object n x e = refl
 object_content c n x e = cc
@@ -82,7 +82,7 @@ module _ {A : Type 0} (doc : CstRootNode A) (tree : IsTree (nodes_of doc)) where
       go None is same = at_none a ((begins_there First d (nodes_of doc) tree shown).none is)
       go (Some q) is same = cc
 
-  -- where the names so far lead to a node, and nothing stands behind the next one, nothing stands at all of them
+  -- where the names so far lead to a node, and nothing is after the next one, nothing is at all of them
   pub none_along : (node : CstNode) (front rest all : List (List ℕ)) (name : List ℕ) → all ≡ front ++ name ∷ rest → NamesWhatShown First doc front node → FindsInsideWhatShown doc node name None → FindsWhatShown doc all None
   none_along node front rest all name split so_far none d shown = subst (NamesNothing First d) (sym split) (none d front shown (so_far d shown) rest)
 

@@ -75,7 +75,7 @@ module _ (o : Options) (ns : List Node) (tree : IsTree ns) (sound : SoundTree o 
             ]
       ]
 
-  -- so many properties stand before it
+  -- so many properties are before it
   pub counted_before : (i r : ℕ) → IsElementOf ns c i r → length (filter (is_property_at ns) (siblings_before ns r)) ≡ i
   counted_before i r e =
       let xs : List ℕ = children_at ns c in

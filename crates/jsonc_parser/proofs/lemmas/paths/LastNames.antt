@@ -1,4 +1,4 @@
--- The last property of a name in a row, found by a walk over the row.
+-- The last property of a name among children, found by a walk over them.
 use Rattle.std.proofs.Common.{ℕ, ◌≡◌, ◌∙◌, ◌++◌, sym, ap, subst, refl, List, [], ◌∷◌, Option, Some, None, IfSome}
 use Rattle.jsonc_tree.specs.Content.{property}
 use Rattle.jsonc_tree.specs.Tree.{Node, content_at, children_at}
@@ -15,12 +15,12 @@ use Rattle.jsonc_parser.specs.declared.paths.which.Which.TheVariants.{Last}
 use Rattle.jsonc_parser.proofs.lemmas.paths.ChosenNodes.{last_has}
 
 module _ (ns : List Node) (v : List ℕ) where
-  -- the last of the name among the nodes to come; or what was found, where none of these has the name
+  -- the last of the name among the nodes still ahead; or what was found, where none of these has the name
   pub data LastFrom (found : Option ℕ) (rest : List ℕ) : Option ℕ → Type 0 where
     no_later : FirstNamed ns v rest None → LastFrom found rest found
     later : {last : ℕ} → LastNamed ns v rest (Some last) → LastFrom found rest (Some last)
 
-  -- behind one more node
+  -- after one more node
   one_more : (n : ℕ) (rest : List ℕ) (last : Option ℕ) (m : ℕ) → last ≡ Some m → LastNamed ns v rest last → LastNamed ns v (n ∷ rest) (Some m)
   one_more n rest _ m e (none_named alone) = let wrong : None ≡ Some m = e in cc
   one_more n _ _ m e (last_named front {n = k} {rest = rest} named alone) =
@@ -32,7 +32,7 @@ module _ (ns : List Node) (v : List ℕ) where
   last_of_all row _ (no_later alone) = none_named alone
   last_of_all row _ (later l) = l
 
-  -- no more nodes come
+  -- no more nodes are ahead
   pub none_to_come : (found : Option ℕ) (row : List ℕ) → row ≡ [] → LastFrom found row found
   none_to_come found row e = no_later (subst (λ l. FirstNamed ns v l None) (sym e) names.none)
 

@@ -12,28 +12,28 @@ use Rattle.jsonc_run.specs.texts.Edits as texts
 use Rattle.jsonc_run.specs.texts.Entries.{Named}
 use Rattle.jsonc_run.specs.texts.Paths.{an_object}
 use Rattle.jsonc_parser.specs.paths.Settings as settings
-use Rattle.jsonc_parser.specs.paths.Settings.{FirstAt, this_at, later_at, FirstIs, this_one, later_one, FirstBecomes, this_becomes, later_becomes, FirstLeaves, this_leaves, later_leaves, ComesLast, comes_alone, comes_behind, At, nest, IsNoObject, Put, is_there, changes_inside, comes_last, comes_first, gives_way, Dropped, value_leaves, entry_leaves, leaves_inside}
+use Rattle.jsonc_parser.specs.paths.Settings.{FirstAt, this_at, later_at, FirstIs, this_one, later_one, FirstBecomes, this_becomes, later_becomes, FirstIsRemoved, this_removed, later_removed, IsAppended, appended_alone, appended_after, At, nest, IsNoObject, Put, is_there, changes_inside, is_appended, is_nested, gives_way, Dropped, value_dropped, property_dropped, dropped_inside}
 use Rattle.jsonc_parser.specs.paths.Which.{IsChosenAt, seen, seen_if, seen_members}
 use Rattle.jsonc_parser.specs.declared.paths.which.Which.{Which}
 use Rattle.jsonc_parser.specs.declared.paths.which.Which.TheVariants.{First}
 use Rattle.jsonc_parser.proofs.lemmas.paths.Chosen.{at_changes, chosen_changes, chosen_comes, chosen_first, chosen_itself, chosen_within, seen_nest, seen_none, seen_object, seen_other, seen_some}
-use Rattle.jsonc_parser.specs.paths.Positions.{Leads, leads_nowhere, leads_on, IsPutBy, sets_root, sets_first, sets_value, appends, replaces, IsDroppedBy, removes, LeadToWhatStands, PutsByIt, DropsByIt}
+use Rattle.jsonc_parser.specs.paths.Positions.{Leads, leads_nowhere, leads_on, IsPutBy, sets_root, sets_first, sets_value, appends, replaces, IsDroppedBy, removes, LeadToWhatIsThere, PutsByIt, DropsByIt}
 
 -- no names lead over no positions
 pub no_path : {which : Which} {names : List (List ℕ)} {path : List ℕ} {x v : Plain} → Leads which names path x v → names ≡ [] → path ≡ []
 no_path leads_nowhere e = refl
 no_path (leads_on {name = name} {names = names} f l) e = cc
 
--- the property of a number that is the first of its name is what has left
-at_leaves : {name : List ℕ} {v : Plain} {i : ℕ} {ms ns : Members} → FirstAt name v i ms → MemberRemoved i ms ns → FirstLeaves name ms ns
-at_leaves this_at removed.this_member = this_leaves
-at_leaves (later_at ne f) (removed.later_member c) = later_leaves ne (at_leaves f c)
+-- the property of a number that is the first of its name is what was removed
+at_leaves : {name : List ℕ} {v : Plain} {i : ℕ} {ms ns : Members} → FirstAt name v i ms → MemberRemoved i ms ns → FirstIsRemoved name ms ns
+at_leaves this_at removed.this_member = this_removed
+at_leaves (later_at ne f) (removed.later_member c) = later_removed ne (at_leaves f c)
 
 first_at : {name : List ℕ} {v : Plain} {ms : Members} → FirstIs name v ms → (i : ℕ) × FirstAt name v i ms
 first_at this_one = (0, this_at)
 first_at (later_one ne f) = let g = first_at f in (suc g.0, later_at ne g.1)
 
--- what names lead to stands there, and the other way round
+-- what names lead to is there, and the other way round
 pub leads_at : {which : Which} {names : List (List ℕ)} {path : List ℕ} {x v : Plain} → Leads which names path x v → At (Some (seen which x)) names (seen which v)
 leads_at leads_nowhere = settings.itself
 leads_at {which} {v = v} (leads_on {name = name} {names = names} {i = i} {ms = ms} {x = x} f l) =
@@ -47,7 +47,7 @@ at_leads (settings.in_object {names = names} {ms = ms} {x = x} {v = v} f a) =
     let i = first_at f in
     (plain.object ms, refl, i.0 ∷ l.2, leads_on i.1 (subst (λ k. Leads First names l.2 k v) same l.3))
 
--- at the positions that names lead over stands what they lead to
+-- at the positions that names lead over is what they lead to
 pub leads_changed : {which : Which} {names : List (List ℕ)} {path : List ℕ} {x v : Plain} → Leads which names path x v → Changed v v path x x
 leads_changed leads_nowhere = itself
 leads_changed {which} (leads_on {name = name} {i = i} {ms = ms} {x = x} f l) = in_object (chosen_itself which name x i ms f) (leads_changed l)
@@ -80,7 +80,7 @@ module _ (rest : List (List ℕ)) where
   drop_inside leads_nowhere itself d = d
   drop_inside {was = was} {now = now} (leads_on {names = names} {path = path} f l) (in_object {y = z} m c) d =
       let g = at_changes f m in
-      leaves_inside g.1 (subst (λ k. Dropped (Some k) (names ++ rest) (Some z)) g.0 (drop_inside l (subst (λ k. Changed was now path k z) (sym g.0) c) d))
+      dropped_inside g.1 (subst (λ k. Dropped (Some k) (names ++ rest) (Some z)) g.0 (drop_inside l (subst (λ k. Changed was now path k z) (sym g.0) c) d))
 
 -- the value at the path has become another, where all names lead to it
 put_there : {which : Which} {v : Plain} {over : Over} {names : List (List ℕ)} {path : List ℕ} {x y z was : Plain} → Leads which names path x z → Changed was v path x y
@@ -119,7 +119,7 @@ last_name {which} (leads_on {name = name} {names = names} {i = k} {path = q} {ms
       at = inner.at;
     }
 
--- an entry that names lead to has left an object, and is the first of its name
+-- an entry that names lead to was removed from an object, and is the first of its name
 object_no_array : (ms : Members) (vs : Items) → plain.object ms ≡ plain.array vs → ⊥
 object_no_array ms vs e = cc
 
@@ -131,7 +131,7 @@ entry_dropped n (loses_item {vs = vs} r c) = absurd (object_no_array n.ms vs (le
 entry_dropped {x = x} {y = y} {was = was} n (loses_member {ms = ms} {ns = ns} r c) =
     let same : n.ms ≡ ms = object_same n.ms ms (leads_value n.leads c) in
     let left = at_leaves (subst (λ k. FirstAt n.name was _ k) same n.at) r in
-    subst (λ k. Dropped (Some x) k (Some y)) (sym n.is) (drop_inside (n.name ∷ []) n.leads c (entry_leaves left))
+    subst (λ k. Dropped (Some x) k (Some y)) (sym n.is) (drop_inside (n.name ∷ []) n.leads c (property_dropped left))
 
 -- what an operation made, by its kind
 record ByValue (path : List ℕ) (v : Plain) (w y : Option Plain) : Type 0 where
@@ -247,7 +247,7 @@ module _ (which : Which) (v : Plain) (over : Over) where
       let all : Plain = nest (name ∷ names) v in
       subst (λ (k : Option Plain). Put (seen which v) over (seen_if which None) (name ∷ names) (seen_if which k)) (sym now)
       (subst (λ (k : Option Plain). Put (seen which v) over k (name ∷ names) (seen_if which (Some all))) (sym (seen_none which))
-      (subst (λ (k : Option Plain). Put (seen which v) over None (name ∷ names) k) (sym (seen_some which all ∙ ap (λ x. Some x) (seen_nest which (name ∷ names) v))) comes_first))
+      (subst (λ (k : Option Plain). Put (seen which v) over None (name ∷ names) k) (sym (seen_some which all ∙ ap (λ x. Some x) (seen_nest which (name ∷ names) v))) is_nested))
 
   put_root : (w y : Option Plain) → y ≡ Some v → Put (seen which v) over (seen_if which w) [] (seen_if which y)
   put_root w y now =
@@ -258,9 +258,9 @@ module _ (which : Which) (v : Plain) (over : Over) where
   comes_seen : (name : List ℕ) (rest : List (List ℕ)) (ms ns : Members) → LacksMember name ms → MemberInserted name (nest rest v) (member_count ms) ms ns
       → Put (seen which v) over (Some (seen which (plain.object ms))) (name ∷ rest) (Some (seen which (plain.object ns)))
   comes_seen name rest ms ns lacks comes =
-      let last = subst (λ x. ComesLast name x (seen_members which ms) (seen_members which ns)) (seen_nest which rest v) (chosen_comes which refl lacks comes) in
+      let last = subst (λ x. IsAppended name x (seen_members which ms) (seen_members which ns)) (seen_nest which rest v) (chosen_comes which refl lacks comes) in
       subst (λ (k : Plain). Put (seen which v) over (Some k) (name ∷ rest) (Some (seen which (plain.object ns)))) (sym (seen_object which ms))
-      (subst (λ (k : Plain). Put (seen which v) over (Some (plain.object (seen_members which ms))) (name ∷ rest) (Some k)) (sym (seen_object which ns)) (comes_last last))
+      (subst (λ (k : Plain). Put (seen which v) over (Some (plain.object (seen_members which ms))) (name ∷ rest) (Some k)) (sym (seen_object which ns)) (is_appended last))
 
   gives_seen : (name : List ℕ) (rest : List (List ℕ)) (was : Plain) → IsNoObject was → over ≡ Replace
       → Put (seen which v) over (Some (seen which was)) (name ∷ rest) (Some (seen which (nest (name ∷ rest) v)))
@@ -291,7 +291,7 @@ put_by {which} {v} {over} (replaces front rest {name = name} {path = path} {x = 
 drop_by : {w : Option Plain} {names : List (List ℕ)} {e : PlainEdit} → IsDroppedBy w names e → (y : Option Plain) (op : Operation) → Asks w e op → IsChanged w op y → Dropped w names y
 drop_by (removes {names = names} {path = path} {x = x} {was = was} l) y op a c =
     elim (was_removed c path a) [
-      | value_removed e now ↦ subst (λ k. Dropped (Some x) k y) (sym (no_names l e)) (subst (Dropped (Some x) []) (sym now) value_leaves)
+      | value_removed e now ↦ subst (λ k. Dropped (Some x) k y) (sym (no_names l e)) (subst (Dropped (Some x) []) (sym now) value_dropped)
       | entry_removed front i old new e is now loses ↦
           subst (Dropped (Some x) names) (sym now) (entry_dropped (last_name l front i e) (subst (λ k. LosesEntry front i k new) (sym (some_same x old is)) loses))
     ]
@@ -324,5 +324,5 @@ puts_by_it which v over w names e p = (λ count. put_named count p, λ y op. put
 pub drops_by_it : (w : Option Plain) (names : List (List ℕ)) (e : PlainEdit) → DropsByIt w names e
 drops_by_it w names e d = (λ count. drop_named count d, λ y op. drop_by d y op)
 
-pub lead_to_what_stands : (w : Option Plain) (names : List (List ℕ)) (v : Plain) → LeadToWhatStands w names v
-lead_to_what_stands w names v a = at_leads a
+pub lead_to_what_is_there : (w : Option Plain) (names : List (List ℕ)) (v : Plain) → LeadToWhatIsThere w names v
+lead_to_what_is_there w names v a = at_leads a

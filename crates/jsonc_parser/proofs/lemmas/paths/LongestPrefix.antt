@@ -5,7 +5,7 @@ use Rattle.jsonc_text.specs.Plain as plain
 use Rattle.jsonc_text.specs.declared.edit.Over.{Over}
 use Rattle.jsonc_text.specs.declared.edit.Over.TheVariants.{Keep, Replace}
 use Rattle.jsonc_parser.specs.paths.Operations.{PlainEdit, LacksMember, no_more, other_name, append_property, replace, set_root, set_value}
-use Rattle.jsonc_parser.specs.paths.Settings.{FirstAt, this_at, later_at, FirstIs, this_one, later_one, nest, IsNoObject, StandsInTheWay, this_stands, inner_stands}
+use Rattle.jsonc_parser.specs.paths.Settings.{FirstAt, this_at, later_at, FirstIs, this_one, later_one, nest, IsNoObject, IsInTheWay, this_in_the_way, inner_in_the_way}
 use Rattle.jsonc_parser.specs.paths.Which.{seen, seen_if, seen_members}
 use Rattle.jsonc_parser.specs.declared.paths.which.Which.{Which}
 use Rattle.jsonc_parser.specs.paths.Positions.{Leads, leads_nowhere, leads_on, sets_root, sets_first, sets_value, appends, replaces, IsPutBy, IsPutByOne, Reaches, to_value, to_missing, to_another}
@@ -42,12 +42,12 @@ reaches x (name ∷ names) =
       | inr non ↦ to_another [] name names leads_nowhere non
     ]
 
--- a value of another kind that names lead to, before the last, stands in the way
+-- a value of another kind that names lead to, before the last, is in the way
 pub in_the_way : {which : Which} {front : List (List ℕ)} {path : List ℕ} {x other : Plain} (name : List ℕ) (rest : List (List ℕ)) → Leads which front path x other → IsNoObject other
-    → StandsInTheWay (Some (seen which x)) (front ++ name ∷ rest)
-in_the_way {which} name rest leads_nowhere non = this_stands (seen_other which non)
+    → IsInTheWay (Some (seen which x)) (front ++ name ∷ rest)
+in_the_way {which} name rest leads_nowhere non = this_in_the_way (seen_other which non)
 in_the_way {which} name rest (leads_on {name = n} {names = names} {i = i} {ms = ms} {x = x} f l) non =
-    subst (λ k. StandsInTheWay (Some k) (n ∷ names ++ name ∷ rest)) (sym (seen_object which ms)) (inner_stands (chosen_first which n x i ms f) (in_the_way name rest l non))
+    subst (λ k. IsInTheWay (Some k) (n ∷ names ++ name ∷ rest)) (sym (seen_object which ms)) (inner_in_the_way (chosen_first which n x i ms f) (in_the_way name rest l non))
 
 by_reach : (v : Plain) (over : Over) {x : Plain} {names : List (List ℕ)} → Reaches x names → IsPutByOne v over (Some x) names
 by_reach v over (to_value leads_nowhere) = inl (set_root v, sets_root)
@@ -64,30 +64,30 @@ put_by_one v over None [] = inl (set_root v, sets_root)
 put_by_one v over None (name ∷ names) = inl (set_root (nest (name ∷ names) v), sets_first)
 put_by_one v over (Some x) names = by_reach v over (reaches x names)
 
--- nothing stands in the way where an operation puts a value, or it may give way
+-- nothing is in the way where an operation puts a value, or it may give way
 pub lacking : {name : List ℕ} {v : Plain} {ms : Members} → LacksMember name ms → FirstIs name v ms → ⊥
 lacking no_more f = elim f [ ]
 lacking (other_name ne l) this_one = ne refl
 lacking (other_name ne l) (later_one other f) = lacking l f
 
-pub led_all : {which : Which} {names : List (List ℕ)} {path : List ℕ} {x v : Plain} → Leads which names path x v → StandsInTheWay (Some (seen which x)) names → ⊥
+pub led_all : {which : Which} {names : List (List ℕ)} {path : List ℕ} {x v : Plain} → Leads which names path x v → IsInTheWay (Some (seen which x)) names → ⊥
 led_all leads_nowhere s = blocked_end s refl
 led_all {which} (leads_on {name = name} {names = names} {i = i} {ms = ms} {x = x} f l) s =
     let b = blocked s name names (seen_members which ms) refl (ap (λ k. Some k) (seen_object which ms)) in
-    led_all l (subst (λ (k : Plain). StandsInTheWay (Some k) names) (first_once b.first (chosen_first which name x i ms f)) b.rest)
+    led_all l (subst (λ (k : Plain). IsInTheWay (Some k) names) (first_once b.first (chosen_first which name x i ms f)) b.rest)
 
-led_there : {which : Which} {front : List (List ℕ)} {path : List ℕ} {x v : Plain} (rest : List (List ℕ)) → Leads which front path x v → StandsInTheWay (Some (seen which x)) (front ++ rest)
-    → StandsInTheWay (Some (seen which v)) rest
+led_there : {which : Which} {front : List (List ℕ)} {path : List ℕ} {x v : Plain} (rest : List (List ℕ)) → Leads which front path x v → IsInTheWay (Some (seen which x)) (front ++ rest)
+    → IsInTheWay (Some (seen which v)) rest
 led_there rest leads_nowhere s = s
 led_there {which} rest (leads_on {name = name} {names = names} {i = i} {ms = ms} {x = x} f l) s =
     let b = blocked s name (names ++ rest) (seen_members which ms) refl (ap (λ k. Some k) (seen_object which ms)) in
-    led_there rest l (subst (λ (k : Plain). StandsInTheWay (Some k) (names ++ rest)) (first_once b.first (chosen_first which name x i ms f)) b.rest)
+    led_there rest l (subst (λ (k : Plain). IsInTheWay (Some k) (names ++ rest)) (first_once b.first (chosen_first which name x i ms f)) b.rest)
 
 -- in the value of a document
-in_value : (which : Which) (x : Plain) (names : List (List ℕ)) → StandsInTheWay (seen_if which (Some x)) names → StandsInTheWay (Some (seen which x)) names
-in_value which x names s = subst (λ (w : Option Plain). StandsInTheWay w names) (seen_some which x) s
+in_value : (which : Which) (x : Plain) (names : List (List ℕ)) → IsInTheWay (seen_if which (Some x)) names → IsInTheWay (Some (seen which x)) names
+in_value which x names s = subst (λ (w : Option Plain). IsInTheWay w names) (seen_some which x) s
 
-pub put_is_free : {which : Which} {v : Plain} {over : Over} {w : Option Plain} {names : List (List ℕ)} {e : PlainEdit} → IsPutBy which v over w names e → over ≡ Keep → StandsInTheWay (seen_if which w) names → ⊥
+pub put_is_free : {which : Which} {v : Plain} {over : Over} {w : Option Plain} {names : List (List ℕ)} {e : PlainEdit} → IsPutBy which v over w names e → over ≡ Keep → IsInTheWay (seen_if which w) names → ⊥
 put_is_free sets_root keep s = blocked_end s refl
 put_is_free {which} sets_first keep s = blocked_none s (seen_none which)
 put_is_free {which} (sets_value {name = name} {names = names} {x = x} l) keep s = led_all l (in_value which x (name ∷ names) s)

@@ -1,4 +1,4 @@
--- What stands at names in a document that a tree shows: the value's node, and that of a first property's value.
+-- What is at names in a document that a tree shows: the value's node, and that of a first property's value.
 use Rattle.std.proofs.Common.{ℕ, ◌≡◌, ◌∙◌, ◌++◌, sym, ap, subst, refl, not, List, [], ◌∷◌, Option, Some, None}
 use Rattle.std.specs.List.{find}
 use Rattle.jsonc_text.specs.Documents.{Document}
@@ -41,7 +41,7 @@ use Rattle.jsonc_parser.proofs.lemmas.paths.Leading.{leads_at, leads_value}
 use Rattle.jsonc_parser.proofs.lemmas.paths.Members.{first_once}
 use Rattle.jsonc_parser.proofs.lemmas.paths.Paths.{in_members, no_object_inside}
 use Rattle.jsonc_parser.proofs.lemmas.paths.LongestPrefix.{lacking}
-use Rattle.jsonc_parser.specs.paths.Standing.{NamesNode, NamesNothing, BeginsThere, StopsThere, LeadsOn}
+use Rattle.jsonc_parser.specs.paths.NamedNodes.{NamesNode, NamesNothing, BeginsThere, StopsThere, LeadsOn}
 
 -- names lead further
 leads_further : {which : Which} {front : List (List ℕ)} {path : List ℕ} {x y : Plain} (name : List ℕ) (i : ℕ) {ms : Members} → Leads which front path x (plain.object ms) → IsChosenAt which name y i ms
@@ -49,7 +49,7 @@ leads_further : {which : Which} {front : List (List ℕ)} {path : List ℕ} {x y
 leads_further name i leads_nowhere f = leads_on f leads_nowhere
 leads_further name i (leads_on g l) f = leads_on g (leads_further name i l f)
 
--- what stands behind the names that lead to a value stands at the others in it
+-- what is after the names that lead to a value is at the others in it
 pub behind : {which : Which} {front : List (List ℕ)} {path : List ℕ} {x v u : Plain} (rest : List (List ℕ)) → Leads which front path x v → At (Some (seen which x)) (front ++ rest) u
     → At (Some (seen which v)) rest u
 behind rest leads_nowhere a = a
@@ -88,7 +88,7 @@ module _ (which : Which) (d : Document) (ns : List Node) (tree : IsTree ns) (sho
         v = v;
         path = path;
         leads = leads;
-        stands = subst (λ (w : Option Plain). At (seen_if which w) names (seen which v)) (sym is) (subst (λ (w : Option Plain). At w names (seen which v)) (sym (seen_some which x)) (leads_at leads));
+        there = subst (λ (w : Option Plain). At (seen_if which w) names (seen which v)) (sym is) (subst (λ (w : Option Plain). At w names (seen which v)) (sym (seen_some which x)) (leads_at leads));
         at = at;
         has = subst (HasValue d.options (top_at ns n)) same held.has;
       }
@@ -101,7 +101,7 @@ module _ (which : Which) (d : Document) (ns : List Node) (tree : IsTree ns) (sho
       let some = some_value_of d.options (gives_way_to_itself ns tree [] n at) d.value shown.value in
       named [] [] n at some.0 some.0 (value_once some.0 (prints_value d.options (ordered_tree ns 0) (Some some.0) shown.sound some.1)) leads_nowhere
 
-  -- where a row holds a value, an element is in it
+  -- where children hold a value, an element is among them
   holds_one : (x : Plain) (xs : List ℕ) (row : OrderedTree) → trees.Shows ns xs row → HoldsValue d.options row x → find (is_element_at ns) xs ≡ None → ⊥
   holds_one x _ _ shows_none h e = elim h [ ]
   holds_one x _ _ (shows_more {n = k} {rest = rest} {after = after} p q) (values.pass_to_value h g) e = holds_one x rest after q g (sym (fails (is_element_at ns) k rest (ap not h)) ∙ e)
@@ -120,7 +120,7 @@ module _ (which : Which) (d : Document) (ns : List Node) (tree : IsTree ns) (sho
 
   -- from here on of a node that names name
   module _ (names : List (List ℕ)) (n : ℕ) (w : NamesNode which d ns names n) where
-    -- nothing stands behind names whose value has nothing at the others
+    -- nothing is after names whose value has nothing at the others
     none_behind : (rest : List (List ℕ)) → ((u : Plain) → At (Some (seen which w.v)) rest u → ⊥) → NamesNothing which d (names ++ rest)
     none_behind rest non u a =
         non u (behind rest w.leads (subst (λ (k : Option Plain). At k (names ++ rest) u) (seen_some which w.value) (subst (λ (k : Option Plain). At (seen_if which k) (names ++ rest) u) w.is a)))

@@ -16,7 +16,7 @@ use Rattle.jsonc_cst.proofs.Family.{number_of-typed}
 use Rattle.jsonc_parser.specs.paths.Reach.{Steps, StepsWhatShown}
 use Rattle.jsonc_parser.specs.paths.Which.{IsChosenIn}
 use Rattle.jsonc_parser.specs.declared.paths.which.Which.{Which}
-use Rattle.jsonc_parser.specs.paths.Standing.{LeadsOnIn, NamesNode, properties_before}
+use Rattle.jsonc_parser.specs.paths.NamedNodes.{LeadsOnIn, NamesNode, properties_before}
 use Rattle.jsonc_parser.specs.declared.paths.reached.Step.{Step}
 use Rattle.jsonc_parser.specs.declared.paths.reached.Step.TheVariants.{On, Missing, Another}
 use Rattle.jsonc_parser.proofs.lemmas.paths.Found.{is_object, no_object}

@@ -1,14 +1,14 @@
--- Values at paths of names: one stands there, it is put, and it leaves; at other paths all stays.
+-- Values at paths of names: one is there, it is put, and it is dropped; at other paths all stays.
 use Rattle.std.proofs.Common.{ℕ, ◌≡◌, ◌≢◌, ◌⊎◌, ◌∙◌, sym, subst, refl, List, [], ◌∷◌, Option, Some, None, inl, inr}
 use Rattle.jsonc_text.specs.Plain.{Plain, Members, no_members, member}
 use Rattle.jsonc_text.specs.Plain as plain
 use Rattle.jsonc_text.specs.declared.edit.Over.{Over}
 use Rattle.jsonc_text.specs.declared.edit.Over.TheVariants.{Keep, Replace}
 use Rattle.jsonc_parser.specs.paths.Laws.{MustStay, PutsOrMustStay}
-use Rattle.jsonc_parser.specs.paths.Settings.{FirstIs, this_one, FirstBecomes, ComesLast, At, itself, in_object, nest, IsNoObject, StandsInTheWay, this_stands, inner_stands, Put, is_there, changes_inside, comes_last, comes_first, gives_way, Dropped, value_leaves, entry_leaves, leaves_inside, Differ, differ_here, differ_later}
+use Rattle.jsonc_parser.specs.paths.Settings.{FirstIs, this_one, FirstBecomes, IsAppended, At, itself, in_object, nest, IsNoObject, IsInTheWay, this_in_the_way, inner_in_the_way, Put, is_there, changes_inside, is_appended, is_nested, gives_way, Dropped, value_dropped, property_dropped, dropped_inside, Differ, differ_here, differ_later}
 use Rattle.jsonc_parser.proofs.lemmas.paths.Members.{same_or_not, first_of_more, first_of_none, first_once, first_or_last, first_not_last, first_becomes, first_stays, first_leaves, first_was, first_is_now, leaver_was, last_is_now, others_stay, others_left, others_before}
 
--- what stands at a path that begins with this name, in a document of this value
+-- what is at a path that begins with this name, in a document of this value
 record Inside (name : List ℕ) (names : List (List ℕ)) (w : Option Plain) (v : Plain) : Type 0 where
   ms : Members
   x : Plain
@@ -46,14 +46,14 @@ at_end (in_object {name = n} {names = ns} f a) e = cc
 pub no_object_inside : {x : Plain} {name : List ℕ} {names : List (List ℕ)} {v : Plain} → IsNoObject x → At (Some x) (name ∷ names) v → ⊥
 no_object_inside {x} {name} {names} non a = let i = at_more a name names refl in non i.ms (some_same _ _ i.is)
 
--- no two values stand at the names
+-- no two values are at the names
 pub at_once : {w : Option Plain} {path : List (List ℕ)} {u v : Plain} → At w path u → At w path v → u ≡ v
 at_once {u = u} {v = v} itself b = let e : Some u ≡ Some v = at_end b refl in cc
 at_once {v = v} (in_object {name = name} {names = names} {ms = ms} {x = x} f a) b =
     let i = in_members b in
     at_once a (subst (λ k. At (Some k) names v) (first_once i.1 f) i.2)
 
--- a value stands in what it is nested in, and at no path that differs
+-- a value is in what it is nested in, and at no path that differs
 pub nest_at : (names : List (List ℕ)) (v : Plain) → At (Some (nest names v)) names v
 nest_at [] v = itself
 nest_at (name ∷ names) v = in_object this_one (nest_at names v)
@@ -69,20 +69,20 @@ pub nest_only : {path names : List (List ℕ)} → Differ path names → (v u : 
 nest_only (differ_here {a = a} {b = b} ne) v u h = let i = in_members h in ne (sym (in_one i.1).0)
 nest_only (differ_later {p = p} d) v u h = let i = in_members h in nest_only d v u (subst (λ x. At (Some x) p u) (sym (in_one i.1).1) i.2)
 
--- what was put stands there
+-- what was put is there
 pub put_at : {v : Plain} {over : Over} {w x : Option Plain} {names : List (List ℕ)} → Put v over w names x → At x names v
 put_at is_there = itself
 put_at (changes_inside f p) = in_object (first_is_now f) (put_at p)
-put_at {v} (comes_last {names = names} c) = in_object (last_is_now c) (nest_at names v)
-put_at {v} (comes_first {name = name} {names = names}) = nest_at (name ∷ names) v
+put_at {v} (is_appended {names = names} c) = in_object (last_is_now c) (nest_at names v)
+put_at {v} (is_nested {name = name} {names = names}) = nest_at (name ∷ names) v
 put_at {v} (gives_way {name = name} {names = names} non how) = nest_at (name ∷ names) v
 
--- what stands there is put by no change
+-- what is there is put by no change
 pub put_again : {v : Plain} {w : Option Plain} {names : List (List ℕ)} → (over : Over) → At w names v → Put v over w names w
 put_again over itself = is_there
 put_again over (in_object f a) = changes_inside (first_stays f) (put_again over a)
 
--- at other paths all stays: the same stands there, in either direction
+-- at other paths all stays: the same is there, in either direction
 abbrev Same : List (List ℕ) → Plain → Option Plain → Option Plain → Type 0
 Same path u x y = (At x path u → At y path u) × (At y path u → At x path u)
 
@@ -110,7 +110,7 @@ other_inside : {name : List ℕ} {ms ns : Members} {x y : Plain} (u : Plain) →
     → Same (a ∷ p) u (Some (plain.object ms)) (Some (plain.object ns))
 other_inside u f a p other = (into (λ z. (others_stay f a z other).0), into (λ z. (others_stay f a z other).1))
 
-last_same : {name : List ℕ} {names : List (List ℕ)} (v : Plain) {u : Plain} {ms ns : Members} → ComesLast name (nest names v) ms ns → (path : List (List ℕ)) → Differ path (name ∷ names)
+last_same : {name : List ℕ} {names : List (List ℕ)} (v : Plain) {u : Plain} {ms ns : Members} → IsAppended name (nest names v) ms ns → (path : List (List ℕ)) → Differ path (name ∷ names)
     → Same path u (Some (plain.object ms)) (Some (plain.object ns))
 last_same {name} {names} v {u} {ms} {ns} c path d = go d refl
   where
@@ -144,7 +144,7 @@ differs_from : {path q : List (List ℕ)} → Differ path q → (name : List ℕ
 differs_from (differ_here {a = a} {b = b} {p = p} ne) name names e = let is : b ≡ name = cc in at_once_other a p refl (λ s. ne (s ∙ sym is))
 differs_from (differ_later {a = a} {p = p} {q = q} d) name names e = let is : q ≡ names = cc in later_other a p refl (subst (Differ p) is d)
 
--- where the rest nested stands in the place of what had nothing inside
+-- where the rest nested takes the place of what had nothing inside
 fresh_same : {name : List ℕ} {names path : List (List ℕ)} (v : Plain) {u : Plain} {w : Option Plain} → ((a : List ℕ) (p : List (List ℕ)) → At w (a ∷ p) u → ⊥) → Differ path (name ∷ names)
     → Same path u w (Some (nest (name ∷ names) v))
 fresh_same {name} {names} {path} v {u} {w} non d =
@@ -160,31 +160,31 @@ put_same (changes_inside {name = name} {names = names} {ms = ms} {ns = ns} {x = 
       | at_once_other a q e ne ↦ subst (λ k. Same k u (Some (plain.object ms)) (Some (plain.object ns))) (sym e) (other_inside u f a q (λ s. ne (sym s)))
       | later_other a q e k ↦ subst (λ k. Same k u (Some (plain.object ms)) (Some (plain.object ns))) (sym e) (inside_same f a q (put_same p q u k))
     ]
-put_same {v} (comes_last {name = name} {names = names} c) path u d = last_same v c path d
-put_same {v} (comes_first {name = name} {names = names}) path u d = fresh_same v (λ a p h. at_none h refl) d
+put_same {v} (is_appended {name = name} {names = names} c) path u d = last_same v c path d
+put_same {v} (is_nested {name = name} {names = names}) path u d = fresh_same v (λ a p h. at_none h refl) d
 put_same {v} (gives_way {name = name} {names = names} non how) path u d = fresh_same v (λ a p h. no_object_inside non h) d
 
 pub dropped_same : {w x : Option Plain} {names : List (List ℕ)} → Dropped w names x → (path : List (List ℕ)) (u : Plain) → Differ path names → Same path u w x
-dropped_same value_leaves path u d = absurd (none_differs d refl)
-dropped_same (entry_leaves {name = name} {ms = ms} {ns = ns} l) path u d =
+dropped_same value_dropped path u d = absurd (none_differs d refl)
+dropped_same (property_dropped {name = name} {ms = ms} {ns = ns} l) path u d =
     elim (differs_from d name [] refl) [
       | at_once_other a q e ne ↦ subst (λ k. Same k u (Some (plain.object ms)) (Some (plain.object ns))) (sym e)
           (into (λ z. (others_left l a z (λ s. ne (sym s))).0), into (λ z. (others_left l a z (λ s. ne (sym s))).1))
       | later_other a q e k ↦ absurd (none_differs k refl)
     ]
-dropped_same (leaves_inside {name = name} {names = names} {ms = ms} {ns = ns} {x = x} {y = y} f p) path u d =
+dropped_same (dropped_inside {name = name} {names = names} {ms = ms} {ns = ns} {x = x} {y = y} f p) path u d =
     elim (differs_from d name names refl) [
       | at_once_other a q e ne ↦ subst (λ k. Same k u (Some (plain.object ms)) (Some (plain.object ns))) (sym e) (other_inside u f a q (λ s. ne (sym s)))
       | later_other a q e k ↦ subst (λ k. Same k u (Some (plain.object ms)) (Some (plain.object ns))) (sym e) (inside_same f a q (dropped_same p q u k))
     ]
 
--- what leaves stood there
+-- what is dropped was there
 pub dropped_at : {w x : Option Plain} {names : List (List ℕ)} → Dropped w names x → (v : Plain) × At w names v
-dropped_at (value_leaves {v = v}) = (v, itself)
-dropped_at (entry_leaves l) = let f = leaver_was l in (f.0, in_object f.1 itself)
-dropped_at (leaves_inside f d) = let a = dropped_at d in (a.0, in_object (first_was f) a.1)
+dropped_at (value_dropped {v = v}) = (v, itself)
+dropped_at (property_dropped l) = let f = leaver_was l in (f.0, in_object f.1 itself)
+dropped_at (dropped_inside f d) = let a = dropped_at d in (a.0, in_object (first_was f) a.1)
 
--- and what stands there can leave
+-- and what is there can be dropped
 inner_drop : {x v : Plain} {name : List ℕ} {names : List (List ℕ)} → At (Some x) (name ∷ names) v → (y : Plain) × Dropped (Some x) (name ∷ names) (Some y)
 inner_drop {x} {v} {name} {names} a = go names name x a
   where
@@ -192,17 +192,17 @@ inner_drop {x} {v} {name} {names} a = go names name x a
     go [] n z h =
         let i = at_more h n [] refl in
         let l = first_leaves i.first in
-        (plain.object l.0, subst (λ k. Dropped k (n ∷ []) (Some (plain.object l.0))) (sym i.is) (entry_leaves l.1))
+        (plain.object l.0, subst (λ k. Dropped k (n ∷ []) (Some (plain.object l.0))) (sym i.is) (property_dropped l.1))
     go (m ∷ rest) n z h =
         let i = at_more h n (m ∷ rest) refl in
         let inner = go rest m i.x i.rest in
         let b = first_becomes i.first inner.0 in
-        (plain.object b.0, subst (λ k. Dropped k (n ∷ m ∷ rest) (Some (plain.object b.0))) (sym i.is) (leaves_inside b.1 inner.1))
+        (plain.object b.0, subst (λ k. Dropped k (n ∷ m ∷ rest) (Some (plain.object b.0))) (sym i.is) (dropped_inside b.1 inner.1))
 
-pub drop_what_stands : (w : Option Plain) (names : List (List ℕ)) (v : Plain) → At w names v → (x : Option Plain) × Dropped w names x
-drop_what_stands w [] v a = (None, subst (λ k. Dropped k [] None) (sym (at_end a refl)) value_leaves)
-drop_what_stands (Some x) (name ∷ names) v a = let d = inner_drop a in (Some d.0, d.1)
-drop_what_stands None (name ∷ names) v a = absurd (at_none a refl)
+pub drop_what_is_there : (w : Option Plain) (names : List (List ℕ)) (v : Plain) → At w names v → (x : Option Plain) × Dropped w names x
+drop_what_is_there w [] v a = (None, subst (λ k. Dropped k [] None) (sym (at_end a refl)) value_dropped)
+drop_what_is_there (Some x) (name ∷ names) v a = let d = inner_drop a in (Some d.0, d.1)
+drop_what_is_there None (name ∷ names) v a = absurd (at_none a refl)
 
 -- a value is an object, or not
 pub object_or_not : (x : Plain) → ((ms : Members) × (x ≡ plain.object ms)) ⊎ IsNoObject x
@@ -213,7 +213,7 @@ object_or_not (plain.string s) = inr (λ ms e. cc)
 object_or_not (plain.array vs) = inr (λ ms e. cc)
 object_or_not (plain.object ms) = inl (ms, refl)
 
--- it can be put, or something stands in the way
+-- it can be put, or something is in the way
 module _ (v : Plain) (over : Over) where
   puts_value : (names : List (List ℕ)) (z : Plain) → ((y : Plain) × Put v over (Some z) names (Some y)) ⊎ MustStay over (Some z) names
   puts_value [] z = inl (v, is_there)
@@ -226,20 +226,20 @@ module _ (v : Plain) (over : Over) where
                     | inl put ↦
                         let b = first_becomes first.1 put.0 in
                         inl (plain.object b.0, subst (λ k. Put v over (Some k) (name ∷ names) (Some (plain.object b.0))) (sym object.1) (changes_inside b.1 put.1))
-                    | inr stays ↦ inr (stays.0, subst (λ k. StandsInTheWay (Some k) (name ∷ names)) (sym object.1) (inner_stands first.1 stays.1))
+                    | inr stays ↦ inr (stays.0, subst (λ k. IsInTheWay (Some k) (name ∷ names)) (sym object.1) (inner_in_the_way first.1 stays.1))
                   ]
-              | inr last ↦ inl (plain.object last.0, subst (λ k. Put v over (Some k) (name ∷ names) (Some (plain.object last.0))) (sym object.1) (comes_last last.1))
+              | inr last ↦ inl (plain.object last.0, subst (λ k. Put v over (Some k) (name ∷ names) (Some (plain.object last.0))) (sym object.1) (is_appended last.1))
             ]
         | inr non ↦ by_how over refl non
       ]
     where
       by_how : (how : Over) → over ≡ how → IsNoObject z → ((y : Plain) × Put v over (Some z) (name ∷ names) (Some y)) ⊎ MustStay over (Some z) (name ∷ names)
-      by_how Keep e non = inr (e, this_stands non)
+      by_how Keep e non = inr (e, this_in_the_way non)
       by_how Replace e non = inl (nest (name ∷ names) v, gives_way non e)
 
   pub puts : (w : Option Plain) (names : List (List ℕ)) → PutsOrMustStay v over w names
   puts w [] = inl (Some v, is_there)
-  puts None (name ∷ names) = inl (Some (nest (name ∷ names) v), comes_first)
+  puts None (name ∷ names) = inl (Some (nest (name ∷ names) v), is_nested)
   puts (Some x) (name ∷ names) =
       elim (puts_value (name ∷ names) x) [
         | inl put ↦ inl (Some put.0, put.1)
@@ -249,33 +249,33 @@ module _ (v : Plain) (over : Over) where
 pub keep_no_replace : (over : Over) → over ≡ Keep → over ≡ Replace → ⊥
 keep_no_replace over e f = let wrong : Keep ≡ Replace = sym e ∙ f in cc
 
--- where something stands in the way
+-- where something is in the way
 pub record WayBlocked (name : List ℕ) (names : List (List ℕ)) (ms : Members) : Type 0 where
   pub x : Plain
   pub first : FirstIs name x ms
-  pub rest : StandsInTheWay (Some x) names
+  pub rest : IsInTheWay (Some x) names
 
-pub blocked : {w : Option Plain} {path : List (List ℕ)} → StandsInTheWay w path → (name : List ℕ) (names : List (List ℕ)) (ms : Members) → path ≡ name ∷ names → w ≡ Some (plain.object ms) → WayBlocked name names ms
-blocked (this_stands {x = x} non) name names ms e is = absurd (non ms (some_same _ _ is))
-blocked (inner_stands {name = n} {names = ns} {ms = old} {x = x} f s) name names ms e is =
+pub blocked : {w : Option Plain} {path : List (List ℕ)} → IsInTheWay w path → (name : List ℕ) (names : List (List ℕ)) (ms : Members) → path ≡ name ∷ names → w ≡ Some (plain.object ms) → WayBlocked name names ms
+blocked (this_in_the_way {x = x} non) name names ms e is = absurd (non ms (some_same _ _ is))
+blocked (inner_in_the_way {name = n} {names = ns} {ms = old} {x = x} f s) name names ms e is =
     let p : n ≡ name = cc in
     let q : ns ≡ names = cc in
     let r : old ≡ ms = object_same old ms (some_same _ _ is) in
-    record { x = x; first = subst (λ k. FirstIs k x ms) p (subst (FirstIs n x) r f); rest = subst (StandsInTheWay (Some x)) q s }
+    record { x = x; first = subst (λ k. FirstIs k x ms) p (subst (FirstIs n x) r f); rest = subst (IsInTheWay (Some x)) q s }
 
-pub blocked_none : {w : Option Plain} {path : List (List ℕ)} → StandsInTheWay w path → w ≡ None → ⊥
-blocked_none (this_stands {x = x} non) e = cc
-blocked_none (inner_stands {ms = ms} f s) e = cc
+pub blocked_none : {w : Option Plain} {path : List (List ℕ)} → IsInTheWay w path → w ≡ None → ⊥
+blocked_none (this_in_the_way {x = x} non) e = cc
+blocked_none (inner_in_the_way {ms = ms} f s) e = cc
 
-pub blocked_end : {w : Option Plain} {path : List (List ℕ)} → StandsInTheWay w path → path ≡ [] → ⊥
-blocked_end (this_stands {name = n} {names = ns} non) e = cc
-blocked_end (inner_stands {name = n} {names = ns} f s) e = cc
+pub blocked_end : {w : Option Plain} {path : List (List ℕ)} → IsInTheWay w path → path ≡ [] → ⊥
+blocked_end (this_in_the_way {name = n} {names = ns} non) e = cc
+blocked_end (inner_in_the_way {name = n} {names = ns} f s) e = cc
 
-pub never_both : {v : Plain} {over : Over} {w x : Option Plain} {names : List (List ℕ)} → Put v over w names x → over ≡ Keep → StandsInTheWay w names → ⊥
+pub never_both : {v : Plain} {over : Over} {w x : Option Plain} {names : List (List ℕ)} → Put v over w names x → over ≡ Keep → IsInTheWay w names → ⊥
 never_both is_there e s = blocked_end s refl
 never_both (changes_inside {name = name} {names = names} {ms = ms} f p) e s =
     let b = blocked s name names ms refl refl in
-    never_both p e (subst (λ k. StandsInTheWay (Some k) names) (first_once b.first (first_was f)) b.rest)
-never_both (comes_last {name = name} {names = names} {ms = ms} c) e s = let b = blocked s name names ms refl refl in first_not_last c b.first
-never_both comes_first e s = blocked_none s refl
+    never_both p e (subst (λ k. IsInTheWay (Some k) names) (first_once b.first (first_was f)) b.rest)
+never_both (is_appended {name = name} {names = names} {ms = ms} c) e s = let b = blocked s name names ms refl refl in first_not_last c b.first
+never_both is_nested e s = blocked_none s refl
 never_both {over = over} (gives_way non how) e s = keep_no_replace over e how

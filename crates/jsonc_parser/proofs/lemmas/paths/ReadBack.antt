@@ -33,7 +33,7 @@ put_options o op (sets_value l) is = ap (options_behind o) is
 put_options o op (appends front rest l lacks) (ms, i, stands, far, is) = ap (options_behind o) is
 put_options o op (replaces front rest l non how) is = ap (options_behind o) is
 
--- a list without edits leads nowhere, and one of one edit to a document with the options behind it
+-- a list without edits leads nowhere, and one of one edit to a document with the options after it
 nowhere : {d e : Document} {ops : List Operation} → Run d ops e → ops ≡ [] → d ≡ e
 nowhere (none_made one) is = refl
 nowhere (one_made {op = op} {ops = ops} one same makes rest) is = cc

@@ -19,7 +19,7 @@ use Rattle.jsonc_parser.specs.paths.Found.{names_of}
 use Rattle.jsonc_parser.specs.paths.Settings.{IsNoObject}
 use Rattle.jsonc_parser.specs.paths.Positions.{Leads}
 use Rattle.jsonc_parser.specs.paths.Reach.{ReachesTo, StepsWhatShown}
-use Rattle.jsonc_parser.specs.paths.Standing.{NamesNode}
+use Rattle.jsonc_parser.specs.paths.NamedNodes.{NamesNode}
 use Rattle.jsonc_parser.specs.declared.paths.which.Which.{Which}
 use Rattle.jsonc_parser.specs.declared.paths.reached.Step.TheVariants.{On, Missing, Another}
 use Rattle.jsonc_parser.proofs.lemmas.paths.Found.{one_more, value_found}

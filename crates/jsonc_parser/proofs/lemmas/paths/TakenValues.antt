@@ -1,4 +1,4 @@
--- What is taken of a node that names lead to stands for its value.
+-- What is taken of a node that names lead to represents its value.
 use Rattle.std.proofs.Common.{◌≡◌, ◌∙◌, ℕ, List, Option, Some, None, Result, Ok, Err, IfOk, option_map, sym, ap, subst}
 use Rattle.jsonc_text.specs.Documents.{Document}
 use Rattle.jsonc_text.specs.Plain.{Plain, collapse}
@@ -27,7 +27,7 @@ use Rattle.jsonc_cst.proofs.Colons.{value_colons}
 use Rattle.jsonc_insert.proofs.lemmas.named.PathValues.{gives_way_to_itself, value_at_path}
 use Rattle.jsonc_parser.specs.paths.AtPaths.{NodesHaveValues}
 use Rattle.jsonc_parser.specs.paths.Found.{FindsWhatShown, Reads, ReadsWhatShown}
-use Rattle.jsonc_parser.specs.paths.Standing.{NamesNode}
+use Rattle.jsonc_parser.specs.paths.NamedNodes.{NamesNode}
 use Rattle.jsonc_parser.specs.declared.paths.which.Which.TheVariants.{First}
 
 module _ (d : Document) (ns : List Node) (tree : IsTree ns) (shown : Shows d (ordered_tree ns 0)) where
@@ -48,7 +48,7 @@ module _ (d : Document) (ns : List Node) (tree : IsTree ns) (shown : Shows d (or
 
   pub read_there : {A : Type 0} (names : List (List ℕ)) (n : ℕ) → NamesNode First d ns names n → (taken : Option (CstInputValue A)) → IsTaken (ordered_tree ns n) taken → Reads d names taken
   read_there names n w None is = absurd (let wrong : None ≡ Some (collapse w.v) = taken_there w.path n w.v w.at w.has None is in cc)
-  read_there names n w (Some x) is = (w.v, w.stands, (let same : Some (plain x) ≡ Some (collapse w.v) = taken_there w.path n w.v w.at w.has (Some x) is in cc))
+  read_there names n w (Some x) is = (w.v, w.there, (let same : Some (plain x) ≡ Some (collapse w.v) = taken_there w.path n w.v w.at w.has (Some x) is in cc))
 
 -- the node at a path has its value
 pub nodes_have_values : {A : Type 0} (d : Document) (ns : List Node) (path : List ℕ) (n : ℕ) → NodesHaveValues A d ns path n
@@ -56,7 +56,7 @@ nodes_have_values d ns path n tree shown at =
     let some = some_value_of d.options (gives_way_to_itself ns tree path n at) d.value shown.value in
     let held = value_at_path d.options ns tree path n at some.0 some.1 in
     let same : d.value ≡ Some some.0 = document_once d.options (ordered_tree ns 0) d.value (Some some.0) shown.value some.1 in
-    record { x = some.0; is = same; v = held.value; stands = held.at; has = held.has; taken = λ taken is. taken_there d ns tree shown path n held.value at held.has taken is }
+    record { x = some.0; is = same; v = held.value; there = held.at; has = held.has; taken = λ taken is. taken_there d ns tree shown path n held.value at held.has taken is }
 
 -- what was answered of the node that was found
 pub read_result : {A E : Type 0} (doc : CstRootNode A) (node : CstNode) (names : List (List ℕ)) (r : Result (Option (CstInputValue A)) E) → IsTree (nodes_of doc) → IfOk r (IsValueTaken doc node) → FindsWhatShown doc names (Some node)

@@ -1,13 +1,13 @@
--- Values are put, and leave, in one way alone: as functions put and drop them.
+-- Values are put, and dropped, in one way alone: as functions put and drop them.
 use Rattle.std.proofs.Common.{ℕ, ◌≡◌, ◌∙◌, sym, ap, refl, cond, List, [], ◌∷◌, Option, Some, None}
 use Rattle.std.specs.Str.{bytes_eq}
 use Rattle.jsonc_text.specs.Plain.{Plain, Members, no_members, member}
 use Rattle.jsonc_text.specs.Plain as plain
 use Rattle.jsonc_text.specs.declared.edit.Over.{Over}
-use Rattle.jsonc_parser.specs.paths.Settings.{FirstBecomes, this_becomes, later_becomes, FirstLeaves, this_leaves, later_leaves, ComesLast, comes_alone, comes_behind, nest, IsNoObject, Put, is_there, changes_inside, comes_last, comes_first, gives_way, Dropped, value_leaves, entry_leaves, leaves_inside}
+use Rattle.jsonc_parser.specs.paths.Settings.{FirstBecomes, this_becomes, later_becomes, FirstIsRemoved, this_removed, later_removed, IsAppended, appended_alone, appended_after, nest, IsNoObject, Put, is_there, changes_inside, is_appended, is_nested, gives_way, Dropped, value_dropped, property_dropped, dropped_inside}
 use Rattle.jsonc_parser.proofs.lemmas.paths.Collapsed.{other_names, same_names}
 
--- the first value of a name becomes another, or a new one comes last
+-- the first value of a name becomes another, or a new one is appended
 abbrev put_members : List ℕ → (Plain → Plain) → Plain → Members → Members
 put_members name f new no_members = member name new no_members
 put_members name f new (member n w ms) = cond (bytes_eq n name) (member n (f w) ms) (member n w (put_members name f new ms))
@@ -22,14 +22,14 @@ becomes_is {name} {x} {y} f new (this_becomes {ms = ms}) e = ap (λ k. member na
 becomes_is {name} f new (later_becomes {n = n} {w = w} {ms = ms} ne b) e =
     ap (member n w) (becomes_is f new b e) ∙ sym (ap (λ c. cond c (member n (f w) ms) (member n w (put_members name f new ms))) (other_names n name ne))
 
-comes_is : {name : List ℕ} {new : Plain} {ms ns : Members} (f : Plain → Plain) → ComesLast name new ms ns → ns ≡ put_members name f new ms
-comes_is f comes_alone = refl
-comes_is {name} {new} f (comes_behind {n = n} {w = w} {ms = ms} ne c) =
+comes_is : {name : List ℕ} {new : Plain} {ms ns : Members} (f : Plain → Plain) → IsAppended name new ms ns → ns ≡ put_members name f new ms
+comes_is f appended_alone = refl
+comes_is {name} {new} f (appended_after {n = n} {w = w} {ms = ms} ne c) =
     ap (member n w) (comes_is f c) ∙ sym (ap (λ b. cond b (member n (f w) ms) (member n w (put_members name f new ms))) (other_names n name ne))
 
-leaves_is : {name : List ℕ} {ms ns : Members} → FirstLeaves name ms ns → ns ≡ drop_member name ms
-leaves_is {name} (this_leaves {w = w} {ms = ms}) = sym (ap (λ b. cond b ms (member name w (drop_member name ms))) (same_names name))
-leaves_is {name} (later_leaves {n = n} {w = w} {ms = ms} ne l) = ap (member n w) (leaves_is l) ∙ sym (ap (λ b. cond b ms (member n w (drop_member name ms))) (other_names n name ne))
+leaves_is : {name : List ℕ} {ms ns : Members} → FirstIsRemoved name ms ns → ns ≡ drop_member name ms
+leaves_is {name} (this_removed {w = w} {ms = ms}) = sym (ap (λ b. cond b ms (member name w (drop_member name ms))) (same_names name))
+leaves_is {name} (later_removed {n = n} {w = w} {ms = ms} ne l) = ap (member n w) (leaves_is l) ∙ sym (ap (λ b. cond b ms (member n w (drop_member name ms))) (other_names n name ne))
 
 abbrev put_value : Plain → List (List ℕ) → Plain → Plain
 put_value v [] x = v
@@ -59,14 +59,14 @@ put_is {v} (is_there {w = w}) = go w
     go (Some x) = refl
 put_is {v} (changes_inside {name = name} {names = names} {ms = ms} {ns = ns} {x = x} {y = y} f p) =
     ap (λ k. Some (plain.object k)) (becomes_is (put_value v names) (nest names v) f (some_same y (put_value v names x) (put_is p)))
-put_is {v} (comes_last {names = names} c) = ap (λ k. Some (plain.object k)) (comes_is (put_value v names) c)
-put_is comes_first = refl
+put_is {v} (is_appended {names = names} c) = ap (λ k. Some (plain.object k)) (comes_is (put_value v names) c)
+put_is is_nested = refl
 put_is {v} (gives_way {name = name} {names = names} {x = x} non how) = ap Some (sym (no_object_put v name names x non))
 
 pub put_once : {v : Plain} {over : Over} {w x y : Option Plain} {names : List (List ℕ)} → Put v over w names x → Put v over w names y → x ≡ y
 put_once p q = put_is p ∙ sym (put_is q)
 
--- what stood at the names leaves
+-- what was at the names is dropped
 abbrev drop_value : List (List ℕ) → Plain → Plain
 drop_value [] x = x
 drop_value (name ∷ []) (plain.object ms) = plain.object (drop_member name ms)
@@ -79,9 +79,9 @@ drop_document [] (Some x) = None
 drop_document (name ∷ names) (Some x) = Some (drop_value (name ∷ names) x)
 
 drop_is : {w x : Option Plain} {names : List (List ℕ)} → Dropped w names x → x ≡ drop_document names w
-drop_is value_leaves = refl
-drop_is (entry_leaves l) = ap (λ k. Some (plain.object k)) (leaves_is l)
-drop_is (leaves_inside {name = name} {names = names} {ms = ms} {ns = ns} {x = x} {y = y} f d) = go names (drop_is d)
+drop_is value_dropped = refl
+drop_is (property_dropped l) = ap (λ k. Some (plain.object k)) (leaves_is l)
+drop_is (dropped_inside {name = name} {names = names} {ms = ms} {ns = ns} {x = x} {y = y} f d) = go names (drop_is d)
   where
     go : (names : List (List ℕ)) → Some y ≡ drop_document names (Some x) → Some (plain.object ns) ≡ drop_document (name ∷ names) (Some (plain.object ms))
     go [] e = cc

@@ -9,8 +9,8 @@ returns-clause-to c =
     let point = IsPartitionPoint-from_clause (λ y. leb y c.args.place) _ _ c.partition_point.ensures.partitioned parted (λ a r q k. search rules) in
     λ k h. leb-true _ _ (point.0 k 0 (omega arith) h)
 
-pub returns-clause-behind : goal.returns-clause-behind
-returns-clause-behind c =
+pub returns-clause-after : goal.returns-clause-after
+returns-clause-after c =
     let parted = IsPartitionedBy-leb (λ x. x) c.args.places.now c.args.place c.requires in
     let point = IsPartitionPoint-from_clause (λ y. leb y c.args.place) _ _ c.partition_point.ensures.partitioned parted (λ a r q k. search rules) in
     λ k h l. leb-false _ _ (point.1 k 0 h l)

@@ -18,7 +18,7 @@ returns-then-eq-clause-some c =
 written : (s : List ℕ) → ((x : Float) → WritesFloat (chars s) x → IsLongHexadecimal (chars s)) → NumberLit all_on (chars s) → IsLongHexadecimal (chars s)
 written s h n = let w = grammar_writes (chars s) n in h w.0 w.1
 
--- the bits that stand for no number
+-- the bits that represent no number
 no_number : of_bits binary64 9221120237041090560 ≡ nan
 unfolding of_bits
 no_number = refl

@@ -15,7 +15,7 @@ returns g c =
       begun = err_then c.set_commas_of.result (λ step. step tt) (rw first at made.begun);
       detached = rw first at made.detached;
       oom_only_if = made.oom_only_if;
-      due = rw first at made.due;
+      needed = rw first at made.needed;
       memory = made.memory;
       handles = made.handles;
     }

@@ -4,7 +4,7 @@ use Rattle.jsonc_tree.specs.Tree.{children_at}
 use Rattle.jsonc_cst.specs.Nodes.{typed_at}
 use Rattle.jsonc_cst.proofs.cst.access.children_of.Given as goal
 
--- those that are left are nodes, and with what stands so far they are all
+-- those that are left are nodes, and with those so far they are all
 abbrev pub invariant-loop-child : goal.invariant-loop-child
 invariant-loop-child g l =
     record {

@@ -17,7 +17,7 @@ overflow_sub-upto g c =
     let n = c.args.node in
     let s = stands ns tree n c.requires.entry in
     let none = sym c.next_element.ensures.element ∙ none_there c.next_element.result c.is_none-last.result c.is_none-last.ensures c.if-last.true in
-    let all = back_last ns tree n s c.in_ok-behind.behind.items c.in_ok-behind.ensures none in
+    let all = back_last ns tree n s c.in_ok-after.after.items c.in_ok-after.ensures none in
     omega (arith, all.0)
 
 pub slice_bounds-comments_around-count : goal.slice_bounds-comments_around-count
@@ -57,17 +57,17 @@ returns g c =
       | in-Some w ↦ ap (λ k. drop k c.reverse.new.self.items) (w.from-is ∙ w.tail_length-from.ensures.count ∙ ap (tail_length at false) w.deref.ensures.value) ∙ front_next ns tree n s c.reverse.new.self.items w.in-Some.field-0 items (sym c.previous_element.ensures.element ∙ w.in-Some.is)
       | in-None w ↦ ap (λ k. drop k c.reverse.new.self.items) w.from-is ∙ (front_first ns tree n s c.reverse.new.self.items items (sym c.previous_element.ensures.element ∙ w.in-None.is)).1
     ] in
-    let size : vec_len c.in_ok-behind.behind ≡ length c.in_ok-behind.behind.items = sym c.deref-3.ensures.len ∙ ap length c.deref-3.ensures.value in
-    let gap : (take upto c.in_ok-behind.behind.items ≡ (parts at s.inner.behind).lead) × (is_none (parts at s.inner.behind).rest ≡ last) = elim c.if-last.branch [
+    let size : vec_len c.in_ok-after.after ≡ length c.in_ok-after.after.items = sym c.deref-3.ensures.len ∙ ap length c.deref-3.ensures.value in
+    let gap : (take upto c.in_ok-after.after.items ≡ (parts at s.inner.behind).lead) × (is_none (parts at s.inner.behind).rest ≡ last) = elim c.if-last.branch [
       | then-last w ↦ (
           let none = sym c.next_element.ensures.element ∙ none_there c.next_element.result last c.is_none-last.ensures w.if-last.true in
-          let all = back_last ns tree n s c.in_ok-behind.behind.items c.in_ok-behind.ensures none in
-          (ap (λ k. take k c.in_ok-behind.behind.items) (w.upto-is ∙ ap (λ k. k - 1) (w.len.ensures ∙ size)) ∙ all.1, all.2 ∙ sym w.if-last.true)
+          let all = back_last ns tree n s c.in_ok-after.after.items c.in_ok-after.ensures none in
+          (ap (λ k. take k c.in_ok-after.after.items) (w.upto-is ∙ ap (λ k. k - 1) (w.len.ensures ∙ size)) ∙ all.1, all.2 ∙ sym w.if-last.true)
           )
       | else-last w ↦ (
           let some = some_there c.next_element.result last c.is_none-last.ensures w.if-last.false in
-          let all = back_next ns tree n s c.in_ok-behind.behind.items some.0 c.in_ok-behind.ensures (sym c.next_element.ensures.element ∙ some.1) in
-          (ap (λ k. take k c.in_ok-behind.behind.items) (w.upto-is ∙ w.len-upto.ensures ∙ size) ∙ all.0, all.1 ∙ sym w.if-last.false)
+          let all = back_next ns tree n s c.in_ok-after.after.items some.0 c.in_ok-after.ensures (sym c.next_element.ensures.element ∙ some.1) in
+          (ap (λ k. take k c.in_ok-after.after.items) (w.upto-is ∙ w.len-upto.ensures ∙ size) ∙ all.0, all.1 ∙ sym w.if-last.false)
           )
     ] in
     let one : take (length d2 - from) (drop from d2) ≡ lead_in at s.inner.before = take_rest d2 from ∙ ap (drop from) c.deref-2.ensures.value ∙ lead in

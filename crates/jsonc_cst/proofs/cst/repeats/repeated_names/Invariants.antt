@@ -4,7 +4,7 @@ use Rattle.jsonc_cst.specs.RepeatedNames.{AreRepeated}
 use Rattle.jsonc_cst.proofs.RepeatedNames.{AreNames}
 use Rattle.jsonc_cst.proofs.cst.repeats.repeated_names.Given as goal
 
--- so many of the row are behind the loop
+-- the loop has passed so many of the children
 abbrev pub invariant-loop-child : goal.invariant-loop-child
 invariant-loop-child g l =
     let row = children_at l.tree.nodes l.object in

@@ -11,6 +11,6 @@ pub returns-clause-sorted : goal.returns-clause-sorted
 returns-clause-sorted g c =
     let doc = c.args.doc.now in
     let node = c.args.container in
-    let wanted : List (Option CstNode) → List ℕ → Type 0 = λ xs order. IsInItsOrder g.C.Fn c.args.compare.now (g.D.DocumentArg.same doc) (HasNode doc) xs (starts_of doc node c.args.groups) order in
-    wired_container doc c.sort_by.new.doc c.args.groups wanted node (elements_asked doc node) c.deref.result.now (pins_where doc node c.args.pin) c.deref-2.result.now c.sort_by.result
+    let required : List (Option CstNode) → List ℕ → Type 0 = λ xs order. IsInItsOrder g.C.Fn c.args.compare.now (g.D.DocumentArg.same doc) (HasNode doc) xs (starts_of doc node c.args.groups) order in
+    wired_container doc c.sort_by.new.doc c.args.groups required node (elements_asked doc node) c.deref.result.now (pins_where doc node c.args.pin) c.deref-2.result.now c.sort_by.result
     (c.deref.ensures.value ∙ c.in_ok-nodes.ensures.nodes) (c.deref-2.ensures.value ∙ c.in_ok-pins.ensures.pins) c.sort_by.ensures.sorted

@@ -26,7 +26,7 @@ returns-in-Ok g c =
       begun = tt;
       detached = rw same at c.set_trailing_commas.ensures.apart;
       oom_only_if = tt;
-      due = tt;
+      needed = tt;
       memory = tt;
       handles = nodes_stay old new (stay_in_turn mode (holders old n) old new tree set);
     }
@@ -50,7 +50,7 @@ returns-in-Err g c =
       begun = λ is. some_commas_step old new tree mode n part (subst IsHolder (sym c.requires.1) is);
       detached = rw same at c.set_trailing_commas.ensures.apart;
       oom_only_if = c.in-Err.ensures.oom_only_if;
-      due = rw same at c.in-Err.ensures.due;
+      needed = rw same at c.in-Err.ensures.due;
       memory = c.in-Err.ensures.memory;
       handles = nodes_stay old new (stay_in_turn mode part.done old new tree part.set);
     }

@@ -15,18 +15,18 @@ are_elements_equal-returns-then-not-branch g t c = λ unique.
     let i = c.loop-index.index in
     let left : i < length c.args.left.now = c.loop-index-test.true in
     let right : i < length c.args.right.now = omega (arith, left, c.if-left-right.false) in
-    let told = c.in_ok-are_equal.ensures (unique_item c.args.right.now i c.index-right-index.result unique right c.index-right-index.is) in
+    let reported = c.in_ok-are_equal.ensures (unique_item c.args.right.now i c.index-right-index.result unique right c.index-right-index.is) in
     one_differs (same_by c.args.numbers) c.args.left.now c.args.right.now i c.index-left-index.result c.index-right-index.result left right c.index-left-index.is c.index-right-index.is
-    (c.loop-index.invariant unique) (λ e. told.0 (c.if-not-branch.true ∙ e), λ h. sym c.if-not-branch.true ∙ told.1 h)
+    (c.loop-index.invariant unique) (λ e. reported.0 (c.if-not-branch.true ∙ e), λ h. sym c.if-not-branch.true ∙ reported.1 h)
 
 pub are_elements_equal-loop-index-preserved : goal.are_elements_equal-loop-index-preserved
 are_elements_equal-loop-index-preserved g t c = λ unique.
     let i = c.loop-index.index in
     let left : i < length c.args.left.now = c.loop-index-test.true in
     let right : i < length c.args.right.now = omega (arith, left, c.if-left-right.false) in
-    let told = c.in_ok-are_equal.ensures (unique_item c.args.right.now i c.index-right-index.result unique right c.index-right-index.is) in
+    let reported = c.in_ok-are_equal.ensures (unique_item c.args.right.now i c.index-right-index.result unique right c.index-right-index.is) in
     one_equal (same_by c.args.numbers) c.args.left.now c.args.right.now i c.index-left-index.result c.index-right-index.result left right c.index-left-index.is c.index-right-index.is
-    (c.loop-index.invariant unique) (λ e. told.0 (c.if-not-branch.false ∙ e), λ h. sym c.if-not-branch.false ∙ told.1 h)
+    (c.loop-index.invariant unique) (λ e. reported.0 (c.if-not-branch.false ∙ e), λ h. sym c.if-not-branch.false ∙ reported.1 h)
 
 pub are_elements_equal-returns : goal.are_elements_equal-returns
 are_elements_equal-returns g t c = λ unique.
@@ -109,10 +109,10 @@ are_members_equal-returns-then-not-branch g t c = λ unique.
     let q = get_or right j c.index-right-index.result in
     let is : q ≡ get_or right j q = ap (λ d. get_or right j d) c.index-right-index.is in
     let named = ap chars (place_named right _ _ j keys at q is ∙ c.deref.ensures) in
-    let told = c.in_ok-are_equal.ensures (unique_member right j q unique inside is) in
+    let reported = c.in_ok-are_equal.ensures (unique_member right j q unique inside is) in
     objects_told (same_by c.args.numbers) left right _ c.if-left-right.false
     (value_differs (same_by c.args.numbers) left right c.loop-member.member-index c.member-item.result c.loop-member-test.true c.member-item.is (c.loop-member.invariant unique)
-    j q inside is named unique (λ e. told.0 (c.if-not-branch.true ∙ e), λ h. sym c.if-not-branch.true ∙ told.1 h))
+    j q inside is named unique (λ e. reported.0 (c.if-not-branch.true ∙ e), λ h. sym c.if-not-branch.true ∙ reported.1 h))
 
 pub are_members_equal-loop-member-preserved : goal.are_members_equal-loop-member-preserved
 are_members_equal-loop-member-preserved g t c = λ unique.
@@ -125,9 +125,9 @@ are_members_equal-loop-member-preserved g t c = λ unique.
     let q = get_or right j c.index-right-index.result in
     let is : q ≡ get_or right j q = ap (λ d. get_or right j d) c.index-right-index.is in
     let named = ap chars (place_named right _ _ j keys at q is ∙ c.deref.ensures) in
-    let told = c.in_ok-are_equal.ensures (unique_member right j q unique inside is) in
+    let reported = c.in_ok-are_equal.ensures (unique_member right j q unique inside is) in
     value_equal (same_by c.args.numbers) left right c.loop-member.member-index c.member-item.result c.loop-member-test.true c.member-item.is (c.loop-member.invariant unique)
-    j q inside is named (λ e. told.0 (c.if-not-branch.false ∙ e), λ h. sym c.if-not-branch.false ∙ told.1 h)
+    j q inside is named (λ e. reported.0 (c.if-not-branch.false ∙ e), λ h. sym c.if-not-branch.false ∙ reported.1 h)
 
 pub are_members_equal-returns : goal.are_members_equal-returns
 are_members_equal-returns g t c = λ unique.

@@ -10,14 +10,14 @@ use Rattle.jsonc_parser.specs.declared.patch.reference.Lookup.TheVariants.{Missi
 use Rattle.jsonc_parser.proofs.lemmas.patch.Located.{missing, nameless, told_name, twice, valueless}
 use Rattle.jsonc_parser.proofs.patch.location.name_to.Goals as goal
 
-pub returns-in-Ok-None-clause-told : goal.returns-in-Ok-None-clause-told
-returns-in-Ok-None-clause-told g c =
+pub returns-in-Ok-None-clause-token : goal.returns-in-Ok-None-clause-token
+returns-in-Ok-None-clause-token g c =
     let doc = c.args.doc.now in
     let none = subst (NameReads (HasName c.tree.result.now.nodes c.args.property)) c.in-Ok-None.field-0-is c.in-Ok-None.ensures.name in
     nameless doc doc.tree.tree c.args.object c.requires.object c.args.property (subst (λ (ns : List Node). (v : List ℕ) → HasName ns c.args.property v → ⊥) c.tree.ensures none)
 
-pub returns-in-Some-clause-told : goal.returns-in-Some-clause-told
-returns-in-Some-clause-told g c =
+pub returns-in-Some-clause-token : goal.returns-in-Some-clause-token
+returns-in-Some-clause-token g c =
     let doc = c.args.doc.now in
     let v : List ℕ = chars_of c.in-Ok-Some.name in
     let read = subst (NameReads (HasName c.tree.result.now.nodes c.args.property)) c.in-Ok-Some.field-0-is c.in-Ok-Some.ensures.name in
@@ -27,8 +27,8 @@ returns-in-Some-clause-told g c =
     (subst (λ (l : List ℕ). IsLookedUp (nodes_of doc) l (children_at (nodes_of doc) c.number.result) (Once c.in-Ok-Once.only)) (ap chars c.deref.ensures) there) in
     told_name doc doc.tree.tree c.args.object c.requires.object c.args.property v named c.in-Ok-Once.only found c.in-Some.value (sym c.in-Some.is ∙ c.value_under.ensures.value) c.in-Ok-Some.name refl
 
-pub returns-in-None-clause-told : goal.returns-in-None-clause-told
-returns-in-None-clause-told g c =
+pub returns-in-None-clause-token : goal.returns-in-None-clause-token
+returns-in-None-clause-token g c =
     let doc = c.args.doc.now in
     let v : List ℕ = chars_of c.in-Ok-Some.name in
     let read = subst (NameReads (HasName c.tree.result.now.nodes c.args.property)) c.in-Ok-Some.field-0-is c.in-Ok-Some.ensures.name in
@@ -38,8 +38,8 @@ returns-in-None-clause-told g c =
     (subst (λ (l : List ℕ). IsLookedUp (nodes_of doc) l (children_at (nodes_of doc) c.number.result) (Once c.in-Ok-Once.only)) (ap chars c.deref.ensures) there) in
     valueless doc doc.tree.tree c.args.object c.requires.object c.args.property v named c.in-Ok-Once.only found (sym c.in-None.is ∙ c.value_under.ensures.value)
 
-pub returns-in-Ok-Missing-clause-told : goal.returns-in-Ok-Missing-clause-told
-returns-in-Ok-Missing-clause-told g c =
+pub returns-in-Ok-Missing-clause-token : goal.returns-in-Ok-Missing-clause-token
+returns-in-Ok-Missing-clause-token g c =
     let doc = c.args.doc.now in
     let v : List ℕ = chars_of c.in-Ok-Some.name in
     let read = subst (NameReads (HasName c.tree.result.now.nodes c.args.property)) c.in-Ok-Some.field-0-is c.in-Ok-Some.ensures.name in
@@ -49,8 +49,8 @@ returns-in-Ok-Missing-clause-told g c =
     (subst (λ (l : List ℕ). IsLookedUp (nodes_of doc) l (children_at (nodes_of doc) c.number.result) Missing) (ap chars c.deref.ensures) there) in
     missing doc doc.tree.tree c.args.object c.requires.object c.args.property v named found
 
-pub returns-in-Ok-Twice-clause-told : goal.returns-in-Ok-Twice-clause-told
-returns-in-Ok-Twice-clause-told g c =
+pub returns-in-Ok-Twice-clause-token : goal.returns-in-Ok-Twice-clause-token
+returns-in-Ok-Twice-clause-token g c =
     let doc = c.args.doc.now in
     let v : List ℕ = chars_of c.in-Ok-Some.name in
     let read = subst (NameReads (HasName c.tree.result.now.nodes c.args.property)) c.in-Ok-Some.field-0-is c.in-Ok-Some.ensures.name in

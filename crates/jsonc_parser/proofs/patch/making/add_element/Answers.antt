@@ -18,15 +18,15 @@ pub returns-in_default-clause-fails : goal.returns-in_default-clause-fails
 returns-in_default-clause-fails g c =
     let doc = c.args.doc.now in
     let token = chars c.args.token.now in
-    let told = subst (λ (o : Option (Option ℕ)). IsPlaceBy (nodes_of doc) c.number.result token o) c.in_default.is c.element_place.ensures in
-    no_place doc doc.tree.tree c.args.array (tokens_of c.args.pointer.now) token (plain c.args.value) c.requires.array (subst (λ (n : ℕ). IsPlaceBy (nodes_of doc) n token None) c.number.ensures told)
+    let reported = subst (λ (o : Option (Option ℕ)). IsPlaceBy (nodes_of doc) c.number.result token o) c.in_default.is c.element_place.ensures in
+    no_place doc doc.tree.tree c.args.array (tokens_of c.args.pointer.now) token (plain c.args.value) c.requires.array (subst (λ (n : ℕ). IsPlaceBy (nodes_of doc) n token None) c.number.ensures reported)
 
 pub returns-in-Ok-edit-clause-made : goal.returns-in-Ok-edit-clause-made
 returns-in-Ok-edit-clause-made g c =
     let doc = c.args.doc.now in
     let token = chars c.args.token.now in
-    let told = subst (λ (n : ℕ). IsPlaceBy (nodes_of doc) n token c.element_place.result) c.number.ensures c.element_place.ensures in
-    let place = subst (λ (o : Option (Option ℕ)). IsPlaceBy (nodes_of doc) (number_of c.args.array) token o) c.in-Some.is told in
+    let reported = subst (λ (n : ℕ). IsPlaceBy (nodes_of doc) n token c.element_place.result) c.number.ensures c.element_place.ensures in
+    let place = subst (λ (o : Option (Option ℕ)). IsPlaceBy (nodes_of doc) (number_of c.args.array) token o) c.in-Some.is reported in
     let index = subst (λ (o : Option ℕ). IsPlaceBy (nodes_of doc) (number_of c.args.array) token (Some o)) c.in-Some-place.is place in
     inserts_at doc c.edit.new.doc doc.tree.tree c.edit.new.doc.tree.tree c.args.array c.in-Ok.path c.in-Ok.ensures.at c.args.value (tokens_of c.args.pointer.now) token c.in-Some-place.index c.requires.array index c.in-Ok-edit.ensures.made
 
@@ -39,8 +39,8 @@ pub returns-in-Ok-edit-2-clause-made : goal.returns-in-Ok-edit-2-clause-made
 returns-in-Ok-edit-2-clause-made g c =
     let doc = c.args.doc.now in
     let token = chars c.args.token.now in
-    let told = subst (λ (n : ℕ). IsPlaceBy (nodes_of doc) n token c.element_place.result) c.number.ensures c.element_place.ensures in
-    let place = subst (λ (o : Option (Option ℕ)). IsPlaceBy (nodes_of doc) (number_of c.args.array) token o) c.in-Some.is told in
+    let reported = subst (λ (n : ℕ). IsPlaceBy (nodes_of doc) n token c.element_place.result) c.number.ensures c.element_place.ensures in
+    let place = subst (λ (o : Option (Option ℕ)). IsPlaceBy (nodes_of doc) (number_of c.args.array) token o) c.in-Some.is reported in
     let last = subst (λ (o : Option ℕ). IsPlaceBy (nodes_of doc) (number_of c.args.array) token (Some o)) c.in-None.is place in
     appends_at doc c.edit-in-None.new.doc doc.tree.tree c.edit-in-None.new.doc.tree.tree c.args.array c.in-Ok.path c.in-Ok.ensures.at c.args.value (tokens_of c.args.pointer.now) token last c.in-Ok-edit-2.ensures.made
 

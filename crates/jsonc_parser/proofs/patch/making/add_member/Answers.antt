@@ -17,24 +17,24 @@ pub returns-in-Ok-Some-clause-made : goal.returns-in-Ok-Some-clause-made
 returns-in-Ok-Some-clause-made g c =
     let doc = c.args.doc.now in
     let all = tokens_of c.args.pointer.now in
-    let told = subst (λ (o : Option CstNode). IsOfShown doc (λ d. Finds d doc (names_of c.tokens.result.now) o)) c.in-Ok-Some.field-0-is c.in-Ok-Some.ensures.found in
-    let found = subst (λ (l : List (List ℕ)). IsOfShown doc (λ d. Finds d doc l (Some c.in-Ok-Some.node))) c.tokens.ensures told in
+    let reported = subst (λ (o : Option CstNode). IsOfShown doc (λ d. Finds d doc (names_of c.tokens.result.now) o)) c.in-Ok-Some.field-0-is c.in-Ok-Some.ensures.found in
+    let found = subst (λ (l : List (List ℕ)). IsOfShown doc (λ d. Finds d doc l (Some c.in-Ok-Some.node))) c.tokens.ensures reported in
     on_ok c.put_value.result (member_put doc c.put_value.new.doc c.args.object all (chars c.args.name.now) (plain c.args.value) c.in-Ok-Some.node c.requires.object found) c.put_value.ensures.made
 
 pub returns-in-Ok-Some-clause-fails : goal.returns-in-Ok-Some-clause-fails
 returns-in-Ok-Some-clause-fails g c =
     let doc = c.args.doc.now in
     let all = tokens_of c.args.pointer.now in
-    let told = subst (λ (o : Option CstNode). IsOfShown doc (λ d. Finds d doc (names_of c.tokens.result.now) o)) c.in-Ok-Some.field-0-is c.in-Ok-Some.ensures.found in
-    let found = subst (λ (l : List (List ℕ)). IsOfShown doc (λ d. Finds d doc l (Some c.in-Ok-Some.node))) c.tokens.ensures told in
+    let reported = subst (λ (o : Option CstNode). IsOfShown doc (λ d. Finds d doc (names_of c.tokens.result.now) o)) c.in-Ok-Some.field-0-is c.in-Ok-Some.ensures.found in
+    let found = subst (λ (l : List (List ℕ)). IsOfShown doc (λ d. Finds d doc l (Some c.in-Ok-Some.node))) c.tokens.ensures reported in
     if_err c.put_value.result (λ cause short. member_not_put doc doc.tree.tree c.args.object all (chars c.args.name.now) (plain c.args.value) c.in-Ok-Some.node cause found short) c.put_value.ensures.fails
 
 pub returns-in-Ok-None-clause-made : goal.returns-in-Ok-None-clause-made
 returns-in-Ok-None-clause-made g c =
     let doc = c.args.doc.now in
     let all = tokens_of c.args.pointer.now in
-    let told = subst (λ (o : Option CstNode). IsOfShown doc (λ d. Finds d doc (names_of c.tokens.result.now) o)) c.in-Ok-None.field-0-is c.in-Ok-None.ensures.found in
-    let none = subst (λ (l : List (List ℕ)). IsOfShown doc (λ d. Finds d doc l None)) c.tokens.ensures told in
+    let reported = subst (λ (o : Option CstNode). IsOfShown doc (λ d. Finds d doc (names_of c.tokens.result.now) o)) c.in-Ok-None.field-0-is c.in-Ok-None.ensures.found in
+    let none = subst (λ (l : List (List ℕ)). IsOfShown doc (λ d. Finds d doc l None)) c.tokens.ensures reported in
     on_ok c.append_member.result (member_appended doc c.append_member.new.doc c.args.object all (chars c.args.name.now) (plain c.args.value) none) c.append_member.ensures.made
 
 pub returns-in-Ok-None-clause-fails : goal.returns-in-Ok-None-clause-fails

@@ -51,7 +51,7 @@ merge_object-returns-in-Ok-true-clause-merged g t c =
     let doc = c.args.doc.now in
     let tokens = tokens_of c.args.pointer.now in
     let ms = members_plain c.args.members.now in
-    let at = object_so doc _ tokens c.tokens.ensures _ c.in-Ok-true.ensures.told c.in-Ok-true.field-0-test in
+    let at = object_so doc _ tokens c.tokens.ensures _ c.in-Ok-true.ensures.decided c.in-Ok-true.field-0-test in
     on_ok_weaker c.merge_members.result
     (λ m is. merged_value doc c.merge_members.new.doc tokens (plain c.args.patch.now) (object ms) is (merged_inside doc c.merge_members.new.doc tokens ms at m)) c.merge_members.ensures.merged
 
@@ -60,7 +60,7 @@ merge_object-returns-in-Ok-true-clause-fails g t c =
     let doc = c.args.doc.now in
     let tokens = tokens_of c.args.pointer.now in
     let ms = members_plain c.args.members.now in
-    let at = object_so doc _ tokens c.tokens.ensures _ c.in-Ok-true.ensures.told c.in-Ok-true.field-0-test in
+    let at = object_so doc _ tokens c.tokens.ensures _ c.in-Ok-true.ensures.decided c.in-Ok-true.field-0-test in
     IfErr-weaker c.merge_members.result _ _
     (λ cause fails is. failed_value doc c.merge_members.new.doc tokens (plain c.args.patch.now) (object ms) cause is (stopped_inside doc c.merge_members.new.doc tokens ms cause at fails)) c.merge_members.ensures.fails
 
@@ -69,7 +69,7 @@ merge_object-returns-in-Ok-false-clause-merged g t c =
     let doc = c.args.doc.now in
     let tokens = tokens_of c.args.pointer.now in
     on_ok_weaker c.set_value.result
-    (λ m is. merged_set doc c.set_value.new.doc tokens (plain c.args.patch.now) (no_object_so doc _ tokens c.tokens.ensures _ c.in-Ok-false.ensures.told (plain c.args.patch.now) c.in-Ok-false.field-0-test) m) c.set_value.ensures.set
+    (λ m is. merged_set doc c.set_value.new.doc tokens (plain c.args.patch.now) (no_object_so doc _ tokens c.tokens.ensures _ c.in-Ok-false.ensures.decided (plain c.args.patch.now) c.in-Ok-false.field-0-test) m) c.set_value.ensures.set
 
 pub merge_object-returns-in-Ok-false-clause-fails : goal.merge_object-returns-in-Ok-false-clause-fails
 merge_object-returns-in-Ok-false-clause-fails g t c =

@@ -6,15 +6,15 @@ use Rattle.jsonc_parser.specs.paths.Found.{names_of}
 use Rattle.jsonc_parser.proofs.lemmas.patch.MergeChains.{found_twice, no_node, object_told}
 use Rattle.jsonc_parser.proofs.patch.merging.is_object.Goals as goal
 
-pub returns-in-Ok-Some-clause-told : goal.returns-in-Ok-Some-clause-told
-returns-in-Ok-Some-clause-told g c =
+pub returns-in-Ok-Some-clause-decided : goal.returns-in-Ok-Some-clause-decided
+returns-in-Ok-Some-clause-decided g c =
     let doc = c.args.doc.now in
     let found = subst (λ (o : Option CstNode). IsOfShown doc (λ d. Finds d doc (names_of c.args.tokens.now) o)) c.in-Ok-Some.field-0-is c.in-Ok-Some.ensures.found in
     let held = subst (λ (o : Option CstNode). IfSome o (HasNode doc)) c.in-Ok-Some.field-0-is c.in-Ok-Some.ensures.in_document in
     object_told doc doc.tree.tree (names_of c.args.tokens.now) c.in-Ok-Some.node held c.as_object.result c.as_object.ensures c.is_some.result c.is_some.ensures found
 
-pub returns-in-Ok-None-clause-told : goal.returns-in-Ok-None-clause-told
-returns-in-Ok-None-clause-told g c =
+pub returns-in-Ok-None-clause-decided : goal.returns-in-Ok-None-clause-decided
+returns-in-Ok-None-clause-decided g c =
     let doc = c.args.doc.now in
     no_node doc (names_of c.args.tokens.now) (subst (λ (o : Option CstNode). IsOfShown doc (λ d. Finds d doc (names_of c.args.tokens.now) o)) c.in-Ok-None.field-0-is c.in-Ok-None.ensures.found)
 

@@ -11,14 +11,14 @@ pub returns-in-Ok-true-clause-set : goal.returns-in-Ok-true-clause-set
 returns-in-Ok-true-clause-set g c =
     let doc = c.args.doc.now in
     let tokens = tokens_of c.args.pointer.now in
-    set_same doc doc tokens (plain c.args.patch.now) refl (there_so doc tokens (plain c.args.patch.now) (plain c.in-Ok.new) c.in-Ok.ensures _ c.in-Ok-true.ensures.told c.in-Ok-true.field-0-test)
+    set_same doc doc tokens (plain c.args.patch.now) refl (there_so doc tokens (plain c.args.patch.now) (plain c.in-Ok.new) c.in-Ok.ensures _ c.in-Ok-true.ensures.decided c.in-Ok-true.field-0-test)
 
 pub returns-in-Ok-add-clause-set : goal.returns-in-Ok-add-clause-set
 returns-in-Ok-add-clause-set g c =
     let doc = c.args.doc.now in
     let tokens = tokens_of c.args.pointer.now in
     set_other doc c.add.new.doc tokens (plain c.args.patch.now) (plain c.in-Ok.new) c.in-Ok.ensures
-    (not_there doc tokens (plain c.args.patch.now) (plain c.in-Ok.new) c.in-Ok.ensures _ c.in-Ok-false.ensures.told c.in-Ok-false.field-0-test) c.in-Ok-add.ensures.made
+    (not_there doc tokens (plain c.args.patch.now) (plain c.in-Ok.new) c.in-Ok.ensures _ c.in-Ok-false.ensures.decided c.in-Ok-false.field-0-test) c.in-Ok-add.ensures.made
 
 pub returns-in-Err-clause-fails : goal.returns-in-Err-clause-fails
 returns-in-Err-clause-fails g c = λ d shown place. c.in-Err.ensures.fails d shown

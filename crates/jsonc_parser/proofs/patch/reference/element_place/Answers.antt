@@ -20,11 +20,11 @@ returns-then-index-eq0 g c = first_place (nodes_of c.args.doc.now) c.args.doc.no
 pub returns-then-is_none : goal.returns-then-is_none
 returns-then-is_none g c =
     let missing = none_of c.element_at.result (c.is_none.ensures ∙ ap not c.if-is_none.true) in
-    let told = c.element_at.ensures.element ∙ ap (λ ns. slice_get (elements_at ns c.args.node) (c.in-Some.index - 1)) c.tree-tree.ensures in
-    past_place (nodes_of c.args.doc.now) c.args.doc.now.tree.tree c.args.node (chars c.args.token.now) c.in-Some.index (λ e. false≢true (sym c.if-is_hyphen.false ∙ c.is_hyphen.ensures.1 e)) c.in-Some.ensures.some.0 c.if-index-eq0.false (sym told ∙ missing)
+    let reported = c.element_at.ensures.element ∙ ap (λ ns. slice_get (elements_at ns c.args.node) (c.in-Some.index - 1)) c.tree-tree.ensures in
+    past_place (nodes_of c.args.doc.now) c.args.doc.now.tree.tree c.args.node (chars c.args.token.now) c.in-Some.index (λ e. false≢true (sym c.if-is_hyphen.false ∙ c.is_hyphen.ensures.1 e)) c.in-Some.ensures.some.0 c.if-index-eq0.false (sym reported ∙ missing)
 
 pub returns : goal.returns
 returns g c =
     let there = some_of c.element_at.result (c.is_none.ensures ∙ ap not c.if-is_none.false) in
-    let told = c.element_at.ensures.element ∙ ap (λ ns. slice_get (elements_at ns c.args.node) (c.in-Some.index - 1)) c.tree-tree.ensures in
-    next_place (nodes_of c.args.doc.now) c.args.doc.now.tree.tree c.args.node (chars c.args.token.now) c.in-Some.index there.0 c.in-Some.ensures.some.0 (sym told ∙ there.1)
+    let reported = c.element_at.ensures.element ∙ ap (λ ns. slice_get (elements_at ns c.args.node) (c.in-Some.index - 1)) c.tree-tree.ensures in
+    next_place (nodes_of c.args.doc.now) c.args.doc.now.tree.tree c.args.node (chars c.args.token.now) c.in-Some.index there.0 c.in-Some.ensures.some.0 (sym reported ∙ there.1)

@@ -23,8 +23,8 @@ loop-child-preserved-then-not-branch g c =
     record {
       in_tree = rest_there ns c.loop-child.child-iterator c.in-Some.child c.next.new.self steps c.loop-child.invariant.in_tree;
       held = c.loop-child.invariant.held;
-      told = λ told further. c.loop-child.invariant.told told
-          (further_past ns v c.loop-child.child-iterator c.in-Some.child c.next.new.self steps (λ named. false≢true (sym c.if-not-branch.true ∙ c.in_ok-is_named.ensures.named.1 (subst (λ (l : List Node). IsNamed l v c.in-Some.child) (sym c.tree-tree.ensures) named))) c.loop-child.found told further);
+      determined = λ lookup further. c.loop-child.invariant.determined lookup
+          (further_past ns v c.loop-child.child-iterator c.in-Some.child c.next.new.self steps (λ named. false≢true (sym c.if-not-branch.true ∙ c.in_ok-is_named.ensures.named.1 (subst (λ (l : List Node). IsNamed l v c.in-Some.child) (sym c.tree-tree.ensures) named))) c.loop-child.found lookup further);
       escaped = λ rest. c.loop-child.invariant.escaped (escaped_later ns v c.loop-child.child-iterator c.in-Some.child c.next.new.self steps rest);
     }
 
@@ -33,7 +33,7 @@ returns-then-is_some-clause-found g c =
     let ns = nodes_of c.args.doc.now in
     let v = chars c.args.name.now in
     let named = subst (λ (l : List Node). IsNamed l v c.in-Some.child) c.tree-tree.ensures (c.in_ok-is_named.ensures.named.0 c.if-not-branch.false) in
-    c.loop-child.invariant.told Twice
+    c.loop-child.invariant.determined Twice
     (further_second ns v c.loop-child.child-iterator c.in-Some.child c.next.new.self c.in-Some.ensures.steps named c.loop-child.found (sym c.is_some.ensures ∙ c.if-is_some.true))
 
 pub loop-child-preserved : goal.loop-child-preserved
@@ -45,8 +45,8 @@ loop-child-preserved g c =
     record {
       in_tree = rest_there ns c.loop-child.child-iterator c.in-Some.child c.next.new.self steps c.loop-child.invariant.in_tree;
       held = subst (AreThere ns) steps c.loop-child.invariant.in_tree 0 0 (omega arith);
-      told = λ told further. c.loop-child.invariant.told told
-          (further_once ns v c.loop-child.child-iterator c.in-Some.child c.next.new.self steps named c.loop-child.found (sym c.is_some.ensures ∙ c.if-is_some.false) told further);
+      determined = λ lookup further. c.loop-child.invariant.determined lookup
+          (further_once ns v c.loop-child.child-iterator c.in-Some.child c.next.new.self steps named c.loop-child.found (sym c.is_some.ensures ∙ c.if-is_some.false) lookup further);
       escaped = λ rest. c.loop-child.invariant.escaped (escaped_later ns v c.loop-child.child-iterator c.in-Some.child c.next.new.self steps rest);
     }
 
@@ -55,12 +55,12 @@ returns-in-Some-found-clause-found g c =
     let ns = nodes_of c.args.doc.now in
     let v = chars c.args.name.now in
     let child = c.in-Some-found.child in
-    c.loop-child.invariant.told (Once child)
+    c.loop-child.invariant.determined (Once child)
     (subst (λ (o : Option ℕ). IsLookedFurther ns v o c.loop-child.child-iterator (Once child)) (sym c.in-Some-found.is) (further_one ns v c.loop-child.child-iterator child c.in-None.ensures.steps.0))
 
 pub returns-in-None-found-clause-found : goal.returns-in-None-found-clause-found
 returns-in-None-found-clause-found g c =
     let ns = nodes_of c.args.doc.now in
     let v = chars c.args.name.now in
-    c.loop-child.invariant.told Missing
+    c.loop-child.invariant.determined Missing
     (subst (λ (o : Option ℕ). IsLookedFurther ns v o c.loop-child.child-iterator Missing) (sym c.in-None-found.is) (further_none ns v c.loop-child.child-iterator c.in-None.ensures.steps.0))

@@ -14,6 +14,6 @@ invariant-loop-child g l =
     record {
       in_tree : AreThere ns l.child-iterator;
       held : IsThere ns l.found;
-      told : (told : Lookup) → IsLookedFurther ns (chars l.name) l.found l.child-iterator told → IsLookedUp ns (chars l.name) (children_at ns l.object) told;
+      determined : (lookup : Lookup) → IsLookedFurther ns (chars l.name) l.found l.child-iterator lookup → IsLookedUp ns (chars l.name) (children_at ns l.object) lookup;
       escaped : AnyEscaped ns l.child-iterator → AnyEscaped ns (children_at ns l.object);
     }

@@ -2,7 +2,7 @@ use Rattle.std.proofs.Common.{◌≡◌, ◌∙◌, ◌<◌, ◌≤◌, [], ap, 
 use Rattle.std.proofs.lemmas.List.{length-map}
 use Rattle.jsonc_layout.specs.input.Views.{chars_of, members_plain}
 use Rattle.jsonc_parser.proofs.lemmas.patch.Equality.{name_bytes}
-use Rattle.jsonc_parser.proofs.lemmas.patch.MergeNames.{names_differ, repeated_name, tells_repeated}
+use Rattle.jsonc_parser.proofs.lemmas.patch.MergeNames.{names_differ, repeated_name, reports_repeated}
 use Rattle.jsonc_parser.proofs.lemmas.patch.SeenNames.{absent, bytes_of, name_at, one_distinct, one_seen, present, seen_earlier, unseen}
 use Rattle.jsonc_parser.proofs.patch.unique.see_names.Goals as goal
 
@@ -19,7 +19,7 @@ returns-then-not-added-clause-repeated g c =
     let name = c.member-item.result.0 in
     let at : get_or (map name_bytes ps) i [] ≡ string_bytes name = name_at name_bytes ps i c.member-item.result l c.member-item.is in
     let h = seen_earlier (map name_bytes ps) i c.loop-member.seen.keys c.as_str-name.result c.loop-member.invariant.keys many there in
-    tells_repeated (members_plain ps) (chars_of name) c.repeated.result (rw (sym c.as_str-name.ensures.value) c.repeated.ensures)
+    reports_repeated (members_plain ps) (chars_of name) c.repeated.result (rw (sym c.as_str-name.ensures.value) c.repeated.ensures)
     (repeated_name ps name h.0 i h.1 l (h.2 ∙ c.as_str-name.ensures.value) at)
 
 pub loop-member-preserved : goal.loop-member-preserved

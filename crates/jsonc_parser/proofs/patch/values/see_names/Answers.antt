@@ -1,6 +1,6 @@
 use Rattle.std.proofs.Common.{◌≡◌, ◌∙◌, ◌<◌, ◌≤◌, [], ap, arith, chars, get_or, length, map, sym}
 use Rattle.std.proofs.lemmas.List.{length-map}
-use Rattle.jsonc_parser.proofs.lemmas.patch.PatchValues.{names_differ, prop_name, repeated_name, tells_repeated}
+use Rattle.jsonc_parser.proofs.lemmas.patch.PatchValues.{names_differ, prop_name, repeated_name, reports_repeated}
 use Rattle.jsonc_parser.proofs.lemmas.patch.SeenNames.{absent, bytes_of, name_at, one_distinct, one_seen, one_text, present, seen_earlier, unseen}
 use Rattle.jsonc_parser.specs.patch.PatchReading.{said}
 use Rattle.jsonc_parser.proofs.patch.values.see_names.Goals as goal
@@ -18,7 +18,7 @@ returns-then-not-added-clause-repeated g c =
     let name = c.as_str-name.result.now in
     let at : get_or (map prop_name ps) i [] ≡ name = name_at prop_name ps i c.property-item.result l c.property-item.is ∙ sym c.as_str-name.ensures in
     let h = seen_earlier (map prop_name ps) i c.loop-property.seen.keys c.as_str-name.result c.loop-property.invariant.keys many there in
-    tells_repeated (said ps) (chars name) c.repeated.result c.repeated.ensures
+    reports_repeated (said ps) (chars name) c.repeated.result c.repeated.ensures
     (repeated_name ps name h.0 i h.1 l c.as_str-name.utf8 (one_text (map prop_name ps) i name at c.loop-property.invariant.texts c.as_str-name.utf8) h.2 at)
 
 pub loop-property-preserved : goal.loop-property-preserved

@@ -1,6 +1,6 @@
 use Rattle.std.proofs.Common.{true}
 use Rattle.jsonc_text.specs.Plain.{Plain}
-use Rattle.jsonc_parser.specs.paths.Settings.{Put, this_becomes, is_there, changes_inside, this_leaves, entry_leaves, this_one, in_object, itself}
+use Rattle.jsonc_parser.specs.paths.Settings.{Put, this_becomes, is_there, changes_inside, this_removed, property_dropped, this_one, in_object, itself}
 use Rattle.jsonc_parser.specs.paths.Worked.{a, both}
 use Rattle.jsonc_parser.proofs.lemmas.paths.UniqueValues.{put_once}
 use Rattle.jsonc_parser.proofs.paths.laws.worked_equal_names.Goals as goal
@@ -14,8 +14,8 @@ returns-clause-not_last c = λ how p.
     let e = put_once q p in
     cc
 
-pub returns-clause-leaves : goal.returns-clause-leaves
-returns-clause-leaves c = λ v w. entry_leaves this_leaves
+pub returns-clause-removed : goal.returns-clause-removed
+returns-clause-removed c = λ v w. property_dropped this_removed
 
 pub returns-clause-shows : goal.returns-clause-shows
 returns-clause-shows c = λ w. in_object this_one itself

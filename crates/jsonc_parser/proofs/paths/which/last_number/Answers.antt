@@ -17,7 +17,7 @@ loop-child-init g c =
     record {
       in_tree = subst (λ (l : List Node). AreThere l c.into_iter-child-iterator.result) c.tree-tree.ensures (subst (AreThere c.tree-tree.result.now.nodes) (sym c.into_iter-child-iterator.ensures.into_iter_gives) c.children_from-child-items.ensures.in_tree);
       held = tt;
-      told = λ last further. last_of_all ns v (children_at ns c.args.object) last (subst (λ (r : List ℕ). LastFrom ns v None r last) row further);
+      determined = λ last further. last_of_all ns v (children_at ns c.args.object) last (subst (λ (r : List ℕ). LastFrom ns v None r last) row further);
       escaped = λ any. subst (AnyEscaped ns) row any;
     }
 
@@ -34,7 +34,7 @@ loop-child-preserved-then-not-branch g c =
     record {
       in_tree = rest_there ns c.loop-child.child-iterator c.in-Some.child c.next.new.self steps c.loop-child.invariant.in_tree;
       held = c.loop-child.invariant.held;
-      told = λ last further. c.loop-child.invariant.told last
+      determined = λ last further. c.loop-child.invariant.determined last
           (past_another ns v c.loop-child.child-iterator c.in-Some.child c.next.new.self steps (λ named. false≢true (sym c.if-not-branch.true ∙ c.in_ok-is_named.ensures.named.1 (subst (λ (l : List Node). IsNamed l v c.in-Some.child) (sym c.tree-tree.ensures) named))) c.loop-child.found last further);
       escaped = λ rest. c.loop-child.invariant.escaped (escaped_later ns v c.loop-child.child-iterator c.in-Some.child c.next.new.self steps rest);
     }
@@ -48,9 +48,9 @@ loop-child-preserved g c =
     record {
       in_tree = rest_there ns c.loop-child.child-iterator c.in-Some.child c.next.new.self steps c.loop-child.invariant.in_tree;
       held = subst (AreThere ns) steps c.loop-child.invariant.in_tree 0 0 (omega arith);
-      told = λ last further. c.loop-child.invariant.told last (past_named ns v c.loop-child.child-iterator c.in-Some.child c.next.new.self steps named c.loop-child.found last further);
+      determined = λ last further. c.loop-child.invariant.determined last (past_named ns v c.loop-child.child-iterator c.in-Some.child c.next.new.self steps named c.loop-child.found last further);
       escaped = λ rest. c.loop-child.invariant.escaped (escaped_later ns v c.loop-child.child-iterator c.in-Some.child c.next.new.self steps rest);
     }
 
 pub returns-clause-found : goal.returns-clause-found
-returns-clause-found g c = c.loop-child.invariant.told c.loop-child.found (none_to_come (nodes_of c.args.doc.now) (chars c.args.name.now) c.loop-child.found c.loop-child.child-iterator c.in-None.ensures.steps.0)
+returns-clause-found g c = c.loop-child.invariant.determined c.loop-child.found (none_to_come (nodes_of c.args.doc.now) (chars c.args.name.now) c.loop-child.found c.loop-child.child-iterator c.in-None.ensures.steps.0)

@@ -13,6 +13,6 @@ invariant-loop-child g l =
     record {
       in_tree : AreThere ns l.child-iterator;
       held : IsThere ns l.found;
-      told : (last : Option ℕ) → LastFrom ns (chars l.name) l.found l.child-iterator last → LastNamed ns (chars l.name) (children_at ns l.object) last;
+      determined : (last : Option ℕ) → LastFrom ns (chars l.name) l.found l.child-iterator last → LastNamed ns (chars l.name) (children_at ns l.object) last;
       escaped : AnyEscaped ns l.child-iterator → AnyEscaped ns (children_at ns l.object);
     }

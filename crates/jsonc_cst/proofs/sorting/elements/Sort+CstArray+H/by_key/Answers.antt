@@ -13,8 +13,8 @@ returns-clause-sorted g c =
     let groups = c.args.self.groups in
     let node = array_node c.args.self.container in
     let pinned : CstNode → List (Option CstNode) → List (Option ℕ) → Type 0 = λ n xs ps. g.H.HeaderRule.pins c.args.self.rule doc n xs ps in
-    let wanted : CstNode → List (Option CstNode) → List ℕ → Type 0 = λ n xs order. IsInKeyOrder g.F.Fn c.args.key (g.D.DocumentArg.same doc) g.K.Ord.cmp xs (starts_of doc n groups) order in
-    wired doc c.sort_by_key.new.doc groups pinned wanted node c.node.result c.node-2.result (elements_asked doc node) c.deref.result.now c.deref-2.result.now c.in_ok-pins.pins.items c.deref-3.result.now c.sort_by_key.result
+    let required : CstNode → List (Option CstNode) → List ℕ → Type 0 = λ n xs order. IsInKeyOrder g.F.Fn c.args.key (g.D.DocumentArg.same doc) g.K.Ord.cmp xs (starts_of doc n groups) order in
+    wired doc c.sort_by_key.new.doc groups pinned required node c.node.result c.node-2.result (elements_asked doc node) c.deref.result.now c.deref-2.result.now c.in_ok-pins.pins.items c.deref-3.result.now c.sort_by_key.result
     c.node.ensures c.node-2.ensures (c.deref.ensures.value ∙ c.in_ok-nodes.ensures.nodes) (c.deref-2.ensures.value ∙ c.in_ok-nodes.ensures.nodes) c.deref-3.ensures.value c.in_ok-pins.ensures.pins c.sort_by_key.ensures.sorted
 
 pub returns-clause-refused : goal.returns-clause-refused

@@ -2,7 +2,7 @@ use Rattle.std.proofs.Common.{◌≡◌, ◌++◌}
 use Rattle.std.specs.List.{take_while}
 use Rattle.jsonc_layout.specs.nodes.Siblings.{siblings_after}
 use Rattle.jsonc_cst.proofs.lemmas.comments.Gaps.{no_element}
-use Rattle.jsonc_cst.proofs.cst.comments.gap_behind.Given as goal
+use Rattle.jsonc_cst.proofs.cst.comments.gap_after.Given as goal
 
 abbrev pub invariant-loop-sibling : goal.invariant-loop-sibling
 invariant-loop-sibling g l =

@@ -3,7 +3,7 @@ use Rattle.std.specs.List.{take_while}
 use Rattle.jsonc_layout.proofs.lemmas.nodes.Walks.{all_pushed, pushed_on}
 use Rattle.jsonc_layout.specs.nodes.Siblings.{siblings_after}
 use Rattle.jsonc_cst.proofs.lemmas.comments.Gaps.{gap_ends, gap_more, no_element}
-use Rattle.jsonc_cst.proofs.cst.comments.gap_behind.Goals as goal
+use Rattle.jsonc_cst.proofs.cst.comments.gap_after.Goals as goal
 
 pub returns-then-is_element : goal.returns-then-is_element
 returns-then-is_element g c =

@@ -1,4 +1,4 @@
--- What stands at names in a document that a tree shows, as a node of the tree.
+-- What is at names in a document that a tree shows, as a node of the tree.
 use Rattle.std.specs.Prelude.{◌≡◌, ◌≢◌, ◌++◌, [], ◌∷◌, ℕ, List, Some, None, filter, length}
 use Rattle.jsonc_text.specs.Documents.{Document}
 use Rattle.jsonc_text.specs.Plain.{Plain, Members}
@@ -19,22 +19,22 @@ use Rattle.jsonc_parser.specs.paths.Positions.{Leads}
 use Rattle.jsonc_parser.specs.paths.Which.{IsChosenIn, seen, seen_if}
 use Rattle.jsonc_parser.specs.declared.paths.which.Which.{Which}
 
--- In the document's value, as it is seen, v stands at the names; and over the positions that these lead over stands the node n, which has v.
+-- In the document's value, as it is seen, v is at the names; and over the positions that these lead over is the node n, which has v.
 pub record NamesNode (which : Which) (d : Document) (ns : List Node) (names : List (List ℕ)) (n : ℕ) : Type 0 where
   pub value : Plain
   pub is : d.value ≡ Some value
   pub v : Plain
   pub path : List ℕ
   pub leads : Leads which names path value v
-  pub stands : At (seen_if which d.value) names (seen which v)
+  pub there : At (seen_if which d.value) names (seen which v)
   pub at : IsAt ns path n
   pub has : HasValue d.options (top_at ns n) v
 
--- nothing stands at the names in the document's value
+-- nothing is at the names in the document's value
 abbrev pub NamesNothing : Which → Document → List (List ℕ) → Type 0
 NamesNothing which d names = (v : Plain) → At (seen_if which d.value) names v → ⊥
 
--- the value's node is what no names lead to; in a document without a value nothing stands at any names
+-- the value's node is what no names lead to; in a document without a value nothing is at any names
 pub record BeginsIn (which : Which) (d : Document) (ns : List Node) : Type 0 where
   pub some : (n : ℕ) → value_at ns 0 ≡ Some n → NamesNode which d ns [] n
   pub none : value_at ns 0 ≡ None → d.value ≡ None
@@ -42,7 +42,7 @@ pub record BeginsIn (which : Which) (d : Document) (ns : List Node) : Type 0 whe
 abbrev pub BeginsThere : Which → Document → List Node → Type 0
 BeginsThere which d ns = IsTree ns → Shows d (ordered_tree ns 0) → BeginsIn which d ns
 
--- from a node that is no object no name leads on: its value is none, and nothing stands at further names
+-- from a node that is no object no name leads on: its value is none, and nothing is at further names
 pub record StopsIn (which : Which) (d : Document) (ns : List Node) (names : List (List ℕ)) (w : Plain) : Type 0 where
   pub another : IsNoObject w
   pub nothing : (name : List ℕ) (rest : List (List ℕ)) → NamesNothing which d (names ++ name ∷ rest)
@@ -51,7 +51,7 @@ abbrev pub StopsThere : Which → Document → List Node → List (List ℕ) →
 StopsThere which d ns names n = IsTree ns → Shows d (ordered_tree ns 0) → (w : NamesNode which d ns names n) → content_at ns n ≢ object → StopsIn which d ns names w.v
 
 -- from an object a name leads to the value of the first property of the name, or the last, which is the element of the number that the path goes on with; and where none has
--- the name its value lacks it, and nothing stands at further names
+-- the name its value lacks it, and nothing is at further names
 pub record LeadsOnIn (which : Which) (d : Document) (ns : List Node) (names : List (List ℕ)) (n : ℕ) (name : List ℕ) (w : NamesNode which d ns names n) : Type 0 where
   pub lacks : IsChosenIn which ns n name None → (ms : Members) × (w.v ≡ plain.object ms) × LacksMember name ms
   pub nothing : IsChosenIn which ns n name None → (rest : List (List ℕ)) → NamesNothing which d (names ++ name ∷ rest)
@@ -63,7 +63,7 @@ abbrev pub LeadsOn : Which → Document → List Node → List (List ℕ) → �
 LeadsOn which d ns names n name =
     IsTree ns → Shows d (ordered_tree ns 0) → (w : NamesNode which d ns names n) → content_at ns n ≡ object → LeadsOnIn which d ns names n name w
 
--- how many properties stand before a property among its siblings
+-- how many properties are before a property among its siblings
 abbrev pub properties_before : List Node → ℕ → ℕ
 properties_before ns r = length (filter (λ n. is_property (content_at ns n)) (siblings_before ns r))
 
