@@ -5,7 +5,6 @@ use crate::tests::refusals::{is_of_memory, outcome_of};
 use crate::tests::rows::Row;
 use failing_alloc::in_turn::answers_in_turn;
 use failing_alloc::outcome::Outcome;
-use jsonc_parser::{ParseOptions, parse_to_value};
 use jsonc_patch_engine::command::Command;
 use jsonc_patch_engine::engine::run_on;
 use std::alloc::Allocator;
@@ -30,19 +29,6 @@ fn each_patch_writes_the_text_of_its_row(rt: HostRuntime) -> Result<(), Fail> {
     Ok(())
 }
 
-/// Two texts have one value.
-fn have_one_value<'a, A: Allocator + Copy>(heap: A, one: &'a str, other: &'a str) -> Outcome {
-    let options = ParseOptions::default();
-    let one = match parse_to_value(heap, one, &options) {
-        Ok(value) => value,
-        Err(error) => return Outcome::from(error),
-    };
-    match parse_to_value(heap, other, &options) {
-        Ok(other) => Outcome::of(one == other),
-        Err(error) => Outcome::from(error),
-    }
-}
-
 /// What came of a run whose text is to have the value of the row's.
 fn outcome_of_value<A: Allocator + Copy>(heap: A, row: &Row) -> Outcome {
     let (words, input, wanted) = *row;
@@ -50,7 +36,7 @@ fn outcome_of_value<A: Allocator + Copy>(heap: A, row: &Row) -> Outcome {
         return Outcome::Other;
     };
     match run_on(heap, command, input.as_bytes()) {
-        Ok(text) => have_one_value(heap, &text, wanted),
+        Ok(text) => Outcome::of_values(heap, &text, wanted),
         Err(fault) if is_of_memory(&fault) => Outcome::Wanted,
         Err(_) => Outcome::Other,
     }
