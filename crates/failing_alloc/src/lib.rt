@@ -1,11 +1,13 @@
 //! What crates of tests share: an allocator that refuses some requests for memory, so that each request of
-//! a call can be refused in turn; what came of a call; flags of which one is up; and a writer that takes no memory.
+//! a call can be refused in turn; what came of a call; flags of which one is up; a writer that takes no memory; and
+//! a reader and a writer one of whose calls fails.
 #![tactic(auto)]
 
 pub mod awaited;
 pub mod flags;
 pub mod in_turn;
 pub mod outcome;
+pub mod streams;
 
 use std::alloc::{AllocError, Allocator};
 use std::cell::Cell;

@@ -2,7 +2,9 @@
 
 use jsonc_edit::EditError;
 use jsonc_text::errors::{ParseError, ParseErrorKind, ParseStringErrorKind};
+use jsonc_text::options::ParseOptions;
 use jsonc_text::string::provider::ParseStringError;
+use jsonc_value::to_value::parse_to_value;
 use std::alloc::{AllocError, AllocFailed, Allocator};
 
 /// What came of a call.
@@ -53,6 +55,19 @@ impl Outcome {
         match text {
             Ok(text) => Outcome::of(text.as_str() == wanted),
             Err(error) => error.into(),
+        }
+    }
+
+    /// Whether two texts have one value, or the memory for it was wanted.
+    pub fn of_values<'a, A: Allocator + Copy>(alloc: A, one: &'a str, other: &'a str) -> Outcome {
+        let options = ParseOptions::default();
+        let one = match parse_to_value(alloc, one, &options) {
+            Ok(value) => value,
+            Err(error) => return Outcome::from(error),
+        };
+        match parse_to_value(alloc, other, &options) {
+            Ok(other) => Outcome::of(one == other),
+            Err(error) => Outcome::from(error),
         }
     }
 }

@@ -100,8 +100,8 @@ fn carriage_return(text: &str, place: usize) -> (CstNewlineKind, usize)
     (CstNewlineKind::CarriageReturn, place)
 }
 
-// The place after the comment at a place, or none where no comment stands that is closed.
-fn comment_end(text: &str, place: usize) -> Option<usize>
+/// The place after the comment that begins with the `/` at a place, or none where no closed comment begins there.
+pub fn comment_end(text: &str, place: usize) -> Option<usize>
     requires { Steps text.now place 0x2F (place + 1) }
     ensures found { IfSome result (Between IsComment text.now place) }
     ensures none { IfNone result (NoneFrom IsComment text.now place) }

@@ -8,4 +8,5 @@ mod maker;
 mod parse;
 mod room;
 
+pub use fill::comment_end;
 pub use parse::parse_tree;

@@ -2,41 +2,15 @@
 ghost use Rattle.std.specs.Prelude.{◌≡◌};
 ghost use Rattle.std.specs.Cmp.Lexicographic.{slice_cmp};
 ghost use Rattle.std.specs.Ordering.{nat_cmp};
-ghost use Rattle.jsonc_cst.specs.Document.{content_of, nodes_of};
-ghost use Rattle.jsonc_engine.specs.Sorting.{between_quotes, written_name};
+ghost use Rattle.jsonc_cst.specs.Document.{content_of};
 ghost use Rattle.jsonc_c.specs.Compared.{literal_text, sorted_by};
 ghost use Rattle.jsonc_cst.specs.Document.{HasNode};
-ghost use Rattle.jsonc_cst.specs.Nodes.{boolean_lit_node, object_prop_node};
+ghost use Rattle.jsonc_cst.specs.Nodes.{boolean_lit_node};
 
-use jsonc_parser::cst::{
-    CstBooleanLit, CstContainerNode, CstLeafNode, CstNode, CstObjectProp, CstRootNode,
-    ObjectPropName,
-};
+use jsonc_engine::written_name;
+use jsonc_parser::cst::{CstBooleanLit, CstContainerNode, CstLeafNode, CstNode, CstRootNode};
 use std::alloc::Global;
 use std::cmp::Ordering;
-
-/// The bytes of a string as it is written, without its quotes.
-fn between_quotes(text: &str) -> &[u8]
-    ensures { result.now ≡ between_quotes text.now }
-{
-    let bytes = text.as_bytes();
-    if bytes.len() < 2 {
-        return &[];
-    }
-    &bytes[1..bytes.len() - 1]
-}
-
-/// The name of a property as it is written, without quotes.
-fn name_of(document: &CstRootNode<Global>, property: CstObjectProp) -> &[u8]
-    requires { HasNode document.now (object_prop_node property) }
-    ensures { result.now ≡ written_name (nodes_of document.now) property.number }
-{
-    match property.name(document) {
-        Some(ObjectPropName::String(string)) => between_quotes(string.raw_value(document)),
-        Some(ObjectPropName::Word(word)) => word.raw_value(document).as_bytes(),
-        None => &[],
-    }
-}
 
 /// A truth value as it is written.
 fn boolean_of(document: &CstRootNode<Global>, boolean: CstBooleanLit) -> &'static [u8]
@@ -56,7 +30,9 @@ fn sorted_by(document: &CstRootNode<Global>, node: CstNode) -> &[u8]
     ensures { result.now ≡ sorted_by document.now node }
 {
     match node {
-        CstNode::Container(CstContainerNode::ObjectProp(property)) => name_of(document, property),
+        CstNode::Container(CstContainerNode::ObjectProp(property)) => written_name(
+            document, property,
+        ),
         CstNode::Leaf(CstLeafNode::StringLit(string)) => string.raw_value(document).as_bytes(),
         CstNode::Leaf(CstLeafNode::NumberLit(number)) => number.raw_value(document).as_bytes(),
         CstNode::Leaf(CstLeafNode::BooleanLit(boolean)) => boolean_of(document, boolean),

@@ -11,3 +11,5 @@ pub mod fault;
 mod output;
 mod settings;
 mod sort;
+
+pub use sort::written_name;

@@ -26,7 +26,7 @@ fn between_quotes(text: &str) -> &[u8]
 }
 
 /// The name of a property as it is written, without quotes, or nothing where it has none.
-fn written_name<A: Allocator>(document: &CstRootNode<A>, property: CstObjectProp) -> &[u8]
+pub fn written_name<A: Allocator>(document: &CstRootNode<A>, property: CstObjectProp) -> &[u8]
     requires { HasNode document.now (object_prop_node property) }
     ensures { result.now ≡ written_name (nodes_of document.now) property.number }
 {

@@ -71,8 +71,9 @@ pub fn parse_f64(text: &str) -> Option<f64>
     nearest_f64(negative, unsigned)
 }
 
-// Whether a minus is first, and what follows the sign, if there is one.
-pub(crate) fn split_sign(text: &str) -> (bool, &str)
+/// Whether a minus is first, and what follows the sign, if there is one.
+#[doc(hidden)]
+pub fn split_sign(text: &str) -> (bool, &str)
     ensures sign { Sign text.now result.0 result.1.now }
     ensures only { (negative : Bool) (u : List ℕ) → Sign text.now negative u → IsTrue (no is_sign (next u))
         → (result.0 ≡ negative) × (result.1.now ≡ u) }
@@ -86,8 +87,9 @@ pub(crate) fn split_sign(text: &str) -> (bool, &str)
     }
 }
 
-// What follows `0x` or `0X`.
-pub(crate) fn after_hex_prefix(unsigned: &str) -> Option<&str>
+/// What follows `0x` or `0X`.
+#[doc(hidden)]
+pub fn after_hex_prefix(unsigned: &str) -> Option<&str>
     ensures some { IfSome result (λ ds. (x : ℕ) × IsTrue (is_x x) × (unsigned.now ≡ 0x30 ∷ x ∷ ds.now)) }
     ensures none { IfNone result ((x : ℕ) (ds : List ℕ) → IsTrue (is_x x) → unsigned.now ≡ 0x30 ∷ x ∷ ds → ⊥) }
 {

@@ -33,6 +33,8 @@ pub use location::pointer_of;
 pub use making::PatchCause;
 pub use merge_text::{MergePatchError, merge_patch_from_json};
 pub use merging::{MergeFault, merge};
+#[doc(hidden)]
+pub use numbers::decimal_digits;
 pub use numbers::same_number;
 pub use operation::{Member, Operation, OperationFault};
 pub use pointer::{Pointer, PointerError};

@@ -202,10 +202,7 @@ fn removed<A: Allocator + Copy>(alloc: A, text: &str, index: usize, wanted: &str
         Ok(()) => (Outcome::Answered, wanted),
         Err(error) => (Outcome::from(error), text),
     };
-    match doc.text() {
-        Ok(printed) => Outcome::of(printed.as_str() == text).then(made),
-        Err(error) => Outcome::from(error),
-    }
+    Outcome::of_text(doc.text(), text).then(made)
 }
 
 #[test]

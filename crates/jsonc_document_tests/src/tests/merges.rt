@@ -5,7 +5,6 @@ use failing_alloc::in_turn::answers_in_turn;
 use failing_alloc::outcome::Outcome;
 use jsonc_parser::cst::{CstInputValue, CstRootNode};
 use jsonc_parser::patch::{MergeFault, merge};
-use jsonc_parser::{ParseOptions, parse_to_value};
 use std::alloc::{AllocError, Allocator};
 use std::test::Fail;
 
@@ -175,19 +174,6 @@ static MERGES: [Row; 37] = [
     ),
 ];
 
-/// Two texts have one value.
-fn have_one_value<'a, A: Allocator + Copy>(alloc: A, one: &'a str, other: &'a str) -> Outcome {
-    let options = ParseOptions::default();
-    let one = match parse_to_value(alloc, one, &options) {
-        Ok(value) => value,
-        Err(error) => return Outcome::from(error),
-    };
-    match parse_to_value(alloc, other, &options) {
-        Ok(other) => Outcome::of(one == other),
-        Err(error) => Outcome::from(error),
-    }
-}
-
 /// A text is that of the answer, or has its value.
 fn matches<A: Allocator + Copy>(alloc: A, doc: &CstRootNode<A>, answer: Answer<'_>) -> Outcome {
     let text = match doc.text() {
@@ -196,7 +182,7 @@ fn matches<A: Allocator + Copy>(alloc: A, doc: &CstRootNode<A>, answer: Answer<'
     };
     match answer {
         Answer::Text(wanted) => Outcome::of(text.as_str() == wanted),
-        Answer::Value(wanted) => have_one_value(alloc, &text, wanted),
+        Answer::Value(wanted) => Outcome::of_values(alloc, &text, wanted),
         Answer::Twice(_) => Outcome::Other,
     }
 }
@@ -209,14 +195,6 @@ fn refused<A: Allocator>(fault: &MergeFault<A>, answer: Answer<'_>) -> Outcome {
         ),
         (MergeFault::OutOfMemory, _) => Outcome::Wanted,
         _ => Outcome::Other,
-    }
-}
-
-/// A document that was refused a change prints as it was.
-fn stays<A: Allocator + Copy>(doc: &CstRootNode<A>, text: &str) -> Outcome {
-    match doc.text() {
-        Ok(now) => Outcome::of(now.as_str() == text),
-        Err(error) => Outcome::from(error),
     }
 }
 
@@ -233,7 +211,7 @@ fn merged_into<A: Allocator + Copy>(
     };
     match merge(&mut doc, patch) {
         Ok(()) => matches(alloc, &doc, answer),
-        Err(fault) => refused(&fault, answer).then(stays(&doc, text)),
+        Err(fault) => refused(&fault, answer).then(Outcome::of_text(doc.text(), text)),
     }
 }
 

@@ -3,9 +3,9 @@
 use crate::tests::reading::read;
 use failing_alloc::in_turn::answers_in_turn;
 use failing_alloc::outcome::Outcome;
+use jsonc_parser::ParseOptions;
 use jsonc_parser::cst::{CstRootNode, EditError};
 use jsonc_parser::patch::{OperationFault, Patch, PatchCause, PatchError, PatchFault};
-use jsonc_parser::{ParseOptions, parse_to_value};
 use std::alloc::Allocator;
 use std::test::Fail;
 
@@ -196,19 +196,6 @@ static PATCHES: [Row; 33] = [
     ("[]", r#"{"op":"remove","path":""}"#, Answer::NoPatch(0)),
 ];
 
-/// Two texts have one value.
-fn have_one_value<'a, A: Allocator + Copy>(alloc: A, one: &'a str, other: &'a str) -> Outcome {
-    let options = ParseOptions::default();
-    let one = match parse_to_value(alloc, one, &options) {
-        Ok(value) => value,
-        Err(error) => return Outcome::from(error),
-    };
-    match parse_to_value(alloc, other, &options) {
-        Ok(other) => Outcome::of(one == other),
-        Err(error) => Outcome::from(error),
-    }
-}
-
 /// A text is that of the answer, or has its value.
 fn matches<A: Allocator + Copy>(alloc: A, doc: &CstRootNode<A>, answer: Answer<'_>) -> Outcome {
     let text = match doc.text() {
@@ -220,7 +207,7 @@ fn matches<A: Allocator + Copy>(alloc: A, doc: &CstRootNode<A>, answer: Answer<'
         Answer::Value(wanted) => wanted,
         _ => return Outcome::Other,
     };
-    have_one_value(alloc, &text, wanted)
+    Outcome::of_values(alloc, &text, wanted)
 }
 
 /// What came of an operation that was refused.
@@ -250,14 +237,6 @@ fn no_patch<A: Allocator>(error: PatchError<A>, answer: Answer<'_>) -> Outcome {
     }
 }
 
-/// A document that was refused a change prints as it was.
-fn stays<A: Allocator + Copy>(doc: &CstRootNode<A>, text: &str) -> Outcome {
-    match doc.text() {
-        Ok(now) => Outcome::of(now.as_str() == text),
-        Err(error) => Outcome::from(error),
-    }
-}
-
 fn applied<A: Allocator + Copy>(alloc: A, row: &Row<'_>) -> Outcome {
     let mut doc = match read(alloc, row.0) {
         Ok(doc) => doc,
@@ -269,7 +248,7 @@ fn applied<A: Allocator + Copy>(alloc: A, row: &Row<'_>) -> Outcome {
     };
     match patch.apply(&mut doc) {
         Ok(()) => matches(alloc, &doc, row.2),
-        Err(fault) => refused(&fault, row.2).then(stays(&doc, row.0)),
+        Err(fault) => refused(&fault, row.2).then(Outcome::of_text(doc.text(), row.0)),
     }
 }
 

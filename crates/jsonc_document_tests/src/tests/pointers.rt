@@ -115,10 +115,9 @@ fn found<A: Allocator + Copy>(
         Err(error) => return failed(&error, answer),
     };
     match (node, answer) {
-        (Some(node), Answer::Found(text)) => match format!(in alloc; "{}", node.shown(doc)) {
-            Ok(printed) => Outcome::of(printed.as_str() == text),
-            Err(_) => Outcome::Wanted,
-        },
+        (Some(node), Answer::Found(text)) => {
+            Outcome::of_text(format!(in alloc; "{}", node.shown(doc)), text)
+        }
         (None, Answer::Nothing) => Outcome::Answered,
         _ => Outcome::Other,
     }
@@ -137,10 +136,7 @@ fn told<A: Allocator + Copy>(
         Err(error) => return failed(&error, row.2),
     };
     match patch::pointer_of(doc, node) {
-        Ok(Some(told)) => match format!(in alloc; "{told}") {
-            Ok(printed) => Outcome::of(printed.as_str() == row.0),
-            Err(_) => Outcome::Wanted,
-        },
+        Ok(Some(told)) => Outcome::of_text(format!(in alloc; "{told}"), row.0),
         Ok(None) => Outcome::Other,
         Err(error) => Outcome::from(error),
     }

@@ -132,14 +132,6 @@ fn names_of<A: Allocator + Copy>(alloc: A, names: &[&str]) -> Result<Vec<String<
     Ok(all)
 }
 
-/// Whether the document prints the text.
-fn shows<A: Allocator + Copy>(doc: &CstRootNode<A>, text: &str) -> Outcome {
-    match doc.text() {
-        Ok(printed) => Outcome::of(printed.as_str() == text),
-        Err(error) => Outcome::from(error),
-    }
-}
-
 /// The text after a change, or the same text where none was made.
 fn changed<A: Allocator + Copy>(
     doc: &CstRootNode<A>,
@@ -148,11 +140,11 @@ fn changed<A: Allocator + Copy>(
 ) -> Outcome {
     let is_made = match made {
         Ok(is_made) => is_made,
-        Err(error) => return shows(doc, row.2).then(Outcome::from(error)),
+        Err(error) => return Outcome::of_text(doc.text(), row.2).then(Outcome::from(error)),
     };
     match row.3 {
-        Some(text) if is_made => shows(doc, text),
-        None if !is_made => shows(doc, row.2),
+        Some(text) if is_made => Outcome::of_text(doc.text(), text),
+        None if !is_made => Outcome::of_text(doc.text(), row.2),
         _ => Outcome::Other,
     }
 }
@@ -173,10 +165,10 @@ fn found<A: Allocator + Copy>(
         Err(error) => return Outcome::from(error),
     };
     let printed = match (found, row.3) {
-        (Some(node), Some(text)) => match format!(in alloc; "{}", node.shown(doc)) {
-            Ok(printed) => Outcome::of(printed.as_str() == text),
-            Err(_) => Outcome::Wanted,
-        },
+        (Some(node), Some(text)) => Outcome::of_text(
+            format!(in alloc; "{}", node.shown(doc)),
+            text,
+        ),
         (None, None) => Outcome::Answered,
         _ => Outcome::Other,
     };

@@ -1,6 +1,5 @@
 //! Blanks and comments between the tokens of a document.
-ghost use Rattle.std.specs.Prelude.{◌≡◌, ◌+◌, ◌++◌, IfNone, IfSome, IsCharBoundary, OnOk, chars, map};
-ghost use Rattle.jsonc_text.specs.Chars.{Steps};
+ghost use Rattle.std.specs.Prelude.{◌≡◌, ◌++◌, IfNone, IfSome, IsCharBoundary, OnOk, chars, map};
 ghost use Rattle.jsonc_text.specs.Gaps.{IsComment};
 ghost use Rattle.jsonc_text.specs.Text.{rest};
 ghost use Rattle.jsonc_text.specs.string.Between.{Between, NoneFrom};
@@ -8,9 +7,8 @@ ghost use Rattle.jsonc_patch_engine.specs.Output.{text_of};
 ghost use Rattle.jsonc_patch_engine.specs.Rewritten.{ComesNext, written_blank};
 
 use super::output::put;
+use jsonc_build::comment_end;
 use jsonc_text::chars::{blanks_end, char_at, has_byte};
-use jsonc_text::comment::block_close;
-use jsonc_text::string::stops::stop_place;
 use std::alloc::{AllocError, Allocator};
 
 // The first character at a place that is behind its gap, or none at the end.
@@ -36,24 +34,6 @@ fn comment_at(text: &str, place: usize) -> Option<usize>
     } else {
         None
     }
-}
-
-// The same where a `/` stands.
-fn comment_end(text: &str, place: usize) -> Option<usize>
-    requires { Steps text.now place 0x2F (place + 1) }
-    ensures found { IfSome result (Between IsComment text.now place) }
-    ensures none { IfNone result (NoneFrom IsComment text.now place) }
-{
-    if has_byte(text, place + 1, b'/') {
-        return Some(stop_place(text, place + 2, b'\n', b'\r'));
-    }
-    if !has_byte(text, place + 1, b'*') {
-        return None;
-    }
-    let Some(close) = block_close(text, place + 2) else {
-        return None;
-    };
-    Some(close + 2)
 }
 
 // What is written for a blank.

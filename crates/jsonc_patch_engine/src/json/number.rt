@@ -1,45 +1,19 @@
 //! Numbers as JSON writes them (RFC 8259, 6).
-ghost use Rattle.std.specs.Prelude.{◌≡◌, ◌++◌, ◌∷◌, ℕ, Bool, List, IfNone, IfSome, IsTrue, OnOk, chars, if◌then◌else◌};
+ghost use Rattle.std.specs.Prelude.{◌≡◌, ◌++◌, ◌∷◌, ℕ, OnOk, chars, if◌then◌else◌};
 ghost use Rattle.std.specs.Bool.{Decides};
-ghost use Rattle.jsonc_text.specs.Numbers.{NumberLit, is_sign, is_x};
+ghost use Rattle.jsonc_text.specs.Numbers.{NumberLit};
 ghost use Rattle.jsonc_text.specs.Options.{all_on};
-ghost use Rattle.jsonc_text.specs.Text.{is_digit, next, no, starts};
-ghost use Rattle.jsonc_parser.specs.Numbers.{Decimal, Sign, Unsigned};
+ghost use Rattle.jsonc_text.specs.Text.{is_digit, next, starts};
+ghost use Rattle.jsonc_parser.specs.Numbers.{Decimal, Unsigned};
 ghost use Rattle.jsonc_patch_engine.specs.Output.{text_of, Adds};
 ghost use Rattle.jsonc_patch_engine.specs.Rewritten.{IsNonFinite, IsNumberFor, IsUnsignedFor, minus_of, or_zero};
 ghost use Rattle.jsonc_patch_engine.specs.Points.{from_point};
 
 use super::decimal::push_decimal;
 use super::output::{put, put_all};
+use jsonc_parser::numbers::{after_hex_prefix, split_sign};
 use jsonc_text::chars::char_at;
 use std::alloc::{AllocError, Allocator};
-
-// Whether a minus stands first, and what follows the sign, if there is one.
-fn split_sign(text: &str) -> (bool, &str)
-    ensures sign { Sign text.now result.0 result.1.now }
-    ensures only { (negative : Bool) (u : List ℕ) → Sign text.now negative u → IsTrue (no is_sign (next u))
-        → (result.0 ≡ negative) × (result.1.now ≡ u) }
-{
-    if let Some(unsigned) = text.strip_prefix('-') {
-        (true, unsigned)
-    } else if let Some(unsigned) = text.strip_prefix('+') {
-        (false, unsigned)
-    } else {
-        (false, text)
-    }
-}
-
-// What follows `0x` or `0X`.
-fn after_hex_prefix(unsigned: &str) -> Option<&str>
-    ensures some { IfSome result (λ ds. (x : ℕ) × IsTrue (is_x x) × (unsigned.now ≡ 0x30 ∷ x ∷ ds.now)) }
-    ensures none { IfNone result ((x : ℕ) (ds : List ℕ) → IsTrue (is_x x) → unsigned.now ≡ 0x30 ∷ x ∷ ds → ⊥) }
-{
-    let rest = unsigned.strip_prefix('0')?;
-    match rest.strip_prefix('x') {
-        Some(digits) => Some(digits),
-        None => rest.strip_prefix('X'),
-    }
-}
 
 // Whether a number is `Infinity` or `NaN`, perhaps with a sign.
 pub(super) fn is_non_finite(number: &str) -> bool

@@ -5,42 +5,22 @@ use crate::tests::refusals::{is_of_memory, outcome_of};
 use crate::tests::rows::Row;
 use failing_alloc::in_turn::answers_in_turn;
 use failing_alloc::outcome::Outcome;
-use jsonc_parser::{ParseOptions, parse_to_value};
 use jsonc_patch_engine::command::Command;
 use jsonc_patch_engine::engine::run_on;
 use std::alloc::Allocator;
 use std::test::Fail;
 
-/// What came of the run of a number.
-fn patched_at<A: Allocator + Copy>(heap: A, number: usize) -> Outcome {
-    match PATCHED.get(number) {
-        Some(row) => outcome_of(heap, row),
-        None => Outcome::Other,
-    }
-}
-
 #[test]
 fn each_patch_writes_the_text_of_its_row(rt: HostRuntime) -> Result<(), Fail> {
-    for number in 0..PATCHED.len() {
+    for row in &PATCHED {
         assert!(rt;
-            answers_in_turn(rt.alloc(), |heap| patched_at(heap, number)),
-            "run {number}"
+            answers_in_turn(rt.alloc(), |heap| outcome_of(heap, row)),
+            "{:?} {:?}",
+            row.0,
+            row.1
         );
     }
     Ok(())
-}
-
-/// Two texts have one value.
-fn have_one_value<'a, A: Allocator + Copy>(heap: A, one: &'a str, other: &'a str) -> Outcome {
-    let options = ParseOptions::default();
-    let one = match parse_to_value(heap, one, &options) {
-        Ok(value) => value,
-        Err(error) => return Outcome::from(error),
-    };
-    match parse_to_value(heap, other, &options) {
-        Ok(other) => Outcome::of(one == other),
-        Err(error) => Outcome::from(error),
-    }
 }
 
 /// What came of a run whose text is to have the value of the row's.
@@ -50,26 +30,20 @@ fn outcome_of_value<A: Allocator + Copy>(heap: A, row: &Row) -> Outcome {
         return Outcome::Other;
     };
     match run_on(heap, command, input.as_bytes()) {
-        Ok(text) => have_one_value(heap, &text, wanted),
+        Ok(text) => Outcome::of_values(heap, &text, wanted),
         Err(fault) if is_of_memory(&fault) => Outcome::Wanted,
         Err(_) => Outcome::Other,
     }
 }
 
-/// What came of the example of a number.
-fn example_at<A: Allocator + Copy>(heap: A, number: usize) -> Outcome {
-    match STANDARD.get(number) {
-        Some(row) => outcome_of_value(heap, row),
-        None => Outcome::Other,
-    }
-}
-
 #[test]
 fn each_example_of_the_standards_has_its_value(rt: HostRuntime) -> Result<(), Fail> {
-    for number in 0..STANDARD.len() {
+    for row in &STANDARD {
         assert!(rt;
-            answers_in_turn(rt.alloc(), |heap| example_at(heap, number)),
-            "example {number}"
+            answers_in_turn(rt.alloc(), |heap| outcome_of_value(heap, row)),
+            "{:?} {:?}",
+            row.0,
+            row.1
         );
     }
     Ok(())

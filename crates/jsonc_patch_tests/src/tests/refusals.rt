@@ -3,7 +3,7 @@
 use crate::tests::rows::{Row, TOLD, WRITTEN};
 use failing_alloc::Refusing;
 use failing_alloc::awaited::{Awaited, prints};
-use failing_alloc::in_turn::is_refused_in_turn;
+use failing_alloc::in_turn::{answers_in_turn, is_refused_in_turn};
 use failing_alloc::outcome::Outcome;
 use jsonc_engine::calls::{FromReader, ToWriter};
 use jsonc_parser::errors::ParseErrorKind;
@@ -41,20 +41,14 @@ pub fn outcome_of<A: Allocator + Copy>(heap: A, row: &Row) -> Outcome {
     }
 }
 
-/// What came of the run of a number.
-fn outcome_at<A: Allocator + Copy>(heap: A, number: usize) -> Outcome {
-    match WRITTEN.get(number) {
-        Some(row) => outcome_of(heap, row),
-        None => Outcome::Other,
-    }
-}
-
 #[test]
 fn each_request_is_refused_in_turn(rt: HostRuntime) -> Result<(), Fail> {
-    for number in 0..WRITTEN.len() {
+    for row in &WRITTEN {
         assert!(rt;
-            is_refused_in_turn(rt.alloc(), |heap| outcome_at(heap, number)),
-            "run {number}"
+            is_refused_in_turn(rt.alloc(), |heap| outcome_of(heap, row)),
+            "{:?} {:?}",
+            row.0,
+            row.1
         );
     }
     Ok(())
@@ -77,40 +71,30 @@ fn a_refused_text_wants_no_memory(rt: HostRuntime) -> Result<(), Fail> {
     Ok(())
 }
 
-/// Whether a run without the request of this number tells its cause, or, of memory that was refused, that; and whether a
-/// request was refused.
-fn tells_cause(
-    alloc: Global,
-    number: u64,
-    words: &[&str],
-    input: &'static str,
-    line: &str,
-) -> (bool, bool) {
-    let heap = Refusing::at(alloc, number);
+/// What came of a run that fails whatever memory there is. It tells its cause, or, of memory that was refused, that.
+fn outcome_of_cause(
+    heap: &Refusing<Global>,
+    (words, input, line, _status): &(&[&str], &'static str, &str, u8),
+) -> Outcome {
     let mut source = FromReader::new(input.as_bytes());
     let mut sink = ToWriter::new(Awaited { rest: b"" });
-    let ended = engine(&heap, words, &mut source, &mut sink);
-    let was_refused = heap.asked() > number;
-    let is_told = match &ended {
-        Ok(()) => false,
-        Err(fault) => prints(fault, line) || was_refused && is_of_memory(fault),
-    };
-    (is_told, was_refused)
+    match engine(heap, words, &mut source, &mut sink) {
+        Ok(()) => Outcome::Other,
+        Err(fault) if prints(&fault, line) => Outcome::Answered,
+        Err(fault) if is_of_memory(&fault) => Outcome::Wanted,
+        Err(_) => Outcome::Other,
+    }
 }
 
 #[test]
 fn a_cause_is_told_or_want_of_memory(rt: HostRuntime) -> Result<(), Fail> {
-    for (words, input, line, _status) in &TOLD {
-        let mut is_whole = false;
-        for number in 0..1000u64 {
-            let (is_told, was_refused) = tells_cause(rt.alloc(), number, words, input, line);
-            assert!(rt; is_told, "{words:?} {input:?} without request {number}");
-            if !was_refused {
-                is_whole = true;
-                break;
-            }
-        }
-        assert!(rt; is_whole, "{words:?} {input:?}");
+    for told in &TOLD {
+        assert!(rt;
+            answers_in_turn(rt.alloc(), |heap| outcome_of_cause(heap, told)),
+            "{:?} {:?}",
+            told.0,
+            told.1
+        );
     }
     Ok(())
 }

@@ -4,6 +4,7 @@ use crate::tests::calls::{CALLS, Call, outcome_of};
 use failing_alloc::Refusing;
 use failing_alloc::awaited::{Awaited, prints};
 use failing_alloc::in_turn::{answers_in_turn, is_refused_in_turn};
+use failing_alloc::outcome::Outcome;
 use jsonc_engine::calls::{FromReader, ToWriter};
 use jsonc_engine::engine::engine;
 use jsonc_engine::fault::Fault;
@@ -105,45 +106,36 @@ fn is_of_a_parse(fault: &Fault) -> bool {
     }
 }
 
-/// Whether a run without the request of this number tells the cause, or that a parse wanted memory, or, where the
-/// words are right, that allocation failed before the end of the input; and whether a request was refused.
-fn tells_cause(
-    alloc: Global,
-    number: u64,
+/// What came of a run that fails whatever memory there is. It tells the cause, or that a parse wanted memory, or, where
+/// the words are right, that allocation failed before the end of the input.
+fn outcome_of_cause(
+    heap: &Refusing<Global>,
     (words, input, line, is_of_words): &(&[&str], &'static str, &str, bool),
-) -> (bool, bool) {
-    let heap = Refusing::at(alloc, number);
+) -> Outcome {
     let mut source = FromReader::new(input.as_bytes());
     let mut sink = ToWriter::new(Awaited { rest: b"" });
-    let ended = engine(&heap, words, &mut source, &mut sink);
-    let was_refused = heap.asked() > number;
-    let is_told = match &ended {
-        Ok(()) => false,
-        Err(fault) if prints(fault, line) => true,
-        Err(fault) if is_of_a_parse(fault) => was_refused,
+    match engine(heap, words, &mut source, &mut sink) {
+        Ok(()) => Outcome::Other,
+        Err(fault) if prints(&fault, line) => Outcome::Answered,
+        Err(fault) if is_of_a_parse(&fault) => Outcome::Wanted,
         Err(fault) => {
-            was_refused
-                && !is_of_words
-                && source.empty == 0
-                && prints(fault, "jsonc: Out of memory")
+            let is_told = prints(&fault, "jsonc: Out of memory");
+            if is_told && !is_of_words && source.empty == 0 {
+                return Outcome::Wanted;
+            }
+            Outcome::Other
         }
-    };
-    (is_told, was_refused)
+    }
 }
 
 #[test]
 fn a_cause_is_told_before_want_of_memory(rt: HostRuntime) -> Result<(), Fail> {
     for cause in &CAUSES {
-        let mut is_whole = false;
-        for number in 0..1000u64 {
-            let (is_told, was_refused) = tells_cause(rt.alloc(), number, cause);
-            assert!(rt; is_told, "{:?} without request {number}", cause.0);
-            if !was_refused {
-                is_whole = true;
-                break;
-            }
-        }
-        assert!(rt; is_whole, "{:?}", cause.0);
+        assert!(rt;
+            answers_in_turn(rt.alloc(), |heap| outcome_of_cause(heap, cause)),
+            "{:?}",
+            cause.0
+        );
     }
     Ok(())
 }

@@ -1,80 +1,14 @@
 //! A reader and a writer of a few bytes a call, one of whose calls fails.
 
 use failing_alloc::awaited::prints;
+use failing_alloc::streams::{Calls, Reader, STEP, Writer};
 use jsonc_engine::calls::{FromReader, ToWriter};
 use jsonc_engine::engine::engine;
 use jsonc_engine::fault::Fault;
 use std::alloc::Global;
 use std::io;
-use std::io::{ErrorKind, Read, Write};
+use std::io::{ErrorKind, Read};
 use std::test::Fail;
-
-/// The most bytes that a call moves.
-const STEP: usize = 5;
-
-/// Counts calls, and fails each one behind so many.
-#[derive(Drop)]
-struct Calls {
-    left: usize,
-    made: usize,
-    failed: usize,
-}
-
-impl Calls {
-    fn new(left: usize) -> Calls {
-        Calls {
-            left,
-            made: 0,
-            failed: 0,
-        }
-    }
-
-    fn next(&mut self) -> io::Result<()> {
-        if self.left == 0 {
-            self.failed = self.failed.saturating_add(1);
-            return Err(io::Error::from(ErrorKind::Other));
-        }
-        self.left -= 1;
-        self.made = self.made.saturating_add(1);
-        Ok(())
-    }
-}
-
-#[derive(Drop)]
-struct Reader<'a> {
-    rest: &'a [u8],
-    calls: Calls,
-}
-
-impl Read for Reader<'_> {
-    fn read(&mut self, buffer: &mut [u8]) -> io::Result<usize> {
-        self.calls.next()?;
-        let count = buffer.len().min(self.rest.len()).min(STEP);
-        let (front, rest) = self.rest.split_at(count);
-        buffer[..count].copy_from_slice(front);
-        self.rest = rest;
-        Ok(count)
-    }
-}
-
-#[derive(Drop)]
-struct Writer {
-    bytes: Vec<u8>,
-    calls: Calls,
-}
-
-impl Write for Writer {
-    fn write(&mut self, bytes: &[u8]) -> io::Result<usize> {
-        self.calls.next()?;
-        let count = bytes.len().min(STEP);
-        self.bytes.extend_from_slice(&bytes[..count])?;
-        Ok(count)
-    }
-
-    fn flush(&mut self) -> io::Result<()> {
-        self.calls.next()
-    }
-}
 
 /// A command over a text, how many reads bring that, what it writes, and how many writes and a flush that takes.
 #[derive(Drop)]
