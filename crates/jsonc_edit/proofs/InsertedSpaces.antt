@@ -1,5 +1,5 @@
 -- A space that comes directly before a node: what stays as it was, and what the document is then.
-use Rattle.std.proofs.Common.{◌≡◌, ◌≢◌, ℕ, ◌+◌, ◌-◌, ◌<◌, ◌≤◌, ◌||◌, Bool, false, cond, List, [], ◌∷◌, ◌++◌, length, get_or, filter, take, drop, slice_index, slice_range, Some, None, inl, inr, refl, sym, ap, subst, ◌∙◌, arith, eq-eqb}
+use Rattle.std.proofs.Common.{◌≡◌, ◌≢◌, ℕ, ◌+◌, ◌-◌, ◌<◌, ◌≤◌, ◌||◌, false, cond, List, [], ◌∷◌, ◌++◌, length, get_or, filter, take, drop, slice_index, slice_range, Some, None, inl, inr, refl, sym, ap, subst, ◌∙◌, arith, eq-eqb}
 use Rattle.std.proofs.lemmas.Bool.{cases_eq, ne_eqb}
 use Rattle.std.proofs.lemmas.List.{take-append-drop, take_more, drop_more}
 use Rattle.std.proofs.lemmas.List.Edits.{between_none, get_or-insert_below, get_or-insert_at, get_or-insert_above, length-insert}
@@ -20,7 +20,11 @@ use Rattle.jsonc_sound.specs.TreeChanges.{IsElement}
 use Rattle.jsonc_sound.specs.InRows as rows
 use Rattle.jsonc_sound.specs.InRows.{SpaceCome, before_element, SpacePut}
 use Rattle.jsonc_sound.specs.Spaces.{space_then}
-use Rattle.jsonc_edit.specs.Put.{a_space, StandsBefore}
+use Rattle.jsonc_edit.specs.Put.{StandsBefore}
+use Rattle.jsonc_edit.proofs.Lists.{filter_same}
+use Rattle.jsonc_edit.proofs.Elements.{none_some}
+use Rattle.jsonc_edit.proofs.ValuePlaces.{no_row}
+use Rattle.jsonc_edit.proofs.LeafKinds.{no_root}
 
 -- the document is its root over a row
 pub document_is : (ns : List Node) → IsTree ns → more root (grown (length ns) ns 0) none ≡ ordered_tree ns 0
@@ -46,25 +50,11 @@ come_above k here = rows.deeper k
 come_above k (deeper r) = rows.deeper (come_above k r)
 come_above k (later r) = rows.later (come_above k r)
 
-no_row : {was now : OrderedTree} → Replaced was now none none → ⊥
-no_row r = elim r [ ]
-
 -- and into the document
 pub come_in_root : {was now x y : OrderedTree} → SpaceCome was now → Replaced was now (more root x none) (more root y none) → SpacePut (more root x none) (more root y none)
 come_in_root k here = rows.in_root k
 come_in_root k (deeper r) = rows.in_root (come_above k r)
 come_in_root k (later r) = absurd (no_row r)
-
-none_some : {k : ℕ} → None ≡ Some k → ⊥
-none_some e = cc
-
--- tests that agree keep the same of a list
-pub filter_same : (f g : ℕ → Bool) → ((k : ℕ) → f k ≡ g k) → (xs : List ℕ) → filter f xs ≡ filter g xs
-filter_same f g same [] = refl
-filter_same f g same (x ∷ xs) = ap (λ b. cond b (x ∷ filter f xs) (filter f xs)) (same x) ∙ ap (λ l. cond (g x) (x ∷ l) l) (filter_same f g same xs)
-
-no_root : (content : Content) → content ≡ a_space → content ≡ root → ⊥
-no_root content e f = cc
 
 module _ (old new : List Node) (n space : ℕ) (tree : IsTree old) (r : StandsBefore old new n space) where
   abbrev c : ℕ

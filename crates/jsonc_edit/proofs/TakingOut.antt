@@ -16,6 +16,7 @@ use Rattle.jsonc_sound.specs.Lines.{is_line_comment}
 use Rattle.jsonc_sound.specs.ChangeLaws.{DiffersIn}
 use Rattle.jsonc_sound.proofs.TriviaValues.{document_kept}
 use Rattle.jsonc_sound.specs.SoundTrees.{SoundTree}
+use Rattle.jsonc_sound.proofs.Commas.{and_false}
 use Rattle.jsonc_edit.specs.Due as due
 use Rattle.jsonc_edit.specs.Due.{prints_at, prints_within, is_other, begins_bare, ends_bare, seen_before, seen_behind, space_needed_between, listed}
 use Rattle.jsonc_edit.specs.Put.{AreChildren, AreSpaced, Extends, nodes_of}
@@ -126,10 +127,6 @@ pub over_keeps : (old ready : List Node) → IsTree old → Keeps (length old) o
 over_keeps old ready tree keeps _ there IsOver.itself = IsOver.itself
 over_keeps old ready tree keeps k there (IsOver.above {c = p} said rest) = IsOver.above (keeps.parent k there ∙ said) (over_keeps old ready tree keeps p (parent_there old tree k p said).1 rest)
 
-both_false : (a b : Bool) → b ≡ false → a && b ≡ false
-both_false true b e = e
-both_false false b e = refl
-
 -- what is due, or nothing meets
 module _ (ready spaced : List Node) (tree : IsTree ready) (n from other : ℕ) where
   none_meets : (a : Bool) (o : Option ℕ) → seen_behind ready n ≡ o → cond (a && begins_bare ready o) o None ≡ None → a && begins_bare ready o ≡ false
@@ -155,7 +152,7 @@ module _ (ready spaced : List Node) (tree : IsTree ready) (n from other : ℕ) w
   quiet_between prints same (Some x) due (now, leaf, r, e) =
       let seen : seen_behind ready n ≡ Some x = some_seen (prints_within ready from n && (ends_bare ready (seen_before ready from) && begins_bare ready (seen_behind ready n))) (seen_behind ready n) x due in
       let behind : begins_bare now (seen_behind now n) ≡ false = quiet_behind ready now tree n x leaf r seen in
-      subst (λ ns. ends_bare ns (seen_before ns other) && begins_bare ns (seen_behind ns n) ≡ false) (sym e) (both_false (ends_bare now (seen_before now other)) (begins_bare now (seen_behind now n)) behind)
+      subst (λ ns. ends_bare ns (seen_before ns other) && begins_bare ns (seen_behind ns n) ≡ false) (sym e) (and_false (ends_bare now (seen_before now other)) (begins_bare now (seen_behind now n)) behind)
 
 module _ (old new : List Node) (n : ℕ) (r : CommentTaken old new n) where
   abbrev c : ℕ

@@ -55,10 +55,10 @@ use Rattle.jsonc_edit.proofs.lemmas.remove.RemovedValue.{removes_value}
 use Rattle.jsonc_edit.proofs.lemmas.remove.Roots.{value_taken}
 use Rattle.jsonc_edit.proofs.lemmas.set.FirstValueRows.{comes_among_rows}
 use Rattle.jsonc_edit.proofs.lemmas.set.FirstValueSet.{gives_first_value, leaves_bare}
-use Rattle.jsonc_edit.proofs.lemmas.set.PropertyRows.{prints_value, some_value_of}
 use Rattle.jsonc_edit.proofs.lemmas.set.RenamedProperty.{is_marked, writes_name}
 use Rattle.jsonc_edit.proofs.lemmas.set.WrittenBoolean.{writes_boolean}
 use Rattle.jsonc_edit.proofs.lemmas.set.WrittenProperty.{writes_property}
+use Rattle.jsonc_edit.proofs.SoundValues.{some_value_of, prints_value}
 use Rattle.jsonc_insert.specs.named.Members.{LacksMember}
 use Rattle.jsonc_insert.specs.named.Named.{EnsuredFor}
 use Rattle.jsonc_insert.specs.named.Places.{IsPropertyAt, a_property}

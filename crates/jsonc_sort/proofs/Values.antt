@@ -162,7 +162,7 @@ one_is : (b : Bool) → not b ≡ true → IsTrue b → ⊥
 one_is true e h = cc
 one_is false e h = cc
 
-none_is : (b : Bool) → not b ≡ false → IsTrue b
+pub none_is : (b : Bool) → not b ≡ false → IsTrue b
 none_is true e = refl
 none_is false e = cc
 

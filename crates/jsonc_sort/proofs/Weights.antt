@@ -5,6 +5,7 @@ use Rattle.std.specs.List.{list_any, prefix_len, range_with_len, sum_by, take_wh
 use Rattle.std.proofs.lemmas.Bool.{cases_Bool}
 use Rattle.std.proofs.lemmas.List.Sums.{sum_by-cons}
 use Rattle.std.proofs.lemmas.List.Sorted.{length_permutation, sum_by-IsPermutation}
+use Rattle.jsonc_text.proofs.Basics.{or_right, or_left}
 use Rattle.jsonc_tree.specs.Content.{Content, token, newline}
 use Rattle.jsonc_tree.specs.OrderedTree.{Top, none}
 use Rattle.jsonc_tree.specs.declared.node.CstNewlineKind.{CstNewlineKind}
@@ -42,14 +43,6 @@ added_parted f (suc k) (x ∷ xs) = omega (arith, added_parted f k xs)
 -- the same of a permutation
 pub added_moved : {A : Type 0} (f : A → ℕ) (xs ys : List A) → IsPermutation xs ys → added f ys ≡ added f xs
 added_moved f xs ys p = sym (sum_is f ys) ∙ sum_by-IsPermutation f xs ys p ∙ sum_is f xs
-
-or_right : (a b : Bool) → IsTrue b → IsTrue (a || b)
-or_right true b h = refl
-or_right false b h = h
-
-or_left : (a b : Bool) → IsTrue a → IsTrue (a || b)
-or_left true b h = refl
-or_left false b h = cc
 
 blank_filling : (a b c : Bool) → a || b ≡ true → IsTrue (a || (b || c))
 blank_filling true b c h = refl

@@ -14,6 +14,7 @@ use Rattle.jsonc_sound.specs.ChangeLaws.{DiffersIn}
 use Rattle.jsonc_sound.specs.MarkChanges.{AreBlanks}
 use Rattle.jsonc_sound.specs.SoundTrees.{SoundTree}
 use Rattle.jsonc_sound.specs.TriviaChanges.{AreTrivia}
+use Rattle.jsonc_sound.proofs.Entries.{blanks_trivia}
 use Rattle.jsonc_edit.specs.Comments.{blanks_from, leaves_gone, space_needed_without, CommentRemoved, CommentTaken, IsRemoved, TakesOut}
 use Rattle.jsonc_edit.specs.Due.{listed}
 use Rattle.jsonc_edit.specs.Put.{AreSpaced}
@@ -26,6 +27,7 @@ use Rattle.jsonc_edit.proofs.TakingOut.{taken_value}
 use Rattle.jsonc_edit.proofs.lemmas.remove.ClearedComments.{line_of, line_place, LineThere}
 use Rattle.jsonc_edit.proofs.lemmas.remove.ClearedStretches.{left_sound, LeftSound}
 use Rattle.jsonc_edit.proofs.lemmas.remove.PartedTrivia.{newline_parts}
+use Rattle.jsonc_edit.proofs.LeafKinds.{comment_trivia}
 
 -- what has become of a sound document that one comment has left, with blanks beside it
 pub record OneGone (o : Options) (old new : List Node) (content : Content) : Type 0 where
@@ -66,17 +68,9 @@ blank_trivia (Content.whitespace s) h = refl
 blank_trivia (Content.newline k) h = refl
 blank_trivia c h = cc
 
-comment_trivia : (c : Content) → IsTrue (is_comment c) → IsTrue (is_trivia c)
-comment_trivia (Content.comment s) h = refl
-comment_trivia c h = cc
-
 newline_leaf : (c : Content) → is_newline c ≡ true → is_container c ≡ false
 newline_leaf (Content.newline k) h = refl
 newline_leaf c h = cc
-
-pub blanks_trivia : (xs : List Content) → AreBlanks xs → AreTrivia xs
-blanks_trivia [] h = tt
-blanks_trivia (c ∷ xs) h = (blank_trivia c h.0, blanks_trivia xs h.1)
 
 among_trivia : (before behind : List Content) (c : Content) → AreBlanks before → IsTrue (is_comment c) → AreBlanks behind → AreTrivia (before ++ c ∷ behind)
 among_trivia [] behind c h k g = (comment_trivia c k, blanks_trivia behind g)

@@ -17,7 +17,7 @@ use Rattle.jsonc_layout.specs.lines.Kinds.{is_array_or_object}
 use Rattle.jsonc_sound.specs.Alone.{PropertyAlone, RootAlone}
 use Rattle.jsonc_sound.specs.Leaving.{AreInlineTrivia, IsRestOfLine}
 use Rattle.jsonc_sound.specs.Rows.{RowKind, of_values, of_properties, closing, opening}
-use Rattle.jsonc_sound.specs.Shape.{DocumentShaped, IsNameBefore}
+use Rattle.jsonc_sound.specs.Shape.{DocumentShaped}
 use Rattle.jsonc_sound.specs.SoundTrees.{SoundTree}
 use Rattle.jsonc_sound.proofs.NodesAlone.{document_alone}
 use Rattle.jsonc_sound.proofs.RowParts.{beside_trivia, rest_trivia}
@@ -32,14 +32,15 @@ use Rattle.jsonc_edit.proofs.Printing.{unkept_prints}
 use Rattle.jsonc_edit.proofs.ShapedPlaces.{all_stand}
 use Rattle.jsonc_edit.proofs.Uniqueness.{element_parent}
 use Rattle.jsonc_edit.proofs.ChangesUpward.{Shows-row_below, document_is}
-use Rattle.jsonc_edit.proofs.lemmas.commas.Holders.{name_is, property_alone, value_at_path}
-use Rattle.jsonc_edit.proofs.lemmas.remove.Containers.{Brackets, Held, brackets, held_at}
+use Rattle.jsonc_edit.proofs.lemmas.commas.Holders.{name_is, property_alone, value_at_path, Held}
+use Rattle.jsonc_edit.proofs.lemmas.remove.Containers.{Brackets, brackets, held_at}
 use Rattle.jsonc_edit.proofs.lemmas.remove.Contents.{no_commas}
 use Rattle.jsonc_edit.proofs.lemmas.remove.RemovedStretches.{Edges, Going, going, is_end, with_before, with_behind, with_none}
 use Rattle.jsonc_edit.proofs.lemmas.remove.Parted.{apart_behind, follows, no_bare_begin, no_bare_between, no_bare_end, none_reversed, root_parts, shown_apart, state, value_parts, Apart, Parts}
 use Rattle.jsonc_edit.proofs.lemmas.remove.Places.{before_in, row_split}
 use Rattle.jsonc_edit.proofs.lemmas.remove.Spaces.{due_parts}
 use Rattle.jsonc_edit.proofs.lemmas.remove.Stretches.{contents, near_of, Near}
+use Rattle.jsonc_edit.proofs.LeafKinds.{name_leaf}
 
 none_if_first : (w a b : Bool) (x : Option ℕ) → a ≡ false → cond (w && (a && b)) x None ≡ None
 none_if_first w true b x e = cc
@@ -55,15 +56,15 @@ none_either : (b : Bool) (x y : Option ℕ) → x ≡ None → y ≡ None → co
 none_either true x y e f = e
 none_either false x y e f = f
 
-comma_prints : (c : Content) → IsTrue (is_comma c) → prints c ≡ true
+pub comma_prints : (c : Content) → IsTrue (is_comma c) → prints c ≡ true
 comma_prints (token k) h = unkept_prints (token k) refl
 comma_prints c h = cc
 
-opens_end : (kind : RowKind) → is_end (token (opening kind)) ≡ true
+pub opens_end : (kind : RowKind) → is_end (token (opening kind)) ≡ true
 opens_end of_values = refl
 opens_end of_properties = refl
 
-closes_end : (kind : RowKind) → is_end (token (closing kind)) ≡ true
+pub closes_end : (kind : RowKind) → is_end (token (closing kind)) ≡ true
 closes_end of_values = refl
 closes_end of_properties = refl
 
@@ -193,11 +194,6 @@ module _ (ns : List Node) (tree : IsTree ns) (c n : ℕ) (said : parent_at ns n 
       let stretch : space_needed_at_stretch ns (first_gone ns n) (last_gone ns n) (comma_in ns c n) ≡ None = ap (space_needed_at_stretch ns (first_gone ns n) (last_gone ns n)) with_it ∙ both.1 in
       neither_due (space_needed_before_gap ns c n) (space_needed_after_gap ns c n) before (none_either (is_property (content_at ns c)) None (space_needed_at_stretch ns (first_gone ns n) (last_gone ns n) (comma_in ns c n)) refl stretch) h
 
-no_container_name : (o : Options) (c : Content) → IsNameBefore o c [] → is_container c ≡ false
-no_container_name o (Content.string s) h = refl
-no_container_name o (Content.word s) h = refl
-no_container_name o c h = absurd h
-
 no_container_passed : (c : Content) → IsTrue (is_passed_over c) → is_container c ≡ false
 no_container_passed (Content.whitespace s) h = refl
 no_container_passed (Content.newline k) h = refl
@@ -235,7 +231,7 @@ module _ (o : Options) (ns : List Node) (tree : IsTree ns) (sound : SoundTree o 
         | as_property {path = path} {p = p} i at outer element is ↦ in_property (property_alone o ns tree sound path p c at (ap is_array_or_object outer) (element_parent ns tree p i c element) is) is
         | as_name r is element ↦
             let up = over_parent c r (over_parent n c over said) (element_parent ns tree r 0 c element) in
-            absurd (no_leaf n c said (no_container_name o (content_at ns c) (name_is o ns tree sound r c up is element)))
+            absurd (no_leaf n c said (name_leaf o (content_at ns c) (name_is o ns tree sound r c up is element)))
         | between h ↦ absurd (no_leaf n c said (no_container_passed (content_at ns c) h))
       ]
 

@@ -1,6 +1,5 @@
 -- Where a property has been replaced by another, the object stands where it stood, and the new one is the element that the old one was.
-use Rattle.std.proofs.Common.{◌≡◌, ◌≢◌, ℕ, ◌+◌, Bool, true, List, [], ◌∷◌, ◌++◌, length, take, drop, filter, slice_get, slice_index, Some, inl, inr, refl, sym, ap, subst, ◌∙◌}
-use Rattle.std.proofs.lemmas.Bool.{cases_Bool}
+use Rattle.std.proofs.Common.{◌≡◌, ◌≢◌, ℕ, ◌+◌, true, List, [], ◌∷◌, ◌++◌, length, take, drop, filter, slice_get, slice_index, Some, refl, sym, ap, subst, ◌∙◌}
 use Rattle.std.specs.List.{splice}
 use Rattle.jsonc_text.specs.Plain.{Plain}
 use Rattle.jsonc_tree.specs.OrderedTree.{Top}
@@ -14,25 +13,14 @@ use Rattle.jsonc_edit.specs.Due.{listed}
 use Rattle.jsonc_edit.specs.Put.{AreSpaced}
 use Rattle.jsonc_edit.specs.Paths.{IsElementOf, StepsTo, LeadsTo, itself, step, IsAt}
 use Rattle.jsonc_edit.specs.Reading.{layout_for}
-use Rattle.jsonc_edit.proofs.Elements.{Some_same, taken, left, StandsAt, stands_at}
+use Rattle.jsonc_edit.proofs.Elements.{Some_same, StandsAt, stands_at}
 use Rattle.jsonc_edit.proofs.ReplacedChildren.{InPlace, in_place}
 use Rattle.jsonc_edit.proofs.NodesKept.{at_kept, filter_same}
-use Rattle.jsonc_edit.proofs.NewPaths.{other_held}
-use Rattle.jsonc_edit.proofs.Spacing.{at_stays}
+use Rattle.jsonc_edit.proofs.NewPaths.{other_held, found_behind}
+use Rattle.jsonc_edit.proofs.Spacing.{at_stays, elements_spaced}
 use Rattle.jsonc_edit.proofs.Uniqueness.{element_parent, leads_over}
 use Rattle.jsonc_edit.specs.set.Giving.{due_after, property_top}
 use Rattle.jsonc_edit.specs.set.Properties.{TakesPropertysPlace}
-use Rattle.jsonc_edit.proofs.lemmas.set.PropertyRows.{elements_spaced}
-
--- what passes is found behind as many as pass before it
-found_behind : (test : ℕ → Bool) (front : List ℕ) (m : ℕ) (rest : List ℕ) → test m ≡ true → slice_get (filter test (front ++ m ∷ rest)) (length (filter test front)) ≡ Some m
-found_behind test [] m rest h = ap (λ l. slice_get l 0) (taken test m rest h)
-found_behind test (x ∷ front) m rest h =
-    let others = found_behind test front m rest h in
-    elim (cases_Bool (test x)) [
-      | inl passes ↦ ap (λ l. slice_get l (length (filter test (x ∷ front)))) (taken test x (front ++ m ∷ rest) passes) ∙ ap (λ l. slice_get (x ∷ filter test (front ++ m ∷ rest)) (length l)) (taken test x front passes) ∙ others
-      | inr fails ↦ ap (λ l. slice_get l (length (filter test (x ∷ front)))) (left test x (front ++ m ∷ rest) fails) ∙ ap (λ l. slice_get (filter test (front ++ m ∷ rest)) (length l)) (left test x front fails) ∙ others
-    ]
 
 -- n, a child of c, has been replaced by m
 module _ (old new : List Node) (tree : IsTree old) (n m c i : ℕ) (now : Top) (p : InPlace old new n m now) (element : IsElement now.content) (holds : IsElementOf old c i n) where

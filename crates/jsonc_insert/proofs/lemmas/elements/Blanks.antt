@@ -14,9 +14,10 @@ use Rattle.jsonc_layout.specs.nodes.Kinds.{is_newline_at, is_whitespace_at, is_b
 use Rattle.jsonc_sound.specs.TriviaChanges.{leaves_then}
 use Rattle.jsonc_insert.specs.Trimmed.{blanks, first_gone, inside, last_blanks, last_gone, last_gone_from, last_spaces, spaces, trimmed, without}
 use Rattle.jsonc_insert.proofs.TrimmedRows.{back_blank, blanks_within, first_high, first_within, front_blank, last_behind, last_high, last_low, shorter_at}
-use Rattle.jsonc_edit.proofs.lemmas.multiline.OnLines.{standing}
+use Rattle.jsonc_edit.proofs.LeafKinds.{newline_is}
+use Rattle.jsonc_edit.proofs.Standing.{standing}
 use Rattle.jsonc_insert.specs.elements.Coming.{FirstLinesLeave, none_first, leave_first, LastLinesLeave, none_last, leave_last, BlankLinesLeave}
-use Rattle.jsonc_insert.proofs.lemmas.elements.RowsOfTrees.{AllAre, blank_line, blanks_alone, blanks_are, blanks_row, line_first, newline_is, standing_then}
+use Rattle.jsonc_insert.proofs.lemmas.elements.RowsOfTrees.{AllAre, blank_line, blanks_alone, blanks_are, blanks_row, line_first, standing_then}
 
 -- not all of a list pass where one does not from behind
 stops_backwards : (p : ℕ → Bool) (xs : List ℕ) → prefix_len p xs < length xs → prefix_len p (reverse xs) < length xs

@@ -15,10 +15,9 @@ use Rattle.jsonc_layout.proofs.lemmas.nodes.PropertyValues as kinds
 use Rattle.jsonc_edit.specs.Paths.{IsElementOf, StepsTo, LeadsTo, itself, step, IsAt}
 use Rattle.jsonc_edit.proofs.FittingNodes.{over_there}
 use Rattle.jsonc_edit.proofs.NodesKept.{filter_same}
-use Rattle.jsonc_edit.proofs.Uniqueness.{element_parent, leads_over}
+use Rattle.jsonc_edit.proofs.Uniqueness.{element_parent, leads_over, over_at}
 use Rattle.jsonc_insert.specs.Laws.{KeepsNodesBut}
 use Rattle.jsonc_insert.proofs.Numbering.{changes_one_row, takes_number}
-use Rattle.jsonc_edit.proofs.lemmas.multiline.Documents.{over_at}
 use Rattle.jsonc_insert.specs.elements.Laws.{StandsInPlace}
 
 -- one step further

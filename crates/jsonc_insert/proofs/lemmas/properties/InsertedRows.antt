@@ -5,7 +5,7 @@ use Rattle.jsonc_text.specs.Plain.{Plain}
 use Rattle.jsonc_tree.specs.OrderedTree.{ordered_tree}
 use Rattle.jsonc_tree.specs.Tree.{Node}
 use Rattle.jsonc_edit.proofs.FittingNodes.{over_there}
-use Rattle.jsonc_edit.proofs.lemmas.multiline.Documents.{over_at}
+use Rattle.jsonc_edit.proofs.Uniqueness.{over_at}
 use Rattle.jsonc_insert.proofs.lemmas.elements.Places.{at_still}
 use Rattle.jsonc_insert.proofs.lemmas.elements.Objects.{property_comes_at}
 use Rattle.jsonc_insert.proofs.lemmas.elements.NamedProperties.{inserts_member}

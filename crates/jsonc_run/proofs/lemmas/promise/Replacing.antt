@@ -38,7 +38,7 @@ use Rattle.jsonc_run.proofs.lemmas.promise.Leaves.{back_of, document_parts, docu
 use Rattle.jsonc_run.proofs.lemmas.promise.LaidTexts.{is_laid}
 use Rattle.jsonc_run.proofs.lemmas.promise.Plains.{changed}
 use Rattle.jsonc_sound.specs.Documents.{document_of}
-use Rattle.jsonc_run.proofs.lemmas.promise.ReplacedTexts.{some_value}
+use Rattle.jsonc_edit.proofs.SoundValues.{some_value}
 use Rattle.jsonc_run.proofs.lemmas.promise.Stretches.{Begins, laid_literals, marks_in, parted, parted_as, pieces_first, pieces_second, seam_unmarked, space_behind_unmarked, value_begins}
 use Rattle.jsonc_run.proofs.lemmas.promise.Values.{at_the_place}
 use Rattle.jsonc_run.proofs.lemmas.promise.Places.{document_itself, silent_then, seam_if, space_text}
