@@ -392,7 +392,7 @@ module _ (o : Options) (old new : List Node) (path : List ℕ) (c i n : ℕ) (tr
   place = at_between ready f.prepared.tree path c at_ready
 
   at_new : IsAt new path c
-  at_new = at_still spaced new c s.tree moved.content moved.children path at_spaced
+  at_new = at_still spaced new c s.tree (λ k there. moved.content k) (λ k there ne. moved.children k ne) path at_spaced
 
   stands_new : StandsBetween new c place.first place.last
   stands_new = between_above spaced new c then_moved after c place.first place.last (between_above ready spaced c in_row s.tree c place.first place.last place.stands IsOver.itself) IsOver.itself

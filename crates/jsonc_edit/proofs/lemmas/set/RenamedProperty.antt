@@ -173,7 +173,7 @@ module _ (old new : List Node) (p m : ℕ) (name : List ℕ) (tree : IsTree old)
         ∙ ap (λ k. splice (children_at old p) k (k + 1) (m ∷ [])) (place_kept old ready tree kept n p child);
     others = λ k h ne. spliced.others k ne ∙ kept.children k h;
     still_at = λ k path over at.
-        at_over ready new p g.prepared.tree (λ j. spliced.content j) (λ j ne. spliced.others j ne) k (over_also k p p_there over) path (at_kept old ready tree kept path k at);
+        at_over ready new p g.prepared.tree (λ j there. spliced.content j) (λ j there ne. spliced.others j ne) k (over_also k p p_there over) path (at_kept old ready tree kept path k at);
   }
 
   -- p is the property number i of the object c, which stands at a path of a sound document

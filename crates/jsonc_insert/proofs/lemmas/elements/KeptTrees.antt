@@ -26,6 +26,7 @@ use Rattle.jsonc_edit.proofs.FittingIndents.{indents_fit, indent_joined}
 use Rattle.jsonc_edit.proofs.FittingNodes.{children_over}
 use Rattle.jsonc_edit.proofs.Uniqueness.{over_at}
 use Rattle.jsonc_edit.proofs.Standing.{standing}
+use Rattle.jsonc_edit.proofs.PathsKept.{at_still}
 use Rattle.jsonc_insert.specs.Inserted.{BecomesRow}
 use Rattle.jsonc_insert.specs.Laws.{KeepsNodesBut}
 use Rattle.jsonc_insert.specs.Planned.{elements}
@@ -35,7 +36,6 @@ use Rattle.jsonc_insert.proofs.Additions.{parent_out, whole_row}
 use Rattle.jsonc_insert.proofs.RowReplaced.{may_join, IsRowFor}
 use Rattle.jsonc_insert.proofs.lemmas.elements.Containers as containers
 use Rattle.jsonc_insert.proofs.lemmas.elements.Documents.{sound_with_row}
-use Rattle.jsonc_insert.proofs.lemmas.elements.Places.{at_still}
 use Rattle.jsonc_insert.proofs.lemmas.elements.Rows.{IsRow}
 
 -- two spaces are an indent, and so is one indent after another
@@ -114,7 +114,7 @@ module _ (o : Options) (kind : RowKind) (old : List Node) (path : List ℕ) (c :
   }
 
   over_kept : IsOver kept 0 c
-  over_kept = over_at kept has.tree path c (at_still old kept c tree keeps_but path at)
+  over_kept = over_at kept has.tree path c (at_still old kept c tree keeps_but.content keeps_but.children path at)
 
   pub layout_fits : FitsLayout o (layout_inside kept c)
   layout_fits = layout_told o kept has.tree sound_kept.shaped c over_kept
