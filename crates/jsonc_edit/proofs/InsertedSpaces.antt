@@ -13,7 +13,7 @@ use Rattle.jsonc_tree.proofs.SplicedTrees.{Shows-spliced, Replaced-splice}
 use Rattle.jsonc_tree.proofs.Order.{over_step, parent_there}
 use Rattle.jsonc_tree.proofs.Over.{over_up}
 use Rattle.jsonc_tree.proofs.OrderedTrees.{Shows-ordered_tree}
-use Rattle.jsonc_tree.proofs.Rows.{Shows-append, Shows-part, Shows-kept, followed_by-assoc}
+use Rattle.jsonc_tree.proofs.Rows.{Shows-append, Shows-part, followed_by-assoc}
 use Rattle.jsonc_layout.specs.nodes.Kinds.{is_element, is_element_at}
 use Rattle.jsonc_layout.specs.nodes.Siblings.{elements_at}
 use Rattle.jsonc_sound.specs.TreeChanges.{IsElement}
@@ -25,6 +25,7 @@ use Rattle.jsonc_edit.proofs.Lists.{filter_same}
 use Rattle.jsonc_edit.proofs.Elements.{none_some}
 use Rattle.jsonc_edit.proofs.ValuePlaces.{no_row}
 use Rattle.jsonc_edit.proofs.LeafKinds.{no_root}
+use Rattle.jsonc_edit.proofs.ChangesUpward.{apart_kept}
 
 -- the document is its root over a row
 pub document_is : (ns : List Node) → IsTree ns → more root (grown (length ns) ns 0) none ≡ ordered_tree ns 0
@@ -108,11 +109,7 @@ module _ (old new : List Node) (n space : ℕ) (tree : IsTree old) (r : StandsBe
 
   -- the row below a node that isn't over the container stays
   pub rows_kept : (xs : List ℕ) (t : OrderedTree) → ((k : ℕ) → k < length xs → IsOver old (slice_index xs k) c → ⊥) → Shows old xs t → Shows new xs t
-  rows_kept xs t apart shows =
-      Shows-kept old new (λ m. IsOver old m c → ⊥)
-      (λ m k out h over. out (over_up old (slice_index (children_at old m) k) m c (tree.named m k h) over))
-      (λ m out. contents_kept m)
-      (λ m out. children_kept m (λ e. out (subst (λ k. IsOver old k c) (sym e) IsOver.itself))) xs t apart shows
+  rows_kept xs t apart shows = apart_kept old new c (record { tree = tree; content = λ m ne. contents_kept m; children = children_kept }) xs t apart shows
 
   pub row_kept : (k : ℕ) (t : OrderedTree) → (IsOver old k c → ⊥) → Shows old (children_at old k) t → Shows new (children_at new k) t
   row_kept k t apart shows =

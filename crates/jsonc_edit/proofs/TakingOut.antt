@@ -33,6 +33,15 @@ use Rattle.jsonc_edit.proofs.SpacedNodes.{IsChild, between_children, between_pla
 use Rattle.jsonc_edit.proofs.Removal.{from_before, takes_trivia, gone_blanks, gone_text, are_gone_blanks, blanks_and_comment, sound_without}
 use Rattle.jsonc_edit.proofs.Spacing.{Spaced, all_spaced, parent_stays, spaces_sound, spaces_value}
 
+-- whitespace before a place of a row begins at that place at the latest
+pub blanks_low : (ns : List Node) (row : List ℕ) (place : ℕ) → blanks_from ns row place ≤ place
+blanks_low ns row zero = omega arith
+blanks_low ns row (suc place) =
+    elim (cases_Bool (is_whitespace_at ns (slice_index row place))) [
+      | inl h ↦ (let e : blanks_from ns row (suc place) ≡ blanks_from ns row place = rw h refl in omega (arith, e, blanks_low ns row place))
+      | inr h ↦ (let e : blanks_from ns row (suc place) ≡ suc place = rw h refl in omega (arith, e))
+    ]
+
 -- what leaves with a comment stays the same while other nodes are made
 module _ (old new : List Node) (tree : IsTree old) (keeps : Keeps (length old) old new) (c : ℕ) where
   abbrev row : List ℕ
@@ -51,14 +60,6 @@ module _ (old new : List Node) (tree : IsTree old) (keeps : Keeps (length old) o
   newline_same zero h = refl
   newline_same (suc place) h = ap (λ b. cond b place (suc place)) (ap is_newline (same_content place (omega (arith, h))))
 
-  blanks_within : (place : ℕ) → blanks_from old row place ≤ place
-  blanks_within zero = omega arith
-  blanks_within (suc place) =
-      elim (cases_Bool (is_whitespace_at old (slice_index row place))) [
-        | inl h ↦ (let e : blanks_from old row (suc place) ≡ blanks_from old row place = rw h refl in omega (arith, e, blanks_within place))
-        | inr h ↦ (let e : blanks_from old row (suc place) ≡ suc place = rw h refl in omega (arith, e))
-      ]
-
   module _ (n : ℕ) (said : parent_at old n ≡ Some c) where
     low : (n < length old) × (c < length old)
     low = parent_there old tree n c said
@@ -72,7 +73,7 @@ module _ (old new : List Node) (tree : IsTree old) (keeps : Keeps (length old) o
         ∙ ap (λ l. if is_line_comment (content_at old n) then newline_from new l (blanks_from new l (place_at new n)) else place_at new n) (keeps.children c low.1)
         ∙ ap (λ k. if is_line_comment (content_at old n) then newline_from new row (blanks_from new row k) else k) (place_kept old new tree keeps n c said)
         ∙ ap (λ k. if is_line_comment (content_at old n) then newline_from new row k else place_at old n) (blanks_same (place_at old n) place_in)
-        ∙ ap (λ k. if is_line_comment (content_at old n) then k else place_at old n) (newline_same (blanks_from old row (place_at old n)) (omega (arith, blanks_within (place_at old n), place_in)))
+        ∙ ap (λ k. if is_line_comment (content_at old n) then k else place_at old n) (newline_same (blanks_from old row (place_at old n)) (omega (arith, blanks_low old row (place_at old n), place_in)))
 
     first_there : slice_index row (removed_from old c n) < length old
     first_there = tree.in_tree c (removed_from old c n) (omega (arith, from_before old tree c n said, tree.within n c said))
