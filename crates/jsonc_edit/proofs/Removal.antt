@@ -9,7 +9,7 @@ use Rattle.jsonc_tree.specs.Tree.{Node, content_at, parent_at, children_at, plac
 use Rattle.jsonc_tree.proofs.SplicedTrees.{Shows-spliced, Replaced-splice}
 use Rattle.jsonc_tree.proofs.Order.{over_step, parent_there}
 use Rattle.jsonc_tree.proofs.Rows.{Shows-part}
-use Rattle.jsonc_layout.specs.nodes.Kinds.{is_whitespace, is_newline, is_comment, is_trivia, is_whitespace_at, is_newline_at, is_comment_at, is_trivia_at}
+use Rattle.jsonc_layout.specs.nodes.Kinds.{is_whitespace, is_newline, is_comment, is_trivia, is_newline_at, is_comment_at, is_trivia_at}
 use Rattle.jsonc_sound.specs.Lines.{is_line_comment}
 use Rattle.jsonc_sound.specs.TriviaChanges.{AreTrivia, leaves_then, LeavesChanged, StretchChanged, in_root, inside, EndsInComment, one_comment, line_comment}
 use Rattle.jsonc_text.specs.Options.{Options}
@@ -35,6 +35,7 @@ use Rattle.jsonc_edit.proofs.ChangesUpward.{Shows-row_below, document_is}
 use Rattle.jsonc_edit.proofs.LeafKinds.{trivia_leaf, comment_trivia}
 use Rattle.jsonc_edit.proofs.Elements.{none_some}
 use Rattle.jsonc_edit.proofs.ValuePlaces.{no_row}
+use Rattle.jsonc_edit.proofs.BlanksBefore.{blanks_low, blanks_are}
 
 whitespace_trivia : (c : Content) → is_whitespace c ≡ true → IsTrue (is_trivia c)
 whitespace_trivia (Content.whitespace s) h = refl
@@ -69,27 +70,6 @@ gap_trivia (Content.newline k) h = refl
 gap_trivia c h = cc
 
 module _ (ns : List Node) (row : List ℕ) where
-  blanks_before : (place : ℕ) → blanks_from ns row place ≤ place
-  blanks_before zero = omega arith
-  blanks_before (suc place) =
-      elim (cases_Bool (is_whitespace_at ns (slice_index row place))) [
-        | inl h ↦ (let e : blanks_from ns row (suc place) ≡ blanks_from ns row place = rw h refl in omega (arith, e, blanks_before place))
-        | inr h ↦ (let e : blanks_from ns row (suc place) ≡ suc place = rw h refl in omega (arith, e))
-      ]
-
-  blanks_are : (place at : ℕ) → blanks_from ns row place ≤ at → at < place → IsTrue (is_gap_at ns (slice_index row at))
-  blanks_are zero at a b = absurd (omega (arith, b))
-  blanks_are (suc place) at a b =
-      elim (cases_Bool (is_whitespace_at ns (slice_index row place))) [
-        | inr h ↦ (let e : blanks_from ns row (suc place) ≡ suc place = rw h refl in absurd (omega (arith, e, a, b)))
-        | inl h ↦
-            let e : blanks_from ns row (suc place) ≡ blanks_from ns row place = rw h refl in
-            elim (cases_lt at place) [
-              | inl l ↦ blanks_are place at (omega (arith, e, a)) l
-              | inr m ↦ (let same : place ≡ at = omega (arith, m, b) in subst (λ k. IsTrue (is_gap_at ns (slice_index row k))) same (whitespace_gap (content_at ns (slice_index row place)) h))
-            ]
-      ]
-
   newline_before : (place : ℕ) → newline_from ns row place ≤ place
   newline_before zero = omega arith
   newline_before (suc place) =
@@ -150,7 +130,7 @@ module _ (ns : List Node) (tree : IsTree ns) where
         elim (cases_Bool (is_line_comment (content_at ns n))) [
           | inl h ↦
               let e : from ≡ newline_from ns cs (blanks_from ns cs place) = rw h refl in
-              omega (arith, e, newline_before ns cs (blanks_from ns cs place), blanks_before ns cs place)
+              omega (arith, e, newline_before ns cs (blanks_from ns cs place), blanks_low ns cs place)
           | inr h ↦ (let e : from ≡ place = rw h refl in omega (arith, e))
         ]
 
@@ -162,7 +142,7 @@ module _ (ns : List Node) (tree : IsTree ns) where
               let e : from ≡ newline_from ns cs (blanks_from ns cs place) = rw h refl in
               elim (cases_lt at (blanks_from ns cs place)) [
                 | inl l ↦ newline_is ns cs (blanks_from ns cs place) at (omega (arith, e, a)) l
-                | inr m ↦ blanks_are ns cs place at m b
+                | inr m ↦ whitespace_gap (content_at ns (slice_index cs at)) (blanks_are ns cs place at m b)
               ]
         ]
 

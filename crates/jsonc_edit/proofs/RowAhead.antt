@@ -14,7 +14,7 @@ use Rattle.jsonc_edit.specs.Put.{StandsBefore}
 use Rattle.jsonc_edit.proofs.Elements.{Some_same}
 use Rattle.jsonc_edit.proofs.InsertedSpaces.{children_kept, container_row, contents_kept, place_within, placed_ahead, placed_elsewhere}
 use Rattle.jsonc_edit.proofs.UnneededSpaces.{either_seen, holder_seen, nearest_in}
-use Rattle.jsonc_edit.proofs.TakingOut.{blanks_low}
+use Rattle.jsonc_edit.proofs.BlanksBefore.{blanks_low}
 
 take_front : (k m : ℕ) (row rest : List ℕ) → k ≤ m → m ≤ length row → take k (take m row ++ rest) ≡ take k row
 take_front k m row rest low inn = take-append-le k (take m row) rest (omega (arith, low, inn, length-take m row)) ∙ take-take k m row low

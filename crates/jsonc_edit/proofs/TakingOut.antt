@@ -1,6 +1,5 @@
 -- A comment is taken out, with a space in its place where one is due.
-use Rattle.std.proofs.Common.{◌≡◌, ℕ, zero, suc, ◌<◌, ◌≤◌, Bool, true, false, ◌&&◌, ◌||◌, cond, List, [], ◌∷◌, ◌++◌, length, slice_index, Option, Some, None, IsTrue, inl, inr, if◌then◌else◌, refl, sym, ap, subst, ◌∙◌, arith}
-use Rattle.std.proofs.lemmas.Bool.{cases_Bool}
+use Rattle.std.proofs.Common.{◌≡◌, ℕ, zero, suc, ◌<◌, ◌≤◌, Bool, true, false, ◌&&◌, ◌||◌, cond, List, [], ◌∷◌, ◌++◌, length, slice_index, Option, Some, None, IsTrue, if◌then◌else◌, refl, sym, ap, subst, ◌∙◌, arith}
 use Rattle.std.proofs.lemmas.List.Elements.{All-weaker}
 use Rattle.std.specs.List.{slice_get, All}
 use Rattle.jsonc_text.specs.Options.{Options}
@@ -32,15 +31,7 @@ use Rattle.jsonc_edit.proofs.NodesKept.{tree_stays, place_kept}
 use Rattle.jsonc_edit.proofs.SpacedNodes.{IsChild, between_children, between_placed}
 use Rattle.jsonc_edit.proofs.Removal.{from_before, takes_trivia, gone_blanks, gone_text, are_gone_blanks, blanks_and_comment, sound_without}
 use Rattle.jsonc_edit.proofs.Spacing.{Spaced, all_spaced, parent_stays, spaces_sound, spaces_value}
-
--- whitespace before a place of a row begins at that place at the latest
-pub blanks_low : (ns : List Node) (row : List ℕ) (place : ℕ) → blanks_from ns row place ≤ place
-blanks_low ns row zero = omega arith
-blanks_low ns row (suc place) =
-    elim (cases_Bool (is_whitespace_at ns (slice_index row place))) [
-      | inl h ↦ (let e : blanks_from ns row (suc place) ≡ blanks_from ns row place = rw h refl in omega (arith, e, blanks_low ns row place))
-      | inr h ↦ (let e : blanks_from ns row (suc place) ≡ suc place = rw h refl in omega (arith, e))
-    ]
+use Rattle.jsonc_edit.proofs.BlanksBefore.{blanks_low}
 
 -- what leaves with a comment stays the same while other nodes are made
 module _ (old new : List Node) (tree : IsTree old) (keeps : Keeps (length old) old new) (c : ℕ) where

@@ -6,20 +6,18 @@ use Rattle.std.proofs.lemmas.List.Folds.{find-append}
 use Rattle.std.proofs.lemmas.Slice.Eq.{bytes_eq-Decides}
 use Rattle.std.specs.Option.{option_or}
 use Rattle.jsonc_text.specs.Options.{Options}
-use Rattle.jsonc_tree.specs.Content.{Content, is_container, property, root, token}
-use Rattle.jsonc_tree.specs.OrderedTree.{OrderedTree, more, none, ordered_tree}
+use Rattle.jsonc_tree.specs.Content.{Content, is_container, property, token}
+use Rattle.jsonc_tree.specs.OrderedTree.{ordered_tree}
 use Rattle.jsonc_tree.specs.Siblings.{siblings_before}
 use Rattle.jsonc_tree.specs.Tree.{Node, children_at, content_at, is_container_at, parent_at, place_at, IsOver, IsTree}
 use Rattle.jsonc_tree.specs.Values.{is_passed_over}
 use Rattle.jsonc_tree.proofs.Order.{over_step, parent_there}
 use Rattle.jsonc_layout.specs.nodes.Kinds.{is_element_at, is_property, is_comma, is_comma_at}
 use Rattle.jsonc_layout.specs.lines.Kinds.{is_array_or_object}
-use Rattle.jsonc_sound.specs.Alone.{PropertyAlone, RootAlone}
+use Rattle.jsonc_sound.specs.Alone.{PropertyAlone}
 use Rattle.jsonc_sound.specs.Leaving.{AreInlineTrivia, IsRestOfLine}
 use Rattle.jsonc_sound.specs.Rows.{RowKind, of_values, of_properties, closing, opening}
-use Rattle.jsonc_sound.specs.Shape.{DocumentShaped}
 use Rattle.jsonc_sound.specs.SoundTrees.{SoundTree}
-use Rattle.jsonc_sound.proofs.NodesAlone.{document_alone}
 use Rattle.jsonc_sound.proofs.RowParts.{beside_trivia, rest_trivia}
 use Rattle.jsonc_edit.specs.Changes.{row_below}
 use Rattle.jsonc_edit.specs.Due.{begins_bare, space_needed_between, ends_bare, nearest, prints, prints_at, prints_within, seen_before, seen_behind}
@@ -31,7 +29,7 @@ use Rattle.jsonc_edit.specs.remove.Removed.{comma_in, space_needed_at_comma, spa
 use Rattle.jsonc_edit.proofs.Printing.{unkept_prints}
 use Rattle.jsonc_edit.proofs.ShapedPlaces.{all_stand}
 use Rattle.jsonc_edit.proofs.Uniqueness.{element_parent}
-use Rattle.jsonc_edit.proofs.ChangesUpward.{Shows-row_below, document_is}
+use Rattle.jsonc_edit.proofs.ChangesUpward.{Shows-row_below, root_row}
 use Rattle.jsonc_edit.proofs.lemmas.commas.Holders.{name_is, property_alone, value_at_path, Held}
 use Rattle.jsonc_edit.proofs.lemmas.remove.Containers.{Brackets, brackets, held_at}
 use Rattle.jsonc_edit.proofs.lemmas.remove.Contents.{no_commas}
@@ -205,12 +203,6 @@ module _ (o : Options) (ns : List Node) (tree : IsTree ns) (sound : SoundTree o 
   row_apart : (c : ℕ) → c < length ns → Parts 0x2C false (row_below ns c) → Apart 0x2C ns false (children_at ns c)
   row_apart c low h = shown_apart 0x2C ns false (Shows-row_below ns tree c low) h
 
-  root_row : RootAlone o false (row_below ns 0)
-  root_row = by (document_alone o (subst (DocumentShaped o) (sym (document_is ns tree (row_below ns 0) (Shows-row_below ns tree 0 tree.first))) sound.shaped))
-    where
-      by : (row : OrderedTree) × (more root (row_below ns 0) none ≡ more root row none) × RootAlone o false row → RootAlone o false (row_below ns 0)
-      by (row, e, g) = let same : row ≡ row_below ns 0 = cc in subst (RootAlone o false) same g
-
   over_parent : (n c : ℕ) → IsOver ns 0 n → parent_at ns n ≡ Some c → IsOver ns 0 c
   over_parent n c over said = over_step ns tree 0 n c over (λ e. let wrong : None ≡ Some c = sym tree.root_alone ∙ ap (parent_at ns) (sym e) ∙ said in cc) said
 
@@ -236,7 +228,7 @@ module _ (o : Options) (ns : List Node) (tree : IsTree ns) (sound : SoundTree o 
       ]
 
   pub root_apart : Apart 0x2C ns false (children_at ns 0)
-  root_apart = row_apart 0 tree.first (root_parts o root_row)
+  root_apart = row_apart 0 tree.first (root_parts o (root_row o ns tree sound))
 
   pub value_apart : (path : List ℕ) (n c : ℕ) → parent_at ns n ≡ Some c → IsAt ns path c → Apart 0x2C ns false (children_at ns c)
   value_apart path n c said at = row_apart c (parent_there ns tree n c said).1 (value_parts o commas (value_at_path o ns tree sound path c at))

@@ -15,7 +15,6 @@ use Rattle.jsonc_tree.proofs.OrderedTrees.{Shows-unique}
 use Rattle.jsonc_tree.proofs.Rows.{Shows-append, Shows-part, followed_by-none}
 use Rattle.jsonc_layout.specs.nodes.Kinds.{is_trivia, is_element_at, is_property, is_blank_at}
 use Rattle.jsonc_layout.proofs.lemmas.nodes.InTree.{All-reverse}
-use Rattle.jsonc_sound.specs.Shape.{DocumentShaped}
 use Rattle.jsonc_layout.specs.lines.Kinds.{is_array_or_object}
 use Rattle.jsonc_layout.specs.lines.Siblings.{is_no_trivia_at, if_comma, trailing_comma_at}
 use Rattle.jsonc_tree.specs.OrderedTree.{Top}
@@ -25,7 +24,6 @@ use Rattle.jsonc_sound.specs.Alone as alone
 use Rattle.jsonc_sound.specs.Alone.{RootAlone}
 use Rattle.jsonc_sound.specs.SoundTrees.{SoundTree}
 use Rattle.jsonc_sound.specs.Spaces.{is_bare}
-use Rattle.jsonc_sound.proofs.NodesAlone.{document_alone}
 use Rattle.jsonc_sound.proofs.RowParts.{rest_trivia}
 use Rattle.jsonc_sound.specs.MarkChanges.{AreBlanks}
 use Rattle.jsonc_sound.specs.Leaving.{AreInlineTrivia, ends_apart, among, ValueRemoved, value_leaves, Empties, empties, IsRestOfLine}
@@ -36,7 +34,7 @@ use Rattle.jsonc_edit.specs.Paths.{IsElementOf}
 use Rattle.jsonc_edit.proofs.Elements.{stands_at}
 use Rattle.jsonc_edit.proofs.NodesKept.{top_stays, tree_stays}
 use Rattle.jsonc_edit.proofs.Uniqueness.{element_parent}
-use Rattle.jsonc_edit.proofs.ChangesUpward.{Shows-row_below, apart_kept, document_is}
+use Rattle.jsonc_edit.proofs.ChangesUpward.{Shows-row_below, apart_kept, document_is, root_row}
 use Rattle.jsonc_edit.specs.remove.Laws.{ValueTaken}
 use Rattle.jsonc_edit.specs.remove.Leaving.{comes_to, comma_gone, first_gone, last_gone, last_past, line_end_at}
 use Rattle.jsonc_edit.specs.remove.Removed.{comma_in, space_needed_at_comma, space_needed_at_stretch, is_hollow, is_hollow_as, hollow_from, hollow_to, IsTakenFrom, LosesChild, TakesElement}
@@ -135,12 +133,6 @@ module _ (o : Options) (ns : List Node) (tree : IsTree ns) (n : ℕ) (said : par
   split : children_at ns 0 ≡ pre ++ n ∷ post
   split = row_split ns tree 0 n said
 
-  root_row : RootAlone o false (row_below ns 0)
-  root_row = by (document_alone o (subst (DocumentShaped o) (sym (document_is ns tree (row_below ns 0) (Shows-row_below ns tree 0 tree.first))) sound.shaped))
-    where
-      by : (row : OrderedTree) × (more root (row_below ns 0) none ≡ more root row none) × RootAlone o false row → RootAlone o false (row_below ns 0)
-      by (row, e, g) = let same : row ≡ row_below ns 0 = cc in subst (RootAlone o false) same g
-
   trivia_both : AreTrivia (contents ns pre) × AreTrivia (contents ns post)
   trivia_both = by (Shows-part ns pre (n ∷ post) (row_below ns 0) (subst (λ (l : List ℕ). Shows ns l (row_below ns 0)) split (Shows-row_below ns tree 0 tree.first)))
     where
@@ -148,7 +140,7 @@ module _ (o : Options) (ns : List Node) (tree : IsTree ns) (n : ℕ) (said : par
       inner front p (shows_more {below = below} {after = after} q r) g = let two = trivia_around o ns (content_at ns n) below after p element g in (two.0, trivia_behind o ns r two.1)
 
       by : (a : OrderedTree) × (b : OrderedTree) × (row_below ns 0 ≡ followed_by a b) × Shows ns pre a × Shows ns (n ∷ post) b → AreTrivia (contents ns pre) × AreTrivia (contents ns post)
-      by (a, b, e, p, q) = inner a p q (subst (RootAlone o false) e root_row)
+      by (a, b, e, p, q) = inner a p q (subst (RootAlone o false) e (root_row o ns tree sound))
 
   around : Near ns pre n (first_gone ns n)
   around = subst (λ r. Near ns r n (first_gone ns n)) (ap (λ (l : List ℕ). reverse l) (before_in ns tree 0 pre post n split) ∙ reverse-reverse pre) (near_of ns n (siblings_before ns n))
