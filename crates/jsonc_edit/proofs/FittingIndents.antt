@@ -1,5 +1,5 @@
 -- The indents that are read from a document are indents: blanks within a line.
-use Rattle.std.proofs.Common.{◌≡◌, ℕ, zero, suc, ◌+◌, ◌-◌, ◌≤◌, ◌==◌, ◌&&◌, Bool, true, cond, List, [], ◌∷◌, ◌++◌, map, All, length, take, drop, Option, Some, None, IfSome, is_some, option_and_then, option_map, unwrap_or, nat_eq, IsUtf8, chars, refl, sym, ap, subst, ◌∙◌, arith, rules, length-take}
+use Rattle.std.proofs.Common.{◌≡◌, ℕ, zero, suc, ◌+◌, ◌≤◌, ◌==◌, ◌&&◌, Bool, true, cond, List, [], ◌∷◌, ◌++◌, map, All, length, take, drop, Option, Some, None, IfSome, is_some, option_and_then, option_map, unwrap_or, nat_eq, IsUtf8, chars, refl, sym, ap, subst, ◌∙◌, arith, rules, length-take}
 use Rattle.std.specs.Cmp.Lexicographic.{same_text}
 use Rattle.std.specs.List.{flat_map, starts_with, take_while, prefix_len}
 use Rattle.std.specs.Option.{option_or}
