@@ -35,7 +35,7 @@ use Rattle.jsonc_run.specs.texts.Paths.{Entry}
 use Rattle.jsonc_run.specs.texts.Edits.{IsSeam, Comma, Leaves, Loses}
 use Rattle.jsonc_run.specs.promise.PlaceLaws.{text_of_leaves}
 use Rattle.jsonc_run.proofs.lemmas.promise.CommentTexts.{blanks_text}
-use Rattle.jsonc_run.proofs.lemmas.promise.Leaves.{back_of, document_parts, document_utf8, text_joined, utf8_first, utf8_second}
+use Rattle.jsonc_run.proofs.lemmas.promise.Leaves.{back_of, document_parts, document_utf8, utf8_first, utf8_second}
 use Rattle.jsonc_run.proofs.lemmas.promise.RemovedEntries.{loses_value}
 use Rattle.jsonc_run.proofs.lemmas.promise.StretchElements.{renumber, rest_as, Reached, at_first, past_comma, past_row}
 use Rattle.jsonc_run.proofs.lemmas.promise.StretchElements as reaching
@@ -50,7 +50,7 @@ use Rattle.jsonc_sound.specs.Rows.{an_element, nothing_yet}
 use Rattle.jsonc_sound.proofs.WithoutValue.{among_leaves}
 use Rattle.jsonc_sound.proofs.SeamRows.{container_leaves}
 use Rattle.jsonc_edit.proofs.SeamsParting.{bare_first}
-use Rattle.jsonc_run.proofs.lemmas.promise.Places.{DocumentItself, document_itself, silent_then, seam_if, space_text}
+use Rattle.jsonc_run.proofs.lemmas.promise.Places.{DocumentItself, document_itself, silent_then, seam_if, seam_then}
 use Rattle.jsonc_run.proofs.lemmas.promise.Bare.{AllSpelled, BeginsBare, EndsBare, begins_before, begins_so, ends_so, meets, seam_due, spelled, spelled_first, spelled_second}
 
 -- the second leaves are the first with a space directly before what is printed first, or none: one where that is a literal without quotes, and so is what is printed
@@ -84,9 +84,7 @@ seam_text : {ahead xs ys : List Content} {b : Bool} → SeamIn ahead xs ys b →
 seam_text {ahead} {xs} {ys} {b} s u v =
     let first : AllUtf8 (s.quiet ++ s.rest) = subst AllUtf8 s.was u in
     let second : AllUtf8 (s.quiet ++ (space_if b ++ s.rest)) = subst AllUtf8 s.is v in
-    ap text_of_leaves s.is ∙ silent_then s.quiet (space_if b ++ s.rest) s.silent second
-    ∙ text_joined (space_if b) s.rest (utf8_first (space_if b) s.rest (utf8_second s.quiet (space_if b ++ s.rest) second))
-    ∙ ap (λ l. l ++ text_of_leaves s.rest) (space_text b)
+    ap text_of_leaves s.is ∙ seam_then s.quiet s.rest b s.silent second
     ∙ ap (λ l. seam_if b ++ l) (sym (ap text_of_leaves s.was ∙ silent_then s.quiet s.rest s.silent first))
 
 -- and begins with a literal without quotes, if that is printed first
