@@ -1,5 +1,6 @@
 -- The blanks before a child of a container, one sibling after the other.
-use Rattle.std.proofs.Common.{◌≡◌, ℕ, zero, suc, ◌+◌, ◌<◌, ◌≤◌, Bool, true, false, cond, List, [], ◌∷◌, length, get_or, drop, take, reverse, slice_index, Some, None, refl, sym, ap, ◌∙◌, arith}
+use Rattle.std.proofs.Common.{◌≡◌, ℕ, zero, suc, ◌+◌, ◌<◌, ◌≤◌, Bool, true, false, cond, List, [], ◌∷◌, length, get_or, drop, take, reverse, slice_index, Some, None, inl, inr, refl, sym, ap, subst, ◌∙◌, arith}
+use Rattle.std.proofs.lemmas.Bool.{cases_Bool, cases_lt}
 use Rattle.std.proofs.lemmas.List.{reverse-append, take_more}
 use Rattle.jsonc_tree.specs.Order.{with_parent}
 use Rattle.jsonc_tree.specs.Siblings.{first, siblings_before}
@@ -130,3 +131,25 @@ module _ (ns : List Node) (tree : IsTree ns) (c : ℕ) where
     removes_line e b blanks low m child line lower =
         let from : removed_from ns c n ≡ place_at ns m = begins_by true e ∙ ap (newline_from ns row) (sym blanks) ∙ sym line in
         (sym (ap (slice_index row) from ∙ tree.found m c child), omega (arith, from, low, lower), (parent_there ns tree m c child).0)
+
+-- whitespace before a place of a row begins at that place at the latest
+pub blanks_low : (ns : List Node) (row : List ℕ) (place : ℕ) → blanks_from ns row place ≤ place
+blanks_low ns row zero = omega arith
+blanks_low ns row (suc place) =
+    elim (cases_Bool (is_whitespace_at ns (slice_index row place))) [
+      | inl h ↦ (let e : blanks_from ns row (suc place) ≡ blanks_from ns row place = rw h refl in omega (arith, e, blanks_low ns row place))
+      | inr h ↦ (let e : blanks_from ns row (suc place) ≡ suc place = rw h refl in omega (arith, e))
+    ]
+
+pub blanks_are : (ns : List Node) (row : List ℕ) (place at : ℕ) → blanks_from ns row place ≤ at → at < place → is_whitespace_at ns (slice_index row at) ≡ true
+blanks_are ns row zero at a b = absurd (omega (arith, b))
+blanks_are ns row (suc place) at a b =
+    elim (cases_Bool (is_whitespace_at ns (slice_index row place))) [
+      | inr h ↦ (let e : blanks_from ns row (suc place) ≡ suc place = rw h refl in absurd (omega (arith, e, a, b)))
+      | inl h ↦
+          let e : blanks_from ns row (suc place) ≡ blanks_from ns row place = rw h refl in
+          elim (cases_lt at place) [
+            | inl l ↦ blanks_are ns row place at (omega (arith, e, a)) l
+            | inr m ↦ (let same : place ≡ at = omega (arith, m, b) in subst (λ k. is_whitespace_at ns (slice_index row k) ≡ true) same h)
+          ]
+    ]

@@ -1,6 +1,7 @@
 -- From the change of one row up to the document: on the way to the root each row changes in one element.
 use Rattle.std.proofs.Common.{◌≡◌, ◌≢◌, ℕ, ◌+◌, ◌<◌, List, [], ◌∷◌, ◌++◌, length, slice_index, take, drop, filter, Some, refl, sym, ap, subst, ◌∙◌, arith, add-zero, length-take, length-drop, get_or-take, get_or-drop}
 use Rattle.std.proofs.lemmas.List.{take-append-drop, drop_more}
+use Rattle.jsonc_text.specs.Options.{Options}
 use Rattle.jsonc_tree.specs.Content.{Content, root, array, object, property}
 use Rattle.jsonc_tree.specs.Tree.{Node, content_at, parent_at, children_at, place_at, IsTree, IsOver}
 use Rattle.jsonc_tree.specs.OrderedTree.{OrderedTree, none, more, followed_by, Shows, shows_more, ordered_tree, Top}
@@ -10,6 +11,10 @@ use Rattle.jsonc_tree.proofs.OrderedTrees.{Shows-ordered_tree, Shows-unique}
 use Rattle.jsonc_tree.proofs.Rows.{Shows-append, Shows-part, Shows-kept}
 use Rattle.jsonc_layout.specs.nodes.Kinds.{is_element_at}
 use Rattle.jsonc_sound.specs.TreeChanges.{IsElement, ElementChanged, this_element, ValueChanged, DocumentChanged, in_root}
+use Rattle.jsonc_sound.specs.Shape.{DocumentShaped}
+use Rattle.jsonc_sound.specs.Alone.{RootAlone}
+use Rattle.jsonc_sound.specs.SoundTrees.{SoundTree}
+use Rattle.jsonc_sound.proofs.NodesAlone.{document_alone}
 use Rattle.jsonc_edit.specs.Paths.{IsElementOf, StepsTo, LeadsTo, itself, step, IsAt}
 use Rattle.jsonc_edit.specs.Changes.{row_below, top_at, ChangesAt}
 use Rattle.jsonc_edit.proofs.Elements.{StandsAt, stands_at, changed_behind}
@@ -34,6 +39,13 @@ unfolding ordered_tree
 document_is ns tree row shows =
     ap (λ t. more root t none) (Shows-unique ns (children_at ns 0) row (row_below ns 0) shows (Shows-row_below ns tree 0 tree.first))
     ∙ ap (λ c. more c (row_below ns 0) none) (sym tree.root_first)
+
+-- in a sound document the root's row is one alone
+pub root_row : (o : Options) (ns : List Node) → IsTree ns → SoundTree o (ordered_tree ns 0) → RootAlone o false (row_below ns 0)
+root_row o ns tree sound = by (document_alone o (subst (DocumentShaped o) (sym (document_is ns tree (row_below ns 0) (Shows-row_below ns tree 0 tree.first))) sound.shaped))
+  where
+    by : (row : OrderedTree) × (more root (row_below ns 0) none ≡ more root row none) × RootAlone o false row → RootAlone o false (row_below ns 0)
+    by (row, e, g) = let same : row ≡ row_below ns 0 = cc in subst (RootAlone o false) same g
 
 first_shown : (ns : List Node) (n : ℕ) (rest : List ℕ) (t : OrderedTree) → Shows ns (n ∷ rest) t → (after : OrderedTree) × Shows ns rest after
 first_shown ns n rest _ (shows_more {after = a} p q) = (a, q)

@@ -1,5 +1,5 @@
 -- The comments of a document in order: they stay where spaces come and where other nodes are made, and as many stand before one as its number says.
-use Rattle.std.proofs.Common.{◌≡◌, ◌≢◌, ℕ, zero, suc, ◌+◌, ◌-◌, ◌<◌, Bool, true, false, cond, List, [], ◌∷◌, ◌++◌, length, filter, get_or, map, take, drop, slice_range, Some, None, IsTrue, refl, sym, ap, ◌∙◌, arith, length-append}
+use Rattle.std.proofs.Common.{◌≡◌, ◌≢◌, ℕ, zero, suc, ◌+◌, ◌-◌, ◌<◌, Bool, true, false, cond, List, [], ◌∷◌, ◌++◌, length, filter, get_or, map, take, drop, slice_range, Some, None, refl, sym, ap, ◌∙◌, arith, length-append}
 use Rattle.std.proofs.lemmas.List.Elements.{All-nil, All-cons, All-append, All-head, All-tail, filter-append}
 use Rattle.std.specs.List.{flat_map, slice_get}
 use Rattle.jsonc_tree.specs.Building.{Keeps}
@@ -8,7 +8,7 @@ use Rattle.jsonc_tree.specs.Order.{below, in_order}
 use Rattle.jsonc_tree.specs.OrderedTree.{own_leaf}
 use Rattle.jsonc_tree.specs.Tree.{Node, content_at, parent_at, children_at, place_at, IsTree, IsOver}
 use Rattle.jsonc_tree.proofs.Order.{flat_map_same, in_order_is, line_long, line_of, over_step, parent_there, steady}
-use Rattle.jsonc_layout.specs.nodes.Kinds.{is_comment, is_trivia, is_comment_at}
+use Rattle.jsonc_layout.specs.nodes.Kinds.{is_comment, is_comment_at}
 use Rattle.jsonc_layout.specs.nodes.Siblings.{AreThere}
 use Rattle.jsonc_sound.specs.MarkChanges.{AreBlanks}
 use Rattle.jsonc_sound.specs.Marks as marks
@@ -17,14 +17,12 @@ use Rattle.jsonc_sound.specs.TriviaChanges.{AreTrivia}
 use Rattle.jsonc_sound.proofs.ReplacedStretches.{marks_join}
 use Rattle.jsonc_edit.specs.Put.{StandsBefore}
 use Rattle.jsonc_edit.proofs.InOrder.{leaf_at, spliced_order}
+use Rattle.jsonc_edit.proofs.LeafKinds.{trivia_leaf}
+use Rattle.jsonc_edit.proofs.Lists.{filter_same}
 
 -- the comments of a document, in order
 abbrev pub comment_nodes : List Node → List ℕ
 comment_nodes ns = filter (is_comment_at ns) (in_order ns 0)
-
-filter_same : (p q : ℕ → Bool) → ((x : ℕ) → p x ≡ q x) → (xs : List ℕ) → filter p xs ≡ filter q xs
-filter_same p q h [] = refl
-filter_same p q h (x ∷ xs) = ap (λ b. cond b (x ∷ filter p xs) (filter p xs)) (h x) ∙ ap (λ l. cond (q x) (x ∷ l) l) (filter_same p q h xs)
 
 -- where one of a kind stands at a place among those of its kind, as many stand before it
 pub picked : (p : ℕ → Bool) (xs : List ℕ) (k n : ℕ) → slice_get (filter p xs) k ≡ Some n → (us : List ℕ) × (vs : List ℕ) × (xs ≡ us ++ n ∷ vs) × (length (filter p us) ≡ k)
@@ -72,13 +70,6 @@ comments_counted ns (x ∷ xs) =
     ∙ ap (λ k. cond (is_comment_at ns x) 1 0 + k) (comments_counted ns xs)
     ∙ sym (one_more (is_comment_at ns x) x (filter (is_comment_at ns) xs))
 
--- blanks are none
-blank_no_comment : (content : Content) → IsTrue (is_trivia content) → is_container content ≡ false
-blank_no_comment (Content.whitespace s) h = refl
-blank_no_comment (Content.newline k) h = refl
-blank_no_comment (Content.comment s) h = refl
-blank_no_comment content h = cc
-
 not_comment : (content : Content) (rest : List Content) → AreBlanks (content ∷ rest) → is_comment content ≡ false
 not_comment (Content.comment s) rest h = absurd (let wrong : false ≡ true = h.0 in cc)
 not_comment content rest h = refl
@@ -96,13 +87,13 @@ module _ (ns : List Node) (tree : IsTree ns) where
   pub trivia_in_order : (xs : List ℕ) → AreThere ns xs → AreTrivia (map (content_at ns) xs) → flat_map (in_order ns) xs ≡ xs
   trivia_in_order [] there h = refl
   trivia_in_order (x ∷ xs) there h =
-      ap (λ l. l ++ flat_map (in_order ns) xs) (leaf_alone x (All-head (λ m. m < length ns) x xs there) (blank_no_comment (content_at ns x) h.0))
+      ap (λ l. l ++ flat_map (in_order ns) xs) (leaf_alone x (All-head (λ m. m < length ns) x xs there) (trivia_leaf (content_at ns x) h.0))
       ∙ ap (λ (l : List ℕ). x ∷ l) (trivia_in_order xs (All-tail (λ m. m < length ns) x xs there) h.1)
 
   pub trivia_leaves : (xs : List ℕ) → AreTrivia (map (content_at ns) xs) → flat_map (leaf_at ns) xs ≡ map (content_at ns) xs
   trivia_leaves [] h = refl
   trivia_leaves (x ∷ xs) h =
-      ap (λ b. cond b [] (content_at ns x ∷ []) ++ flat_map (leaf_at ns) xs) (blank_no_comment (content_at ns x) h.0) ∙ ap (λ (l : List Content). content_at ns x ∷ l) (trivia_leaves xs h.1)
+      ap (λ b. cond b [] (content_at ns x ∷ []) ++ flat_map (leaf_at ns) xs) (trivia_leaf (content_at ns x) h.0) ∙ ap (λ (l : List Content). content_at ns x ∷ l) (trivia_leaves xs h.1)
 
 -- they stay where a space comes
 module _ (old new : List Node) (x leaf : ℕ) (tree : IsTree old) (r : StandsBefore old new x leaf) (over : IsOver old 0 x) where

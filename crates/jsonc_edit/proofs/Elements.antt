@@ -10,6 +10,9 @@ use Rattle.jsonc_sound.specs.TreeChanges.{ElementChanged, passed, later_element}
 pub Some_same : (m n : ℕ) → Some m ≡ Some n → m ≡ n
 Some_same m n e = cc
 
+pub none_some : {n : ℕ} → None ≡ Some n → ⊥
+none_some e = cc
+
 module _ (test : ℕ → Bool) where
   pub taken : (x : ℕ) (xs : List ℕ) → test x ≡ true → filter test (x ∷ xs) ≡ x ∷ filter test xs
   taken x xs h = ap (λ b. cond b (x ∷ filter test xs) (filter test xs)) h

@@ -5,8 +5,9 @@ use Rattle.jsonc_text.specs.Options.{Options}
 use Rattle.jsonc_tree.specs.Content.{Content, is_container}
 use Rattle.jsonc_tree.specs.OrderedTree.{OrderedTree, none, more}
 use Rattle.jsonc_tree.specs.Values.{is_passed_over}
-use Rattle.jsonc_sound.specs.Shape.{IsTrivia, IsLiteralBefore, IsNameBefore, Trivia, nothing, trivia, Separated, comma, no_comma, Closed, plain, trailing_comma, token_then, printed_text, ValueShaped, ElementsShaped, PropertiesShaped, PropertyShaped, DocumentShaped, no_value, a_value}
+use Rattle.jsonc_sound.specs.Shape.{IsTrivia, Trivia, nothing, trivia, Separated, comma, no_comma, Closed, plain, trailing_comma, token_then, printed_text, ValueShaped, ElementsShaped, PropertiesShaped, PropertyShaped, DocumentShaped, no_value, a_value}
 use Rattle.jsonc_sound.specs.TreeChanges.{IsElement}
+use Rattle.jsonc_sound.proofs.FirstNodes.{value_element, name_element}
 
 -- in the row stands, behind so many elements, a node of this content over these
 pub data Entry (content : Content) (below : OrderedTree) : ℕ → OrderedTree → Type 0 where
@@ -56,44 +57,6 @@ trivia_passed o (Content.word s) h = absurd h
 trivia_passed o (Content.number s) h = absurd h
 trivia_passed o (Content.boolean b) h = absurd h
 trivia_passed o Content.null h = absurd h
-
-literal_element : (o : Options) (content : Content) (r : List ℕ) → IsLiteralBefore o content r → IsElement content
-literal_element o (Content.string s) r h = refl
-literal_element o (Content.number s) r h = refl
-literal_element o (Content.boolean b) r h = refl
-literal_element o Content.null r h = refl
-literal_element o Content.root r h = absurd h
-literal_element o Content.object r h = absurd h
-literal_element o Content.array r h = absurd h
-literal_element o Content.property r h = absurd h
-literal_element o (Content.word s) r h = absurd h
-literal_element o (Content.token c) r h = absurd h
-literal_element o (Content.whitespace s) r h = absurd h
-literal_element o (Content.newline k) r h = absurd h
-literal_element o (Content.comment s) r h = absurd h
-
-name_element : (o : Options) (content : Content) (r : List ℕ) → IsNameBefore o content r → IsElement content
-name_element o (Content.string s) r h = refl
-name_element o (Content.word s) r h = refl
-name_element o Content.root r h = absurd h
-name_element o Content.object r h = absurd h
-name_element o Content.array r h = absurd h
-name_element o Content.property r h = absurd h
-name_element o (Content.number s) r h = absurd h
-name_element o (Content.boolean b) r h = absurd h
-name_element o Content.null r h = absurd h
-name_element o (Content.token c) r h = absurd h
-name_element o (Content.whitespace s) r h = absurd h
-name_element o (Content.newline k) r h = absurd h
-name_element o (Content.comment s) r h = absurd h
-
--- a value is an element
-pub value_element : (o : Options) (content : Content) (below : OrderedTree) (r : List ℕ) → ValueShaped o content below r → IsElement content
-value_element o content _ r (ValueShaped.literal h) = literal_element o content r h
-value_element o _ _ r (ValueShaped.empty_array a) = refl
-value_element o _ _ r (ValueShaped.array a es) = refl
-value_element o _ _ r (ValueShaped.empty_object a) = refl
-value_element o _ _ r (ValueShaped.object a ps) = refl
 
 otherwise : {A B C : Type 0} → A ⊎ B → (B → A ⊎ C) → A ⊎ C
 otherwise (inl a) f = inl a

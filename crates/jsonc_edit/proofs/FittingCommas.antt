@@ -15,9 +15,10 @@ use Rattle.jsonc_sound.specs.TreeChanges.{IsElement}
 use Rattle.jsonc_layout.specs.lines.Kinds.{is_array_or_object}
 use Rattle.jsonc_layout.specs.lines.Siblings.{is_no_trivia_at, after_trivia_at, if_comma, trailing_comma_at}
 use Rattle.jsonc_layout.specs.lines.Breadth.{levels, breadth_first, last_element, is_spaced, ends_with_comma, uses_trailing_commas_at}
+use Rattle.jsonc_sound.proofs.FirstNodes.{value_element}
 use Rattle.jsonc_edit.specs.Changes.{row_below}
 use Rattle.jsonc_edit.proofs.Elements.{Some_same}
-use Rattle.jsonc_edit.proofs.Entries.{Passed, not_both, trivia_passed, value_element}
+use Rattle.jsonc_edit.proofs.Entries.{Passed, not_both, trivia_passed}
 use Rattle.jsonc_edit.proofs.FittingFinds.{none_is_some, passes, fails, found_one, none_first, IsLast, found_last}
 use Rattle.jsonc_edit.proofs.FittingNodes.{FollowsFromShape, holds_of_each, over_there, children_over}
 use Rattle.jsonc_edit.proofs.ChangesUpward.{Shows-row_below}

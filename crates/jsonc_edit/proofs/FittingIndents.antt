@@ -1,10 +1,10 @@
 -- The indents that are read from a document are indents: blanks within a line.
-use Rattle.std.proofs.Common.{◌≡◌, ℕ, zero, suc, ◌+◌, ◌-◌, ◌<◌, ◌≤◌, ◌==◌, ◌&&◌, Bool, true, cond, List, [], ◌∷◌, ◌++◌, map, All, length, take, drop, reverse, Option, Some, None, IfSome, is_some, option_and_then, option_map, unwrap_or, nat_eq, IsUtf8, chars, refl, sym, ap, subst, ◌∙◌, arith, rules, length-take}
+use Rattle.std.proofs.Common.{◌≡◌, ℕ, zero, suc, ◌+◌, ◌≤◌, ◌==◌, ◌&&◌, Bool, true, cond, List, [], ◌∷◌, ◌++◌, map, All, length, take, drop, Option, Some, None, IfSome, is_some, option_and_then, option_map, unwrap_or, nat_eq, IsUtf8, chars, refl, sym, ap, subst, ◌∙◌, arith, rules, length-take}
 use Rattle.std.specs.Cmp.Lexicographic.{same_text}
 use Rattle.std.specs.List.{flat_map, starts_with, take_while, prefix_len}
 use Rattle.std.specs.Option.{option_or}
 use Rattle.std.proofs.lemmas.Bool.{cond_both, false≢true}
-use Rattle.std.proofs.lemmas.List.{get_or-reverse, length-reverse, take-append-drop}
+use Rattle.std.proofs.lemmas.List.{take-append-drop}
 use Rattle.std.proofs.lemmas.List.Elements.{All-nil, All-cons, All-head, All-tail, All-take, All-map}
 use Rattle.std.proofs.lemmas.List.Sums.{take_while-cons}
 use Rattle.std.proofs.lemmas.Str.{IsUtf8-append, IsUtf8-nil, IsUtf8-drop, IsUtf8-from_ascii, IsCharBoundary-from_take, chars-append, chars-nil, chars-IsAscii}
@@ -23,6 +23,7 @@ use Rattle.jsonc_layout.specs.nodes.Properties.{element_from}
 use Rattle.jsonc_layout.specs.nodes.Siblings.{is_no_newline_at, row_of, root_above, siblings_before, line_before}
 use Rattle.jsonc_layout.specs.lines.Lines.{begins_line, first_blank_at, blanks, blanks_at, indent_at}
 use Rattle.jsonc_layout.specs.lines.Indents.{IndentTexts, is_some_property, beyond_properties, above_properties, levels_among, levels_above, more_of, held_after, repeated, levels_in, told_by, told_at, first_indent, first_indent_in, document_indent, only_indent, single_at, indents_at}
+use Rattle.jsonc_layout.proofs.lemmas.nodes.InTree.{All-reverse}
 use Rattle.jsonc_edit.specs.Changes.{row_below}
 use Rattle.jsonc_edit.specs.Writing.{IsIndent}
 use Rattle.jsonc_edit.proofs.FittingFinds.{found_one}
@@ -136,11 +137,6 @@ blank_text : (content : Content) (below : OrderedTree) → is_whitespace content
 blank_text (Content.whitespace s) below e h = h
 blank_text _ below e h = absurd (false≢true e)
 
-reversed_all : (P : ℕ → Type 0) (xs : List ℕ) → All P xs → All P (reverse xs)
-reversed_all P xs all k d h =
-    let low : k < length xs = omega (arith, h, length-reverse xs) in
-    subst P (sym (get_or-reverse xs k d low)) (all (length xs - 1 - k) d (omega arith))
-
 module _ (ns : List Node) (tree : IsTree ns) where
   -- all of these nodes are in the document
   abbrev AreIn : List ℕ → Type 0
@@ -157,8 +153,8 @@ module _ (ns : List Node) (tree : IsTree ns) where
   line_over : (n : ℕ) → IsOver ns 0 n → AreIn (line_before ns n)
   line_over n over =
       let row : AreIn (row_of ns n) = with_parent_over (parent_at ns n) (parent_over n over) in
-      let before : AreIn (siblings_before ns n) = reversed_all (IsOver ns 0) (take (place_at ns n) (row_of ns n)) (All-take (IsOver ns 0) (place_at ns n) (row_of ns n) row) in
-      reversed_all (IsOver ns 0) (take_while (is_no_newline_at ns) (siblings_before ns n)) (All-take (IsOver ns 0) (prefix_len (is_no_newline_at ns) (siblings_before ns n)) (siblings_before ns n) before)
+      let before : AreIn (siblings_before ns n) = All-reverse (IsOver ns 0) (take (place_at ns n) (row_of ns n)) (All-take (IsOver ns 0) (place_at ns n) (row_of ns n) row) in
+      All-reverse (IsOver ns 0) (take_while (is_no_newline_at ns) (siblings_before ns n)) (All-take (IsOver ns 0) (prefix_len (is_no_newline_at ns) (siblings_before ns n)) (siblings_before ns n) before)
 
   up_over : (steps : ℕ) (r : Option ℕ) → IfSome r (IsOver ns 0) → AreIn (line_up steps ns r)
   up_over steps None over = All-nil (IsOver ns 0)

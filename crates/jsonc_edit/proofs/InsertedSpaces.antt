@@ -1,5 +1,5 @@
 -- A space that comes directly before a node: what stays as it was, and what the document is then.
-use Rattle.std.proofs.Common.{◌≡◌, ◌≢◌, ℕ, ◌+◌, ◌-◌, ◌<◌, ◌≤◌, ◌||◌, Bool, false, cond, List, [], ◌∷◌, ◌++◌, length, get_or, filter, take, drop, slice_index, slice_range, Some, None, inl, inr, refl, sym, ap, subst, ◌∙◌, arith, eq-eqb}
+use Rattle.std.proofs.Common.{◌≡◌, ◌≢◌, ℕ, ◌+◌, ◌-◌, ◌<◌, ◌≤◌, ◌||◌, false, cond, List, [], ◌∷◌, ◌++◌, length, get_or, filter, take, drop, slice_index, slice_range, Some, None, inl, inr, refl, sym, ap, subst, ◌∙◌, arith, eq-eqb}
 use Rattle.std.proofs.lemmas.Bool.{cases_eq, ne_eqb}
 use Rattle.std.proofs.lemmas.List.{take-append-drop, take_more, drop_more}
 use Rattle.std.proofs.lemmas.List.Edits.{between_none, get_or-insert_below, get_or-insert_at, get_or-insert_above, length-insert}
@@ -13,14 +13,19 @@ use Rattle.jsonc_tree.proofs.SplicedTrees.{Shows-spliced, Replaced-splice}
 use Rattle.jsonc_tree.proofs.Order.{over_step, parent_there}
 use Rattle.jsonc_tree.proofs.Over.{over_up}
 use Rattle.jsonc_tree.proofs.OrderedTrees.{Shows-ordered_tree}
-use Rattle.jsonc_tree.proofs.Rows.{Shows-append, Shows-part, Shows-kept, followed_by-assoc}
+use Rattle.jsonc_tree.proofs.Rows.{Shows-append, Shows-part, followed_by-assoc}
 use Rattle.jsonc_layout.specs.nodes.Kinds.{is_element, is_element_at}
 use Rattle.jsonc_layout.specs.nodes.Siblings.{elements_at}
 use Rattle.jsonc_sound.specs.TreeChanges.{IsElement}
 use Rattle.jsonc_sound.specs.InRows as rows
 use Rattle.jsonc_sound.specs.InRows.{SpaceCome, before_element, SpacePut}
 use Rattle.jsonc_sound.specs.Spaces.{space_then}
-use Rattle.jsonc_edit.specs.Put.{a_space, StandsBefore}
+use Rattle.jsonc_edit.specs.Put.{StandsBefore}
+use Rattle.jsonc_edit.proofs.Lists.{filter_same}
+use Rattle.jsonc_edit.proofs.Elements.{none_some}
+use Rattle.jsonc_edit.proofs.ValuePlaces.{no_row}
+use Rattle.jsonc_edit.proofs.LeafKinds.{no_root}
+use Rattle.jsonc_edit.proofs.ChangesUpward.{apart_kept}
 
 -- the document is its root over a row
 pub document_is : (ns : List Node) → IsTree ns → more root (grown (length ns) ns 0) none ≡ ordered_tree ns 0
@@ -46,25 +51,11 @@ come_above k here = rows.deeper k
 come_above k (deeper r) = rows.deeper (come_above k r)
 come_above k (later r) = rows.later (come_above k r)
 
-no_row : {was now : OrderedTree} → Replaced was now none none → ⊥
-no_row r = elim r [ ]
-
 -- and into the document
 pub come_in_root : {was now x y : OrderedTree} → SpaceCome was now → Replaced was now (more root x none) (more root y none) → SpacePut (more root x none) (more root y none)
 come_in_root k here = rows.in_root k
 come_in_root k (deeper r) = rows.in_root (come_above k r)
 come_in_root k (later r) = absurd (no_row r)
-
-none_some : {k : ℕ} → None ≡ Some k → ⊥
-none_some e = cc
-
--- tests that agree keep the same of a list
-pub filter_same : (f g : ℕ → Bool) → ((k : ℕ) → f k ≡ g k) → (xs : List ℕ) → filter f xs ≡ filter g xs
-filter_same f g same [] = refl
-filter_same f g same (x ∷ xs) = ap (λ b. cond b (x ∷ filter f xs) (filter f xs)) (same x) ∙ ap (λ l. cond (g x) (x ∷ l) l) (filter_same f g same xs)
-
-no_root : (content : Content) → content ≡ a_space → content ≡ root → ⊥
-no_root content e f = cc
 
 module _ (old new : List Node) (n space : ℕ) (tree : IsTree old) (r : StandsBefore old new n space) where
   abbrev c : ℕ
@@ -118,11 +109,7 @@ module _ (old new : List Node) (n space : ℕ) (tree : IsTree old) (r : StandsBe
 
   -- the row below a node that isn't over the container stays
   pub rows_kept : (xs : List ℕ) (t : OrderedTree) → ((k : ℕ) → k < length xs → IsOver old (slice_index xs k) c → ⊥) → Shows old xs t → Shows new xs t
-  rows_kept xs t apart shows =
-      Shows-kept old new (λ m. IsOver old m c → ⊥)
-      (λ m k out h over. out (over_up old (slice_index (children_at old m) k) m c (tree.named m k h) over))
-      (λ m out. contents_kept m)
-      (λ m out. children_kept m (λ e. out (subst (λ k. IsOver old k c) (sym e) IsOver.itself))) xs t apart shows
+  rows_kept xs t apart shows = apart_kept old new c (record { tree = tree; content = λ m ne. contents_kept m; children = children_kept }) xs t apart shows
 
   pub row_kept : (k : ℕ) (t : OrderedTree) → (IsOver old k c → ⊥) → Shows old (children_at old k) t → Shows new (children_at new k) t
   row_kept k t apart shows =

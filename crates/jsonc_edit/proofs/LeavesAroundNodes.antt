@@ -1,5 +1,5 @@
 -- Between which leaves a node stands, where one row of the tree changes, and where a space comes.
-use Rattle.std.proofs.Common.{◌≡◌, ◌≢◌, ℕ, ◌+◌, ◌<◌, ◌||◌, ◌&&◌, Bool, true, false, cond, List, [], ◌∷◌, ◌++◌, length, take, drop, slice_index, Option, Some, None, inl, inr, refl, sym, ap, subst, ◌∙◌, arith, length-take, length-drop, get_or-take, get_or-drop}
+use Rattle.std.proofs.Common.{◌≡◌, ◌≢◌, ℕ, ◌+◌, ◌<◌, ◌&&◌, Bool, true, false, cond, List, [], ◌∷◌, ◌++◌, length, take, drop, slice_index, Option, Some, None, inl, inr, refl, sym, ap, subst, ◌∙◌, arith, length-take, length-drop, get_or-take, get_or-drop}
 use Rattle.std.proofs.lemmas.Bool.{cases_Bool}
 use Rattle.std.proofs.lemmas.List.{append_assoc, append-nil, drop-drop, length-take-le, take-append-drop, take-append-le, take-take, take_at}
 use Rattle.jsonc_tree.specs.Order.{with_parent}
@@ -20,12 +20,8 @@ use Rattle.jsonc_edit.proofs.InsertedSpaces.{place_within, space_bare, contents_
 use Rattle.jsonc_edit.proofs.UnneededSpaces.{Nearest, Held, ahead_on, past_one, up_to, regrouped, either_seen, holder_seen, nearest_to, n_placed, behind_n}
 use Rattle.jsonc_edit.proofs.ChangesUpward.{ChangedIn, apart_kept}
 use Rattle.jsonc_edit.specs.Seams.{PrintNothing, space_if, StandsBetween, as_root, as_child, SeamsAround, SpacesStandAround, SpaceStandsBetween, is_space_needed_between}
-
-Some_same : (m n : ℕ) → Some m ≡ Some n → m ≡ n
-Some_same m n e = cc
-
-none_some : {k : ℕ} → None ≡ Some k → ⊥
-none_some e = cc
+use Rattle.jsonc_edit.proofs.Lists.{either_off}
+use Rattle.jsonc_edit.proofs.Elements.{Some_same, none_some}
 
 -- n is a child of c, and stands between these leaves
 pub record Within (ns : List Node) (n c : ℕ) (f b : List Content) : Type 0 where
@@ -104,10 +100,6 @@ starts_none : (x : Option ℕ) → starts (λ c. true) x ≡ false → x ≡ Non
 starts_none None e = refl
 starts_none (Some c) e = cc
 
-no_parts : (a b : Bool) → a || b ≡ false → (a ≡ false) × (b ≡ false)
-no_parts false b e = (refl, e)
-no_parts true b e = absurd (let wrong : true ≡ false = e in cc)
-
 empty_row : (ns : List Node) (xs : List ℕ) (t : OrderedTree) → xs ≡ [] → Shows ns xs t → t ≡ none
 empty_row ns _ _ e shows_none = refl
 empty_row ns _ _ e (shows_more p q) = absurd (let wrong = ap length e in omega (arith, wrong))
@@ -118,7 +110,7 @@ silent_row ns tree _ _ (shows_more {n = n} {rest = rest} {below = below} {after 
     elim (cases_Bool (prints_at ns n)) [
       | inl printed ↦ absurd (none_some (sym e ∙ ap (λ b. cond b (Some n) (nearest ns rest)) printed))
       | inr not_printed ↦
-          let two = no_parts (is_container (content_at ns n)) (starts (λ c. true) (first_char (content_at ns n))) not_printed in
+          let two = either_off (is_container (content_at ns n)) (starts (λ c. true) (first_char (content_at ns n))) not_printed in
           let bare : below ≡ none = empty_row ns (children_at ns n) below (tree.leaf n two.0) p in
           let others : PrintNothing (leaves after) = silent_row ns tree rest after q (sym (ap (λ b. cond b (Some n) (nearest ns rest)) not_printed) ∙ e) in
           let mine : PrintNothing (content_at ns n ∷ leaves after) = (starts_none (first_char (content_at ns n)) two.1, others) in

@@ -1,6 +1,9 @@
+pub mod Lists
+pub mod LeafKinds
 pub mod Elements
 pub mod Uniqueness
 pub mod ChangesUpward
+pub mod Standing
 pub mod Splices
 pub mod Finding
 pub mod Entries
@@ -19,6 +22,7 @@ pub mod FittingIndents
 pub mod Fitting
 pub mod NewPaths
 pub mod OneValue
+pub mod SoundValues
 pub mod ReplacedValues
 pub mod Removal
 pub mod ValuePlaces

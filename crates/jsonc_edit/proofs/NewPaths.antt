@@ -22,7 +22,7 @@ use Rattle.jsonc_edit.proofs.NodesKept.{filter_same}
 use Rattle.jsonc_edit.proofs.Uniqueness.{element_parent, leads_over, no_way_back, one_over}
 
 -- what passes is found behind as many as pass before it
-found_behind : (test : ℕ → Bool) (front : List ℕ) (m : ℕ) (rest : List ℕ) → test m ≡ true → slice_get (filter test (front ++ m ∷ rest)) (length (filter test front)) ≡ Some m
+pub found_behind : (test : ℕ → Bool) (front : List ℕ) (m : ℕ) (rest : List ℕ) → test m ≡ true → slice_get (filter test (front ++ m ∷ rest)) (length (filter test front)) ≡ Some m
 found_behind test [] m rest h = ap (λ l. slice_get l 0) (taken test m rest h)
 found_behind test (x ∷ front) m rest h =
     let others = found_behind test front m rest h in

@@ -1,5 +1,5 @@
 -- A value on one line is laid out alike by all layouts.
-use Rattle.std.proofs.Common.{◌≡◌, ◌||◌, Bool, true, false, cond, ◌∷◌, Result, Ok, Err, IfOk, refl, sym, ap, ◌∙◌}
+use Rattle.std.proofs.Common.{◌≡◌, false, cond, ◌∷◌, Result, Ok, Err, IfOk, refl, sym, ap, ◌∙◌}
 use Rattle.std.proofs.lemmas.Bool.{false≢true}
 use Rattle.jsonc_text.specs.Plain.{Plain, Items, no_items, item, no_members, member}
 use Rattle.jsonc_tree.specs.Content as content
@@ -7,10 +7,7 @@ use Rattle.jsonc_tree.specs.Content.{token}
 use Rattle.jsonc_layout.specs.from_input.Laid.{closed, holds_filled, is_filled, laid, laid_items, leaf_then, on_one_line, spread}
 use Rattle.jsonc_layout.specs.from_input.Layout.{deeper, Layout}
 use Rattle.jsonc_edit.specs.Reading.{is_spread}
-
-either_off : (a b : Bool) → (a || b) ≡ false → (a ≡ false) × (b ≡ false)
-either_off true b e = absurd (false≢true (sym e))
-either_off false b e = (refl, e)
+use Rattle.jsonc_edit.proofs.Lists.{either_off}
 
 module _ (l k : Layout) where
   single_alike : (v : Plain) → is_filled v ≡ false → laid l v ≡ laid k v

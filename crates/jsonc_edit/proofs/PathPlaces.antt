@@ -12,7 +12,7 @@ use Rattle.jsonc_tree.proofs.Rows.{Shows-part}
 use Rattle.jsonc_layout.specs.nodes.Kinds.{is_element_at}
 use Rattle.jsonc_sound.specs.TreeChanges.{property_of}
 use Rattle.jsonc_edit.specs.Changes.{row_below, top_at, Replaces}
-use Rattle.jsonc_edit.specs.Paths.{IsElementOf, StepsTo, LeadsTo, IsAt}
+use Rattle.jsonc_edit.specs.Paths.{IsElementOf, LeadsTo, IsAt}
 use Rattle.jsonc_edit.specs.Paths as paths
 use Rattle.jsonc_edit.proofs.Elements.{StandsAt, stands_at, left, taken}
 use Rattle.jsonc_edit.proofs.ReplacedChildren.{put_parent}
@@ -22,9 +22,6 @@ use Rattle.jsonc_edit.proofs.ChangesUpward.{ChangedIn, Shows-row_below, apart_ke
 use Rattle.jsonc_edit.specs.Seams.{StandsBetween, as_root, as_child}
 use Rattle.jsonc_edit.specs.SeamPlaces.{RowHolds, this_element, past_other, past_element, ValueHolds, itself, in_array, in_object, DocumentHolds, in_root}
 use Rattle.jsonc_edit.proofs.LeavesAroundNodes.{within, stands_so, between_above}
-
-Some_same : (m n : ℕ) → Some m ≡ Some n → m ≡ n
-Some_same m n e = cc
 
 -- a node stands between the same leaves, however that is known
 pub stands_once : (ns : List Node) → IsTree ns → (n : ℕ) (f b g d : List Content) → StandsBetween ns n f b → StandsBetween ns n g d → (f ≡ g) × (b ≡ d)
@@ -40,7 +37,7 @@ stands_once ns tree n _ _ g d (as_child {c = c} {f = f} {b = b} {front = front} 
     let last : back ≡ w.back = Shows-unique ns (drop (place_at ns n + 1) (children_at ns c)) back w.back bk w.behind in
     (ap (λ l. l ++ leaves front) above.0 ∙ ap (λ (t : OrderedTree). w.g ++ leaves t) first ∙ sym w.first, ap (λ l. leaves back ++ l) above.1 ∙ ap (λ (t : OrderedTree). leaves t ++ w.d) last ∙ sym w.last)
 
-first_shown : (ns : List Node) (n : ℕ) (rest : List ℕ) (t : OrderedTree) → Shows ns (n ∷ rest) t → (below : OrderedTree) × (after : OrderedTree) × (t ≡ more (content_at ns n) below after) × Shows ns (children_at ns n) below × Shows ns rest after
+pub first_shown : (ns : List Node) (n : ℕ) (rest : List ℕ) (t : OrderedTree) → Shows ns (n ∷ rest) t → (below : OrderedTree) × (after : OrderedTree) × (t ≡ more (content_at ns n) below after) × Shows ns (children_at ns n) below × Shows ns rest after
 first_shown ns n rest _ (shows_more {below = b} {after = a} p q) = (b, a, refl, p, q)
 
 -- an element behind a row

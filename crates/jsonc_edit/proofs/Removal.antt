@@ -3,14 +3,13 @@ use Rattle.std.proofs.Common.{◌≡◌, ◌≢◌, ℕ, zero, suc, ◌+◌, ◌
 use Rattle.std.proofs.lemmas.Bool.{cases_Bool, cases_lt}
 use Rattle.std.proofs.lemmas.List.{append_assoc, take_more, map-append}
 use Rattle.std.proofs.lemmas.List.Edits.{get_or-between, length-between, split_between}
-use Rattle.jsonc_tree.specs.Content.{Content, root, comment, is_container}
-use Rattle.jsonc_tree.specs.Changes.{CanJoin}
+use Rattle.jsonc_tree.specs.Content.{Content, root, comment}
 use Rattle.jsonc_tree.specs.OrderedTree.{OrderedTree, none, more, leaves, followed_by, Shows, shows_none, shows_more, ordered_tree, Replaced, here, deeper, later}
 use Rattle.jsonc_tree.specs.Tree.{Node, content_at, parent_at, children_at, place_at, IsTree, IsOver}
 use Rattle.jsonc_tree.proofs.SplicedTrees.{Shows-spliced, Replaced-splice}
 use Rattle.jsonc_tree.proofs.Order.{over_step, parent_there}
 use Rattle.jsonc_tree.proofs.Rows.{Shows-part}
-use Rattle.jsonc_layout.specs.nodes.Kinds.{is_whitespace, is_newline, is_comment, is_trivia, is_whitespace_at, is_newline_at, is_comment_at, is_trivia_at}
+use Rattle.jsonc_layout.specs.nodes.Kinds.{is_whitespace, is_newline, is_comment, is_trivia, is_newline_at, is_comment_at, is_trivia_at}
 use Rattle.jsonc_sound.specs.Lines.{is_line_comment}
 use Rattle.jsonc_sound.specs.TriviaChanges.{AreTrivia, leaves_then, LeavesChanged, StretchChanged, in_root, inside, EndsInComment, one_comment, line_comment}
 use Rattle.jsonc_text.specs.Options.{Options}
@@ -20,6 +19,7 @@ use Rattle.jsonc_sound.specs.Adjacent.{first_char, or_else}
 use Rattle.jsonc_sound.proofs.LeafByLeaf.{AllLeaves, begins_slash, behind_all, document_leaves_all}
 use Rattle.jsonc_sound.proofs.TriviaLeaves.{document_differs}
 use Rattle.jsonc_text.specs.Text.{starts}
+use Rattle.jsonc_tree.proofs.Moves.{CanJoin-none}
 use Rattle.jsonc_sound.specs.SoundTrees.{SoundTree}
 use Rattle.jsonc_sound.specs.Spaces.{meet}
 use Rattle.jsonc_sound.proofs.NodesAlone.{document_alone}
@@ -32,6 +32,10 @@ use Rattle.jsonc_edit.proofs.NearestLeaves.{meet_bare}
 use Rattle.jsonc_edit.specs.Changes.{row_below}
 use Rattle.jsonc_edit.specs.Comments.{blanks_from, newline_from, removed_from, CommentRemoved, leaves_gone, TakesTrivia}
 use Rattle.jsonc_edit.proofs.ChangesUpward.{Shows-row_below, document_is}
+use Rattle.jsonc_edit.proofs.LeafKinds.{trivia_leaf, comment_trivia}
+use Rattle.jsonc_edit.proofs.Elements.{none_some}
+use Rattle.jsonc_edit.proofs.ValuePlaces.{no_row}
+use Rattle.jsonc_edit.proofs.BlanksBefore.{blanks_low, blanks_are}
 
 whitespace_trivia : (c : Content) → is_whitespace c ≡ true → IsTrue (is_trivia c)
 whitespace_trivia (Content.whitespace s) h = refl
@@ -40,16 +44,6 @@ whitespace_trivia c h = cc
 newline_trivia : (c : Content) → is_newline c ≡ true → IsTrue (is_trivia c)
 newline_trivia (Content.newline k) h = refl
 newline_trivia c h = cc
-
-comment_trivia : (c : Content) → IsTrue (is_comment c) → IsTrue (is_trivia c)
-comment_trivia (Content.comment s) h = refl
-comment_trivia c h = cc
-
-trivia_leaf : (c : Content) → IsTrue (is_trivia c) → is_container c ≡ false
-trivia_leaf (Content.whitespace s) h = refl
-trivia_leaf (Content.newline k) h = refl
-trivia_leaf (Content.comment s) h = refl
-trivia_leaf c h = cc
 
 -- a comment alone ends in a comment
 comment_ends : (c : Content) → IsTrue (is_comment c) → EndsInComment (c ∷ [])
@@ -76,27 +70,6 @@ gap_trivia (Content.newline k) h = refl
 gap_trivia c h = cc
 
 module _ (ns : List Node) (row : List ℕ) where
-  blanks_before : (place : ℕ) → blanks_from ns row place ≤ place
-  blanks_before zero = omega arith
-  blanks_before (suc place) =
-      elim (cases_Bool (is_whitespace_at ns (slice_index row place))) [
-        | inl h ↦ (let e : blanks_from ns row (suc place) ≡ blanks_from ns row place = rw h refl in omega (arith, e, blanks_before place))
-        | inr h ↦ (let e : blanks_from ns row (suc place) ≡ suc place = rw h refl in omega (arith, e))
-      ]
-
-  blanks_are : (place at : ℕ) → blanks_from ns row place ≤ at → at < place → IsTrue (is_gap_at ns (slice_index row at))
-  blanks_are zero at a b = absurd (omega (arith, b))
-  blanks_are (suc place) at a b =
-      elim (cases_Bool (is_whitespace_at ns (slice_index row place))) [
-        | inr h ↦ (let e : blanks_from ns row (suc place) ≡ suc place = rw h refl in absurd (omega (arith, e, a, b)))
-        | inl h ↦
-            let e : blanks_from ns row (suc place) ≡ blanks_from ns row place = rw h refl in
-            elim (cases_lt at place) [
-              | inl l ↦ blanks_are place at (omega (arith, e, a)) l
-              | inr m ↦ (let same : place ≡ at = omega (arith, m, b) in subst (λ k. IsTrue (is_gap_at ns (slice_index row k))) same (whitespace_gap (content_at ns (slice_index row place)) h))
-            ]
-      ]
-
   newline_before : (place : ℕ) → newline_from ns row place ≤ place
   newline_before zero = omega arith
   newline_before (suc place) =
@@ -157,7 +130,7 @@ module _ (ns : List Node) (tree : IsTree ns) where
         elim (cases_Bool (is_line_comment (content_at ns n))) [
           | inl h ↦
               let e : from ≡ newline_from ns cs (blanks_from ns cs place) = rw h refl in
-              omega (arith, e, newline_before ns cs (blanks_from ns cs place), blanks_before ns cs place)
+              omega (arith, e, newline_before ns cs (blanks_from ns cs place), blanks_low ns cs place)
           | inr h ↦ (let e : from ≡ place = rw h refl in omega (arith, e))
         ]
 
@@ -169,7 +142,7 @@ module _ (ns : List Node) (tree : IsTree ns) where
               let e : from ≡ newline_from ns cs (blanks_from ns cs place) = rw h refl in
               elim (cases_lt at (blanks_from ns cs place)) [
                 | inl l ↦ newline_is ns cs (blanks_from ns cs place) at (omega (arith, e, a)) l
-                | inr m ↦ blanks_are ns cs place at m b
+                | inr m ↦ whitespace_gap (content_at ns (slice_index cs at)) (blanks_are ns cs place at m b)
               ]
         ]
 
@@ -241,9 +214,6 @@ below_changed h here = LeavesChanged.deeper h
 below_changed h (deeper r) = LeavesChanged.deeper (below_changed h r)
 below_changed h (later r) = LeavesChanged.later (below_changed h r)
 
-no_row : {was now : OrderedTree} → Replaced was now none none → ⊥
-no_row r = elim r [ ]
-
 root_changed : {cs : List Content} (front back : OrderedTree) {was now x y : OrderedTree} → cs ≢ [] → was ≡ followed_by front (leaves_then cs back) → now ≡ followed_by front back → Replaced was now (more root x none) (more root y none) → StretchChanged cs [] (more root x none) (more root y none)
 root_changed {cs} front back {was} {now} ne e f here = subst (λ t. StretchChanged cs [] (more root t none) (more root now none)) (sym e) (subst (λ t. StretchChanged cs [] (more root (followed_by front (leaves_then cs back)) none) (more root t none)) (sym f) (in_root front back))
 root_changed {cs} front back {was} {now} ne e f (deeper r) =
@@ -277,21 +247,9 @@ three_parts ns xs ys zs t shown = by (Shows-part ns xs (ys ++ zs) t shown)
     by : (front : OrderedTree) × (rest : OrderedTree) × (t ≡ followed_by front rest) × Shows ns xs front × Shows ns (ys ++ zs) rest → Three ns xs ys zs t
     by (front, rest, e, p, q) = two_parts ns xs ys zs t front rest e p (Shows-part ns ys zs rest q)
 
-none_some : {k : ℕ} → None ≡ Some k → ⊥
-none_some e = cc
-
 no_end : (front : List Content) (x : Content) → front ++ x ∷ [] ≡ [] → ⊥
 no_end [] x e = cc
 no_end (y ∷ front) x e = cc
-
-nothing_joins : (ns : List Node) (c i j : ℕ) → CanJoin ns c i j []
-nothing_joins ns c i j = record {
-  in_tree = λ k h. absurd (omega (arith, h));
-  not_root = λ k h. absurd (omega (arith, h));
-  once = λ a b h. absurd (omega (arith, h));
-  free = λ k h. absurd (omega (arith, h));
-  not_over = λ k h. absurd (omega (arith, h));
-}
 
 module _ (old new : List Node) (n : ℕ) (r : CommentRemoved old new n) where
   abbrev c : ℕ
@@ -338,7 +296,7 @@ module _ (old new : List Node) (n : ℕ) (r : CommentRemoved old new n) where
     row_was = three.joined ∙ ap (followed_by three.front) (leaves_shown old r.tree gone_nodes three.inner three.back all_trivia three.between)
 
     row_is : Shows new (children_at new c) left
-    row_is = Shows-spliced old new r.tree r.after c i j [] (r.removed c r.parent) (nothing_joins old c i j) three.front none three.back three.before shows_none three.behind
+    row_is = Shows-spliced old new r.tree r.after c i j [] (r.removed c r.parent) (CanJoin-none old c i j) three.front none three.back three.before shows_none three.behind
 
     replaced : Replaced (row_below old c) left (ordered_tree old 0) (ordered_tree new 0)
     replaced = Replaced-splice old new r.tree r.after c i j [] (r.removed c r.parent) (row_below old c) left (Shows-row_below old r.tree c (parent_there old r.tree n c r.parent).1) row_is 0 r.tree.first over_container

@@ -192,7 +192,7 @@ inside_brackets {o} b top element front back e = (behind_bracket front back b.in
 around_some : (front back : OrderedTree) (top : Top) → row_around front top back ≢ none
 around_some front back top e = no_more front back top (sym e)
 
-first_false : (ns : List Node) (x y : Option ℕ) → begins_bare ns (or_else x y) ≡ false → begins_bare ns x ≡ false
+pub first_false : (ns : List Node) (x y : Option ℕ) → begins_bare ns (or_else x y) ≡ false → begins_bare ns x ≡ false
 first_false ns None y e = refl
 first_false ns (Some k) y e = e
 

@@ -22,15 +22,12 @@ use Rattle.jsonc_edit.specs.Put.{AreAtHand, AreChildren, AreSpaced, Extends, nod
 use Rattle.jsonc_edit.specs.declared.put.Spaces.{Spaces}
 use Rattle.jsonc_edit.specs.Changes.{top_at, ChangesAt, Replaces}
 use Rattle.jsonc_edit.specs.Replacing.{TakesPlace, ReplacedBy, ReplacedByRaw}
-use Rattle.jsonc_edit.proofs.Elements.{Some_same}
+use Rattle.jsonc_edit.proofs.Elements.{Some_same, none_some}
 use Rattle.jsonc_edit.proofs.Splices.{joined_top, replaced_at_path}
 use Rattle.jsonc_edit.proofs.SpacesNeededKept.{due_before_same, due_behind_same}
 use Rattle.jsonc_edit.proofs.NodesKept.{top_stays, over_no_old, built_top}
 use Rattle.jsonc_edit.proofs.SpacedNodes.{IsChild, around_children}
 use Rattle.jsonc_edit.proofs.Spacing.{Aside, AnySpaced, any_spaced}
-
-none_some : {k : ℕ} → None ≡ Some k → ⊥
-none_some e = cc
 
 -- a value is laid out as an element
 pub laid_element : (l : Layout) (v : Plain) → IsElement (laid l v).content

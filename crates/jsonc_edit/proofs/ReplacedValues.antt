@@ -6,18 +6,15 @@ use Rattle.jsonc_text.specs.Grammar.{IsDocument}
 use Rattle.jsonc_tree.specs.OrderedTree.{OrderedTree, ordered_tree, leaves, Top}
 use Rattle.jsonc_tree.specs.Tree.{Node, content_at, children_at, parent_at, IsTree, IsOver}
 use Rattle.jsonc_tree.proofs.Order.{parent_there}
-use Rattle.jsonc_tree.specs.Values as values
-use Rattle.jsonc_tree.specs.Values.{HasNoValue, DocumentValueOf}
-use Rattle.jsonc_tree.proofs.Over.{over_up}
-use Rattle.jsonc_sound.specs.Shape.{PrintsDocument, printed_text}
+use Rattle.jsonc_tree.specs.Values.{DocumentValueOf}
+use Rattle.jsonc_sound.specs.Shape.{printed_text}
 use Rattle.jsonc_sound.specs.Lines.{LinesEnd}
 use Rattle.jsonc_layout.specs.nodes.Kinds.{is_element_at}
 use Rattle.jsonc_layout.specs.from_input.Layout.{Layout}
 use Rattle.jsonc_layout.proofs.lemmas.from_input.Meanings.{laid_value}
 use Rattle.jsonc_sound.specs.Sound.{IsValueBefore}
-use Rattle.jsonc_sound.specs.TreeChanges.{IsElement, ElementChanged, DocumentChanged, in_root, leaves_of}
+use Rattle.jsonc_sound.specs.TreeChanges.{IsElement, DocumentChanged, leaves_of}
 use Rattle.jsonc_sound.specs.ChangeLaws.{DiffersIn}
-use Rattle.jsonc_sound.proofs.FirstNodes.{here, over, beyond, meets_first, none_changed, no_element}
 use Rattle.jsonc_sound.specs.MarkChanges.{MarksDifferIn, marks_under}
 use Rattle.jsonc_sound.specs.Marks.{marks}
 use Rattle.jsonc_sound.proofs.ReplacedStretches.{values_marks}
@@ -47,37 +44,9 @@ use Rattle.jsonc_edit.proofs.NodesKept.{at_kept, top_stays, tree_stays}
 use Rattle.jsonc_edit.proofs.SpacedNodes.{IsChild, around_placed}
 use Rattle.jsonc_edit.proofs.Spacing.{Spaced, all_spaced, spaces_marks, spaces_sound, spaces_value}
 use Rattle.jsonc_edit.proofs.OneValue.{document_once}
-use Rattle.jsonc_edit.proofs.Uniqueness.{leads_over, element_parent}
+use Rattle.jsonc_edit.proofs.Uniqueness.{element_parent, over_at}
 use Rattle.jsonc_edit.proofs.Writable.{value_may_stand}
-
--- a document in which an element is replaced has a value
-no_value_there : {was now : Top} {i : ℕ} {row new : OrderedTree} → HasNoValue row → ElementChanged was now i row new → ⊥
-no_value_there values.end e = none_changed e
-no_value_there (values.pass {content = content} h g) e =
-    elim (meets_first e) [
-      | here a p b q f ↦ no_element content q h
-      | over q k f ↦ no_value_there g k
-      | beyond a q k f ↦ no_element content q h
-    ]
-
-some_value : (o : Options) {was now : Top} {path : List ℕ} {t u : OrderedTree} → DocumentChanged was now path t u → DocumentValueOf o t None → ⊥
-some_value o (in_root {row = row} e k) (below, same, h) = let first : below ≡ row = cc in no_value_there (subst HasNoValue first h) e
-
--- a text with a value, which the tree has
-record MeansSome (o : Options) (t : OrderedTree) : Type 0 where
-  value : Plain
-  text : IsDocument o (printed_text t) (Some value)
-  tree : DocumentValueOf o t (Some value)
-
-means_some : (o : Options) {was now : Top} {path : List ℕ} {t u : OrderedTree} → DocumentChanged was now path t u → PrintsDocument o t → MeansSome o t
-means_some o changed (None, text, tree) = absurd (some_value o changed tree)
-means_some o changed (Some x, text, tree) = record { value = x; text = text; tree = tree }
-
--- a sound document prints the value that it has
-prints_value : (o : Options) (t : OrderedTree) (x : Plain) → SoundTree o t → DocumentValueOf o t (Some x) → IsDocument o (printed_text t) (Some x)
-prints_value o t x s value =
-    let known = document_printed o t s.shaped s.lines in
-    subst (IsDocument o (printed_text t)) (document_once o t known.0 (Some x) known.2 value) known.1
+use Rattle.jsonc_edit.proofs.SoundValues.{means_some, prints_value}
 
 -- a sound document has the value that it has once spaces have come
 means_first : (o : Options) {t u : OrderedTree} → SpacesPut t u → SoundTree o t → (x : Plain) → DocumentValueOf o u (Some x) → IsDocument o (printed_text t) (Some x) × DocumentValueOf o t (Some x)
@@ -85,10 +54,6 @@ means_first o {t} {u} puts s x value =
     let known = document_printed o t s.shaped s.lines in
     let same : known.0 ≡ Some x = document_once o u known.0 (Some x) (spaces_value o known.0 puts known.2) value in
     (subst (IsDocument o (printed_text t)) same known.1, subst (DocumentValueOf o t) same known.2)
-
--- what stands at a path is a node of the document
-over_at : (ns : List Node) → IsTree ns → (path : List ℕ) (n : ℕ) → IsAt ns path n → IsOver ns 0 n
-over_at ns tree path n (v, e, leads) = over_up ns v 0 n (element_parent ns tree 0 0 v e) (leads_over ns tree n v path leads)
 
 -- it is an element, and somebody's child
 pub at_child : (ns : List Node) → IsTree ns → (n : ℕ) → HeldAt ns n → IsChild ns n × IsElement (content_at ns n)
@@ -166,7 +131,7 @@ module _ (o : Options) (old new : List Node) (n m : ℕ) where
         after = now.1;
         spaced = ordered_tree g.spaced 0;
         old_text = first.0;
-        new_text = prints_value o (ordered_tree new 0) now.1 sound now.4;
+        new_text = prints_value o (ordered_tree new 0) (Some now.1) sound now.4;
         changed = now.3;
         spaces = puts;
         around = subst (λ (t : Top). DiffersIn (leaves_of (top_at old n)) (leaves_of t) (leaves (ordered_tree g.spaced 0)) (leaves (ordered_tree new 0))) (sym is.put) (document_differs change);

@@ -14,6 +14,7 @@ use Rattle.jsonc_edit.specs.Put.{StandsBefore}
 use Rattle.jsonc_edit.proofs.Elements.{Some_same}
 use Rattle.jsonc_edit.proofs.InsertedSpaces.{children_kept, container_row, contents_kept, place_within, placed_ahead, placed_elsewhere}
 use Rattle.jsonc_edit.proofs.UnneededSpaces.{either_seen, holder_seen, nearest_in}
+use Rattle.jsonc_edit.proofs.BlanksBefore.{blanks_low}
 
 take_front : (k m : ℕ) (row rest : List ℕ) → k ≤ m → m ≤ length row → take k (take m row ++ rest) ≡ take k row
 take_front k m row rest low inn = take-append-le k (take m row) rest (omega (arith, low, inn, length-take m row)) ∙ take-take k m row low
@@ -73,20 +74,12 @@ module _ (old new : List Node) (x space n c : ℕ) (tree : IsTree old) (r : Stan
       ap (λ k. cond (is_newline_at new k) place (suc place)) (index_ahead place (omega (arith, h)))
       ∙ ap (λ w. cond (is_newline w) place (suc place)) (contents_kept old new x space tree r (slice_index row place))
 
-  blanks_low : (place : ℕ) → blanks_from old row place ≤ place
-  blanks_low zero = omega arith
-  blanks_low (suc place) =
-      elim (cases_Bool (is_whitespace_at old (slice_index row place))) [
-        | inl h ↦ (let e : blanks_from old row (suc place) ≡ blanks_from old row place = rw h refl in omega (arith, e, blanks_low place))
-        | inr h ↦ (let e : blanks_from old row (suc place) ≡ suc place = rw h refl in omega (arith, e))
-      ]
-
   removed_stays : removed_from new c n ≡ removed_from old c n
   removed_stays =
       ap (λ w. if is_line_comment w then newline_from new (children_at new c) (blanks_from new (children_at new c) (place_at new n)) else place_at new n) (contents_kept old new x space tree r n)
       ∙ ap (λ k. if is_line_comment (content_at old n) then newline_from new (children_at new c) (blanks_from new (children_at new c) k) else k) place_stays
       ∙ ap (λ k. if is_line_comment (content_at old n) then newline_from new (children_at new c) k else place_at old n) (blanks_ahead (place_at old n) (omega arith))
-      ∙ ap (λ k. if is_line_comment (content_at old n) then k else place_at old n) (newline_ahead (blanks_from old row (place_at old n)) (blanks_low (place_at old n)))
+      ∙ ap (λ k. if is_line_comment (content_at old n) then k else place_at old n) (newline_ahead (blanks_from old row (place_at old n)) (blanks_low old row (place_at old n)))
 
   -- so what stands there up to the node
   pub record RowAhead : Type 0 where

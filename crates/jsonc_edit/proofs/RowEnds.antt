@@ -1,6 +1,7 @@
 -- The ends of a row, and what comes between them.
-use Rattle.std.proofs.Common.{◌≡◌, ℕ, zero, suc, ◌+◌, ◌-◌, ◌<◌, ◌≤◌, List, [], length, reverse, slice_get, drop, Some, None, refl, sym, ap, subst, ◌∙◌, arith}
+use Rattle.std.proofs.Common.{◌≡◌, ℕ, zero, suc, ◌+◌, ◌-◌, ◌<◌, ◌≤◌, List, [], length, reverse, slice_get, drop, Option, Some, None, refl, sym, ap, subst, ◌∙◌, arith}
 use Rattle.std.proofs.lemmas.List.{take_all}
+use Rattle.std.proofs.lemmas.Option.{slice_get-get_or}
 use Rattle.jsonc_tree.specs.Changes.{CanJoin, Splices}
 use Rattle.jsonc_tree.specs.Order.{with_parent}
 use Rattle.jsonc_tree.specs.Siblings.{before, first, siblings_after, siblings_before, CanFill, IsGap, IsStretch}
@@ -122,3 +123,15 @@ module _ (ns : List Node) (tree : IsTree ns) (c : ℕ) where
 
           pub inside_set : (new : List Node) → ((g : ℕ) → IsGap mid c g (Some n) (Some m) → Splices mid new c g g xs) → Splices ns new c 1 (length row - 1) xs
           inside_set new fills = Splices-refilled ns mid new c 1 (length row - 1) xs (omega (arith, two)) (omega (arith, two)) inside_gone (fills 1 inside_gap)
+
+-- directly behind a child there is a gap
+pub gap_after : (ns : List Node) → IsTree ns → (n c : ℕ) (o : Option ℕ) → parent_at ns n ≡ Some c → o ≡ first (siblings_after ns n) → IsGap ns c (place_at ns n + 1) (Some n) o
+gap_after ns tree n c o said e =
+    let row : List ℕ = children_at ns c in
+    let place : ℕ = place_at ns n in
+    let one : suc place ≡ place + 1 = omega arith in
+    record {
+      inside = omega (arith, tree.within n c said);
+      front = sym (ap (before row) (sym one) ∙ slice_get-get_or row place 0 (tree.within n c said) ∙ ap (λ (k : ℕ). Some k) (tree.found n c said));
+      back = e ∙ next_at ns tree c n said;
+    }

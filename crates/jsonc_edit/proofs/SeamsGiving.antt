@@ -1,5 +1,5 @@
 -- Where a node at a path has been replaced, spaces have come at the seams alone.
-use Rattle.std.proofs.Common.{◌≡◌, ℕ, ◌<◌, ◌++◌, ◌&&◌, Bool, true, false, List, length, refl, sym, ap, subst, ◌∙◌}
+use Rattle.std.proofs.Common.{◌≡◌, ℕ, ◌<◌, ◌++◌, ◌&&◌, true, List, length, sym, ap, subst, ◌∙◌}
 use Rattle.jsonc_text.specs.Options.{Options}
 use Rattle.jsonc_tree.specs.Content.{Content}
 use Rattle.jsonc_tree.specs.OrderedTree.{OrderedTree, ordered_tree, Top}
@@ -24,10 +24,7 @@ use Rattle.jsonc_edit.specs.SeamLaws.{HasSeams}
 use Rattle.jsonc_edit.proofs.LeavesAroundNodes.{spaces_stand_around}
 use Rattle.jsonc_edit.proofs.SeamsParting.{tells_what_is_printed}
 use Rattle.jsonc_edit.proofs.PathPlaces.{AtBetween, at_between, holds_between, takes_between}
-
-both : (a b : Bool) → a && b ≡ true → (a ≡ true) × (b ≡ true)
-both true b e = (refl, e)
-both false b e = let wrong : false ≡ true = e in cc
+use Rattle.jsonc_edit.proofs.Lists.{both_true}
 
 module _ (old new : List Node) (n m : ℕ) (now : Top) (tree : IsTree old) (g : ReplacedBy old new n m now) (path : List ℕ) (at : IsAt old path n) where
   at_ready : IsAt g.ready path n
@@ -84,9 +81,9 @@ module _ (old new : List Node) (n m : ℕ) (now : Top) (tree : IsTree old) (g : 
         silent = seams.silent;
         stood = subst (λ (t : OrderedTree). DocumentHolds (top_at old n) path t place.first (seams.quiet ++ seams.rest)) (tree_stays old g.ready tree keeps after) stood_top;
         stands = stands_now;
-        parts_before = λ o sound e. let h = both (is_bare now.content) (ends_bare g.ready (seen_before g.ready n)) e in (h.0, (printed_around o sound).0 h.1);
+        parts_before = λ o sound e. let h = both_true (is_bare now.content) (ends_bare g.ready (seen_before g.ready n)) e in (h.0, (printed_around o sound).0 h.1);
         parts_behind = λ o sound e.
-            let h = both (is_bare now.content) (begins_bare g.ready (seen_behind g.ready n)) e in
+            let h = both_true (is_bare now.content) (begins_bare g.ready (seen_behind g.ready n)) e in
             (h.0, ap (λ l. is_bare_leaf (first_printed l)) (sym seams.parts) ∙ (printed_around o sound).1 h.1);
       }
 

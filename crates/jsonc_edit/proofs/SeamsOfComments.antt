@@ -1,5 +1,5 @@
 -- Where a comment leaves, a space has come where it stood, or none.
-use Rattle.std.proofs.Common.{◌≡◌, ℕ, ◌+◌, ◌-◌, ◌<◌, ◌≤◌, ◌&&◌, Bool, true, false, cond, List, [], ◌∷◌, ◌++◌, length, map, take, drop, slice_index, slice_range, Option, Some, None, refl, sym, ap, subst, ◌∙◌, arith, length-take, get_or-take, length-drop, get_or-drop, IsTrue}
+use Rattle.std.proofs.Common.{◌≡◌, ℕ, ◌+◌, ◌-◌, ◌<◌, ◌≤◌, ◌&&◌, true, false, cond, List, [], ◌∷◌, ◌++◌, length, map, take, drop, slice_index, slice_range, Option, Some, None, refl, sym, ap, subst, ◌∙◌, arith, length-take, get_or-take, length-drop, get_or-drop, IsTrue}
 use Rattle.std.specs.List.{slice_get}
 use Rattle.std.proofs.lemmas.List.{append-nil, append_assoc, append_cancel_right, drop-take, take-append-drop, take-take}
 use Rattle.jsonc_text.specs.Options.{Options}
@@ -36,6 +36,7 @@ use Rattle.jsonc_edit.proofs.SeamsAround.{blank_row, leaf_alone, leaves_around, 
 use Rattle.jsonc_edit.proofs.CommentOrder.{making_keeps_comments}
 use Rattle.jsonc_edit.proofs.CommentsBefore.{comments_stand_before}
 use Rattle.jsonc_edit.proofs.LeavesAroundNodes.{between_above, space_stands_between, within}
+use Rattle.jsonc_edit.proofs.Lists.{contents_same, both_true}
 
 comment_leaf : (content : Content) (s : List ℕ) → content ≡ comment s → is_container content ≡ false
 comment_leaf content s e = ap is_container e
@@ -166,14 +167,6 @@ module _ (ns : List Node) (tree : IsTree ns) (n c : ℕ) (said : parent_at ns n 
             w.first ∙ ap (λ l. w.g ++ l) (ap leaves two.2 ∙ leaves-followed_by two.0 two.1) ∙ sym (append_assoc w.g (leaves two.0) (leaves two.1)) ∙ ap (λ l. (w.g ++ leaves two.0) ++ l) shown;
         stands = as_child (tree.named c i inn) w.up (subst (λ k. Shows ns (take k row) two.0) (sym at) first) (subst (λ k. Shows ns (drop (k + 1) row) whole.1) (sym at) whole.4);
       }
-
-contents_same : (f g : ℕ → Content) → ((k : ℕ) → f k ≡ g k) → (xs : List ℕ) → map f xs ≡ map g xs
-contents_same f g same [] = refl
-contents_same f g same (x ∷ xs) = ap (λ c. c ∷ map f xs) (same x) ∙ ap (λ l. g x ∷ l) (contents_same f g same xs)
-
-both_true : (a b : Bool) → a && b ≡ true → (a ≡ true) × (b ≡ true)
-both_true true b e = (refl, e)
-both_true false b e = let wrong : false ≡ true = e in cc
 
 -- those blanks are the same where the space has come that is due behind the comment
 module _ (ready spaced : List Node) (tree : IsTree ready) (n c : ℕ) (said : parent_at ready n ≡ Some c) where

@@ -41,7 +41,7 @@ through s (here {content = content} {after = after}) = record { front = own_leaf
 through s (deeper {content = content} {after = after} w) = let m = through s w in record { front = own_leaf content ++ m.front; back = m.back ++ leaves after; within = deeper m.within }
 through s (later {content = content} {below = below} w) = let m = through s w in record { front = (own_leaf content ++ leaves below) ++ m.front; back = m.back; within = later m.within }
 
-bare_first : (x y : Option Content) → is_bare_leaf x ≡ true → is_bare_leaf (or_else x y) ≡ true
+pub bare_first : (x y : Option Content) → is_bare_leaf x ≡ true → is_bare_leaf (or_else x y) ≡ true
 bare_first None y e = let wrong : false ≡ true = e in cc
 bare_first (Some c) y e = e
 
@@ -49,7 +49,7 @@ none_left : (ns : List Node) (k : ℕ) → nearest ns (drop k []) ≡ None
 none_left ns zero = refl
 none_left ns (suc k) = refl
 
-none_first : (ns : List Node) (k : ℕ) → nearest ns (reverse (take k [])) ≡ None
+pub none_first : (ns : List Node) (k : ℕ) → nearest ns (reverse (take k [])) ≡ None
 none_first ns zero = refl
 none_first ns (suc k) = refl
 

@@ -11,10 +11,11 @@ use Rattle.jsonc_tree.proofs.OrderedTrees.{Shows-unique}
 use Rattle.jsonc_sound.specs.Shape.{DocumentShaped}
 use Rattle.jsonc_layout.specs.nodes.Kinds.{is_element_at}
 use Rattle.jsonc_sound.specs.TreeChanges.{IsElement}
+use Rattle.jsonc_sound.proofs.FirstNodes.{value_element}
 use Rattle.jsonc_edit.specs.Paths.{IsElementOf, StepsTo, in_array, in_object, LeadsTo, itself, step, IsAt, Stands, as_root, as_value, as_property, as_name, between}
 use Rattle.jsonc_edit.specs.Changes.{row_below}
 use Rattle.jsonc_edit.proofs.Elements.{taken, left, found_among}
-use Rattle.jsonc_edit.proofs.Entries.{Entry, this, behind_passed, behind_element, Passed, IsAnyValue, IsAnyProperty, passed_leaf, value_element, no_entry, entry_property, entry_value, entry_document}
+use Rattle.jsonc_edit.proofs.Entries.{Entry, this, behind_passed, behind_element, Passed, IsAnyValue, IsAnyProperty, passed_leaf, no_entry, entry_property, entry_value, entry_document}
 use Rattle.jsonc_edit.proofs.ShapedProperties.{shaped_value}
 use Rattle.jsonc_edit.proofs.ChangesUpward.{Shows-row_below, document_is}
 

@@ -3,7 +3,7 @@ use Rattle.std.proofs.Common.{◌≡◌, ◌∙◌, sym, ap, subst, refl, ℕ, z
 use Rattle.std.proofs.lemmas.Bool.{true_from_ne_false}
 use Rattle.std.proofs.lemmas.List.{reverse-append, take_more}
 use Rattle.std.proofs.lemmas.Option.{slice_get-get_or}
-use Rattle.jsonc_tree.specs.Content.{Content, root, is_container}
+use Rattle.jsonc_tree.specs.Content.{is_container}
 use Rattle.jsonc_tree.specs.Changes.{CanAppend}
 use Rattle.jsonc_tree.specs.Order.{with_parent}
 use Rattle.jsonc_tree.specs.Siblings.{before, first, siblings_before, IsGap}
@@ -12,8 +12,10 @@ use Rattle.jsonc_tree.proofs.Appending.{not_over_bare}
 use Rattle.jsonc_tree.proofs.Order.{parent_there}
 use Rattle.jsonc_edit.specs.declared.put.Space.{Space}
 use Rattle.jsonc_edit.specs.declared.put.Spaces.{Spaces}
-use Rattle.jsonc_edit.specs.Put.{a_space, node_of, nodes_of, AreChildren, AreSpaced, AreTwo, IsFree, IsFreeSpace, IsPut, StandsBefore}
+use Rattle.jsonc_edit.specs.Put.{node_of, nodes_of, AreChildren, AreSpaced, AreTwo, IsFree, IsFreeSpace, IsPut, StandsBefore}
 use Rattle.jsonc_edit.proofs.InsertedSpaces.{contents_kept, parent_kept}
+use Rattle.jsonc_edit.proofs.Elements.{none_some}
+use Rattle.jsonc_edit.proofs.LeafKinds.{no_root}
 
 -- what stands before a gap of a row is the first of what is before it, backwards
 pub first_back : (xs : List ℕ) (k : ℕ) → k ≤ length xs → before xs k ≡ first (reverse (take k xs))
@@ -23,12 +25,6 @@ first_back xs (suc k) h =
     let parted : reverse (take (suc k) xs) ≡ get_or xs k 0 ∷ reverse (take k xs) =
     ap (λ m. reverse (take m xs)) one ∙ ap (λ (l : List ℕ). reverse l) (take_more xs k 0 (omega (arith, h))) ∙ reverse-append (take k xs) (get_or xs k 0 ∷ []) in
     slice_get-get_or xs k 0 (omega (arith, h)) ∙ sym (ap first parted)
-
-none_some : {k : ℕ} → None ≡ Some k → ⊥
-none_some e = cc
-
-no_root : (content : Content) → content ≡ a_space → content ≡ root → ⊥
-no_root content e f = cc
 
 module _ (ns : List Node) (tree : IsTree ns) where
   -- a space that is detached may come into the row of a node that is somebody's

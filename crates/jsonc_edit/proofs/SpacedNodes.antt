@@ -87,14 +87,14 @@ module _ (ns : List Node) (tree : IsTree ns) (n c : ℕ) (said : parent_at ns n 
           apart = not_over_parent ns tree n c said;
         }
 
-none_behind : (ns : List Node) (k x : ℕ) → parent_at ns k ≡ None → nearest ns (siblings_after ns k) ≡ Some x → ⊥
+pub none_behind : (ns : List Node) (k x : ℕ) → parent_at ns k ≡ None → nearest ns (siblings_after ns k) ≡ Some x → ⊥
 none_behind ns k x alone e = let wrong : None ≡ Some x = sym (ap (λ o. nearest ns (drop (place_at ns k + 1) (with_parent o (children_at ns)))) alone ∙ nothing_left (place_at ns k + 1)) ∙ e in cc
   where
     nothing_left : (j : ℕ) → nearest ns (drop j []) ≡ None
     nothing_left zero = refl
     nothing_left (suc j) = refl
 
-held_only : (ns : List Node) (content : Content) (p x : ℕ) → behind_property ns content p ≡ Some x → nearest ns (siblings_after ns p) ≡ Some x
+pub held_only : (ns : List Node) (content : Content) (p x : ℕ) → behind_property ns content p ≡ Some x → nearest ns (siblings_after ns p) ≡ Some x
 held_only ns property p x e = e
 held_only ns content p x e = absurd (let wrong : None ≡ Some x = e in cc)
 

@@ -14,6 +14,7 @@ use Rattle.jsonc_tree.proofs.OrderedTrees.{Shows-unique}
 use Rattle.jsonc_tree.proofs.Over.{either_over}
 use Rattle.jsonc_layout.specs.nodes.Kinds.{is_trivia}
 use Rattle.jsonc_layout.specs.nodes.Properties.{value_at}
+use Rattle.jsonc_layout.specs.nodes.Siblings.{elements_at}
 use Rattle.jsonc_layout.proofs.lemmas.nodes.PropertyValues.{IsAlike, held_alike, held_beside, held_in, same_kind, value_is_held}
 use Rattle.jsonc_sound.specs.TreeChanges.{IsElement}
 use Rattle.jsonc_sound.proofs.TriviaValues.{document_kept}
@@ -22,7 +23,7 @@ use Rattle.jsonc_sound.specs.Marks.{marks}
 use Rattle.jsonc_sound.specs.SoundTrees.{SoundTree}
 use Rattle.jsonc_sound.proofs.ReplacedStretches.{space_keeps_marks}
 use Rattle.jsonc_sound.proofs.SpacePut.{document_put, kept_with_space}
-use Rattle.jsonc_edit.specs.Put.{a_space, StandsBefore, AreSpaced}
+use Rattle.jsonc_edit.specs.Put.{StandsBefore, AreSpaced}
 use Rattle.jsonc_edit.proofs.InsertedSpaces.{contents_kept, parent_kept, children_kept, container_row, row_kept, elements_kept, over_kept, over_before, no_parent_space, placed_ahead, placed_behind, placed_elsewhere, puts_space}
 use Rattle.jsonc_edit.specs.Changes.{row_below, top_at}
 use Rattle.jsonc_edit.specs.Paths.{IsElementOf, StepsTo, LeadsTo, itself, step, IsAt}
@@ -31,10 +32,7 @@ use Rattle.jsonc_edit.proofs.CommentOrder.{comment_nodes, space_keeps_comments}
 use Rattle.jsonc_edit.proofs.Elements.{Some_same}
 use Rattle.jsonc_edit.proofs.SpacedNodes.{Placed}
 use Rattle.jsonc_edit.proofs.ChangesUpward.{Shows-row_below}
-
-no_space : (content : Content) → IsElement content → content ≡ a_space → ⊥
-no_space (Content.whitespace s) e f = cc
-no_space content e f = cc
+use Rattle.jsonc_edit.proofs.LeafKinds.{no_space}
 
 -- one space
 module _ (old new : List Node) (x leaf : ℕ) (tree : IsTree old) (r : StandsBefore old new x leaf) where
@@ -277,3 +275,8 @@ any_spaced m (x ∷ xs) old new tree f (now, leaf, r, rest) =
 pub spaces_marks : {t u : OrderedTree} → SpacesPut t u → marks u ≡ marks t
 spaces_marks none_put = refl
 spaces_marks (one_put {t = t} {s = s} put rest) = spaces_marks rest ∙ space_keeps_marks t s put
+
+-- elements stay where spaces come
+pub elements_spaced : (xs : List ℕ) (old new : List Node) → IsTree old → AreSpaced old xs new → (c : ℕ) → elements_at new c ≡ elements_at old c
+elements_spaced [] old new tree e c = ap (λ ns. elements_at ns c) e
+elements_spaced (x ∷ xs) old new tree (now, leaf, s, rest) c = elements_spaced xs now new s.tree rest c ∙ elements_kept old now x leaf tree s c

@@ -1,6 +1,5 @@
 -- A comment is taken out, with a space in its place where one is due.
-use Rattle.std.proofs.Common.{◌≡◌, ℕ, zero, suc, ◌<◌, ◌≤◌, Bool, true, false, ◌&&◌, ◌||◌, cond, List, [], ◌∷◌, ◌++◌, length, slice_index, Option, Some, None, IsTrue, inl, inr, if◌then◌else◌, refl, sym, ap, subst, ◌∙◌, arith}
-use Rattle.std.proofs.lemmas.Bool.{cases_Bool}
+use Rattle.std.proofs.Common.{◌≡◌, ℕ, zero, suc, ◌<◌, ◌≤◌, Bool, true, false, ◌&&◌, ◌||◌, cond, List, [], ◌∷◌, ◌++◌, length, slice_index, Option, Some, None, IsTrue, if◌then◌else◌, refl, sym, ap, subst, ◌∙◌, arith}
 use Rattle.std.proofs.lemmas.List.Elements.{All-weaker}
 use Rattle.std.specs.List.{slice_get, All}
 use Rattle.jsonc_text.specs.Options.{Options}
@@ -16,6 +15,7 @@ use Rattle.jsonc_sound.specs.Lines.{is_line_comment}
 use Rattle.jsonc_sound.specs.ChangeLaws.{DiffersIn}
 use Rattle.jsonc_sound.proofs.TriviaValues.{document_kept}
 use Rattle.jsonc_sound.specs.SoundTrees.{SoundTree}
+use Rattle.jsonc_sound.proofs.Commas.{and_false}
 use Rattle.jsonc_edit.specs.Due as due
 use Rattle.jsonc_edit.specs.Due.{prints_at, prints_within, is_other, begins_bare, ends_bare, seen_before, seen_behind, space_needed_between, listed}
 use Rattle.jsonc_edit.specs.Put.{AreChildren, AreSpaced, Extends, nodes_of}
@@ -31,6 +31,7 @@ use Rattle.jsonc_edit.proofs.NodesKept.{tree_stays, place_kept}
 use Rattle.jsonc_edit.proofs.SpacedNodes.{IsChild, between_children, between_placed}
 use Rattle.jsonc_edit.proofs.Removal.{from_before, takes_trivia, gone_blanks, gone_text, are_gone_blanks, blanks_and_comment, sound_without}
 use Rattle.jsonc_edit.proofs.Spacing.{Spaced, all_spaced, parent_stays, spaces_sound, spaces_value}
+use Rattle.jsonc_edit.proofs.BlanksBefore.{blanks_low}
 
 -- what leaves with a comment stays the same while other nodes are made
 module _ (old new : List Node) (tree : IsTree old) (keeps : Keeps (length old) old new) (c : ℕ) where
@@ -50,14 +51,6 @@ module _ (old new : List Node) (tree : IsTree old) (keeps : Keeps (length old) o
   newline_same zero h = refl
   newline_same (suc place) h = ap (λ b. cond b place (suc place)) (ap is_newline (same_content place (omega (arith, h))))
 
-  blanks_within : (place : ℕ) → blanks_from old row place ≤ place
-  blanks_within zero = omega arith
-  blanks_within (suc place) =
-      elim (cases_Bool (is_whitespace_at old (slice_index row place))) [
-        | inl h ↦ (let e : blanks_from old row (suc place) ≡ blanks_from old row place = rw h refl in omega (arith, e, blanks_within place))
-        | inr h ↦ (let e : blanks_from old row (suc place) ≡ suc place = rw h refl in omega (arith, e))
-      ]
-
   module _ (n : ℕ) (said : parent_at old n ≡ Some c) where
     low : (n < length old) × (c < length old)
     low = parent_there old tree n c said
@@ -71,7 +64,7 @@ module _ (old new : List Node) (tree : IsTree old) (keeps : Keeps (length old) o
         ∙ ap (λ l. if is_line_comment (content_at old n) then newline_from new l (blanks_from new l (place_at new n)) else place_at new n) (keeps.children c low.1)
         ∙ ap (λ k. if is_line_comment (content_at old n) then newline_from new row (blanks_from new row k) else k) (place_kept old new tree keeps n c said)
         ∙ ap (λ k. if is_line_comment (content_at old n) then newline_from new row k else place_at old n) (blanks_same (place_at old n) place_in)
-        ∙ ap (λ k. if is_line_comment (content_at old n) then k else place_at old n) (newline_same (blanks_from old row (place_at old n)) (omega (arith, blanks_within (place_at old n), place_in)))
+        ∙ ap (λ k. if is_line_comment (content_at old n) then k else place_at old n) (newline_same (blanks_from old row (place_at old n)) (omega (arith, blanks_low old row (place_at old n), place_in)))
 
     first_there : slice_index row (removed_from old c n) < length old
     first_there = tree.in_tree c (removed_from old c n) (omega (arith, from_before old tree c n said, tree.within n c said))
@@ -126,10 +119,6 @@ pub over_keeps : (old ready : List Node) → IsTree old → Keeps (length old) o
 over_keeps old ready tree keeps _ there IsOver.itself = IsOver.itself
 over_keeps old ready tree keeps k there (IsOver.above {c = p} said rest) = IsOver.above (keeps.parent k there ∙ said) (over_keeps old ready tree keeps p (parent_there old tree k p said).1 rest)
 
-both_false : (a b : Bool) → b ≡ false → a && b ≡ false
-both_false true b e = e
-both_false false b e = refl
-
 -- what is due, or nothing meets
 module _ (ready spaced : List Node) (tree : IsTree ready) (n from other : ℕ) where
   none_meets : (a : Bool) (o : Option ℕ) → seen_behind ready n ≡ o → cond (a && begins_bare ready o) o None ≡ None → a && begins_bare ready o ≡ false
@@ -155,7 +144,7 @@ module _ (ready spaced : List Node) (tree : IsTree ready) (n from other : ℕ) w
   quiet_between prints same (Some x) due (now, leaf, r, e) =
       let seen : seen_behind ready n ≡ Some x = some_seen (prints_within ready from n && (ends_bare ready (seen_before ready from) && begins_bare ready (seen_behind ready n))) (seen_behind ready n) x due in
       let behind : begins_bare now (seen_behind now n) ≡ false = quiet_behind ready now tree n x leaf r seen in
-      subst (λ ns. ends_bare ns (seen_before ns other) && begins_bare ns (seen_behind ns n) ≡ false) (sym e) (both_false (ends_bare now (seen_before now other)) (begins_bare now (seen_behind now n)) behind)
+      subst (λ ns. ends_bare ns (seen_before ns other) && begins_bare ns (seen_behind ns n) ≡ false) (sym e) (and_false (ends_bare now (seen_before now other)) (begins_bare now (seen_behind now n)) behind)
 
 module _ (old new : List Node) (n : ℕ) (r : CommentTaken old new n) where
   abbrev c : ℕ

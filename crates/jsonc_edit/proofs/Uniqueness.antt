@@ -105,3 +105,7 @@ module _ (ns : List Node) (tree : IsTree ns) where
   -- one path leads to a node
   pub path_once : (p q : List ℕ) (n : ℕ) → IsAt ns p n → IsAt ns q n → p ≡ q
   path_once p q n (v, e, a) (w, f, b) = paths_same n n v p q refl a (subst (λ z. LeadsTo ns n z q) (element_once ns 0 0 w v f e) b)
+
+-- what stands at a path is a node of the document
+pub over_at : (ns : List Node) → IsTree ns → (path : List ℕ) (n : ℕ) → IsAt ns path n → IsOver ns 0 n
+over_at ns tree path n (v, e, leads) = over_up ns v 0 n (element_parent ns tree 0 0 v e) (leads_over ns tree n v path leads)

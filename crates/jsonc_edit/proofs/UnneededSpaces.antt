@@ -17,12 +17,7 @@ use Rattle.jsonc_sound.proofs.Spaced.{space_first}
 use Rattle.jsonc_edit.specs.Due.{prints, prints_at, nearest, beginning_in, beginning_of, end_of, is_bare_at, begins_bare, ends_bare, seen_before, behind_property, behind_holder, seen_behind, listed, spaces_needed_around}
 use Rattle.jsonc_edit.specs.Put.{a_space, StandsBefore, AreSpaced}
 use Rattle.jsonc_edit.proofs.InsertedSpaces.{placed_ahead, placed_behind, place_within, space_no_container, contents_kept, parent_kept, children_kept, container_row}
-
-Some_same : (m n : ℕ) → Some m ≡ Some n → m ≡ n
-Some_same m n e = cc
-
-none_some : {k : ℕ} → None ≡ Some k → ⊥
-none_some e = cc
+use Rattle.jsonc_edit.proofs.Elements.{Some_same, none_some}
 
 -- tests that agree find the same
 find_same : (f g : ℕ → Bool) → ((k : ℕ) → f k ≡ g k) → (xs : List ℕ) → find f xs ≡ find g xs

@@ -25,7 +25,7 @@ pub held_at : (ns : List Node) (path : List ℕ) (n : ℕ) → IsAt ns path n �
 held_at ns path n (v, e, leads) = leads_held ns n v [] path (v, e, itself) (by_root e) leads
 
 -- where a node that stays what it is changes at a path, the row below it is replaced
-no_row : {was now : OrderedTree} → Replaced was now none none → ⊥
+pub no_row : {was now : OrderedTree} → Replaced was now none none → ⊥
 no_row r = elim r [ ]
 
 more_after : {was now : OrderedTree} {c d : Content} {x y : OrderedTree} (after : OrderedTree) → Replaced was now (more c x none) (more d y none) → Replaced was now (more c x after) (more d y after)

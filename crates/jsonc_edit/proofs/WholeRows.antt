@@ -1,14 +1,15 @@
 -- Rows of a document: each child is whole, a leaf, a value or a property.
-use Rattle.std.proofs.Common.{◌≡◌, refl, subst, Bool, false, List, []}
+use Rattle.std.proofs.Common.{◌≡◌, refl, subst, Bool, false, List}
 use Rattle.jsonc_text.specs.Options.{Options}
 use Rattle.jsonc_tree.specs.Content.{Content, root, property, is_container}
 use Rattle.jsonc_tree.specs.OrderedTree.{OrderedTree, none, more, followed_by}
 use Rattle.jsonc_sound.specs.Shape as shape
-use Rattle.jsonc_sound.specs.Shape.{IsTrivia, Trivia, IsNameBefore, token_then}
+use Rattle.jsonc_sound.specs.Shape.{IsTrivia, Trivia, token_then}
 use Rattle.jsonc_sound.specs.Rows.{RowKind, Last}
 use Rattle.jsonc_sound.specs.Alone as alone
 use Rattle.jsonc_sound.specs.Alone.{ValueAlone, PartAlone, RowAlone, PropertyAlone, StretchAlone, RootAlone, DocumentAlone}
 use Rattle.jsonc_sound.proofs.RowsWithin.{Within, here, deeper, later, no_row}
+use Rattle.jsonc_edit.proofs.LeafKinds.{name_leaf}
 
 -- a leaf with nothing below it, a value, or a property
 pub data IsWhole (o : Options) : Content → OrderedTree → Type 0 where
@@ -26,11 +27,6 @@ trivia_leaf o (Content.whitespace s) h = refl
 trivia_leaf o (Content.newline k) h = refl
 trivia_leaf o (Content.comment s) h = refl
 trivia_leaf o content h = absurd h
-
-name_leaf : (o : Options) (content : Content) → IsNameBefore o content [] → is_container content ≡ false
-name_leaf o (Content.string s) h = refl
-name_leaf o (Content.word s) h = refl
-name_leaf o content h = absurd h
 
 module _ (o : Options) where
   -- so with a part of the row, and two parts

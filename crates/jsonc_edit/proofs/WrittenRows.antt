@@ -1,11 +1,9 @@
 -- Rows of laid nodes have the shape of the grammar.
-use Rattle.std.proofs.Common.{◌≡◌, ℕ, Bool, true, false, ◌||◌, List, [], ◌∷◌, ◌++◌, IsTrue, chars, refl, sym, subst, rules, if◌then◌else◌}
-use Rattle.std.proofs.lemmas.Str.{IsUtf8-append, IsUtf8-from_ascii, chars-append, chars-IsAscii}
+use Rattle.std.proofs.Common.{◌≡◌, ℕ, Bool, true, false, ◌||◌, List, [], ◌∷◌, IsTrue, refl, sym, subst, rules, if◌then◌else◌}
+use Rattle.std.proofs.lemmas.Str.{IsUtf8-from_ascii, chars-IsAscii}
 use Rattle.std.specs.Str.{IsAscii}
 use Rattle.jsonc_text.specs.Options.{Options}
 use Rattle.jsonc_text.specs.Text.{end_or, Many, stop, step}
-use Rattle.jsonc_text.proofs.CharacterSteps.{many_append}
-use Rattle.jsonc_text.proofs.UniqueWords.{many_more}
 use Rattle.jsonc_tree.specs.Content.{Content, whitespace}
 use Rattle.jsonc_tree.specs.OrderedTree.{OrderedTree, none, Top}
 use Rattle.jsonc_sound.specs.Leaves.{is_inner_blank}
@@ -17,6 +15,7 @@ use Rattle.jsonc_layout.specs.from_input.Laid.{on_one_line, on_lines, node_then,
 use Rattle.jsonc_sound.specs.Followers.{ends_literals, EndsLiterals}
 use Rattle.jsonc_sound.proofs.Followers.{mark_next, closed_ends}
 use Rattle.jsonc_edit.specs.Writing.{IsIndent, FitsLayout}
+use Rattle.jsonc_edit.proofs.FittingIndents.{indent_joined}
 
 -- each node of a list
 abbrev pub EachNode : (Top → Type 0) → List Top → Type 0
@@ -35,15 +34,8 @@ IsValueNode o node = (r : List ℕ) → EndsLiterals r → ValueShaped o node.co
 abbrev pub IsPropertyNode : Options → Top → Type 0
 IsPropertyNode o node = (node.content ≡ Content.property) × ((r : List ℕ) → EndsLiterals r → PropertyShaped o node.below r)
 
--- an indent one level deeper is one too
-indents_joined : (s t : List ℕ) → IsIndent s → IsIndent t → IsIndent (s ++ t)
-indents_joined s t h k = (
-  IsUtf8-append s t h.0 k.0,
-  subst (λ x. Many is_inner_blank x []) (sym (chars-append s t h.0)) (many_append (many_more h.1 (chars t)) k.1),
-)
-
 pub deeper_fits : (o : Options) (layout : Layout) → FitsLayout o layout → FitsLayout o (deeper layout)
-deeper_fits o layout f = record { current = indents_joined layout.current layout.single f.current f.single; single = f.single; commas = f.commas }
+deeper_fits o layout f = record { current = indent_joined layout.current layout.single f.current f.single; single = f.single; commas = f.commas }
 
 -- blanks of ASCII are an indent
 pub ascii_is_indent : (s : List ℕ) → IsAscii s → Many is_inner_blank s [] → IsIndent s

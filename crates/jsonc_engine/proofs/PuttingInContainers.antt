@@ -14,7 +14,6 @@ use Rattle.jsonc_edit.specs.Paths.{IsAt, IsElementOf}
 use Rattle.jsonc_text.specs.declared.edit.EditError.{EditError}
 use Rattle.jsonc_text.specs.declared.edit.EditError.TheVariants.{OutOfMemory}
 use Rattle.jsonc_edit.proofs.FittingFinds.{none_is_some}
-use Rattle.jsonc_edit.proofs.lemmas.set.PropertyRows.{over_at}
 use Rattle.jsonc_edit.specs.set.Kinds.{FoundOrCreated}
 use Rattle.jsonc_edit.proofs.lemmas.set.FirstValueSet.{gives_first_value}
 use Rattle.jsonc_insert.specs.named.Places.{IsPropertyOf, a_property}
@@ -22,6 +21,7 @@ use Rattle.jsonc_edit.specs.set.Shapes.{has_shape, is_array, is_object, is_of, e
 use Rattle.jsonc_text.specs.declared.edit.Over.TheVariants.{Keep}
 use Rattle.jsonc_text.specs.declared.edit.Shape.{Shape}
 use Rattle.jsonc_text.specs.declared.edit.Shape.TheVariants.{Object, Array}
+use Rattle.jsonc_edit.proofs.Uniqueness.{over_at}
 use Rattle.jsonc_run.proofs.EnsuredValues.{held}
 use Rattle.jsonc_insert.proofs.lemmas.named.PropertyValues.{value_held}
 use Rattle.jsonc_insert.proofs.lemmas.named.Values.{empty_writable}

@@ -10,6 +10,8 @@ use Rattle.std.specs.List.Sorted.{ties}
 use Rattle.std.specs.Ordering.{is_lt, nat_cmp}
 use Rattle.std.specs.Prelude.{slice_index}
 use Rattle.std.specs.declared.cmp.Ordering.{Ordering}
+use Rattle.jsonc_edit.proofs.Uniqueness.{over_at}
+use Rattle.jsonc_edit.proofs.lemmas.commas.Holders.{Held}
 use denote.Ref.{Bor}
 use denote.Param.Members.{Shared}
 use Rattle.jsonc_text.specs.Options.{Options}
@@ -33,8 +35,7 @@ use Rattle.jsonc_edit.proofs.Elements.{taken, left}
 use Rattle.jsonc_edit.proofs.FittingNodes.{over_there}
 use Rattle.jsonc_edit.proofs.NodesKept.{filter_same}
 use Rattle.jsonc_edit.proofs.ChangesUpward.{Shows-row_below}
-use Rattle.jsonc_edit.proofs.lemmas.remove.Containers.{Held, held_at}
-use Rattle.jsonc_edit.proofs.lemmas.set.PropertyRows.{over_at}
+use Rattle.jsonc_edit.proofs.lemmas.remove.Containers.{held_at}
 use Rattle.jsonc_run.specs.Edits.{rearrange}
 use Rattle.jsonc_run.specs.promise.Steps.{IsStep}
 use Rattle.jsonc_run.proofs.Roots.{value_stands}

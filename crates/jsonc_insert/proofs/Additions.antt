@@ -16,7 +16,7 @@ use Rattle.jsonc_tree.proofs.RowSteps.{RowBecomes}
 use Rattle.jsonc_tree.proofs.Splicing.{in_at, in_where, out_from}
 use Rattle.jsonc_edit.specs.Changes.{row_below, top_at}
 use Rattle.jsonc_edit.specs.Put.{Extends}
-use Rattle.jsonc_edit.proofs.ChangesUpward.{apart_kept, Shows-row_below}
+use Rattle.jsonc_edit.proofs.ChangesUpward.{apart_kept, Shows-row_below, over_through}
 use Rattle.jsonc_edit.proofs.NodesKept.{over_no_old}
 use Rattle.jsonc_edit.proofs.Splices.{spliced_in}
 use Rattle.jsonc_layout.specs.from_input.Layout.{Layout}
@@ -93,10 +93,6 @@ free_by a c xs join n e =
       | inr gone ↦ inl (subst (λ m. is_in m (children_at a c) ≡ true) w.2 (ap (is_in (get_or xs w.0 0)) (sym (whole_range (children_at a c))) ∙ gone))
     ]
 
-over_up : (ns : List Node) (n p x : ℕ) → IsOver ns n p → IsOver ns p x → IsOver ns n x
-over_up ns n p _ r itself = r
-over_up ns n p x r (above {c = q} said s) = above said (over_up ns n p q r s)
-
 module _ (old cur mid : List Node) (to : IsTree old) (tc : IsTree cur) (tm : IsTree mid) (c : ℕ) (at : c < length old) (holds : is_container_at old c ≡ true) (step : RowBecomes old cur c) (join : CanJoin old c 0 (length (children_at old c)) (children_at cur c)) (keeps : Keeps (length cur) cur mid) where
   abbrev was : List ℕ
   was = children_at old c
@@ -116,7 +112,7 @@ module _ (old cur mid : List Node) (to : IsTree old) (tc : IsTree cur) (tm : IsT
         | inl stands ↦ absurd (not_over_parent mid tm x c (keeps.parent x lt ∙ named cur tc c x stands) below)
         | inr away ↦ elim (cases_Bool (is_in x was)) [
           | inl gone ↦ let wrong : None ≡ Some p = sym (parent_gone old cur c step x away gone) ∙ same in cc
-          | inr out ↦ above (sym (parent_out old cur c step x away out) ∙ same) (climb n p (parent_there cur tc x p same).1 r (over_up mid p x c (above said itself) below))
+          | inr out ↦ above (sym (parent_out old cur c step x away out) ∙ same) (climb n p (parent_there cur tc x p same).1 r (over_through mid p x c (above said itself) below))
         ]
       ]
 

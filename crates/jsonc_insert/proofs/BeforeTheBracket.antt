@@ -1,5 +1,5 @@
 -- Where an element stands in a row that has its brackets: before the last of them.
-use Rattle.std.proofs.Common.{◌≡◌, ◌<◌, ◌≤◌, ◌+◌, ◌-◌, ◌&&◌, ◌⊎◌, inl, inr, ℕ, zero, suc, Bool, true, false, cond, List, [], ◌∷◌, length, reverse, get_or, slice_get, slice_index, nat_lt, Some, None, unwrap_or, refl, sym, ap, subst, ◌∙◌, arith, rules}
+use Rattle.std.proofs.Common.{◌≡◌, ◌<◌, ◌≤◌, ◌+◌, ◌-◌, ◌&&◌, ◌⊎◌, inl, inr, ℕ, zero, suc, Bool, true, false, cond, List, [], ◌∷◌, length, reverse, get_or, slice_get, slice_index, nat_lt, Some, None, refl, sym, ap, subst, ◌∙◌, arith, rules}
 use Rattle.std.specs.List.{find, prefix_len}
 use Rattle.std.specs.Option.{option_or}
 use Rattle.std.proofs.lemmas.List.Elements.{All-filter, filter_passes}
@@ -11,6 +11,7 @@ use Rattle.jsonc_tree.specs.Content.{Content}
 use Rattle.jsonc_tree.specs.Tree.{Node, content_at}
 use Rattle.jsonc_layout.specs.nodes.Kinds.{is_element, is_element_at, is_token}
 use Rattle.jsonc_layout.proofs.lemmas.nodes.InTree.{All-reverse}
+use Rattle.jsonc_edit.proofs.Elements.{Some_same}
 use Rattle.jsonc_insert.specs.Planned.{element_before, elements, has_brackets, is_other, place_in}
 
 not_other : (m : ℕ) → is_other m m ≡ false
@@ -59,16 +60,13 @@ otherwise : (a b : Bool) → cond a false b ≡ true → (a ≡ false) × (b ≡
 otherwise true b e = absurd (let wrong : false ≡ true = e in cc)
 otherwise false b e = (refl, e)
 
-some_same : (x n : ℕ) → Some x ≡ Some n → x ≡ n
-some_same x n e = ap (λ o. unwrap_or o 0) e
-
 -- what holds of each holds of what is found, and that passes
 pub holds_found : (p : ℕ → Bool) (P : ℕ → Type 0) (xs : List ℕ) → ((k d : ℕ) → k < length xs → P (get_or xs k d)) → (n : ℕ) → find p xs ≡ Some n → P n × (p n ≡ true)
 holds_found p P [] h n e = absurd (let wrong : None ≡ Some n = e in cc)
 holds_found p P (x ∷ xs) h n e = found_by (p x) refl e (holds_found p P xs (λ k d l. h (suc k) d (omega (arith, l))) n)
   where
     found_by : (b : Bool) → p x ≡ b → cond b (Some x) (find p xs) ≡ Some n → (find p xs ≡ Some n → P n × (p n ≡ true)) → P n × (p n ≡ true)
-    found_by true q f rest = let same : x ≡ n = some_same x n f in (subst P same (h 0 0 (omega arith)), subst (λ m. p m ≡ true) same q)
+    found_by true q f rest = let same : x ≡ n = Some_same x n f in (subst P same (h 0 0 (omega arith)), subst (λ m. p m ≡ true) same q)
     found_by false q f rest = rest f
 
 module _ (ns : List Node) (row : List ℕ) (brackets : has_brackets ns row ≡ true) where
@@ -93,7 +91,7 @@ module _ (ns : List Node) (row : List ℕ) (brackets : has_brackets ns row ≡ t
   by_found : (i n : ℕ) → ((x : ℕ) × (i < length (elements ns row)) × (slice_get (elements ns row) i ≡ Some x) × (get_or (elements ns row) i x ≡ x)) ⊎ ((length (elements ns row) ≤ i) × (slice_get (elements ns row) i ≡ None))
       → option_or (slice_get (elements ns row) i) (find (is_element_at ns) (reverse row)) ≡ Some n → place_in n row + 1 < length row
   by_found i n (inl (x, lt, e, g)) f =
-      let same : x ≡ n = some_same x n (sym (ap (λ o. option_or o (find (is_element_at ns) (reverse row))) e) ∙ f) in
+      let same : x ≡ n = Some_same x n (sym (ap (λ o. option_or o (find (is_element_at ns) (reverse row))) e) ∙ f) in
       subst (λ m. place_in m row + 1 < length row) (g ∙ same) (All-filter (is_element_at ns) Inner row each i x lt (filter_passes (is_element_at ns) row i x lt))
   by_found i n (inr (ge, e)) f =
       let found = holds_found (is_element_at ns) Inner (reverse row) (All-reverse Inner row each) n (sym (ap (λ o. option_or o (find (is_element_at ns) (reverse row))) e) ∙ f) in

@@ -4,6 +4,8 @@ use Rattle.std.specs.List.{find, prefix_len, take_while}
 use Rattle.std.proofs.lemmas.Bool.{cases_Bool, ltb-false, ltb-true}
 use Rattle.std.proofs.lemmas.List.{drop-append-le, drop-drop, drop_all, drop_more, get_or-append-add, get_or-reverse, get_or-take, get_or_append_left, length-reverse, reverse-append, reverse-reverse, take-append-drop, take-append-le, take-take, take_all, take_at}
 use Rattle.std.proofs.Math.Seq.{drop-append-add, get_or-append_seam, take-append_seam}
+use Rattle.jsonc_layout.proofs.lemmas.nodes.InTree.{All-reverse}
+use Rattle.jsonc_edit.proofs.Lists.{not_false}
 use mathlib.Core.List.{reverse-cons}
 use Rattle.std.proofs.lemmas.List.Folds.{length-prefix_len}
 use Rattle.std.proofs.lemmas.List.Sums.{prefix_len-le-length, take_while-cons}
@@ -100,15 +102,10 @@ module _ (p : ℕ → Bool) where
   run_range : (xs : List ℕ) → slice_range xs 0 (length (take_while p xs)) ≡ take_while p xs
   run_range xs = let same : length (take_while p xs) - 0 ≡ prefix_len p xs = omega (arith, length-prefix_len p xs) in ap (λ k. take k xs) same
 
-all_back : (P : ℕ → Type 0) (xs : List ℕ) → All P xs → All P (reverse xs)
-all_back P xs all k d h =
-    let there : k < length xs = omega (arith, h, length-reverse xs) in
-    subst P (sym (get_or-reverse xs k d there)) (all (length xs - 1 - k) d (omega (arith, there)))
-
-less : (a b : ℕ) → a < b → nat_lt a b ≡ true
+pub less : (a b : ℕ) → a < b → nat_lt a b ≡ true
 less a b h = elim (cases_Bool (nat_lt a b)) [ inl e ↦ e | inr off ↦ absurd (let ge = ltb-false a b off in omega (arith, ge, h)) ]
 
-not_less : (a b : ℕ) → b ≤ a → nat_lt a b ≡ false
+pub not_less : (a b : ℕ) → b ≤ a → nat_lt a b ≡ false
 not_less a b h = elim (cases_Bool (nat_lt a b)) [ inl e ↦ absurd (let lt = ltb-true a b e in omega (arith, lt, h)) | inr off ↦ off ]
 
 -- what stands between the first and the last of a row
@@ -121,10 +118,6 @@ token_no_blank ns n e = by (content_at ns n) e
     by : (w : Content) → is_token w ≡ true → (is_whitespace w || is_newline w) ≡ false
     by (content.token k) e = refl
     by _ e = cc
-
-pub no_blank : (b : Bool) → not b ≡ false → b ≡ true
-no_blank true e = refl
-no_blank false e = cc
 
 pub blank_not : (b : Bool) → not b ≡ true → b ≡ false
 blank_not true e = cc
@@ -246,7 +239,7 @@ module _ (ns : List Node) where
           let few : blanks ns (inside row) < length (inside row) =
           omega (arith, ap (blanks ns) in_is, ap length in_is, ap length (run_stops B mid run node solid), blanks_within ns mid, length-append mid (node ∷ run)) in
           let back : reverse inner ≡ reverse run ++ node ∷ reverse mid = reverse-append mid (node ∷ run) ∙ ap (λ l. l ++ reverse mid) (reverse-cons node run) ∙ append_assoc (reverse run) (node ∷ []) (reverse mid) in
-          let many : last_blanks ns (inside row) ≡ length run = ap (last_blanks ns) in_is ∙ ap (λ l. length (take_while B l)) back ∙ ap length (run_all B (reverse run) (reverse mid) node (all_back (λ m. B m ≡ true) run all) solid) ∙ length-reverse run in
+          let many : last_blanks ns (inside row) ≡ length run = ap (last_blanks ns) in_is ∙ ap (λ l. length (take_while B l)) back ∙ ap length (run_all B (reverse run) (reverse mid) node (All-reverse (λ m. B m ≡ true) run all) solid) ∙ length-reverse run in
           let at : length row - 1 - last_blanks ns (inside row) ≡ length ahead + 1 = omega (arith, row_long, many) in
           let all_run : slice_range row (length ahead + 1) (length row - 1) ≡ run =
           ap (slice_range row (length ahead + 1)) (omega (arith, row_long)) ∙ ap (λ r. slice_range r (length ahead + 1) (length ahead + (1 + length run))) is
@@ -352,7 +345,7 @@ module _ (ns : List Node) (tree : IsTree ns) (c : ℕ) (whole : has_brackets ns 
         run = blank_run;
         close = close;
         is = kids_are;
-        all = all_back (λ n. is_blank_at ns n ≡ true) f.0 (λ k d h. no_blank _ (f.4 k d h));
+        all = All-reverse (λ n. is_blank_at ns n ≡ true) f.0 (λ k d h. not_false _ (f.4 k d h));
         solid = blank_not _ f.3;
         closes = token_no_blank ns close (ap (λ n. is_token (content_at ns n)) (sym at_back) ∙ back_token ns kids whole);
         said = ap (parent_at ns) (sym here) ∙ tree.named c (length front_part) low;

@@ -18,11 +18,11 @@ use Rattle.jsonc_insert.proofs.Numbering.{element_row, whole}
 use Rattle.jsonc_insert.proofs.RowReplaced.{IsRowFor}
 use Rattle.jsonc_insert.proofs.TrimmedRows.{back_blank, first_within, front_blank, has_two, last_high, last_low, shorter_at}
 
-either_left : (a b : Bool) → a ≡ true → (a || b) ≡ true
+pub either_left : (a b : Bool) → a ≡ true → (a || b) ≡ true
 either_left true b e = refl
 either_left false b e = cc
 
-either_right : (a b : Bool) → b ≡ true → (a || b) ≡ true
+pub either_right : (a b : Bool) → b ≡ true → (a || b) ≡ true
 either_right true b e = refl
 either_right false b e = e
 

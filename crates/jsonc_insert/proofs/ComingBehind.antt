@@ -6,8 +6,7 @@ use Rattle.std.proofs.lemmas.List.Edits.{between_none}
 use Rattle.std.proofs.lemmas.Option.{slice_get-get_or}
 use Rattle.jsonc_tree.specs.Changes.{CanJoin, Splices}
 use Rattle.jsonc_tree.specs.Content.{Content, is_container, token}
-use Rattle.jsonc_tree.specs.Order.{with_parent}
-use Rattle.jsonc_tree.specs.Siblings.{before, first, siblings_after, IsGap}
+use Rattle.jsonc_tree.specs.Siblings.{before, first}
 use Rattle.jsonc_tree.specs.Tree.{Node, children_at, content_at, is_container_at, is_in, parent_at, place_at, IsTree}
 use Rattle.jsonc_tree.proofs.Appending.{not_over_bare}
 use Rattle.jsonc_tree.proofs.Gaps.{at_named, at_placed}
@@ -22,24 +21,6 @@ use Rattle.jsonc_insert.specs.Trimmed.{with_at}
 use Rattle.jsonc_insert.specs.declared.neighbours.Neighbours.{Neighbours}
 use Rattle.jsonc_insert.specs.declared.plan.Plan.{Plan}
 use Rattle.jsonc_insert.proofs.NoDuplicates.{all_parts, once_left, once_right, parts_apart}
-
-first_drop : (k : ℕ) (xs : List ℕ) → slice_get (drop k xs) 0 ≡ slice_get xs k
-first_drop zero xs = refl
-first_drop (suc k) [] = refl
-first_drop (suc k) (x ∷ xs) = first_drop k xs
-
--- directly behind a child there is a gap
-pub gap_behind : (ns : List Node) → IsTree ns → (n c : ℕ) (o : Option ℕ) → parent_at ns n ≡ Some c → o ≡ first (siblings_after ns n) → IsGap ns c (place_at ns n + 1) (Some n) o
-gap_behind ns tree n c o said e =
-    let row : List ℕ = children_at ns c in
-    let place : ℕ = place_at ns n in
-    let within : place < length row = tree.within n c said in
-    let one : suc place ≡ place + 1 = omega arith in
-    record {
-      inside = omega (arith, within);
-      front = sym (ap (before row) (sym one) ∙ slice_get-get_or row place 0 within ∙ ap Some (tree.found n c said));
-      back = e ∙ ap (λ p. slice_get (drop (place + 1) (with_parent p (children_at ns))) 0) said ∙ first_drop (place + 1) row;
-    }
 
 splice_low : (xs ys : List ℕ) (g k : ℕ) → g ≤ length xs → k < g → slice_get (splice xs g g ys) k ≡ slice_get xs k
 splice_low xs ys zero k h lt = absurd (omega arith)

@@ -1,26 +1,18 @@
 -- Elements of a row whose nodes are there are there.
-use Rattle.std.proofs.Common.{◌≡◌, ◌<◌, ◌≤◌, ◌⊎◌, inl, inr, eqb, ℕ, zero, suc, List, ◌∷◌, length, reverse, get_or, slice_get, slice_index, None, Some, sym, ap, subst, ◌∙◌, arith}
+use Rattle.std.proofs.Common.{◌≡◌, ◌<◌, eqb, ℕ, zero, suc, List, ◌∷◌, length, reverse, get_or, slice_get, slice_index, None, Some, sym, ap, subst, ◌∙◌, arith}
 use Rattle.std.proofs.lemmas.Bool.{ne_eqb}
 use Rattle.std.proofs.lemmas.List.{get_or_default}
 use Rattle.std.proofs.lemmas.Map.Keys.{IsDistinct-from_apart}
 use Rattle.std.proofs.lemmas.Map.Steps.{length-le_from_distinct_below}
 use Rattle.std.proofs.lemmas.List.Elements.{All-filter}
-use Rattle.std.proofs.lemmas.Option.{slice_get_cases}
 use Rattle.jsonc_tree.specs.Tree.{Node, children_at, parent_at, place_at, IsTree}
 use Rattle.jsonc_tree.proofs.Splicing.{in_where}
 use Rattle.jsonc_layout.specs.nodes.Kinds.{is_element_at}
 use Rattle.jsonc_layout.specs.nodes.Siblings.{AreThere, IsThere}
 use Rattle.jsonc_layout.proofs.lemmas.nodes.InTree.{All-reverse, find_there}
-use Rattle.jsonc_layout.proofs.lemmas.nodes.Walks.{filter_short}
+use Rattle.jsonc_layout.proofs.lemmas.nodes.Walks.{filter_short, got_there}
 use Rattle.jsonc_layout.specs.lines.Breadth.{last_element}
 use Rattle.jsonc_insert.specs.Planned.{elements}
-
-got_there : (ns : List Node) (xs : List ℕ) (i : ℕ) → AreThere ns xs → IsThere ns (slice_get xs i)
-got_there ns xs i all = by (slice_get_cases xs i).1
-  where
-    by : ((x : ℕ) × (i < length xs) × (slice_get xs i ≡ Some x) × (get_or xs i x ≡ x)) ⊎ ((length xs ≤ i) × (slice_get xs i ≡ None)) → IsThere ns (slice_get xs i)
-    by (inl (x, lt, e, g)) = subst (IsThere ns) (sym e) (subst (λ m. m < length ns) g (all i x lt))
-    by (inr (ge, e)) = subst (IsThere ns) (sym e) tt
 
 pub nth_there : (ns : List Node) (row : List ℕ) (i : ℕ) → AreThere ns row → IsThere ns (slice_get (elements ns row) i)
 nth_there ns row i all = got_there ns (elements ns row) i (All-filter (is_element_at ns) (λ m. m < length ns) row all)

@@ -1,6 +1,6 @@
 -- The first and the last child of a container, and a token in front.
-use Rattle.std.proofs.Common.{◌≡◌, ◌<◌, ◌≤◌, ◌-◌, ◌&&◌, ◌||◌, inl, inr, ℕ, true, false, cond, List, length, reverse, slice_index, slice_range, nat_lt, Some, sym, ap, ◌∙◌, arith}
-use Rattle.std.proofs.lemmas.Bool.{cases_Bool, cases_lt, false≢true, ltb-false, ltb-true}
+use Rattle.std.proofs.Common.{◌≡◌, ◌<◌, ◌≤◌, ◌-◌, ◌&&◌, ◌||◌, inl, inr, ℕ, true, false, cond, List, length, reverse, slice_index, slice_range, Some, sym, ap, ◌∙◌, arith}
+use Rattle.std.proofs.lemmas.Bool.{cases_lt, false≢true}
 use Rattle.std.proofs.lemmas.List.{get_or-reverse, length-reverse}
 use Rattle.std.proofs.lemmas.List.Edits.{get_or-between, length-between}
 use Rattle.std.proofs.lemmas.List.Folds.{length-prefix_len}
@@ -14,12 +14,7 @@ use Rattle.jsonc_layout.specs.nodes.Kinds.{is_blank_at, is_newline, is_token, is
 use Rattle.jsonc_insert.specs.Planned.{has_brackets}
 use Rattle.jsonc_insert.specs.Trimmed.{last_blanks}
 use Rattle.jsonc_insert.proofs.TrimmedRows.{front_token, has_two}
-
-less : (a b : ℕ) → a < b → nat_lt a b ≡ true
-less a b h = elim (cases_Bool (nat_lt a b)) [ inl e ↦ e | inr off ↦ absurd (let ge = ltb-false a b off in omega (arith, ge, h)) ]
-
-not_less : (a b : ℕ) → b ≤ a → nat_lt a b ≡ false
-not_less a b h = elim (cases_Bool (nat_lt a b)) [ inl e ↦ absurd (let lt = ltb-true a b e in omega (arith, lt, h)) | inr off ↦ off ]
+use Rattle.jsonc_insert.proofs.BlankRuns.{less, not_less}
 
 module _ (ns : List Node) (tree : IsTree ns) (c f l : ℕ) (front : first (children_at ns c) ≡ Some f) (back : first (reverse (children_at ns c)) ≡ Some l) where
   abbrev row : List ℕ

@@ -7,16 +7,14 @@ use Rattle.jsonc_tree.specs.Building.{Keeps}
 use Rattle.jsonc_tree.specs.Changes.{Adds}
 use Rattle.jsonc_tree.specs.Content.{Content}
 use Rattle.jsonc_tree.specs.Tree.{Node, content_at, IsTree}
-use Rattle.jsonc_tree.proofs.Builder.{Keeps-adds, Keeps-fewer, Keeps-same, Keeps-then}
+use Rattle.jsonc_tree.proofs.Builder.{Keeps-adds, Keeps-same}
 use Rattle.jsonc_edit.proofs.NodesKept.{built_top, top_stays}
 use Rattle.jsonc_layout.specs.from_input.Layout.{Layout}
+use Rattle.jsonc_edit.proofs.lemmas.set.FirstValueMade.{still_kept}
 use Rattle.jsonc_insert.specs.Made.{comma_at, AreFresh, BuildsTop, Gains, IsFresh, LeavesMade}
 use Rattle.jsonc_insert.specs.Inserted.{laid_entry, leaves_before, leaves_behind, NodesMade}
 use Rattle.jsonc_insert.specs.declared.plan.Plan.{Plan}
 use Rattle.jsonc_insert.proofs.NoDuplicates.{once_append}
-
-pub keeps_then : (a b d : List Node) → Keeps (length a) a b → Keeps (length b) b d → Keeps (length a) a d
-keeps_then a b d first second = Keeps-then (length a) a b d first (Keeps-fewer (length a) (length b) b d first.len second)
 
 -- what was made stays what it is while more is made
 contents_kept : (now later : List Node) → Keeps (length now) now later → (xs : List ℕ) → ((k : ℕ) → k < length xs → slice_index xs k < length now) → map (content_at later) xs ≡ map (content_at now) xs
@@ -75,7 +73,7 @@ module _ (now later : List Node) (content : Content) (added : Adds now later con
   leaf_gained leaves old made l =
       let keeps = Keeps-adds now later content added in
       record {
-        keeps = keeps_then old now later l.keeps keeps;
+        keeps = still_kept old now later l.keeps keeps;
         fresh = fresh_append old now later leaves (length now ∷ []) l.keeps.len keeps l.fresh added_fresh;
         are = map_append (content_at later) leaves (length now ∷ [])
             ∙ ap (λ w. w ++ content_at later (length now) ∷ []) (contents_kept now later keeps leaves (λ k h. (l.fresh.each k h).in_tree) ∙ l.are)
@@ -105,10 +103,10 @@ module _ (old a b d ready : List Node) (layout : Layout) (outer : List ℕ) (pla
     (one : LeavesMade old a (comma_at plan.comma) comma) (two : LeavesMade a b (leaves_before layout plan) before)
     (built : BuildsTop b d m (laid_entry layout name v)) (last : LeavesMade d ready (leaves_behind layout outer plan) behind) (tree : IsTree ready) where
   from_b : Keeps (length b) b ready
-  from_b = keeps_then b d ready built.keeps last.keeps
+  from_b = still_kept b d ready built.keeps last.keeps
 
   from_a : Keeps (length a) a ready
-  from_a = keeps_then a b ready two.keeps from_b
+  from_a = still_kept a b ready two.keeps from_b
 
   element_fresh : AreFresh b ready (m ∷ behind)
   element_fresh = fresh_append b d ready (m ∷ []) behind built.keeps.len last.keeps (one_fresh b d m (record { later = built.later; in_tree = built.in_tree; alone = built.alone })) last.fresh

@@ -61,7 +61,7 @@ same_count ns (x ∷ xs) = by (is_element (content_at ns x)) (same_count ns xs)
 none_of : (ns : List Node) (xs : List ℕ) (contents : List Content) → map (content_at ns) xs ≡ contents → length (filter is_element contents) ≡ 0 → filter (is_element_at ns) xs ≡ []
 none_of ns xs contents e h = nil_from_length (filter (is_element_at ns) xs) (same_count ns xs ∙ ap (λ l. length (filter is_element l)) e ∙ h)
 
-at_seam : (xs ys : List ℕ) (m : ℕ) → slice_get (xs ++ m ∷ ys) (length xs) ≡ Some m
+pub at_seam : (xs ys : List ℕ) (m : ℕ) → slice_get (xs ++ m ∷ ys) (length xs) ≡ Some m
 at_seam [] ys m = refl
 at_seam (x ∷ xs) ys m = at_seam xs ys m
 

@@ -1,14 +1,12 @@
 -- What comes in on a line with others has no part of a layout in it.
-use Rattle.std.proofs.Common.{◌≡◌, ◌||◌, ℕ, Bool, true, false, cond, List, ◌∷◌, ◌++◌, slice_get, Option, Some, None, is_some, refl, sym, ap, subst, ◌∙◌}
+use Rattle.std.proofs.Common.{◌≡◌, ℕ, Bool, true, false, cond, List, ◌++◌, slice_get, Option, Some, None, is_some, refl, sym, ap, subst, ◌∙◌}
 use Rattle.std.proofs.lemmas.Bool.{false≢true}
-use Rattle.jsonc_text.specs.Plain.{Plain, Items, no_items, item, no_members, member}
-use Rattle.jsonc_tree.specs.Content as content
-use Rattle.jsonc_tree.specs.Content.{token}
+use Rattle.jsonc_text.specs.Plain.{Plain}
 use Rattle.jsonc_tree.specs.Tree.{Node, children_at}
 use Rattle.jsonc_tree.specs.declared.node.CstNewlineKind.{CstNewlineKind}
-use Rattle.jsonc_layout.specs.from_input.Laid.{closed, holds_filled, is_filled, laid, laid_items, leaf_then, on_one_line, spread}
-use Rattle.jsonc_layout.specs.from_input.Layout.{deeper, Layout}
+use Rattle.jsonc_layout.specs.from_input.Layout.{Layout}
 use Rattle.jsonc_edit.proofs.OneLine.{laid_alike}
+use Rattle.jsonc_edit.proofs.Lists.{either_off}
 use Rattle.jsonc_insert.specs.Inserted.{laid_entry, plan_of, NodesMade}
 use Rattle.jsonc_insert.specs.Made.{comma_leaf, gap_leaves}
 use Rattle.jsonc_insert.specs.Neighbours.{IsBeside, IsTold, SameGaps}
@@ -18,10 +16,6 @@ use Rattle.jsonc_insert.specs.declared.neighbours.Neighbours.{Neighbours}
 use Rattle.jsonc_insert.specs.declared.plan.Gap.{Gap}
 use Rattle.jsonc_insert.specs.declared.plan.Gap.TheVariants.{Nothing, Space, Line}
 use Rattle.jsonc_insert.specs.declared.plan.Plan.{Plan}
-
-either_off : (a b : Bool) → (a || b) ≡ false → (a ≡ false) × (b ≡ false)
-either_off true b e = absurd (false≢true (sym e))
-either_off false b e = (refl, e)
 
 -- no line ends beside what is planned on one line
 abbrev pub ends_line : Gap → Bool

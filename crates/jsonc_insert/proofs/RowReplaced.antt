@@ -10,13 +10,13 @@ use Rattle.jsonc_tree.proofs.Order.{not_over_parent, parent_there}
 use Rattle.jsonc_tree.proofs.Splicing.{in_at}
 use Rattle.jsonc_edit.specs.Put.{Extends}
 use Rattle.jsonc_edit.proofs.NodesKept.{over_no_old}
+use Rattle.jsonc_edit.proofs.lemmas.set.FirstValueMade.{still_kept}
 use Rattle.jsonc_insert.specs.Inserted.{plan_of, put_by, with_comma, RowMade}
 use Rattle.jsonc_insert.specs.Made.{AreFresh, IsFresh}
 use Rattle.jsonc_insert.specs.Planned.{has_brackets}
 use Rattle.jsonc_insert.specs.Trimmed.{trimmed, with_at}
 use Rattle.jsonc_insert.specs.declared.plan.Plan.{Plan}
 use Rattle.jsonc_insert.specs.members.Opened.{IsOfRow}
-use Rattle.jsonc_insert.proofs.MadeLeaves.{keeps_then}
 use Rattle.jsonc_insert.proofs.NoDuplicates.{all_parts, all_with_at, once_left, once_right, once_with_at, parts_apart}
 use Rattle.jsonc_insert.proofs.TrimmedRows.{has_two, trimmed_all, trimmed_brackets, trimmed_once}
 
@@ -132,7 +132,7 @@ module _ (old lined : List Node) (tree : IsTree old) (c : ℕ) (was : List ℕ) 
 
   module _ (ready : List Node) (there : c < length old) (p : Extends lined ready) where
     pub both : Extends old ready
-    both = record { keeps = keeps_then old lined ready b.prepared.keeps p.keeps; tree = p.tree }
+    both = record { keeps = still_kept old lined ready b.prepared.keeps p.keeps; tree = p.tree }
 
     of_row : (n : ℕ) → IsOfRow old lined c n → IsOfRow old ready c n
     of_row n (inl said) = inl said

@@ -18,7 +18,7 @@ use Rattle.jsonc_insert.specs.declared.trim.Stretch.{Stretch}
 use Rattle.jsonc_insert.proofs.NoDuplicates.{once_without}
 
 -- what passes at the front of a list in which something doesn't, and what passes at its end, are apart
-runs_apart : (p : ℕ → Bool) (xs : List ℕ) → prefix_len p xs < length xs → prefix_len p xs + prefix_len p (reverse xs) < length xs
+pub runs_apart : (p : ℕ → Bool) (xs : List ℕ) → prefix_len p xs < length xs → prefix_len p xs + prefix_len p (reverse xs) < length xs
 runs_apart p xs h =
     elim (cases_lt (prefix_len p xs + prefix_len p (reverse xs)) (length xs)) [
       | inl low ↦ low

@@ -19,9 +19,8 @@ use Rattle.jsonc_edit.specs.Reading.{IsReplaced}
 use Rattle.jsonc_edit.specs.set.Kinds.{FoundOrCreated, FoundOrSet, KeptOrReplaced}
 use Rattle.jsonc_edit.specs.set.PropertyValues.{HeldOrSet, LastValue}
 use Rattle.jsonc_edit.specs.set.RootSet.{FirstValue}
-use Rattle.jsonc_edit.proofs.Uniqueness.{element_parent}
+use Rattle.jsonc_edit.proofs.Uniqueness.{element_parent, over_at}
 use Rattle.jsonc_edit.proofs.ChangesUpward.{over_through}
-use Rattle.jsonc_edit.proofs.lemmas.multiline.Documents.{over_at}
 use Rattle.jsonc_edit.proofs.lemmas.set.FirstValueMade.{root_child}
 use Rattle.jsonc_edit.proofs.lemmas.set.PropertyValue.{held_child}
 use Rattle.jsonc_edit.proofs.lemmas.set.Renaming.{named_child}

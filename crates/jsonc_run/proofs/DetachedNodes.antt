@@ -1,5 +1,5 @@
 -- A call of a node that does not stand in the document leaves the document as it was.
-use Rattle.std.proofs.Common.{◌≡◌, ℕ, zero, suc, ◌+◌, ◌<◌, Bool, true, false, ◌&&◌, cond, List, [], ◌∷◌, ◌++◌, length, get_or, drop, slice_index, Option, Some, None, not, inl, inr, refl, sym, ap, subst, ◌∙◌, arith}
+use Rattle.std.proofs.Common.{◌≡◌, ℕ, ◌<◌, Bool, true, false, ◌&&◌, cond, List, [], ◌∷◌, ◌++◌, length, get_or, slice_index, Option, Some, None, not, inl, inr, refl, sym, ap, subst, ◌∙◌, arith}
 use Rattle.std.proofs.lemmas.Bool.{cases_Bool}
 use Rattle.std.proofs.lemmas.List.Elements.{All-nil, All-cons, All-head, All-tail, All-append}
 use Rattle.std.specs.List.{All}
@@ -7,11 +7,10 @@ use Rattle.std.specs.Option.{option_and_then}
 use Rattle.jsonc_text.specs.Plain.{Plain}
 use Rattle.jsonc_tree.specs.Building.{Keeps}
 use Rattle.jsonc_tree.specs.Changes.{LeafBecomes, Splices}
-use Rattle.jsonc_tree.specs.Content.{Content, property}
-use Rattle.jsonc_tree.specs.Order.{with_parent}
+use Rattle.jsonc_tree.specs.Content.{Content}
 use Rattle.jsonc_tree.specs.OrderedTree.{Top, ordered_tree}
 use Rattle.jsonc_tree.specs.Siblings.{siblings_after}
-use Rattle.jsonc_tree.specs.Tree.{Node, content_at, parent_at, children_at, place_at, IsTree, IsOver}
+use Rattle.jsonc_tree.specs.Tree.{Node, content_at, parent_at, children_at, IsTree, IsOver}
 use Rattle.jsonc_tree.proofs.Order.{parent_there}
 use Rattle.jsonc_tree.proofs.OrderedTrees.{Shows-ordered_tree, Shows-unique}
 use Rattle.jsonc_tree.proofs.Rows.{Shows-kept}
@@ -25,7 +24,7 @@ use Rattle.jsonc_edit.specs.Put.{AreSpaced, StandsBefore}
 use Rattle.jsonc_edit.specs.Reading.{layout_for, IsReplaced, IsReplacedRaw}
 use Rattle.jsonc_edit.specs.Replacing.{ReplacedBy}
 use Rattle.jsonc_edit.proofs.Elements.{Some_same}
-use Rattle.jsonc_edit.proofs.SpacedNodes.{found_behind}
+use Rattle.jsonc_edit.proofs.SpacedNodes.{found_behind, none_behind, held_only}
 use Rattle.jsonc_edit.proofs.Spacing.{parent_stays}
 use Rattle.jsonc_edit.proofs.TakingOut.{parents_spaced}
 use Rattle.jsonc_edit.specs.remove.Leaving.{comma_gone, first_gone, last_gone}
@@ -45,17 +44,6 @@ use Rattle.jsonc_insert.proofs.lemmas.members.RowReplaced.{prepared_all}
 use Rattle.jsonc_sort.specs.Rearranged.{moves, Rearranged}
 use Rattle.jsonc_sort.specs.Sorting.{Headers}
 use Rattle.jsonc_run.specs.Parents.{IsCall, all_stay, leaf_set, leaf_leaves, children_leave, gives_way, gives_way_raw, property_gives_way, comment_leaves, element_leaves, first_comes, last_comes, boolean_set, comes_on_lines, element_comes, property_comes, commas_set, some_commas_set, sorted, comment_comes, no_call, next_call, IsApart, CallStaysApart, CallsStayApart}
-
-none_behind : (ns : List Node) (k x : ℕ) → parent_at ns k ≡ None → nearest ns (siblings_after ns k) ≡ Some x → ⊥
-none_behind ns k x alone e = let wrong : None ≡ Some x = sym (ap (λ o. nearest ns (drop (place_at ns k + 1) (with_parent o (children_at ns)))) alone ∙ nothing_left (place_at ns k + 1)) ∙ e in cc
-  where
-    nothing_left : (j : ℕ) → nearest ns (drop j []) ≡ None
-    nothing_left zero = refl
-    nothing_left (suc j) = refl
-
-held_only : (ns : List Node) (content : Content) (p x : ℕ) → behind_property ns content p ≡ Some x → nearest ns (siblings_after ns p) ≡ Some x
-held_only ns property p x e = e
-held_only ns content p x e = absurd (let wrong : None ≡ Some x = e in cc)
 
 module _ (old : List Node) (tree : IsTree old) where
   -- it is not over this node

@@ -1,5 +1,5 @@
 -- What an edit finds behind a path, and where there is nothing.
-use Rattle.std.proofs.Common.{◌≡◌, ℕ, List, [], ◌∷◌, ◌++◌, length, slice_get, Option, Some, None, refl, sym, subst, ◌∙◌, arith}
+use Rattle.std.proofs.Common.{◌≡◌, ℕ, List, [], ◌∷◌, ◌++◌, length, slice_get, Option, Some, None, refl, sym, subst, ◌∙◌}
 use Rattle.std.proofs.lemmas.List.{same_from_push}
 use Rattle.jsonc_tree.specs.Content.{object, property}
 use Rattle.jsonc_tree.specs.Tree.{Node, content_at}
@@ -7,16 +7,13 @@ use Rattle.jsonc_layout.specs.nodes.Siblings.{elements_at}
 use Rattle.jsonc_edit.specs.Paths.{IsAt, FindsExactly}
 use Rattle.jsonc_edit.proofs.Elements.{Some_same}
 use Rattle.jsonc_edit.proofs.FittingFinds.{none_is_some}
+use Rattle.jsonc_edit.proofs.Lists.{no_length}
 use Rattle.jsonc_insert.specs.named.Places.{IsPropertyAt, a_property, IsPropertyOf}
 use Rattle.jsonc_run.specs.Places.{IsEntryAt, the_value, an_entry, IsEntryOf}
 
 not_empty : (front : List ℕ) (i : ℕ) → front ++ i ∷ [] ≡ [] → ⊥
 not_empty [] i e = cc
 not_empty (x ∷ xs) i e = cc
-
-empty_list : (xs : List ℕ) → length xs ≡ 0 → xs ≡ []
-empty_list [] e = refl
-empty_list (x ∷ xs) e = absurd (omega (arith, e))
 
 -- With an empty path the document's value is found.
 module _ (ns : List Node) where
@@ -30,14 +27,14 @@ module _ (ns : List Node) where
 
   pub value_found : (path : List ℕ) (found : Option ℕ) → length path ≡ 0 → FindsExactly found (IsAt ns path) → FindsExactly found (IsEntryAt ns path)
   value_found path found none finds =
-      let empty = empty_list path none in λ n. ((λ e. of_value path n empty ((finds n).0 e)), λ h. (finds n).1 (value_of path n empty h))
+      let empty = no_length path none in λ n. ((λ e. of_value path n empty ((finds n).0 e)), λ h. (finds n).1 (value_of path n empty h))
 
   property_in_none : (path : List ℕ) (n : ℕ) → path ≡ [] → IsPropertyAt ns path n → ⊥
   property_in_none _ n empty (a_property front c i at inside) = not_empty front i empty
 
   -- but no property
   pub no_property : (path : List ℕ) → length path ≡ 0 → FindsExactly None (IsPropertyAt ns path)
-  no_property path none = λ n. (λ e. none_is_some n e, λ h. absurd (property_in_none path n (empty_list path none) h))
+  no_property path none = λ n. (λ e. none_is_some n e, λ h. absurd (property_in_none path n (no_length path none) h))
 
 -- what is an element of an object, and a property, is a property of it
 pub property_of_object : (ns : List Node) (c i : ℕ) (held found : Option ℕ) → content_at ns c ≡ object → held ≡ slice_get (elements_at ns c) i → FindsExactly found (λ n. (held ≡ Some n) × (content_at ns n ≡ property))

@@ -1,5 +1,5 @@
 -- Values that come into arrays at paths.
-use Rattle.std.proofs.Common.{◌≡◌, ℕ, ◌≤◌, ◌+◌, true, List, [], ◌++◌, length, Some, refl, sym, ap, subst, ◌∙◌, arith, append_assoc}
+use Rattle.std.proofs.Common.{◌≡◌, ℕ, ◌≤◌, ◌+◌, true, List, length, Some, refl, ap, subst, arith}
 use Rattle.jsonc_text.specs.Options.{Options}
 use Rattle.jsonc_text.specs.Plain.{Plain, array}
 use Rattle.jsonc_text.proofs.UniqueValues.{document_unique}
@@ -8,8 +8,6 @@ use Rattle.jsonc_tree.specs.Tree.{Node, children_at, IsTree}
 use Rattle.jsonc_sound.specs.Shape.{printed_text}
 use Rattle.jsonc_layout.specs.nodes.Siblings.{elements_at}
 use Rattle.jsonc_sound.specs.Changes.{Changed}
-use Rattle.jsonc_sound.specs.MarkChanges.{MarksDifferIn}
-use Rattle.jsonc_sound.specs.Marks.{Mark, marks}
 use Rattle.jsonc_sound.specs.SoundTrees.{SoundTree}
 use Rattle.jsonc_edit.specs.Writing.{IsWritable}
 use Rattle.jsonc_text.specs.declared.edit.EditError.TheVariants.{NoSuchPlace}
@@ -17,7 +15,7 @@ use Rattle.jsonc_insert.specs.Inserted.{refusal, ElementPut}
 use Rattle.jsonc_insert.specs.Planned.{has_brackets}
 use Rattle.jsonc_insert.proofs.PastTheEnd.{past_the_end}
 use Rattle.jsonc_insert.proofs.ElementsInTree.{few_elements}
-use Rattle.jsonc_insert.specs.elements.Laws.{item_count, ElementInsertedAt, GainsMarks, IsInserted}
+use Rattle.jsonc_insert.specs.elements.Laws.{item_count, ElementInsertedAt, IsInserted}
 use Rattle.jsonc_insert.proofs.lemmas.elements.InsertedValues.{elements_come_at}
 use Rattle.jsonc_insert.proofs.lemmas.elements.Containers.{has_its_brackets}
 use Rattle.jsonc_insert.proofs.lemmas.elements.Written.{inserts_element}
@@ -32,16 +30,6 @@ comes_last old new c k v m tree all brackets put = past_the_end old new c k (len
 -- that nothing came in is never for want of a place
 pub never_place : (ns : List Node) (n : ℕ) → NoSuchPlace ≡ refusal ns n → ⊥
 never_place ns n is = no_other (has_brackets ns (children_at ns n)) NoSuchPlace is refl
-
--- marks that have come in stand in one place
-pub gained_marks : (ms : List Mark) (i : ℕ) (row t u : OrderedTree) → GainsMarks ms i row t u → MarksDifferIn [] ms (marks t) (marks u)
-gained_marks ms i row t u g =
-    record {
-      front = g.before ++ marks g.front;
-      back = marks g.back ++ g.behind;
-      before = g.was ∙ sym (append_assoc g.before (marks g.front) (marks g.back ++ g.behind));
-      after = g.is ∙ sym (append_assoc g.before (marks g.front) (ms ++ (marks g.back ++ g.behind)));
-    }
 
 -- what a value that came into the array at a path of a sound document makes of it
 pub record CameIn (o : Options) (path : List ℕ) (i : ℕ) (v : Plain) (t u : OrderedTree) : Type 0 where

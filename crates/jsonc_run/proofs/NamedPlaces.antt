@@ -29,7 +29,7 @@ use Rattle.jsonc_edit.proofs.ShapedPlaces.{at_further}
 use Rattle.jsonc_edit.proofs.ChangesUpward.{Shows-row_below}
 use Rattle.jsonc_edit.specs.set.Booleans.{is_boolean}
 use Rattle.jsonc_edit.proofs.lemmas.set.BooleanSetting.{boolean_of}
-use Rattle.jsonc_edit.proofs.lemmas.set.PropertyRows.{counted_elements, over_at, some_value_of}
+use Rattle.jsonc_edit.proofs.lemmas.set.PropertyRows.{counted_elements}
 use Rattle.jsonc_insert.specs.elements.Members.{member_count}
 use Rattle.jsonc_insert.proofs.lemmas.elements.Members.{members_counted}
 use Rattle.jsonc_insert.specs.named.Places.{IsPropertyAt, a_property}
@@ -38,6 +38,8 @@ use Rattle.jsonc_insert.proofs.lemmas.named.PropertyValues.{value_held}
 use Rattle.jsonc_run.specs.Edits.{PlainEdit, place_of}
 use Rattle.jsonc_run.specs.Named.{StandsAt, HasValueAt, HasBooleanAt, HasArrayAt, HasObjectAt, HasContainerAt, HasPropertyAt, IsThere, comment_count, PlacesAreNamed, NoSuchPlaceIff}
 use Rattle.jsonc_edit.specs.Comments.{comment_at}
+use Rattle.jsonc_edit.proofs.SoundValues.{some_value_of}
+use Rattle.jsonc_edit.proofs.Uniqueness.{over_at}
 use Rattle.jsonc_run.specs.Places.{IsArrayAt, IsBooleanAt, IsContainerAt, IsEntryOf, IsEntryAt, IsObjectAt, an_entry, in_array, in_object, the_value, Place, in_document, at_value, at_entry, at_property, at_boolean, at_array, at_object, at_container, at_comment, AtPlace, IsFound}
 use Rattle.jsonc_run.specs.Refusals.{HasItsPlace, FailsWith, RefusedAt}
 use Rattle.jsonc_run.proofs.Booleans.{boolean_value}

@@ -95,7 +95,7 @@ lets_left old new c i j s = record {
 none_some : {X : Type 0} (o : Option ℕ) (c : ℕ) → o ≡ None → o ≡ Some c → X
 none_some o c e f = absurd (let wrong : None ≡ Some c = sym e ∙ f in cc)
 
-or_true : (b : Bool) → b || true ≡ true
+pub or_true : (b : Bool) → b || true ≡ true
 or_true true = refl
 or_true false = refl
 

@@ -14,7 +14,6 @@ use Rattle.jsonc_edit.specs.Writing.{IsWritable}
 use Rattle.jsonc_text.specs.declared.edit.EditError.TheVariants.{NoSuchPlace}
 use Rattle.jsonc_edit.proofs.FittingNodes.{over_there}
 use Rattle.jsonc_insert.specs.Planned.{has_brackets}
-use Rattle.jsonc_edit.proofs.lemmas.multiline.Documents.{over_at}
 use Rattle.jsonc_insert.specs.members.Inserted.{PropertyPut}
 use Rattle.jsonc_insert.proofs.lemmas.members.PastTheEnd.{past_the_end}
 use Rattle.jsonc_insert.proofs.ElementsInTree.{few_elements}
@@ -25,6 +24,7 @@ use Rattle.jsonc_insert.proofs.lemmas.properties.InsertedRows.{properties_come_a
 use Rattle.jsonc_text.specs.declared.edit.Over.{Over}
 use Rattle.jsonc_text.specs.declared.edit.Over.TheVariants as over
 use Rattle.jsonc_text.specs.declared.edit.Shape.{Shape}
+use Rattle.jsonc_edit.proofs.Uniqueness.{over_at}
 use Rattle.jsonc_insert.specs.named.Named.{EnsureError}
 use Rattle.jsonc_run.specs.Places.{IsObjectAt}
 use Rattle.jsonc_insert.proofs.lemmas.named.PathValues.{value_once}

@@ -32,6 +32,7 @@ use Rattle.jsonc_edit.proofs.PathPlaces.{takes_between}
 use Rattle.jsonc_edit.specs.set.Giving.{due_after, is_bare_value, property_top, IsPropertyReplaced, PropertyReplacedBy}
 use Rattle.jsonc_edit.proofs.lemmas.set.PropertyPlace.{takes_propertys_place}
 use Rattle.jsonc_edit.proofs.lemmas.set.WrittenProperty.{writes_property}
+use Rattle.jsonc_edit.proofs.SeamsOfComments.{contents_spaced}
 use Rattle.jsonc_insert.specs.named.Places.{IsPropertyAt, a_property}
 use Rattle.jsonc_run.specs.Written.{ReplacesProperty, property_given}
 
@@ -63,10 +64,6 @@ space_comes ready spaced n v tree put front back s = by (is_bare_value v) (begin
     by true true (Some x) is due seen (now, space, r, same) =
         let m = space_behind ready now x space tree r n seen front back s in
         record { behind = true; quiet = m.quiet; rest = m.rest; parts = m.parts; bare = λ e. is; due = λ e. due; silent = m.silent; now = subst (λ ns. StandsBetween ns n front (m.quiet ++ (a_space ∷ m.rest))) (sym same) m.now }
-
-content_spaced : (xs : List ℕ) (old new : List Node) → AreSpaced old xs new → (k : ℕ) → content_at new k ≡ content_at old k
-content_spaced [] old new e k = ap (λ ns. content_at ns k) e
-content_spaced (x ∷ xs) old new (now, leaf, s, rest) k = content_spaced xs now new rest k ∙ s.put.content k
 
 module _ (old new : List Node) (path : List ℕ) (c i n m : ℕ) (name : List ℕ) (v : Plain) (tree : IsTree old) (at : IsAt old path c) (is : content_at old c ≡ object) (element : IsElementOf old c i n) (named : content_at old n ≡ property) (r : IsPropertyReplaced old new n name v m) where
   g : PropertyReplacedBy old new n m (layout_for old r.0 n) name v
@@ -110,7 +107,7 @@ module _ (old new : List Node) (path : List ℕ) (c i n m : ℕ) (name : List �
   stands =
       let place = takes_propertys_place old new path c i n m name v tree at element r in
       let top : top_at new m ≡ property_top (layout_for old r.0 n) name v = given_top old new n m name v r in
-      let is_new : content_at new c ≡ object = g.place.replaces.spliced.content c ∙ content_spaced (listed (due_after g.ready n v)) g.ready g.spaced g.spaces c ∙ g.prepared.keeps.content c there.1 ∙ is in
+      let is_new : content_at new c ≡ object = g.place.replaces.spliced.content c ∙ contents_spaced (listed (due_after g.ready n v)) g.ready g.spaced g.spaces c ∙ g.prepared.keeps.content c there.1 ∙ is in
       let later = takes_between g.spaced new n m g.place.replaces front (space.quiet ++ (space_if space.behind ++ space.rest)) space.now in
       let held = property_holds new g.place.replaces.after path c i m place.0 place.1 is_new (ap (λ (t : Top). t.content) top) front (space.quiet ++ (space_if space.behind ++ space.rest)) later in
       subst (λ (t : OrderedTree). PropertyHolds t path i (ordered_tree new 0) front (space.quiet ++ (space_if space.behind ++ space.rest))) (ap (λ (t : Top). t.below) top) held

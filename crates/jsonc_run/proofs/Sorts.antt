@@ -13,7 +13,7 @@ use Rattle.jsonc_edit.proofs.lemmas.commas.NoneLeft.{leaves_none}
 use Rattle.jsonc_edit.proofs.lemmas.commas.NoneMissing.{leaves_all}
 use Rattle.jsonc_text.specs.declared.edit.TrailingCommaMode.{TrailingCommaMode}
 use Rattle.jsonc_text.specs.declared.edit.TrailingCommaMode.TheVariants.{Never, IfMultiline}
-use Rattle.jsonc_edit.proofs.lemmas.multiline.Documents.{over_at}
+use Rattle.jsonc_edit.proofs.Uniqueness.{over_at}
 use Rattle.jsonc_run.specs.Places.{IsContainerAt}
 use Rattle.jsonc_run.specs.Written.{IsChangedAt}
 use Rattle.jsonc_sort.specs.Paths.{KeepsOutside, SaysSorted, SortedAt}

@@ -55,10 +55,10 @@ use Rattle.jsonc_edit.proofs.lemmas.remove.RemovedValue.{removes_value}
 use Rattle.jsonc_edit.proofs.lemmas.remove.Roots.{value_taken}
 use Rattle.jsonc_edit.proofs.lemmas.set.FirstValueRows.{comes_among_rows}
 use Rattle.jsonc_edit.proofs.lemmas.set.FirstValueSet.{gives_first_value, leaves_bare}
-use Rattle.jsonc_edit.proofs.lemmas.set.PropertyRows.{prints_value, some_value_of}
 use Rattle.jsonc_edit.proofs.lemmas.set.RenamedProperty.{is_marked, writes_name}
 use Rattle.jsonc_edit.proofs.lemmas.set.WrittenBoolean.{writes_boolean}
 use Rattle.jsonc_edit.proofs.lemmas.set.WrittenProperty.{writes_property}
+use Rattle.jsonc_edit.proofs.SoundValues.{some_value_of, prints_value}
 use Rattle.jsonc_insert.specs.named.Members.{LacksMember}
 use Rattle.jsonc_insert.specs.named.Named.{EnsuredFor}
 use Rattle.jsonc_insert.specs.named.Places.{IsPropertyAt, a_property}
@@ -67,6 +67,7 @@ use Rattle.jsonc_insert.proofs.lemmas.named.PropertyValues.{value_held}
 use Rattle.jsonc_insert.proofs.lemmas.named.Values as property_values
 use Rattle.jsonc_insert.proofs.lemmas.named.Values.{empty_writable, marks_given, same_shape, value_gives_way, value_marked}
 use Rattle.jsonc_insert.proofs.lemmas.named.Writing.{finds_member, first_named}
+use Rattle.jsonc_insert.proofs.lemmas.elements.Marked.{marks_come_in}
 use Rattle.jsonc_run.specs.Named.{entry, ensures, kept_or_emptied, may_stay, Asks, StandsAt}
 use Rattle.jsonc_run.specs.Edits.{PlainEdit, replace, remove, remove_comment, set_root, clear_root, replace_property, ensure_root, set_value, ensure_value, set_boolean, ensure_multiline, insert_element, append_element, insert_property, append_property, ensure_property, set_commas, set_some_commas, rearrange, rename_property, insert_comment, RootSet, EditStep, IsOfCharacters, Allows}
 use Rattle.jsonc_run.specs.Written.{IsMarked, MadeIn, IsChanged, by_nothing, by_value, by_entry, by_all, by_comment, by_first, by_clearing, by_property, by_boolean, by_lines, by_inserting, by_inserting_member, by_commas, by_sorting, by_name, by_inserting_comment, EntryRemoved, entry_left, value_left, FirstComes, ReplacesProperty, property_given}
@@ -77,7 +78,6 @@ use Rattle.jsonc_run.specs.texts.Paths.{an_array, an_object}
 use Rattle.jsonc_run.proofs.Booleans.{boolean_given, boolean_changed}
 use Rattle.jsonc_run.proofs.EnsuredValues.{held, Ensured, created, stayed, other_stayed, replaced, ensured}
 use Rattle.jsonc_run.proofs.Inserted as elements
-use Rattle.jsonc_run.proofs.Inserted.{gained_marks}
 use Rattle.jsonc_run.proofs.Calls.{property_over}
 use Rattle.jsonc_run.proofs.CommentMade.{comment_inserted}
 use Rattle.jsonc_run.proofs.lemmas.promise.EntriesHeld.{entry_is}
@@ -214,12 +214,12 @@ module _ (o : Options) (old new : List Node) (tree : IsTree old) (after : IsTree
   element_made : (path : List ℕ) (i : ℕ) (v : Plain) (came : elements.CameIn o path i v t u) → IsMade o (Some came.is.before) (texts.insert an_array path i (entry [] v)) t u
   element_made path i v came =
       let w = came.is in
-      record { after = Some w.after; old_text = w.old_text; new_text = w.new_text; changed = by_inserting w.gains; sound = w.sound; marked = gained_marks (written v) _ _ t u w.marks; made = came.come }
+      record { after = Some w.after; old_text = w.old_text; new_text = w.new_text; changed = by_inserting w.gains; sound = w.sound; marked = marks_come_in (written v) _ _ t u w.marks; made = came.come }
 
   property_made : (path : List ℕ) (i : ℕ) (name : List ℕ) (v : Plain) (came : properties.CameIn o path i name v t u) → IsMade o (Some came.is.before) (texts.insert an_object path i (entry name v)) t u
   property_made path i name v came =
       let w = came.is in
-      record { after = Some w.after; old_text = w.old_text; new_text = w.new_text; changed = by_inserting_member w.gains; sound = w.sound; marked = gained_marks (property_written name v) _ _ t u w.marks; made = came.come }
+      record { after = Some w.after; old_text = w.old_text; new_text = w.new_text; changed = by_inserting_member w.gains; sound = w.sound; marked = marks_come_in (property_written name v) _ _ t u w.marks; made = came.come }
 
   -- the document's value is set, or has to be of a shape
   root_set : (v : Plain) → IsWritable o v → (found : Option ℕ) → value_at old 0 ≡ found → RootSet old new v found → EditMade o (set_root v) t u

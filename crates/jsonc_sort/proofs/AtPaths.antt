@@ -1,9 +1,8 @@
 -- The elements of an array or object at a path of a sound document come in another order.
-use Rattle.std.proofs.Common.{◌≡◌, ◌∙◌, ℕ, ◌-◌, ◌<◌, Bool, true, false, not, ◌&&◌, inl, inr, List, [], ◌∷◌, ◌++◌, All, length, map, take, drop, IsTrue, refl, sym, ap, subst, arith, length-append}
+use Rattle.std.proofs.Common.{◌≡◌, ◌∙◌, ℕ, ◌-◌, ◌<◌, Bool, true, false, not, ◌&&◌, inl, inr, List, [], ◌∷◌, ◌++◌, All, length, map, take, drop, IsTrue, refl, sym, ap, subst, arith}
 use Rattle.std.specs.Prelude.{zip, IsPermutation}
 use Rattle.std.specs.List.{range_with_len}
 use Rattle.std.proofs.lemmas.Bool.{cases_Bool}
-use Rattle.std.proofs.lemmas.List.{drop_at, take_at}
 use Rattle.std.proofs.lemmas.List.Elements.{All-from_get_or, All-head, All-tail}
 use Rattle.jsonc_text.specs.Options.{Options}
 use Rattle.jsonc_tree.specs.Content.{Content, is_container, newline, token}
@@ -25,13 +24,16 @@ use Rattle.jsonc_edit.proofs.NodesKept.{at_kept, top_stays, tree_stays}
 use Rattle.jsonc_edit.proofs.Splices.{respliced_over, respliced_row}
 use Rattle.jsonc_edit.proofs.ChangesUpward.{ChangedIn, Shows-row_below, changed_over}
 use Rattle.jsonc_edit.specs.remove.Removed.{has_brackets}
-use Rattle.jsonc_edit.proofs.lemmas.remove.Containers.{Held, held_at, Brackets, brackets}
+use Rattle.jsonc_edit.proofs.lemmas.remove.Containers.{held_at, Brackets, brackets}
 use Rattle.jsonc_edit.specs.multiline.Lines.{between}
 use Rattle.jsonc_edit.specs.multiline.Multiline.{TakesRow}
 use Rattle.jsonc_edit.specs.multiline.Slots as multiline
-use Rattle.jsonc_edit.proofs.lemmas.multiline.Documents.{filled_shown, over_at}
+use Rattle.jsonc_edit.proofs.lemmas.multiline.Documents.{filled_shown, token_first, token_shown, between_is, last_is}
 use Rattle.jsonc_edit.proofs.lemmas.multiline.LineEnds.{has_its_brackets}
-use Rattle.jsonc_edit.proofs.lemmas.multiline.OnLines.{AllFit, bare_below}
+use Rattle.jsonc_edit.proofs.lemmas.multiline.OnLines.{AllFit}
+use Rattle.jsonc_edit.proofs.Uniqueness.{over_at}
+use Rattle.jsonc_edit.proofs.lemmas.commas.Steps.{same_top}
+use Rattle.jsonc_edit.proofs.lemmas.commas.Holders.{Held}
 use Rattle.jsonc_sort.specs.Slots.{Slot, stays, comes, all_stay, row_in, row_then}
 use Rattle.jsonc_sort.specs.Parts.{has_comma}
 use Rattle.jsonc_sort.specs.Sorting.{Entry, Headers, ends_with_comma, entries, entry_at, goes_on, is_unchanged, lines_ended, placed, placed_one, rearranged, row_end, slot_content, sorted, tail_with, travelling, without_comma}
@@ -110,22 +112,9 @@ shows_all : (ns : List Node) → IsTree ns → (xs : List ℕ) → All (λ n. n 
 shows_all ns tree [] all = shows_none
 shows_all ns tree (n ∷ xs) all = shows_more (Shows-row_below ns tree n (All-head (λ m. m < length ns) n xs all)) (shows_all ns tree xs (All-tail (λ m. m < length ns) n xs all))
 
--- a token stands for a leaf
-token_first : (ns : List Node) → IsTree ns → (x k : ℕ) (row : OrderedTree) → content_at ns x ≡ token k → more (content_at ns x) (row_below ns x) row ≡ token_then k row
-token_first ns tree x k row e = ap (λ w. more w (row_below ns x) row) e ∙ ap (λ b. more (token k) b row) (bare_below ns x (tree.leaf x (ap is_container e)))
-
-token_shown : (ns : List Node) → IsTree ns → (x k : ℕ) → content_at ns x ≡ token k → Shows ns (x ∷ []) (token_then k none)
-token_shown ns tree x k e = subst (λ (w : Content). Shows ns (x ∷ []) (more w none none)) e (shows_more (subst (λ (l : List ℕ). Shows ns l none) (sym (tree.leaf x (ap is_container e))) shows_none) shows_none)
-
 last_then : (ns : List Node) → IsTree ns → (xs : List ℕ) (y k : ℕ) → content_at ns y ≡ token k → row_in (top_at ns) (all_stay (xs ++ y ∷ [])) ≡ row_then (top_at ns) (all_stay xs) (token_then k none)
 last_then ns tree [] y k e = token_first ns tree y k none e
 last_then ns tree (n ∷ xs) y k e = ap (more (content_at ns n) (row_below ns n)) (last_then ns tree xs y k e)
-
-between_is : (x y : ℕ) (inner : List ℕ) → between (x ∷ (inner ++ y ∷ [])) ≡ inner
-between_is x y inner = take_at inner (y ∷ []) (length (x ∷ (inner ++ y ∷ [])) - 1 - 1) (omega (arith, length-append inner (y ∷ [])))
-
-last_is : (x y count : ℕ) (inner : List ℕ) → count ≡ length (x ∷ (inner ++ y ∷ [])) - 1 → drop count (x ∷ (inner ++ y ∷ [])) ≡ y ∷ []
-last_is x y count inner e = drop_at (x ∷ inner) (y ∷ []) count (omega (arith, e, length-append inner (y ∷ [])))
 
 all_front : (P : ℕ → Type 0) (xs ys : List ℕ) → All P (xs ++ ys) → Each P xs
 all_front P [] ys all = tt
@@ -137,9 +126,6 @@ all_last P (x ∷ xs) y all = all_last P xs y (All-tail P x (xs ++ y ∷ []) all
 
 abbrev top_of : Content → OrderedTree → Top
 top_of content below = record { content = content; below = below }
-
-same_top : (a b : Content) (x y : OrderedTree) → a ≡ b → x ≡ y → top_of a x ≡ top_of b y
-same_top a b x y e f = ap (λ w. top_of w x) e ∙ ap (top_of b) f
 
 module _ (o : Options) (old new : List Node) (path : List ℕ) (c : ℕ) (h : Headers) (order : List ℕ) (tree : IsTree old) (after : IsTree new) (sound : SoundTree o (ordered_tree old 0)) (at : IsAt old path c) (holds : IsTrue (is_array_or_object (content_at old c))) (perm : IsOrderIn old c order) where
   over : IsOver old 0 c

@@ -8,15 +8,15 @@ use Rattle.jsonc_text.specs.Text.{next}
 use Rattle.jsonc_tree.specs.Content.{Content, token}
 use Rattle.jsonc_tree.specs.OrderedTree.{OrderedTree, Top, none, more, leaves, followed_by}
 use Rattle.jsonc_tree.specs.Values as values
-use Rattle.jsonc_tree.specs.Values.{DocumentValueOf, ItemsOf, MembersOf, ValueOf}
+use Rattle.jsonc_tree.specs.Values.{DocumentValueOf, ItemsOf, MembersOf}
 use Rattle.jsonc_sound.specs.Lines.{LinesEndLoosely}
 use Rattle.jsonc_sound.specs.Shape.{token_then}
 use Rattle.jsonc_sound.specs.Adjacent.{LeavesEnd}
 use Rattle.jsonc_sound.specs.Alone as alone
-use Rattle.jsonc_sound.specs.Alone.{RowAlone, StretchAlone, may_come}
+use Rattle.jsonc_sound.specs.Alone.{RowAlone, may_come}
 use Rattle.jsonc_sound.specs.Changes.{Changed}
 use Rattle.jsonc_sound.specs.Rows as rows
-use Rattle.jsonc_sound.specs.Rows.{Last, RowKind, closing, opening, container_of, may_end, last_behind}
+use Rattle.jsonc_sound.specs.Rows.{Last, RowKind, closing, container_of, may_end}
 use Rattle.jsonc_sound.specs.Sound.{HasValue}
 use Rattle.jsonc_sound.specs.SoundTrees.{SoundTree}
 use Rattle.jsonc_sound.specs.Spaces.{first_printed, is_bare_leaf}
@@ -27,16 +27,17 @@ use Rattle.jsonc_sound.proofs.HeldValues.{document_held}
 use Rattle.jsonc_sound.proofs.LinesLeft.{row_lines}
 use Rattle.jsonc_sound.proofs.SeamRows.{container_leaves, row_of}
 use Rattle.jsonc_sound.proofs.SoundTrees.{kept_where_none_meet}
+use Rattle.jsonc_sound.proofs.Commas.{and_false}
+use Rattle.jsonc_edit.proofs.LeafKinds.{first_not_bare}
 use Rattle.jsonc_sort.specs.Slots.{Slot, all_stay, row_in, row_then, top_in}
 use Rattle.jsonc_sort.specs.Sorting.{entries, is_unchanged, lines_ended, rearranged, row_end}
 use Rattle.jsonc_sort.specs.Laws as laws
-use Rattle.jsonc_sort.specs.Laws.{IsOrderOf, Sort, StaysSound, SortsValue, SortsEntries, closed, container_after, container_before, content_of, is_filling, items_in, members_in, slots_of}
+use Rattle.jsonc_sort.specs.Laws.{IsOrderOf, Sort, StaysSound, SortsValue, SortsEntries, closed, container_after, container_before, content_of, items_in, members_in, slots_of}
 use Rattle.jsonc_sort.proofs.Choices.{choose_by}
 use Rattle.jsonc_sort.proofs.Entries.{Rearranges, row_rearranges}
 use Rattle.jsonc_sort.proofs.Lines.{lines_are_ended, rearranged_held, rows_end, slots_end, Ends}
 use Rattle.jsonc_sort.proofs.OldRows.{row_is}
-use Rattle.jsonc_sort.proofs.Runs as runs
-use Rattle.jsonc_sort.proofs.Runs.{Runs, runs_alone, runs_end, runs_then}
+use Rattle.jsonc_sort.proofs.Runs.{runs_alone, runs_end, runs_then}
 use Rattle.jsonc_sort.proofs.Same.{document_same}
 use Rattle.jsonc_sort.proofs.Values.{items_sorted, members_sorted}
 use Rattle.jsonc_sort.proofs.Weights.{entry_count}
@@ -51,8 +52,8 @@ bracket_comes o rows.of_values last h = h
 bracket_comes o rows.of_properties last h = h
 
 bracket_apart : (kind : RowKind) → is_bare_leaf (first_printed (leaves (token_then (closing kind) none))) ≡ false
-bracket_apart rows.of_values = runs.no_bare_first (token 0x5D) [] refl refl
-bracket_apart rows.of_properties = runs.no_bare_first (token 0x7D) [] refl refl
+bracket_apart rows.of_values = first_not_bare (token 0x5D) [] refl refl
+bracket_apart rows.of_properties = first_not_bare (token 0x7D) [] refl refl
 
 pub order_is : (top : ℕ → Top) (s : Sort) → IsOrderOf top s.row s.order → IsPermutation (range_with_len 0 (length (entries (content_of top) s.headers s.row))) s.order
 order_is top s p = subst (λ n. IsPermutation (range_with_len 0 n) s.order) (sym (entry_count (content_of top) s.headers s.row)) p
@@ -104,7 +105,7 @@ module _ (o : Options) (kind : RowKind) (top : ℕ → Top) (s : Sort) (order : 
       subst (λ x. DocumentChanged (container_of kind x) (container_of kind (closed kind top ended)) path t u) (sym (row_joined top (all_stay s.row) close)) c in
       let both : DocumentChanged (container_of kind (followed_by (row_in top (all_stay s.row)) close)) (container_of kind (followed_by (row_in top ended) close)) path t u =
       subst (λ x. DocumentChanged (container_of kind (followed_by (row_in top (all_stay s.row)) close)) (container_of kind x) path t u) (sym (row_joined top ended close)) first in
-      kept_where_none_meet o t sound kind none (row_in top (all_stay s.row)) (row_in top ended) close path u both r.to (runs_alone o kind top r.runs) (bracket_comes o kind r.to r.ends) lines (runs_end o kind top r.runs) refl (runs.right_false _ _ (bracket_apart kind))
+      kept_where_none_meet o t sound kind none (row_in top (all_stay s.row)) (row_in top ended) close path u both r.to (runs_alone o kind top r.runs) (bracket_comes o kind r.to r.ends) lines (runs_end o kind top r.runs) refl (and_false _ _ (bracket_apart kind))
 
 pub stays_sound : (o : Options) (t : OrderedTree) → StaysSound o t
 stays_sound o t sound kind top s path u c order =

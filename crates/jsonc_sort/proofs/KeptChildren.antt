@@ -22,7 +22,8 @@ use Rattle.jsonc_sort.specs.Sorting.{Headers, is_unchanged}
 use Rattle.jsonc_sort.proofs.ChildrenOnce as once
 use Rattle.jsonc_sort.proofs.SortedRow.{elements_between, filled_times, is_it, it_here, it_other, own_times}
 use Rattle.jsonc_sort.proofs.Times.{each_once, found, times_here, times_other}
-use Rattle.jsonc_sort.proofs.Weights.{added, sorted_whole}
+use Rattle.jsonc_sort.proofs.Sums.{added}
+use Rattle.jsonc_sort.proofs.Weights.{sorted_whole}
 
 times_joined : (n : ℕ) (xs ys : List ℕ) → times n (xs ++ ys) ≡ times n xs + times n ys
 times_joined n [] ys = omega arith

@@ -24,7 +24,8 @@ use Rattle.jsonc_sort.proofs.Choices.{Each, choose, choose_by}
 use Rattle.jsonc_sort.proofs.Documents.{order_is, row_joined}
 use Rattle.jsonc_sort.proofs.Lines.{Held, rearranged_held}
 use Rattle.jsonc_sort.proofs.OldRows.{bare_row}
-use Rattle.jsonc_sort.proofs.Weights.{added, added_map, sorted_whole, sum_is}
+use Rattle.jsonc_sort.proofs.Sums.{added, added_map, sum_is}
+use Rattle.jsonc_sort.proofs.Weights.{sorted_whole}
 
 -- nodes
 pub keeps_nodes : (top : ℕ → Top) (s : Sort) (test : Top → Bool) → KeepsNodes top s test

@@ -1,4 +1,5 @@
 pub mod Choices
+pub mod Sums
 pub mod Weights
 pub mod NodesOfEntries
 pub mod Lines

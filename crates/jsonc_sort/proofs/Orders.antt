@@ -12,7 +12,7 @@ use Rattle.jsonc_sort.specs.Paths.{FewStay}
 use Rattle.jsonc_sort.specs.Sorting.{Headers, is_unchanged}
 use Rattle.jsonc_sort.proofs.PlannedRow.{order_below, order_long}
 
-zero_more : (k : ℕ) → 0 + k ≡ k
+pub zero_more : (k : ℕ) → 0 + k ≡ k
 zero_more k = omega arith
 
 module _ (order : List ℕ) where
@@ -33,7 +33,7 @@ module _ (order : List ℕ) where
       sym ((bytes_eq-Decides order (range_with_len 0 (length order))).1 same)
 
 -- an order of less than two numbers is the old one
-not_moved : (a b : Bool) → b ≡ true → (a && not b) ≡ false
+pub not_moved : (a b : Bool) → b ≡ true → (a && not b) ≡ false
 not_moved true b e = ap not e
 not_moved false b e = refl
 

@@ -1,5 +1,5 @@
 -- Sorted rows of sound documents: trivia, commas, and whole elements with commas between them.
-use Rattle.std.proofs.Common.{◌≡◌, ℕ, zero, suc, ◌≤◌, Bool, true, false, not, ◌&&◌, ◌||◌, List, [], ◌∷◌, ◌++◌, take, drop, Option, Some, None, IsTrue, refl, sym, ap, subst, ◌∙◌, arith, inl, inr}
+use Rattle.std.proofs.Common.{◌≡◌, ℕ, zero, suc, ◌≤◌, Bool, true, false, not, ◌||◌, List, [], ◌∷◌, ◌++◌, take, drop, Option, Some, None, IsTrue, refl, sym, ap, subst, ◌∙◌, arith, inl, inr}
 use Rattle.std.proofs.lemmas.Bool.{cases_Bool}
 use Rattle.jsonc_text.specs.Options.{Options}
 use Rattle.jsonc_text.specs.Text.{starts}
@@ -11,10 +11,11 @@ use Rattle.jsonc_sound.specs.Adjacent.{first_char, last_printed, LeavesEnd}
 use Rattle.jsonc_sound.specs.Alone as alone
 use Rattle.jsonc_sound.specs.Alone.{may_stand, PartAlone, RowAlone, StretchAlone}
 use Rattle.jsonc_sound.specs.Rows as rows
-use Rattle.jsonc_sound.specs.Rows.{Last, RowKind, closing, may_end}
+use Rattle.jsonc_sound.specs.Rows.{Last, RowKind}
 use Rattle.jsonc_sound.specs.Spaces.{first_printed, is_bare, is_bare_leaf, meet}
-use Rattle.jsonc_sound.proofs.Commas.{stretches_join}
+use Rattle.jsonc_sound.proofs.Commas.{stretches_join, and_false, false_and}
 use Rattle.jsonc_sound.proofs.Texts.{comma_first}
+use Rattle.jsonc_edit.proofs.LeafKinds.{first_not_bare, trivia_no_comma}
 use Rattle.jsonc_sort.specs.Slots.{Slot, all_stay, row_in, row_then, top_in}
 use Rattle.jsonc_sort.specs.Parts.{has_comma, is_comma_at, through_comma}
 use Rattle.jsonc_sort.specs.Laws.{content_of}
@@ -33,40 +34,23 @@ NoneMeets c = (ls : List Content) → meet (leaves (more c none none)) ls ≡ fa
 no_bare_last : (c : Content) → is_bare c ≡ false → is_bare_leaf (last_printed (c ∷ [])) ≡ false
 no_bare_last c h = choose (λ (l : Option Content). is_bare_leaf l ≡ false) (starts (λ x. true) (first_char c)) (Some c) None h refl
 
-left_false : (a b : Bool) → a ≡ false → a && b ≡ false
-left_false true b h = cc
-left_false false b h = refl
-
-pub right_false : (a b : Bool) → b ≡ false → a && b ≡ false
-right_false true b h = h
-right_false false b h = refl
-
 quiet_meets : (o : Options) (c : Content) → IsTrivia o c → NoneMeets c
-quiet_meets o (Content.whitespace s) h ls = left_false _ _ (no_bare_last (Content.whitespace s) refl)
-quiet_meets o (Content.newline k) h ls = left_false _ _ (no_bare_last (Content.newline k) refl)
-quiet_meets o (Content.comment s) h ls = left_false _ _ (no_bare_last (Content.comment s) refl)
+quiet_meets o (Content.whitespace s) h ls = false_and _ _ (no_bare_last (Content.whitespace s) refl)
+quiet_meets o (Content.newline k) h ls = false_and _ _ (no_bare_last (Content.newline k) refl)
+quiet_meets o (Content.comment s) h ls = false_and _ _ (no_bare_last (Content.comment s) refl)
 quiet_meets o c h ls = absurd h
 
 comma_meets : NoneMeets (token 0x2C)
-comma_meets ls = left_false _ _ (no_bare_last (token 0x2C) refl)
-
-pub no_bare_first : (c : Content) (rest : List Content) → is_bare c ≡ false → is_bare_leaf (first_printed rest) ≡ false → is_bare_leaf (first_printed (c ∷ rest)) ≡ false
-no_bare_first c rest h k = choose (λ (l : Option Content). is_bare_leaf l ≡ false) (starts (λ x. true) (first_char c)) (Some c) (first_printed rest) h k
+comma_meets ls = false_and _ _ (no_bare_last (token 0x2C) refl)
 
 quiet_first : (o : Options) (c : Content) (row : OrderedTree) → IsTrivia o c → is_bare_leaf (first_printed (leaves row)) ≡ false → is_bare_leaf (first_printed (leaves (more c none row))) ≡ false
-quiet_first o (Content.whitespace s) row h k = no_bare_first (Content.whitespace s) (leaves row) refl k
-quiet_first o (Content.newline n) row h k = no_bare_first (Content.newline n) (leaves row) refl k
-quiet_first o (Content.comment s) row h k = no_bare_first (Content.comment s) (leaves row) refl k
+quiet_first o (Content.whitespace s) row h k = first_not_bare (Content.whitespace s) (leaves row) refl k
+quiet_first o (Content.newline n) row h k = first_not_bare (Content.newline n) (leaves row) refl k
+quiet_first o (Content.comment s) row h k = first_not_bare (Content.comment s) (leaves row) refl k
 quiet_first o c row h k = absurd h
 
 comma_first_printed : (row : OrderedTree) → is_bare_leaf (first_printed (leaves (token_then 0x2C row))) ≡ false
 comma_first_printed row = rw comma_first refl
-
-quiet_no_comma : (o : Options) (c : Content) → IsTrivia o c → is_comma c ≡ false
-quiet_no_comma o (Content.whitespace s) h = refl
-quiet_no_comma o (Content.newline n) h = refl
-quiet_no_comma o (Content.comment s) h = refl
-quiet_no_comma o c h = absurd h
 
 over_no_element : (b : Bool) → IsTrue b → not b ≡ false
 over_no_element true h = refl
@@ -167,7 +151,7 @@ module _ (o : Options) (kind : RowKind) (top : ℕ → Top) where
       (stretches_join o kind {last = last} {mid = last} (more t.content none none) (row_in top xs) (alone.past_trivia q.trivia alone.stays) (runs_alone h) (quiet_ends o t.content q.trivia) (runs_end h) (quiet_meets o t.content q.trivia (leaves (row_in top xs))))
   runs_end (Runs.whole {last = last} {s = s} {xs = xs} p w h) =
       let t : Top = top_in top s in
-      stretches_join o kind {last = last} {mid = rows.an_element} (more t.content t.below none) (row_in top xs) (alone.past_element (stands_parted last p) w.part alone.stays) (runs_alone h) w.ends (runs_end h) (right_false _ _ (runs_first h))
+      stretches_join o kind {last = last} {mid = rows.an_element} (more t.content t.below none) (row_in top xs) (alone.past_element (stands_parted last p) w.part alone.stays) (runs_alone h) w.ends (runs_end h) (and_false _ _ (runs_first h))
   runs_end (Runs.comma {s = s} {xs = xs} c h) =
       let t : Top = top_in top s in
       subst (λ (x : Content). LeavesEnd o (leaves (more x t.below (row_in top xs))) None) (sym c.is)
@@ -203,7 +187,7 @@ module _ (o : Options) (kind : RowKind) (top : ℕ → Top) where
   quiet_gap p (Gap.gap_comma c g) = absurd p
 
   pub other_no_comma : (n : ℕ) → IsQuiet (top n) → is_comma_at at n ≡ false
-  other_no_comma n q = quiet_no_comma o (at n) q.trivia
+  other_no_comma n q = trivia_no_comma o (at n) q.trivia
 
   pub comma_is : (n : ℕ) → IsComma (top n) → is_comma_at at n ≡ true
   comma_is n c = ap is_comma c.is

@@ -1,35 +1,20 @@
 -- What becomes of a sound document in which an array or object has been sorted.
-use Rattle.std.proofs.Common.{◌≡◌, ℕ, List, Option, Some, None, subst}
+use Rattle.std.proofs.Common.{ℕ, List, Option, Some, None, subst}
 use Rattle.jsonc_text.specs.Options.{Options}
 use Rattle.jsonc_text.specs.Grammar.{IsDocument}
 use Rattle.jsonc_text.specs.Plain.{Plain}
-use Rattle.jsonc_tree.specs.OrderedTree.{OrderedTree, Top}
-use Rattle.jsonc_tree.specs.Values as values
-use Rattle.jsonc_tree.specs.Values.{HasNoValue, DocumentValueOf}
+use Rattle.jsonc_tree.specs.OrderedTree.{OrderedTree}
+use Rattle.jsonc_tree.specs.Values.{DocumentValueOf}
 use Rattle.jsonc_sound.specs.Shape.{printed_text}
 use Rattle.jsonc_sound.proofs.ShapeValues.{document_printed}
 use Rattle.jsonc_sound.specs.SoundTrees.{SoundTree}
-use Rattle.jsonc_sound.specs.TreeChanges.{ElementChanged, DocumentChanged, in_root}
-use Rattle.jsonc_sound.proofs.FirstNodes.{here, over, beyond, meets_first, none_changed, no_element}
 use Rattle.jsonc_sound.proofs.LeavesAround.{document_differs}
 use Rattle.jsonc_edit.proofs.OneValue.{document_once}
+use Rattle.jsonc_edit.proofs.SoundValues.{some_value}
 use Rattle.jsonc_sort.specs.Laws.{SortsEntries}
 use Rattle.jsonc_sort.specs.Paths.{KeepsOutside, SaysSorted, SortedAt, SortsDocument}
 use Rattle.jsonc_sort.proofs.Documents.{sorts_value, stays_sound}
 use Rattle.jsonc_sort.proofs.KeptMarks.{keeps_all_marks}
-
--- a document of which a value has changed has one
-no_value_there : {x y : Top} {row new : OrderedTree} {i : ℕ} → HasNoValue row → ElementChanged x y i row new → ⊥
-no_value_there values.end e = none_changed e
-no_value_there (values.pass {content = content} h g) e =
-    elim (meets_first e) [
-      | here a p b q f ↦ no_element content q h
-      | over q k f ↦ no_value_there g k
-      | beyond a q k f ↦ no_element content q h
-    ]
-
-some_value : (o : Options) {was now : Top} {path : List ℕ} {t u : OrderedTree} → DocumentChanged was now path t u → DocumentValueOf o t None → ⊥
-some_value o (in_root {row = row} e k) (below, same, h) = let first : below ≡ row = cc in no_value_there (subst HasNoValue first h) e
 
 module _ (o : Options) (t u : OrderedTree) (path order : List ℕ) (sound : SoundTree o t) (at : SortedAt path order t u) where
   still : SoundTree o u

@@ -67,7 +67,7 @@ filled_times old now at n h _ _ (came {n = m} {slots = slots} {row = row} later 
     omega (arith, filled_times old now at n h slots row rest, times_other n m row (λ e. omega (arith, e, h, later)))
 
 -- a list with two members or more, by its ends
-parted : (xs : List ℕ) → 2 ≤ length xs → xs ≡ slice_index xs 0 ∷ (between xs ++ slice_index xs (length xs - 1) ∷ [])
+pub parted : (xs : List ℕ) → 2 ≤ length xs → xs ≡ slice_index xs 0 ∷ (between xs ++ slice_index xs (length xs - 1) ∷ [])
 parted xs h =
     let k : ℕ = length xs - 1 - 1 in
     let rest : drop k (drop 1 xs) ≡ slice_index (drop 1 xs) k ∷ [] =

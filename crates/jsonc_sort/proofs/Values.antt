@@ -122,9 +122,22 @@ module _ (at : ℕ → Content) where
   pub row_elements : (h : Headers) (row : List ℕ) → elements (all_stay row) ≡ map of_entry (entries at h row)
   row_elements h row = part_elements row ∙ sym (entry_elements h.groups h.pinned (parts at row).lead (parts at row).rest)
 
-  mapped : (es : List Entry) (order : List ℕ) → map of_entry (map (entry_at es) order) ≡ map (λ i. stays (entry_at es i).element) order
+  pub mapped : (es : List Entry) (order : List ℕ) → map of_entry (map (entry_at es) order) ≡ map (λ i. stays (entry_at es i).element) order
   mapped es [] = refl
   mapped es (i ∷ order) = ap (λ l. stays (entry_at es i).element ∷ l) (mapped es order)
+
+  -- moved as the order says, they come in it
+  pub moved_elements : (k : CstNewlineKind) (h : Headers) (row order : List ℕ) → IsPermutation (range_with_len 0 (length (entries at h row))) order
+      → elements (lines_ended at k (rearranged at (entries at h row) order ++ all_stay (row_end at row))) ≡ map (λ i. stays (entry_at (entries at h row) i).element) order
+  moved_elements k h row order p =
+      let es : List Entry = entries at h row in
+      let xs : List Entry = map (entry_at es) order in
+      let moves : IsPermutation es xs = all_moved no_entry es order p in
+      let are = row_held at Idle IsOne h row (by_kind row) in
+      let held : Each IsEntry xs = each_moved IsEntry es xs moves are.0 in
+      lines_elements k (rearranged at es order ++ all_stay (row_end at row)) ∙ elements_joined (rearranged at es order) (all_stay (row_end at row))
+      ∙ ap (λ l. l ++ elements (all_stay (row_end at row))) (placed_elements true (ends_with_comma at es) (zip es xs) (each_zipped IsEntry es xs are.0 held) ∙ zipped_seconds (λ e. stays e.element) es xs (length_permutation es xs moves) ∙ mapped es order)
+      ∙ ap (λ l. map (λ i. stays (entry_at es i).element) order ++ l) (idle_none (row_end at row) are.1) ∙ append-nil (map (λ i. stays (entry_at es i).element) order)
 
   -- the sorted row has them in its order
   pub sorted_elements : (k : CstNewlineKind) (h : Headers) (row order : List ℕ) → IsPermutation (range_with_len 0 (length (entries at h row))) order
@@ -132,9 +145,6 @@ module _ (at : ℕ → Content) where
   sorted_elements k h row order p =
       choose_by (λ l. elements l ≡ map (λ i. stays (entry_at (entries at h row) i).element) order) (is_unchanged order) (all_stay row) (lines_ended at k (rearranged at (entries at h row) order ++ all_stay (row_end at row))) old new
     where
-      moves : IsPermutation (entries at h row) (map (entry_at (entries at h row)) order)
-      moves = all_moved no_entry (entries at h row) order p
-
       old : is_unchanged order ≡ true → elements (all_stay row) ≡ map (λ i. stays (entry_at (entries at h row) i).element) order
       old e =
           let same : order ≡ range_with_len 0 (length order) = (bytes_eq-Decides order (range_with_len 0 (length order))).0 e in
@@ -142,12 +152,7 @@ module _ (at : ℕ → Content) where
           row_elements h row ∙ ap (map of_entry) (sym (all_members no_entry (entries at h row))) ∙ mapped (entries at h row) (range_with_len 0 (length (entries at h row))) ∙ ap (λ n. map (λ i. stays (entry_at (entries at h row) i).element) (range_with_len 0 n)) (sym long) ∙ ap (map (λ i. stays (entry_at (entries at h row) i).element)) (sym same)
 
       new : is_unchanged order ≡ false → elements (lines_ended at k (rearranged at (entries at h row) order ++ all_stay (row_end at row))) ≡ map (λ i. stays (entry_at (entries at h row) i).element) order
-      new e =
-          let are = row_held at Idle IsOne h row (by_kind row) in
-          let held : Each IsEntry (map (entry_at (entries at h row)) order) = each_moved IsEntry (entries at h row) (map (entry_at (entries at h row)) order) moves are.0 in
-          lines_elements k (rearranged at (entries at h row) order ++ all_stay (row_end at row)) ∙ elements_joined (rearranged at (entries at h row) order) (all_stay (row_end at row))
-          ∙ ap (λ l. l ++ elements (all_stay (row_end at row))) (placed_elements true (ends_with_comma at (entries at h row)) (zip (entries at h row) (map (entry_at (entries at h row)) order)) (each_zipped IsEntry (entries at h row) (map (entry_at (entries at h row)) order) are.0 held) ∙ zipped_seconds (λ e. stays e.element) (entries at h row) (map (entry_at (entries at h row)) order) (length_permutation (entries at h row) (map (entry_at (entries at h row)) order) moves) ∙ mapped (entries at h row) order)
-          ∙ ap (λ l. map (λ i. stays (entry_at (entries at h row) i).element) order ++ l) (idle_none (row_end at row) are.1) ∙ append-nil (map (λ i. stays (entry_at (entries at h row) i).element) order)
+      new e = moved_elements k h row order p
 
 -- numbers below a length
 each_range : (P : ℕ → Type 0) (from n : ℕ) → ((i : ℕ) → i < from + n → P i) → Each P (range_with_len from n)
@@ -162,7 +167,7 @@ one_is : (b : Bool) → not b ≡ true → IsTrue b → ⊥
 one_is true e h = cc
 one_is false e h = cc
 
-none_is : (b : Bool) → not b ≡ false → IsTrue b
+pub none_is : (b : Bool) → not b ≡ false → IsTrue b
 none_is true e = refl
 none_is false e = cc
 

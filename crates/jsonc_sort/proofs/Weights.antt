@@ -1,55 +1,22 @@
 -- What a sort keeps of a row: each sum over its nodes to which whitespace, ends of lines and commas add nothing.
-use Rattle.std.proofs.Common.{◌≡◌, ℕ, zero, suc, ◌+◌, ◌≤◌, Bool, true, false, ◌&&◌, ◌||◌, List, [], ◌∷◌, ◌++◌, length, map, take, drop, filter, Option, IsTrue, refl, sym, ap, subst, ◌∙◌, arith, inl, inr, length-take}
+use Rattle.std.proofs.Common.{◌≡◌, ℕ, zero, suc, ◌+◌, ◌≤◌, Bool, true, false, ◌&&◌, ◌||◌, List, [], ◌∷◌, ◌++◌, length, map, drop, filter, Option, IsTrue, refl, sym, ap, subst, ◌∙◌, arith, inl, inr, length-take}
 use Rattle.std.specs.Prelude.{if◌then◌else◌, zip, IsPermutation}
-use Rattle.std.specs.List.{list_any, prefix_len, range_with_len, sum_by, take_while}
+use Rattle.std.specs.List.{prefix_len, range_with_len, take_while}
 use Rattle.std.proofs.lemmas.Bool.{cases_Bool}
-use Rattle.std.proofs.lemmas.List.Sums.{sum_by-cons}
-use Rattle.std.proofs.lemmas.List.Sorted.{length_permutation, sum_by-IsPermutation}
+use Rattle.std.proofs.lemmas.List.Sorted.{length_permutation}
+use Rattle.jsonc_text.proofs.Basics.{or_right, or_left}
 use Rattle.jsonc_tree.specs.Content.{Content, token, newline}
 use Rattle.jsonc_tree.specs.OrderedTree.{Top, none}
 use Rattle.jsonc_tree.specs.declared.node.CstNewlineKind.{CstNewlineKind}
 use Rattle.jsonc_layout.specs.nodes.Kinds.{is_element, is_newline, is_whitespace, is_comma}
 use Rattle.jsonc_sound.specs.Lines.{is_line_comment}
 use Rattle.jsonc_sort.specs.Slots.{Slot, stays, comes, all_stay, top_in}
-use Rattle.jsonc_sort.specs.Parts.{Part, Parts, has_comma, is_comma_at, is_newline_at, is_none, is_whitespace_at, part_with, parts, tail_length, up_to_spaces}
-use Rattle.jsonc_sort.specs.Leads.{LeadParts, begins_group, blank_lines, first_line, header_length, is_blank_at, lead_parts, parts_of_line, parts_of_lines, spaces}
-use Rattle.jsonc_sort.specs.Sorting.{Entry, Headers, end_of, ends_with_comma, entries, entries_from, entry_at, first_pin, goes_on, is_unchanged, lines_ended, no_entry, placed, placed_one, rearranged, row_end, slot_content, sorted, tail_with, travelling, without_comma}
+use Rattle.jsonc_sort.specs.Parts.{Part, Parts, has_comma, is_comma_at, is_whitespace_at, parts}
+use Rattle.jsonc_sort.specs.Leads.{blank_lines, is_blank_at}
+use Rattle.jsonc_sort.specs.Sorting.{Entry, Headers, ends_with_comma, entries, entries_from, entry_at, goes_on, is_unchanged, lines_ended, no_entry, placed, placed_one, rearranged, row_end, slot_content, sorted, tail_with, travelling, without_comma}
 use Rattle.jsonc_sort.specs.Laws.{IsOrderOf, content_of, is_filling}
 use Rattle.jsonc_sort.proofs.Choices.{all_moved, choose, choose_by}
-
--- sums one by one
-abbrev pub added : {A : Type 0} → (A → ℕ) → List A → ℕ
-added f [] = 0
-added f (x ∷ xs) = f x + added f xs
-
-pub sum_is : {A : Type 0} (f : A → ℕ) (xs : List A) → sum_by f xs ≡ added f xs
-sum_is f [] = refl
-sum_is f (x ∷ xs) = sum_by-cons f x xs ∙ ap (λ k. f x + k) (sum_is f xs)
-
-pub added_joined : {A : Type 0} (f : A → ℕ) (xs ys : List A) → added f (xs ++ ys) ≡ added f xs + added f ys
-added_joined f [] ys = omega arith
-added_joined f (x ∷ xs) ys = omega (arith, added_joined f xs ys)
-
-pub added_map : {A B : Type 0} (f : B → ℕ) (g : A → B) (xs : List A) → added f (map g xs) ≡ added (λ x. f (g x)) xs
-added_map f g [] = refl
-added_map f g (x ∷ xs) = ap (λ k. f (g x) + k) (added_map f g xs)
-
-pub added_parted : {A : Type 0} (f : A → ℕ) (k : ℕ) (xs : List A) → added f (take k xs) + added f (drop k xs) ≡ added f xs
-added_parted f zero xs = omega arith
-added_parted f (suc k) [] = refl
-added_parted f (suc k) (x ∷ xs) = omega (arith, added_parted f k xs)
-
--- the same of a permutation
-pub added_moved : {A : Type 0} (f : A → ℕ) (xs ys : List A) → IsPermutation xs ys → added f ys ≡ added f xs
-added_moved f xs ys p = sym (sum_is f ys) ∙ sum_by-IsPermutation f xs ys p ∙ sum_is f xs
-
-or_right : (a b : Bool) → IsTrue b → IsTrue (a || b)
-or_right true b h = refl
-or_right false b h = h
-
-or_left : (a b : Bool) → IsTrue a → IsTrue (a || b)
-or_left true b h = refl
-or_left false b h = cc
+use Rattle.jsonc_sort.proofs.Sums.{added, added_joined, added_map, added_moved, both, entries_whole, kept, moved, parts_whole, zip_whole}
 
 blank_filling : (a b c : Bool) → a || b ≡ true → IsTrue (a || (b || c))
 blank_filling true b c h = refl
@@ -78,26 +45,6 @@ module _ (top : ℕ → Top) (f : Top → ℕ) (free : (t : Top) → IsTrue (is_
 
   space_free : (n : ℕ) → is_whitespace_at at n ≡ true → f (top n) ≡ 0
   space_free n h = free (top n) (or_left (is_whitespace (at n)) (is_newline (at n) || is_comma (at n)) h)
-
-  -- of a lead nothing leaves
-  abbrev whole_lead : LeadParts → ℕ
-  whole_lead p = own p.front + (own p.travels + own p.indent)
-
-  lines_whole : (begins : Bool) (pin : Option ℕ) (lead : List ℕ) → whole_lead (parts_of_lines at begins pin lead) ≡ own lead
-  lines_whole begins pin lead =
-      let first : List ℕ = take (first_line at lead) lead in
-      let rest : List ℕ = drop (first_line at lead) lead in
-      let above : List ℕ = take (up_to_spaces at rest) rest in
-      let indent : List ℕ = drop (up_to_spaces at rest) rest in
-      let header : ℕ = header_length at begins pin above in
-      omega (arith, added_joined (λ n. f (top n)) first (take header above), added_parted (λ n. f (top n)) header above, added_parted (λ n. f (top n)) (up_to_spaces at rest) rest, added_parted (λ n. f (top n)) (first_line at lead) lead)
-
-  line_whole : (lead : List ℕ) → own (take (spaces at lead) lead) + (own (drop (spaces at lead) lead) + own []) ≡ own lead
-  line_whole lead = omega (arith, added_parted (λ n. f (top n)) (spaces at lead) lead)
-
-  lead_whole : (groups : Bool) (pin : Option ℕ) (lead : List ℕ) → whole_lead (lead_parts at groups pin lead) ≡ own lead
-  lead_whole groups pin lead =
-      choose (λ p. whole_lead p ≡ own lead) (list_any (is_newline_at at) lead) (parts_of_lines at (begins_group at groups lead) pin lead) (parts_of_line at lead) (lines_whole (begins_group at groups lead) pin lead) (line_whole lead)
 
   -- of what travels only blank lines may leave
   blanks_gone : (k : ℕ) (row : List ℕ) → k ≤ prefix_len (is_blank_at at) row → own (drop k row) ≡ own row
@@ -141,17 +88,7 @@ module _ (top : ℕ → Top) (f : Top → ℕ) (free : (t : Top) → IsTrue (is_
   tail_whole false tail =
       choose (λ l. total l ≡ own tail) (has_comma at tail) (all_stay (without_comma at tail)) (all_stay tail) (stays_total (without_comma at tail) ∙ without_comma_whole tail) (stays_total tail)
 
-  -- what stays of an entry, and what moves
-  abbrev kept : Entry → ℕ
-  kept e = own e.lead.front + own e.lead.indent
-
-  abbrev moved : Entry → ℕ
-  moved e = own e.lead.travels + (f (top e.element) + own e.tail)
-
-  abbrev both : Entry × Entry → ℕ
-  both p = kept p.0 + moved p.1
-
-  one_whole : (first comma : Bool) (p : Entry × Entry) → total (placed_one at first comma p) ≡ both p
+  one_whole : (first comma : Bool) (p : Entry × Entry) → total (placed_one at first comma p) ≡ both (λ n. f (top n)) p
   one_whole first comma p =
       let w : Slot → ℕ = λ slot. f (top_in top slot) in
       let front : List Slot = all_stay p.0.lead.front in
@@ -160,23 +97,17 @@ module _ (top : ℕ → Top) (f : Top → ℕ) (free : (t : Top) → IsTrue (is_
       let last : List Slot = stays p.1.element ∷ tail_with at comma p.1.tail in
       omega (arith, added_joined w (front ++ travels ++ indent) last, added_joined w (front ++ travels) indent, added_joined w front travels, stays_total p.0.lead.front, stays_total (travelling at first p.1.lead.travels), travelling_whole first p.1.lead.travels, stays_total p.0.lead.indent, tail_whole comma p.1.tail)
 
-  placed_whole : (first commas : Bool) (ps : List (Entry × Entry)) → total (placed at first commas ps) ≡ added both ps
+  placed_whole : (first commas : Bool) (ps : List (Entry × Entry)) → total (placed at first commas ps) ≡ added (both (λ n. f (top n))) ps
   placed_whole first commas [] = refl
   placed_whole first commas (p ∷ []) = omega (arith, one_whole first commas p)
   placed_whole first commas (p ∷ q ∷ rest) =
       omega (arith, added_joined (λ slot. f (top_in top slot)) (placed_one at first true p) (placed at false commas (q ∷ rest)), one_whole first true p, placed_whole false commas (q ∷ rest))
 
-  zip_whole : (es xs : List Entry) → length xs ≡ length es → added both (zip es xs) ≡ added kept es + added moved xs
-  zip_whole [] [] e = refl
-  zip_whole [] (x ∷ xs) e = absurd (omega arith)
-  zip_whole (y ∷ es) [] e = absurd (omega arith)
-  zip_whole (y ∷ es) (x ∷ xs) e = omega (arith, zip_whole es xs (omega arith))
-
-  rearranged_whole : (es : List Entry) (order : List ℕ) → IsPermutation (range_with_len 0 (length es)) order → total (rearranged at es order) ≡ added kept es + added moved es
+  rearranged_whole : (es : List Entry) (order : List ℕ) → IsPermutation (range_with_len 0 (length es)) order → total (rearranged at es order) ≡ added (kept (λ n. f (top n))) es + added (moved (λ n. f (top n))) es
   rearranged_whole es order p =
       let xs : List Entry = map (entry_at es) order in
       let moves : IsPermutation es xs = all_moved no_entry es order p in
-      placed_whole true (ends_with_comma at es) (zip es xs) ∙ zip_whole es xs (length_permutation es xs moves) ∙ ap (λ k. added kept es + k) (added_moved moved es xs moves)
+      placed_whole true (ends_with_comma at es) (zip es xs) ∙ zip_whole (λ n. f (top n)) es xs (length_permutation es xs moves) ∙ ap (λ k. added (kept (λ n. f (top n))) es + k) (added_moved (moved (λ n. f (top n))) es xs moves)
 
   -- ends of lines weigh nothing
   lines_whole_row : (kind : CstNewlineKind) (row : List Slot) → total (lines_ended at kind row) ≡ total row
@@ -184,23 +115,6 @@ module _ (top : ℕ → Top) (f : Top → ℕ) (free : (t : Top) → IsTrue (is_
   lines_whole_row kind (slot ∷ row) =
       choose (λ l. total l ≡ f (top_in top slot) + total row) (is_line_comment (slot_content at slot) && goes_on at row) (slot ∷ comes (newline kind) ∷ lines_ended at kind row) (slot ∷ lines_ended at kind row)
       (omega (arith, lines_whole_row kind row, free (record { content = newline kind; below = none }) refl)) (omega (arith, lines_whole_row kind row))
-
-  -- the entries of a row are the row
-  abbrev in_part : Part → ℕ
-  in_part part = f (top part.element) + (own part.tail + own part.behind)
-
-  parts_whole : (row : List ℕ) → own (parts at row).lead + added in_part (parts at row).rest ≡ own row
-  parts_whole [] = refl
-  parts_whole (n ∷ row) =
-      let p : Parts = parts at row in
-      let k : ℕ = tail_length at (is_none p.rest) p.lead in
-      choose (λ (q : Parts). own q.lead + added in_part q.rest ≡ f (top n) + own row) (is_element (at n)) (record { lead = []; rest = part_with at n (is_none p.rest) p.lead ∷ p.rest }) (record { lead = n ∷ p.lead; rest = p.rest })
-      (omega (arith, parts_whole row, added_parted (λ n. f (top n)) k p.lead)) (omega (arith, parts_whole row))
-
-  entries_whole : (groups : Bool) (pins : List (Option ℕ)) (lead : List ℕ) (rest : List Part)
-      → (added kept (entries_from at groups pins lead rest) + added moved (entries_from at groups pins lead rest)) + own (end_of lead rest) ≡ own lead + added in_part rest
-  entries_whole groups pins lead [] = omega arith
-  entries_whole groups pins lead (part ∷ rest) = omega (arith, lead_whole groups (first_pin pins) lead, entries_whole groups (drop 1 pins) part.behind rest)
 
 -- as many entries as elements
 count_parts : (at : ℕ → Content) (row : List ℕ) → length (parts at row).rest ≡ length (filter (λ n. is_element (at n)) row)
@@ -227,4 +141,4 @@ sorted_whole top f free kind h row order p =
     choose (λ l. added w l ≡ added (λ n. f (top n)) row) (is_unchanged order) (all_stay row) (lines_ended at kind (rearranged at es order ++ all_stay (row_end at row)))
     (stays_total top f free row)
     (lines_whole_row top f free kind (rearranged at es order ++ all_stay (row_end at row)) ∙ added_joined w (rearranged at es order) (all_stay (row_end at row))
-    ∙ omega (arith, rearranged_whole top f free es order perm, stays_total top f free (row_end at row), entries_whole top f free h.groups h.pinned (parts at row).lead (parts at row).rest, parts_whole top f free row))
+    ∙ omega (arith, rearranged_whole top f free es order perm, stays_total top f free (row_end at row), entries_whole (λ n. f (top n)) at h.groups h.pinned (parts at row).lead (parts at row).rest, parts_whole (λ n. f (top n)) at row))

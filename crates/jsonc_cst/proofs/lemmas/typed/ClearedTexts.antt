@@ -31,10 +31,10 @@ use Rattle.jsonc_sound.specs.TriviaChanges.{AreTrivia}
 use Rattle.jsonc_sound.proofs.NodesAlone.{document_alone}
 use Rattle.jsonc_sound.proofs.Pieces.{Pieces, document_pieces}
 use Rattle.jsonc_sound.proofs.Texts.{AllUtf8}
+use Rattle.jsonc_sound.proofs.Entries.{blanks_trivia}
 use Rattle.jsonc_edit.specs.Comments.{comment_at}
 use Rattle.jsonc_edit.proofs.CommentOrder.{blanks_uncounted, comments_counted, trivia_in_order, trivia_leaves}
 use Rattle.jsonc_edit.proofs.InOrder.{leaf_at, leaves_in_order, spliced_order, SplicedOrder}
-use Rattle.jsonc_edit.proofs.lemmas.remove.ClearedSteps.{blanks_trivia}
 use Rattle.jsonc_run.specs.texts.Stretches.{AreSpaces}
 use Rattle.jsonc_run.specs.promise.PlaceLaws.{text_of_leaves}
 use Rattle.jsonc_run.proofs.lemmas.promise.Commenting as commenting

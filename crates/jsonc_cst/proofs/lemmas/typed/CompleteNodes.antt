@@ -28,9 +28,10 @@ use Rattle.jsonc_text.specs.declared.edit.EditError.TheVariants.{OutOfMemory, Mi
 use Rattle.jsonc_edit.proofs.Entries.{Entry, this, behind_passed, behind_element, Passed, IsAnyValue, IsAnyProperty, not_both, passed_leaf, no_entry, entry_property, entry_value, entry_document}
 use Rattle.jsonc_edit.proofs.ChangesUpward.{Shows-row_below, document_is}
 use Rattle.jsonc_edit.specs.remove.Removed.{has_brackets, has_two, is_token_at, IsKeptFor}
-use Rattle.jsonc_edit.proofs.lemmas.remove.Containers.{Held, brackets, first_shown}
+use Rattle.jsonc_edit.proofs.lemmas.remove.Containers.{brackets, first_shown}
 use Rattle.jsonc_edit.specs.set.PropertyValues.{EnsureValueError}
 use Rattle.jsonc_edit.specs.Comments.{WantsSpace}
+use Rattle.jsonc_edit.proofs.lemmas.commas.Holders.{Held}
 use Rattle.jsonc_cst.specs.declared.typed.removing.Removal.TheVariants.{OfComment}
 use Rattle.jsonc_cst.specs.typed.Removing.{IsKeptBy, OnlyOutOfMemory}
 

@@ -1,11 +1,10 @@
 -- Who the last element and its trailing comma are: children of their container.
-use Rattle.std.proofs.Common.{◌≡◌, ◌∙◌, sym, ap, subst, ℕ, suc, ◌+◌, ◌<◌, Bool, true, false, cond, List, [], ◌∷◌, length, reverse, drop, Option, Some, None, IfSome, slice_get, is_some, arith}
+use Rattle.std.proofs.Common.{◌≡◌, ◌∙◌, sym, ap, subst, ℕ, suc, ◌+◌, ◌<◌, Bool, true, false, cond, List, [], ◌∷◌, length, reverse, drop, Option, Some, None, IfSome, is_some, arith}
 use Rattle.std.specs.List.{find, All}
 use Rattle.std.specs.Option.{option_and_then}
 use Rattle.std.proofs.lemmas.Bool.{true_from_ne_false}
 use Rattle.std.proofs.lemmas.List.{get_or_default}
 use Rattle.std.proofs.lemmas.List.Elements.{All-drop}
-use Rattle.std.proofs.lemmas.Option.{slice_get-get_or}
 use Rattle.jsonc_tree.specs.Changes.{Adds, CanAppend}
 use Rattle.jsonc_tree.specs.Content.{Content}
 use Rattle.jsonc_tree.specs.Order.{with_parent}
@@ -13,12 +12,12 @@ use Rattle.jsonc_tree.specs.Siblings.{first, siblings_after, IsGap}
 use Rattle.jsonc_tree.specs.Tree.{Node, children_at, parent_at, place_at, is_container_at, IsTree}
 use Rattle.jsonc_tree.proofs.Appending.{CanAppend-adds}
 use Rattle.jsonc_tree.proofs.Order.{parent_there}
-use Rattle.jsonc_tree.proofs.LinkedRows.{first_drop}
 use Rattle.jsonc_layout.specs.nodes.Kinds.{is_element_at, is_comma}
 use Rattle.jsonc_layout.proofs.lemmas.nodes.InTree.{All-reverse}
 use Rattle.jsonc_layout.specs.lines.Siblings.{if_comma, is_no_trivia_at, trailing_comma_at}
 use Rattle.jsonc_tree.specs.Tree.{content_at}
 use Rattle.jsonc_edit.specs.commas.Commas.{comma_gone, comma_wanted_behind, has_newline, if_without_comma, last_element}
+use Rattle.jsonc_edit.proofs.RowEnds.{gap_after}
 
 -- the node is a child of c
 abbrev pub IsChild : List Node → ℕ → ℕ → Type 0
@@ -29,7 +28,7 @@ if_one P x r true h rest = h
 if_one P x r false h rest = rest
 
 -- what is found in a row is like all in it
-found_like : (P : ℕ → Type 0) (test : ℕ → Bool) (xs : List ℕ) → All P xs → IfSome (find test xs) P
+pub found_like : (P : ℕ → Type 0) (test : ℕ → Bool) (xs : List ℕ) → All P xs → IfSome (find test xs) P
 found_like P test [] h = tt
 found_like P test (x ∷ xs) h = if_one P x (find test xs) (test x) (h 0 0 (omega arith)) (found_like P test xs (λ k d l. h (suc k) d (omega arith)))
 
@@ -85,15 +84,7 @@ module _ (ns : List Node) (tree : IsTree ns) (c : ℕ) where
 
   -- directly behind a child there is a gap
   pub gap_behind : (n : ℕ) (o : Option ℕ) → IsChild ns c n → o ≡ first (siblings_after ns n) → IsGap ns c (suc (place_at ns n)) (Some n) o
-  gap_behind n o said e =
-      let row : List ℕ = children_at ns c in
-      let place : ℕ = place_at ns n in
-      let within : place < length row = tree.within n c said in
-      record {
-        inside = omega (arith, within);
-        front = sym (slice_get-get_or row place 0 within ∙ ap Some (tree.found n c said));
-        back = e ∙ ap (λ p. first (drop (place + 1) (with_parent p (children_at ns)))) said ∙ first_drop (place + 1) row ∙ ap (slice_get row) (omega arith);
-      }
+  gap_behind n o said e = let one : place_at ns n + 1 ≡ suc (place_at ns n) = omega arith in subst (λ k. IsGap ns c k (Some n) o) one (gap_after ns tree n c o said e)
 
   holds : (n : ℕ) → IsChild ns c n → is_container_at ns c ≡ true
   holds n said = true_from_ne_false (is_container_at ns c) (λ e. absurd (omega (arith, tree.within n c said, ap length (tree.leaf c e))))

@@ -1,22 +1,22 @@
 -- A sound document stays sound where the comma behind the last element of a row leaves, or comes where options allow it.
-use Rattle.std.proofs.Common.{◌≡◌, ◌∙◌, ℕ, sym, ap, subst, refl, Bool, true, false, not, ◌==◌, ◌&&◌, List, [], ◌∷◌, Some, None, IsTrue, if◌then◌else◌}
+use Rattle.std.proofs.Common.{◌≡◌, ◌∙◌, ℕ, sym, ap, subst, refl, Bool, true, false, not, ◌==◌, List, [], ◌∷◌, Some, None, IsTrue, if◌then◌else◌}
 use Rattle.std.proofs.lemmas.Bool.{false≢true}
 use Rattle.jsonc_text.specs.Options.{Options}
 use Rattle.jsonc_text.specs.Text.{starts}
 use Rattle.jsonc_tree.specs.Content.{Content, token}
 use Rattle.jsonc_tree.specs.OrderedTree.{OrderedTree, none, more, leaves, followed_by}
 use Rattle.jsonc_tree.specs.Values as values
-use Rattle.jsonc_tree.specs.Values.{is_passed_over, HasNoValue}
+use Rattle.jsonc_tree.specs.Values.{HasNoValue}
 use Rattle.jsonc_layout.specs.nodes.Kinds.{is_comma}
 use Rattle.jsonc_sound.specs.Lines.{ends_loosely, is_line_comment, LinesEndLoosely}
 use Rattle.jsonc_sound.specs.Shape.{IsTrivia, token_then}
 use Rattle.jsonc_sound.specs.Adjacent.{first_char, last_printed}
 use Rattle.jsonc_sound.specs.Alone as alone
-use Rattle.jsonc_sound.specs.Alone.{may_come, may_stand, PartAlone, RowAlone, StretchAlone}
+use Rattle.jsonc_sound.specs.Alone.{may_come, RowAlone, StretchAlone}
 use Rattle.jsonc_sound.specs.Rows as rows
 use Rattle.jsonc_sound.specs.Rows.{RowKind, closing, container_of, Last, last_after, last_behind, may_end}
 use Rattle.jsonc_sound.specs.SoundTrees.{SoundTree}
-use Rattle.jsonc_sound.specs.Spaces.{first_printed, is_bare, is_bare_leaf}
+use Rattle.jsonc_sound.specs.Spaces.{first_printed, is_bare_leaf}
 use Rattle.jsonc_sound.specs.TreeChanges.{IsElement, DocumentChanged}
 use Rattle.jsonc_sound.proofs.NodesAlone.{value_alone}
 use Rattle.jsonc_sound.proofs.Changed.{part_element}
@@ -27,6 +27,8 @@ use Rattle.jsonc_sound.proofs.LooseChanges.{joined_loosely, parted_loosely}
 use Rattle.jsonc_sound.proofs.SeamRows.{row_of}
 use Rattle.jsonc_sound.proofs.SeamStretches.{followed_joined, last_is, parted_row}
 use Rattle.jsonc_sound.proofs.SoundTrees.{kept_where_none_meet}
+use Rattle.jsonc_sound.proofs.Commas.{and_false, false_and}
+use Rattle.jsonc_edit.proofs.LeafKinds.{first_not_bare}
 
 -- the first of a row past trivia is a comma
 abbrev pub comma_first : OrderedTree → Bool
@@ -62,7 +64,7 @@ element_last last (Content.comment s) h = cc
 element_last last (Content.token c) h = cc
 element_last last content h = refl
 
-last_joined : (last : Last) (s t : OrderedTree) → last_behind last (followed_by s t) ≡ last_behind (last_behind last s) t
+pub last_joined : (last : Last) (s t : OrderedTree) → last_behind last (followed_by s t) ≡ last_behind (last_behind last s) t
 last_joined last none t = refl
 last_joined last (more content below after) t = last_joined (last_after last content) after t
 
@@ -70,22 +72,6 @@ last_joined last (more content below after) t = last_joined (last_after last con
 pub data Closing (o : Options) (kind : RowKind) : OrderedTree → Type 0 where
   bracket : Closing o kind (token_then (closing kind) none)
   behind : {content : Content} {after : OrderedTree} → IsTrivia o content → Closing o kind after → Closing o kind (more content none after)
-
--- a leaf that is no literal without quotes
-first_not_bare : (content : Content) (rest : List Content) → is_bare content ≡ false → is_bare_leaf (first_printed rest) ≡ false → is_bare_leaf (first_printed (content ∷ rest)) ≡ false
-first_not_bare content rest e f = by (starts (λ c. true) (first_char content))
-  where
-    by : (b : Bool) → is_bare_leaf (if b then Some content else first_printed rest) ≡ false
-    by true = e
-    by false = f
-
-both_false : (a b : Bool) → b ≡ false → a && b ≡ false
-both_false true b e = e
-both_false false b e = refl
-
-either_false : (a b : Bool) → a ≡ false → a && b ≡ false
-either_false true b e = cc
-either_false false b e = refl
 
 token_last_not_bare : (c : ℕ) → is_bare_leaf (last_printed (token c ∷ [])) ≡ false
 token_last_not_bare c = by (starts (λ b. true) (first_char (token c)))
@@ -184,8 +170,8 @@ module _ (o : Options) (kind : RowKind) (front back : OrderedTree) (path : List 
       kept_where_none_meet o t sound kind front (token_then 0x2C none) none back path u changed rows.an_element
       (subst (λ l. StretchAlone o kind l none rows.an_element) (sym ends_front) alone.stays)
       (closing_comes o kind rows.an_element refl closes) lines tt
-      (both_false (is_bare_leaf (last_printed (leaves front))) (is_bare_leaf (first_printed (leaves back))) (closing_not_bare o kind closes))
-      (both_false false (is_bare_leaf (first_printed (leaves back))) (closing_not_bare o kind closes))
+      (and_false (is_bare_leaf (last_printed (leaves front))) (is_bare_leaf (first_printed (leaves back))) (closing_not_bare o kind closes))
+      (and_false false (is_bare_leaf (first_printed (leaves back))) (closing_not_bare o kind closes))
 
 -- a comma comes behind the last element, which had none
 module _ (o : Options) (allowed : IsTrue o.trailing_commas) (kind : RowKind) (front : OrderedTree) (content : Content) (below back : OrderedTree) (path : List ℕ) (t u : OrderedTree) (sound : SoundTree o t)
@@ -245,5 +231,5 @@ module _ (o : Options) (allowed : IsTrue o.trailing_commas) (kind : RowKind) (fr
       kept_where_none_meet o t sound kind before none a_comma back path u changed rows.a_comma
       (subst (λ l. StretchAlone o kind l a_comma rows.a_comma) (sym ends_before) (alone.past_comma alone.stays))
       (closing_comes o kind rows.a_comma allowed closes_yet) lines_now (tt, tt)
-      (both_false (is_bare_leaf (last_printed (leaves before))) (is_bare_leaf (first_printed (leaves (followed_by a_comma back)))) (first_not_bare (token 0x2C) (leaves back) refl (closing_not_bare o kind closes_yet)))
-      (either_false (is_bare_leaf (last_printed (leaves a_comma))) (is_bare_leaf (first_printed (leaves back))) (token_last_not_bare 0x2C))
+      (and_false (is_bare_leaf (last_printed (leaves before))) (is_bare_leaf (first_printed (leaves (followed_by a_comma back)))) (first_not_bare (token 0x2C) (leaves back) refl (closing_not_bare o kind closes_yet)))
+      (false_and (is_bare_leaf (last_printed (leaves a_comma))) (is_bare_leaf (first_printed (leaves back))) (token_last_not_bare 0x2C))

@@ -1,10 +1,9 @@
 -- An array or object of a sound document: its path, and its row.
-use Rattle.std.proofs.Common.{◌≡◌, ◌≢◌, ◌∙◌, sym, ap, subst, refl, ℕ, zero, suc, ◌<◌, true, false, cond, List, [], ◌∷◌, ◌++◌, All, length, filter, get_or, slice_get, Some, IsTrue, arith}
+use Rattle.std.proofs.Common.{◌≡◌, ◌≢◌, ◌∙◌, sym, ap, subst, refl, ℕ, zero, suc, ◌<◌, true, false, cond, List, [], ◌∷◌, ◌++◌, length, filter, get_or, slice_get, Some, IsTrue, arith}
 use Rattle.std.proofs.lemmas.Bool.{false≢true}
-use Rattle.std.proofs.lemmas.List.Elements.{All-head, All-tail}
 use Rattle.jsonc_text.specs.Options.{Options}
 use Rattle.jsonc_tree.specs.Content.{Content, array, object, property, token}
-use Rattle.jsonc_tree.specs.OrderedTree.{OrderedTree, none, more, followed_by, ordered_tree, Shows, shows_none, shows_more}
+use Rattle.jsonc_tree.specs.OrderedTree.{OrderedTree, none, more, followed_by, ordered_tree}
 use Rattle.jsonc_tree.specs.Tree.{Node, content_at, children_at, parent_at, place_at, is_container_at, IsTree, IsOver}
 use Rattle.jsonc_tree.specs.Values.{is_passed_over}
 use Rattle.jsonc_tree.proofs.Order.{over_step, parent_there}
@@ -16,7 +15,7 @@ use Rattle.jsonc_sound.specs.Shape.{IsLiteralBefore, IsNameBefore, IsTrivia, tok
 use Rattle.jsonc_sound.specs.Alone as alone
 use Rattle.jsonc_sound.specs.Alone.{PartAlone, PropertyAlone, RowAlone, ValueAlone}
 use Rattle.jsonc_sound.specs.Rows as rows
-use Rattle.jsonc_sound.specs.Rows.{RowKind, of_values, of_properties, closing, container_of, holder, Last, opening}
+use Rattle.jsonc_sound.specs.Rows.{RowKind, of_values, of_properties, closing, holder, Last, opening}
 use Rattle.jsonc_sound.specs.SoundTrees.{SoundTree}
 use Rattle.jsonc_sound.specs.TreeChanges.{IsElement, DocumentChanged}
 use Rattle.jsonc_sound.proofs.NodesAlone.{value_alone}
@@ -28,12 +27,7 @@ use Rattle.jsonc_edit.proofs.ShapedPlaces.{all_stand}
 use Rattle.jsonc_edit.proofs.Uniqueness.{element_parent}
 use Rattle.jsonc_edit.proofs.ChangesUpward.{changed_over, ChangedIn, Shows-row_below}
 use Rattle.jsonc_edit.specs.commas.InTurn.{holds_at}
-use Rattle.jsonc_edit.proofs.lemmas.commas.Splits.{standing, standing_then}
-
--- nodes stand for their row
-pub shows_standing : (ns : List Node) → IsTree ns → (xs : List ℕ) → All (λ n. n < length ns) xs → Shows ns xs (standing ns xs)
-shows_standing ns tree [] all = shows_none
-shows_standing ns tree (n ∷ xs) all = shows_more (Shows-row_below ns tree n (All-head (λ m. m < length ns) n xs all)) (shows_standing ns tree xs (All-tail (λ m. m < length ns) n xs all))
+use Rattle.jsonc_edit.proofs.Standing.{shows_standing, standing, standing_then}
 
 pub row_stands : (ns : List Node) → IsTree ns → (n : ℕ) → n < length ns → row_below ns n ≡ standing ns (children_at ns n)
 row_stands ns tree n there =
@@ -66,7 +60,7 @@ pub record Held (o : Options) (content : Content) (below : OrderedTree) : Type 0
   pub under : below ≡ token_then (opening kind) row
   pub alone : RowAlone o kind rows.nothing_yet row
 
-no_literal : (o : Options) (content : Content) → IsTrue (is_array_or_object content) → IsLiteralBefore o content [] → ⊥
+pub no_literal : (o : Options) (content : Content) → IsTrue (is_array_or_object content) → IsLiteralBefore o content [] → ⊥
 no_literal o array h l = l
 no_literal o object h l = l
 no_literal o content h l = cc

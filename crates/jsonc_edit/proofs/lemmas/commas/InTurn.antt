@@ -1,5 +1,5 @@
 -- Commas that are set in turn, one more each time.
-use Rattle.std.proofs.Common.{◌≡◌, ◌∙◌, sym, ap, subst, refl, ℕ, ◌<◌, true, cond, IsTrue, List, [], ◌∷◌, ◌++◌, length, filter, Option, Some, IfSome, Result, Ok, Err, OnErr, arith}
+use Rattle.std.proofs.Common.{◌≡◌, ◌∙◌, sym, ap, subst, refl, ℕ, ◌<◌, true, cond, IsTrue, List, [], ◌∷◌, ◌++◌, length, filter, Option, Some, IfSome, arith}
 use Rattle.std.specs.List.{flat_map}
 use Rattle.std.proofs.lemmas.List.{append-nil, append_assoc}
 use Rattle.jsonc_tree.specs.Content.{Content, is_container}
@@ -12,6 +12,7 @@ use Rattle.jsonc_edit.specs.commas.Commas.{CommaIsSet, WantsComma}
 use Rattle.jsonc_edit.specs.commas.InTurn.{holders, holds_at, is_met, to_come, AreSetInPart, AreSetInTurn}
 use Rattle.jsonc_edit.proofs.lemmas.commas.InOrder.{over_same}
 use Rattle.jsonc_edit.proofs.lemmas.commas.Reach.{met_holds, met_same, set_reaches, to_come_same, KeepsReach}
+use Rattle.jsonc_edit.proofs.lemmas.commas.Children.{some_like}
 
 -- one more has been set
 pub one_more_set : (mode : TrailingCommaMode) (done : List ℕ) (n : ℕ) (old now new : List Node) → AreSetInTurn mode old done now → CommaIsSet mode now new n → IsTree new → AreSetInTurn mode old (done ++ n ∷ []) new
@@ -55,14 +56,6 @@ part_set mode old now c n rest s e wants = record {
 pub all_to_come : (ns : List Node) → IsTree ns → (c : ℕ) → c < length ns → holders ns c ≡ to_come ns c (Some c)
 all_to_come ns tree c there = sym (ap (λ l. filter (is_met ns c) (in_order ns c ++ l)) (following_end ns tree c there) ∙ ap (filter (is_met ns c)) (append-nil (in_order ns c)))
 
--- what is said of an error holds of one
-pub where_refused : {T E P : Type 0} (r : Result T E) → P → OnErr r P
-where_refused (Ok x) p = tt
-where_refused (Err e) p = p
-
-some_of : (P : ℕ → Type 0) (o : Option ℕ) (n : ℕ) → o ≡ Some n → IfSome o P → P n
-some_of P o n e h = subst (λ r. IfSome r P) e h
-
 pub holder_contains : (c : Content) → IsTrue (is_array_or_object c) → is_container c ≡ true
 holder_contains Content.object h = refl
 holder_contains Content.array h = refl
@@ -78,13 +71,13 @@ pub record StandsAt (mode : TrailingCommaMode) (old now : List Node) (c : ℕ) (
 
 module _ (mode : TrailingCommaMode) (old now : List Node) (c : ℕ) (next : Option ℕ) (s : StandsAt mode old now c next) (n : ℕ) (is : next ≡ Some n) where
   here : n < length now
-  here = some_of (λ m. m < length now) next n is s.in_tree
+  here = some_like (λ m. m < length now) next n is s.in_tree
 
   over_it : IsOver now c n
-  over_it = some_of (IsOver now c) next n is s.over
+  over_it = some_like (IsOver now c) next n is s.over
 
   met_it : IsTrue (is_met now c n)
-  met_it = some_of (λ m. IsTrue (is_met now c m)) next n is s.met
+  met_it = some_like (λ m. IsTrue (is_met now c m)) next n is s.met
 
   holds_it : IsTrue (holds_at now n)
   holds_it = met_holds now c n met_it

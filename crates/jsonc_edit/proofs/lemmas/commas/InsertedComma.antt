@@ -23,13 +23,16 @@ use Rattle.jsonc_edit.specs.commas.Commas.{a_comma, comma_wanted_behind, CommaIn
 use Rattle.jsonc_edit.specs.commas.InTurn.{holds_at}
 use Rattle.jsonc_edit.proofs.lemmas.commas.Children.{may_come}
 use Rattle.jsonc_edit.proofs.lemmas.commas.CommaRows.{closes_yet, comma_first, sound_with}
-use Rattle.jsonc_edit.proofs.lemmas.commas.Holders.{row_stands, shows_standing}
+use Rattle.jsonc_edit.proofs.lemmas.commas.Holders.{row_stands}
 use Rattle.jsonc_edit.proofs.lemmas.commas.ContainersKept.{ready_children}
 use Rattle.jsonc_edit.proofs.lemmas.commas.OwnRow.{came_now, gap_is, take_past}
-use Rattle.jsonc_edit.proofs.lemmas.commas.Splits.{drop_past, no_elements, split_parent, standing, standing_then, WantedComma}
+use Rattle.jsonc_edit.proofs.lemmas.commas.Splits.{drop_past, no_elements, split_parent, WantedComma}
 use Rattle.jsonc_edit.proofs.lemmas.commas.WithoutCommas.{behind_bracket, comma_between, document_only}
 use Rattle.jsonc_text.specs.declared.edit.TrailingCommaMode.TheVariants.{IfMultiline}
-use Rattle.jsonc_edit.proofs.lemmas.commas.Steps.{all_front, all_rest, closing_next, first_same, inside, marks_comma, opens_row, path, same_marks, same_top, under_bracket, Inside, Step}
+use Rattle.jsonc_text.proofs.Basics.{heads}
+use Rattle.jsonc_edit.proofs.lemmas.commas.Steps.{closing_next, inside, marks_comma, opens_row, path, same_marks, same_top, under_bracket, Inside, Step}
+use Rattle.jsonc_edit.proofs.Lists.{all_front, all_rest}
+use Rattle.jsonc_edit.proofs.Standing.{standing, standing_then, shows_standing}
 
 -- a comma comes
 module _ (o : Options) (allowed : IsTrue o.trailing_commas) (old new : List Node) (tree : IsTree old) (after : IsTree new) (sound : SoundTree o (ordered_tree old 0)) (c n : ℕ) (over : IsOver old 0 c) (holds : IsTrue (holds_at old c))
@@ -60,7 +63,7 @@ module _ (o : Options) (allowed : IsTrue o.trailing_commas) (old new : List Node
     kids = g.are ∙ ap (λ l. l ++ n ∷ g.back) ahead_is
 
     same_first : x ≡ i.open_with
-    same_first = sym (first_same i.open_with x i.rest (f ++ n ∷ g.back) (sym i.children ∙ kids))
+    same_first = sym (heads i.open_with x i.rest (f ++ n ∷ g.back) (sym i.children ∙ kids))
 
     opens : content_at old x ≡ token (opening i.kind)
     opens = ap (content_at old) same_first ∙ i.opens

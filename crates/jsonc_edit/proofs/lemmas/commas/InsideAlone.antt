@@ -44,7 +44,7 @@ module _ (path : List ℕ) (c : ℕ) where
   spliced : (old new : List Node) (h : ℕ) → Respliced old new h → IsOver old c h → IsAt old path c → Changes old new
   spliced old new h s over at = record {
     changed = respliced_over old new h s c over path at;
-    at = at_over old new h s.tree s.spliced.content (λ n ne. (s.spliced.others n ne)) c over path at;
+    at = at_over old new h s.tree (λ n there. s.spliced.content n) (λ n there ne. s.spliced.others n ne) c over path at;
     content = s.spliced.content c;
   }
 

@@ -25,19 +25,13 @@ use Rattle.jsonc_edit.proofs.lemmas.commas.Documents.{keeps_document, sets_all}
 use Rattle.jsonc_edit.proofs.lemmas.commas.Holders.{row_stands}
 use Rattle.jsonc_edit.proofs.lemmas.commas.NoneLeft.{stays, tree_now}
 use Rattle.jsonc_edit.proofs.lemmas.commas.Reaching.{each_holder}
-use Rattle.jsonc_edit.proofs.lemmas.commas.Splits.{comma_found, none_found_back, parted_last, split_after, standing, NoneOf}
+use Rattle.jsonc_edit.proofs.lemmas.commas.Splits.{comma_found, none_found_back, parted_last, split_after, NoneOf}
+use Rattle.jsonc_edit.proofs.Lists.{either_off, both_so}
+use Rattle.jsonc_edit.proofs.Standing.{standing}
 
 and_false : (b : Bool) → (b && false) ≡ false
 and_false true = refl
 and_false false = refl
-
-neither : (a b : Bool) → (a || b) ≡ false → (a ≡ false) × (b ≡ false)
-neither true b e = let wrong : true ≡ false = e in cc
-neither false b e = (refl, e)
-
-both_so : (a b : Bool) → IsTrue a → IsTrue b → IsTrue (a && b)
-both_so true b h k = k
-both_so false b h k = cc
 
 some_if : (o : Option ℕ) (n : ℕ) → cond (is_some o) None (Some n) ≡ None → is_some o ≡ true
 some_if (Some m) n e = refl
@@ -59,7 +53,7 @@ module _ (ns : List Node) where
   no_line : (xs : List ℕ) → list_any (is_newline_at ns) xs ≡ false → line_behind false xs ≡ false
   no_line [] e = refl
   no_line (x ∷ xs) e =
-      let h = neither (is_newline_at ns x) (list_any (is_newline_at ns) xs) e in
+      let h = either_off (is_newline_at ns x) (list_any (is_newline_at ns) xs) e in
       ap (λ b. line_behind (b || false) xs) h.0 ∙ no_line xs h.1
 
   none_last : (xs : List ℕ) → NoneOf (is_element_at ns) xs → element_behind false xs ≡ false

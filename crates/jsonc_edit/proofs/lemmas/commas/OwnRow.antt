@@ -11,7 +11,9 @@ use Rattle.jsonc_layout.specs.lines.Siblings.{if_comma, is_no_trivia_at, trailin
 use Rattle.jsonc_edit.specs.commas.Commas.{a_comma, comma_gone, comma_wanted_behind, has_newline, if_without_comma, last_element, CommaInsertedAfter}
 use Rattle.jsonc_edit.proofs.lemmas.commas.CommaRows.{comma_first}
 use Rattle.jsonc_edit.proofs.lemmas.commas.ContainersKept.{ready_children}
-use Rattle.jsonc_edit.proofs.lemmas.commas.Splits.{comma_found, drop_past, found_first, found_last, found_past, none_joined, none_front, none_back, split_after, split_place, standing, GoneComma, NoneOf, WantedComma}
+use Rattle.jsonc_edit.proofs.lemmas.commas.Splits.{comma_found, drop_past, found_first, found_last, found_past, none_joined, none_front, none_back, split_after, split_place, GoneComma, NoneOf, WantedComma}
+use Rattle.jsonc_edit.proofs.Lists.{all_rest}
+use Rattle.jsonc_edit.proofs.Standing.{standing}
 
 none_same : (p q : ℕ → Bool) → ((x : ℕ) → q x ≡ p x) → (xs : List ℕ) → NoneOf p xs → NoneOf q xs
 none_same p q same [] h = tt
@@ -83,10 +85,6 @@ none_low : (p q : ℕ → Bool) (P : ℕ → Type 0) → ((x : ℕ) → P x → 
 none_low p q P same [] all h = tt
 none_low p q P same (x ∷ xs) all h = (same x (all 0 0 (omega arith)) ∙ h.0, none_low p q P same xs (λ k d l. all (suc k) d (omega arith)) h.1)
 
-all_behind : (P : ℕ → Type 0) (xs ys : List ℕ) → All P (xs ++ ys) → All P ys
-all_behind P [] ys all = all
-all_behind P (x ∷ xs) ys all = all_behind P xs ys (λ k d l. all (suc k) d (omega arith))
-
 -- the comma has come
 module _ (old new : List Node) (tree : IsTree old) (after : IsTree new) (c n : ℕ) (g : WantedComma old c n) (r : CommaInsertedAfter old new c n) where
   abbrev m : ℕ
@@ -108,7 +106,7 @@ module _ (old new : List Node) (tree : IsTree old) (after : IsTree new) (c n : �
       ∙ append_assoc g.front (n ∷ []) (m ∷ g.back)
 
   low : All (λ x. x < length old) (n ∷ g.back)
-  low = all_behind (λ x. x < length old) g.front (n ∷ g.back) (subst (All (λ x. x < length old)) g.are (All-from_get_or (λ x. x < length old) (children_at old c) 0 (λ k h. tree.in_tree c k h)))
+  low = all_rest (λ x. x < length old) g.front (n ∷ g.back) (subst (All (λ x. x < length old)) g.are (All-from_get_or (λ x. x < length old) (children_at old c) 0 (λ k h. tree.in_tree c k h)))
 
   content_now : (x : ℕ) → x < length old → content_at new x ≡ content_at old x
   content_now x h = r.put.content x ∙ ap (λ (y : Node). y.content) (r.added.rest x h)

@@ -10,16 +10,13 @@ use Rattle.jsonc_tree.specs.Tree.{Node, children_at, parent_at, place_at, IsTree
 use Rattle.jsonc_tree.proofs.Gaps.{at_named, at_there}
 use Rattle.jsonc_tree.proofs.Order.{following_next, following_up, in_order_is, not_over_parent, over_step, parent_there, rest_down, rest_over}
 use Rattle.jsonc_tree.proofs.LinkedRows.{first_drop}
+use Rattle.jsonc_sound.proofs.Commas.{and_false}
 use Rattle.jsonc_edit.specs.commas.InTurn.{holds_at, is_entered, is_met, is_reached, to_come, IsOpen}
 use Rattle.jsonc_edit.proofs.lemmas.commas.Children.{children_are, IsChild}
 use Rattle.jsonc_edit.proofs.lemmas.commas.InOrder.{filter-flat_map}
 use Rattle.jsonc_edit.proofs.lemmas.commas.Reach.{not_reached, reached_top, reached_up}
 
-and_false : (a b : Bool) → b ≡ false → a && b ≡ false
-and_false true b e = e
-and_false false b e = refl
-
-second : (a b : Bool) → a && b ≡ true → b ≡ true
+pub second : (a b : Bool) → a && b ≡ true → b ≡ true
 second true b e = e
 second false b e = cc
 

@@ -19,7 +19,7 @@ use Rattle.jsonc_edit.proofs.Uniqueness.{element_parent, element_there}
 use Rattle.jsonc_edit.specs.commas.InTurn.{holders, holds_at, is_entered, is_entered_under, is_it, is_met, is_reached}
 use Rattle.jsonc_edit.proofs.lemmas.commas.Holders.{child_split, holder_path}
 use Rattle.jsonc_edit.proofs.lemmas.commas.Reach.{reached_end, reached_top, reached_up}
-use Rattle.jsonc_edit.proofs.lemmas.commas.Steps.{all_front, all_rest}
+use Rattle.jsonc_edit.proofs.Lists.{all_front, all_rest}
 
 -- what a path leads to is reached
 module _ (ns : List Node) (tree : IsTree ns) (end : ℕ) where

@@ -21,12 +21,16 @@ use Rattle.jsonc_edit.proofs.Splices.{respliced_over, respliced_row}
 use Rattle.jsonc_edit.specs.commas.Commas.{comma_gone}
 use Rattle.jsonc_edit.specs.commas.InTurn.{holds_at}
 use Rattle.jsonc_edit.proofs.lemmas.commas.CommaRows.{closes, sound_without}
-use Rattle.jsonc_edit.proofs.lemmas.commas.Holders.{bare_leaf, row_stands, shows_standing}
+use Rattle.jsonc_edit.proofs.lemmas.commas.Holders.{bare_leaf, row_stands}
 use Rattle.jsonc_edit.proofs.lemmas.commas.OwnRow.{lost_now}
-use Rattle.jsonc_edit.proofs.lemmas.commas.Splits.{drop_past, no_elements, none_back, split_place, split_there, standing, standing_then, GoneComma}
+use Rattle.jsonc_edit.proofs.lemmas.commas.Splits.{drop_past, no_elements, none_back, split_place, split_there, GoneComma}
 use Rattle.jsonc_edit.proofs.lemmas.commas.WithoutCommas.{behind_bracket, comma_between, document_only}
 use Rattle.jsonc_text.specs.declared.edit.TrailingCommaMode.TheVariants.{Never}
-use Rattle.jsonc_edit.proofs.lemmas.commas.Steps.{all_front, all_rest, closing_lacks, closing_next, comma_leaf, first_same, inside, marks_comma, opens_row, path, same_marks, same_top, the_comma, under_bracket, Inside, Step}
+use Rattle.jsonc_text.proofs.Basics.{heads}
+use Rattle.jsonc_edit.proofs.lemmas.commas.Steps.{closing_lacks, closing_next, comma_leaf, inside, marks_comma, opens_row, path, same_marks, same_top, under_bracket, Inside, Step}
+use Rattle.jsonc_edit.proofs.LeafKinds.{comma_is}
+use Rattle.jsonc_edit.proofs.Lists.{all_front, all_rest}
+use Rattle.jsonc_edit.proofs.Standing.{standing, standing_then, shows_standing}
 
 -- the comma leaves
 module _ (o : Options) (old new : List Node) (tree : IsTree old) (after : IsTree new) (sound : SoundTree o (ordered_tree old 0)) (c k : ℕ) (over : IsOver old 0 c) (holds : IsTrue (holds_at old c))
@@ -52,16 +56,16 @@ module _ (o : Options) (old new : List Node) (tree : IsTree old) (after : IsTree
     kids = g.are ∙ ap (λ l. l ++ g.last ∷ (g.mid ++ k ∷ g.back)) ahead_is ∙ ap (λ l. x ∷ l) (sym (append_assoc f (g.last ∷ g.mid) (k ∷ g.back)))
 
     opens : content_at old x ≡ token (opening i.kind)
-    opens = ap (content_at old) (sym (first_same i.open_with x i.rest (ahead ++ k ∷ g.back) (sym i.children ∙ kids))) ∙ i.opens
+    opens = ap (content_at old) (sym (heads i.open_with x i.rest (ahead ++ k ∷ g.back) (sym i.children ∙ kids))) ∙ i.opens
 
     bare : row_below old x ≡ none
-    bare = ap (row_below old) (sym (first_same i.open_with x i.rest (ahead ++ k ∷ g.back) (sym i.children ∙ kids))) ∙ i.bare
+    bare = ap (row_below old) (sym (heads i.open_with x i.rest (ahead ++ k ∷ g.back) (sym i.children ∙ kids))) ∙ i.bare
 
     k_there : k < length old
     k_there = split_there old tree c k (x ∷ ahead) g.back kids
 
     is_token : content_at old k ≡ token 0x2C
-    is_token = the_comma (content_at old k) g.comma
+    is_token = comma_is (content_at old k) g.comma
 
     old_row : row_below old c ≡ token_then (opening i.kind) (followed_by front (token_then 0x2C back))
     old_row =

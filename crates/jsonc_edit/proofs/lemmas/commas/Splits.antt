@@ -5,7 +5,7 @@ use Rattle.std.specs.Option.{option_and_then}
 use Rattle.std.proofs.lemmas.Bool.{cases_Bool, false≢true}
 use Rattle.std.proofs.lemmas.List.{reverse-append, reverse-reverse}
 use Rattle.jsonc_tree.specs.Content.{Content}
-use Rattle.jsonc_tree.specs.OrderedTree.{OrderedTree, none, more, followed_by}
+use Rattle.jsonc_tree.specs.OrderedTree.{OrderedTree, more}
 use Rattle.jsonc_tree.specs.Order.{with_parent}
 use Rattle.jsonc_tree.specs.Siblings.{siblings_after}
 use Rattle.jsonc_tree.specs.Tree.{Node, content_at, children_at, parent_at, place_at, IsTree}
@@ -16,6 +16,8 @@ use Rattle.jsonc_layout.specs.lines.Siblings.{if_comma, is_no_trivia_at, trailin
 use Rattle.jsonc_edit.specs.Changes.{row_below}
 use Rattle.jsonc_edit.specs.commas.Commas.{comma_gone, comma_wanted_behind, has_newline, if_without_comma, last_element}
 use Rattle.jsonc_edit.proofs.lemmas.commas.CommaRows.{comma_first}
+use Rattle.jsonc_edit.proofs.Standing.{standing}
+use Rattle.jsonc_edit.proofs.Lists.{not_false}
 
 -- no number of the list passes the test
 abbrev pub NoneOf : (ℕ → Bool) → List ℕ → Type 0
@@ -145,22 +147,9 @@ module _ (ns : List Node) (tree : IsTree ns) (c n : ℕ) (front back : List ℕ)
       ∙ ap (drop (length front + 1)) are
       ∙ drop_past front back n (length front + 1) refl
 
--- numbers in a row stand for these trees
-abbrev pub standing : List Node → List ℕ → OrderedTree
-standing ns [] = none
-standing ns (n ∷ rest) = more (content_at ns n) (row_below ns n) (standing ns rest)
-
-pub standing_then : (ns : List Node) (xs ys : List ℕ) → standing ns (xs ++ ys) ≡ followed_by (standing ns xs) (standing ns ys)
-standing_then ns [] ys = refl
-standing_then ns (n ∷ xs) ys = ap (more (content_at ns n) (row_below ns n)) (standing_then ns xs ys)
-
-over_from : (b : Bool) → not b ≡ false → b ≡ true
-over_from true e = refl
-over_from false e = absurd (false≢true (sym e))
-
 pub no_elements : (ns : List Node) (xs : List ℕ) → NoneOf (is_element_at ns) xs → HasNoValue (standing ns xs)
 no_elements ns [] h = values.end
-no_elements ns (x ∷ xs) h = values.pass (over_from (is_passed_over (content_at ns x)) h.0) (no_elements ns xs h.1)
+no_elements ns (x ∷ xs) h = values.pass (not_false (is_passed_over (content_at ns x)) h.0) (no_elements ns xs h.1)
 
 -- past trivia a comma comes, by the numbers and in the tree
 module _ (ns : List Node) where

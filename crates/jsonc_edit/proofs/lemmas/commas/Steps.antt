@@ -1,13 +1,12 @@
 -- The comma of one array or object of a sound document is set: what both kinds of steps rest on.
-use Rattle.std.proofs.Common.{◌≡◌, ◌∙◌, sym, ap, refl, ℕ, ◌<◌, true, false, List, [], ◌∷◌, ◌++◌, All, length, IsTrue}
-use Rattle.std.proofs.lemmas.Bool.{false≢true, eqb-true}
-use Rattle.std.proofs.lemmas.List.Elements.{All-cons, All-head, All-nil, All-tail}
+use Rattle.std.proofs.Common.{◌≡◌, ◌∙◌, sym, ap, refl, ℕ, ◌<◌, true, false, List, [], ◌∷◌, ◌++◌, length, IsTrue}
+use Rattle.std.proofs.lemmas.Bool.{false≢true}
 use Rattle.jsonc_text.specs.Options.{Options}
 use Rattle.jsonc_tree.specs.Content.{Content, is_container, token}
 use Rattle.jsonc_tree.specs.OrderedTree.{OrderedTree, Top, none, more, followed_by, leaves, ordered_tree}
 use Rattle.jsonc_tree.specs.Tree.{Node, content_at, children_at, IsTree, IsOver}
 use Rattle.jsonc_tree.proofs.OrderedTrees.{leaves-followed_by}
-use Rattle.jsonc_layout.specs.nodes.Kinds.{is_element, is_element_at, is_comma}
+use Rattle.jsonc_layout.specs.nodes.Kinds.{is_element, is_element_at}
 use Rattle.jsonc_sound.specs.Shape.{IsTrivia, token_then}
 use Rattle.jsonc_sound.specs.Marks.{marks, marks_of}
 use Rattle.jsonc_sound.specs.MarkChanges.{marks_under}
@@ -22,14 +21,10 @@ use Rattle.jsonc_edit.proofs.FittingNodes.{over_there}
 use Rattle.jsonc_edit.specs.commas.InTurn.{holds_at}
 use Rattle.jsonc_edit.specs.commas.Laws.{OnlyCommas, closes_next}
 use Rattle.jsonc_text.specs.declared.edit.TrailingCommaMode.{TrailingCommaMode}
+use Rattle.jsonc_text.proofs.Basics.{heads}
 use Rattle.jsonc_edit.proofs.lemmas.commas.CommaRows.{comma_first, Closing, bracket, behind}
 use Rattle.jsonc_edit.proofs.lemmas.commas.Holders.{held, holder_path, row_stands, value_at_path, Held}
-use Rattle.jsonc_edit.proofs.lemmas.commas.Splits.{standing}
-
--- a comma is this token, and a leaf
-pub the_comma : (w : Content) → is_comma w ≡ true → w ≡ token 0x2C
-the_comma (Content.token c) e = ap token (eqb-true c 0x2C e)
-the_comma w e = cc
+use Rattle.jsonc_edit.proofs.Standing.{standing}
 
 pub comma_leaf : (w : Content) → w ≡ token 0x2C → is_container w ≡ false
 comma_leaf w e = ap is_container e
@@ -132,20 +127,8 @@ module _ (o : Options) (ns : List Node) (tree : IsTree ns) (sound : SoundTree o 
             bare = (let two : row_below ns x ≡ none = cc in two);
           }
 
--- all of the front of a list, and of its rest
-pub all_front : (P : ℕ → Type 0) (xs ys : List ℕ) → All P (xs ++ ys) → All P xs
-all_front P [] ys all = All-nil P
-all_front P (x ∷ xs) ys all = All-cons P x xs (All-head P x (xs ++ ys) all) (all_front P xs ys (All-tail P x (xs ++ ys) all))
-
-pub all_rest : (P : ℕ → Type 0) (xs ys : List ℕ) → All P (xs ++ ys) → All P ys
-all_rest P [] ys all = all
-all_rest P (x ∷ xs) ys all = all_rest P xs ys (All-tail P x (xs ++ ys) all)
-
-pub first_same : (x y : ℕ) (xs ys : List ℕ) → x ∷ xs ≡ y ∷ ys → x ≡ y
-first_same x y xs ys e = cc
-
 -- the first bracket is not the last element
 pub opens_row : (o : Options) (ns : List Node) (c n : ℕ) (back : List ℕ) (i : Inside o ns c) → is_element_at ns n ≡ true → children_at ns c ≡ n ∷ back → ⊥
 opens_row o ns c n back i e are =
-    let same : i.open_with ≡ n = first_same i.open_with n i.rest back (sym i.children ∙ are) in
+    let same : i.open_with ≡ n = heads i.open_with n i.rest back (sym i.children ∙ are) in
     open_no_element i.kind (content_at ns n) (ap (content_at ns) (sym same) ∙ i.opens) e

@@ -15,8 +15,9 @@ use Rattle.jsonc_edit.proofs.lemmas.commas.Children.{gone_child}
 use Rattle.jsonc_edit.proofs.lemmas.commas.CommaRows.{comma_first}
 use Rattle.jsonc_edit.proofs.lemmas.commas.Documents.{are_holders, holders_stay, left_as_it_is}
 use Rattle.jsonc_edit.proofs.lemmas.commas.OwnRow.{came_now, lost_now}
-use Rattle.jsonc_edit.proofs.lemmas.commas.Splits.{comma_found, gone_parted, split_after, standing, wanted_parted, GoneComma}
+use Rattle.jsonc_edit.proofs.lemmas.commas.Splits.{comma_found, gone_parted, split_after, wanted_parted, GoneComma}
 use Rattle.jsonc_edit.proofs.lemmas.commas.OtherRows.{gone_same, other_row, set_same, trailing_same, SameRow}
+use Rattle.jsonc_edit.proofs.Standing.{standing}
 
 -- one comma
 module _ (old new : List Node) (tree : IsTree old) (after : IsTree new) (c : ℕ) where

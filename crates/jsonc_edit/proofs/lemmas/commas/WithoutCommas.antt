@@ -1,5 +1,5 @@
 -- Trees that differ in commas alone have the same value.
-use Rattle.std.proofs.Common.{◌≡◌, ◌∙◌, ℕ, sym, ap, subst, refl, Bool, ◌&&◌, ◌||◌, true, false, cond, if◌then◌else◌, inl, inr, List, Option, Some, None, IsTrue}
+use Rattle.std.proofs.Common.{◌≡◌, ◌∙◌, ℕ, sym, ap, subst, refl, ◌||◌, true, false, cond, if◌then◌else◌, inl, inr, List, Option, Some, None, IsTrue}
 use Rattle.std.proofs.lemmas.Bool.{cases_Bool}
 use Rattle.jsonc_text.specs.Options.{Options}
 use Rattle.jsonc_text.proofs.Basics.{and_both}
@@ -15,6 +15,8 @@ use Rattle.jsonc_sound.proofs.FirstNodes.{name_leaf_element, value_of_element}
 use Rattle.jsonc_text.specs.declared.edit.TrailingCommaMode.{TrailingCommaMode}
 use Rattle.jsonc_text.specs.declared.edit.TrailingCommaMode.TheVariants.{Never, IfMultiline}
 use Rattle.jsonc_edit.specs.commas.Laws.{LosesCommas, closes_next, ended, stayed, left, OnlyCommas}
+use Rattle.jsonc_edit.proofs.LeafKinds.{element_no_comma}
+use Rattle.jsonc_edit.proofs.Lists.{both_so}
 
 -- a row, and those below it, without their commas
 abbrev pub without_commas : OrderedTree → OrderedTree
@@ -24,11 +26,6 @@ without_commas (more content below after) = if is_comma content then without_com
 comma_over : (content : Content) → is_comma content ≡ true → IsTrue (is_passed_over content)
 comma_over (Content.token c) e = refl
 comma_over content e = cc
-
--- no element is a comma
-pub element_no_comma : (content : Content) → IsElement content → is_comma content ≡ false
-element_no_comma (Content.token c) e = cc
-element_no_comma content e = refl
 
 -- a comma leaves, and all else stays
 pub left_out : (content : Content) (below after : OrderedTree) → is_comma content ≡ true → without_commas (more content below after) ≡ without_commas after
@@ -113,10 +110,6 @@ loses_none : (t : OrderedTree) → LosesCommas t t
 loses_none none = ended
 loses_none (more content below after) = stayed (loses_none below) (loses_none after)
 
-both_true : (x y : Bool) → IsTrue x → IsTrue y → IsTrue (x && y)
-both_true true y h k = k
-both_true false y h k = cc
-
 none_left : {x : OrderedTree} → LosesCommas x none → x ≡ none
 none_left ended = refl
 none_left (left {after = after} p e q) = let wrong : IsTrue (closes_next none) = subst (λ a. IsTrue (closes_next a)) (none_left q) e in cc
@@ -128,7 +121,7 @@ comma_then below (more c b a) e = e
 
 leaf_then : (content : Content) (below after : OrderedTree) → IsTrue (is_trivia content || is_comma content) → IsTrue (closes_next after) → IsTrue (closes_next (more content below after))
 leaf_then content below none h e = cc
-leaf_then content below (more c b a) h e = both_true (is_trivia content || is_comma content) (closes_next (more c b a)) h e
+leaf_then content below (more c b a) h e = both_so (is_trivia content || is_comma content) (closes_next (more c b a)) h e
 
 closes_before : {x y : OrderedTree} → LosesCommas x y → IsTrue (closes_next y) → IsTrue (closes_next x)
 closes_before ended h = h

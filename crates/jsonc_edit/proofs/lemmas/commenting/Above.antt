@@ -21,6 +21,7 @@ use Rattle.jsonc_sound.specs.Shape.{IsText}
 use Rattle.jsonc_sound.specs.SoundTrees.{SoundTree}
 use Rattle.jsonc_sound.specs.TriviaChanges.{leaves_then}
 use Rattle.jsonc_sound.proofs.LooseChanges.{element_no_end}
+use Rattle.jsonc_sound.proofs.Commas.{and_false}
 use Rattle.jsonc_edit.specs.Writing.{IsIndent}
 use Rattle.jsonc_edit.specs.commenting.Above.{begins_own_line, indent_in, new_line, own_indent, own_line, seam_at, seam_behind, seam_by, without_end, ComesAboveBy, ComesAtSeam, Seam}
 use Rattle.jsonc_edit.specs.commenting.Come.{LeavesCome}
@@ -50,10 +51,6 @@ no_blank_first p xs rest x e f h = let wrong : false ≡ true = sym (ap (λ b. b
 pub is_blank_text : (content : Content) (s : List ℕ) → blank_of content ≡ Some s → content ≡ Content.whitespace s
 is_blank_text (Content.whitespace t) s e = let same : t ≡ s = (let both : Some t ≡ Some s = e in cc) in ap Content.whitespace same
 is_blank_text content s e = cc
-
-not_loose : (b c : Bool) → c ≡ false → b && c ≡ false
-not_loose true c e = e
-not_loose false c e = refl
 
 module _ (o : Options) (old new : List Node) (n : ℕ) (text : List ℕ) (tree : IsTree old) (sound : SoundTree o (ordered_tree old 0)) (allowed : IsTrue o.comments) (whole : IsText IsComment text) (e : IsEntry old n) where
   abbrev c : ℕ
@@ -142,7 +139,7 @@ module _ (o : Options) (old new : List Node) (n : ℕ) (text : List ℕ) (tree :
         let starts : drop (place_at old m) kids ≡ m ∷ drop (place_at old n) kids =
         drop_more kids (place_at old m) 0 (tree.within m c before_it.0) ∙ ap (λ k. slice_index kids (place_at old m) ∷ drop k kids) before_it.1 ∙ ap (λ (k : ℕ). k ∷ drop (place_at old n) kids) (tree.found m c before_it.0) in
         let one = first_of old m (drop (place_at old n) kids) back (subst (λ (l : List ℕ). Shows old l back) starts shown) in
-        ap (ends_loosely loose at_end) one.2 ∙ ap (λ w. ends_loosely loose at_end (more w one.0 one.1)) blank ∙ not_loose loose (ends_loosely loose at_end one.1) (from_entry one.1 one.4 loose at_end)
+        ap (ends_loosely loose at_end) one.2 ∙ ap (λ w. ends_loosely loose at_end (more w one.0 one.1)) blank ∙ and_false loose (ends_loosely loose at_end one.1) (from_entry one.1 one.4 loose at_end)
 
     before_blank : LeavesCome old new c (place_at old m) (new_line kind (indent_in old c) (own_line kind text rest)) → Arrival o (new_line kind (indent_in old c) (own_line kind text rest)) (ordered_tree old 0) (ordered_tree new 0)
     before_blank r =

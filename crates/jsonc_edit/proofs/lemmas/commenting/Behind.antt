@@ -16,7 +16,6 @@ use Rattle.jsonc_layout.specs.nodes.Comments.{after_inline_trivia_at, is_not_inl
 use Rattle.jsonc_layout.specs.nodes.Kinds.{is_comma, is_element, is_newline, is_whitespace}
 use Rattle.jsonc_sound.specs.Lines.{is_line_comment, ends_loosely, LinesEndLoosely}
 use Rattle.jsonc_sound.specs.Rows as rows
-use Rattle.jsonc_sound.specs.Rows.{RowKind, closing}
 use Rattle.jsonc_sound.specs.Shape.{IsText}
 use Rattle.jsonc_sound.specs.SoundTrees.{SoundTree}
 use Rattle.jsonc_sound.specs.TriviaChanges.{leaves_then}
@@ -36,6 +35,7 @@ use Rattle.jsonc_edit.proofs.lemmas.commenting.Ends.{space_before}
 use Rattle.jsonc_edit.proofs.lemmas.commenting.Lines.{lines_past, never, space_line_ends, Solid}
 use Rattle.jsonc_edit.proofs.lemmas.commenting.Rows.{before_last, container_over, element_closes, entry_there, ClosesNone}
 use Rattle.jsonc_edit.proofs.lemmas.commenting.Sound.{Arrival}
+use Rattle.jsonc_edit.proofs.LeafKinds.{comma_is}
 
 -- an entry and a comma end no line, and close no row
 element_solid : (content : Content) → IsTrue (is_element content) → Solid content
@@ -43,10 +43,6 @@ element_solid content h = record {
   no_end = λ loose at_end below after. never (ends_loosely loose at_end (more content below after)) (element_no_end loose at_end content below after h);
   no_line = λ k. no_element content h (line_comment_over content k);
 }
-
-pub comma_kind : (content : Content) → is_comma content ≡ true → content ≡ token 0x2C
-comma_kind (Content.token c) h = ap Content.token (test_eq c 0x2C h)
-comma_kind content h = cc
 
 comma_solid : Solid (token 0x2C)
 comma_solid = record { no_end = λ loose at_end below after. refl; no_line = λ k. cc }
@@ -74,7 +70,7 @@ module _ (ns : List Node) (tree : IsTree ns) (n : ℕ) (e : IsEntry ns n) where
 
   a_comma : (m : ℕ) → parent_at ns m ≡ Some c → is_comma (content_at ns m) ≡ true → EndsAt ns c m
   a_comma m said h =
-      let is : content_at ns m ≡ token 0x2C = comma_kind (content_at ns m) h in
+      let is : content_at ns m ≡ token 0x2C = comma_is (content_at ns m) h in
       record { child = said; solid = subst Solid (sym is) comma_solid; closes = subst ClosesNone (sym is) comma_closes }
 
   by_next : (o : Option ℕ) → after_inline_trivia_at ns n ≡ o → EndsAt ns c (or_itself n (if_comma ns o))

@@ -3,7 +3,6 @@ use Rattle.std.proofs.Common.{◌≡◌, ◌∙◌, ℕ, ◌+◌, ◌<◌, Bool,
 use Rattle.std.proofs.lemmas.Bool.{cases_Bool}
 use Rattle.std.proofs.lemmas.List.{drop_more, get_or_append_left, get_or_default, take_more, take-append-drop}
 use Rattle.std.proofs.Math.Seq.{drop-append-add, drop-append_seam, take-append-add, take-append_seam}
-use Rattle.jsonc_tree.specs.Content.{Content, is_container}
 use Rattle.jsonc_tree.specs.Order.{with_parent}
 use Rattle.jsonc_tree.specs.OrderedTree.{OrderedTree, none, Shows, shows_none, shows_more}
 use Rattle.jsonc_tree.specs.Siblings.{siblings_after}
@@ -11,21 +10,18 @@ use Rattle.jsonc_tree.specs.Tree.{Node, content_at, children_at, parent_at, plac
 use Rattle.jsonc_tree.specs.Content as contents
 use Rattle.jsonc_layout.specs.lines.Siblings.{if_comma}
 use Rattle.jsonc_layout.specs.nodes.Comments.{after_inline_trivia_at, is_not_inline_trivia_at}
-use Rattle.jsonc_layout.specs.nodes.Kinds.{is_comma, is_whitespace, is_whitespace_at}
+use Rattle.jsonc_layout.specs.nodes.Kinds.{is_comma, is_whitespace_at}
 use Rattle.jsonc_sound.specs.Lines.{is_line_comment}
 use Rattle.jsonc_edit.specs.commenting.Behind.{comment_follows, end_of_entry, last_blank, last_blank_in}
 use Rattle.jsonc_edit.specs.remove.Comments.{or_itself}
 use Rattle.jsonc_edit.proofs.FittingFinds.{found_one}
 use Rattle.jsonc_edit.proofs.lemmas.commenting.Lines.{AllBlank}
+use Rattle.jsonc_edit.proofs.LeafKinds.{blank_leaf}
 
 -- each of these nodes is whitespace
 abbrev pub BlankNodes : List Node → List ℕ → Type 0
 BlankNodes ns [] = Unit {0}
 BlankNodes ns (n ∷ rest) = (is_whitespace_at ns n ≡ true) × BlankNodes ns rest
-
-blank_leaf : (content : Content) → is_whitespace content ≡ true → is_container content ≡ false
-blank_leaf (Content.whitespace s) h = refl
-blank_leaf content h = cc
 
 pub blanks_shown : (ns : List Node) → IsTree ns → (xs : List ℕ) (t : OrderedTree) → BlankNodes ns xs → Shows ns xs t → AllBlank t
 blanks_shown ns tree _ _ h shows_none = tt

@@ -1,5 +1,5 @@
 -- Leaves that come into a row: what the row of trees is then, and the document.
-use Rattle.std.proofs.Common.{◌≡◌, ◌∙◌, ℕ, ◌+◌, ◌<◌, false, List, [], ◌∷◌, length, map, take, drop, slice_index, IsTrue, refl, sym, ap, subst, arith, length-take, length-drop, get_or-take, get_or-drop}
+use Rattle.std.proofs.Common.{◌≡◌, ◌∙◌, ℕ, ◌+◌, ◌<◌, List, [], ◌∷◌, length, map, take, drop, slice_index, refl, sym, ap, subst, arith, length-take, length-drop, get_or-take, get_or-drop}
 use Rattle.std.proofs.lemmas.List.{take-append-drop}
 use Rattle.jsonc_tree.specs.Content.{Content, root, is_container}
 use Rattle.jsonc_tree.specs.OrderedTree.{OrderedTree, none, more, followed_by, ordered_tree, Replaced, Shows, shows_none, shows_more}
@@ -8,7 +8,6 @@ use Rattle.jsonc_tree.proofs.Builder.{Shows-keeps}
 use Rattle.jsonc_tree.proofs.OrderedTrees.{Shows-ordered_tree, Shows-unique}
 use Rattle.jsonc_tree.proofs.Rows.{Shows-append, Shows-part}
 use Rattle.jsonc_tree.proofs.SplicedTrees.{Replaced-splice, Shows-spliced}
-use Rattle.jsonc_layout.specs.nodes.Kinds.{is_trivia}
 use Rattle.jsonc_sound.specs.TriviaChanges.{AreTrivia, leaves_then}
 use Rattle.jsonc_edit.specs.Changes.{row_below}
 use Rattle.jsonc_edit.specs.commenting.Come.{LeavesCome}
@@ -16,21 +15,16 @@ use Rattle.jsonc_edit.specs.multiline.Slots.{comes, AreFilled, no_more, came}
 use Rattle.jsonc_edit.proofs.ChangesUpward.{Shows-row_below}
 use Rattle.jsonc_edit.proofs.NodesKept.{tree_stays}
 use Rattle.jsonc_edit.proofs.TakingOut.{over_keeps}
-
-no_container : (content : Content) → IsTrue (is_trivia content) → is_container content ≡ false
-no_container (Content.whitespace s) h = refl
-no_container (Content.newline k) h = refl
-no_container (Content.comment s) h = refl
-no_container content h = cc
+use Rattle.jsonc_edit.proofs.LeafKinds.{trivia_leaf}
 
 -- what leaves that were made stand for
 filled_shown : (old ready : List Node) → IsTree ready → (contents : List Content) (row : List ℕ) → AreTrivia contents → AreFilled old ready (map comes contents) row → Shows ready row (leaves_then contents none)
 filled_shown old ready tree [] _ t no_more = shows_none
 filled_shown old ready tree (content ∷ rest) _ t (came {n = n} {row = row} low high is alone filled) =
     subst (λ w. Shows ready (n ∷ row) (more w none (leaves_then rest none))) is
-    (shows_more (subst (λ (l : List ℕ). Shows ready l none) (sym (tree.leaf n (ap is_container is ∙ no_container content t.0))) shows_none) (filled_shown old ready tree rest row t.1 filled))
+    (shows_more (subst (λ (l : List ℕ). Shows ready l none) (sym (tree.leaf n (ap is_container is ∙ trivia_leaf content t.0))) shows_none) (filled_shown old ready tree rest row t.1 filled))
 
-then_joined : (contents : List Content) (back : OrderedTree) → followed_by (leaves_then contents none) back ≡ leaves_then contents back
+pub then_joined : (contents : List Content) (back : OrderedTree) → followed_by (leaves_then contents none) back ≡ leaves_then contents back
 then_joined [] back = refl
 then_joined (content ∷ rest) back = ap (more content none) (then_joined rest back)
 

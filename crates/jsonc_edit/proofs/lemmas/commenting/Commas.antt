@@ -1,5 +1,5 @@
 -- Where no comma comes behind an entry of a sound document on its line, none comes among the leaves.
-use Rattle.std.proofs.Common.{◌≡◌, ◌⊎◌, ◌∙◌, ℕ, ◌+◌, Bool, true, false, not, cond, inl, inr, List, [], ◌∷◌, ◌++◌, drop, Option, Some, None, IsTrue, refl, sym, ap, subst}
+use Rattle.std.proofs.Common.{◌≡◌, ◌⊎◌, ◌∙◌, ℕ, ◌+◌, Bool, false, not, cond, inl, inr, List, [], ◌∷◌, ◌++◌, drop, Option, Some, None, IsTrue, refl, sym, ap, subst}
 use Rattle.std.specs.List.{find}
 use Rattle.std.proofs.lemmas.Bool.{cases_Bool, false≢true}
 use Rattle.jsonc_text.specs.Options.{Options}
@@ -21,10 +21,10 @@ use Rattle.jsonc_edit.specs.Seams.{as_child, as_root, StandsBetween}
 use Rattle.jsonc_edit.specs.commenting.Laws.{comma_follows, IsEntry}
 use Rattle.jsonc_edit.proofs.LeavesAroundNodes.{within, Within}
 use Rattle.jsonc_edit.proofs.SeamsAround.{row_around}
-use Rattle.jsonc_edit.proofs.lemmas.commas.Holders.{holder_path}
+use Rattle.jsonc_edit.proofs.lemmas.commas.Holders.{holder_path, Held}
 use Rattle.jsonc_edit.proofs.lemmas.commas.NoneLeft.{root_is}
 use Rattle.jsonc_edit.proofs.lemmas.commenting.Rows.{container_is, container_over}
-use Rattle.jsonc_edit.proofs.lemmas.remove.Containers.{held_at, Held}
+use Rattle.jsonc_edit.proofs.lemmas.remove.Containers.{held_at}
 
 -- past whitespace and comments a comma comes, among nodes and in a row
 abbrev pub comma_among : List Node → List ℕ → Bool

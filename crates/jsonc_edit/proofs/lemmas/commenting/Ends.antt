@@ -16,7 +16,7 @@ use Rattle.jsonc_tree.specs.declared.node.CstNewlineKind.{CstNewlineKind}
 use Rattle.jsonc_tree.specs.declared.node.CstNewlineKind.TheVariants.{LineFeed, CarriageReturnLineFeed, CarriageReturn}
 use Rattle.jsonc_tree.proofs.OrderedTrees.{leaves-followed_by}
 use Rattle.jsonc_tree.proofs.Rows.{Shows-part}
-use Rattle.jsonc_layout.specs.nodes.Kinds.{is_newline, is_newline_at, is_whitespace, is_whitespace_at}
+use Rattle.jsonc_layout.specs.nodes.Kinds.{is_newline_at, is_whitespace, is_whitespace_at}
 use Rattle.jsonc_layout.specs.nodes.Siblings.{is_no_newline_at}
 use Rattle.jsonc_sound.specs.Adjacent.{first_char, follower, last_printed, or_else, LastEnds, LeavesEnd, MayEndBefore}
 use Rattle.jsonc_sound.proofs.Comments.{kind_moved}
@@ -25,6 +25,7 @@ use Rattle.jsonc_sound.proofs.Spaced.{space_first}
 use Rattle.jsonc_sound.proofs.Spaces.{Ends, last_append, last_of, own_last, serves_unless}
 use Rattle.jsonc_edit.specs.Put.{a_space}
 use Rattle.jsonc_edit.proofs.Printing.{unkept_prints}
+use Rattle.jsonc_edit.proofs.LeafKinds.{newline_is}
 
 -- what ends each literal and each word ends what ended before something
 word_or_not : (o : Options) (x : Option Content) (n m : Option ℕ) → Ends m → EndsWord m → MayEndBefore o x n → MayEndBefore o x m
@@ -68,11 +69,6 @@ calm_behind o front row m h =
 
 pub none_last : (o : Options) (row : List Content) (m : Option ℕ) → last_printed row ≡ None → LastEnds o row m
 none_last o row m e = subst (λ x. MayEndBefore o x m) (sym e) tt
-
--- a newline, or whitespace, is a leaf
-leaf_kind : (content : Content) → is_newline content ≡ true → (k : CstNewlineKind) × (content ≡ newline k)
-leaf_kind (Content.newline k) h = (k, refl)
-leaf_kind content h = cc
 
 blank_kind : (content : Content) → is_whitespace content ≡ true → (s : List ℕ) × (content ≡ whitespace s)
 blank_kind (Content.whitespace s) h = (s, refl)
@@ -121,7 +117,7 @@ module _ (ns : List Node) (tree : IsTree ns) where
       nothing shows_none = refl
   quiet (x ∷ rest) h f shown =
       elim (cases_Bool (is_newline_at ns x)) [
-        | inl line ↦ a_line (leaf_kind (content_at ns x) line)
+        | inl line ↦ a_line (newline_is (content_at ns x) line)
         | inr other ↦ no_line (both other) (λ h. quiet rest h (parts x rest f shown).0 (parts x rest f shown).3)
       ]
     where

@@ -1,5 +1,5 @@
 -- Line comments of a row into which leaves come.
-use Rattle.std.proofs.Common.{◌≡◌, ◌∙◌, ℕ, Bool, true, false, ◌&&◌, List, [], ◌∷◌, IsTrue, refl, sym, subst}
+use Rattle.std.proofs.Common.{◌≡◌, ◌∙◌, ℕ, Bool, true, false, List, [], ◌∷◌, IsTrue, refl, sym, subst}
 use Rattle.jsonc_tree.specs.Content.{Content, comment}
 use Rattle.jsonc_tree.specs.OrderedTree.{OrderedTree, none, more, followed_by}
 use Rattle.jsonc_tree.specs.declared.node.CstNewlineKind.{CstNewlineKind}
@@ -7,12 +7,10 @@ use Rattle.jsonc_layout.specs.nodes.Kinds.{is_whitespace}
 use Rattle.jsonc_sound.specs.Lines.{is_line_comment, ends_loosely, LinesEndLoosely}
 use Rattle.jsonc_sound.specs.TriviaChanges.{leaves_then}
 use Rattle.jsonc_sound.proofs.LooseChanges.{joined_loosely, parted_loosely}
+use Rattle.jsonc_sound.proofs.LinesLeft.{lines_more}
 use Rattle.jsonc_edit.specs.commenting.Above.{new_line, own_line}
 use Rattle.jsonc_edit.specs.Put.{a_space}
-
-both : (a b c : Bool) → (IsTrue b → IsTrue c) → IsTrue (a && b) → IsTrue (a && c)
-both true b c f h = f h
-both false b c f h = h
+use Rattle.jsonc_edit.proofs.lemmas.remove.PartedTrivia.{both}
 
 -- what ends a line before no end ends it before any
 end_any : (loose b : Bool) (row : OrderedTree) → IsTrue (ends_loosely loose false row) → IsTrue (ends_loosely loose b row)
@@ -20,10 +18,6 @@ end_any loose b none h = cc
 end_any loose b (more (Content.newline k) below after) h = refl
 end_any loose b (more (Content.whitespace s) below after) h = both loose (ends_loosely loose false after) (ends_loosely loose b after) (end_any loose b after) h
 end_any loose b (more content below after) h = cc
-
-lines_any : (loose b : Bool) (row : OrderedTree) → LinesEndLoosely loose false row → LinesEndLoosely loose b row
-lines_any loose b none l = tt
-lines_any loose b (more content below after) l = (λ h. end_any loose b after (l.0 h), l.1, lines_any loose b after l.2)
 
 pub never : (b : Bool) → (IsTrue b → ⊥) → b ≡ false
 never true f = absurd (f refl)
@@ -34,7 +28,7 @@ pub lines_before : (loose at_end : Bool) (front back now : OrderedTree) → ends
     → LinesEndLoosely loose at_end (followed_by front back) → LinesEndLoosely loose at_end (followed_by front now)
 lines_before loose at_end front back now none_ends k l =
     let parts = parted_loosely loose at_end front back l in
-    joined_loosely loose at_end front now (lines_any loose (ends_loosely loose at_end now) front (subst (λ b. LinesEndLoosely loose b front) none_ends parts.0)) (k parts.1)
+    joined_loosely loose at_end front now (lines_more loose (ends_loosely loose at_end now) front (subst (λ b. LinesEndLoosely loose b front) none_ends parts.0)) (k parts.1)
 
 -- each node of the row is whitespace
 abbrev pub AllBlank : OrderedTree → Type 0

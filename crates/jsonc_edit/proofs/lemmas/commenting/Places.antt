@@ -32,9 +32,9 @@ use Rattle.jsonc_edit.proofs.ChangesUpward.{Shows-row_below}
 use Rattle.jsonc_edit.proofs.InsertedSpaces.{first_of}
 use Rattle.jsonc_edit.proofs.RowEnds.{before_is, previous_at}
 use Rattle.jsonc_edit.proofs.lemmas.commenting.Above.{is_blank_text}
-use Rattle.jsonc_edit.proofs.lemmas.commenting.Behind.{comma_kind}
 use Rattle.jsonc_edit.proofs.lemmas.commenting.Commas.{comma_among, comma_none, comma_other}
 use Rattle.jsonc_edit.proofs.lemmas.commenting.Blanks.{follows_blanks, follows_itself, BlankNodes, Follows}
+use Rattle.jsonc_edit.proofs.LeafKinds.{comma_is}
 
 module _ (ns : List Node) (tree : IsTree ns) where
   bare_leaf : (m : ℕ) (below : OrderedTree) → is_container (content_at ns m) ≡ false → Shows ns (children_at ns m) below → below ≡ none
@@ -259,7 +259,7 @@ module _ (ns : List Node) (tree : IsTree ns) where
       trails_comma : (l : ℕ) → Follows ns c m l → Trails l
       trails_comma l f = record {
         between = r.inline ++ m ∷ f.blanks;
-        trail = nodes_past_comma r.inline f.blanks m r.all (comma_kind (content_at ns m) comma) (blanks_inline f.blanks f.all);
+        trail = nodes_past_comma r.inline f.blanks m r.all (comma_is (content_at ns m) comma) (blanks_inline f.blanks f.all);
         ahead = f.ahead ∙ ap (λ (l : List ℕ). l ++ (m ∷ f.blanks)) ahead_m ∙ append_assoc (take p children) (n ∷ r.inline) (m ∷ f.blanks);
       }
 

@@ -1,13 +1,12 @@
 -- Leaves alone have been planned: they may come into a row, and where.
-use Rattle.std.proofs.Common.{◌≡◌, ◌∙◌, ℕ, suc, ◌+◌, ◌<◌, ◌≤◌, Bool, true, false, cond, inl, inr, List, [], length, map, slice_index, Option, Some, None, option_and_then, Result, Ok, Err, OnErr, OnOk, refl, sym, ap, subst, arith}
-use Rattle.std.proofs.lemmas.Option.{slice_get-get_or}
+use Rattle.std.proofs.Common.{◌≡◌, ◌∙◌, ℕ, ◌+◌, ◌<◌, ◌≤◌, Bool, true, false, cond, inl, inr, List, [], length, map, slice_index, Option, Some, None, option_and_then, Result, Ok, Err, OnErr, OnOk, refl, sym, ap, subst, arith}
 use Rattle.jsonc_tree.specs.Building.{Keeps}
 use Rattle.jsonc_tree.specs.Changes.{CanJoin, Splices}
 use Rattle.jsonc_tree.specs.Content.{Content}
 use Rattle.jsonc_tree.specs.OrderedTree.{ordered_tree}
 use Rattle.jsonc_tree.proofs.Order.{parent_there}
-use Rattle.jsonc_tree.specs.Siblings.{before, first, siblings_after, siblings_before, IsGap}
-use Rattle.jsonc_tree.specs.Tree.{Node, children_at, parent_at, place_at, IsTree}
+use Rattle.jsonc_tree.specs.Siblings.{first, siblings_after, siblings_before}
+use Rattle.jsonc_tree.specs.Tree.{Node, parent_at, place_at, IsTree}
 use Rattle.jsonc_tree.specs.declared.node.CstNewlineKind.{CstNewlineKind}
 use Rattle.jsonc_layout.specs.nodes.Kinds.{is_whitespace_at}
 use Rattle.jsonc_layout.specs.lines.Kinds.{blank_at}
@@ -19,7 +18,7 @@ use Rattle.jsonc_edit.specs.multiline.Plans.{IsFrom, Planned, Gains}
 use Rattle.jsonc_edit.specs.multiline.Slots.{comes}
 use Rattle.jsonc_edit.proofs.Elements.{Some_same}
 use Rattle.jsonc_edit.proofs.NodesKept.{over_no_old, place_kept, tree_stays}
-use Rattle.jsonc_edit.proofs.RowEnds.{before_is, next_at, previous_at}
+use Rattle.jsonc_edit.proofs.RowEnds.{before_is, previous_at}
 use Rattle.jsonc_edit.proofs.lemmas.multiline.Planning.{planned_none}
 use Rattle.jsonc_edit.proofs.lemmas.remove.SiblingSteps.{after_none, after_step}
 
@@ -116,18 +115,6 @@ comes_behind old new c n m text said is (Ok x) h = λ d told.
     let same : d ≡ c = Some_same d c (sym told ∙ said) in
     subst (λ k. LeavesCome old new k (place_at old (comment_follows old n text) + 1) (spaced text)) (sym same) (subst (λ k. LeavesCome old new c (place_at old k + 1) (spaced text)) is h)
 comes_behind old new c n m text said is (Err e) h = tt
-
--- directly behind a node there is a gap
-pub gap_behind : (ns : List Node) → IsTree ns → (n c : ℕ) (o : Option ℕ) → parent_at ns n ≡ Some c → o ≡ first (siblings_after ns n) → IsGap ns c (place_at ns n + 1) (Some n) o
-gap_behind ns tree n c o said e =
-    let row : List ℕ = children_at ns c in
-    let place : ℕ = place_at ns n in
-    let one : suc place ≡ place + 1 = omega arith in
-    record {
-      inside = omega (arith, tree.within n c said);
-      front = sym (ap (before row) (sym one) ∙ slice_get-get_or row place 0 (tree.within n c said) ∙ ap (λ (k : ℕ). Some k) (tree.found n c said));
-      back = e ∙ next_at ns tree c n said;
-    }
 
 -- the last of the whitespace behind a node, a step
 module _ (ns : List Node) (tree : IsTree ns) (n : ℕ) where

@@ -14,8 +14,8 @@ use Rattle.jsonc_sound.specs.Rows.{RowKind, closing, opening}
 use Rattle.jsonc_sound.specs.SoundTrees.{SoundTree}
 use Rattle.jsonc_edit.specs.commenting.Laws.{IsEntry}
 use Rattle.jsonc_edit.specs.Changes.{row_below}
-use Rattle.jsonc_edit.proofs.lemmas.commas.Holders.{holder_path}
-use Rattle.jsonc_edit.proofs.lemmas.remove.Containers.{held_at, Held, Brackets, brackets}
+use Rattle.jsonc_edit.proofs.lemmas.commas.Holders.{holder_path, Held}
+use Rattle.jsonc_edit.proofs.lemmas.remove.Containers.{held_at, Brackets, brackets}
 
 -- the node is no bracket that closes a row
 abbrev pub ClosesNone : Content → Type 0

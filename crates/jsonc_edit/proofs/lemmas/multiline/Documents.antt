@@ -3,23 +3,16 @@ use Rattle.std.proofs.Common.{◌≡◌, ◌∙◌, ℕ, ◌-◌, ◌<◌, Bool,
 use Rattle.std.specs.List.{flat_map, list_any}
 use Rattle.std.proofs.lemmas.Bool.{cases_Bool}
 use Rattle.std.proofs.lemmas.List.{drop_at, take_at}
-use Rattle.std.proofs.lemmas.List.Elements.{All-from_get_or, All-head, All-nil, All-cons, All-tail}
+use Rattle.std.proofs.lemmas.List.Elements.{All-from_get_or, All-head, All-tail}
 use Rattle.std.proofs.lemmas.List.Folds.{list_any-append}
-use Rattle.std.proofs.lemmas.Str.{IsUtf8-append, chars-append}
-use Rattle.std.specs.Prelude.{chars}
 use Rattle.jsonc_text.specs.Options.{Options}
-use Rattle.jsonc_text.specs.Text.{Many}
-use Rattle.jsonc_text.proofs.CharacterSteps.{many_append}
-use Rattle.jsonc_text.proofs.UniqueWords.{many_more}
 use Rattle.jsonc_tree.specs.Content.{Content, is_container, token}
 use Rattle.jsonc_tree.specs.OrderedTree.{OrderedTree, Top, none, more, followed_by, ordered_tree, Shows, shows_none, shows_more}
 use Rattle.jsonc_tree.specs.Tree.{Node, content_at, children_at, IsTree, IsOver}
 use Rattle.jsonc_tree.proofs.OrderedTrees.{Shows-unique}
-use Rattle.jsonc_tree.proofs.Over.{over_up}
 use Rattle.jsonc_layout.specs.nodes.Kinds.{is_newline, is_newline_at}
 use Rattle.jsonc_layout.specs.lines.Indents.{indents_at}
 use Rattle.jsonc_layout.specs.lines.Kinds.{is_array_or_object}
-use Rattle.jsonc_sound.specs.Leaves.{is_inner_blank}
 use Rattle.jsonc_sound.specs.Shape.{token_then}
 use Rattle.jsonc_sound.specs.Rows.{holder, opening, closing}
 use Rattle.jsonc_sound.specs.SoundTrees.{SoundTree}
@@ -28,52 +21,29 @@ use Rattle.jsonc_edit.specs.Changes.{row_below, top_at, Respliced}
 use Rattle.jsonc_edit.specs.Paths.{IsAt}
 use Rattle.jsonc_edit.specs.Put.{Extends}
 use Rattle.jsonc_edit.specs.Writing.{IsIndent}
-use Rattle.jsonc_edit.proofs.FittingIndents.{indents_fit}
+use Rattle.jsonc_edit.proofs.FittingIndents.{indents_fit, indent_joined}
 use Rattle.jsonc_edit.proofs.FittingNodes.{over_there}
 use Rattle.jsonc_edit.proofs.NodesKept.{at_kept, row_kept, top_stays, tree_stays}
 use Rattle.jsonc_edit.proofs.Splices.{respliced_over, respliced_row}
-use Rattle.jsonc_edit.proofs.Uniqueness.{element_parent, leads_over}
+use Rattle.jsonc_edit.proofs.Uniqueness.{over_at}
 use Rattle.jsonc_edit.proofs.ChangesUpward.{ChangedIn, Shows-row_below, changed_over}
-use Rattle.jsonc_edit.proofs.lemmas.remove.Containers.{Held, held_at, Brackets, brackets}
+use Rattle.jsonc_edit.proofs.lemmas.remove.Containers.{held_at, Brackets, brackets}
 use Rattle.jsonc_edit.specs.multiline.Laws.{bracketed, SpreadAt}
 use Rattle.jsonc_edit.specs.multiline.Lines.{Lines, between, indent_if_any, lines_for, on_line, on_lines, parts, without_back, without_front}
 use Rattle.jsonc_edit.specs.multiline.Multiline.{has_line_end, TakesRow, MadeMultiline}
 use Rattle.jsonc_edit.specs.multiline.Reflows.{has_newline, Reflows, SpreadsOut, reflows}
 use Rattle.jsonc_edit.specs.multiline.Slots.{Slot, AreFilled, no_more, stayed, came, row_in}
-use Rattle.jsonc_edit.proofs.lemmas.multiline.OnLines.{standing, bare_below, standing_newline, row_newline, row_on_lines, row_reflows, AllFit, on_lines_fit}
-
--- one indent after another
-indent_joined : (s t : List ℕ) → IsIndent s → IsIndent t → IsIndent (s ++ t)
-indent_joined s t a b =
-    (IsUtf8-append s t a.0 b.0, subst (λ l. Many is_inner_blank l []) (sym (chars-append s t a.0)) (many_append (many_more a.1 (chars t)) b.1))
-
--- a node at a path is in the document
-pub over_at : (ns : List Node) → IsTree ns → (path : List ℕ) (n : ℕ) → IsAt ns path n → IsOver ns 0 n
-over_at ns tree path n (v, e, leads) = over_up ns v 0 n (element_parent ns tree 0 0 v e) (leads_over ns tree n v path leads)
-
--- all nodes of the front of a list, and of its rest
-all_front : (P : ℕ → Type 0) (xs ys : List ℕ) → All P (xs ++ ys) → All P xs
-all_front P [] ys all = All-nil P
-all_front P (x ∷ xs) ys all = All-cons P x xs (All-head P x (xs ++ ys) all) (all_front P xs ys (All-tail P x (xs ++ ys) all))
-
-all_rest : (P : ℕ → Type 0) (xs ys : List ℕ) → All P (xs ++ ys) → All P ys
-all_rest P [] ys all = all
-all_rest P (x ∷ xs) ys all = all_rest P xs ys (All-tail P x (xs ++ ys) all)
-
--- nodes stand for their row
-shows_standing : (ns : List Node) → IsTree ns → (xs : List ℕ) → All (λ n. n < length ns) xs → Shows ns xs (standing ns xs)
-shows_standing ns tree [] all = shows_none
-shows_standing ns tree (n ∷ xs) all = shows_more (Shows-row_below ns tree n (All-head (λ m. m < length ns) n xs all)) (shows_standing ns tree xs (All-tail (λ m. m < length ns) n xs all))
-
-standing_then : (ns : List Node) (xs ys : List ℕ) → standing ns (xs ++ ys) ≡ followed_by (standing ns xs) (standing ns ys)
-standing_then ns [] ys = refl
-standing_then ns (n ∷ xs) ys = ap (more (content_at ns n) (row_below ns n)) (standing_then ns xs ys)
+use Rattle.jsonc_edit.proofs.lemmas.multiline.OnLines.{bare_below, standing_newline, row_newline, row_on_lines, row_reflows, AllFit, on_lines_fit}
+use Rattle.jsonc_edit.proofs.Lists.{all_front, all_rest}
+use Rattle.jsonc_edit.proofs.lemmas.commas.Steps.{same_top}
+use Rattle.jsonc_edit.proofs.Standing.{standing, standing_then, shows_standing}
+use Rattle.jsonc_edit.proofs.lemmas.commas.Holders.{Held}
 
 -- a token stands for a leaf
-token_first : (ns : List Node) → IsTree ns → (x k : ℕ) (row : OrderedTree) → content_at ns x ≡ token k → more (content_at ns x) (row_below ns x) row ≡ token_then k row
+pub token_first : (ns : List Node) → IsTree ns → (x k : ℕ) (row : OrderedTree) → content_at ns x ≡ token k → more (content_at ns x) (row_below ns x) row ≡ token_then k row
 token_first ns tree x k row e = ap (λ w. more w (row_below ns x) row) e ∙ ap (λ b. more (token k) b row) (bare_below ns x (tree.leaf x (ap is_container e)))
 
-token_shown : (ns : List Node) → IsTree ns → (x k : ℕ) → content_at ns x ≡ token k → Shows ns (x ∷ []) (token_then k none)
+pub token_shown : (ns : List Node) → IsTree ns → (x k : ℕ) → content_at ns x ≡ token k → Shows ns (x ∷ []) (token_then k none)
 token_shown ns tree x k e = subst (λ (w : Content). Shows ns (x ∷ []) (more w none none)) e (shows_more (subst (λ (l : List ℕ). Shows ns l none) (sym (tree.leaf x (ap is_container e))) shows_none) shows_none)
 
 -- the nodes that fill places stand for the row of these
@@ -87,27 +57,24 @@ filled_shown old ready tree p (came {n = n} {content = content} {slots = slots} 
     subst (λ (w : Content). Shows ready (n ∷ row) (more w none (row_in old slots))) is (shows_more (subst (λ (l : List ℕ). Shows ready l none) (sym bare) shows_none) (filled_shown old ready tree p rest h.1))
 
 -- what stands between the first and the last
-between_is : (x y : ℕ) (inner : List ℕ) → between (x ∷ (inner ++ y ∷ [])) ≡ inner
+pub between_is : (x y : ℕ) (inner : List ℕ) → between (x ∷ (inner ++ y ∷ [])) ≡ inner
 between_is x y inner = take_at inner (y ∷ []) (length (x ∷ (inner ++ y ∷ [])) - 1 - 1) (omega (arith, length-append inner (y ∷ [])))
 
-last_is : (x y count : ℕ) (inner : List ℕ) → count ≡ length (x ∷ (inner ++ y ∷ [])) - 1 → drop count (x ∷ (inner ++ y ∷ [])) ≡ y ∷ []
+pub last_is : (x y count : ℕ) (inner : List ℕ) → count ≡ length (x ∷ (inner ++ y ∷ [])) - 1 → drop count (x ∷ (inner ++ y ∷ [])) ≡ y ∷ []
 last_is x y count inner e = drop_at (x ∷ inner) (y ∷ []) count (omega (arith, e, length-append inner (y ∷ [])))
 
-or_nothing : (a b : Bool) → b ≡ false → (a || (b || false)) ≡ a
+pub or_nothing : (a b : Bool) → b ≡ false → (a || (b || false)) ≡ a
 or_nothing true b e = refl
 or_nothing false b e = ap (λ c. c || false) e
 
 -- no bracket is the end of a line
-inner_ends : (ns : List Node) (x y j k : ℕ) (inner : List ℕ) → content_at ns x ≡ token j → content_at ns y ≡ token k → list_any (is_newline_at ns) (x ∷ (inner ++ y ∷ [])) ≡ list_any (is_newline_at ns) inner
+pub inner_ends : (ns : List Node) (x y j k : ℕ) (inner : List ℕ) → content_at ns x ≡ token j → content_at ns y ≡ token k → list_any (is_newline_at ns) (x ∷ (inner ++ y ∷ [])) ≡ list_any (is_newline_at ns) inner
 inner_ends ns x y j k inner e f =
     let p : ℕ → Bool = is_newline_at ns in
     ap (λ b. b || list_any p (inner ++ y ∷ [])) (ap is_newline e) ∙ list_any-append p inner (y ∷ []) ∙ or_nothing (list_any p inner) (p y) (ap is_newline f)
 
 abbrev top_of : Content → OrderedTree → Top
 top_of content below = record { content = content; below = below }
-
-same_top : (a b : Content) (x y : OrderedTree) → a ≡ b → x ≡ y → top_of a x ≡ top_of b y
-same_top a b x y e f = ap (λ w. top_of w x) e ∙ ap (top_of b) f
 
 module _ (o : Options) (old new : List Node) (path : List ℕ) (c : ℕ) (tree : IsTree old) (after : IsTree new) (sound : SoundTree o (ordered_tree old 0)) (at : IsAt old path c) (holds : IsTrue (is_array_or_object (content_at old c))) where
   over : IsOver old 0 c

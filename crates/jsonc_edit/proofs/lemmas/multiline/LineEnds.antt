@@ -5,6 +5,7 @@ use Rattle.std.proofs.lemmas.Bool.{cases_Bool}
 use Rattle.std.proofs.lemmas.List.{reverse-append}
 use Rattle.std.proofs.lemmas.List.Folds.{list_any-append}
 use Rattle.jsonc_text.specs.Options.{Options}
+use Rattle.jsonc_text.proofs.Basics.{or_right}
 use Rattle.jsonc_tree.specs.Content.{newline}
 use Rattle.jsonc_tree.specs.Siblings.{first}
 use Rattle.jsonc_tree.specs.Tree.{Node, content_at, children_at}
@@ -17,8 +18,7 @@ use Rattle.jsonc_edit.specs.multiline.Multiline.{has_line_end, TakesRow}
 use Rattle.jsonc_edit.specs.multiline.Slots.{Slot, stays, comes, AreFilled, stayed, came}
 use Rattle.jsonc_edit.proofs.FittingNodes.{over_there}
 use Rattle.jsonc_edit.proofs.lemmas.remove.Containers.{brackets, held_at}
-use Rattle.jsonc_edit.proofs.lemmas.multiline.Documents.{over_at}
-use Rattle.jsonc_edit.proofs.lemmas.multiline.OnLines.{or_right}
+use Rattle.jsonc_edit.proofs.Uniqueness.{over_at}
 
 or_left : (a b : Bool) → a ≡ true → IsTrue (a || b)
 or_left a b e = ap (λ x. x || b) e
@@ -55,7 +55,7 @@ module _ (old new : List Node) (c : ℕ) where
 pub stays_spread : (old now new : List Node) (c : ℕ) → StaysSpread old now new c
 stays_spread old now new c tree made again = again.was (has_end old now c tree made)
 
-two_there : (x y : ℕ) (inner : List ℕ) → has_two (x ∷ (inner ++ y ∷ [])) ≡ true
+pub two_there : (x y : ℕ) (inner : List ℕ) → has_two (x ∷ (inner ++ y ∷ [])) ≡ true
 two_there x y [] = refl
 two_there x y (m ∷ inner) = refl
 

@@ -1,9 +1,9 @@
 -- A row on several lines is the row, in which ends of lines have come and whitespace has left.
-use Rattle.std.proofs.Common.{◌≡◌, ◌∙◌, ℕ, zero, suc, ◌+◌, ◌-◌, ◌<◌, ◌≤◌, Bool, true, false, ◌&&◌, ◌||◌, List, [], ◌∷◌, ◌++◌, All, length, take, drop, reverse, slice_index, IsTrue, refl, sym, ap, subst, arith, length-drop, get_or-drop}
+use Rattle.std.proofs.Common.{◌≡◌, ◌∙◌, ℕ, zero, suc, ◌+◌, ◌-◌, ◌<◌, Bool, true, false, ◌&&◌, ◌||◌, List, [], ◌∷◌, ◌++◌, All, length, take, drop, IsTrue, refl, sym, ap, subst, arith, length-drop, get_or-drop}
 use Rattle.std.specs.List.{flat_map, list_any, suffix_len}
-use Rattle.std.proofs.lemmas.List.{get_or-reverse, take-append-drop}
+use Rattle.std.proofs.lemmas.List.{take-append-drop}
 use Rattle.std.proofs.lemmas.List.Elements.{All-from_get_or, All-head, All-tail, All-take}
-use Rattle.std.proofs.lemmas.List.Sums.{prefix_len_passes, suffix_len-le-length}
+use Rattle.jsonc_text.proofs.Basics.{or_right}
 use Rattle.jsonc_tree.specs.Content.{Content, is_container, newline}
 use Rattle.jsonc_tree.specs.OrderedTree.{OrderedTree, none, more, grown, plant}
 use Rattle.jsonc_tree.specs.Tree.{Node, content_at, children_at, IsTree}
@@ -16,11 +16,9 @@ use Rattle.jsonc_edit.specs.multiline.Lines.{Lines, last_line, indent_if_any, on
 use Rattle.jsonc_edit.specs.multiline.Plans.{child_slots, begins_behind}
 use Rattle.jsonc_edit.specs.multiline.Reflows.{starts_line, has_newline, parts_begin_lines, ends_with_line, is_on_lines, Reflows, ended, kept, gone, line, line_end}
 use Rattle.jsonc_edit.proofs.lemmas.multiline.RowByNode.{woven, both_woven}
-
--- the row of trees that these nodes stand for
-abbrev pub standing : List Node → List ℕ → OrderedTree
-standing ns [] = none
-standing ns (n ∷ rest) = more (content_at ns n) (row_below ns n) (standing ns rest)
+use Rattle.jsonc_edit.proofs.LeafKinds.{blank_leaf}
+use Rattle.jsonc_edit.proofs.Lists.{suffix_passes}
+use Rattle.jsonc_edit.proofs.Standing.{standing}
 
 -- nothing is below a node without children
 pub bare_below : (ns : List Node) (n : ℕ) → children_at ns n ≡ [] → row_below ns n ≡ none
@@ -35,29 +33,13 @@ pub standing_newline : (ns : List Node) (xs : List ℕ) → has_newline (standin
 standing_newline ns [] = refl
 standing_newline ns (n ∷ xs) = ap (λ b. is_newline_at ns n || b) (standing_newline ns xs)
 
-pub or_right : (a b : Bool) → IsTrue b → IsTrue (a || b)
-or_right true b h = refl
-or_right false b h = h
-
 pub row_newline : (ns : List Node) (k : CstNewlineKind) (rest front : List Slot) → IsTrue (has_newline (row_in ns (front ++ comes (newline k) ∷ rest)))
 row_newline ns k rest [] = refl
 row_newline ns k rest (slot ∷ front) = or_right (is_newline (top_in ns slot).content) (has_newline (row_in ns (front ++ comes (newline k) ∷ rest))) (row_newline ns k rest front)
 
--- whitespace is a leaf
-blank_leaf : (content : Content) → is_whitespace content ≡ true → is_container content ≡ false
-blank_leaf (Content.whitespace s) e = refl
-blank_leaf content e = cc
-
 blank_gone : (content : Content) (below x y : OrderedTree) → is_whitespace content ≡ true → below ≡ none → IsTrue (starts_line y) → Reflows x y → Reflows (more content below x) y
 blank_gone (Content.whitespace s) below x y e f h r = subst (λ b. Reflows (more (Content.whitespace s) b x) y) (sym f) (gone h r)
 blank_gone content below x y e f h r = cc
-
--- behind what a row is without the whitespace at its end, each node is whitespace
-suffix_passes : (p : ℕ → Bool) (row : List ℕ) (i : ℕ) → length row - suffix_len p row ≤ i → i < length row → p (slice_index row i) ≡ true
-suffix_passes p row i low high =
-    let place : length row - 1 - (length row - 1 - i) ≡ i = omega (arith, high) in
-    let found = get_or-reverse row (length row - 1 - i) 0 (omega (arith, high)) ∙ ap (slice_index row) place in
-    ap p (sym found) ∙ prefix_len_passes p (reverse row) (length row - 1 - i) 0 (omega (arith, low, high, suffix_len-le-length p row))
 
 suffix_all : (p : ℕ → Bool) (row : List ℕ) → All (λ n. p n ≡ true) (drop (length row - suffix_len p row) row)
 suffix_all p row =

@@ -22,7 +22,7 @@ use Rattle.jsonc_sound.proofs.Spaces.{Ends, NoWord, last_of, serves_unless, stre
 use Rattle.jsonc_sound.proofs.ReplacedStretches.{marks_join}
 use Rattle.jsonc_edit.specs.multiline.Reflows.{starts_line, Reflows, ended, kept, gone, line, line_end}
 
-newline_ends : (k : CstNewlineKind) (n : Option ℕ) → Ends (or_else (first_char (Content.newline k)) n)
+pub newline_ends : (k : CstNewlineKind) (n : Option ℕ) → Ends (or_else (first_char (Content.newline k)) n)
 newline_ends LineFeed n = subst (λ t. Ends (or_else (next t) n)) (sym (chars-IsAscii (10 ∷ []) (search rules))) refl
 newline_ends CarriageReturnLineFeed n = subst (λ t. Ends (or_else (next t) n)) (sym (chars-IsAscii (13 ∷ 10 ∷ []) (search rules))) refl
 newline_ends CarriageReturn n = subst (λ t. Ends (or_else (next t) n)) (sym (chars-IsAscii (13 ∷ []) (search rules))) refl

@@ -7,7 +7,7 @@ use Rattle.jsonc_text.specs.Text.{next, starts}
 use Rattle.jsonc_tree.specs.Content.{Content, token}
 use Rattle.jsonc_tree.specs.OrderedTree.{OrderedTree, Top, none, more, followed_by, leaves}
 use Rattle.jsonc_tree.specs.Values as values
-use Rattle.jsonc_tree.specs.Values.{HasNoValue, DocumentValueOf}
+use Rattle.jsonc_tree.specs.Values.{DocumentValueOf}
 use Rattle.jsonc_tree.proofs.OrderedTrees.{leaves-followed_by}
 use Rattle.jsonc_layout.specs.nodes.Kinds.{is_newline, is_whitespace}
 use Rattle.jsonc_sound.specs.Lines.{LinesEndLoosely}
@@ -20,14 +20,13 @@ use Rattle.jsonc_sound.specs.Changes.{ItemChanged, MemberChanged, Changed}
 use Rattle.jsonc_sound.specs.Marks.{marks}
 use Rattle.jsonc_sound.specs.MarkChanges.{marks_under}
 use Rattle.jsonc_sound.specs.Rows as rows
-use Rattle.jsonc_sound.specs.Rows.{RowKind, closing, Last, container_of}
+use Rattle.jsonc_sound.specs.Rows.{RowKind, closing, Last}
 use Rattle.jsonc_sound.specs.Sound.{HasValue}
 use Rattle.jsonc_sound.specs.SoundTrees.{SoundTree}
 use Rattle.jsonc_sound.specs.Spaces.{is_bare_leaf, first_printed, meet}
-use Rattle.jsonc_sound.specs.TreeChanges.{ElementChanged, DocumentChanged, in_root}
+use Rattle.jsonc_sound.specs.TreeChanges.{DocumentChanged}
 use Rattle.jsonc_sound.proofs.NodesAlone.{value_alone, value_leaves}
 use Rattle.jsonc_sound.proofs.AtPath.{held_at_path}
-use Rattle.jsonc_sound.proofs.FirstNodes.{here, over, beyond, meets_first, none_changed, no_element}
 use Rattle.jsonc_sound.proofs.ReplacedStretches.{values_marks}
 use Rattle.jsonc_sound.proofs.HeldValues.{document_held}
 use Rattle.jsonc_sound.proofs.Leaves.{parted_leaves, last_serves}
@@ -43,6 +42,8 @@ use Rattle.jsonc_edit.proofs.OneValue.{document_once}
 use Rattle.jsonc_edit.specs.multiline.Laws.{bracketed, solid_nodes, SpreadAt, SaysTheSame, KeepsDocument, KeepsLeavesOutside, KeepsNodesInside}
 use Rattle.jsonc_edit.specs.multiline.Reflows.{starts_line, Reflows, ended, kept, gone, line, line_end, SpreadsOut, stays, reflows}
 use Rattle.jsonc_edit.proofs.lemmas.multiline.Reflow.{items_reflow, members_reflow, marks_reflow, lines_reflow, stretch_reflow, leaves_reflow}
+use Rattle.jsonc_edit.proofs.SoundValues.{some_value}
+use Rattle.jsonc_edit.proofs.lemmas.commas.Steps.{under_bracket}
 
 -- what stands behind both rows
 starts_then : (y z : OrderedTree) → IsTrue (starts_line y) → IsTrue (starts_line (followed_by y z))
@@ -50,7 +51,7 @@ starts_then (more (Content.newline k) below after) z h = refl
 starts_then (more content below after) z h = cc
 starts_then none z h = cc
 
-reflows_same : (z : OrderedTree) → Reflows z z
+pub reflows_same : (z : OrderedTree) → Reflows z z
 reflows_same none = ended
 reflows_same (more content below after) = kept (reflows_same after)
 
@@ -62,7 +63,7 @@ reflows_then z (line t r) = line t (reflows_then z r)
 reflows_then z (line_end r) = line_end (reflows_then z r)
 
 -- a row that has been spread out has reflowed, or stayed
-all_reflows : {x y : OrderedTree} → SpreadsOut x y → Reflows x y
+pub all_reflows : {x y : OrderedTree} → SpreadsOut x y → Reflows x y
 all_reflows (stays {row = row} h) = reflows_same row
 all_reflows (reflows h k r) = r
 
@@ -80,19 +81,6 @@ value_same changes.itself = refl
 value_same (changes.in_array {i = i} {y = y} {vs = vs} {ws = ws} e k) = ap Plain.array (item_same (subst (λ z. ItemChanged z y i vs ws) (value_same k) e))
 value_same (changes.in_object {i = i} {y = y} {ms = ms} {ns = ns} e k) = ap Plain.object (member_same (subst (λ z. MemberChanged z y i ms ns) (value_same k) e))
 
--- a document of which a value has changed has one
-no_value_there : {x y : Top} {row new : OrderedTree} {i : ℕ} → HasNoValue row → ElementChanged x y i row new → ⊥
-no_value_there values.end e = none_changed e
-no_value_there (values.pass {content = content} h g) e =
-    elim (meets_first e) [
-      | here a p b q f ↦ no_element content q h
-      | over q k f ↦ no_value_there g k
-      | beyond a q k f ↦ no_element content q h
-    ]
-
-pub some_value : (o : Options) {was now : Top} {path : List ℕ} {t u : OrderedTree} → DocumentChanged was now path t u → DocumentValueOf o t None → ⊥
-some_value o (in_root {row = row} e k) (below, same, h) = let first : below ≡ row = cc in no_value_there (subst HasNoValue first h) e
-
 -- no bracket is a literal
 pub no_bracket : (new : OrderedTree) (c : ℕ) → meet (leaves new) (leaves (token_then c none)) ≡ false
 no_bracket new c = both_false (is_bare_leaf (last_printed (leaves new))) (is_bare_leaf (first_printed (leaves (token_then c none)))) (by (starts (λ b. true) (first_char (token c))))
@@ -108,10 +96,6 @@ no_bracket new c = both_false (is_bare_leaf (last_printed (leaves new))) (is_bar
 -- a stretch that ends before something ends before the end
 stretch_last : (o : Options) (kind : RowKind) {last to : Last} {s : OrderedTree} (n : Option ℕ) → StretchAlone o kind last s to → LeavesEnd o (leaves s) n → LeavesEnd o (leaves s) None
 stretch_last o kind {s = s} n g h = last_serves o (leaves s) n None h (serves_unless o (last_printed (leaves s)) n None (stretch_no_word o g) (λ b. refl) (last_of o (leaves s) n h))
-
-bracket_marks : (kind : RowKind) (row : OrderedTree) → marks_under (container_of kind row) ≡ marks row
-bracket_marks rows.of_values row = refl
-bracket_marks rows.of_properties row = refl
 
 module _ (o : Options) (kind : RowKind) (row new : OrderedTree) (r : Reflows row new) where
   abbrev bracket : OrderedTree
@@ -138,7 +122,7 @@ module _ (o : Options) (kind : RowKind) (row new : OrderedTree) (r : Reflows row
     same_marks : marks u ≡ marks t
     same_marks =
         let d = values_marks t (bracketed kind row) (bracketed kind new) path u changed in
-        let same : marks_under (bracketed kind new) ≡ marks_under (bracketed kind row) = bracket_marks kind (followed_by new bracket) ∙ marks_reflow o (reflows_then bracket r) ∙ sym (bracket_marks kind (followed_by row bracket)) in
+        let same : marks_under (bracketed kind new) ≡ marks_under (bracketed kind row) = under_bracket kind (followed_by new bracket) ∙ marks_reflow o (reflows_then bracket r) ∙ sym (under_bracket kind (followed_by row bracket)) in
         d.after ∙ ap (λ ms. d.front ++ (ms ++ d.back)) same ∙ sym d.before
 
     sound_still : SoundTree o t → SoundTree o u
@@ -175,7 +159,7 @@ pub keeps_outside : {path : List ℕ} {t u : OrderedTree} (s : SpreadAt path t u
 keeps_outside s = document_differs s.changed
 
 -- the nodes inside but for whitespace and ends of lines
-solid_reflow : {x y : OrderedTree} → Reflows x y → solid_nodes y ≡ solid_nodes x
+pub solid_reflow : {x y : OrderedTree} → Reflows x y → solid_nodes y ≡ solid_nodes x
 solid_reflow ended = refl
 solid_reflow (kept {content = content} {below = below} r) = ap (λ (l : List Top). if is_whitespace content || is_newline content then l else (record { content = content; below = below }) ∷ l) (solid_reflow r)
 solid_reflow (gone h r) = solid_reflow r

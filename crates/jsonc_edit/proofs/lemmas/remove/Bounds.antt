@@ -11,9 +11,7 @@ use Rattle.jsonc_tree.specs.Tree.{Node, content_at, parent_at, children_at, plac
 use Rattle.jsonc_layout.specs.nodes.Kinds.{is_inline_trivia, is_inline_trivia_at, is_newline_at, is_comma_at, is_comma}
 use Rattle.jsonc_layout.specs.lines.Siblings.{is_no_trivia_at, if_comma, after_trivia_at, trailing_comma_at}
 use Rattle.jsonc_edit.specs.remove.Leaving.{comma_before, comma_gone, comma_unless, ends_line_at, first_gone, last_gone, last_past, line_end, line_end_at, outermost, trails}
-
-pub Some_same : (m n : ℕ) → Some m ≡ Some n → m ≡ n
-Some_same m n e = cc
+use Rattle.jsonc_edit.proofs.Elements.{Some_same}
 
 -- what holds of each of these nodes holds of those that are picked from them
 module _ (P : ℕ → Type 0) where

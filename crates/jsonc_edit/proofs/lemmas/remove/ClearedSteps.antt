@@ -1,6 +1,6 @@
 -- One comment leaves behind an element that has been taken out, or blanks do: what becomes of a sound document.
 use Rattle.std.proofs.Common.{◌≡◌, ◌≢◌, ℕ, zero, suc, ◌+◌, ◌-◌, ◌<◌, ◌≤◌, ◌||◌, Bool, true, false, List, [], ◌∷◌, ◌++◌, length, map, take, drop, slice_index, Option, Some, None, IsTrue, inl, inr, refl, sym, ap, subst, ◌∙◌, arith, length-take, get_or-take, length-drop, get_or-drop, length-append}
-use Rattle.std.proofs.lemmas.Bool.{cases_Bool, cases_lt}
+use Rattle.std.proofs.lemmas.Bool.{cases_lt}
 use Rattle.std.proofs.lemmas.List.{append_assoc, drop_more, map-append, take_more, take-append-drop, take-take}
 use Rattle.jsonc_text.specs.Options.{Options}
 use Rattle.jsonc_tree.specs.Changes.{Splices}
@@ -9,12 +9,13 @@ use Rattle.jsonc_tree.specs.OrderedTree.{leaves, ordered_tree}
 use Rattle.jsonc_tree.specs.Tree.{Node, content_at, children_at, parent_at, place_at, IsOver, IsTree}
 use Rattle.jsonc_tree.proofs.Order.{not_over_parent, parent_there}
 use Rattle.jsonc_tree.proofs.Over.{over_up}
-use Rattle.jsonc_layout.specs.nodes.Kinds.{is_blank_at, is_comment, is_comment_at, is_newline, is_newline_at, is_trivia, is_whitespace, is_whitespace_at}
+use Rattle.jsonc_layout.specs.nodes.Kinds.{is_blank_at, is_comment, is_comment_at, is_newline, is_newline_at, is_trivia, is_whitespace}
 use Rattle.jsonc_sound.specs.ChangeLaws.{DiffersIn}
 use Rattle.jsonc_sound.specs.MarkChanges.{AreBlanks}
 use Rattle.jsonc_sound.specs.SoundTrees.{SoundTree}
 use Rattle.jsonc_sound.specs.TriviaChanges.{AreTrivia}
-use Rattle.jsonc_edit.specs.Comments.{blanks_from, leaves_gone, space_needed_without, CommentRemoved, CommentTaken, IsRemoved, TakesOut}
+use Rattle.jsonc_sound.proofs.Entries.{blanks_trivia}
+use Rattle.jsonc_edit.specs.Comments.{leaves_gone, space_needed_without, CommentRemoved, CommentTaken, IsRemoved, TakesOut}
 use Rattle.jsonc_edit.specs.Due.{listed}
 use Rattle.jsonc_edit.specs.Put.{AreSpaced}
 use Rattle.jsonc_edit.specs.remove.Comments.{begins_line, blanks_at, line_behind, or_itself, ClearedBy, IsCleared}
@@ -26,6 +27,8 @@ use Rattle.jsonc_edit.proofs.TakingOut.{taken_value}
 use Rattle.jsonc_edit.proofs.lemmas.remove.ClearedComments.{line_of, line_place, LineThere}
 use Rattle.jsonc_edit.proofs.lemmas.remove.ClearedStretches.{left_sound, LeftSound}
 use Rattle.jsonc_edit.proofs.lemmas.remove.PartedTrivia.{newline_parts}
+use Rattle.jsonc_edit.proofs.LeafKinds.{comment_trivia}
+use Rattle.jsonc_edit.proofs.BlanksBefore.{blanks_low, blanks_are}
 
 -- what has become of a sound document that one comment has left, with blanks beside it
 pub record OneGone (o : Options) (old new : List Node) (content : Content) : Type 0 where
@@ -66,43 +69,13 @@ blank_trivia (Content.whitespace s) h = refl
 blank_trivia (Content.newline k) h = refl
 blank_trivia c h = cc
 
-comment_trivia : (c : Content) → IsTrue (is_comment c) → IsTrue (is_trivia c)
-comment_trivia (Content.comment s) h = refl
-comment_trivia c h = cc
-
 newline_leaf : (c : Content) → is_newline c ≡ true → is_container c ≡ false
 newline_leaf (Content.newline k) h = refl
 newline_leaf c h = cc
 
-pub blanks_trivia : (xs : List Content) → AreBlanks xs → AreTrivia xs
-blanks_trivia [] h = tt
-blanks_trivia (c ∷ xs) h = (blank_trivia c h.0, blanks_trivia xs h.1)
-
 among_trivia : (before behind : List Content) (c : Content) → AreBlanks before → IsTrue (is_comment c) → AreBlanks behind → AreTrivia (before ++ c ∷ behind)
 among_trivia [] behind c h k g = (comment_trivia c k, blanks_trivia behind g)
 among_trivia (b ∷ before) behind c h k g = (blank_trivia b h.0, among_trivia before behind c h.1 k g)
-
--- the whitespace directly before a place
-blanks_low : (ns : List Node) (row : List ℕ) (place : ℕ) → blanks_from ns row place ≤ place
-blanks_low ns row zero = omega arith
-blanks_low ns row (suc place) =
-    elim (cases_Bool (is_whitespace_at ns (slice_index row place))) [
-      | inl h ↦ (let e : blanks_from ns row (suc place) ≡ blanks_from ns row place = rw h refl in omega (arith, e, blanks_low ns row place))
-      | inr h ↦ (let e : blanks_from ns row (suc place) ≡ suc place = rw h refl in omega (arith, e))
-    ]
-
-blanks_are : (ns : List Node) (row : List ℕ) (place at : ℕ) → blanks_from ns row place ≤ at → at < place → is_whitespace_at ns (slice_index row at) ≡ true
-blanks_are ns row zero at a b = absurd (omega (arith, b))
-blanks_are ns row (suc place) at a b =
-    elim (cases_Bool (is_whitespace_at ns (slice_index row place))) [
-      | inr h ↦ (let e : blanks_from ns row (suc place) ≡ suc place = rw h refl in absurd (omega (arith, e, a, b)))
-      | inl h ↦
-          let e : blanks_from ns row (suc place) ≡ blanks_from ns row place = rw h refl in
-          elim (cases_lt at place) [
-            | inl l ↦ blanks_are ns row place at (omega (arith, e, a)) l
-            | inr m ↦ (let same : place ≡ at = omega (arith, m, b) in subst (λ k. is_whitespace_at ns (slice_index row k) ≡ true) same h)
-          ]
-    ]
 
 -- a newline is directly before a place
 record Newline (ns : List Node) (row : List ℕ) (place : ℕ) : Type 0 where

@@ -1,9 +1,9 @@
 -- Trivia of a container leaves directly behind a newline or a token: what becomes of the document.
-use Rattle.std.proofs.Common.{◌≡◌, ◌≢◌, ℕ, suc, ◌+◌, ◌<◌, false, List, [], ◌∷◌, ◌++◌, length, map, take, drop, Option, refl, sym, ap, subst, ◌∙◌, arith}
+use Rattle.std.proofs.Common.{◌≡◌, ◌≢◌, ℕ, suc, ◌+◌, ◌<◌, false, List, [], ◌∷◌, ◌++◌, length, map, take, drop, Option, refl, sym, ap, subst, ◌∙◌}
 use Rattle.std.proofs.Math.Seq.{drop-append-add, drop-append_seam, take-append-add}
 use Rattle.jsonc_text.specs.Options.{Options}
 use Rattle.jsonc_text.specs.Plain.{Plain}
-use Rattle.jsonc_tree.specs.Changes.{CanJoin, Splices}
+use Rattle.jsonc_tree.specs.Changes.{Splices}
 use Rattle.jsonc_tree.specs.Content.{Content, is_container}
 use Rattle.jsonc_tree.specs.OrderedTree as ordered
 use Rattle.jsonc_tree.specs.OrderedTree.{OrderedTree, none, more, leaves, followed_by, ordered_tree, Replaced, Shows, shows_none, shows_more}
@@ -11,6 +11,7 @@ use Rattle.jsonc_tree.specs.Tree.{Node, content_at, children_at, IsOver, IsTree}
 use Rattle.jsonc_tree.specs.Values.{DocumentValueOf}
 use Rattle.jsonc_tree.proofs.Rows.{followed_by-assoc, Shows-append, Shows-part}
 use Rattle.jsonc_tree.proofs.SplicedTrees.{Replaced-splice, Shows-spliced}
+use Rattle.jsonc_tree.proofs.Moves.{CanJoin-none}
 use Rattle.jsonc_sound.specs.ChangeLaws.{DiffersIn}
 use Rattle.jsonc_sound.specs.SoundTrees.{SoundTree}
 use Rattle.jsonc_sound.specs.TriviaChanges.{AreTrivia, leaves_then}
@@ -18,15 +19,6 @@ use Rattle.jsonc_edit.specs.Changes.{row_below}
 use Rattle.jsonc_edit.proofs.ChangesUpward.{Shows-row_below}
 use Rattle.jsonc_edit.proofs.lemmas.remove.PartedTrivia.{Parts, sound_still, trivia_gone, value_still}
 use Rattle.jsonc_edit.proofs.lemmas.remove.Trees.{leaves_shown, trivia_leaves}
-
-nothing_joins : (ns : List Node) (c i j : ℕ) → CanJoin ns c i j []
-nothing_joins ns c i j = record {
-  in_tree = λ k h. absurd (omega (arith, h));
-  not_root = λ k h. absurd (omega (arith, h));
-  once = λ a b h. absurd (omega (arith, h));
-  free = λ k h. absurd (omega (arith, h));
-  not_over = λ k h. absurd (omega (arith, h));
-}
 
 empty : {ns : List Node} {t : OrderedTree} → Shows ns [] t → t ≡ none
 empty shows_none = refl
@@ -100,7 +92,7 @@ module _ (o : Options) (old new : List Node) (tree : IsTree old) (after : IsTree
       new_shown : Shows new (children_at new c) (followed_by f (more content none b))
       new_shown =
           subst (Shows new (children_at new c)) (followed_by-assoc f (more content none none) b)
-          (Shows-spliced old new tree after c i j [] gone (nothing_joins old c i j) (followed_by f (more content none none)) none b first_shown shows_none (subst (λ (l : List ℕ). Shows old l b) (sym last_part) cut_here.shows_behind))
+          (Shows-spliced old new tree after c i j [] gone (CanJoin-none old c i j) (followed_by f (more content none none)) none b first_shown shows_none (subst (λ (l : List ℕ). Shows old l b) (sym last_part) cut_here.shows_behind))
 
       old_shown : Shows old (children_at old c) (followed_by f (more content none (leaves_then contents b)))
       old_shown = subst (Shows old (children_at old c)) cut_here.is (Shows-row_below old tree c there)

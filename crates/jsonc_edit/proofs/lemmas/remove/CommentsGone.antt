@@ -8,7 +8,7 @@ use Rattle.jsonc_text.specs.Options.{Options}
 use Rattle.jsonc_text.specs.Plain.{Plain}
 use Rattle.jsonc_text.specs.Grammar.{IsDocument}
 use Rattle.jsonc_tree.specs.Changes.{Splices}
-use Rattle.jsonc_tree.specs.Content.{Content, array, object, is_container}
+use Rattle.jsonc_tree.specs.Content.{Content, is_container}
 use Rattle.jsonc_tree.specs.OrderedTree.{leaves, ordered_tree}
 use Rattle.jsonc_tree.specs.Siblings.{first}
 use Rattle.jsonc_tree.specs.Tree.{Node, content_at, children_at, IsOver, IsTree}
@@ -19,19 +19,22 @@ use Rattle.jsonc_sound.specs.MarkChanges.{AreBlanks}
 use Rattle.jsonc_sound.specs.Shape.{printed_text}
 use Rattle.jsonc_sound.specs.SoundTrees.{SoundTree}
 use Rattle.jsonc_sound.proofs.ShapeValues.{document_printed}
+use Rattle.jsonc_sound.proofs.Entries.{blanks_trivia}
 use Rattle.jsonc_edit.specs.remove.CommentLaws.{AreSomeOf, ClearsComments, LoseComments, blanks_lost, comment_lost, no_more, none_lost, one_of_them, passed_over}
 use Rattle.jsonc_edit.specs.remove.Comments.{AreCleared, none_left, not_there, one_cleared}
 use Rattle.jsonc_edit.specs.remove.Leaving.{comes_to}
-use Rattle.jsonc_edit.specs.remove.Removed.{comes_to_last, hollow_from, hollow_to, is_hollow, is_hollow_as, IsClosedUp}
+use Rattle.jsonc_edit.specs.remove.Removed.{comes_to_last, hollow_from, hollow_to, is_hollow, IsClosedUp}
 use Rattle.jsonc_edit.specs.Changes.{row_below}
 use Rattle.jsonc_edit.proofs.FittingNodes.{over_there}
 use Rattle.jsonc_edit.proofs.OneValue.{document_once}
-use Rattle.jsonc_edit.proofs.lemmas.commas.Holders.{holder_path}
+use Rattle.jsonc_edit.proofs.lemmas.commas.Holders.{holder_path, Held}
 use Rattle.jsonc_edit.proofs.lemmas.remove.ClearedStretches.{left_same, left_sound, LeftSound}
-use Rattle.jsonc_edit.proofs.lemmas.remove.ClearedSteps.{blanks_trivia, has_left, has_stayed, outcome, over_kept, Outcome}
-use Rattle.jsonc_edit.proofs.lemmas.remove.Containers.{brackets, held_at, Brackets, Held}
+use Rattle.jsonc_edit.proofs.lemmas.remove.ClearedSteps.{has_left, has_stayed, outcome, over_kept, Outcome}
+use Rattle.jsonc_edit.proofs.lemmas.remove.Containers.{brackets, held_at, Brackets}
 use Rattle.jsonc_edit.proofs.lemmas.remove.PartedTrivia.{token_parts}
 use Rattle.jsonc_edit.proofs.lemmas.remove.RemovedChildren.{others_before, Others}
+use Rattle.jsonc_edit.proofs.Lists.{contents_same}
+use Rattle.jsonc_edit.proofs.lemmas.remove.Trees.{hollow_row}
 
 comes_blanks : (ns : List Node) (inner : List ℕ) (last : ℕ) → Others last inner → IsTrue (comes_to ns (Some last) (inner ++ last ∷ [])) → AreBlanks (map (content_at ns) inner)
 comes_blanks ns [] last h e = tt
@@ -41,11 +44,6 @@ comes_blanks ns (m ∷ inner) last h e =
     by : (b : Bool) → is_blank_at ns m ≡ b → IsTrue (b && comes_to ns (Some last) (inner ++ last ∷ [])) → (IsTrue (comes_to ns (Some last) (inner ++ last ∷ [])) → AreBlanks (map (content_at ns) inner)) → AreBlanks (map (content_at ns) (m ∷ inner))
     by true f g rest = (f, rest g)
     by false f g rest = absurd (let wrong : false ≡ true = g in cc)
-
-hollow_row : (content : Content) (ns : List Node) (row : List ℕ) → IsTrue (is_array_or_object content) → is_hollow_as content ns row ≡ comes_to_last ns (first (reverse row)) (drop 1 row)
-hollow_row array ns row h = refl
-hollow_row object ns row h = refl
-hollow_row content ns row h = cc
 
 -- nothing has changed, but that these leaves have left one after another
 record GoneSo (o : Options) (gone : List Content) (old new : List Node) : Type 0 where
@@ -122,10 +120,6 @@ module _ (o : Options) (old new : List Node) (tree : IsTree old) (after : IsTree
         | inr other ↦ so_none o old new (closed.1 (ap not other)) sound
       ]
 
-map_same : (f g : ℕ → Content) → ((m : ℕ) → f m ≡ g m) → (xs : List ℕ) → map f xs ≡ map g xs
-map_same f g h [] = refl
-map_same f g h (x ∷ xs) = ap (λ w. w ∷ map f xs) (h x) ∙ ap (λ (l : List Content). g x ∷ l) (map_same f g h xs)
-
 -- what stays where one of them has left, or has not
 module _ (o : Options) (old mid : List Node) (tree : IsTree old) (between : IsTree mid) (c n : ℕ) (over : IsOver old 0 c) (sound : SoundTree o (ordered_tree old 0)) where
   record Stays : Type 0 where
@@ -148,7 +142,7 @@ module _ (o : Options) (old mid : List Node) (tree : IsTree old) (between : IsTr
       value = λ w h. so.value w (g.left.value w h);
       lost =
           comment_lost g.before g.behind (content_at old n) g.blank_before g.blank_behind g.left.leaves
-          (subst (λ cs. LoseComments cs (leaves (ordered_tree mid 0)) (leaves (ordered_tree new 0))) (map_same (content_at mid) (content_at old) s.content gone) so.lost);
+          (subst (λ cs. LoseComments cs (leaves (ordered_tree mid 0)) (leaves (ordered_tree new 0))) (contents_same (content_at mid) (content_at old) s.content gone) so.lost);
     },
   )
   joined (has_stayed e) new rest gone some so = (gone, passed_over some, subst (λ ns. GoneSo o (map (content_at ns) gone) ns new) e so)

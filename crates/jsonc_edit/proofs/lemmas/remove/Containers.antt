@@ -1,49 +1,21 @@
 -- An array or object of a sound document: its brackets, and the row between them.
 use Rattle.std.proofs.Common.{◌≡◌, ℕ, List, [], ◌∷◌, ◌++◌, length, IsTrue, refl, ap, subst, ◌∙◌, ◌<◌}
 use Rattle.jsonc_text.specs.Options.{Options}
-use Rattle.jsonc_tree.specs.Content.{Content, array, object, token}
+use Rattle.jsonc_tree.specs.Content.{Content, token}
 use Rattle.jsonc_tree.specs.OrderedTree.{OrderedTree, none, more, Shows, shows_none, shows_more, ordered_tree}
-use Rattle.jsonc_tree.specs.Tree.{Node, content_at, children_at, IsTree, IsOver}
-use Rattle.jsonc_sound.specs.Shape.{IsLiteralBefore, token_then}
+use Rattle.jsonc_tree.specs.Tree.{Node, content_at, children_at, IsTree}
 use Rattle.jsonc_layout.specs.lines.Kinds.{is_array_or_object}
-use Rattle.jsonc_sound.specs.Rows as rows
-use Rattle.jsonc_sound.specs.Rows.{RowKind, of_values, of_properties, holder, opening, closing, container_of, Last}
-use Rattle.jsonc_sound.specs.TreeChanges.{DocumentChanged}
-use Rattle.jsonc_sound.proofs.HeldValues.{document_held}
+use Rattle.jsonc_sound.specs.Rows.{RowKind, opening, closing, Last}
 use Rattle.jsonc_sound.specs.Alone as alone
-use Rattle.jsonc_sound.specs.Alone.{ValueAlone, RowAlone}
+use Rattle.jsonc_sound.specs.Alone.{RowAlone}
 use Rattle.jsonc_sound.specs.SoundTrees.{SoundTree}
-use Rattle.jsonc_sound.proofs.NodesAlone.{value_alone}
-use Rattle.jsonc_edit.specs.Changes.{row_below, top_at}
+use Rattle.jsonc_edit.specs.Changes.{row_below}
 use Rattle.jsonc_edit.specs.Paths.{IsAt}
-use Rattle.jsonc_edit.proofs.ChangesUpward.{ChangedIn, Shows-row_below, changed_over}
-
--- what is a container, and the row behind its first bracket
-pub record Held (o : Options) (content : Content) (below : OrderedTree) : Type 0 where
-  pub kind : RowKind
-  pub row : OrderedTree
-  pub is : content ≡ holder kind
-  pub under : below ≡ token_then (opening kind) row
-  pub alone : RowAlone o kind rows.nothing_yet row
-
-no_literal : (o : Options) (content : Content) → IsTrue (is_array_or_object content) → IsLiteralBefore o content [] → ⊥
-no_literal o array h l = l
-no_literal o object h l = l
-no_literal o content h l = cc
-
-held : (o : Options) {content : Content} {below : OrderedTree} → IsTrue (is_array_or_object content) → ValueAlone o content below → Held o content below
-held o h (alone.literal {content = content} l) = absurd (no_literal o content h l)
-held o h (alone.an_array {row = row} g) = record { kind = of_values; row = row; is = refl; under = refl; alone = g }
-held o h (alone.an_object {row = row} g) = record { kind = of_properties; row = row; is = refl; under = refl; alone = g }
-
--- nothing has changed
-same_nodes : (ns : List Node) (c : ℕ) → IsTree ns → ChangedIn ns ns c
-same_nodes ns c tree = record { tree = tree; content = λ n ne. refl; children = λ n ne. refl }
+use Rattle.jsonc_edit.proofs.ChangesUpward.{Shows-row_below}
+use Rattle.jsonc_edit.proofs.lemmas.commas.Holders.{held, Held, value_at_path}
 
 pub held_at : (o : Options) (ns : List Node) → IsTree ns → SoundTree o (ordered_tree ns 0) → (path : List ℕ) (c : ℕ) → IsAt ns path c → IsTrue (is_array_or_object (content_at ns c)) → Held o (content_at ns c) (row_below ns c)
-held_at o ns tree sound path c at holds =
-    let there : DocumentChanged (top_at ns c) (top_at ns c) path (ordered_tree ns 0) (ordered_tree ns 0) = changed_over ns ns c (same_nodes ns c tree) tree refl c IsOver.itself (λ e. e) path at in
-    held o holds (value_alone o (document_held o there sound.shaped).1)
+held_at o ns tree sound path c at holds = held o holds (value_at_path o ns tree sound path c at)
 
 -- the last of a row
 pub data Ends (content : Content) : OrderedTree → Type 0 where

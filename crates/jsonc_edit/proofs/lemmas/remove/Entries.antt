@@ -7,19 +7,17 @@ use Rattle.std.specs.List.{All}
 use Rattle.std.specs.Option.{option_and_then}
 use Rattle.jsonc_text.specs.Options.{Options}
 use Rattle.jsonc_tree.specs.Changes.{Splices}
-use Rattle.jsonc_tree.specs.Content.{Content, token, array, object}
+use Rattle.jsonc_tree.specs.Content.{Content, array, object}
 use Rattle.jsonc_tree.specs.OrderedTree.{OrderedTree, Shows, ordered_tree}
 use Rattle.jsonc_tree.specs.Tree.{Node, content_at, parent_at, children_at, place_at, IsTree, IsOver}
 use Rattle.jsonc_tree.specs.Siblings.{siblings_after}
 use Rattle.jsonc_tree.proofs.Order.{not_over_parent, parent_there}
-use Rattle.jsonc_tree.proofs.Over.{over_up}
 use Rattle.jsonc_tree.proofs.OrderedTrees.{Shows-unique}
 use Rattle.jsonc_layout.specs.nodes.Kinds.{is_element, is_element_at, is_property}
-use Rattle.jsonc_layout.specs.nodes.Siblings.{elements_at}
 use Rattle.jsonc_layout.proofs.lemmas.nodes.InTree.{All-reverse}
 use Rattle.jsonc_layout.specs.lines.Kinds.{is_array_or_object}
 use Rattle.jsonc_sound.specs.Shape.{token_then}
-use Rattle.jsonc_sound.specs.Rows.{RowKind, of_values, of_properties, holder, opening, closing, container_of}
+use Rattle.jsonc_sound.specs.Rows.{holder, opening, container_of}
 use Rattle.jsonc_tree.specs.OrderedTree.{Top}
 use Rattle.jsonc_sound.specs.TreeChanges.{IsElement, DocumentChanged}
 use Rattle.jsonc_sound.specs.SoundTrees.{SoundTree}
@@ -27,22 +25,22 @@ use Rattle.jsonc_sound.specs.Adjacent.{or_else}
 use Rattle.jsonc_sound.specs.Leaving.{ElementRemoved}
 use Rattle.jsonc_edit.specs.Due.{nearest, seen_before, seen_behind, behind_holder, behind_property, space_needed_between, listed, ends_bare, begins_bare, prints, prints_at, prints_within}
 use Rattle.jsonc_edit.specs.Put.{AreSpaced}
-use Rattle.jsonc_edit.proofs.InsertedSpaces.{children_kept, elements_kept}
+use Rattle.jsonc_edit.proofs.InsertedSpaces.{children_kept}
 use Rattle.jsonc_edit.proofs.WholeRows.{Whole, more_whole, whole_leaf, row_whole}
 use Rattle.jsonc_edit.specs.Changes.{row_below, top_at}
 use Rattle.jsonc_edit.specs.Paths.{IsAt, IsElementOf}
 use Rattle.jsonc_edit.specs.Spaced.{SpacesPut}
 use Rattle.jsonc_edit.proofs.SpacesNeededKept.{due_between_same}
-use Rattle.jsonc_edit.proofs.Elements.{stands_at}
+use Rattle.jsonc_edit.proofs.Elements.{stands_at, Some_same}
 use Rattle.jsonc_edit.proofs.NodesKept.{at_kept, filter_same, top_stays, tree_stays}
 use Rattle.jsonc_edit.proofs.SpacedNodes.{Placed, between_placed, found_behind}
-use Rattle.jsonc_edit.proofs.Spacing.{Spaced, all_spaced, parent_stays, spaces_sound}
-use Rattle.jsonc_edit.proofs.Uniqueness.{element_parent, leads_over}
+use Rattle.jsonc_edit.proofs.Spacing.{Spaced, all_spaced, parent_stays, spaces_sound, elements_spaced}
+use Rattle.jsonc_edit.proofs.Uniqueness.{element_parent, over_at}
 use Rattle.jsonc_edit.proofs.ChangesUpward.{ChangedIn, Shows-row_below, apart_kept, changed_over}
 use Rattle.jsonc_edit.specs.remove.Laws.{EntryTaken}
 use Rattle.jsonc_edit.specs.remove.Leaving.{comma_gone, first_gone, last_gone}
 use Rattle.jsonc_edit.specs.remove.Removed.{comma_in, space_needed_at_comma, space_needed_at_stretch, is_next, is_hollow, hollow_from, hollow_to, IsClosedUp, IsTakenFrom, LosesChild, TakesElement}
-use Rattle.jsonc_edit.proofs.lemmas.remove.Containers.{Held, held_at, Brackets, brackets}
+use Rattle.jsonc_edit.proofs.lemmas.remove.Containers.{held_at, Brackets, brackets}
 use Rattle.jsonc_edit.proofs.lemmas.remove.RemovedStretches.{is_end, Edges, Going, with_behind, with_before, with_none, going}
 use Rattle.jsonc_edit.proofs.lemmas.remove.Outcomes.{Outcome, outcome}
 use Rattle.jsonc_edit.specs.SeamRemovals.{EntryRemovedWithSeams, RemovedWithSeams}
@@ -51,18 +49,12 @@ use Rattle.jsonc_edit.specs.Seams.{StandsBetween}
 use Rattle.jsonc_edit.proofs.PathsKept.{at_still}
 use Rattle.jsonc_edit.proofs.LeavesAroundNodes.{between_above}
 use Rattle.jsonc_edit.proofs.PathPlaces.{AtBetween, at_between, holds_between}
-use Rattle.jsonc_edit.proofs.lemmas.remove.Places.{Some_same, before_in, parent_in}
+use Rattle.jsonc_edit.proofs.lemmas.remove.Places.{before_in, parent_in}
 use Rattle.jsonc_edit.proofs.lemmas.remove.PrintedStretches.{elements_print}
 use Rattle.jsonc_edit.proofs.lemmas.remove.SpacedRow.{DueWith, IsSettled, is_settled}
 use Rattle.jsonc_edit.proofs.lemmas.remove.Spaces.{AreSame, going_same, nearest_same, no_holder, or_none, front_same}
-
-opening_end : (kind : RowKind) → is_end (token (opening kind)) ≡ true
-opening_end of_values = refl
-opening_end of_properties = refl
-
-closing_end : (kind : RowKind) → is_end (token (closing kind)) ≡ true
-closing_end of_values = refl
-closing_end of_properties = refl
+use Rattle.jsonc_edit.proofs.lemmas.remove.NoSpace.{opens_end, closes_end}
+use Rattle.jsonc_edit.proofs.lemmas.commas.Holders.{Held}
 
 -- where what leaves stands in the row
 record Stands (ns : List Node) (c : ℕ) (x : ℕ) : Type 0 where
@@ -122,14 +114,6 @@ unmoved : {old new : List Node} {n c : ℕ} (f : IsTakenFrom old new n c) → Un
 unmoved {old} {new} {n} {c} f =
     unmoved_next f.spaced f.parted new c (unmoved_by f.spaced f.parted c (place_at f.spaced (first_gone old n)) (place_at f.spaced (last_gone old n) + 1) f.stretch)
     (unmoved_next f.parted f.joined new c (unmoved_child f.parted f.joined c (comma_in old c n) f.comma) (unmoved_closed f.joined new c f.closed))
-
--- elements stay where spaces come
-elements_spaced : (xs : List ℕ) (old new : List Node) → IsTree old → AreSpaced old xs new → (c : ℕ) → elements_at new c ≡ elements_at old c
-elements_spaced [] old new tree e c = ap (λ ns. elements_at ns c) e
-elements_spaced (x ∷ xs) old new tree (now, leaf, s, rest) c = elements_spaced xs now new s.tree rest c ∙ elements_kept old now x leaf tree s c
-
-over_at : (ns : List Node) → IsTree ns → (path : List ℕ) (n : ℕ) → IsAt ns path n → IsOver ns 0 n
-over_at ns tree path n (v, e, leads) = over_up ns v 0 n (element_parent ns tree 0 0 v e) (leads_over ns tree n v path leads)
 
 no_property : (content : Content) → IsTrue (is_array_or_object content) → is_property content ≡ false
 no_property array h = refl
@@ -226,7 +210,7 @@ module _ (o : Options) (old new : List Node) (path : List ℕ) (c i n : ℕ) (tr
 
   going_old : Going old c n b.open_with b.last from to (comma_gone old n)
   unfolding from to
-  going_old = going old tree c n b.open_with b.last b.inner b.children said kind_of (ap is_end b.opens ∙ opening_end was_held.kind) (ap is_end b.closes ∙ closing_end was_held.kind)
+  going_old = going old tree c n b.open_with b.last b.inner b.children said kind_of (ap is_end b.opens ∙ opens_end was_held.kind) (ap is_end b.closes ∙ closes_end was_held.kind)
 
   stands : Stands old c from × Stands old c to × StandsIf old c (comma_gone old n)
   stands = stand old c n b.open_with b.last from to (comma_gone old n) going_old
@@ -408,7 +392,7 @@ module _ (o : Options) (old new : List Node) (path : List ℕ) (c i n : ℕ) (tr
   place = at_between ready f.prepared.tree path c at_ready
 
   at_new : IsAt new path c
-  at_new = at_still spaced new c s.tree moved.content moved.children path at_spaced
+  at_new = at_still spaced new c s.tree (λ k there. moved.content k) (λ k there ne. moved.children k ne) path at_spaced
 
   stands_new : StandsBetween new c place.first place.last
   stands_new = between_above spaced new c then_moved after c place.first place.last (between_above ready spaced c in_row s.tree c place.first place.last place.stands IsOver.itself) IsOver.itself

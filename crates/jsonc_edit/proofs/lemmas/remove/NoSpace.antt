@@ -6,20 +6,18 @@ use Rattle.std.proofs.lemmas.List.Folds.{find-append}
 use Rattle.std.proofs.lemmas.Slice.Eq.{bytes_eq-Decides}
 use Rattle.std.specs.Option.{option_or}
 use Rattle.jsonc_text.specs.Options.{Options}
-use Rattle.jsonc_tree.specs.Content.{Content, is_container, property, root, token}
-use Rattle.jsonc_tree.specs.OrderedTree.{OrderedTree, more, none, ordered_tree}
+use Rattle.jsonc_tree.specs.Content.{Content, is_container, property, token}
+use Rattle.jsonc_tree.specs.OrderedTree.{ordered_tree}
 use Rattle.jsonc_tree.specs.Siblings.{siblings_before}
 use Rattle.jsonc_tree.specs.Tree.{Node, children_at, content_at, is_container_at, parent_at, place_at, IsOver, IsTree}
 use Rattle.jsonc_tree.specs.Values.{is_passed_over}
 use Rattle.jsonc_tree.proofs.Order.{over_step, parent_there}
 use Rattle.jsonc_layout.specs.nodes.Kinds.{is_element_at, is_property, is_comma, is_comma_at}
 use Rattle.jsonc_layout.specs.lines.Kinds.{is_array_or_object}
-use Rattle.jsonc_sound.specs.Alone.{PropertyAlone, RootAlone}
+use Rattle.jsonc_sound.specs.Alone.{PropertyAlone}
 use Rattle.jsonc_sound.specs.Leaving.{AreInlineTrivia, IsRestOfLine}
 use Rattle.jsonc_sound.specs.Rows.{RowKind, of_values, of_properties, closing, opening}
-use Rattle.jsonc_sound.specs.Shape.{DocumentShaped, IsNameBefore}
 use Rattle.jsonc_sound.specs.SoundTrees.{SoundTree}
-use Rattle.jsonc_sound.proofs.NodesAlone.{document_alone}
 use Rattle.jsonc_sound.proofs.RowParts.{beside_trivia, rest_trivia}
 use Rattle.jsonc_edit.specs.Changes.{row_below}
 use Rattle.jsonc_edit.specs.Due.{begins_bare, space_needed_between, ends_bare, nearest, prints, prints_at, prints_within, seen_before, seen_behind}
@@ -31,15 +29,16 @@ use Rattle.jsonc_edit.specs.remove.Removed.{comma_in, space_needed_at_comma, spa
 use Rattle.jsonc_edit.proofs.Printing.{unkept_prints}
 use Rattle.jsonc_edit.proofs.ShapedPlaces.{all_stand}
 use Rattle.jsonc_edit.proofs.Uniqueness.{element_parent}
-use Rattle.jsonc_edit.proofs.ChangesUpward.{Shows-row_below, document_is}
-use Rattle.jsonc_edit.proofs.lemmas.commas.Holders.{name_is, property_alone, value_at_path}
-use Rattle.jsonc_edit.proofs.lemmas.remove.Containers.{Brackets, Held, brackets, held_at}
+use Rattle.jsonc_edit.proofs.ChangesUpward.{Shows-row_below, root_row}
+use Rattle.jsonc_edit.proofs.lemmas.commas.Holders.{name_is, property_alone, value_at_path, Held}
+use Rattle.jsonc_edit.proofs.lemmas.remove.Containers.{Brackets, brackets, held_at}
 use Rattle.jsonc_edit.proofs.lemmas.remove.Contents.{no_commas}
 use Rattle.jsonc_edit.proofs.lemmas.remove.RemovedStretches.{Edges, Going, going, is_end, with_before, with_behind, with_none}
 use Rattle.jsonc_edit.proofs.lemmas.remove.Parted.{apart_behind, follows, no_bare_begin, no_bare_between, no_bare_end, none_reversed, root_parts, shown_apart, state, value_parts, Apart, Parts}
 use Rattle.jsonc_edit.proofs.lemmas.remove.Places.{before_in, row_split}
 use Rattle.jsonc_edit.proofs.lemmas.remove.Spaces.{due_parts}
 use Rattle.jsonc_edit.proofs.lemmas.remove.Stretches.{contents, near_of, Near}
+use Rattle.jsonc_edit.proofs.LeafKinds.{name_leaf}
 
 none_if_first : (w a b : Bool) (x : Option ℕ) → a ≡ false → cond (w && (a && b)) x None ≡ None
 none_if_first w true b x e = cc
@@ -55,15 +54,15 @@ none_either : (b : Bool) (x y : Option ℕ) → x ≡ None → y ≡ None → co
 none_either true x y e f = e
 none_either false x y e f = f
 
-comma_prints : (c : Content) → IsTrue (is_comma c) → prints c ≡ true
+pub comma_prints : (c : Content) → IsTrue (is_comma c) → prints c ≡ true
 comma_prints (token k) h = unkept_prints (token k) refl
 comma_prints c h = cc
 
-opens_end : (kind : RowKind) → is_end (token (opening kind)) ≡ true
+pub opens_end : (kind : RowKind) → is_end (token (opening kind)) ≡ true
 opens_end of_values = refl
 opens_end of_properties = refl
 
-closes_end : (kind : RowKind) → is_end (token (closing kind)) ≡ true
+pub closes_end : (kind : RowKind) → is_end (token (closing kind)) ≡ true
 closes_end of_values = refl
 closes_end of_properties = refl
 
@@ -193,11 +192,6 @@ module _ (ns : List Node) (tree : IsTree ns) (c n : ℕ) (said : parent_at ns n 
       let stretch : space_needed_at_stretch ns (first_gone ns n) (last_gone ns n) (comma_in ns c n) ≡ None = ap (space_needed_at_stretch ns (first_gone ns n) (last_gone ns n)) with_it ∙ both.1 in
       neither_due (space_needed_before_gap ns c n) (space_needed_after_gap ns c n) before (none_either (is_property (content_at ns c)) None (space_needed_at_stretch ns (first_gone ns n) (last_gone ns n) (comma_in ns c n)) refl stretch) h
 
-no_container_name : (o : Options) (c : Content) → IsNameBefore o c [] → is_container c ≡ false
-no_container_name o (Content.string s) h = refl
-no_container_name o (Content.word s) h = refl
-no_container_name o c h = absurd h
-
 no_container_passed : (c : Content) → IsTrue (is_passed_over c) → is_container c ≡ false
 no_container_passed (Content.whitespace s) h = refl
 no_container_passed (Content.newline k) h = refl
@@ -208,12 +202,6 @@ no_container_passed c h = cc
 module _ (o : Options) (ns : List Node) (tree : IsTree ns) (sound : SoundTree o (ordered_tree ns 0)) (commas : o.missing_commas ≡ false) where
   row_apart : (c : ℕ) → c < length ns → Parts 0x2C false (row_below ns c) → Apart 0x2C ns false (children_at ns c)
   row_apart c low h = shown_apart 0x2C ns false (Shows-row_below ns tree c low) h
-
-  root_row : RootAlone o false (row_below ns 0)
-  root_row = by (document_alone o (subst (DocumentShaped o) (sym (document_is ns tree (row_below ns 0) (Shows-row_below ns tree 0 tree.first))) sound.shaped))
-    where
-      by : (row : OrderedTree) × (more root (row_below ns 0) none ≡ more root row none) × RootAlone o false row → RootAlone o false (row_below ns 0)
-      by (row, e, g) = let same : row ≡ row_below ns 0 = cc in subst (RootAlone o false) same g
 
   over_parent : (n c : ℕ) → IsOver ns 0 n → parent_at ns n ≡ Some c → IsOver ns 0 c
   over_parent n c over said = over_step ns tree 0 n c over (λ e. let wrong : None ≡ Some c = sym tree.root_alone ∙ ap (parent_at ns) (sym e) ∙ said in cc) said
@@ -235,12 +223,12 @@ module _ (o : Options) (ns : List Node) (tree : IsTree ns) (sound : SoundTree o 
         | as_property {path = path} {p = p} i at outer element is ↦ in_property (property_alone o ns tree sound path p c at (ap is_array_or_object outer) (element_parent ns tree p i c element) is) is
         | as_name r is element ↦
             let up = over_parent c r (over_parent n c over said) (element_parent ns tree r 0 c element) in
-            absurd (no_leaf n c said (no_container_name o (content_at ns c) (name_is o ns tree sound r c up is element)))
+            absurd (no_leaf n c said (name_leaf o (content_at ns c) (name_is o ns tree sound r c up is element)))
         | between h ↦ absurd (no_leaf n c said (no_container_passed (content_at ns c) h))
       ]
 
   pub root_apart : Apart 0x2C ns false (children_at ns 0)
-  root_apart = row_apart 0 tree.first (root_parts o root_row)
+  root_apart = row_apart 0 tree.first (root_parts o (root_row o ns tree sound))
 
   pub value_apart : (path : List ℕ) (n c : ℕ) → parent_at ns n ≡ Some c → IsAt ns path c → Apart 0x2C ns false (children_at ns c)
   value_apart path n c said at = row_apart c (parent_there ns tree n c said).1 (value_parts o commas (value_at_path o ns tree sound path c at))

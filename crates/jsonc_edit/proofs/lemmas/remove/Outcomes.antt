@@ -38,7 +38,8 @@ use Rattle.jsonc_edit.proofs.lemmas.remove.Places.{Come, none_come, one_come, Qu
 use Rattle.jsonc_edit.proofs.lemmas.remove.SpacedRow.{Settled, settled_behind, settled_before, settled_none, comma_is}
 use Rattle.jsonc_edit.proofs.lemmas.remove.Stretches.{contents}
 use Rattle.jsonc_edit.proofs.lemmas.remove.Trees.{trivia_leaves, beside_leaves, leaves_shown, among_shown, leaf_below, quiet_inside, AreKids, all_kids, closes_row as close_up, NewRow, new_row}
-use Rattle.jsonc_edit.proofs.lemmas.remove.RemovedChildren.{Rewoven, stretch_out, comma_out, Others, others_before, All-front, All-back}
+use Rattle.jsonc_edit.proofs.lemmas.remove.RemovedChildren.{Rewoven, stretch_out, comma_out, Others, others_before}
+use Rattle.jsonc_edit.proofs.Lists.{all_front, all_rest}
 
 -- two whole rows, one behind the other
 whole_joined : (o : Options) (t u : OrderedTree) → Whole o t → Whole o u → Whole o (followed_by t u)
@@ -228,16 +229,16 @@ module _ (o : Options) (old new : List Node) (tree : IsTree old) (after : IsTree
         (row ∙ ap (λ (l : List ℕ). (open_with ∷ ahead) ++ l) (sym (append_assoc stretch rest (last ∷ []))) ∙ sym (append_assoc (open_with ∷ ahead) (stretch ++ rest) (last ∷ [])))
 
     others_ahead : Others last ahead
-    others_ahead = All-tail (λ m. m ≢ last) open_with ahead (All-front (λ m. m ≢ last) (open_with ∷ ahead) (stretch ++ rest) before_last)
+    others_ahead = All-tail (λ m. m ≢ last) open_with ahead (all_front (λ m. m ≢ last) (open_with ∷ ahead) (stretch ++ rest) before_last)
 
     others_rest : Others last rest
-    others_rest = All-back (λ m. m ≢ last) stretch rest (All-back (λ m. m ≢ last) (open_with ∷ ahead) (stretch ++ rest) before_last)
+    others_rest = all_rest (λ m. m ≢ last) stretch rest (all_rest (λ m. m ≢ last) (open_with ∷ ahead) (stretch ++ rest) before_last)
 
     kids_front : AreKids old c (open_with ∷ ahead)
-    kids_front = All-front (λ m. parent_at old m ≡ Some c) (open_with ∷ ahead) (stretch ++ back) (subst (AreKids old c) row (all_kids old tree c))
+    kids_front = all_front (λ m. parent_at old m ≡ Some c) (open_with ∷ ahead) (stretch ++ back) (subst (AreKids old c) row (all_kids old tree c))
 
     kids_back : AreKids old c back
-    kids_back = All-back (λ m. parent_at old m ≡ Some c) stretch back (All-back (λ m. parent_at old m ≡ Some c) (open_with ∷ ahead) (stretch ++ back) (subst (AreKids old c) row (all_kids old tree c)))
+    kids_back = all_rest (λ m. parent_at old m ≡ Some c) stretch back (all_rest (λ m. parent_at old m ≡ Some c) (open_with ∷ ahead) (stretch ++ back) (subst (AreKids old c) row (all_kids old tree c)))
 
     -- the row that is left is closed up, if it may
     module _ (joined : List Node) (closed : IsClosedUp joined new c) (stays : List ℕ) (left : OrderedTree) (others : Others last (stays ++ rest)) (kids : AreKids old c (open_with ∷ stays)) (shown : Shows old (stays ++ back) left)
@@ -308,9 +309,9 @@ module _ (o : Options) (old new : List Node) (tree : IsTree old) (after : IsTree
         let r = stretch_row away near (between ++ k ∷ line) rest row edges beside same p in
         let is_k : content_at old k ≡ token 0x2C = comma_is (content_at old k) comma in
         let k_there : k < length old =
-        (parent_there old tree k c (All-head (λ m. parent_at old m ≡ Some c) k line (All-back (λ m. parent_at old m ≡ Some c) (near ++ n ∷ between) (k ∷ line)
-        (subst (AreKids old c) (sym (append_assoc near (n ∷ between) (k ∷ line))) (All-front (λ m. parent_at old m ≡ Some c) (near ++ n ∷ (between ++ k ∷ line)) (rest ++ last ∷ [])
-        (All-back (λ m. parent_at old m ≡ Some c) (open_with ∷ away) ((near ++ n ∷ (between ++ k ∷ line)) ++ (rest ++ last ∷ [])) (subst (AreKids old c) row (all_kids old tree c)))))))).0 in
+        (parent_there old tree k c (All-head (λ m. parent_at old m ≡ Some c) k line (all_rest (λ m. parent_at old m ≡ Some c) (near ++ n ∷ between) (k ∷ line)
+        (subst (AreKids old c) (sym (append_assoc near (n ∷ between) (k ∷ line))) (all_front (λ m. parent_at old m ≡ Some c) (near ++ n ∷ (between ++ k ∷ line)) (rest ++ last ∷ [])
+        (all_rest (λ m. parent_at old m ≡ Some c) (open_with ∷ away) ((near ++ n ∷ (between ++ k ∷ line)) ++ (rest ++ last ∷ [])) (subst (AreKids old c) row (all_kids old tree c)))))))).0 in
         let mid = among_shown old tree between k line p.behind_it k_there (trivia_leaves (contents old between) (between_trivia goes)) p.shows_behind in
         let behind_then : (b : OrderedTree) → followed_by p.behind_it b ≡ leaves_then (contents old between) (token_then 0x2C (leaves_then (contents old line) b)) = λ b.
         mid.is b ∙ ap (λ (w : Content). leaves_then (contents old between) (more w (row_below old k) (followed_by mid.after b))) is_k
@@ -351,7 +352,7 @@ module _ (o : Options) (old new : List Node) (tree : IsTree old) (after : IsTree
         let is_k : content_at old k ≡ token 0x2C = comma_is (content_at old k) comma in
         let kids = kids_front ahead near line rest row edges beside in
         let others = others_ahead ahead near line rest row edges beside in
-        let at_k : AreKids old c (k ∷ mid) = All-back (λ m. parent_at old m ≡ Some c) (open_with ∷ away) (k ∷ mid) kids in
+        let at_k : AreKids old c (k ∷ mid) = all_rest (λ m. parent_at old m ≡ Some c) (open_with ∷ away) (k ∷ mid) kids in
         let k_there : k < length old = (parent_there old tree k c (All-head (λ m. parent_at old m ≡ Some c) k mid at_k)).0 in
         let two = Shows-part old away (k ∷ mid) p.front p.shows_front in
         let one = among_shown old tree [] k mid two.1 k_there tt two.4 in
@@ -370,8 +371,8 @@ module _ (o : Options) (old new : List Node) (tree : IsTree old) (after : IsTree
         let woven : Rewoven old joined c ((open_with ∷ away) ++ (mid ++ back)) =
         comma_out old parted tree c (place_at old from) (place_at old to + 1) k (open_with ∷ away) mid (near ++ n ∷ line) back stays_row s (from_place ahead near line rest row edges beside) (to_place ahead near line rest row edges beside) joined loses in
         let r = then_is ahead near line rest row edges beside joined closed (away ++ mid) left
-        (All-append (λ m. m ≢ last) (away ++ mid) rest (All-append (λ m. m ≢ last) away mid (All-front (λ m. m ≢ last) away (k ∷ mid) others) (All-tail (λ m. m ≢ last) k mid (All-back (λ m. m ≢ last) away (k ∷ mid) others))) (others_rest ahead near line rest row edges beside))
-        (All-append (λ m. parent_at old m ≡ Some c) (open_with ∷ away) mid (All-front (λ m. parent_at old m ≡ Some c) (open_with ∷ away) (k ∷ mid) kids) (All-tail (λ m. parent_at old m ≡ Some c) k mid at_k))
+        (All-append (λ m. m ≢ last) (away ++ mid) rest (All-append (λ m. m ≢ last) away mid (all_front (λ m. m ≢ last) away (k ∷ mid) others) (All-tail (λ m. m ≢ last) k mid (all_rest (λ m. m ≢ last) away (k ∷ mid) others))) (others_rest ahead near line rest row edges beside))
+        (All-append (λ m. parent_at old m ≡ Some c) (open_with ∷ away) mid (all_front (λ m. parent_at old m ≡ Some c) (open_with ∷ away) (k ∷ mid) kids) (All-tail (λ m. parent_at old m ≡ Some c) k mid at_k))
         (subst (λ (l : List ℕ). Shows old l left) (sym (append_assoc away mid back)) (Shows-append old away (mid ++ back) two.0 (followed_by one.after p.rest_of) two.3 shows_back))
         (subst (λ (l : List ℕ). Rewoven old joined c (open_with ∷ l)) (sym (append_assoc away mid back)) woven) in
         let no_comma_counts : count (contents old (k ∷ mid)) ≡ count (contents old mid) = ap (λ w. if is_element w then suc (count (contents old mid)) else count (contents old mid)) is_k in

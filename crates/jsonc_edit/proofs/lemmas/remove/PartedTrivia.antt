@@ -44,7 +44,7 @@ token_parts o x h = cc
 abbrev pub Kept : Bool → Bool → OrderedTree → OrderedTree → Type 0
 Kept loose at_end row new = LinesEndLoosely loose at_end new × (IsTrue (ends_loosely loose at_end row) → IsTrue (ends_loosely loose at_end new))
 
-both : (a b c : Bool) → (IsTrue b → IsTrue c) → IsTrue (a && b) → IsTrue (a && c)
+pub both : (a b c : Bool) → (IsTrue b → IsTrue c) → IsTrue (a && b) → IsTrue (a && c)
 both true b c f g = f g
 both false b c f g = g
 

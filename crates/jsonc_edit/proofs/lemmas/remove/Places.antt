@@ -15,15 +15,15 @@ use Rattle.jsonc_tree.specs.Tree.{Node, content_at, parent_at, children_at, plac
 use Rattle.jsonc_layout.specs.lines.Kinds.{is_array_or_object}
 use Rattle.jsonc_sound.specs.Spaces.{is_bare}
 use Rattle.jsonc_sound.proofs.Spaced.{space_first}
+use Rattle.jsonc_sound.proofs.Commas.{and_false}
 use Rattle.jsonc_edit.specs.Due.{prints, prints_at, nearest, beginning_in, begins_bare, ends_bare, is_bare_at, listed}
 use Rattle.jsonc_edit.specs.Put.{a_space, StandsBefore, AreSpaced}
 use Rattle.jsonc_edit.proofs.InsertedSpaces.{children_kept, contents_kept, container_row}
 use Rattle.jsonc_edit.proofs.UnneededSpaces.{ends_kept}
 use Rattle.jsonc_edit.proofs.lemmas.remove.Contents.{Gains, gains_at}
 use Rattle.jsonc_edit.proofs.lemmas.remove.Stretches.{contents}
-
-pub Some_same : (m n : ℕ) → Some m ≡ Some n → m ≡ n
-Some_same m n e = cc
+use Rattle.jsonc_edit.proofs.Lists.{both_true}
+use Rattle.jsonc_edit.proofs.Elements.{Some_same}
 
 -- a row with a node in it, by what stands before that and behind it
 module _ (ns : List Node) (tree : IsTree ns) (c : ℕ) where
@@ -84,20 +84,12 @@ up_to_final y (z ∷ ys) = let r = up_to_final z ys in (y ∷ r.0, ap (λ (l : L
 abbrev pub Quiet : List Node → List ℕ → List ℕ → Type 0
 Quiet ns xs ys = (ends_bare ns (nearest ns (reverse xs)) && begins_bare ns (nearest ns ys)) ≡ false
 
-both_false : (a b : Bool) → b ≡ false → a && b ≡ false
-both_false true b e = e
-both_false false b e = refl
-
 -- The second nodes are the first, but that a space has come directly before the first of them that prints, or none has. One comes where that is a literal
 -- without quotes, and so is what prints last ahead of them.
 pub data Come (ns : List Node) (ahead : List ℕ) : List ℕ → List ℕ → Type 0 where
   none_come : {xs : List ℕ} → Come ns ahead xs xs
   one_come : (front back : List ℕ) (x leaf : ℕ) → nearest ns front ≡ None → content_at ns leaf ≡ a_space → ends_bare ns (nearest ns (reverse ahead)) ≡ true
       → prints_at ns x ≡ true → begins_bare ns (Some x) ≡ true → Come ns ahead (front ++ x ∷ back) (front ++ leaf ∷ x ∷ back)
-
-both_true : (a b : Bool) → a && b ≡ true → (a ≡ true) × (b ≡ true)
-both_true true b e = (refl, e)
-both_true false b e = let wrong : false ≡ true = e in cc
 
 -- an array or object begins with itself
 holder_itself : (content : Content) → IsTrue (is_array_or_object content) → (children : List ℕ) (x : ℕ) → beginning_in children x content ≡ Some x
@@ -265,7 +257,7 @@ module _ (old : List Node) (tree : IsTree old) (c : ℕ) (front part back ahead 
       row = given_row;
       gains = gains;
       come = subst (λ l. Come now ahead l given) (sym f.split) (one_come f.front f.back x leaf (find_same f.front ∙ f.clear) leaf_is due.0 (ap prints (content x) ∙ f.passes) due.1);
-      quiet = both_false (ends_bare now (nearest now (reverse ahead))) (begins_bare now (nearest now given)) (ap (begins_bare now) nearest_is ∙ leaf_quiet);
+      quiet = and_false (ends_bare now (nearest now (reverse ahead))) (begins_bare now (nearest now given)) (ap (begins_bare now) nearest_is ∙ leaf_quiet);
       seen = seen;
       last = last;
       content = content;

@@ -10,6 +10,7 @@ use Rattle.jsonc_tree.proofs.Splicing.{out_from}
 use Rattle.jsonc_edit.proofs.ChangesUpward.{ChangedIn}
 use Rattle.jsonc_edit.specs.remove.Removed.{LosesChild}
 use Rattle.jsonc_edit.proofs.lemmas.remove.Places.{parent_in, place_in}
+use Rattle.jsonc_edit.proofs.Lists.{all_front, all_rest}
 
 -- a container has another row, and nothing else has changed
 pub record Rewoven (old new : List Node) (c : ℕ) (row : List ℕ) : Type 0 where
@@ -47,14 +48,6 @@ stretch_out old new c i j front gone back row e f s = record {
 -- these are other nodes
 abbrev pub Others : ℕ → List ℕ → Type 0
 Others k xs = All (λ m. m ≢ k) xs
-
-pub All-front : (P : ℕ → Type 0) (xs ys : List ℕ) → All P (xs ++ ys) → All P xs
-All-front P [] ys h = All-nil P
-All-front P (x ∷ xs) ys h = All-cons P x xs (All-head P x (xs ++ ys) h) (All-front P xs ys (All-tail P x (xs ++ ys) h))
-
-pub All-back : (P : ℕ → Type 0) (xs ys : List ℕ) → All P (xs ++ ys) → All P ys
-All-back P [] ys h = h
-All-back P (x ∷ xs) ys h = All-back P xs ys (All-tail P x (xs ++ ys) h)
 
 each_apart : (xs : List ℕ) (k : ℕ) → ((m : ℕ) → m < length xs → get_or xs m 0 ≡ k → ⊥) → Others k xs
 each_apart [] k h = All-nil (λ m. m ≢ k)
@@ -103,7 +96,7 @@ module _ (old parted : List Node) (tree : IsTree old) (c i j k : ℕ) (front mid
   parent_still : parent_at parted k ≡ Some c
   parent_still =
       s.parents k ∙ ap (λ l. cond (is_in k l) None (parent_at old k)) gone_is
-      ∙ ap (λ b. cond b None (parent_at old k)) (none_in k gone (All-front (λ m. m ≢ k) gone back (All-back (λ m. m ≢ k) mid (gone ++ back) (others_behind old tree c front (mid ++ (gone ++ back)) k row))))
+      ∙ ap (λ b. cond b None (parent_at old k)) (none_in k gone (all_front (λ m. m ≢ k) gone back (all_rest (λ m. m ≢ k) mid (gone ++ back) (others_behind old tree c front (mid ++ (gone ++ back)) k row))))
       ∙ parent_in old tree c front (mid ++ (gone ++ back)) k row
 
   parted_is : children_at parted c ≡ front ++ k ∷ (mid ++ back)

@@ -6,7 +6,7 @@ use Rattle.jsonc_text.specs.Grammar.{IsDocument}
 use Rattle.jsonc_tree.specs.Content.{Content}
 use Rattle.jsonc_tree.specs.OrderedTree.{OrderedTree, none, more, followed_by}
 use Rattle.jsonc_tree.specs.Values as values
-use Rattle.jsonc_tree.specs.Values.{HasNoValue, DocumentValueOf, is_passed_over}
+use Rattle.jsonc_tree.specs.Values.{HasNoValue, DocumentValueOf}
 use Rattle.jsonc_sound.specs.Shape.{printed_text}
 use Rattle.jsonc_tree.specs.OrderedTree.{Top}
 use Rattle.jsonc_sound.specs.TreeChanges.{IsElement}
@@ -18,7 +18,7 @@ use Rattle.jsonc_sound.specs.EntryLaws.{root_with}
 use Rattle.jsonc_sound.specs.Leaving.{ValueRemoved, value_leaves, among, Empties}
 use Rattle.jsonc_sound.proofs.WithoutValue.{sound_without, none_without, marks_without}
 use Rattle.jsonc_edit.specs.remove.Laws.{RemovesValue, IsValueRemoved}
-use Rattle.jsonc_edit.proofs.lemmas.remove.RemovedElement.{prints_value}
+use Rattle.jsonc_edit.proofs.SoundValues.{prints_value}
 
 -- a row with an element in it has a value
 no_value : (front : OrderedTree) (before : List Content) (content : Content) (below after : OrderedTree) → IsElement content → HasNoValue (followed_by front (leaves_then before (more content below after))) → ⊥

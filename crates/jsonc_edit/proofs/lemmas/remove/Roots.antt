@@ -15,7 +15,6 @@ use Rattle.jsonc_tree.proofs.OrderedTrees.{Shows-unique}
 use Rattle.jsonc_tree.proofs.Rows.{Shows-append, Shows-part, followed_by-none}
 use Rattle.jsonc_layout.specs.nodes.Kinds.{is_trivia, is_element_at, is_property, is_blank_at}
 use Rattle.jsonc_layout.proofs.lemmas.nodes.InTree.{All-reverse}
-use Rattle.jsonc_sound.specs.Shape.{DocumentShaped, IsTrivia}
 use Rattle.jsonc_layout.specs.lines.Kinds.{is_array_or_object}
 use Rattle.jsonc_layout.specs.lines.Siblings.{is_no_trivia_at, if_comma, trailing_comma_at}
 use Rattle.jsonc_tree.specs.OrderedTree.{Top}
@@ -25,7 +24,6 @@ use Rattle.jsonc_sound.specs.Alone as alone
 use Rattle.jsonc_sound.specs.Alone.{RootAlone}
 use Rattle.jsonc_sound.specs.SoundTrees.{SoundTree}
 use Rattle.jsonc_sound.specs.Spaces.{is_bare}
-use Rattle.jsonc_sound.proofs.NodesAlone.{document_alone}
 use Rattle.jsonc_sound.proofs.RowParts.{rest_trivia}
 use Rattle.jsonc_sound.specs.MarkChanges.{AreBlanks}
 use Rattle.jsonc_sound.specs.Leaving.{AreInlineTrivia, ends_apart, among, ValueRemoved, value_leaves, Empties, empties, IsRestOfLine}
@@ -36,7 +34,7 @@ use Rattle.jsonc_edit.specs.Paths.{IsElementOf}
 use Rattle.jsonc_edit.proofs.Elements.{stands_at}
 use Rattle.jsonc_edit.proofs.NodesKept.{top_stays, tree_stays}
 use Rattle.jsonc_edit.proofs.Uniqueness.{element_parent}
-use Rattle.jsonc_edit.proofs.ChangesUpward.{Shows-row_below, apart_kept, document_is}
+use Rattle.jsonc_edit.proofs.ChangesUpward.{Shows-row_below, apart_kept, document_is, root_row}
 use Rattle.jsonc_edit.specs.remove.Laws.{ValueTaken}
 use Rattle.jsonc_edit.specs.remove.Leaving.{comes_to, comma_gone, first_gone, last_gone, last_past, line_end_at}
 use Rattle.jsonc_edit.specs.remove.Removed.{comma_in, space_needed_at_comma, space_needed_at_stretch, is_hollow, is_hollow_as, hollow_from, hollow_to, IsTakenFrom, LosesChild, TakesElement}
@@ -46,13 +44,9 @@ use Rattle.jsonc_edit.proofs.lemmas.remove.PrintedStretches.{find_holds}
 use Rattle.jsonc_edit.proofs.lemmas.remove.Spaces.{AreSame, contents_same, front_same, back_same, tail_same}
 use Rattle.jsonc_edit.proofs.lemmas.remove.Stretches.{contents, Near, near_of, Line, line_of}
 use Rattle.jsonc_edit.proofs.lemmas.remove.Trees.{trivia_leaves, beside_leaves, blank_leaves, leaves_shown, among_shown, AreKids, all_kids}
-use Rattle.jsonc_edit.proofs.lemmas.remove.RemovedChildren.{Rewoven, rewoven_next, rewoven_changed, stretch_out, All-front, All-back}
-
-trivia_of : (o : Options) (c : Content) → IsTrivia o c → IsTrue (is_trivia c)
-trivia_of o (Content.whitespace s) h = refl
-trivia_of o (Content.newline k) h = refl
-trivia_of o (Content.comment s) h = refl
-trivia_of o c h = absurd h
+use Rattle.jsonc_edit.proofs.lemmas.remove.RemovedChildren.{Rewoven, rewoven_next, rewoven_changed, stretch_out}
+use Rattle.jsonc_edit.proofs.LeafKinds.{trivia_is}
+use Rattle.jsonc_edit.proofs.Lists.{all_front, all_rest}
 
 trivia_no_element : (c : Content) → IsTrue (is_trivia c) → IsElement c → ⊥
 trivia_no_element (Content.whitespace s) h e = cc
@@ -64,17 +58,17 @@ module _ (o : Options) (ns : List Node) where
   -- behind a value only trivia stands
   trivia_behind : {xs : List ℕ} {t : OrderedTree} → Shows ns xs t → RootAlone o true t → AreTrivia (contents ns xs)
   trivia_behind shows_none g = tt
-  trivia_behind (shows_more {n = n} p r) (alone.root_trivia h g) = (trivia_of o (content_at ns n) h, trivia_behind r g)
+  trivia_behind (shows_more {n = n} p r) (alone.root_trivia h g) = (trivia_is o (content_at ns n) h, trivia_behind r g)
 
   no_second : (front : OrderedTree) (content : Content) (below after : OrderedTree) → IsElement content → RootAlone o true (followed_by front (more content below after)) → ⊥
-  no_second none content below after e (alone.root_trivia h g) = trivia_no_element content (trivia_of o content h) e
+  no_second none content below after e (alone.root_trivia h g) = trivia_no_element content (trivia_is o content h) e
   no_second (more c under front) content below after e (alone.root_trivia h g) = no_second front content below after e g
 
   -- and before it too
   trivia_around : {xs : List ℕ} {front : OrderedTree} (content : Content) (below after : OrderedTree) → Shows ns xs front → IsElement content → RootAlone o false (followed_by front (more content below after)) → AreTrivia (contents ns xs) × RootAlone o true after
-  trivia_around content below after shows_none e (alone.root_trivia h g) = absurd (trivia_no_element content (trivia_of o content h) e)
+  trivia_around content below after shows_none e (alone.root_trivia h g) = absurd (trivia_no_element content (trivia_is o content h) e)
   trivia_around content below after shows_none e (alone.root_value v g) = (tt, g)
-  trivia_around content below after (shows_more {n = n} p r) e (alone.root_trivia h g) = let rest = trivia_around content below after r e g in ((trivia_of o (content_at ns n) h, rest.0), rest.1)
+  trivia_around content below after (shows_more {n = n} p r) e (alone.root_trivia h g) = let rest = trivia_around content below after r e g in ((trivia_is o (content_at ns n) h, rest.0), rest.1)
   trivia_around content below after (shows_more {after = front} p r) e (alone.root_value v g) = absurd (no_second front content below after e g)
 
 trivia_ends : (ns : List Node) (m : ℕ) (content : Content) (l : List ℕ) → content_at ns m ≡ content → IsTrue (is_trivia content) → is_bare_at ns (beginning_in l m content) ≡ false
@@ -139,12 +133,6 @@ module _ (o : Options) (ns : List Node) (tree : IsTree ns) (n : ℕ) (said : par
   split : children_at ns 0 ≡ pre ++ n ∷ post
   split = row_split ns tree 0 n said
 
-  root_row : RootAlone o false (row_below ns 0)
-  root_row = by (document_alone o (subst (DocumentShaped o) (sym (document_is ns tree (row_below ns 0) (Shows-row_below ns tree 0 tree.first))) sound.shaped))
-    where
-      by : (row : OrderedTree) × (more root (row_below ns 0) none ≡ more root row none) × RootAlone o false row → RootAlone o false (row_below ns 0)
-      by (row, e, g) = let same : row ≡ row_below ns 0 = cc in subst (RootAlone o false) same g
-
   trivia_both : AreTrivia (contents ns pre) × AreTrivia (contents ns post)
   trivia_both = by (Shows-part ns pre (n ∷ post) (row_below ns 0) (subst (λ (l : List ℕ). Shows ns l (row_below ns 0)) split (Shows-row_below ns tree 0 tree.first)))
     where
@@ -152,7 +140,7 @@ module _ (o : Options) (ns : List Node) (tree : IsTree ns) (n : ℕ) (said : par
       inner front p (shows_more {below = below} {after = after} q r) g = let two = trivia_around o ns (content_at ns n) below after p element g in (two.0, trivia_behind o ns r two.1)
 
       by : (a : OrderedTree) × (b : OrderedTree) × (row_below ns 0 ≡ followed_by a b) × Shows ns pre a × Shows ns (n ∷ post) b → AreTrivia (contents ns pre) × AreTrivia (contents ns post)
-      by (a, b, e, p, q) = inner a p q (subst (RootAlone o false) e root_row)
+      by (a, b, e, p, q) = inner a p q (subst (RootAlone o false) e (root_row o ns tree sound))
 
   around : Near ns pre n (first_gone ns n)
   around = subst (λ r. Near ns r n (first_gone ns n)) (ap (λ (l : List ℕ). reverse l) (before_in ns tree 0 pre post n split) ∙ reverse-reverse pre) (near_of ns n (siblings_before ns n))
@@ -271,8 +259,8 @@ module _ (o : Options) (old new : List Node) (n : ℕ) (tree : IsTree old) (afte
   kids : AreKids ready 0 (p.away ++ p.rest)
   kids =
       let all = subst (AreKids ready 0) row_ready (all_kids ready f.prepared.tree 0) in
-      All-append (λ m. parent_at ready m ≡ Some 0) p.away p.rest (All-front (λ m. parent_at ready m ≡ Some 0) p.away ((p.near ++ n ∷ p.line) ++ p.rest) all)
-      (All-back (λ m. parent_at ready m ≡ Some 0) (p.near ++ n ∷ p.line) p.rest (All-back (λ m. parent_at ready m ≡ Some 0) p.away ((p.near ++ n ∷ p.line) ++ p.rest) all))
+      All-append (λ m. parent_at ready m ≡ Some 0) p.away p.rest (all_front (λ m. parent_at ready m ≡ Some 0) p.away ((p.near ++ n ∷ p.line) ++ p.rest) all)
+      (all_rest (λ m. parent_at ready m ≡ Some 0) (p.near ++ n ∷ p.line) p.rest (all_rest (λ m. parent_at ready m ≡ Some 0) p.away ((p.near ++ n ∷ p.line) ++ p.rest) all))
 
   row_then : (row : List ℕ) (t : OrderedTree) → Rewoven ready new 0 row → AreKids ready 0 row → Shows ready row t → row_below new 0 ≡ t
   row_then row t r mine shown =

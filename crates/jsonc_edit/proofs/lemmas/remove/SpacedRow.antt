@@ -7,13 +7,11 @@ use Rattle.std.proofs.lemmas.List.Folds.{find-append}
 use Rattle.std.proofs.lemmas.Slice.Eq.{bytes_eq-Decides}
 use Rattle.std.specs.List.{find, All}
 use Rattle.std.specs.Option.{option_or}
-use Rattle.jsonc_text.specs.Text.{starts}
 use Rattle.jsonc_tree.specs.Content.{Content, token}
 use Rattle.jsonc_tree.specs.Tree.{Node, content_at, children_at, IsTree}
 use Rattle.jsonc_layout.proofs.lemmas.nodes.InTree.{All-reverse}
 use Rattle.jsonc_layout.specs.lines.Kinds.{is_array_or_object}
 use Rattle.jsonc_layout.specs.nodes.Kinds.{is_comma, is_comma_at}
-use Rattle.jsonc_sound.proofs.Texts.{comma_first as comma_char}
 use Rattle.jsonc_sound.specs.Leaving.{AreInlineTrivia, IsRestOfLine, LeavesBehind}
 use Rattle.jsonc_edit.specs.Due.{is_other, prints, prints_at, nearest, begins_bare, ends_bare, seen_before, space_needed_between, listed}
 use Rattle.jsonc_edit.specs.Put.{AreSpaced}
@@ -24,6 +22,8 @@ use Rattle.jsonc_edit.proofs.lemmas.remove.Stretches.{contents}
 use Rattle.jsonc_edit.proofs.lemmas.remove.RemovedStretches.{Edges, Going, with_behind, with_before, with_none}
 use Rattle.jsonc_edit.proofs.lemmas.remove.Spaces.{contents_same, nearest_same, spaced_parts, due_parts}
 use Rattle.jsonc_edit.proofs.lemmas.remove.PrintedStretches.{find_holds, stretch_prints}
+use Rattle.jsonc_edit.proofs.lemmas.remove.Parted.{none_turned}
+use Rattle.jsonc_edit.proofs.lemmas.remove.NoSpace.{comma_prints}
 
 -- how the element leaves, and that nothing meets there; without the spaces that have come the row was this
 pub data Settled (ns : List Node) (c n open_with last from to : ℕ) : Option ℕ → List ℕ → Type 0 where
@@ -63,20 +63,6 @@ DueWith ready from to (Some k) next spaced =
 pub comma_is : (content : Content) → IsTrue (is_comma content) → content ≡ token 0x2C
 comma_is (token c) h = elim (cases_eq c 0x2C) [ inl e ↦ ap token e | inr ne ↦ absurd (let wrong : true ≡ false = sym h ∙ ne_eqb c 0x2C ne in cc) ]
 comma_is content h = cc
-
-comma_prints : (content : Content) → IsTrue (is_comma content) → prints content ≡ true
-comma_prints content h = ap prints (comma_is content h) ∙ ap (λ o. starts (λ c. true) o) comma_char
-
--- where nothing is found from behind nothing is
-none_from_behind : (test : ℕ → Bool) (xs : List ℕ) → find test (reverse xs) ≡ None → find test xs ≡ None
-none_from_behind test [] e = refl
-none_from_behind test (x ∷ xs) e =
-    by (find test (reverse xs)) refl (test x) refl (sym (ap (find test) (reverse-append (x ∷ []) xs) ∙ find-append test (reverse xs) (x ∷ [])) ∙ e) (none_from_behind test xs)
-  where
-    by : (o : Option ℕ) → find test (reverse xs) ≡ o → (b : Bool) → test x ≡ b → option_or (find test (reverse xs)) (if test x then Some x else None) ≡ None → (find test (reverse xs) ≡ None → find test xs ≡ None) → (if test x then Some x else find test xs) ≡ None
-    by None f false g h rest = ap (λ b. if b then Some x else find test xs) g ∙ rest f
-    by None f true g h rest = let wrong : Some x ≡ None = sym (ap (λ o. option_or o (if test x then Some x else None)) f ∙ ap (λ b. if b then Some x else None) g) ∙ h in cc
-    by (Some y) f b g h rest = let wrong : Some y ≡ None = sym (ap (λ o. option_or o (if test x then Some x else None)) f) ∙ h in cc
 
 some_from_before : (test : ℕ → Bool) (xs : List ℕ) (m : ℕ) → find test (reverse xs) ≡ Some m → (y : ℕ) × (find test xs ≡ Some y)
 some_from_before test [] m e = absurd (let wrong : None ≡ Some m = e in cc)
@@ -216,7 +202,7 @@ module _ (ready : List Node) (tree : IsTree ready) (c n open_with last from to :
           let same : (xs : List ℕ) → contents ready xs ≡ contents spaced xs = λ xs. sym (contents_same ready spaced xs (each xs)) in
           let blind : nearest spaced (reverse mid) ≡ None = nearest_same ready spaced (reverse mid) (each (reverse mid)) ∙ e in
           let past : nearest spaced (mid ++ (b.rest ++ last ∷ [])) ≡ nearest spaced (b.rest ++ last ∷ []) =
-          find-append (prints_at spaced) mid (b.rest ++ last ∷ []) ∙ ap (λ o. option_or o (nearest spaced (b.rest ++ last ∷ []))) (none_from_behind (prints_at spaced) mid blind) in
+          find-append (prints_at spaced) mid (b.rest ++ last ∷ []) ∙ ap (λ o. option_or o (nearest spaced (b.rest ++ last ∷ []))) (none_turned (prints_at spaced) mid blind) in
           record {
             tree = b.tree;
             content = b.content;

@@ -14,8 +14,8 @@ use Rattle.jsonc_edit.specs.Put.{AreSpaced}
 use Rattle.jsonc_edit.proofs.lemmas.remove.Contents.{apart, no_commas, comma_first}
 use Rattle.jsonc_edit.proofs.lemmas.remove.Places.{parent_in, before_in, after_in}
 use Rattle.jsonc_edit.proofs.lemmas.remove.Stretches.{contents}
-use Rattle.jsonc_edit.proofs.lemmas.remove.RemovedChildren.{All-front, All-back}
 use Rattle.jsonc_edit.proofs.lemmas.remove.RemovedStretches.{Going, with_behind, with_before, with_none}
+use Rattle.jsonc_edit.proofs.Lists.{all_front, all_rest}
 
 -- these nodes are what they were
 abbrev pub AreSame : List Node → List Node → List ℕ → Type 0
@@ -33,10 +33,10 @@ module _ (old new : List Node) where
       ap (λ w. cond (prints w) (Some x) (nearest new xs)) (All-head (λ m. content_at new m ≡ content_at old m) x xs h) ∙ ap (λ o. cond (prints_at old x) (Some x) o) (nearest_same xs (All-tail (λ m. content_at new m ≡ content_at old m) x xs h))
 
   pub front_same : (xs ys : List ℕ) → AreSame old new (xs ++ ys) → AreSame old new xs
-  front_same xs ys h = All-front (λ m. content_at new m ≡ content_at old m) xs ys h
+  front_same xs ys h = all_front (λ m. content_at new m ≡ content_at old m) xs ys h
 
   pub back_same : (xs ys : List ℕ) → AreSame old new (xs ++ ys) → AreSame old new ys
-  back_same xs ys h = All-back (λ m. content_at new m ≡ content_at old m) xs ys h
+  back_same xs ys h = all_rest (λ m. content_at new m ≡ content_at old m) xs ys h
 
   pub head_same : (x : ℕ) (xs : List ℕ) → AreSame old new (x ∷ xs) → content_at new x ≡ content_at old x
   head_same x xs h = All-head (λ m. content_at new m ≡ content_at old m) x xs h

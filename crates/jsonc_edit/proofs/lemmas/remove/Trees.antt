@@ -13,7 +13,7 @@ use Rattle.jsonc_tree.specs.Tree.{Node, content_at, parent_at, children_at, IsTr
 use Rattle.jsonc_tree.proofs.Order.{not_over_parent}
 use Rattle.jsonc_tree.proofs.OrderedTrees.{Shows-unique}
 use Rattle.jsonc_tree.proofs.Rows.{Shows-part}
-use Rattle.jsonc_layout.specs.nodes.Kinds.{is_trivia, is_whitespace, is_newline, is_inline_trivia, is_blank_at}
+use Rattle.jsonc_layout.specs.nodes.Kinds.{is_whitespace, is_newline, is_inline_trivia, is_blank_at}
 use Rattle.jsonc_sound.specs.Shape.{token_then}
 use Rattle.jsonc_layout.specs.lines.Kinds.{is_array_or_object}
 use Rattle.jsonc_sound.specs.Rows.{RowKind, opening, closing}
@@ -28,17 +28,12 @@ use Rattle.jsonc_edit.specs.remove.Removed.{comes_to_last, is_hollow_as, hollow_
 use Rattle.jsonc_edit.proofs.lemmas.remove.Places.{Quiet}
 use Rattle.jsonc_edit.proofs.lemmas.remove.Stretches.{contents}
 use Rattle.jsonc_edit.proofs.lemmas.remove.RemovedChildren.{Rewoven, rewoven_next, rewoven_changed, stretch_out, Others}
+use Rattle.jsonc_edit.proofs.LeafKinds.{trivia_leaf}
 
 -- each of these is a leaf
 abbrev pub AreLeaves : List Content → Type 0
 AreLeaves [] = Unit {0}
 AreLeaves (content ∷ rest) = (is_container content ≡ false) × AreLeaves rest
-
-trivia_leaf : (c : Content) → IsTrue (is_trivia c) → is_container c ≡ false
-trivia_leaf (Content.whitespace s) h = refl
-trivia_leaf (Content.newline k) h = refl
-trivia_leaf (Content.comment s) h = refl
-trivia_leaf c h = cc
 
 beside_leaf : (c : Content) → IsTrue (is_inline_trivia c) → is_container c ≡ false
 beside_leaf (Content.whitespace s) h = refl
@@ -137,7 +132,7 @@ comes_blanks ns (m ∷ inner) last h e =
     by true f g rest = (f, rest g)
     by false f g rest = absurd (let wrong : false ≡ true = g in cc)
 
-hollow_row : (content : Content) (ns : List Node) (row : List ℕ) → IsTrue (is_array_or_object content) → is_hollow_as content ns row ≡ comes_to_last ns (first (reverse row)) (drop 1 row)
+pub hollow_row : (content : Content) (ns : List Node) (row : List ℕ) → IsTrue (is_array_or_object content) → is_hollow_as content ns row ≡ comes_to_last ns (first (reverse row)) (drop 1 row)
 hollow_row array ns row h = refl
 hollow_row object ns row h = refl
 hollow_row content ns row h = cc

@@ -146,10 +146,6 @@ root_child ns tree n e =
     (found_one (is_element_at ns) (λ k. parent_at ns k ≡ Some 0) (children_at ns 0) n (λ k d l. subst (λ j. parent_at ns j ≡ Some 0) (get_or_default (children_at ns 0) k 0 d l) (tree.named 0 k l))
     (sym (ap (λ w. value_by w ns 0) tree.root_first) ∙ e)).0
 
--- what holds of what there is
-pub some_holds : (P : ℕ → Type 0) (o : Option ℕ) (m : ℕ) → o ≡ Some m → IfSome o P → P m
-some_holds P o m e h = subst (λ x. IfSome x P) e h
-
 pub holds_of_found : {E : Type 0} (o : Option ℕ) (n : ℕ) (P : ℕ → ℕ → Type 0) (r : Result ℕ E) → o ≡ Some n → IfOk r (P n) → IfOk r (λ m. IfSome o (λ k. P k m))
 holds_of_found o n P r e h = subst (λ x. IfOk r (λ m. IfSome x (λ k. P k m))) (sym e) h
 

@@ -1,18 +1,17 @@
 -- Where a first value has come, it has come among the rows of roots.
-use Rattle.std.proofs.Common.{◌≡◌, ℕ, zero, suc, ◌+◌, ◌<◌, ◌≤◌, Bool, true, false, not, List, [], ◌∷◌, ◌++◌, length, map, take, drop, slice_index, None, IsTrue, refl, sym, ap, subst, ◌∙◌, arith, length-append, length-take, length-drop, get_or-take, get_or-drop}
+use Rattle.std.proofs.Common.{◌≡◌, ℕ, zero, suc, ◌+◌, ◌<◌, ◌≤◌, Bool, false, List, [], ◌∷◌, ◌++◌, length, map, take, drop, slice_index, None, IsTrue, refl, sym, ap, subst, ◌∙◌, arith, length-append, length-take, length-drop, get_or-take, get_or-drop}
 use Rattle.std.specs.List.{find}
 use Rattle.std.proofs.Math.Seq.{get_or-append_seam}
 use Rattle.jsonc_text.specs.Options.{Options}
 use Rattle.jsonc_text.specs.Plain.{Plain}
-use Rattle.jsonc_tree.specs.Content.{Content, is_container}
+use Rattle.jsonc_tree.specs.Content.{Content}
 use Rattle.jsonc_tree.specs.OrderedTree.{OrderedTree, none, more, followed_by, Shows, shows_none, shows_more, ordered_tree}
 use Rattle.jsonc_tree.specs.Tree.{Node, content_at, children_at, IsTree}
 use Rattle.jsonc_tree.specs.Values.{is_passed_over}
 use Rattle.jsonc_tree.proofs.Builder.{Shows-keeps}
 use Rattle.jsonc_tree.proofs.OrderedTrees.{Shows-unique}
 use Rattle.jsonc_tree.proofs.Rows.{Shows-append, followed_by-assoc}
-use Rattle.jsonc_sound.specs.Shape.{IsTrivia}
-use Rattle.jsonc_layout.specs.nodes.Kinds.{is_element_at, is_trivia}
+use Rattle.jsonc_layout.specs.nodes.Kinds.{is_element_at}
 use Rattle.jsonc_layout.specs.nodes.Properties.{value_at, value_by}
 use Rattle.jsonc_layout.specs.lines.Breadth.{newline_kind_of}
 use Rattle.jsonc_tree.specs.OrderedTree.{Top}
@@ -34,36 +33,18 @@ use Rattle.jsonc_edit.proofs.ChangesUpward.{Shows-row_below, document_is}
 use Rattle.jsonc_edit.specs.set.RootSet.{first_place, leads_in, leads_out, line_end_if, FirstValue}
 use Rattle.jsonc_edit.specs.set.Laws.{ComesAmongRows}
 use Rattle.jsonc_edit.proofs.lemmas.set.FirstRow.{line_ends, led_apart, leads_so, ends_behind, ends_told, place_within, starts}
-
-no_container : (content : Content) → IsTrue (is_trivia content) → is_container content ≡ false
-no_container (Content.whitespace s) h = refl
-no_container (Content.newline k) h = refl
-no_container (Content.comment s) h = refl
-no_container content h = cc
-
-trivia_is : (o : Options) (content : Content) → IsTrivia o content → IsTrue (is_trivia content)
-trivia_is o (Content.whitespace s) h = refl
-trivia_is o (Content.newline k) h = refl
-trivia_is o (Content.comment s) h = refl
-trivia_is o content h = absurd h
-
-not_not : (b : Bool) → not b ≡ false → b ≡ true
-not_not true e = refl
-not_not false e = cc
-
--- leaves of trivia, and then a row
-lead : (cs : List Content) (row : OrderedTree) → followed_by (leaves_then cs none) row ≡ leaves_then cs row
-lead [] row = refl
-lead (c ∷ cs) row = ap (more c none) (lead cs row)
+use Rattle.jsonc_edit.proofs.LeafKinds.{trivia_leaf, trivia_is}
+use Rattle.jsonc_edit.proofs.lemmas.commenting.Coming.{then_joined}
+use Rattle.jsonc_edit.proofs.Lists.{not_false}
 
 all_together : (front before behind back : List Content) (top : Top)
     → followed_by (leaves_then front none) (followed_by (followed_by (leaves_then before none) (more top.content top.below (leaves_then behind none))) (leaves_then back none))
     ≡ leaves_then (front ++ before) (among [] top [] (leaves_then (behind ++ back) none))
 all_together front before behind back top =
     let node : OrderedTree = more top.content top.below (leaves_then behind none) in
-    lead front (followed_by (followed_by (leaves_then before none) node) (leaves_then back none))
-    ∙ ap (leaves_then front) (followed_by-assoc (leaves_then before none) node (leaves_then back none) ∙ lead before (followed_by node (leaves_then back none)))
-    ∙ ap (λ t. leaves_then front (leaves_then before (more top.content top.below t))) (lead behind (leaves_then back none) ∙ sym (leaves_then_joined behind back none))
+    then_joined front (followed_by (followed_by (leaves_then before none) node) (leaves_then back none))
+    ∙ ap (leaves_then front) (followed_by-assoc (leaves_then before none) node (leaves_then back none) ∙ then_joined before (followed_by node (leaves_then back none)))
+    ∙ ap (λ t. leaves_then front (leaves_then before (more top.content top.below t))) (then_joined behind (leaves_then back none) ∙ sym (leaves_then_joined behind back none))
     ∙ sym (leaves_then_joined front before (more top.content top.below (leaves_then (behind ++ back) none)))
 
 module _ (f : ℕ → Content) where
@@ -86,7 +67,7 @@ module _ (f : ℕ → Content) where
 leaf_row : (ns : List Node) → IsTree ns → (xs : List ℕ) → AreTrivia (map (content_at ns) xs) → Shows ns xs (leaves_then (map (content_at ns) xs) none)
 leaf_row ns tree [] h = shows_none
 leaf_row ns tree (n ∷ xs) h =
-    shows_more (subst (λ (l : List ℕ). Shows ns l none) (sym (tree.leaf n (no_container (content_at ns n) h.0))) shows_none) (leaf_row ns tree xs h.1)
+    shows_more (subst (λ (l : List ℕ). Shows ns l none) (sym (tree.leaf n (trivia_leaf (content_at ns n) h.0))) shows_none) (leaf_row ns tree xs h.1)
 
 module _ (o : Options) where
   -- trivia stands alone
@@ -99,7 +80,7 @@ module _ (o : Options) where
   trivia_row ns _ _ shows_none g e = tt
   trivia_row ns _ _ (shows_more {n = n} {rest = rest} {below = below} {after = after} p q) g e =
       let none_found = none_first (is_element_at ns) n rest e in
-      let over : IsTrue (is_passed_over (content_at ns n)) = not_not (is_passed_over (content_at ns n)) none_found.0 in
+      let over : IsTrue (is_passed_over (content_at ns n)) = not_false (is_passed_over (content_at ns n)) none_found.0 in
       let first = passed_first o over g in
       (trivia_is o (content_at ns n) first.0, trivia_row ns rest after q first.1 none_found.1)
 

@@ -23,7 +23,7 @@ use Rattle.jsonc_layout.specs.from_input.Layout.{Layout}
 use Rattle.jsonc_layout.specs.from_input.Laid.{laid}
 use Rattle.jsonc_edit.specs.Changes.{top_at}
 use Rattle.jsonc_edit.specs.Due.{prints, prints_at, nearest, beginning_in, is_bare_at, begins_bare, ends_bare, seen_before, seen_behind, seen_last, behind_holder, behind_property, spaces_needed_around, space_needed_before, space_needed_after, space_needed_last, space_needed_past, listed}
-use Rattle.jsonc_edit.specs.Put.{a_space, AreAtHand, AreChildren, AreSpaced, IsFree, Extends, nodes_of}
+use Rattle.jsonc_edit.specs.Put.{AreAtHand, AreChildren, AreSpaced, IsFree, Extends, nodes_of}
 use Rattle.jsonc_edit.specs.Reading.{layout_for}
 use Rattle.jsonc_edit.specs.declared.put.Space.{Space}
 use Rattle.jsonc_edit.specs.declared.put.Spaces.{Spaces}
@@ -32,22 +32,12 @@ use Rattle.jsonc_edit.proofs.NodesKept.{built_top, over_no_old, top_stays}
 use Rattle.jsonc_edit.proofs.SpacedNodes.{around_children}
 use Rattle.jsonc_edit.specs.set.PropertyValues.{LastValue}
 use Rattle.jsonc_edit.proofs.lemmas.set.FirstValueMade.{still_kept}
-
-no_space : (content : Content) → IsElement content → content ≡ a_space → ⊥
-no_space (Content.whitespace s) e f = cc
-no_space content e f = cc
-
-none_some : {k : ℕ} → None ≡ Some k → ⊥
-none_some e = cc
+use Rattle.jsonc_edit.proofs.LeafKinds.{no_space}
+use Rattle.jsonc_edit.proofs.lemmas.commas.Children.{found_like}
 
 either : (P : ℕ → Type 0) (b : Bool) (x : ℕ) (o : Option ℕ) → P x → IfSome o P → IfSome (cond b (Some x) o) P
 either P true x o here there = here
 either P false x o here there = there
-
--- what is found in a list has what all of it have
-find_all : (P : ℕ → Type 0) (test : ℕ → Bool) (xs : List ℕ) → All P xs → IfSome (find test xs) P
-find_all P test [] all = tt
-find_all P test (x ∷ xs) all = either P (test x) x (find test xs) (All-head P x xs all) (find_all P test xs (All-tail P x xs all))
 
 -- Of the nodes `made`, p is a property; m, detached, has become its last child.
 module _ (made held : List Node) (tree : IsTree made) (after : IsTree held) (p m : ℕ) (inside : p < length made) (is : content_at held p ≡ property) (contents : (k : ℕ) → k < length made → content_at held k ≡ content_at made k)
@@ -105,7 +95,7 @@ module _ (made held : List Node) (tree : IsTree made) (after : IsTree held) (p m
   row_apart = λ k d l. child_apart _ (subst (λ j. parent_at made j ≡ Some p) (get_or_default row k 0 d l) (tree.named p k l))
 
   ends_last : ends_bare held (seen_before held m) ≡ ends_bare made (seen_last made p)
-  ends_last = ap (ends_bare held) before_is ∙ ends_same (seen_last made p) (find_all Apart (prints_at made) (reverse row) (All-reverse Apart row row_apart))
+  ends_last = ap (ends_bare held) before_is ∙ ends_same (seen_last made p) (found_like Apart (prints_at made) (reverse row) (All-reverse Apart row row_apart))
 
   pub last_is : space_needed_last made p m ≡ space_needed_before held m
   last_is = sym (ap (λ b. cond b (Some m) None) ends_last)
@@ -148,7 +138,7 @@ module _ (made held : List Node) (tree : IsTree made) (after : IsTree held) (p m
 
   pub past_is : space_needed_past made p ≡ space_needed_after held m
   past_is =
-      let same : begins_bare held (nearest made (siblings_after made p)) ≡ begins_bare made (nearest made (siblings_after made p)) = begins_same (nearest made (siblings_after made p)) (find_all Apart (prints_at made) (siblings_after made p) after_apart) in
+      let same : begins_bare held (nearest made (siblings_after made p)) ≡ begins_bare made (nearest made (siblings_after made p)) = begins_same (nearest made (siblings_after made p)) (found_like Apart (prints_at made) (siblings_after made p) after_apart) in
       sym (ap (λ o. cond (begins_bare held o) o None) behind_is ∙ ap (λ b. cond b (nearest made (siblings_after made p)) None) same)
 
 -- Among the nodes `made` a value was laid out, and then its spaces were made.

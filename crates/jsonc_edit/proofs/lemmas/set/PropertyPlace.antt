@@ -1,38 +1,25 @@
 -- Where a property has been replaced by another, the object stands where it stood, and the new one is the element that the old one was.
-use Rattle.std.proofs.Common.{◌≡◌, ◌≢◌, ℕ, ◌+◌, Bool, true, List, [], ◌∷◌, ◌++◌, length, take, drop, filter, slice_get, slice_index, Some, inl, inr, refl, sym, ap, subst, ◌∙◌}
-use Rattle.std.proofs.lemmas.Bool.{cases_Bool}
+use Rattle.std.proofs.Common.{◌≡◌, ℕ, ◌+◌, true, List, [], ◌∷◌, ◌++◌, length, take, drop, filter, slice_get, slice_index, Some, refl, sym, ap, subst, ◌∙◌}
 use Rattle.std.specs.List.{splice}
 use Rattle.jsonc_text.specs.Plain.{Plain}
 use Rattle.jsonc_tree.specs.OrderedTree.{Top}
 use Rattle.jsonc_tree.specs.Tree.{Node, parent_at, children_at, place_at, IsTree}
-use Rattle.jsonc_tree.proofs.Order.{not_over_parent, parent_there}
-use Rattle.jsonc_tree.proofs.Over.{over_up}
+use Rattle.jsonc_tree.proofs.Order.{parent_there}
 use Rattle.jsonc_layout.specs.nodes.Kinds.{is_element, is_element_at}
-use Rattle.jsonc_layout.specs.nodes.Siblings.{elements_at}
 use Rattle.jsonc_sound.specs.TreeChanges.{IsElement}
 use Rattle.jsonc_edit.specs.Due.{listed}
 use Rattle.jsonc_edit.specs.Put.{AreSpaced}
-use Rattle.jsonc_edit.specs.Paths.{IsElementOf, StepsTo, LeadsTo, itself, step, IsAt}
+use Rattle.jsonc_edit.specs.Paths.{IsElementOf, IsAt}
 use Rattle.jsonc_edit.specs.Reading.{layout_for}
-use Rattle.jsonc_edit.proofs.Elements.{Some_same, taken, left, StandsAt, stands_at}
+use Rattle.jsonc_edit.proofs.Elements.{Some_same, StandsAt, stands_at}
 use Rattle.jsonc_edit.proofs.ReplacedChildren.{InPlace, in_place}
 use Rattle.jsonc_edit.proofs.NodesKept.{at_kept, filter_same}
-use Rattle.jsonc_edit.proofs.NewPaths.{other_held}
-use Rattle.jsonc_edit.proofs.Spacing.{at_stays}
-use Rattle.jsonc_edit.proofs.Uniqueness.{element_parent, leads_over}
+use Rattle.jsonc_edit.proofs.NewPaths.{found_behind}
+use Rattle.jsonc_edit.proofs.PathsKept.{at_still as still_at}
+use Rattle.jsonc_edit.proofs.Spacing.{at_stays, elements_spaced}
+use Rattle.jsonc_edit.proofs.Uniqueness.{element_parent}
 use Rattle.jsonc_edit.specs.set.Giving.{due_after, property_top}
 use Rattle.jsonc_edit.specs.set.Properties.{TakesPropertysPlace}
-use Rattle.jsonc_edit.proofs.lemmas.set.PropertyRows.{elements_spaced}
-
--- what passes is found behind as many as pass before it
-found_behind : (test : ℕ → Bool) (front : List ℕ) (m : ℕ) (rest : List ℕ) → test m ≡ true → slice_get (filter test (front ++ m ∷ rest)) (length (filter test front)) ≡ Some m
-found_behind test [] m rest h = ap (λ l. slice_get l 0) (taken test m rest h)
-found_behind test (x ∷ front) m rest h =
-    let others = found_behind test front m rest h in
-    elim (cases_Bool (test x)) [
-      | inl passes ↦ ap (λ l. slice_get l (length (filter test (x ∷ front)))) (taken test x (front ++ m ∷ rest) passes) ∙ ap (λ l. slice_get (x ∷ filter test (front ++ m ∷ rest)) (length l)) (taken test x front passes) ∙ others
-      | inr fails ↦ ap (λ l. slice_get l (length (filter test (x ∷ front)))) (left test x (front ++ m ∷ rest) fails) ∙ ap (λ l. slice_get (filter test (front ++ m ∷ rest)) (length l)) (left test x front fails) ∙ others
-    ]
 
 -- n, a child of c, has been replaced by m
 module _ (old new : List Node) (tree : IsTree old) (n m c i : ℕ) (now : Top) (p : InPlace old new n m now) (element : IsElement now.content) (holds : IsElementOf old c i n) where
@@ -42,34 +29,9 @@ module _ (old new : List Node) (tree : IsTree old) (n m c i : ℕ) (now : Top) (
   same_kind : (k : ℕ) → is_element_at new k ≡ is_element_at old k
   same_kind k = ap is_element (p.contents k)
 
-  -- the rows of other nodes are what they were
-  row_stays : (k : ℕ) → k ≢ c → elements_at new k ≡ elements_at old k
-  row_stays k ne =
-      ap (filter (is_element_at new)) (p.children k (λ e. ne (Some_same k c (sym e ∙ said))))
-      ∙ filter_same (is_element_at new) (is_element_at old) (children_at old k) (λ j h. same_kind (slice_index (children_at old k) j))
-
-  element_stays : (k j q : ℕ) → k ≢ c → IsElementOf old k j q → IsElementOf new k j q
-  element_stays k j q ne e = ap (λ l. slice_get l j) (row_stays k ne) ∙ e
-
-  -- so the way to c stays
-  leads_stay : (x : ℕ) (path : List ℕ) → LeadsTo old c x path → LeadsTo new c x path
-  leads_stay _ _ itself = itself
-  leads_stay x _ (step {i = j} {q = q} {path = path} (StepsTo.in_array a e) rest) =
-      let over = leads_over old tree c q path rest in
-      let apart : x ≢ c = λ same. not_over_parent old tree q c (element_parent old tree x j q e ∙ ap Some same) over in
-      step (StepsTo.in_array (p.contents x ∙ a) (element_stays x j q apart e)) (leads_stay q path rest)
-  leads_stay x _ (step {i = j} {q = q} {path = path} (StepsTo.in_object {r = r} o e held) rest) =
-      let over = leads_over old tree c q path rest in
-      let below : parent_at old q ≡ Some r = element_parent old tree r 1 q held.1 in
-      let apart_r : r ≢ c = λ same. not_over_parent old tree q c (below ∙ ap Some same) over in
-      let apart_x : x ≢ c = λ same. not_over_parent old tree r c (element_parent old tree x j r e ∙ ap Some same) (over_up old q r c below over) in
-      step (StepsTo.in_object (p.contents x ∙ o) (element_stays x j r apart_x e) (p.contents r ∙ held.0, element_stays r 1 q apart_r held.1, other_held old new tree n m now p element r q held.0 (λ told. apart_r (Some_same r c (sym told ∙ said))) held.2)) (leads_stay q path rest)
-
+  -- the way to c stays
   pub at_still : (path : List ℕ) → IsAt old path c → IsAt new path c
-  at_still path (x, e, leads) =
-      let said_x : parent_at old x ≡ Some 0 = element_parent old tree 0 0 x e in
-      let apart : 0 ≢ c = λ same. not_over_parent old tree x c (said_x ∙ ap Some same) (leads_over old tree c x path leads) in
-      (x, element_stays 0 0 x apart e, leads_stay x path leads)
+  at_still path at = still_at old new c tree (λ k there. p.contents k) (λ k there ne. p.children k (λ e. ne (Some_same k c (sym e ∙ said)))) path at
 
   -- and m is the element that n was
   pub element_now : IsElementOf new c i m

@@ -1,37 +1,30 @@
 -- A property in the row of an object: what stands beside it, and what it prints first and last.
-use Rattle.std.proofs.Common.{◌≡◌, ℕ, suc, ◌+◌, Bool, true, false, ◌&&◌, cond, List, [], ◌∷◌, ◌++◌, length, take, drop, filter, Option, Some, None, if◌then◌else◌, refl, sym, ap, subst, ◌∙◌}
+use Rattle.std.proofs.Common.{◌≡◌, ℕ, suc, ◌+◌, Bool, true, false, cond, List, [], ◌∷◌, ◌++◌, length, take, drop, filter, Option, Some, None, if◌then◌else◌, refl, sym, ap, subst, ◌∙◌}
 use Rattle.std.proofs.lemmas.Bool.{false≢true}
 use Rattle.std.proofs.lemmas.List.{append-nil, take-append-drop, drop_more}
 use Rattle.std.proofs.lemmas.List.Elements.{All-nil}
 use Rattle.std.specs.List.{All}
 use Rattle.jsonc_text.specs.Options.{Options}
 use Rattle.jsonc_text.specs.Plain.{Plain}
-use Rattle.jsonc_text.specs.Grammar.{IsDocument}
 use Rattle.jsonc_tree.specs.Content.{Content, object, property, token, whitespace}
 use Rattle.jsonc_tree.specs.OrderedTree.{OrderedTree, none, more, own_leaf, leaves, followed_by, Shows, shows_none, shows_more, Top}
 use Rattle.jsonc_tree.specs.Tree.{Node, content_at, parent_at, children_at, place_at, IsTree, IsOver}
-use Rattle.jsonc_tree.specs.Values as values
-use Rattle.jsonc_tree.specs.Values.{HasNoValue, DocumentValueOf}
 use Rattle.jsonc_tree.proofs.Order.{parent_there}
 use Rattle.jsonc_tree.proofs.OrderedTrees.{Shows-unique, leaves-followed_by}
-use Rattle.jsonc_tree.proofs.Over.{over_up}
 use Rattle.jsonc_tree.proofs.Rows.{Shows-part}
-use Rattle.jsonc_sound.specs.Shape.{IsLiteralBefore, printed_text, token_then}
-use Rattle.jsonc_sound.proofs.ShapeValues.{document_printed}
+use Rattle.jsonc_sound.specs.Shape.{IsLiteralBefore, token_then}
 use Rattle.jsonc_layout.specs.nodes.Kinds.{is_element, is_element_at}
-use Rattle.jsonc_layout.specs.nodes.Siblings.{elements_at}
 use Rattle.jsonc_layout.specs.from_input.Layout.{Layout}
 use Rattle.jsonc_layout.specs.from_input.Laid.{laid, laid_property, string_leaf}
 use Rattle.jsonc_sound.specs.ChangeLaws.{DiffersIn}
 use Rattle.jsonc_sound.specs.Rows as rows
 use Rattle.jsonc_sound.specs.Rows.{Last}
-use Rattle.jsonc_sound.specs.TreeChanges.{IsElement, leaves_of, property_of, ElementChanged, DocumentChanged, in_root}
-use Rattle.jsonc_sound.proofs.FirstNodes.{here, over, beyond, meets_first, none_changed, no_element, trivia_over}
+use Rattle.jsonc_sound.specs.TreeChanges.{IsElement, leaves_of, property_of}
+use Rattle.jsonc_sound.proofs.FirstNodes.{no_element, trivia_over}
 use Rattle.jsonc_sound.specs.Adjacent.{or_else, last_printed}
 use Rattle.jsonc_sound.specs.Alone as alone
 use Rattle.jsonc_sound.specs.Alone.{ValueAlone, RowAlone, PropertyAlone}
 use Rattle.jsonc_sound.specs.InRows.{row_around}
-use Rattle.jsonc_sound.specs.SoundTrees.{SoundTree}
 use Rattle.jsonc_sound.specs.Spaces.{is_bare, is_bare_leaf, first_printed}
 use Rattle.jsonc_sound.proofs.RowsWithin.{LeafPrints, name_prints}
 use Rattle.jsonc_sound.proofs.Spaces.{last_append}
@@ -40,27 +33,12 @@ use Rattle.jsonc_sound.specs.Properties.{object_of}
 use Rattle.jsonc_edit.specs.Due.{begins_bare, space_needed_before, space_needed_after, seen_behind, listed}
 use Rattle.jsonc_edit.specs.Put.{AreSpaced}
 use Rattle.jsonc_edit.proofs.NearestLeaves.{value_last}
-use Rattle.jsonc_edit.proofs.InsertedSpaces.{elements_kept}
 use Rattle.jsonc_edit.proofs.UnneededSpaces.{quiet_behind}
 use Rattle.jsonc_edit.specs.Changes.{row_below, top_at}
-use Rattle.jsonc_edit.specs.Paths.{IsAt}
-use Rattle.jsonc_edit.specs.Spaced.{SpacesPut}
-use Rattle.jsonc_edit.proofs.OneValue.{document_once}
 use Rattle.jsonc_edit.proofs.SpacedNodes.{Placed, around_placed}
-use Rattle.jsonc_edit.proofs.Spacing.{spaces_value}
-use Rattle.jsonc_edit.proofs.Uniqueness.{element_parent, leads_over}
 use Rattle.jsonc_edit.proofs.ChangesUpward.{Shows-row_below}
 use Rattle.jsonc_edit.specs.set.Giving.{due_after, is_bare_value}
 use Rattle.jsonc_edit.proofs.lemmas.set.PropertyGiving.{last_all}
-
--- elements stay where spaces come
-pub elements_spaced : (xs : List ℕ) (old new : List Node) → IsTree old → AreSpaced old xs new → (c : ℕ) → elements_at new c ≡ elements_at old c
-elements_spaced [] old new tree e c = ap (λ ns. elements_at ns c) e
-elements_spaced (x ∷ xs) old new tree (now, leaf, s, rest) c = elements_spaced xs now new s.tree rest c ∙ elements_kept old now x leaf tree s c
-
--- what stands at a path is a node of the document
-pub over_at : (ns : List Node) → IsTree ns → (path : List ℕ) (n : ℕ) → IsAt ns path n → IsOver ns 0 n
-over_at ns tree path n (v, e, leads) = over_up ns v 0 n (element_parent ns tree 0 0 v e) (leads_over ns tree n v path leads)
 
 -- the rows around a child
 pub record Parted (ns : List Node) (n c : ℕ) : Type 0 where
@@ -144,14 +122,6 @@ quiet_after old new tree n v spaced bare = by (begins_bare old (seen_behind old 
     by true None seen e same = absurd (false≢true (sym (ap (begins_bare old) seen) ∙ e))
     by true (Some x) seen e (now, space, s, same) = subst (λ ns. begins_bare ns (seen_behind ns n) ≡ false) (sym same) (quiet_behind old now tree n x space s seen)
 
-pub first_false : (ns : List Node) (x y : Option ℕ) → begins_bare ns (or_else x y) ≡ false → begins_bare ns x ≡ false
-first_false ns None y e = refl
-first_false ns (Some k) y e = e
-
-pub and_false : (a b : Bool) → b ≡ false → a && b ≡ false
-and_false true b e = e
-and_false false b e = refl
-
 -- a name between quotes is printed first
 name_of : {o : Options} {name : Content} {after : OrderedTree} → PropertyAlone o (more name none after) → LeafPrints name
 name_of {o} (alone.named {name = name} k g h v) = name_prints o name k
@@ -189,31 +159,3 @@ property_differs front was now back = record {
   before = ap (λ l. token 0x7B ∷ l) (leaves-followed_by front (more property was back));
   after = ap (λ l. token 0x7B ∷ l) (leaves-followed_by front (more property now back));
 }
-
--- a document of which a value has changed has one
-no_value_there : {was now : Top} {i : ℕ} {row new : OrderedTree} → HasNoValue row → ElementChanged was now i row new → ⊥
-no_value_there values.end e = none_changed e
-no_value_there (values.pass {content = content} h g) e =
-    elim (meets_first e) [
-      | here a p b q f ↦ no_element content q h
-      | over q k f ↦ no_value_there g k
-      | beyond a q k f ↦ no_element content q h
-    ]
-
-some_value : (o : Options) {was now : Top} {path : List ℕ} {t u : OrderedTree} → DocumentChanged was now path t u → DocumentValueOf o t None → ⊥
-some_value o (in_root {row = row} e k) (below, same, h) = let first : below ≡ row = cc in no_value_there (subst HasNoValue first h) e
-
-pub some_value_of : (o : Options) {was now : Top} {path : List ℕ} {t u : OrderedTree} → DocumentChanged was now path t u → (w : Option Plain) → DocumentValueOf o t w → (x : Plain) × DocumentValueOf o t (Some x)
-some_value_of o changed None h = absurd (some_value o changed h)
-some_value_of o changed (Some x) h = (x, h)
-
--- a sound document prints the value that it has, also before spaces came
-pub prints_value : (o : Options) (t : OrderedTree) (w : Option Plain) → SoundTree o t → DocumentValueOf o t w → IsDocument o (printed_text t) w
-prints_value o t w s value =
-    let known = document_printed o t s.shaped s.lines in
-    subst (IsDocument o (printed_text t)) (document_once o t known.0 w known.2 value) known.1
-
-pub prints_first : (o : Options) {t u : OrderedTree} → SpacesPut t u → SoundTree o t → (w : Option Plain) → DocumentValueOf o u w → IsDocument o (printed_text t) w
-prints_first o {t} {u} puts s w value =
-    let known = document_printed o t s.shaped s.lines in
-    subst (IsDocument o (printed_text t)) (document_once o u known.0 w (spaces_value o known.0 puts known.2) value) known.1

@@ -47,16 +47,17 @@ use Rattle.jsonc_edit.proofs.PathsKept.{at_over}
 use Rattle.jsonc_edit.proofs.ShapedProperties.{Parts, firsts, name_is_name}
 use Rattle.jsonc_edit.proofs.Splices.{respliced_over, respliced_row, spliced_in}
 use Rattle.jsonc_edit.proofs.Uniqueness.{element_parent}
-use Rattle.jsonc_edit.proofs.lemmas.set.PropertyRows.{Parted, parted, ObjectRow, object_row, Inside, inside_of, property_here, some_value_of, prints_value}
+use Rattle.jsonc_edit.proofs.lemmas.set.PropertyRows.{Parted, parted, ObjectRow, object_row, Inside, inside_of, property_here}
 use Rattle.jsonc_edit.proofs.lemmas.set.Renaming.{named_child}
 use Rattle.jsonc_edit.proofs.lemmas.set.RenamedTrees.{Around, element_around, property_there, NameFirst, name_first, sound_renamed, value_renamed}
+use Rattle.jsonc_edit.proofs.SoundValues.{some_value_of, prints_value}
 
 -- leaves around a node, in a row and then around that
 around_node : (f x y z b : List Content) → f ++ ((x ++ (y ++ z)) ++ b) ≡ (f ++ x) ++ (y ++ (z ++ b))
 around_node f x y z b =
     ap (λ l. f ++ l) (append_assoc x (y ++ z) b ∙ ap (λ l. x ++ l) (append_assoc y z b)) ∙ sym (append_assoc f x (y ++ (z ++ b)))
 
-node_leaves : (front back : OrderedTree) (top : Top) → leaves (row_around front top back) ≡ leaves front ++ (leaves_of top ++ leaves back)
+pub node_leaves : (front back : OrderedTree) (top : Top) → leaves (row_around front top back) ≡ leaves front ++ (leaves_of top ++ leaves back)
 node_leaves front back top =
     leaves-followed_by front (more top.content top.below back) ∙ ap (λ l. leaves front ++ l) (sym (append_assoc _ (leaves top.below) (leaves back)))
 
@@ -172,7 +173,7 @@ module _ (old new : List Node) (p m : ℕ) (name : List ℕ) (tree : IsTree old)
         ∙ ap (λ k. splice (children_at old p) k (k + 1) (m ∷ [])) (place_kept old ready tree kept n p child);
     others = λ k h ne. spliced.others k ne ∙ kept.children k h;
     still_at = λ k path over at.
-        at_over ready new p g.prepared.tree (λ j. spliced.content j) (λ j ne. spliced.others j ne) k (over_also k p p_there over) path (at_kept old ready tree kept path k at);
+        at_over ready new p g.prepared.tree (λ j there. spliced.content j) (λ j there ne. spliced.others j ne) k (over_also k p p_there over) path (at_kept old ready tree kept path k at);
   }
 
   -- p is the property number i of the object c, which stands at a path of a sound document

@@ -15,7 +15,7 @@ use Rattle.jsonc_tree.specs.Tree.{Node, content_at, parent_at, children_at, plac
 use Rattle.jsonc_tree.specs.Values as values
 use Rattle.jsonc_tree.proofs.Order.{not_over_parent, parent_there}
 use Rattle.jsonc_tree.proofs.Over.{over_up, sibling_not_over}
-use Rattle.jsonc_tree.proofs.OrderedTrees.{Shows-unique, leaves-followed_by}
+use Rattle.jsonc_tree.proofs.OrderedTrees.{Shows-unique}
 use Rattle.jsonc_tree.proofs.Rows.{Shows-append}
 use Rattle.jsonc_layout.specs.nodes.Kinds.{is_colon, is_colon_at, is_element, is_element_at}
 use Rattle.jsonc_layout.specs.nodes.Properties.{is_name, is_name_at, value_at}
@@ -33,7 +33,7 @@ use Rattle.jsonc_sound.proofs.LeavesAround.{document_differs}
 use Rattle.jsonc_sound.proofs.Values.{document_change}
 use Rattle.jsonc_sound.specs.Adjacent.{last_printed}
 use Rattle.jsonc_sound.specs.Alone as alone
-use Rattle.jsonc_sound.specs.Alone.{ValueAlone, RowAlone, PropertyAlone}
+use Rattle.jsonc_sound.specs.Alone.{RowAlone, PropertyAlone}
 use Rattle.jsonc_sound.specs.Booleans.{boolean_leaf, is_hex_leaf}
 use Rattle.jsonc_sound.specs.InRows.{row_around}
 use Rattle.jsonc_sound.specs.SoundTrees.{SoundTree}
@@ -68,7 +68,7 @@ use Rattle.jsonc_edit.proofs.ReplacedValues.{at_child}
 use Rattle.jsonc_edit.proofs.SeamsParting.{tells_what_is_printed}
 use Rattle.jsonc_edit.proofs.Spacing.{all_spaced, Spaced, spaces_marks, spaces_sound}
 use Rattle.jsonc_edit.proofs.Splices.{leaf_over}
-use Rattle.jsonc_edit.proofs.Uniqueness.{element_parent}
+use Rattle.jsonc_edit.proofs.Uniqueness.{element_parent, over_at}
 use Rattle.jsonc_edit.proofs.ChangesUpward.{ChangedIn, Shows-row_below, apart_kept, document_is}
 use Rattle.jsonc_edit.specs.set.Booleans.{space_needed_for, is_boolean, is_hex_at, BooleanSet, StaysAtPath, WritesBoolean}
 use Rattle.jsonc_edit.specs.SeamPlaces.{DocumentHolds, ReplacedWithSeams}
@@ -79,11 +79,9 @@ use Rattle.jsonc_edit.proofs.PathPlaces.{AtBetween, at_between, holds_between}
 use Rattle.jsonc_edit.proofs.lemmas.set.BooleanSetting.{boolean_of}
 use Rattle.jsonc_edit.proofs.lemmas.set.HexBefore.{hex_before}
 use Rattle.jsonc_edit.proofs.lemmas.set.HexRows.{Flat, a_leaf, array_row, more_flat, flat_before, array_flat, property_flat, root_flat, hex_seen}
-use Rattle.jsonc_edit.proofs.lemmas.set.PropertyRows.{over_at, Parted, parted, object_row, inside_of, counted_elements, some_value_of, prints_value, prints_first}
-
--- the leaves of a row with a node in it
-node_list : (front back : OrderedTree) (top : Top) → leaves (row_around front top back) ≡ leaves front ++ (leaves_of top ++ leaves back)
-node_list front back top = leaves-followed_by front (more top.content top.below back) ∙ ap (λ l. leaves front ++ l) (sym (append_assoc (own_leaf top.content) (leaves top.below) (leaves back)))
+use Rattle.jsonc_edit.proofs.lemmas.set.PropertyRows.{Parted, parted, object_row, inside_of, counted_elements}
+use Rattle.jsonc_edit.proofs.SoundValues.{some_value_of, prints_value, prints_first}
+use Rattle.jsonc_edit.proofs.lemmas.set.RenamedProperty.{node_leaves}
 
 -- a row that begins with a leaf that is printed prints something before a node that is not its first
 begins : (f : List Content) (c : Content) (r front back : OrderedTree) (top : Top) → own_leaf c ≡ c ∷ [] → LeafPrints c → front ≢ none → row_around front top back ≡ more c none r → last_printed (f ++ leaves front) ≡ last_printed (leaves front)
@@ -99,7 +97,7 @@ behind_bracket : (front back r : OrderedTree) (top : Top) → IsElement top.cont
 behind_bracket none back r top h e f = let same : top.content ≡ token 0x5B = cc in false≢true (subst IsElement same h)
 behind_bracket (more d b a) back r top h e f = cc
 
-property_part : {o : Options} {last : Last} {content : Content} {below after : OrderedTree} → content ≡ property → RowAlone o rows.of_properties last (more content below after) → PropertyAlone o below
+pub property_part : {o : Options} {last : Last} {content : Content} {below after : OrderedTree} → content ≡ property → RowAlone o rows.of_properties last (more content below after) → PropertyAlone o below
 property_part e (alone.closes m) = cc
 property_part {o} e (alone.trivia {content = content} k g) = absurd (subst (λ w. IsTrivia o w) e k)
 property_part e (alone.element m (alone.a_property p) g) = p
@@ -187,10 +185,10 @@ module _ (ns new : List Node) (n : ℕ) (r : LeafChanged ns new n) (leaf : is_co
         Shows-unique new (children_at new p) (row_below new p) (row_around near.front (top_at new x) near.back) (Shows-row_below new r.after p (omega (arith, there.1, r.becomes.len))) here
 
     row_before : leaves (row_below ns p) ≡ leaves near.front ++ (leaves_of (top_at ns x) ++ leaves near.back)
-    row_before = ap leaves near.is ∙ node_list near.front near.back (top_at ns x)
+    row_before = ap leaves near.is ∙ node_leaves near.front near.back (top_at ns x)
 
     row_after : leaves (row_below new p) ≡ leaves near.front ++ (leaves_of (top_at new x) ++ leaves near.back)
-    row_after = ap leaves new_row ∙ node_list near.front near.back (top_at new x)
+    row_after = ap leaves new_row ∙ node_leaves near.front near.back (top_at new x)
 
     -- the node over them stays what it is, and has no leaf of its own
     holds : is_container_at ns p ≡ true

@@ -34,6 +34,7 @@ use Rattle.jsonc_sound.proofs.Laid.{laid_as_written_named}
 use Rattle.jsonc_sound.specs.Leaving.{element_count}
 use Rattle.jsonc_sound.specs.Properties.{among_properties, object_of, IsNewProperty, PropertyChanged, ReplacesMember}
 use Rattle.jsonc_sound.proofs.GivenProperties.{sound_with_property, value_with_property, marks_with_property}
+use Rattle.jsonc_sound.proofs.Commas.{and_false}
 use Rattle.jsonc_edit.specs.Due.{nearest, begins_bare, behind_holder, listed}
 use Rattle.jsonc_edit.proofs.NearestLeaves.{back_bare}
 use Rattle.jsonc_edit.proofs.WholeRows.{Whole, whole_behind, row_whole}
@@ -45,14 +46,16 @@ use Rattle.jsonc_edit.specs.Writing.{FitsLayout, IsWritable}
 use Rattle.jsonc_edit.proofs.Elements.{Some_same, StandsAt, stands_at}
 use Rattle.jsonc_edit.proofs.Fitting.{layout_fits}
 use Rattle.jsonc_edit.proofs.NodesKept.{at_kept, filter_same, top_stays, tree_stays}
-use Rattle.jsonc_edit.proofs.Spacing.{all_spaced, Spaced, spaces_marks, spaces_sound}
+use Rattle.jsonc_edit.proofs.Spacing.{all_spaced, Spaced, spaces_marks, spaces_sound, elements_spaced}
 use Rattle.jsonc_edit.proofs.Splices.{joined_top, respliced_over, respliced_row}
-use Rattle.jsonc_edit.proofs.Uniqueness.{element_parent}
+use Rattle.jsonc_edit.proofs.Uniqueness.{element_parent, over_at}
 use Rattle.jsonc_edit.proofs.ChangesUpward.{Shows-row_below}
 use Rattle.jsonc_edit.proofs.Writable.{property_may_stand, value_may_stand}
 use Rattle.jsonc_edit.specs.set.Giving.{due_after, is_bare_value, property_top, PropertyReplacedBy, IsPropertyReplaced}
 use Rattle.jsonc_edit.specs.set.Properties.{IsPropertyWritten, WritesProperty}
-use Rattle.jsonc_edit.proofs.lemmas.set.PropertyRows.{elements_spaced, over_at, Parted, parted, ObjectRow, object_row, Inside, inside_of, property_here, counted_elements, due_placed, quiet_after, first_false, name_first, value_behind, and_false, property_differs, some_value_of, prints_value, prints_first}
+use Rattle.jsonc_edit.proofs.lemmas.set.PropertyRows.{Parted, parted, ObjectRow, object_row, Inside, inside_of, property_here, counted_elements, due_placed, quiet_after, name_first, value_behind, property_differs}
+use Rattle.jsonc_edit.proofs.SoundValues.{some_value_of, prints_value, prints_first}
+use Rattle.jsonc_edit.proofs.ReplacedAlone.{first_false}
 
 module _ (o : Options) (old new : List Node) (path : List ℕ) (c i n m : ℕ) (name : List ℕ) (v : Plain) (tree : IsTree old) (sound : SoundTree o (ordered_tree old 0)) (at : IsAt old path c)
     (is_object : content_at old c ≡ object) (element : IsElementOf old c i n) (texts : IsCharacters name) (writable : IsWritable o v) (given : IsPropertyReplaced old new n name v m) where

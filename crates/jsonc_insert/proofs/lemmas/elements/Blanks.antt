@@ -1,37 +1,23 @@
 -- Blank lines that leave the row of an array.
-use Rattle.std.proofs.Common.{◌≡◌, ◌∙◌, ◌<◌, ◌≤◌, ◌+◌, ◌-◌, ◌⊎◌, inl, inr, ℕ, suc, Bool, true, false, List, [], ◌∷◌, ◌++◌, length, map, reverse, take, drop, get_or, slice_index, slice_range, nat_lt, refl, sym, ap, subst, arith, append_assoc, length-append, length-drop, length-take}
+use Rattle.std.proofs.Common.{◌≡◌, ◌∙◌, ◌<◌, ◌≤◌, ◌+◌, ◌-◌, ◌⊎◌, inl, inr, ℕ, suc, true, false, List, [], ◌∷◌, ◌++◌, length, map, reverse, take, drop, slice_index, slice_range, nat_lt, refl, sym, ap, subst, arith, append_assoc, length-append, length-drop, length-take}
 use Rattle.std.specs.List.{prefix_len}
-use Rattle.std.proofs.lemmas.Bool.{cases_Bool, cases_lt, ltb-true, false≢true}
+use Rattle.std.proofs.lemmas.Bool.{cases_Bool, ltb-true}
 use Rattle.std.proofs.lemmas.List.{drop-append-le, drop_more, get_or-drop, get_or-reverse, get_or-take, get_or_append_left, length-reverse, take-append-drop, take-append-le, take_at, take_more}
 use Rattle.std.proofs.lemmas.List.Edits.{get_or-between, length-between, split_between}
 use Rattle.std.proofs.lemmas.List.Elements.{All-from_get_or}
 use Rattle.std.proofs.lemmas.List.Folds.{length-prefix_len}
-use Rattle.std.proofs.lemmas.List.Sums.{prefix_len_passes, prefix_len_stops}
+use Rattle.std.proofs.lemmas.List.Sums.{prefix_len_stops}
 use Rattle.jsonc_tree.specs.Content.{newline}
 use Rattle.jsonc_tree.specs.OrderedTree.{OrderedTree, none, more, followed_by}
 use Rattle.jsonc_tree.specs.Tree.{Node, content_at, IsTree}
 use Rattle.jsonc_layout.specs.nodes.Kinds.{is_newline_at, is_whitespace_at, is_blank_at}
 use Rattle.jsonc_sound.specs.TriviaChanges.{leaves_then}
 use Rattle.jsonc_insert.specs.Trimmed.{blanks, first_gone, inside, last_blanks, last_gone, last_gone_from, last_spaces, spaces, trimmed, without}
-use Rattle.jsonc_insert.proofs.TrimmedRows.{back_blank, blanks_within, first_high, first_within, front_blank, last_behind, last_high, last_low, shorter_at}
-use Rattle.jsonc_edit.proofs.lemmas.multiline.OnLines.{standing}
+use Rattle.jsonc_insert.proofs.TrimmedRows.{back_blank, blanks_within, first_high, first_within, front_blank, last_behind, last_high, last_low, shorter_at, runs_apart}
+use Rattle.jsonc_edit.proofs.LeafKinds.{newline_is}
+use Rattle.jsonc_edit.proofs.Standing.{standing}
 use Rattle.jsonc_insert.specs.elements.Coming.{FirstLinesLeave, none_first, leave_first, LastLinesLeave, none_last, leave_last, BlankLinesLeave}
-use Rattle.jsonc_insert.proofs.lemmas.elements.RowsOfTrees.{AllAre, blank_line, blanks_alone, blanks_are, blanks_row, line_first, newline_is, standing_then}
-
--- not all of a list pass where one does not from behind
-stops_backwards : (p : ℕ → Bool) (xs : List ℕ) → prefix_len p xs < length xs → prefix_len p (reverse xs) < length xs
-stops_backwards p xs h =
-    elim (cases_lt (prefix_len p (reverse xs)) (length xs)) [
-      | inl low ↦ low
-      | inr high ↦ (
-          let k = prefix_len p xs in
-          let j : ℕ = length xs - 1 - k in
-          let back : length xs - 1 - j ≡ k = omega (arith, h) in
-          let there : j < length xs = omega (arith, h) in
-          let passes : p (get_or (reverse xs) j 0) ≡ true = prefix_len_passes p (reverse xs) j 0 (omega (arith, h, high)) in
-          let same : get_or (reverse xs) j 0 ≡ get_or xs k 0 = get_or-reverse xs j 0 there ∙ ap (λ i. get_or xs i 0) back in
-          absurd (false≢true (sym (prefix_len_stops p xs 0 h) ∙ sym (ap p same) ∙ passes)))
-    ]
+use Rattle.jsonc_insert.proofs.lemmas.elements.RowsOfTrees.{AllAre, blank_line, blanks_alone, blanks_are, blanks_row, line_first, standing_then}
 
 -- a row without a stretch inside its ends
 strip : (x y : ℕ) (inner : List ℕ) (f t : ℕ) → 1 ≤ f → f ≤ t → t ≤ 1 + length inner → take f (x ∷ (inner ++ y ∷ [])) ++ drop t (x ∷ (inner ++ y ∷ [])) ≡ x ∷ ((take (f - 1) inner ++ drop (t - 1) inner) ++ y ∷ [])
@@ -161,7 +147,7 @@ module _ (ns : List Node) (tree : IsTree ns) where
             let z : ℕ = last_spaces ns back in
             let front_counted = length-prefix_len (is_whitespace_at ns) back in
             let counted : z ≡ prefix_len (is_whitespace_at ns) (reverse back) = length-prefix_len (is_whitespace_at ns) (reverse back) in
-            let few : z < length back = (let s = stops_backwards (is_whitespace_at ns) back (omega (arith, h, front_counted)) in omega (arith, s, counted)) in
+            let few : z < length back = (let s = runs_apart (is_whitespace_at ns) back (omega (arith, h, front_counted)) in omega (arith, s, counted)) in
             let there = length-reverse back in
             let stops : is_whitespace_at ns (slice_index (reverse back) z) ≡ false =
             ap (λ i. is_whitespace_at ns (slice_index (reverse back) i)) counted ∙ prefix_len_stops (is_whitespace_at ns) (reverse back) 0 (omega (arith, few, counted, there)) in

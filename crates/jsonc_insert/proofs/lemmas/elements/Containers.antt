@@ -2,11 +2,11 @@
 use Rattle.std.proofs.Common.{◌≡◌, ◌∙◌, ◌<◌, ◌-◌, ◌+◌, ◌&&◌, inl, inr, ℕ, suc, Bool, true, false, cond, List, [], ◌∷◌, ◌++◌, All, length, drop, nat_lt, slice_index, refl, sym, ap, subst, arith, length-append}
 use Rattle.std.proofs.lemmas.Bool.{cases_Bool, ltb-true}
 use Rattle.std.proofs.lemmas.List.{drop_all, get_or-append-add}
-use Rattle.std.proofs.lemmas.List.Elements.{All-from_get_or, All-head, All-tail}
+use Rattle.std.proofs.lemmas.List.Elements.{All-from_get_or}
 use Rattle.jsonc_text.specs.Options.{Options}
 use Rattle.jsonc_tree.specs.Content as content
 use Rattle.jsonc_tree.specs.Content.{Content, token}
-use Rattle.jsonc_tree.specs.OrderedTree.{OrderedTree, Top, none, more, followed_by, ordered_tree, Shows, shows_none, shows_more}
+use Rattle.jsonc_tree.specs.OrderedTree.{OrderedTree, Top, none, followed_by, ordered_tree, Shows, shows_none}
 use Rattle.jsonc_tree.specs.Tree.{Node, children_at, content_at, IsTree, IsOver}
 use Rattle.jsonc_tree.proofs.OrderedTrees.{Shows-unique}
 use Rattle.jsonc_layout.specs.lines.Kinds.{is_array_or_object}
@@ -21,21 +21,23 @@ use Rattle.jsonc_edit.proofs.Splices.{respliced_over, respliced_row}
 use Rattle.jsonc_tree.specs.Changes.{CanJoin, Splices}
 use Rattle.jsonc_edit.specs.Paths.{IsAt}
 use Rattle.jsonc_text.specs.declared.edit.EditError.TheVariants.{OutOfMemory, MissingBrackets}
+use Rattle.jsonc_tree.proofs.Rows.{followed_by-none}
 use Rattle.jsonc_edit.proofs.FittingNodes.{over_there}
 use Rattle.jsonc_edit.proofs.ChangesUpward.{ChangedIn, Shows-row_below, changed_over}
 use Rattle.jsonc_edit.proofs.lemmas.remove.Containers.{Brackets, brackets, held_at}
 use Rattle.jsonc_edit.specs.multiline.Laws.{bracketed}
-use Rattle.jsonc_edit.proofs.lemmas.multiline.Documents.{over_at}
-use Rattle.jsonc_edit.proofs.lemmas.multiline.OnLines.{standing}
 use Rattle.jsonc_insert.specs.Planned.{has_brackets}
 use Rattle.jsonc_layout.specs.nodes.Kinds.{is_token}
+use Rattle.jsonc_edit.proofs.Uniqueness.{over_at}
+use Rattle.jsonc_edit.proofs.lemmas.commas.Steps.{same_top}
+use Rattle.jsonc_edit.proofs.Standing.{standing, shows_standing}
 use Rattle.jsonc_insert.specs.elements.Laws.{HasItsBrackets, OnlyOutOfMemory}
 use Rattle.jsonc_insert.proofs.lemmas.elements.Documents.{row_in_document}
 use Rattle.jsonc_insert.proofs.lemmas.elements.Rows.{IsRow}
 use Rattle.jsonc_insert.proofs.lemmas.elements.RowsOfTrees.{standing_then, token_first}
 
 -- a row of two tokens and what stands between them
-both_true : (a b : Bool) → a ≡ true → b ≡ true → (a && b) ≡ true
+pub both_true : (a b : Bool) → a ≡ true → b ≡ true → (a && b) ≡ true
 both_true a b e f = ap (λ v. v && b) e ∙ f
 
 module _ (ns : List Node) (x y : ℕ) (inner : List ℕ) where
@@ -56,16 +58,8 @@ module _ (ns : List Node) (x y : ℕ) (inner : List ℕ) where
       ap (λ v. cond v false (is_token (content_at ns x) && is_token (content_at ns (slice_index row (length row - 1))))) not_short
       ∙ both_true (is_token (content_at ns x)) (is_token (content_at ns (slice_index row (length row - 1)))) e (ap (λ n. is_token (content_at ns n)) last_is ∙ f)
 
--- nodes stand for their row
-pub shows_standing : (ns : List Node) → IsTree ns → (xs : List ℕ) → All (λ n. n < length ns) xs → Shows ns xs (standing ns xs)
-shows_standing ns tree [] all = shows_none
-shows_standing ns tree (n ∷ xs) all = shows_more (Shows-row_below ns tree n (All-head (λ m. m < length ns) n xs all)) (shows_standing ns tree xs (All-tail (λ m. m < length ns) n xs all))
-
 abbrev top_of : Content → OrderedTree → Top
 top_of content below = record { content = content; below = below }
-
-pub same_top : (a b : Content) (x y : OrderedTree) → a ≡ b → x ≡ y → top_of a x ≡ top_of b y
-same_top a b x y e f = ap (λ w. top_of w x) e ∙ ap (top_of b) f
 
 -- what an array or object is in nodes: its brackets, and what stands between them
 pub record ContainerRow (o : Options) (kind : RowKind) (ns : List Node) (c : ℕ) : Type 0 where
@@ -133,11 +127,6 @@ module _ (o : Options) (kind : RowKind) (ns : List Node) (path : List ℕ) (c : 
   pub container_row : ContainerRow o kind ns c
   container_row = record { open_with = b.open_with; inner = b.inner; last = b.last; children = b.children; opens = b.opens; closes = b.closes; top = was_top; row = is_row }
 
--- the row of a container is replaced by one that stands for another row of trees
-followed_none : (row : OrderedTree) → followed_by row none ≡ row
-followed_none none = refl
-followed_none (more content below after) = ap (more content below) (followed_none after)
-
 module _ (kind : RowKind) (old ready new : List Node) (path : List ℕ) (c : ℕ) (put : List ℕ) (was now : OrderedTree) (tree : IsTree old) (p : Extends old ready) (there : c < length old) (is : content_at old c ≡ holder kind) (top : top_at old c ≡ bracketed kind was) (at : IsAt old path c) (after : IsTree new) (join : CanJoin ready c 0 (length (children_at old c)) put)
     (spliced : Splices ready new c 0 (length (children_at old c)) put) (stands : standing ready put ≡ token_then (opening kind) (followed_by now (token_then (closing kind) none))) where
   abbrev kids : List ℕ
@@ -151,7 +140,7 @@ module _ (kind : RowKind) (old ready new : List Node) (path : List ℕ) (c : ℕ
       let all : All (λ n. n < length ready) put = All-from_get_or (λ n. n < length ready) put 0 (λ k h. join.in_tree k h) in
       let none_behind : drop (length kids) (children_at ready c) ≡ [] = ap (drop (length kids)) (p.keeps.children c there) ∙ drop_all (length kids) kids (omega arith) in
       respliced_row ready new c respliced none (standing ready put) none shows_none (shows_standing ready p.tree put all) (subst (λ (r : List ℕ). Shows ready r none) (sym none_behind) shows_none)
-      ∙ followed_none (standing ready put) ∙ stands
+      ∙ followed_by-none (standing ready put) ∙ stands
 
   new_top : top_at new c ≡ bracketed kind now
   new_top = same_top (content_at new c) (holder kind) (row_below new c) (token_then (opening kind) (followed_by now (token_then (closing kind) none))) (spliced.content c ∙ p.keeps.content c there ∙ is) new_row

@@ -5,7 +5,6 @@ use Rattle.jsonc_text.specs.Grammar.{IsDocument}
 use Rattle.jsonc_text.specs.Plain.{Plain}
 use Rattle.jsonc_text.specs.Text.{next}
 use Rattle.jsonc_tree.specs.OrderedTree.{OrderedTree, Top, none, followed_by, leaves}
-use Rattle.jsonc_tree.specs.Values as values
 use Rattle.jsonc_tree.specs.Values.{DocumentValueOf}
 use Rattle.jsonc_tree.proofs.OrderedTrees.{leaves-followed_by}
 use Rattle.jsonc_sound.specs.Lines.{LinesEndLoosely}
@@ -34,7 +33,8 @@ use Rattle.jsonc_edit.proofs.OneValue.{document_once}
 use Rattle.jsonc_edit.specs.multiline.Laws.{bracketed}
 use Rattle.jsonc_insert.specs.elements.Coming.{ElementInserted, comes}
 use Rattle.jsonc_insert.specs.elements.Laws.{GainsMarks}
-use Rattle.jsonc_edit.proofs.lemmas.multiline.SameDocument.{no_bracket, some_value}
+use Rattle.jsonc_edit.proofs.lemmas.multiline.SameDocument.{no_bracket}
+use Rattle.jsonc_edit.proofs.SoundValues.{some_value}
 use Rattle.jsonc_insert.proofs.lemmas.elements.Marked.{marks_then, new_marks}
 use Rattle.jsonc_insert.proofs.lemmas.elements.Rows.{IsRow}
 

@@ -7,7 +7,6 @@ use Rattle.jsonc_text.specs.Options.{Options}
 use Rattle.jsonc_text.specs.Plain.{Plain}
 use Rattle.jsonc_tree.specs.Changes.{EachOnce}
 use Rattle.jsonc_tree.specs.Content as content
-use Rattle.jsonc_tree.specs.Content.{Content, is_container, newline, token, whitespace}
 use Rattle.jsonc_tree.specs.OrderedTree.{OrderedTree, none, followed_by, ordered_tree}
 use Rattle.jsonc_tree.specs.Tree.{Node, children_at, content_at, IsTree, IsOver}
 use Rattle.jsonc_layout.specs.nodes.Kinds.{is_newline, is_newline_at}
@@ -22,7 +21,8 @@ use Rattle.jsonc_edit.specs.Paths.{IsAt}
 use Rattle.jsonc_edit.specs.Writing.{FitsLayout, IsIndent}
 use Rattle.jsonc_edit.specs.multiline.Laws.{bracketed}
 use Rattle.jsonc_edit.specs.multiline.Reflows.{has_newline}
-use Rattle.jsonc_edit.proofs.lemmas.multiline.OnLines.{standing, standing_newline}
+use Rattle.jsonc_edit.proofs.lemmas.multiline.OnLines.{standing_newline}
+use Rattle.jsonc_edit.proofs.Standing.{standing}
 use Rattle.jsonc_insert.specs.Inserted.{plan_of, put_by, ElementPut}
 use Rattle.jsonc_insert.specs.Planned.{elements, has_brackets, planned}
 use Rattle.jsonc_insert.specs.Settings.{is_spread, layout_inside, on_several_lines, outer_indent}
@@ -42,7 +42,6 @@ use Rattle.jsonc_insert.proofs.lemmas.elements.KeptTrees.{layout_fits, outer_fit
 use Rattle.jsonc_insert.proofs.lemmas.elements.PlannedRows as filling
 use Rattle.jsonc_insert.proofs.lemmas.elements.PlannedRows.{Filled}
 use Rattle.jsonc_insert.proofs.lemmas.elements.Plans as plans
-use Rattle.jsonc_insert.proofs.lemmas.elements.Plans.{last_then}
 use Rattle.jsonc_insert.proofs.lemmas.elements.Rows.{IsRow, kept_row}
 use Rattle.jsonc_insert.proofs.lemmas.elements.RowsOfTrees.{standing_count, standing_then, token_first}
 

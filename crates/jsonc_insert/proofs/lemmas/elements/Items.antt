@@ -1,12 +1,11 @@
 -- The values of an array's row where blank lines leave it, and where an element comes into it.
-use Rattle.std.proofs.Common.{◌≡◌, ◌∙◌, ℕ, suc, Bool, not, List, [], ◌∷◌, IsTrue, refl, sym, ap, subst, if◌then◌else◌}
+use Rattle.std.proofs.Common.{◌≡◌, ◌∙◌, ℕ, suc, Bool, not, List, [], ◌∷◌, refl, sym, ap, subst, if◌then◌else◌}
 use Rattle.jsonc_text.specs.Options.{Options}
 use Rattle.jsonc_text.specs.Plain.{Plain, Items, no_items, item}
 use Rattle.jsonc_tree.specs.Content.{Content, newline}
 use Rattle.jsonc_tree.specs.OrderedTree.{OrderedTree, Top, none, more, followed_by}
 use Rattle.jsonc_tree.specs.Values as values
-use Rattle.jsonc_tree.specs.Values.{is_passed_over, ItemsOf}
-use Rattle.jsonc_layout.specs.nodes.Kinds.{is_trivia}
+use Rattle.jsonc_tree.specs.Values.{ItemsOf}
 use Rattle.jsonc_sound.specs.Shape.{token_then}
 use Rattle.jsonc_sound.specs.Leaving.{element_count}
 use Rattle.jsonc_sound.specs.RowLaws.{items_then}
@@ -16,15 +15,10 @@ use Rattle.jsonc_sound.proofs.Entries.{blanks_trivia}
 use Rattle.jsonc_sound.proofs.FirstNodes.{value_of_element}
 use Rattle.jsonc_sound.proofs.JoinedRows.{joined_items, parted_items}
 use Rattle.jsonc_sound.proofs.RemovedEntries.{item_taken}
+use Rattle.jsonc_sound.proofs.RootRows.{trivia_passed}
 use Rattle.jsonc_insert.specs.elements.Coming.{FirstLinesLeave, none_first, leave_first, LastLinesLeave, none_last, leave_last, BlankLinesLeave, Gap, nothing, a_space, a_line, CommaInserted, none_comes, one_comes, GoesOn, elements_follow, none_follow, comma_last, ElementInserted, comes}
 use Rattle.jsonc_insert.specs.elements.Laws.{ItemInserted, this_item, later_item, item_count}
 use Rattle.jsonc_insert.proofs.lemmas.elements.Stretches.{count_one}
-
-pub over : (content : Content) → IsTrue (is_trivia content) → IsTrue (is_passed_over content)
-over (Content.whitespace s) h = refl
-over (Content.newline k) h = refl
-over (Content.comment s) h = refl
-over content h = cc
 
 -- the new value behind these
 comes_behind : (v : Plain) (vs ws : Items) → ItemInserted v (item_count vs) (items_then vs ws) (items_then vs (item v ws))
@@ -34,11 +28,11 @@ comes_behind v (item w vs) ws = later_item (comes_behind v vs ws)
 module _ (o : Options) where
   put_before : (ls : List Content) {row : OrderedTree} {vs : Items} → AreTrivia ls → ItemsOf o row vs → ItemsOf o (leaves_then ls row) vs
   put_before [] h g = g
-  put_before (content ∷ ls) h g = values.pass_to_items (over content h.0) (put_before ls h.1 g)
+  put_before (content ∷ ls) h g = values.pass_to_items (trivia_passed content h.0) (put_before ls h.1 g)
 
   taken_before : (ls : List Content) {row : OrderedTree} {vs : Items} → AreTrivia ls → ItemsOf o (leaves_then ls row) vs → ItemsOf o row vs
   taken_before [] h g = g
-  taken_before (content ∷ ls) h g = taken_before ls h.1 (item_taken o (over content h.0) g)
+  taken_before (content ∷ ls) h g = taken_before ls h.1 (item_taken o (trivia_passed content h.0) g)
 
   first_items : {row kept : OrderedTree} {vs : Items} → FirstLinesLeave row kept → ItemsOf o row vs → ItemsOf o kept vs
   first_items none_first g = g

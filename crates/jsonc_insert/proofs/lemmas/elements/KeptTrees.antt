@@ -1,12 +1,10 @@
 -- What a document tells of what comes into a container, once it has the row that this comes into, fits its options.
-use Rattle.std.proofs.Common.{◌≡◌, ◌≢◌, ◌∙◌, ◌<◌, ◌≤◌, ◌⊎◌, inl, inr, ℕ, false, List, [], ◌∷◌, ◌++◌, length, get_or, slice_get, slice_index, Option, Some, None, IfSome, chars, refl, sym, ap, subst, arith, rules}
+use Rattle.std.proofs.Common.{◌≡◌, ◌≢◌, ◌∙◌, ◌<◌, ◌≤◌, ◌⊎◌, inl, inr, ℕ, false, List, [], ◌∷◌, length, get_or, slice_get, slice_index, Option, Some, None, IfSome, refl, sym, ap, subst, arith, rules}
 use Rattle.std.proofs.lemmas.List.Elements.{All-filter}
 use Rattle.std.proofs.lemmas.Option.{slice_get_cases}
-use Rattle.std.proofs.lemmas.Str.{IsUtf8-append, IsUtf8-from_ascii, chars-append, chars-IsAscii}
+use Rattle.std.proofs.lemmas.Str.{IsUtf8-from_ascii, chars-IsAscii}
 use Rattle.jsonc_text.specs.Options.{Options}
 use Rattle.jsonc_text.specs.Text.{Many, stop, step}
-use Rattle.jsonc_text.proofs.CharacterSteps.{many_append}
-use Rattle.jsonc_text.proofs.UniqueWords.{many_more}
 use Rattle.jsonc_tree.specs.Changes.{CanJoin, Splices}
 use Rattle.jsonc_tree.specs.OrderedTree.{OrderedTree, none, followed_by, ordered_tree}
 use Rattle.jsonc_tree.specs.Tree.{Node, children_at, content_at, is_in, parent_at, IsTree, IsOver}
@@ -24,10 +22,11 @@ use Rattle.jsonc_edit.specs.Paths.{IsAt}
 use Rattle.jsonc_edit.specs.Writing.{FitsLayout, IsIndent}
 use Rattle.jsonc_edit.specs.multiline.Laws.{bracketed}
 use Rattle.jsonc_edit.proofs.FittingCommas.{commas_fit}
-use Rattle.jsonc_edit.proofs.FittingIndents.{indents_fit}
+use Rattle.jsonc_edit.proofs.FittingIndents.{indents_fit, indent_joined}
 use Rattle.jsonc_edit.proofs.FittingNodes.{children_over}
-use Rattle.jsonc_edit.proofs.lemmas.multiline.Documents.{over_at}
-use Rattle.jsonc_edit.proofs.lemmas.multiline.OnLines.{standing}
+use Rattle.jsonc_edit.proofs.Uniqueness.{over_at}
+use Rattle.jsonc_edit.proofs.Standing.{standing}
+use Rattle.jsonc_edit.proofs.PathsKept.{at_still}
 use Rattle.jsonc_insert.specs.Inserted.{BecomesRow}
 use Rattle.jsonc_insert.specs.Laws.{KeepsNodesBut}
 use Rattle.jsonc_insert.specs.Planned.{elements}
@@ -37,17 +36,12 @@ use Rattle.jsonc_insert.proofs.Additions.{parent_out, whole_row}
 use Rattle.jsonc_insert.proofs.RowReplaced.{may_join, IsRowFor}
 use Rattle.jsonc_insert.proofs.lemmas.elements.Containers as containers
 use Rattle.jsonc_insert.proofs.lemmas.elements.Documents.{sound_with_row}
-use Rattle.jsonc_insert.proofs.lemmas.elements.Places.{at_still}
 use Rattle.jsonc_insert.proofs.lemmas.elements.Rows.{IsRow}
 
 -- two spaces are an indent, and so is one indent after another
 pub two_spaces : IsIndent (0x20 ∷ 0x20 ∷ [])
 two_spaces =
     (IsUtf8-from_ascii (0x20 ∷ 0x20 ∷ []) (search rules), subst (λ t. Many is_inner_blank t []) (sym (chars-IsAscii (0x20 ∷ 0x20 ∷ []) (search rules))) (step refl (step refl stop)))
-
-pub indent_joined : (s t : List ℕ) → IsIndent s → IsIndent t → IsIndent (s ++ t)
-indent_joined s t a b =
-    (IsUtf8-append s t a.0 b.0, subst (λ l. Many is_inner_blank l []) (sym (chars-append s t a.0)) (many_append (many_more a.1 (chars t)) b.1))
 
 abbrev AreIndents : IndentTexts → Type 0
 AreIndents texts = IsIndent texts.current × IsIndent texts.single
@@ -120,7 +114,7 @@ module _ (o : Options) (kind : RowKind) (old : List Node) (path : List ℕ) (c :
   }
 
   over_kept : IsOver kept 0 c
-  over_kept = over_at kept has.tree path c (at_still old kept c tree keeps_but path at)
+  over_kept = over_at kept has.tree path c (at_still old kept c tree keeps_but.content keeps_but.children path at)
 
   pub layout_fits : FitsLayout o (layout_inside kept c)
   layout_fits = layout_told o kept has.tree sound_kept.shaped c over_kept

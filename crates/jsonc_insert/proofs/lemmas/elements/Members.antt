@@ -5,7 +5,7 @@ use Rattle.jsonc_text.specs.Plain.{Plain, Members, no_members, member}
 use Rattle.jsonc_tree.specs.Content.{Content, newline}
 use Rattle.jsonc_tree.specs.OrderedTree.{OrderedTree, none, more, followed_by}
 use Rattle.jsonc_tree.specs.Values as values
-use Rattle.jsonc_tree.specs.Values.{is_passed_over, MembersOf, PropertyOf}
+use Rattle.jsonc_tree.specs.Values.{MembersOf, PropertyOf}
 use Rattle.jsonc_sound.specs.Shape.{token_then}
 use Rattle.jsonc_sound.specs.Leaving.{element_count}
 use Rattle.jsonc_sound.specs.RowLaws.{members_then}
@@ -14,9 +14,9 @@ use Rattle.jsonc_sound.specs.TriviaChanges.{AreTrivia, leaves_then}
 use Rattle.jsonc_sound.proofs.Entries.{blanks_trivia}
 use Rattle.jsonc_sound.proofs.JoinedRows.{joined_members, parted_members}
 use Rattle.jsonc_sound.proofs.RemovedEntries.{member_taken}
+use Rattle.jsonc_sound.proofs.RootRows.{trivia_passed}
 use Rattle.jsonc_insert.specs.elements.Coming.{FirstLinesLeave, none_first, leave_first, LastLinesLeave, none_last, leave_last, BlankLinesLeave, Gap, nothing, a_space, a_line, CommaInserted, none_comes, one_comes, GoesOn, elements_follow, none_follow, comma_last, ElementInserted, comes}
 use Rattle.jsonc_insert.specs.elements.Members.{MemberInserted, this_member, later_member, member_count}
-use Rattle.jsonc_insert.proofs.lemmas.elements.Items.{over}
 
 -- the new property behind these
 comes_behind : (name : List ℕ) (v : Plain) (ms ns : Members) → MemberInserted name v (member_count ms) (members_then ms ns) (members_then ms (member name v ns))
@@ -26,11 +26,11 @@ comes_behind name v (member n w ms) ns = later_member (comes_behind name v ms ns
 module _ (o : Options) where
   put_before : (ls : List Content) {row : OrderedTree} {ms : Members} → AreTrivia ls → MembersOf o row ms → MembersOf o (leaves_then ls row) ms
   put_before [] h g = g
-  put_before (content ∷ ls) h g = values.pass_to_members (over content h.0) (put_before ls h.1 g)
+  put_before (content ∷ ls) h g = values.pass_to_members (trivia_passed content h.0) (put_before ls h.1 g)
 
   taken_before : (ls : List Content) {row : OrderedTree} {ms : Members} → AreTrivia ls → MembersOf o (leaves_then ls row) ms → MembersOf o row ms
   taken_before [] h g = g
-  taken_before (content ∷ ls) h g = taken_before ls h.1 (member_taken o (over content h.0) g)
+  taken_before (content ∷ ls) h g = taken_before ls h.1 (member_taken o (trivia_passed content h.0) g)
 
   first_members : {row kept : OrderedTree} {ms : Members} → FirstLinesLeave row kept → MembersOf o row ms → MembersOf o kept ms
   first_members none_first g = g

@@ -18,7 +18,7 @@ use Rattle.jsonc_edit.specs.Writing.{FitsLayout, IsIndent}
 use Rattle.jsonc_edit.specs.multiline.Laws.{bracketed}
 use Rattle.jsonc_edit.specs.multiline.Reflows.{SpreadsOut}
 use Rattle.jsonc_edit.specs.multiline.Slots.{Slot, stays, AreFilled, row_in}
-use Rattle.jsonc_edit.proofs.lemmas.multiline.OnLines.{standing}
+use Rattle.jsonc_edit.proofs.Standing.{standing}
 use Rattle.jsonc_insert.specs.Inserted.{plan_of, put_by}
 use Rattle.jsonc_insert.specs.Planned.{elements, has_brackets, planned}
 use Rattle.jsonc_insert.specs.Settings.{layout_inside, outer_indent}

@@ -1,29 +1,29 @@
 -- The nodes of an object on several lines, before they take their places, stand for its row on several lines.
-use Rattle.std.proofs.Common.{◌≡◌, ◌∙◌, ◌<◌, ◌+◌, ◌-◌, ◌||◌, ℕ, suc, Bool, true, false, cond, List, [], ◌∷◌, ◌++◌, All, length, map, slice_index, refl, sym, ap, subst, arith, length-append}
+use Rattle.std.proofs.Common.{◌≡◌, ◌∙◌, ◌<◌, ◌+◌, ◌-◌, ℕ, suc, Bool, true, false, cond, List, [], ◌∷◌, ◌++◌, All, length, map, slice_index, refl, sym, ap, subst, arith, length-append}
 use Rattle.std.specs.List.{flat_map, list_any}
 use Rattle.std.proofs.lemmas.List.{get_or-append-add, map-append, take_at}
 use Rattle.std.proofs.lemmas.List.Elements.{All-cons, All-from_get_or, All-head, All-nil, All-tail}
-use Rattle.std.proofs.lemmas.List.Folds.{list_any-append}
 use Rattle.jsonc_text.specs.Options.{Options}
-use Rattle.jsonc_tree.specs.Content.{is_container, token}
+use Rattle.jsonc_tree.specs.Content.{is_container}
 use Rattle.jsonc_tree.specs.OrderedTree.{OrderedTree, none, more, ordered_tree}
 use Rattle.jsonc_tree.specs.Tree.{Node, children_at, content_at, IsTree, IsOver}
-use Rattle.jsonc_layout.specs.nodes.Kinds.{is_element, is_newline, is_newline_at}
+use Rattle.jsonc_layout.specs.nodes.Kinds.{is_element, is_newline_at}
 use Rattle.jsonc_layout.specs.lines.Indents.{indents_at}
 use Rattle.jsonc_sound.specs.Shape.{DocumentShaped}
 use Rattle.jsonc_sound.specs.Leaving.{element_count}
 use Rattle.jsonc_sound.specs.Rows.{RowKind}
 use Rattle.jsonc_edit.specs.Changes.{row_below}
 use Rattle.jsonc_edit.specs.Put.{Extends}
-use Rattle.jsonc_edit.proofs.FittingIndents.{indents_fit}
+use Rattle.jsonc_edit.proofs.FittingIndents.{indents_fit, indent_joined}
 use Rattle.jsonc_edit.proofs.NodesKept.{row_kept}
 use Rattle.jsonc_edit.specs.multiline.Lines.{Lines, between, indent_if_any, lines_for, on_line, parts, spread_row, without_back, without_front}
 use Rattle.jsonc_edit.specs.multiline.Multiline.{has_line_end}
 use Rattle.jsonc_edit.specs.multiline.Reflows.{has_newline, Reflows, ended, kept, gone, line, line_end, SpreadsOut, reflows}
 use Rattle.jsonc_edit.specs.multiline.Slots.{Slot, stays, comes, AreFilled, no_more, stayed, came, row_in}
-use Rattle.jsonc_edit.proofs.lemmas.multiline.OnLines.{AllFit, bare_below, on_lines_fit, row_newline, row_reflows, standing, standing_newline}
+use Rattle.jsonc_edit.proofs.lemmas.multiline.OnLines.{AllFit, bare_below, on_lines_fit, row_newline, row_reflows, standing_newline}
+use Rattle.jsonc_edit.proofs.lemmas.multiline.Documents.{inner_ends}
+use Rattle.jsonc_edit.proofs.Standing.{standing}
 use Rattle.jsonc_insert.proofs.lemmas.elements.Containers.{ContainerRow}
-use Rattle.jsonc_insert.proofs.lemmas.elements.KeptTrees.{indent_joined}
 
 -- the places of a container's row on several lines: as they are, where a line ends among them already
 abbrev pub enclosed : List ℕ → List Slot → List Slot
@@ -33,11 +33,11 @@ abbrev pub opened : List Node → ℕ → List Slot
 opened ns c = cond (has_line_end ns c) (map stays (children_at ns c)) (enclosed (children_at ns c) (spread_row (lines_for ns c) ns c))
 
 -- children that stay
-stays_row : (ns : List Node) (xs : List ℕ) → row_in ns (map stays xs) ≡ standing ns xs
+pub stays_row : (ns : List Node) (xs : List ℕ) → row_in ns (map stays xs) ≡ standing ns xs
 stays_row ns [] = refl
 stays_row ns (n ∷ xs) = ap (more (content_at ns n) (row_below ns n)) (stays_row ns xs)
 
-stays_fit : (ns : List Node) (xs : List ℕ) → All (λ n. n < length ns) xs → AllFit ns (map stays xs)
+pub stays_fit : (ns : List Node) (xs : List ℕ) → All (λ n. n < length ns) xs → AllFit ns (map stays xs)
 stays_fit ns [] all = tt
 stays_fit ns (n ∷ xs) all = (All-head (λ m. m < length ns) n xs all, stays_fit ns xs (All-tail (λ m. m < length ns) n xs all))
 
@@ -94,16 +94,6 @@ reflow_count (line_end r) = reflow_count r
 pub spread_count : {x y : OrderedTree} → SpreadsOut x y → element_count y ≡ element_count x
 spread_count (SpreadsOut.stays h) = refl
 spread_count (reflows h k r) = reflow_count r
-
-or_nothing : (a b : Bool) → b ≡ false → (a || (b || false)) ≡ a
-or_nothing true b e = refl
-or_nothing false b e = ap (λ c. c || false) e
-
--- no bracket is the end of a line
-inner_ends : (ns : List Node) (x y j k : ℕ) (inner : List ℕ) → content_at ns x ≡ token j → content_at ns y ≡ token k → list_any (is_newline_at ns) (x ∷ (inner ++ y ∷ [])) ≡ list_any (is_newline_at ns) inner
-inner_ends ns x y j k inner e f =
-    let p : ℕ → Bool = is_newline_at ns in
-    ap (λ b. b || list_any p (inner ++ y ∷ [])) (ap is_newline e) ∙ list_any-append p inner (y ∷ []) ∙ or_nothing (list_any p inner) (p y) (ap is_newline f)
 
 module _ (o : Options) (kind : RowKind) (old : List Node) (c : ℕ) (tree : IsTree old) (shaped : DocumentShaped o (ordered_tree old 0)) (over : IsOver old 0 c) (a : ContainerRow o kind old c) where
   abbrev kids : List ℕ

@@ -23,7 +23,10 @@ use Rattle.jsonc_edit.specs.Put.{Extends}
 use Rattle.jsonc_edit.specs.Writing.{FitsLayout, IsIndent}
 use Rattle.jsonc_edit.proofs.NodesKept.{row_kept}
 use Rattle.jsonc_edit.specs.multiline.Reflows.{has_newline}
-use Rattle.jsonc_edit.proofs.lemmas.multiline.OnLines.{bare_below, standing}
+use Rattle.jsonc_edit.proofs.lemmas.multiline.OnLines.{bare_below}
+use Rattle.jsonc_edit.proofs.LeafKinds.{newline_is}
+use Rattle.jsonc_edit.proofs.lemmas.commas.CommaRows.{last_joined}
+use Rattle.jsonc_edit.proofs.Standing.{standing}
 use Rattle.jsonc_insert.specs.Inserted.{leaves_before, leaves_behind, put_by, with_comma}
 use Rattle.jsonc_insert.specs.Made.{comma_at, comma_leaf, gap_leaves}
 use Rattle.jsonc_insert.specs.Planned.{elements, line_if, parting}
@@ -33,9 +36,8 @@ use Rattle.jsonc_insert.specs.declared.plan.Gap.TheVariants.{Nothing, Space, Lin
 use Rattle.jsonc_insert.specs.declared.plan.Plan.{Plan}
 use Rattle.jsonc_insert.specs.elements.Coming.{CommaInserted, none_comes, one_comes, ElementInserted, comes, Gap, nothing, a_space, a_line, GoesOn, elements_follow, none_follow, comma_last, takes_element, Follows, behind_bracket, behind_comma, behind_comments, no_others, EndsRow}
 use Rattle.jsonc_insert.proofs.lemmas.elements.Plans as plans
-use Rattle.jsonc_insert.proofs.lemmas.elements.Plans.{last_then}
 use Rattle.jsonc_insert.proofs.lemmas.elements.Rows.{IsRow}
-use Rattle.jsonc_insert.proofs.lemmas.elements.RowsOfTrees.{AllAre, beside_alone, beside_are, blanks_alone, blanks_are, blanks_row, comma_first, line_first, newline_is, standing_count, standing_then, token_first}
+use Rattle.jsonc_insert.proofs.lemmas.elements.RowsOfTrees.{AllAre, beside_alone, beside_are, blanks_alone, blanks_are, blanks_row, comma_first, line_first, standing_count, standing_then, token_first}
 
 -- what a plan writes for its gaps
 gap_any : (kind : CstNewlineKind) (s : List ℕ) (g : written.Gap) → IsIndent s → Gap false (gap_leaves kind s g)
@@ -99,7 +101,7 @@ beside_last (content ∷ ls) h = by content h.0 (beside_last ls h.1)
 
 comma_takes : (front : OrderedTree) (last : Top) (beside : List Content) → AreInlineTrivia beside → IsTrue (takes_element (last_behind nothing_yet (row_around front last (token_then 0x2C (leaves_then beside none)))))
 comma_takes front last beside h =
-    subst (λ l. IsTrue (takes_element l)) (sym (last_then nothing_yet front (more last.content last.below (token_then 0x2C (leaves_then beside none))) ∙ beside_last beside h)) refl
+    subst (λ l. IsTrue (takes_element l)) (sym (last_joined nothing_yet front (more last.content last.below (token_then 0x2C (leaves_then beside none))) ∙ beside_last beside h)) refl
 
 -- what the lists of a new row are
 new_list : (x y p : ℕ) (inner put : List ℕ) → 1 ≤ p → p ≤ length inner + 1 → with_at p put (x ∷ (inner ++ y ∷ [])) ≡ x ∷ ((take (p - 1) inner ++ (put ++ drop (p - 1) inner)) ++ y ∷ [])

@@ -13,7 +13,7 @@ use Rattle.std.proofs.Math.Seq.{drop-cons, split_at}
 use Rattle.jsonc_text.specs.Options.{Options}
 use Rattle.jsonc_tree.specs.Changes.{EachOnce}
 use Rattle.jsonc_tree.specs.Content.{Content, token}
-use Rattle.jsonc_tree.specs.OrderedTree.{OrderedTree, none, more, followed_by}
+use Rattle.jsonc_tree.specs.OrderedTree.{none, more, followed_by}
 use Rattle.jsonc_tree.specs.Tree.{Node, content_at, IsTree}
 use Rattle.jsonc_layout.specs.nodes.Kinds.{is_inline_trivia, is_inline_trivia_at, is_element, is_element_at, is_newline, is_trivia, is_whitespace, is_comma_at, is_comma, is_blank_at, is_newline_at, is_whitespace_at}
 use Rattle.jsonc_layout.specs.nodes.Siblings.{is_no_newline_at}
@@ -31,16 +31,13 @@ use Rattle.jsonc_insert.specs.declared.plan.Gap.TheVariants.{Line, Nothing}
 use Rattle.jsonc_insert.specs.declared.plan.Plan.{Plan}
 use Rattle.jsonc_insert.proofs.Counting.{found_last, planned_count}
 use Rattle.jsonc_insert.proofs.BeforeTheBracket.{stands_inside}
-use Rattle.jsonc_edit.proofs.lemmas.multiline.OnLines.{standing}
+use Rattle.jsonc_edit.proofs.Lists.{either_off, no_length}
+use Rattle.jsonc_edit.proofs.lemmas.commas.CommaRows.{last_joined}
+use Rattle.jsonc_edit.proofs.Standing.{standing}
 use Rattle.jsonc_insert.specs.elements.Coming.{takes_element}
 use Rattle.jsonc_insert.proofs.lemmas.elements.Rows.{IsRow}
 use Rattle.jsonc_insert.proofs.lemmas.elements.RowsOfTrees.{AllAre, comma_first, standing_comma, standing_count, standing_then}
 use Rattle.jsonc_insert.proofs.lemmas.elements.Stretches.{comma_past, none_comes_first, without_elements}
-
--- what stands last behind one stretch and then another
-pub last_then : (last : Last) (s t : OrderedTree) → last_behind last (followed_by s t) ≡ last_behind (last_behind last s) t
-last_then last none t = refl
-last_then last (more content below s) t = last_then (last_after last content) s t
 
 beside_last : (last : Last) (content : Content) → is_inline_trivia content ≡ true → last_after last content ≡ last
 beside_last last (Content.whitespace s) h = refl
@@ -69,20 +66,12 @@ white_beside : (content : Content) → is_whitespace content ≡ true → is_inl
 white_beside (Content.whitespace s) h = refl
 white_beside content h = cc
 
-no_length : (xs : List ℕ) → length xs ≡ 0 → xs ≡ []
-no_length [] e = refl
-no_length (n ∷ xs) e = absurd (omega (arith, e))
-
-either_false : (x y : Bool) → x || y ≡ false → (x ≡ false) × (y ≡ false)
-either_false true y e = cc
-either_false false y e = (refl, e)
-
 module _ (ns : List Node) where
   -- in a row without the end of a line no node is one
   no_line_at : (xs : List ℕ) (k : ℕ) → k < length xs → has_newline (standing ns xs) ≡ false → is_newline_at ns (slice_index xs k) ≡ false
   no_line_at [] k h e = absurd (omega (arith, h))
-  no_line_at (n ∷ xs) zero h e = (either_false (is_newline_at ns n) (has_newline (standing ns xs)) e).0
-  no_line_at (n ∷ xs) (suc k) h e = no_line_at xs k (omega (arith, h)) (either_false (is_newline_at ns n) (has_newline (standing ns xs)) e).1
+  no_line_at (n ∷ xs) zero h e = (either_off (is_newline_at ns n) (has_newline (standing ns xs)) e).0
+  no_line_at (n ∷ xs) (suc k) h e = no_line_at xs k (omega (arith, h)) (either_off (is_newline_at ns n) (has_newline (standing ns xs)) e).1
 
   -- whitespace and comments leave what stands last, and no comma is among them
   beside_stays : (last : Last) (xs : List ℕ) → AllAre (is_inline_trivia_at ns) xs → last_behind last (standing ns xs) ≡ last
@@ -557,7 +546,7 @@ module _ (o : Options) (kind : RowKind) (ns : List Node) (tree : IsTree ns) (x y
           let front : Last = last_behind nothing_yet (standing ns (take (b - 2) inner)) in
           ap (λ l. last_behind nothing_yet (standing ns l)) (front_through b b_low b_high)
           ∙ ap (last_behind nothing_yet) (standing_then ns (take (b - 2) inner) (m ∷ mid))
-          ∙ last_then nothing_yet (standing ns (take (b - 2) inner)) (standing ns (m ∷ mid))
+          ∙ last_joined nothing_yet (standing ns (take (b - 2) inner)) (standing ns (m ∷ mid))
           ∙ ap (last_behind front) (comma_first ns tree m (standing ns mid) (comma_stands h))
           ∙ beside_stays ns a_comma mid (mid_beside b b_low b_high)
 

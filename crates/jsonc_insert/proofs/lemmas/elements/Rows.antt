@@ -1,18 +1,15 @@
 -- The row of an array stays one where blank lines leave it, and where an element comes into it.
-use Rattle.std.proofs.Common.{◌≡◌, ◌∙◌, ℕ, Bool, true, false, not, ◌||◌, inl, inr, List, [], ◌∷◌, ◌++◌, Option, None, IsTrue, refl, rules, sym, ap, subst, append-nil}
+use Rattle.std.proofs.Common.{◌≡◌, ◌∙◌, ℕ, Bool, true, false, not, ◌||◌, inl, inr, List, [], ◌∷◌, ◌++◌, Option, None, IsTrue, refl, sym, ap, subst, append-nil}
 use Rattle.std.proofs.lemmas.Bool.{cases_Bool}
-use Rattle.std.proofs.lemmas.Str.{chars-IsAscii}
 use Rattle.jsonc_text.specs.Options.{Options}
-use Rattle.jsonc_text.specs.Text.{next}
+use Rattle.jsonc_text.proofs.Basics.{or_right}
 use Rattle.jsonc_tree.specs.Content.{Content, newline}
 use Rattle.jsonc_tree.specs.OrderedTree.{OrderedTree, Top, none, more, followed_by, leaves, own_leaf}
-use Rattle.jsonc_tree.specs.declared.node.CstNewlineKind.{CstNewlineKind}
-use Rattle.jsonc_tree.specs.declared.node.CstNewlineKind.TheVariants.{LineFeed, CarriageReturnLineFeed, CarriageReturn}
 use Rattle.jsonc_tree.proofs.OrderedTrees.{leaves-followed_by}
 use Rattle.jsonc_layout.specs.nodes.Kinds.{is_newline, is_whitespace}
 use Rattle.jsonc_sound.specs.Lines.{ends_loosely, is_loose, LinesEndLoosely}
 use Rattle.jsonc_sound.specs.Shape.{token_then}
-use Rattle.jsonc_sound.specs.Adjacent.{first_char, or_else, follower, LeavesEnd, last_printed}
+use Rattle.jsonc_sound.specs.Adjacent.{follower, LeavesEnd, last_printed}
 use Rattle.jsonc_sound.specs.Alone as alone
 use Rattle.jsonc_sound.specs.Alone.{may_stand, PartAlone, StretchAlone}
 use Rattle.jsonc_sound.specs.Leaving.{comma_comes}
@@ -32,13 +29,9 @@ use Rattle.jsonc_sound.proofs.RowParts.{beside_trivia, leaves_followed}
 use Rattle.jsonc_sound.proofs.SeamStretches.{followed_joined, joined_stretch, last_is, parted_stretch}
 use Rattle.jsonc_sound.proofs.Spaces.{Ends, last_of, serves_unless, stretch_no_word}
 use Rattle.jsonc_edit.specs.multiline.Reflows.{has_newline}
+use Rattle.jsonc_edit.proofs.lemmas.multiline.Reflow.{newline_ends}
 use Rattle.jsonc_insert.specs.elements.Coming.{FirstLinesLeave, none_first, leave_first, LastLinesLeave, none_last, leave_last, BlankLinesLeave, Gap, nothing, a_space, a_line, CommaInserted, none_comes, one_comes, takes_element, GoesOn, elements_follow, none_follow, comma_last, ElementInserted, comes}
 use Rattle.jsonc_insert.proofs.lemmas.elements.Stretches.{and_false, behind_comma, ends_not_bare, false_and, first_comma, first_part, gap_ends, gap_first, gap_stretch, stretch_without, takes_stands, trivia_anywhere, trivia_first, without_elements}
-
-newline_ends : (k : CstNewlineKind) (n : Option ℕ) → Ends (or_else (first_char (Content.newline k)) n)
-newline_ends LineFeed n = subst (λ t. Ends (or_else (next t) n)) (sym (chars-IsAscii (10 ∷ []) (search rules))) refl
-newline_ends CarriageReturnLineFeed n = subst (λ t. Ends (or_else (next t) n)) (sym (chars-IsAscii (13 ∷ 10 ∷ []) (search rules))) refl
-newline_ends CarriageReturn n = subst (λ t. Ends (or_else (next t) n)) (sym (chars-IsAscii (13 ∷ []) (search rules))) refl
 
 -- what stands between the brackets of a sound array or object
 pub record IsRow (o : Options) (kind : RowKind) (row : OrderedTree) : Type 0 where
@@ -85,11 +78,6 @@ blanks_past o n (content ∷ blanks) row h l = blanks_past o n blanks row h.1 (b
 lines_any : (e : Bool) (row : OrderedTree) → LinesEndLoosely true e row → LinesEndLoosely true true row
 lines_any true row l = l
 lines_any false row l = lines_more true true row l
-
--- the end of a line is there where one ends a comment
-or_right : (a b : Bool) → IsTrue b → IsTrue (a || b)
-or_right true b h = refl
-or_right false b h = h
 
 ends_newline : (row : OrderedTree) → ends_loosely true false row ≡ true → IsTrue (has_newline row)
 ends_newline none h = cc

@@ -2,7 +2,6 @@
 use Rattle.std.proofs.Common.{◌≡◌, ◌∙◌, ℕ, suc, Bool, true, false, ◌||◌, cond, List, [], ◌∷◌, ◌++◌, All, map, drop, length, refl, sym, ap, append-nil}
 use Rattle.std.specs.List.{take_while}
 use Rattle.std.proofs.lemmas.List.Sums.{take_while-cons}
-use Rattle.std.proofs.lemmas.Bool.{eqb-true}
 use Rattle.std.proofs.lemmas.List.Elements.{All-head, All-tail}
 use Rattle.jsonc_tree.specs.Content.{Content, is_container, newline, token}
 use Rattle.jsonc_tree.specs.OrderedTree.{OrderedTree, none, more, followed_by}
@@ -16,7 +15,9 @@ use Rattle.jsonc_sound.specs.MarkChanges.{AreBlanks}
 use Rattle.jsonc_sound.specs.TriviaChanges.{leaves_then}
 use Rattle.jsonc_edit.specs.Changes.{row_below}
 use Rattle.jsonc_insert.specs.Planned.{begins_with_comma, comma_comes, elements}
-use Rattle.jsonc_edit.proofs.lemmas.multiline.OnLines.{bare_below, standing}
+use Rattle.jsonc_edit.proofs.lemmas.multiline.OnLines.{bare_below}
+use Rattle.jsonc_edit.proofs.LeafKinds.{comma_is}
+use Rattle.jsonc_edit.proofs.Standing.{standing}
 use Rattle.jsonc_insert.proofs.lemmas.elements.Stretches.{comma_past}
 
 -- what a list's nodes are, by one test
@@ -33,20 +34,9 @@ beside_leaf (Content.whitespace s) h = refl
 beside_leaf (Content.comment s) h = refl
 beside_leaf content h = cc
 
-pub newline_is : (content : Content) → is_newline content ≡ true → (k : CstNewlineKind) × (content ≡ newline k)
-newline_is (Content.newline k) h = (k, refl)
-newline_is content h = cc
-
 pub blank_line : (content : Content) → (is_whitespace content || is_newline content) ≡ true → is_whitespace content ≡ false → is_newline content ≡ true
 blank_line (Content.newline k) h g = refl
 blank_line content h g = cc
-
-comma_is : (content : Content) → is_comma content ≡ true → content ≡ token 0x2C
-comma_is (Content.token c) h = ap token (by c h)
-  where
-    by : (c : ℕ) → is_comma (token c) ≡ true → c ≡ 0x2C
-    by c e = eqb-true c 0x2C e
-comma_is content h = cc
 
 module _ (ns : List Node) where
   pub standing_then : (xs ys : List ℕ) → standing ns (xs ++ ys) ≡ followed_by (standing ns xs) (standing ns ys)

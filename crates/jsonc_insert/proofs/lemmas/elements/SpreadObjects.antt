@@ -1,25 +1,16 @@
 -- The row of an object that is put on several lines.
-use Rattle.std.proofs.Common.{◌≡◌, ◌||◌, false, List, ◌∷◌, None, refl, ap, if◌then◌else◌}
+use Rattle.std.proofs.Common.{◌≡◌, false, None}
 use Rattle.jsonc_text.specs.Options.{Options}
 use Rattle.jsonc_text.specs.Plain.{Members}
-use Rattle.jsonc_tree.specs.OrderedTree.{OrderedTree, Top, none, more}
+use Rattle.jsonc_tree.specs.OrderedTree.{OrderedTree}
 use Rattle.jsonc_tree.specs.Values.{MembersOf}
-use Rattle.jsonc_layout.specs.nodes.Kinds.{is_newline, is_whitespace}
 use Rattle.jsonc_sound.specs.Marks.{marks}
 use Rattle.jsonc_sound.specs.Rows.{RowKind, nothing_yet}
 use Rattle.jsonc_edit.specs.multiline.Laws.{solid_nodes}
-use Rattle.jsonc_edit.specs.multiline.Reflows.{Reflows, ended, kept, gone, line, line_end, SpreadsOut, stays, reflows}
+use Rattle.jsonc_edit.specs.multiline.Reflows.{SpreadsOut}
 use Rattle.jsonc_edit.proofs.lemmas.multiline.Reflow.{leaves_reflow, lines_reflow, marks_reflow, members_reflow, stretch_reflow}
+use Rattle.jsonc_edit.proofs.lemmas.multiline.SameDocument.{all_reflows, solid_reflow}
 use Rattle.jsonc_insert.proofs.lemmas.elements.Rows.{IsRow}
-
-reflows_same : (row : OrderedTree) → Reflows row row
-reflows_same none = ended
-reflows_same (more content below after) = kept (reflows_same after)
-
--- a row that has been spread out has reflowed, or stayed
-all_reflows : {x y : OrderedTree} → SpreadsOut x y → Reflows x y
-all_reflows (stays {row = row} h) = reflows_same row
-all_reflows (reflows h k r) = r
 
 pub spread_row : (o : Options) (kind : RowKind) {row spread : OrderedTree} → SpreadsOut row spread → IsRow o kind row → IsRow o kind spread
 spread_row o kind s r =
@@ -37,13 +28,6 @@ spread_members o s g = members_reflow o (all_reflows s) g
 
 pub spread_marks : (o : Options) {row spread : OrderedTree} → SpreadsOut row spread → marks spread ≡ marks row
 spread_marks o s = marks_reflow o (all_reflows s)
-
-solid_reflow : {x y : OrderedTree} → Reflows x y → solid_nodes y ≡ solid_nodes x
-solid_reflow ended = refl
-solid_reflow (kept {content = content} {below = below} r) = ap (λ (l : List Top). if is_whitespace content || is_newline content then l else (record { content = content; below = below }) ∷ l) (solid_reflow r)
-solid_reflow (gone h r) = solid_reflow r
-solid_reflow (line t r) = solid_reflow r
-solid_reflow (line_end r) = solid_reflow r
 
 pub spread_solid : {row spread : OrderedTree} → SpreadsOut row spread → solid_nodes spread ≡ solid_nodes row
 spread_solid s = solid_reflow (all_reflows s)

@@ -5,17 +5,17 @@ use Rattle.jsonc_text.specs.Text.{starts}
 use Rattle.jsonc_tree.specs.Content.{Content, newline, token, whitespace}
 use Rattle.jsonc_tree.specs.OrderedTree.{OrderedTree, none, more, followed_by, leaves}
 use Rattle.jsonc_layout.specs.nodes.Kinds.{is_trivia}
-use Rattle.jsonc_sound.specs.Shape.{IsTrivia}
-use Rattle.jsonc_sound.specs.Adjacent.{first_char, LeavesEnd, last_printed}
+use Rattle.jsonc_sound.specs.Adjacent.{LeavesEnd, last_printed}
 use Rattle.jsonc_sound.specs.Alone as alone
 use Rattle.jsonc_sound.specs.Alone.{may_stand, PartAlone, StretchAlone}
 use Rattle.jsonc_sound.specs.Leaving.{comma_comes, element_count}
 use Rattle.jsonc_sound.specs.Rows as rows
 use Rattle.jsonc_sound.specs.Rows.{RowKind, Last}
-use Rattle.jsonc_sound.specs.Spaces.{is_bare, is_bare_leaf, first_printed}
+use Rattle.jsonc_sound.specs.Spaces.{is_bare_leaf, first_printed}
 use Rattle.jsonc_sound.specs.TreeChanges.{IsElement}
 use Rattle.jsonc_sound.specs.TriviaChanges.{AreTrivia, leaves_then}
 use Rattle.jsonc_sound.proofs.Changed.{part_element}
+use Rattle.jsonc_edit.proofs.LeafKinds.{trivia_is, first_not_bare}
 pub use Rattle.jsonc_sound.proofs.Commas.{and_false, false_and}
 use Rattle.jsonc_sound.proofs.Commas.{ends_well, first_with, trivia_not_bare}
 use Rattle.jsonc_sound.proofs.FirstNodes.{no_element, trivia_over}
@@ -30,12 +30,6 @@ element_no_trivia (Content.whitespace s) h k = cc
 element_no_trivia (Content.newline n) h k = cc
 element_no_trivia (Content.comment s) h k = cc
 element_no_trivia content h k = cc
-
-pub trivia_is : (o : Options) (content : Content) → IsTrivia o content → IsTrue (is_trivia content)
-trivia_is o (Content.whitespace s) h = refl
-trivia_is o (Content.newline n) h = refl
-trivia_is o (Content.comment s) h = refl
-trivia_is o content h = absurd h
 
 pub comma_past : (content : Content) (below after : OrderedTree) → IsTrue (is_trivia content) → comma_comes (more content below after) ≡ comma_comes after
 comma_past (Content.whitespace s) below after h = refl
@@ -52,21 +46,14 @@ count_past content below after h = cc
 pub count_one : (content : Content) (below after : OrderedTree) → IsElement content → element_count (more content below after) ≡ suc (element_count after)
 count_one content below after h = ap (λ b. if b then suc (element_count after) else element_count after) h
 
-first_alone : (content : Content) (after : List Content) → is_bare content ≡ false → is_bare_leaf (first_printed after) ≡ false → is_bare_leaf (first_printed (content ∷ after)) ≡ false
-first_alone content after b k = by (starts (λ c. true) (first_char content))
-  where
-    by : (p : Bool) → is_bare_leaf (if p then Some content else first_printed after) ≡ false
-    by true = b
-    by false = k
-
 pub first_comma : (after : List Content) → is_bare_leaf (first_printed (token 0x2C ∷ after)) ≡ false
 first_comma after = ap (λ x. is_bare_leaf (if starts (λ d. true) x then Some (token 0x2C) else first_printed after)) comma_first
 
 -- a gap between two nodes
 pub gap_first : {b : Bool} {gap : List Content} (row : OrderedTree) → Gap b gap → is_bare_leaf (first_printed (leaves row)) ≡ false → is_bare_leaf (first_printed (leaves (leaves_then gap row))) ≡ false
 gap_first row nothing h = h
-gap_first row a_space h = first_alone (whitespace (0x20 ∷ [])) (leaves row) refl h
-gap_first row (a_line {k = k} {s = s} i) h = first_alone (newline k) (whitespace s ∷ leaves row) refl (first_alone (whitespace s) (leaves row) refl h)
+gap_first row a_space h = first_not_bare (whitespace (0x20 ∷ [])) (leaves row) refl h
+gap_first row (a_line {k = k} {s = s} i) h = first_not_bare (newline k) (whitespace s ∷ leaves row) refl (first_not_bare (whitespace s) (leaves row) refl h)
 
 pub gap_ends : (o : Options) {b : Bool} {gap : List Content} (row : OrderedTree) (n : Option ℕ) → Gap b gap → LeavesEnd o (leaves row) n → LeavesEnd o (leaves (leaves_then gap row)) n
 gap_ends o row n nothing h = h

@@ -14,30 +14,15 @@ use Rattle.jsonc_edit.specs.multiline.Lines.{Lines, between, lines_for, on_lines
 use Rattle.jsonc_edit.specs.multiline.Multiline.{has_line_end}
 use Rattle.jsonc_edit.specs.multiline.Plans.{begins_behind, child_slots}
 use Rattle.jsonc_edit.proofs.lemmas.multiline.RowByNode.{woven}
+use Rattle.jsonc_edit.proofs.Lists.{all_front, all_rest, suffix_passes}
 use Rattle.jsonc_insert.specs.Planned.{has_brackets}
 use Rattle.jsonc_insert.specs.Trimmed.{trimmed}
-use Rattle.jsonc_insert.proofs.BlanksRemoved.{kept_or_blank, stays_or_leaves}
+use Rattle.jsonc_insert.proofs.BlanksRemoved.{kept_or_blank, stays_or_leaves, either_left, either_right}
 use Rattle.jsonc_insert.proofs.TrimmedRows.{has_two}
 use Rattle.jsonc_insert.specs.members.Laws.{LosesBlanksAlone}
 use Rattle.jsonc_insert.specs.members.Opened.{enclosed, opened}
-use Rattle.jsonc_insert.proofs.lemmas.members.Elements.{enclosed_stay, lines_stay, staying, staying_all, suffix_passes, whole_row}
+use Rattle.jsonc_insert.proofs.lemmas.members.Elements.{enclosed_stay, lines_stay, staying, staying_all, whole_row}
 use Rattle.jsonc_insert.proofs.lemmas.members.RowReplaced.{row_before}
-
-either_left : (a b : Bool) → a ≡ true → (a || b) ≡ true
-either_left true b e = refl
-either_left false b e = cc
-
-either_right : (a b : Bool) → b ≡ true → (a || b) ≡ true
-either_right true b e = refl
-either_right false b e = e
-
-all_left : (P : ℕ → Type 0) (xs ys : List ℕ) → All P (xs ++ ys) → All P xs
-all_left P [] ys all = All-nil P
-all_left P (x ∷ xs) ys all = All-cons P x xs (All-head P x (xs ++ ys) all) (all_left P xs ys (All-tail P x (xs ++ ys) all))
-
-all_right : (P : ℕ → Type 0) (xs ys : List ℕ) → All P (xs ++ ys) → All P ys
-all_right P [] ys all = all
-all_right P (x ∷ xs) ys all = all_right P xs ys (All-tail P x (xs ++ ys) all)
 
 -- whitespace or the end of a line, by what it is
 abbrev is_blank : Content → Bool
@@ -96,10 +81,10 @@ module _ (old : List Node) (tree : IsTree old) (c : ℕ) (brackets : has_bracket
   kept_between : All Q (front ∷ (staying spread ++ back ∷ [])) → All Stays kids
   kept_between all =
       let rest = All-tail Q front (staying spread ++ back ∷ []) all in
-      let last : All Q (back ∷ []) = all_right Q (staying spread) (back ∷ []) rest in
+      let last : All Q (back ∷ []) = all_rest Q (staying spread) (back ∷ []) rest in
       subst (All Stays) (sym (whole_row old kids brackets))
       (All-cons Stays front (between kids ++ back ∷ []) (inl (All-head Q front (staying spread ++ back ∷ []) all))
-      (All-append Stays (between kids) (back ∷ []) (lines_kept (lines_for old c) old Q (between kids) (all_left Q (staying spread) (back ∷ []) rest)) (All-cons Stays back [] (inl (All-head Q back [] last)) (All-nil Stays))))
+      (All-append Stays (between kids) (back ∷ []) (lines_kept (lines_for old c) old Q (between kids) (all_front Q (staying spread) (back ∷ []) rest)) (All-cons Stays back [] (inl (All-head Q back [] last)) (All-nil Stays))))
 
   pub all_kept : All Q (staying (opened old c)) → All Stays kids
   all_kept all = by (has_line_end old c) all

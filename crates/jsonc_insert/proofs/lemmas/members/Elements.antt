@@ -1,10 +1,9 @@
 -- A row on several lines has the elements that it had.
-use Rattle.std.proofs.Common.{◌≡◌, ◌<◌, ◌≤◌, ◌+◌, ◌-◌, inl, inr, ℕ, suc, Bool, true, false, cond, List, [], ◌∷◌, ◌++◌, All, length, filter, map, take, drop, reverse, slice_index, refl, sym, ap, subst, ◌∙◌, arith, append-nil, length-drop, get_or-drop}
+use Rattle.std.proofs.Common.{◌≡◌, ◌<◌, ◌≤◌, ◌+◌, ◌-◌, inl, inr, ℕ, suc, Bool, true, false, cond, List, [], ◌∷◌, ◌++◌, All, length, filter, map, take, drop, slice_index, refl, sym, ap, subst, ◌∙◌, arith, append-nil, length-drop, get_or-drop}
 use Rattle.std.specs.List.{suffix_len}
 use Rattle.std.proofs.lemmas.Bool.{cases_Bool}
-use Rattle.std.proofs.lemmas.List.{drop_all, drop_more, get_or-reverse, take-append-drop}
+use Rattle.std.proofs.lemmas.List.{drop_all, drop_more, take-append-drop}
 use Rattle.std.proofs.lemmas.List.Elements.{All-append, All-cons, All-drop, All-from_get_or, All-head, All-tail, All-take, filter-append}
-use Rattle.std.proofs.lemmas.List.Sums.{prefix_len_passes, suffix_len-le-length}
 use Rattle.jsonc_tree.specs.Building.{Keeps}
 use Rattle.jsonc_tree.specs.Content as content
 use Rattle.jsonc_tree.specs.Content.{Content}
@@ -15,6 +14,7 @@ use Rattle.jsonc_edit.specs.multiline.Lines.{Lines, between, indent_if_any, last
 use Rattle.jsonc_edit.specs.multiline.Multiline.{has_line_end}
 use Rattle.jsonc_edit.specs.multiline.Plans.{begins_behind, child_slots}
 use Rattle.jsonc_edit.proofs.lemmas.multiline.RowByNode.{both_woven, woven}
+use Rattle.jsonc_edit.proofs.Lists.{suffix_passes}
 use Rattle.jsonc_insert.specs.Planned.{elements, has_brackets}
 use Rattle.jsonc_insert.proofs.BeforeTheBracket.{token_no_element}
 use Rattle.jsonc_insert.proofs.TrimmedRows.{front_token, has_two}
@@ -64,13 +64,6 @@ module _ (old lined : List Node) (keeps : Keeps (length old) old lined) where
 blank_no_element : (c : Content) → is_whitespace c ≡ true → is_element c ≡ false
 blank_no_element (content.whitespace s) e = refl
 blank_no_element c e = cc
-
--- what passes from a place on is what a row ends with
-pub suffix_passes : (p : ℕ → Bool) (row : List ℕ) (i : ℕ) → length row - suffix_len p row ≤ i → i < length row → p (slice_index row i) ≡ true
-suffix_passes p row i low high =
-    let place : length row - 1 - (length row - 1 - i) ≡ i = omega (arith, high) in
-    let found = get_or-reverse row (length row - 1 - i) 0 (omega (arith, high)) ∙ ap (slice_index row) place in
-    ap p (sym found) ∙ prefix_len_passes p (reverse row) (length row - 1 - i) 0 (omega (arith, low, high, suffix_len-le-length p row))
 
 none_of : (p : ℕ → Bool) (xs : List ℕ) → ((k : ℕ) → k < length xs → p (slice_index xs k) ≡ false) → filter p xs ≡ []
 none_of p [] h = refl

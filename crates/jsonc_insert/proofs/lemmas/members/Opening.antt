@@ -1,5 +1,5 @@
 -- The row of an object on several lines: its brackets, and what stands between them.
-use Rattle.std.proofs.Common.{◌≡◌, ◌<◌, ◌≤◌, ◌+◌, ◌-◌, ◌&&◌, inl, inr, ℕ, Bool, true, false, cond, List, [], ◌∷◌, ◌++◌, All, length, map, reverse, slice_index, nat_lt, Some, IfOk, IsTrue, Result, Ok, Err, refl, sym, ap, subst, ◌∙◌, arith, length-append}
+use Rattle.std.proofs.Common.{◌≡◌, ◌<◌, ◌≤◌, ◌+◌, ◌-◌, ◌&&◌, inl, inr, ℕ, Bool, true, false, cond, List, [], ◌∷◌, ◌++◌, All, length, map, reverse, slice_index, nat_lt, Some, IsTrue, refl, sym, ap, subst, ◌∙◌, arith, length-append}
 use Rattle.std.proofs.lemmas.Bool.{cases_Bool, ltb-true, false≢true}
 use Rattle.std.proofs.lemmas.List.{get_or-reverse, length-reverse}
 use Rattle.std.proofs.lemmas.List.Elements.{All-append, All-cons, All-from_get_or, All-nil}
@@ -22,19 +22,11 @@ use Rattle.jsonc_layout.specs.nodes.Kinds.{is_token}
 use Rattle.jsonc_insert.proofs.NoDuplicates.{apart_by, once_append}
 use Rattle.jsonc_insert.proofs.TrimmedRows.{front_token, has_two}
 use Rattle.jsonc_insert.specs.members.Opened.{enclosed, opened, IsOfRow, IsOpened}
-
--- what holds where a call answers
-pub where_ok : {V E : Type 0} (P Q : V → Type 0) (r : Result V E) → ((v : V) → P v → Q v) → IfOk r P → IfOk r Q
-where_ok P Q (Ok v) f h = f v h
-where_ok P Q (Err e) f h = tt
+use Rattle.jsonc_insert.proofs.lemmas.elements.Containers.{both_true}
 
 -- a row has brackets where its first and its last node are tokens, and two
 not_less : (xs : List ℕ) → 2 ≤ length xs → nat_lt (length xs) 2 ≡ false
 not_less xs l = elim (cases_Bool (nat_lt (length xs) 2)) [ inl e ↦ absurd (let less = ltb-true (length xs) 2 e in omega (arith, less, l)) | inr e ↦ e ]
-
-both_true : (a b : Bool) → a ≡ true → b ≡ true → (a && b) ≡ true
-both_true true b e f = f
-both_true false b e f = e
 
 pub bracketed : (ns : List Node) (row : List ℕ) → 2 ≤ length row → is_token (content_at ns (slice_index row 0)) ≡ true → is_token (content_at ns (slice_index row (length row - 1))) ≡ true → has_brackets ns row ≡ true
 bracketed ns row two e f =

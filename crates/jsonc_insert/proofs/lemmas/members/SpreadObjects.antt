@@ -1,34 +1,27 @@
 -- An object at a path of a sound document: its brackets, and its row spread out.
 use Rattle.std.proofs.Common.{◌≡◌, ◌∙◌, ◌<◌, ◌+◌, ◌-◌, ℕ, Bool, true, false, ◌||◌, cond, List, [], ◌∷◌, ◌++◌, All, length, map, slice_index, refl, sym, ap, subst, arith, length-append}
 use Rattle.std.specs.List.{flat_map, list_any}
-use Rattle.std.specs.Prelude.{chars}
 use Rattle.std.proofs.lemmas.List.{take_at}
-use Rattle.std.proofs.lemmas.List.Elements.{All-cons, All-from_get_or, All-head, All-nil, All-tail}
+use Rattle.std.proofs.lemmas.List.Elements.{All-from_get_or, All-head, All-tail}
 use Rattle.std.proofs.lemmas.List.Folds.{list_any-append}
-use Rattle.std.proofs.lemmas.Str.{IsUtf8-append, chars-append}
 use Rattle.std.proofs.Math.Seq.{get_or-append_seam}
 use Rattle.jsonc_text.specs.Options.{Options}
 use Rattle.jsonc_text.specs.Plain.{Plain}
-use Rattle.jsonc_text.specs.Text.{Many}
-use Rattle.jsonc_text.proofs.CharacterSteps.{many_append}
-use Rattle.jsonc_text.proofs.UniqueWords.{many_more}
 use Rattle.jsonc_tree.specs.Content as content
-use Rattle.jsonc_tree.specs.Content.{Content, is_container, token}
-use Rattle.jsonc_tree.specs.OrderedTree.{OrderedTree, Top, none, more, followed_by, ordered_tree, Shows, shows_none, shows_more}
+use Rattle.jsonc_tree.specs.Content.{Content}
+use Rattle.jsonc_tree.specs.OrderedTree.{OrderedTree, Top, none, followed_by, ordered_tree, Shows}
 use Rattle.jsonc_tree.specs.Tree.{Node, children_at, content_at, IsTree, IsOver}
 use Rattle.jsonc_tree.proofs.OrderedTrees.{Shows-unique}
 use Rattle.jsonc_layout.specs.nodes.Kinds.{is_newline, is_newline_at, is_token}
 use Rattle.jsonc_layout.specs.lines.Indents.{indents_at}
 use Rattle.jsonc_layout.specs.lines.Kinds.{is_array_or_object}
-use Rattle.jsonc_sound.specs.Leaves.{is_inner_blank}
 use Rattle.jsonc_sound.specs.Shape.{token_then}
 use Rattle.jsonc_sound.specs.Rows.{RowKind, of_values, of_properties, holder}
 use Rattle.jsonc_sound.specs.SoundTrees.{SoundTree}
 use Rattle.jsonc_edit.specs.Changes.{row_below, top_at}
 use Rattle.jsonc_edit.specs.Paths.{IsAt}
-use Rattle.jsonc_edit.specs.Writing.{IsIndent}
 use Rattle.jsonc_text.specs.declared.edit.EditError.TheVariants.{OutOfMemory, MissingBrackets}
-use Rattle.jsonc_edit.proofs.FittingIndents.{indents_fit}
+use Rattle.jsonc_edit.proofs.FittingIndents.{indents_fit, indent_joined}
 use Rattle.jsonc_edit.proofs.FittingNodes.{over_there}
 use Rattle.jsonc_edit.proofs.ChangesUpward.{Shows-row_below}
 use Rattle.jsonc_edit.proofs.lemmas.remove.Containers.{Brackets, brackets, held_at}
@@ -37,14 +30,19 @@ use Rattle.jsonc_edit.specs.multiline.Lines.{between, indent_if_any, lines_for, 
 use Rattle.jsonc_edit.specs.multiline.Multiline.{has_line_end}
 use Rattle.jsonc_edit.specs.multiline.Reflows.{has_newline, Reflows, SpreadsOut, reflows}
 use Rattle.jsonc_edit.specs.multiline.Slots.{Slot, stays, comes, AreFilled, no_more, stayed, came, row_in}
-use Rattle.jsonc_edit.proofs.lemmas.multiline.Documents.{filled_shown, over_at}
-use Rattle.jsonc_edit.proofs.lemmas.multiline.OnLines.{AllFit, bare_below, on_lines_fit, row_newline, row_reflows, standing, standing_newline}
+use Rattle.jsonc_edit.proofs.lemmas.multiline.Documents.{filled_shown, token_first, or_nothing}
+use Rattle.jsonc_edit.proofs.lemmas.multiline.OnLines.{AllFit, on_lines_fit, row_newline, row_reflows, standing_newline}
+use Rattle.jsonc_edit.proofs.Uniqueness.{over_at}
+use Rattle.jsonc_edit.proofs.Lists.{all_front, all_rest}
+use Rattle.jsonc_edit.proofs.lemmas.commas.Steps.{same_top}
+use Rattle.jsonc_edit.proofs.Standing.{standing, standing_then, shows_standing}
 use Rattle.jsonc_insert.specs.Planned.{has_brackets}
 use Rattle.jsonc_insert.specs.members.Laws.{IsSpreadFirst, SpreadsFirst, OnlyOutOfMemory}
 use Rattle.jsonc_insert.specs.members.Opened.{enclosed, IsOpened}
 use Rattle.jsonc_insert.proofs.lemmas.members.Elements.{staying, staying_all}
 use Rattle.jsonc_insert.proofs.lemmas.members.Opening as opening
 use Rattle.jsonc_insert.proofs.lemmas.members.Opening.{filled_as}
+use Rattle.jsonc_insert.proofs.lemmas.elements.Opened.{stays_row, stays_fit}
 
 -- where nothing comes, the nodes are those that stay
 abbrev OnlyStays : List Slot → Type 0
@@ -71,48 +69,8 @@ module _ (old lined : List Node) where
   filled_split y (stays m ∷ first) _ (stayed {row = row} rest) = let s = filled_split y first row rest in (m ∷ s.0, ap (λ l. m ∷ l) s.1, stayed s.2)
   filled_split y (comes w ∷ first) _ (came {n = n} {row = row} a b c d rest) = let s = filled_split y first row rest in (n ∷ s.0, ap (λ l. n ∷ l) s.1, came a b c d s.2)
 
-row_of_stays : (ns : List Node) (xs : List ℕ) → row_in ns (map stays xs) ≡ standing ns xs
-row_of_stays ns [] = refl
-row_of_stays ns (x ∷ xs) = ap (more (content_at ns x) (row_below ns x)) (row_of_stays ns xs)
-
-stays_fit : (ns : List Node) (xs : List ℕ) → All (λ n. n < length ns) xs → AllFit ns (map stays xs)
-stays_fit ns [] all = tt
-stays_fit ns (x ∷ xs) all = (All-head (λ n. n < length ns) x xs all, stays_fit ns xs (All-tail (λ n. n < length ns) x xs all))
-
--- one indent after another
-indent_joined : (s t : List ℕ) → IsIndent s → IsIndent t → IsIndent (s ++ t)
-indent_joined s t a b =
-    (IsUtf8-append s t a.0 b.0, subst (λ l. Many is_inner_blank l []) (sym (chars-append s t a.0)) (many_append (many_more a.1 (chars t)) b.1))
-
--- nodes stand for their row
-shows_standing : (ns : List Node) → IsTree ns → (xs : List ℕ) → All (λ n. n < length ns) xs → Shows ns xs (standing ns xs)
-shows_standing ns tree [] all = shows_none
-shows_standing ns tree (n ∷ xs) all = shows_more (Shows-row_below ns tree n (All-head (λ m. m < length ns) n xs all)) (shows_standing ns tree xs (All-tail (λ m. m < length ns) n xs all))
-
-standing_then : (ns : List Node) (xs ys : List ℕ) → standing ns (xs ++ ys) ≡ followed_by (standing ns xs) (standing ns ys)
-standing_then ns [] ys = refl
-standing_then ns (n ∷ xs) ys = ap (more (content_at ns n) (row_below ns n)) (standing_then ns xs ys)
-
-token_first : (ns : List Node) → IsTree ns → (x k : ℕ) (row : OrderedTree) → content_at ns x ≡ token k → more (content_at ns x) (row_below ns x) row ≡ token_then k row
-token_first ns tree x k row e = ap (λ w. more w (row_below ns x) row) e ∙ ap (λ b. more (token k) b row) (bare_below ns x (tree.leaf x (ap is_container e)))
-
-all_front : (P : ℕ → Type 0) (xs ys : List ℕ) → All P (xs ++ ys) → All P xs
-all_front P [] ys all = All-nil P
-all_front P (x ∷ xs) ys all = All-cons P x xs (All-head P x (xs ++ ys) all) (all_front P xs ys (All-tail P x (xs ++ ys) all))
-
-all_rest : (P : ℕ → Type 0) (xs ys : List ℕ) → All P (xs ++ ys) → All P ys
-all_rest P [] ys all = all
-all_rest P (x ∷ xs) ys all = all_rest P xs ys (All-tail P x (xs ++ ys) all)
-
-or_nothing : (a b : Bool) → b ≡ false → (a || (b || false)) ≡ a
-or_nothing true b e = refl
-or_nothing false b e = ap (λ c. c || false) e
-
 abbrev top_of : Content → OrderedTree → Top
 top_of content below = record { content = content; below = below }
-
-same_top : (a b : Content) (x y : OrderedTree) → a ≡ b → x ≡ y → top_of a x ≡ top_of b y
-same_top a b x y e f = ap (λ w. top_of w x) e ∙ ap (top_of b) f
 
 same_holder : (kind : RowKind) → holder kind ≡ content.object → kind ≡ of_properties
 same_holder of_properties e = refl
@@ -219,7 +177,7 @@ module _ (o : Options) (old : List Node) (path : List ℕ) (c : ℕ) (tree : IsT
       row = standing old b.inner;
       spread = standing old b.inner;
       was = was_top;
-      shown = subst (Shows lined b.inner) (row_of_stays old b.inner) (filled_shown old lined tree p.prepared (filled_as old lined b.inner) (stays_fit old b.inner inner_there));
+      shown = subst (Shows lined b.inner) (stays_row old b.inner) (filled_shown old lined tree p.prepared (filled_as old lined b.inner) (stays_fit old b.inner inner_there));
       spreads = SpreadsOut.stays (line_ends ∙ ended);
     }
 

@@ -14,6 +14,7 @@ use Rattle.jsonc_edit.specs.Put.{Extends}
 use Rattle.jsonc_edit.specs.multiline.Lines.{lines_for, spread_row}
 use Rattle.jsonc_edit.specs.multiline.Multiline.{has_line_end}
 use Rattle.jsonc_edit.specs.multiline.Plans.{PlannedRow}
+use Rattle.jsonc_edit.proofs.lemmas.set.FirstValueMade.{still_kept}
 use Rattle.jsonc_insert.specs.Inserted.{EntryPut}
 use Rattle.jsonc_insert.specs.Planned.{has_brackets}
 use Rattle.jsonc_insert.specs.Trimmed.{trimmed}
@@ -21,8 +22,6 @@ use Rattle.jsonc_insert.specs.members.Inserted.{PropertyPut}
 use Rattle.jsonc_insert.specs.members.Opened.{IsBefore, IsSpread, WasSpread}
 use Rattle.jsonc_insert.proofs.Additions.{back_joins, keeps_back}
 use Rattle.jsonc_insert.proofs.EntriesPut.{property_put}
-use Rattle.jsonc_insert.proofs.MadeLeaves.{keeps_then}
-use Rattle.jsonc_insert.proofs.Numbering.{same_brackets}
 use Rattle.jsonc_insert.proofs.RowReplaced.{may_join}
 use Rattle.jsonc_insert.proofs.SamePlans.{trimmed_alike}
 use Rattle.jsonc_insert.proofs.TrimmedRows.{has_two}
@@ -85,7 +84,7 @@ module _ (old now : List Node) (tree : IsTree old) (c : ℕ) (there : c < length
 
     pub row_again : (count : ℕ) (row : List ℕ) → count ≡ length (children_at mid c) → row ≡ children_at old c → (new : List Node) → IsTree new → Splices mid new c 0 count row → Keeps (length old) old new
     row_again count row all had new tn put =
-        keeps_then old s.lined new s.opens.prepared.keeps
+        still_kept old s.lined new s.opens.prepared.keeps
         (keeps_back s.lined now mid s.opens.prepared.tree s.put.tree tm c at (holds_now holds) s.put.put join keeps new
         (subst (Splices mid new c 0 (length (children_at mid c))) (had ∙ sym same) (subst (λ k. Splices mid new c 0 k row) all put)) tn)
 

@@ -68,9 +68,6 @@ module _ (ns : List Node) where
       let past : behind_first (is_name_at ns) xs ≡ a.rest = ap (behind_first (is_name_at ns)) a.is ∙ begins (is_name_at ns) a.node a.rest (ap is_name a.kind) in
       record { node = d.0; held = ap (λ l. find (is_element_at ns) (behind_first (is_colon_at ns) l)) past ∙ d.1; kind = d.2 }
 
-pub some_same : (n m : ℕ) → Some n ≡ Some m → n ≡ m
-some_same n m e = cc
-
 -- the property that has come at the number of the children holds its value
 pub record HoldsEmpty (new : List Node) (p : ℕ) (shape : Shape) : Type 0 where
   pub value : ℕ

@@ -1,9 +1,9 @@
 -- The value of a property of a sound document stands at the property's path.
 use Rattle.std.proofs.Common.{◌≡◌, ℕ, Bool, true, false, not, ◌||◌, cond, List, [], ◌∷◌, filter, slice_get, Some, None, inl, inr, refl, sym, ap, subst, ◌∙◌}
-use Rattle.std.proofs.lemmas.Bool.{cases_Bool, false≢true}
+use Rattle.std.proofs.lemmas.Bool.{cases_Bool}
 use Rattle.std.specs.List.{find, list_any}
 use Rattle.jsonc_text.specs.Options.{Options}
-use Rattle.jsonc_tree.specs.Content.{Content, property, token}
+use Rattle.jsonc_tree.specs.Content.{Content, token}
 use Rattle.jsonc_tree.specs.OrderedTree.{OrderedTree, none, more, Shows, shows_none, shows_more, ordered_tree}
 use Rattle.jsonc_tree.specs.Tree.{Node, content_at, children_at, IsTree}
 use Rattle.jsonc_sound.specs.Shape as shape
@@ -14,7 +14,6 @@ use Rattle.jsonc_layout.proofs.lemmas.nodes.PropertyValues.{held_in, value_is_he
 use Rattle.jsonc_sound.specs.Alone as alone
 use Rattle.jsonc_sound.specs.Alone.{ValueAlone, RowAlone, PropertyAlone}
 use Rattle.jsonc_sound.specs.Rows as rows
-use Rattle.jsonc_sound.specs.Rows.{Last}
 use Rattle.jsonc_sound.specs.SoundTrees.{SoundTree}
 use Rattle.jsonc_sound.specs.TreeChanges.{IsElement}
 use Rattle.jsonc_sound.proofs.NodesAlone.{value_alone}
@@ -30,21 +29,16 @@ use Rattle.jsonc_edit.proofs.Uniqueness.{element_parent}
 use Rattle.jsonc_edit.proofs.ChangesUpward.{Shows-row_below}
 use Rattle.jsonc_tree.proofs.Order.{parent_there}
 use Rattle.jsonc_edit.proofs.lemmas.set.PropertyRows.{parted, object_row, inside_of}
+use Rattle.jsonc_edit.proofs.lemmas.set.WrittenBoolean.{property_part}
 use Rattle.jsonc_insert.specs.named.Places.{IsPropertyOf, IsPropertyAt, a_property}
 use Rattle.jsonc_insert.proofs.lemmas.named.PathValues.{gives_way_to_itself}
+use Rattle.jsonc_insert.proofs.BlankRuns.{blank_not}
 
 -- a value is an element
 alone_element : {o : Options} {content : Content} {below : OrderedTree} → ValueAlone o content below → IsElement content
 alone_element (alone.literal l) = value_element (shape.literal l)
 alone_element (alone.an_array g) = refl
 alone_element (alone.an_object g) = refl
-
--- what stands among properties and is one has a property's row
-property_part : {o : Options} {last : Last} {content : Content} {below after : OrderedTree} → content ≡ property → RowAlone o rows.of_properties last (more content below after) → PropertyAlone o below
-property_part e (alone.closes m) = cc
-property_part {o} e (alone.trivia {content = content} k g) = absurd (subst (λ w. IsTrivia o w) e k)
-property_part e (alone.element m (alone.a_property p) g) = p
-property_part e (alone.comma g) = cc
 
 module _ (o : Options) (ns : List Node) where
   -- the first node of a row
@@ -139,13 +133,9 @@ none_behind test (x ∷ xs) e =
       | inr h ↦ ap (λ b. cond b xs (behind_first test xs)) h ∙ none_behind test xs (sym (ap (λ b. b || list_any test xs) h) ∙ e)
     ]
 
-not_true : (b : Bool) → not b ≡ true → b ≡ false
-not_true true e = absurd (false≢true e)
-not_true false e = refl
-
 module _ (ns : List Node) where
   -- a property that holds a value has its name and its colon
   pub held_by_name : (n v : ℕ) → find (is_element_at ns) (behind_colon ns n) ≡ Some v → lacks_name_at ns n ≡ true → ⊥
   held_by_name n v held lacks =
-      let none : behind_colon ns n ≡ [] = none_behind (is_colon_at ns) (behind_name ns n) (not_true (list_any (is_colon_at ns) (behind_name ns n)) lacks) in
+      let none : behind_colon ns n ≡ [] = none_behind (is_colon_at ns) (behind_name ns n) (blank_not (list_any (is_colon_at ns) (behind_name ns n)) lacks) in
       let wrong : None ≡ Some v = sym (ap (find (is_element_at ns)) none) ∙ held in cc

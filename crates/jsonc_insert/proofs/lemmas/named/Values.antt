@@ -32,13 +32,13 @@ use Rattle.jsonc_edit.proofs.Spacing.{spaces_marks}
 use Rattle.jsonc_edit.proofs.SeamsGiving.{gives_way_with_seams}
 use Rattle.jsonc_edit.specs.set.Kinds.{KeptOrReplaced}
 use Rattle.jsonc_edit.specs.set.PropertyValues.{HeldOrSet}
-use Rattle.jsonc_edit.proofs.lemmas.set.PropertyRows.{prints_value, some_value_of}
 use Rattle.jsonc_text.specs.declared.edit.Over.TheVariants as over
 use Rattle.jsonc_text.specs.declared.edit.Shape.{Shape}
 use Rattle.jsonc_text.specs.declared.edit.Shape.TheVariants.{Object, Array}
 use Rattle.jsonc_insert.specs.named.Named.{PropertyValueEnsured}
 use Rattle.jsonc_insert.specs.named.Places.{IsPropertyAt, IsPropertyOf}
 use Rattle.jsonc_edit.specs.set.Shapes.{has_shape, is_of, empty_of, EnsuredValue, has_it, must_give_way}
+use Rattle.jsonc_edit.proofs.SoundValues.{some_value_of, prints_value}
 use Rattle.jsonc_insert.specs.named.Values.{ReplacesHeld, ReplacesValue, ValueEnsured, all_stays, empty_given}
 use Rattle.jsonc_insert.proofs.lemmas.named.PathValues.{gives_way_to_itself, value_at_path, value_of_text, value_once}
 use Rattle.jsonc_insert.proofs.lemmas.named.PropertyValues.{value_held}

@@ -35,17 +35,17 @@ use Rattle.jsonc_text.specs.declared.edit.EditError.{EditError}
 use Rattle.jsonc_text.specs.declared.edit.EditError.TheVariants.{OutOfMemory, MissingBrackets, MissingName, NoSuchPlace, InvalidComment, LineContinues, NotAnEntry}
 use Rattle.jsonc_edit.proofs.Elements.{taken, left}
 use Rattle.jsonc_edit.proofs.FittingNodes.{over_there}
-use Rattle.jsonc_edit.proofs.Uniqueness.{element_parent}
+use Rattle.jsonc_edit.proofs.Uniqueness.{element_parent, over_at}
 use Rattle.jsonc_edit.proofs.ChangesUpward.{Shows-row_below}
 use Rattle.jsonc_insert.specs.elements.Members as inserted
-use Rattle.jsonc_insert.specs.elements.Members.{member_count, IsMemberInserted, MemberInserted, PropertyInsertedAt}
+use Rattle.jsonc_insert.specs.elements.Members.{member_count, MemberInserted}
 use Rattle.jsonc_insert.proofs.lemmas.elements.Marked.{marks_come_in}
 use Rattle.jsonc_insert.proofs.lemmas.elements.Members.{members_counted}
 use Rattle.jsonc_insert.proofs.lemmas.elements.NamedProperties.{inserts_member}
 use Rattle.jsonc_insert.proofs.lemmas.members.PastTheEnd.{past_the_end}
 use Rattle.jsonc_insert.proofs.lemmas.members.SpreadObjects.{wants_memory_alone}
 use Rattle.jsonc_insert.proofs.lemmas.properties.InsertedRows.{properties_come_at}
-use Rattle.jsonc_edit.proofs.lemmas.set.PropertyRows.{counted_elements, over_at, prints_value, some_value_of}
+use Rattle.jsonc_edit.proofs.lemmas.set.PropertyRows.{counted_elements}
 use Rattle.jsonc_text.specs.declared.edit.Over.{Over}
 use Rattle.jsonc_text.specs.declared.edit.Over.TheVariants as over
 use Rattle.jsonc_text.specs.declared.edit.Shape.{Shape}
@@ -54,6 +54,7 @@ use Rattle.jsonc_insert.specs.named.Members.{LacksMember, no_more, other_name, I
 use Rattle.jsonc_insert.specs.named.Named.{ComesNamed, EnsuredFor, EnsureError, PropertyValueIs}
 use Rattle.jsonc_insert.specs.named.Places.{IsPropertyOf, a_property}
 use Rattle.jsonc_edit.specs.set.Shapes.{has_shape, empty_of, EnsuredValue, has_it, may_stay}
+use Rattle.jsonc_edit.proofs.SoundValues.{some_value_of, prints_value}
 use Rattle.jsonc_insert.specs.named.Values as giving
 use Rattle.jsonc_insert.specs.named.Values.{ValueEnsured}
 use Rattle.jsonc_insert.proofs.lemmas.named.Names.{Among, IsWhole, members_found}

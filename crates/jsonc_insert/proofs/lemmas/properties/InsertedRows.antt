@@ -5,8 +5,8 @@ use Rattle.jsonc_text.specs.Plain.{Plain}
 use Rattle.jsonc_tree.specs.OrderedTree.{ordered_tree}
 use Rattle.jsonc_tree.specs.Tree.{Node}
 use Rattle.jsonc_edit.proofs.FittingNodes.{over_there}
-use Rattle.jsonc_edit.proofs.lemmas.multiline.Documents.{over_at}
-use Rattle.jsonc_insert.proofs.lemmas.elements.Places.{at_still}
+use Rattle.jsonc_edit.proofs.Uniqueness.{over_at}
+use Rattle.jsonc_edit.proofs.PathsKept.{at_still}
 use Rattle.jsonc_insert.proofs.lemmas.elements.Objects.{property_comes_at}
 use Rattle.jsonc_insert.proofs.lemmas.elements.NamedProperties.{inserts_member}
 use Rattle.jsonc_insert.proofs.lemmas.members.Numbering.{changes_one_row, takes_number}
@@ -23,4 +23,4 @@ properties_are_written o old new path c i name v m tree sound at is characters w
 pub stands_in_place : (old new : List Node) (path : List ℕ) (c i : ℕ) (name : List ℕ) (v : Plain) (m : ℕ) → StandsInPlace old new path c i name v m
 stands_in_place old new path c i name v m tree at brackets e =
     let there = over_there old tree c (over_at old tree path c at) in
-    (at_still old new c tree (changes_one_row old new c i name v m tree there e).1 path at, takes_number old new c i name v m tree there brackets e)
+    (let kept = (changes_one_row old new c i name v m tree there e).1 in at_still old new c tree kept.content kept.children path at, takes_number old new c i name v m tree there brackets e)

@@ -30,9 +30,9 @@ use Rattle.jsonc_edit.specs.Paths as paths
 use Rattle.jsonc_edit.specs.Paths.{IsAt, IsElementOf, LeadsTo, StepsTo}
 use Rattle.jsonc_edit.proofs.Elements.{taken, left}
 use Rattle.jsonc_edit.proofs.FittingNodes.{over_there}
-use Rattle.jsonc_edit.proofs.Uniqueness.{element_parent}
+use Rattle.jsonc_edit.proofs.Uniqueness.{element_parent, over_at}
 use Rattle.jsonc_edit.proofs.ChangesUpward.{Shows-row_below}
-use Rattle.jsonc_edit.proofs.lemmas.set.PropertyRows.{counted_elements, over_at}
+use Rattle.jsonc_edit.proofs.lemmas.set.PropertyRows.{counted_elements}
 use Rattle.jsonc_insert.specs.elements.Laws.{item_count}
 use Rattle.jsonc_insert.specs.named.Places.{IsPropertyOf, a_property}
 use Rattle.jsonc_insert.proofs.lemmas.elements.Items.{counted}

@@ -21,9 +21,8 @@ use Rattle.jsonc_edit.specs.Changes.{row_below}
 use Rattle.jsonc_edit.specs.Paths.{IsAt, IsElementOf}
 use Rattle.jsonc_edit.proofs.Elements.{taken, left}
 use Rattle.jsonc_edit.proofs.FittingNodes.{over_there}
-use Rattle.jsonc_edit.proofs.Uniqueness.{element_parent}
+use Rattle.jsonc_edit.proofs.Uniqueness.{element_parent, over_at}
 use Rattle.jsonc_edit.proofs.ChangesUpward.{Shows-row_below}
-use Rattle.jsonc_edit.proofs.lemmas.set.PropertyRows.{over_at}
 use Rattle.jsonc_insert.specs.named.Members.{LacksMember, IsFirstMember, first_is, first_later, no_more, other_name}
 use Rattle.jsonc_insert.proofs.lemmas.named.Names.{Among, IsWhole, members_found}
 use Rattle.jsonc_insert.proofs.lemmas.named.PropertyValues.{property_row}

@@ -26,7 +26,7 @@ use Rattle.jsonc_edit.specs.Paths as paths
 use Rattle.jsonc_edit.specs.Paths.{IsAt, IsElementOf}
 use Rattle.jsonc_edit.proofs.FittingFinds.{passes, fails, none_is_some}
 use Rattle.jsonc_edit.proofs.ChangesUpward.{Shows-row_below, document_is}
-use Rattle.jsonc_edit.proofs.lemmas.set.PropertyRows.{prints_value, some_value_of}
+use Rattle.jsonc_edit.proofs.SoundValues.{some_value_of, prints_value}
 use Rattle.jsonc_insert.specs.named.Members.{LacksMember}
 use Rattle.jsonc_insert.specs.named.Places.{IsPropertyOf, IsPropertyAt, a_property}
 use Rattle.jsonc_insert.proofs.lemmas.named.PathValues.{gives_way_to_itself, value_at_path}

@@ -9,7 +9,7 @@ use Rattle.jsonc_text.proofs.UniqueValues.{document_unique}
 use Rattle.jsonc_tree.specs.OrderedTree.{ordered_tree}
 use Rattle.jsonc_tree.specs.Tree.{Node}
 use Rattle.jsonc_sound.specs.Shape.{printed_text}
-use Rattle.jsonc_edit.proofs.lemmas.set.PropertyRows.{prints_value}
+use Rattle.jsonc_edit.proofs.SoundValues.{prints_value}
 use Rattle.jsonc_run.specs.Edits.{PlainEdit}
 use Rattle.jsonc_run.specs.Named as asked
 use Rattle.jsonc_run.specs.Named.{Asks}

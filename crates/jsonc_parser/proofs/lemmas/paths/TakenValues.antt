@@ -17,7 +17,7 @@ use Rattle.jsonc_sound.specs.Sound.{HasValue}
 use Rattle.jsonc_edit.specs.Changes.{row_below, top_at}
 use Rattle.jsonc_edit.specs.Paths.{IsAt}
 use Rattle.jsonc_edit.proofs.OneValue.{document_once}
-use Rattle.jsonc_edit.proofs.lemmas.set.PropertyRows.{some_value_of}
+use Rattle.jsonc_edit.proofs.SoundValues.{some_value_of}
 use Rattle.jsonc_cst.specs.declared.cst.CstRootNode.{CstRootNode}
 use Rattle.jsonc_cst.specs.declared.cst.node.CstNode.{CstNode}
 use Rattle.jsonc_cst.specs.Document.{nodes_of}

@@ -13,7 +13,7 @@ use Rattle.jsonc_sound.specs.Leaving.{AreInlineTrivia}
 use Rattle.jsonc_edit.specs.multiline.Reflows.{has_newline}
 use Rattle.jsonc_layout.specs.nodes.Kinds.{is_newline}
 use Rattle.jsonc_run.proofs.lemmas.promise.Trivia.{beside_text, line_end_text}
-use Rattle.jsonc_sound.specs.Rows.{RowKind, of_values, of_properties, closing, opening, container_of}
+use Rattle.jsonc_sound.specs.Rows.{RowKind, of_values, of_properties, closing, opening}
 use Rattle.jsonc_sound.specs.SoundTrees.{SoundTree}
 use Rattle.jsonc_sound.specs.Marks.{marks, marks_of}
 use Rattle.jsonc_sound.specs.TreeChanges.{IsElement, leaves_of, ElementChanged, this_element, passed, later_element, DocumentChanged}
@@ -26,23 +26,23 @@ use Rattle.jsonc_insert.proofs.lemmas.elements.Marked.{behind_marks, led_marks}
 use Rattle.jsonc_tree.proofs.OrderedTrees.{leaves-followed_by}
 use Rattle.jsonc_sound.specs.TriviaChanges.{AreTrivia, leaves_then}
 use Rattle.jsonc_insert.specs.elements.Coming as coming
-use Rattle.jsonc_insert.specs.elements.Coming.{FirstLinesLeave, LastLinesLeave, BlankLinesLeave, Gap, CommaInserted, GoesOn, ElementInserted}
-use Rattle.jsonc_run.specs.texts.Paths.{Entry, HasEntries}
+use Rattle.jsonc_insert.specs.elements.Coming.{BlankLinesLeave, Gap, CommaInserted, GoesOn, ElementInserted}
+use Rattle.jsonc_run.specs.texts.Paths.{Entry}
 use Rattle.jsonc_text.specs.Marks.{Mark}
 use Rattle.jsonc_text.specs.Documents.{Document}
-use Rattle.jsonc_run.specs.texts.Stretches.{Come, Inside, Within}
+use Rattle.jsonc_run.specs.texts.Stretches.{Come, Inside}
 use Rattle.jsonc_run.specs.texts.Entering.{Joins, NoCommaComes, Spreads}
 use Rattle.jsonc_run.specs.promise.PlaceLaws.{text_of_leaves, node_chars, texts_of}
 use Rattle.jsonc_run.proofs.lemmas.promise.Entries.{element_text}
 use Rattle.jsonc_run.proofs.lemmas.promise.Reversed.{flip, front_same, back_same}
 use Rattle.jsonc_run.proofs.lemmas.promise.Leaves.{row_back, front_of, back_of, document_parts, document_utf8, text_joined, utf8_first, utf8_joined, utf8_second}
 use Rattle.jsonc_run.proofs.lemmas.promise.StretchElements.{Reached, at_first, past_leaves, past_row}
-use Rattle.jsonc_run.proofs.lemmas.promise.RemovedTexts.{container_leaves, entry_begins, entry_there, none_more}
+use Rattle.jsonc_run.proofs.lemmas.promise.RemovedTexts.{entry_begins, entry_there, none_more}
 use Rattle.jsonc_run.proofs.lemmas.promise.Stretches.{marks_in, marks_in_both, parted, parted_as, pieces_first, pieces_second}
 use Rattle.jsonc_sound.specs.Documents.{all_marks, document_of}
 use Rattle.jsonc_run.proofs.lemmas.promise.Values.{at_the_place, node_leaves}
 use Rattle.jsonc_run.proofs.lemmas.promise.Insides.{as_many, comma_comes, gap_trivia, goes_on, inside_so, texts_followed, texts_past}
-use Rattle.jsonc_run.proofs.lemmas.promise.Joined.{EntriesOf, Good, blanks_are_trivia, none_behind, bracket_follows, close_text, gap_blanks, good_as, good_first, good_second, good_tree, led_so, lines_behind, lines_past, lines_trimmed, no_comma_closes, one_token, onward, open_text, past_some, past_stretch, with_row}
+use Rattle.jsonc_run.proofs.lemmas.promise.Joined.{EntriesOf, Good, none_behind, bracket_follows, close_text, gap_blanks, good_as, good_first, good_second, good_tree, led_so, lines_behind, lines_past, lines_trimmed, no_comma_closes, one_token, onward, open_text, past_some, past_stretch, with_row}
 use Rattle.jsonc_sound.proofs.RowParts.{beside_trivia, leaves_followed}
 use Rattle.jsonc_sound.proofs.RootRows.{joined_trivia, leaves_then_joined}
 use Rattle.jsonc_sound.specs.MarkChanges.{AreBlanks}
@@ -59,6 +59,9 @@ use Rattle.jsonc_sound.proofs.ShapeValues.{comma_mark}
 use Rattle.jsonc_run.specs.texts.Stretches as documents
 use Rattle.jsonc_run.specs.texts.Entering as entering
 use Rattle.jsonc_sound.specs.Lines.{LinesEndLoosely}
+use Rattle.jsonc_sound.proofs.Entries.{blanks_trivia}
+use Rattle.jsonc_sound.proofs.SeamRows.{container_leaves}
+use Rattle.jsonc_edit.proofs.Lists.{either_off}
 use Rattle.jsonc_run.specs.texts.Paths as places
 
 -- an element stands in a row with more behind it
@@ -102,33 +105,28 @@ no_length : (l : List (List ℕ)) → length l ≡ 0 → l ≡ []
 no_length [] e = refl
 no_length (x ∷ l) e = absurd (omega (arith, e))
 
-element_stops : (content : Content) (below after : OrderedTree) → IsElement content → Stops (more content below after)
+pub element_stops : (content : Content) (below after : OrderedTree) → IsElement content → Stops (more content below after)
 element_stops (Content.whitespace s) below after h = cc
 element_stops (Content.newline k) below after h = cc
 element_stops content below after h = tt
 
--- where no line ends in a row
-either_false : (x y : Bool) → x || y ≡ false → (x ≡ false) × (y ≡ false)
-either_false true y e = cc
-either_false false y e = (refl, e)
-
 both_lack : (a b : OrderedTree) → has_newline (followed_by a b) ≡ false → (has_newline a ≡ false) × (has_newline b ≡ false)
 both_lack none b h = (refl, h)
 both_lack (more c w a) b h =
-    let m = either_false (is_newline c) (has_newline (followed_by a b)) h in
+    let m = either_off (is_newline c) (has_newline (followed_by a b)) h in
     let n = both_lack a b m.1 in
     (ap (λ x. x || has_newline a) m.0 ∙ n.0, n.1)
 
 lack_both : (a b : OrderedTree) → has_newline a ≡ false → has_newline b ≡ false → has_newline (followed_by a b) ≡ false
 lack_both none b h k = k
-lack_both (more c w a) b h k = let m = either_false (is_newline c) (has_newline a) h in ap (λ x. x || has_newline (followed_by a b)) m.0 ∙ lack_both a b m.1 k
+lack_both (more c w a) b h k = let m = either_off (is_newline c) (has_newline a) h in ap (λ x. x || has_newline (followed_by a b)) m.0 ∙ lack_both a b m.1 k
 
 led_lacks : {front led : OrderedTree} → CommaInserted front led → has_newline front ≡ false → has_newline led ≡ false
 led_lacks coming.none_comes h = h
 led_lacks (coming.one_comes f last beside p b) h =
     let rest : OrderedTree = leaves_then beside none in
     let m = both_lack f (more last.content last.below rest) h in
-    let n = either_false (is_newline last.content) (has_newline rest) m.1 in
+    let n = either_off (is_newline last.content) (has_newline rest) m.1 in
     lack_both f (more last.content last.below (token_then 0x2C rest)) m.0 (ap (λ x. x || has_newline rest) n.0 ∙ n.1)
 
 -- leaves of trivia without the end of a line stand on one
@@ -421,7 +419,7 @@ module _ (o : Options) (kind : RowKind) (row middle kept new : OrderedTree) {pat
     line_ends rest spaces n inline blank is =
         let line : List Content = newline n ∷ [] in
         let last : List ℕ = places.closing k ∷ B in
-        let parts2 : leaves back ≡ spaces ++ (line ++ leaves rest) = ap leaves is ∙ front_leaves spaces (more (newline n) none rest) (blanks_are_trivia spaces blank) in
+        let parts2 : leaves back ≡ spaces ++ (line ++ leaves rest) = ap leaves is ∙ front_leaves spaces (more (newline n) none rest) (blanks_trivia spaces blank) in
         let h = good_as o parts2 g_back in
         let spaces_good = good_first o spaces (line ++ leaves rest) h in
         let h1 = good_second o spaces (line ++ leaves rest) h in
@@ -485,7 +483,7 @@ module _ (o : Options) (kind : RowKind) (row middle kept new : OrderedTree) {pat
     ends_alone rest e none_there =
         let counted : element_count (followed_by front back) ≡ 0 = as_many (followed_by front back) ∙ ap (λ (l : List (List ℕ)). length l) (texts_followed front back ∙ none_there) in
         let a = ends counted in
-        let is : leaves behind ≡ a.0 = ap leaves a.2 ∙ none_behind a.0 (blanks_are_trivia a.0 a.1) in (
+        let is : leaves behind ≡ a.0 = ap leaves a.2 ∙ none_behind a.0 (blanks_trivia a.0 a.1) in (
           text_of_leaves a.0,
           B,
           blanks_text o a.0 a.1 (good_as o is g3).pieces,

@@ -15,6 +15,7 @@ use Rattle.jsonc_text.specs.Letters.{is_wide_letter}
 use Rattle.jsonc_text.proofs.Begins.{begins_number, number_begins}
 use Rattle.jsonc_text.proofs.NumberFrames.{number_whole}
 use Rattle.jsonc_text.proofs.Basics.{or_cases, or_left, or_right, test_eq, front_same}
+use Rattle.jsonc_text.proofs.CharacterSteps.{many_append}
 use Rattle.jsonc_tree.specs.Content as content
 use Rattle.jsonc_tree.specs.Content.{Content, text_of}
 use Rattle.jsonc_tree.specs.OrderedTree.{OrderedTree, leaves}
@@ -25,6 +26,7 @@ use Rattle.jsonc_sound.specs.Spaces as trees
 use Rattle.jsonc_sound.specs.Spaces.{first_printed, is_bare_leaf}
 use Rattle.jsonc_sound.proofs.NodesAlone.{document_leaves}
 use Rattle.jsonc_sound.proofs.Texts.{AllUtf8}
+use Rattle.jsonc_edit.proofs.Lists.{both_so}
 use Rattle.jsonc_run.specs.promise.PlaceLaws.{text_of_leaves}
 use Rattle.jsonc_run.proofs.lemmas.promise.Leaves.{text_joined, utf8_first, utf8_second}
 use Rattle.jsonc_run.proofs.lemmas.promise.Places.{seam_if}
@@ -72,10 +74,6 @@ sign_bare c h =
       | inr m ↦ subst (λ d. IsTrue (is_bare d)) (sym (test_eq c 0x2D m)) minus_bare
     ]
 
-many_both : {p : ℕ → Bool} {t u r : List ℕ} → Many p t u → Many p u r → Many p t r
-many_both stop k = k
-many_both (step h g) k = step h (many_both g k)
-
 many_wider : {p q : ℕ → Bool} {t r : List ℕ} → ((c : ℕ) → IsTrue (p c) → IsTrue (q c)) → Many p t r → Many q t r
 many_wider f stop = stop
 many_wider f (step {c = c} h g) = step (f c h) (many_wider f g)
@@ -117,13 +115,13 @@ exponent_run (Exponent.signed {e = e} {s = s} h k g) = step (letter_bare e (e_le
 
 unsigned_run : {o : Options} {b : Bool} {t r : List ℕ} → Unsigned o b t r → Many is_bare t r
 unsigned_run (Unsigned.hex {x = x} h k g) = step (digit_bare 0x30 refl) (step (letter_bare x (x_letter x k)) (all_bare hex_bare g))
-unsigned_run (Unsigned.decimal w f e) = many_both (whole_run w) (many_both (fraction_run f) (exponent_run e))
-unsigned_run (Unsigned.bare_point h g e) = step point_bare (many_both (all_bare digit_bare g) (exponent_run e))
+unsigned_run (Unsigned.decimal w f e) = many_append (whole_run w) (many_append (fraction_run f) (exponent_run e))
+unsigned_run (Unsigned.bare_point h g e) = step point_bare (many_append (all_bare digit_bare g) (exponent_run e))
 unsigned_run {r = r} (Unsigned.infinity h e) = letters_bare (codes "Infinity") r refl
 unsigned_run {r = r} (Unsigned.nan h e) = letters_bare (codes "NaN") r refl
 
 number_run : {o : Options} {t r : List ℕ} → Number o t r → Many is_bare t r
-number_run (signed, u, s, n) = many_both (sign_run s) (unsigned_run n)
+number_run (signed, u, s, n) = many_append (sign_run s) (unsigned_run n)
 
 keyword_run : (k : Keyword) → Many is_bare (keyword_text k ++ []) []
 keyword_run (Keyword.boolean true) = letters_bare (codes "true") [] refl
@@ -296,12 +294,8 @@ ends_with {row} e u s =
     let whole : text_of_leaves row ≡ text_of_leaves e.front ++ chars (text_of e.leaf) = ap text_of_leaves e.is ∙ text_joined e.front (e.leaf ∷ []) (utf8_first e.front (e.leaf ∷ []) utf8) ∙ ap (λ l. text_of_leaves e.front ++ l) last in
     subst EndsBare (sym whole) (ends_behind (text_of_leaves e.front) own)
 
-both_true : (a b : Bool) → IsTrue a → IsTrue b → IsTrue (a && b)
-both_true true b h k = k
-both_true false b h k = cc
-
 pub meets : {x y : List ℕ} → EndsBare x → BeginsBare y → Meet x y
-meets e b = (e.front, b.rest, e.char, b.char, e.is, b.is, both_true (is_bare e.char) (is_bare b.char) e.bare b.bare)
+meets e b = (e.front, b.rest, e.char, b.char, e.is, b.is, both_so (is_bare e.char) (is_bare b.char) e.bare b.bare)
 
 -- the space that is due, or none
 pub seam_due : (b : Bool) {front back : List ℕ} → (b ≡ true → Meet front back) → IsSeam front back (seam_if b)

@@ -7,7 +7,6 @@ use Rattle.jsonc_run.specs.texts.Paths as places
 use Rattle.jsonc_tree.specs.Content.{Content, token}
 use Rattle.jsonc_tree.specs.OrderedTree.{OrderedTree, none, more, leaves, followed_by, Top}
 use Rattle.jsonc_tree.proofs.OrderedTrees.{leaves-followed_by}
-use Rattle.jsonc_layout.specs.nodes.Kinds.{is_trivia}
 use Rattle.jsonc_sound.specs.Leaving.{among, comma_comes, has_no_comma}
 use Rattle.jsonc_sound.specs.Lines.{LinesEndLoosely}
 use Rattle.jsonc_sound.specs.Rows.{RowKind, of_values, of_properties, opening, container_of}
@@ -15,7 +14,6 @@ use Rattle.jsonc_sound.specs.Shape.{token_then, printed_text}
 use Rattle.jsonc_sound.specs.SoundTrees.{SoundTree}
 use Rattle.jsonc_sound.specs.TreeChanges.{IsElement, leaves_of}
 use Rattle.jsonc_sound.specs.TriviaChanges.{AreTrivia, leaves_then}
-use Rattle.jsonc_sound.proofs.LooseLines.{Stops}
 use Rattle.jsonc_sound.proofs.Texts.{AllUtf8}
 use Rattle.jsonc_sound.proofs.TriviaLeaves.{front_leaves}
 use Rattle.jsonc_run.specs.promise.PlaceLaws.{text_of_leaves}
@@ -26,8 +24,13 @@ use Rattle.jsonc_run.proofs.lemmas.promise.Leaves.{back_of, document_parts, docu
 use Rattle.jsonc_run.proofs.lemmas.promise.LooseRows.{Reads, kind_of_row, behind_comma, behind_entry, loose_text, loose_to, none_comes, reads_on, reads_past, row_reads}
 use Rattle.jsonc_run.proofs.lemmas.promise.Places.{DocumentItself}
 use Rattle.jsonc_sound.proofs.ShapeValues.{bracket_mark, brace_mark, mark_text}
-use Rattle.jsonc_run.proofs.lemmas.promise.RemovedTexts.{among_leaves, comma_text, container_leaves, text_cons}
+use Rattle.jsonc_sound.proofs.WithoutValue.{among_leaves}
+use Rattle.jsonc_sound.proofs.SeamRows.{container_leaves}
+use Rattle.jsonc_insert.proofs.lemmas.elements.Stretches.{comma_past}
+use Rattle.jsonc_run.proofs.lemmas.promise.RemovedTexts.{comma_text, text_cons}
 use Rattle.jsonc_run.proofs.lemmas.promise.Values.{ValueHere, at_the_place}
+use Rattle.jsonc_run.proofs.lemmas.promise.Joined.{lines_past, lines_behind}
+use Rattle.jsonc_run.proofs.lemmas.promise.Arriving.{element_stops}
 
 -- which comma leaves a row with its element, by what stands in it
 pub data Which (top : Top) (row : OrderedTree) : (comma mid lead trail rest : List Content) → Bool → Type 0 where
@@ -37,25 +40,9 @@ pub data Which (top : Top) (row : OrderedTree) : (comma mid lead trail rest : Li
   none_there : (front back : OrderedTree) (before line : List Content) → row ≡ followed_by front (among before top line back)
       → IsElement top.content → AreTrivia before → AreTrivia line → IsTrue (has_no_comma front) → IsTrue (not (comma_comes back)) → Which top row [] [] before line (leaves back) false
 
-element_stops : (content : Content) (below after : OrderedTree) → IsElement content → Stops (more content below after)
-element_stops (Content.whitespace s) below after h = cc
-element_stops (Content.newline k) below after h = cc
-element_stops content below after h = tt
-
-lines_on : (s row : OrderedTree) → LinesEndLoosely true false (followed_by s row) → LinesEndLoosely true false row
-lines_on none row l = l
-lines_on (more c b s) row l = lines_on s row l.2
-
-lines_past : (ls : List Content) (row : OrderedTree) → LinesEndLoosely true false (leaves_then ls row) → LinesEndLoosely true false row
-lines_past [] row l = l
-lines_past (c ∷ ls) row l = lines_past ls row l.2
-
-comes_past : (content : Content) (below after : OrderedTree) → IsTrue (is_trivia content) → comma_comes (more content below after) ≡ comma_comes after
-comes_past content below after h = rw h refl
-
 comes_behind : (ls : List Content) (row : OrderedTree) → AreTrivia ls → comma_comes (leaves_then ls row) ≡ comma_comes row
 comes_behind [] row h = refl
-comes_behind (c ∷ ls) row h = comes_past c none (leaves_then ls row) h.0 ∙ comes_behind ls row h.1
+comes_behind (c ∷ ls) row h = comma_past c none (leaves_then ls row) h.0 ∙ comes_behind ls row h.1
 
 module _ (o : Options) {t : OrderedTree} (s : SoundTree o t) (kind : RowKind) {path : List ℕ} {row : OrderedTree} {f b : List Content} (d : DocumentItself (container_of kind row) path t f b) where
   abbrev z : List ℕ
@@ -161,7 +148,7 @@ module _ (o : Options) {t : OrderedTree} (s : SoundTree o t) (kind : RowKind) {p
     not_behind : NoCommaComes o (text_of_leaves line ++ text_of_leaves tail)
     not_behind =
         subst (NoCommaComes o) at_line
-        (none_comes o (kind_of_row kind) z (leaves_then line back) later (lines_past before first (lines_on mid second lines)).2 (subst (λ (x : Bool). IsTrue (not x)) (sym (comes_behind line back lt)) none_come))
+        (none_comes o (kind_of_row kind) z (leaves_then line back) later (lines_past before first (lines_behind mid second lines)).2 (subst (λ (x : Bool). IsTrue (not x)) (sym (comes_behind line back lt)) none_come))
 
   whose : {top : Top} {comma mid lead trail rest : List Content} {c : Bool} → Which top row comma mid lead trail rest c
       → Comma o (printed_text t) (text_of_leaves lead) (text_of_leaves (leaves_of top) ++ (text_of_leaves trail ++ text_of_leaves (rest ++ b))) (text_of_leaves trail ++ text_of_leaves (rest ++ b)) c (text_of_leaves comma) (text_of_leaves mid)
@@ -174,7 +161,7 @@ module _ (o : Options) {t : OrderedTree} (s : SoundTree o t) (kind : RowKind) {p
       let r0 = subst (Reads o (kind_of_row kind) z) e all.0 in
       let r1 = reads_on o (kind_of_row kind) z front (token 0x2C) none inner r0 in
       let r2 = behind_comma o (kind_of_row kind) z mid before top.content top.below (leaves_then line back) r1 in
-      let l2 = (lines_on front (token_then 0x2C inner) (subst (LinesEndLoosely true false) e all.1)).2 in
+      let l2 = (lines_behind front (token_then 0x2C inner) (subst (LinesEndLoosely true false) e all.1)).2 in
       let parts : leaves row ++ b ≡ leaves front ++ (token 0x2C ∷ (leaves inner ++ b)) = ap (λ r. leaves r ++ b) e ∙ ap (λ l. l ++ b) (leaves-followed_by front (token_then 0x2C inner)) ∙ append_assoc (leaves front) (token 0x2C ∷ leaves inner) b in
       let u2 : AllUtf8 (leaves inner ++ b) = (utf8_second (leaves front) (token 0x2C ∷ (leaves inner ++ b)) (subst AllUtf8 parts row_utf8)).1 in
       let l = loose top back before line el bt lt come mid free u2 r2 l2 in

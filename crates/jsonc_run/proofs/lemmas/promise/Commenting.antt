@@ -25,7 +25,7 @@ use Rattle.jsonc_run.proofs.lemmas.promise.RemovedTexts.{pieces_first, pieces_se
 use Rattle.jsonc_sound.specs.Documents.{document_of}
 use Rattle.jsonc_run.proofs.lemmas.promise.Stretches.{blanks_behind_unmarked, marks_in, marks_in_both, parted, seam_unmarked}
 use Rattle.jsonc_run.proofs.lemmas.promise.Trivia.{first_text, piece_trivia}
-use Rattle.jsonc_run.proofs.lemmas.promise.Places.{silent_then, seam_if, space_text}
+use Rattle.jsonc_run.proofs.lemmas.promise.Places.{silent_then, seam_if, seam_then}
 use Rattle.jsonc_run.proofs.lemmas.promise.Bare.{AllSpelled, BeginsBare, EndsBare, begins_so, ends_so, meets, seam_due, spelled, spelled_first, spelled_second}
 
 pub comments_counted : (ms : List tree_marks.Mark) → length (texts.comments_of (all_marks ms)) ≡ length (tree_marks.comments_of ms)
@@ -77,10 +77,7 @@ module _ (o : Options) {t u : OrderedTree} (s : SoundTree o t) (r : SoundTree o 
       let comment = piece_trivia o (content.comment g.text) refl (pieces_second o g.blanks own pieces).0 in
       let written : text_of_leaves own ≡ chars g.text = first_text (content.comment g.text) [] comment.1.0 ∙ ap (λ l. chars g.text ++ l) chars-nil ∙ append-nil (chars g.text) in
       let later : AllUtf8 behind_new = utf8_second g.front behind_new utf8_new in
-      let new_back : text_of_leaves behind_new ≡ seam_if g.behind ++ text_of_leaves g.rest =
-      silent_then g.quiet (space_if g.behind ++ g.rest) g.silent later
-      ∙ text_joined (space_if g.behind) g.rest (utf8_first (space_if g.behind) g.rest (utf8_second g.quiet (space_if g.behind ++ g.rest) later))
-      ∙ ap (λ l. l ++ text_of_leaves g.rest) (space_text g.behind) in
+      let new_back : text_of_leaves behind_new ≡ seam_if g.behind ++ text_of_leaves g.rest = seam_then g.quiet g.rest g.behind g.silent later in
       let old : printed_text t ≡ text_of_leaves g.front ++ ((text_of_leaves g.blanks ++ chars g.text) ++ text_of_leaves g.rest) =
       ap text_of_leaves g.before ∙ text_joined g.front ((g.blanks ++ own) ++ behind_old) (utf8_first g.front ((g.blanks ++ own) ++ behind_old) utf8)
       ∙ ap (λ l. text_of_leaves g.front ++ l) (text_joined (g.blanks ++ own) behind_old both ∙ ap (λ l. text_of_leaves (g.blanks ++ own) ++ l) old_back

@@ -19,8 +19,7 @@ use Rattle.jsonc_edit.specs.SeamPlaces.{DocumentHolds}
 use Rattle.jsonc_edit.proofs.Elements.{stands_at}
 use Rattle.jsonc_edit.proofs.PathPlaces.{at_between, element_between, stands_once}
 use Rattle.jsonc_edit.proofs.SeamsOfEntries.{property_front, property_back, property_stands, property_holds}
-use Rattle.jsonc_edit.proofs.Uniqueness.{element_parent}
-use Rattle.jsonc_edit.proofs.lemmas.multiline.Documents.{over_at}
+use Rattle.jsonc_edit.proofs.Uniqueness.{element_parent, over_at}
 use Rattle.jsonc_run.specs.Places.{IsEntryAt, the_value, an_entry, in_array, in_object}
 use Rattle.jsonc_run.specs.EntriesHeld as held
 use Rattle.jsonc_run.specs.EntriesHeld.{EntryHolds, an_element, a_property}

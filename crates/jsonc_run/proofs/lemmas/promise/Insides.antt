@@ -1,20 +1,18 @@
 -- Where a container of a sound tree is replaced by one of the same kind, nothing outside of it changes, and what its entries' texts are.
-use Rattle.std.proofs.Common.{ℕ, suc, ◌≡◌, ◌∙◌, sym, ap, subst, refl, Bool, true, false, List, [], ◌∷◌, ◌++◌, length, IsTrue, Option}
+use Rattle.std.proofs.Common.{ℕ, suc, ◌≡◌, ◌∙◌, sym, ap, subst, refl, Bool, true, false, List, [], ◌∷◌, ◌++◌, length, Option}
 use Rattle.jsonc_text.specs.Options.{Options}
 use Rattle.jsonc_text.specs.Plain.{Plain}
 use Rattle.jsonc_tree.specs.Content.{Content, newline}
 use Rattle.jsonc_tree.specs.OrderedTree.{OrderedTree, none, more, followed_by, Top}
 use Rattle.jsonc_tree.specs.Values.{is_passed_over}
 use Rattle.jsonc_sound.specs.Shape.{token_then, printed_text}
-use Rattle.jsonc_layout.specs.nodes.Kinds.{is_trivia}
 use Rattle.jsonc_sound.specs.Leaving.{element_count}
-use Rattle.jsonc_sound.specs.MarkChanges.{AreBlanks}
 use Rattle.jsonc_sound.specs.Rows.{RowKind, container_of}
 use Rattle.jsonc_sound.specs.SoundTrees.{SoundTree}
 use Rattle.jsonc_sound.specs.TreeChanges.{IsElement, leaves_of, DocumentChanged}
 use Rattle.jsonc_sound.specs.TriviaChanges.{AreTrivia, leaves_then}
 use Rattle.jsonc_insert.specs.elements.Coming as coming
-use Rattle.jsonc_insert.specs.elements.Coming.{FirstLinesLeave, LastLinesLeave, BlankLinesLeave, Gap, CommaInserted, GoesOn, ElementInserted}
+use Rattle.jsonc_insert.specs.elements.Coming.{FirstLinesLeave, LastLinesLeave, BlankLinesLeave, Gap, CommaInserted, GoesOn}
 use Rattle.jsonc_run.specs.texts.Paths.{HasEntries}
 use Rattle.jsonc_run.specs.texts.Stretches.{Inside, Within}
 use Rattle.jsonc_run.specs.promise.PlaceLaws.{text_of_leaves, node_chars, texts_of}
@@ -22,6 +20,8 @@ use Rattle.jsonc_run.proofs.lemmas.promise.Entries.{has_entries, element_text, o
 use Rattle.jsonc_run.proofs.lemmas.promise.Reversed.{flip, front_same, back_same}
 use Rattle.jsonc_run.proofs.lemmas.promise.Leaves.{front_of, back_of}
 use Rattle.jsonc_sound.specs.Documents.{document_of}
+use Rattle.jsonc_sound.proofs.RootRows.{trivia_passed}
+use Rattle.jsonc_sound.proofs.Entries.{blanks_trivia}
 use Rattle.jsonc_run.proofs.lemmas.promise.Values.{at_the_place}
 
 pub inside_so : (o : Options) (kind : RowKind) {row new : OrderedTree} {path : List ℕ} {t u : OrderedTree} (s : SoundTree o t) (r : SoundTree o u) → DocumentChanged (container_of kind row) (container_of kind new) path t u
@@ -53,13 +53,6 @@ within_so o p {was} {now} {path} {t} {u} s r d w x =
     second.0 ∙ ap (λ l. text_of_leaves l ++ (text_of_leaves (leaves_of now) ++ text_of_leaves (back_of (flip d)))) (front_same d) ∙ ap (λ l. text_of_leaves (front_of d) ++ (text_of_leaves (leaves_of now) ++ text_of_leaves l)) (back_same d) in
     (text_of_leaves (front_of d), text_of_leaves (leaves_of was), text_of_leaves (leaves_of now), text_of_leaves (back_of d), first.0, after, first.1)
 
--- the texts of rows that are put together
-trivia_passed : (c : Content) → IsTrue (is_trivia c) → IsTrue (is_passed_over c)
-trivia_passed (Content.whitespace s) h = refl
-trivia_passed (Content.newline k) h = refl
-trivia_passed (Content.comment s) h = refl
-trivia_passed c h = cc
-
 pub texts_followed : (x y : OrderedTree) → texts_of (followed_by x y) ≡ texts_of x ++ texts_of y
 texts_followed none y = refl
 texts_followed (more c below after) y = by (texts_followed after y) (is_passed_over c) refl
@@ -73,12 +66,6 @@ texts_followed (more c below after) y = by (texts_followed after y) (is_passed_o
 pub texts_past : (ls : List Content) (row : OrderedTree) → AreTrivia ls → texts_of (leaves_then ls row) ≡ texts_of row
 texts_past [] row h = refl
 texts_past (c ∷ ls) row h = over_text c none (leaves_then ls row) (trivia_passed c h.0) ∙ texts_past ls row h.1
-
-blanks_trivia : (ls : List Content) → AreBlanks ls → AreTrivia ls
-blanks_trivia [] h = tt
-blanks_trivia (Content.whitespace s ∷ ls) h = (refl, blanks_trivia ls h.1)
-blanks_trivia (Content.newline k ∷ ls) h = (refl, blanks_trivia ls h.1)
-blanks_trivia (c ∷ ls) h = cc
 
 first_lines : {row kept : OrderedTree} → FirstLinesLeave row kept → texts_of row ≡ texts_of kept
 first_lines coming.none_first = refl

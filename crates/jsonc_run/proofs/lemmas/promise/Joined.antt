@@ -32,14 +32,15 @@ use Rattle.jsonc_insert.specs.elements.Coming.{FirstLinesLeave, LastLinesLeave, 
 use Rattle.jsonc_run.specs.promise.PlaceLaws.{text_of_leaves}
 use Rattle.jsonc_run.specs.texts.Stretches as documents
 use Rattle.jsonc_run.specs.texts.Entering as entering
-use Rattle.jsonc_run.specs.texts.Stretches.{Without, is_space}
-use Rattle.jsonc_run.specs.texts.Entering.{Led, NoCommaComes, Spreads, Trims}
+use Rattle.jsonc_run.specs.texts.Stretches.{Without}
+use Rattle.jsonc_run.specs.texts.Entering.{Led, Trims}
 use Rattle.jsonc_run.proofs.lemmas.promise.CommaTexts.{all_same, same_before}
 use Rattle.jsonc_run.proofs.lemmas.promise.CommentTexts.{blanks_text}
 use Rattle.jsonc_run.proofs.lemmas.promise.Leaves.{document_utf8, text_joined, utf8_first, utf8_joined, utf8_second}
 use Rattle.jsonc_run.proofs.lemmas.promise.Lines.{blanks_leave, spaces_leave, spread}
 use Rattle.jsonc_run.proofs.lemmas.promise.LooseRows.{Reads, kind_of_row}
 use Rattle.jsonc_sound.proofs.ShapeValues.{Mark, bracket_mark, brace_mark, close_bracket_mark, close_brace_mark}
+use Rattle.jsonc_sound.proofs.Entries.{blanks_trivia}
 use Rattle.jsonc_run.proofs.lemmas.promise.Stretches.{pieces_first, pieces_second}
 use Rattle.jsonc_run.proofs.lemmas.promise.Trivia.{beside_text}
 
@@ -67,12 +68,6 @@ module _ (o : Options) where
 
   pub good_tree : {t : OrderedTree} → SoundTree o t → Good o (leaves t)
   good_tree s = record { pieces = document_pieces o (document_alone o s.shaped); utf8 = document_utf8 o s.shaped }
-
-pub blanks_are_trivia : (ls : List Content) → AreBlanks ls → AreTrivia ls
-blanks_are_trivia [] h = tt
-blanks_are_trivia (whitespace s ∷ ls) h = (refl, blanks_are_trivia ls h.1)
-blanks_are_trivia (newline k ∷ ls) h = (refl, blanks_are_trivia ls h.1)
-blanks_are_trivia (c ∷ ls) h = cc
 
 blanks_with_line : (ls : List Content) (n : CstNewlineKind) → AreBlanks ls → AreBlanks (ls ++ newline n ∷ [])
 blanks_with_line [] n h = (refl, tt)
@@ -132,9 +127,9 @@ module _ (o : Options) (kind : RowKind) (F B : List ℕ) where
   last_trimmed (coming.leave_last front gone spaces n a b) g =
       let line : List Content = newline n ∷ spaces in
       let tail : OrderedTree = more (newline n) none (leaves_then spaces none) in
-      let tail_is : leaves tail ≡ line = ap (λ l. newline n ∷ l) (none_behind spaces (blanks_are_trivia spaces b)) in
+      let tail_is : leaves tail ≡ line = ap (λ l. newline n ∷ l) (none_behind spaces (blanks_trivia spaces b)) in
       let was : leaves (followed_by front (leaves_then gone tail)) ≡ leaves front ++ (gone ++ line) =
-      leaves-followed_by front (leaves_then gone tail) ∙ ap (λ l. leaves front ++ l) (front_leaves gone tail (blanks_are_trivia gone a) ∙ ap (λ l. gone ++ l) tail_is) in
+      leaves-followed_by front (leaves_then gone tail) ∙ ap (λ l. leaves front ++ l) (front_leaves gone tail (blanks_trivia gone a) ∙ ap (λ l. gone ++ l) tail_is) in
       let is : leaves (followed_by front tail) ≡ leaves front ++ line = leaves-followed_by front tail ∙ ap (λ l. leaves front ++ l) tail_is in
       let g0 = good_as o was g in
       let g1 = good_second o (leaves front) (gone ++ line) g0 in
@@ -161,8 +156,8 @@ module _ (o : Options) (kind : RowKind) (F B : List ℕ) where
       let line : List Content = spaces ++ newline n ∷ [] in
       let rest : List Content = leaves row in
       let was : leaves (leaves_then spaces (more (newline n) none (leaves_then gone row))) ≡ line ++ (gone ++ rest) =
-      front_leaves spaces (more (newline n) none (leaves_then gone row)) (blanks_are_trivia spaces a) ∙ ap (λ l. spaces ++ (newline n ∷ l)) (front_leaves gone row (blanks_are_trivia gone b)) ∙ sym (append_assoc spaces (newline n ∷ []) (gone ++ rest)) in
-      let is : leaves (leaves_then spaces (more (newline n) none row)) ≡ line ++ rest = front_leaves spaces (more (newline n) none row) (blanks_are_trivia spaces a) ∙ sym (append_assoc spaces (newline n ∷ []) rest) in
+      front_leaves spaces (more (newline n) none (leaves_then gone row)) (blanks_trivia spaces a) ∙ ap (λ l. spaces ++ (newline n ∷ l)) (front_leaves gone row (blanks_trivia gone b)) ∙ sym (append_assoc spaces (newline n ∷ []) (gone ++ rest)) in
+      let is : leaves (leaves_then spaces (more (newline n) none row)) ≡ line ++ rest = front_leaves spaces (more (newline n) none row) (blanks_trivia spaces a) ∙ sym (append_assoc spaces (newline n ∷ []) rest) in
       let g0 = good_as o was g in
       let g1 = good_second o line (gone ++ rest) g0 in
       let g2 = good_second o gone rest g1 in
@@ -340,7 +335,7 @@ onward o m {back = back} (coming.elements_follow gap g n) = record {
   one = inl (refl, inl n);
   are = gap_blanks g;
   text = one_token m;
-  parts = ap (λ l. token 0x2C ∷ l) (front_leaves gap back (blanks_are_trivia gap (gap_blanks g)));
+  parts = ap (λ l. token 0x2C ∷ l) (front_leaves gap back (blanks_trivia gap (gap_blanks g)));
   rows = λ z kind c r l.
       let same : followed_by (leaves_then gap back) (token_then c none) ≡ leaves_then gap (followed_by back (token_then c none)) = leaves_followed gap back (token_then c none) in
       let all : token_then 0x2C (followed_by (leaves_then gap back) (token_then c none)) ≡ token_then 0x2C (leaves_then gap (followed_by back (token_then c none))) = ap (token_then 0x2C) same in
@@ -354,7 +349,7 @@ onward o m {back = back} (coming.none_follow gap g n) = record {
   one = inr (refl, n);
   are = gap_blanks g;
   text = chars-nil;
-  parts = front_leaves gap back (blanks_are_trivia gap (gap_blanks g));
+  parts = front_leaves gap back (blanks_trivia gap (gap_blanks g));
   rows = λ z kind c r l.
       let same : followed_by (leaves_then gap back) (token_then c none) ≡ leaves_then gap (followed_by back (token_then c none)) = leaves_followed gap back (token_then c none) in
       (past_some o kind z gap (followed_by back (token_then c none)) (some_row back c) (subst (Reads o kind z) same r), lines_past gap (followed_by back (token_then c none)) (subst (LinesEndLoosely true false) same l));

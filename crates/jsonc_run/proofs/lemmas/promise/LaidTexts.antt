@@ -22,6 +22,7 @@ use Rattle.jsonc_sound.specs.TreeChanges.{leaves_of}
 use Rattle.jsonc_sound.proofs.Pieces.{Pieces}
 use Rattle.jsonc_sound.proofs.ShapeValues.{Mark, comma_mark, colon_mark, bracket_mark, close_bracket_mark, brace_mark, close_brace_mark}
 use Rattle.jsonc_sound.proofs.Texts.{AllUtf8}
+use Rattle.jsonc_edit.proofs.Lists.{either_off}
 use Rattle.jsonc_run.specs.promise.PlaceLaws.{text_of_leaves}
 use Rattle.jsonc_run.specs.texts.Paths.{an_object}
 use Rattle.jsonc_run.specs.texts.Stretches as documents
@@ -31,6 +32,7 @@ use Rattle.jsonc_run.proofs.lemmas.promise.Leaves.{text_joined, utf8_first, utf8
 use Rattle.jsonc_run.proofs.lemmas.promise.Plains.{entry_of}
 use Rattle.jsonc_run.proofs.lemmas.promise.Stretches.{pieces_first, pieces_second}
 use Rattle.jsonc_run.proofs.lemmas.promise.Trivia.{first_text, newline_chars, piece_trivia}
+use Rattle.jsonc_run.proofs.Parents.{or_true}
 
 -- the layout in characters
 abbrev in_text : trees.Layout → Layout
@@ -109,10 +111,6 @@ comma_first false row u = (u, refl)
 or_false : (b : Bool) → b || false ≡ b
 or_false true = refl
 or_false false = refl
-
-or_true : (b : Bool) → b || true ≡ true
-or_true true = refl
-or_true false = refl
 
 line_regroup : (a b c d e : List ℕ) → a ++ (b ++ (c ++ (d ++ e))) ≡ (a ++ (b ++ (c ++ d))) ++ e
 line_regroup a b c d e = simp (append_assoc) refl
@@ -298,14 +296,10 @@ unfilled_same l m (Plain.array (item v vs)) e = cc
 unfilled_same l m (Plain.object no_members) e = refl
 unfilled_same l m (Plain.object (member name v ms)) e = cc
 
-either_false : (x y : Bool) → x || y ≡ false → (x ≡ false) × (y ≡ false)
-either_false true y e = cc
-either_false false y e = (refl, e)
-
 items_same : (l m : Layout) (vs : Items) → holds_filled vs ≡ false → laid_items l vs ≡ laid_items m vs
 items_same l m no_items e = refl
 items_same l m (item v vs) e =
-    let k = either_false (is_filled v) (holds_filled vs) e in
+    let k = either_off (is_filled v) (holds_filled vs) e in
     ap (λ s. s ∷ laid_items l vs) (unfilled_same l m v k.0) ∙ ap (λ ss. laid_text m v ∷ ss) (items_same l m vs k.1)
 
 one_line_text : (l : Layout) (vs : Items) → holds_filled vs ≡ false → laid_text l (Plain.array vs) ≡ 0x5B ∷ (on_one_line (laid_items l vs) ++ 0x5D ∷ [])

@@ -7,11 +7,12 @@ use Rattle.jsonc_text.specs.Options.{Options}
 use Rattle.jsonc_tree.specs.Content.{Content, text_of}
 use Rattle.jsonc_tree.specs.OrderedTree.{OrderedTree, more, own_leaf, leaves, Top}
 use Rattle.jsonc_sound.specs.Shape as shape
-use Rattle.jsonc_sound.specs.Shape.{Trivia, DocumentShaped, printed_text}
+use Rattle.jsonc_sound.specs.Shape.{DocumentShaped}
 use Rattle.jsonc_sound.specs.ChangeLaws.{DiffersIn}
 use Rattle.jsonc_sound.specs.TreeChanges.{leaves_of, ElementChanged, this_element, passed, later_element, ValueChanged, itself, in_array, in_object, DocumentChanged, in_root}
 use Rattle.jsonc_sound.proofs.NodesAlone.{value_alone}
 use Rattle.jsonc_sound.proofs.Texts.{AllUtf8, trivia_all, value_all}
+use Rattle.jsonc_edit.proofs.lemmas.remove.PartedTrivia.{around}
 use Rattle.jsonc_run.specs.promise.PlaceLaws.{text_of_leaves}
 
 -- the leaves before the element that is replaced in a row, and behind it
@@ -45,9 +46,6 @@ back_of (in_root e h) = value_back h ++ row_back e
 node_assoc : (a b f s t : List Content) → a ++ (b ++ (f ++ (s ++ t))) ≡ (a ++ (b ++ f)) ++ (s ++ t)
 node_assoc a b f s t = ap (λ l. a ++ l) (sym (append_assoc b f (s ++ t))) ∙ sym (append_assoc a (b ++ f) (s ++ t))
 
-inside_of : (f g s c b : List Content) → f ++ ((g ++ (s ++ c)) ++ b) ≡ (f ++ g) ++ (s ++ (c ++ b))
-inside_of f g s c b = ap (λ l. f ++ l) (append_assoc g (s ++ c) b ∙ ap (λ l. g ++ l) (append_assoc s c b)) ∙ sym (append_assoc f g (s ++ (c ++ b)))
-
 first_node : (top : Top) (after : OrderedTree) → leaves (more top.content top.below after) ≡ [] ++ (leaves_of top ++ leaves after)
 first_node top after = sym (append_assoc (own_leaf top.content) (leaves top.below) (leaves after))
 
@@ -63,7 +61,7 @@ row_parts_then {now = now} (later_element {content = content} {below = below} h 
 
 -- a stretch of a stretch
 within : (x s f b was g c : List Content) → s ≡ f ++ (x ++ b) → x ≡ g ++ (was ++ c) → s ≡ (f ++ g) ++ (was ++ (c ++ b))
-within x s f b was g c e k = e ∙ ap (λ l. f ++ (l ++ b)) k ∙ inside_of f g was c b
+within x s f b was g c e k = e ∙ ap (λ l. f ++ (l ++ b)) k ∙ around f g was c b
 
 value_parts : {was now : Top} {path : List ℕ} {x y : Top} (h : ValueChanged was now path x y) → leaves_of x ≡ value_front h ++ (leaves_of was ++ value_back h)
 value_parts {was} itself = sym (append-nil (leaves_of was))

@@ -45,8 +45,8 @@ use Rattle.jsonc_run.proofs.lemmas.promise.PartLines.{parts_on_lines}
 use Rattle.jsonc_sort.proofs.Same.{document_same}
 use Rattle.jsonc_run.proofs.lemmas.promise.Leaves.{front_of, back_of, document_parts, document_parts_then, document_utf8, text_joined}
 use Rattle.jsonc_sound.specs.Documents.{all_marks}
-use Rattle.jsonc_run.proofs.lemmas.promise.RemovedTexts.{container_leaves}
 use Rattle.jsonc_sound.specs.Documents.{document_of}
+use Rattle.jsonc_sound.proofs.SeamRows.{container_leaves}
 use Rattle.jsonc_run.proofs.lemmas.promise.Trailing.{loses_trailing}
 use Rattle.jsonc_run.proofs.lemmas.promise.ReflowedRows.{spread_texts}
 

@@ -58,7 +58,7 @@ no_line_element : (content : Content) (below after : OrderedTree) → IsElement 
 no_line_element (Content.newline k) below after e h = cc
 no_line_element content below after e h = h
 
-element_stops : (content : Content) (below after : OrderedTree) → content ≡ token 0x2C → Stops (more content below after)
+pub element_stops : (content : Content) (below after : OrderedTree) → content ≡ token 0x2C → Stops (more content below after)
 element_stops content below after e = subst (λ c. Stops (more c below after)) (sym e) tt
 
 module _ (o : Options) (kind : Kind) (z : List ℕ) where

@@ -7,7 +7,7 @@ use Rattle.jsonc_text.specs.Grammar.{IsProperty, named}
 use Rattle.jsonc_text.specs.Grammar as grammar
 use Rattle.jsonc_text.specs.Plain.{Plain}
 use Rattle.jsonc_run.specs.texts.Paths.{Kind, an_array, an_object, closing, IsEntry}
-use Rattle.jsonc_text.proofs.Basics.{and_both}
+use Rattle.jsonc_text.proofs.Basics.{and_both, heads}
 use Rattle.jsonc_text.proofs.Begins.{begins_item}
 use Rattle.jsonc_text.proofs.UniqueGaps.{begins_gap, gap_unique}
 use Rattle.jsonc_text.proofs.UniqueValues.{name_begins, not_gap, value_begins}
@@ -43,16 +43,13 @@ abbrev pub kind_of_row : RowKind → Kind
 kind_of_row of_values = an_array
 kind_of_row of_properties = an_object
 
-heads_same : {c d : ℕ} {s t : List ℕ} → c ∷ s ≡ d ∷ t → c ≡ d
-heads_same e = cc
-
 no_gap_closes : (kind : Kind) → IsTrue (not (begins_gap (closing kind)))
 no_gap_closes an_array = refl
 no_gap_closes an_object = refl
 
 closes_no_comma : (kind : Kind) (z u : List ℕ) → closing kind ∷ z ≡ 0x2C ∷ u → ⊥
-closes_no_comma an_array z u e = let k : false ≡ true = ap (λ (n : ℕ). n == 0x2C) (heads_same e) in cc
-closes_no_comma an_object z u e = let k : false ≡ true = ap (λ (n : ℕ). n == 0x2C) (heads_same e) in cc
+closes_no_comma an_array z u e = let k : false ≡ true = ap (λ (n : ℕ). n == 0x2C) (heads e) in cc
+closes_no_comma an_object z u e = let k : false ≡ true = ap (λ (n : ℕ). n == 0x2C) (heads e) in cc
 
 items_no_comma : (t u : List ℕ) → t ≡ 0x2C ∷ u → IsTrue (starts begins_item (next t)) → ⊥
 items_no_comma t u e h = let k : IsTrue (starts begins_item (next (0x2C ∷ u))) = subst (λ x. IsTrue (starts begins_item (next x))) e h in cc

@@ -1,5 +1,5 @@
 -- One edit of a node of a sound document: the place of the node, and the step that the edit is.
-use Rattle.std.proofs.Common.{◌≡◌, ℕ, zero, suc, ◌<◌, true, false, cond, List, [], ◌∷◌, ◌++◌, length, filter, slice_get, slice_index, Some, None, IsTrue, append-nil, refl, sym, ap, subst, ◌∙◌, arith}
+use Rattle.std.proofs.Common.{◌≡◌, ℕ, zero, suc, ◌<◌, true, false, cond, List, [], ◌∷◌, ◌++◌, length, filter, slice_get, slice_index, Some, None, IsTrue, append-nil, sym, ap, subst, ◌∙◌, arith}
 use Rattle.std.proofs.lemmas.Bool.{false≢true}
 use Rattle.std.proofs.lemmas.List.{append_assoc}
 use Rattle.std.proofs.lemmas.List.Concat.{flat_map-append}
@@ -26,6 +26,7 @@ use Rattle.jsonc_run.specs.promise.Chains.{NamedRun, none_named, one_named}
 use Rattle.jsonc_run.specs.Named.{Asks}
 use Rattle.jsonc_run.specs.texts.Edits.{Operation, Run}
 use Rattle.jsonc_text.specs.Documents.{Document}
+use Rattle.jsonc_insert.proofs.Numbering.{at_seam}
 use Rattle.jsonc_run.proofs.lemmas.promise.Leads.{edits_lead}
 
 -- a node that is neither the root nor passed over
@@ -97,11 +98,6 @@ split_at (x ∷ xs) (suc k) n h e = let r = split_at xs k n (omega arith) e in (
 regroup : (f t m d b : List ℕ) (q : ℕ) → f ++ ((q ∷ (t ++ (m ++ d))) ++ b) ≡ (f ++ (q ∷ t)) ++ (m ++ (d ++ b))
 regroup f t m d b q = ap (λ (l : List ℕ). f ++ (q ∷ l)) (append_assoc t (m ++ d) b ∙ ap (λ l. t ++ l) (append_assoc m d b)) ∙ sym (append_assoc f (q ∷ t) (m ++ (d ++ b)))
 
--- behind as many as stand before it
-next_is : (xs ys : List ℕ) (n : ℕ) → slice_get (xs ++ n ∷ ys) (length xs) ≡ Some n
-next_is [] ys n = refl
-next_is (x ∷ xs) ys n = next_is xs ys n
-
 module _ (ns : List Node) (tree : IsTree ns) where
   there : (n : ℕ) → IsOver ns 0 n → n < length ns
   there _ IsOver.itself = tree.first
@@ -127,7 +123,7 @@ module _ (ns : List Node) (tree : IsTree ns) where
       ap (filter (is_comment_at ns)) order ∙ filter-append (is_comment_at ns) w.0 (n ∷ rest)
       ∙ ap (λ b. filter (is_comment_at ns) w.0 ++ cond b (n ∷ filter (is_comment_at ns) rest) (filter (is_comment_at ns) rest)) is in
       let number : ℕ = length (filter (is_comment_at ns) w.0) in
-      (number, ap (λ l. slice_get l number) met ∙ next_is (filter (is_comment_at ns) w.0) (filter (is_comment_at ns) rest) n)
+      (number, ap (λ l. slice_get l number) met ∙ at_seam (filter (is_comment_at ns) w.0) (filter (is_comment_at ns) rest) n)
 
 -- what is so of one is so of a list of it alone
 one_only : {A : Type 0} (P : A → Type 0) (x : A) → P x → All P (x ∷ [])

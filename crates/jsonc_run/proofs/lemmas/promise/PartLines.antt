@@ -5,7 +5,6 @@ use Rattle.std.proofs.lemmas.List.{append_assoc, append-nil}
 use Rattle.jsonc_text.specs.Options.{Options}
 use Rattle.jsonc_text.specs.Plain.{Plain}
 use Rattle.jsonc_text.specs.Text as many
-use Rattle.jsonc_text.specs.Text.{Many}
 use Rattle.jsonc_tree.specs.Content.{Content, newline, token}
 use Rattle.jsonc_tree.specs.OrderedTree.{OrderedTree, none, more, followed_by, leaves, own_leaf}
 use Rattle.jsonc_layout.specs.nodes.Kinds.{is_comma, is_newline, is_whitespace}
@@ -24,6 +23,8 @@ use Rattle.jsonc_sound.proofs.ShapeValues.{close_brace_mark, close_bracket_mark,
 use Rattle.jsonc_sound.proofs.Texts.{AllUtf8}
 use Rattle.jsonc_edit.specs.multiline.Laws.{bracketed}
 use Rattle.jsonc_edit.specs.multiline.Reflows.{ends_with_line, is_on_lines, parts_begin_lines}
+use Rattle.jsonc_edit.proofs.LeafKinds.{trivia_no_comma, element_no_comma}
+use Rattle.jsonc_edit.proofs.Lists.{both_true}
 use Rattle.jsonc_run.specs.texts.Paths as places
 use Rattle.jsonc_run.specs.texts.Paths.{Kind, Value}
 use Rattle.jsonc_run.specs.texts.Stretches.{AreSpaces, IsLineEnd}
@@ -32,21 +33,11 @@ use Rattle.jsonc_run.specs.texts.Edits as texts
 use Rattle.jsonc_run.specs.texts.Edits.{BeginLines, IsOnLines}
 use Rattle.jsonc_run.specs.promise.PlaceLaws.{text_of_leaves}
 use Rattle.jsonc_run.proofs.lemmas.promise.Leaves.{back_of, front_of, document_parts, document_utf8, text_joined, utf8_first, utf8_second}
-use Rattle.jsonc_run.proofs.lemmas.promise.LinesInside.{opened}
+use Rattle.jsonc_run.proofs.lemmas.promise.LinesInside.{opened, element_stops}
 use Rattle.jsonc_run.proofs.lemmas.promise.LooseRows.{LooseTo, Reads, is_a_comma, is_a_leaf, is_entry, kind_of_row, leaf_as, loose_text, past, row_reads, there}
 use Rattle.jsonc_run.proofs.lemmas.promise.Reversed.{flip}
 use Rattle.jsonc_run.proofs.lemmas.promise.Trivia.{line_end_text, many_joined}
 use Rattle.jsonc_run.proofs.lemmas.promise.Values.{at_the_place}
-
-trivia_no_comma : (o : Options) (c : Content) → IsTrivia o c → is_comma c ≡ false
-trivia_no_comma o (Content.whitespace s) h = refl
-trivia_no_comma o (Content.newline k) h = refl
-trivia_no_comma o (Content.comment s) h = refl
-trivia_no_comma o c h = absurd h
-
-element_no_comma : (c : Content) → IsElement c → is_comma c ≡ false
-element_no_comma (Content.token t) h = cc
-element_no_comma c h = refl
 
 element_no_line : (c : Content) → IsElement c → is_newline c ≡ true → ⊥
 element_no_line (Content.newline k) h e = cc
@@ -59,13 +50,6 @@ element_no_space c h e = cc
 token_no_line : (c : Content) (t : ℕ) → c ≡ token t → is_newline c ≡ true → ⊥
 token_no_line c t e h = let wrong : is_newline (token t) ≡ true = ap is_newline (sym e) ∙ h in cc
 
-both_of : (a b : Bool) → a && b ≡ true → (a ≡ true) × (b ≡ true)
-both_of true b h = (refl, h)
-both_of false b h = cc
-
-comma_stops : (content : Content) (below after : OrderedTree) → content ≡ token 0x2C → Stops (more content below after)
-comma_stops content below after e = subst (λ c. Stops (more c below after)) (sym e) tt
-
 -- with the last bracket
 bracket_last : (k : RowKind) (begins : Bool) (row : OrderedTree) → parts_begin_lines begins row ≡ true → parts_begin_lines begins (followed_by row (token_then (rows.closing k) none)) ≡ true
 bracket_last rows.of_values true none h = cc
@@ -73,7 +57,7 @@ bracket_last rows.of_values false none h = refl
 bracket_last rows.of_properties true none h = cc
 bracket_last rows.of_properties false none h = refl
 bracket_last k true (more c b after) h =
-    let both = both_of (is_newline c) (parts_begin_lines false after) h in
+    let both = both_true (is_newline c) (parts_begin_lines false after) h in
     ap (λ x. x && parts_begin_lines false (followed_by after (token_then (rows.closing k) none))) both.0 ∙ bracket_last k false after both.1
 bracket_last k false (more c b after) h = bracket_last k (is_comma c) after h
 
@@ -116,17 +100,17 @@ module _ (o : Options) (kind : Kind) (z : List ℕ) where
     segment (more x w after) (inr (is_entry p s q, reads)) l h = past_entry s q (segment after reads l.2 (ap (λ b. parts_begin_lines b after) (sym (element_no_comma x p)) ∙ h))
     segment (more x w after) (inr (is_a_comma e n, reads)) l h =
         let comma : more x w after ≡ token_then 0x2C after = ap (λ y. more y w after) e ∙ ap (λ y. more (token 0x2C) y after) n in
-        to_comma (more x w after) (text after) (comma_stops x w after e) (there shape.nothing) (ap text comma ∙ ap (λ y. y ++ z) (mark_text comma_mark after))
+        to_comma (more x w after) (text after) (element_stops x w after e) (there shape.nothing) (ap text comma ∙ ap (λ y. y ++ z) (mark_text comma_mark after))
         (parts after reads l.2 (ap (λ b. parts_begin_lines b after) (sym (ap is_comma e)) ∙ h))
 
     parts : (row : OrderedTree) → Reads o kind z row → LinesEndLoosely true false row → parts_begin_lines true row ≡ true → Begins (text row)
     parts none r l h = absurd r
-    parts (more x w after) (inl last) l h = absurd (token_no_line x (places.closing kind) last.3 (both_of (is_newline x) (parts_begin_lines false after) h).0)
+    parts (more x w after) (inl last) l h = absurd (token_no_line x (places.closing kind) last.3 (both_true (is_newline x) (parts_begin_lines false after) h).0)
     parts (more x w after) (inr (is_a_leaf k e, reads)) l h =
-        let both = both_of (is_newline x) (parts_begin_lines false after) h in
+        let both = both_true (is_newline x) (parts_begin_lines false after) h in
         begun (more x w after) (subst (λ y. StartsLine (text (more x y after))) (sym e) (line_starts x after both.0)) l (past_leaf k e (segment after reads l.2 both.1))
-    parts (more x w after) (inr (is_entry p s q, reads)) l h = absurd (element_no_line x p (both_of (is_newline x) (parts_begin_lines false after) h).0)
-    parts (more x w after) (inr (is_a_comma e n, reads)) l h = absurd (token_no_line x 0x2C e (both_of (is_newline x) (parts_begin_lines false after) h).0)
+    parts (more x w after) (inr (is_entry p s q, reads)) l h = absurd (element_no_line x p (both_true (is_newline x) (parts_begin_lines false after) h).0)
+    parts (more x w after) (inr (is_a_comma e n, reads)) l h = absurd (token_no_line x 0x2C e (both_true (is_newline x) (parts_begin_lines false after) h).0)
 
   -- the last bracket is alone on its line
   pub record Own (t : List ℕ) : Type 0 where
@@ -204,7 +188,7 @@ module _ (o : Options) (kind : Kind) (z : List ℕ) where
                 let leaf = leaf_of r (inl l) in
                 inl (record { front = []; line = text_of_leaves (leaves_of (record { content = x; below = none })); indent = blank.indent; is = first leaf.1 ∙ ap (λ y. text_of_leaves (leaves_of (record { content = x; below = none })) ++ y) blank.is; ends = line_text x l; spaces = blank.spaces }))
             | inr l ↦ (
-                let both = both_of own (is_whitespace x) (or_other (is_newline x) (own && is_whitespace x) l t) in
+                let both = both_true own (is_whitespace x) (or_other (is_newline x) (own && is_whitespace x) l t) in
                 let leaf = leaf_of r (inr both.1) in
                 let own_text : List ℕ = text_of_leaves (leaves_of (record { content = x; below = none })) in
                 inr (both.0, record { indent = own_text ++ blank.indent; is = first leaf.1 ∙ ap (λ y. own_text ++ y) blank.is ∙ sym (append_assoc own_text blank.indent (places.closing kind ∷ z)); spaces = many_joined (space_text x leaf.0 both.1) refl blank.spaces }))
@@ -223,7 +207,7 @@ parts_on_lines o k was new {path} {u = u} r d h w =
     let place = at_the_place o r (flip d) in
     let back : List ℕ = text_of_leaves (back_of (flip d)) in
     let read = row_reads o back k place.2 in
-    let both = both_of (parts_begin_lines true new) (ends_with_line false new) h in
+    let both = both_true (parts_begin_lines true new) (ends_with_line false new) h in
     let container : List Content = leaves_of (container_of k row) in
     let all : AllUtf8 (front_of (flip d) ++ (container ++ back_of (flip d))) = subst AllUtf8 (document_parts (flip d)) (document_utf8 o r.shaped) in
     let own_utf8 : AllUtf8 container = utf8_first container (back_of (flip d)) (utf8_second (front_of (flip d)) (container ++ back_of (flip d)) all) in

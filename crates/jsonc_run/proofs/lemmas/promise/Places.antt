@@ -11,7 +11,8 @@ use Rattle.jsonc_sound.proofs.Texts.{AllUtf8}
 use Rattle.jsonc_edit.specs.SeamPlaces.{RowHolds, this_element, past_other, past_element, ValueHolds, itself, in_array, in_object, DocumentHolds, in_root}
 use Rattle.jsonc_edit.specs.Seams.{PrintNothing, space_if}
 use Rattle.jsonc_run.specs.promise.PlaceLaws.{text_of_leaves}
-use Rattle.jsonc_run.proofs.lemmas.promise.Leaves.{row_front, row_back, value_front, value_back, front_of, back_of, text_joined, utf8_first}
+use Rattle.jsonc_run.proofs.lemmas.promise.Leaves.{row_front, row_back, value_front, value_back, front_of, back_of, text_joined, utf8_first, utf8_second}
+use Rattle.jsonc_run.proofs.lemmas.promise.Reversed.{both}
 
 -- a row in which nothing changes
 pub record RowItself (top : Top) (i : ℕ) (row : OrderedTree) (f b : List Content) : Type 0 where
@@ -27,9 +28,6 @@ row_itself (past_other {content = content} {below = below} p h) =
 row_itself (past_element {content = content} {below = below} p h) =
     let m = row_itself h in
     record { changed = changes.later_element p m.changed; first = ap (λ l. own_leaf content ++ (leaves below ++ l)) m.first; last = m.last }
-
-both : {a b c d : List Content} → a ≡ b → c ≡ d → a ++ c ≡ b ++ d
-both {b = b} {c = c} e f = ap (λ l. l ++ c) e ∙ ap (λ l. b ++ l) f
 
 record ValueItself (top : Top) (path : List ℕ) (x : Top) (f b : List Content) : Type 0 where
   changed : ValueChanged top top path x x
@@ -83,3 +81,10 @@ seam_if true = 0x20 ∷ []
 pub space_text : (b : Bool) → text_of_leaves (space_if b) ≡ seam_if b
 space_text false = chars-nil
 space_text true = chars-IsAscii (0x20 ∷ []) (search rules)
+
+-- behind what prints nothing
+pub seam_then : (quiet rest : List Content) (b : Bool) → PrintNothing quiet → AllUtf8 (quiet ++ (space_if b ++ rest)) → text_of_leaves (quiet ++ (space_if b ++ rest)) ≡ seam_if b ++ text_of_leaves rest
+seam_then quiet rest b p u =
+    silent_then quiet (space_if b ++ rest) p u
+    ∙ text_joined (space_if b) rest (utf8_first (space_if b) rest (utf8_second quiet (space_if b ++ rest) u))
+    ∙ ap (λ l. l ++ text_of_leaves rest) (space_text b)

@@ -40,7 +40,7 @@ use Rattle.jsonc_run.proofs.lemmas.promise.StretchElements.{Reached}
 use Rattle.jsonc_run.proofs.lemmas.promise.RemovedTexts.{entry_begins, entry_there}
 use Rattle.jsonc_sound.specs.Documents.{document_of}
 use Rattle.jsonc_run.proofs.lemmas.promise.Stretches.{Begins, laid_property_literals, marks_in, parted, parted_as, pieces_first, pieces_second, seam_unmarked}
-use Rattle.jsonc_run.proofs.lemmas.promise.Places.{document_itself, silent_then, seam_if, space_text}
+use Rattle.jsonc_run.proofs.lemmas.promise.Places.{document_itself, silent_then, seam_if, seam_then}
 use Rattle.jsonc_run.proofs.lemmas.promise.Bare.{AllSpelled, BeginsBare, EndsBareWith, begins_so, ends_behind, ends_with, meets, seam_due, spelled, spelled_first, spelled_second}
 
 -- the leaves of a row with an element in it
@@ -130,10 +130,7 @@ module _ (o : Options) where
     back_utf8 = utf8_second (leaves_of (property_of now)) (g.quiet ++ (space_if g.behind ++ g.rest)) (utf8_second g.front (leaves_of (property_of now) ++ (g.quiet ++ (space_if g.behind ++ g.rest))) second.utf8)
 
     new_back : text_of_leaves (g.quiet ++ (space_if g.behind ++ g.rest)) ≡ seam_if g.behind ++ text_of_leaves g.rest
-    new_back =
-        silent_then g.quiet (space_if g.behind ++ g.rest) g.silent back_utf8
-        ∙ text_joined (space_if g.behind) g.rest (utf8_first (space_if g.behind) g.rest (utf8_second g.quiet (space_if g.behind ++ g.rest) back_utf8))
-        ∙ ap (λ l. l ++ text_of_leaves g.rest) (space_text g.behind)
+    new_back = seam_then g.quiet g.rest g.behind g.silent back_utf8
 
     new_spelled : AllSpelled (leaves_of (property_of now))
     new_spelled =

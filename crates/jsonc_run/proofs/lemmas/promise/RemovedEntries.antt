@@ -2,7 +2,7 @@
 use Rattle.std.proofs.Common.{ℕ, suc, ◌≡◌, sym, ap, subst, refl, List, [], ◌∷◌, ◌++◌, length, Option, Some, None}
 use Rattle.jsonc_text.specs.Options.{Options}
 use Rattle.jsonc_text.specs.Plain as plain
-use Rattle.jsonc_text.specs.Plain.{Plain, Items, no_items, item, Members, no_members, member}
+use Rattle.jsonc_text.specs.Plain.{Plain, Items, item, Members, member}
 use Rattle.jsonc_tree.specs.OrderedTree.{OrderedTree, Top}
 use Rattle.jsonc_tree.specs.Values.{DocumentValueOf}
 use Rattle.jsonc_sound.specs.EntryLaws.{LosesEntry, loses_item, loses_member}
@@ -13,11 +13,11 @@ use Rattle.jsonc_sound.specs.Values as entries
 use Rattle.jsonc_sound.specs.Values.{ItemRemoved, MemberRemoved}
 use Rattle.jsonc_sound.proofs.RemovedValues.{document_loses}
 use Rattle.jsonc_edit.proofs.OneValue.{document_once}
+use Rattle.jsonc_edit.proofs.SoundValues.{some_value}
 use Rattle.jsonc_run.specs.texts.Paths.{Kind, an_array, an_object}
 use Rattle.jsonc_run.specs.texts.Entries.{Named, of, Changed}
 use Rattle.jsonc_run.specs.texts.Edits.{Loses, one}
 use Rattle.jsonc_run.proofs.lemmas.promise.Plains.{changed, entry_of, list_of_items, list_of_members, same_items, same_members, items_of, members_of}
-use Rattle.jsonc_run.proofs.lemmas.promise.ReplacedTexts.{some_value}
 
 record Lost (kind : Kind) (i : ℕ) (x y : Plain) : Type 0 where
   front : List Named

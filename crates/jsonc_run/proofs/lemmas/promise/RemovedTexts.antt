@@ -2,21 +2,18 @@
 use Rattle.std.proofs.Common.{ℕ, ◌+◌, ◌≡◌, ◌∙◌, sym, ap, subst, refl, Bool, true, false, List, [], ◌∷◌, ◌++◌, Option, chars, arith, encode_utf8}
 use Rattle.std.proofs.lemmas.List.{append_assoc, append-nil}
 use Rattle.jsonc_text.specs.Options.{Options}
-use Rattle.jsonc_text.specs.Text.{Many}
 use Rattle.jsonc_text.specs.Text as many
 use Rattle.jsonc_text.specs.Plain.{Plain}
 use Rattle.jsonc_tree.specs.Content.{Content, token}
-use Rattle.jsonc_tree.specs.OrderedTree.{OrderedTree, none, more, leaves, Top}
+use Rattle.jsonc_tree.specs.OrderedTree.{OrderedTree, none, leaves, Top}
 use Rattle.jsonc_sound.specs.Shape as shape
 use Rattle.jsonc_sound.specs.Shape.{ValueShaped, token_then, printed_text}
-use Rattle.jsonc_sound.specs.Leaving.{AreInlineTrivia, IsRestOfLine, without_end, with_end, LeavesBehind, comma_alone, comma_and_line, among}
-use Rattle.jsonc_sound.specs.Rows.{RowKind, of_values, of_properties, opening, container_of}
+use Rattle.jsonc_sound.specs.Leaving.{AreInlineTrivia, IsRestOfLine, without_end, with_end, LeavesBehind, comma_alone, comma_and_line}
+use Rattle.jsonc_sound.specs.Rows.{RowKind, of_values, of_properties, container_of}
 use Rattle.jsonc_sound.specs.SoundTrees.{SoundTree}
 use Rattle.jsonc_sound.specs.TreeChanges.{IsElement, leaves_of, property_of, ElementChanged, DocumentChanged}
-use Rattle.jsonc_sound.specs.TriviaChanges.{AreTrivia, leaves_then}
 use Rattle.jsonc_sound.proofs.Pieces.{Pieces}
 use Rattle.jsonc_sound.proofs.Texts.{AllUtf8}
-use Rattle.jsonc_sound.proofs.TriviaLeaves.{front_leaves}
 use Rattle.jsonc_run.specs.texts.Paths.{Entry}
 use Rattle.jsonc_run.specs.texts.Edits as texts
 use Rattle.jsonc_run.specs.texts.Stretches.{Parted}
@@ -39,15 +36,6 @@ comma_text = ap chars (append-nil (encode_utf8 0x2C) ∙ comma_mark.bytes) ∙ c
 
 pub text_cons : (a b : List Content) {x : List ℕ} → AllUtf8 (a ++ b) → text_of_leaves b ≡ x → text_of_leaves (a ++ b) ≡ text_of_leaves a ++ x
 text_cons a b u e = text_joined a b (utf8_first a b u) ∙ ap (λ l. text_of_leaves a ++ l) e
-
-pub container_leaves : (kind : RowKind) (row : OrderedTree) → leaves_of (container_of kind row) ≡ token (opening kind) ∷ leaves row
-container_leaves of_values row = refl
-container_leaves of_properties row = refl
-
-pub among_leaves : (before : List Content) (top : Top) (behind : List Content) (row : OrderedTree) → AreTrivia before → AreTrivia behind → leaves (among before top behind row) ≡ before ++ (leaves_of top ++ (behind ++ leaves row))
-among_leaves before top behind row h k =
-    front_leaves before (more top.content top.below (leaves_then behind row)) h
-    ∙ ap (λ l. before ++ l) (sym (append_assoc _ (leaves top.below) (leaves (leaves_then behind row))) ∙ ap (λ l. leaves_of top ++ l) (front_leaves behind row k))
 
 -- the comma that leaves, if one does, and what stands behind the entry
 pub data Commas : Bool → List Content → List Content → List Content → Type 0 where

@@ -1,5 +1,5 @@
 -- Where an entry leaves a sound tree with spaces at the seams, it leaves the text so.
-use Rattle.std.proofs.Common.{ℕ, ◌+◌, ◌≡◌, ◌≢◌, ◌∙◌, sym, ap, subst, refl, inl, Bool, true, false, List, [], ◌∷◌, ◌++◌, Option, Some, None, arith}
+use Rattle.std.proofs.Common.{ℕ, ◌+◌, ◌≡◌, ◌≢◌, ◌∙◌, sym, ap, subst, refl, inl, Bool, true, false, List, [], ◌∷◌, ◌++◌, Option, arith}
 use Rattle.std.proofs.lemmas.List.{append_assoc, append-nil}
 use Rattle.std.proofs.lemmas.Str.{chars-nil}
 use Rattle.jsonc_text.specs.Options.{Options}
@@ -14,7 +14,7 @@ use Rattle.jsonc_sound.specs.Leaving.{AreInlineTrivia, IsRestOfLine, among, elem
 use Rattle.jsonc_sound.specs.MarkChanges.{AreBlanks}
 use Rattle.jsonc_sound.specs.Rows.{RowKind, opening, container_of}
 use Rattle.jsonc_sound.specs.SoundTrees.{SoundTree}
-use Rattle.jsonc_sound.specs.Adjacent.{last_printed, or_else}
+use Rattle.jsonc_sound.specs.Adjacent.{last_printed}
 use Rattle.jsonc_sound.specs.Spaces.{first_printed, is_bare_leaf, space_then}
 use Rattle.jsonc_sound.specs.TreeChanges.{IsElement, leaves_of}
 use Rattle.jsonc_sound.specs.TriviaChanges.{leaves_then}
@@ -35,19 +35,22 @@ use Rattle.jsonc_run.specs.texts.Paths.{Entry}
 use Rattle.jsonc_run.specs.texts.Edits.{IsSeam, Comma, Leaves, Loses}
 use Rattle.jsonc_run.specs.promise.PlaceLaws.{text_of_leaves}
 use Rattle.jsonc_run.proofs.lemmas.promise.CommentTexts.{blanks_text}
-use Rattle.jsonc_run.proofs.lemmas.promise.Leaves.{back_of, document_parts, document_utf8, text_joined, utf8_first, utf8_second}
+use Rattle.jsonc_run.proofs.lemmas.promise.Leaves.{back_of, document_parts, document_utf8, utf8_first, utf8_second}
 use Rattle.jsonc_run.proofs.lemmas.promise.RemovedEntries.{loses_value}
 use Rattle.jsonc_run.proofs.lemmas.promise.StretchElements.{renumber, rest_as, Reached, at_first, past_comma, past_row}
 use Rattle.jsonc_run.proofs.lemmas.promise.StretchElements as reaching
 use Rattle.jsonc_run.proofs.lemmas.promise.CommasLeft.{Which, the_one_behind, one_before, none_there, comma_so}
-use Rattle.jsonc_run.proofs.lemmas.promise.RemovedTexts.{Commas, behind_it, ahead_of_it, nowhere, among_leaves, container_leaves, none_more, text_cons, trail_text, comma_unmarked, entry_begins, entry_there, gone_parted, rest_pieces, pieces_first, pieces_second}
+use Rattle.jsonc_run.proofs.lemmas.promise.RemovedTexts.{Commas, behind_it, ahead_of_it, nowhere, none_more, text_cons, trail_text, comma_unmarked, entry_begins, entry_there, gone_parted, rest_pieces, pieces_first, pieces_second}
 use Rattle.jsonc_run.proofs.lemmas.promise.Stretches.{blanks_behind_unmarked, marks_in, marks_in_both, seam_unmarked}
 use Rattle.jsonc_sound.specs.Documents.{document_of}
 use Rattle.jsonc_run.proofs.lemmas.promise.Trivia.{beside_text}
 use Rattle.jsonc_run.proofs.lemmas.promise.Closing.{blanks_first, blanks_second, split, row_some, container_row, no_elements, count_followed, blanks_count, left_blanks}
 use Rattle.jsonc_run.proofs.lemmas.promise.Values.{at_the_place}
 use Rattle.jsonc_sound.specs.Rows.{an_element, nothing_yet}
-use Rattle.jsonc_run.proofs.lemmas.promise.Places.{DocumentItself, document_itself, silent_then, seam_if, space_text}
+use Rattle.jsonc_sound.proofs.WithoutValue.{among_leaves}
+use Rattle.jsonc_sound.proofs.SeamRows.{container_leaves}
+use Rattle.jsonc_edit.proofs.SeamsParting.{bare_first}
+use Rattle.jsonc_run.proofs.lemmas.promise.Places.{DocumentItself, document_itself, silent_then, seam_if, seam_then}
 use Rattle.jsonc_run.proofs.lemmas.promise.Bare.{AllSpelled, BeginsBare, EndsBare, begins_before, begins_so, ends_so, meets, seam_due, spelled, spelled_first, spelled_second}
 
 -- the second leaves are the first with a space directly before what is printed first, or none: one where that is a literal without quotes, and so is what is printed
@@ -62,10 +65,6 @@ record SeamIn (ahead xs ys : List Content) (b : Bool) : Type 0 where
 
 never : {A : Type 0} → false ≡ true → A
 never e = cc
-
-bare_first : (x y : Option Content) → is_bare_leaf x ≡ true → is_bare_leaf (or_else x y) ≡ true
-bare_first None y e = never e
-bare_first (Some c) y e = e
 
 -- with more before them, and behind
 last_behind : (before row : List Content) → is_bare_leaf (last_printed row) ≡ true → is_bare_leaf (last_printed (before ++ row)) ≡ true
@@ -85,9 +84,7 @@ seam_text : {ahead xs ys : List Content} {b : Bool} → SeamIn ahead xs ys b →
 seam_text {ahead} {xs} {ys} {b} s u v =
     let first : AllUtf8 (s.quiet ++ s.rest) = subst AllUtf8 s.was u in
     let second : AllUtf8 (s.quiet ++ (space_if b ++ s.rest)) = subst AllUtf8 s.is v in
-    ap text_of_leaves s.is ∙ silent_then s.quiet (space_if b ++ s.rest) s.silent second
-    ∙ text_joined (space_if b) s.rest (utf8_first (space_if b) s.rest (utf8_second s.quiet (space_if b ++ s.rest) second))
-    ∙ ap (λ l. l ++ text_of_leaves s.rest) (space_text b)
+    ap text_of_leaves s.is ∙ seam_then s.quiet s.rest b s.silent second
     ∙ ap (λ l. seam_if b ++ l) (sym (ap text_of_leaves s.was ∙ silent_then s.quiet s.rest s.silent first))
 
 -- and begins with a literal without quotes, if that is printed first

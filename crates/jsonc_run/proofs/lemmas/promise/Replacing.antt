@@ -38,10 +38,10 @@ use Rattle.jsonc_run.proofs.lemmas.promise.Leaves.{back_of, document_parts, docu
 use Rattle.jsonc_run.proofs.lemmas.promise.LaidTexts.{is_laid}
 use Rattle.jsonc_run.proofs.lemmas.promise.Plains.{changed}
 use Rattle.jsonc_sound.specs.Documents.{document_of}
-use Rattle.jsonc_run.proofs.lemmas.promise.ReplacedTexts.{some_value}
+use Rattle.jsonc_edit.proofs.SoundValues.{some_value}
 use Rattle.jsonc_run.proofs.lemmas.promise.Stretches.{Begins, laid_literals, marks_in, parted, parted_as, pieces_first, pieces_second, seam_unmarked, space_behind_unmarked, value_begins}
 use Rattle.jsonc_run.proofs.lemmas.promise.Values.{at_the_place}
-use Rattle.jsonc_run.proofs.lemmas.promise.Places.{document_itself, silent_then, seam_if, space_text}
+use Rattle.jsonc_run.proofs.lemmas.promise.Places.{document_itself, silent_then, seam_if, space_text, seam_then}
 use Rattle.jsonc_run.proofs.lemmas.promise.Bare.{AllSpelled, BeginsBare, EndsBare, begins_before, begins_so, ends_behind, ends_so, meets, seam_due, spelled, spelled_first, spelled_second}
 
 module _ (o : Options) where
@@ -89,10 +89,7 @@ module _ (o : Options) where
     back_utf8 = utf8_second (leaves_of now) (g.quiet ++ (space_if g.behind ++ g.rest)) (utf8_second (g.front ++ space_if g.before) (leaves_of now ++ (g.quiet ++ (space_if g.behind ++ g.rest))) second.utf8)
 
     new_back : text_of_leaves (g.quiet ++ (space_if g.behind ++ g.rest)) ≡ seam_if g.behind ++ text_of_leaves g.rest
-    new_back =
-        silent_then g.quiet (space_if g.behind ++ g.rest) g.silent back_utf8
-        ∙ text_joined (space_if g.behind) g.rest (utf8_first (space_if g.behind) g.rest (utf8_second g.quiet (space_if g.behind ++ g.rest) back_utf8))
-        ∙ ap (λ l. l ++ text_of_leaves g.rest) (space_text g.behind)
+    new_back = seam_then g.quiet g.rest g.behind g.silent back_utf8
 
     front_utf8 : AllUtf8 (g.front ++ space_if g.before)
     front_utf8 = utf8_first (g.front ++ space_if g.before) (leaves_of now ++ (g.quiet ++ (space_if g.behind ++ g.rest))) second.utf8

@@ -28,7 +28,7 @@ row_back_same (this_element p q) = refl
 row_back_same (passed h e) = row_back_same e
 row_back_same (later_element h e) = row_back_same e
 
-both : {a b c d : List Content} → a ≡ b → c ≡ d → a ++ c ≡ b ++ d
+pub both : {a b c d : List Content} → a ≡ b → c ≡ d → a ++ c ≡ b ++ d
 both {b = b} {c = c} e f = ap (λ l. l ++ c) e ∙ ap (λ l. b ++ l) f
 
 value_front_same : {was now : Top} {path : List ℕ} {x y : Top} (h : ValueChanged was now path x y) → value_front (flip_value h) ≡ value_front h

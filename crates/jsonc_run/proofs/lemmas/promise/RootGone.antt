@@ -7,7 +7,7 @@ use Rattle.jsonc_tree.specs.Content.{Content}
 use Rattle.jsonc_tree.specs.OrderedTree.{OrderedTree, none, more, leaves, followed_by, Top}
 use Rattle.jsonc_tree.proofs.OrderedTrees.{leaves-followed_by}
 use Rattle.jsonc_sound.specs.Shape as shape
-use Rattle.jsonc_sound.specs.Shape.{Trivia, DocumentShaped, printed_text}
+use Rattle.jsonc_sound.specs.Shape.{DocumentShaped, printed_text}
 use Rattle.jsonc_sound.specs.EntryLaws.{root_with}
 use Rattle.jsonc_sound.specs.Leaving.{AreInlineTrivia, IsRestOfLine, among, ValueRemoved, value_leaves, Empties, stays, empties}
 use Rattle.jsonc_sound.specs.MarkChanges.{AreBlanks}
@@ -37,9 +37,10 @@ use Rattle.jsonc_run.proofs.lemmas.promise.Closing.{blanks_first, blanks_second}
 use Rattle.jsonc_run.proofs.lemmas.promise.Leaves.{row_back, utf8_second, utf8_first, document_utf8}
 use Rattle.jsonc_run.proofs.lemmas.promise.StretchElements.{Reached, rest_as, at_first, past_leaves, past_row}
 use Rattle.jsonc_run.proofs.lemmas.promise.RemovedTexts as removing
-use Rattle.jsonc_run.proofs.lemmas.promise.RemovedTexts.{among_leaves, text_cons, trail_text, gone_parted, pieces_first, pieces_second}
+use Rattle.jsonc_run.proofs.lemmas.promise.RemovedTexts.{text_cons, trail_text, gone_parted, pieces_first, pieces_second}
 use Rattle.jsonc_run.proofs.lemmas.promise.Stretches.{blanks_behind_unmarked, marks_in, marks_in_both, value_begins}
 use Rattle.jsonc_sound.specs.Documents.{document_of}
+use Rattle.jsonc_sound.proofs.WithoutValue.{among_leaves}
 use Rattle.jsonc_run.proofs.lemmas.promise.Trivia.{beside_text}
 use Rattle.jsonc_run.proofs.lemmas.promise.Values.{past_trivia, at_the_place}
 

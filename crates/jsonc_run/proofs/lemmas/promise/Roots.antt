@@ -39,6 +39,7 @@ use Rattle.jsonc_run.specs.promise.PlaceLaws.{text_of_leaves}
 use Rattle.jsonc_run.proofs.lemmas.promise.Leaves.{text_joined, utf8_first, utf8_second}
 use Rattle.jsonc_sound.specs.Documents.{all_marks}
 use Rattle.jsonc_sound.specs.Documents.{document_of}
+use Rattle.jsonc_sound.proofs.RootRows.{joined_trivia}
 use Rattle.jsonc_run.proofs.lemmas.promise.Stretches.{pieces_first, pieces_second, blanks_behind_unmarked, laid_literals, marks_in, marks_in_both, parted, parted_as}
 use Rattle.jsonc_run.proofs.lemmas.promise.Trivia.{first_text, line_end_text, piece_trivia}
 use Rattle.jsonc_run.proofs.lemmas.promise.LaidTexts.{is_laid}
@@ -61,10 +62,6 @@ ends_blanks : (ls : List Content) → coming.AreLineEnds ls → AreBlanks ls
 ends_blanks [] h = tt
 ends_blanks (Content.newline k ∷ ls) h = (refl, ends_blanks ls h.1)
 ends_blanks (c ∷ ls) h = cc
-
-trivia_joined : (a b : List Content) → AreTrivia a → AreTrivia b → AreTrivia (a ++ b)
-trivia_joined [] b h k = k
-trivia_joined (c ∷ a) b h k = (h.0, trivia_joined a b h.1 k)
 
 -- one end of a line
 one_end : (behind back : List Content) → EndsLine behind back → ((text_of_leaves behind ≡ []) ⊎ (text_of_leaves back ≡ [])) × IsLineEnd (text_of_leaves behind ++ text_of_leaves back)
@@ -108,10 +105,10 @@ module _ (o : Options) (top : Top) (v : Plain) where
       let row : OrderedTree = leaves_then (front ++ back) none in
       let next : OrderedTree = leaves_then (front ++ before) (more top.content top.below (leaves_then (behind ++ back) none)) in
       let own : List Content = leaves_of top in
-      let all_behind : AreTrivia (behind ++ back) = trivia_joined behind back (ends_trivia behind el) bt in
+      let all_behind : AreTrivia (behind ++ back) = joined_trivia behind back (ends_trivia behind el) bt in
       let rest : leaves (leaves_then (behind ++ back) none) ≡ behind ++ back = front_leaves (behind ++ back) none all_behind ∙ append-nil (behind ++ back) in
       let held : DocumentHolds top [] (root_with next) (((front ++ before) ++ []) ++ []) ([] ++ leaves (leaves_then (behind ++ back) none)) =
-      in_root (past_trivia (front ++ before) (trivia_joined front before ft (ends_trivia before bl)) (this_element element)) itself in
+      in_root (past_trivia (front ++ before) (joined_trivia front before ft (ends_trivia before bl)) (this_element element)) itself in
       let ahead : ((front ++ before) ++ []) ++ [] ≡ front ++ before = append-nil ((front ++ before) ++ []) ∙ append-nil (front ++ before) in
       let holds : DocumentHolds top [] (root_with next) (front ++ before) (behind ++ back) = subst (λ l. DocumentHolds top [] (root_with next) l (behind ++ back)) ahead (subst (λ l. DocumentHolds top [] (root_with next) (((front ++ before) ++ []) ++ []) l) rest held) in
       let p : Printed o top [] (root_with next) (front ++ before) (behind ++ back) = printed o r holds in
@@ -119,7 +116,7 @@ module _ (o : Options) (top : Top) (v : Plain) where
       let u_back : AllUtf8 (behind ++ back) = utf8_second own (behind ++ back) (utf8_second (front ++ before) (own ++ (behind ++ back)) p.utf8) in
       let t_front : text_of_leaves (front ++ before) ≡ text_of_leaves front ++ text_of_leaves before = text_joined front before (utf8_first front before u_front) in
       let t_back : text_of_leaves (behind ++ back) ≡ text_of_leaves behind ++ text_of_leaves back = text_joined behind back (utf8_first behind back u_back) in
-      let both : leaves (root_with row) ≡ front ++ back = append-nil (leaves row) ∙ front_leaves (front ++ back) none (trivia_joined front back ft bt) ∙ append-nil (front ++ back) in
+      let both : leaves (root_with row) ≡ front ++ back = append-nil (leaves row) ∙ front_leaves (front ++ back) none (joined_trivia front back ft bt) ∙ append-nil (front ++ back) in
       let first : printed_text (root_with row) ≡ text_of_leaves front ++ text_of_leaves back = ap text_of_leaves both ∙ text_joined front back (utf8_first front before u_front) in
       let second : printed_text (root_with next) ≡ text_of_leaves front ++ (text_of_leaves before ++ (text_of_leaves own ++ (text_of_leaves behind ++ text_of_leaves back))) =
       p.text ∙ ap (λ l. l ++ (text_of_leaves own ++ text_of_leaves (behind ++ back))) t_front ∙ ap (λ l. (text_of_leaves front ++ text_of_leaves before) ++ (text_of_leaves own ++ l)) t_back

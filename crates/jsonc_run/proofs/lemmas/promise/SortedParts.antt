@@ -7,7 +7,6 @@ use Rattle.std.proofs.lemmas.List.{append_assoc, take-append-drop}
 use Rattle.std.proofs.lemmas.List.Sums.{take_while-cons}
 use Rattle.jsonc_text.specs.Options.{Options}
 use Rattle.jsonc_text.specs.Text as many
-use Rattle.jsonc_text.specs.Text.{Many}
 use Rattle.jsonc_text.specs.Gaps.{IsComment}
 use Rattle.jsonc_tree.specs.Content.{Content, text_of}
 use Rattle.jsonc_tree.specs.OrderedTree.{Top, none, printed}
@@ -17,7 +16,7 @@ use Rattle.jsonc_sound.specs.Rows.{RowKind}
 use Rattle.jsonc_sound.specs.Shape.{IsTrivia}
 use Rattle.jsonc_sound.proofs.Pieces.{a_trivia}
 use Rattle.jsonc_sound.proofs.ShapeValues.{comma_mark}
-use Rattle.jsonc_insert.proofs.lemmas.members.Elements.{suffix_passes}
+use Rattle.jsonc_edit.proofs.Lists.{suffix_passes}
 use Rattle.jsonc_sort.specs.Slots.{Slot, all_stay, top_in}
 use Rattle.jsonc_sort.specs.Laws.{content_of}
 use Rattle.jsonc_sort.specs.Parts.{is_newline_at, is_no_newline_at, is_whitespace_at, line, up_to_spaces}

@@ -1,5 +1,5 @@
 -- Where the entries of an array or object come in another order in a sound tree, they do so in the text.
-use Rattle.std.proofs.Common.{◌≡◌, ◌⊎◌, ℕ, zero, suc, ◌+◌, ◌<◌, Bool, true, false, cond, not, List, [], ◌∷◌, ◌++◌, length, map, get_or, count_by, Option, Some, IsTrue, refl, sym, ap, subst, ◌∙◌, arith, inl, inr}
+use Rattle.std.proofs.Common.{◌≡◌, ◌⊎◌, ℕ, zero, suc, ◌+◌, ◌<◌, Bool, true, false, cond, List, [], ◌∷◌, ◌++◌, length, map, get_or, count_by, Option, Some, refl, sym, ap, subst, ◌∙◌, arith, inl, inr}
 use Rattle.std.specs.Prelude.{IsPermutation}
 use Rattle.std.specs.List.{fold, range_with_len}
 use Rattle.std.proofs.lemmas.Bool.{cases_Bool}
@@ -36,7 +36,7 @@ use Rattle.jsonc_run.specs.Written.{IsChanged, by_sorting}
 use Rattle.jsonc_sort.specs.Slots.{Slot, stays, comes, all_stay, row_then, top_in}
 use Rattle.jsonc_sort.specs.Parts.{parts}
 use Rattle.jsonc_sort.specs.Sorting as sorts
-use Rattle.jsonc_sort.specs.Sorting.{Entry, Headers, entries, entry_at, is_unchanged, lines_ended, row_end, slot_content}
+use Rattle.jsonc_sort.specs.Sorting.{Entry, entries, entry_at, is_unchanged, lines_ended, row_end, slot_content}
 use Rattle.jsonc_sort.specs.Laws.{Sort, SortsEntries, sorts_items, sorts_members, IsOrderOf, container_before, container_after, content_of, closed, slots_of, item_at, items_in, name_at, value_at, members_in}
 use Rattle.jsonc_sort.specs.Paths.{SortedAt}
 use Rattle.jsonc_sort.proofs.Choices.{Each, all_moved, each_moved}
@@ -64,16 +64,12 @@ use Rattle.jsonc_sound.specs.Documents.{all_marks, mark}
 use Rattle.jsonc_run.proofs.lemmas.promise.Plains.{changed, list_of_items, same_items, list_of_members, same_members}
 use Rattle.jsonc_sound.specs.Documents.{document_of}
 use Rattle.jsonc_run.proofs.lemmas.promise.Held.{items_held, members_held, right_so}
-use Rattle.jsonc_sort.proofs.Values.{elements, row_elements, sorted_elements}
+use Rattle.jsonc_sort.proofs.Values.{elements, row_elements, sorted_elements, none_is}
 
 -- the texts of elements in places are those of what stands there
 same_content : (top : ℕ → Top) (s : Slot) → slot_content (content_of top) s ≡ (top_in top s).content
 same_content top (stays n) = refl
 same_content top (comes c) = refl
-
-none_is : (b : Bool) → not b ≡ false → IsTrue b
-none_is true e = refl
-none_is false e = cc
 
 abbrev slot_text : (ℕ → Top) → Slot → List ℕ
 slot_text top s = node_chars (top_in top s)

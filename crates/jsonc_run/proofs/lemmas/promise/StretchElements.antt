@@ -1,10 +1,9 @@
 -- An element of a row that is put together of stretches.
-use Rattle.std.proofs.Common.{ℕ, suc, ◌+◌, ◌≡◌, sym, subst, refl, Bool, true, false, List, [], ◌∷◌, IsTrue, arith}
+use Rattle.std.proofs.Common.{ℕ, suc, ◌+◌, ◌≡◌, sym, subst, refl, Bool, true, false, List, [], ◌∷◌, arith}
 use Rattle.jsonc_text.specs.Options.{Options}
 use Rattle.jsonc_tree.specs.Content.{Content}
 use Rattle.jsonc_tree.specs.OrderedTree.{OrderedTree, none, more, leaves, followed_by, Top}
 use Rattle.jsonc_tree.specs.Values.{is_passed_over}
-use Rattle.jsonc_layout.specs.nodes.Kinds.{is_trivia}
 use Rattle.jsonc_sound.specs.Shape as shape
 use Rattle.jsonc_sound.specs.Shape.{PropertiesShaped, token_then}
 use Rattle.jsonc_sound.specs.Leaving.{element_count}
@@ -12,6 +11,7 @@ use Rattle.jsonc_sound.specs.TreeChanges.{IsElement, ElementChanged, this_elemen
 use Rattle.jsonc_sound.specs.TriviaChanges.{AreTrivia, leaves_then}
 use Rattle.jsonc_sound.proofs.FirstNodes.{here, over, beyond, meets_first, no_element}
 use Rattle.jsonc_sound.proofs.ReadRows.{closed_changed, separated_changed}
+use Rattle.jsonc_sound.proofs.RootRows.{trivia_passed}
 use Rattle.jsonc_run.proofs.lemmas.promise.Leaves.{row_back}
 
 -- the element x of this number in the row, behind which these leaves stand
@@ -27,12 +27,6 @@ renumber {x} {y} {row = row} {rest = rest} e r = subst (λ n. Reached x y n row 
 pub rest_as : {x y : Top} {i : ℕ} {row : OrderedTree} {xs ys : List Content} → xs ≡ ys → Reached x y i row xs → Reached x y i row ys
 rest_as {x} {y} {i} {row} e r = subst (Reached x y i row) e r
 
-trivia_over : (content : Content) → IsTrue (is_trivia content) → IsTrue (is_passed_over content)
-trivia_over (Content.whitespace s) h = refl
-trivia_over (Content.newline k) h = refl
-trivia_over (Content.comment s) h = refl
-trivia_over content h = cc
-
 module _ {x y : Top} where
   pub at_first : (rest : OrderedTree) → IsElement x.content → IsElement y.content → Reached x y 0 (more x.content x.below rest) (leaves rest)
   at_first rest p q = record { new = more y.content y.below rest; changed = this_element p q; same = refl }
@@ -41,7 +35,7 @@ module _ {x y : Top} where
   past_leaves [] h r = r
   past_leaves (content ∷ ls) h r =
       let m = past_leaves ls h.1 r in
-      record { new = more content none m.new; changed = passed (trivia_over content h.0) m.changed; same = m.same }
+      record { new = more content none m.new; changed = passed (trivia_passed content h.0) m.changed; same = m.same }
 
   pub past_comma : {i : ℕ} {row : OrderedTree} {rest : List Content} (c : ℕ) → Reached x y i row rest → Reached x y i (token_then c row) rest
   past_comma c r = record { new = token_then c r.new; changed = passed refl r.changed; same = r.same }

@@ -1,9 +1,9 @@
 -- The elements of an array or object that has been sorted, read anew, are the old ones in the order.
-use Rattle.std.proofs.Common.{◌≡◌, ℕ, ◌-◌, ◌+◌, ◌<◌, ◌≤◌, Bool, true, false, not, cond, ◌&&◌, inl, inr, List, [], ◌∷◌, ◌++◌, All, length, map, filter, take, drop, reverse, slice_index, Some, IsTrue, refl, sym, ap, subst, ◌∙◌, arith, length-append, length-drop, get_or-drop}
+use Rattle.std.proofs.Common.{◌≡◌, ℕ, ◌-◌, ◌+◌, ◌<◌, ◌≤◌, Bool, true, false, not, cond, ◌&&◌, inl, inr, List, [], ◌∷◌, ◌++◌, All, length, map, filter, take, drop, reverse, slice_index, Some, IsTrue, refl, sym, ap, subst, ◌∙◌, arith}
 use Rattle.std.specs.Prelude.{IsPermutation}
 use Rattle.std.specs.List.{range_with_len, splice}
 use Rattle.std.proofs.lemmas.Bool.{and_from, and_parts, cases_Bool}
-use Rattle.std.proofs.lemmas.List.{drop_all, drop_more, reverse-append, take-append-drop, take_at}
+use Rattle.std.proofs.lemmas.List.{drop_all, drop_more, reverse-append}
 use Rattle.std.proofs.lemmas.List.Elements.{All-drop, All-filter, All-from_get_or, All-take}
 use Rattle.std.proofs.lemmas.Slice.Eq.{bytes_eq-Decides}
 use Rattle.jsonc_tree.specs.Building.{Keeps}
@@ -24,17 +24,19 @@ use Rattle.jsonc_edit.specs.multiline.Lines.{between}
 use Rattle.jsonc_edit.specs.multiline.Multiline.{TakesRow}
 use Rattle.jsonc_edit.specs.multiline.Slots.{AreFilled, no_more, stayed, came}
 use Rattle.jsonc_edit.proofs.lemmas.multiline.WholeRow.{two_there}
+use Rattle.jsonc_edit.proofs.lemmas.multiline.Documents.{between_is}
 use Rattle.jsonc_sort.specs.Slots.{Slot, stays, comes, all_stay}
 use Rattle.jsonc_sort.specs.Sorting.{Headers, entries, is_unchanged, lines_ended, rearranged, row_end, sorted}
 use Rattle.jsonc_sort.specs.Rearranged.{IsOrderIn, Rearranged, row_sorted}
 use Rattle.jsonc_sort.proofs.Choices.{Each, all_each, all_members}
 use Rattle.jsonc_sort.proofs.Lines.{Held, rearranged_held}
 use Rattle.jsonc_sort.proofs.PlannedRow.{order_long}
-use Rattle.jsonc_sort.proofs.SortedRow.{elements_between, lines_held}
+use Rattle.jsonc_sort.proofs.SortedRow.{elements_between, lines_held, parted}
 use Rattle.jsonc_sort.proofs.Values.{elements}
 use Rattle.jsonc_sort.proofs.Weights.{entry_count}
 use Rattle.jsonc_sort.specs.again.Again.{ComesInOrder, ElementsCome}
 use Rattle.jsonc_sort.proofs.lemmas.again.Elements.{elements_in_order}
+use Rattle.jsonc_sort.proofs.Orders.{not_moved}
 
 -- places that are all of children that stay
 none_stay : (xs : List ℕ) → [] ≡ all_stay xs → [] ≡ xs
@@ -82,18 +84,6 @@ module _ (old ready new : List Node) (keeps : Keeps (length old) old ready) (put
         | inr fails ↦ kept_on n row xs (same ∙ fails) (filled_elements rest h.1 xs (sym (ap (λ b. cond b (comes content ∷ more) more) fails) ∙ e))
       ]
 
--- a list with two members or more, by its ends
-parted : (xs : List ℕ) → 2 ≤ length xs → xs ≡ slice_index xs 0 ∷ (between xs ++ slice_index xs (length xs - 1) ∷ [])
-parted xs h =
-    let k : ℕ = length xs - 1 - 1 in
-    let rest : drop k (drop 1 xs) ≡ slice_index (drop 1 xs) k ∷ [] =
-    drop_more (drop 1 xs) k 0 (omega (arith, h, length-drop 1 xs)) ∙ ap (λ l. slice_index (drop 1 xs) k ∷ l) (drop_all (k + 1) (drop 1 xs) (omega (arith, h, length-drop 1 xs))) in
-    let last : slice_index (drop 1 xs) k ≡ slice_index xs (length xs - 1) = get_or-drop 1 xs k 0 ∙ ap (slice_index xs) (omega (arith, h)) in
-    drop_more xs 0 0 (omega (arith, h)) ∙ ap (λ l. slice_index xs 0 ∷ l) (sym (take-append-drop k (drop 1 xs)) ∙ ap (λ l. between xs ++ l) (rest ∙ ap (λ n. n ∷ []) last))
-
-between_is : (x y : ℕ) (inner : List ℕ) → between (x ∷ (inner ++ y ∷ [])) ≡ inner
-between_is x y inner = take_at inner (y ∷ []) (length (x ∷ (inner ++ y ∷ [])) - 1 - 1) (omega (arith, length-append inner (y ∷ [])))
-
 two_of : (x y : ℕ) (inner : List ℕ) → has_two (x ∷ (inner ++ y ∷ [])) ≡ true
 two_of x y [] = refl
 two_of x y (m ∷ inner) = refl
@@ -120,10 +110,6 @@ ends_of ns c x y inner parts whole =
 
 all_move : (a u : Bool) → a ≡ true → u ≡ false → (a && not u) ≡ true
 all_move a u e f = ap (λ x. x && not u) e ∙ ap not f
-
-no_move : (a u : Bool) → u ≡ true → (a && not u) ≡ false
-no_move true u e = ap not e
-no_move false u e = refl
 
 module _ (old new : List Node) (c : ℕ) (h : Headers) (order : List ℕ) (tree : IsTree old) (there : c < length old) (whole : IsTrue (has_brackets old c)) (perm : IsOrderIn old c order) where
   abbrev at : ℕ → Content
@@ -234,7 +220,7 @@ module _ (old new : List Node) (c : ℕ) (h : Headers) (order : List ℕ) (tree 
   pub come_by : Rearranged old new c h order → ElementsCome old new c order
   come_by made =
       elim (cases_Bool (is_unchanged order)) [
-        | inl e ↦ subst (λ (ns : List Node). ElementsCome old ns c order) (sym (made.was (no_move (has_brackets old c) (is_unchanged order) e))) (stays_as e)
+        | inl e ↦ subst (λ (ns : List Node). ElementsCome old ns c order) (sym (made.was (not_moved (has_brackets old c) (is_unchanged order) e))) (stays_as e)
         | inr e ↦ they_come (made.is (all_move (has_brackets old c) (is_unchanged order) whole e)) e
       ]
 

@@ -1,19 +1,10 @@
 -- Lists with each number as often are permutations of each other.
-use Rattle.std.proofs.Common.{◌≡◌, ◌≢◌, ◌==◌, ℕ, suc, ◌<◌, cond, inl, inr, List, [], ◌∷◌, length, get_or, remove, slice_index, refl, sym, arith, eq-eqb, ne_eqb}
+use Rattle.std.proofs.Common.{◌≡◌, ℕ, suc, ◌<◌, inl, inr, List, [], ◌∷◌, length, get_or, remove, slice_index, refl, sym, arith}
 use Rattle.std.specs.Prelude.{IsPermutation}
 use Rattle.std.proofs.lemmas.Bool.{cases_eq}
 use Rattle.std.proofs.lemmas.List.Sorted.{IsPermutation-cons, IsPermutation-refl, IsPermutation-remove, IsPermutation-sym, IsPermutation-trans}
 use Rattle.jsonc_sort.proofs.lemmas.groups.Added.{added, added_moved}
-
--- 1 of the number, else 0: added, how often it is in a list
-abbrev pub is_it : ℕ → ℕ → ℕ
-is_it n m = cond (n == m) 1 0
-
-it_here : (n m : ℕ) → n ≡ m → is_it n m ≡ 1
-it_here n m e = rw (eq-eqb n m e) refl
-
-it_other : (n m : ℕ) → n ≢ m → is_it n m ≡ 0
-it_other n m e = rw (ne_eqb n m e) refl
+use Rattle.jsonc_sort.proofs.SortedRow.{it_here, it_other, is_it}
 
 pub none_of : (n : ℕ) (xs : List ℕ) → ((i : ℕ) → i < length xs → slice_index xs i ≡ n → ⊥) → added (is_it n) xs ≡ 0
 none_of n [] h = refl

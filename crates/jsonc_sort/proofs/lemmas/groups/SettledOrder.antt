@@ -10,9 +10,7 @@ use Rattle.std.proofs.lemmas.List.Sorted.{length_permutation, sorted_far, ties_s
 use Rattle.jsonc_sort.specs.ordering.Order.{IsOrderedBy}
 use Rattle.jsonc_sort.specs.groups.Again.{NamesItself}
 use Rattle.jsonc_sort.proofs.lemmas.groups.AscendingLists.{alike}
-
-zero_more : (k : ℕ) → 0 + k ≡ k
-zero_more k = omega arith
+use Rattle.jsonc_sort.proofs.Orders.{zero_more}
 
 -- an order names places that are there
 below : (n : ℕ) (order : List ℕ) → IsPermutation (range_with_len 0 n) order → All (λ k. k < n) order

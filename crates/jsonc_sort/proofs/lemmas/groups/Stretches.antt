@@ -11,7 +11,9 @@ use Rattle.jsonc_sort.specs.ordering.Order.{start_in}
 use Rattle.jsonc_sort.proofs.lemmas.groups.Added.{added, added_moved, added_parted}
 use Rattle.jsonc_sort.specs.groups.Groups.{begins_at, GroupsStay, IsInGroups, IsStretch, StaysInGroups, StretchesStay}
 use Rattle.jsonc_sort.proofs.lemmas.groups.AscendingLists.{alike}
-use Rattle.jsonc_sort.proofs.lemmas.groups.Counted.{by_counts, is_it, none_of}
+use Rattle.jsonc_sort.proofs.lemmas.groups.Counted.{by_counts, none_of}
+use Rattle.jsonc_sort.proofs.SortedRow.{is_it}
+use Rattle.jsonc_sort.proofs.Orders.{zero_more}
 
 -- where groups begin, of a row from a place on, the group before which began at another
 abbrev start_from : ℕ → ℕ → List Bool → ℕ → ℕ
@@ -60,9 +62,6 @@ goes_on start place (true ∷ row) zero e lt = first_on place (suc place) row e 
 goes_on start place (false ∷ row) zero e lt = first_on start (suc place) row e (omega arith)
 goes_on start place (true ∷ row) (suc k) e lt = goes_on place (suc place) row k e (omega arith)
 goes_on start place (false ∷ row) (suc k) e lt = goes_on start (suc place) row k e (omega arith)
-
-zero_more : (k : ℕ) → 0 + k ≡ k
-zero_more k = omega arith
 
 module _ (row : List Bool) where
   abbrev start : ℕ → ℕ

@@ -5,6 +5,7 @@ use Rattle.std.specs.Ordering.{is_lt}
 use Rattle.std.specs.List.{range_with_len}
 use Rattle.std.specs.List.Sorted.{IsStableBy}
 use Rattle.std.specs.declared.cmp.Ordering.{Ordering}
+use Rattle.jsonc_sound.proofs.Commas.{false_and}
 use denote.Ref.{Bor}
 use denote.Param.Members.{Shared}
 use Rattle.jsonc_sort.specs.ordering.Asking.{ComparesBy, IsAmong, IsCompared}
@@ -34,10 +35,6 @@ or_true : (b c : Bool) → b ≡ true → b || c ≡ true
 or_true true c e = refl
 or_true false c e = absurd (false≢true e)
 
-and_false : (b c : Bool) → b ≡ false → b && c ≡ false
-and_false false c e = refl
-and_false true c e = absurd (false≢true (sym e))
-
 or_both : (b c d : Bool) → b ≡ false → c ≡ d → b || c ≡ d
 or_both false c d e f = f
 or_both true c d e f = absurd (false≢true (sym e))
@@ -52,7 +49,7 @@ then_less s t b h = or_true (nat_lt s t) ((s == t) && b) (lt-ltb s t h)
 then_more : (s t : ℕ) (b : Bool) → t < s → then_by s t b ≡ false
 then_more s t b h =
     let apart : s ≡ t → ⊥ = λ e. omega (arith, h, e) in
-    or_both (nat_lt s t) ((s == t) && b) false (le-ltb s t (omega (arith, h))) (and_false (s == t) b (ne_eqb s t apart))
+    or_both (nat_lt s t) ((s == t) && b) false (le-ltb s t (omega (arith, h))) (false_and (s == t) b (ne_eqb s t apart))
 
 then_same : (s t : ℕ) (b : Bool) → s ≡ t → then_by s t b ≡ b
 then_same s t b h = or_both (nat_lt s t) ((s == t) && b) b (le-ltb s t (omega (arith, h))) (and_is (s == t) b (eq-eqb s t h))

@@ -3,8 +3,9 @@ use Rattle.jsonc_tree.specs.Tree.{IsOver}
 use Rattle.jsonc_edit.proofs.lemmas.commas.UnsoundDocuments.{due_where_refused, sets_anyway}
 use Rattle.jsonc_edit.proofs.lemmas.commas.DetachedContainers.{leaves_others, leaves_others_in_part}
 use Rattle.jsonc_edit.specs.commas.InTurn.{to_come}
-use Rattle.jsonc_edit.proofs.lemmas.commas.InTurn.{all_set, all_to_come, fewer, goes_on, met_still, none_set, over_still, refused_here, where_refused}
+use Rattle.jsonc_edit.proofs.lemmas.commas.InTurn.{all_set, all_to_come, fewer, goes_on, met_still, none_set, over_still, refused_here}
 use Rattle.jsonc_edit.proofs.commas.setting.set_trailing_commas.Goals as goal
+use Rattle.jsonc_edit.proofs.ReplacedChildren.{where_refused}
 
 pub holder_from-next-requires-clause-over : goal.holder_from-next-requires-clause-over
 holder_from-next-requires-clause-over g c = IsOver.itself

@@ -3,7 +3,8 @@ use Rattle.jsonc_text.specs.Plain.{Plain}
 use Rattle.jsonc_tree.specs.Tree.{content_at}
 use Rattle.jsonc_insert.specs.members.Inserted.{PropertyPut}
 use Rattle.jsonc_edit.specs.set.Shapes.{is_of}
-use Rattle.jsonc_insert.proofs.lemmas.named.Creating.{holds_empty, property_there, put_last, some_same}
+use Rattle.jsonc_edit.proofs.Elements.{Some_same}
+use Rattle.jsonc_insert.proofs.lemmas.named.Creating.{holds_empty, property_there, put_last}
 use Rattle.jsonc_insert.proofs.ElementsInTree.{few_elements}
 use Rattle.jsonc_insert.proofs.named.named.append_empty.Goals as goal
 
@@ -43,5 +44,5 @@ returns-clause-shape g c =
     let count = c.len-count.result in
     let put = subst (λ (v : Plain). PropertyPut old new c.args.object count (chars c.args.name.now) v c.in-Ok.property) c.empty_value-empty.ensures c.in-Ok.ensures.put in
     let holds = holds_empty old new c.args.object count (chars c.args.name.now) c.args.shape c.in-Ok.property c.args.tree.now.tree c.requires.in_tree c.in-Ok.ensures.brackets put in
-    let same : holds.value ≡ c.in-Some.value = some_same holds.value c.in-Some.value (sym holds.holds ∙ sym c.value_of.ensures.value ∙ c.in-Some.is) in
+    let same : holds.value ≡ c.in-Some.value = Some_same holds.value c.in-Some.value (sym holds.holds ∙ sym c.value_of.ensures.value ∙ c.in-Some.is) in
     subst (λ (m : ℕ). is_of c.args.shape (content_at new m) ≡ true) same holds.shaped
