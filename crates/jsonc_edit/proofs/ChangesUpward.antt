@@ -1,5 +1,5 @@
 -- From the change of one row up to the document: on the way to the root each row changes in one element.
-use Rattle.std.proofs.Common.{◌≡◌, ◌≢◌, ℕ, ◌+◌, ◌<◌, List, [], ◌∷◌, ◌++◌, length, slice_index, take, drop, filter, Some, refl, sym, ap, subst, ◌∙◌, arith, add-zero, length-take, length-drop, get_or-take, get_or-drop}
+use Rattle.std.proofs.Common.{◌≡◌, ◌≢◌, ℕ, ◌+◌, ◌<◌, false, List, [], ◌∷◌, ◌++◌, length, slice_index, take, drop, filter, Some, refl, sym, ap, subst, ◌∙◌, arith, add-zero, length-take, length-drop, get_or-take, get_or-drop}
 use Rattle.std.proofs.lemmas.List.{take-append-drop, drop_more}
 use Rattle.jsonc_text.specs.Options.{Options}
 use Rattle.jsonc_tree.specs.Content.{Content, root, array, object, property}

@@ -113,12 +113,12 @@ module _ (o : Options) (content : Content) (below : OrderedTree) where
 
   entry_elements : (i : ℕ) (row : OrderedTree) → ElementsShaped o row → Entry content below i row → Passed content ⊎ IsAnyValue o content below
   entry_elements i _ (ElementsShaped.last_element {content = first} {below = under} {after = after} v c) e =
-      elim (entry_element i first under after (value_element o first under (printed_text after) v) e) [
+      elim (entry_element i first under after (value_element v) e) [
         | inl h ↦ inr (value_there i first under (printed_text after) h v)
         | inr f ↦ entry_closed f.0 0x5D after c f.2
       ]
   entry_elements i _ (ElementsShaped.element {content = first} {below = under} {after = after} {u = u} v s rest) e =
-      elim (entry_element i first under after (value_element o first under (printed_text after) v) e) [
+      elim (entry_element i first under after (value_element v) e) [
         | inl h ↦ inr (value_there i first under (printed_text after) h v)
         | inr f ↦ otherwise (entry_separated f.0 after u s f.2) (λ g. entry_elements f.0 u rest g)
       ]
@@ -152,7 +152,7 @@ module _ (o : Options) (content : Content) (below : OrderedTree) where
         | inl h ↦ inr (inl (h.0, h.2, subst IsElement (sym h.1) is))
         | inr f ↦
             otherwise (otherwise (otherwise (entry_trivia f.0 after (token_then 0x3A u) a f.2) (λ g. entry_token f.0 0x3A u g)) (λ g. entry_trivia f.0 u (more first under none) b g)) (λ g.
-            elim (entry_element f.0 first under none (value_element o first under r v) g) [
+            elim (entry_element f.0 first under none (value_element v) g) [
               | inl h ↦ inr (inr (f.1 ∙ ap suc h.0, value_there f.0 first under r h v))
               | inr k ↦ absurd (entry_none k.0 k.2)
             ])
@@ -176,7 +176,7 @@ module _ (o : Options) (content : Content) (below : OrderedTree) where
   entry_document i row (no_value a) e = otherwise (entry_trivia i row none a e) (λ f. absurd (entry_none i f))
   entry_document i row (a_value {content = first} {below = under} {after = after} a v b) e =
       otherwise (entry_trivia i row (more first under after) a e) (λ f.
-      elim (entry_element i first under after (value_element o first under (printed_text after) v) f) [
+      elim (entry_element i first under after (value_element v) f) [
         | inl h ↦ inr (h.0, value_there i first under (printed_text after) h v)
         | inr g ↦ otherwise (entry_trivia g.0 after none b g.2) (λ k. absurd (entry_none g.0 k))
       ])

@@ -94,8 +94,8 @@ module _ (o : Options) where
   none_in_separated (no_comma h a) n = none_in_trivia a n
 
   some_element : {row : OrderedTree} → ElementsShaped o row → NoElement row → ⊥
-  some_element (ElementsShaped.last_element {content = content} {below = below} {after = after} v c) (passed_first p n) = not_both content p (value_element o content below (printed_text after) v)
-  some_element (ElementsShaped.element {content = content} {below = below} {after = after} v s rest) (passed_first p n) = not_both content p (value_element o content below (printed_text after) v)
+  some_element (ElementsShaped.last_element {content = content} {below = below} {after = after} v c) (passed_first p n) = not_both content p (value_element v)
+  some_element (ElementsShaped.element {content = content} {below = below} {after = after} v s rest) (passed_first p n) = not_both content p (value_element v)
 
   some_property : {row : OrderedTree} → PropertiesShaped o row → NoElement row → ⊥
   some_property (PropertiesShaped.last_property p c) (passed_first h n) = false≢true h

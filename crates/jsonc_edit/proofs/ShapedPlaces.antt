@@ -85,7 +85,7 @@ module _ (o : Options) (ns : List Node) (tree : IsTree ns) (shaped : DocumentSha
       elim (entry_document o (content_at ns n) (row_below ns n) (place_of ns tree 0 n) row shape (entry_of ns tree n 0 said)) [
         | inl h ↦ passed_stands h
         | inr v ↦
-            let element = value_element o (content_at ns n) (row_below ns n) v.1.0 v.1.1 in
+            let element = value_element v.1.1 in
             value_stands {path = []} (n, subst (λ i. IsElementOf ns 0 i n) v.0 (element_of ns tree n 0 said element), itself) v.1
       ]
 
@@ -96,7 +96,7 @@ module _ (o : Options) (ns : List Node) (tree : IsTree ns) (shaped : DocumentSha
         | inl h ↦ passed_stands h
         | inr inside ↦ elim inside [
           | inl a ↦
-              let element = value_element o (content_at ns n) (row_below ns n) a.1.0 a.1.1 in
+              let element = value_element a.1.1 in
               value_stands {path = path ++ i ∷ []} (at_further ns p i n path at (in_array a.0 (element_of ns tree n p said element))) a.1
           | inr b ↦
               let element : IsElement (content_at ns n) = subst IsElement (sym b.1.0) refl in
@@ -111,7 +111,7 @@ module _ (o : Options) (ns : List Node) (tree : IsTree ns) (shaped : DocumentSha
         | inr held ↦ elim held [
           | inl name ↦ name_stands r is (subst (λ j. IsElementOf ns r j n) name.0 (element_of ns tree n r said name.2)) name.1
           | inr v ↦
-              let kind = value_element o (content_at ns n) (row_below ns n) v.1.0 v.1.1 in
+              let kind = value_element v.1.1 in
               let second : IsElementOf ns r 1 n = subst (λ j. IsElementOf ns r j n) v.0 (element_of ns tree n r said kind) in
               let held = shaped_value ns o r n (row_below ns r) shape.0 (Shows-row_below ns tree r (parent_there ns tree n r said).1) shape.1 is second in
               value_stands {path = path ++ i ∷ []} (at_further ns p i n path at (in_object {r = r} outer element (is, second, held))) v.1

@@ -63,7 +63,7 @@ module _ (o : Options) (allowed : IsTrue o.trailing_commas) (old new : List Node
     kids = g.are ∙ ap (λ l. l ++ n ∷ g.back) ahead_is
 
     same_first : x ≡ i.open_with
-    same_first = sym (heads i.open_with x i.rest (f ++ n ∷ g.back) (sym i.children ∙ kids))
+    same_first = sym (heads (sym i.children ∙ kids))
 
     opens : content_at old x ≡ token (opening i.kind)
     opens = ap (content_at old) same_first ∙ i.opens

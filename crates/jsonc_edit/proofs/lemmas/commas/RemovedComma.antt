@@ -56,10 +56,10 @@ module _ (o : Options) (old new : List Node) (tree : IsTree old) (after : IsTree
     kids = g.are ∙ ap (λ l. l ++ g.last ∷ (g.mid ++ k ∷ g.back)) ahead_is ∙ ap (λ l. x ∷ l) (sym (append_assoc f (g.last ∷ g.mid) (k ∷ g.back)))
 
     opens : content_at old x ≡ token (opening i.kind)
-    opens = ap (content_at old) (sym (heads i.open_with x i.rest (ahead ++ k ∷ g.back) (sym i.children ∙ kids))) ∙ i.opens
+    opens = ap (content_at old) (sym (heads (sym i.children ∙ kids))) ∙ i.opens
 
     bare : row_below old x ≡ none
-    bare = ap (row_below old) (sym (heads i.open_with x i.rest (ahead ++ k ∷ g.back) (sym i.children ∙ kids))) ∙ i.bare
+    bare = ap (row_below old) (sym (heads (sym i.children ∙ kids))) ∙ i.bare
 
     k_there : k < length old
     k_there = split_there old tree c k (x ∷ ahead) g.back kids

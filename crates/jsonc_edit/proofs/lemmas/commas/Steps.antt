@@ -130,5 +130,5 @@ module _ (o : Options) (ns : List Node) (tree : IsTree ns) (sound : SoundTree o 
 -- the first bracket is not the last element
 pub opens_row : (o : Options) (ns : List Node) (c n : ℕ) (back : List ℕ) (i : Inside o ns c) → is_element_at ns n ≡ true → children_at ns c ≡ n ∷ back → ⊥
 opens_row o ns c n back i e are =
-    let same : i.open_with ≡ n = heads i.open_with n i.rest back (sym i.children ∙ are) in
+    let same : i.open_with ≡ n = heads (sym i.children ∙ are) in
     open_no_element i.kind (content_at ns n) (ap (content_at ns) (sym same) ∙ i.opens) e
