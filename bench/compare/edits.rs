@@ -163,10 +163,10 @@ pub fn make(root: &CstRootNode, drawn: &Drawn) -> Option<()> {
         Edit::SetRoot { .. } => root.set_value(value),
         Edit::ClearRoot => root.clear_children(),
         Edit::ReplaceProperty { path, name, .. } => drop(property_at(root, path)?.replace_with(name, value)),
-        // (the crate has no call for it: the name's text is set)
+        // (the crate has no call for it: a string's text is set, and a word gives way to a string)
         Edit::RenameProperty { path, name } => match property_at(root, path)?.name()? {
             ObjectPropName::String(it) => it.set_raw_value(json(&CstInputValue::String(name.clone()))),
-            ObjectPropName::Word(it) => it.set_raw_value(json(&CstInputValue::String(name.clone()))),
+            ObjectPropName::Word(it) => drop(it.replace_with(CstInputValue::String(name.clone()))),
         },
         // (the crate has no call for it, nor one that a comment can be made with: it is not drawn)
         Edit::InsertComment { .. } => unreachable!("an edit that the crate lacks was drawn"),

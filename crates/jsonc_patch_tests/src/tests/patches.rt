@@ -10,14 +10,20 @@ use jsonc_patch_engine::engine::run_on;
 use std::alloc::Allocator;
 use std::test::Fail;
 
+/// What came of the run of a number.
+fn patched_at<A: Allocator + Copy>(heap: A, number: usize) -> Outcome {
+    match PATCHED.get(number) {
+        Some(row) => outcome_of(heap, row),
+        None => Outcome::Other,
+    }
+}
+
 #[test]
 fn each_patch_writes_the_text_of_its_row(rt: HostRuntime) -> Result<(), Fail> {
-    for row in &PATCHED {
+    for number in 0..PATCHED.len() {
         assert!(rt;
-            answers_in_turn(rt.alloc(), |heap| outcome_of(heap, row)),
-            "{:?} {:?}",
-            row.0,
-            row.1
+            answers_in_turn(rt.alloc(), |heap| patched_at(heap, number)),
+            "run {number}"
         );
     }
     Ok(())
@@ -36,14 +42,20 @@ fn outcome_of_value<A: Allocator + Copy>(heap: A, row: &Row) -> Outcome {
     }
 }
 
+/// What came of the example of a number.
+fn example_at<A: Allocator + Copy>(heap: A, number: usize) -> Outcome {
+    match STANDARD.get(number) {
+        Some(row) => outcome_of_value(heap, row),
+        None => Outcome::Other,
+    }
+}
+
 #[test]
 fn each_example_of_the_standards_has_its_value(rt: HostRuntime) -> Result<(), Fail> {
-    for row in &STANDARD {
+    for number in 0..STANDARD.len() {
         assert!(rt;
-            answers_in_turn(rt.alloc(), |heap| outcome_of_value(heap, row)),
-            "{:?} {:?}",
-            row.0,
-            row.1
+            answers_in_turn(rt.alloc(), |heap| example_at(heap, number)),
+            "example {number}"
         );
     }
     Ok(())
