@@ -69,6 +69,7 @@ enum jsonc_status {
   JSONC_INVALID_COMMENT = 25, /* The text of a comment that is to be inserted is not one comment and nothing else. */
   JSONC_LINE_CONTINUES = 26, /* A comment that ends with its line is to be inserted, and something follows there on the line. */
   JSONC_NOT_AN_ENTRY = 27, /* A comment is to be inserted at a node that is no entry. No call answers it of a text. */
+  JSONC_NESTED_TOO_DEEP = 28, /* A value would be nested deeper in the document than texts are parsed. */
 };
 
 /* What a text may hold beyond JSON. */

@@ -49,6 +49,7 @@ refused_tells refused.MissingName = (omega arith, λ e. omega (arith, e))
 refused_tells refused.InvalidComment = (omega arith, λ e. omega (arith, e))
 refused_tells refused.LineContinues = (omega arith, λ e. omega (arith, e))
 refused_tells refused.NotAnEntry = (omega arith, λ e. omega (arith, e))
+refused_tells refused.NestingDepthExceeded = (omega arith, λ e. omega (arith, e))
 
 -- nor is that a text was not edited
 pub unedited_tells : {A : Type 0} {o : Options} {text : List ℕ} {cs : List JsoncEdit} {status : ℕ} {f : JsoncFault} → IsUnedited A o text cs status f → (1 ≤ status) × ¬ (status ≡ 17)

@@ -88,6 +88,7 @@ edit_status refused.MissingName = 15
 edit_status refused.InvalidComment = 25
 edit_status refused.LineContinues = 26
 edit_status refused.NotAnEntry = 27
+edit_status refused.NestingDepthExceeded = 28
 
 -- the status of a fault, and what is told with it
 abbrev pub IsTold : Fault → ℕ → JsoncFault → Type 0

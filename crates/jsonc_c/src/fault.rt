@@ -133,6 +133,9 @@ pub(crate) const LINE_CONTINUES: u32 = 26;
 /// A comment is to be inserted at a node that is no entry. No call answers it of a text.
 pub(crate) const NOT_AN_ENTRY: u32 = 27;
 
+/// A value would be nested deeper in the document than texts are parsed.
+pub(crate) const NESTED_TOO_DEEP: u32 = 28;
+
 fn string_kind_number(kind: &ParseStringErrorKind) -> u32
     ensures { result ≡ string_kind_number kind.now }
 {
@@ -240,6 +243,7 @@ pub(crate) fn edit_status(error: EditError) -> u32
         EditError::InvalidComment => INVALID_COMMENT,
         EditError::LineContinues => LINE_CONTINUES,
         EditError::NotAnEntry => NOT_AN_ENTRY,
+        EditError::NestingDepthExceeded => NESTED_TOO_DEEP,
     }
 }
 

@@ -23,6 +23,7 @@ impl Refusal {
             Refusal::Error(EditError::InvalidComment) => Ok("InvalidComment"),
             Refusal::Error(EditError::LineContinues) => Ok("LineContinues"),
             Refusal::Error(EditError::NotAnEntry) => Ok("NotAnEntry"),
+            Refusal::Error(EditError::NestingDepthExceeded) => Ok("NestingDepthExceeded"),
             Refusal::Error(EditError::OutOfMemory) => Err(AllocError),
         }
     }

@@ -25,6 +25,8 @@ pub enum EditError {
     LineContinues,
     /// The node is no element or property of an array or object, and not the document's value.
     NotAnEntry,
+    /// The value would be nested deeper in the document than texts are parsed.
+    NestingDepthExceeded,
 }
 
 impl fmt::Display for EditError {
@@ -41,6 +43,7 @@ impl fmt::Display for EditError {
             EditError::InvalidComment => f.write_str("Invalid comment"),
             EditError::LineContinues => f.write_str("Line continues after the comment"),
             EditError::NotAnEntry => f.write_str("Not an entry"),
+            EditError::NestingDepthExceeded => f.write_str("Maximum nesting depth exceeded"),
         }
     }
 }

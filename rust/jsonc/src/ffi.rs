@@ -70,6 +70,8 @@ pub const INVALID_COMMENT: u32 = 25;
 pub const LINE_CONTINUES: u32 = 26;
 /// A comment is to be inserted at a node that is no entry. No call answers it of a text.
 pub const NOT_AN_ENTRY: u32 = 27;
+/// A value would be nested deeper in the document than texts are parsed.
+pub const NESTED_TOO_DEEP: u32 = 28;
 
 pub const ALLOW_COMMENTS: u32 = 1;
 pub const ALLOW_LOOSE_OBJECT_PROPERTY_NAMES: u32 = 2;

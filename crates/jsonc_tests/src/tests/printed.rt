@@ -11,7 +11,7 @@ use std::fmt::Write;
 use std::test::Fail;
 
 /// Why a document was not changed, and what that prints.
-static EDIT_ERRORS: [(EditError, &str); 7] = [
+static EDIT_ERRORS: [(EditError, &str); 8] = [
     (EditError::OutOfMemory, "Out of memory"),
     (EditError::MissingBrackets, "Missing brackets"),
     (EditError::MissingName, "Missing name"),
@@ -19,6 +19,7 @@ static EDIT_ERRORS: [(EditError, &str); 7] = [
     (EditError::InvalidComment, "Invalid comment"),
     (EditError::LineContinues, "Line continues after the comment"),
     (EditError::NotAnEntry, "Not an entry"),
+    (EditError::NestingDepthExceeded, "Maximum nesting depth exceeded"),
 ];
 
 #[test]

@@ -24,7 +24,7 @@ use Rattle.jsonc_sound.proofs.NodesAlone.{value_alone}
 use Rattle.jsonc_edit.specs.Changes.{row_below}
 use Rattle.jsonc_edit.specs.Paths.{IsElementOf}
 use Rattle.jsonc_text.specs.declared.edit.EditError.{EditError}
-use Rattle.jsonc_text.specs.declared.edit.EditError.TheVariants.{OutOfMemory, MissingBrackets, MissingName, NoSuchPlace, InvalidComment, LineContinues, NotAnEntry}
+use Rattle.jsonc_text.specs.declared.edit.EditError.TheVariants.{OutOfMemory, MissingBrackets, MissingName, NoSuchPlace, InvalidComment, LineContinues, NotAnEntry, NestingDepthExceeded}
 use Rattle.jsonc_edit.proofs.Entries.{Entry, this, behind_passed, behind_element, Passed, IsAnyValue, IsAnyProperty, not_both, passed_leaf, no_entry, entry_property, entry_value, entry_document}
 use Rattle.jsonc_edit.proofs.ChangesUpward.{Shows-row_below, document_is}
 use Rattle.jsonc_edit.specs.remove.Removed.{has_brackets, has_two, is_token_at, IsKeptFor}
@@ -263,6 +263,7 @@ module _ (o : Options) (ns : List Node) (tree : IsTree ns) (sound : SoundTree o 
   element_kept n InvalidComment k over = absurd k
   element_kept n LineContinues k over = absurd k
   element_kept n NotAnEntry k over = absurd k
+  element_kept n NestingDepthExceeded k over = absurd k
 
   value_unset : (kind : Content → Bool) (n : ℕ) → n < length ns → content_at ns n ≡ property → (e : EditError) → EnsureValueError kind ns n e → IsOver ns 0 n → e ≡ OutOfMemory
   value_unset kind n there is OutOfMemory k over = refl
@@ -272,6 +273,7 @@ module _ (o : Options) (ns : List Node) (tree : IsTree ns) (sound : SoundTree o 
   value_unset kind n there is InvalidComment k over = absurd k
   value_unset kind n there is LineContinues k over = absurd k
   value_unset kind n there is NotAnEntry k over = absurd k
+  value_unset kind n there is NestingDepthExceeded k over = absurd k
 
 -- the same of answers
 pub element_for_memory : {T : Type 0} (o : Options) (ns : List Node) → IsTree ns → (n : ℕ) (r : Result T EditError) → IfErr r (IsKeptFor ns n) → IfErr r (OnlyOutOfMemory o ns n)

@@ -6,7 +6,7 @@ use Rattle.jsonc_tree.specs.Building.{Keeps}
 use Rattle.jsonc_tree.specs.Tree.{Node, content_at, IsTree}
 use Rattle.jsonc_layout.specs.lines.Kinds.{is_array_or_object}
 use Rattle.jsonc_text.specs.declared.edit.EditError.{EditError}
-use Rattle.jsonc_text.specs.declared.edit.EditError.TheVariants.{OutOfMemory, MissingBrackets, MissingName, NoSuchPlace, InvalidComment, LineContinues, NotAnEntry}
+use Rattle.jsonc_text.specs.declared.edit.EditError.TheVariants.{OutOfMemory, MissingBrackets, MissingName, NoSuchPlace, InvalidComment, LineContinues, NotAnEntry, NestingDepthExceeded}
 use Rattle.jsonc_edit.proofs.lemmas.commas.Holders.{holder_path}
 use Rattle.jsonc_edit.specs.multiline.Multiline.{has_line_end, IsUnspread, MadeMultiline}
 use Rattle.jsonc_edit.proofs.lemmas.multiline.LineEnds.{has_end, has_its_brackets}
@@ -42,6 +42,7 @@ module _ (old new : List Node) (n : ℕ) (before : IsTree old) (after : IsTree n
   memory_alone o InvalidComment why = absurd why
   memory_alone o LineContinues why = absurd why
   memory_alone o NotAnEntry why = absurd why
+  memory_alone o NestingDepthExceeded why = absurd why
 
   pub but_for_memory : {T : Type 0} (o : Options) (r : Result T EditError) → IfErr r (IsUnspread old n) → IfErr r (OnlyOutOfMemory o old n)
   but_for_memory o (Ok x) why = tt

@@ -3,7 +3,7 @@ use Rattle.std.proofs.Common.{◌≡◌, ℕ, ◌<◌, false, true, List, length
 use Rattle.jsonc_text.specs.Options.{Options}
 use Rattle.jsonc_text.specs.Plain.{Plain}
 use Rattle.jsonc_text.specs.declared.edit.EditError.{EditError}
-use Rattle.jsonc_text.specs.declared.edit.EditError.TheVariants.{OutOfMemory, MissingBrackets, MissingName, NoSuchPlace, InvalidComment, LineContinues, NotAnEntry}
+use Rattle.jsonc_text.specs.declared.edit.EditError.TheVariants.{OutOfMemory, MissingBrackets, MissingName, NoSuchPlace, InvalidComment, LineContinues, NotAnEntry, NestingDepthExceeded}
 use Rattle.jsonc_tree.specs.Content.{property}
 use Rattle.jsonc_tree.specs.Tree.{Node, content_at, IsTree}
 use Rattle.jsonc_layout.specs.from_input.Texts.{IsCharacters}
@@ -48,6 +48,7 @@ only_memory o ns tree p there is NoSuchPlace told = absurd told
 only_memory o ns tree p there is InvalidComment told = absurd told
 only_memory o ns tree p there is LineContinues told = absurd told
 only_memory o ns tree p there is NotAnEntry told = absurd told
+only_memory o ns tree p there is NestingDepthExceeded told = absurd told
 
 module _ {A : Type 0} (old new : CstRootNode A) (p : CstObjectProp) (held : HasNode old (object_prop_node p)) (name : List ℕ) where
   pub renamed : IsCharacters name → (x : CstNode) → IsRenamed (nodes_of old) (nodes_of new) p.number name (number_of x) → lacks_name_at (nodes_of old) p.number ≡ false → HasNode new x

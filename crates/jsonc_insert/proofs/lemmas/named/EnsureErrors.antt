@@ -4,7 +4,7 @@ use Rattle.jsonc_tree.specs.Tree.{Node, children_at}
 use Rattle.jsonc_layout.specs.nodes.Names.{FirstInObject, HoldsEscapedName}
 use Rattle.jsonc_layout.specs.nodes.Properties.{lacks_name_at}
 use Rattle.jsonc_text.specs.declared.edit.EditError.{EditError}
-use Rattle.jsonc_text.specs.declared.edit.EditError.TheVariants.{OutOfMemory, MissingBrackets, MissingName, NoSuchPlace, InvalidComment, LineContinues, NotAnEntry}
+use Rattle.jsonc_text.specs.declared.edit.EditError.TheVariants.{OutOfMemory, MissingBrackets, MissingName, NoSuchPlace, InvalidComment, LineContinues, NotAnEntry, NestingDepthExceeded}
 use Rattle.jsonc_insert.specs.Inserted.{refusal}
 use Rattle.jsonc_insert.specs.Planned.{has_brackets}
 use Rattle.jsonc_edit.specs.set.PropertyValues.{EnsureValueError}
@@ -60,6 +60,7 @@ module _ (shape : Shape) (ns : List Node) (c : ℕ) (name : List ℕ) where
   set_by r InvalidComment first unset missing = absurd unset
   set_by r LineContinues first unset missing = absurd unset
   set_by r NotAnEntry first unset missing = absurd unset
+  set_by r NestingDepthExceeded first unset missing = absurd unset
 
   pub none_set : (how : Over) (found : Option ℕ) (r : ℕ) (e : EditError) → how ≡ over.Replace → found ≡ Some r → FirstInObject ns c name found → EnsureValueError (is_of shape) ns r e
       → (lacks_name_at ns r ≡ true → e ≡ MissingName) → EnsureError shape how ns c name e

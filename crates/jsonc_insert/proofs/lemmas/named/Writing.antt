@@ -32,7 +32,7 @@ use Rattle.jsonc_sound.specs.Written.{property_written}
 use Rattle.jsonc_edit.specs.Changes.{row_below}
 use Rattle.jsonc_edit.specs.Paths.{IsAt}
 use Rattle.jsonc_text.specs.declared.edit.EditError.{EditError}
-use Rattle.jsonc_text.specs.declared.edit.EditError.TheVariants.{OutOfMemory, MissingBrackets, MissingName, NoSuchPlace, InvalidComment, LineContinues, NotAnEntry}
+use Rattle.jsonc_text.specs.declared.edit.EditError.TheVariants.{OutOfMemory, MissingBrackets, MissingName, NoSuchPlace, InvalidComment, LineContinues, NotAnEntry, NestingDepthExceeded}
 use Rattle.jsonc_edit.proofs.Elements.{taken, left}
 use Rattle.jsonc_edit.proofs.FittingNodes.{over_there}
 use Rattle.jsonc_edit.proofs.Uniqueness.{element_parent, over_at}
@@ -293,6 +293,7 @@ module _ (o : Options) (ns : List Node) (path : List ℕ) (c : ℕ) (name : List
   memory_alone shape how InvalidComment k = absurd k
   memory_alone shape how LineContinues k = absurd k
   memory_alone shape how NotAnEntry k = absurd k
+  memory_alone shape how NestingDepthExceeded k = absurd k
 
 pub wants_memory : (o : Options) (ns : List Node) (path : List ℕ) (c : ℕ) (name : List ℕ) (shape : Shape) (how : Over) (e : EditError) → OnlyOutOfMemory o ns path c name shape how e
 wants_memory o ns path c name shape how e tree s at is k = memory_alone o ns path c name tree s at is shape how e k
