@@ -4,3 +4,4 @@ pub mod WalkSteps
 pub mod NodesAbove
 pub mod Told
 pub mod LineBegins
+pub mod FirstIndents

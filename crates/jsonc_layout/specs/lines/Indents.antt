@@ -1,10 +1,10 @@
 -- The indents for what is put in beside a node.
-use Rattle.std.specs.Prelude.{ℕ, zero, suc, ◌+◌, ◌==◌, Bool, false, List, [], ◌∷◌, ◌++◌, map, length, drop, Option, Some, None, unwrap_or, option_and_then, option_map, is_some, nat_eq, if◌then◌else◌}
+use Rattle.std.specs.Prelude.{ℕ, zero, suc, ◌+◌, ◌==◌, ◌&&◌, Bool, false, List, [], ◌∷◌, ◌++◌, map, length, drop, Option, Some, None, unwrap_or, option_and_then, option_map, is_some, nat_eq, if◌then◌else◌}
 use Rattle.std.specs.Option.{option_or}
 use Rattle.std.specs.List.{starts_with}
 use Rattle.jsonc_tree.specs.Order.{upward}
 use Rattle.jsonc_tree.specs.Tree.{Node, content_at, parent_at, children_at}
-use Rattle.jsonc_layout.specs.nodes.Kinds.{is_property}
+use Rattle.jsonc_layout.specs.nodes.Kinds.{is_newline_at, is_property, is_whitespace_at}
 use Rattle.jsonc_layout.specs.nodes.Properties.{element_from}
 use Rattle.jsonc_layout.specs.nodes.Siblings.{root_above}
 use Rattle.jsonc_layout.specs.lines.Lines.{indent_at}
@@ -70,6 +70,12 @@ told_by passed held (outer ∷ rest) =
 -- the same, of the lines of a node and of those above it
 abbrev pub told_at : List Node → ℕ → List ℕ → Option IndentTexts
 told_at ns n above = told_by 0 (indent_at ns n) (map (indent_at ns) above)
+
+-- of a node's siblings before it, nearest first: the first one is whitespace that its line begins with
+abbrev pub follows_first_blank : List Node → List ℕ → Bool
+follows_first_blank ns [] = false
+follows_first_blank ns (m ∷ []) = is_whitespace_at ns m
+follows_first_blank ns (m ∷ (l ∷ rest)) = is_whitespace_at ns m && is_newline_at ns l
 
 -- the first indent of these nodes
 abbrev pub first_indent : List Node → List ℕ → Option (List ℕ)

@@ -4,15 +4,18 @@ ghost use Rattle.std.specs.Prelude.{map, option_map, string_bytes, unwrap_or};
 ghost use Rattle.jsonc_tree.specs.Order.{upward};
 ghost use Rattle.jsonc_tree.specs.Tree.{parent_at};
 ghost use Rattle.jsonc_layout.specs.lines.Indents.{above_properties, document_indent, first_indent_in};
-ghost use Rattle.jsonc_layout.specs.lines.Indents.{held_after, indents_at};
+ghost use Rattle.jsonc_layout.specs.lines.Indents.{follows_first_blank, held_after, indents_at};
 ghost use Rattle.jsonc_layout.specs.lines.Indents.{is_some_property, levels_above, levels_among, levels_in, more_of};
 ghost use Rattle.jsonc_layout.specs.lines.Indents.{repeated, single_at, told_by, without_front};
 ghost use Rattle.jsonc_layout.specs.lines.IndentViews.{text_in, texts_of};
 ghost use Rattle.jsonc_layout.specs.lines.Lines.{indent_at};
-ghost use Rattle.jsonc_layout.specs.nodes.Siblings.{IsThere};
+ghost use Rattle.jsonc_layout.specs.nodes.Siblings.{IsThere, siblings_before};
 
 use crate::lines::indent::indent_text;
-use crate::nodes::{children_from, first_element_from, is_property_kind, root_node};
+use crate::nodes::{
+    children_from, first_element_from, is_newline, is_property_kind, is_whitespace,
+    previous_siblings, root_node,
+};
 use jsonc_tree::Tree;
 use std::alloc::{AllocError, Allocator};
 
@@ -181,7 +184,27 @@ fn told_by<A: Allocator + Copy>(
     Ok(None)
 }
 
+// Whether the sibling directly before a node is whitespace that its line begins with.
+fn follows_first_blank<A: Allocator>(tree: &Tree<A>, node: usize) -> bool
+    requires { node < length tree.now.nodes }
+    ensures { result ≡ follows_first_blank tree.now.nodes (siblings_before tree.now.nodes node) }
+{
+    let mut before = previous_siblings(tree, node);
+    let Some(nearest) = before.next() else {
+        return false;
+    };
+    if !is_whitespace(tree, nearest) {
+        return false;
+    }
+    match before.next() {
+        Some(sibling) => is_newline(tree, sibling),
+        None => true,
+    }
+}
+
 // The first indent among the children of a node.
+//
+// It is that of a child directly after its line's first blank: no other child's line is looked at.
 fn first_indent<A: Allocator + Copy>(
     alloc: A,
     tree: &Tree<A>,
@@ -191,6 +214,9 @@ fn first_indent<A: Allocator + Copy>(
     ensures { IfOk result (λ o. text_in o ≡ first_indent_in tree.now.nodes node) }
 {
     for child in children_from(tree, node, 0) {
+        if !follows_first_blank(tree, child) {
+            continue;
+        }
         let text = indent_text(alloc, tree, child)?;
         if text.is_some() {
             return Ok(text);
