@@ -36,7 +36,7 @@ enum Recipe {
 }
 
 /// Each recipe with its name and the texts that it is shown on.
-static RECIPES: [(&str, Recipe, &str); 26] = [
+static RECIPES: [(&str, Recipe, &str); 37] = [
     ("set_font_size", Recipe::SetFontSize, texts::EDITOR),
     ("set_font_size", Recipe::SetFontSize, "{}"),
     ("set_font_size", Recipe::SetFontSize, "{\"editor\": 1}"),
@@ -75,6 +75,17 @@ static RECIPES: [(&str, Recipe, &str); 26] = [
     ("sort_by_name", Recipe::SortWithHeaders, texts::CARRIED),
     ("migrate", Recipe::Migrate, texts::SETTINGS),
     ("migrate", Recipe::Migrate, texts::MIGRATED),
+    ("migrate", Recipe::Migrate, "[{\"colour\": 1}]"),
+    ("migrate", Recipe::Migrate, "{\"colour\": 1, \"theme\": 2}"),
+    ("migrate", Recipe::Migrate, texts::BOTH),
+    ("migrate", Recipe::Migrate, texts::NO_TARGET),
+    ("migrate", Recipe::Migrate, "{}"),
+    ("migrate", Recipe::Migrate, ""),
+    ("migrate", Recipe::Migrate, texts::ONE_LINE),
+    ("migrate", Recipe::Migrate, texts::CR_LF),
+    ("migrate", Recipe::Migrate, texts::WITHIN),
+    ("insert_first", Recipe::InsertFirst, "[1]"),
+    ("insert_first", Recipe::InsertFirst, "{\"theme\": 1}"),
 ];
 
 /// Makes a recipe of a document.

@@ -6,9 +6,12 @@ use jsonc_parser::cst::{
 use std::alloc::Allocator;
 
 type Done = Result<(), EditError>;
-/// Renames a property.
+/// Renames a property, unless one of the new name is there.
 fn rename<A: Allocator + Copy>(doc: &mut CstRootNode<A>, name: &str, to: &str) -> Done {
-    if let Some(property) = doc.object_value_or_set()?.get(doc, name)? {
+    if let Some(settings) = doc.object_value()
+        && let Some(property) = settings.get(doc, name)?
+        && settings.get(doc, to)?.is_none()
+    {
         property.rename(doc, to)?;
     }
     Ok(())
@@ -16,12 +19,30 @@ fn rename<A: Allocator + Copy>(doc: &mut CstRootNode<A>, name: &str, to: &str) -
 
 /// Removes a property of an object, and its comments.
 fn remove<A: Allocator + Copy>(doc: &mut CstRootNode<A>, of: &str, name: &str) -> Done {
-    if let Some(object) = doc.object_value_or_set()?.object_value(doc, of)?
+    if let Some(settings) = doc.object_value()
+        && let Some(object) = settings.object_value(doc, of)?
         && let Some(property) = object.get(doc, name)?
     {
         property.remove_with_comments(doc)?;
     }
     Ok(())
+}
+
+/// The comments of a property, and those in it.
+fn comments<A: Allocator + Copy>(
+    doc: &CstRootNode<A>,
+    of: CstObjectProp,
+) -> Result<Vec<CstComment, A>, EditError> {
+    let mut comments = Vec::new(*doc.allocator());
+    if doc.holds(of.node()) {
+        comments = doc.comments_of(of.node())?;
+        for node in doc.descendants(of.node()) {
+            if let Some(comment) = node.as_comment() {
+                comments.push(comment)?;
+            }
+        }
+    }
+    Ok(comments)
 }
 
 /// Inserts a comment of the document above a property too.
@@ -35,15 +56,16 @@ fn copy<A: Allocator + Copy>(doc: &mut CstRootNode<A>, it: CstComment, to: CstOb
     Ok(())
 }
 
-/// Moves a property from one object to another, and its comments above it.
+/// Moves a property to another object, unless one of its name is there, and its comments above it.
 fn shift<A: Allocator + Copy>(doc: &mut CstRootNode<A>, of: &str, name: &str, to: &str) -> Done {
-    let settings = doc.object_value_or_set()?;
-    if let Some(object) = settings.object_value(doc, of)?
+    if let Some(settings) = doc.object_value()
+        && let Some(object) = settings.object_value(doc, of)?
         && let Some(property) = object.get(doc, name)?
         && let Some(value) = property.to_value(doc)?
+        && let Some(target) = settings.object_value_or_create(doc, to)?
+        && target.get(doc, name)?.is_none()
     {
-        let comments = doc.comments_of(property.node())?;
-        let target = settings.object_value_or_set(doc, to)?;
+        let comments = comments(doc, property)?;
         let moved = target.append(doc, name, value)?;
         for comment in &comments {
             copy(doc, *comment, moved)?;
@@ -58,8 +80,9 @@ pub(crate) fn migrate<A: Allocator + Copy>(doc: &mut CstRootNode<A>) -> Done {
     rename(doc, "colour", "theme")?;
     remove(doc, "editor", "ligatures")?;
     shift(doc, "editor", "fontSize", "terminal")?;
-    let settings = doc.object_value_or_set()?;
-    if settings.get(doc, "version")?.is_none() {
+    if let Some(settings) = doc.object_value()
+        && settings.get(doc, "version")?.is_none()
+    {
         let version = CstInputValue::from_u32(*doc.allocator(), 2)?;
         settings.append(doc, "version", version)?;
     }

@@ -48,11 +48,14 @@ pub(crate) fn add_ruler<A: Allocator + Copy>(doc: &mut CstRootNode<A>) -> Result
     Ok(())
 }
 
-/// Puts a property before the first one.
+/// Puts a property before the first one, unless one of its name is there.
 pub(crate) fn insert_first<A: Allocator + Copy>(doc: &mut CstRootNode<A>) -> Result<(), EditError> {
     let alloc = *doc.allocator();
-    let object = doc.object_value_or_set()?;
-    object.insert(doc, 0, "theme", CstInputValue::from_str(alloc, "dark")?)?;
+    if let Some(object) = doc.object_value_or_create()?
+        && object.get(doc, "theme")?.is_none()
+    {
+        object.insert(doc, 0, "theme", CstInputValue::from_str(alloc, "dark")?)?;
+    }
     Ok(())
 }
 

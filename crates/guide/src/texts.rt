@@ -110,3 +110,36 @@ pub(crate) const MIGRATED: &str = r#"{
   },
   "version": 2
 }"#;
+
+pub(crate) const BOTH: &str = r#"{
+  "colour": "light",
+  "theme": "dark",
+  "editor": {
+    "fontSize": 14 // was 12
+  },
+  "terminal": {
+    "fontSize": 12
+  }
+}"#;
+
+pub(crate) const NO_TARGET: &str = r#"{
+  "colour": "dark",
+  "editor": {
+    "fontSize": 14
+  },
+  "terminal": "xterm"
+}"#;
+
+pub(crate) const ONE_LINE: &str =
+    r#"{"colour": "dark", "editor": {"fontSize": 14, "ligatures": true}}"#;
+
+pub(crate) const CR_LF: &str =
+    "{\r\n  \"colour\": \"dark\",\r\n  \"editor\": {\r\n    \"fontSize\": 14, // was 12\r\n    \"tabSize\": 4\r\n  }\r\n}";
+
+pub(crate) const WITHIN: &str = r#"{
+  "colour" /* a */ : /* b */ "dark", // c
+  "editor": {
+    // d
+    "fontSize" /* e */ : /* f */ 14 // g
+  }
+}"#;

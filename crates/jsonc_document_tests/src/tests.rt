@@ -16,6 +16,7 @@ mod pointers;
 mod raw_edits;
 mod reading;
 mod refusals;
+mod removed_parts;
 mod root_edits;
 mod trees;
 mod typed;

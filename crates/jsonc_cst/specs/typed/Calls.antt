@@ -1,9 +1,9 @@
 -- What the edits of typed nodes make of a document, and what they answer: each record is the one clause of its calls. SetCalls.antt has those that set a value.
-use Rattle.std.specs.Prelude.{◌≡◌, ℕ, None, Option, Result, IfErr, IfNone, IfOk, IfSome, OnErr, OnOk}
+use Rattle.std.specs.Prelude.{◌≡◌, ℕ, false, None, Option, Result, Err, IfErr, IfNone, IfOk, IfSome, IsTrue, OnErr, OnOk}
 use Rattle.jsonc_text.specs.Options.{Options}
 use Rattle.jsonc_text.specs.Plain.{Plain}
 use Rattle.jsonc_text.specs.declared.edit.EditError.{EditError}
-use Rattle.jsonc_text.specs.declared.edit.EditError.TheVariants.{OutOfMemory}
+use Rattle.jsonc_text.specs.declared.edit.EditError.TheVariants.{NotAnEntry, OutOfMemory}
 use Rattle.jsonc_text.specs.declared.edit.TrailingCommaMode.{TrailingCommaMode}
 use Rattle.jsonc_text.specs.declared.edit.TrailingCommaMode.TheVariants.{IfMultiline}
 use Rattle.jsonc_tree.specs.Tree.{parent_at}
@@ -17,7 +17,7 @@ use Rattle.jsonc_cst.specs.typed.Edits.{IsReplacedBy, NodeIsDetached, HasMarked,
 use Rattle.jsonc_cst.specs.typed.Edits.{KeepsDocument, KeepsDocumentOf, Unchanged, HandlesStay}
 use Rattle.jsonc_cst.specs.typed.Inserting.{HasInsertedElement, InsertError, IsItsElement, KeepsOthers}
 use Rattle.jsonc_cst.specs.typed.Lines.{HasSpreadOut, IsOnLines, StaysUnspread}
-use Rattle.jsonc_cst.specs.typed.Removing.{removal_of, EntryCleared, NodeRemoved, IsKeptForMemory, IsKeptIn, IsKeptWithComments, IsLoose}
+use Rattle.jsonc_cst.specs.typed.Removing.{is_name_or_value, removal_of, EntryCleared, NodeRemoved, IsKeptForMemory, IsKeptIn, IsKeptWithComments, IsLoose}
 use Rattle.jsonc_cst.specs.typed.Removing.{RemovalAround, RemovalKeepsDocument, RemovedIsDetached, RemovalWritten}
 use Rattle.jsonc_cst.specs.typed.Steps.{IsHolder, IsRemoving, IsReplacing, IsSettingCommas, IsSettingSomeCommas, IsSpreading, IsValueIn}
 
@@ -47,6 +47,14 @@ pub record IsRemovalWithComments {A : Type 0} (old new : CstRootNode A) (node : 
   pub handles : HandlesStay old new
   pub error : IfErr r (IsKeptWithComments old node)
   pub memory : (o : Options) → IfErr r (IsKeptForMemory old o node)
+  pub kept : OnErr r (Unchanged old new)
+  pub document : OnErr r (tree_of new ≡ tree_of old)
+
+-- So any node has been removed but the name or the value of a property: of these the error is NotAnEntry, before anything has changed. No other node has that error.
+pub record IsEntryRemoval {A : Type 0} (old new : CstRootNode A) (node : CstNode) (r : Result (Unit {0}) EditError) : Type 0 where
+  pub removed : is_name_or_value (nodes_of old) (number_of node) ≡ false → IsRemovalWithComments old new node r
+  pub refused : IsTrue (is_name_or_value (nodes_of old) (number_of node)) → (r ≡ Err NotAnEntry) × IsUntouched old new
+  pub handles : HandlesStay old new
   pub kept : OnErr r (Unchanged old new)
   pub document : OnErr r (tree_of new ≡ tree_of old)
 

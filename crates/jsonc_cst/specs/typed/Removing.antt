@@ -1,11 +1,13 @@
 -- What is removed with a node, by its kind, and why it is not.
-use Rattle.std.specs.Prelude.{◌≡◌, ℕ, ◌+◌, ◌⊎◌, List, [], ◌∷◌, length, Some, None, IsTrue}
+use Rattle.std.specs.Prelude.{◌≡◌, ℕ, ◌+◌, ◌⊎◌, ◌&&◌, Bool, List, [], ◌∷◌, length, Some, None, IsTrue}
 use Rattle.jsonc_text.specs.Options.{Options}
 use Rattle.jsonc_text.specs.Documents.{Document}
 use Rattle.jsonc_tree.specs.Changes.{Splices}
 use Rattle.jsonc_tree.specs.OrderedTree.{ordered_tree}
 use Rattle.jsonc_tree.specs.Tree.{Node, content_at, parent_at, children_at, place_at, IsOver, IsTree}
+use Rattle.jsonc_layout.specs.lines.Indents.{is_some_property}
 use Rattle.jsonc_layout.specs.lines.Kinds.{is_array_or_object}
+use Rattle.jsonc_layout.specs.nodes.Kinds.{is_element_at}
 use Rattle.jsonc_sound.specs.Documents.{Shows}
 use Rattle.jsonc_sound.specs.SoundTrees.{SoundTree}
 use Rattle.jsonc_text.specs.declared.edit.EditError.{EditError}
@@ -158,6 +160,10 @@ module _ {A : Type 0} where
   -- if the node is one of the document, and this sound, only allocation failed
   abbrev pub IsKeptForMemory : CstRootNode A → Options → CstNode → EditError → Type 0
   IsKeptForMemory d o node e = OnlyOutOfMemory o (nodes_of d) (number_of node) e
+
+-- the node is the name or the value of a property: it is in one, and is neither trivia nor a token
+abbrev pub is_name_or_value : List Node → ℕ → Bool
+is_name_or_value ns n = is_element_at ns n && is_some_property ns (parent_at ns n)
 
 -- comments have been removed from a container, if there are any
 abbrev pub AreClearedIfAny : List Node → List Node → ℕ → List ℕ → Type 0

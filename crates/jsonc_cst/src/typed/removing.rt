@@ -8,17 +8,18 @@ ghost use Rattle.jsonc_cst.specs.Nodes.{comment_node, newline_node, object_prop_
 ghost use Rattle.jsonc_cst.specs.Nodes.{array_node, boolean_lit_node, name_node, null_keyword_node, number_lit_node};
 ghost use Rattle.jsonc_cst.specs.Nodes.{object_node, string_lit_node, word_lit_node};
 ghost use Rattle.jsonc_cst.specs.Tree.{NodesAreTree};
-ghost use Rattle.jsonc_cst.specs.typed.Calls.{IsRemoval, IsRemovalWithComments};
+ghost use Rattle.jsonc_cst.specs.typed.Calls.{IsEntryRemoval, IsRemoval, IsRemovalWithComments};
 ghost use Rattle.jsonc_cst.specs.typed.Edits.{NodeIsDetached, IsDetached, IsUntouched, KeepsDocument};
 ghost use Rattle.jsonc_cst.specs.typed.Edits.{KeepsDocumentOf, HandlesStay, NodesStillThere};
 ghost use Rattle.jsonc_cst.specs.declared.typed.removing.Removal.{Removal};
-ghost use Rattle.jsonc_cst.specs.typed.Removing.{removal_of, AreClearedIfAny, NodeRemovedAlone, RemovedAlone};
+ghost use Rattle.jsonc_cst.specs.typed.Removing.{is_name_or_value, removal_of, AreClearedIfAny, NodeRemovedAlone, RemovedAlone};
 
 use crate::cst::{
     CstArray, CstBooleanLit, CstComment, CstContainerNode, CstLeafNode, CstNewline, CstNode,
     CstNullKeyword, CstNumberLit, CstObject, CstObjectProp, CstRootNode, CstStringLit, CstToken,
     CstWhitespace, CstWordLit, EditError, ObjectPropName, TypedNode,
 };
+use jsonc_layout::nodes::{is_element, is_property_kind};
 use jsonc_tree::Tree;
 use std::alloc::Allocator;
 
@@ -118,16 +119,29 @@ fn remove_entry<A: Allocator + Copy, N: TypedNode>(
     removed
 }
 
+// Whether a node is the name or the value of a property.
+fn is_name_or_value<A: Allocator>(tree: &Tree<A>, number: usize) -> bool
+    requires { number < length tree.now.nodes }
+    ensures { result ≡ is_name_or_value tree.now.nodes number }
+{
+    match tree.parent(number) {
+        Some(container) => is_element(tree, number) && is_property_kind(tree.kind(container)),
+        None => false,
+    }
+}
+
 impl CstNode {
     /// Removes it from the document.
     ///
     /// With an element of an array, a property of an object or the document's value are removed the
     /// whitespace and comments directly before it, one comma, and the rest of its line where
     /// nothing else is on that; with a line comment the whitespace directly before it and the
-    /// newline before that. A property's name or value is removed with no comma; a token,
-    /// whitespace or a newline alone; and of the root all its children are. Where two literals
-    /// without quotes would then be directly beside each other, a space is inserted between
-    /// them. `{ "a": 1, "b": 2 }` without `b` is `{ "a": 1 }`.
+    /// newline before that. A token, whitespace or a newline is removed alone; and of the root all
+    /// its children are. Where two literals without quotes would then be directly beside each
+    /// other, a space is inserted between them. `{ "a": 1, "b": 2 }` without `b` is `{ "a": 1 }`.
+    ///
+    /// **A property's name or value is removed without its property, and with no comma: `{"a": 1}`
+    /// without 1 is `{"a":}`, which is no JSON.** Remove the property, its parent.
     ///
     /// If the document is sound, and the node is in an array or object at a path, or is the
     /// document's value, the document is one again, without that entry or that value, and sound. If
@@ -154,15 +168,19 @@ impl CstNode {
     /// other literals and comments stay. A comment stays where a space would be needed in its place, between
     /// two literals without quotes; without `allow_missing_commas` that is none.
     ///
-    /// All else is as [`CstNode::remove`] says; of a node that is no entry it is that. On an error the
-    /// document stays as it was.
+    /// The name and the value of a property are no entries: of these the error is `NotAnEntry`, before
+    /// anything changes. Their parent is the property, which is one. Of any other node that is no
+    /// entry, and in all else, it is as [`CstNode::remove`] says. On an error the document stays as it was.
     pub fn remove_with_comments<A: Allocator + Copy>(
         self,
         doc: &mut CstRootNode<A>,
     ) -> Result<(), EditError>
         requires { HasNode doc.old self }
-        ensures { IsRemovalWithComments doc.old doc.new self result }
+        ensures { IsEntryRemoval doc.old doc.new self result }
     {
+        if is_name_or_value(&doc.tree, self.number()) {
+            return Err(EditError::NotAnEntry);
+        }
         remove_entry(doc, self)
     }
 }

@@ -22,6 +22,8 @@ pub enum At {
     Child(usize),
     /// The child of that at a place.
     Below(usize, usize),
+    /// And the child of that at a place.
+    Within(usize, usize, usize),
 }
 
 /// A text, an entry of it, a comment, and the texts with the comment above the entry and after it: none where a line
@@ -209,6 +211,11 @@ pub fn node_of<A: Allocator>(doc: &CstRootNode<A>, at: At) -> Option<CstNode>
         At::Below(place, below) => {
             let child = child_at(doc, place)?;
             child.child_at_index(doc, below)
+        }
+        At::Within(place, below, within) => {
+            let child = child_at(doc, place)?;
+            let inner = child.child_at_index(doc, below)?;
+            inner.child_at_index(doc, within)
         }
     }
 }

@@ -1,10 +1,10 @@
 -- An entry is taken out, and then its comments.
 use Rattle.std.proofs.Common.{◌≡◌, inl, inr, ℕ, ◌<◌, Bool, true, false, cond, ◌==◌, if◌then◌else◌, filter, IsTrue, ◌++◌, not, List, [], ◌∷◌, length, slice_range, Option, Some, None, Result, Ok, Err, is_ok, IfErr, OnOk, refl, sym, ap, subst, ◌∙◌, arith}
 use Rattle.std.specs.List.{All}
-use Rattle.std.proofs.lemmas.Bool.{cases_Bool}
+use Rattle.std.proofs.lemmas.Bool.{cases_Bool, false≢true}
 use Rattle.std.proofs.lemmas.List.Elements.{All-cons, All-head, All-nil, All-tail, All-weaker}
 use Rattle.jsonc_text.specs.declared.edit.EditError.{EditError}
-use Rattle.jsonc_text.specs.declared.edit.EditError.TheVariants.{OutOfMemory}
+use Rattle.jsonc_text.specs.declared.edit.EditError.TheVariants.{NotAnEntry, OutOfMemory}
 use Rattle.jsonc_tree.specs.Changes.{Splices}
 use Rattle.jsonc_tree.specs.Content as content
 use Rattle.jsonc_tree.specs.Content.{Content, is_container}
@@ -25,8 +25,8 @@ use Rattle.jsonc_cst.specs.declared.typed.removing.Removal.{Removal}
 use Rattle.jsonc_cst.specs.declared.typed.removing.Removal.TheVariants.{Clearing, OfComment, OfElement, OfLeaf}
 use Rattle.jsonc_cst.specs.Document.{nodes_of}
 use Rattle.jsonc_cst.specs.EntryComments.{comment_numbers, comments_around, comments_at, comments_of_part, is_entry_at}
-use Rattle.jsonc_cst.specs.typed.Calls.{IsRemoval, IsRemovalWithComments}
-use Rattle.jsonc_cst.specs.typed.Removing.{removal_of, AreClearedIfAny, CommentsRemoved, EntryCleared, IsDetachedBy, IsKeptIn, IsKeptWithComments, IsLooseFor}
+use Rattle.jsonc_cst.specs.typed.Calls.{IsEntryRemoval, IsRemoval, IsRemovalWithComments}
+use Rattle.jsonc_cst.specs.typed.Removing.{is_name_or_value, removal_of, AreClearedIfAny, CommentsRemoved, EntryCleared, IsDetachedBy, IsKeptIn, IsKeptWithComments, IsLooseFor}
 use Rattle.jsonc_cst.proofs.Family.{number_of-typed, typed_held}
 use Rattle.jsonc_cst.proofs.lemmas.typed.ClearedChains.{steps_made}
 use Rattle.jsonc_cst.proofs.lemmas.typed.Detached.{nobodys}
@@ -265,4 +265,24 @@ module _ {A : Type 0} (old : CstRootNode A) (node : CstNode) where
     memory = λ o. tt;
     kept = tt;
     document = tt;
+  }
+
+  -- the name or the value of a property is refused
+  pub part_refused : is_name_or_value (nodes_of old) (number_of node) ≡ true → IsEntryRemoval old old node (Err NotAnEntry)
+  part_refused part = record {
+    removed = λ other. absurd (let wrong : true ≡ false = sym part ∙ other in cc);
+    refused = λ h. (refl, refl);
+    handles = λ x h. h;
+    kept = record { len = omega arith; content = λ n h. refl; parent = λ n h. refl; children = λ n h. refl };
+    document = refl;
+  }
+
+  -- and any other node is removed
+  pub other_removed : (new : CstRootNode A) (r : Result (Unit {0}) EditError) → is_name_or_value (nodes_of old) (number_of node) ≡ false → IsRemovalWithComments old new node r → IsEntryRemoval old new node r
+  other_removed new r other i = record {
+    removed = λ h. i;
+    refused = λ part. absurd (false≢true (sym other ∙ part));
+    handles = i.handles;
+    kept = i.kept;
+    document = i.document;
   }
