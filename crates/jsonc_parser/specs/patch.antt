@@ -2,6 +2,7 @@ pub mod Pointer
 pub mod Reading
 pub mod References
 pub mod Found
+pub mod Taking
 pub mod Lookups
 pub mod Locations
 pub mod Messages

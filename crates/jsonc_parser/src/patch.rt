@@ -25,6 +25,7 @@ mod pointer;
 mod reading;
 mod reference;
 mod renaming;
+mod taking;
 mod unique;
 mod values;
 

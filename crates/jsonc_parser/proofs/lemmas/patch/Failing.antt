@@ -124,8 +124,8 @@ module _ {A : Type 0} where
   pub moves_no_more : (old mid : CstRootNode A) (from to : List (List ℕ)) (v : Plain) (c : PatchCause A) → MakesWhatShown old (value.remove from) (λ o. Unit {0}) mid → FailsWhatShown mid (value.add to v) c → FailsWhatShown old (value.move from to) c
   moves_no_more old mid from to v c first fails d shown = let f = first d shown tt in unmoved_then from to v d.value f.0.value c f.2.made (fails f.0 f.1)
 
-  pub copies_not : (old : CstRootNode A) (from to : List (List ℕ)) (v : Plain) (c : PatchCause A) → IsOfShown old (λ d. Takes d from v) → FailsWhatShown old (value.add to v) c → FailsWhatShown old (value.copy from to) c
-  copies_not old from to v c takes fails d shown = let t = takes d shown in uncopied_then from to v t.0 d.value c t.1 (fails d shown)
+  pub copies_not : (old : CstRootNode A) (from to : List (List ℕ)) (v : Plain) (c : PatchCause A) → IsOfShown old (λ d. RefersTo d.value from v) → FailsWhatShown old (value.add to v) c → FailsWhatShown old (value.copy from to) c
+  copies_not old from to v c takes fails d shown = uncopied_then from to v v d.value c (takes d shown) (fails d shown)
 
   pub moves_into_itself : (doc : CstRootNode A) (from to names : List (List ℕ)) (n : ℕ) → names ≡ from → LeadsOn from to → (length from ≡ length to → ⊥) → IsOfShown doc (λ d. RefersToNode d (nodes_of doc) names n) → FailsWhatShown doc (value.move from to) causes.IntoItself
   moves_into_itself doc from to names n is (rest, on) longer found d shown =
