@@ -22,6 +22,7 @@ pub mod Comparing
 pub mod Digits
 pub mod Values
 pub mod Applied
+pub mod Within
 pub mod Merging
 pub mod MergePatch
 pub mod MergeCases

@@ -28,6 +28,7 @@ mod renaming;
 mod taking;
 mod unique;
 mod values;
+mod within;
 
 pub use apply::PatchFault;
 pub use location::pointer_of;

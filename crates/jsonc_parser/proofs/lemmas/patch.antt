@@ -41,3 +41,4 @@ pub mod MergePatchCases
 pub mod MergeReads
 pub mod Renaming
 pub mod Taking
+pub mod Within

@@ -42,6 +42,9 @@ pub enum PatchCause<A: Allocator> {
     IntoItself,
     /// The value is not equal to the one that it was tested against.
     NotEqual,
+    /// The document's text would have more bytes than are allowed, as [`Patch::apply_within`](super::Patch::apply_within)
+    /// says.
+    TooLarge,
     /// An edit was refused, or there was no memory.
     Edit(EditError),
 }
@@ -60,6 +63,7 @@ impl<A: Allocator> fmt::Display for PatchCause<A> {
             }
             PatchCause::IntoItself => f.write_str("Value cannot be moved into itself"),
             PatchCause::NotEqual => f.write_str("Value is another"),
+            PatchCause::TooLarge => f.write_str("Document would be larger than allowed"),
             PatchCause::Edit(error) => error.fmt(f),
         }
     }

@@ -78,6 +78,12 @@ module _ {A : Type 0} (old : CstRootNode A) where
       all_last P [] x all = All-head P x [] all
       all_last P (y ∷ xs) x all = all_last P xs x (All-tail P y (xs ++ x ∷ []) all)
 
+  pub patched_first : (mid new : CstRootNode A) (operation : Operation A) (rest : List (Operation A)) → MakesWhatShown old (asked operation) (λ o. FitsIn o operation) mid → PatchesWhatShown mid rest new → PatchesWhatShown old (operation ∷ rest) new
+  patched_first mid new operation rest first more d shown fits =
+      let f = first d shown (All-head (FitsIn d.options) operation rest fits) in
+      let m = more f.0 f.1 (subst (λ (o : Options). All (FitsIn o) rest) (sym f.2.options) (All-tail (FitsIn d.options) operation rest fits)) in
+      (m.0, m.1, record { edits = f.2.edits ++ m.2.edits; edited = joined f.2.edited m.2.edited; options = m.2.options ∙ f.2.options; made = one_made f.2.made m.2.made })
+
   -- one operation is a patch of it alone
   pub patched_once : (new : CstRootNode A) (operation : Operation A) → MakesWhatShown old (asked operation) (λ o. FitsIn o operation) new → PatchesWhatShown old (operation ∷ []) new
   patched_once new operation step = patched_more old new [] operation patched_none step

@@ -166,6 +166,7 @@ module _ {A : Type 0} (doc : CstRootNode A) (from to : List (List ℕ)) where
       go causes.NoTarget f = absurd f
       go causes.IntoItself f = absurd f
       go causes.NotEqual f = absurd f
+      go causes.TooLarge f = absurd f
 
   pub unfound_first : (names : List (List ℕ)) → names ≡ from → (c : PatchCause A) → IsOfShown doc (λ d. IsUnfound d.value names c) → FailsWhatShown doc (value.move from to) c
   unfound_first names is c fails d shown = unmoved from to d.value c (subst (λ l. IsUnfound d.value l c) is (fails d shown))
