@@ -12,7 +12,7 @@ use Rattle.jsonc_text.proofs.Cuts.{byte_length-append}
 use Rattle.jsonc_parser.specs.Places.{walked_by, LineColumnBy}
 use Rattle.jsonc_parser.specs.LineStarts.{AreLineStarts}
 use Rattle.jsonc_parser.proofs.Changes.{Later, later}
-use Rattle.jsonc_parser.proofs.LineWalk.{lines_rise, passed_size, text_start, walked_append}
+use Rattle.jsonc_parser.proofs.LineWalk.{lines_rise, passed_size, place_boundary, text_start, walked_append}
 
 -- the place s is the first of the line k
 pub record IsFirst (w : ℕ → ℕ) (t : List ℕ) (s k : ℕ) : Type 0 where
@@ -183,3 +183,7 @@ module _ (text starts : List ℕ) (u : IsUtf8 text) (a : AreLineStarts (chars te
     | inl less ↦ absurd (omega (arith, some, a.first w (line - 1) (omega (arith, few, some)) p line column x (omega (arith, less, read line start some few e))))
     | inr more ↦ more
   ]
+
+  -- a line begins within the text
+  pub start_within : (i : ℕ) → i < length starts → slice_index starts i ≤ length text
+  start_within i h = (place_boundary (λ k. k) text (slice_index starts i) (i + 1) 1 u (a.begins (λ k. k) i h)).0

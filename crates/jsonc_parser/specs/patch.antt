@@ -19,6 +19,7 @@ pub mod PatchReading
 pub mod PatchMessages
 pub mod FaultMessages
 pub mod Comparing
+pub mod DecimalParts
 pub mod Digits
 pub mod Values
 pub mod Applied

@@ -96,7 +96,7 @@ fn lines_and_columns_have_places(rt: HostRuntime) {
 }
 
 /// Whether the lines of a text, found under an allocator, tell this of a line, a column and a place.
-fn is_indexed<A: Allocator>(
+fn is_indexed<A: Allocator + Copy>(
     alloc: A,
     text: &str,
     line: usize,
@@ -112,7 +112,7 @@ fn is_indexed<A: Allocator>(
 }
 
 /// The same, where the column counts UTF-16 code units.
-fn is_indexed_utf16<A: Allocator>(
+fn is_indexed_utf16<A: Allocator + Copy>(
     alloc: A,
     text: &str,
     line: usize,
@@ -145,13 +145,49 @@ fn line_indexes_tell_the_same(rt: HostRuntime) -> Result<(), Fail> {
 const LINES: &str = "a\nb\nc\nd\ne\nf\ng\nh\ni\nj\nk\nl";
 
 /// Whether the last of these lines is found where it is.
-fn last_line<A: Allocator>(alloc: A) -> Outcome {
+fn last_line<A: Allocator + Copy>(alloc: A) -> Outcome {
     Outcome::of_answer(is_indexed(alloc, LINES, 12, 1, Some(22)), &true)
 }
 
 #[test]
 fn lines_are_refused_in_turn(rt: HostRuntime) -> Result<(), Fail> {
     assert!(rt; is_refused_in_turn(rt.alloc(), |heap| last_line(heap)));
+    Ok(())
+}
+
+/// A line of so many pairs of characters. A pair takes six bytes, and three UTF-16 code units.
+fn pairs(alloc: Global, count: usize) -> Result<String, AllocError> {
+    let mut text = String::new(alloc);
+    for _ in 0..count {
+        text.push_str("é😀")?;
+    }
+    Ok(text)
+}
+
+#[test]
+fn places_of_a_long_line_are_found(rt: HostRuntime) -> Result<(), Fail> {
+    let text = pairs(rt.alloc(), 500)?;
+    let lines = LineIndex::new(rt.alloc(), text.as_str())?;
+    for pair in 0..501usize {
+        let place = pair * 6;
+        let (line, column) = (1, pair * 2 + 1);
+        assert!(rt; lines.line_and_column(place) == Some(LineAndColumn { line, column }));
+        let column = pair * 3 + 1;
+        assert!(rt; lines.line_and_column_utf16(place) == Some(LineAndColumn { line, column }));
+        assert!(rt; lines.line_and_column(place + 1) == None);
+    }
+    Ok(())
+}
+
+/// Whether the end of a text of 90 pairs, one line, is found where it is.
+fn end_of_pairs<A: Allocator + Copy>(alloc: A, text: &str) -> Outcome {
+    Outcome::of_answer(is_indexed(alloc, text, 1, 181, Some(540)), &true)
+}
+
+#[test]
+fn marks_are_refused_in_turn(rt: HostRuntime) -> Result<(), Fail> {
+    let text = pairs(rt.alloc(), 90)?;
+    assert!(rt; is_refused_in_turn(rt.alloc(), |heap| end_of_pairs(heap, text.as_str())));
     Ok(())
 }
 

@@ -1,7 +1,7 @@
 use Rattle.std.proofs.Common.{◌∙◌, ◌∷◌, ◌++◌, [], ap, arith, chars, refl, subst, sym, IsUtf8}
 use Rattle.jsonc_parser.proofs.Changes.{no_chars}
 use Rattle.jsonc_parser.proofs.LineIndexing.{HasFound, found_all, found_char, found_line, found_on, found_start, found_within}
-use Rattle.jsonc_parser.proofs.line_index.LineIndex.new.Goals as goal
+use Rattle.jsonc_parser.proofs.line_index.line_starts.Goals as goal
 
 pub loop-c-init : goal.loop-c-init
 loop-c-init g c = record {
@@ -37,5 +37,5 @@ loop-c-preserved g c =
           (found_on (chars text) _ _ _ x c.ends_line.result c.ends_line.ensures c.if-ends_line.false);
     }
 
-pub invariant_of-result : goal.invariant_of-result
-invariant_of-result g c = (c.utf8.text, found_all _ _ (subst (λ t. HasFound (chars c.args.text.now) t c.loop-c.starts.items) (no_chars _ c.in_default.ensures.steps.0.0) c.loop-c.invariant.found))
+pub returns : goal.returns
+returns g c = found_all _ _ (subst (λ t. HasFound (chars c.args.text.now) t c.loop-c.starts.items) (no_chars _ c.in_default.ensures.steps.0.0) c.loop-c.invariant.found)
