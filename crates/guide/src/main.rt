@@ -25,6 +25,7 @@ enum Recipe {
     InsertFirst,
     RemoveFont,
     RemoveWithComments,
+    RemoveFound,
     SortWithHeaders,
     SortUnderHeaders,
     SetLast,
@@ -36,7 +37,7 @@ enum Recipe {
 }
 
 /// Each recipe with its name and the texts that it is shown on.
-static RECIPES: [(&str, Recipe, &str); 37] = [
+static RECIPES: [(&str, Recipe, &str); 40] = [
     ("set_font_size", Recipe::SetFontSize, texts::EDITOR),
     ("set_font_size", Recipe::SetFontSize, "{}"),
     ("set_font_size", Recipe::SetFontSize, "{\"editor\": 1}"),
@@ -86,6 +87,9 @@ static RECIPES: [(&str, Recipe, &str); 37] = [
     ("migrate", Recipe::Migrate, texts::WITHIN),
     ("insert_first", Recipe::InsertFirst, "[1]"),
     ("insert_first", Recipe::InsertFirst, "{\"theme\": 1}"),
+    ("remove_found", Recipe::RemoveFound, texts::SETTINGS),
+    ("remove_found", Recipe::RemoveFound, "[1]"),
+    ("set_font_size", Recipe::SetFontSize, "[1]"),
 ];
 
 /// Makes a recipe of a document.
@@ -96,6 +100,7 @@ fn make<A: Allocator + Copy>(recipe: Recipe, doc: &mut CstRootNode<A>) -> Result
         Recipe::InsertFirst => recipes::insert_first(doc),
         Recipe::RemoveFont => recipes::remove_font(doc),
         Recipe::RemoveWithComments => recipes::remove_with_comments(doc),
+        Recipe::RemoveFound => recipes::remove_found(doc),
         Recipe::SortWithHeaders => recipes::sort_by_name(doc),
         Recipe::SortUnderHeaders => recipes::sort_under_headers(doc),
         Recipe::SetLast => recipes::set_last_font_size(doc),

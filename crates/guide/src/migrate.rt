@@ -33,13 +33,13 @@ fn comments<A: Allocator + Copy>(
     doc: &CstRootNode<A>,
     of: CstObjectProp,
 ) -> Result<Vec<CstComment, A>, EditError> {
-    let mut comments = Vec::new(*doc.allocator());
-    if doc.holds(of.node()) {
-        comments = doc.comments_of(of.node())?;
-        for node in doc.descendants(of.node()) {
-            if let Some(comment) = node.as_comment() {
-                comments.push(comment)?;
-            }
+    if !doc.holds(of.node()) {
+        return Ok(Vec::new(*doc.allocator()));
+    }
+    let mut comments = doc.comments_of(of.node())?;
+    for node in doc.descendants(of.node()) {
+        if let Some(comment) = node.as_comment() {
+            comments.push(comment)?;
         }
     }
     Ok(comments)

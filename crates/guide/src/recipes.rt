@@ -1,8 +1,8 @@
 //! Recipes that edit a document.
 
 use jsonc_parser::cst::{
-    CstInputValue, CstObjectProp, CstRootNode, Edit, EditError, Over, TrailingCommaMode, TypedNode,
-    run_unsorted,
+    CstContainerNode, CstInputValue, CstObjectProp, CstRootNode, Edit, EditError, Over,
+    TrailingCommaMode, TypedNode, run_unsorted,
 };
 use jsonc_parser::settings::{find_at, set_at, set_last_at};
 use std::alloc::{AllocError, Allocator};
@@ -81,6 +81,20 @@ pub(crate) fn remove_with_comments<A: Allocator + Copy>(
         Some(property) => property.remove_with_comments(doc),
         None => Ok(()),
     }
+}
+
+/// Removes the property whose value is found, with the comments that belong to it.
+pub(crate) fn remove_found<A: Allocator + Copy>(doc: &mut CstRootNode<A>) -> Result<(), EditError> {
+    let alloc = *doc.allocator();
+    let Some(found) = find_at(doc, &path(alloc, &["editor", "fontSize"])?)? else {
+        return Ok(());
+    };
+    if doc.holds(found)
+        && let Some(CstContainerNode::ObjectProp(property)) = found.parent(doc)
+    {
+        property.remove_with_comments(doc)?;
+    }
+    Ok(())
 }
 
 /// Sorts by name; comments above a blank line stay where they are.

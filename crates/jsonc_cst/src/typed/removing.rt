@@ -140,8 +140,9 @@ impl CstNode {
     /// its children are. Where two literals without quotes would then be directly beside each
     /// other, a space is inserted between them. `{ "a": 1, "b": 2 }` without `b` is `{ "a": 1 }`.
     ///
-    /// **A property's name or value is removed without its property, and with no comma: `{"a": 1}`
-    /// without 1 is `{"a":}`, which is no JSON.** Remove the property, its parent.
+    /// **A property's name or value is removed without its property: `{"a": 1}` without 1 is `{"a":}`,
+    /// which is no JSON.** With it are removed the whitespace and comments directly before it, and no
+    /// comma. Remove the property instead, its parent.
     ///
     /// If the document is sound, and the node is in an array or object at a path, or is the
     /// document's value, the document is one again, without that entry or that value, and sound. If
