@@ -15,10 +15,12 @@ use Rattle.jsonc_cst.specs.declared.cst.node.CstNode.{CstNode}
 use Rattle.jsonc_cst.specs.typed.Inserting.{InsertedAt}
 use Rattle.jsonc_cst.specs.typed.Setting.{FindsOrCreates}
 use Rattle.jsonc_cst.specs.typed.Steps.{IsAppending, IsEnsuringRoot}
+use Rattle.jsonc_engine.specs.Argument.{FitsInArray}
 
 -- The document's value is an array, an empty one that was set first where it had none, and v has been inserted after its last element, in these two steps and no
--- more, of which the first may change nothing.
+-- more, of which the first may change nothing. There v is nested no deeper than texts are parsed.
 pub record AppendsLast (v : Plain) (old new : List Node) : Type 0 where
+  pub fits : FitsInArray v
   pub made : List Node
   pub x : CstArray
   pub found : FindsOrCreates old made Array (Some x.number)

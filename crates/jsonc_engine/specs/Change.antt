@@ -14,6 +14,7 @@ use Rattle.jsonc_engine.specs.declared.argument.Change.{Change}
 use Rattle.jsonc_engine.specs.declared.argument.Change.TheVariants.{Append, Drop, Get, Put, Remove, Set, Sort, Stay}
 use Rattle.jsonc_engine.specs.Appending.{AppendsLast}
 use Rattle.jsonc_engine.specs.Argument.{IsArgument, IsPath}
+use Rattle.jsonc_engine.specs.Input.{IsInput}
 use Rattle.jsonc_engine.specs.Command.{Request, check, print, set, append, remove, sort, get, put, drop}
 use Rattle.jsonc_engine.specs.Removal.{LosesFirst}
 use Rattle.jsonc_engine.specs.Setting.{SetsFirst}
@@ -54,7 +55,7 @@ Makes o (drop path) old new = (names : List (List ℕ)) × IsPath path names × 
 abbrev pub MakesIfSound : Options → Request → List Node → List Node → Type 0
 MakesIfSound o request old new = SoundTree o (ordered_tree old 0) → Makes o request old new
 
--- the input is a document of the options, whose nodes are those that it is parsed into, and the output what it prints when the command is done
+-- The input is a document of the options, whose nodes are those that it is parsed into, and the output what it prints when the command is done, which `check` accepts.
 pub record IsMadeOf (o : Options) (request : Request) (input output : List ℕ) : Type 0 where
   pub old : List Node
   pub new : List Node
@@ -63,6 +64,7 @@ pub record IsMadeOf (o : Options) (request : Request) (input output : List ℕ) 
   pub sound : SoundTree o (ordered_tree old 0)
   pub makes : Makes o request old new
   pub prints : printed (ordered_tree new 0) ≡ output
+  pub accepted : IsInput output
 
 -- the input is a document of the options, in whose value one stands at the names of the path; the output is that value as it is printed there, and a line feed
 pub record IsGot (o : Options) (path input output : List ℕ) : Type 0 where
