@@ -6,5 +6,6 @@ pub mod Named
 pub mod Steps
 pub mod Parents
 pub mod EntriesHeld
+pub mod Depth
 pub mod texts
 pub mod promise
