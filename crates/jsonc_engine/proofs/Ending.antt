@@ -3,7 +3,7 @@ use Rattle.std.proofs.Common.{◌≡◌, ℕ, ◌==◌, if◌then◌else◌, Lis
 use Rattle.std.specs.Io.KnownBytes.{Appends}
 use Rattle.jsonc_text.specs.Options.{Options, all_on}
 use Rattle.std.specs.Prelude.{IsErrOf}
-use Rattle.jsonc_text.specs.declared.edit.EditError.TheVariants.{OutOfMemory}
+use Rattle.jsonc_text.specs.declared.edit.EditError.TheVariants.{NestingDepthExceeded, OutOfMemory}
 use Rattle.jsonc_engine.specs.declared.fault.Fault.{Fault}
 use Rattle.jsonc_engine.specs.declared.fault.Fault.TheVariants.{Edit, Input, NotUtf8, Write}
 use Rattle.jsonc_engine.specs.Parser.{ParseError}
@@ -94,6 +94,7 @@ pub of_check : (P : Fault → Type 0) (o : Options) (input : List ℕ) → ((e :
 of_check P o input of_text no_text (Input e) h = of_text e
 of_check P o input of_text no_text NotUtf8 h = no_text
 of_check P o input of_text no_text (Edit OutOfMemory) h = absurd h
+of_check P o input of_text no_text (Edit NestingDepthExceeded) h = absurd h
 of_check P o input of_text no_text _ h = absurd h
 
 -- and no other

@@ -1,7 +1,7 @@
 //! Values put at paths of names, and dropped.
 
 ghost use Rattle.std.specs.Bool.{Decides};
-ghost use Rattle.std.specs.Prelude.{◌≡◌, ◌<◌, ◌∷◌, [], length, true, IfErr, IfOk, IsErrOf, OnErr, OnOk};
+ghost use Rattle.std.specs.Prelude.{◌≡◌, ◌<◌, ◌∷◌, [], length, true, IfErr, IfOk, OnErr, OnOk};
 ghost use Rattle.jsonc_layout.specs.input.Views.{chars_of, plain};
 ghost use Rattle.jsonc_run.specs.Edits.{is_whole, operation_of, unsorted, EditStep};
 ghost use Rattle.jsonc_run.specs.Refusals.{FailsWith};
@@ -182,8 +182,8 @@ fn put<A: Allocator + Copy>(
     ensures one { IfOk result (MakesOneEdit (nodes_of doc.old) (nodes_of doc.new)) }
     ensures fits { OnOk result (FitsAt (names_of names.now) (plain value)) }
     ensures error { IfErr result (FailsToPut (nodes_of doc.old) (names_of names.now) (plain value)) }
-    ensures oom_only_if { IsErrOf result EditError.OutOfMemory
-        → WantsToPut which over (nodes_of doc.old) (names_of names.now) }
+    ensures oom_only_if { IfErr result (λ e. e ≡ EditError.OutOfMemory
+        → WantsToPut which over (nodes_of doc.old) (names_of names.now)) }
     ensures document { OnErr result (tree_of doc.new ≡ tree_of doc.old) }
 {
     // The depth is seen first, before anything is nested or laid out.
@@ -238,8 +238,8 @@ pub fn set_at<A: Allocator + Copy>(
     ensures one { IfOk result (MakesOneEdit (nodes_of doc.old) (nodes_of doc.new)) }
     ensures fits { OnOk result (FitsAt (names_of names.now) (plain value)) }
     ensures error { IfErr result (FailsToPut (nodes_of doc.old) (names_of names.now) (plain value)) }
-    ensures oom_only_if { IsErrOf result EditError.OutOfMemory
-        → WantsToPut First over (nodes_of doc.old) (names_of names.now) }
+    ensures oom_only_if { IfErr result (λ e. e ≡ EditError.OutOfMemory
+        → WantsToPut First over (nodes_of doc.old) (names_of names.now)) }
     ensures document { OnErr result (tree_of doc.new ≡ tree_of doc.old) }
 {
     put(doc, names, value, over, Which::First)
@@ -262,8 +262,8 @@ pub fn set_last_at<A: Allocator + Copy>(
     ensures one { IfOk result (MakesOneEdit (nodes_of doc.old) (nodes_of doc.new)) }
     ensures fits { OnOk result (FitsAt (names_of names.now) (plain value)) }
     ensures error { IfErr result (FailsToPut (nodes_of doc.old) (names_of names.now) (plain value)) }
-    ensures oom_only_if { IsErrOf result EditError.OutOfMemory
-        → WantsToPut Last over (nodes_of doc.old) (names_of names.now) }
+    ensures oom_only_if { IfErr result (λ e. e ≡ EditError.OutOfMemory
+        → WantsToPut Last over (nodes_of doc.old) (names_of names.now)) }
     ensures document { OnErr result (tree_of doc.new ≡ tree_of doc.old) }
 {
     put(doc, names, value, over, Which::Last)
