@@ -11,7 +11,7 @@ use Rattle.jsonc_run.specs.declared.edit.Edit.{Edit}
 use Rattle.jsonc_run.specs.declared.edit.Edit.TheVariants.{Sort}
 use Rattle.jsonc_run.specs.Edits.{PlainEdit, Sorting, operation_of, EditStep, EditSteps}
 use Rattle.jsonc_run.specs.Places.{IsContainerAt}
-use Rattle.jsonc_run.specs.Refusals.{IsLeft, FailsWith}
+use Rattle.jsonc_run.specs.Refusals.{IsLeft, IsTooDeep, FailsWith}
 use Rattle.jsonc_run.specs.promise.Asked.{EditsTheText, StopsInText}
 use Rattle.jsonc_cst.specs.declared.cst.CstRootNode.{CstRootNode}
 use Rattle.jsonc_cst.specs.declared.cst.node.CstNode.{CstNode}
@@ -40,12 +40,13 @@ module _ {C D A : Type 0} (call : Shared C (Bor D × (CstNode × (CstNode × Uni
   IsAsked d (Sort path pin groups) s = IsSorting d path.items pin groups s
   IsAsked d e s = Unit {0}
 
-  -- the edit was made: the operation that it asks for in the old document
+  -- the edit was made: the operation that it asks for in the old document, in which what it writes is not nested too deep
   pub record RunStep (old : CstRootNode A) (e : Edit A) (operation : PlainEdit) (new : CstRootNode A) : Type 0 where
     pub sorting : Sorting
     pub asked : IsAsked old e sorting
     pub is : operation ≡ operation_of sorting e
     pub made : EditStep (nodes_of old) operation (nodes_of new)
+    pub fits : ¬ (IsTooDeep (nodes_of old) operation)
 
   abbrev pub IsRunStep : CstRootNode A → Edit A → CstRootNode A → Type 0
   IsRunStep old e new = (operation : PlainEdit) × RunStep old e operation new

@@ -1,17 +1,18 @@
 -- Why an edit is not made, and what a list of edits has made until then.
-use Rattle.std.specs.Prelude.{◌≡◌, ℕ, true, false, List, [], None, length, Result, IfErr, OnErr, OnOk, IsTrue, chars}
+use Rattle.std.specs.Prelude.{◌≡◌, ◌<◌, ◌+◌, ℕ, true, false, List, [], Option, None, length, Result, IfErr, OnErr, OnOk, IsTrue, chars}
 use Rattle.std.specs.List.{Contains}
 use Rattle.jsonc_tree.specs.Building.{Keeps}
 use Rattle.jsonc_tree.specs.OrderedTree.{ordered_tree}
 use Rattle.jsonc_tree.specs.Tree.{Node}
 use Rattle.jsonc_layout.specs.nodes.Properties.{lacks_name_at, value_at}
 use Rattle.jsonc_text.specs.declared.edit.EditError.{EditError}
-use Rattle.jsonc_text.specs.declared.edit.EditError.TheVariants.{OutOfMemory, MissingName, NoSuchPlace, InvalidComment, LineContinues, NotAnEntry}
+use Rattle.jsonc_text.specs.declared.edit.EditError.TheVariants.{OutOfMemory, MissingName, NoSuchPlace, InvalidComment, LineContinues, NotAnEntry, NestingDepthExceeded}
 use Rattle.jsonc_edit.specs.commas.Commas.{WantsComma}
 use Rattle.jsonc_edit.specs.commenting.Inserting.{IsRefusedFor}
 use Rattle.jsonc_text.specs.declared.edit.Place.{Place}
 use Rattle.jsonc_text.specs.declared.edit.Place.TheVariants.{After}
 use Rattle.jsonc_text.specs.Gaps.{IsComment}
+use Rattle.jsonc_text.specs.Plain.{Plain, around}
 use Rattle.jsonc_tree.specs.Content.{comment}
 use Rattle.jsonc_sound.specs.Lines.{is_line_comment}
 use Rattle.jsonc_edit.specs.commas.InTurn.{holders, AreSetInPart}
@@ -30,7 +31,8 @@ use Rattle.jsonc_text.specs.declared.edit.Shape.{Shape}
 use Rattle.jsonc_insert.specs.named.Named.{EnsureError}
 use Rattle.jsonc_edit.specs.set.Shapes.{is_of}
 use Rattle.jsonc_run.specs.Places.{IsContainerAt, AtPlace, IsFound}
-use Rattle.jsonc_run.specs.Edits.{PlainEdit, remove, remove_comment, clear_root, ensure_root, ensure_value, set_boolean, ensure_multiline, insert_element, append_element, insert_property, append_property, ensure_property, set_commas, set_some_commas, rename_property, insert_comment, place_of, EditStep}
+use Rattle.jsonc_run.specs.Depth.{levels_in, needs_at}
+use Rattle.jsonc_run.specs.Edits.{PlainEdit, replace, remove, remove_comment, set_root, clear_root, replace_property, set_value, ensure_root, ensure_value, set_boolean, ensure_multiline, insert_element, append_element, insert_property, append_property, ensure_property, set_commas, set_some_commas, rename_property, insert_comment, place_of, EditStep}
 
 -- a node stands where the edit is to be made; edits of the root always have their place
 abbrev pub HasItsPlace : List Node → PlainEdit → Type 0
@@ -79,9 +81,14 @@ RefusedAt ns n (rename_property path name) why = RenameError ns n why
 RefusedAt ns n (insert_comment path place text) why = CommentError place ns n text why
 RefusedAt ns n e why = why ≡ OutOfMemory
 
--- why the edit was not made: it has no place, or it is refused there
+-- in what the edit writes at its place, a value would have more than 512 containers and properties around it
+abbrev pub IsTooDeep : List Node → PlainEdit → Type 0
+IsTooDeep ns e = AtPlace ns (place_of e) (λ n. 512 < needs_at ns n e)
+
+-- why the edit was not made: it has no place, or what it writes would be nested too deep, or it is refused there
 abbrev pub FailsWith : List Node → PlainEdit → EditError → Type 0
 FailsWith ns e NoSuchPlace = ¬ (HasItsPlace ns e)
+FailsWith ns e NestingDepthExceeded = IsTooDeep ns e
 FailsWith ns e why = AtPlace ns (place_of e) (λ n. RefusedAt ns n e why)
 
 -- the edit is to insert a text that is no comment
@@ -94,14 +101,29 @@ abbrev pub InsertsLineAfter : PlainEdit → Type 0
 InsertsLineAfter (insert_comment path After text) = IsTrue (is_line_comment (comment text))
 InsertsLineAfter e = ⊥
 
--- Why an edit is refused in a sound document: allocation failed, or the edit has no place, and neither a bracket nor a name is missing. A comment is refused besides
--- that is none, or, after an entry, one that ends with its line.
-abbrev pub MayFailWith : PlainEdit → EditError → Type 0
-MayFailWith e OutOfMemory = Unit {0}
-MayFailWith e NoSuchPlace = Unit {0}
-MayFailWith e InvalidComment = InsertsNoComment e
-MayFailWith e LineContinues = InsertsLineAfter e
-MayFailWith e why = ⊥
+-- how many containers and properties are around a value of what the edit writes, at most, where the document has this value
+abbrev pub needs_in : Option Plain → PlainEdit → ℕ
+needs_in w (replace path v) = levels_in path w + around v
+needs_in w (set_root v) = around v
+needs_in w (replace_property path name v) = levels_in path w + around v
+needs_in w (set_value path v) = levels_in path w + around v
+needs_in w (ensure_value path shape) = levels_in path w
+needs_in w (insert_element path i v) = levels_in path w + (1 + around v)
+needs_in w (append_element path v) = levels_in path w + (1 + around v)
+needs_in w (insert_property path i name v) = levels_in path w + (2 + around v)
+needs_in w (append_property path name v) = levels_in path w + (2 + around v)
+needs_in w (ensure_property path name shape how) = levels_in path w + 2
+needs_in w e = 0
+
+-- Why an edit is refused in a sound document of this value: allocation failed, or the edit has no place, or what it writes would be nested too deep; and neither a
+-- bracket nor a name is missing. A comment is refused besides that is none, or, after an entry, one that ends with its line.
+abbrev pub MayFailWith : Option Plain → PlainEdit → EditError → Type 0
+MayFailWith w e OutOfMemory = Unit {0}
+MayFailWith w e NoSuchPlace = Unit {0}
+MayFailWith w e NestingDepthExceeded = 512 < needs_in w e
+MayFailWith w e InvalidComment = InsertsNoComment e
+MayFailWith w e LineContinues = InsertsLineAfter e
+MayFailWith w e why = ⊥
 
 -- What a refused edit leaves: the document and all nodes that were there as they were; or commas were to be set, and those of the first have been.
 pub data IsLeft (old : List Node) : PlainEdit → List Node → Type 0 where

@@ -1,5 +1,6 @@
 pub mod PlaceLaws
 pub mod Chains
+pub mod Within
 pub mod Asked
 pub mod Steps
 pub mod CommentsCome

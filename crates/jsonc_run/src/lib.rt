@@ -12,7 +12,8 @@
 //! - inserts a comment above the entry at a path, or after it;
 //! - sets the trailing commas of the value at a path and of all below it.
 //!
-//! One that is refused leaves the document as it was, trailing commas aside (`specs/Refusals.antt`).
+//! One that is refused leaves the document as it was, trailing commas aside (`specs/Refusals.antt`). Refused
+//! is also one that would nest a value deeper than texts are parsed.
 //! In a sound document the text that edits make, one after another, is a document again, whose value is
 //! what the same edits make of the old one's, and which is sound (`specs/Written.antt`). Where two literals
 //! without quotes would come to stand directly beside each other, an edit writes a space between them.
@@ -21,6 +22,7 @@
 #![tactic(auto)]
 
 mod at;
+mod depth;
 mod edit;
 pub mod laws;
 mod making;

@@ -1,12 +1,15 @@
 //! Edits that are made.
 
-ghost use Rattle.std.specs.Prelude.{◌≡◌, ◌∷◌, [], false, true, IfErr, None, OnErr, OnOk, chars, length};
+ghost use Rattle.std.specs.Prelude.{◌≡◌, ◌∷◌, [], false, true, IfErr, None, OnErr, OnOk, Option, chars, length};
 ghost use Rattle.jsonc_text.specs.Options.{Options};
+ghost use Rattle.jsonc_text.specs.Plain.{Plain};
 ghost use Rattle.jsonc_tree.specs.OrderedTree.{ordered_tree};
+ghost use Rattle.jsonc_tree.specs.Values.{DocumentValueOf};
 ghost use Rattle.jsonc_run.specs.Edits.{is_sort, operation_of, unsorted, EditStep};
 ghost use Rattle.jsonc_sound.specs.SoundTrees.{SoundTree};
 ghost use Rattle.jsonc_run.specs.Named.{NoSuchPlaceIff};
-ghost use Rattle.jsonc_run.specs.Refusals.{IsAnswer, IsLeft, FailsWith, MayFailWith};
+ghost use Rattle.jsonc_run.specs.Refusals.{IsAnswer, IsLeft, IsTooDeep, FailsWith, MayFailWith};
+ghost use Rattle.jsonc_run.specs.promise.Within.{KeepsWithin};
 ghost use Rattle.jsonc_run.specs.Steps.{MakesSteps};
 
 use crate::at::{
@@ -15,6 +18,7 @@ use crate::at::{
     remove_entry, rename_at, replace_at, replace_property_at, set_boolean_at, set_commas_at,
     set_value, set_value_at,
 };
+use crate::depth::is_too_deep;
 use crate::edit::Edit;
 use jsonc_edit::EditError;
 use jsonc_edit::set::clear_root;
@@ -25,6 +29,9 @@ use std::alloc::Allocator;
 /// they were; of trailing commas that were to be set those of the first arrays and objects may have been.
 /// In a sound document an edit has no place exactly where the document's value has at its path nothing that
 /// it needs, or the document no comment of its number.
+///
+/// It is refused where more than 512 containers and properties would be around a value in what it writes, so
+/// a document that can be parsed can be parsed after it.
 pub fn make<A: Allocator + Copy>(
     alloc: A,
     tree: &mut Tree<A>,
@@ -35,12 +42,18 @@ pub fn make<A: Allocator + Copy>(
     ensures error { IfErr result (FailsWith tree.old.nodes (operation_of unsorted edit.now)) }
     ensures named { (o : Options) → SoundTree o (ordered_tree tree.old.nodes 0)
         → IfErr result (NoSuchPlaceIff o tree.old.nodes (operation_of unsorted edit.now)) }
-    ensures may_fail { (o : Options) → SoundTree o (ordered_tree tree.old.nodes 0)
-        → IfErr result (MayFailWith (operation_of unsorted edit.now)) }
+    ensures may_fail { (o : Options) (w : Option Plain) → SoundTree o (ordered_tree tree.old.nodes 0)
+        → DocumentValueOf o (ordered_tree tree.old.nodes 0) w
+        → IfErr result (MayFailWith w (operation_of unsorted edit.now)) }
+    ensures fits { OnOk result (¬ (IsTooDeep tree.old.nodes (operation_of unsorted edit.now))) }
+    ensures within { OnOk result (KeepsWithin tree.old.nodes (operation_of unsorted edit.now) tree.new.nodes) }
     ensures steps { (o : Options)
         → OnOk result (MakesSteps o tree.old.nodes (operation_of unsorted edit.now ∷ []) tree.new.nodes) }
     ensures left { OnErr result (IsLeft tree.old.nodes (operation_of unsorted edit.now) tree.new.nodes) }
 {
+    if is_too_deep(tree, edit) {
+        return Err(EditError::NestingDepthExceeded);
+    }
     make_by_kind(alloc, tree, edit)
 }
 

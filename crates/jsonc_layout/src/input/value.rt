@@ -6,6 +6,7 @@ ghost use Rattle.jsonc_layout.specs.input.Numbers.{IsAlwaysNumber};
 ghost use Rattle.jsonc_layout.specs.input.Views.{plain, items_plain, members_plain};
 
 mod copies;
+mod depth;
 
 use std::alloc::{AllocError, Allocator};
 

@@ -89,7 +89,9 @@ fn make_all<A: Allocator + Copy, D: DocumentArg<A>, C: Fn(&D, CstNode, CstNode) 
 /// colon. In a sound document there is no place exactly where the document's value has at the path
 /// nothing that the edit needs, or the document no comment of that number. A comment that is to be
 /// inserted is refused too where its text is not one comment, or where it ends with its line and
-/// something follows the entry there.
+/// something follows the entry there. A value that would be nested deeper in the document than
+/// [`CstRootNode::parse`] accepts is refused with [`EditError::NestingDepthExceeded`], so a document
+/// that can be parsed stays one that can.
 ///
 /// If the document is sound, as a parsed one is, and stays so under the edits of single leaves,
 /// then its text after the edits is a document again, whose value is what the same edits make of

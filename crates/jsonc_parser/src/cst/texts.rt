@@ -55,7 +55,7 @@ impl Error for EditTextError {}
 /// It parses the text as [`CstRootNode::parse`] does, makes the edits as [`run`] does, and answers
 /// what the document then prints. All that is outside of what an edit works on stays, byte for byte,
 /// and so do the comments. `compare` says how the elements or properties are ordered that an
-/// edit sorts.
+/// edit sorts. The text that it answers can be parsed again.
 ///
 /// A text that is no document is the error of parsing. Of an edit that failed, the error has its
 /// number in the list, counted from 0, and why it failed.

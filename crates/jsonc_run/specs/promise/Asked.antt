@@ -14,6 +14,7 @@ use Rattle.jsonc_run.specs.declared.edit.Edit.{Edit}
 use Rattle.jsonc_run.specs.Edits.{PlainEdit, operation_of, set_commas, unsorted, Fits}
 use Rattle.jsonc_run.specs.Named.{IsNamed, Asks}
 use Rattle.jsonc_run.specs.Refusals.{MayFailWith}
+use Rattle.jsonc_run.specs.promise.Within.{StaysWithin}
 
 -- what an edit asks for, over plain values; what is sorted comes in this order
 abbrev pub in_order : {A : Type 0} → List ℕ → Edit A → PlainEdit
@@ -30,9 +31,10 @@ pub data EditsTo {A : Type 0} : Document → List (Edit A) → Document → Type
   one_asked : {d m f : Document} {e : Edit A} {es : List (Edit A)} (order : List ℕ) (op : Operation) → HasPlace d e → Asks d.value (in_order order e) op → Run d (op ∷ []) m
       → EditsTo m es f → EditsTo d (e ∷ es) f
 
--- Whatever document the old tree shows: if its options allow what the edits write, the new tree shows one to which the edits lead.
+-- Whatever document the old tree shows: if its options allow what the edits write, the new tree shows one to which the edits lead, and which is nested no deeper than
+-- texts are parsed, if the old one is not.
 abbrev pub EditsTheText : {A : Type 0} → OrderedTree → List (Edit A) → OrderedTree → Type 0
-EditsTheText t edits u = (d : Document) → Shows d t → All (Fits d.options) edits → (e : Document) × Shows e u × EditsTo d edits e
+EditsTheText t edits u = (d : Document) → Shows d t → All (Fits d.options) edits → (e : Document) × Shows e u × EditsTo d edits e × StaysWithin d e
 
 -- of an edit that was refused nothing is done; or, where it was to set trailing commas, some of them are set, or taken away
 pub data IsBegun {A : Type 0} (next : Edit A) : List Operation → Type 0 where
@@ -40,17 +42,18 @@ pub data IsBegun {A : Type 0} (next : Edit A) : List Operation → Type 0 where
   some_commas : (path : List ℕ) {mode : TrailingCommaMode} → operation_of unsorted next ≡ set_commas path mode → IsBegun next (texts.set_commas false path mode ∷ [])
 
 -- The first k edits lead from d to m. The next one was refused, in a sound document, and for want of a place exactly where m has none. What was done of
--- it leads to e.
+-- it leads to e, which is nested no deeper than texts are parsed, if d is not.
 pub record IsStopped {A : Type 0} (d : Document) (edits : List (Edit A)) (k : ℕ) (why : EditError) (e : Document) : Type 0 where
   pub m : Document
   pub made : EditsTo d (take k edits) m
   pub next : Edit A
   pub is_next : slice_get edits k ≡ Some next
-  pub may_fail : MayFailWith (operation_of unsorted next) why
+  pub may_fail : MayFailWith m.value (operation_of unsorted next) why
   pub named : (why ≡ NoSuchPlace) ↔ ¬ (HasPlace m next)
   pub begun : List Operation
   pub is_begun : IsBegun next begun
   pub done : Run m begun e
+  pub within : StaysWithin d e
 
 -- so it is of whatever document the old tree shows
 abbrev pub StopsInText : {A : Type 0} → OrderedTree → List (Edit A) → ℕ → EditError → OrderedTree → Type 0
