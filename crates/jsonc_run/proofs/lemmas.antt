@@ -1,1 +1,2 @@
 pub mod promise
+pub mod depth

@@ -71,7 +71,21 @@ is_nesting_at ns n = is_nesting (content_at ns n)
 abbrev pub nesting_at : List Node → ℕ → ℕ
 nesting_at ns n = count_by (is_nesting_at ns) (upward ns (parent_at ns n))
 
--- how many containers and properties are around a value of what the edit may write, at most, where n is its place
+-- how many containers and properties are around a value of what the edit may write, at most, where the document has this value
+abbrev pub needs_in : Option Plain → PlainEdit → ℕ
+needs_in w (replace path v) = levels_in path w + around v
+needs_in w (set_root v) = around v
+needs_in w (replace_property path name v) = levels_in path w + around v
+needs_in w (set_value path v) = levels_in path w + around v
+needs_in w (ensure_value path shape) = levels_in path w
+needs_in w (insert_element path i v) = levels_in path w + (1 + around v)
+needs_in w (append_element path v) = levels_in path w + (1 + around v)
+needs_in w (insert_property path i name v) = levels_in path w + (2 + around v)
+needs_in w (append_property path name v) = levels_in path w + (2 + around v)
+needs_in w (ensure_property path name shape how) = levels_in path w + 2
+needs_in w e = 0
+
+-- so it is by nodes, where n is its place
 abbrev pub needs_at : List Node → ℕ → PlainEdit → ℕ
 needs_at ns n (replace path v) = nesting_at ns n + around v
 needs_at ns n (set_root v) = around v

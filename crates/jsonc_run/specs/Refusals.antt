@@ -1,5 +1,5 @@
 -- Why an edit is not made, and what a list of edits has made until then.
-use Rattle.std.specs.Prelude.{◌≡◌, ◌<◌, ◌+◌, ℕ, true, false, List, [], Option, None, length, Result, IfErr, OnErr, OnOk, IsTrue, chars}
+use Rattle.std.specs.Prelude.{◌≡◌, ◌<◌, ℕ, true, false, List, [], Option, None, length, Result, IfErr, OnErr, OnOk, IsTrue, chars}
 use Rattle.std.specs.List.{Contains}
 use Rattle.jsonc_tree.specs.Building.{Keeps}
 use Rattle.jsonc_tree.specs.OrderedTree.{ordered_tree}
@@ -12,7 +12,7 @@ use Rattle.jsonc_edit.specs.commenting.Inserting.{IsRefusedFor}
 use Rattle.jsonc_text.specs.declared.edit.Place.{Place}
 use Rattle.jsonc_text.specs.declared.edit.Place.TheVariants.{After}
 use Rattle.jsonc_text.specs.Gaps.{IsComment}
-use Rattle.jsonc_text.specs.Plain.{Plain, around}
+use Rattle.jsonc_text.specs.Plain.{Plain}
 use Rattle.jsonc_tree.specs.Content.{comment}
 use Rattle.jsonc_sound.specs.Lines.{is_line_comment}
 use Rattle.jsonc_edit.specs.commas.InTurn.{holders, AreSetInPart}
@@ -31,8 +31,8 @@ use Rattle.jsonc_text.specs.declared.edit.Shape.{Shape}
 use Rattle.jsonc_insert.specs.named.Named.{EnsureError}
 use Rattle.jsonc_edit.specs.set.Shapes.{is_of}
 use Rattle.jsonc_run.specs.Places.{IsContainerAt, AtPlace, IsFound}
-use Rattle.jsonc_run.specs.Depth.{levels_in, needs_at}
-use Rattle.jsonc_run.specs.Edits.{PlainEdit, replace, remove, remove_comment, set_root, clear_root, replace_property, set_value, ensure_root, ensure_value, set_boolean, ensure_multiline, insert_element, append_element, insert_property, append_property, ensure_property, set_commas, set_some_commas, rename_property, insert_comment, place_of, EditStep}
+use Rattle.jsonc_run.specs.Depth.{needs_at, needs_in}
+use Rattle.jsonc_run.specs.Edits.{PlainEdit, remove, remove_comment, clear_root, ensure_root, ensure_value, set_boolean, ensure_multiline, insert_element, append_element, insert_property, append_property, ensure_property, set_commas, set_some_commas, rename_property, insert_comment, place_of, EditStep}
 
 -- a node stands where the edit is to be made; edits of the root always have their place
 abbrev pub HasItsPlace : List Node → PlainEdit → Type 0
@@ -100,20 +100,6 @@ InsertsNoComment e = ⊥
 abbrev pub InsertsLineAfter : PlainEdit → Type 0
 InsertsLineAfter (insert_comment path After text) = IsTrue (is_line_comment (comment text))
 InsertsLineAfter e = ⊥
-
--- how many containers and properties are around a value of what the edit writes, at most, where the document has this value
-abbrev pub needs_in : Option Plain → PlainEdit → ℕ
-needs_in w (replace path v) = levels_in path w + around v
-needs_in w (set_root v) = around v
-needs_in w (replace_property path name v) = levels_in path w + around v
-needs_in w (set_value path v) = levels_in path w + around v
-needs_in w (ensure_value path shape) = levels_in path w
-needs_in w (insert_element path i v) = levels_in path w + (1 + around v)
-needs_in w (append_element path v) = levels_in path w + (1 + around v)
-needs_in w (insert_property path i name v) = levels_in path w + (2 + around v)
-needs_in w (append_property path name v) = levels_in path w + (2 + around v)
-needs_in w (ensure_property path name shape how) = levels_in path w + 2
-needs_in w e = 0
 
 -- Why an edit is refused in a sound document of this value: allocation failed, or the edit has no place, or what it writes would be nested too deep; and neither a
 -- bracket nor a name is missing. A comment is refused besides that is none, or, after an entry, one that ends with its line.

@@ -2,3 +2,4 @@ pub mod ValueLevels
 pub mod Decimals
 pub mod Spelled
 pub mod Written
+pub mod Depths
