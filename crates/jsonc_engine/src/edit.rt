@@ -16,7 +16,7 @@ use crate::fault::Fault;
 use crate::settings::{drop_setting, put_setting};
 use crate::sort::sort_properties;
 use jsonc_parser::cst::{CstInputValue, CstRootNode, EditError};
-use jsonc_text::MAXIMUM_NESTING;
+use jsonc_walk::context::MAXIMUM_NESTING;
 use std::alloc::Allocator;
 
 /// Takes the first property of a name out of the document's object, with what leaves with it. Where the

@@ -19,7 +19,7 @@ use crate::paths::reached::{Reached, is_in_the_way, reach};
 use crate::paths::which::Which;
 use jsonc_cst::cst::{CstInputValue, CstRootNode, EditError};
 use jsonc_run::{Edit, Over};
-use jsonc_text::MAXIMUM_NESTING;
+use jsonc_walk::context::MAXIMUM_NESTING;
 use std::alloc::Allocator;
 
 // A name, as text of its own.

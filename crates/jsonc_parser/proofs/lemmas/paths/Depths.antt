@@ -8,13 +8,18 @@ use Rattle.jsonc_text.specs.Plain.{Plain, Members, no_members, member, around, m
 use Rattle.jsonc_text.specs.Plain as plain
 use Rattle.jsonc_text.specs.declared.edit.Over.{Over}
 use Rattle.jsonc_layout.specs.input.Views.{chars_of}
+use Rattle.jsonc_text.specs.declared.edit.EditError.TheVariants.{NestingDepthExceeded}
+use Rattle.jsonc_tree.specs.OrderedTree.{ordered_tree}
+use Rattle.jsonc_tree.specs.Tree.{Node, IsTree}
+use Rattle.jsonc_sound.specs.Documents.{Shows}
 use Rattle.jsonc_walk.specs.Refusals.{IsWithin}
-use Rattle.jsonc_run.specs.Depth.{around_in, levels, levels_in, levels_of_member, needs, KeepsDepth}
+use Rattle.jsonc_run.specs.Depth.{around_in, levels, levels_of_member, needs_in}
 use Rattle.jsonc_run.specs.Edits.{PlainEdit}
-use Rattle.jsonc_run.specs.Named.{Asks, entry, sets_root}
-use Rattle.jsonc_run.specs.texts.Edits as texts
-use Rattle.jsonc_run.specs.texts.Edits.{Makes, Operation, Run, none_made, one_made}
-use Rattle.jsonc_run.specs.texts.Paths.{an_object}
+use Rattle.jsonc_run.specs.Named.{Asks}
+use Rattle.jsonc_run.specs.Refusals.{FailsWith}
+use Rattle.jsonc_run.specs.texts.Edits.{Operation, Run}
+use Rattle.jsonc_run.proofs.lemmas.depth.Chains.{run_keeps_depth}
+use Rattle.jsonc_run.proofs.lemmas.depth.Needed.{asked_needs, needs_so}
 use Rattle.jsonc_parser.specs.paths.Calls.{FitsAt}
 use Rattle.jsonc_parser.specs.paths.Found.{names_of}
 use Rattle.jsonc_parser.specs.paths.Positions.{IsDroppedBy, removes, IsPutBy, sets_root as root_set, sets_first, sets_value, appends, replaces, Leads, leads_nowhere, leads_on}
@@ -61,30 +66,23 @@ leads_levels {which} (leads_on {name = name} {names = names} {i = i} {path = pat
     omega (arith, chosen_levels which name x i ms path f, leads_levels l z, around_in_one name (nest names z))
 
 -- what the edit that puts a value at names writes is nested as the value is that is nested at them
-pub put_needs : {which : Which} {v : Plain} {over : Over} {w : Option Plain} {names : List (List ℕ)} {e : PlainEdit} → IsPutBy which v over w names e → (op : Operation) → Asks w e op
-    → needs w op ≡ around (nest names v)
-put_needs {v = v} (root_set {w = None}) op is = ap (needs None) is
-put_needs {v = v} (root_set {w = Some x}) op is = ap (needs (Some x)) is ∙ omega arith
-put_needs sets_first op is = ap (needs None) is
-put_needs {v = v} (sets_value {x = x} l) op is = ap (needs (Some x)) is ∙ leads_levels l v
-put_needs {v = v} (appends front rest {name = name} {path = path} {x = x} l lacks) op (ms, i, stands, far, is) =
+pub put_needs : {which : Which} {v : Plain} {over : Over} {w : Option Plain} {names : List (List ℕ)} {e : PlainEdit} → IsPutBy which v over w names e → needs_in w e ≡ around (nest names v)
+put_needs root_set = refl
+put_needs sets_first = refl
+put_needs {v = v} (sets_value l) = leads_levels l v
+put_needs {v = v} (appends front rest {name = name} {path = path} {x = x} l lacks) =
     let inner : Plain = plain.object (member name (nest rest v) no_members) in
     let entered : levels path x + (2 + around (nest rest v)) ≡ levels path x + around inner = omega (arith, around_in_one name (nest rest v)) in
-    ap (needs (Some x)) is ∙ entered ∙ leads_levels l inner ∙ ap around (sym (nest_on front (name ∷ rest) v))
-put_needs {v = v} (replaces front rest {name = name} {x = x} l non how) op is =
-    ap (needs (Some x)) is ∙ leads_levels l (nest (name ∷ rest) v) ∙ ap around (sym (nest_on front (name ∷ rest) v))
+    entered ∙ leads_levels l inner ∙ ap around (sym (nest_on front (name ∷ rest) v))
+put_needs {v = v} (replaces front rest {name = name} l non how) = leads_levels l (nest (name ∷ rest) v) ∙ ap around (sym (nest_on front (name ∷ rest) v))
 
-pub drop_needs : {w : Option Plain} {names : List (List ℕ)} {e : PlainEdit} → IsDroppedBy w names e → (op : Operation) → Asks w e op → needs w op ≡ 0
-drop_needs {w = w} (removes l) op is = ap (needs w) is
-
-pub put_fits : {which : Which} {v : Plain} {over : Over} {w : Option Plain} {names : List (List ℕ)} {e : PlainEdit} → IsPutBy which v over w names e → (op : Operation) → Asks w e op
-    → FitsAt names v → needs w op ≤ 512
-put_fits {v = v} {names = names} by op asks fits =
+pub put_fits : {which : Which} {v : Plain} {over : Over} {w : Option Plain} {names : List (List ℕ)} {e : PlainEdit} → IsPutBy which v over w names e → FitsAt names v → needs_in w e ≤ 512
+put_fits {v = v} {names = names} by fits =
     let small : around (nest names v) ≤ 512 = fits in
-    omega (arith, put_needs by op asks, small)
+    omega (arith, put_needs by, small)
 
-pub drop_fits : {w : Option Plain} {names : List (List ℕ)} {e : PlainEdit} → IsDroppedBy w names e → (op : Operation) → Asks w e op → needs w op ≤ 512
-drop_fits by op asks = omega (arith, drop_needs by op asks)
+pub drop_fits : {w : Option Plain} {names : List (List ℕ)} {e : PlainEdit} → IsDroppedBy w names e → needs_in w e ≤ 512
+drop_fits (removes l) = omega arith
 
 -- around what is nested: two for each name
 pub around_nest : (names : List (List ℕ)) (v : Plain) → around (nest names v) ≡ 2 * length names + around v
@@ -93,9 +91,12 @@ around_nest (name ∷ names) v = omega (arith, around_nest names v, around_in_on
 
 -- more names than 256 have no room
 pub too_many : {A : Type 0} (names : List (String A)) (v : Plain) → 256 < length names → Decides false (FitsAt (names_of names) v)
-too_many names v many = (λ e. cc, λ fits.
-    let small : around (nest (names_of names) v) ≤ 512 = fits in
-    absurd (omega (arith, many, small, around_nest (names_of names) v, length-map names chars_of)))
+too_many names v many = (
+  λ e. cc,
+  λ fits.
+      let small : around (nest (names_of names) v) ≤ 512 = fits in
+      absurd (omega (arith, many, small, around_nest (names_of names) v, length-map names chars_of)),
+)
 
 -- and what fits at no more has as much less around it
 pub fits_by : {A : Type 0} (names : List (String A)) (v : Plain) (limit : ℕ) (b : Bool) → length names ≤ 256 → limit ≡ 512 - 2 * length names → (b ≡ true) ↔ (around v ≤ limit) → Decides b (FitsAt (names_of names) v)
@@ -113,18 +114,13 @@ pub decided_not : {P : Type 0} (b : Bool) → Decides b P → not b ≡ true →
 decided_not true h e = cc
 decided_not false h e = λ p. (let wrong : false ≡ true = h.1 p in cc)
 
--- what the edit writes is not nested too deep
-abbrev pub IsShallow : Option Plain → PlainEdit → Type 0
-IsShallow w e = (op : Operation) → Asks w e op → needs w op ≤ 512
+-- a document that was within the depth is so after one edit that writes nothing too deep
+pub run_within : {d e : Document} {op : Operation} (asked : PlainEdit) → Asks d.value asked op → Run d (op ∷ []) e → needs_in d.value asked ≤ 512 → IsWithin d.value → IsWithin e.value
+run_within {d} {e} {op} asked asks run small old =
+    within_of e.value (run_keeps_depth 512 run (omega (arith, asked_needs d.value asked op asks, small)) (of_within d.value old))
 
-module _ (keeps : (d : Document) (op : Operation) (e : Document) → KeepsDepth d op e) where
-  -- a document is within the depth that was so before, where what was written is
-  pub makes_within : (d : Document) (op : Operation) (e : Document) → Makes d op e → needs d.value op ≤ 512 → IsWithin d.value → IsWithin e.value
-  makes_within d op e makes fits old = within_of e.value (omega (arith, keeps d op e makes, fits, of_within d.value old))
-
-  run_makes : {d e : Document} {op : Operation} {ops : List Operation} → Run d (op ∷ ops) e → ops ≡ [] → Makes d op e
-  run_makes (one_made one same makes (none_made other)) is = makes
-  run_makes (one_made one same makes (one_made {op = op} {ops = ops} x y z rest)) is = cc
-
-  pub run_within : {d e : Document} {op : Operation} → Run d (op ∷ []) e → needs d.value op ≤ 512 → IsWithin d.value → IsWithin e.value
-  run_within {d} {e} {op} run = makes_within d op e (run_makes run refl)
+-- such an edit is not refused as too deep
+pub refused_deep : (d : Document) (old : List Node) (op : PlainEdit) → IsTree old → Shows d (ordered_tree old 0) → needs_in d.value op ≤ 512 → FailsWith old op NestingDepthExceeded → ⊥
+refused_deep d old op tree shown small failed =
+    let deep : 512 < needs_in d.value op = needs_so d.options old tree d.value shown.value op (λ k. 512 < k) failed in
+    absurd (omega (arith, deep, small))

@@ -25,7 +25,7 @@ root_options : (o : Options) (w : Option Plain) (v : Plain) → options_behind o
 root_options o None v = refl
 root_options o (Some x) v = refl
 
-put_options : (o : Options) {which : Which} {v : Plain} {over : Over} {w : Option Plain} {names : List (List ℕ)} {e : PlainEdit} (op : Operation) → IsPutBy which v over w names e → Asks w e op
+pub put_options : (o : Options) {which : Which} {v : Plain} {over : Over} {w : Option Plain} {names : List (List ℕ)} {e : PlainEdit} (op : Operation) → IsPutBy which v over w names e → Asks w e op
     → options_behind o op ≡ o
 put_options o {v = v} op (sets_root {w = w}) is = ap (options_behind o) is ∙ root_options o w v
 put_options o op sets_first is = ap (options_behind o) is
@@ -38,7 +38,7 @@ nowhere : {d e : Document} {ops : List Operation} → Run d ops e → ops ≡ []
 nowhere (none_made one) is = refl
 nowhere (one_made {op = op} {ops = ops} one same makes rest) is = cc
 
-one_led : {d e : Document} {op : Operation} {ops : List Operation} → Run d (op ∷ ops) e → ops ≡ [] → e.options ≡ options_behind d.options op
+pub one_led : {d e : Document} {op : Operation} {ops : List Operation} → Run d (op ∷ ops) e → ops ≡ [] → e.options ≡ options_behind d.options op
 one_led (one_made one same makes rest) is = ap (λ f. f.options) (sym (nowhere rest is)) ∙ same
 
 read_back : (v : Plain) (over : Over) (names : List (List ℕ)) (old new : List Node) (done : Bool) → PutsWhatShown Last v over names old new done → IsReadThere v names old new done
