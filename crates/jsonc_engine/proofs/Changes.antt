@@ -22,10 +22,10 @@ use Rattle.jsonc_engine.specs.declared.fault.Fault.{Fault}
 use Rattle.jsonc_engine.specs.declared.output.Output.{Output}
 use Rattle.jsonc_engine.specs.declared.fault.Fault.TheVariants.{Edit, NoSetting, NotArray, NotObject, OnTheWay}
 use Rattle.jsonc_engine.specs.Appending.{AppendsIfSound}
-use Rattle.jsonc_engine.specs.Change.{GetsNothing, IsChangeFor, for_check, for_print, for_set, for_append, for_remove, for_sort, for_get, for_put, for_drop, MakesIfSound}
+use Rattle.jsonc_engine.specs.Change.{GetsNothing, HasNumbersOf, IsChangeFor, for_check, for_print, for_set, for_append, for_remove, for_sort, for_get, for_put, for_drop, MakesIfSound}
 use Rattle.jsonc_engine.specs.Command.{Request, check, print, set, append, remove, sort, get, put, drop}
 use Rattle.jsonc_engine.specs.Fault.{EndsAppending, EndsDropping, EndsGetting, EndsOnObject, EndsPutting, EndsSetting, IsFaultOn}
-use Rattle.jsonc_engine.specs.Input.{IsInput}
+use Rattle.jsonc_engine.specs.Input.{IsInputOf}
 use Rattle.jsonc_engine.specs.Output.{IsLeft, output_bytes}
 use Rattle.jsonc_engine.specs.Removal.{LosesIfSound}
 use Rattle.jsonc_engine.specs.Setting.{SetsIfSound}
@@ -197,7 +197,7 @@ module _ {A : Type 0} (o : Options) (change : Change A) (other : GetsNothing cha
   no_get _ _ same (for_get path names is) = other names (sym same)
 
   pub left_by : (request : Request) (input : List ℕ) (old new : List Node) → IsChangeFor request change → printed (ordered_tree old 0) ≡ input → SoundTree o (ordered_tree old 0) → LiesIn o input (ordered_tree old 0)
-      → IsInput (printed (ordered_tree new 0)) → MakesIfSound o request old new → IsLeft o request input (printed (ordered_tree new 0))
+      → (HasNumbersOf o request → IsInputOf o (printed (ordered_tree new 0))) → MakesIfSound o request old new → IsLeft o request input (printed (ordered_tree new 0))
   left_by check input old new is reads sound laid accepted makes = ap (λ (ns : List Node). printed (ordered_tree ns 0)) (makes sound) ∙ reads
   left_by print input old new is reads sound laid accepted makes = ap (λ (ns : List Node). printed (ordered_tree ns 0)) (makes sound) ∙ reads
   left_by (get path) input old new is reads sound laid accepted makes = absurd (no_get path change refl is)

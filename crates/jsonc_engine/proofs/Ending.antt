@@ -10,9 +10,10 @@ use Rattle.jsonc_engine.specs.Parser.{ParseError}
 use Rattle.jsonc_engine.specs.Command.{Request, check, print, set, append, remove, sort, get, put, drop, words_of, writes}
 use Rattle.jsonc_engine.specs.Fault.{IsFaultOn, IsForMemory, TellsOfInput}
 use Rattle.jsonc_engine.specs.Input.{IsInput, IsInputOf}
-use Rattle.jsonc_engine.specs.Output.{IsLeft, Puts}
+use Rattle.jsonc_engine.specs.Output.{IsAccepted, IsLeft, Puts}
 use Rattle.jsonc_engine.proofs.Changes.{of_input}
 use Rattle.jsonc_engine.proofs.FaultTexts.{tells_of_input}
+use Rattle.jsonc_engine.proofs.Nesting.{accepted_again}
 
 -- words name one command: by their number and the first letter of the first
 abbrev first_letter : List ℕ → ℕ
@@ -53,11 +54,12 @@ module _ (known : Option (List ℕ)) (read input : List ℕ) (o : Options) (all 
   pub input_known : IsInputOf o input → IfSome known IsInput
   input_known h = of_input known read IsInput bytes (subst (λ (b : List ℕ). IsInput b) value (subst (λ (p : Options). IsInputOf p input) all h))
 
-  pub puts_known : (r q : Request) → words_of r ≡ words_of q → (a b : Option (List ℕ)) (text : List ℕ) → IsLeft o r input text → Appends a b text → IfSome known (Puts q a b)
-  puts_known r q e a b text left appends =
+  pub puts_known : (r q : Request) → words_of r ≡ words_of q → (a b : Option (List ℕ)) (text : List ℕ) → IsLeft o r input text → IsInputOf o input → Appends a b text → IfSome known (Puts q a b)
+  puts_known r q e a b text left accepted appends =
       let there : IsLeft all_on r read text = subst (λ (i : List ℕ). IsLeft all_on r i text) value (subst (λ (p : Options). IsLeft p r input text) all left) in
       let same = same_request r q e in
-      of_input known read (Puts q a b) bytes (text, subst (λ (p : Request). IsLeft all_on p read text) same there, appends)
+      let again : IsInput read = subst (λ (i : List ℕ). IsInput i) value (subst (λ (p : Options). IsInputOf p input) all accepted) in
+      of_input known read (Puts q a b) bytes (text, subst (λ (p : Request). IsLeft all_on p read text) same there, subst (λ (p : Request). IsAccepted p text) same (accepted_again r read text again there), appends)
 
   pub tells_known : (r q : Request) → words_of r ≡ words_of q → (fault : Fault) → IsFaultOn o r input fault → IfSome known (λ i. TellsOfInput q i fault)
   tells_known r q e fault h =

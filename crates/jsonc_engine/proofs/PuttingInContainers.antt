@@ -132,6 +132,7 @@ module _ (o : Options) (old made : List Node) (tree : IsTree made) (x : CstArray
   appends_last new v fits found first now inserted step = record {
     fits = fits;
     made = made;
+    tree = tree;
     x = x;
     found = found;
     first = first;
@@ -179,6 +180,7 @@ module _ (o : Options) (old made : List Node) (before : IsTree old) (tree : IsTr
     sets_by p named set = record {
       fits = fits;
       made = made;
+      tree = tree;
       x = x;
       found = found;
       first = first;

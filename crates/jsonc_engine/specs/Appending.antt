@@ -6,7 +6,7 @@ use Rattle.jsonc_text.specs.declared.edit.Over.TheVariants.{Keep}
 use Rattle.jsonc_text.specs.declared.edit.Shape.TheVariants.{Array}
 use Rattle.jsonc_tree.specs.Content.{array}
 use Rattle.jsonc_tree.specs.OrderedTree.{ordered_tree}
-use Rattle.jsonc_tree.specs.Tree.{Node, content_at}
+use Rattle.jsonc_tree.specs.Tree.{Node, content_at, IsTree}
 use Rattle.jsonc_layout.specs.nodes.Properties.{value_at}
 use Rattle.jsonc_layout.specs.nodes.Siblings.{elements_at}
 use Rattle.jsonc_sound.specs.SoundTrees.{SoundTree}
@@ -22,6 +22,7 @@ use Rattle.jsonc_engine.specs.Argument.{FitsInArray}
 pub record AppendsLast (v : Plain) (old new : List Node) : Type 0 where
   pub fits : FitsInArray v
   pub made : List Node
+  pub tree : IsTree made
   pub x : CstArray
   pub found : FindsOrCreates old made Array (Some x.number)
   pub first : IsEnsuringRoot old made Array Keep

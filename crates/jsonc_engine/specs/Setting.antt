@@ -6,7 +6,7 @@ use Rattle.jsonc_text.specs.declared.edit.Over.TheVariants.{Keep}
 use Rattle.jsonc_text.specs.declared.edit.Shape.TheVariants.{Object}
 use Rattle.jsonc_tree.specs.Content.{object}
 use Rattle.jsonc_tree.specs.OrderedTree.{ordered_tree}
-use Rattle.jsonc_tree.specs.Tree.{Node, content_at}
+use Rattle.jsonc_tree.specs.Tree.{Node, content_at, IsTree}
 use Rattle.jsonc_layout.specs.nodes.Names.{FirstInObject}
 use Rattle.jsonc_layout.specs.nodes.Properties.{value_at}
 use Rattle.jsonc_layout.specs.nodes.Siblings.{elements_at}
@@ -48,6 +48,7 @@ SetOrAppended name v old new c (Some p) = HasSet v old new c p
 pub record SetsFirst (name : List ℕ) (v : Plain) (old new : List Node) : Type 0 where
   pub fits : FitsAt (name ∷ []) v
   pub made : List Node
+  pub tree : IsTree made
   pub x : CstObject
   pub found : FindsOrCreates old made Object (Some x.number)
   pub first : IsEnsuringRoot old made Object Keep

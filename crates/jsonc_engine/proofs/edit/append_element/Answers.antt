@@ -7,7 +7,7 @@ use Rattle.jsonc_engine.proofs.Nesting.{fits_in_array, too_deep_in_array}
 use Rattle.jsonc_engine.proofs.edit.append_element.Goals as goal
 
 pub returns-then-not-is_within-clause-error : goal.returns-then-not-is_within-clause-error
-returns-then-not-is_within-clause-error g c = λ o sound. too_deep_in_array (plain c.args.value) c.is_within.result c.is_within.ensures c.if-not-is_within.true
+returns-then-not-is_within-clause-error g c = λ o sound. too_deep_in_array (plain c.args.value) (512 - 1) c.is_within.result (omega arith) c.is_within.ensures c.if-not-is_within.true
 
 pub returns-in-Ok-None-clause-error : goal.returns-in-Ok-None-clause-error
 returns-in-Ok-None-clause-error g c = λ o sound.
@@ -17,7 +17,7 @@ pub returns-in-Ok-clause-appended : goal.returns-in-Ok-clause-appended
 returns-in-Ok-clause-appended g c = λ o sound.
     let made = nodes_of c.array_value_or_create.new.self in
     appends_last o (nodes_of c.args.document.now) made c.array_value_or_create.new.self.tree.tree c.in-Ok-Some.array (array_stands (nodes_of c.array_value_or_create.new.self) c.in-Ok-Some.field-0 c.in-Ok-Some.array c.in-Ok-Some.field-0-is c.in-Ok-Some.ensures.is_value)
-    (nodes_of c.append.new.doc) (plain c.args.value) (fits_in_array (plain c.args.value) c.is_within.result c.is_within.ensures c.if-not-is_within.false)
+    (nodes_of c.append.new.doc) (plain c.args.value) (fits_in_array (plain c.args.value) (512 - 1) c.is_within.result (omega arith) c.is_within.ensures c.if-not-is_within.false)
     (said_of c.in-Ok-Some.field-0 c.in-Ok-Some.array (λ (f : Option CstArray). CreatesArray (nodes_of c.args.document.now) made f) c.in-Ok-Some.field-0-is c.in-Ok-Some.ensures.value)
     c.in-Ok-Some.ensures.step c.in-Ok.field-0 c.in-Ok.ensures.put c.in-Ok.ensures.step
 

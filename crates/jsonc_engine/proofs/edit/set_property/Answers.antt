@@ -8,7 +8,7 @@ use Rattle.jsonc_engine.proofs.Nesting.{fits_in_object, too_deep_in_object}
 use Rattle.jsonc_engine.proofs.edit.set_property.Goals as goal
 
 pub returns-then-not-is_within-clause-error : goal.returns-then-not-is_within-clause-error
-returns-then-not-is_within-clause-error g c = λ o sound. too_deep_in_object (chars c.args.name.now) (plain c.args.value) c.is_within.result c.is_within.ensures c.if-not-is_within.true
+returns-then-not-is_within-clause-error g c = λ o sound. too_deep_in_object (chars c.args.name.now) (plain c.args.value) (512 - 2) c.is_within.result (omega arith) c.is_within.ensures c.if-not-is_within.true
 
 pub returns-in-Ok-None-clause-error : goal.returns-in-Ok-None-clause-error
 returns-in-Ok-None-clause-error g c = λ o sound.
@@ -21,7 +21,7 @@ returns-in-Ok-set_value-clause-set g c = λ o sound.
     sets_property o (nodes_of c.args.document.now) (nodes_of document) c.args.document.now.tree.tree c.object_value_or_create.new.self.tree.tree c.in-Ok-Some.object
     (object_stands (nodes_of c.object_value_or_create.new.self) c.in-Ok-Some.field-0 c.in-Ok-Some.object c.in-Ok-Some.field-0-is c.in-Ok-Some.ensures.is_value)
     (said_of c.in-Ok-Some.field-0 c.in-Ok-Some.object (λ (f : Option CstObject). CreatesObject (nodes_of c.args.document.now) (nodes_of document) f) c.in-Ok-Some.field-0-is c.in-Ok-Some.ensures.value)
-    sound (nodes_of c.set_value.new.doc) (chars c.args.name.now) (plain c.args.value) (fits_in_object (chars c.args.name.now) (plain c.args.value) c.is_within.result c.is_within.ensures c.if-not-is_within.false) c.in-Ok-Some.ensures.step
+    sound (nodes_of c.set_value.new.doc) (chars c.args.name.now) (plain c.args.value) (fits_in_object (chars c.args.name.now) (plain c.args.value) (512 - 2) c.is_within.result (omega arith) c.is_within.ensures c.if-not-is_within.false) c.in-Ok-Some.ensures.step
     c.in-Some.property.number c.in-Ok-set_value.field-0 named c.in-Ok-set_value.ensures.set c.in-Ok-set_value.ensures.step
 
 pub returns-in-Ok-append-clause-set : goal.returns-in-Ok-append-clause-set
@@ -31,7 +31,7 @@ returns-in-Ok-append-clause-set g c = λ o sound.
     appends_property o (nodes_of c.args.document.now) (nodes_of document) c.args.document.now.tree.tree c.object_value_or_create.new.self.tree.tree c.in-Ok-Some.object
     (object_stands (nodes_of c.object_value_or_create.new.self) c.in-Ok-Some.field-0 c.in-Ok-Some.object c.in-Ok-Some.field-0-is c.in-Ok-Some.ensures.is_value)
     (said_of c.in-Ok-Some.field-0 c.in-Ok-Some.object (λ (f : Option CstObject). CreatesObject (nodes_of c.args.document.now) (nodes_of document) f) c.in-Ok-Some.field-0-is c.in-Ok-Some.ensures.value)
-    sound (nodes_of c.append.new.doc) (chars c.args.name.now) (plain c.args.value) (fits_in_object (chars c.args.name.now) (plain c.args.value) c.is_within.result c.is_within.ensures c.if-not-is_within.false) c.in-Ok-Some.ensures.step
+    sound (nodes_of c.append.new.doc) (chars c.args.name.now) (plain c.args.value) (fits_in_object (chars c.args.name.now) (plain c.args.value) (512 - 2) c.is_within.result (omega arith) c.is_within.ensures c.if-not-is_within.false) c.in-Ok-Some.ensures.step
     named c.in-Ok-append.field-0 c.in-Ok-append.ensures.put c.in-Ok-append.ensures.step
 
 pub returns-in-Err-append-clause-error : goal.returns-in-Err-append-clause-error

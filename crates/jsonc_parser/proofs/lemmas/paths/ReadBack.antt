@@ -15,7 +15,7 @@ use Rattle.jsonc_run.specs.Named as asked
 use Rattle.jsonc_run.specs.Named.{Asks}
 use Rattle.jsonc_run.specs.texts.Edits.{Operation, Run, none_made, one_made, options_behind}
 use Rattle.jsonc_parser.specs.paths.Calls.{IsReadThere, PutsWhatShown}
-use Rattle.jsonc_parser.specs.paths.Positions.{IsPutBy, sets_root, sets_first, sets_value, appends, replaces}
+use Rattle.jsonc_parser.specs.paths.Positions.{IsDroppedBy, removes, IsPutBy, sets_root, sets_first, sets_value, appends, replaces}
 use Rattle.jsonc_parser.specs.paths.Settings.{At}
 use Rattle.jsonc_parser.specs.declared.paths.which.Which.{Which}
 use Rattle.jsonc_parser.specs.declared.paths.which.Which.TheVariants.{Last}
@@ -32,6 +32,9 @@ put_options o op sets_first is = ap (options_behind o) is
 put_options o op (sets_value l) is = ap (options_behind o) is
 put_options o op (appends front rest l lacks) (ms, i, stands, far, is) = ap (options_behind o) is
 put_options o op (replaces front rest l non how) is = ap (options_behind o) is
+
+pub drop_options : (o : Options) {w : Option Plain} {names : List (List ℕ)} {e : PlainEdit} (op : Operation) → IsDroppedBy w names e → Asks w e op → options_behind o op ≡ o
+drop_options o op (removes l) is = ap (options_behind o) is
 
 -- a list without edits leads nowhere, and one of one edit to a document with the options after it
 nowhere : {d e : Document} {ops : List Operation} → Run d ops e → ops ≡ [] → d ≡ e
