@@ -2,6 +2,7 @@ pub mod Pointer
 pub mod Reading
 pub mod References
 pub mod Found
+pub mod Taking
 pub mod Lookups
 pub mod Locations
 pub mod Messages
@@ -21,6 +22,7 @@ pub mod Comparing
 pub mod Digits
 pub mod Values
 pub mod Applied
+pub mod Within
 pub mod Merging
 pub mod MergePatch
 pub mod MergeCases

@@ -25,8 +25,10 @@ mod pointer;
 mod reading;
 mod reference;
 mod renaming;
+mod taking;
 mod unique;
 mod values;
+mod within;
 
 pub use apply::PatchFault;
 pub use location::pointer_of;

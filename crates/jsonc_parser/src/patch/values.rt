@@ -71,6 +71,7 @@ pub(super) fn elements_in<'b, 'a, A: Allocator>(
 }
 
 // The fault of a name that occurs twice.
+#[inline(never)]
 fn repeated<A: Allocator>(alloc: A, name: &str) -> OperationFault<A>
     ensures { ReportsRepeated (chars name.now) result }
 {
@@ -81,6 +82,7 @@ fn repeated<A: Allocator>(alloc: A, name: &str) -> OperationFault<A>
 }
 
 // Sees that no two properties have one name.
+#[inline(never)]
 pub(super) fn see_names<A: Allocator + Copy>(
     alloc: A,
     properties: &[ObjectProp<'_, A>],
@@ -102,6 +104,7 @@ pub(super) fn see_names<A: Allocator + Copy>(
 }
 
 // A text of its own.
+#[inline(never)]
 fn owned<A: Allocator>(alloc: A, text: &str) -> Result<String<A>, OperationFault<A>>
     ensures text { IfOk result (λ s. string_bytes s ≡ text.now) }
     ensures memory { IfErr result (λ fault. fault ≡ OperationFault.OutOfMemory) }
