@@ -23,6 +23,7 @@ use Rattle.jsonc_run.proofs.NamedPlaces.{tells_unnamed}
 use Rattle.jsonc_run.proofs.Refused.{refused_so}
 use Rattle.jsonc_run.proofs.SoundChain.{makes_steps}
 use Rattle.jsonc_run.proofs.lemmas.promise.Chains.{steps_are_run}
+use Rattle.jsonc_parser.specs.patch.Applied.{IsNoRoom}
 use Rattle.jsonc_parser.specs.paths.Calls.{DropsButForMemory, DropsByOneEdit, PutsUnlessOutOfMemory, PutsByOneEdit}
 use Rattle.jsonc_parser.specs.paths.Positions.{IsDroppedBy, removes, IsPutBy, sets_root, sets_first, sets_value, appends, replaces}
 use Rattle.jsonc_parser.specs.paths.Settings.{nest}
@@ -153,6 +154,15 @@ for_memory d old op InvalidComment tree shown named other small reported = absur
 for_memory d old op LineContinues tree shown named other small reported = absurd (other.1 (refused_so d.options old tree shown.sound d.value shown.value op LineContinues reported))
 for_memory d old op NestingDepthExceeded tree shown named other small reported = absurd (refused_deep d old op tree shown small reported)
 for_memory d old op why tree shown named other small reported = absurd (refused_so d.options old tree shown.sound d.value shown.value op why reported)
+
+-- what is named is refused for memory, or as nested too deep
+pub for_room : (d : Document) (old : List Node) (op : PlainEdit) (why : EditError) → IsTree old → Shows d (ordered_tree old 0) → IsNamed d.value (comment_count (ordered_tree old 0)) op → IsNoRemark op → FailsWith old op why → IsNoRoom why
+for_room d old op OutOfMemory tree shown named other reported = tt
+for_room d old op NestingDepthExceeded tree shown named other reported = tt
+for_room d old op NoSuchPlace tree shown named other reported = absurd ((tells_unnamed old d.options tree shown.sound op NoSuchPlace reported d.value shown.value).0 refl named)
+for_room d old op InvalidComment tree shown named other reported = absurd (other.0 (refused_so d.options old tree shown.sound d.value shown.value op InvalidComment reported))
+for_room d old op LineContinues tree shown named other reported = absurd (other.1 (refused_so d.options old tree shown.sound d.value shown.value op LineContinues reported))
+for_room d old op why tree shown named other reported = absurd (refused_so d.options old tree shown.sound d.value shown.value op why reported)
 
 pub puts_but_for_memory : (which : Which) (d : Document) (v : Plain) (over : Over) (names : List (List ℕ)) (op : PlainEdit) (old : List Node) (why : EditError) → PutsUnlessOutOfMemory which d v over names op old why
 puts_but_for_memory which d v over names op old why tree shown fits by =
