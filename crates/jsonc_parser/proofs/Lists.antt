@@ -13,8 +13,9 @@ use Rattle.jsonc_run.specs.declared.edit.Edit.{Edit}
 use Rattle.jsonc_run.specs.declared.edit.Edit.TheVariants.{Sort}
 use Rattle.jsonc_run.specs.Edits as nodes
 use Rattle.jsonc_run.specs.Edits.{PlainEdit, Sorting, is_sort, operation_of, rearrange, unsorted, EditSteps, EditStep, Fits, IsOfCharacters, Allows}
-use Rattle.jsonc_run.specs.Refusals.{IsLeft, FailsWith}
+use Rattle.jsonc_run.specs.Refusals.{IsLeft, IsTooDeep, FailsWith}
 use Rattle.jsonc_run.proofs.SoundChain.{of_characters, fits_alike}
+use Rattle.jsonc_run.proofs.lemmas.depth.Within.{AllFit, steps_keep}
 use Rattle.jsonc_run.proofs.lemmas.promise.Asked.{Ask, edits_to, none_asks, one_asks, stops_so}
 use Rattle.jsonc_run.proofs.lemmas.promise.Leads.{edits_lead}
 use Rattle.jsonc_cst.specs.declared.cst.CstRootNode.{CstRootNode}
@@ -60,6 +61,7 @@ module _ {A : Type 0} (e : Edit A) (path : Vec ℕ A) (pin groups : Bool) (is : 
       asked = subst (λ (d : Edit A). IsAsked call compare same old d s) (sym is) (subst (λ p. IsSorting call compare same old p pin groups s) same_path sorting);
       is = sort_asks s;
       made = made;
+      fits = λ deep. let none : 512 < 0 = deep.2 in omega (arith, none);
     },
   )
 
@@ -84,14 +86,20 @@ module _ {C D A : Type 0} (call : Shared C (Bor D × (CstNode × (CstNode × Uni
   plainly_asked d s (Sort path pin groups) plain = let wrong : true ≡ false = plain in cc
   plainly_asked d s e plain = tt
 
-  pub plainly_made : {T E : Type 0} (old : CstRootNode A) (e : Edit A) (new : CstRootNode A) (r : Result T E) → is_sort e ≡ false → OnOk r (EditStep (nodes_of old) (operation_of unsorted e) (nodes_of new)) → OnOk r (IsRunStep call compare same old e new)
-  plainly_made old e new (Ok x) plain made = (operation_of unsorted e, record { sorting = unsorted; asked = plainly_asked old unsorted e plain; is = refl; made = made })
-  plainly_made old e new (Err x) plain made = tt
+  pub plainly_made : {T E : Type 0} (old : CstRootNode A) (e : Edit A) (new : CstRootNode A) (r : Result T E) → is_sort e ≡ false → OnOk r (EditStep (nodes_of old) (operation_of unsorted e) (nodes_of new)) → OnOk r (¬ (IsTooDeep (nodes_of old) (operation_of unsorted e)))
+      → OnOk r (IsRunStep call compare same old e new)
+  plainly_made old e new (Ok x) plain made fits = (operation_of unsorted e, record { sorting = unsorted; asked = plainly_asked old unsorted e plain; is = refl; made = made; fits = fits })
+  plainly_made old e new (Err x) plain made fits = tt
 
   -- what edits that were made say of nodes
   pub as_nodes : {old new : CstRootNode A} {es : List (Edit A)} {ops : List PlainEdit} → RunSteps call compare same old es ops new → EditSteps (nodes_of old) ops (nodes_of new)
   as_nodes none_made = nodes.none_made
   as_nodes (first_made is after rest) = nodes.first_made is.made after (as_nodes rest)
+
+  -- none of which writes what would be nested too deep
+  all_fit : {old new : CstRootNode A} {es : List (Edit A)} {ops : List PlainEdit} → (made : RunSteps call compare same old es ops new) → AllFit (as_nodes made)
+  all_fit none_made = tt
+  all_fit (first_made is after rest) = (is.fits, all_fit rest)
 
   -- what they write is characters, and its numbers fit
   pub are_characters : {old new : CstRootNode A} {es : List (Edit A)} {ops : List PlainEdit} → RunSteps call compare same old es ops new → All IsOfCharacters ops
@@ -130,8 +138,9 @@ module _ {C D A : Type 0} (call : Shared C (Bor D × (CstNode × (CstNode × Uni
     operations = ops;
     made = made;
     edited = λ d shown fit.
-        let lead = edits_lead (nodes_of old) (nodes_of new) ops tree (as_nodes made) (are_characters made) d shown (numbers_fit d.options made fit) in
-        (lead.0, lead.1, edits_to (asked_for made) lead.4);
+        let allowed = numbers_fit d.options made fit in
+        let lead = edits_lead (nodes_of old) (nodes_of new) ops tree (as_nodes made) (are_characters made) d shown allowed in
+        (lead.0, lead.1, edits_to (asked_for made) lead.4, steps_keep tree (as_nodes made) (all_fit made) (are_characters made) d lead.0 shown allowed lead.1);
   }
 
   -- the first of them, and why the next was not
@@ -145,7 +154,7 @@ module _ {C D A : Type 0} (call : Shared C (Bor D × (CstNode × (CstNode × Uni
     is_next = is_next;
     error = reported;
     left = left;
-    edited = stops_so (nodes_of old) (nodes_of now) (nodes_of new) es k ops next why tree after (as_nodes made) (are_characters made) (λ o fit. numbers_fit o made fit) (asked_for made) is_next (reported unsorted) (left unsorted);
+    edited = stops_so (nodes_of old) (nodes_of now) (nodes_of new) es k ops next why tree after (as_nodes made) (all_fit made) (are_characters made) (λ o fit. numbers_fit o made fit) (asked_for made) is_next (reported unsorted) (left unsorted);
   }
 
   -- without the comparison, they are what the edits ask for

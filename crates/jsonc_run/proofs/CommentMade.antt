@@ -38,7 +38,7 @@ module _ (ns : List Node) (tree : IsTree ns) (path : List ℕ) (n : ℕ) (place 
 
   pub comment_told : {T : Type 0} (r : Result T EditError) → IfErr r (IsRefusedFor place ns n text) → IfErr r (FailsWith ns (insert_comment path place text))
   comment_told (Ok x) why = tt
-  comment_told (Err e) why = told_at ns (insert_comment path place text) e (λ is. subst (IsRefusedFor place ns n text) is why) (n, at, error_there e why)
+  comment_told (Err e) why = told_at ns (insert_comment path place text) n e (λ Is k. (n, at, k)) (λ k. k) (error_there e why)
 
 -- leaves have come beside it in the row of its container
 pub leaves_come : (old new : List Node) (n c : ℕ) (text : List ℕ) → parent_at old n ≡ Some c → (place : Place) → Comes place old new n text → (i : ℕ) × (contents : List Content) × LeavesCome old new c i contents

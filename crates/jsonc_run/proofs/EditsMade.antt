@@ -1,22 +1,26 @@
 -- Edits that were made: one more of them, and where none can be.
-use Rattle.std.proofs.Common.{◌≡◌, ℕ, List, Option, Some, None, IfSome, IfNone, IfErr, OnOk, OnErr, Result, Ok, Err, length, refl, sym, subst, ◌∙◌}
+use Rattle.std.proofs.Common.{◌≡◌, ℕ, Bool, true, false, if◌then◌else◌, List, Option, Some, None, IfSome, IfNone, IfErr, OnOk, OnErr, Result, Ok, Err, length, refl, sym, subst, ◌∙◌}
 use Rattle.jsonc_tree.specs.Building.{Keeps}
 use Rattle.jsonc_tree.specs.OrderedTree.{ordered_tree}
-use Rattle.jsonc_tree.specs.Tree.{Node, IsTree, parent_at}
+use Rattle.jsonc_tree.specs.Tree.{Node, IsTree, children_at, parent_at}
 use Rattle.jsonc_tree.proofs.Builder.{Keeps-same}
 use Rattle.jsonc_edit.specs.Paths.{FindsExactly, IsAt, LeadsTo, StepsTo, itself, step}
 use Rattle.jsonc_edit.proofs.Uniqueness.{element_parent}
 use Rattle.jsonc_text.specs.declared.edit.Over.{Over}
+use Rattle.jsonc_text.specs.declared.edit.Over.TheVariants as over
 use Rattle.jsonc_text.specs.declared.edit.Shape.{Shape}
 use Rattle.jsonc_text.specs.declared.edit.EditError.{EditError}
-use Rattle.jsonc_text.specs.declared.edit.EditError.TheVariants.{OutOfMemory, NoSuchPlace}
+use Rattle.jsonc_text.specs.declared.edit.EditError.TheVariants.{OutOfMemory, MissingBrackets, NoSuchPlace, NestingDepthExceeded}
 use Rattle.jsonc_edit.specs.Reading.{IsReplaced}
 use Rattle.jsonc_edit.specs.set.RootSet.{FirstValue}
 use Rattle.jsonc_text.specs.Plain.{Plain}
+use Rattle.jsonc_insert.specs.Planned.{has_brackets}
+use Rattle.jsonc_insert.specs.named.Named.{EnsureError}
 use Rattle.jsonc_insert.specs.named.Places.{IsPropertyAt, a_property}
 use Rattle.jsonc_run.specs.Places.{AtPlace}
+use Rattle.jsonc_run.specs.Edits as edits
 use Rattle.jsonc_run.specs.Edits.{PlainEdit, ensure_root, place_of, EditStep, MakesAt, RootSet}
-use Rattle.jsonc_run.specs.Refusals.{as_it_was, HasItsPlace, IsAnswer, FailsWith, RefusedAt, WantsEmpty}
+use Rattle.jsonc_run.specs.Refusals.{as_it_was, HasItsPlace, IsAnswer, IsTooDeep, FailsWith, RefusedAt, WantsEmpty}
 
 -- what a path leads to has a parent
 module _ (ns : List Node) (tree : IsTree ns) where
@@ -59,10 +63,42 @@ none_is r P e h = subst (λ (q : Option ℕ). IfNone q P) e h
 pub nowhere : (ns : List Node) (e : PlainEdit) → ((HasItsPlace ns e) → ⊥) → IsAnswer ns ns e (Err NoSuchPlace)
 nowhere ns e none = record { made = tt; error = none; left = as_it_was (Keeps-same (length ns) ns) refl }
 
+-- what an edit that has its place is refused for there is never that a value would be nested too deep
+no_memory : NestingDepthExceeded ≡ OutOfMemory → ⊥
+no_memory is = cc
+
+no_refusal : (b : Bool) → NestingDepthExceeded ≡ (if b then OutOfMemory else MissingBrackets) → ⊥
+no_refusal true is = cc
+no_refusal false is = cc
+
+never_named : (ns : List Node) (n : ℕ) (name : List ℕ) (shape : Shape) (how : Over) → EnsureError shape how ns n name NestingDepthExceeded → ⊥
+never_named ns n name shape over.Keep k = k
+never_named ns n name shape over.Replace k = k
+
+pub never_deep : (ns : List Node) (n : ℕ) (e : PlainEdit) → RefusedAt ns n e NestingDepthExceeded → ⊥
+never_deep ns n (edits.remove path) k = k
+never_deep ns n (edits.remove_comment number) k = no_memory k.0
+never_deep ns n edits.clear_root k = k
+never_deep ns n (edits.ensure_root shape how) k = no_memory k.0
+never_deep ns n (edits.ensure_value path shape) k = k
+never_deep ns n (edits.set_boolean path b) k = no_memory k.0
+never_deep ns n (edits.ensure_multiline path) k = k
+never_deep ns n (edits.insert_element path i v) k = no_refusal (has_brackets ns (children_at ns n)) k
+never_deep ns n (edits.append_element path v) k = no_refusal (has_brackets ns (children_at ns n)) k
+never_deep ns n (edits.insert_property path i name v) k = no_refusal (has_brackets ns (children_at ns n)) k
+never_deep ns n (edits.append_property path name v) k = no_refusal (has_brackets ns (children_at ns n)) k
+never_deep ns n (edits.ensure_property path name shape how) k = never_named ns n name shape how k
+never_deep ns n (edits.set_commas path mode) k = no_memory k.0
+never_deep ns n (edits.set_some_commas path mode) k = k
+never_deep ns n (edits.rename_property path name) k = k
+never_deep ns n (edits.insert_comment path place text) k = k
+never_deep ns n e k = no_memory k
+
 -- what is refused at its place is not refused for want of one
-pub told_at : (ns : List Node) (e : PlainEdit) (why : EditError) → ¬ (why ≡ NoSuchPlace) → AtPlace ns (place_of e) (λ n. RefusedAt ns n e why) → FailsWith ns e why
-told_at ns e NoSuchPlace other k = absurd (other refl)
-told_at ns e why other k = k
+pub told_at : (ns : List Node) (e : PlainEdit) (n : ℕ) (why : EditError) → ((Is : ℕ → Type 0) → Is n → AtPlace ns (place_of e) Is) → (RefusedAt ns n e NoSuchPlace → ⊥) → RefusedAt ns n e why → FailsWith ns e why
+told_at ns e n NoSuchPlace there never k = absurd (never k)
+told_at ns e n NestingDepthExceeded there never k = absurd (never_deep ns n e k)
+told_at ns e n why there never k = there (λ m. RefusedAt ns m e why) k
 
 -- An edit that was made at its place answers so,
 pub made_there : {old new : List Node} {e : PlainEdit} {x : Unit {0}} → EditStep old e new → IsAnswer old new e (Ok x)
@@ -72,13 +108,17 @@ made_there made = record { made = made; error = tt; left = tt }
 pub refused_there : (old new : List Node) (e : PlainEdit) (n : ℕ) → ((Is : ℕ → Type 0) → Is n → AtPlace old (place_of e) Is) → (RefusedAt old n e NoSuchPlace → ⊥) → (why : EditError) → RefusedAt old n e why
     → Keeps (length old) old new → ordered_tree new 0 ≡ ordered_tree old 0 → IsAnswer old new e (Err why)
 refused_there old new e n there never why k kept same =
-    record { made = tt; error = told_at old e why (λ is. never (subst (RefusedAt old n e) is k)) (there (λ m. RefusedAt old m e why) k); left = as_it_was kept same }
+    record { made = tt; error = told_at old e n why there never k; left = as_it_was kept same }
 
 -- whichever it was,
 pub done_there : (old new : List Node) (e : PlainEdit) (n : ℕ) → ((Is : ℕ → Type 0) → Is n → AtPlace old (place_of e) Is) → (RefusedAt old n e NoSuchPlace → ⊥) → (r : Result (Unit {0}) EditError)
     → OnOk r (MakesAt old n e new) → IfErr r (RefusedAt old n e) → OnErr r (Keeps (length old) old new) → OnErr r (ordered_tree new 0 ≡ ordered_tree old 0) → IsAnswer old new e r
 done_there old new e n there never (Ok x) made k kept same = made_there (there (λ m. MakesAt old m e new) made)
 done_there old new e n there never (Err why) made k kept same = refused_there old new e n there never why k kept same
+
+-- and one that would nest a value too deep,
+pub too_deep : {ns : List Node} {e : PlainEdit} → IsTooDeep ns e → IsAnswer ns ns e (Err NestingDepthExceeded)
+too_deep {ns} {e} deep = record { made = tt; error = deep; left = as_it_was (Keeps-same (length ns) ns) refl }
 
 -- and one that was not found
 pub not_found : {ns : List Node} {e : PlainEdit} (found : Option ℕ) (R : ℕ → Type 0) → FindsExactly found R → (HasItsPlace ns e → (n : ℕ) × R n) → ((n : ℕ) → found ≡ Some n → ⊥) → IsAnswer ns ns e (Err NoSuchPlace)

@@ -24,3 +24,4 @@ pub mod Parents
 pub mod DetachedNodes
 pub mod Calls
 pub mod lemmas
+pub mod Rooms

@@ -22,7 +22,7 @@ use Rattle.jsonc_edit.specs.Changes.{top_at}
 use Rattle.jsonc_edit.specs.Paths as paths
 use Rattle.jsonc_edit.specs.Paths.{IsAt, LeadsTo, StepsTo}
 use Rattle.jsonc_text.specs.declared.edit.EditError.{EditError}
-use Rattle.jsonc_text.specs.declared.edit.EditError.TheVariants.{NoSuchPlace}
+use Rattle.jsonc_text.specs.declared.edit.EditError.TheVariants.{NoSuchPlace, NestingDepthExceeded}
 use Rattle.jsonc_edit.proofs.FittingNodes.{over_there}
 use Rattle.jsonc_edit.proofs.OneValue.{document_once}
 use Rattle.jsonc_edit.proofs.ShapedPlaces.{at_further}
@@ -35,6 +35,7 @@ use Rattle.jsonc_insert.proofs.lemmas.elements.Members.{members_counted}
 use Rattle.jsonc_insert.specs.named.Places.{IsPropertyAt, a_property}
 use Rattle.jsonc_insert.proofs.lemmas.named.PathValues.{gives_way_to_itself, value_at_path}
 use Rattle.jsonc_insert.proofs.lemmas.named.PropertyValues.{value_held}
+use Rattle.jsonc_run.specs.Depth.{needs_at}
 use Rattle.jsonc_run.specs.Edits.{PlainEdit, place_of}
 use Rattle.jsonc_run.specs.Named.{StandsAt, HasValueAt, HasBooleanAt, HasArrayAt, HasObjectAt, HasContainerAt, HasPropertyAt, IsThere, comment_count, PlacesAreNamed, NoSuchPlaceIff}
 use Rattle.jsonc_edit.specs.Comments.{comment_at}
@@ -229,6 +230,7 @@ module _ (ns : List Node) where
   -- whatever else is told of an edit, it has its place
   no_place : (e : PlainEdit) (why : EditError) → FailsWith ns e why → ¬ (HasItsPlace ns e) → why ≡ NoSuchPlace
   no_place e NoSuchPlace k none = refl
+  no_place e NestingDepthExceeded k none = absurd (none (at_found ns (place_of e) (λ n. 512 < needs_at ns n e) k))
   no_place e why k none = absurd (none (at_found ns (place_of e) (λ n. RefusedAt ns n e why) k))
 
   -- so that it has none is told where none is named

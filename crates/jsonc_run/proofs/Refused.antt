@@ -1,8 +1,9 @@
 -- In a sound document no edit is refused for a bracket or a name: arrays and objects have their brackets, and properties their names.
-use Rattle.std.proofs.Common.{◌≡◌, ℕ, true, not, IsTrue, List, [], Some, Result, Ok, Err, IfErr, refl, sym, ap, subst, ◌∙◌}
+use Rattle.std.proofs.Common.{◌≡◌, ◌<◌, ℕ, true, not, IsTrue, List, [], Option, Some, Result, Ok, Err, IfErr, refl, sym, ap, subst, ◌∙◌}
 use Rattle.std.proofs.lemmas.Bool.{false≢true}
 use Rattle.jsonc_text.specs.Options.{Options}
 use Rattle.jsonc_text.proofs.Basics.{and_both}
+use Rattle.jsonc_text.specs.Plain.{Plain}
 use Rattle.jsonc_tree.specs.Content.{comment}
 use Rattle.jsonc_sound.specs.Lines.{is_line_comment}
 use Rattle.jsonc_text.specs.declared.edit.Place.{Place}
@@ -11,13 +12,14 @@ use Rattle.jsonc_edit.specs.commenting.Behind.{may_end_line}
 use Rattle.jsonc_edit.specs.commenting.Inserting.{runs_on}
 use Rattle.jsonc_tree.specs.OrderedTree.{ordered_tree}
 use Rattle.jsonc_tree.specs.Tree.{Node, content_at, IsTree}
+use Rattle.jsonc_tree.specs.Values.{DocumentValueOf}
 use Rattle.jsonc_layout.specs.nodes.Properties.{lacks_name_at, value_by}
 use Rattle.jsonc_layout.specs.lines.Kinds.{is_array_or_object}
 use Rattle.jsonc_sound.specs.SoundTrees.{SoundTree}
 use Rattle.jsonc_text.specs.declared.edit.Over.{Over}
 use Rattle.jsonc_text.specs.declared.edit.Shape.{Shape}
 use Rattle.jsonc_text.specs.declared.edit.EditError.{EditError}
-use Rattle.jsonc_text.specs.declared.edit.EditError.TheVariants.{OutOfMemory, MissingBrackets, MissingName, NoSuchPlace, LineContinues}
+use Rattle.jsonc_text.specs.declared.edit.EditError.TheVariants.{OutOfMemory, MissingBrackets, MissingName, NoSuchPlace, LineContinues, NestingDepthExceeded}
 use Rattle.jsonc_edit.specs.Paths as paths
 use Rattle.jsonc_edit.specs.Paths.{IsAt, IsElementOf, LeadsTo}
 use Rattle.jsonc_edit.proofs.Uniqueness.{element_parent}
@@ -35,21 +37,23 @@ use Rattle.jsonc_insert.specs.named.Places.{IsPropertyAt, a_property}
 use Rattle.jsonc_run.specs.Places.{IsArrayAt, IsContainerAt, IsEntryAt, IsObjectAt, an_entry, in_array, in_object, the_value, AtPlace}
 use Rattle.jsonc_run.specs.Refusals.{CommentError, FailsWith, IsUnset, RefusedAt, MayFailWith}
 use Rattle.jsonc_insert.proofs.lemmas.named.PropertyValues.{held_by_name, value_held}
+use Rattle.jsonc_run.proofs.lemmas.depth.Needed.{needs_so}
 
 -- a comment that would take the rest of a line ends with it
-line_after : (ns : List Node) (path : List ℕ) (n : ℕ) (place : Place) (text : List ℕ) → IsTrue (runs_on place ns n text) → MayFailWith (insert_comment path place text) LineContinues
-line_after ns path n Above text k = false≢true k
-line_after ns path n After text k = (and_both (is_line_comment (comment text)) (not (may_end_line ns n)) k).0
+line_after : (ns : List Node) (w : Option Plain) (path : List ℕ) (n : ℕ) (place : Place) (text : List ℕ) → IsTrue (runs_on place ns n text) → MayFailWith w (insert_comment path place text) LineContinues
+line_after ns w path n Above text k = false≢true k
+line_after ns w path n After text k = (and_both (is_line_comment (comment text)) (not (may_end_line ns n)) k).0
 
-comment_may : (ns : List Node) (path : List ℕ) (n : ℕ) (place : Place) (text : List ℕ) (why : EditError) → CommentError place ns n text why → MayFailWith (insert_comment path place text) why
-comment_may ns path n place text OutOfMemory k = tt
-comment_may ns path n place text NoSuchPlace k = tt
-comment_may ns path n place text LineContinues k = line_after ns path n place text k
-comment_may ns path n place text why k = k
+comment_may : (ns : List Node) (w : Option Plain) (path : List ℕ) (n : ℕ) (place : Place) (text : List ℕ) (why : EditError) → CommentError place ns n text why → MayFailWith w (insert_comment path place text) why
+comment_may ns w path n place text OutOfMemory k = tt
+comment_may ns w path n place text NoSuchPlace k = tt
+comment_may ns w path n place text NestingDepthExceeded k = absurd k
+comment_may ns w path n place text LineContinues k = line_after ns w path n place text k
+comment_may ns w path n place text why k = k
 
 -- and an edit may be refused for memory
-memory_may : (e : PlainEdit) (why : EditError) → why ≡ OutOfMemory → MayFailWith e why
-memory_may e why is = subst (MayFailWith e) (sym is) tt
+memory_may : (w : Option Plain) (e : PlainEdit) (why : EditError) → why ≡ OutOfMemory → MayFailWith w e why
+memory_may w e why is = subst (MayFailWith w e) (sym is) tt
 
 module _ (o : Options) (ns : List Node) (tree : IsTree ns) (sound : SoundTree o (ordered_tree ns 0)) where
   -- an entry of an array or object at a path stands between brackets
@@ -113,19 +117,21 @@ module _ (o : Options) (ns : List Node) (tree : IsTree ns) (sound : SoundTree o 
 
   ruleset refusals = (entry_memory, lines_memory, value_memory, name_memory, array_memory, object_memory, named_memory)
 
-  -- what has its place is refused for memory alone, or it is a comment
-  may_fail : (e : PlainEdit) (why : EditError) → AtPlace ns (place_of e) (λ n. RefusedAt ns n e why) → MayFailWith e why
-  may_fail (insert_comment path place text) why (n, at, k) = comment_may ns path n place text why k
-  may_fail e why k = memory_may e why (search refusals)
+  module _ (w : Option Plain) (value : DocumentValueOf o (ordered_tree ns 0) w) where
+    -- what has its place is refused for memory alone, or it is a comment
+    may_fail : (e : PlainEdit) (why : EditError) → AtPlace ns (place_of e) (λ n. RefusedAt ns n e why) → MayFailWith w e why
+    may_fail (insert_comment path place text) why (n, at, k) = comment_may ns w path n place text why k
+    may_fail e why k = memory_may w e why (search refusals)
 
-  -- so it may be, or it has no place
-  pub refused_so : (e : PlainEdit) (why : EditError) → FailsWith ns e why → MayFailWith e why
-  refused_so e NoSuchPlace k = tt
-  refused_so e why k = may_fail e why k
+    -- so it may be, or it has no place, or what it writes would be nested too deep
+    pub refused_so : (e : PlainEdit) (why : EditError) → FailsWith ns e why → MayFailWith w e why
+    refused_so e NoSuchPlace k = tt
+    refused_so e NestingDepthExceeded k = needs_so o ns tree w value e (λ n. 512 < n) k
+    refused_so e why k = may_fail e why k
 
-  pub answer_refused : {T : Type 0} (e : PlainEdit) (r : Result T EditError) → IfErr r (FailsWith ns e) → IfErr r (MayFailWith e)
-  answer_refused e (Ok x) k = tt
-  answer_refused e (Err why) k = refused_so e why k
+    pub answer_refused : {T : Type 0} (e : PlainEdit) (r : Result T EditError) → IfErr r (FailsWith ns e) → IfErr r (MayFailWith w e)
+    answer_refused e (Ok x) k = tt
+    answer_refused e (Err why) k = refused_so e why k
 
 -- what edits that were made leave is a tree
 pub made_tree : {old new : List Node} {es : List PlainEdit} → IsTree old → EditSteps old es new → IsTree new

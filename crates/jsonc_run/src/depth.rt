@@ -1,6 +1,6 @@
 //! How deep what an edit writes is nested in a document.
 
-ghost use Rattle.std.specs.Prelude.{◌≡◌, ◌<◌, ◌≤◌, ◌+◌, ◌↔◌, ℕ, Some, true, length};
+ghost use Rattle.std.specs.Prelude.{◌≡◌, ◌<◌, ◌+◌, ◌↔◌, ℕ, IfNone, IfSome, Some, true, length};
 ghost use Rattle.jsonc_text.specs.Plain.{around};
 ghost use Rattle.jsonc_tree.specs.Stored.{content_of};
 ghost use Rattle.jsonc_layout.specs.input.Views.{plain};
@@ -24,45 +24,49 @@ fn is_nesting<A: Allocator>(kind: &Kind<A>) -> bool
     matches!(kind, Kind::Array(_) | Kind::Object(_) | Kind::Property(_))
 }
 
-// How many of the nodes above a node are arrays, objects and properties.
-fn nesting<A: Allocator>(tree: &Tree<A>, node: usize) -> usize
+// How many more containers and properties may be around a value there, where a node has no more than may be
+// around one above it.
+fn room_at<A: Allocator>(tree: &Tree<A>, node: usize) -> Option<usize>
     requires { node < length tree.now.nodes }
-    ensures { result ≡ nesting_at tree.now.nodes node }
+    ensures room { IfSome result (λ room. nesting_at tree.now.nodes node + room ≡ 512) }
+    ensures none { IfNone result (512 < nesting_at tree.now.nodes node) }
 {
-    let mut count = 0;
+    let mut room = MAXIMUM_NESTING;
     let mut next = tree.parent(node);
     while let Some(above) = next {
         next = tree.parent(above);
-        if is_nesting(tree.kind(above)) {
-            count += 1;
+        if !is_nesting(tree.kind(above)) {
+            continue;
         }
+        if room == 0 {
+            return None;
+        }
+        room -= 1;
     }
-    count
+    Some(room)
 }
 
-// Whether a value is too deep, where so many containers and properties are around it.
-fn is_deep_in<A: Allocator>(around: usize, value: &CstInputValue<A>) -> bool
-    ensures { (result ≡ true) ↔ 512 < around + around (plain value.now) }
-{
-    around > MAXIMUM_NESTING || !value.is_within(MAXIMUM_NESTING - around)
-}
-
-// Whether it is, where it is put so many levels below the node that was found.
+// Whether a value is nested too deep where it is put so many levels below the node that was found.
 fn is_deep_below<A: Allocator>(
     tree: &Tree<A>,
     found: Option<usize>,
     levels: usize,
     value: &CstInputValue<A>,
 ) -> bool
-    requires in_tree { IsThere tree.now.nodes found }
-    requires levels { levels ≤ 2 }
+    requires { IsThere tree.now.nodes found }
     ensures { (result ≡ true)
         ↔ ((n : ℕ) × (found ≡ Some n) × (512 < nesting_at tree.now.nodes n + (levels + around (plain value.now)))) }
 {
-    match found {
-        Some(node) => is_deep_in(nesting(tree, node) + levels, value),
-        None => false,
+    let Some(node) = found else {
+        return false;
+    };
+    let Some(room) = room_at(tree, node) else {
+        return true;
+    };
+    if room < levels {
+        return true;
     }
+    !value.is_within(room - levels)
 }
 
 /// Whether a value in what an edit writes would have more than 512 containers and properties around it.
@@ -72,7 +76,7 @@ pub(crate) fn is_too_deep<A: Allocator>(tree: &Tree<A>, edit: &Edit<A>) -> bool
     let empty = CstInputValue::Null;
     match edit {
         Edit::Replace(path, value) => is_deep_below(tree, find(tree, path), 0, value),
-        Edit::SetRoot(value) => is_deep_in(0, value),
+        Edit::SetRoot(value) => !value.is_within(MAXIMUM_NESTING),
         Edit::ReplaceProperty(path, _, value) | Edit::SetValue(path, value) => {
             is_deep_below(tree, find_property(tree, path), 1, value)
         }

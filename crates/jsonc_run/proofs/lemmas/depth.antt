@@ -5,3 +5,4 @@ pub mod Nodes
 pub mod Needed
 pub mod Values
 pub mod Edits
+pub mod Within

@@ -1,5 +1,5 @@
 -- What edits ask for, in the words of texts; and where they stop.
-use Rattle.std.proofs.Common.{◌≡◌, ◌↔◌, ◌∙◌, ℕ, false, List, [], ◌∷◌, Option, Some, length, take, refl, sym, ap, subst}
+use Rattle.std.proofs.Common.{◌≡◌, ◌↔◌, ◌∙◌, ℕ, false, List, [], ◌∷◌, Option, Some, length, take, refl, sym, ap, subst, arith}
 use Rattle.std.specs.List.{slice_get, All}
 use Rattle.std.proofs.lemmas.List.Elements.{All-nil, All-cons}
 use Rattle.jsonc_text.specs.Options.{Options}
@@ -24,6 +24,8 @@ use Rattle.jsonc_run.proofs.NamedPlaces.{tells_unnamed}
 use Rattle.jsonc_run.proofs.Refused.{made_tree, refused_so}
 use Rattle.jsonc_run.specs.promise.Asked.{in_order, EditsTo, none_asked, one_asked, IsBegun, nothing, some_commas, StopsInText}
 use Rattle.jsonc_run.specs.promise.Chains.{NamedRun, none_named, one_named}
+use Rattle.jsonc_run.specs.promise.Within.{StaysWithin}
+use Rattle.jsonc_run.proofs.lemmas.depth.Within.{AllFit, run_stays, steps_keep}
 use Rattle.jsonc_text.specs.Plain.{Plain}
 use Rattle.jsonc_run.proofs.lemmas.promise.Leads.{edits_lead, shown_are_documents}
 use Rattle.jsonc_run.proofs.lemmas.promise.Commenting.{comments_counted}
@@ -63,20 +65,22 @@ record IsLeftSo {A : Type 0} (next : Edit A) (m : Document) (new : List Node) : 
   begun : List Operation
   is_begun : IsBegun next begun
   done : Run m begun e
+  within : StaysWithin m e
 
 left_so : {A : Type 0} (now new : List Node) (next : Edit A) (op : PlainEdit) (m : Document) → IsTree now → IsTree new → Shows m (ordered_tree now 0) → operation_of unsorted next ≡ op → IsLeft now op new → IsLeftSo next m new
 left_so now new next _ m tree after shown asked (as_it_was kept same) =
-    record { e = m; shown = subst (Shows m) (sym same) shown; begun = []; is_begun = nothing; done = texts.none_made (shown_are_documents (ordered_tree now 0) m shown) }
+    record { e = m; shown = subst (Shows m) (sym same) shown; begun = []; is_begun = nothing; done = texts.none_made (shown_are_documents (ordered_tree now 0) m shown); within = λ h. h }
 left_so now new next _ m tree after shown asked (set_in_part {path = path} {mode = mode} n at part) =
     let op : PlainEdit = set_some_commas path mode in
     let lead = edits_lead now new (op ∷ []) tree (first_made (n, at, part) after none_made) (All-cons IsOfCharacters op [] tt (All-nil IsOfCharacters)) m shown (All-cons (Allows m.options) op [] tt (All-nil (Allows m.options))) in
-    record { e = lead.0; shown = lead.1; begun = texts.set_commas false path mode ∷ []; is_begun = some_commas path asked; done = begun_so m lead.0 path mode lead.2 lead.3 lead.4 }
+    let run : Run m (texts.set_commas false path mode ∷ []) lead.0 = begun_so m lead.0 path mode lead.2 lead.3 lead.4 in
+    record { e = lead.0; shown = lead.1; begun = texts.set_commas false path mode ∷ []; is_begun = some_commas path asked; done = run; within = run_stays run (λ w. omega arith) }
 
 -- The first edits were made, and the next was refused.
-pub stops_so : {A : Type 0} (old now new : List Node) (edits : List (Edit A)) (k : ℕ) (ops : List PlainEdit) (next : Edit A) (why : EditError) → IsTree old → IsTree new → EditSteps old ops now → All IsOfCharacters ops
+pub stops_so : {A : Type 0} (old now new : List Node) (edits : List (Edit A)) (k : ℕ) (ops : List PlainEdit) (next : Edit A) (why : EditError) → IsTree old → IsTree new → (made : EditSteps old ops now) → AllFit made → All IsOfCharacters ops
     → ((o : Options) → All (Fits o) (take k edits) → All (Allows o) ops) → Ask (take k edits) ops → slice_get edits k ≡ Some next
     → FailsWith now (operation_of unsorted next) why → IsLeft now (operation_of unsorted next) new → StopsInText (ordered_tree old 0) edits k why (ordered_tree new 0)
-stops_so old now new edits k ops next why tree after made characters numbers asked is_next told left d shown fit =
+stops_so old now new edits k ops next why tree after made fits characters numbers asked is_next told left d shown fit =
     let lead = edits_lead old now ops tree made characters d shown (numbers d.options fit) in
     let m : Document = lead.0 in
     let there : Shows m (ordered_tree now 0) = lead.1 in
@@ -91,10 +95,11 @@ stops_so old now new edits k ops next why tree after made characters numbers ask
         made = edits_to asked lead.4;
         next = next;
         is_next = is_next;
-        may_fail = refused_so m.options now whole there.sound op why told;
+        may_fail = refused_so m.options now whole there.sound m.value there.value op why told;
         named = subst (λ (n : ℕ). (why ≡ NoSuchPlace) ↔ ¬ (IsNamed m.value n op)) (counted m (ordered_tree now 0) there) unnamed;
         begun = l.begun;
         is_begun = l.is_begun;
         done = l.done;
+        within = λ h. l.within (steps_keep tree made fits characters d m shown (numbers d.options fit) there h);
       },
     )

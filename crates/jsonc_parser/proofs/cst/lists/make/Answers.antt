@@ -19,7 +19,7 @@ returns-in-Sort-clause-left g c = λ s.
 
 pub returns-in_default-clause-made : goal.returns-in_default-clause-made
 returns-in_default-clause-made g c =
-    plainly_made g.C.Fn c.args.compare.now g.D.DocumentArg.same c.args.doc.now c.args.edit.now _ c.make.result (no_sort c.args.edit.now c.in_default.not-Sort) c.make.ensures.made
+    plainly_made g.C.Fn c.args.compare.now g.D.DocumentArg.same c.args.doc.now c.args.edit.now _ c.make.result (no_sort c.args.edit.now c.in_default.not-Sort) c.make.ensures.made c.make.ensures.fits
 
 pub returns-in_default-clause-error : goal.returns-in_default-clause-error
 returns-in_default-clause-error g c = λ s.

@@ -11,7 +11,7 @@ returns-in-Err-run-clause-refused g c =
 
 pub returns-in-Ok-text-clause-edited : goal.returns-in-Ok-text-clause-edited
 returns-in-Ok-text-clause-edited g c =
-    text_edited (parse_options c.args.options.now) (chars c.args.text.now) (tree_of c.in-Ok.doc) c.args.edits.items (tree_of c.run.new.doc) (string_bytes c.in-Ok-text.edited) c.in-Ok.ensures.document
+    text_edited (parse_options c.args.options.now) (chars c.args.text.now) (tree_of c.in-Ok.doc) c.args.edits.items (tree_of c.run.new.doc) (string_bytes c.in-Ok-text.edited) c.in-Ok.ensures.within c.in-Ok.ensures.document
     c.in_default.ensures.made.edited (sym c.in-Ok-text.ensures.printed)
 
 pub returns-in-Ok-text-clause-made : goal.returns-in-Ok-text-clause-made
