@@ -136,13 +136,22 @@ entry_levels i (Some (plain.object ms)) = omega (arith, no_member_levels i ms)
 entry_levels i (Some v) = omega arith
 
 fit_append : (o : Options) (w : Option Plain) (path : List ℕ) (v : Plain) → path ≡ [] → IsOfNumbers o v → FitsInArray v → IsFit o w (append_element path v)
-fit_append o w _ v refl numbers fits = record { same = λ op (vs, i, stands, far, is). ap (options_behind o) is; allows = numbers; small = omega (arith, levels_none w, fits) }
+fit_append o w path v is numbers fits =
+    let none : levels_in path w ≡ 0 = ap (λ (p : List ℕ). levels_in p w) is ∙ levels_none w in
+    let small : around (array (item v no_items)) ≤ 512 = fits in
+    record { same = λ op (vs, i, stands, far, is). ap (options_behind o) is; allows = numbers; small = omega (arith, none, small) }
 
 fit_insert : (o : Options) (w : Option Plain) (path name : List ℕ) (v : Plain) → path ≡ [] → IsOfNumbers o v → FitsAt (name ∷ []) v → IsFit o w (append_property path name v)
-fit_insert o w _ name v refl numbers fits = record { same = λ op (ms, i, stands, far, is). ap (options_behind o) is; allows = numbers; small = omega (arith, levels_none w, fits) }
+fit_insert o w path name v is numbers fits =
+    let none : levels_in path w ≡ 0 = ap (λ (p : List ℕ). levels_in p w) is ∙ levels_none w in
+    let small : around (plain.object (member name v no_members)) ≤ 512 = fits in
+    record { same = λ op (ms, i, stands, far, is). ap (options_behind o) is; allows = numbers; small = omega (arith, none, small) }
 
 fit_set : (o : Options) (w : Option Plain) (path : List ℕ) (i : ℕ) (name : List ℕ) (v : Plain) → path ≡ i ∷ [] → IsOfNumbers o v → FitsAt (name ∷ []) v → IsFit o w (set_value path v)
-fit_set o w _ i name v refl numbers fits = record { same = λ op is. ap (options_behind o) is; allows = numbers; small = omega (arith, entry_levels i w, fits) }
+fit_set o w path i name v is numbers fits =
+    let same : levels_in path w ≡ levels_in (i ∷ []) w = ap (λ (p : List ℕ). levels_in p w) is in
+    let small : around (plain.object (member name v no_members)) ≤ 512 = fits in
+    record { same = λ op is. ap (options_behind o) is; allows = numbers; small = omega (arith, same, entry_levels i w, small) }
 
 fit_order : (o : Options) (w : Option Plain) (path : List ℕ) (h : Headers) (order : List ℕ) → IsFit o w (rearrange path h order)
 fit_order o w path h order = record { same = λ op is. ap (options_behind o) is; allows = tt; small = omega arith }
@@ -208,14 +217,12 @@ module _ (o : Options) (old new : List Node) where
         }
 
     drops_so : (d : Document) → d.options ≡ o → Shows d (ordered_tree old 0) → (names : List (List ℕ)) (done : Bool) → DropsAt d names old new done → IsShown o new
-    drops_so d is shown names true h =
-        let l = h.3 in
-        record {
-          e = l.0;
-          shown = l.1;
-          options = one_led l.2.edited refl ∙ drop_options d.options l.2.op h.1 l.2.asked ∙ is;
-          within = l.2.within (within_old d is shown);
-        }
+    drops_so d is shown names true h = record {
+      e = h.3;
+      shown = h.4;
+      options = one_led h.5.edited refl ∙ drop_options d.options h.5.op h.1 h.5.asked ∙ is;
+      within = h.5.within (within_old d is shown);
+    }
     drops_so d is shown names false h = subst (IsShown o) (sym h.0) (record { e = d; shown = shown; options = is; within = within_old d is shown })
 
     drops : (names : List (List ℕ)) → DropsSetting o names old new → IsShown o new
