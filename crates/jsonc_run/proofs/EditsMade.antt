@@ -20,7 +20,7 @@ use Rattle.jsonc_insert.specs.named.Places.{IsPropertyAt, a_property}
 use Rattle.jsonc_run.specs.Places.{AtPlace}
 use Rattle.jsonc_run.specs.Edits as edits
 use Rattle.jsonc_run.specs.Edits.{PlainEdit, ensure_root, place_of, EditStep, MakesAt, RootSet}
-use Rattle.jsonc_run.specs.Refusals.{as_it_was, HasItsPlace, IsAnswer, IsTooDeep, FailsWith, RefusedAt, WantsEmpty}
+use Rattle.jsonc_run.specs.Refusals.{as_it_was, HasItsPlace, IsAnswer, FailsWith, RefusedAt, WantsEmpty}
 
 -- what a path leads to has a parent
 module _ (ns : List Node) (tree : IsTree ns) where
@@ -115,10 +115,6 @@ pub done_there : (old new : List Node) (e : PlainEdit) (n : ℕ) → ((Is : ℕ 
     → OnOk r (MakesAt old n e new) → IfErr r (RefusedAt old n e) → OnErr r (Keeps (length old) old new) → OnErr r (ordered_tree new 0 ≡ ordered_tree old 0) → IsAnswer old new e r
 done_there old new e n there never (Ok x) made k kept same = made_there (there (λ m. MakesAt old m e new) made)
 done_there old new e n there never (Err why) made k kept same = refused_there old new e n there never why k kept same
-
--- and one that would nest a value too deep,
-pub too_deep : {ns : List Node} {e : PlainEdit} → IsTooDeep ns e → IsAnswer ns ns e (Err NestingDepthExceeded)
-too_deep {ns} {e} deep = record { made = tt; error = deep; left = as_it_was (Keeps-same (length ns) ns) refl }
 
 -- and one that was not found
 pub not_found : {ns : List Node} {e : PlainEdit} (found : Option ℕ) (R : ℕ → Type 0) → FindsExactly found R → (HasItsPlace ns e → (n : ℕ) × R n) → ((n : ℕ) → found ≡ Some n → ⊥) → IsAnswer ns ns e (Err NoSuchPlace)

@@ -77,14 +77,21 @@ pub(crate) fn is_too_deep<A: Allocator>(tree: &Tree<A>, edit: &Edit<A>) -> bool
     match edit {
         Edit::Replace(path, value) => is_deep_below(tree, find(tree, path), 0, value),
         Edit::SetRoot(value) => !value.is_within(MAXIMUM_NESTING),
-        Edit::ReplaceProperty(path, _, value) | Edit::SetValue(path, value) => {
+        Edit::ReplaceProperty(path, _, value) => {
             is_deep_below(tree, find_property(tree, path), 1, value)
         }
+        Edit::SetValue(path, value) => is_deep_below(tree, find_property(tree, path), 1, value),
         Edit::EnsureValue(path, _) => is_deep_below(tree, find_property(tree, path), 1, &empty),
-        Edit::InsertElement(path, _, value) | Edit::AppendElement(path, value) => {
+        Edit::InsertElement(path, _, value) => {
             is_deep_below(tree, find_needed(tree, path, Needed::Array), 1, value)
         }
-        Edit::InsertProperty(path, _, _, value) | Edit::AppendProperty(path, _, value) => {
+        Edit::AppendElement(path, value) => {
+            is_deep_below(tree, find_needed(tree, path, Needed::Array), 1, value)
+        }
+        Edit::InsertProperty(path, _, _, value) => {
+            is_deep_below(tree, find_needed(tree, path, Needed::Object), 2, value)
+        }
+        Edit::AppendProperty(path, _, value) => {
             is_deep_below(tree, find_needed(tree, path, Needed::Object), 2, value)
         }
         Edit::EnsureProperty(path, _, _, _) => {

@@ -55,8 +55,8 @@ options_led {d} {m} (one_named {op = op} named asks (texts.one_made is options m
 -- edits made in order
 pub steps_keep : {old new : List Node} {es : List PlainEdit} → IsTree old → (made : EditSteps old es new) → AllFit made → All IsOfCharacters es
     → (d f : Document) → Shows d (ordered_tree old 0) → All (Allows d.options) es → Shows f (ordered_tree new 0) → StaysWithin d f
-steps_keep {old} tree none_made fit characters d f shown allowed shows =
-    stays d f (λ h. subst (λ n. n ≤ 512) (document_around d.options f.options (ordered_tree old 0) d.value f.value shown.value shows.value) h)
+steps_keep {old} tree none_made fit characters d f shown allowed shows within =
+    stays d f (λ h. subst (λ n. n ≤ 512) (document_around d.options f.options (ordered_tree old 0) d.value f.value shown.value shows.value) h) within
 steps_keep {old} {new} tree (first_made {now = now} {e = e} {es = es} made after rest) fit characters d f shown allowed shows within =
     let few = All-head IsOfCharacters e es characters in
     let one = edits_lead old now (e ∷ []) tree (first_made made after none_made) (All-cons IsOfCharacters e [] few (All-nil IsOfCharacters)) d shown
