@@ -52,7 +52,7 @@ fn is_put(alloc: Global, row: &Deep, text: &str, last: bool) -> Result<bool, Out
             read(alloc, &after)?;
             Ok(true)
         }
-        Err(EditError::NestingDepthExceeded) if after == text => Ok(false),
+        Err(EditError::NestingDepthExceeded) if after.as_str() == text => Ok(false),
         _ => Err(Outcome::Other),
     }
 }
@@ -70,7 +70,7 @@ fn is_merged(alloc: Global, text: &str, arrays: usize) -> Result<bool, Outcome> 
             read(alloc, &after)?;
             Ok(true)
         }
-        Err(MergeFault::NestingDepthExceeded) if after == text => Ok(false),
+        Err(MergeFault::NestingDepthExceeded) if after.as_str() == text => Ok(false),
         Err(_) => Err(Outcome::Other),
     }
 }
