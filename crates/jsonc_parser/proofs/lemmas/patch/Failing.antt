@@ -87,7 +87,7 @@ module _ {A : Type 0} where
   pub found_cause : (o : Operation) (w : Option Plain) (tokens : List (List ℕ)) → (ReferToNothing w tokens → HasNoTarget o w) → ((name : List ℕ) → FailsAt w tokens name → MeetsTwice name o w) → (c : PatchCause A) → IsUnfound w tokens c → IsCause o w c
   found_cause o w tokens nothing twice causes.NoTarget is = nothing is
   found_cause o w tokens nothing twice (causes.RepeatedName name) is = twice (chars_of name) is
-  found_cause o w tokens nothing twice (causes.Edit why) is = is
+  found_cause o w tokens nothing twice (causes.Edit why) is = unedited (causes.Edit why) is
   found_cause o w tokens nothing twice causes.IntoItself is = absurd is
   found_cause o w tokens nothing twice causes.NotEqual is = absurd is
   found_cause o w tokens nothing twice causes.TooLarge is = absurd is
