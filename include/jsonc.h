@@ -223,7 +223,8 @@ uint32_t jsonc_print(const void *text, size_t text_len, uint32_t options, jsonc_
  * such a property. A document without a value gets an object.
  *
  * 0: it is done. 1, 3 and 4 as of `jsonc_check`. 2: the name or JSON text is not UTF-8. 7 and 8: the JSON text
- * is no document, or has no value. 9: the document's value is another.
+ * is no document, or has no value. 9: the document's value is another. 28: the value would be nested deeper
+ * than texts are parsed.
  */
 uint32_t jsonc_set(const void *text, size_t text_len, const void *name, size_t name_len, const void *json,
                    size_t json_len, uint32_t options, jsonc_text_t *out, jsonc_fault_t *fault);
@@ -308,7 +309,8 @@ uint32_t jsonc_find(const void *text, size_t text_len, const void *pointer, size
  * 0: it is done. 1, 3 and 4 as of `jsonc_check`. 2 and 7: the patch is not UTF-8, or no document of the
  * options. 22: it is no patch. Of an operation that is not made, 20: a pointer leads to nothing; 21: a name on
  * its way stands twice in its object; 23: a value would be moved into itself; 24: the value is another than
- * that of a `test`. With 20 to 24 the fault tells how many operations stand before.
+ * that of a `test`; 28: a value would be nested deeper than texts are parsed. With 20 to 24 and 28 the fault
+ * tells how many operations stand before.
  */
 uint32_t jsonc_apply_patch(const void *text, size_t text_len, const void *patch, size_t patch_len, uint32_t options,
                            jsonc_text_t *out, jsonc_fault_t *fault);
@@ -321,7 +323,7 @@ uint32_t jsonc_apply_patch(const void *text, size_t text_len, const void *patch,
  *
  * 0: it is done. 1, 3 and 4 as of `jsonc_check`. 2, 7 and 8: the patch is not UTF-8, or no document of the
  * options, or has no value. 21: a name stands twice in an object of the patch, or in one of the document where
- * it is looked up.
+ * it is looked up. 28: a value would be nested deeper than texts are parsed.
  */
 uint32_t jsonc_merge_patch(const void *text, size_t text_len, const void *patch, size_t patch_len, uint32_t options,
                            jsonc_text_t *out, jsonc_fault_t *fault);

@@ -14,6 +14,7 @@ use Rattle.jsonc_cst.specs.Document.{nodes_of, printed_of, tree_of}
 use Rattle.jsonc_cst.specs.Nodes.{number_of}
 use Rattle.jsonc_engine.specs.Input.{IsRefusalOf}
 use Rattle.jsonc_engine.specs.Parser.{IsFault, ParseError, ParseFault, RefusesText}
+use Rattle.jsonc_text.specs.declared.edit.EditError.TheVariants.{NestingDepthExceeded}
 use Rattle.jsonc_parser.specs.patch.Applied.{PatchesWhatShown, StopsWhatShown}
 use Rattle.jsonc_parser.specs.patch.Asked.{FitsIn}
 use Rattle.jsonc_parser.specs.patch.Found.{FindFails, Finds, IsOfShown}
@@ -188,6 +189,7 @@ cause_past (cause.RepeatedName name) other = omega arith
 cause_past cause.IntoItself other = omega arith
 cause_past cause.NotEqual other = omega arith
 cause_past cause.TooLarge other = absurd (other refl)
+cause_past (cause.Edit NestingDepthExceeded) other = omega arith
 cause_past (cause.Edit why) other = absurd (other refl)
 
 pub unpatched_ends : {A : Type 0} {o : Options} {patch text : List ℕ} {status : ℕ} {f : JsoncFault} → IsUnpatched A o patch text status f → Ends status f
@@ -200,4 +202,5 @@ pub unmerged_ends : {A : Type 0} {o : Options} {patch text : List ℕ} {status :
 unmerged_ends {status = s} {f = f} (IsUnmerged.for_memory is none) = ends_untold 1 s f is (omega arith) (omega arith) none
 unmerged_ends (IsUnmerged.for_patch why) = no_merge_ends why
 unmerged_ends (IsUnmerged.for_document why) = no_document_ends why
+unmerged_ends {status = s} {f = f} (IsUnmerged.for_depth is none) = ends_untold 28 s f is (omega arith) (omega arith) none
 unmerged_ends {status = s} {f = f} (IsUnmerged.for_name p name is told read fails) = ends_past 21 s f is (omega arith)

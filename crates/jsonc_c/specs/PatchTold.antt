@@ -1,6 +1,7 @@
 -- What a call tells of a pointer or a patch.
 use Rattle.std.specs.Prelude.{◌≡◌, ◌≤◌, ◌<◌, ◌++◌, ℕ, Bool, true, false, List, codes, take}
 use Rattle.jsonc_text.specs.Faults.{kind_of}
+use Rattle.jsonc_text.specs.declared.edit.EditError.TheVariants.{NestingDepthExceeded}
 use Rattle.jsonc_parser.specs.patch.FaultMessages.{patch_fault_text}
 use Rattle.jsonc_parser.specs.patch.Messages.{pointer_error_text}
 use Rattle.jsonc_parser.specs.patch.PatchMessages.{patch_error_text}
@@ -83,13 +84,14 @@ module _ {A : Type 0} where
   is_of_patch patch.NotAnArray = true
   is_of_patch (patch.Operation number fault) = is_of_operation fault
 
-  -- the status of an operation that was not made, of which an edit was refused for memory alone
+  -- the status of an operation that was not made, of which an edit was refused for a value that would be nested too deep, or for memory
   abbrev pub cause_status : PatchCause A → ℕ
   cause_status cause.NoTarget = 20
   cause_status (cause.RepeatedName name) = 21
   cause_status cause.IntoItself = 23
   cause_status cause.NotEqual = 24
   cause_status cause.TooLarge = 1
+  cause_status (cause.Edit NestingDepthExceeded) = 28
   cause_status (cause.Edit why) = 1
 
   -- a patch is told to be none, and its text parses

@@ -95,10 +95,11 @@ pub data IsUnpatched (A : Type 0) (o : Options) (patch text : List ℕ) (status 
   for_operation : (operations : List (Operation A)) (stopped : PatchFault A) → status ≡ cause_status stopped.cause → IsToldOfOperation stopped f
       → IsPatch o (chars patch) (map asked operations) → OfDocument o text (λ d ns. IsStopped d operations stopped) → IsUnpatched A o patch text status f
 
--- Why a merge patch is not merged: there is none, or no document; or where a name of the patch is looked up it stands twice.
+-- Why a merge patch is not merged: there is none, or no document; or where a name of the patch is looked up it stands twice; or a value would be nested too deep.
 pub data IsUnmerged (A : Type 0) (o : Options) (patch text : List ℕ) (status : ℕ) (f : JsoncFault) : Type 0 where
   for_memory : status ≡ 1 → f ≡ no_fault → IsUnmerged A o patch text status f
   for_patch : IsNoMergePatch o patch status f → IsUnmerged A o patch text status f
   for_document : IsNoDocument o text status f → IsUnmerged A o patch text status f
+  for_depth : status ≡ 28 → f ≡ no_fault → IsUnmerged A o patch text status f
   for_name : (p : Plain) (name : String A) → status ≡ 21 → IsToldOfName (string_bytes name) f → IsMergePatch o (chars patch) p
       → OfDocument o text (λ d ns. IsMergeFault p d (RepeatedName name)) → IsUnmerged A o patch text status f

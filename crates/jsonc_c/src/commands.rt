@@ -65,7 +65,8 @@ pub extern "C" fn jsonc_print(
 /// property. A document without a value gets an object.
 ///
 /// 0: it is done. 1, 3 and 4 as of `jsonc_check`. 2: the name or JSON text is not UTF-8. 7 and 8: the JSON text is no
-/// document, or has no value. 9: the document's value is another.
+/// document, or has no value. 9: the document's value is another. 28: the value would be nested deeper than texts are
+/// parsed.
 #[unsafe(no_mangle)]
 pub extern "C" fn jsonc_set(
     alloc: Global,

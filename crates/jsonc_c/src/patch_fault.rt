@@ -6,9 +6,10 @@ ghost use Rattle.jsonc_c.specs.PatchTold.{pointer_kind, pointer_place};
 ghost use Rattle.jsonc_c.specs.PatchTold.{IsToldAs, IsToldOfName, IsToldOfOperation, IsToldOfPatch, IsToldOfPointer};
 
 use crate::fault::{
-    INTO_ITSELF, JsoncFault, NO_SUCH_VALUE, NOT_EQUAL, NOT_PATCH, OUT_OF_MEMORY, POINTER,
-    REPEATED_NAME, kind_number, no_fault, put_text,
+    INTO_ITSELF, JsoncFault, NESTED_TOO_DEEP, NO_SUCH_VALUE, NOT_EQUAL, NOT_PATCH, OUT_OF_MEMORY,
+    POINTER, REPEATED_NAME, kind_number, no_fault, put_text,
 };
+use jsonc_parser::cst::EditError;
 use jsonc_parser::patch::{OperationFault, PatchCause, PatchError, PatchFault, PointerError};
 use std::alloc::Global;
 
@@ -200,7 +201,8 @@ fn cause_status(cause: &PatchCause<Global>) -> u32
         PatchCause::NotEqual => NOT_EQUAL,
         // (no call has a bound)
         PatchCause::TooLarge => OUT_OF_MEMORY,
-        // (of an edit it is told for memory alone)
+        PatchCause::Edit(EditError::NestingDepthExceeded) => NESTED_TOO_DEEP,
+        // (of an edit it is told besides for memory alone)
         PatchCause::Edit(_) => OUT_OF_MEMORY,
     }
 }

@@ -20,8 +20,8 @@ ghost use Rattle.jsonc_c.specs.Patches.{IsNoDocument, IsNoMergePatch, IsNoPatch,
 ghost use Rattle.jsonc_c.specs.Told.{no_fault};
 
 use crate::fault::{
-    JSON, JsoncFault, NO_SUCH_VALUE, NO_VALUE, NOT_UTF8, OK, OUT_OF_MEMORY, TEXT, WORD_NOT_UTF8,
-    no_fault, tell_error,
+    JSON, JsoncFault, NESTED_TOO_DEEP, NO_SUCH_VALUE, NO_VALUE, NOT_UTF8, OK, OUT_OF_MEMORY, TEXT,
+    WORD_NOT_UTF8, no_fault, tell_error,
 };
 use crate::handed::hand_out;
 use crate::options::options_of;
@@ -254,6 +254,7 @@ fn text_with(
     match merge(&mut document, patch) {
         Ok(()) => {}
         Err(MergeFault::RepeatedName(name)) => return Err(tell_name(alloc, &name, fault)),
+        Err(MergeFault::NestingDepthExceeded) => return Err(NESTED_TOO_DEEP),
         Err(MergeFault::OutOfMemory) => return Err(OUT_OF_MEMORY),
     }
     match document.text() {
@@ -323,8 +324,8 @@ pub extern "C" fn jsonc_find(
 ///
 /// 0: it is done. 1, 3 and 4 as of `jsonc_check`. 2 and 7: the patch is not UTF-8, or no document of the options. 22: it
 /// is no patch. Of an operation that is not made, 20: a pointer leads to nothing; 21: a name on its way stands twice in its
-/// object; 23: a value would be moved into itself; 24: the value is another than that of a `test`. With 20 to 24 the fault
-/// tells how many operations stand before.
+/// object; 23: a value would be moved into itself; 24: the value is another than that of a `test`; 28: a value would be
+/// nested deeper than texts are parsed. With 20 to 24 and 28 the fault tells how many operations stand before.
 #[unsafe(no_mangle)]
 pub extern "C" fn jsonc_apply_patch(
     alloc: Global,
@@ -356,7 +357,8 @@ pub extern "C" fn jsonc_apply_patch(
 /// The patch is a JSON text, which is read under the options of the document's.
 ///
 /// 0: it is done. 1, 3 and 4 as of `jsonc_check`. 2, 7 and 8: the patch is not UTF-8, or no document of the options, or has
-/// no value. 21: a name stands twice in an object of the patch, or in one of the document where it is looked up.
+/// no value. 21: a name stands twice in an object of the patch, or in one of the document where it is looked up. 28: a
+/// value would be nested deeper than texts are parsed.
 #[unsafe(no_mangle)]
 pub extern "C" fn jsonc_merge_patch(
     alloc: Global,

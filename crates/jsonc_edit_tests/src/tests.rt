@@ -3,6 +3,7 @@
 mod changes;
 mod checked;
 mod commas;
+mod deep_settings;
 mod lists;
 mod nested;
 mod nodes;

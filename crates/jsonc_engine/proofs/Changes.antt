@@ -14,7 +14,7 @@ use Rattle.jsonc_sound.specs.Shape.{DocumentShaped}
 use Rattle.jsonc_sound.proofs.LooseLines.{document_loosens}
 use Rattle.jsonc_sound.specs.SoundTrees.{SoundTree}
 use Rattle.jsonc_engine.specs.Parser.{LiesIn}
-use Rattle.jsonc_text.specs.declared.edit.EditError.TheVariants.{OutOfMemory}
+use Rattle.jsonc_text.specs.declared.edit.EditError.TheVariants.{NestingDepthExceeded, OutOfMemory}
 use Rattle.jsonc_parser.specs.paths.Found.{names_of}
 use Rattle.jsonc_engine.specs.declared.argument.Change.{Change}
 use Rattle.jsonc_engine.specs.declared.argument.Change.TheVariants.{Append, Drop, Get, Put, Remove, Set, Sort, Stay}
@@ -22,9 +22,10 @@ use Rattle.jsonc_engine.specs.declared.fault.Fault.{Fault}
 use Rattle.jsonc_engine.specs.declared.output.Output.{Output}
 use Rattle.jsonc_engine.specs.declared.fault.Fault.TheVariants.{Edit, NoSetting, NotArray, NotObject, OnTheWay}
 use Rattle.jsonc_engine.specs.Appending.{AppendsIfSound}
-use Rattle.jsonc_engine.specs.Change.{GetsNothing, IsChangeFor, for_check, for_print, for_set, for_append, for_remove, for_sort, for_get, for_put, for_drop, MakesIfSound}
+use Rattle.jsonc_engine.specs.Change.{GetsNothing, HasNumbersOf, IsChangeFor, for_check, for_print, for_set, for_append, for_remove, for_sort, for_get, for_put, for_drop, MakesIfSound}
 use Rattle.jsonc_engine.specs.Command.{Request, check, print, set, append, remove, sort, get, put, drop}
 use Rattle.jsonc_engine.specs.Fault.{EndsAppending, EndsDropping, EndsGetting, EndsOnObject, EndsPutting, EndsSetting, IsFaultOn}
+use Rattle.jsonc_engine.specs.Input.{IsInputOf}
 use Rattle.jsonc_engine.specs.Output.{IsLeft, output_bytes}
 use Rattle.jsonc_engine.specs.Removal.{LosesIfSound}
 use Rattle.jsonc_engine.specs.Setting.{SetsIfSound}
@@ -97,16 +98,17 @@ module _ {A : Type 0} (o : Options) where
 
   -- what is put where something stands in the way is refused, and what is got where nothing stands
   put_refused : (request : Request) (ns : List Node) (names : Vec (String A) A) (value : CstInputValue A) → IsChangeFor request (Put names value) → (fault : Fault)
-      → EndsPutting o (printed (ordered_tree ns 0)) (names_of names.items) fault → IsFaultOn o request (printed (ordered_tree ns 0)) fault
+      → EndsPutting o (printed (ordered_tree ns 0)) (names_of names.items) (plain value) fault → IsFaultOn o request (printed (ordered_tree ns 0)) fault
   put_refused _ ns _ _ (for_put path json names value is argument) OnTheWay ends = (names_of names.items, is, ends)
   put_refused _ ns _ _ (for_put path json names value is argument) (Edit OutOfMemory) ends = (names_of names.items, is, ends)
+  put_refused _ ns _ _ (for_put path json names value is argument) (Edit NestingDepthExceeded) ends = (names_of names.items, plain value, is, argument, ends)
   put_refused _ ns _ _ (for_put path json names value is argument) _ ends = absurd ends
 
   pub put_told : (request : Request) (ns : List Node) (names : Vec (String A) A) (value : CstInputValue A) → IsChangeFor request (Put names value) → (l : List (String A)) → l ≡ names.items
-      → (r : Result (Unit {0}) Fault) → IfErr r (EndsPutting o (printed (ordered_tree ns 0)) (names_of l)) → IfErr r (IsFaultOn o request (printed (ordered_tree ns 0)))
+      → (r : Result (Unit {0}) Fault) → IfErr r (EndsPutting o (printed (ordered_tree ns 0)) (names_of l) (plain value)) → IfErr r (IsFaultOn o request (printed (ordered_tree ns 0)))
   put_told request ns names value is l same (Ok x) ends = tt
   put_told request ns names value is l same (Err fault) ends =
-      put_refused request ns names value is fault (subst (λ (k : List (String A)). EndsPutting o (printed (ordered_tree ns 0)) (names_of k) fault) same ends)
+      put_refused request ns names value is fault (subst (λ (k : List (String A)). EndsPutting o (printed (ordered_tree ns 0)) (names_of k) (plain value) fault) same ends)
 
   get_refused : (request : Request) (ns : List Node) (names : Vec (String A) A) → IsChangeFor request (Get names) → (fault : Fault)
       → EndsGetting o (printed (ordered_tree ns 0)) (names_of names.items) fault → IsFaultOn o request (printed (ordered_tree ns 0)) fault
@@ -133,24 +135,26 @@ module _ {A : Type 0} (o : Options) where
 
   -- and what refuses any other change is true of the document
   set_refused : (request : Request) (ns : List Node) (name : Bor (List ℕ)) (value : CstInputValue A) → IsChangeFor request (Set name value) → (fault : Fault)
-      → EndsSetting o (printed (ordered_tree ns 0)) fault → IsFaultOn o request (printed (ordered_tree ns 0)) fault
+      → EndsSetting o (printed (ordered_tree ns 0)) (chars name.now) (plain value) fault → IsFaultOn o request (printed (ordered_tree ns 0)) fault
   set_refused _ ns _ _ (for_set name json value argument) NotObject ends = ends
   set_refused _ ns _ _ (for_set name json value argument) (Edit OutOfMemory) ends = ends
+  set_refused _ ns _ _ (for_set name json value argument) (Edit NestingDepthExceeded) ends = (plain value, argument, ends)
   set_refused _ ns _ _ (for_set name json value argument) _ ends = absurd ends
 
   pub set_told : (request : Request) (ns : List Node) (name : Bor (List ℕ)) (value : CstInputValue A) → IsChangeFor request (Set name value) → (r : Result (Unit {0}) Fault)
-      → IfErr r (EndsSetting o (printed (ordered_tree ns 0))) → IfErr r (IsFaultOn o request (printed (ordered_tree ns 0)))
+      → IfErr r (EndsSetting o (printed (ordered_tree ns 0)) (chars name.now) (plain value)) → IfErr r (IsFaultOn o request (printed (ordered_tree ns 0)))
   set_told request ns name value is (Ok x) ends = tt
   set_told request ns name value is (Err fault) ends = set_refused request ns name value is fault ends
 
   append_refused : (request : Request) (ns : List Node) (value : CstInputValue A) → IsChangeFor request (Append value) → (fault : Fault)
-      → EndsAppending o (printed (ordered_tree ns 0)) fault → IsFaultOn o request (printed (ordered_tree ns 0)) fault
+      → EndsAppending o (printed (ordered_tree ns 0)) (plain value) fault → IsFaultOn o request (printed (ordered_tree ns 0)) fault
   append_refused _ ns _ (for_append json value argument) NotArray ends = ends
   append_refused _ ns _ (for_append json value argument) (Edit OutOfMemory) ends = ends
+  append_refused _ ns _ (for_append json value argument) (Edit NestingDepthExceeded) ends = (plain value, argument, ends)
   append_refused _ ns _ (for_append json value argument) _ ends = absurd ends
 
   pub append_told : (request : Request) (ns : List Node) (value : CstInputValue A) → IsChangeFor request (Append value) → (r : Result (Unit {0}) Fault)
-      → IfErr r (EndsAppending o (printed (ordered_tree ns 0))) → IfErr r (IsFaultOn o request (printed (ordered_tree ns 0)))
+      → IfErr r (EndsAppending o (printed (ordered_tree ns 0)) (plain value)) → IfErr r (IsFaultOn o request (printed (ordered_tree ns 0)))
   append_told request ns value is (Ok x) ends = tt
   append_told request ns value is (Err fault) ends = append_refused request ns value is fault ends
 
@@ -193,16 +197,16 @@ module _ {A : Type 0} (o : Options) (change : Change A) (other : GetsNothing cha
   no_get _ _ same (for_get path names is) = other names (sym same)
 
   pub left_by : (request : Request) (input : List ℕ) (old new : List Node) → IsChangeFor request change → printed (ordered_tree old 0) ≡ input → SoundTree o (ordered_tree old 0) → LiesIn o input (ordered_tree old 0)
-      → MakesIfSound o request old new → IsLeft o request input (printed (ordered_tree new 0))
-  left_by check input old new is reads sound laid makes = ap (λ (ns : List Node). printed (ordered_tree ns 0)) (makes sound) ∙ reads
-  left_by print input old new is reads sound laid makes = ap (λ (ns : List Node). printed (ordered_tree ns 0)) (makes sound) ∙ reads
-  left_by (get path) input old new is reads sound laid makes = absurd (no_get path change refl is)
-  left_by (set name json) input old new is reads sound laid makes = record { old = old; new = new; reads = reads; laid = laid; sound = sound; makes = makes sound; prints = refl }
-  left_by (append json) input old new is reads sound laid makes = record { old = old; new = new; reads = reads; laid = laid; sound = sound; makes = makes sound; prints = refl }
-  left_by (remove name) input old new is reads sound laid makes = record { old = old; new = new; reads = reads; laid = laid; sound = sound; makes = makes sound; prints = refl }
-  left_by sort input old new is reads sound laid makes = record { old = old; new = new; reads = reads; laid = laid; sound = sound; makes = makes sound; prints = refl }
-  left_by (put path json) input old new is reads sound laid makes = record { old = old; new = new; reads = reads; laid = laid; sound = sound; makes = makes sound; prints = refl }
-  left_by (drop path) input old new is reads sound laid makes = record { old = old; new = new; reads = reads; laid = laid; sound = sound; makes = makes sound; prints = refl }
+      → (HasNumbersOf o request → IsInputOf o (printed (ordered_tree new 0))) → MakesIfSound o request old new → IsLeft o request input (printed (ordered_tree new 0))
+  left_by check input old new is reads sound laid accepted makes = ap (λ (ns : List Node). printed (ordered_tree ns 0)) (makes sound) ∙ reads
+  left_by print input old new is reads sound laid accepted makes = ap (λ (ns : List Node). printed (ordered_tree ns 0)) (makes sound) ∙ reads
+  left_by (get path) input old new is reads sound laid accepted makes = absurd (no_get path change refl is)
+  left_by (set name json) input old new is reads sound laid accepted makes = record { old = old; new = new; reads = reads; laid = laid; sound = sound; makes = makes sound; prints = refl; accepted = accepted }
+  left_by (append json) input old new is reads sound laid accepted makes = record { old = old; new = new; reads = reads; laid = laid; sound = sound; makes = makes sound; prints = refl; accepted = accepted }
+  left_by (remove name) input old new is reads sound laid accepted makes = record { old = old; new = new; reads = reads; laid = laid; sound = sound; makes = makes sound; prints = refl; accepted = accepted }
+  left_by sort input old new is reads sound laid accepted makes = record { old = old; new = new; reads = reads; laid = laid; sound = sound; makes = makes sound; prints = refl; accepted = accepted }
+  left_by (put path json) input old new is reads sound laid accepted makes = record { old = old; new = new; reads = reads; laid = laid; sound = sound; makes = makes sound; prints = refl; accepted = accepted }
+  left_by (drop path) input old new is reads sound laid accepted makes = record { old = old; new = new; reads = reads; laid = laid; sound = sound; makes = makes sound; prints = refl; accepted = accepted }
 
 -- what was read is the input, where that is known
 pub of_input : (known : Option (List ℕ)) (read : List ℕ) (P : List ℕ → Type 0) → IfSome known (λ input. read ≡ input) → P read → IfSome known P

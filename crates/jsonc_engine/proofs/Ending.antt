@@ -3,16 +3,17 @@ use Rattle.std.proofs.Common.{◌≡◌, ℕ, ◌==◌, if◌then◌else◌, Lis
 use Rattle.std.specs.Io.KnownBytes.{Appends}
 use Rattle.jsonc_text.specs.Options.{Options, all_on}
 use Rattle.std.specs.Prelude.{IsErrOf}
-use Rattle.jsonc_text.specs.declared.edit.EditError.TheVariants.{OutOfMemory}
+use Rattle.jsonc_text.specs.declared.edit.EditError.TheVariants.{NestingDepthExceeded, OutOfMemory}
 use Rattle.jsonc_engine.specs.declared.fault.Fault.{Fault}
 use Rattle.jsonc_engine.specs.declared.fault.Fault.TheVariants.{Edit, Input, NotUtf8, Write}
 use Rattle.jsonc_engine.specs.Parser.{ParseError}
 use Rattle.jsonc_engine.specs.Command.{Request, check, print, set, append, remove, sort, get, put, drop, words_of, writes}
 use Rattle.jsonc_engine.specs.Fault.{IsFaultOn, IsForMemory, TellsOfInput}
 use Rattle.jsonc_engine.specs.Input.{IsInput, IsInputOf}
-use Rattle.jsonc_engine.specs.Output.{IsLeft, Puts}
+use Rattle.jsonc_engine.specs.Output.{IsAccepted, IsLeft, Puts}
 use Rattle.jsonc_engine.proofs.Changes.{of_input}
 use Rattle.jsonc_engine.proofs.FaultTexts.{tells_of_input}
+use Rattle.jsonc_engine.proofs.Nesting.{accepted_again}
 
 -- words name one command: by their number and the first letter of the first
 abbrev first_letter : List ℕ → ℕ
@@ -53,11 +54,12 @@ module _ (known : Option (List ℕ)) (read input : List ℕ) (o : Options) (all 
   pub input_known : IsInputOf o input → IfSome known IsInput
   input_known h = of_input known read IsInput bytes (subst (λ (b : List ℕ). IsInput b) value (subst (λ (p : Options). IsInputOf p input) all h))
 
-  pub puts_known : (r q : Request) → words_of r ≡ words_of q → (a b : Option (List ℕ)) (text : List ℕ) → IsLeft o r input text → Appends a b text → IfSome known (Puts q a b)
-  puts_known r q e a b text left appends =
+  pub puts_known : (r q : Request) → words_of r ≡ words_of q → (a b : Option (List ℕ)) (text : List ℕ) → IsLeft o r input text → IsInputOf o input → Appends a b text → IfSome known (Puts q a b)
+  puts_known r q e a b text left accepted appends =
       let there : IsLeft all_on r read text = subst (λ (i : List ℕ). IsLeft all_on r i text) value (subst (λ (p : Options). IsLeft p r input text) all left) in
       let same = same_request r q e in
-      of_input known read (Puts q a b) bytes (text, subst (λ (p : Request). IsLeft all_on p read text) same there, appends)
+      let again : IsInput read = subst (λ (i : List ℕ). IsInput i) value (subst (λ (p : Options). IsInputOf p input) all accepted) in
+      of_input known read (Puts q a b) bytes (text, subst (λ (p : Request). IsLeft all_on p read text) same there, subst (λ (p : Request). IsAccepted p text) same (accepted_again r read text again there), appends)
 
   pub tells_known : (r q : Request) → words_of r ≡ words_of q → (fault : Fault) → IsFaultOn o r input fault → IfSome known (λ i. TellsOfInput q i fault)
   tells_known r q e fault h =
@@ -94,6 +96,7 @@ pub of_check : (P : Fault → Type 0) (o : Options) (input : List ℕ) → ((e :
 of_check P o input of_text no_text (Input e) h = of_text e
 of_check P o input of_text no_text NotUtf8 h = no_text
 of_check P o input of_text no_text (Edit OutOfMemory) h = absurd h
+of_check P o input of_text no_text (Edit NestingDepthExceeded) h = absurd h
 of_check P o input of_text no_text _ h = absurd h
 
 -- and no other

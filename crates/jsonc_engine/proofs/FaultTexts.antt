@@ -3,7 +3,7 @@ use Rattle.std.proofs.Common.{◌≡◌, ℕ, List, Result, Ok, Err, IfErr, OnEr
 use Rattle.std.specs.Prelude.{IsErrOf}
 use Rattle.jsonc_text.specs.Options.{Options, all_on}
 use Rattle.jsonc_layout.specs.input.Views.{plain}
-use Rattle.jsonc_text.specs.declared.edit.EditError.TheVariants.{OutOfMemory}
+use Rattle.jsonc_text.specs.declared.edit.EditError.TheVariants.{NestingDepthExceeded, OutOfMemory}
 use Rattle.jsonc_parser.specs.paths.Found.{names_of}
 use Rattle.jsonc_engine.specs.declared.argument.Change.{Change}
 use Rattle.jsonc_engine.specs.declared.fault.Fault.{Fault}
@@ -92,12 +92,15 @@ never_behind_words request (Path e) h behind = behind
 never_behind_words request NotNames h behind = behind
 never_behind_words request (Argument e) h behind = behind
 never_behind_words request NoValue h behind = behind
+never_behind_words request (Edit NestingDepthExceeded) (of_path path e h) behind = h
+never_behind_words request (Edit NestingDepthExceeded) (of_json json names e h) behind = h
 never_behind_words request (Edit e) h behind = behind
 never_behind_words request _ (of_path path e h) behind = absurd h
 never_behind_words request _ (of_json json names e h) behind = absurd h
 
 -- and allocation failure while it is read, and a failed read, before its end
 never_behind_by : (fault : Fault) → (¬ (fault ≡ Read) → fault ≡ Edit OutOfMemory) → EndsBehindInput fault → ⊥
+never_behind_by (Edit NestingDepthExceeded) h behind = let wrong : Edit NestingDepthExceeded ≡ Edit OutOfMemory = h (λ x. cc) in cc
 never_behind_by (Edit e) h behind = behind
 never_behind_by Read h behind = behind
 never_behind_by (Input e) h behind = let wrong : Input e ≡ Edit OutOfMemory = h (λ x. cc) in cc

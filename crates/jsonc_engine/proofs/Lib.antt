@@ -3,6 +3,7 @@ mod RootKinds
 mod Removing
 mod Sorting
 mod Arguments
+mod Nesting
 mod PuttingInContainers
 mod Changes
 mod Ending

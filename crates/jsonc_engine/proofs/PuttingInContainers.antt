@@ -39,7 +39,9 @@ use Rattle.jsonc_cst.specs.typed.Setting.{FindsOrCreates}
 use Rattle.jsonc_cst.specs.typed.Steps.{IsAppending, IsEnsuringRoot, IsSettingValue}
 use Rattle.jsonc_cst.specs.typed.Values.{ValueIs}
 use Rattle.jsonc_engine.specs.declared.fault.Fault.TheVariants.{Edit, NotArray, NotObject}
+use Rattle.jsonc_parser.specs.paths.Calls.{FitsAt}
 use Rattle.jsonc_engine.specs.Appending.{AppendsLast}
+use Rattle.jsonc_engine.specs.Argument.{FitsInArray}
 use Rattle.jsonc_engine.specs.Fault.{EndsAppending, EndsOnObject, EndsSetting}
 use Rattle.jsonc_engine.specs.Input.{HasAnother, HasKind, MayHave}
 use Rattle.jsonc_engine.specs.Setting.{HasSet, SetsFirst, SetOrAppended}
@@ -86,33 +88,33 @@ module _ (o : Options) (old made : List Node) where
       let h = held o old tree s n e in
       (h.value, h.text, sym (h.error shape) ∙ if_none (is_of shape (content_at old n)) n told)
 
-  pub no_array : IsTree old → SoundTree o (ordered_tree old 0) → (found : Option CstArray) → found ≡ None → CreatesArray old made found
-      → EndsAppending o (printed (ordered_tree old 0)) NotArray
-  no_array tree s found none h =
+  pub no_array : (v : Plain) → IsTree old → SoundTree o (ordered_tree old 0) → (found : Option CstArray) → found ≡ None → CreatesArray old made found
+      → EndsAppending o (printed (ordered_tree old 0)) v NotArray
+  no_array v tree s found none h =
       another_by Array tree s (value_at old 0) refl (subst (λ (f : Option CstArray). CreatesArray old made f) none h)
 
-  pub no_object : IsTree old → SoundTree o (ordered_tree old 0) → (found : Option CstObject) → found ≡ None → CreatesObject old made found
-      → EndsSetting o (printed (ordered_tree old 0)) NotObject
-  no_object tree s found none h =
+  pub no_object : (name : List ℕ) (v : Plain) → IsTree old → SoundTree o (ordered_tree old 0) → (found : Option CstObject) → found ≡ None → CreatesObject old made found
+      → EndsSetting o (printed (ordered_tree old 0)) name v NotObject
+  no_object name v tree s found none h =
       another_by Object tree s (value_at old 0) refl (subst (λ (f : Option CstObject). CreatesObject old made f) none h)
 
 -- allocation failure can end an edit, where the value is of the kind that is wanted
-pub memory_appending : (o : Options) (bytes : List ℕ) (e : EditError) → e ≡ OutOfMemory → MayHave is_array o bytes → EndsAppending o bytes (Edit e)
-memory_appending o bytes e is has = subst (λ (x : EditError). EndsAppending o bytes (Edit x)) (sym is) has
+pub memory_appending : (o : Options) (bytes : List ℕ) (v : Plain) (e : EditError) → e ≡ OutOfMemory → MayHave is_array o bytes → EndsAppending o bytes v (Edit e)
+memory_appending o bytes v e is has = subst (λ (x : EditError). EndsAppending o bytes v (Edit x)) (sym is) has
 
-pub memory_setting : (o : Options) (bytes : List ℕ) (e : EditError) → e ≡ OutOfMemory → MayHave is_object o bytes → EndsSetting o bytes (Edit e)
-memory_setting o bytes e is has = subst (λ (x : EditError). EndsSetting o bytes (Edit x)) (sym is) has
+pub memory_setting : (o : Options) (bytes name : List ℕ) (v : Plain) (e : EditError) → e ≡ OutOfMemory → MayHave is_object o bytes → EndsSetting o bytes name v (Edit e)
+memory_setting o bytes name v e is has = subst (λ (x : EditError). EndsSetting o bytes name v (Edit x)) (sym is) has
 
 pub memory_on_object : (o : Options) (bytes : List ℕ) (e : EditError) → e ≡ OutOfMemory → HasKind is_object o bytes → EndsOnObject o bytes (Edit e)
 memory_on_object o bytes e is has = subst (λ (x : EditError). EndsOnObject o bytes (Edit x)) (sym is) has
 
 -- so it is while the first value is made
 module _ (o : Options) (old : List Node) (tree : IsTree old) (s : SoundTree o (ordered_tree old 0)) (none : value_at old 0 ≡ None) where
-  pub array_wanted : (e : EditError) → e ≡ OutOfMemory → EndsAppending o (printed (ordered_tree old 0)) (Edit e)
-  array_wanted e is = memory_appending o (printed (ordered_tree old 0)) e is (wanted o old tree s Array none)
+  pub array_wanted : (v : Plain) (e : EditError) → e ≡ OutOfMemory → EndsAppending o (printed (ordered_tree old 0)) v (Edit e)
+  array_wanted v e is = memory_appending o (printed (ordered_tree old 0)) v e is (wanted o old tree s Array none)
 
-  pub object_wanted : (e : EditError) → e ≡ OutOfMemory → EndsSetting o (printed (ordered_tree old 0)) (Edit e)
-  object_wanted e is = memory_setting o (printed (ordered_tree old 0)) e is (wanted o old tree s Object none)
+  pub object_wanted : (name : List ℕ) (v : Plain) (e : EditError) → e ≡ OutOfMemory → EndsSetting o (printed (ordered_tree old 0)) name v (Edit e)
+  object_wanted name v e is = memory_setting o (printed (ordered_tree old 0)) name v e is (wanted o old tree s Object none)
 
 -- what is put into the array
 module _ (o : Options) (old made : List Node) (tree : IsTree made) (x : CstArray) (stands : typed_if made (value_at made 0) ≡ Some (array_node x)) where
@@ -125,10 +127,12 @@ module _ (o : Options) (old made : List Node) (tree : IsTree made) (x : CstArray
   at : IsAt made [] c
   at = value_stands made tree c is.0
 
-  pub appends_last : (new : List Node) (v : Plain) → CreatesArray old made (Some x) → IsEnsuringRoot old made Array Keep → (now : CstNode)
+  pub appends_last : (new : List Node) (v : Plain) → FitsInArray v → CreatesArray old made (Some x) → IsEnsuringRoot old made Array Keep → (now : CstNode)
       → InsertedAt made new c (length (elements_at made c)) v now → IsAppending made new c v → AppendsLast v old new
-  appends_last new v found first now inserted step = record {
+  appends_last new v fits found first now inserted step = record {
+    fits = fits;
     made = made;
+    tree = tree;
     x = x;
     found = found;
     first = first;
@@ -139,10 +143,11 @@ module _ (o : Options) (old made : List Node) (tree : IsTree made) (x : CstArray
     step = step;
   }
 
-  pub array_memory : IsTree old → SoundTree o (ordered_tree old 0) → CreatesArray old made (Some x) → (e : EditError) → OnlyOutOfMemory o made c e → EndsAppending o (printed (ordered_tree old 0)) (Edit e)
-  array_memory before s found e told =
+  pub array_memory : (v : Plain) → IsTree old → SoundTree o (ordered_tree old 0) → CreatesArray old made (Some x) → (e : EditError) → OnlyOutOfMemory o made c e
+      → EndsAppending o (printed (ordered_tree old 0)) v (Edit e)
+  array_memory v before s found e told =
       let sound = sound_by o old made Array before s (value_at old 0) (Some c) refl found in
-      memory_appending o (printed (ordered_tree old 0)) e (told sound (over_at made tree [] c at)) (of_found o old before s Array made c found)
+      memory_appending o (printed (ordered_tree old 0)) v e (told sound (over_at made tree [] c at)) (of_found o old before s Array made c found)
 
 -- a property that was found is one
 Property : List Node → Option ℕ → Type 0
@@ -170,10 +175,12 @@ module _ (o : Options) (old made : List Node) (before : IsTree old) (tree : IsTr
   sound : SoundTree o (ordered_tree made 0)
   sound = sound_by o old made Object before s (value_at old 0) (Some k) refl found
 
-  module _ (new : List Node) (name : List ℕ) (v : Plain) (first : IsEnsuringRoot old made Object Keep) where
+  module _ (new : List Node) (name : List ℕ) (v : Plain) (fits : FitsAt (name ∷ []) v) (first : IsEnsuringRoot old made Object Keep) where
     sets_by : (p : Option ℕ) → FirstInObject made k name p → SetOrAppended name v made new k p → SetsFirst name v old new
     sets_by p named set = record {
+      fits = fits;
       made = made;
+      tree = tree;
       x = x;
       found = found;
       first = first;
@@ -212,8 +219,8 @@ module _ (o : Options) (old made : List Node) (before : IsTree old) (tree : IsTr
       pub sets_property : ValueIs made new p v now → IsSettingValue made new p v → SetsFirst name v old new
       sets_property becomes step = sets_by (Some p) named (sets_value becomes step)
 
-  pub object_memory : (e : EditError) → e ≡ OutOfMemory → EndsSetting o (printed (ordered_tree old 0)) (Edit e)
-  object_memory e is = memory_setting o (printed (ordered_tree old 0)) e is (of_found o old before s Object made k found)
+  pub object_memory : (name : List ℕ) (v : Plain) (e : EditError) → e ≡ OutOfMemory → EndsSetting o (printed (ordered_tree old 0)) name v (Edit e)
+  object_memory name v e is = memory_setting o (printed (ordered_tree old 0)) name v e is (of_found o old before s Object made k found)
 
-  pub append_memory : (e : EditError) → OnlyOutOfMemory o made k e → EndsSetting o (printed (ordered_tree old 0)) (Edit e)
-  append_memory e told = object_memory e (told sound (over_at made tree [] k stands_there))
+  pub append_memory : (name : List ℕ) (v : Plain) (e : EditError) → OnlyOutOfMemory o made k e → EndsSetting o (printed (ordered_tree old 0)) name v (Edit e)
+  append_memory name v e told = object_memory name v e (told sound (over_at made tree [] k stands_there))

@@ -12,14 +12,14 @@ use Rattle.jsonc_sound.proofs.ShapeValues.{document_printed}
 use Rattle.jsonc_sound.specs.Documents.{Shows, document_of}
 use Rattle.jsonc_sound.specs.SoundTrees.{SoundTree}
 use Rattle.jsonc_text.specs.declared.edit.EditError.{EditError}
-use Rattle.jsonc_text.specs.declared.edit.EditError.TheVariants.{OutOfMemory}
+use Rattle.jsonc_text.specs.declared.edit.EditError.TheVariants.{NestingDepthExceeded, OutOfMemory}
 use Rattle.jsonc_cst.specs.declared.cst.CstRootNode.{CstRootNode}
 use Rattle.jsonc_cst.specs.declared.cst.node.CstNode.{CstNode}
 use Rattle.jsonc_cst.specs.Document.{nodes_of, tree_of}
 use Rattle.jsonc_cst.specs.Nodes.{number_of}
 use Rattle.jsonc_text.specs.declared.edit.Over.TheVariants.{Keep}
 use Rattle.jsonc_parser.specs.declared.paths.which.Which.TheVariants.{First}
-use Rattle.jsonc_parser.specs.paths.Calls.{DropsWhatShown, PutsWhatShown, WantsMemory}
+use Rattle.jsonc_parser.specs.paths.Calls.{DropsWhatShown, FailsToPut, FitsAt, PutsWhatShown, WantsMemory}
 use Rattle.jsonc_parser.specs.paths.Found.{FindsWhatShown}
 use Rattle.jsonc_parser.specs.paths.Laws.{MustStay}
 use Rattle.jsonc_parser.specs.paths.Memory.{PassesEscaped, SomethingAt, WantsForSomething, WantsToLookUp, WantsToPut}
@@ -40,8 +40,8 @@ module _ (o : Options) (ns : List Node) (sound : SoundTree o (ordered_tree ns 0)
   abbrev one : ShowsOne o ns
   one = record { document = d; options = refl; shown = shown }
 
-  pub puts_setting : (v : Plain) (names : List (List ℕ)) (new : List Node) → PutsWhatShown First v Keep names ns new true → PutsSetting o v names ns new
-  puts_setting v names new puts = record { one = one; puts = puts d shown }
+  pub puts_setting : (v : Plain) (names : List (List ℕ)) (new : List Node) → FitsAt names v → PutsWhatShown First v Keep names ns new true → PutsSetting o v names ns new
+  puts_setting v names new fits puts = record { fits = fits; one = one; puts = puts d shown }
 
   pub in_the_way : (v : Plain) (names : List (List ℕ)) (new : List Node) → PutsWhatShown First v Keep names ns new false → HasInTheWay o (printed (ordered_tree ns 0)) names
   in_the_way v names new puts = (text.0, text.1, (puts d shown).1.1)
@@ -64,8 +64,10 @@ module _ (o : Options) (ns : List Node) (sound : SoundTree o (ordered_tree ns 0)
   for_putting names (inl passes) = inl (looks_up names passes)
   for_putting names (inr free) = inr (text.0, text.1, λ stands. free (refl, stands))
 
-  pub memory_putting : (names : List (List ℕ)) (e : EditError) → WantsMemory ns e → WantsToPut First Keep ns names → EndsPutting o (printed (ordered_tree ns 0)) names (Edit e)
-  memory_putting names e told wants = subst (λ (x : EditError). EndsPutting o (printed (ordered_tree ns 0)) names (Edit x)) (sym (told d shown)) (for_putting names (wants d shown))
+  pub refused_putting : (names : List (List ℕ)) (v : Plain) (e : EditError) → FailsToPut ns names v e → (e ≡ OutOfMemory → WantsToPut First Keep ns names) → EndsPutting o (printed (ordered_tree ns 0)) names v (Edit e)
+  refused_putting names v OutOfMemory told wants = for_putting names (wants refl d shown)
+  refused_putting names v NestingDepthExceeded told wants = told d shown
+  refused_putting names v e told wants = absurd (told d shown)
 
   pub memory_dropping : (names : List (List ℕ)) (e : EditError) → WantsMemory ns e → WantsForSomething ns names → EndsDropping o (printed (ordered_tree ns 0)) names (Edit e)
   memory_dropping names e told wants = subst (λ (x : EditError). EndsDropping o (printed (ordered_tree ns 0)) names (Edit x)) (sym (told d shown)) (for_something names (wants d shown))

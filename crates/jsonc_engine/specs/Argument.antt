@@ -1,13 +1,14 @@
 -- The path and the JSON text of a command: what they say, and what is wrong with them.
-use Rattle.std.specs.Prelude.{◌≡◌, ◌≢◌, ℕ, List, Option, Some, None, chars, map}
+use Rattle.std.specs.Prelude.{◌≡◌, ◌≢◌, ℕ, List, [], ◌∷◌, Option, Some, None, chars, map}
 use Rattle.jsonc_text.specs.Grammar.{IsDocument}
 use Rattle.jsonc_text.specs.Options.{all_on}
-use Rattle.jsonc_text.specs.Plain.{Plain, Items, array, collapse, string}
+use Rattle.jsonc_text.specs.Plain.{Plain, Items, array, collapse, item, no_items, string}
 use Rattle.jsonc_layout.specs.input.Views.{items_of}
 use Rattle.jsonc_edit.specs.Writing.{IsWritable}
-use Rattle.jsonc_engine.specs.Command.{Request, json_of, path_of}
+use Rattle.jsonc_parser.specs.paths.Calls.{FitsAt}
+use Rattle.jsonc_engine.specs.Command.{Request, append, json_of, path_of, put, set}
 use Rattle.jsonc_engine.specs.Input.{IsRefusal}
-use Rattle.jsonc_engine.specs.Parser.{OutOfMemory}
+use Rattle.jsonc_engine.specs.Parser.{IsWithin, OutOfMemory}
 use Rattle.jsonc_engine.specs.declared.fault.Fault.{Fault}
 use Rattle.jsonc_engine.specs.declared.fault.Fault.TheVariants.{Argument, Edit, NoValue, NotNames, Path}
 
@@ -35,6 +36,17 @@ pub record IsArgument (json : List ℕ) (v : Plain) : Type 0 where
   pub document : IsDocument all_on (chars json) (Some value)
   pub collapsed : v ≡ collapse value
   pub writable : IsWritable all_on v
+
+-- as an element of the document's array v is nested no deeper than texts are parsed
+abbrev pub FitsInArray : Plain → Type 0
+FitsInArray v = IsWithin (Some (array (item v no_items)))
+
+-- the value of the command's JSON text is nested deeper where it is put, in whatever document
+abbrev pub IsTooDeep : Request → Type 0
+IsTooDeep (set name json) = (v : Plain) × IsArgument json v × ¬ (FitsAt (chars name ∷ []) v)
+IsTooDeep (append json) = (v : Plain) × IsArgument json v × ¬ (FitsInArray v)
+IsTooDeep (put path json) = (names : List (List ℕ)) × (v : Plain) × IsPath path names × IsArgument json v × ¬ (FitsAt names v)
+IsTooDeep request = ⊥
 
 -- the command's path, if it has one, is a list of names
 abbrev pub HasNames : Request → Type 0

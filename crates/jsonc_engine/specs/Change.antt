@@ -1,8 +1,9 @@
 -- What a command makes of a document.
 use Rattle.std.specs.Borrow.{Bor}
-use Rattle.std.specs.Prelude.{◌≡◌, ℕ, List, String, Vec, chars}
+use Rattle.std.specs.Prelude.{◌≡◌, ℕ, List, Some, String, Vec, chars}
 use Rattle.jsonc_text.specs.Options.{Options}
 use Rattle.jsonc_text.specs.Plain.{Plain}
+use Rattle.jsonc_edit.specs.Writing.{IsOfNumbers}
 use Rattle.jsonc_layout.specs.input.Views.{plain}
 use Rattle.jsonc_layout.specs.declared.input.value.CstInputValue.{CstInputValue}
 use Rattle.jsonc_tree.specs.OrderedTree.{ordered_tree, printed}
@@ -14,7 +15,8 @@ use Rattle.jsonc_engine.specs.declared.argument.Change.{Change}
 use Rattle.jsonc_engine.specs.declared.argument.Change.TheVariants.{Append, Drop, Get, Put, Remove, Set, Sort, Stay}
 use Rattle.jsonc_engine.specs.Appending.{AppendsLast}
 use Rattle.jsonc_engine.specs.Argument.{IsArgument, IsPath}
-use Rattle.jsonc_engine.specs.Command.{Request, check, print, set, append, remove, sort, get, put, drop}
+use Rattle.jsonc_engine.specs.Input.{IsInputOf}
+use Rattle.jsonc_engine.specs.Command.{Request, json_of, check, print, set, append, remove, sort, get, put, drop}
 use Rattle.jsonc_engine.specs.Removal.{LosesFirst}
 use Rattle.jsonc_engine.specs.Setting.{SetsFirst}
 use Rattle.jsonc_engine.specs.Settings.{DropsSetting, IsShownAt, PutsSetting}
@@ -54,7 +56,12 @@ Makes o (drop path) old new = (names : List (List ℕ)) × IsPath path names × 
 abbrev pub MakesIfSound : Options → Request → List Node → List Node → Type 0
 MakesIfSound o request old new = SoundTree o (ordered_tree old 0) → Makes o request old new
 
--- the input is a document of the options, whose nodes are those that it is parsed into, and the output what it prints when the command is done
+-- the numbers of the value of the command's JSON text, if it has one, are, whole, numbers of these options; so it is of all options
+abbrev pub HasNumbersOf : Options → Request → Type 0
+HasNumbersOf o request = (json : List ℕ) → json_of request ≡ Some json → (v : Plain) → IsArgument json v → IsOfNumbers o v
+
+-- The input is a document of the options, whose nodes are those that it is parsed into, and the output what it prints when the command is done. If the command writes
+-- numbers of the options, `check` accepts the output under them.
 pub record IsMadeOf (o : Options) (request : Request) (input output : List ℕ) : Type 0 where
   pub old : List Node
   pub new : List Node
@@ -63,6 +70,7 @@ pub record IsMadeOf (o : Options) (request : Request) (input output : List ℕ) 
   pub sound : SoundTree o (ordered_tree old 0)
   pub makes : Makes o request old new
   pub prints : printed (ordered_tree new 0) ≡ output
+  pub accepted : HasNumbersOf o request → IsInputOf o output
 
 -- the input is a document of the options, in whose value one stands at the names of the path; the output is that value as it is printed there, and a line feed
 pub record IsGot (o : Options) (path input output : List ℕ) : Type 0 where

@@ -1,14 +1,16 @@
 -- What a fault prints, and what it says of the input.
-use Rattle.std.specs.Prelude.{◌≡◌, ℕ, List, Option, IfSome, ◌++◌, ◌⊎◌, codes, IsUtf8}
+use Rattle.std.specs.Prelude.{◌≡◌, ℕ, List, [], ◌∷◌, Option, IfSome, ◌++◌, ◌⊎◌, codes, IsUtf8}
 use Rattle.jsonc_edit.specs.set.Shapes.{is_array, is_object}
-use Rattle.jsonc_engine.specs.Argument.{IsFaultOfArgument, IsPath, IsReady}
+use Rattle.jsonc_text.specs.Plain.{Plain}
+use Rattle.jsonc_parser.specs.paths.Calls.{FitsAt}
+use Rattle.jsonc_engine.specs.Argument.{FitsInArray, IsFaultOfArgument, IsPath, IsReady, IsTooDeep}
 use Rattle.jsonc_engine.specs.Calls.{one_more}
 use Rattle.jsonc_engine.specs.Command.{Request, set, append, remove, sort, get, put, drop}
 use Rattle.jsonc_engine.specs.Input.{HasAnother, HasKind, IsRefusalOf, MayHave}
 use Rattle.jsonc_engine.specs.Output.{IsLeft}
 use Rattle.jsonc_engine.specs.Removal.{IsNoObject}
 use Rattle.jsonc_engine.specs.Settings.{HasInTheWay, HasNothingAt, IsForPutting, IsForSomething}
-use Rattle.jsonc_engine.specs.Parser.{Options, OutOfMemory, all_on, edit_error_text, error_text}
+use Rattle.jsonc_engine.specs.Parser.{NestingDepthExceeded, Options, OutOfMemory, all_on, edit_error_text, error_text}
 use Rattle.jsonc_engine.specs.declared.fault.Fault.{Fault}
 use Rattle.jsonc_engine.specs.declared.fault.Fault.TheVariants.{Argument, Edit, Input, NoSetting, NoValue, NotArray, NotNames, NotObject, NotUtf8, OnTheWay, Path, Read, Usage, Write}
 
@@ -72,6 +74,7 @@ IsFaultOn o request input NoSetting = FindsNothing o request input
 IsFaultOn o request input OnTheWay = FindsInTheWay o request input
 IsFaultOn o request input NotUtf8 = ¬ (IsUtf8 input)
 IsFaultOn o request input (Edit OutOfMemory) = IsForMemory o request input
+IsFaultOn o request input (Edit NestingDepthExceeded) = IsTooDeep request
 IsFaultOn o request input other = ⊥
 
 -- memory is wanting for the text that the command writes
@@ -116,6 +119,7 @@ EndsBehindInput NotArray = Unit {0}
 EndsBehindInput NoSetting = Unit {0}
 EndsBehindInput OnTheWay = Unit {0}
 EndsBehindInput NotUtf8 = Unit {0}
+EndsBehindInput (Edit NestingDepthExceeded) = Unit {0}
 EndsBehindInput Write = Unit {0}
 EndsBehindInput other = ⊥
 
@@ -127,6 +131,7 @@ IsBeforeOrForMemory request old new known = (new ≡ old) ⊎ ((new ≡ one_more
 -- a run of the program can end with the fault
 abbrev pub EndsRun : Fault → Type 0
 EndsRun (Edit OutOfMemory) = Unit {0}
+EndsRun (Edit NestingDepthExceeded) = Unit {0}
 EndsRun (Edit other) = ⊥
 EndsRun other = Unit {0}
 
@@ -145,17 +150,19 @@ EndsOnObject o bytes NotObject = IsNoObject o bytes
 EndsOnObject o bytes (Edit OutOfMemory) = HasKind is_object o bytes
 EndsOnObject o bytes other = ⊥
 
--- setting one can end with it
-abbrev pub EndsSetting : Options → List ℕ → Fault → Type 0
-EndsSetting o bytes NotObject = HasAnother is_object o bytes
-EndsSetting o bytes (Edit OutOfMemory) = MayHave is_object o bytes
-EndsSetting o bytes other = ⊥
+-- setting the value v of one of this name can end with it
+abbrev pub EndsSetting : Options → List ℕ → List ℕ → Plain → Fault → Type 0
+EndsSetting o bytes name v NotObject = HasAnother is_object o bytes
+EndsSetting o bytes name v (Edit OutOfMemory) = MayHave is_object o bytes
+EndsSetting o bytes name v (Edit NestingDepthExceeded) = ¬ (FitsAt (name ∷ []) v)
+EndsSetting o bytes name v other = ⊥
 
--- and so can appending an element
-abbrev pub EndsAppending : Options → List ℕ → Fault → Type 0
-EndsAppending o bytes NotArray = HasAnother is_array o bytes
-EndsAppending o bytes (Edit OutOfMemory) = MayHave is_array o bytes
-EndsAppending o bytes other = ⊥
+-- and so can appending the element v
+abbrev pub EndsAppending : Options → List ℕ → Plain → Fault → Type 0
+EndsAppending o bytes v NotArray = HasAnother is_array o bytes
+EndsAppending o bytes v (Edit OutOfMemory) = MayHave is_array o bytes
+EndsAppending o bytes v (Edit NestingDepthExceeded) = ¬ (FitsInArray v)
+EndsAppending o bytes v other = ⊥
 
 -- getting what stands at names can end with it
 abbrev pub EndsGetting : Options → List ℕ → List (List ℕ) → Fault → Type 0
@@ -163,11 +170,12 @@ EndsGetting o bytes names NoSetting = HasNothingAt o bytes names
 EndsGetting o bytes names (Edit OutOfMemory) = IsForSomething o bytes names
 EndsGetting o bytes names other = ⊥
 
--- and so can putting a value there
-abbrev pub EndsPutting : Options → List ℕ → List (List ℕ) → Fault → Type 0
-EndsPutting o bytes names OnTheWay = HasInTheWay o bytes names
-EndsPutting o bytes names (Edit OutOfMemory) = IsForPutting o bytes names
-EndsPutting o bytes names other = ⊥
+-- and so can putting the value v there
+abbrev pub EndsPutting : Options → List ℕ → List (List ℕ) → Plain → Fault → Type 0
+EndsPutting o bytes names v OnTheWay = HasInTheWay o bytes names
+EndsPutting o bytes names v (Edit OutOfMemory) = IsForPutting o bytes names
+EndsPutting o bytes names v (Edit NestingDepthExceeded) = ¬ (FitsAt names v)
+EndsPutting o bytes names v other = ⊥
 
 -- dropping what stands there can end with it
 abbrev pub EndsDropping : Options → List ℕ → List (List ℕ) → Fault → Type 0

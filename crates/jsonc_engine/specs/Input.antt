@@ -1,12 +1,14 @@
 -- Which bytes the program takes.
 use Rattle.std.specs.Prelude.{◌≡◌, ℕ, Bool, true, false, List, Option, Some, IfSome, IsUtf8, chars}
-use Rattle.jsonc_engine.specs.Parser.{IsDocument, IsFault, ParseFault, Options, ParseError, Plain, RefusesText, all_on}
+use Rattle.jsonc_engine.specs.Parser.{IsDocument, IsFault, IsWithin, ParseFault, Options, ParseError, Plain, RefusesText, all_on}
 
--- the bytes are UTF-8, and their text is a document of the options, with some value or with none
+-- The bytes are UTF-8, and their text is a document of the options, with some value or with none; at most 512 containers and properties are around each value in it. No
+-- other bytes are accepted by `check`.
 pub record IsInputOf (o : Options) (bytes : List ℕ) : Type 0 where
   pub utf8 : IsUtf8 bytes
   pub value : Option Plain
   pub document : IsDocument o (chars bytes) value
+  pub within : IsWithin value
 
 -- the program allows all that the options can
 abbrev pub IsInput : List ℕ → Type 0

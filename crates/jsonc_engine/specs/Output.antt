@@ -6,6 +6,7 @@ use Rattle.jsonc_engine.specs.declared.output.Output.{Output}
 use Rattle.jsonc_engine.specs.declared.output.Output.TheVariants.{Document, Text}
 use Rattle.jsonc_engine.specs.Parser.{printed_of}
 use Rattle.jsonc_engine.specs.Change.{IsGot, IsMadeOf}
+use Rattle.jsonc_engine.specs.Input.{IsInput}
 use Rattle.jsonc_engine.specs.Command.{Request, check, print, get, writes}
 
 -- what is to be written of the document of these bytes: what it prints, as a command leaves it, or the value that is got
@@ -30,6 +31,11 @@ abbrev pub IsWritten : {A : Type 0} → Options → Request → List ℕ → Opt
 IsWritten o request input None = writes request ≡ false
 IsWritten o request input (Some text) = IsTrue (writes request) × IsLeft o request input (string_bytes text)
 
+-- what a command writes, but for the value that is got, `check` accepts
+abbrev pub IsAccepted : Request → List ℕ → Type 0
+IsAccepted (get path) output = Unit {0}
+IsAccepted request output = IsInput output
+
 -- it has been put to what was written before
 abbrev pub Puts : Request → Option (List ℕ) → Option (List ℕ) → List ℕ → Type 0
-Puts request old new input = (output : List ℕ) × IsLeft all_on request input output × Appends old new output
+Puts request old new input = (output : List ℕ) × IsLeft all_on request input output × IsAccepted request output × Appends old new output

@@ -1,12 +1,12 @@
 -- What `set` makes of a document.
-use Rattle.std.specs.Prelude.{◌≡◌, ℕ, List, Option, Some, None, length}
+use Rattle.std.specs.Prelude.{◌≡◌, ℕ, List, [], ◌∷◌, Option, Some, None, length}
 use Rattle.jsonc_text.specs.Options.{Options}
 use Rattle.jsonc_text.specs.Plain.{Plain}
 use Rattle.jsonc_text.specs.declared.edit.Over.TheVariants.{Keep}
 use Rattle.jsonc_text.specs.declared.edit.Shape.TheVariants.{Object}
 use Rattle.jsonc_tree.specs.Content.{object}
 use Rattle.jsonc_tree.specs.OrderedTree.{ordered_tree}
-use Rattle.jsonc_tree.specs.Tree.{Node, content_at}
+use Rattle.jsonc_tree.specs.Tree.{Node, content_at, IsTree}
 use Rattle.jsonc_layout.specs.nodes.Names.{FirstInObject}
 use Rattle.jsonc_layout.specs.nodes.Properties.{value_at}
 use Rattle.jsonc_layout.specs.nodes.Siblings.{elements_at}
@@ -19,6 +19,7 @@ use Rattle.jsonc_cst.specs.objects.Members.{IsAppendingNamed, NamedInsertedAt}
 use Rattle.jsonc_cst.specs.typed.Setting.{FindsOrCreates}
 use Rattle.jsonc_cst.specs.typed.Steps.{IsEnsuringRoot, IsSettingValue}
 use Rattle.jsonc_cst.specs.typed.Values.{ValueIs}
+use Rattle.jsonc_parser.specs.paths.Calls.{FitsAt}
 
 -- The value of the property p, an element of the object c that is the document's value, has been replaced by v, in one step, and nothing else has changed.
 pub record HasSet (v : Plain) (old new : List Node) (c p : ℕ) : Type 0 where
@@ -42,9 +43,12 @@ SetOrAppended name v old new c None = HasAppended name v old new c
 SetOrAppended name v old new c (Some p) = HasSet v old new c p
 
 -- The document's value is an object, an empty one that was set first where it had none, and its first property of this name has the value v now; or such a
--- property has been inserted after its last. Nothing else has changed: these are two steps, of which the first may change nothing.
+-- property has been inserted after its last. Nothing else has changed: these are two steps, of which the first may change nothing. There v is nested no deeper than texts
+-- are parsed.
 pub record SetsFirst (name : List ℕ) (v : Plain) (old new : List Node) : Type 0 where
+  pub fits : FitsAt (name ∷ []) v
   pub made : List Node
+  pub tree : IsTree made
   pub x : CstObject
   pub found : FindsOrCreates old made Object (Some x.number)
   pub first : IsEnsuringRoot old made Object Keep

@@ -10,7 +10,7 @@ use Rattle.jsonc_sound.specs.Documents.{Shows}
 use Rattle.jsonc_sound.specs.SoundTrees.{SoundTree}
 use Rattle.jsonc_text.specs.declared.edit.Over.TheVariants.{Keep}
 use Rattle.jsonc_parser.specs.declared.paths.which.Which.TheVariants.{First}
-use Rattle.jsonc_parser.specs.paths.Calls.{DropsAt, PutsAt}
+use Rattle.jsonc_parser.specs.paths.Calls.{DropsAt, FitsAt, PutsAt}
 use Rattle.jsonc_parser.specs.paths.Memory.{PassesEscaped, SomethingAt}
 use Rattle.jsonc_parser.specs.paths.Settings.{At, IsInTheWay}
 use Rattle.jsonc_parser.specs.paths.NamedNodes.{NamesNode}
@@ -28,8 +28,9 @@ pub record IsShownAt (o : Options) (names : List (List ℕ)) (ns : List Node) (o
   pub there : NamesNode First one.document ns names node
   pub prints : output ≡ printed (ordered_tree ns node) ++ 0x0A ∷ []
 
--- By one edit of the document that the old nodes show v was put at the names; no value of another kind than an object stood in the way.
+-- By one edit of the document that the old nodes show v was put at the names, where it fits; no value of another kind than an object stood in the way.
 pub record PutsSetting (o : Options) (v : Plain) (names : List (List ℕ)) (old new : List Node) : Type 0 where
+  pub fits : FitsAt names v
   pub one : ShowsOne o old
   pub puts : PutsAt First one.document v Keep names old new true
 

@@ -15,7 +15,8 @@ use crate::argument::Change;
 use crate::fault::Fault;
 use crate::settings::{drop_setting, put_setting};
 use crate::sort::sort_properties;
-use jsonc_parser::cst::{CstInputValue, CstRootNode};
+use jsonc_parser::cst::{CstInputValue, CstRootNode, EditError};
+use jsonc_walk::context::MAXIMUM_NESTING;
 use std::alloc::Allocator;
 
 /// Takes the first property of a name out of the document's object, with what leaves with it. Where the
@@ -48,8 +49,9 @@ fn remove_property<A: Allocator + Copy>(
 /// Puts a value behind the last element of the document's array. A document without a value first gets an
 /// empty array.
 ///
-/// It is `Fault::NotArray` where the document's value is another. Memory may be wanted, which is
-/// `Fault::Edit`; then a document without a value may have got the empty array.
+/// It is `Fault::NotArray` where the document's value is another. `Fault::Edit` tells of a value that would be
+/// nested too deep, before the document is looked at; or memory may be wanted, and then a document without a value
+/// may have got the empty array.
 fn append_element<A: Allocator + Copy>(
     document: &mut CstRootNode<A>,
     value: CstInputValue<A>,
@@ -57,8 +59,11 @@ fn append_element<A: Allocator + Copy>(
     ensures appended { (o : Options)
         → OnOk result (AppendsIfSound o (plain value) (nodes_of document.old) (nodes_of document.new)) }
     ensures error { (o : Options)
-        → SoundTree o (tree_of document.old) → IfErr result (EndsAppending o (printed_of document.old)) }
+        → SoundTree o (tree_of document.old) → IfErr result (EndsAppending o (printed_of document.old) (plain value)) }
 {
+    if !value.is_within(MAXIMUM_NESTING - 1) {
+        return Err(Fault::Edit(EditError::NestingDepthExceeded));
+    }
     let array = match document.array_value_or_create() {
         Ok(Some(array)) => array,
         Ok(None) => return Err(Fault::NotArray),
@@ -73,8 +78,9 @@ fn append_element<A: Allocator + Copy>(
 /// Sets the value of the first property of a name in the document's object, or puts such a property behind its
 /// last one. A document without a value first gets an empty object.
 ///
-/// It is `Fault::NotObject` where the document's value is another. Memory may be wanted, which is
-/// `Fault::Edit`; then a document without a value may have got the empty object.
+/// It is `Fault::NotObject` where the document's value is another. `Fault::Edit` tells of a value that would be
+/// nested too deep, before the document is looked at; or memory may be wanted, and then a document without a value
+/// may have got the empty object.
 fn set_property<A: Allocator + Copy>(
     document: &mut CstRootNode<A>,
     name: &str,
@@ -83,8 +89,12 @@ fn set_property<A: Allocator + Copy>(
     ensures set { (o : Options)
         → OnOk result (SetsIfSound o (chars name.now) (plain value) (nodes_of document.old) (nodes_of document.new)) }
     ensures error { (o : Options)
-        → SoundTree o (tree_of document.old) → IfErr result (EndsSetting o (printed_of document.old)) }
+        → SoundTree o (tree_of document.old)
+        → IfErr result (EndsSetting o (printed_of document.old) (chars name.now) (plain value)) }
 {
+    if !value.is_within(MAXIMUM_NESTING - 2) {
+        return Err(Fault::Edit(EditError::NestingDepthExceeded));
+    }
     let object = match document.object_value_or_create() {
         Ok(Some(object)) => object,
         Ok(None) => return Err(Fault::NotObject),

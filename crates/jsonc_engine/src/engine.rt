@@ -12,7 +12,7 @@ ghost use Rattle.jsonc_engine.specs.Fault.{EndsBehindInput, EndsRun, EndsUnread,
 ghost use Rattle.jsonc_engine.specs.Fault.{IsNoText, TellsOfArgument, TellsOfInput};
 ghost use Rattle.jsonc_engine.specs.Input.{IsInput, IsInputOf};
 ghost use Rattle.jsonc_engine.specs.Output.{IsLeft, IsOutput, IsWritten, Puts, output_bytes};
-ghost use Rattle.jsonc_engine.specs.Parser.{all_on, parse_options, printed_of, LiesIn};
+ghost use Rattle.jsonc_engine.specs.Parser.{all_on, parse_options, printed_of, HasNoDeeperValue, LiesIn};
 
 use crate::argument::{Change, change_of};
 use crate::calls::{Sink, Source};
@@ -181,6 +181,7 @@ fn changed<A: Allocator + Copy>(
     ensures left { (o : Options) (request : Request)
         → IsChangeFor request change.entry → GetsNothing change.entry
         → SoundTree o (tree_of document) → LiesIn o (printed_of document) (tree_of document)
+        → HasNoDeeperValue o (printed_of document)
         → IfOk result (λ output. IsLeft o request (printed_of document) (output_bytes output)) }
     ensures refused { (o : Options) (request : Request)
         → IsChangeFor request change.entry
@@ -202,6 +203,7 @@ fn outcome_of<A: Allocator + Copy>(
     ensures left { (o : Options) (request : Request)
         → IsChangeFor request change.entry
         → SoundTree o (tree_of document) → LiesIn o (printed_of document) (tree_of document)
+        → HasNoDeeperValue o (printed_of document)
         → IfOk result (λ output. IsLeft o request (printed_of document) (output_bytes output)) }
     ensures refused { (o : Options) (request : Request)
         → IsChangeFor request change.entry
@@ -263,9 +265,9 @@ fn checked<A: Allocator + Copy>(alloc: A, options: &ParseOptions, input: &[u8]) 
 /// it writes nothing. The command's own path and JSON text may hold all that can be allowed.
 ///
 /// A path may be refused as `Fault::Path` or `Fault::NotNames`, then that text as `Fault::Argument` or
-/// `Fault::NoValue`, then the bytes as `Fault::NotUtf8` or `Fault::Input`, the command as `Fault::NotObject`,
-/// `Fault::NotArray`, `Fault::NoSetting` or `Fault::OnTheWay`, and memory as `Fault::Edit`, or as the error of a
-/// parse.
+/// `Fault::NoValue`, then the bytes as `Fault::NotUtf8` or `Fault::Input`, a value that would be nested too deep as
+/// `Fault::Edit`, the command as `Fault::NotObject`, `Fault::NotArray`, `Fault::NoSetting` or `Fault::OnTheWay`, and
+/// memory as `Fault::Edit`, or as the error of a parse. What is written, but for `get`, `check` accepts.
 pub fn run_with<A: Allocator + Copy>(
     alloc: A,
     options: &ParseOptions,

@@ -41,9 +41,9 @@ pub(crate) fn get_setting<A: Allocator + Copy>(
 
 /// Puts a value at names.
 ///
-/// It is `Fault::OnTheWay` where a value of another kind than an object stands on the way. Memory may be wanted,
-/// which is `Fault::Edit`: to look up a name as `get_setting` does, or where nothing is in the way. An error
-/// leaves the document as it was.
+/// It is `Fault::OnTheWay` where a value of another kind than an object stands on the way. `Fault::Edit` tells of a
+/// value that would be nested too deep, before the document is looked at; or memory may be wanted, to look up a name as
+/// `get_setting` does, or where nothing is in the way. An error leaves the document as it was.
 pub(crate) fn put_setting<A: Allocator + Copy>(
     document: &mut CstRootNode<A>,
     names: &[String<A>],
@@ -52,7 +52,7 @@ pub(crate) fn put_setting<A: Allocator + Copy>(
     ensures put { (o : Options) → OnOk result
         (PutsIfSound o (plain value) (names_of names.now) (nodes_of document.old) (nodes_of document.new)) }
     ensures error { (o : Options) → SoundTree o (tree_of document.old)
-        → IfErr result (EndsPutting o (printed_of document.old) (names_of names.now)) }
+        → IfErr result (EndsPutting o (printed_of document.old) (names_of names.now) (plain value)) }
     ensures document { (o : Options) → SoundTree o (tree_of document.old)
         → OnErr result (tree_of document.new ≡ tree_of document.old) }
 {

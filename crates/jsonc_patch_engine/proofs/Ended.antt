@@ -87,6 +87,7 @@ module _ (A : Type 0) (input : List ℕ) where
   told_truly asked told.NoSuchValue h = inr h
   told_truly asked told.NoValue h = inr h
   told_truly asked (told.NonFinite at) h = inr h
+  told_truly asked told.NestingDepthExceeded h = inr h
   told_truly asked told.NotUtf8 h = inr h
   told_truly asked told.Usage h = inr h
 

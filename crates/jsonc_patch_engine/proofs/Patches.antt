@@ -1,18 +1,19 @@
 -- What a patch made of the document of the input that was read.
-use Rattle.std.proofs.Common.{◌≡◌, ◌≢◌, ◌∙◌, ◌⊎◌, ℕ, List, [], Option, String, IsUtf8, ap, chars, inl, inr, refl, string_bytes, subst, sym, IfOk, Result}
+use Rattle.std.proofs.Common.{◌≡◌, ◌∙◌, ◌⊎◌, ℕ, List, [], Option, String, IsUtf8, ap, chars, inl, inr, refl, string_bytes, subst, sym, IfOk, Result}
 use Rattle.std.proofs.lemmas.List.Elements.{All-take}
 use Rattle.std.specs.List.{All}
 use Rattle.jsonc_text.specs.Documents.{Document}
 use Rattle.jsonc_text.specs.Grammar.{IsDocument}
 use Rattle.jsonc_text.specs.Options.{Options, all_on}
 use Rattle.jsonc_text.specs.Plain.{Plain, Items, Members}
-use Rattle.jsonc_text.specs.declared.edit.EditError.{EditError}
 use Rattle.jsonc_edit.specs.Writing.{IsOfNumbers}
 use Rattle.jsonc_layout.specs.declared.input.value.CstInputValue.{CstInputValue}
 use Rattle.jsonc_layout.specs.input.Views.{chars_of, plain}
 use Rattle.jsonc_sound.specs.Documents.{Shows, ShowsText}
+use Rattle.jsonc_sound.specs.Shape.{printed_text}
+use Rattle.jsonc_edit.proofs.SoundValues.{prints_value}
 use Rattle.jsonc_cst.specs.declared.cst.CstRootNode.{CstRootNode}
-use Rattle.jsonc_cst.specs.Document.{printed_of, tree_of}
+use Rattle.jsonc_cst.specs.Document.{printed_of, tree_of, HasNoDeeperValue, IsWithin}
 use Rattle.jsonc_insert.specs.named.Members.{LacksMember, other_name, IsFirstMember, first_is, first_later}
 use Rattle.jsonc_parser.specs.patch.Applied.{IsPatched, IsStopped, PatchesWhatShown, StopsWhatShown}
 use Rattle.jsonc_parser.specs.patch.Asked.{asked, FitsIn}
@@ -22,11 +23,10 @@ use Rattle.jsonc_parser.specs.patch.Merging.{Stops}
 use Rattle.jsonc_parser.specs.patch.PatchFaults.{RepeatsName, repeats_here, repeats_in_member, repeats_in_element}
 use Rattle.jsonc_parser.specs.patch.References.{IsItem, this_item, later_item, IsRepeated, this_again, later_again}
 use Rattle.jsonc_parser.specs.declared.patch.apply.PatchFault.{PatchFault}
-use Rattle.jsonc_parser.specs.declared.patch.making.PatchCause.TheVariants as cause
 use Rattle.jsonc_parser.specs.declared.patch.merging.MergeFault.TheVariants as merging
 use Rattle.jsonc_parser.specs.declared.patch.operation.Operation.{Operation}
 use Rattle.jsonc_patch_engine.specs.Command.{apply, find, json, merge, Request}
-use Rattle.jsonc_patch_engine.specs.Patched.{IsAccepted, IsApplied, IsMergedInto, IsMergePatchOf, IsPatchOf, IsTextOf, IsToldFor, MeetsTwice, OfDocument, StopsOn}
+use Rattle.jsonc_patch_engine.specs.Patched.{IsAccepted, IsApplied, IsMergedInto, IsMergePatchOf, IsPatchOf, IsTextOf, IsToldFor, IsNotForMemory, MeetsTwice, OfDocument, StopsOn}
 use Rattle.jsonc_patch_engine.specs.Results.{IsFaultOfInput, IsWritten}
 use Rattle.jsonc_patch_engine.specs.Runs.{Asks}
 use Rattle.jsonc_patch_engine.specs.declared.engine.Request.TheVariants as read
@@ -74,19 +74,40 @@ module _ {A : Type 0} (input : List ℕ) (doc : CstRootNode A) (o : Options) (al
   of_it : (is_so : Document → Type 0) → is_so shows.0 → OfDocument input is_so
   of_it is_so h = record { document = shows.0; options = shows.1; text = shows.2; so = h }
 
-  text_of_new : (new : CstRootNode A) (output : List ℕ) (is_so : Document → Type 0) (e : Document) → Shows e (tree_of new) → is_so e → output ≡ printed_of new → IsUtf8 output → IsTextOf output is_so
-  text_of_new new output is_so e s h prints utf8 = record { document = e; bytes = utf8; text = text_of_shown e new output s prints; so = h }
+  -- the input is within the depth, and a text of a document that stays so is accepted
+  module _ (small : HasNoDeeperValue o input) where
+    within_old : IsWithin shows.0.value
+    within_old =
+        let s = shows.3 in
+        let says : IsDocument shows.0.options (printed_text (tree_of doc)) shows.0.value = prints_value shows.0.options (tree_of doc) shows.0.value s.sound s.value in
+        let text : printed_text (tree_of doc) ≡ chars input = sym (ap (λ d. d.text) s.is) ∙ shows.2 in
+        let same : IsDocument all_on (printed_text (tree_of doc)) shows.0.value = subst (λ p. IsDocument p (printed_text (tree_of doc)) shows.0.value) shows.1 says in
+        let deep : HasNoDeeperValue all_on input = subst (λ p. HasNoDeeperValue p input) all small in
+        deep shows.0.value (subst (λ t. IsDocument all_on t shows.0.value) text same)
+
+    text_of_new : (new : CstRootNode A) (output : List ℕ) (is_so : Document → Type 0) (e : Document) → Shows e (tree_of new) → is_so e → e.options ≡ shows.0.options → (IsWithin shows.0.value → IsWithin e.value) → output ≡ printed_of new → IsUtf8 output
+        → IsTextOf output is_so
+    text_of_new new output is_so e s h options stays prints utf8 =
+        let says : IsDocument e.options (printed_text (tree_of new)) e.value = prints_value e.options (tree_of new) e.value s.sound s.value in
+        let same : IsDocument all_on (printed_text (tree_of new)) e.value = subst (λ p. IsDocument p (printed_text (tree_of new)) e.value) (options ∙ shows.1) says in
+        record {
+          document = e;
+          bytes = utf8;
+          text = text_of_shown e new output s prints;
+          so = h;
+          accepted = record { utf8 = utf8; value = e.value; document = subst (λ (b : List ℕ). IsDocument all_on (chars b) e.value) (sym prints) same; within = stays within_old };
+        }
 
   module _ (words : List ℕ) (ops : List (Operation A)) (patch : IsPatchOf words ops) where
     fits : All (FitsIn shows.0.options) ops
     fits = subst (λ o. All (FitsIn o) ops) (sym shows.1) patch.1
 
-    pub applied : (new : CstRootNode A) (output : List ℕ) → PatchesWhatShown doc ops new → output ≡ printed_of new → IsUtf8 output → IsApplied A words input output
-    applied new output h prints utf8 =
+    pub applied : HasNoDeeperValue o input → (new : CstRootNode A) (output : List ℕ) → PatchesWhatShown doc ops new → output ≡ printed_of new → IsUtf8 output → IsApplied A words input output
+    applied small new output h prints utf8 =
         let e = h shows.0 shows.3 fits in
-        record { operations = ops; patch = patch.0; made = of_it _ (text_of_new new output (λ e. IsPatched shows.0 ops e) e.0 e.1 e.2 prints utf8) }
+        record { operations = ops; patch = patch.0; made = of_it _ (text_of_new small new output (λ e. IsPatched shows.0 ops e) e.0 e.1 e.2 e.2.options e.2.within prints utf8) }
 
-    stopped : (fault : PatchFault A) → StopsWhatShown doc ops fault → ((why : EditError) → fault.cause ≢ cause.Edit why) → StopsOn words input fault
+    stopped : (fault : PatchFault A) → StopsWhatShown doc ops fault → IsNotForMemory fault → StopsOn words input fault
     stopped fault h another =
         let fit = All-take (FitsIn shows.0.options) fault.operation ops fits in
         record { operations = ops; patch = patch.0; stopped = of_it (λ d. IsStopped d ops fault) (h shows.0 shows.3 fit); cause = another }
@@ -94,6 +115,7 @@ module _ {A : Type 0} (input : List ℕ) (doc : CstRootNode A) (o : Options) (al
     pub told_of : (fault : PatchFault A) (f : Fault A) → IsAccepted input → StopsWhatShown doc ops fault → IsToldFor fault f → IsFaultOfInput (apply words) input f
     told_of fault (told.Operation g) accepted h (is, another) = subst (λ x. StopsOn words input x) (sym is) (stopped fault h another)
     told_of fault told.OutOfMemory accepted h t = accepted
+    told_of fault told.NestingDepthExceeded accepted h t = absurd t
     told_of fault (told.Input e) accepted h t = absurd t
     told_of fault (told.Pointer e) accepted h t = absurd t
     told_of fault (told.Patch e) accepted h t = absurd t
@@ -111,10 +133,10 @@ module _ {A : Type 0} (input : List ℕ) (doc : CstRootNode A) (o : Options) (al
     numbers : IsOfNumbers shows.0.options p
     numbers = subst (λ o. IsOfNumbers o p) (sym shows.1) patch.1
 
-    pub merged : (new : CstRootNode A) (output : List ℕ) → MergesWhatShown doc p new → output ≡ printed_of new → IsUtf8 output → IsMergedInto A words input output
-    merged new output h prints utf8 =
+    pub merged : HasNoDeeperValue o input → (new : CstRootNode A) (output : List ℕ) → MergesWhatShown doc p new → output ≡ printed_of new → IsUtf8 output → IsMergedInto A words input output
+    merged small new output h prints utf8 =
         let e = h shows.0 shows.3 numbers in
-        record { value = p; patch = patch.0; made = of_it _ (text_of_new new output (λ e. IsMerged A shows.0 p e) e.0 e.1 e.2 prints utf8) }
+        record { value = p; patch = patch.0; made = of_it _ (text_of_new small new output (λ e. IsMerged A shows.0 p e) e.0 e.1 e.2 e.2.options e.2.within prints utf8) }
 
     pub met_twice : (name : String A) → MergeStopsWhatShown doc p (merging.RepeatedName name) → MeetsTwice words input (chars_of name)
     met_twice name h = go (h shows.0 shows.3 numbers)

@@ -7,7 +7,7 @@ use Rattle.jsonc_parser.specs.patch.MergeMessages.{merge_patch_error_text}
 use Rattle.jsonc_parser.specs.patch.Messages.{pointer_error_text}
 use Rattle.jsonc_parser.specs.patch.PatchMessages.{patch_error_text}
 use Rattle.jsonc_patch_engine.specs.declared.fault.Fault.{Fault}
-use Rattle.jsonc_patch_engine.specs.declared.fault.Fault.TheVariants.{Input, MergePatch, NoSuchValue, NoValue, NonFinite, NotUtf8, Operation, OutOfMemory, Patch, Pointer, Read, RepeatedName, Usage, Write}
+use Rattle.jsonc_patch_engine.specs.declared.fault.Fault.TheVariants.{Input, MergePatch, NoSuchValue, NoValue, NonFinite, NestingDepthExceeded, NotUtf8, Operation, OutOfMemory, Patch, Pointer, Read, RepeatedName, Usage, Write}
 
 -- a line and a column
 abbrev pub place_text : ℕ → ℕ → List ℕ
@@ -23,6 +23,7 @@ fault_line (RepeatedName name) = codes "jsonc_patch: Name stands twice: " ++ str
 fault_line NoSuchValue = codes "jsonc_patch: no such value"
 fault_line NoValue = codes "jsonc_patch: root value is missing"
 fault_line (NonFinite at) = codes "jsonc_patch: number is not finite" ++ place_text at.line at.column
+fault_line NestingDepthExceeded = codes "jsonc_patch: Maximum nesting depth exceeded"
 fault_line OutOfMemory = codes "jsonc_patch: Out of memory"
 fault_line NotUtf8 = codes "jsonc_patch: input is not UTF-8"
 fault_line Read = codes "jsonc_patch: read failed"

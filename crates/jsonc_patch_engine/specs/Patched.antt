@@ -1,5 +1,5 @@
 -- What a patch makes of the input, and why it is not made (RFC 6902 and RFC 7396).
-use Rattle.std.specs.Prelude.{◌≡◌, ◌≢◌, ℕ, List, [], Option, IsUtf8, chars, map}
+use Rattle.std.specs.Prelude.{◌≡◌, ℕ, List, [], Option, IsUtf8, chars, map}
 use Rattle.std.specs.List.{All}
 use Rattle.jsonc_edit.specs.Writing.{IsOfNumbers}
 use Rattle.jsonc_layout.specs.input.Views.{chars_of}
@@ -8,6 +8,8 @@ use Rattle.jsonc_text.specs.Grammar.{IsDocument}
 use Rattle.jsonc_text.specs.Options.{all_on}
 use Rattle.jsonc_text.specs.Plain.{Plain}
 use Rattle.jsonc_text.specs.declared.edit.EditError.{EditError}
+use Rattle.jsonc_text.specs.declared.edit.EditError.TheVariants.{NestingDepthExceeded}
+use Rattle.jsonc_engine.specs.Input.{IsInput}
 use Rattle.jsonc_parser.specs.patch.Applied.{IsPatched, IsStopped}
 use Rattle.jsonc_parser.specs.patch.Asked.{asked, FitsIn}
 use Rattle.jsonc_parser.specs.patch.Merged.{IsMerged}
@@ -35,12 +37,13 @@ pub record OfDocument (input : List ℕ) (is_so : Document → Type 0) : Type 0 
   pub text : document.text ≡ chars input
   pub so : is_so document
 
--- the output is the text of a document, of which this is so
+-- the output is the text of a document, of which this is so, and which `jsonc check` accepts
 pub record IsTextOf (output : List ℕ) (is_so : Document → Type 0) : Type 0 where
   pub document : Document
   pub bytes : IsUtf8 output
   pub text : document.text ≡ chars output
   pub so : is_so document
+  pub accepted : IsInput output
 
 -- the operations of the patch lead from the document of the input to that of the output
 pub record IsApplied (A : Type 0) (text input output : List ℕ) : Type 0 where
@@ -54,12 +57,16 @@ pub record IsMergedInto (A : Type 0) (text input output : List ℕ) : Type 0 whe
   pub patch : IsMergePatch all_on (chars text) value
   pub made : OfDocument input (λ d. IsTextOf output (λ e. IsMerged A d value e))
 
+-- if an edit was refused, a value would be nested too deep
+abbrev pub IsNotForMemory : {A : Type 0} → PatchFault A → Type 0
+IsNotForMemory fault = (why : EditError) → fault.cause ≡ cause.Edit why → why ≡ NestingDepthExceeded
+
 -- in the document of the input the operations of the patch stop with this fault, and not for memory
 pub record StopsOn {A : Type 0} (text input : List ℕ) (fault : PatchFault A) : Type 0 where
   pub operations : List (Operation A)
   pub patch : IsPatch all_on (chars text) (map asked operations)
   pub stopped : OfDocument input (λ d. IsStopped d operations fault)
-  pub cause : (why : EditError) → fault.cause ≢ cause.Edit why
+  pub cause : IsNotForMemory fault
 
 -- in the document of the input more than one property of an object has this name, which the merge patch names there
 pub record MeetsTwice (text input name : List ℕ) : Type 0 where
@@ -73,6 +80,6 @@ IsAccepted input = (w : Option Plain) × IsDocument all_on (chars input) w
 
 -- what is told of an operation that was not made: itself, or that there was no memory
 abbrev pub IsToldFor : {A : Type 0} → PatchFault A → Fault A → Type 0
-IsToldFor fault (told.Operation f) = (f ≡ fault) × ((why : EditError) → fault.cause ≢ cause.Edit why)
+IsToldFor fault (told.Operation f) = (f ≡ fault) × IsNotForMemory fault
 IsToldFor fault told.OutOfMemory = (why : EditError) × (fault.cause ≡ cause.Edit why)
 IsToldFor fault other = ⊥

@@ -26,7 +26,7 @@ use Rattle.jsonc_patch_engine.specs.Causes.{HasNonFinite, HasValue, IsJsonOf, Is
 use Rattle.jsonc_patch_engine.specs.Command.{Request, apply, find, json, merge}
 use Rattle.jsonc_patch_engine.specs.Patched.{IsAccepted, IsApplied, IsMergedInto, MeetsTwice, StopsOn}
 use Rattle.jsonc_patch_engine.specs.declared.fault.Fault.{Fault}
-use Rattle.jsonc_patch_engine.specs.declared.fault.Fault.TheVariants.{Input, MergePatch, NoSuchValue, NoValue, NonFinite, NotUtf8, Operation, OutOfMemory, Patch, Pointer, RepeatedName}
+use Rattle.jsonc_patch_engine.specs.declared.fault.Fault.TheVariants.{Input, MergePatch, NestingDepthExceeded, NoSuchValue, NoValue, NonFinite, NotUtf8, Operation, OutOfMemory, Patch, Pointer, RepeatedName}
 
 -- the text is a pointer of these tokens
 abbrev pub IsPointer : List ℕ → List (List ℕ) → Type 0
@@ -104,6 +104,7 @@ IsFaultOfInput (find text) input (RepeatedName name) = OfPointer text input (λ 
 IsFaultOfInput (find text) input NoSuchValue = OfPointer text input (λ d ns tokens. RefersToNothing d tokens)
 IsFaultOfInput (apply text) input (Operation fault) = StopsOn text input fault
 IsFaultOfInput (merge text) input (RepeatedName name) = MeetsTwice text input (chars_of name)
+IsFaultOfInput (merge text) input NestingDepthExceeded = IsAccepted input
 IsFaultOfInput json input NoValue = IsDocument all_on (chars input) None
 IsFaultOfInput json input (NonFinite at) = IsNonFiniteAt input at.line at.column
 IsFaultOfInput request input (Input e) = IsRefusedText request input e

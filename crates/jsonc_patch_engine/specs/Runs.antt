@@ -11,7 +11,7 @@ use Rattle.jsonc_patch_engine.specs.Results.{IsFaultOn, IsPointer, IsWritten, Wa
 use Rattle.jsonc_patch_engine.specs.declared.engine.Request.TheVariants as read
 use Rattle.jsonc_patch_engine.specs.declared.engine.Request.{Request as Read}
 use Rattle.jsonc_patch_engine.specs.declared.fault.Fault.{Fault}
-use Rattle.jsonc_patch_engine.specs.declared.fault.Fault.TheVariants.{Input, MergePatch, NoSuchValue, NoValue, NonFinite, NotUtf8, Operation, OutOfMemory, Patch, Pointer, RepeatedName, Usage, Write}
+use Rattle.jsonc_patch_engine.specs.declared.fault.Fault.TheVariants.{Input, MergePatch, NestingDepthExceeded, NoSuchValue, NoValue, NonFinite, NotUtf8, Operation, OutOfMemory, Patch, Pointer, RepeatedName, Usage, Write}
 use Rattle.jsonc_patch_engine.specs.declared.fault.Fault.TheVariants as fault
 
 -- this is what was read of what is asked
@@ -38,6 +38,7 @@ EndsBehindInput (RepeatedName name) = Unit {0}
 EndsBehindInput NoSuchValue = Unit {0}
 EndsBehindInput NoValue = Unit {0}
 EndsBehindInput (NonFinite at) = Unit {0}
+EndsBehindInput NestingDepthExceeded = Unit {0}
 EndsBehindInput NotUtf8 = Unit {0}
 EndsBehindInput Write = Unit {0}
 EndsBehindInput other = ⊥

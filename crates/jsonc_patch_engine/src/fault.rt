@@ -32,6 +32,8 @@ pub enum Fault<A: Allocator> {
     NoValue,
     /// A number of the input is `Infinity` or `NaN`.
     NonFinite(LineAndColumn),
+    /// A value of a merge patch would be nested too deep.
+    NestingDepthExceeded,
     /// Memory ran out outside parsing.
     OutOfMemory,
     /// The input's bytes are not UTF-8.
@@ -95,6 +97,9 @@ impl<A: Allocator> fmt::Display for Fault<A> {
             Fault::NonFinite(at) => {
                 f.write_str("jsonc_patch: number is not finite")?;
                 write_place(at.line, at.column, f)
+            }
+            Fault::NestingDepthExceeded => {
+                f.write_str("jsonc_patch: Maximum nesting depth exceeded")
             }
             Fault::OutOfMemory => f.write_str("jsonc_patch: Out of memory"),
             Fault::NotUtf8 => f.write_str("jsonc_patch: input is not UTF-8"),

@@ -8,7 +8,7 @@ ghost use Rattle.jsonc_patch_engine.specs.Results.{IsFaultOfInput, IsFaultOfWord
 
 use crate::fault::Fault;
 use jsonc_parser::ParseOptions;
-use jsonc_parser::cst::{CstInputValue, CstRootNode};
+use jsonc_parser::cst::{CstInputValue, CstRootNode, EditError};
 use jsonc_parser::patch::{
     MergeFault, MergePatchError, OperationFault, Patch, PatchCause, PatchError, PatchFault, merge,
     merge_patch_from_json,
@@ -42,12 +42,17 @@ pub(crate) fn merge_patch_of<A: Allocator + Copy>(
     }
 }
 
-// What is told of an operation that was not made: where that was for an edit, there was no memory.
+// What is told of an operation that was not made: where that was for an edit, a value would be nested too deep, or there
+// was no memory.
 fn fault_of<A: Allocator>(fault: PatchFault<A>) -> Fault<A>
     ensures { IsToldFor fault result }
 {
     let PatchFault { operation, cause } = fault;
     match cause {
+        PatchCause::Edit(EditError::NestingDepthExceeded) => Fault::Operation(PatchFault {
+            operation,
+            cause: PatchCause::Edit(EditError::NestingDepthExceeded),
+        }),
         PatchCause::Edit(_) => Fault::OutOfMemory,
         cause => Fault::Operation(PatchFault { operation, cause }),
     }
@@ -96,6 +101,7 @@ pub(crate) fn merged<A: Allocator + Copy>(
     match merge(&mut document, patch) {
         Ok(()) => {}
         Err(MergeFault::RepeatedName(name)) => return Err(Fault::RepeatedName(name)),
+        Err(MergeFault::NestingDepthExceeded) => return Err(Fault::NestingDepthExceeded),
         Err(MergeFault::OutOfMemory) => return Err(Fault::OutOfMemory),
     }
     match document.text() {

@@ -1,5 +1,6 @@
 //! The tests, and what they share.
 
+mod depth;
 mod patch_rows;
 mod patches;
 mod refusals;

@@ -2,6 +2,7 @@
 
 mod calls;
 mod clones;
+mod depth;
 mod kinds;
 mod lines;
 mod maps;

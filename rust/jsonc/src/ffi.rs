@@ -249,7 +249,8 @@ unsafe extern "C" {
     /// appends such a property. A document without a value gets an object.
     ///
     /// 0: it is done. 1, 3 and 4 as of `jsonc_check`. 2: the name or JSON text is not UTF-8. 7 and 8: the JSON
-    /// text is no document, or has no value. 9: the document's value is another.
+    /// text is no document, or has no value. 9: the document's value is another. 28: the value would be nested
+    /// deeper than texts are parsed.
     pub fn jsonc_set(text: *const u8, text_len: usize, name: *const u8, name_len: usize, json: *const u8, json_len: usize, options: u32, out: *mut Slice<u8>, fault: *mut Fault) -> u32;
 
     /// Appends the value of a JSON text to the document's array. A document without a value gets an array.
@@ -309,7 +310,8 @@ unsafe extern "C" {
     /// 0: it is done. 1, 3 and 4 as of `jsonc_check`. 2 and 7: the patch is not UTF-8, or no document of the
     /// options. 22: it is no patch. Of an operation that is not made, 20: a pointer leads to nothing; 21: a
     /// name on its way stands twice in its object; 23: a value would be moved into itself; 24: the value is
-    /// another than that of a `test`. With 20 to 24 the fault tells how many operations stand before.
+    /// another than that of a `test`; 28: a value would be nested deeper than texts are parsed. With 20 to 24
+    /// and 28 the fault tells how many operations stand before.
     pub fn jsonc_apply_patch(text: *const u8, text_len: usize, patch: *const u8, patch_len: usize, options: u32, out: *mut Slice<u8>, fault: *mut Fault) -> u32;
 
     /// Merges a JSON Merge Patch (RFC 7396) into the document, and hands out the text after it. Where a name
@@ -319,7 +321,7 @@ unsafe extern "C" {
     ///
     /// 0: it is done. 1, 3 and 4 as of `jsonc_check`. 2, 7 and 8: the patch is not UTF-8, or no document of the
     /// options, or has no value. 21: a name stands twice in an object of the patch, or in one of the document
-    /// where it is looked up.
+    /// where it is looked up. 28: a value would be nested deeper than texts are parsed.
     pub fn jsonc_merge_patch(text: *const u8, text_len: usize, patch: *const u8, patch_len: usize, options: u32, out: *mut Slice<u8>, fault: *mut Fault) -> u32;
 
     /// Writes the text that the document prints into a buffer, as `jsonc_print` hands it out.

@@ -3,9 +3,7 @@
 use crate::tests::reading::read;
 use failing_alloc::outcome::Outcome;
 use jsonc_parser::ParseOptions;
-use jsonc_parser::cst::{
-    CstInputValue, CstRootNode, Edit, EditError, Over, Shape, run_unsorted,
-};
+use jsonc_parser::cst::{CstInputValue, CstRootNode, Edit, EditError, Over, Shape, run_unsorted};
 use jsonc_parser::errors::ParseErrorKind;
 use std::alloc::{AllocError, Global};
 use std::default::Default;
@@ -70,7 +68,7 @@ static ROWS: [Nested; 34] = [
 ];
 
 /// `null` in so many arrays, one in another.
-fn nested(alloc: Global, count: usize) -> Result<CstInputValue<Global>, AllocError> {
+pub fn nested(alloc: Global, count: usize) -> Result<CstInputValue<Global>, AllocError> {
     let mut value = CstInputValue::Null;
     for _ in 0..count {
         let mut elements = Vec::new(alloc);

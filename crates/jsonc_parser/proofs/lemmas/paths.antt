@@ -4,6 +4,7 @@ pub mod Chosen
 pub mod ChosenEdit
 pub mod ChosenNodes
 pub mod Collapsed
+pub mod Depths
 pub mod Found
 pub mod Index
 pub mod LastNames

@@ -4,7 +4,8 @@ use Rattle.std.specs.List.{slice_get, All}
 use Rattle.jsonc_text.specs.Documents.{Document}
 use Rattle.jsonc_text.specs.Options.{Options}
 use Rattle.jsonc_text.specs.Plain.{Plain, collapse}
-use Rattle.jsonc_text.specs.declared.edit.EditError.TheVariants.{OutOfMemory}
+use Rattle.jsonc_text.specs.declared.edit.EditError.{EditError}
+use Rattle.jsonc_text.specs.declared.edit.EditError.TheVariants.{NestingDepthExceeded, OutOfMemory}
 use Rattle.jsonc_tree.specs.Building.{Keeps}
 use Rattle.jsonc_tree.specs.Content.{object}
 use Rattle.jsonc_tree.specs.Tree.{Node, content_at}
@@ -14,9 +15,10 @@ use Rattle.jsonc_layout.specs.input.Views.{chars_of}
 use Rattle.jsonc_layout.specs.nodes.Siblings.{elements_at}
 use Rattle.jsonc_sound.specs.Documents.{Shows}
 use Rattle.jsonc_run.specs.declared.edit.Edit.{Edit}
-use Rattle.jsonc_run.specs.Edits.{operation_of, unsorted}
+use Rattle.jsonc_run.specs.Edits.{operation_of, unsorted, EditStep}
 use Rattle.jsonc_run.specs.Refusals.{FailsWith}
 use Rattle.jsonc_run.specs.promise.Asked.{EditsTo}
+use Rattle.jsonc_run.specs.promise.Within.{KeepsWithin, StaysWithin}
 use Rattle.jsonc_cst.specs.declared.cst.CstRootNode.{CstRootNode}
 use Rattle.jsonc_cst.specs.declared.cst.node.CstNode.{CstNode}
 use Rattle.jsonc_cst.specs.Document.{nodes_of, tree_of}
@@ -50,12 +52,19 @@ LeadsOn front tokens = (rest : List (List ℕ)) × (tokens ≡ front ++ rest)
 abbrev pub Takes : Document → List (List ℕ) → Plain → Type 0
 Takes d tokens taken = (v : Plain) × RefersTo d.value tokens v × (taken ≡ collapse v)
 
--- Edits lead from the one document to the other, of the same options, and between their values the operation does.
+-- Edits lead from the one document to the other, of the same options, and between their values the operation does. A document within the depth stays so.
 pub record IsMade (A : Type 0) (d : Document) (operation : value.Operation) (e : Document) : Type 0 where
   pub edits : List (Edit A)
   pub edited : EditsTo d edits e
   pub options : e.options ≡ d.options
   pub made : Makes operation d.value e.value
+  pub within : StaysWithin d e
+
+-- there was no memory, or a value would be nested deeper than texts are parsed
+abbrev pub IsNoRoom : EditError → Type 0
+IsNoRoom OutOfMemory = Unit {0}
+IsNoRoom NestingDepthExceeded = Unit {0}
+IsNoRoom why = ⊥
 
 module _ {A : Type 0} where
   -- it is one edit at most
@@ -89,10 +98,19 @@ module _ {A : Type 0} where
       (tokens : List (List ℕ)) → IsOfShown old (λ d. RefersToNode d (nodes_of old) tokens (number_of node)) → IsOfShown old (λ d. RefersToNothing d (tokens ++ name ∷ []))
       → MakesWhatShown old (value.add (tokens ++ name ∷ []) v) (λ o. IsOfNumbers o v) new
 
+  -- the edit was made, after which a document within the depth is so
+  abbrev pub IsEditDone : CstRootNode A → Edit A → CstRootNode A → Type 0
+  IsEditDone old edit new = EditStep (nodes_of old) (operation_of unsorted edit) (nodes_of new) × KeepsWithin (nodes_of old) (operation_of unsorted edit) (nodes_of new)
+
   -- there was no memory
   abbrev pub IsNoMemory : PatchCause A → Type 0
   IsNoMemory (causes.Edit why) = why ≡ OutOfMemory
   IsNoMemory cause = ⊥
+
+  -- an edit was refused: there was no memory, or a value would be nested too deep
+  abbrev pub IsUnedited : PatchCause A → Type 0
+  IsUnedited (causes.Edit why) = IsNoRoom why
+  IsUnedited cause = ⊥
 
   -- why tokens were not followed to a value
   abbrev pub IsUnfound : Option Plain → List (List ℕ) → PatchCause A → Type 0
@@ -112,7 +130,7 @@ module _ {A : Type 0} where
   IsCause operation w causes.IntoItself = GoesIntoItself operation w
   IsCause operation w causes.NotEqual = FindsAnother operation w
   IsCause operation w causes.TooLarge = ⊥
-  IsCause operation w (causes.Edit why) = why ≡ OutOfMemory
+  IsCause operation w (causes.Edit why) = IsNoRoom why
 
   -- so it is of the value of whatever document the tree shows
   abbrev pub FailsWhatShown : CstRootNode A → value.Operation → PatchCause A → Type 0
@@ -133,21 +151,22 @@ module _ {A : Type 0} where
   FailsBelow doc node all last v cause =
       (tokens : List (List ℕ)) → all ≡ tokens ++ last ∷ [] → IsOfShown doc (λ d. RefersToNode d (nodes_of doc) tokens (number_of node)) → FailsWhatShown doc (value.add all v) cause
 
-  -- if tokens refer to the node, then only for memory
+  -- if tokens refer to the node, then only as an edit is refused that has its place
   abbrev pub FailsForMemory : CstRootNode A → CstNode → PatchCause A → Type 0
-  FailsForMemory doc node cause = (tokens : List (List ℕ)) → IsOfShown doc (λ d. RefersToNode d (nodes_of doc) tokens (number_of node)) → IsOfShown doc (λ d. IsNoMemory cause)
+  FailsForMemory doc node cause = (tokens : List (List ℕ)) → IsOfShown doc (λ d. RefersToNode d (nodes_of doc) tokens (number_of node)) → IsOfShown doc (λ d. IsUnedited cause)
 
   -- the document, and each node that was there, is as it was
   pub record IsKept (old new : CstRootNode A) : Type 0 where
     pub tree : tree_of new ≡ tree_of old
     pub nodes : Keeps (length (nodes_of old)) (nodes_of old) (nodes_of new)
 
-  -- the operations lead from the value of the one document to that of the other, and edits from the one to the other
+  -- The operations lead from the value of the one document to that of the other, and edits from the one to the other. A document within the depth stays so.
   pub record IsPatched (d : Document) (operations : List (Operation A)) (e : Document) : Type 0 where
     pub edits : List (Edit A)
     pub edited : EditsTo d edits e
     pub options : e.options ≡ d.options
     pub made : MakesAll (map asked operations) d.value e.value
+    pub within : StaysWithin d e
 
   -- so it is of whatever document the old one shows
   abbrev pub PatchesWhatShown : CstRootNode A → List (Operation A) → CstRootNode A → Type 0

@@ -22,4 +22,5 @@ module _ {A : Type 0} where
 
   abbrev pub merge_fault_text : MergeFault A → List ℕ
   merge_fault_text (merge.RepeatedName name) = codes "Name stands twice: " ++ string_bytes name
+  merge_fault_text merge.NestingDepthExceeded = codes "Maximum nesting depth exceeded"
   merge_fault_text merge.OutOfMemory = codes "Out of memory"

@@ -3,7 +3,7 @@ use Rattle.std.specs.Prelude.{◌≡◌, ◌≢◌, ◌⊎◌, ◌++◌, ◌∷�
 use Rattle.jsonc_text.specs.Documents.{Document}
 use Rattle.jsonc_text.specs.Options.{Options}
 use Rattle.jsonc_text.specs.Plain.{Plain, null, object, Members}
-use Rattle.jsonc_text.specs.declared.edit.EditError.TheVariants.{OutOfMemory}
+use Rattle.jsonc_text.specs.declared.edit.EditError.TheVariants.{NestingDepthExceeded}
 use Rattle.jsonc_edit.specs.Writing.{IsOfNumbers, AreNamedOfNumbers}
 use Rattle.jsonc_layout.specs.input.Views.{chars_of}
 use Rattle.jsonc_sound.specs.Documents.{Shows}
@@ -11,6 +11,8 @@ use Rattle.jsonc_run.specs.declared.edit.Edit.{Edit}
 use Rattle.jsonc_run.specs.promise.Asked.{EditsTo}
 use Rattle.jsonc_cst.specs.declared.cst.CstRootNode.{CstRootNode}
 use Rattle.jsonc_cst.specs.Document.{tree_of}
+use Rattle.jsonc_run.specs.promise.Within.{StaysWithin}
+use Rattle.jsonc_parser.specs.patch.Applied.{IsNoRoom}
 use Rattle.jsonc_parser.specs.patch.Failing.{ReferToNothing}
 use Rattle.jsonc_parser.specs.patch.Merging.{GoesInto, Merges, Stops}
 use Rattle.jsonc_parser.specs.patch.Operations.{Removes}
@@ -42,34 +44,35 @@ Sets tokens p w y = ¬ (GoesInto p tokens w) → Merges tokens p w y
 abbrev pub MergesNamed : List (List ℕ) → Plain → Option Plain → Option Plain → Type 0
 MergesNamed tokens p w y = (p ≡ null → Drops tokens w y) × (p ≢ null → Merges tokens p w y)
 
--- Edits lead from the one document to the other, of the same options, and so between their values.
+-- Edits lead from the one document to the other, of the same options, and so between their values. A document within the depth stays so.
 pub record IsReached (A : Type 0) (d : Document) (Leads : Option Plain → Option Plain → Type 0) (e : Document) : Type 0 where
   pub edits : List (Edit A)
   pub edited : EditsTo d edits e
   pub options : e.options ≡ d.options
   pub leads : Leads d.value e.value
+  pub within : StaysWithin d e
 
 module _ {A : Type 0} where
   -- so it is of whatever document the old one shows, if the numbers that are written fit
   abbrev pub ReachesWhatShown : CstRootNode A → (Options → Type 0) → (Option Plain → Option Plain → Type 0) → CstRootNode A → Type 0
   ReachesWhatShown old Fit Leads new = (d : Document) → Shows d (tree_of old) → Fit d.options → (e : Document) × Shows e (tree_of new) × IsReached A d Leads e
 
-  -- a name occurs twice where the tokens are looked up, or there was no memory
+  -- a name occurs twice where the tokens are looked up, or there was no memory, or a value would be nested too deep
   abbrev pub IsTwice : Option Plain → List (List ℕ) → PatchCause A → Type 0
   IsTwice w tokens (causes.RepeatedName name) = FailsAt w tokens (chars_of name)
-  IsTwice w tokens (causes.Edit why) = why ≡ OutOfMemory
+  IsTwice w tokens (causes.Edit why) = IsNoRoom why
   IsTwice w tokens cause = ⊥
 
   -- so it is, or merging stops inside
   abbrev pub IsMergeCause : List (List ℕ) → Plain → Option Plain → PatchCause A → Type 0
   IsMergeCause tokens p w (causes.RepeatedName name) = FailsAt w tokens (chars_of name) ⊎ Stops (chars_of name) tokens p w
-  IsMergeCause tokens p w (causes.Edit why) = why ≡ OutOfMemory
+  IsMergeCause tokens p w (causes.Edit why) = IsNoRoom why
   IsMergeCause tokens p w cause = ⊥
 
-  -- merging stops inside, or there was no memory
+  -- merging stops inside, or there was no memory, or a value would be nested too deep
   abbrev pub IsStop : List (List ℕ) → Plain → Option Plain → PatchCause A → Type 0
   IsStop tokens p w (causes.RepeatedName name) = Stops (chars_of name) tokens p w
-  IsStop tokens p w (causes.Edit why) = why ≡ OutOfMemory
+  IsStop tokens p w (causes.Edit why) = IsNoRoom why
   IsStop tokens p w cause = ⊥
 
   -- so it is of whatever document it shows, where a value may be put at the tokens
@@ -86,18 +89,22 @@ module _ {A : Type 0} where
   -- the fault by which a cause is reported
   abbrev pub IsReportedAs : PatchCause A → MergeFault A → Type 0
   IsReportedAs (causes.RepeatedName name) fault = fault ≡ merge.RepeatedName name
+  IsReportedAs (causes.Edit NestingDepthExceeded) fault = fault ≡ merge.NestingDepthExceeded
   IsReportedAs cause fault = fault ≡ merge.OutOfMemory
 
   -- the fault has this name, or reports that there was no memory for it
   abbrev pub ReportsName : List ℕ → MergeFault A → Type 0
   ReportsName name (merge.RepeatedName s) = chars_of s ≡ name
   ReportsName name merge.OutOfMemory = Unit {0}
+  ReportsName name merge.NestingDepthExceeded = ⊥
 
   -- more than one member has the name of the fault; or more than one member of an object in the value
   abbrev pub AreNamesTwice : Members → MergeFault A → Type 0
   AreNamesTwice ms (merge.RepeatedName name) = IsRepeated (chars_of name) ms
   AreNamesTwice ms merge.OutOfMemory = Unit {0}
+  AreNamesTwice ms merge.NestingDepthExceeded = ⊥
 
   abbrev pub HasNameTwice : Plain → MergeFault A → Type 0
   HasNameTwice p (merge.RepeatedName name) = RepeatsName (chars_of name) p
   HasNameTwice p merge.OutOfMemory = Unit {0}
+  HasNameTwice p merge.NestingDepthExceeded = ⊥

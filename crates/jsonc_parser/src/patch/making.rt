@@ -6,12 +6,12 @@ ghost use Rattle.jsonc_tree.specs.Content.{Content};
 ghost use Rattle.jsonc_edit.specs.Paths.{IsAt};
 ghost use Rattle.jsonc_edit.specs.Writing.{IsOfNumbers};
 ghost use Rattle.jsonc_layout.specs.input.Views.{chars_of, plain};
-ghost use Rattle.jsonc_run.specs.Edits.{is_whole, operation_of, unsorted, EditStep};
+ghost use Rattle.jsonc_run.specs.Edits.{is_whole};
 ghost use Rattle.jsonc_cst.specs.Document.{content_of, nodes_of, HasNode};
 ghost use Rattle.jsonc_cst.specs.Nodes.{number_of};
 ghost use Rattle.jsonc_parser.specs.paths.Found.{names_of};
 ghost use Rattle.jsonc_parser.specs.patch.Applied.{is_one_edit, AddsMember, AppendsTo, FailsBelow, FailsForMemory};
-ghost use Rattle.jsonc_parser.specs.patch.Applied.{FailsWhatShown, IsKept, IsPathless, IsRefusal, IsUnfound};
+ghost use Rattle.jsonc_parser.specs.patch.Applied.{FailsWhatShown, IsEditDone, IsKept, IsPathless, IsRefusal, IsUnfound};
 ghost use Rattle.jsonc_parser.specs.patch.Applied.{HasCause, LeadsOn, LeadsOver, MakesWhatShown, PutsAt, Takes};
 ghost use Rattle.jsonc_parser.specs.patch.Asked.{asked, FitsIn};
 ghost use Rattle.jsonc_parser.specs.patch.FaultMessages.{patch_cause_text};
@@ -45,7 +45,7 @@ pub enum PatchCause<A: Allocator> {
     /// The document's text would have more bytes than are allowed, as [`Patch::apply_within`](super::Patch::apply_within)
     /// says.
     TooLarge,
-    /// An edit was refused, or there was no memory.
+    /// An edit was refused: a value would be nested too deep, or there was no memory.
     Edit(EditError),
 }
 
@@ -195,7 +195,7 @@ pub(super) fn edit<A: Allocator + Copy>(
     edit: Edit<A>,
 ) -> Result<(), PatchCause<A>>
     requires { is_whole edit ≡ true }
-    ensures made { OnOk result (EditStep (nodes_of doc.old) (operation_of unsorted edit) (nodes_of doc.new)) }
+    ensures made { OnOk result (IsEditDone doc.old edit doc.new) }
     ensures kept { OnErr result (IsKept doc.old doc.new) }
     ensures fails { IfErr result (IsRefusal doc.old edit) }
 {

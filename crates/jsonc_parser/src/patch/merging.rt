@@ -31,6 +31,8 @@ use std::fmt;
 pub enum MergeFault<A: Allocator> {
     /// This name occurs twice in an object of the patch, or in the object of the document that it is looked up in.
     RepeatedName(String<A>),
+    /// A value would be nested deeper in the document than texts are parsed.
+    NestingDepthExceeded,
     /// An allocation failed.
     OutOfMemory,
 }
@@ -46,6 +48,7 @@ impl<A: Allocator> fmt::Display for MergeFault<A> {
                 f.write_str("Name stands twice: ")?;
                 f.write_str(name.as_str())
             }
+            MergeFault::NestingDepthExceeded => f.write_str("Maximum nesting depth exceeded"),
             MergeFault::OutOfMemory => f.write_str("Out of memory"),
         }
     }
@@ -266,7 +269,8 @@ fn merge_members<A: Allocator + Copy>(
     Ok(())
 }
 
-// The fault of a cause. Others than a name that occurs twice and a lack of memory do not arise in a merge.
+// The fault of a cause. Others than a name that occurs twice, a value nested too deep and a lack of memory do not
+// arise in a merge.
 fn fault_of<A: Allocator>(cause: PatchCause<A>) -> MergeFault<A>
     ensures { IsReportedAs cause result }
 {
@@ -276,6 +280,7 @@ fn fault_of<A: Allocator>(cause: PatchCause<A>) -> MergeFault<A>
         PatchCause::IntoItself => MergeFault::OutOfMemory,
         PatchCause::NotEqual => MergeFault::OutOfMemory,
         PatchCause::TooLarge => MergeFault::OutOfMemory,
+        PatchCause::Edit(EditError::NestingDepthExceeded) => MergeFault::NestingDepthExceeded,
         PatchCause::Edit(_) => MergeFault::OutOfMemory,
     }
 }
@@ -303,7 +308,8 @@ fn merge_whole<A: Allocator + Copy>(
 /// already, with the same texts of numbers, is not touched. An array is a value as a whole.
 ///
 /// A name that occurs twice in an object of the patch, or in the object of the document that it is looked
-/// up in, is an error. On an error the document and each of its nodes are as they were.
+/// up in, is an error, and so is a value that would be nested deeper in the document than [`CstRootNode::parse`]
+/// accepts. On an error the document and each of its nodes are as they were.
 ///
 /// A document keeps no options: the numbers of the patch have to be numbers of those that it was parsed with.
 /// The patch is merged into a copy of the document's nodes, which shares its text.

@@ -1,12 +1,14 @@
 //! Values put at paths of names, and dropped.
 
+ghost use Rattle.std.specs.Bool.{Decides};
 ghost use Rattle.std.specs.Prelude.{◌≡◌, ◌<◌, ◌∷◌, [], length, true, IfErr, IfOk, OnErr, OnOk};
 ghost use Rattle.jsonc_layout.specs.input.Views.{chars_of, plain};
 ghost use Rattle.jsonc_run.specs.Edits.{is_whole, operation_of, unsorted, EditStep};
 ghost use Rattle.jsonc_run.specs.Refusals.{FailsWith};
 ghost use Rattle.jsonc_cst.specs.Document.{nodes_of, tree_of};
 ghost use Rattle.jsonc_parser.specs.declared.paths.which.Which.TheVariants.{First, Last};
-ghost use Rattle.jsonc_parser.specs.paths.Calls.{DropsWhatShown, IsReadThere, MakesOneEdit, PutsWhatShown, WantsMemory};
+ghost use Rattle.jsonc_parser.specs.paths.Calls.{DropsWhatShown, FailsToPut, FitsAt, IsReadThere, MakesOneEdit};
+ghost use Rattle.jsonc_parser.specs.paths.Calls.{PutsWhatShown, WantsMemory};
 ghost use Rattle.jsonc_parser.specs.paths.Choices.{Chooses, IsAppending};
 ghost use Rattle.jsonc_parser.specs.paths.Found.{names_of};
 ghost use Rattle.jsonc_parser.specs.paths.Memory.{DecidesMustStay, WantsForSomething, WantsToLookUp, WantsToPut};
@@ -17,6 +19,7 @@ use crate::paths::reached::{Reached, is_in_the_way, reach};
 use crate::paths::which::Which;
 use jsonc_cst::cst::{CstInputValue, CstRootNode, EditError};
 use jsonc_run::{Edit, Over};
+use jsonc_walk::context::MAXIMUM_NESTING;
 use std::alloc::Allocator;
 
 // A name, as text of its own.
@@ -156,6 +159,16 @@ fn make_one<A: Allocator + Copy>(doc: &mut CstRootNode<A>, edit: Edit<A>) -> Res
     doc.make(&edit)
 }
 
+// Whether a value fits at names, at which it has an object and a property around it for each name.
+fn fits_at<A: Allocator>(names: &[String<A>], value: &CstInputValue<A>) -> bool
+    ensures { Decides result (FitsAt (names_of names.now) (plain value.now)) }
+{
+    if names.len() > MAXIMUM_NESTING / 2 {
+        return false;
+    }
+    value.is_within(MAXIMUM_NESTING - 2 * names.len())
+}
+
 // Sets the value at a path of names by one edit.
 fn put<A: Allocator + Copy>(
     doc: &mut CstRootNode<A>,
@@ -167,10 +180,16 @@ fn put<A: Allocator + Copy>(
     ensures put { IfOk result
         (PutsWhatShown which (plain value) over (names_of names.now) (nodes_of doc.old) (nodes_of doc.new)) }
     ensures one { IfOk result (MakesOneEdit (nodes_of doc.old) (nodes_of doc.new)) }
-    ensures error { IfErr result (WantsMemory (nodes_of doc.old)) }
-    ensures oom_only_if { OnErr result (WantsToPut which over (nodes_of doc.old) (names_of names.now)) }
+    ensures fits { OnOk result (FitsAt (names_of names.now) (plain value)) }
+    ensures error { IfErr result (FailsToPut (nodes_of doc.old) (names_of names.now) (plain value)) }
+    ensures oom_only_if { IfErr result (λ e. e ≡ EditError.OutOfMemory
+        → WantsToPut which over (nodes_of doc.old) (names_of names.now)) }
     ensures document { OnErr result (tree_of doc.new ≡ tree_of doc.old) }
 {
+    // The depth is seen first, before anything is nested or laid out.
+    if !fits_at(names, &value) {
+        return Err(EditError::NestingDepthExceeded);
+    }
     // What is to stay is seen before memory is allocated for the edit.
     let stays = match must_stay(doc, names, over, which) {
         Ok(stays) => stays,
@@ -199,7 +218,12 @@ fn put<A: Allocator + Copy>(
 /// and the answer is false; with `Over::Replace` it is replaced by the rest nested.
 /// `{"a": {"b": 1}}` with 2 at `a`, `b` is `{"a": {"b": 2}}`.
 ///
-/// In a document that was parsed, and changed by no edit of single leaves, the one error is an
+/// A value that would be nested deeper than [`CstRootNode::parse`] accepts is refused as
+/// `NestingDepthExceeded`, before the document is looked at: each name counts two, an object and its
+/// property, so a path of more than 256 names is always refused. So a document that can be parsed
+/// stays one.
+///
+/// In a document that was parsed, and changed by no edit of single leaves, the one other error is an
 /// allocation failure. Memory is allocated only to look up a name in an object that has a name with
 /// a backslash, or where nothing is in the way that is to be kept. On an error the document stays
 /// as it was.
@@ -212,8 +236,10 @@ pub fn set_at<A: Allocator + Copy>(
     ensures put { IfOk result
         (PutsWhatShown First (plain value) over (names_of names.now) (nodes_of doc.old) (nodes_of doc.new)) }
     ensures one { IfOk result (MakesOneEdit (nodes_of doc.old) (nodes_of doc.new)) }
-    ensures error { IfErr result (WantsMemory (nodes_of doc.old)) }
-    ensures oom_only_if { OnErr result (WantsToPut First over (nodes_of doc.old) (names_of names.now)) }
+    ensures fits { OnOk result (FitsAt (names_of names.now) (plain value)) }
+    ensures error { IfErr result (FailsToPut (nodes_of doc.old) (names_of names.now) (plain value)) }
+    ensures oom_only_if { IfErr result (λ e. e ≡ EditError.OutOfMemory
+        → WantsToPut First over (nodes_of doc.old) (names_of names.now)) }
     ensures document { OnErr result (tree_of doc.new ≡ tree_of doc.old) }
 {
     put(doc, names, value, over, Which::First)
@@ -234,8 +260,10 @@ pub fn set_last_at<A: Allocator + Copy>(
         (PutsWhatShown Last (plain value) over (names_of names.now) (nodes_of doc.old) (nodes_of doc.new)) }
     ensures read { IfOk result (IsReadThere (plain value) (names_of names.now) (nodes_of doc.old) (nodes_of doc.new)) }
     ensures one { IfOk result (MakesOneEdit (nodes_of doc.old) (nodes_of doc.new)) }
-    ensures error { IfErr result (WantsMemory (nodes_of doc.old)) }
-    ensures oom_only_if { OnErr result (WantsToPut Last over (nodes_of doc.old) (names_of names.now)) }
+    ensures fits { OnOk result (FitsAt (names_of names.now) (plain value)) }
+    ensures error { IfErr result (FailsToPut (nodes_of doc.old) (names_of names.now) (plain value)) }
+    ensures oom_only_if { IfErr result (λ e. e ≡ EditError.OutOfMemory
+        → WantsToPut Last over (nodes_of doc.old) (names_of names.now)) }
     ensures document { OnErr result (tree_of doc.new ≡ tree_of doc.old) }
 {
     put(doc, names, value, over, Which::Last)

@@ -19,7 +19,10 @@ static EDIT_ERRORS: [(EditError, &str); 8] = [
     (EditError::InvalidComment, "Invalid comment"),
     (EditError::LineContinues, "Line continues after the comment"),
     (EditError::NotAnEntry, "Not an entry"),
-    (EditError::NestingDepthExceeded, "Maximum nesting depth exceeded"),
+    (
+        EditError::NestingDepthExceeded,
+        "Maximum nesting depth exceeded",
+    ),
 ];
 
 #[test]

@@ -16,3 +16,6 @@ returns-in-Err-OutOfMemory-clause-refused c = λ o words text is fits shown. IsU
 pub returns-in-Ok-text-clause-merged : goal.returns-in-Ok-text-clause-merged
 returns-in-Ok-text-clause-merged c = λ o words text is fits shown.
     merged_so o words text c.args.document shown c.args.fault.now c.args.fault.now c.requires.untold (plain c.args.patch.now) is fits c.merge.new.doc (string_bytes c.in-Ok-text.text) c.in-Ok.ensures.merged c.in-Ok-text.ensures.printed
+
+pub returns-in-Err-NestingDepthExceeded-clause-refused : goal.returns-in-Err-NestingDepthExceeded-clause-refused
+returns-in-Err-NestingDepthExceeded-clause-refused c = λ o words text is fits shown. IsUnmerged.for_depth refl c.requires.untold

@@ -17,7 +17,7 @@ returns-clause-written g c = λ request.
     let asked = request_of c.in-Some.command in
     ok_so c.write_output.result (λ put named writing. puts_known (g.S.Source.remaining c.args.source.now) c.in-Ok-read_whole.input.items c.as_slice-2.result.now (parse_options c.default-options.result) all c.as_slice-2.ensures.value c.in-Ok-read_whole.ensures.bytes
     asked request (sym c.in-Some.ensures ∙ named) (g.K.Sink.contents c.args.sink.now) (g.K.Sink.contents c.write_output.new.sink) (output_bytes c.in-Ok-output_of.output)
-    (c.in-Ok-output_of.ensures.left asked c.in-Ok.ensures.change) put) c.write_output.ensures.written
+    (c.in-Ok-output_of.ensures.left asked c.in-Ok.ensures.change) c.in-Ok-output_of.ensures.accepted put) c.write_output.ensures.written
 
 pub returns-clause-accepted : goal.returns-clause-accepted
 returns-clause-accepted g c =

@@ -5,7 +5,7 @@ use Rattle.jsonc_engine.proofs.Changes.{get_told, got_by}
 use Rattle.jsonc_engine.proofs.engine.outcome_of.Goals as goal
 
 pub returns-in-Get-clause-left : goal.returns-in-Get-clause-left
-returns-in-Get-clause-left g c = λ o request is sound laid.
+returns-in-Get-clause-left g c = λ o request is sound laid within.
     got_by o request (nodes_of c.args.document) c.in-Get.names (subst (IsChangeFor request) c.in-Get.is is) c.deref.result.now c.deref.ensures.value sound c.get_setting.result (c.get_setting.ensures.text o)
 
 pub returns-in-Get-clause-refused : goal.returns-in-Get-clause-refused

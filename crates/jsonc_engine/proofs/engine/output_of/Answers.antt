@@ -1,6 +1,6 @@
 use Rattle.std.proofs.Common.{◌≡◌, ◌∙◌, sym, ℕ, IfErr, IfOk, IsUtf8, List, chars, rules, subst, true}
 use Rattle.jsonc_text.specs.OptionsOf.{parse_options}
-use Rattle.jsonc_cst.specs.Document.{nodes_of, printed_of, tree_of, LiesIn}
+use Rattle.jsonc_cst.specs.Document.{nodes_of, printed_of, tree_of, HasNoDeeperValue, LiesIn}
 use Rattle.jsonc_engine.specs.Fault.{IsFaultOn}
 use Rattle.jsonc_engine.specs.Output.{IsLeft, output_bytes}
 use Rattle.jsonc_engine.specs.Parser.{IsDocument, IsFault, ParseFault, RefusesText}
@@ -14,7 +14,8 @@ returns-in-Ok-parse-clause-left g c = λ request is.
     let sound = parsed_sound o (nodes_of c.in-Ok-parse.document) c.in-Ok-parse.ensures.shaped c.in-Ok-parse.ensures.lines in
     let same : c.in-Ok.text.now ≡ c.args.input.now = search rules in
     let laid : LiesIn o (printed_of c.in-Ok-parse.document) (tree_of c.in-Ok-parse.document) = subst (λ (b : List ℕ). LiesIn o b (tree_of c.in-Ok-parse.document)) (same ∙ sym reads) c.in-Ok-parse.ensures.laid in
-    subst (λ (b : List ℕ). IfOk c.outcome_of.result (λ output. IsLeft o request b (output_bytes output))) reads (c.outcome_of.ensures.left o request is sound laid)
+    let within : HasNoDeeperValue o (printed_of c.in-Ok-parse.document) = subst (HasNoDeeperValue o) (same ∙ sym reads) c.in-Ok-parse.ensures.within in
+    subst (λ (b : List ℕ). IfOk c.outcome_of.result (λ output. IsLeft o request b (output_bytes output))) reads (c.outcome_of.ensures.left o request is sound laid within)
 
 pub returns-in-Ok-parse-clause-refused : goal.returns-in-Ok-parse-clause-refused
 returns-in-Ok-parse-clause-refused g c = λ request is.
@@ -29,7 +30,12 @@ returns-in-Ok-parse-clause-accepted g c =
     let same : c.in-Ok.text.now ≡ c.args.input.now = search rules in
     let utf8 : IsUtf8 c.args.input.now = search rules in
     let value = c.in-Ok-parse.ensures.value in
-    on_ok c.outcome_of.result (record { utf8 = utf8; value = value.0; document = subst (λ (b : List ℕ). IsDocument o (chars b) value.0) same value.1 })
+    on_ok c.outcome_of.result (record {
+      utf8 = utf8;
+      value = value.0;
+      document = subst (λ (b : List ℕ). IsDocument o (chars b) value.0) same value.1;
+      within = c.in-Ok-parse.ensures.within value.0 value.1;
+    })
 
 pub returns-in-Err-clause-refused : goal.returns-in-Err-clause-refused
 returns-in-Err-clause-refused g c = λ request is.

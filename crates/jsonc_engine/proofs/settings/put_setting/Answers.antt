@@ -5,7 +5,7 @@ use Rattle.jsonc_text.specs.declared.edit.Over.TheVariants.{Keep}
 use Rattle.jsonc_parser.specs.declared.paths.which.Which.TheVariants.{First}
 use Rattle.jsonc_parser.specs.paths.Calls.{PutsWhatShown}
 use Rattle.jsonc_parser.specs.paths.Found.{names_of}
-use Rattle.jsonc_engine.proofs.SettingsShown.{in_the_way, memory_putting, puts_setting, stays_so}
+use Rattle.jsonc_engine.proofs.SettingsShown.{in_the_way, refused_putting, puts_setting, stays_so}
 use Rattle.jsonc_engine.proofs.settings.put_setting.Goals as goal
 
 pub returns-in-Ok-true-clause-put : goal.returns-in-Ok-true-clause-put
@@ -14,7 +14,7 @@ returns-in-Ok-true-clause-put g c = λ o sound.
     let new = nodes_of c.set_at.new.doc in
     let v = plain c.args.value in
     let names = names_of c.args.names.now in
-    puts_setting o old sound v names new (subst (λ (b : Bool). PutsWhatShown First v Keep names old new b) c.in-Ok-true.field-0-test c.in-Ok-true.ensures.put)
+    puts_setting o old sound v names new c.in-Ok-true.ensures.fits (subst (λ (b : Bool). PutsWhatShown First v Keep names old new b) c.in-Ok-true.field-0-test c.in-Ok-true.ensures.put)
 
 pub returns-in-Ok-false-clause-error : goal.returns-in-Ok-false-clause-error
 returns-in-Ok-false-clause-error g c = λ o sound.
@@ -34,4 +34,4 @@ returns-in-Ok-false-clause-document g c = λ o sound.
 
 pub returns-in-Err-clause-error : goal.returns-in-Err-clause-error
 returns-in-Err-clause-error g c = λ o sound.
-    memory_putting o (nodes_of c.args.document.now) sound (names_of c.args.names.now) c.in-Err.error c.in-Err.ensures.error c.in-Err.ensures.oom_only_if
+    refused_putting o (nodes_of c.args.document.now) sound (names_of c.args.names.now) (plain c.args.value) c.in-Err.error c.in-Err.ensures.error c.in-Err.ensures.oom_only_if

@@ -37,7 +37,7 @@ use Rattle.jsonc_parser.specs.declared.patch.operation.Operation.TheVariants.{Mo
 use Rattle.jsonc_parser.specs.declared.patch.apply.PatchFault.{PatchFault}
 use Rattle.jsonc_parser.specs.declared.patch.making.PatchCause.{PatchCause}
 use Rattle.jsonc_parser.proofs.lemmas.patch.Edited.{kept_same}
-use Rattle.jsonc_parser.proofs.lemmas.patch.Failing.{memory_cause}
+use Rattle.jsonc_parser.proofs.lemmas.patch.Failing.{memory_cause, unedited}
 use Rattle.jsonc_parser.proofs.lemmas.patch.Operating.{nothing_more}
 use Rattle.jsonc_parser.proofs.lemmas.patch.Unique.{unique_collapse}
 
@@ -51,7 +51,7 @@ all_more o (one_made n rest) m = one_made n (all_more o rest m)
 
 module _ {A : Type 0} (old : CstRootNode A) where
   pub patched_none : PatchesWhatShown old [] old
-  patched_none d shown fits = (d, shown, record { edits = []; edited = none_asked (shown_are_documents (tree_of old) d shown); options = refl; made = none_made })
+  patched_none d shown fits = (d, shown, record { edits = []; edited = none_asked (shown_are_documents (tree_of old) d shown); options = refl; made = none_made; within = λ h. h })
 
   pub patched_more : (now new : CstRootNode A) (operations : List (Operation A)) (operation : Operation A) → PatchesWhatShown old operations now → MakesWhatShown now (asked operation) (λ o. FitsIn o operation) new
       → PatchesWhatShown old (operations ++ operation ∷ []) new
@@ -66,6 +66,7 @@ module _ {A : Type 0} (old : CstRootNode A) where
           edits = p.2.edits ++ s.2.edits;
           edited = joined p.2.edited s.2.edited;
           options = s.2.options ∙ p.2.options;
+          within = λ h. s.2.within (p.2.within h);
           made = subst (λ l. MakesAll l d.value s.0.value) (sym (map-append asked operations (operation ∷ []))) (all_more (asked operation) p.2.made s.2.made);
         },
       )
@@ -82,7 +83,7 @@ module _ {A : Type 0} (old : CstRootNode A) where
   patched_first mid new operation rest first more d shown fits =
       let f = first d shown (All-head (FitsIn d.options) operation rest fits) in
       let m = more f.0 f.1 (subst (λ (o : Options). All (FitsIn o) rest) (sym f.2.options) (All-tail (FitsIn d.options) operation rest fits)) in
-      (m.0, m.1, record { edits = f.2.edits ++ m.2.edits; edited = joined f.2.edited m.2.edited; options = m.2.options ∙ f.2.options; made = one_made f.2.made m.2.made })
+      (m.0, m.1, record { edits = f.2.edits ++ m.2.edits; edited = joined f.2.edited m.2.edited; options = m.2.options ∙ f.2.options; made = one_made f.2.made m.2.made; within = λ h. m.2.within (f.2.within h) })
 
   -- one operation is a patch of it alone
   pub patched_once : (new : CstRootNode A) (operation : Operation A) → MakesWhatShown old (asked operation) (λ o. FitsIn o operation) new → PatchesWhatShown old (operation ∷ []) new
@@ -121,7 +122,7 @@ module _ {A : Type 0} (old : CstRootNode A) where
 
   pub not_copied : (operations : List (Operation A)) → 0 < length operations → (fault : PatchFault A) → fault.operation ≡ 0 → IsNoMemory fault.cause → StopsWhatShown old operations fault
   not_copied [] some fault is none = absurd (omega (arith, some))
-  not_copied (operation ∷ rest) some fault is none = stopped_first operation rest fault is (λ d shown. memory_cause (asked operation) d.value fault.cause none)
+  not_copied (operation ∷ rest) some fault is none = stopped_first operation rest fault is (λ d shown. memory_cause (asked operation) d.value fault.cause (unedited fault.cause none))
 
 -- the numbers of a value inside another
 item_numbers : (o : Options) {v : Plain} {i : ℕ} {vs : Items} → IsItem v i vs → AreOfNumbers o vs → IsOfNumbers o v
@@ -150,7 +151,7 @@ module _ {A : Type 0} (old new : CstRootNode A) (from to : List (List ℕ)) (tak
   copied step d shown fit =
       let t = takes d shown in
       let s = step d shown (taken_fits old from (plain taken) d shown t) in
-      (s.0, s.1, record { edits = s.2.edits; edited = s.2.edited; options = s.2.options; made = (plain taken, t, s.2.made) })
+      (s.0, s.1, record { edits = s.2.edits; edited = s.2.edited; options = s.2.options; made = (plain taken, t, s.2.made); within = s.2.within })
 
   -- it leaves, and is added
   pub moved_so : LeadsElsewhere from to → IsOfShown old (λ d. ¬ (IsWithinObject from to d.value)) → (mid : CstRootNode A) → MakesWhatShown old (value.remove from) (λ o. Unit {0}) mid → MakesWhatShown mid (value.add to (plain taken)) (λ o. IsOfNumbers o (plain taken)) new
@@ -164,6 +165,7 @@ module _ {A : Type 0} (old new : CstRootNode A) (from to : List (List ℕ)) (tak
         record {
           edits = f.2.edits ++ s.2.edits;
           edited = joined f.2.edited s.2.edited;
+          within = λ h. s.2.within (f.2.within h);
           options = s.2.options ∙ f.2.options;
           made = moved elsewhere (apart d shown) t f.2.made s.2.made;
         },
@@ -172,7 +174,7 @@ module _ {A : Type 0} (old new : CstRootNode A) (from to : List (List ℕ)) (tak
 -- nothing is done
 pub unchanged : {A : Type 0} (old new : CstRootNode A) (operation : value.Operation) (Fit : Options → Type 0) → tree_of new ≡ tree_of old → IsOfShown old (λ d. Makes operation d.value d.value) → MakesWhatShown old operation Fit new
 unchanged {A} old new operation Fit same makes d shown fit =
-    (d, subst (Shows d) (sym same) shown, record { edits = []; edited = none_asked (shown_are_documents (tree_of old) d shown); options = refl; made = makes d shown })
+    (d, subst (Shows d) (sym same) shown, record { edits = []; edited = none_asked (shown_are_documents (tree_of old) d shown); options = refl; made = makes d shown; within = λ h. h })
 
 -- where a value is moved to its own place
 pub stays_there : (from to : List (List ℕ)) (w : Option Plain) (x : Plain) → LeadsOn from to → length from ≡ length to → RefersTo w from x → Moves from to w w

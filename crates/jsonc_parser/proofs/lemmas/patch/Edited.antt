@@ -21,7 +21,7 @@ use Rattle.jsonc_layout.specs.input.Views.{chars_of, plain}
 use Rattle.jsonc_layout.specs.nodes.Siblings.{elements_at}
 use Rattle.jsonc_run.specs.declared.edit.Edit.{Edit}
 use Rattle.jsonc_run.specs.declared.edit.Edit.TheVariants.{Replace, Remove, SetRoot, InsertElement, AppendElement, AppendProperty}
-use Rattle.jsonc_run.specs.Edits.{is_whole, operation_of, unsorted, EditStep, PlainEdit}
+use Rattle.jsonc_run.specs.Edits.{is_whole, operation_of, unsorted, PlainEdit}
 use Rattle.jsonc_run.specs.Refusals.{as_it_was, set_in_part, IsLeft}
 use Rattle.jsonc_run.specs.Named.{entry}
 use Rattle.jsonc_run.specs.texts.Edits as texts
@@ -36,7 +36,7 @@ use Rattle.jsonc_cst.specs.declared.cst.CstRootNode.{CstRootNode}
 use Rattle.jsonc_cst.specs.declared.cst.node.CstNode.{CstNode}
 use Rattle.jsonc_cst.specs.Document.{nodes_of, tree_of}
 use Rattle.jsonc_cst.specs.Nodes.{number_of}
-use Rattle.jsonc_parser.specs.patch.Applied.{AddsMember, AppendsTo, IsKept, IsPlaceBy, LeadsOver, MakesWhatShown, PutsAt}
+use Rattle.jsonc_parser.specs.patch.Applied.{IsEditDone, AddsMember, AppendsTo, IsKept, IsPlaceBy, LeadsOver, MakesWhatShown, PutsAt}
 use Rattle.jsonc_parser.specs.patch.Found.{IsOfShown, RefersToNode, RefersToNothing}
 use Rattle.jsonc_parser.specs.patch.Operations as value
 use Rattle.jsonc_parser.specs.patch.Operations.{as_whole, in_member, Adds}
@@ -51,25 +51,25 @@ module _ {A : Type 0} (old new : CstRootNode A) (tree : IsTree (nodes_of old)) (
     referred : IsOfShown old (λ d. (w : RefersToNode d (nodes_of old) tokens leads.0) × (w.path ≡ path.items))
     referred d shown = let w = leads.2 d shown in (w, path_once (nodes_of old) tree w.path path.items leads.0 w.at leads.1)
 
-    pub removes_so : EditStep (nodes_of old) (operation_of unsorted (Remove path)) (nodes_of new) → MakesWhatShown old (value.remove tokens) (λ o. Unit {0}) new
+    pub removes_so : IsEditDone old (Remove path) new → MakesWhatShown old (value.remove tokens) (λ o. Unit {0}) new
     removes_so made d shown fit =
         let edit : Edit A = Remove path in
         let l = led edit (nodes_of old) (nodes_of new) tree after made d shown tt in
         let w = referred d shown in
-        (l.e, l.shown, record { edits = edit ∷ []; edited = l.edited; options = options_so d l.e l.op (texts.remove path.items) l.asks l.options; made = removed d (nodes_of old) tokens leads.0 w.0 path.items w.1 l.e.value (makes_so d l.e l.op (texts.remove path.items) l.asks l.makes).1 })
+        (l.e, l.shown, record { edits = edit ∷ []; edited = l.edited; within = l.within; options = options_so d l.e l.op (texts.remove path.items) l.asks l.options; made = removed d (nodes_of old) tokens leads.0 w.0 path.items w.1 l.e.value (makes_so d l.e l.op (texts.remove path.items) l.asks l.makes).1 })
 
     module _ (v : CstInputValue A) where
-      pub replaces_so : EditStep (nodes_of old) (operation_of unsorted (Replace path v)) (nodes_of new) → MakesWhatShown old (value.replace tokens (plain v)) (λ o. IsOfNumbers o (plain v)) new
+      pub replaces_so : IsEditDone old (Replace path v) new → MakesWhatShown old (value.replace tokens (plain v)) (λ o. IsOfNumbers o (plain v)) new
       replaces_so made d shown fit =
           let edit : Edit A = Replace path v in
           let l = led edit (nodes_of old) (nodes_of new) tree after made d shown fit in
           let w = referred d shown in
           let m = makes_so d l.e l.op (texts.replace path.items (plain v)) l.asks l.makes in
-          (l.e, l.shown, record { edits = edit ∷ []; edited = l.edited; options = options_so d l.e l.op (texts.replace path.items (plain v)) l.asks l.options; made = replaced d (nodes_of old) tokens leads.0 w.0 path.items w.1 m.0 (plain v) l.e.value m.1.1 })
+          (l.e, l.shown, record { edits = edit ∷ []; edited = l.edited; within = l.within; options = options_so d l.e l.op (texts.replace path.items (plain v)) l.asks l.options; made = replaced d (nodes_of old) tokens leads.0 w.0 path.items w.1 m.0 (plain v) l.e.value m.1.1 })
 
       -- an element is inserted
       module _ (token : List ℕ) where
-        pub appends_so : token ≡ 0x2D ∷ [] → EditStep (nodes_of old) (operation_of unsorted (AppendElement path v)) (nodes_of new) → MakesWhatShown old (value.add (tokens ++ token ∷ []) (plain v)) (λ o. IsOfNumbers o (plain v)) new
+        pub appends_so : token ≡ 0x2D ∷ [] → IsEditDone old (AppendElement path v) new → MakesWhatShown old (value.add (tokens ++ token ∷ []) (plain v)) (λ o. IsOfNumbers o (plain v)) new
         appends_so is made d shown fit =
             let edit : Edit A = AppendElement path v in
             let l = led edit (nodes_of old) (nodes_of new) tree after made d shown fit in
@@ -80,10 +80,10 @@ module _ {A : Type 0} (old new : CstRootNode A) (tree : IsTree (nodes_of old)) (
             let back : List Named = m.1 in
             let was = was_referred d (nodes_of old) tokens leads.0 w.0 path.items w.1 (of an_array (front ++ back)) (of an_array (front ++ entry [] (plain v) ∷ back)) l.e.value m.3.0 in
             let end = last_item d (nodes_of old) tokens leads.0 w.0 path.items w.1 l.asks.0 l.asks.1 front back l.asks.2 l.asks.3 was m.2 in
-            (l.e, l.shown, record { edits = edit ∷ []; edited = l.edited; options = options_so d l.e l.op op l.asks.4 l.options; made = element_added d (nodes_of old) tokens leads.0 w.0 path.items w.1 (plain v) l.e.value token front back m.3.0 (inr (is, end)) })
+            (l.e, l.shown, record { edits = edit ∷ []; edited = l.edited; within = l.within; options = options_so d l.e l.op op l.asks.4 l.options; made = element_added d (nodes_of old) tokens leads.0 w.0 path.items w.1 (plain v) l.e.value token front back m.3.0 (inr (is, end)) })
 
         pub inserts_so : (index : ℕ) → content_at (nodes_of old) leads.0 ≡ content.array → IsIndex token index → index ≤ length (elements_at (nodes_of old) leads.0)
-            → EditStep (nodes_of old) (operation_of unsorted (InsertElement path index v)) (nodes_of new) → MakesWhatShown old (value.add (tokens ++ token ∷ []) (plain v)) (λ o. IsOfNumbers o (plain v)) new
+            → IsEditDone old (InsertElement path index v) new → MakesWhatShown old (value.add (tokens ++ token ∷ []) (plain v)) (λ o. IsOfNumbers o (plain v)) new
         inserts_so index kind is within made d shown fit =
             let ns : List Node = nodes_of old in
             let edit : Edit A = InsertElement path index v in
@@ -100,10 +100,10 @@ module _ {A : Type 0} (old new : CstRootNode A) (tree : IsTree (nodes_of old)) (
             let all : length (front ++ back) ≡ length (elements_at ns leads.0) = sym (counted (front ++ back)) ∙ ap item_count (sym vs) ∙ count in
             let bound : length front ≡ min index (length (front ++ back)) = m.2 in
             let place : index ≡ length front = omega (arith, bound, all, within) in
-            (l.e, l.shown, record { edits = edit ∷ []; edited = l.edited; options = options_so d l.e l.op op l.asks l.options; made = element_added d ns tokens leads.0 w.0 path.items w.1 (plain v) l.e.value token front back m.3.0 (inl (subst (IsIndex token) place is)) })
+            (l.e, l.shown, record { edits = edit ∷ []; edited = l.edited; within = l.within; options = options_so d l.e l.op op l.asks l.options; made = element_added d ns tokens leads.0 w.0 path.items w.1 (plain v) l.e.value token front back m.3.0 (inl (subst (IsIndex token) place is)) })
 
       -- a member is inserted
-      pub member_so : (name : String A) → IsOfShown old (λ d. RefersToNothing d (tokens ++ chars_of name ∷ [])) → EditStep (nodes_of old) (operation_of unsorted (AppendProperty path name v)) (nodes_of new)
+      pub member_so : (name : String A) → IsOfShown old (λ d. RefersToNothing d (tokens ++ chars_of name ∷ [])) → IsEditDone old (AppendProperty path name v) new
           → MakesWhatShown old (value.add (tokens ++ chars_of name ∷ []) (plain v)) (λ o. IsOfNumbers o (plain v)) new
       member_so name none made d shown fit =
           let edit : Edit A = AppendProperty path name v in
@@ -115,11 +115,11 @@ module _ {A : Type 0} (old new : CstRootNode A) (tree : IsTree (nodes_of old)) (
           let back : List Named = m.1 in
           let was = was_referred d (nodes_of old) tokens leads.0 w.0 path.items w.1 (of an_object (front ++ back)) (of an_object (front ++ entry (chars_of name) (plain v) ∷ back)) l.e.value m.3.0 in
           let end = last_member d (nodes_of old) tokens leads.0 w.0 path.items w.1 l.asks.0 l.asks.1 front back l.asks.2 l.asks.3 was m.2 in
-          (l.e, l.shown, record { edits = edit ∷ []; edited = l.edited; options = options_so d l.e l.op op l.asks.4 l.options; made = member_added d (nodes_of old) tokens leads.0 w.0 path.items w.1 (plain v) l.e.value (chars_of name) front back end m.3.0 (none d shown) })
+          (l.e, l.shown, record { edits = edit ∷ []; edited = l.edited; within = l.within; options = options_so d l.e l.op op l.asks.4 l.options; made = member_added d (nodes_of old) tokens leads.0 w.0 path.items w.1 (plain v) l.e.value (chars_of name) front back end m.3.0 (none d shown) })
 
   -- the value of a member is replaced
   pub in_member_so : (path : Vec ℕ A) (tokens : List (List ℕ)) (name : List ℕ) → LeadsOver old (tokens ++ name ∷ []) path.items → (n : ℕ) → content_at (nodes_of old) n ≡ content.object → IsOfShown old (λ d. RefersToNode d (nodes_of old) tokens n) → (v : CstInputValue A)
-      → EditStep (nodes_of old) (operation_of unsorted (Replace path v)) (nodes_of new) → MakesWhatShown old (value.add (tokens ++ name ∷ []) (plain v)) (λ o. IsOfNumbers o (plain v)) new
+      → IsEditDone old (Replace path v) new → MakesWhatShown old (value.add (tokens ++ name ∷ []) (plain v)) (λ o. IsOfNumbers o (plain v)) new
   in_member_so path tokens name leads n kind container v made d shown fit =
       let ns : List Node = nodes_of old in
       let edit : Edit A = Replace path v in
@@ -133,15 +133,15 @@ module _ {A : Type 0} (old new : CstRootNode A) (tree : IsTree (nodes_of old)) (
       let was : w.0.v ≡ m.0 = was_referred d ns (tokens ++ name ∷ []) leads.0 w.0 path.items w.1 m.0 (plain v) l.e.value m.1.1 in
       let place = stands d ns (tokens ++ name ∷ []) leads.0 w.0 path.items w.1 in
       let member : Adds (plain v) (tokens ++ name ∷ []) d.value l.e.value = in_member name (list_of_members ms.0) (subst (value.RefersAlong d.value tokens c.path) object_so (stands d ns tokens n c c.path refl)) place (subst (λ k. Becomes k (plain v) path.items d.value l.e.value) (sym was) m.1.1) in
-      (l.e, l.shown, record { edits = edit ∷ []; edited = l.edited; options = options_so d l.e l.op op l.asks l.options; made = member })
+      (l.e, l.shown, record { edits = edit ∷ []; edited = l.edited; within = l.within; options = options_so d l.e l.op op l.asks l.options; made = member })
 
   -- the document's value is set
-  pub whole_so : (v : CstInputValue A) → EditStep (nodes_of old) (operation_of unsorted (SetRoot v)) (nodes_of new) → MakesWhatShown old (value.add [] (plain v)) (λ o. IsOfNumbers o (plain v)) new
+  pub whole_so : (v : CstInputValue A) → IsEditDone old (SetRoot v) new → MakesWhatShown old (value.add [] (plain v)) (λ o. IsOfNumbers o (plain v)) new
   whole_so v made d shown fit =
       let edit : Edit A = SetRoot v in
       let l = led edit (nodes_of old) (nodes_of new) tree after made d shown fit in
       let o : l.e.options ≡ d.options = l.options ∙ root_options d.options (plain v) d.value l.op l.asks in
-      (l.e, l.shown, record { edits = edit ∷ []; edited = l.edited; options = o; made = subst (Adds (plain v) [] d.value) (sym (root_set d l.e (plain v) d.value l.op l.asks l.makes)) as_whole })
+      (l.e, l.shown, record { edits = edit ∷ []; edited = l.edited; within = l.within; options = o; made = subst (Adds (plain v) [] d.value) (sym (root_set d l.e (plain v) d.value l.op l.asks l.makes)) as_whole })
 
 -- what is kept
 pub kept_same : {A : Type 0} (doc : CstRootNode A) → IsKept doc doc
@@ -169,22 +169,22 @@ module _ {A : Type 0} (old new : CstRootNode A) (object_node : CstNode) (all : L
       (appends tokens container (λ d shown. subst (RefersToNothing d) is (none d shown)))
 
 module _ {A : Type 0} (old new : CstRootNode A) (tree : IsTree (nodes_of old)) (after : IsTree (nodes_of new)) (node : CstNode) (path : Vec ℕ A) (at : IsAt (nodes_of old) path.items (number_of node)) (v : CstInputValue A) where
-  pub puts_at : EditStep (nodes_of old) (operation_of unsorted (Replace path v)) (nodes_of new) → PutsAt old node (plain v) new
+  pub puts_at : IsEditDone old (Replace path v) new → PutsAt old node (plain v) new
   puts_at made n tokens name kind container found = in_member_so old new tree after path tokens name (number_of node, at, found) n kind container v made
 
-  pub appends_to : (name : String A) (last : List ℕ) → chars_of name ≡ last → EditStep (nodes_of old) (operation_of unsorted (AppendProperty path name v)) (nodes_of new) → AppendsTo old node last (plain v) new
+  pub appends_to : (name : String A) (last : List ℕ) → chars_of name ≡ last → IsEditDone old (AppendProperty path name v) new → AppendsTo old node last (plain v) new
   appends_to name last is made tokens container none =
       subst (λ l. MakesWhatShown old (value.add (tokens ++ l ∷ []) (plain v)) (λ o. IsOfNumbers o (plain v)) new) is
       (member_so old new tree after path tokens (number_of node, at, container) v name (λ d shown. subst (λ l. RefersToNothing d (tokens ++ l ∷ [])) (sym is) (none d shown)) made)
 
   module _ (all : List (List ℕ)) (token : List ℕ) where
     pub inserts_at : (index : ℕ) → content_at (nodes_of old) (number_of node) ≡ content.array → IsPlaceBy (nodes_of old) (number_of node) token (Some (Some index))
-        → EditStep (nodes_of old) (operation_of unsorted (InsertElement path index v)) (nodes_of new) → AddsMember old node all token (plain v) new
+        → IsEditDone old (InsertElement path index v) new → AddsMember old node all token (plain v) new
     inserts_at index kind place made tokens is container =
         subst (λ l. MakesWhatShown old (value.add l (plain v)) (λ o. IsOfNumbers o (plain v)) new) (sym is)
         (inserts_so old new tree after path tokens (number_of node, at, container) v token index kind place.0 place.1 made)
 
-    pub appends_at : IsPlaceBy (nodes_of old) (number_of node) token (Some None) → EditStep (nodes_of old) (operation_of unsorted (AppendElement path v)) (nodes_of new) → AddsMember old node all token (plain v) new
+    pub appends_at : IsPlaceBy (nodes_of old) (number_of node) token (Some None) → IsEditDone old (AppendElement path v) new → AddsMember old node all token (plain v) new
     appends_at place made tokens is container =
         subst (λ l. MakesWhatShown old (value.add l (plain v)) (λ o. IsOfNumbers o (plain v)) new) (sym is)
         (appends_so old new tree after path tokens (number_of node, at, container) v token place made)

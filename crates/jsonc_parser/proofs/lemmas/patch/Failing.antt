@@ -30,7 +30,7 @@ use Rattle.jsonc_cst.specs.declared.cst.CstRootNode.{CstRootNode}
 use Rattle.jsonc_cst.specs.declared.cst.node.CstNode.{CstNode}
 use Rattle.jsonc_cst.specs.Document.{nodes_of, tree_of}
 use Rattle.jsonc_cst.specs.Nodes.{number_of}
-use Rattle.jsonc_parser.specs.patch.Applied.{FailsBelow, FailsForMemory, FailsWhatShown, HasCause, IsCause, IsNoMemory, IsPathless, IsPlaceBy, IsRefusal, IsUnfound, LeadsOn, LeadsOver, MakesWhatShown, Takes}
+use Rattle.jsonc_parser.specs.patch.Applied.{FailsBelow, FailsForMemory, FailsWhatShown, HasCause, IsCause, IsNoMemory, IsNoRoom, IsUnedited, IsPathless, IsPlaceBy, IsRefusal, IsUnfound, LeadsOn, LeadsOver, MakesWhatShown, Takes}
 use Rattle.jsonc_parser.specs.patch.Equality.{AreEqual, HasUniqueNames}
 use Rattle.jsonc_parser.specs.patch.Failing.{below_nothing, below_scalar, past_elements, HasNoTarget, MeetsTwice, ReferToNothing}
 use Rattle.jsonc_parser.specs.patch.Found.{FindFails, IsOfShown, ReadFails, RefersToNode, RefersToNothing}
@@ -43,7 +43,7 @@ use Rattle.jsonc_parser.specs.declared.patch.making.PatchCause.TheVariants as ca
 use Rattle.jsonc_parser.specs.declared.patch.reference.FindError.{FindError}
 use Rattle.jsonc_parser.specs.declared.patch.reference.FindError.TheVariants as errors
 use Rattle.jsonc_text.specs.declared.edit.EditError.TheVariants.{OutOfMemory}
-use Rattle.jsonc_parser.proofs.lemmas.paths.Calls.{for_memory, IsNoRemark}
+use Rattle.jsonc_parser.proofs.lemmas.paths.Calls.{for_room, IsNoRemark}
 use Rattle.jsonc_parser.proofs.lemmas.patch.Evaluation.{refers_changed}
 use Rattle.jsonc_parser.proofs.lemmas.patch.Nodes.{array_content, array_value, its, object_content, there}
 use Rattle.jsonc_parser.proofs.lemmas.patch.Unique.{unique_collapse}
@@ -59,7 +59,15 @@ fails_longer w tokens rest name (x, is, m) = (x, is, meets_longer rest m)
 
 module _ {A : Type 0} where
   -- a lack of memory is a cause of all
-  pub memory_cause : (o : Operation) (w : Option Plain) (c : PatchCause A) → IsNoMemory c → IsCause o w c
+  pub unedited : (c : PatchCause A) → IsNoMemory c → IsUnedited c
+  unedited (causes.Edit why) is = subst IsNoRoom (sym is) tt
+  unedited causes.NoTarget is = absurd is
+  unedited (causes.RepeatedName name) is = absurd is
+  unedited causes.IntoItself is = absurd is
+  unedited causes.NotEqual is = absurd is
+  unedited causes.TooLarge is = absurd is
+
+  pub memory_cause : (o : Operation) (w : Option Plain) (c : PatchCause A) → IsUnedited c → IsCause o w c
   memory_cause o w (causes.Edit why) is = is
   memory_cause o w causes.NoTarget is = absurd is
   memory_cause o w (causes.RepeatedName name) is = absurd is
@@ -79,7 +87,7 @@ module _ {A : Type 0} where
   pub found_cause : (o : Operation) (w : Option Plain) (tokens : List (List ℕ)) → (ReferToNothing w tokens → HasNoTarget o w) → ((name : List ℕ) → FailsAt w tokens name → MeetsTwice name o w) → (c : PatchCause A) → IsUnfound w tokens c → IsCause o w c
   found_cause o w tokens nothing twice causes.NoTarget is = nothing is
   found_cause o w tokens nothing twice (causes.RepeatedName name) is = twice (chars_of name) is
-  found_cause o w tokens nothing twice (causes.Edit why) is = is
+  found_cause o w tokens nothing twice (causes.Edit why) is = unedited (causes.Edit why) is
   found_cause o w tokens nothing twice causes.IntoItself is = absurd is
   found_cause o w tokens nothing twice causes.NotEqual is = absurd is
   found_cause o w tokens nothing twice causes.TooLarge is = absurd is
@@ -162,7 +170,7 @@ module _ {A : Type 0} where
 
     pub unfound_below : (v : Plain) (e : FindError A) (c : PatchCause A) → HasCause e c → IsOfShown doc (λ d. FindFails d doc tokens e) → FailsWhatShown doc (value.add tokens v) c
     unfound_below v (errors.RepeatedName name) c is fails d shown = subst (IsCause (value.add tokens v) d.value) (sym is) (fails d shown)
-    unfound_below v errors.OutOfMemory c is fails d shown = subst (IsCause (value.add tokens v) d.value) (sym is) refl
+    unfound_below v errors.OutOfMemory c is fails d shown = subst (IsCause (value.add tokens v) d.value) (sym is) tt
 
     pub nowhere : IsOfShown doc (λ d. RefersToNothing d tokens) → IsOfShown doc (λ d. ReferToNothing d.value tokens)
     nowhere none d shown = let n = none d shown in (n.nothing, n.unique)
@@ -179,10 +187,10 @@ module _ {A : Type 0} where
     pub path_unfound : (node : CstNode) → IsOfShown doc (λ d. RefersToNode d (nodes_of doc) tokens (number_of node)) → (c : PatchCause A) → IsPathless doc node c → IsOfShown doc (λ d. IsUnfound d.value tokens c)
     path_unfound node leads c is d shown = memory_unfound d.value tokens c (has_path node leads c is d shown)
 
-  -- an edit that has its place is refused for memory alone
+  -- an edit that has its place is refused for memory, or as nested too deep
   module _ (doc : CstRootNode A) (tree : IsTree (nodes_of doc)) where
-    pub refusal_memory : (e : Edit A) → IsNoRemark (operation_of unsorted e) → (c : PatchCause A) → IsRefusal doc e c → (d : Document) → Shows d (tree_of doc) → IsNamed d.value (comment_count (tree_of doc)) (operation_of unsorted e) → IsNoMemory c
-    refusal_memory e none (causes.Edit why) reported d shown named = for_memory d (nodes_of doc) (operation_of unsorted e) why tree shown named none reported
+    pub refusal_memory : (e : Edit A) → IsNoRemark (operation_of unsorted e) → (c : PatchCause A) → IsRefusal doc e c → (d : Document) → Shows d (tree_of doc) → IsNamed d.value (comment_count (tree_of doc)) (operation_of unsorted e) → IsUnedited c
+    refusal_memory e none (causes.Edit why) reported d shown named = for_room d (nodes_of doc) (operation_of unsorted e) why tree shown named none reported
     refusal_memory e none causes.NoTarget reported d shown named = absurd reported
     refusal_memory e none (causes.RepeatedName name) reported d shown named = absurd reported
     refusal_memory e none causes.IntoItself reported d shown named = absurd reported
@@ -199,24 +207,24 @@ module _ {A : Type 0} where
       stands : StandsAt w.v path.items d.value
       stands = (w.value, w.is, subst (λ p. Changed w.v w.v p w.value w.value) over (refers_changed w.refers))
 
-      pub memory_to_remove : (c : PatchCause A) → IsRefusal doc (Remove path) c → IsNoMemory c
+      pub memory_to_remove : (c : PatchCause A) → IsRefusal doc (Remove path) c → IsUnedited c
       memory_to_remove c reported = refusal_memory (Remove path) (λ h. h, λ h. h) c reported d shown (w.v, stands)
 
       module _ (v : CstInputValue A) (c : PatchCause A) where
-        pub memory_to_replace : IsRefusal doc (Replace path v) c → IsNoMemory c
+        pub memory_to_replace : IsRefusal doc (Replace path v) c → IsUnedited c
         memory_to_replace reported = refusal_memory (Replace path v) (λ h. h, λ h. h) c reported d shown (w.v, stands)
 
         module _ (kind : content_at (nodes_of doc) n ≡ content.array) where
           items_there : (vs : _) × StandsAt (array vs) path.items d.value
           items_there = let a = array_value d.options (content_at (nodes_of doc) n) (row_below (nodes_of doc) n) w.v kind w.has in (a.0, subst (λ x. StandsAt x path.items d.value) a.1 stands)
 
-          pub memory_to_insert : (index : ℕ) → IsRefusal doc (InsertElement path index v) c → IsNoMemory c
+          pub memory_to_insert : (index : ℕ) → IsRefusal doc (InsertElement path index v) c → IsUnedited c
           memory_to_insert index reported = refusal_memory (InsertElement path index v) (λ h. h, λ h. h) c reported d shown items_there
 
-          pub memory_to_append : IsRefusal doc (AppendElement path v) c → IsNoMemory c
+          pub memory_to_append : IsRefusal doc (AppendElement path v) c → IsUnedited c
           memory_to_append reported = refusal_memory (AppendElement path v) (λ h. h, λ h. h) c reported d shown items_there
 
-        pub memory_for_member : content_at (nodes_of doc) n ≡ content.object → (name : String A) → IsRefusal doc (AppendProperty path name v) c → IsNoMemory c
+        pub memory_for_member : content_at (nodes_of doc) n ≡ content.object → (name : String A) → IsRefusal doc (AppendProperty path name v) c → IsUnedited c
         memory_for_member kind name reported =
             let m = its d (nodes_of doc) tree shown tokens n w (chars_of name) kind in
             refusal_memory (AppendProperty path name v) (λ h. h, λ h. h) c reported d shown (m.0, subst (λ x. StandsAt x path.items d.value) m.1 stands)
@@ -231,10 +239,10 @@ module _ {A : Type 0} where
     -- at a node
     module _ (node : CstNode) (c : PatchCause A) where
       pub pathless_for_memory : IsPathless doc node c → FailsForMemory doc node c
-      pathless_for_memory is tokens leads d shown = has_path doc tokens node leads c is d shown
+      pathless_for_memory is tokens leads d shown = unedited c (has_path doc tokens node leads c is d shown)
 
       pub pathless_below : (all : List (List ℕ)) (last : List ℕ) (v : Plain) → IsPathless doc node c → FailsBelow doc node all last v c
-      pathless_below all last v is tokens split leads d shown = memory_cause (value.add all v) d.value c (has_path doc tokens node leads c is d shown)
+      pathless_below all last v is tokens split leads d shown = memory_cause (value.add all v) d.value c (unedited c (has_path doc tokens node leads c is d shown))
 
       pub memory_below : (all : List (List ℕ)) (last : List ℕ) (v : Plain) → FailsForMemory doc node c → FailsBelow doc node all last v c
       memory_below all last v short tokens split leads d shown = memory_cause (value.add all v) d.value c (short tokens leads d shown)

@@ -9,6 +9,7 @@ use Rattle.jsonc_tree.specs.OrderedTree.{ordered_tree}
 use Rattle.jsonc_tree.specs.Tree.{Node, IsTree}
 use Rattle.jsonc_sound.specs.Documents.{Shows}
 use Rattle.jsonc_run.specs.declared.edit.Edit.{Edit}
+use Rattle.jsonc_run.specs.promise.Within.{KeepsWithin, StaysWithin}
 use Rattle.jsonc_run.specs.Edits.{PlainEdit, operation_of, unsorted, EditStep, none_made, first_made, Fits, IsOfCharacters, Allows}
 use Rattle.jsonc_run.specs.Named.{sets_root, Asks}
 use Rattle.jsonc_run.specs.promise.Asked.{EditsTo}
@@ -30,6 +31,7 @@ pub record Led {A : Type 0} (d : Document) (edit : Edit A) (new : List Node) : T
   pub asks : Asks d.value (operation_of unsorted edit) op
   pub options : e.options ≡ options_behind d.options op
   pub makes : Makes d op e
+  pub within : StaysWithin d e
 
 record One (d : Document) (asked : PlainEdit) (e : Document) : Type 0 where
   op : Operation
@@ -60,12 +62,12 @@ one_edit {d} {f} {asked} (one_named {m = m} {op = op} named asks run rest) is =
     let step = one_operation run refl in
     subst (One d asked) same (record { op = op; asks = asks; options = step.options; makes = step.makes })
 
-pub led : {A : Type 0} (edit : Edit A) (old new : List Node) → IsTree old → IsTree new → EditStep old (operation_of unsorted edit) new → (d : Document) → Shows d (ordered_tree old 0) → Fits d.options edit → Led d edit new
+pub led : {A : Type 0} (edit : Edit A) (old new : List Node) → IsTree old → IsTree new → EditStep old (operation_of unsorted edit) new × KeepsWithin old (operation_of unsorted edit) new → (d : Document) → Shows d (ordered_tree old 0) → Fits d.options edit → Led d edit new
 led edit old new tree after made d shown fits =
     let asked : PlainEdit = operation_of unsorted edit in
-    let l = edits_lead old new (asked ∷ []) tree (first_made made after none_made) (All-cons IsOfCharacters asked [] (of_characters unsorted edit) (All-nil IsOfCharacters)) d shown (All-cons (Allows d.options) asked [] fits (All-nil (Allows d.options))) in
+    let l = edits_lead old new (asked ∷ []) tree (first_made made.0 after none_made) (All-cons IsOfCharacters asked [] (of_characters unsorted edit) (All-nil IsOfCharacters)) d shown (All-cons (Allows d.options) asked [] fits (All-nil (Allows d.options))) in
     let one = one_edit l.4 refl in
-    record { e = l.0; shown = l.1; edited = edits_to (one_asks unsorted none_asks) l.4; op = one.op; asks = one.asks; options = one.options; makes = one.makes }
+    record { e = l.0; shown = l.1; edited = edits_to (one_asks unsorted none_asks) l.4; op = one.op; asks = one.asks; options = one.options; makes = one.makes; within = made.1 d l.0 shown fits l.1 }
 
 -- the operation, where it is known
 pub makes_so : (d e : Document) (op other : Operation) → op ≡ other → Makes d op e → Makes d other e

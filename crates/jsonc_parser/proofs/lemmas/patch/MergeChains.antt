@@ -44,7 +44,7 @@ use Rattle.jsonc_parser.specs.declared.patch.merging.MergeFault.{MergeFault}
 use Rattle.jsonc_parser.specs.declared.patch.merging.MergeFault.TheVariants as fault
 use Rattle.jsonc_parser.specs.declared.patch.reference.FindError.{FindError}
 use Rattle.jsonc_parser.specs.declared.patch.reference.FindError.TheVariants as errors
-use Rattle.jsonc_text.specs.declared.edit.EditError.TheVariants.{OutOfMemory}
+use Rattle.jsonc_text.specs.declared.edit.EditError.TheVariants.{NestingDepthExceeded, OutOfMemory}
 use Rattle.jsonc_parser.proofs.lemmas.patch.Chains.{joined}
 use Rattle.jsonc_parser.proofs.lemmas.patch.Evaluation.{refers_to_one}
 use Rattle.jsonc_parser.proofs.lemmas.patch.Exclusive.{fails_whole}
@@ -57,19 +57,19 @@ module _ {A : Type 0} (old new : CstRootNode A) where
   pub reached_as : (Fit Other : Options → Type 0) (Leads More : Option Plain → Option Plain → Type 0) → ReachesWhatShown old Fit Leads new → ((o : Options) → Other o → Fit o) → ((d : Document) → Shows d (tree_of old) → (y : Option Plain) → Leads d.value y → More d.value y)
       → ReachesWhatShown old Other More new
   reached_as Fit Other Leads More reached fits leads d shown fit =
-      let r = reached d shown (fits d.options fit) in (r.0, r.1, record { edits = r.2.edits; edited = r.2.edited; options = r.2.options; leads = leads d shown r.0.value r.2.leads })
+      let r = reached d shown (fits d.options fit) in (r.0, r.1, record { edits = r.2.edits; edited = r.2.edited; options = r.2.options; leads = leads d shown r.0.value r.2.leads; within = r.2.within })
 
   pub reached_same : (Fit : Options → Type 0) (Leads : Option Plain → Option Plain → Type 0) → tree_of new ≡ tree_of old → ((d : Document) → Shows d (tree_of old) → Leads d.value d.value) → ReachesWhatShown old Fit Leads new
   reached_same Fit Leads same leads d shown fit =
-      (d, subst (Shows d) (sym same) shown, record { edits = []; edited = none_asked (shown_are_documents (tree_of old) d shown); options = refl; leads = leads d shown })
+      (d, subst (Shows d) (sym same) shown, record { edits = []; edited = none_asked (shown_are_documents (tree_of old) d shown); options = refl; leads = leads d shown; within = λ h. h })
 
   pub reached_by : (operation : value.Operation) (Fit Other : Options → Type 0) (Leads : Option Plain → Option Plain → Type 0) → MakesWhatShown old operation Fit new → ((o : Options) → Other o → Fit o)
       → ((d : Document) → Shows d (tree_of old) → (y : Option Plain) → Makes operation d.value y → Leads d.value y) → ReachesWhatShown old Other Leads new
   reached_by operation Fit Other Leads made fits leads d shown fit =
-      let m = made d shown (fits d.options fit) in (m.0, m.1, record { edits = m.2.edits; edited = m.2.edited; options = m.2.options; leads = leads d shown m.0.value m.2.made })
+      let m = made d shown (fits d.options fit) in (m.0, m.1, record { edits = m.2.edits; edited = m.2.edited; options = m.2.options; leads = leads d shown m.0.value m.2.made; within = m.2.within })
 
   pub merges_shown : (p : Plain) → ReachesWhatShown old (λ o. IsOfNumbers o p) (Merges [] p) new → MergesWhatShown old p new
-  merges_shown p reached d shown fit = let r = reached d shown fit in (r.0, r.1, record { edits = r.2.edits; edited = r.2.edited; options = r.2.options; merged = r.2.leads })
+  merges_shown p reached d shown fit = let r = reached d shown fit in (r.0, r.1, record { edits = r.2.edits; edited = r.2.edited; options = r.2.options; merged = r.2.leads; within = r.2.within })
 
 -- so many members are merged
 module _ {A : Type 0} where
@@ -140,6 +140,7 @@ module _ {A : Type 0} where
             record {
               edits = f.2.edits ++ s.2.edits;
               edited = joined f.2.edited s.2.edited;
+              within = λ h. s.2.within (f.2.within h);
               options = s.2.options ∙ f.2.options;
               leads = subst (λ ms. MembersMerge tokens ms d.value s.0.value) (sym more) (merge_more one f.2.leads s.2.leads);
             },
@@ -199,11 +200,11 @@ module _ {A : Type 0} where
   module _ (doc : CstRootNode A) (tokens : List (List ℕ)) where
     pub found_twice : (e : FindError A) (c : PatchCause A) → HasCause e c → IsOfShown doc (λ d. FindFails d doc tokens e) → IsOfShown doc (λ d. IsTwice d.value tokens c)
     found_twice (errors.RepeatedName name) c is fails d shown = subst (IsTwice d.value tokens) (sym is) (fails d shown)
-    found_twice errors.OutOfMemory c is fails d shown = subst (IsTwice d.value tokens) (sym is) refl
+    found_twice errors.OutOfMemory c is fails d shown = subst (IsTwice d.value tokens) (sym is) tt
 
     pub read_twice : (e : FindError A) (c : PatchCause A) → HasCause e c → IsOfShown doc (λ d. ReadFails d doc tokens e) → IsOfShown doc (λ d. IsTwice d.value tokens c)
     read_twice (errors.RepeatedName name) c is fails d shown = subst (IsTwice d.value tokens) (sym is) (fails d shown)
-    read_twice errors.OutOfMemory c is fails d shown = subst (IsTwice d.value tokens) (sym is) refl
+    read_twice errors.OutOfMemory c is fails d shown = subst (IsTwice d.value tokens) (sym is) tt
 
     -- what is added has a place
     pub added_not : (v : Plain) (c : PatchCause A) → FailsWhatShown doc (value.add tokens v) c → FailsToSet doc tokens c
@@ -306,6 +307,7 @@ module _ {A : Type 0} (doc : CstRootNode A) (tokens : List (List ℕ)) (p v : Pl
 pub twice_in_patch : {A : Type 0} (p : Plain) (d : Document) (reported : MergeFault A) → HasNameTwice p reported → IsMergeFault p d reported
 twice_in_patch p d (fault.RepeatedName name) h = inl h
 twice_in_patch p d fault.OutOfMemory h = tt
+twice_in_patch p d fault.NestingDepthExceeded h = tt
 
 -- the fault of a document's merge
 pub stops_shown : {A : Type 0} (old : CstRootNode A) (p : Plain) (cause : PatchCause A) (reported : MergeFault A) → IsReportedAs cause reported → FailsToMerge old [] p cause → MergeStopsWhatShown old p reported
@@ -315,6 +317,7 @@ stops_shown old p (causes.RepeatedName name) reported is fails d shown fit =
       | inl twice ↦ absurd (fails_whole d.value (chars_of name) twice)
       | inr stops ↦ inr stops
     ])
+stops_shown old p (causes.Edit NestingDepthExceeded) reported is fails d shown fit = subst (λ f. IsMergeFault p d f) (sym is) tt
 stops_shown old p (causes.Edit why) reported is fails d shown fit = subst (λ f. IsMergeFault p d f) (sym is) tt
 stops_shown old p causes.NoTarget reported is fails d shown fit = absurd (fails d shown fit at_root)
 stops_shown old p causes.IntoItself reported is fails d shown fit = absurd (fails d shown fit at_root)

@@ -78,6 +78,7 @@ module _ {A : Type 0} where
   pub reports_repeated : (ms : Members) (name : List ℕ) (e : MergeFault A) → ReportsName name e → IsRepeated name ms → AreNamesTwice ms e
   reports_repeated ms name (fault.RepeatedName s) h r = subst (λ n. IsRepeated n ms) (sym h) r
   reports_repeated ms name fault.OutOfMemory h r = tt
+  reports_repeated ms name fault.NestingDepthExceeded h r = absurd h
 
   -- no name occurs twice in what is inside
   pub items_unique : (vs : List (CstInputValue A)) → All (λ v. HasUniqueNames (plain v)) vs → ItemsHaveUniqueNames (items_plain vs)
@@ -97,14 +98,17 @@ module _ {A : Type 0} where
   pub twice_in_element : (vs : List (CstInputValue A)) (i : ℕ) (v : CstInputValue A) (e : MergeFault A) → i < length vs → v ≡ get_or vs i v → HasNameTwice (plain v) e → HasNameTwice (array (items_plain vs)) e
   twice_in_element vs i v (fault.RepeatedName name) l is h = repeats_in_element (item_there vs i v l is) h
   twice_in_element vs i v fault.OutOfMemory l is h = tt
+  twice_in_element vs i v fault.NestingDepthExceeded l is h = absurd h
 
   pub twice_in_member : (ps : List (String A × CstInputValue A)) (i : ℕ) (p : String A × CstInputValue A) (e : MergeFault A) → i < length ps → p ≡ get_or ps i p → HasNameTwice (plain p.1) e → HasNameTwice (object (members_plain ps)) e
   twice_in_member ps i p (fault.RepeatedName name) l is h = repeats_in_member (has_member ps i p l is) h
   twice_in_member ps i p fault.OutOfMemory l is h = tt
+  twice_in_member ps i p fault.NestingDepthExceeded l is h = absurd h
 
   pub twice_of_names : (ms : Members) (e : MergeFault A) → AreNamesTwice ms e → HasNameTwice (object ms) e
   twice_of_names ms (fault.RepeatedName name) h = repeats_here h
   twice_of_names ms fault.OutOfMemory h = tt
+  twice_of_names ms fault.NestingDepthExceeded h = absurd h
 
   -- of the value
   pub unique_so : (v : CstInputValue A) (p : Plain) → plain v ≡ p → HasUniqueNames p → HasUniqueNames (plain v)

@@ -13,7 +13,7 @@ use Rattle.jsonc_insert.specs.elements.Members.{member_count}
 use Rattle.jsonc_layout.specs.input.Views.{chars_of}
 use Rattle.jsonc_run.specs.declared.edit.Edit.{Edit}
 use Rattle.jsonc_run.specs.declared.edit.Edit.TheVariants.{RenameProperty}
-use Rattle.jsonc_run.specs.Edits.{operation_of, unsorted, EditStep}
+use Rattle.jsonc_run.specs.Edits.{operation_of, unsorted}
 use Rattle.jsonc_run.specs.Named.{HasPropertyAt}
 use Rattle.jsonc_run.specs.texts.Edits as texts
 use Rattle.jsonc_run.specs.texts.Edits.{BecomesProperty, Operation}
@@ -22,7 +22,7 @@ use Rattle.jsonc_cst.specs.declared.cst.CstRootNode.{CstRootNode}
 use Rattle.jsonc_cst.specs.declared.cst.node.CstNode.{CstNode}
 use Rattle.jsonc_cst.specs.Document.{nodes_of, tree_of}
 use Rattle.jsonc_cst.specs.Nodes.{number_of}
-use Rattle.jsonc_parser.specs.patch.Applied.{FailsWhatShown, IsCause, IsNoMemory, IsPathless, IsRefusal, IsUnfound, LeadsOn}
+use Rattle.jsonc_parser.specs.patch.Applied.{IsEditDone, FailsWhatShown, IsCause, IsNoMemory, IsPathless, IsRefusal, IsUnfound, LeadsOn}
 use Rattle.jsonc_parser.specs.patch.Found.{IsOfShown, RefersToNode, RefersToNothing}
 use Rattle.jsonc_parser.specs.patch.MergeSteps.{IsTwice, RefersToObject}
 use Rattle.jsonc_parser.specs.patch.Operations as value
@@ -32,7 +32,7 @@ use Rattle.jsonc_parser.specs.patch.Renaming.{AreBeside, FailsToRename, IsRenami
 use Rattle.jsonc_parser.specs.declared.patch.making.PatchCause.{PatchCause}
 use Rattle.jsonc_parser.specs.declared.patch.making.PatchCause.TheVariants as causes
 use Rattle.jsonc_parser.proofs.lemmas.patch.Evaluation.{behind, fails_further, index_once, item_once, member_further, never_both, object_stops, only_of_more, only_once, refers_changed}
-use Rattle.jsonc_parser.proofs.lemmas.patch.Failing.{fails_longer, has_path, memory_cause, refusal_memory, unmoved}
+use Rattle.jsonc_parser.proofs.lemmas.patch.Failing.{fails_longer, has_path, memory_cause, refusal_memory, unedited, unmoved}
 use Rattle.jsonc_parser.proofs.lemmas.patch.Exclusive.{no_last, same_last}
 use Rattle.jsonc_parser.proofs.lemmas.patch.Made.{led, makes_so, options_so}
 use Rattle.jsonc_parser.proofs.lemmas.patch.Operating.{name_cases, nothing_more}
@@ -91,7 +91,7 @@ property_there {x} {v} {ns} {tokens} {q} {p} w last is holder r =
     ]
 
 module _ {A : Type 0} (old new : CstRootNode A) (tree : IsTree (nodes_of old)) (node : CstNode) (path : Vec ℕ A) (at : IsAt (nodes_of old) path.items (number_of node)) (name : String A) (last : List ℕ) (is : chars_of name ≡ last) where
-  pub renames_so : IsTree (nodes_of new) → EditStep (nodes_of old) (operation_of unsorted (RenameProperty path name)) (nodes_of new) → RenamesAt old node last new
+  pub renames_so : IsTree (nodes_of new) → IsEditDone old (RenameProperty path name) new → RenamesAt old node last new
   renames_so after made from to r d shown fit =
       let edit : Edit A = RenameProperty path name in
       let l = led edit (nodes_of old) (nodes_of new) tree after made d shown tt in
@@ -104,7 +104,7 @@ module _ {A : Type 0} (old new : CstRootNode A) (tree : IsTree (nodes_of old)) (
       let none = r.nothing d shown in
       let nothing : ReferToNothing d.value (r.tokens ++ last ∷ []) = subst (ReferToNothing d.value) r.beside.second (none.nothing, none.unique) in
       let moves : Moves from to d.value l.e.value = subst (λ t. Moves from t d.value l.e.value) (sym r.beside.second) (renamed r.tokens r.beside.last last r.beside.first stands nothing becomes) in
-      (l.e, l.shown, record { edits = edit ∷ []; edited = l.edited; options = options_so d l.e l.op op l.asks l.options; made = moves })
+      (l.e, l.shown, record { edits = edit ∷ []; edited = l.edited; within = l.within; options = options_so d l.e l.op op l.asks l.options; made = moves })
 
 module _ {A : Type 0} (doc : CstRootNode A) (tree : IsTree (nodes_of doc)) (node : CstNode) (c : PatchCause A) where
   pub renames_not : (path : Vec ℕ A) → IsAt (nodes_of doc) path.items (number_of node) → (name : String A) (last : List ℕ) → IsRefusal doc (RenameProperty path name) c → FailsToRename doc node last c
@@ -117,7 +117,7 @@ module _ {A : Type 0} (doc : CstRootNode A) (tree : IsTree (nodes_of doc)) (node
       memory_cause (value.move from to) d.value c (refusal_memory doc tree (RenameProperty path name) (λ h. h, λ h. h) c reported d shown has)
 
   pub pathless_name : (last : List ℕ) → IsPathless doc node c → FailsToRename doc node last c
-  pathless_name last is from to r d shown = memory_cause (value.move from to) d.value c (has_path doc from node r.refers c is d shown)
+  pathless_name last is from to r d shown = memory_cause (value.move from to) d.value c (unedited c (has_path doc from node r.refers c is d shown))
 
 -- two lists of tokens with the same beginning
 pub same_front : {tokens others : List (List ℕ)} → LeadsOn tokens others → length tokens ≡ length others → tokens ≡ others

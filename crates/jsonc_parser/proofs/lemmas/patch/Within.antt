@@ -22,7 +22,7 @@ use Rattle.jsonc_parser.specs.declared.patch.making.PatchCause.{PatchCause}
 use Rattle.jsonc_parser.specs.declared.patch.making.PatchCause.TheVariants as causes
 use Rattle.jsonc_parser.specs.declared.patch.operation.Operation.{Operation}
 use Rattle.jsonc_parser.proofs.lemmas.patch.Chains.{patched_first, patched_none}
-use Rattle.jsonc_parser.proofs.lemmas.patch.Failing.{memory_cause}
+use Rattle.jsonc_parser.proofs.lemmas.patch.Failing.{memory_cause, unedited}
 
 -- the range of the root is all that is printed
 module _ (ns : List Node) (tree : IsTree ns) where
@@ -129,5 +129,5 @@ module _ {A : Type 0} (bytes : ℕ) where
     is_next = ap (λ n. slice_get (o ∷ rest) n) is;
     reached = old;
     before = subst (λ n. StaysWithin bytes old (take n (o ∷ rest)) old) (sym is) none_made;
-    cause = fails_anyhow old o fault.cause (λ d shown. memory_cause (asked o) d.value fault.cause none);
+    cause = fails_anyhow old o fault.cause (λ d shown. memory_cause (asked o) d.value fault.cause (unedited fault.cause none));
   }

@@ -1,5 +1,5 @@
 -- One edit that was made puts a value at names, or drops what is there.
-use Rattle.std.proofs.Common.{ℕ, ◌≡◌, ◌∙◌, sym, ap, subst, refl, List, [], ◌∷◌, Option, All}
+use Rattle.std.proofs.Common.{ℕ, ◌≡◌, ◌≤◌, ◌∙◌, sym, ap, subst, refl, List, [], ◌∷◌, Option, All}
 use Rattle.std.proofs.lemmas.List.Elements.{All-nil, All-cons}
 use Rattle.jsonc_text.specs.Documents.{Document}
 use Rattle.jsonc_run.specs.texts.Edits.{Operation, options_behind, Run}
@@ -10,9 +10,10 @@ use Rattle.jsonc_tree.specs.Tree.{Node, IsTree}
 use Rattle.jsonc_sound.specs.Documents.{document_of, Shows}
 use Rattle.jsonc_edit.specs.Writing.{IsOfNumbers}
 use Rattle.jsonc_text.specs.declared.edit.EditError.{EditError}
-use Rattle.jsonc_text.specs.declared.edit.EditError.TheVariants.{OutOfMemory, NoSuchPlace, InvalidComment, LineContinues}
+use Rattle.jsonc_text.specs.declared.edit.EditError.TheVariants.{OutOfMemory, NoSuchPlace, InvalidComment, LineContinues, NestingDepthExceeded}
 use Rattle.jsonc_edit.proofs.OneValue.{document_once}
 use Rattle.jsonc_text.specs.declared.edit.Over.{Over}
+use Rattle.jsonc_run.specs.Depth.{needs_in}
 use Rattle.jsonc_run.specs.Edits.{PlainEdit, EditStep, first_made, none_made, IsOfCharacters, Allows}
 use Rattle.jsonc_run.specs.Named.{comment_count, IsNamed, Asks}
 use Rattle.jsonc_run.specs.Refusals.{FailsWith, InsertsLineAfter, InsertsNoComment}
@@ -22,10 +23,12 @@ use Rattle.jsonc_run.proofs.NamedPlaces.{tells_unnamed}
 use Rattle.jsonc_run.proofs.Refused.{refused_so}
 use Rattle.jsonc_run.proofs.SoundChain.{makes_steps}
 use Rattle.jsonc_run.proofs.lemmas.promise.Chains.{steps_are_run}
+use Rattle.jsonc_parser.specs.patch.Applied.{IsNoRoom}
 use Rattle.jsonc_parser.specs.paths.Calls.{DropsButForMemory, DropsByOneEdit, PutsUnlessOutOfMemory, PutsByOneEdit}
 use Rattle.jsonc_parser.specs.paths.Positions.{IsDroppedBy, removes, IsPutBy, sets_root, sets_first, sets_value, appends, replaces}
 use Rattle.jsonc_parser.specs.paths.Settings.{nest}
 use Rattle.jsonc_parser.specs.declared.paths.which.Which.{Which}
+use Rattle.jsonc_parser.proofs.lemmas.paths.Depths.{drop_fits, put_fits, refused_deep, run_within}
 use Rattle.jsonc_parser.proofs.lemmas.paths.Leading.{drops_by_it, puts_by_it}
 use Rattle.jsonc_parser.proofs.lemmas.paths.Paths.{dropped_same, put_at, put_same}
 use Rattle.jsonc_parser.proofs.lemmas.paths.LongestPrefix.{put_is_free}
@@ -109,26 +112,62 @@ puts_by_one_edit which d v over names op old new tree after shown by characters 
   made,
   λ numbers.
       let l = led d op old new tree after shown characters (put_numbers d.options by numbers) made in
-      let put = (puts_by_it which v over d.value names op by).1 l.e.value l.op l.asks l.changed in
-      (l.e, l.shown, record { op = l.op; asked = l.asks; edited = l.edited; put = put; there = put_at put; elsewhere = λ path u k. put_same put path u k }),
+      let put = (puts_by_it which v over d.value names op by).1 l.e.value l.op l.asks l.changed in (
+        l.e,
+        l.shown,
+        record {
+          op = l.op;
+          asked = l.asks;
+          edited = l.edited;
+          put = put;
+          there = put_at put;
+          elsewhere = λ path u k. put_same put path u k;
+          within = λ fits. run_within op l.asks l.edited (put_fits by fits);
+        },
+      ),
 )
 
 pub drops_by_one_edit : (d : Document) (names : List (List ℕ)) (op : PlainEdit) (old new : List Node) → DropsByOneEdit d names op old new
 drops_by_one_edit d names op old new tree after shown by made =
     let l = led d op old new tree after shown (drop_characters by) (drop_numbers d.options by) made in
-    let dropped = (drops_by_it d.value names op by).1 l.e.value l.op l.asks l.changed in
-    (op, by, made, l.e, l.shown, record { op = l.op; asked = l.asks; edited = l.edited; dropped = dropped; elsewhere = λ path u k. dropped_same dropped path u k })
+    let dropped = (drops_by_it d.value names op by).1 l.e.value l.op l.asks l.changed in (
+      op,
+      by,
+      made,
+      l.e,
+      l.shown,
+      record {
+        op = l.op;
+        asked = l.asks;
+        edited = l.edited;
+        dropped = dropped;
+        elsewhere = λ path u k. dropped_same dropped path u k;
+        within = run_within op l.asks l.edited (drop_fits by);
+      },
+    )
 
--- what is named is refused for memory alone
-pub for_memory : (d : Document) (old : List Node) (op : PlainEdit) (why : EditError) → IsTree old → Shows d (ordered_tree old 0) → IsNamed d.value (comment_count (ordered_tree old 0)) op → IsNoRemark op → FailsWith old op why → why ≡ OutOfMemory
-for_memory d old op OutOfMemory tree shown named other reported = refl
-for_memory d old op NoSuchPlace tree shown named other reported = absurd ((tells_unnamed old d.options tree shown.sound op NoSuchPlace reported d.value shown.value).0 refl named)
-for_memory d old op InvalidComment tree shown named other reported = absurd (other.0 (refused_so d.options old tree shown.sound op InvalidComment reported))
-for_memory d old op LineContinues tree shown named other reported = absurd (other.1 (refused_so d.options old tree shown.sound op LineContinues reported))
-for_memory d old op why tree shown named other reported = absurd (refused_so d.options old tree shown.sound op why reported)
+-- what is named, and writes nothing that is nested too deep, is refused for memory alone
+pub for_memory : (d : Document) (old : List Node) (op : PlainEdit) (why : EditError) → IsTree old → Shows d (ordered_tree old 0) → IsNamed d.value (comment_count (ordered_tree old 0)) op → IsNoRemark op → needs_in d.value op ≤ 512 → FailsWith old op why → why ≡ OutOfMemory
+for_memory d old op OutOfMemory tree shown named other small reported = refl
+for_memory d old op NoSuchPlace tree shown named other small reported = absurd ((tells_unnamed old d.options tree shown.sound op NoSuchPlace reported d.value shown.value).0 refl named)
+for_memory d old op InvalidComment tree shown named other small reported = absurd (other.0 (refused_so d.options old tree shown.sound d.value shown.value op InvalidComment reported))
+for_memory d old op LineContinues tree shown named other small reported = absurd (other.1 (refused_so d.options old tree shown.sound d.value shown.value op LineContinues reported))
+for_memory d old op NestingDepthExceeded tree shown named other small reported = absurd (refused_deep d old op tree shown small reported)
+for_memory d old op why tree shown named other small reported = absurd (refused_so d.options old tree shown.sound d.value shown.value op why reported)
+
+-- what is named is refused for memory, or as nested too deep
+pub for_room : (d : Document) (old : List Node) (op : PlainEdit) (why : EditError) → IsTree old → Shows d (ordered_tree old 0) → IsNamed d.value (comment_count (ordered_tree old 0)) op → IsNoRemark op → FailsWith old op why → IsNoRoom why
+for_room d old op OutOfMemory tree shown named other reported = tt
+for_room d old op NestingDepthExceeded tree shown named other reported = tt
+for_room d old op NoSuchPlace tree shown named other reported = absurd ((tells_unnamed old d.options tree shown.sound op NoSuchPlace reported d.value shown.value).0 refl named)
+for_room d old op InvalidComment tree shown named other reported = absurd (other.0 (refused_so d.options old tree shown.sound d.value shown.value op InvalidComment reported))
+for_room d old op LineContinues tree shown named other reported = absurd (other.1 (refused_so d.options old tree shown.sound d.value shown.value op LineContinues reported))
+for_room d old op why tree shown named other reported = absurd (refused_so d.options old tree shown.sound d.value shown.value op why reported)
 
 pub puts_but_for_memory : (which : Which) (d : Document) (v : Plain) (over : Over) (names : List (List ℕ)) (op : PlainEdit) (old : List Node) (why : EditError) → PutsUnlessOutOfMemory which d v over names op old why
-puts_but_for_memory which d v over names op old why tree shown by = for_memory d old op why tree shown ((puts_by_it which v over d.value names op by).0 (comment_count (ordered_tree old 0))) (put_no_remark by)
+puts_but_for_memory which d v over names op old why tree shown fits by =
+    for_memory d old op why tree shown ((puts_by_it which v over d.value names op by).0 (comment_count (ordered_tree old 0))) (put_no_remark by) (put_fits by fits)
 
 pub drops_but_for_memory : (d : Document) (names : List (List ℕ)) (op : PlainEdit) (old : List Node) (why : EditError) → DropsButForMemory d names op old why
-drops_but_for_memory d names op old why tree shown by = for_memory d old op why tree shown ((drops_by_it d.value names op by).0 (comment_count (ordered_tree old 0))) (drop_no_remark by)
+drops_but_for_memory d names op old why tree shown by =
+    for_memory d old op why tree shown ((drops_by_it d.value names op by).0 (comment_count (ordered_tree old 0))) (drop_no_remark by) (drop_fits by)

@@ -10,6 +10,7 @@ use Rattle.jsonc_tree.specs.OrderedTree.{ordered_tree}
 use Rattle.jsonc_tree.specs.Tree.{Node, IsTree}
 use Rattle.jsonc_sound.specs.Documents.{Shows}
 use Rattle.jsonc_text.specs.declared.edit.EditError.{EditError}
+use Rattle.jsonc_text.specs.declared.edit.EditError.TheVariants.{OutOfMemory}
 use Rattle.jsonc_text.specs.declared.edit.Over.{Over}
 use Rattle.jsonc_run.specs.declared.edit.Edit.{Edit}
 use Rattle.jsonc_run.specs.declared.edit.Edit.TheVariants.{Remove, Sort, SetTrailingCommas}
@@ -19,7 +20,7 @@ use Rattle.jsonc_run.specs.Refusals.{IsLeft, as_it_was, set_in_part, FailsWith}
 use Rattle.jsonc_run.proofs.SoundChain.{of_characters}
 use Rattle.jsonc_cst.specs.declared.cst.CstRootNode.{CstRootNode}
 use Rattle.jsonc_cst.specs.Document.{nodes_of, tree_of}
-use Rattle.jsonc_parser.specs.paths.Calls.{DropsWhatShown, PutsWhatShown, WantsMemory}
+use Rattle.jsonc_parser.specs.paths.Calls.{DropsWhatShown, FailsToPut, FitsAt, IsRefusalToPut, PutsWhatShown, WantsMemory}
 use Rattle.jsonc_parser.specs.paths.Choices.{Chooses}
 use Rattle.jsonc_parser.specs.paths.Found.{names_of}
 use Rattle.jsonc_parser.specs.paths.Positions.{Leads, removes, IsDroppedBy}
@@ -46,13 +47,17 @@ pub left_alone : {A T E : Type 0} (e : Edit A) (old new : List Node) (r : Result
 left_alone e old new (Ok x) whole left = tt
 left_alone e old new (Err x) whole left = left_whole e old new (operation_of unsorted e) whole refl left
 
+-- for want of memory a value that fits was not put
+pub for_want : (names : List (List ℕ)) (v : Plain) (why : EditError) → FitsAt names v → why ≡ OutOfMemory → IsRefusalToPut names v why
+for_want names v why fits is = subst (IsRefusalToPut names v) (sym is) fits
+
 module _ {A : Type 0} (doc now : CstRootNode A) (tree : IsTree (nodes_of doc)) where
   module _ (which : Which) (v : Plain) (over : Over) (names : List (List ℕ)) (edit : Edit A) (chosen : Chooses which doc v over names (Some edit)) where
     pub put_made : IsTree (nodes_of now) → EditStep (nodes_of doc) (operation_of unsorted edit) (nodes_of now) → PutsWhatShown which v over names (nodes_of doc) (nodes_of now) true
     put_made after made d shown = puts_by_one_edit which d v over names (operation_of unsorted edit) (nodes_of doc) (nodes_of now) tree after shown (chosen.1 d shown) (of_characters unsorted edit) made
 
-    pub put_refused : (why : EditError) → FailsWith (nodes_of doc) (operation_of unsorted edit) why → WantsMemory (nodes_of doc) why
-    put_refused why reported d shown = puts_but_for_memory which d v over names (operation_of unsorted edit) (nodes_of doc) why tree shown (chosen.1 d shown) reported
+    pub put_refused : FitsAt names v → (why : EditError) → FailsWith (nodes_of doc) (operation_of unsorted edit) why → FailsToPut (nodes_of doc) names v why
+    put_refused fits why reported d shown = for_want names v why fits (puts_but_for_memory which d v over names (operation_of unsorted edit) (nodes_of doc) why tree shown fits (chosen.1 d shown) reported)
 
   module _ (names : List (List ℕ)) (path : Vec ℕ A) (reached : (d : Document) → Shows d (tree_of doc) → (x v : Plain) × (d.value ≡ Some x) × Leads First names path.items x v) where
     dropped_by : (d : Document) → Shows d (tree_of doc) → IsDroppedBy d.value names (operation_of unsorted (Remove path))

@@ -15,7 +15,7 @@ use Rattle.jsonc_run.specs.Named as asked
 use Rattle.jsonc_run.specs.Named.{Asks}
 use Rattle.jsonc_run.specs.texts.Edits.{Operation, Run, none_made, one_made, options_behind}
 use Rattle.jsonc_parser.specs.paths.Calls.{IsReadThere, PutsWhatShown}
-use Rattle.jsonc_parser.specs.paths.Positions.{IsPutBy, sets_root, sets_first, sets_value, appends, replaces}
+use Rattle.jsonc_parser.specs.paths.Positions.{IsDroppedBy, removes, IsPutBy, sets_root, sets_first, sets_value, appends, replaces}
 use Rattle.jsonc_parser.specs.paths.Settings.{At}
 use Rattle.jsonc_parser.specs.declared.paths.which.Which.{Which}
 use Rattle.jsonc_parser.specs.declared.paths.which.Which.TheVariants.{Last}
@@ -25,7 +25,7 @@ root_options : (o : Options) (w : Option Plain) (v : Plain) → options_behind o
 root_options o None v = refl
 root_options o (Some x) v = refl
 
-put_options : (o : Options) {which : Which} {v : Plain} {over : Over} {w : Option Plain} {names : List (List ℕ)} {e : PlainEdit} (op : Operation) → IsPutBy which v over w names e → Asks w e op
+pub put_options : (o : Options) {which : Which} {v : Plain} {over : Over} {w : Option Plain} {names : List (List ℕ)} {e : PlainEdit} (op : Operation) → IsPutBy which v over w names e → Asks w e op
     → options_behind o op ≡ o
 put_options o {v = v} op (sets_root {w = w}) is = ap (options_behind o) is ∙ root_options o w v
 put_options o op sets_first is = ap (options_behind o) is
@@ -33,12 +33,15 @@ put_options o op (sets_value l) is = ap (options_behind o) is
 put_options o op (appends front rest l lacks) (ms, i, stands, far, is) = ap (options_behind o) is
 put_options o op (replaces front rest l non how) is = ap (options_behind o) is
 
+pub drop_options : (o : Options) {w : Option Plain} {names : List (List ℕ)} {e : PlainEdit} (op : Operation) → IsDroppedBy w names e → Asks w e op → options_behind o op ≡ o
+drop_options o op (removes l) is = ap (options_behind o) is
+
 -- a list without edits leads nowhere, and one of one edit to a document with the options after it
 nowhere : {d e : Document} {ops : List Operation} → Run d ops e → ops ≡ [] → d ≡ e
 nowhere (none_made one) is = refl
 nowhere (one_made {op = op} {ops = ops} one same makes rest) is = cc
 
-one_led : {d e : Document} {op : Operation} {ops : List Operation} → Run d (op ∷ ops) e → ops ≡ [] → e.options ≡ options_behind d.options op
+pub one_led : {d e : Document} {op : Operation} {ops : List Operation} → Run d (op ∷ ops) e → ops ≡ [] → e.options ≡ options_behind d.options op
 one_led (one_made one same makes rest) is = ap (λ f. f.options) (sym (nowhere rest is)) ∙ same
 
 read_back : (v : Plain) (over : Over) (names : List (List ℕ)) (old new : List Node) (done : Bool) → PutsWhatShown Last v over names old new done → IsReadThere v names old new done

@@ -17,5 +17,5 @@ pub returns-in-Ok-text-clause-written : goal.returns-in-Ok-text-clause-written
 returns-in-Ok-text-clause-written g c = λ words patch.
     let o = parse_options c.default.result in
     let s = c.in-Ok-text.text in
-    merged c.args.text.now c.in-Ok.document o c.default.ensures c.in-Ok.ensures.document words (plain c.args.patch.now) patch c.merge.new.doc (string_bytes s) c.in-Ok-merge.ensures.merged c.in-Ok-text.ensures.printed
+    merged c.args.text.now c.in-Ok.document o c.default.ensures c.in-Ok.ensures.document words (plain c.args.patch.now) patch c.in-Ok.ensures.within c.merge.new.doc (string_bytes s) c.in-Ok-merge.ensures.merged c.in-Ok-text.ensures.printed
     (IsUtf8-string_bytes s)

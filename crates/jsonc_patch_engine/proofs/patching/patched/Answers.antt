@@ -16,5 +16,5 @@ pub returns-in-Ok-text-clause-written : goal.returns-in-Ok-text-clause-written
 returns-in-Ok-text-clause-written g c = λ words patch.
     let o = parse_options c.default.result in
     let s = c.in-Ok-text.text in
-    applied c.args.text.now c.in-Ok.document o c.default.ensures c.in-Ok.ensures.document words (operations_in c.args.patch.now) patch c.apply.new.doc (string_bytes s) c.in-Ok-apply.ensures.patched c.in-Ok-text.ensures.printed
+    applied c.args.text.now c.in-Ok.document o c.default.ensures c.in-Ok.ensures.document words (operations_in c.args.patch.now) patch c.in-Ok.ensures.within c.apply.new.doc (string_bytes s) c.in-Ok-apply.ensures.patched c.in-Ok-text.ensures.printed
     (IsUtf8-string_bytes s)

@@ -12,3 +12,6 @@ returns-clause-kept g c = left_kept c.args.edit c.args.doc.now c.make.new.self (
 
 pub returns-clause-fails : goal.returns-clause-fails
 returns-clause-fails g c = c.in-Err.ensures.error
+
+pub returns-in-Ok-clause-made : goal.returns-in-Ok-clause-made
+returns-in-Ok-clause-made g c = (c.in-Ok.ensures.made, c.in-Ok.ensures.within)

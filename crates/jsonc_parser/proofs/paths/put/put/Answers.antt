@@ -4,6 +4,7 @@ use Rattle.jsonc_run.specs.Edits.{operation_of, unsorted}
 use Rattle.jsonc_parser.specs.paths.Choices.{Chooses}
 use Rattle.jsonc_parser.specs.paths.Found.{names_of}
 use Rattle.jsonc_parser.proofs.lemmas.paths.EditOutcome.{put_made, put_refused}
+use Rattle.jsonc_parser.proofs.lemmas.paths.Depths.{decided, decided_not}
 use Rattle.jsonc_parser.proofs.paths.put.put.Goals as goal
 
 pub returns-in-Ok-make_one-clause-put : goal.returns-in-Ok-make_one-clause-put
@@ -14,7 +15,13 @@ returns-in-Ok-make_one-clause-put g c =
 pub returns-in-Err-make_one-clause-error : goal.returns-in-Err-make_one-clause-error
 returns-in-Err-make_one-clause-error g c =
     put_refused c.args.doc.now c.make_one.new.doc c.args.doc.now.tree.tree c.args.which (plain c.args.value) c.args.over (names_of c.args.names.now) c.in-Ok-Some.edit
-    (subst (Chooses c.args.which c.args.doc.now (plain c.args.value) c.args.over (names_of c.args.names.now)) c.in-Ok-Some.field-0-is c.in-Ok-Some.ensures.chosen) c.in-Err-make_one.error c.in-Err-make_one.ensures.error
+    (subst (Chooses c.args.which c.args.doc.now (plain c.args.value) c.args.over (names_of c.args.names.now)) c.in-Ok-Some.field-0-is c.in-Ok-Some.ensures.chosen) (decided c.fits_at.result c.fits_at.ensures c.if-not-fits_at.false) c.in-Err-make_one.error c.in-Err-make_one.ensures.error
 
 pub returns-in-Ok-make_one-clause-one : goal.returns-in-Ok-make_one-clause-one
 returns-in-Ok-make_one-clause-one g c = (operation_of unsorted c.in-Ok-Some.edit, c.in-Ok-make_one.ensures.made)
+
+pub returns-then-not-fits_at-clause-error : goal.returns-then-not-fits_at-clause-error
+returns-then-not-fits_at-clause-error g c = λ d shown. decided_not c.fits_at.result c.fits_at.ensures c.if-not-fits_at.true
+
+pub returns-in-Ok-make_one-clause-fits : goal.returns-in-Ok-make_one-clause-fits
+returns-in-Ok-make_one-clause-fits g c = decided c.fits_at.result c.fits_at.ensures c.if-not-fits_at.false
