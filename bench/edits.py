@@ -190,6 +190,12 @@ def drawn_place(draw, name, places):
     return '/' + '/'.join(str(index) for index in draw.choice(places))
 
 
+def drawn_words(draw, name, places, given={}):
+    """An edit of this kind, mostly at one of these places, as a case has it; where a word of a kind is given, it has that."""
+    kinds = EDITS[name].words.split()
+    return ' '.join([name] + [given.get(kind) or (WORDS[kind][1](draw) if WORDS[kind][1] else drawn_place(draw, name, places)) for kind in kinds])
+
+
 def drawn_edit(draw, document):
     """An edit of a kind that has a place in the document, mostly at one that is there, as a case has it."""
     places = {name: [()] if row.needs is None else NEEDS[row.needs](document) for name, row in EDITS.items()}
@@ -197,5 +203,4 @@ def drawn_edit(draw, document):
     often = [EDITS[name].often if document.values else EDITS[name].often_first for name in names]
     # (an edit of an entry seldom takes the document's value where that is the only one)
     name = draw.choices(names, [weight / 20 if places[name] == [()] and EDITS[name].needs == 'an entry' else weight for name, weight in zip(names, often)])[0]
-    kinds = EDITS[name].words.split()
-    return ' '.join([name] + [WORDS[kind][1](draw) if WORDS[kind][1] else drawn_place(draw, name, places[name]) for kind in kinds])
+    return drawn_words(draw, name, places[name])

@@ -98,7 +98,8 @@ fn next_inside<A: Allocator>(tree: &Tree<A>, end: usize, node: usize) -> Option<
 }
 
 // The node at which a walk goes on behind one at which it does not stop: what is below a node that is not
-// reached is passed over.
+// reached is passed over. Nothing is below a leaf, so nobody asks whether it is reached: to tell that, its
+// row is read.
 fn next_from<A: Allocator>(tree: &Tree<A>, end: usize, node: usize) -> Option<usize>
     requires in_tree { node < length tree.now.nodes }
     requires over { IsOver tree.now.nodes end node }
@@ -110,6 +111,9 @@ fn next_from<A: Allocator>(tree: &Tree<A>, end: usize, node: usize) -> Option<us
     ensures over { IfSome result (IsOver tree.now.nodes end) }
     ensures inside { IfSome result (IsOpen tree.now.nodes end) }
 {
+    let Some(_) = tree.first_child(node) else {
+        return next_past(tree, end, node);
+    };
     if is_reached(tree, end, node) {
         return next_inside(tree, end, node);
     }
