@@ -1,10 +1,11 @@
 //! The value of a node with all of its members, those of equal names too.
 
-ghost use Rattle.std.specs.Prelude.{◌≡◌, ◌<◌, false, length, option_map, IfOk};
+ghost use Rattle.std.specs.Prelude.{◌≡◌, ◌<◌, false, length, option_map, IfOk, IsTrue};
 ghost use Rattle.jsonc_layout.specs.input.Views.{named, plain};
+ghost use Rattle.jsonc_layout.specs.to_input.Given.{holds_value};
 ghost use Rattle.jsonc_layout.specs.to_input.Taken.{GivesAt};
 ghost use Rattle.jsonc_parser.specs.patch.Taking.{ElementsGive, GivesMemberAt, MembersGive};
-ghost use Rattle.jsonc_tree.specs.Tree.{is_container_at};
+ghost use Rattle.jsonc_tree.specs.Tree.{content_at, is_container_at};
 
 use jsonc_cst::cst::CstInputValue;
 use jsonc_layout::nodes::{decoded_name, value_of};
@@ -42,19 +43,33 @@ pub(super) fn take<A: Allocator + Copy>(
     ensures { IfOk result (λ v. GivesAt tree.now.nodes node (option_map plain v)) }
 {
     match tree.kind(node) {
-        Kind::Root(_) | Kind::Property(_) => match value_of(tree, node) {
-            Some(value) => take(alloc, tree, value),
-            None => Ok(None),
-        },
+        Kind::Root(_) | Kind::Property(_) => take_held(alloc, tree, node),
         Kind::Array(_) => match take_elements(alloc, tree, node) {
-            Ok(elements) => Ok(Some(CstInputValue::Array(elements))),
+            Ok(elements) => Ok(Some(CstInputValue::from(elements))),
             Err(_) => Err(AllocError),
         },
         Kind::Object(_) => match take_members(alloc, tree, node) {
-            Ok(members) => Ok(Some(CstInputValue::Object(members))),
+            Ok(members) => Ok(Some(CstInputValue::from(members))),
             Err(_) => Err(AllocError),
         },
         _ => take_leaf(alloc, tree, node),
+    }
+}
+
+// The value of the root or of a property: that of the node that is its value.
+#[cycle(take)]
+fn take_held<A: Allocator + Copy>(
+    alloc: A,
+    tree: &Tree<A>,
+    node: usize,
+) -> Result<Option<CstInputValue<A>>, AllocError>
+    requires in_tree { node < length tree.now.nodes }
+    requires holds { IsTrue (holds_value (content_at tree.now.nodes node)) }
+    ensures { IfOk result (λ v. GivesAt tree.now.nodes node (option_map plain v)) }
+{
+    match value_of(tree, node) {
+        Some(value) => take(alloc, tree, value),
+        None => Ok(None),
     }
 }
 

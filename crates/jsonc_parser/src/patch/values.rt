@@ -71,7 +71,6 @@ pub(super) fn elements_in<'b, 'a, A: Allocator>(
 }
 
 // The fault of a name that occurs twice.
-#[inline(never)]
 fn repeated<A: Allocator>(alloc: A, name: &str) -> OperationFault<A>
     ensures { ReportsRepeated (chars name.now) result }
 {
@@ -104,7 +103,6 @@ pub(super) fn see_names<A: Allocator + Copy>(
 }
 
 // A text of its own.
-#[inline(never)]
 fn owned<A: Allocator>(alloc: A, text: &str) -> Result<String<A>, OperationFault<A>>
     ensures text { IfOk result (λ s. string_bytes s ≡ text.now) }
     ensures memory { IfErr result (λ fault. fault ≡ OperationFault.OutOfMemory) }
@@ -116,6 +114,7 @@ fn owned<A: Allocator>(alloc: A, text: &str) -> Result<String<A>, OperationFault
 }
 
 // The elements.
+#[inline(never)]
 #[cycle(values)]
 fn elements_of<A: Allocator + Copy>(
     alloc: A,
@@ -139,6 +138,7 @@ fn elements_of<A: Allocator + Copy>(
 }
 
 // A name with its value.
+#[inline(never)]
 #[cycle(values)]
 fn member_of<A: Allocator + Copy>(
     alloc: A,
@@ -159,6 +159,7 @@ fn member_of<A: Allocator + Copy>(
 }
 
 // The names with their values, no name twice.
+#[inline(never)]
 #[cycle(values)]
 fn members_of<A: Allocator + Copy>(
     alloc: A,

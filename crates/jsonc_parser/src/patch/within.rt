@@ -40,10 +40,13 @@ impl<A: Allocator + Copy> Patch<A> {
 fn is_within<A: Allocator>(doc: &CstRootNode<A>, bytes: usize) -> bool
     ensures { Decides result (length (printed_of doc.now) ≤ bytes) }
 {
-    match doc.range(doc.root().node()) {
-        Some(range) => range.end <= bytes,
-        None => false,
+    let Some(range) = doc.range(doc.root().node()) else {
+        return false;
+    };
+    if range.end > bytes {
+        return false;
     }
+    true
 }
 
 // Makes one operation, after which the document's text is to have at most so many bytes.

@@ -1,7 +1,8 @@
 -- A member that gets another name, as a move.
-use Rattle.std.proofs.Common.{ℕ, suc, ◌≡◌, ◌<◌, ◌≤◌, ◌∙◌, ◌++◌, inl, inr, sym, ap, subst, refl, true, false, List, [], ◌∷◌, length, Option, Some, arith}
+use Rattle.std.proofs.Common.{ℕ, suc, ◌≡◌, ◌<◌, ◌≤◌, ◌∙◌, ◌++◌, inl, inr, sym, ap, subst, refl, true, false, List, [], ◌∷◌, length, Option, Some, None, IfNone, arith}
 use Rattle.std.specs.Bool.{Decides}
 use Rattle.std.proofs.lemmas.Bool.{false≢true}
+use Rattle.std.proofs.lemmas.List.{append-nil}
 use Rattle.std.specs.declared.string.String.{String}
 use Rattle.std.specs.declared.vec.Vec.{Vec}
 use Rattle.jsonc_text.specs.Documents.{Document}
@@ -181,3 +182,11 @@ module _ {A : Type 0} (doc : CstRootNode A) (from to : List (List ℕ)) where
     refers = λ d shown. subst (λ l. RefersToNode d (nodes_of doc) l (number_of node)) is (found d shown);
     nothing = λ d shown. subst (λ l. RefersToNothing d l) so (none d shown);
   }
+
+pub leads_itself : (tokens others : List (List ℕ)) → tokens ≡ others → LeadsOn tokens others
+leads_itself tokens others same = ([], sym same ∙ sym (append-nil tokens))
+
+-- there is no renaming
+pub never_within : {A T : Type 0} (doc : CstRootNode A) (from to : List (List ℕ)) (o : Option T) → o ≡ None → IfNone o (IsOfShown doc (λ d. ¬ (IsWithinObject from to d.value))) → IsOfShown doc (λ d. ¬ (IsWithinObject from to d.value))
+never_within doc from to None is h = h
+never_within doc from to (Some x) is h = cc

@@ -13,11 +13,12 @@ use Rattle.jsonc_layout.specs.declared.input.value.CstInputValue.{CstInputValue}
 use Rattle.jsonc_layout.specs.input.Views.{plain, named, chars_of, items_plain, members_plain}
 use Rattle.jsonc_layout.specs.nodes.Names.{HasName}
 use Rattle.jsonc_layout.specs.nodes.Kinds.{is_property}
+use Rattle.jsonc_layout.specs.nodes.Properties.{value_at}
 use Rattle.jsonc_layout.specs.to_input.Given.{Gives, GivesItems, GivesMembers, GivesMember, no_more_items, pass_to_items, one_item, no_more_members, pass_to_members, one_member, named_value, nameless, valueless, no_property}
 use Rattle.jsonc_layout.specs.to_input.Taken.{GivesAt, IsTaken}
 use Rattle.jsonc_layout.proofs.lemmas.to_input.Items.{push_item}
 use Rattle.jsonc_layout.proofs.lemmas.to_input.OneValue.{gives_once}
-use Rattle.jsonc_layout.proofs.lemmas.to_input.Shown.{empty_shown, one_more_shown, has_name_shown, shown_has_name}
+use Rattle.jsonc_layout.proofs.lemmas.to_input.Shown.{empty_shown, one_more_shown, has_name_shown, shown_has_name, value_gives}
 use Rattle.jsonc_sound.specs.Documents as documents
 use Rattle.jsonc_edit.specs.Changes.{row_below}
 use Rattle.jsonc_edit.proofs.ChangesUpward.{Shows-row_below}
@@ -118,12 +119,19 @@ module _ {A : Type 0} where
       one_member_more taken more_of one p so_far child e f =
           more_members taken more_of (Some (named p)) so_far (subst (λ (o : Option (String A × CstInputValue A)). GivesMemberAt ns (get_or row k 0) (option_map named o)) e child) (ap members_plain f ∙ members_plain-push taken p)
 
-    -- an array and an object by their children
-    pub array_given : (n : ℕ) (vs : List (CstInputValue A)) → Content.array ≡ content_at ns n → RowGives ns (children_at ns n) vs → GivesAt ns n (Some (Plain.array (items_plain vs)))
-    array_given n vs e given row shows = subst (λ (c : Content). Gives c row (Some (Plain.array (items_plain vs)))) e (Gives.array (given row shows))
+    -- the root and a property by their value
+    pub held_given : {E : Type 0} (n m : ℕ) (r : Result (Option (CstInputValue A)) E) → value_at ns n ≡ Some m → IfOk r (λ v. GivesAt ns m (option_map plain v)) → IfOk r (λ v. GivesAt ns n (option_map plain v))
+    held_given n m (Err x) e h = tt
+    held_given n m (Ok taken) e h = value_gives ns n m (option_map plain taken) e h
 
-    pub object_given : (n : ℕ) (ps : List (String A × CstInputValue A)) → Content.object ≡ content_at ns n → RowGivesMembers ns (children_at ns n) ps → GivesAt ns n (Some (Plain.object (members_plain ps)))
-    object_given n ps e given row shows = subst (λ (c : Content). Gives c row (Some (Plain.object (members_plain ps)))) e (Gives.object (given row shows))
+    -- an array and an object by their children
+    pub array_given : (n : ℕ) (vs : List (CstInputValue A)) (x : CstInputValue A) → Content.array ≡ content_at ns n → RowGives ns (children_at ns n) vs → plain x ≡ Plain.array (items_plain vs) → GivesAt ns n (Some (plain x))
+    array_given n vs x e given same row shows =
+        subst (λ (v : Plain). Gives (content_at ns n) row (Some v)) (sym same) (subst (λ (c : Content). Gives c row (Some (Plain.array (items_plain vs)))) e (Gives.array (given row shows)))
+
+    pub object_given : (n : ℕ) (ps : List (String A × CstInputValue A)) (x : CstInputValue A) → Content.object ≡ content_at ns n → RowGivesMembers ns (children_at ns n) ps → plain x ≡ Plain.object (members_plain ps) → GivesAt ns n (Some (plain x))
+    object_given n ps x e given same row shows =
+        subst (λ (v : Plain). Gives (content_at ns n) row (Some v)) (sym same) (subst (λ (c : Content). Gives c row (Some (Plain.object (members_plain ps)))) e (Gives.object (given row shows)))
 
     -- a property with a name and a value, or without one of them, or another child
     pub member_given : (n : ℕ) (name : String A) (x : CstInputValue A) (one : Option (CstInputValue A)) → Content.property ≡ content_at ns n → HasName ns n (chars_of name) → GivesAt ns n (option_map plain one) → one ≡ Some x → GivesMemberAt ns n (Some (chars_of name, plain x))
@@ -158,7 +166,7 @@ leaf_gives h (Gives.root k) = absurd (false≢true (sym h))
 leaf_gives h (Gives.nothing k) = refl
 
 module _ {A : Type 0} (ns : List Node) (tree : IsTree ns) (n : ℕ) (there : n < length ns) where
-  leaf_taken : (taken : Option (CstInputValue A)) → is_container (content_at ns n) ≡ false → IsTaken (ordered_tree ns n) taken → GivesAt ns n (option_map plain taken)
+  pub leaf_taken : (taken : Option (CstInputValue A)) → is_container (content_at ns n) ≡ false → IsTaken (ordered_tree ns n) taken → GivesAt ns n (option_map plain taken)
   unfolding ordered_tree
   leaf_taken taken leaf is row shows =
       let theirs = is.gives in
@@ -170,9 +178,9 @@ module _ {A : Type 0} (ns : List Node) (tree : IsTree ns) (n : ℕ) (there : n <
       let here : Gives (content_at ns n) row is.given = subst (λ (r : OrderedTree). Gives (content_at ns n) r is.given) (below ∙ sym same) over in
       subst (λ (o : Option Plain). Gives (content_at ns n) row o) (sym (is.collapsed ∙ leaf_gives leaf here)) here
 
-  pub leaf_given : {E : Type 0} (r : Result (Option (CstInputValue A)) E) → is_container (content_at ns n) ≡ false → IfOk r (IsTaken (ordered_tree ns n)) → IfOk r (λ v. GivesAt ns n (option_map plain v))
-  leaf_given (Ok taken) leaf is = leaf_taken taken leaf is
-  leaf_given (Err e) leaf is = tt
+-- what a node gives, by its tree and its number
+pub at_node : {found : Option Plain} (ms ns : List Node) (m n : ℕ) → ms ≡ ns → m ≡ n → GivesAt ms m found → GivesAt ns n found
+at_node {found} ms ns m n is same gives = subst (λ (l : List Node). GivesAt l n found) is (subst (λ (k : ℕ). GivesAt ms k found) same gives)
 
 -- the value that tokens refer to
 module _ {A : Type 0} (doc : CstRootNode A) (tokens names : List (List ℕ)) (is : names ≡ tokens) (n : ℕ) (there : n < length (nodes_of doc)) (tree : IsTree (nodes_of doc)) (leads : IsOfShown doc (λ d. RefersToNode d (nodes_of doc) names n)) where

@@ -1,5 +1,5 @@
 -- Operations of a patch on a document whose text is to have at most so many bytes.
-use Rattle.std.proofs.Common.{ℕ, ◌≡◌, ◌<◌, ◌≤◌, ◌+◌, ◌^◌, ◌∙◌, ◌++◌, sym, ap, subst, refl, List, [], ◌∷◌, length, take, get_or, Option, Some, None, Result, Ok, Err, IfNone, arith}
+use Rattle.std.proofs.Common.{ℕ, ◌≡◌, ◌<◌, ◌≤◌, ◌+◌, ◌^◌, ◌∙◌, ◌++◌, sym, ap, subst, refl, Bool, false, List, [], ◌∷◌, length, take, get_or, Option, Some, None, Result, Ok, Err, IfNone, arith}
 use Rattle.std.specs.Bool.{Decides}
 use Rattle.std.specs.List.{slice_get}
 use Rattle.std.proofs.lemmas.Bool.{false≢true}
@@ -31,11 +31,12 @@ module _ (ns : List Node) (tree : IsTree ns) where
       let whole : length (printed_at ns 0) ≡ length (printed (ordered_tree ns 0)) = ap length (printed_at-ordered_tree ns tree 0 tree.first) in
       omega (arith, whole, r.ends, ap length r.split, length-append r.before (printed_at ns 0 ++ printed_after ns 0), length-append (printed_at ns 0) (printed_after ns 0))
 
-  pub within_told : (start end bytes : ℕ) → PrintsRange ns 0 start end → (end ≤ bytes → length (printed (ordered_tree ns 0)) ≤ bytes) × (length (printed (ordered_tree ns 0)) ≤ bytes → end ≤ bytes)
-  within_told start end bytes r = let all = ends_with_all start end r in (λ h. omega (arith, all, h), λ h. omega (arith, all, h))
-
   pub past_counting : (bytes : ℕ) → bytes < 2 ^ 64 → (IsOver ns 0 0 → 2 ^ 64 ≤ length (printed (ordered_tree ns 0))) → length (printed (ordered_tree ns 0)) ≤ bytes → ⊥
   past_counting bytes less none h = let far = none IsOver.itself in absurd (omega (arith, less, far, h))
+
+-- what is not within the bound has more bytes
+pub past_bound : (b : Bool) (n bytes : ℕ) → Decides b (n ≤ bytes) → b ≡ false → bytes < n
+past_bound b n bytes told is = let not_within : n ≤ bytes → ⊥ = λ h. false≢true (sym is ∙ told.1 h) in omega (arith, not_within)
 
 module _ {A : Type 0} (bytes : ℕ) where
   pub within_more : {old now new : CstRootNode A} {os : List (Operation A)} (o : Operation A) → StaysWithin bytes old os now → LeadsTo now o new → length (printed_of new) ≤ bytes → StaysWithin bytes old (os ++ o ∷ []) new
