@@ -40,3 +40,5 @@ pub mod MergePatchTotal
 pub mod MergePatchCases
 pub mod MergeReads
 pub mod Renaming
+pub mod Shown
+pub mod Seen
