@@ -2,8 +2,8 @@
 //!
 //! It prints a line for each finding, `FILE:LINE:COLUMN: ..`, in order of place: the fault of a text that is no
 //! document; a name that stands twice in its object; a comment that says `TODO`; and, where told to, a trailing
-//! comma. The status is 1 where there is a finding, and 2 without files. It is 2 too where a word is not UTF-8, or where
-//! memory ran out or a write failed: this is told on standard error, with the file, and no other file is looked at.
+//! comma. The status is 1 where there is a finding, and 2 without files. It is 2 too where a word is not UTF-8, and where
+//! memory ran out for a file: both are reported on standard error, the latter with the file.
 #![tactic(auto)]
 
 ghost use Rattle.jsonc_cst.specs.Document.{HasNode};
@@ -20,7 +20,7 @@ use std::collections::HashMap;
 use std::collections::hash_map::Entry;
 use std::default::Default;
 use std::env::Env;
-use std::io::ErrorKind;
+use std::io::{Eprint, ErrorKind};
 use std::process::ExitCode;
 use std::rt::Files;
 use std::{env, fs};
@@ -203,12 +203,16 @@ fn lint<R: Files + AllocGlobal + Print>(
 }
 
 /// Lints each file that the words name.
-fn run<R: Files + AllocGlobal + Print>(rt: &R, words: &[String]) -> anyhow::Result<ExitCode> {
+fn run<R: Files + AllocGlobal + Print + Eprint>(
+    rt: &R,
+    words: &[String],
+) -> anyhow::Result<ExitCode> {
     let no_trailing_commas = words
         .iter()
         .any(|word| word.as_str() == "--no-trailing-commas");
     let mut files = 0u64;
     let mut any = false;
+    let mut failed = false;
     for word in words.iter() {
         if word.as_str() == "--no-trailing-commas" {
             continue;
@@ -218,7 +222,7 @@ fn run<R: Files + AllocGlobal + Print>(rt: &R, words: &[String]) -> anyhow::Resu
             Ok(found) => any |= found,
             Err(error) => {
                 eprintln!(rt; "{word}: {error}")?;
-                return Ok(ExitCode::from(2));
+                failed = true;
             }
         }
     }
@@ -226,10 +230,11 @@ fn run<R: Files + AllocGlobal + Print>(rt: &R, words: &[String]) -> anyhow::Resu
         eprintln!(rt; "{USAGE}")?;
         return Ok(ExitCode::from(2));
     }
-    Ok(ExitCode::from(if any { 1 } else { 0 }))
+    let status = if any { 1 } else { 0 };
+    Ok(ExitCode::from(if failed { 2 } else { status }))
 }
 
-/// The words behind the program's name.
+/// The words after the program's name.
 fn words<R: Env + AllocGlobal>(rt: &R) -> anyhow::Result<Vec<String>> {
     match env::args(rt) {
         Ok(arguments) => Ok(arguments.skip(1).collect(rt.alloc())?),
