@@ -17,6 +17,8 @@ pub mod Exclusive
 pub mod Adding
 pub mod Digits
 pub mod HexRows
+pub mod Shown
+pub mod Seen
 pub mod NumberRows
 pub mod SameNumbers
 pub mod Equality
@@ -40,5 +42,3 @@ pub mod MergePatchTotal
 pub mod MergePatchCases
 pub mod MergeReads
 pub mod Renaming
-pub mod Shown
-pub mod Seen
