@@ -2,21 +2,25 @@
 //!
 //! It prints a line for each finding, `FILE:LINE:COLUMN: ..`, in order of place: the fault of a text that is no
 //! document; a name that stands twice in its object; a comment that says `TODO`; and, where told to, a trailing
-//! comma. The status is 1 where there is a finding, and 2 without files.
+//! comma. The status is 1 where there is a finding, and 2 without files. It is 2 too where a word is not UTF-8, and where
+//! memory ran out for a file: both are reported on standard error, the latter with the file.
 #![tactic(auto)]
 
 ghost use Rattle.jsonc_cst.specs.Document.{HasNode};
 ghost use Rattle.jsonc_cst.specs.Nodes.{comment_node, object_prop_node};
 
+use anyhow::anyhow;
 use jsonc_parser::cst::{
     CstContainerNode, CstLeafNode, CstNode, CstObjectProp, CstRootNode, TypedNode,
 };
+use jsonc_parser::errors::ParseErrorKind;
 use jsonc_parser::{LineIndex, ParseOptions};
-use std::alloc::{Allocator, Global};
+use std::alloc::{AllocError, Allocator, Global};
 use std::collections::HashMap;
 use std::collections::hash_map::Entry;
 use std::default::Default;
-use std::io::ErrorKind;
+use std::env::Env;
+use std::io::{Eprint, ErrorKind};
 use std::process::ExitCode;
 use std::rt::Files;
 use std::{env, fs};
@@ -150,6 +154,9 @@ fn lint_text<R: AllocGlobal + Print>(
 ) -> anyhow::Result<bool> {
     let doc = match CstRootNode::parse(rt.alloc(), text, &ParseOptions::default()) {
         Ok(doc) => doc,
+        Err(fault) if matches!(fault.kind(), ParseErrorKind::OutOfMemory) => {
+            return Err(AllocError.into());
+        }
         Err(fault) => {
             let (line, column) = (fault.line_display(), fault.column_display());
             println!(rt; "{file}:{line}:{column}: {}", fault.kind())?;
@@ -184,6 +191,7 @@ fn lint<R: Files + AllocGlobal + Print>(
             println!(rt; "{file}:1:1: the file is not UTF-8")?;
             return Ok(true);
         }
+        Err(error) if error.kind() == ErrorKind::OutOfMemory => return Err(error.into()),
         Err(_) => {
             println!(rt; "{file}:1:1: the file cannot be read")?;
             return Ok(true);
@@ -194,22 +202,60 @@ fn lint<R: Files + AllocGlobal + Print>(
     lint_text(rt, file, text, no_trailing_commas)
 }
 
-fn main(rt: HostRuntime) -> anyhow::Result<ExitCode> {
-    let arguments: Vec<String> = env::args(&rt)?.skip(1).collect(rt.alloc())?;
-    let no_trailing_commas = arguments
+/// Lints each file that the words name.
+fn run<R: Files + AllocGlobal + Print + Eprint>(
+    rt: &R,
+    words: &[String],
+) -> anyhow::Result<ExitCode> {
+    let no_trailing_commas = words
         .iter()
         .any(|word| word.as_str() == "--no-trailing-commas");
     let mut files = 0u64;
     let mut any = false;
-    for word in arguments.iter() {
-        if word.as_str() != "--no-trailing-commas" {
-            files = files.saturating_add(1);
-            any |= lint(&rt, word.as_str(), no_trailing_commas)?;
+    let mut failed = false;
+    for word in words.iter() {
+        if word.as_str() == "--no-trailing-commas" {
+            continue;
+        }
+        files = files.saturating_add(1);
+        match lint(rt, word.as_str(), no_trailing_commas) {
+            Ok(found) => any |= found,
+            Err(error) => {
+                eprintln!(rt; "{word}: {error}")?;
+                failed = true;
+            }
         }
     }
     if files == 0 {
         eprintln!(rt; "{USAGE}")?;
         return Ok(ExitCode::from(2));
     }
-    Ok(ExitCode::from(if any { 1 } else { 0 }))
+    let status = if any { 1 } else { 0 };
+    Ok(ExitCode::from(if failed { 2 } else { status }))
+}
+
+/// The words after the program's name.
+fn words<R: Env + AllocGlobal>(rt: &R) -> anyhow::Result<Vec<String>> {
+    match env::args(rt) {
+        Ok(arguments) => Ok(arguments.skip(1).collect(rt.alloc())?),
+        Err(error) if error.kind() == ErrorKind::InvalidData => {
+            Err(anyhow!("the name of a file is not UTF-8"))
+        }
+        Err(error) => Err(error.into()),
+    }
+}
+
+fn main(rt: HostRuntime) -> ExitCode {
+    let ended = match words(&rt) {
+        Ok(words) => run(&rt, words.as_slice()),
+        Err(error) => Err(error),
+    };
+    match ended {
+        Ok(status) => status,
+        Err(error) => {
+            // Where standard error fails too, the status alone tells.
+            let _ = eprintln!(rt; "example_lint: {error}");
+            ExitCode::from(2)
+        }
+    }
 }

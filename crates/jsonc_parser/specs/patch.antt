@@ -1,4 +1,5 @@
 pub mod Pointer
+pub mod Quoting
 pub mod Reading
 pub mod References
 pub mod Found

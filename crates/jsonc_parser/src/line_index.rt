@@ -171,7 +171,7 @@ fn marks_of<A: Allocator>(
 }
 
 impl<'t, A: Allocator + Copy> LineIndex<'t, A> {
-    /// Finds the places where the lines of a text begin, and marks places within long lines, in two passes.
+    /// Finds the places where lines begin, and marks places within long lines.
     ///
     /// LF, CR LF and CR alone end a line. It borrows the text, and takes memory for one number a line, and for five
     /// numbers at each 256 bytes of a line that is longer. The error is that there is no memory.

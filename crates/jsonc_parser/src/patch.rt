@@ -22,6 +22,7 @@ mod merging;
 mod numbers;
 mod operation;
 mod pointer;
+mod quoting;
 mod reading;
 mod reference;
 mod renaming;
@@ -40,5 +41,7 @@ pub use numbers::decimal_digits;
 pub use numbers::same_number;
 pub use operation::{Member, Operation, OperationFault};
 pub use pointer::{Pointer, PointerError};
+#[doc(hidden)]
+pub use quoting::write_repeated_name;
 pub use reading::{Patch, PatchError};
 pub use reference::{FindError, find, read};

@@ -6,6 +6,7 @@ use Rattle.jsonc_parser.specs.patch.FaultMessages.{patch_fault_text}
 use Rattle.jsonc_parser.specs.patch.MergeMessages.{merge_patch_error_text}
 use Rattle.jsonc_parser.specs.patch.Messages.{pointer_error_text}
 use Rattle.jsonc_parser.specs.patch.PatchMessages.{patch_error_text}
+use Rattle.jsonc_parser.specs.patch.Quoting.{repeated_name_text}
 use Rattle.jsonc_patch_engine.specs.declared.fault.Fault.{Fault}
 use Rattle.jsonc_patch_engine.specs.declared.fault.Fault.TheVariants.{Input, MergePatch, NoSuchValue, NoValue, NonFinite, NestingDepthExceeded, NotUtf8, Operation, OutOfMemory, Patch, Pointer, Read, RepeatedName, Usage, Write}
 
@@ -19,7 +20,7 @@ fault_line (Pointer error) = codes "jsonc_patch: pointer: " ++ pointer_error_tex
 fault_line (Patch error) = codes "jsonc_patch: patch: " ++ patch_error_text error
 fault_line (MergePatch error) = codes "jsonc_patch: patch: " ++ merge_patch_error_text error
 fault_line (Operation fault) = codes "jsonc_patch: " ++ patch_fault_text fault
-fault_line (RepeatedName name) = codes "jsonc_patch: Name stands twice: " ++ string_bytes name
+fault_line (RepeatedName name) = codes "jsonc_patch: " ++ repeated_name_text (string_bytes name)
 fault_line NoSuchValue = codes "jsonc_patch: no such value"
 fault_line NoValue = codes "jsonc_patch: root value is missing"
 fault_line (NonFinite at) = codes "jsonc_patch: number is not finite" ++ place_text at.line at.column

@@ -6,7 +6,9 @@ ghost use Rattle.jsonc_patch_engine.specs.declared.fault.Fault.TheVariants.{OutO
 
 use jsonc_parser::LineAndColumn;
 use jsonc_parser::errors::ParseError;
-use jsonc_parser::patch::{MergePatchError, PatchError, PatchFault, PointerError};
+use jsonc_parser::patch::{
+    MergePatchError, PatchError, PatchFault, PointerError, write_repeated_name,
+};
 use std::alloc::{AllocError, AllocFailed, Allocator};
 use std::error::Error;
 use std::fmt;
@@ -89,8 +91,8 @@ impl<A: Allocator> fmt::Display for Fault<A> {
                 fault.fmt(f)
             }
             Fault::RepeatedName(name) => {
-                f.write_str("jsonc_patch: Name stands twice: ")?;
-                f.write_str(name.as_str())
+                f.write_str("jsonc_patch: ")?;
+                write_repeated_name(name.as_str(), f)
             }
             Fault::NoSuchValue => f.write_str("jsonc_patch: no such value"),
             Fault::NoValue => f.write_str("jsonc_patch: root value is missing"),

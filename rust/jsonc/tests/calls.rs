@@ -184,7 +184,7 @@ fn patches_are_made_whole_or_not() {
     assert!(matches!(apply_patch("[]", Options::JSON, "[/* c */]"), Err(Error::Json(_))));
     let twice = patched(r#"{ "a": 1, "a": 2 }"#, r#"[{ "op": "remove", "path": "/a" }]"#);
     let Err(Error::RepeatedName(0, fault)) = twice else { panic!("the name stands twice: {twice:?}") };
-    assert_eq!(fault.to_string(), "Operation 0: Name stands twice: a");
+    assert_eq!(fault.to_string(), "Operation 0: Name stands twice: \"a\"");
 }
 
 #[test]

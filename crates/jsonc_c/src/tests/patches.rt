@@ -124,7 +124,7 @@ fn stops_patches(rt: HostRuntime) -> Result<(), Fail> {
     assert_eq!(rt; patched(rt, foo, within, &mut fault).0, 23);
     let twice = b"[{ \"op\": \"remove\", \"path\": \"/a\" }]";
     assert_eq!(rt; patched(rt, b"{\"a\":1,\"a\":2}", twice, &mut fault).0, 21);
-    assert!(rt; is_told(&fault, b"Operation 0: Name stands twice: a"));
+    assert!(rt; is_told(&fault, b"Operation 0: Name stands twice: \"a\""));
     Ok(())
 }
 

@@ -45,17 +45,17 @@ static ROWS: [Row; 11] = [
     (
         "{a: 1, b: 2, '\\u0061': 3}",
         Answer::Twice("a"),
-        "Name stands twice: a",
+        "Name stands twice: \"a\"",
     ),
     (
         "{\"\": {\"b c\": 1, \"b c\": 1}}",
         Answer::Twice("b c"),
-        "Name stands twice: b c",
+        "Name stands twice: \"b c\"",
     ),
     (
         "[[], [{\"\": 1, \"\": 1}]]",
         Answer::Twice(""),
-        "Name stands twice: ",
+        "Name stands twice: \"\"",
     ),
     (
         "[{é: 1, é: 2}",

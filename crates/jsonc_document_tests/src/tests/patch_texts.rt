@@ -331,7 +331,7 @@ static PRINTED: [(&str, &str); 8] = [
     ),
     (
         "[{\"op\": \"add\", \"path\": \"\", \"value\": {\"a b\": 1, \"a b\": 2}}]",
-        "Operation 0: Name stands twice: a b",
+        "Operation 0: Name stands twice: \"a b\"",
     ),
     (
         "[{\"op\": \"test\", \"path\": \"\"}]",

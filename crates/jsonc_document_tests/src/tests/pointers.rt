@@ -292,12 +292,42 @@ fn nodes_have_pointers_where_one_refers_to_them_with_each_request_refused_in_tur
     Ok(())
 }
 
+/// Names, and how a fault shows them: by RFC 8259, section 7, and by their codes where they are not seen.
+static NAMES: [(&str, &str); 9] = [
+    ("a b", "Name stands twice: \"a b\""),
+    ("", "Name stands twice: \"\""),
+    ("\"\\/", "Name stands twice: \"\\\"\\\\/\""),
+    ("\u{8}\u{c}\n\r\t", "Name stands twice: \"\\b\\f\\n\\r\\t\""),
+    (
+        "\0\u{b}\u{1b}\u{1f} ",
+        "Name stands twice: \"\\u0000\\u000b\\u001b\\u001f \"",
+    ),
+    (
+        "~\u{7f}\u{80}\u{9f}\u{a0}",
+        "Name stands twice: \"~\\u007f\\u0080\\u009f\u{a0}\"",
+    ),
+    (
+        "\u{61b}\u{61c}\u{200d}\u{200e}\u{200f}\u{2010}",
+        "Name stands twice: \"\u{61b}\\u061c\u{200d}\\u200e\\u200f\u{2010}\"",
+    ),
+    (
+        "\u{2027}\u{2028}\u{2029}\u{202a}\u{202e}\u{202f}",
+        "Name stands twice: \"\u{2027}\\u2028\\u2029\\u202a\\u202e\u{202f}\"",
+    ),
+    (
+        "\u{2065}\u{2066}\u{2069}\u{206a}é😀",
+        "Name stands twice: \"\u{2065}\\u2066\\u2069\u{206a}é😀\"",
+    ),
+];
+
 #[test]
 fn faults_of_pointers_are_printed(rt: HostRuntime) -> Result<(), Fail> {
     let alloc = rt.alloc();
-    let name = String::from_str(alloc, "a b")?;
-    let twice = format!(in alloc; "{}", FindError::RepeatedName(name))?;
-    assert_eq!(rt; twice.as_str(), "Name stands twice: a b");
+    for (name, shown) in &NAMES {
+        let name = String::from_str(alloc, name)?;
+        let twice = format!(in alloc; "{}", FindError::RepeatedName(name))?;
+        assert_eq!(rt; twice.as_str(), *shown);
+    }
     let escape = format!(in alloc; "{}", PointerError::InvalidEscape(7))?;
     assert_eq!(rt;
         escape.as_str(),

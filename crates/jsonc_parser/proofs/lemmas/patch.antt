@@ -17,6 +17,8 @@ pub mod Exclusive
 pub mod Adding
 pub mod Digits
 pub mod HexRows
+pub mod Shown
+pub mod Seen
 pub mod NumberRows
 pub mod SameNumbers
 pub mod Equality

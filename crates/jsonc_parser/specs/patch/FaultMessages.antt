@@ -2,6 +2,7 @@
 use Rattle.std.specs.Prelude.{◌++◌, ℕ, List, codes, string_bytes}
 use Rattle.std.specs.Fmt.{decimal}
 use Rattle.jsonc_text.specs.EditErrors.{edit_error_text}
+use Rattle.jsonc_parser.specs.patch.Quoting.{repeated_name_text}
 use Rattle.jsonc_parser.specs.declared.patch.apply.PatchFault.{PatchFault}
 use Rattle.jsonc_parser.specs.declared.patch.merging.MergeFault.{MergeFault}
 use Rattle.jsonc_parser.specs.declared.patch.merging.MergeFault.TheVariants as merge
@@ -11,7 +12,7 @@ use Rattle.jsonc_parser.specs.declared.patch.making.PatchCause.TheVariants.{NoTa
 module _ {A : Type 0} where
   abbrev pub patch_cause_text : PatchCause A → List ℕ
   patch_cause_text NoTarget = codes "Pointer leads to nothing"
-  patch_cause_text (RepeatedName name) = codes "Name stands twice: " ++ string_bytes name
+  patch_cause_text (RepeatedName name) = repeated_name_text (string_bytes name)
   patch_cause_text IntoItself = codes "Value cannot be moved into itself"
   patch_cause_text NotEqual = codes "Value is another"
   patch_cause_text TooLarge = codes "Document would be larger than allowed"
@@ -21,6 +22,6 @@ module _ {A : Type 0} where
   patch_fault_text fault = codes "Operation " ++ (decimal fault.operation ++ (codes ": " ++ patch_cause_text fault.cause))
 
   abbrev pub merge_fault_text : MergeFault A → List ℕ
-  merge_fault_text (merge.RepeatedName name) = codes "Name stands twice: " ++ string_bytes name
+  merge_fault_text (merge.RepeatedName name) = repeated_name_text (string_bytes name)
   merge_fault_text merge.NestingDepthExceeded = codes "Maximum nesting depth exceeded"
   merge_fault_text merge.OutOfMemory = codes "Out of memory"

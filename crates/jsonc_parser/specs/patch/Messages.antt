@@ -1,6 +1,7 @@
 -- The printed text of faults of pointers.
 use Rattle.std.specs.Prelude.{◌++◌, ℕ, List, codes, string_bytes}
 use Rattle.std.specs.Fmt.{decimal}
+use Rattle.jsonc_parser.specs.patch.Quoting.{repeated_name_text}
 use Rattle.jsonc_parser.specs.declared.patch.reference.FindError.{FindError}
 use Rattle.jsonc_parser.specs.declared.patch.reference.FindError.TheVariants as find
 use Rattle.jsonc_parser.specs.declared.patch.pointer.PointerError.{PointerError}
@@ -13,5 +14,5 @@ pointer_error_text OutOfMemory = codes "Out of memory"
 
 module _ {A : Type 0} where
   abbrev pub find_error_text : FindError A → List ℕ
-  find_error_text (find.RepeatedName name) = codes "Name stands twice: " ++ string_bytes name
+  find_error_text (find.RepeatedName name) = repeated_name_text (string_bytes name)
   find_error_text find.OutOfMemory = codes "Out of memory"

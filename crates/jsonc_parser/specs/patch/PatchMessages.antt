@@ -4,6 +4,7 @@ use Rattle.std.specs.Fmt.{decimal}
 use Rattle.jsonc_text.specs.Messages.{error_text}
 use Rattle.jsonc_parser.specs.patch.Messages.{pointer_error_text}
 use Rattle.jsonc_parser.specs.patch.PatchFaults.{member_name}
+use Rattle.jsonc_parser.specs.patch.Quoting.{repeated_name_text}
 use Rattle.jsonc_parser.specs.declared.patch.operation.OperationFault.{OperationFault}
 use Rattle.jsonc_parser.specs.declared.patch.operation.OperationFault.TheVariants.{NotAnObject, Missing, Wrong, Pointer, RepeatedName, OutOfMemory}
 use Rattle.jsonc_parser.specs.declared.patch.reading.PatchError.{PatchError}
@@ -15,7 +16,7 @@ module _ {A : Type 0} where
   operation_fault_text (Missing member) = codes "Operation lacks " ++ member_name member
   operation_fault_text (Wrong member) = codes "Operation has a wrong " ++ member_name member
   operation_fault_text (Pointer member e) = member_name member ++ (codes ": " ++ pointer_error_text e)
-  operation_fault_text (RepeatedName name) = codes "Name stands twice: " ++ string_bytes name
+  operation_fault_text (RepeatedName name) = repeated_name_text (string_bytes name)
   operation_fault_text OutOfMemory = codes "Out of memory"
 
   abbrev pub patch_error_text : PatchError A → List ℕ

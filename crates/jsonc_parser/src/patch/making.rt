@@ -23,6 +23,7 @@ ghost use Rattle.jsonc_parser.specs.patch.References.{RefersTo};
 use super::equality::{Numbers, are_equal};
 use super::operation::Operation;
 use super::pointer::Pointer;
+use super::quoting::write_repeated_name;
 use super::reference::{FindError, element_place, follow, read};
 use super::renaming::{rename, renaming};
 use super::taking::take;
@@ -57,10 +58,7 @@ impl<A: Allocator> fmt::Display for PatchCause<A> {
     fn fmt<W: fmt::Write>(&self, f: &mut fmt::Formatter<W>) -> fmt::Result {
         match self {
             PatchCause::NoTarget => f.write_str("Pointer leads to nothing"),
-            PatchCause::RepeatedName(name) => {
-                f.write_str("Name stands twice: ")?;
-                f.write_str(name.as_str())
-            }
+            PatchCause::RepeatedName(name) => write_repeated_name(name.as_str(), f),
             PatchCause::IntoItself => f.write_str("Value cannot be moved into itself"),
             PatchCause::NotEqual => f.write_str("Value is another"),
             PatchCause::TooLarge => f.write_str("Document would be larger than allowed"),

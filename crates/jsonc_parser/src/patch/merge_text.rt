@@ -8,6 +8,7 @@ ghost use Rattle.jsonc_parser.specs.patch.MergeTexts.{IsFaultOfMergePatch, IsMer
 ghost use Rattle.jsonc_text.specs.OptionsOf.{parse_options};
 
 use super::operation::OperationFault;
+use super::quoting::write_repeated_name;
 use super::values::value_of;
 use jsonc_ast::to_ast::parse_to_ast;
 use jsonc_cst::cst::CstInputValue;
@@ -40,10 +41,7 @@ impl<A: Allocator> fmt::Display for MergePatchError<A> {
         match self {
             MergePatchError::Parse(error) => error.fmt(f),
             MergePatchError::NoValue => f.write_str("Patch has no value"),
-            MergePatchError::RepeatedName(name) => {
-                f.write_str("Name stands twice: ")?;
-                f.write_str(name.as_str())
-            }
+            MergePatchError::RepeatedName(name) => write_repeated_name(name.as_str(), f),
             MergePatchError::OutOfMemory => f.write_str("Out of memory"),
         }
     }

@@ -19,6 +19,7 @@ ghost use Rattle.jsonc_text.specs.Plain.{member, no_members, object};
 use super::equality::{Numbers, are_equal, is_null};
 use super::making::{PatchCause, add, cause_of, remove};
 use super::pointer::Pointer;
+use super::quoting::write_repeated_name;
 use super::reference::{follow, read};
 use super::unique::see_unique_names;
 use jsonc_cst::cst::{CstInputValue, CstRootNode, EditError, TypedNode};
@@ -44,10 +45,7 @@ impl<A: Allocator> fmt::Display for MergeFault<A> {
 
     fn fmt<W: fmt::Write>(&self, f: &mut fmt::Formatter<W>) -> fmt::Result {
         match self {
-            MergeFault::RepeatedName(name) => {
-                f.write_str("Name stands twice: ")?;
-                f.write_str(name.as_str())
-            }
+            MergeFault::RepeatedName(name) => write_repeated_name(name.as_str(), f),
             MergeFault::NestingDepthExceeded => f.write_str("Maximum nesting depth exceeded"),
             MergeFault::OutOfMemory => f.write_str("Out of memory"),
         }

@@ -5,6 +5,7 @@ ghost use Rattle.jsonc_parser.specs.patch.PatchMessages.{operation_fault_text};
 ghost use Rattle.jsonc_parser.specs.patch.PatchFaults.{member_name};
 
 use super::pointer::{Pointer, PointerError};
+use super::quoting::write_repeated_name;
 use jsonc_cst::cst::CstInputValue;
 use std::alloc::Allocator;
 use std::error::Error;
@@ -93,10 +94,7 @@ impl<A: Allocator> fmt::Display for OperationFault<A> {
                 f.write_str(": ")?;
                 error.fmt(f)
             }
-            OperationFault::RepeatedName(name) => {
-                f.write_str("Name stands twice: ")?;
-                f.write_str(name.as_str())
-            }
+            OperationFault::RepeatedName(name) => write_repeated_name(name.as_str(), f),
             OperationFault::OutOfMemory => f.write_str("Out of memory"),
         }
     }

@@ -20,6 +20,7 @@ ghost use Rattle.jsonc_parser.specs.patch.Pointer.{tokens_of};
 ghost use Rattle.jsonc_parser.specs.patch.References.{IsIndex};
 
 use super::pointer::Pointer;
+use super::quoting::write_repeated_name;
 use jsonc_cst::cst::{CstInputValue, CstNode, CstRootNode, TypedNode, node_at};
 use jsonc_layout::nodes::{children_from, element_at, is_named, value_of};
 use std::alloc::{AllocError, Allocator};
@@ -42,10 +43,7 @@ impl<A: Allocator> fmt::Display for FindError<A> {
 
     fn fmt<W: fmt::Write>(&self, f: &mut fmt::Formatter<W>) -> fmt::Result {
         match self {
-            FindError::RepeatedName(name) => {
-                f.write_str("Name stands twice: ")?;
-                f.write_str(name.as_str())
-            }
+            FindError::RepeatedName(name) => write_repeated_name(name.as_str(), f),
             FindError::OutOfMemory => f.write_str("Out of memory"),
         }
     }

@@ -69,7 +69,7 @@ pub static WRITTEN: [Row; 40] = [
 ];
 
 /// What is told of a run that cannot succeed, and the status.
-pub static TOLD: [(&[&str], &str, &str, u8); 44] = [
+pub static TOLD: [(&[&str], &str, &str, u8); 45] = [
     (&["json"], "", "jsonc_patch: root value is missing", 1),
     (&["json"], "// c", "jsonc_patch: root value is missing", 1),
     (
@@ -118,7 +118,7 @@ pub static TOLD: [(&[&str], &str, &str, u8); 44] = [
     (
         &["find", "/b/a"],
         "{b: {a: 1, \"\\u0061\": 2}}",
-        "jsonc_patch: Name stands twice: a",
+        "jsonc_patch: Name stands twice: \"a\"",
         1,
     ),
     (
@@ -172,7 +172,7 @@ pub static TOLD: [(&[&str], &str, &str, u8); 44] = [
             "[{ \"op\": \"add\", \"path\": \"/baz\", \"value\": \"qux\", \"op\": \"remove\" }]",
         ],
         "{ \"foo\": \"bar\" }",
-        "jsonc_patch: patch: Operation 0: Name stands twice: op",
+        "jsonc_patch: patch: Operation 0: Name stands twice: \"op\"",
         1,
     ),
     (
@@ -181,7 +181,7 @@ pub static TOLD: [(&[&str], &str, &str, u8); 44] = [
             "[{op: 'add', path: '', value: [{a: 1, '\\u0061': 2}]}]",
         ],
         "[",
-        "jsonc_patch: patch: Operation 0: Name stands twice: a",
+        "jsonc_patch: patch: Operation 0: Name stands twice: \"a\"",
         1,
     ),
     (
@@ -229,7 +229,7 @@ pub static TOLD: [(&[&str], &str, &str, u8); 44] = [
     (
         &["apply", "[{op: 'remove', path: '/a'}]"],
         "{a: 1, \"\\u0061\": 2}",
-        "jsonc_patch: Operation 0: Name stands twice: a",
+        "jsonc_patch: Operation 0: Name stands twice: \"a\"",
         1,
     ),
     (
@@ -253,13 +253,13 @@ pub static TOLD: [(&[&str], &str, &str, u8); 44] = [
     (
         &["merge", "{b: [{a: 1, '\\u0061': 2}]}"],
         "[",
-        "jsonc_patch: patch: Name stands twice: a",
+        "jsonc_patch: patch: Name stands twice: \"a\"",
         1,
     ),
     (
         &["merge", "{b: {a: 1}}"],
         "{b: {a: 1, \"\\u0061\": 2}}",
-        "jsonc_patch: Name stands twice: a",
+        "jsonc_patch: Name stands twice: \"a\"",
         1,
     ),
     (
@@ -309,5 +309,11 @@ pub static TOLD: [(&[&str], &str, &str, u8); 44] = [
         "1",
         "usage: jsonc_patch find POINTER|apply PATCH|merge PATCH|json",
         2,
+    ),
+    (
+        &["find", "/\n"],
+        "{\"\\n\": 1, \"\\n\": 2}",
+        "jsonc_patch: Name stands twice: \"\\n\"",
+        1,
     ),
 ];

@@ -1,6 +1,7 @@
 use Rattle.std.proofs.Common.{◌≡◌, ◌∙◌, ◌++◌, ℕ, List, ap, codes, refl, subst, sym}
 use Rattle.std.proofs.Output.{has_written_styled_append}
 use Rattle.std.specs.Fmt.{HasWrittenStyled}
+use Rattle.jsonc_parser.specs.patch.Quoting.{repeated_name_text}
 use Rattle.jsonc_patch_engine.specs.FaultLines.{fault_line}
 use Rattle.jsonc_patch_engine.proofs.fault.FaultDisplay.fmt.Goals as goal
 
@@ -17,10 +18,10 @@ returns-in_ok-write_str-in-Pointer-clause-styled g c = λ flush ok.
 pub returns-in_ok-write_str-in-RepeatedName-clause-styled : goal.returns-in_ok-write_str-in-RepeatedName-clause-styled
 returns-in_ok-write_str-in-RepeatedName-clause-styled g c = λ flush ok.
     let before = c.in_ok-write_str-in-RepeatedName.ensures.styled flush refl in
-    let line : fault_line c.args.self.now ≡ codes "jsonc_patch: Name stands twice: " ++ c.as_str.result.now =
-    ap fault_line c.in-RepeatedName.is ∙ ap (λ (n : List ℕ). codes "jsonc_patch: Name stands twice: " ++ n) (sym c.as_str.ensures.value) in
-    subst (λ (t : List ℕ). HasWrittenStyled g.W.Write.write_str_gives c.args.f.now t c.write_str-in-RepeatedName-2.new.self) (sym line)
-    (has_written_styled_append _ _ _ _ _ _ before (c.write_str-in-RepeatedName-2.ensures.styled before.flush ok))
+    let line : fault_line c.args.self.now ≡ codes "jsonc_patch: " ++ repeated_name_text c.as_str.result.now =
+    ap fault_line c.in-RepeatedName.is ∙ ap (λ (n : List ℕ). codes "jsonc_patch: " ++ repeated_name_text n) (sym c.as_str.ensures.value) in
+    subst (λ (t : List ℕ). HasWrittenStyled g.W.Write.write_str_gives c.args.f.now t c.write_repeated_name.new.f) (sym line)
+    (has_written_styled_append _ _ _ _ _ _ before (c.write_repeated_name.ensures.styled before.flush ok))
 
 pub returns-in_ok-write_str-in-NonFinite-clause-styled : goal.returns-in_ok-write_str-in-NonFinite-clause-styled
 returns-in_ok-write_str-in-NonFinite-clause-styled g c = λ flush ok.

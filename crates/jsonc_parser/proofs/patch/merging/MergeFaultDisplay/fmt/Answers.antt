@@ -1,13 +1,10 @@
-use Rattle.std.proofs.Common.{◌≡◌, ◌∙◌, ◌++◌, ℕ, List, ap, codes, refl, subst, sym}
-use Rattle.std.proofs.Output.{has_written_styled_append}
+use Rattle.std.proofs.Common.{◌≡◌, ◌∙◌, ℕ, List, ap, subst, sym}
 use Rattle.std.specs.Fmt.{HasWrittenStyled}
 use Rattle.jsonc_parser.specs.patch.FaultMessages.{merge_fault_text}
+use Rattle.jsonc_parser.specs.patch.Quoting.{repeated_name_text}
 use Rattle.jsonc_parser.proofs.patch.merging.MergeFaultDisplay.fmt.Goals as goal
 
-pub returns-in_ok-write_str-in-RepeatedName-clause-styled : goal.returns-in_ok-write_str-in-RepeatedName-clause-styled
-returns-in_ok-write_str-in-RepeatedName-clause-styled g c = λ flush ok.
-    let before = c.in_ok-write_str-in-RepeatedName.ensures.styled flush refl in
-    let line : merge_fault_text c.args.self.now ≡ codes "Name stands twice: " ++ c.as_str.result.now =
-    ap merge_fault_text c.in-RepeatedName.is ∙ ap (λ (n : List ℕ). codes "Name stands twice: " ++ n) (sym c.as_str.ensures.value) in
-    subst (λ (t : List ℕ). HasWrittenStyled g.W.Write.write_str_gives c.args.f.now t c.write_str-in-RepeatedName.new.self) (sym line)
-    (has_written_styled_append _ _ _ _ _ _ before (c.write_str-in-RepeatedName.ensures.styled before.flush ok))
+pub returns-in-RepeatedName-clause-styled : goal.returns-in-RepeatedName-clause-styled
+returns-in-RepeatedName-clause-styled g c = λ flush ok.
+    let line : merge_fault_text c.args.self.now ≡ repeated_name_text c.as_str.result.now = ap merge_fault_text c.in-RepeatedName.is ∙ ap repeated_name_text (sym c.as_str.ensures.value) in
+    subst (λ (t : List ℕ). HasWrittenStyled g.W.Write.write_str_gives c.args.f.now t c.write_repeated_name.new.f) (sym line) (c.write_repeated_name.ensures.styled flush ok)
