@@ -1,5 +1,5 @@
 -- Edits that were made, none of which writes what would be nested too deep, keep a document within the depth that texts are parsed to.
-use Rattle.std.proofs.Common.{ℕ, ◌≤◌, ◌≡◌, sym, subst, List, [], ◌∷◌, get_or, Option, Some, None, Result, Ok, Err, OnOk, arith}
+use Rattle.std.proofs.Common.{◌≤◌, sym, subst, List, [], ◌∷◌, get_or, Option, Some, None, Result, Ok, Err, OnOk, arith}
 use Rattle.std.specs.List.{All}
 use Rattle.std.proofs.lemmas.List.Elements.{All-cons, All-head, All-nil, All-tail}
 use Rattle.jsonc_text.specs.Documents.{Document}
