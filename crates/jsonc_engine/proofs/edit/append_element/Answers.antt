@@ -1,4 +1,4 @@
-use Rattle.std.proofs.Common.{Option}
+use Rattle.std.proofs.Common.{◌-◌, Option, arith}
 use Rattle.jsonc_layout.specs.input.Views.{plain}
 use Rattle.jsonc_cst.specs.declared.cst.node.CstArray.{CstArray}
 use Rattle.jsonc_cst.specs.Document.{nodes_of}

@@ -1,4 +1,4 @@
-use Rattle.std.proofs.Common.{Option, chars}
+use Rattle.std.proofs.Common.{◌-◌, Option, arith, chars}
 use Rattle.jsonc_layout.specs.input.Views.{plain}
 use Rattle.jsonc_cst.specs.declared.cst.node.CstObject.{CstObject}
 use Rattle.jsonc_cst.specs.Document.{nodes_of}
