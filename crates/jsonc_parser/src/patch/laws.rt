@@ -1,6 +1,6 @@
-//! Laws of pointers and of merges: each is the contract of a function that does nothing.
+//! Laws of pointers, of merges and of names in faults: each is the contract of a function that does nothing.
 
-ghost use Rattle.std.specs.Prelude.{◌≡◌, [], ℕ, List, Option};
+ghost use Rattle.std.specs.Prelude.{◌≡◌, [], ℕ, All, List, Option, false};
 ghost use Rattle.jsonc_text.specs.Plain.{Plain};
 ghost use Rattle.jsonc_cst.specs.declared.cst.CstRootNode.{CstRootNode};
 ghost use Rattle.jsonc_cst.specs.declared.cst.node.CstNode.{CstNode};
@@ -11,6 +11,7 @@ ghost use Rattle.jsonc_parser.specs.patch.MergeCases.{cases, AllHold};
 ghost use Rattle.jsonc_parser.specs.patch.MergePatch.{IsEqualToMergePatch, IsMergePatch, RepeatsNoName};
 ghost use Rattle.jsonc_parser.specs.patch.Merging.{Merges};
 ghost use Rattle.jsonc_parser.specs.patch.Pointer.{pointer_text, HasLooseTilde, LacksSlash};
+ghost use Rattle.jsonc_parser.specs.patch.Quoting.{is_unseen, shown_inside};
 
 use std::alloc::Allocator;
 
@@ -53,4 +54,9 @@ pub fn merges_are_merge_patches()
 /// Worked examples: `MergePatch`, as it is defined here, makes the results of the test cases of RFC 7396 (appendix A).
 pub fn worked_merge_patches()
     ensures { AllHold cases }
+{}
+
+/// What a fault shows of a name has no character that ends a line, moves a cursor or turns the direction of text.
+pub fn names_are_shown_in_one_line()
+    ensures { (name : List ℕ) → All (λ c. is_unseen c ≡ false) (shown_inside name) }
 {}

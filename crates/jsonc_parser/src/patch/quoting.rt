@@ -1,9 +1,9 @@
 //! Names as faults show them: in double quotes, and on one line whatever is in them.
 
-ghost use Rattle.std.specs.Prelude.{◌≡◌, ◌<◌, ℕ, All, List, false, chars, encode_utf8_all};
+ghost use Rattle.std.specs.Prelude.{◌≡◌, ◌<◌, false, chars, encode_utf8_all};
 ghost use Rattle.std.specs.Fmt.{WritesOnOk, WritesStyledOnOk, digit_glyph};
 ghost use Rattle.jsonc_text.specs.Spelling.{short_escape_of};
-ghost use Rattle.jsonc_parser.specs.patch.Quoting.{code_escape, is_unseen, quoted, repeated_name_text, shown_char, shown_inside};
+ghost use Rattle.jsonc_parser.specs.patch.Quoting.{code_escape, is_unseen, quoted, repeated_name_text, shown_char};
 
 use std::fmt;
 
@@ -94,9 +94,3 @@ pub fn write_repeated_name<W: fmt::Write>(name: &str, f: &mut fmt::Formatter<W>)
     f.write_str("Name stands twice: ")?;
     write_quoted(name, f)
 }
-
-/// What is shown of a name has no character that ends a line, moves a cursor or turns the direction of text.
-#[doc(hidden)]
-pub fn names_are_shown_in_one_line()
-    ensures { (name : List ℕ) → All (λ c. is_unseen c ≡ false) (shown_inside name) }
-{}
