@@ -60,7 +60,7 @@ steps_keep {old} tree none_made fit characters d f shown allowed shows within =
 steps_keep {old} {new} tree (first_made {now = now} {e = e} {es = es} made after rest) fit characters d f shown allowed shows within =
     let few = All-head IsOfCharacters e es characters in
     let one = edits_lead old now (e ∷ []) tree (first_made made after none_made) (All-cons IsOfCharacters e [] few (All-nil IsOfCharacters)) d shown
-        (All-cons (Allows d.options) e [] (All-head (Allows d.options) e es allowed) (All-nil (Allows d.options))) in
+    (All-cons (Allows d.options) e [] (All-head (Allows d.options) e es allowed) (All-nil (Allows d.options))) in
     let m : Document = one.0 in
     let middle : IsWithin m.value = edit_keeps old now e tree after made few fit.0 d m shown (All-head (Allows d.options) e es allowed) one.1 within in
     steps_keep after rest fit.1 (All-tail IsOfCharacters e es characters) m f one.1 (options_led one.4 es (All-tail (Allows d.options) e es allowed)) shows middle
