@@ -12,6 +12,7 @@ use crate::into::{
     jsonc_put_into, jsonc_remove_into, jsonc_set_into, jsonc_sort_into,
 };
 use crate::lists::jsonc_edit;
+use std::alloc::{AllocError, Global};
 use std::test::Fail;
 
 mod patches;
@@ -118,6 +119,45 @@ fn paths(rt: HostRuntime) -> Result<(), Fail> {
 /// The first bytes of a buffer are these.
 fn is_written(room: &[u8], len: usize, text: &[u8]) -> bool {
     room.get(0..len) == Some(text)
+}
+
+/// A text in so many arrays, one in another.
+fn in_arrays(alloc: Global, inner: &str, count: usize) -> Result<String, AllocError> {
+    let mut text = String::new(alloc);
+    for _ in 0..count {
+        text.push('[')?;
+    }
+    text.push_str(inner)?;
+    for _ in 0..count {
+        text.push(']')?;
+    }
+    Ok(text)
+}
+
+/// The statuses of setting and appending a value with so many arrays around `1`.
+fn statuses(alloc: Global, count: usize) -> Result<(u32, u32), AllocError> {
+    let mut fault = no_fault();
+    let mut out: &'static [u8] = &[];
+    let json = in_arrays(alloc, "1", count)?;
+    let set = jsonc_set(
+        alloc,
+        b"{}",
+        b"a",
+        json.as_bytes(),
+        ALL,
+        &mut out,
+        &mut fault,
+    );
+    let appended = jsonc_append(alloc, b"[]", json.as_bytes(), ALL, &mut out, &mut fault);
+    Ok((set, appended))
+}
+
+#[test]
+fn values_nested_too_deep(rt: HostRuntime) -> Result<(), Fail> {
+    assert!(rt; statuses(rt.alloc(), 510) == Ok((0, 0)));
+    assert!(rt; statuses(rt.alloc(), 511) == Ok((28, 0)));
+    assert!(rt; statuses(rt.alloc(), 512) == Ok((28, 28)));
+    Ok(())
 }
 
 #[test]

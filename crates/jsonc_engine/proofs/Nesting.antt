@@ -1,5 +1,5 @@
 -- What a command leaves is a document within the depth of a parse, which `check` accepts.
-use Rattle.std.proofs.Common.{◌≡◌, ◌≤◌, ◌∙◌, ◌↔◌, ◌++◌, ℕ, zero, suc, Bool, true, false, not, List, [], ◌∷◌, Option, Some, None, IsUtf8, chars, refl, sym, ap, subst, arith}
+use Rattle.std.proofs.Common.{◌≡◌, ◌≤◌, ◌∙◌, ◌↔◌, ◌++◌, ℕ, zero, suc, Bool, true, false, List, [], ◌∷◌, Option, Some, None, IsUtf8, chars, refl, sym, ap, subst, arith}
 use Rattle.std.proofs.lemmas.Str.{IsUtf8-append, IsUtf8-nil}
 use Rattle.std.specs.List.{flat_map}
 use Rattle.jsonc_text.specs.Documents.{Document}
@@ -49,21 +49,17 @@ use Rattle.jsonc_engine.specs.Settings.{DropsSetting, PutsSetting}
 use Rattle.jsonc_engine.specs.Sorting.{SortsByName}
 
 -- as was decided, a value is nested no deeper than texts are parsed, or it is
-pub fits_in_array : (v : Plain) (limit : ℕ) (b : Bool) → limit ≡ 511 → (b ≡ true) ↔ (around v ≤ limit) → not b ≡ false → FitsInArray v
-fits_in_array v limit true is h e = let small : around v ≤ limit = h.0 refl in omega (arith, is, small)
-fits_in_array v limit false is h e = cc
+pub fits_in_array : (v : Plain) (limit : ℕ) (b : Bool) → limit ≡ 511 → (b ≡ true) ↔ (around v ≤ limit) → b ≡ true → FitsInArray v
+fits_in_array v limit b is h e = let small : around v ≤ limit = h.0 e in omega (arith, is, small)
 
-pub too_deep_in_array : (v : Plain) (limit : ℕ) (b : Bool) → limit ≡ 511 → (b ≡ true) ↔ (around v ≤ limit) → not b ≡ true → ¬ (FitsInArray v)
-too_deep_in_array v limit true is h e = cc
-too_deep_in_array v limit false is h e = λ (fits : FitsInArray v). (let wrong : false ≡ true = h.1 (omega (arith, is, fits)) in cc)
+pub too_deep_in_array : (v : Plain) (limit : ℕ) (b : Bool) → limit ≡ 511 → (b ≡ true) ↔ (around v ≤ limit) → b ≡ false → ¬ (FitsInArray v)
+too_deep_in_array v limit b is h e = λ (fits : FitsInArray v). (let wrong : false ≡ true = sym e ∙ h.1 (omega (arith, is, fits)) in cc)
 
-pub fits_in_object : (name : List ℕ) (v : Plain) (limit : ℕ) (b : Bool) → limit ≡ 510 → (b ≡ true) ↔ (around v ≤ limit) → not b ≡ false → FitsAt (name ∷ []) v
-fits_in_object name v limit true is h e = let small : around v ≤ limit = h.0 refl in omega (arith, is, small)
-fits_in_object name v limit false is h e = cc
+pub fits_in_object : (name : List ℕ) (v : Plain) (limit : ℕ) (b : Bool) → limit ≡ 510 → (b ≡ true) ↔ (around v ≤ limit) → b ≡ true → FitsAt (name ∷ []) v
+fits_in_object name v limit b is h e = let small : around v ≤ limit = h.0 e in omega (arith, is, small)
 
-pub too_deep_in_object : (name : List ℕ) (v : Plain) (limit : ℕ) (b : Bool) → limit ≡ 510 → (b ≡ true) ↔ (around v ≤ limit) → not b ≡ true → ¬ (FitsAt (name ∷ []) v)
-too_deep_in_object name v limit true is h e = cc
-too_deep_in_object name v limit false is h e = λ (fits : FitsAt (name ∷ []) v). (let wrong : false ≡ true = h.1 (omega (arith, is, fits)) in cc)
+pub too_deep_in_object : (name : List ℕ) (v : Plain) (limit : ℕ) (b : Bool) → limit ≡ 510 → (b ≡ true) ↔ (around v ≤ limit) → b ≡ false → ¬ (FitsAt (name ∷ []) v)
+too_deep_in_object name v limit b is h e = λ (fits : FitsAt (name ∷ []) v). (let wrong : false ≡ true = sym e ∙ h.1 (omega (arith, is, fits)) in cc)
 
 -- what leaves of characters print is characters
 utf8_all : (row : List Content) → AllUtf8 row → IsUtf8 (flat_map text_of row)

@@ -98,6 +98,7 @@ module _ {C D A : Type 0} (call : Shared C (Bor D × (CstNode × (CstNode × Uni
 
   -- none of which writes what would be nested too deep
   all_fit : {old new : CstRootNode A} {es : List (Edit A)} {ops : List PlainEdit} → (made : RunSteps call compare same old es ops new) → AllFit (as_nodes made)
+  unfolding as_nodes
   all_fit none_made = tt
   all_fit (first_made is after rest) = (is.fits, all_fit rest)
 

@@ -1,5 +1,5 @@
 -- How deep what is put at names is nested in the document.
-use Rattle.std.proofs.Common.{ℕ, suc, ◌≡◌, ◌≤◌, ◌<◌, ◌+◌, ◌-◌, ◌*◌, ◌∙◌, ◌↔◌, Bool, true, false, not, sym, ap, subst, refl, List, [], ◌∷◌, ◌++◌, length, Option, Some, None, arith}
+use Rattle.std.proofs.Common.{ℕ, suc, ◌≡◌, ◌≤◌, ◌<◌, ◌+◌, ◌-◌, ◌*◌, ◌∙◌, ◌↔◌, Bool, true, false, sym, ap, subst, refl, List, [], ◌∷◌, ◌++◌, length, Option, Some, None, arith}
 use Rattle.std.proofs.lemmas.List.{length-map}
 use Rattle.std.specs.Bool.{Decides}
 use Rattle.std.specs.declared.string.String.{String}
@@ -106,13 +106,11 @@ fits_by names v limit b few is h = (
 )
 
 -- what was decided
-pub decided : {P : Type 0} (b : Bool) → Decides b P → not b ≡ false → P
-decided true h e = h.0 refl
-decided false h e = cc
+pub decided : {P : Type 0} (b : Bool) → Decides b P → b ≡ true → P
+decided b h e = h.0 e
 
-pub decided_not : {P : Type 0} (b : Bool) → Decides b P → not b ≡ true → ¬ P
-decided_not true h e = cc
-decided_not false h e = λ p. (let wrong : false ≡ true = h.1 p in cc)
+pub decided_not : {P : Type 0} (b : Bool) → Decides b P → b ≡ false → ¬ P
+decided_not b h e = λ p. (let wrong : false ≡ true = sym e ∙ h.1 p in cc)
 
 -- a document that was within the depth is so after one edit that writes nothing too deep
 pub run_within : {d e : Document} {op : Operation} (asked : PlainEdit) → Asks d.value asked op → Run d (op ∷ []) e → needs_in d.value asked ≤ 512 → IsWithin d.value → IsWithin e.value
