@@ -6,7 +6,7 @@ use failing_alloc::Refusing;
 use failing_alloc::awaited::prints;
 use failing_alloc::in_turn::answers_in_turn;
 use failing_alloc::outcome::Outcome;
-use jsonc_parser::cst::{CstNode, CstRootNode, EditError, TypedNode};
+use jsonc_parser::cst::{CstContainerNode, CstRootNode, EditError, TypedNode};
 use jsonc_parser::patch::{Pointer, find};
 use std::alloc::{Allocator, Global};
 use std::test::Fail;
@@ -148,30 +148,34 @@ fn damaged<A: Allocator + Copy>(
     damaged == Ok(()) && is_kept && removed == Ok(()) && prints(&*doc, "{}")
 }
 
-/// The parts of a property that was removed are refused too, and it and a removed element stay as they are.
-fn detached<A: Allocator + Copy>(doc: &mut CstRootNode<A>) -> bool {
-    let (Some(property), Some(name), Some(value), Some(element)) = (
+/// The parts of a property that was removed are refused too, and the property stays as it is.
+fn detached_property<A: Allocator + Copy>(doc: &mut CstRootNode<A>) -> bool {
+    let (Some(property), Some(name), Some(value)) = (
         child_at(doc, 1),
         node_of(doc, At::Below(1, 0)),
         node_of(doc, At::Below(1, 3)),
-        node_of(doc, At::Within(6, 3, 1)),
     ) else {
         return false;
     };
-    let removed = (property.remove(doc), element.remove(doc));
-    let refused = (
-        name.remove_with_comments(doc),
-        value.remove_with_comments(doc),
-    );
-    let again = (
-        property.remove_with_comments(doc),
-        element.remove_with_comments(doc),
-    );
-    removed == (Ok(()), Ok(()))
-        && refused == (Err(EditError::NotAnEntry), Err(EditError::NotAnEntry))
-        && again == (Ok(()), Ok(()))
-        && prints(&property.shown(doc), "\"a\": 1")
-        && prints(&*doc, "{\"b\": [ 3] // d\n}")
+    let removed = property.remove(doc);
+    let name_refused = name.remove_with_comments(doc);
+    let value_refused = value.remove_with_comments(doc);
+    let again = property.remove_with_comments(doc);
+    removed == Ok(())
+        && name_refused == Err(EditError::NotAnEntry)
+        && value_refused == Err(EditError::NotAnEntry)
+        && again == Ok(())
+        && prints(&*doc, "{\"b\": [2, 3] // d\n}")
+}
+
+/// An element that was removed stays as it is.
+fn detached_element<A: Allocator + Copy>(doc: &mut CstRootNode<A>) -> bool {
+    let Some(element) = node_of(doc, At::Within(6, 3, 1)) else {
+        return false;
+    };
+    let removed = element.remove(doc);
+    let again = element.remove_with_comments(doc);
+    removed == Ok(()) && again == Ok(()) && prints(&*doc, "{\"a\": 1, // c\n\"b\": [ 3] // d\n}")
 }
 
 /// What a pointer to a property refers to is its value: that is refused, and its parent removed.
@@ -182,12 +186,12 @@ fn found<A: Allocator + Copy>(doc: &mut CstRootNode<A>, pointer: &Pointer<A>) ->
     if !doc.holds(found) {
         return false;
     }
-    let Some(property) = found.parent(doc) else {
+    let Some(CstContainerNode::ObjectProp(property)) = found.parent(doc) else {
         return false;
     };
     let refused = found.remove_with_comments(doc);
     let is_kept = is_refused(doc, refused, OBJECT);
-    let removed = CstNode::from(property).remove_with_comments(doc);
+    let removed = property.remove_with_comments(doc);
     is_kept && removed == Ok(()) && prints(&*doc, "{\"a\": 1 // c\n}")
 }
 
@@ -237,7 +241,16 @@ fn parts_of_damaged_properties_are_refused(rt: HostRuntime) -> Result<(), Fail> 
 #[test]
 fn parts_of_removed_properties_are_refused(rt: HostRuntime) {
     let is_right = match read(rt.alloc(), OBJECT) {
-        Ok(mut doc) => detached(&mut doc),
+        Ok(mut doc) => detached_property(&mut doc),
+        Err(_) => false,
+    };
+    assert!(rt; is_right);
+}
+
+#[test]
+fn removed_elements_stay_as_they_are(rt: HostRuntime) {
+    let is_right = match read(rt.alloc(), OBJECT) {
+        Ok(mut doc) => detached_element(&mut doc),
         Err(_) => false,
     };
     assert!(rt; is_right);
