@@ -22,11 +22,7 @@ impl<A: Allocator + Copy> Patch<A> {
     ///
     /// All operations are made on a copy of the document's nodes, which shares its text. The bytes are counted after each
     /// operation, over the document's nodes.
-    pub fn apply_within(
-        &self,
-        doc: &mut CstRootNode<A>,
-        bytes: usize,
-    ) -> Result<(), PatchFault<A>>
+    pub fn apply_within(&self, doc: &mut CstRootNode<A>, bytes: usize) -> Result<(), PatchFault<A>>
         ensures patched { OnOk result (PatchesWhatShown doc.old (operations_in self.now) doc.new) }
         ensures within { OnOk result (StaysWithin bytes doc.old (operations_in self.now) doc.new) }
         ensures kept { OnErr result (IsKept doc.old doc.new) }
