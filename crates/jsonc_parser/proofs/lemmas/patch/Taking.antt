@@ -1,12 +1,12 @@
 -- Values taken of nodes with all of their members.
-use Rattle.std.proofs.Common.{◌≡◌, ℕ, ◌+◌, ◌<◌, List, [], ◌∷◌, ◌++◌, length, get_or, take, Bool, true, false, Option, None, Some, Result, Ok, Err, IfOk, option_map, refl, sym, ap, subst, ◌∙◌}
+use Rattle.std.proofs.Common.{◌≡◌, ℕ, ◌+◌, ◌<◌, List, [], ◌∷◌, ◌++◌, length, get_or, take, false, Option, None, Some, Result, Ok, Err, IfOk, option_map, refl, sym, ap, subst, ◌∙◌}
 use Rattle.std.proofs.lemmas.Bool.{false≢true}
 use Rattle.std.specs.declared.string.String.{String}
 use Rattle.jsonc_text.specs.Documents.{Document}
 use Rattle.jsonc_text.specs.Plain.{Plain, Items, no_items, item, Members, no_members, member, collapse}
 use Rattle.jsonc_text.proofs.Collapse.{push}
 use Rattle.jsonc_tree.specs.Content.{Content, is_container}
-use Rattle.jsonc_tree.specs.OrderedTree.{OrderedTree, none, more, followed_by, ordered_tree, Shows}
+use Rattle.jsonc_tree.specs.OrderedTree.{OrderedTree, none, more, followed_by, ordered_tree}
 use Rattle.jsonc_tree.specs.Tree.{Node, IsTree, children_at, content_at}
 use Rattle.jsonc_tree.proofs.OrderedTrees.{Shows-unique}
 use Rattle.jsonc_layout.specs.declared.input.value.CstInputValue.{CstInputValue}
