@@ -3,7 +3,7 @@ use Rattle.jsonc_layout.specs.input.Views.{plain}
 use Rattle.jsonc_run.specs.Edits.{operation_of, unsorted}
 use Rattle.jsonc_parser.specs.paths.Choices.{Chooses}
 use Rattle.jsonc_parser.specs.paths.Found.{names_of}
-use Rattle.jsonc_parser.proofs.lemmas.paths.EditOutcome.{put_made, put_refused}
+use Rattle.jsonc_parser.proofs.lemmas.paths.EditOutcome.{for_want, put_made, put_refused}
 use Rattle.jsonc_parser.proofs.lemmas.paths.Depths.{decided, decided_not}
 use Rattle.jsonc_parser.proofs.paths.put.put.Goals as goal
 
@@ -25,3 +25,11 @@ returns-then-not-fits_at-clause-error g c = λ d shown. decided_not c.fits_at.re
 
 pub returns-in-Ok-make_one-clause-fits : goal.returns-in-Ok-make_one-clause-fits
 returns-in-Ok-make_one-clause-fits g c = decided c.fits_at.result c.fits_at.ensures c.if-not-fits_at.false
+
+pub returns-in-Err-clause-error : goal.returns-in-Err-clause-error
+returns-in-Err-clause-error g c = λ d shown.
+    for_want (names_of c.args.names.now) (plain c.args.value) c.in-Err.error (decided c.fits_at.result c.fits_at.ensures c.if-not-fits_at.false) c.in-Err.ensures.memory
+
+pub returns-in-Err-choose-clause-error : goal.returns-in-Err-choose-clause-error
+returns-in-Err-choose-clause-error g c = λ d shown.
+    for_want (names_of c.args.names.now) (plain c.args.value) c.in-Err-choose.error (decided c.fits_at.result c.fits_at.ensures c.if-not-fits_at.false) c.in-Err-choose.ensures.memory
