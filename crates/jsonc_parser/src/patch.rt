@@ -19,6 +19,7 @@ mod location;
 mod making;
 mod merge_text;
 mod merging;
+mod moving;
 mod numbers;
 mod operation;
 mod pointer;

@@ -1,18 +1,17 @@
 //! The operations of a patch, made on a document.
 
 ghost use Rattle.std.specs.Prelude.{◌≡◌, [], chars, true, IfErr, IfOk, OnErr, OnOk, Some};
-ghost use Rattle.std.specs.Bool.{Decides};
 ghost use Rattle.jsonc_tree.specs.Content.{Content};
 ghost use Rattle.jsonc_edit.specs.Paths.{IsAt};
 ghost use Rattle.jsonc_edit.specs.Writing.{IsOfNumbers};
-ghost use Rattle.jsonc_layout.specs.input.Views.{chars_of, plain};
+ghost use Rattle.jsonc_layout.specs.input.Views.{plain};
 ghost use Rattle.jsonc_run.specs.Edits.{is_whole};
 ghost use Rattle.jsonc_cst.specs.Document.{content_of, nodes_of, HasNode};
 ghost use Rattle.jsonc_cst.specs.Nodes.{number_of};
 ghost use Rattle.jsonc_parser.specs.paths.Found.{names_of};
 ghost use Rattle.jsonc_parser.specs.patch.Applied.{is_one_edit, AddsMember, AppendsTo, FailsBelow, FailsForMemory};
 ghost use Rattle.jsonc_parser.specs.patch.Applied.{FailsWhatShown, IsEditDone, IsKept, IsPathless, IsRefusal, IsUnfound};
-ghost use Rattle.jsonc_parser.specs.patch.Applied.{HasCause, LeadsOn, LeadsOver, MakesWhatShown, PutsAt, Takes};
+ghost use Rattle.jsonc_parser.specs.patch.Applied.{HasCause, LeadsOver, MakesWhatShown, PutsAt, Takes};
 ghost use Rattle.jsonc_parser.specs.patch.Asked.{asked, FitsIn};
 ghost use Rattle.jsonc_parser.specs.patch.FaultMessages.{patch_cause_text};
 ghost use Rattle.jsonc_parser.specs.patch.Found.{IsOfShown, RefersToNode};
@@ -21,11 +20,11 @@ ghost use Rattle.jsonc_parser.specs.patch.Pointer.{tokens_of};
 ghost use Rattle.jsonc_parser.specs.patch.References.{RefersTo};
 
 use super::equality::{Numbers, are_equal};
+use super::moving::{copy_value, move_value};
 use super::operation::Operation;
 use super::pointer::Pointer;
 use super::quoting::write_repeated_name;
 use super::reference::{FindError, element_place, follow, read};
-use super::renaming::{rename, renaming};
 use super::taking::take;
 use jsonc_cst::cst::{CstInputValue, CstNode, CstRootNode, EditError, TypedNode};
 use jsonc_run::Edit;
@@ -169,7 +168,7 @@ fn value_at<A: Allocator + Copy>(
 }
 
 // The value that a pointer refers to, taken with all of its members, those of equal names too.
-fn whole_at<A: Allocator + Copy>(
+pub(super) fn whole_at<A: Allocator + Copy>(
     doc: &CstRootNode<A>,
     pointer: &Pointer<A>,
 ) -> Result<CstInputValue<A>, PatchCause<A>>
@@ -403,104 +402,6 @@ fn append_member<A: Allocator + Copy>(
         return Err(PatchCause::Edit(EditError::OutOfMemory));
     };
     match edit(doc, Edit::AppendProperty(path, name, value)) {
-        Ok(()) => Ok(()),
-        Err(cause) => Err(cause),
-    }
-}
-
-// Whether two strings have the same characters.
-fn are_same<A: Allocator>(left: &String<A>, right: &String<A>) -> bool
-    ensures { Decides result (chars_of left.now ≡ chars_of right.now) }
-{
-    left.as_str() == right.as_str()
-}
-
-// Whether the tokens of one pointer are the first of another's.
-pub(super) fn leads_on<A: Allocator>(front: &[String<A>], tokens: &[String<A>]) -> bool
-    ensures { Decides result (LeadsOn (names_of front.now) (names_of tokens.now)) }
-{
-    if front.len() > tokens.len() {
-        return false;
-    }
-    for (index, token) in front.iter().enumerate() {
-        if !are_same(token, &tokens[index]) {
-            return false;
-        }
-    }
-    true
-}
-
-// Sees that a value that is to be moved to where it is, or into itself, stays.
-fn stay<A: Allocator + Copy>(
-    doc: &CstRootNode<A>,
-    from: &Pointer<A>,
-    path: &Pointer<A>,
-) -> Result<(), PatchCause<A>>
-    requires { LeadsOn (tokens_of from.now) (tokens_of path.now) }
-    ensures stays { OnOk result (IsOfShown doc.now (λ d. standard.Moves (tokens_of from.now) (tokens_of path.now) d.value d.value)) }
-    ensures fails { IfErr result (FailsWhatShown doc.now (standard.move (tokens_of from.now) (tokens_of path.now))) }
-{
-    match target(doc, from.tokens()) {
-        Ok(_) => {}
-        Err(cause) => return Err(cause),
-    }
-    if from.tokens().len() == path.tokens().len() {
-        return Ok(());
-    }
-    Err(PatchCause::IntoItself)
-}
-
-// Removes the value that a pointer refers to, and adds it where another leads; or renames it within its object.
-fn move_value<A: Allocator + Copy>(
-    doc: &mut CstRootNode<A>,
-    from: &Pointer<A>,
-    path: &Pointer<A>,
-) -> Result<(), PatchCause<A>>
-    ensures made { OnOk result (MakesWhatShown doc.old (standard.move (tokens_of from.now) (tokens_of path.now)) (λ o. Unit {0}) doc.new) }
-    ensures fails { IfErr result (FailsWhatShown doc.old (standard.move (tokens_of from.now) (tokens_of path.now))) }
-{
-    if leads_on(from.tokens(), path.tokens()) {
-        return stay(doc, from, path);
-    }
-    match renaming(doc, from, path) {
-        Ok(Some((node, name))) => {
-            return match rename(doc, node, name) {
-                Ok(()) => Ok(()),
-                Err(cause) => Err(cause),
-            };
-        }
-        Ok(None) => {}
-        Err(cause) => return Err(cause),
-    }
-    let value = match whole_at(doc, from) {
-        Ok(value) => value,
-        Err(cause) => return Err(cause),
-    };
-    match remove(doc, from) {
-        Ok(()) => {}
-        Err(cause) => return Err(cause),
-    }
-    match add(doc, path, value) {
-        Ok(()) => Ok(()),
-        Err(cause) => Err(cause),
-    }
-}
-
-// Adds the value that a pointer refers to where another leads.
-fn copy_value<A: Allocator + Copy>(
-    doc: &mut CstRootNode<A>,
-    from: &Pointer<A>,
-    path: &Pointer<A>,
-) -> Result<(), PatchCause<A>>
-    ensures made { OnOk result (MakesWhatShown doc.old (standard.copy (tokens_of from.now) (tokens_of path.now)) (λ o. Unit {0}) doc.new) }
-    ensures kept { OnErr result (IsKept doc.old doc.new) }
-    ensures fails { IfErr result (FailsWhatShown doc.old (standard.copy (tokens_of from.now) (tokens_of path.now))) }
-{
-    let value = match whole_at(doc, from) {
-        Ok(value) => value,
-        Err(cause) => return Err(cause),
-    };
-    match add(doc, path, value) {
         Ok(()) => Ok(()),
         Err(cause) => Err(cause),
     }

@@ -11,8 +11,9 @@ ghost use Rattle.jsonc_parser.specs.patch.Operations as standard;
 ghost use Rattle.jsonc_parser.specs.patch.Pointer.{tokens_of};
 ghost use Rattle.jsonc_parser.specs.patch.Renaming.{AreBeside, FailsToRename, IsRenaming, RenamesAt};
 
-use super::making::{PatchCause, edit, leads_on, path_to, target};
+use super::making::{PatchCause, edit, path_to, target};
 use super::merging::is_object;
+use super::moving::leads_on;
 use super::pointer::Pointer;
 use super::reference::{FindError, follow};
 use jsonc_cst::cst::{CstNode, CstRootNode, EditError};

@@ -6,7 +6,7 @@ use Rattle.jsonc_parser.specs.patch.Pointer.{tokens_of}
 use Rattle.jsonc_parser.proofs.lemmas.patch.Chains.{leads_elsewhere, leads_told, moved_so, tested}
 use Rattle.jsonc_parser.proofs.lemmas.patch.Failing.{moves_no_more, unmoved, unmoved_first}
 use Rattle.jsonc_parser.proofs.lemmas.patch.Renaming.{never_within}
-use Rattle.jsonc_parser.proofs.patch.making.move_value.Goals as goal
+use Rattle.jsonc_parser.proofs.patch.moving.move_value.Goals as goal
 
 pub stay-requires : goal.stay-requires
 stay-requires g c = (leads_told _ (tokens_of c.args.from.now) _ (tokens_of c.args.path.now) c.leads_on.result c.tokens.ensures c.tokens-2.ensures c.leads_on.ensures).0 c.if-leads_on.true

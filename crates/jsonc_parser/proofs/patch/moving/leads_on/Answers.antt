@@ -2,7 +2,7 @@ use Rattle.std.proofs.Common.{◌≡◌, ◌∙◌, ◌≤◌, ◌<◌, List, le
 use Rattle.std.proofs.lemmas.Bool.{false≢true}
 use Rattle.jsonc_layout.specs.input.Views.{chars_of}
 use Rattle.jsonc_parser.proofs.lemmas.patch.Chains.{lead_further, leads_no_longer, leads_one, leads_so}
-use Rattle.jsonc_parser.proofs.patch.making.leads_on.Goals as goal
+use Rattle.jsonc_parser.proofs.patch.moving.leads_on.Goals as goal
 
 pub returns-then-front-tokens : goal.returns-then-front-tokens
 returns-then-front-tokens g c = (

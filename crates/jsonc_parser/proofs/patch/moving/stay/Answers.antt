@@ -3,7 +3,7 @@ use Rattle.jsonc_parser.specs.patch.Applied.{IsUnfound}
 use Rattle.jsonc_parser.specs.patch.Pointer.{tokens_of}
 use Rattle.jsonc_parser.proofs.lemmas.patch.Chains.{as_few, as_many, stays_shown}
 use Rattle.jsonc_parser.proofs.lemmas.patch.Failing.{moves_into_itself, unmoved}
-use Rattle.jsonc_parser.proofs.patch.making.stay.Goals as goal
+use Rattle.jsonc_parser.proofs.patch.moving.stay.Goals as goal
 
 pub returns-then-tokens-clause-stays : goal.returns-then-tokens-clause-stays
 returns-then-tokens-clause-stays g c =
