@@ -5,4 +5,4 @@ pub returns-clause-accepted : goal.returns-clause-accepted
 returns-clause-accepted c =
     let utf8 : IsUtf8 c.args.text.now = search rules in
     let read = c.in_ok-check_document.ensures.accepted in
-    record { utf8 = utf8; value = read.0; document = read.1 }
+    record { utf8 = utf8; value = read.0; document = read.1; within = read.2 }
