@@ -187,6 +187,7 @@ cause_past cause.NoTarget other = omega arith
 cause_past (cause.RepeatedName name) other = omega arith
 cause_past cause.IntoItself other = omega arith
 cause_past cause.NotEqual other = omega arith
+cause_past cause.TooLarge other = absurd (other refl)
 cause_past (cause.Edit why) other = absurd (other refl)
 
 pub unpatched_ends : {A : Type 0} {o : Options} {patch text : List ℕ} {status : ℕ} {f : JsoncFault} → IsUnpatched A o patch text status f → Ends status f

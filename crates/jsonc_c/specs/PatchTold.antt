@@ -89,6 +89,7 @@ module _ {A : Type 0} where
   cause_status (cause.RepeatedName name) = 21
   cause_status cause.IntoItself = 23
   cause_status cause.NotEqual = 24
+  cause_status cause.TooLarge = 1
   cause_status (cause.Edit why) = 1
 
   -- a patch is told to be none, and its text parses

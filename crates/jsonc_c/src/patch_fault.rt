@@ -198,6 +198,8 @@ fn cause_status(cause: &PatchCause<Global>) -> u32
         PatchCause::RepeatedName(_) => REPEATED_NAME,
         PatchCause::IntoItself => INTO_ITSELF,
         PatchCause::NotEqual => NOT_EQUAL,
+        // (no call has a bound)
+        PatchCause::TooLarge => OUT_OF_MEMORY,
         // (of an edit it is told for memory alone)
         PatchCause::Edit(_) => OUT_OF_MEMORY,
     }

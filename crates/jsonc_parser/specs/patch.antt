@@ -3,6 +3,7 @@ pub mod Quoting
 pub mod Reading
 pub mod References
 pub mod Found
+pub mod Taking
 pub mod Lookups
 pub mod Locations
 pub mod Messages
@@ -23,6 +24,7 @@ pub mod DecimalParts
 pub mod Digits
 pub mod Values
 pub mod Applied
+pub mod Within
 pub mod Merging
 pub mod MergePatch
 pub mod MergeCases

@@ -26,8 +26,10 @@ mod quoting;
 mod reading;
 mod reference;
 mod renaming;
+mod taking;
 mod unique;
 mod values;
+mod within;
 
 pub use apply::PatchFault;
 pub use location::pointer_of;

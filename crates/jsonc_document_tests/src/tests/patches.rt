@@ -24,6 +24,8 @@ enum Answer<'a> {
     Inside(usize),
     /// This name stands twice where the operation of this number looks it up.
     Twice(usize, &'a str),
+    /// The document is larger than allowed after the operation of this number.
+    Larger(usize),
     /// The patch is none.
     NoPatch(usize),
 }
@@ -32,7 +34,7 @@ enum Answer<'a> {
 type Row<'a> = (&'a str, &'a str, Answer<'a>);
 
 /// Appendix A of RFC 6902, and more.
-static PATCHES: [Row; 33] = [
+static PATCHES: [Row; 40] = [
     (
         r#"{"foo":"bar"}"#,
         r#"[{"op":"add","path":"/baz","value":"qux"}]"#,
@@ -164,6 +166,45 @@ static PATCHES: [Row; 33] = [
         Answer::Text("{\"c\": [1 /* one */], // a\n \"b\": 2}"),
     ),
     (
+        "{\"x\": [1 /* one */], // a\n \"\\u0061\": 2}",
+        r#"[{"op":"move","from":"/x","path":"/y"}]"#,
+        Answer::Text("{\"y\": [1 /* one */], // a\n \"\\u0061\": 2}"),
+    ),
+    (
+        r#"{"o": {"x": 1 /* one */, "\u0062": 2}}"#,
+        r#"[{"op":"move","from":"/o/x","path":"/o/y"}]"#,
+        Answer::Text(r#"{"o": {"y": 1 /* one */, "\u0062": 2}}"#),
+    ),
+    (
+        r#"[{"\u006f": {"\u0078": 1 /* one */}}]"#,
+        r#"[{"op":"move","from":"/0/o/x","path":"/0/o/y"}]"#,
+        Answer::Text(r#"[{"\u006f": {"y": 1 /* one */}}]"#),
+    ),
+    (
+        r#"{"o": 1, "x": {"o": 2 /* two */}}"#,
+        r#"[{"op":"move","from":"/x/o","path":"/p"}]"#,
+        Answer::Value(r#"{"o":1,"x":{},"p":2}"#),
+    ),
+    // What is moved or copied keeps all of its members, those of equal names too.
+    (
+        "{\"x\": {\"a\": 1, \"a\": 2}}",
+        r#"[{"op":"move","from":"/x","path":""}]"#,
+        Answer::Text("{\n  \"a\": 1,\n  \"a\": 2\n}"),
+    ),
+    (
+        "[\n  {\"a\": 1, \"a\": [{\"b\": 2, \"b\": 3}]}\n]",
+        r#"[{"op":"copy","from":"/0","path":"/-"}]"#,
+        Answer::Text(
+            "[\n  {\"a\": 1, \"a\": [{\"b\": 2, \"b\": 3}]},\n  {\n    \"a\": 1,\n    \"a\": [\n      {\n        \"b\": 2,\n        \"b\": 3\n      }\n    ]\n  }\n]",
+        ),
+    ),
+    // A test compares values, where of equal names the last is that of the name.
+    (
+        r#"{"x": {"a": 1, "a": 2}}"#,
+        r#"[{"op":"test","path":"/x","value":{"a":2}}]"#,
+        Answer::Text(r#"{"x": {"a": 1, "a": 2}}"#),
+    ),
+    (
         r#"{"a": 1, "b": 2}"#,
         r#"[{"op":"move","from":"/a","path":"/b"}]"#,
         Answer::Value(r#"{"b":1}"#),
@@ -219,6 +260,7 @@ fn refused<A: Allocator>(fault: &PatchFault<A>, answer: Answer<'_>) -> Outcome {
         (PatchCause::RepeatedName(name), Answer::Twice(number, wanted)) => {
             Outcome::of(fault.operation == number && name.as_str() == wanted)
         }
+        (PatchCause::TooLarge, Answer::Larger(number)) => Outcome::of(fault.operation == number),
         (PatchCause::Edit(EditError::OutOfMemory), _) => Outcome::Wanted,
         _ => Outcome::Other,
     }
@@ -263,6 +305,114 @@ fn patches_are_applied_or_leave_all_with_each_request_refused_in_turn(
             "{} {}",
             row.0,
             row.1
+        );
+    }
+    Ok(())
+}
+
+/// A document, a patch, how many bytes the document may have, and what comes of them.
+type BoundedRow<'a> = (&'a str, &'a str, usize, Answer<'a>);
+
+/// One more element, of three bytes in all or of six with the next; a copy of the document in itself, of eight; and
+/// bytes of a character that has two.
+static BOUNDED: [BoundedRow; 12] = [
+    (
+        "[]",
+        r#"[{"op":"add","path":"/-","value":1}]"#,
+        3,
+        Answer::Text("[1]"),
+    ),
+    (
+        "[]",
+        r#"[{"op":"add","path":"/-","value":1}]"#,
+        2,
+        Answer::Larger(0),
+    ),
+    (
+        "[]",
+        r#"[{"op":"add","path":"/-","value":1},{"op":"add","path":"/-","value":2}]"#,
+        6,
+        Answer::Text("[1, 2]"),
+    ),
+    (
+        "[]",
+        r#"[{"op":"add","path":"/-","value":1},{"op":"add","path":"/-","value":2}]"#,
+        5,
+        Answer::Larger(1),
+    ),
+    (
+        "[1]",
+        r#"[{"op":"copy","from":"","path":"/-"}]"#,
+        8,
+        Answer::Text("[1, [1]]"),
+    ),
+    (
+        "[1]",
+        r#"[{"op":"copy","from":"","path":"/-"},{"op":"copy","from":"","path":"/-"}]"#,
+        8,
+        Answer::Larger(1),
+    ),
+    (
+        "[]",
+        r#"[{"op":"replace","path":"","value":"é"}]"#,
+        4,
+        Answer::Text("\"é\""),
+    ),
+    (
+        "[]",
+        r#"[{"op":"replace","path":"","value":"é"}]"#,
+        3,
+        Answer::Larger(0),
+    ),
+    // Each operation has the bound, and not the last alone; one that makes the document smaller too, and a test.
+    (
+        "[1]",
+        r#"[{"op":"add","path":"/-","value":2},{"op":"remove","path":"/1"}]"#,
+        5,
+        Answer::Larger(0),
+    ),
+    (
+        "[1, 2]",
+        r#"[{"op":"remove","path":"/1"}]"#,
+        3,
+        Answer::Text("[1]"),
+    ),
+    (
+        "[1, 2]",
+        r#"[{"op":"test","path":"/0","value":1}]"#,
+        5,
+        Answer::Larger(0),
+    ),
+    ("[1, 2]", "[]", 0, Answer::Text("[1, 2]")),
+];
+
+fn bounded<A: Allocator + Copy>(alloc: A, row: &BoundedRow<'_>) -> Outcome {
+    let mut doc = match read(alloc, row.0) {
+        Ok(doc) => doc,
+        Err(outcome) => return outcome,
+    };
+    let patch = match Patch::from_json(alloc, row.1, &ParseOptions::default()) {
+        Ok(patch) => patch,
+        Err(error) => return no_patch(error, row.3),
+    };
+    match patch.apply_within(&mut doc, row.2) {
+        Ok(()) => matches(alloc, &doc, row.3),
+        Err(fault) => refused(&fault, row.3).then(Outcome::of_text(doc.text(), row.0)),
+    }
+}
+
+#[test]
+fn a_patch_stays_within_its_bytes_with_each_request_refused_in_turn(
+    rt: HostRuntime,
+) -> Result<(), Fail> {
+    let alloc = rt.alloc();
+    for row in &BOUNDED {
+        assert!(rt;
+            answers_in_turn(alloc, |heap| bounded(heap, row)),
+            "{} {} {}",
+            row.0,
+            row.1,
+            row.2
         );
     }
     Ok(())

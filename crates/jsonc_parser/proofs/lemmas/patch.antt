@@ -42,3 +42,5 @@ pub mod MergePatchTotal
 pub mod MergePatchCases
 pub mod MergeReads
 pub mod Renaming
+pub mod Taking
+pub mod Within

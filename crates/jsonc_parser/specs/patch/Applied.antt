@@ -111,6 +111,7 @@ module _ {A : Type 0} where
   IsCause operation w (causes.RepeatedName name) = MeetsTwice (chars_of name) operation w
   IsCause operation w causes.IntoItself = GoesIntoItself operation w
   IsCause operation w causes.NotEqual = FindsAnother operation w
+  IsCause operation w causes.TooLarge = ⊥
   IsCause operation w (causes.Edit why) = why ≡ OutOfMemory
 
   -- so it is of the value of whatever document the tree shows

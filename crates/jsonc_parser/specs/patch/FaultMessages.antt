@@ -7,7 +7,7 @@ use Rattle.jsonc_parser.specs.declared.patch.apply.PatchFault.{PatchFault}
 use Rattle.jsonc_parser.specs.declared.patch.merging.MergeFault.{MergeFault}
 use Rattle.jsonc_parser.specs.declared.patch.merging.MergeFault.TheVariants as merge
 use Rattle.jsonc_parser.specs.declared.patch.making.PatchCause.{PatchCause}
-use Rattle.jsonc_parser.specs.declared.patch.making.PatchCause.TheVariants.{NoTarget, RepeatedName, IntoItself, NotEqual, Edit}
+use Rattle.jsonc_parser.specs.declared.patch.making.PatchCause.TheVariants.{NoTarget, RepeatedName, IntoItself, NotEqual, TooLarge, Edit}
 
 module _ {A : Type 0} where
   abbrev pub patch_cause_text : PatchCause A → List ℕ
@@ -15,6 +15,7 @@ module _ {A : Type 0} where
   patch_cause_text (RepeatedName name) = repeated_name_text (string_bytes name)
   patch_cause_text IntoItself = codes "Value cannot be moved into itself"
   patch_cause_text NotEqual = codes "Value is another"
+  patch_cause_text TooLarge = codes "Document would be larger than allowed"
   patch_cause_text (Edit e) = edit_error_text e
 
   abbrev pub patch_fault_text : PatchFault A → List ℕ

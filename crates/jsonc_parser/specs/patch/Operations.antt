@@ -1,7 +1,7 @@
 -- The operations of a JSON Patch, each between the value of a document and the value after it (RFC 6902, 4); a document may have none.
 use Rattle.std.specs.Prelude.{◌≡◌, ◌≢◌, ◌⊎◌, ℕ, List, [], ◌∷◌, ◌++◌, length, Option, Some, None}
 use Rattle.std.specs.List.{All}
-use Rattle.jsonc_text.specs.Plain.{Plain, collapse}
+use Rattle.jsonc_text.specs.Plain.{Plain, collapse, object, Members}
 use Rattle.jsonc_run.specs.texts.Entries.{of, Becomes, Named}
 use Rattle.jsonc_run.specs.texts.Edits.{BecomesProperty, Loses}
 use Rattle.jsonc_run.specs.texts.Paths.{an_array, an_object}
@@ -47,17 +47,29 @@ Replaces v tokens w y = (path : List ℕ) × (x : Plain) × RefersAlong w tokens
 abbrev pub LeadsElsewhere : List (List ℕ) → List (List ℕ) → Type 0
 LeadsElsewhere from to = (token : List ℕ) (rest : List (List ℕ)) → to ≢ from ++ token ∷ rest
 
--- 4.4: The value that the first tokens refer to is removed, and is added at the others, which do not lead into it. What is moved to its own place stays; and what is moved
--- within one object, to a name that no member has, stays in its place under this name.
+-- both are tokens that refer to an object, and one more; and the second refer to nothing
+pub record IsWithinObject (from to : List (List ℕ)) (w : Option Plain) : Type 0 where
+  pub tokens : List (List ℕ)
+  pub last : List ℕ
+  pub name : List ℕ
+  pub members : Members
+  pub first : from ≡ tokens ++ last ∷ []
+  pub second : to ≡ tokens ++ name ∷ []
+  pub object : RefersTo w tokens (object members)
+  pub nothing : ReferToNothing w to
+
+-- 4.4: The value that the first tokens refer to is removed, and is added at the others, which do not lead into it, with all of its members. What is moved to its own place stays;
+-- and what is moved within one object, to a name that no member has, is not removed: it stays in its place under this name.
 pub data Moves (from : List (List ℕ)) : List (List ℕ) → Option Plain → Option Plain → Type 0 where
   stays : {w : Option Plain} {x : Plain} → RefersTo w from x → Moves from from w w
-  moved : {to : List (List ℕ)} {w u y : Option Plain} {x : Plain} → LeadsElsewhere from to → RefersTo w from x → Removes from w u → Adds (collapse x) to u y → Moves from to w y
+  moved : {to : List (List ℕ)} {w u y : Option Plain} {x : Plain} → LeadsElsewhere from to → ¬ (IsWithinObject from to w) → RefersTo w from x → Removes from w u → Adds x to u y
+      → Moves from to w y
   renamed : {path : List ℕ} {w y : Option Plain} {x : Plain} (tokens : List (List ℕ)) (last name : List ℕ) → from ≡ tokens ++ last ∷ [] → RefersAlong w from path x
       → ReferToNothing w (tokens ++ name ∷ []) → BecomesProperty (λ old. record { name = name; value = old.value }) path w y → Moves from (tokens ++ name ∷ []) w y
 
--- 4.5: the value that the first tokens refer to is added at the others
+-- 4.5: the value that the first tokens refer to is added at the others, with all of its members
 abbrev pub Copies : List (List ℕ) → List (List ℕ) → Option Plain → Option Plain → Type 0
-Copies from to w y = (x : Plain) × RefersTo w from x × Adds (collapse x) to w y
+Copies from to w y = (x : Plain) × RefersTo w from x × Adds x to w y
 
 -- 4.6: the value that the tokens refer to is equal to this one, and nothing changes
 abbrev pub Tests : List (List ℕ) → Plain → Option Plain → Option Plain → Type 0

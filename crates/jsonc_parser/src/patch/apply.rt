@@ -44,10 +44,13 @@ impl<A: Allocator + Copy> Patch<A> {
     /// Makes the operations in order, each in the document that the ones before it made.
     ///
     /// What is added to an object is put after its other members, or in the place of the value of the one that
-    /// has the name. A value that is copied or moved is taken as by [`read`](super::read) and written as edits
-    /// write values; but a member that is moved within its object, to a name that no member has, gets this name and
-    /// stays as it is. Comments stay, but for those inside what is replaced or removed, and those that a removal takes
-    /// with its entry; and so does every byte outside of what the operations change.
+    /// has the name. A value that is copied or moved is taken with all of its members, those of equal names too, and
+    /// written as edits write values; but a member that is moved within its object, to a name that no member has, gets
+    /// this name and stays as it is. Comments stay, but for those inside what is replaced or removed, and those that a
+    /// removal takes with its entry; and so does every byte outside of what the operations change.
+    ///
+    /// A patch of a few lines can copy the document into itself again and again, so that it doubles each time:
+    /// [`apply_within`](Patch::apply_within) has a bound.
     ///
     /// A document keeps no options: the numbers that are written are to be numbers of those that it was parsed with.
     ///

@@ -88,6 +88,7 @@ pub(super) fn is_null<A: Allocator>(value: &CstInputValue<A>) -> bool
 }
 
 // Whether two texts of numbers are equal.
+#[inline(never)]
 fn are_numbers_equal<A: Allocator + Copy>(
     left: &String<A>,
     right: &String<A>,
@@ -102,6 +103,7 @@ fn are_numbers_equal<A: Allocator + Copy>(
 }
 
 // The names of members, or none where one occurs twice.
+#[inline(never)]
 fn names_of<'a, A: Allocator + Copy>(
     alloc: A,
     members: &'a [(String<A>, CstInputValue<A>)],
@@ -122,6 +124,7 @@ fn names_of<'a, A: Allocator + Copy>(
 }
 
 // The place of a name.
+#[inline(never)]
 fn place_of_name<A: Allocator>(names: &Names<'_, A>, name: &str) -> Option<usize>
     ensures some { IfSome result (λ i. slice_get (map (λ n. n.now) names.now.keys) i ≡ Some name.now) }
     ensures none { IfNone result (Contains (map (λ n. n.now) names.now.keys) name.now → ⊥) }
@@ -130,6 +133,7 @@ fn place_of_name<A: Allocator>(names: &Names<'_, A>, name: &str) -> Option<usize
 }
 
 // Whether two lists of values are equal, one by one.
+#[inline(never)]
 #[cycle(equality)]
 fn are_elements_equal<A: Allocator + Copy>(
     left: &[CstInputValue<A>],
@@ -151,6 +155,7 @@ fn are_elements_equal<A: Allocator + Copy>(
 }
 
 // Whether two lists of members are equal up to their order.
+#[inline(never)]
 #[cycle(equality)]
 fn are_members_equal<A: Allocator + Copy>(
     alloc: A,

@@ -18,6 +18,7 @@ ghost use Rattle.jsonc_parser.specs.patch.FaultMessages.{patch_cause_text};
 ghost use Rattle.jsonc_parser.specs.patch.Found.{IsOfShown, RefersToNode};
 ghost use Rattle.jsonc_parser.specs.patch.Operations as standard;
 ghost use Rattle.jsonc_parser.specs.patch.Pointer.{tokens_of};
+ghost use Rattle.jsonc_parser.specs.patch.References.{RefersTo};
 
 use super::equality::{Numbers, are_equal};
 use super::operation::Operation;
@@ -25,6 +26,7 @@ use super::pointer::Pointer;
 use super::quoting::write_repeated_name;
 use super::reference::{FindError, element_place, follow, read};
 use super::renaming::{rename, renaming};
+use super::taking::take;
 use jsonc_cst::cst::{CstInputValue, CstNode, CstRootNode, EditError, TypedNode};
 use jsonc_run::Edit;
 use std::alloc::Allocator;
@@ -41,6 +43,9 @@ pub enum PatchCause<A: Allocator> {
     IntoItself,
     /// The value is not equal to the one that it was tested against.
     NotEqual,
+    /// The document's text would have more bytes than are allowed, as [`Patch::apply_within`](super::Patch::apply_within)
+    /// says.
+    TooLarge,
     /// An edit was refused, or there was no memory.
     Edit(EditError),
 }
@@ -56,6 +61,7 @@ impl<A: Allocator> fmt::Display for PatchCause<A> {
             PatchCause::RepeatedName(name) => write_repeated_name(name.as_str(), f),
             PatchCause::IntoItself => f.write_str("Value cannot be moved into itself"),
             PatchCause::NotEqual => f.write_str("Value is another"),
+            PatchCause::TooLarge => f.write_str("Document would be larger than allowed"),
             PatchCause::Edit(error) => error.fmt(f),
         }
     }
@@ -147,7 +153,7 @@ fn target_path<A: Allocator + Copy>(
     }
 }
 
-// The value that a pointer refers to, taken.
+// The value that a pointer refers to, taken; of equal names the last value is at the first place.
 fn value_at<A: Allocator + Copy>(
     doc: &CstRootNode<A>,
     pointer: &Pointer<A>,
@@ -159,6 +165,25 @@ fn value_at<A: Allocator + Copy>(
         Ok(Some(value)) => Ok(value),
         Ok(None) => Err(PatchCause::NoTarget),
         Err(error) => Err(cause_of(error)),
+    }
+}
+
+// The value that a pointer refers to, taken with all of its members, those of equal names too.
+fn whole_at<A: Allocator + Copy>(
+    doc: &CstRootNode<A>,
+    pointer: &Pointer<A>,
+) -> Result<CstInputValue<A>, PatchCause<A>>
+    ensures taken { IfOk result (λ v. IsOfShown doc.now (λ d. RefersTo d.value (tokens_of pointer.now) (plain v))) }
+    ensures fails { IfErr result (λ cause. IsOfShown doc.now (λ d. IsUnfound d.value (tokens_of pointer.now) cause)) }
+{
+    let node = match target(doc, pointer.tokens()) {
+        Ok(node) => node,
+        Err(cause) => return Err(cause),
+    };
+    match take(*doc.allocator(), doc.tree(), node.number()) {
+        Ok(Some(value)) => Ok(value),
+        Ok(None) => Err(PatchCause::NoTarget),
+        Err(_) => Err(PatchCause::Edit(EditError::OutOfMemory)),
     }
 }
 
@@ -437,13 +462,17 @@ fn move_value<A: Allocator + Copy>(
     if leads_on(from.tokens(), path.tokens()) {
         return stay(doc, from, path);
     }
-    if let Some((node, name)) = renaming(doc, from, path) {
-        return match rename(doc, node, name) {
-            Ok(()) => Ok(()),
-            Err(cause) => Err(cause),
-        };
+    match renaming(doc, from, path) {
+        Ok(Some((node, name))) => {
+            return match rename(doc, node, name) {
+                Ok(()) => Ok(()),
+                Err(cause) => Err(cause),
+            };
+        }
+        Ok(None) => {}
+        Err(cause) => return Err(cause),
     }
-    let value = match value_at(doc, from) {
+    let value = match whole_at(doc, from) {
         Ok(value) => value,
         Err(cause) => return Err(cause),
     };
@@ -467,7 +496,7 @@ fn copy_value<A: Allocator + Copy>(
     ensures kept { OnErr result (IsKept doc.old doc.new) }
     ensures fails { IfErr result (FailsWhatShown doc.old (standard.copy (tokens_of from.now) (tokens_of path.now))) }
 {
-    let value = match value_at(doc, from) {
+    let value = match whole_at(doc, from) {
         Ok(value) => value,
         Err(cause) => return Err(cause),
     };

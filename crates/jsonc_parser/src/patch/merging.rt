@@ -273,6 +273,7 @@ fn fault_of<A: Allocator>(cause: PatchCause<A>) -> MergeFault<A>
         PatchCause::NoTarget => MergeFault::OutOfMemory,
         PatchCause::IntoItself => MergeFault::OutOfMemory,
         PatchCause::NotEqual => MergeFault::OutOfMemory,
+        PatchCause::TooLarge => MergeFault::OutOfMemory,
         PatchCause::Edit(_) => MergeFault::OutOfMemory,
     }
 }

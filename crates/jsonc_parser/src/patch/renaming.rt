@@ -1,16 +1,20 @@
 //! Moves within one object, which give a member another name.
 
-ghost use Rattle.std.specs.Prelude.{IfErr, IfSome, OnOk};
+ghost use Rattle.std.specs.Prelude.{List, ℕ, IfErr, IfNone, IfOk, IfSome, OnOk};
 ghost use Rattle.jsonc_layout.specs.input.Views.{chars_of};
 ghost use Rattle.jsonc_cst.specs.Document.{HasNode};
 ghost use Rattle.jsonc_parser.specs.paths.Found.{names_of};
+ghost use Rattle.jsonc_parser.specs.patch.Applied.{FailsWhatShown};
+ghost use Rattle.jsonc_parser.specs.patch.Found.{IsOfShown};
+ghost use Rattle.jsonc_parser.specs.patch.Operations.{IsWithinObject};
+ghost use Rattle.jsonc_parser.specs.patch.Operations as standard;
 ghost use Rattle.jsonc_parser.specs.patch.Pointer.{tokens_of};
 ghost use Rattle.jsonc_parser.specs.patch.Renaming.{AreBeside, FailsToRename, IsRenaming, RenamesAt};
 
 use super::making::{PatchCause, edit, leads_on, path_to, target};
 use super::merging::is_object;
 use super::pointer::Pointer;
-use super::reference::follow;
+use super::reference::{FindError, follow};
 use jsonc_cst::cst::{CstNode, CstRootNode, EditError};
 use jsonc_run::Edit;
 use std::alloc::Allocator;
@@ -20,7 +24,8 @@ fn beside<'p, A: Allocator>(
     from: &Pointer<A>,
     path: &'p Pointer<A>,
 ) -> Option<(&'p [String<A>], &'p String<A>)>
-    ensures { IfSome result (λ r. AreBeside (tokens_of from.now) (tokens_of path.now) (names_of r.0.now) (chars_of r.1.now)) }
+    ensures beside { IfSome result (λ r. AreBeside (tokens_of from.now) (tokens_of path.now) (names_of r.0.now) (chars_of r.1.now)) }
+    ensures apart { IfNone result ((tokens : List (List ℕ)) (name : List ℕ) → AreBeside (tokens_of from.now) (tokens_of path.now) tokens name → ⊥) }
 {
     let Some((_, front)) = from.tokens().split_last() else {
         return None;
@@ -42,23 +47,31 @@ pub(super) fn renaming<'p, A: Allocator + Copy>(
     doc: &CstRootNode<A>,
     from: &Pointer<A>,
     path: &'p Pointer<A>,
-) -> Option<(CstNode, &'p String<A>)>
-    ensures renames { IfSome result (λ r. IsRenaming doc.now (tokens_of from.now) (tokens_of path.now) r.0 (chars_of r.1.now)) }
-    ensures in_document { IfSome result (λ r. HasNode doc.now r.0) }
+) -> Result<Option<(CstNode, &'p String<A>)>, PatchCause<A>>
+    ensures renames { IfOk result (λ o. IfSome o (λ r. IsRenaming doc.now (tokens_of from.now) (tokens_of path.now) r.0 (chars_of r.1.now))) }
+    ensures in_document { IfOk result (λ o. IfSome o (λ r. HasNode doc.now r.0)) }
+    ensures none { IfOk result (λ o. IfNone o
+        (IsOfShown doc.now (λ d. ¬ (IsWithinObject (tokens_of from.now) (tokens_of path.now) d.value)))) }
+    ensures fails { IfErr result (FailsWhatShown doc.now (standard.move (tokens_of from.now) (tokens_of path.now))) }
 {
     let Some((front, name)) = beside(from, path) else {
-        return None;
+        return Ok(None);
     };
-    let Ok(true) = is_object(doc, front) else {
-        return None;
+    match is_object(doc, front) {
+        Ok(true) => {}
+        Ok(false) => return Ok(None),
+        Err(cause) => return Err(cause),
+    }
+    let node = match target(doc, from.tokens()) {
+        Ok(node) => node,
+        Err(cause) => return Err(cause),
     };
-    let Ok(node) = target(doc, from.tokens()) else {
-        return None;
-    };
-    let Ok(None) = follow(doc, path.tokens()) else {
-        return None;
-    };
-    Some((node, name))
+    match follow(doc, path.tokens()) {
+        Ok(None) => Ok(Some((node, name))),
+        Ok(Some(_)) => Ok(None),
+        Err(FindError::RepeatedName(_)) => Ok(None),
+        Err(FindError::OutOfMemory) => Err(PatchCause::Edit(EditError::OutOfMemory)),
+    }
 }
 
 // Gives a member another name.

@@ -27,6 +27,7 @@ fn repeated<A: Allocator>(alloc: A, name: &str) -> MergeFault<A>
 }
 
 // Sees that no two members have one name.
+#[inline(never)]
 fn see_names<A: Allocator + Copy>(
     alloc: A,
     members: &[(String<A>, CstInputValue<A>)],

@@ -81,6 +81,7 @@ fn repeated<A: Allocator>(alloc: A, name: &str) -> OperationFault<A>
 }
 
 // Sees that no two properties have one name.
+#[inline(never)]
 pub(super) fn see_names<A: Allocator + Copy>(
     alloc: A,
     properties: &[ObjectProp<'_, A>],
@@ -113,6 +114,7 @@ fn owned<A: Allocator>(alloc: A, text: &str) -> Result<String<A>, OperationFault
 }
 
 // The elements.
+#[inline(never)]
 #[cycle(values)]
 fn elements_of<A: Allocator + Copy>(
     alloc: A,
@@ -136,6 +138,7 @@ fn elements_of<A: Allocator + Copy>(
 }
 
 // A name with its value.
+#[inline(never)]
 #[cycle(values)]
 fn member_of<A: Allocator + Copy>(
     alloc: A,
@@ -156,6 +159,7 @@ fn member_of<A: Allocator + Copy>(
 }
 
 // The names with their values, no name twice.
+#[inline(never)]
 #[cycle(values)]
 fn members_of<A: Allocator + Copy>(
     alloc: A,

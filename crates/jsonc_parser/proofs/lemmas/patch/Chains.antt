@@ -21,7 +21,7 @@ use Rattle.jsonc_run.specs.promise.Asked.{none_asked, one_asked, EditsTo}
 use Rattle.jsonc_run.proofs.lemmas.promise.Leads.{shown_are_documents}
 use Rattle.jsonc_cst.specs.declared.cst.CstRootNode.{CstRootNode}
 use Rattle.jsonc_cst.specs.Document.{nodes_of, tree_of}
-use Rattle.jsonc_cst.proofs.JsonValues.{collapsed_numbers, document_numbers}
+use Rattle.jsonc_cst.proofs.JsonValues.{document_numbers}
 use Rattle.jsonc_parser.specs.patch.Applied.{is_one_edit, FailsWhatShown, IsKept, IsMade, IsNoMemory, IsPatched, IsStopped, LeadsOn, MakesWhatShown, PatchesWhatShown, StopsWhatShown, Takes}
 use Rattle.jsonc_parser.specs.patch.Asked.{asked, FitsIn}
 use Rattle.jsonc_parser.specs.patch.Found.{IsOfShown, RefersToNode}
@@ -30,7 +30,7 @@ use Rattle.jsonc_parser.specs.patch.Equality.{AreEqual, HasUniqueNames}
 use Rattle.jsonc_parser.specs.patch.Numbers.{SameNumber}
 use Rattle.jsonc_parser.specs.declared.patch.pointer.Pointer.{Pointer}
 use Rattle.jsonc_parser.specs.patch.Operations as value
-use Rattle.jsonc_parser.specs.patch.Operations.{none_made, one_made, moved, stays, LeadsElsewhere, MakesAll, Makes, Moves}
+use Rattle.jsonc_parser.specs.patch.Operations.{none_made, one_made, moved, stays, IsWithinObject, LeadsElsewhere, MakesAll, Makes, Moves}
 use Rattle.jsonc_parser.specs.patch.References.{IsItem, this_item, later_item, IsOnly, this_only, later_only, Refers, RefersTo, whole, to_member, to_element}
 use Rattle.jsonc_parser.specs.declared.patch.operation.Operation.{Operation}
 use Rattle.jsonc_parser.specs.declared.patch.operation.Operation.TheVariants.{Move}
@@ -77,6 +77,12 @@ module _ {A : Type 0} (old : CstRootNode A) where
       all_last : (P : Operation A → Type 0) (xs : List (Operation A)) (x : Operation A) → All P (xs ++ x ∷ []) → P x
       all_last P [] x all = All-head P x [] all
       all_last P (y ∷ xs) x all = all_last P xs x (All-tail P y (xs ++ x ∷ []) all)
+
+  pub patched_first : (mid new : CstRootNode A) (operation : Operation A) (rest : List (Operation A)) → MakesWhatShown old (asked operation) (λ o. FitsIn o operation) mid → PatchesWhatShown mid rest new → PatchesWhatShown old (operation ∷ rest) new
+  patched_first mid new operation rest first more d shown fits =
+      let f = first d shown (All-head (FitsIn d.options) operation rest fits) in
+      let m = more f.0 f.1 (subst (λ (o : Options). All (FitsIn o) rest) (sym f.2.options) (All-tail (FitsIn d.options) operation rest fits)) in
+      (m.0, m.1, record { edits = f.2.edits ++ m.2.edits; edited = joined f.2.edited m.2.edited; options = m.2.options ∙ f.2.options; made = one_made f.2.made m.2.made })
 
   -- one operation is a patch of it alone
   pub patched_once : (new : CstRootNode A) (operation : Operation A) → MakesWhatShown old (asked operation) (λ o. FitsIn o operation) new → PatchesWhatShown old (operation ∷ []) new
@@ -132,24 +138,24 @@ inner_numbers o (to_member only r) all = inner_numbers o r (member_numbers o onl
 inner_numbers o (to_element index item r) all = inner_numbers o r (item_numbers o item all)
 
 -- what is taken of a document fits it
-taken_fits : {A : Type 0} (doc : CstRootNode A) (tokens : List (List ℕ)) (taken : Plain) (d : Document) → Shows d (tree_of doc) → Takes d tokens taken → IsOfNumbers d.options taken
-taken_fits doc tokens taken d shown (v, (x, is, path, refers), same) =
+taken_fits : {A : Type 0} (doc : CstRootNode A) (tokens : List (List ℕ)) (taken : Plain) (d : Document) → Shows d (tree_of doc) → RefersTo d.value tokens taken → IsOfNumbers d.options taken
+taken_fits doc tokens taken d shown (x, is, path, refers) =
     let one = shown_are_documents (tree_of doc) d shown in
     let all : IsOfNumbers d.options x = document_numbers d.options d.text x (subst (λ w. IsDocument d.options d.text w) is one.says) in
-    subst (IsOfNumbers d.options) (sym same) (collapsed_numbers d.options v (inner_numbers d.options refers all))
+    inner_numbers d.options refers all
 
-module _ {A : Type 0} (old new : CstRootNode A) (from to : List (List ℕ)) (taken : CstInputValue A) (takes : IsOfShown old (λ d. Takes d from (plain taken))) where
+module _ {A : Type 0} (old new : CstRootNode A) (from to : List (List ℕ)) (taken : CstInputValue A) (takes : IsOfShown old (λ d. RefersTo d.value from (plain taken))) where
   -- a copy of what is there is added
   pub copied : MakesWhatShown old (value.add to (plain taken)) (λ o. IsOfNumbers o (plain taken)) new → MakesWhatShown old (value.copy from to) (λ o. Unit {0}) new
   copied step d shown fit =
       let t = takes d shown in
       let s = step d shown (taken_fits old from (plain taken) d shown t) in
-      (s.0, s.1, record { edits = s.2.edits; edited = s.2.edited; options = s.2.options; made = (t.0, t.1, subst (λ v. value.Adds v to d.value s.0.value) t.2 s.2.made) })
+      (s.0, s.1, record { edits = s.2.edits; edited = s.2.edited; options = s.2.options; made = (plain taken, t, s.2.made) })
 
   -- it leaves, and is added
-  pub moved_so : LeadsElsewhere from to → (mid : CstRootNode A) → MakesWhatShown old (value.remove from) (λ o. Unit {0}) mid → MakesWhatShown mid (value.add to (plain taken)) (λ o. IsOfNumbers o (plain taken)) new
+  pub moved_so : LeadsElsewhere from to → IsOfShown old (λ d. ¬ (IsWithinObject from to d.value)) → (mid : CstRootNode A) → MakesWhatShown old (value.remove from) (λ o. Unit {0}) mid → MakesWhatShown mid (value.add to (plain taken)) (λ o. IsOfNumbers o (plain taken)) new
       → MakesWhatShown old (value.move from to) (λ o. Unit {0}) new
-  moved_so elsewhere mid first second d shown fit =
+  moved_so elsewhere apart mid first second d shown fit =
       let t = takes d shown in
       let f = first d shown tt in
       let s = second f.0 f.1 (subst (λ o. IsOfNumbers o (plain taken)) (sym f.2.options) (taken_fits old from (plain taken) d shown t)) in (
@@ -159,7 +165,7 @@ module _ {A : Type 0} (old new : CstRootNode A) (from to : List (List ℕ)) (tak
           edits = f.2.edits ++ s.2.edits;
           edited = joined f.2.edited s.2.edited;
           options = s.2.options ∙ f.2.options;
-          made = moved elsewhere t.1 f.2.made (subst (λ v. value.Adds v to f.0.value s.0.value) t.2 s.2.made);
+          made = moved elsewhere (apart d shown) t f.2.made s.2.made;
         },
       )
 

@@ -49,15 +49,15 @@ below (as_element {tokens = tokens} {token = token} {path = path} front back sta
 below (as_member {tokens = tokens} {path = path} name front stands others b) = inr (record { tokens = tokens; token = name; path = path; kind = an_object; es = front; is = refl; stands = stands; place = by_name refl })
 below (in_member {tokens = tokens} {path = path} name ms stands inner b) = inr (record { tokens = tokens; token = name; path = path; kind = an_object; es = ms; is = refl; stands = stands; place = by_name refl })
 
-no_last : (tokens : List (List ℕ)) (token : List ℕ) → tokens ++ token ∷ [] ≡ [] → ⊥
+pub no_last : (tokens : List (List ℕ)) (token : List ℕ) → tokens ++ token ∷ [] ≡ [] → ⊥
 no_last [] token e = cc
 no_last (t ∷ ts) token e = cc
 
-record Same (one other : List (List ℕ)) (a b : List ℕ) : Type 0 where
-  front : one ≡ other
-  last : a ≡ b
+pub record Same (one other : List (List ℕ)) (a b : List ℕ) : Type 0 where
+  pub front : one ≡ other
+  pub last : a ≡ b
 
-same_last : (one other : List (List ℕ)) (a b : List ℕ) → one ++ a ∷ [] ≡ other ++ b ∷ [] → Same one other a b
+pub same_last : (one other : List (List ℕ)) (a b : List ℕ) → one ++ a ∷ [] ≡ other ++ b ∷ [] → Same one other a b
 same_last [] [] a b e = record { front = refl; last = cc }
 same_last [] (t ∷ ts) a b e = (let wrong : [] ≡ ts ++ b ∷ [] = cc in absurd (no_last ts b (sym wrong)))
 same_last (t ∷ ts) [] a b e = (let wrong : ts ++ a ∷ [] ≡ [] = cc in absurd (no_last ts a wrong))

@@ -65,6 +65,7 @@ module _ {A : Type 0} where
   memory_cause o w (causes.RepeatedName name) is = absurd is
   memory_cause o w causes.IntoItself is = absurd is
   memory_cause o w causes.NotEqual is = absurd is
+  memory_cause o w causes.TooLarge is = absurd is
 
   pub memory_unfound : (w : Option Plain) (tokens : List (List ℕ)) (c : PatchCause A) → IsNoMemory c → IsUnfound w tokens c
   memory_unfound w tokens (causes.Edit why) is = is
@@ -72,6 +73,7 @@ module _ {A : Type 0} where
   memory_unfound w tokens (causes.RepeatedName name) is = absurd is
   memory_unfound w tokens causes.IntoItself is = absurd is
   memory_unfound w tokens causes.NotEqual is = absurd is
+  memory_unfound w tokens causes.TooLarge is = absurd is
 
   -- a pointer that was not followed
   pub found_cause : (o : Operation) (w : Option Plain) (tokens : List (List ℕ)) → (ReferToNothing w tokens → HasNoTarget o w) → ((name : List ℕ) → FailsAt w tokens name → MeetsTwice name o w) → (c : PatchCause A) → IsUnfound w tokens c → IsCause o w c
@@ -80,6 +82,7 @@ module _ {A : Type 0} where
   found_cause o w tokens nothing twice (causes.Edit why) is = is
   found_cause o w tokens nothing twice causes.IntoItself is = absurd is
   found_cause o w tokens nothing twice causes.NotEqual is = absurd is
+  found_cause o w tokens nothing twice causes.TooLarge is = absurd is
 
   pub unmoved : (from to : List (List ℕ)) (w : Option Plain) (c : PatchCause A) → IsUnfound w from c → IsCause (value.move from to) w c
   unmoved from to w c is = found_cause (value.move from to) w from (λ n. inl n) (λ name f. inl f) c is
@@ -106,6 +109,7 @@ module _ {A : Type 0} where
   unmoved_first from to w (causes.Edit why) is = is
   unmoved_first from to w causes.IntoItself is = absurd is
   unmoved_first from to w causes.NotEqual is = absurd is
+  unmoved_first from to w causes.TooLarge is = absurd is
 
   unmoved_then : (from to : List (List ℕ)) (v : Plain) (w u : Option Plain) (c : PatchCause A) → value.Removes from w u → IsCause (value.add to v) u c → IsCause (value.move from to) w c
   unmoved_then from to v w u causes.NoTarget left is = inr (u, left, is)
@@ -113,6 +117,7 @@ module _ {A : Type 0} where
   unmoved_then from to v w u (causes.Edit why) left is = is
   unmoved_then from to v w u causes.IntoItself left is = absurd is
   unmoved_then from to v w u causes.NotEqual left is = absurd is
+  unmoved_then from to v w u causes.TooLarge left is = absurd is
 
   uncopied_then : (from to : List (List ℕ)) (v x : Plain) (w : Option Plain) (c : PatchCause A) → RefersTo w from x → IsCause (value.add to v) w c → IsCause (value.copy from to) w c
   uncopied_then from to v x w causes.NoTarget at is = inr (x, at, is)
@@ -120,12 +125,13 @@ module _ {A : Type 0} where
   uncopied_then from to v x w (causes.Edit why) at is = is
   uncopied_then from to v x w causes.IntoItself at is = absurd is
   uncopied_then from to v x w causes.NotEqual at is = absurd is
+  uncopied_then from to v x w causes.TooLarge at is = absurd is
 
   pub moves_no_more : (old mid : CstRootNode A) (from to : List (List ℕ)) (v : Plain) (c : PatchCause A) → MakesWhatShown old (value.remove from) (λ o. Unit {0}) mid → FailsWhatShown mid (value.add to v) c → FailsWhatShown old (value.move from to) c
   moves_no_more old mid from to v c first fails d shown = let f = first d shown tt in unmoved_then from to v d.value f.0.value c f.2.made (fails f.0 f.1)
 
-  pub copies_not : (old : CstRootNode A) (from to : List (List ℕ)) (v : Plain) (c : PatchCause A) → IsOfShown old (λ d. Takes d from v) → FailsWhatShown old (value.add to v) c → FailsWhatShown old (value.copy from to) c
-  copies_not old from to v c takes fails d shown = let t = takes d shown in uncopied_then from to v t.0 d.value c t.1 (fails d shown)
+  pub copies_not : (old : CstRootNode A) (from to : List (List ℕ)) (v : Plain) (c : PatchCause A) → IsOfShown old (λ d. RefersTo d.value from v) → FailsWhatShown old (value.add to v) c → FailsWhatShown old (value.copy from to) c
+  copies_not old from to v c takes fails d shown = uncopied_then from to v v d.value c (takes d shown) (fails d shown)
 
   pub moves_into_itself : (doc : CstRootNode A) (from to names : List (List ℕ)) (n : ℕ) → names ≡ from → LeadsOn from to → (length from ≡ length to → ⊥) → IsOfShown doc (λ d. RefersToNode d (nodes_of doc) names n) → FailsWhatShown doc (value.move from to) causes.IntoItself
   moves_into_itself doc from to names n is (rest, on) longer found d shown =
@@ -168,6 +174,7 @@ module _ {A : Type 0} where
     has_path node leads (causes.RepeatedName name) is d shown = absurd is
     has_path node leads causes.IntoItself is d shown = absurd is
     has_path node leads causes.NotEqual is d shown = absurd is
+    has_path node leads causes.TooLarge is d shown = absurd is
 
     pub path_unfound : (node : CstNode) → IsOfShown doc (λ d. RefersToNode d (nodes_of doc) tokens (number_of node)) → (c : PatchCause A) → IsPathless doc node c → IsOfShown doc (λ d. IsUnfound d.value tokens c)
     path_unfound node leads c is d shown = memory_unfound d.value tokens c (has_path node leads c is d shown)
@@ -180,6 +187,7 @@ module _ {A : Type 0} where
     refusal_memory e none (causes.RepeatedName name) reported d shown named = absurd reported
     refusal_memory e none causes.IntoItself reported d shown named = absurd reported
     refusal_memory e none causes.NotEqual reported d shown named = absurd reported
+    refusal_memory e none causes.TooLarge reported d shown named = absurd reported
 
     pub unset : (v : CstInputValue A) (c : PatchCause A) → IsRefusal doc (SetRoot v) c → FailsWhatShown doc (value.add [] (plain v)) c
     unset v c reported d shown = memory_cause (value.add [] (plain v)) d.value c (refusal_memory (SetRoot v) (λ h. h, λ h. h) c reported d shown tt)

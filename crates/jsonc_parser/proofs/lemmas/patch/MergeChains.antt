@@ -169,6 +169,7 @@ module _ {A : Type 0} where
           go causes.NoTarget u m is = absurd is
           go causes.IntoItself u m is = absurd is
           go causes.NotEqual u m is = absurd is
+          go causes.TooLarge u m is = absurd is
 
 -- causes
 module _ {A : Type 0} where
@@ -178,6 +179,7 @@ module _ {A : Type 0} where
   twice_stops tokens p w causes.NoTarget is = absurd is
   twice_stops tokens p w causes.IntoItself is = absurd is
   twice_stops tokens p w causes.NotEqual is = absurd is
+  twice_stops tokens p w causes.TooLarge is = absurd is
 
   pub stop_inside : (tokens : List (List ℕ)) (p : Plain) (w : Option Plain) (cause : PatchCause A) → IsStop tokens p w cause → IsMergeCause tokens p w cause
   stop_inside tokens p w (causes.RepeatedName name) is = inr is
@@ -185,6 +187,7 @@ module _ {A : Type 0} where
   stop_inside tokens p w causes.NoTarget is = absurd is
   stop_inside tokens p w causes.IntoItself is = absurd is
   stop_inside tokens p w causes.NotEqual is = absurd is
+  stop_inside tokens p w causes.TooLarge is = absurd is
 
   pub set_not : (doc : CstRootNode A) (tokens : List (List ℕ)) (p : Plain) (cause : PatchCause A) → FailsToSet doc tokens cause → FailsToMerge doc tokens p cause
   set_not doc tokens p cause fails d shown fit place = twice_stops tokens p d.value cause (fails d shown place)
@@ -209,6 +212,7 @@ module _ {A : Type 0} where
     added_not v causes.NoTarget fails d shown place = has_place d.value tokens place (fails d shown)
     added_not v causes.IntoItself fails d shown place = fails d shown
     added_not v causes.NotEqual fails d shown place = fails d shown
+    added_not v causes.TooLarge fails d shown place = fails d shown
 
     pub removed_not : (c : PatchCause A) → (c ≡ causes.NoTarget → ⊥) → FailsWhatShown doc (value.remove tokens) c → IsOfShown doc (λ d. IsTwice d.value tokens c)
     removed_not (causes.RepeatedName name) other fails d shown = fails d shown
@@ -216,6 +220,7 @@ module _ {A : Type 0} where
     removed_not causes.NoTarget other fails d shown = absurd (other refl)
     removed_not causes.IntoItself other fails d shown = fails d shown
     removed_not causes.NotEqual other fails d shown = fails d shown
+    removed_not causes.TooLarge other fails d shown = fails d shown
 
     -- whether they refer to an object
     pub no_node : IsOfShown doc (λ d. Finds d doc tokens None) → IsOfShown doc (λ d. Decides false (RefersToObject d.value tokens))
@@ -314,6 +319,7 @@ stops_shown old p (causes.Edit why) reported is fails d shown fit = subst (λ f.
 stops_shown old p causes.NoTarget reported is fails d shown fit = absurd (fails d shown fit at_root)
 stops_shown old p causes.IntoItself reported is fails d shown fit = absurd (fails d shown fit at_root)
 stops_shown old p causes.NotEqual reported is fails d shown fit = absurd (fails d shown fit at_root)
+stops_shown old p causes.TooLarge reported is fails d shown fit = absurd (fails d shown fit at_root)
 
 -- of a copy, of the document
 module _ {A : Type 0} (old copy new : CstRootNode A) (same : nodes_of copy ≡ nodes_of old) (p : Plain) where

@@ -1,5 +1,8 @@
 -- A member that gets another name, as a move.
-use Rattle.std.proofs.Common.{ℕ, suc, ◌≡◌, ◌<◌, ◌≤◌, ◌∙◌, ◌++◌, inl, inr, sym, ap, subst, refl, List, [], ◌∷◌, length, Option, Some, arith}
+use Rattle.std.proofs.Common.{ℕ, suc, ◌≡◌, ◌<◌, ◌≤◌, ◌∙◌, ◌++◌, inl, inr, sym, ap, subst, refl, true, false, List, [], ◌∷◌, length, Option, Some, None, IfNone, arith}
+use Rattle.std.specs.Bool.{Decides}
+use Rattle.std.proofs.lemmas.Bool.{false≢true}
+use Rattle.std.proofs.lemmas.List.{append-nil}
 use Rattle.std.specs.declared.string.String.{String}
 use Rattle.std.specs.declared.vec.Vec.{Vec}
 use Rattle.jsonc_text.specs.Documents.{Document}
@@ -20,14 +23,18 @@ use Rattle.jsonc_cst.specs.declared.cst.CstRootNode.{CstRootNode}
 use Rattle.jsonc_cst.specs.declared.cst.node.CstNode.{CstNode}
 use Rattle.jsonc_cst.specs.Document.{nodes_of, tree_of}
 use Rattle.jsonc_cst.specs.Nodes.{number_of}
-use Rattle.jsonc_parser.specs.patch.Applied.{FailsWhatShown, IsCause, IsNoMemory, IsPathless, IsRefusal, LeadsOn}
+use Rattle.jsonc_parser.specs.patch.Applied.{FailsWhatShown, IsCause, IsNoMemory, IsPathless, IsRefusal, IsUnfound, LeadsOn}
+use Rattle.jsonc_parser.specs.patch.Found.{IsOfShown, RefersToNode, RefersToNothing}
+use Rattle.jsonc_parser.specs.patch.MergeSteps.{IsTwice, RefersToObject}
 use Rattle.jsonc_parser.specs.patch.Operations as value
-use Rattle.jsonc_parser.specs.patch.Operations.{renamed, Moves, RefersAlong}
-use Rattle.jsonc_parser.specs.patch.References.{here, IsItem, IsIndex, IsOnly, this_only, later_only, Refers, whole, to_member, to_element, ReferToNothing}
+use Rattle.jsonc_parser.specs.patch.Operations.{renamed, IsWithinObject, Moves, RefersAlong}
+use Rattle.jsonc_parser.specs.patch.References.{here, IsItem, IsIndex, IsOnly, this_only, later_only, FailsAt, Refers, RefersTo, whole, to_member, to_element, ReferToNothing}
 use Rattle.jsonc_parser.specs.patch.Renaming.{AreBeside, FailsToRename, IsRenaming, RenamesAt}
 use Rattle.jsonc_parser.specs.declared.patch.making.PatchCause.{PatchCause}
+use Rattle.jsonc_parser.specs.declared.patch.making.PatchCause.TheVariants as causes
 use Rattle.jsonc_parser.proofs.lemmas.patch.Evaluation.{behind, fails_further, index_once, item_once, member_further, never_both, object_stops, only_of_more, only_once, refers_changed}
-use Rattle.jsonc_parser.proofs.lemmas.patch.Failing.{has_path, memory_cause, refusal_memory}
+use Rattle.jsonc_parser.proofs.lemmas.patch.Failing.{fails_longer, has_path, memory_cause, refusal_memory, unmoved}
+use Rattle.jsonc_parser.proofs.lemmas.patch.Exclusive.{no_last, same_last}
 use Rattle.jsonc_parser.proofs.lemmas.patch.Made.{led, makes_so, options_so}
 use Rattle.jsonc_parser.proofs.lemmas.patch.Operating.{name_cases, nothing_more}
 
@@ -122,3 +129,64 @@ same_front {tokens} {others} (rest, is) count =
     nil : (l : List (List ℕ)) → l ++ [] ≡ l
     nil [] = refl
     nil (x ∷ l) = ap (λ r. x ∷ r) (nil l)
+
+-- both are some tokens and one more only where all of them but the last are the same
+module _ {from to : List (List ℕ)} (tokens : List (List ℕ)) (name : List ℕ) (beside : AreBeside from to tokens name) where
+  pub beside_nothing : from ≡ [] → ⊥
+  beside_nothing is = no_last tokens beside.last (sym beside.first ∙ is)
+
+  pub nothing_beside : to ≡ [] → ⊥
+  nothing_beside is = no_last tokens name (sym beside.second ∙ is)
+
+  pub same_fronts : (one other : List (List ℕ)) (a b : List ℕ) → from ≡ one ++ a ∷ [] → to ≡ other ++ b ∷ [] → one ≡ other
+  same_fronts one other a b is so = (same_last one tokens a beside.last (sym is ∙ beside.first)).front ∙ sym (same_last other tokens b name (sym so ∙ beside.second)).front
+
+-- what is not within one object
+module _ {A : Type 0} (doc : CstRootNode A) (from to : List (List ℕ)) where
+  pub apart_tokens : ((tokens : List (List ℕ)) (name : List ℕ) → AreBeside from to tokens name → ⊥) → IsOfShown doc (λ d. ¬ (IsWithinObject from to d.value))
+  apart_tokens never d shown = λ w. never w.tokens w.name (record { last = w.last; first = w.first; second = w.second })
+
+  pub no_object : (tokens : List (List ℕ)) (name : List ℕ) → AreBeside from to tokens name → IsOfShown doc (λ d. Decides false (RefersToObject d.value tokens)) → IsOfShown doc (λ d. ¬ (IsWithinObject from to d.value))
+  no_object tokens name beside none d shown = λ w.
+      let same : tokens ≡ w.tokens = (same_last tokens w.tokens beside.last w.last (sym beside.first ∙ w.first)).front in
+      false≢true ((none d shown).1 (w.members, subst (λ l. RefersTo d.value l (object w.members)) (sym same) w.object))
+
+  pub something_there : (names : List (List ℕ)) (n : ℕ) → names ≡ to → IsOfShown doc (λ d. RefersToNode d (nodes_of doc) names n) → IsOfShown doc (λ d. ¬ (IsWithinObject from to d.value))
+  something_there names n is found d shown = λ w. let r = found d shown in w.nothing.0 r.v (r.value, r.is, r.path, subst (λ l. Refers r.value l r.path r.v) is r.refers)
+
+  pub repeated_there : (names : List (List ℕ)) (name : List ℕ) → names ≡ to → IsOfShown doc (λ d. FailsAt d.value names name) → IsOfShown doc (λ d. ¬ (IsWithinObject from to d.value))
+  repeated_there names name is fails d shown = λ w. w.nothing.1 name (subst (λ l. FailsAt d.value l name) is (fails d shown))
+
+  -- why it is not looked up
+  pub twice_before : (tokens : List (List ℕ)) (name : List ℕ) → AreBeside from to tokens name → (c : PatchCause A) → IsOfShown doc (λ d. IsTwice d.value tokens c) → FailsWhatShown doc (value.move from to) c
+  twice_before tokens name beside c fails d shown = go c (fails d shown)
+    where
+      go : (c : PatchCause A) → IsTwice d.value tokens c → IsCause (value.move from to) d.value c
+      go (causes.RepeatedName s) f = inl (subst (λ l. FailsAt d.value l (chars_of s)) (sym beside.first) (fails_longer d.value tokens (beside.last ∷ []) (chars_of s) f))
+      go (causes.Edit why) f = f
+      go causes.NoTarget f = absurd f
+      go causes.IntoItself f = absurd f
+      go causes.NotEqual f = absurd f
+      go causes.TooLarge f = absurd f
+
+  pub unfound_first : (names : List (List ℕ)) → names ≡ from → (c : PatchCause A) → IsOfShown doc (λ d. IsUnfound d.value names c) → FailsWhatShown doc (value.move from to) c
+  unfound_first names is c fails d shown = unmoved from to d.value c (subst (λ l. IsUnfound d.value l c) is (fails d shown))
+
+  -- what is within one object
+  pub within : (names others : List (List ℕ)) (node : CstNode) (name : List ℕ) (tokens : List (List ℕ)) → names ≡ from → others ≡ to → AreBeside from to tokens name → IsOfShown doc (λ d. Decides true (RefersToObject d.value tokens))
+      → IsOfShown doc (λ d. RefersToNode d (nodes_of doc) names (number_of node)) → IsOfShown doc (λ d. RefersToNothing d others) → IsRenaming doc from to node name
+  within names others node name tokens is so beside holder found none = record {
+    tokens = tokens;
+    beside = beside;
+    object = λ d shown. (holder d shown).0 refl;
+    refers = λ d shown. subst (λ l. RefersToNode d (nodes_of doc) l (number_of node)) is (found d shown);
+    nothing = λ d shown. subst (λ l. RefersToNothing d l) so (none d shown);
+  }
+
+pub leads_itself : (tokens others : List (List ℕ)) → tokens ≡ others → LeadsOn tokens others
+leads_itself tokens others same = ([], sym same ∙ sym (append-nil tokens))
+
+-- there is no renaming
+pub never_within : {A T : Type 0} (doc : CstRootNode A) (from to : List (List ℕ)) (o : Option T) → o ≡ None → IfNone o (IsOfShown doc (λ d. ¬ (IsWithinObject from to d.value))) → IsOfShown doc (λ d. ¬ (IsWithinObject from to d.value))
+never_within doc from to None is h = h
+never_within doc from to (Some x) is h = cc

@@ -32,7 +32,7 @@ use Rattle.jsonc_parser.specs.declared.paths.which.Which.TheVariants.{First}
 
 module _ (d : Document) (ns : List Node) (tree : IsTree ns) (shown : Shows d (ordered_tree ns 0)) where
   -- it gives its value, as a node of a document of the grammar
-  gives_value : (path : List ℕ) (n : ℕ) (v : Plain) → IsAt ns path n → HasValue d.options (top_at ns n) v → Gives (content_at ns n) (row_below ns n) (Some v)
+  pub gives_value : (path : List ℕ) (n : ℕ) (v : Plain) → IsAt ns path n → HasValue d.options (top_at ns n) v → Gives (content_at ns n) (row_below ns n) (Some v)
   gives_value path n v at has = value_gives has (value_colons d.options (document_held d.options (gives_way_to_itself ns tree path n at) shown.sound.shaped).1)
 
   taken_there : {A : Type 0} (path : List ℕ) (n : ℕ) (v : Plain) → IsAt ns path n → HasValue d.options (top_at ns n) v → (taken : Option (CstInputValue A)) → IsTaken (ordered_tree ns n) taken → option_map plain taken ≡ Some (collapse v)

@@ -1,0 +1,6 @@
+use Rattle.std.proofs.Common.{take}
+use Rattle.jsonc_parser.specs.patch.Within.{StaysWithin}
+use Rattle.jsonc_parser.proofs.patch.within.make_all.Given as goal
+
+abbrev pub invariant-loop-number : goal.invariant-loop-number
+invariant-loop-number g l = StaysWithin l.bytes l.fn.doc (take l.number l.operations) l.doc
