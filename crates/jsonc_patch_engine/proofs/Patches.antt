@@ -1,5 +1,5 @@
 -- What a patch made of the document of the input that was read.
-use Rattle.std.proofs.Common.{◌≡◌, ◌≢◌, ◌∙◌, ◌⊎◌, ◌≤◌, ℕ, List, [], Option, String, IsUtf8, ap, chars, inl, inr, length, refl, string_bytes, subst, sym, IfOk, Result}
+use Rattle.std.proofs.Common.{◌≡◌, ◌≢◌, ◌∙◌, ◌⊎◌, ◌≤◌, ℕ, List, [], Option, String, IsUtf8, ap, chars, inl, inr, length, refl, string_bytes, subst, sym, IfErr, IfOk, Result}
 use Rattle.std.proofs.lemmas.List.Elements.{All-take}
 use Rattle.std.specs.List.{All}
 use Rattle.jsonc_text.specs.Documents.{Document}
@@ -28,6 +28,8 @@ use Rattle.jsonc_parser.specs.declared.patch.apply.PatchFault.{PatchFault}
 use Rattle.jsonc_parser.specs.declared.patch.making.PatchCause.TheVariants as cause
 use Rattle.jsonc_parser.specs.declared.patch.merging.MergeFault.TheVariants as merging
 use Rattle.jsonc_parser.specs.declared.patch.operation.Operation.{Operation}
+use Rattle.jsonc_parser.specs.declared.patch.reading.Patch.{Patch}
+use Rattle.jsonc_parser.specs.patch.Patches.{operations_in}
 use Rattle.jsonc_patch_engine.specs.Command.{apply, find, json, merge, Request}
 use Rattle.jsonc_patch_engine.specs.Patched.{GrowsBeyond, IsAccepted, IsApplied, IsMergedInto, IsMergePatchOf, IsPatchOf, IsTextOf, IsToldFor, MeetsTwice, OfDocument, StopsOn}
 use Rattle.jsonc_patch_engine.specs.Results.{IsFaultOfInput, IsWritten}
@@ -72,10 +74,13 @@ text_of_shown e new output shown prints = ap (λ d. d.text) shown.is ∙ ap char
 
 module _ {A : Type 0} (most : ℕ) where
   -- the last document has at most so many bytes
+  ends_after : {mid new : CstRootNode A} {ops : List (Operation A)} → StaysWithin most mid ops new → length (printed_of mid) ≤ most → length (printed_of new) ≤ most
+  ends_after none_made small = small
+  ends_after (one_made first less more) small = ends_after more less
+
   ends_within : {old new : CstRootNode A} {ops : List (Operation A)} → StaysWithin most old ops new → ops ≢ [] → length (printed_of new) ≤ most
   ends_within none_made some = absurd (some refl)
-  ends_within (one_made first small none_made) some = small
-  ends_within (one_made first small (one_made second less more)) some = ends_within (one_made second less more) (λ none. cc)
+  ends_within (one_made first less more) some = ends_after more less
 
   -- an operation that is not made under a bound, for another cause than that, is not made without
   fails_alike : (old : CstRootNode A) (o : Operation A) (c : PatchCause A) → FailsWithin most old o c → c ≢ cause.TooLarge → FailsWhatShown old (asked o) c
@@ -179,3 +184,20 @@ module _ {A : Type 0} (p : CstInputValue A) (text input : List ℕ) (same : text
   merged_for (apply words most) a h = absurd a
   merged_for (find words) a h = absurd a
   merged_for json a h = absurd a
+
+-- what a patch made, or why it was not made, is what was asked for
+module _ {A : Type 0} (patch : Patch A) (bytes : ℕ) (text input : List ℕ) (same : text ≡ input) (r : Result (String A) (Fault A)) where
+  pub applied_for : (asked : Request) → Asks asked (read.Apply patch bytes) → ((words : List ℕ) → IsPatchOf words (operations_in patch) → IfOk r (λ s. IsApplied A words bytes text (string_bytes s)))
+      → IfOk r (λ s. IsWritten A asked input (string_bytes s))
+  applied_for (apply words most) a h =
+      subst (λ t. IfOk r (λ s. IsApplied A words most t (string_bytes s))) same (subst (λ b. IfOk r (λ s. IsApplied A words b text (string_bytes s))) (sym a.1) (h words a.0))
+  applied_for (find words) a h = absurd a
+  applied_for (merge words) a h = absurd a
+  applied_for json a h = absurd a
+
+  pub refused_for : (asked : Request) → Asks asked (read.Apply patch bytes) → ((words : List ℕ) → IsPatchOf words (operations_in patch) → IfErr r (IsFaultOfInput (apply words bytes) text))
+      → IfErr r (IsFaultOfInput asked input)
+  refused_for (apply words most) a h = subst (λ t. IfErr r (IsFaultOfInput (apply words most) t)) same (subst (λ b. IfErr r (IsFaultOfInput (apply words b) text)) (sym a.1) (h words a.0))
+  refused_for (find words) a h = absurd a
+  refused_for (merge words) a h = absurd a
+  refused_for json a h = absurd a
