@@ -69,7 +69,7 @@ pub static WRITTEN: [Row; 40] = [
 ];
 
 /// What is told of a run that cannot succeed, and the status.
-pub static TOLD: [(&[&str], &str, &str, u8); 45] = [
+pub static TOLD: [(&[&str], &str, &str, u8); 47] = [
     (&["json"], "", "jsonc_patch: root value is missing", 1),
     (&["json"], "// c", "jsonc_patch: root value is missing", 1),
     (
@@ -271,43 +271,43 @@ pub static TOLD: [(&[&str], &str, &str, u8); 45] = [
     (
         &["apply"],
         "1",
-        "usage: jsonc_patch find POINTER|apply PATCH|merge PATCH|json",
+        "usage: jsonc_patch find POINTER|apply [--max-bytes N] PATCH|merge PATCH|json",
         2,
     ),
     (
         &["merge", "1", "2"],
         "1",
-        "usage: jsonc_patch find POINTER|apply PATCH|merge PATCH|json",
+        "usage: jsonc_patch find POINTER|apply [--max-bytes N] PATCH|merge PATCH|json",
         2,
     ),
     (
         &[],
         "1",
-        "usage: jsonc_patch find POINTER|apply PATCH|merge PATCH|json",
+        "usage: jsonc_patch find POINTER|apply [--max-bytes N] PATCH|merge PATCH|json",
         2,
     ),
     (
         &["find"],
         "1",
-        "usage: jsonc_patch find POINTER|apply PATCH|merge PATCH|json",
+        "usage: jsonc_patch find POINTER|apply [--max-bytes N] PATCH|merge PATCH|json",
         2,
     ),
     (
         &["json", ""],
         "1",
-        "usage: jsonc_patch find POINTER|apply PATCH|merge PATCH|json",
+        "usage: jsonc_patch find POINTER|apply [--max-bytes N] PATCH|merge PATCH|json",
         2,
     ),
     (
         &["find", "", ""],
         "1",
-        "usage: jsonc_patch find POINTER|apply PATCH|merge PATCH|json",
+        "usage: jsonc_patch find POINTER|apply [--max-bytes N] PATCH|merge PATCH|json",
         2,
     ),
     (
         &["get", ""],
         "1",
-        "usage: jsonc_patch find POINTER|apply PATCH|merge PATCH|json",
+        "usage: jsonc_patch find POINTER|apply [--max-bytes N] PATCH|merge PATCH|json",
         2,
     ),
     (
@@ -315,5 +315,22 @@ pub static TOLD: [(&[&str], &str, &str, u8); 45] = [
         "{\"\\n\": 1, \"\\n\": 2}",
         "jsonc_patch: Name stands twice: \"\\n\"",
         1,
+    ),
+    (
+        &[
+            "apply",
+            "--max-bytes",
+            "6",
+            "[{\"op\": \"add\", \"path\": \"/-\", \"value\": 2}, {\"op\": \"add\", \"path\": \"/-\", \"value\": 3}]",
+        ],
+        "[1]",
+        "jsonc_patch: Operation 1: Document would have more bytes than 6",
+        1,
+    ),
+    (
+        &["apply", "--max-bytes", "1e9", "[]"],
+        "[1]",
+        "usage: jsonc_patch find POINTER|apply [--max-bytes N] PATCH|merge PATCH|json",
+        2,
     ),
 ];
