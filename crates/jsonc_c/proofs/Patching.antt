@@ -202,5 +202,5 @@ pub unmerged_ends : {A : Type 0} {o : Options} {patch text : List ℕ} {status :
 unmerged_ends {status = s} {f = f} (IsUnmerged.for_memory is none) = ends_untold 1 s f is (omega arith) (omega arith) none
 unmerged_ends (IsUnmerged.for_patch why) = no_merge_ends why
 unmerged_ends (IsUnmerged.for_document why) = no_document_ends why
-unmerged_ends {status = s} {f = f} (IsUnmerged.for_depth is none) = ends_untold 28 s f is (omega arith) (omega arith) none
+unmerged_ends {status = s} {f = f} (IsUnmerged.for_depth is none) = ends_past 28 s f is (omega arith)
 unmerged_ends {status = s} {f = f} (IsUnmerged.for_name p name is told read fails) = ends_past 21 s f is (omega arith)

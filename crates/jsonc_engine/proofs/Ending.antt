@@ -8,7 +8,7 @@ use Rattle.jsonc_engine.specs.declared.fault.Fault.{Fault}
 use Rattle.jsonc_engine.specs.declared.fault.Fault.TheVariants.{Edit, Input, NotUtf8, Write}
 use Rattle.jsonc_engine.specs.Parser.{ParseError}
 use Rattle.jsonc_engine.specs.Command.{Request, check, print, set, append, remove, sort, get, put, drop, words_of, writes}
-use Rattle.jsonc_engine.specs.Fault.{IsFaultOn, IsForMemory, TellsOfInput}
+use Rattle.jsonc_engine.specs.Fault.{EndsRun, IsFaultOn, IsForMemory, TellsOfInput}
 use Rattle.jsonc_engine.specs.Input.{IsInput, IsInputOf}
 use Rattle.jsonc_engine.specs.Output.{IsAccepted, IsLeft, Puts}
 use Rattle.jsonc_engine.proofs.Changes.{of_input}
@@ -76,6 +76,11 @@ module _ (known : Option (List ℕ)) (read input : List ℕ) (o : Options) (all 
 pub no_memory : {T P : Type 0} (r : Result T Fault) → OnErr r (IsErrOf r Write) → IsErrOf r (Edit OutOfMemory) → P
 no_memory (Ok x) h e = cc
 no_memory (Err fault) h e = cc
+
+-- a run can end with it
+pub ends_writing : {T : Type 0} (r : Result T Fault) → OnErr r (IsErrOf r Write) → IfErr r EndsRun
+ends_writing (Ok x) h = tt
+ends_writing (Err fault) h = let is : fault ≡ Write = cc in subst EndsRun (sym is) tt
 
 -- what holds anyway
 pub err_always : {T : Type 0} {P : Fault → Type 0} (r : Result T Fault) → ((fault : Fault) → P fault) → IfErr r P

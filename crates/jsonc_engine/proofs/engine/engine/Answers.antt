@@ -7,7 +7,7 @@ use Rattle.jsonc_engine.specs.Command.{Request, check, request_of, writes}
 use Rattle.jsonc_engine.specs.Fault.{EndsRun, EndsUnread, TellsOfArgument}
 use Rattle.jsonc_engine.specs.Output.{output_bytes}
 use Rattle.jsonc_engine.proofs.Changes.{ok_so}
-use Rattle.jsonc_engine.proofs.Ending.{err_always, err_each, input_known, memory_known, never_checked, no_memory, no_writing, of_check, ok_always, puts_known, same_request, still_writing, tells_known}
+use Rattle.jsonc_engine.proofs.Ending.{ends_writing, err_always, err_each, input_known, memory_known, never_checked, no_memory, no_writing, of_check, ok_always, puts_known, same_request, still_writing, tells_known}
 use Rattle.jsonc_engine.proofs.FaultTexts.{is_ready, never_behind, never_behind_words, told_of_input, told_of_read, told_of_words, told_of_write}
 use Rattle.jsonc_engine.proofs.engine.engine.Goals as goal
 
@@ -80,6 +80,9 @@ returns-in-Err-output_of-clause-behind g c = λ behind. c.in-Ok-read_whole.ensur
 
 pub returns-clause-memory : goal.returns-clause-memory
 returns-clause-memory g c = λ request named memory. no_memory c.write_output.result c.write_output.ensures.cause memory
+
+pub returns-clause-causes : goal.returns-clause-causes
+returns-clause-causes g c = ends_writing c.write_output.result c.write_output.ensures.cause
 
 pub returns-clause-ended : goal.returns-clause-ended
 returns-clause-ended g c = ok_always c.write_output.result c.in-Ok-read_whole.ensures.ended

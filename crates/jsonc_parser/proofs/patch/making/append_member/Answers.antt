@@ -1,4 +1,4 @@
-use Rattle.std.proofs.Common.{ap, chars, refl}
+use Rattle.std.proofs.Common.{ap, chars}
 use Rattle.jsonc_parser.proofs.lemmas.patch.Edited.{appends_to, kept_same}
 use Rattle.jsonc_parser.proofs.lemmas.patch.Failing.{member_not, pathless_for_memory}
 use Rattle.jsonc_parser.proofs.patch.making.append_member.Goals as goal
@@ -15,7 +15,7 @@ pub returns-in_default-clause-kept : goal.returns-in_default-clause-kept
 returns-in_default-clause-kept g c = kept_same c.args.doc.now
 
 pub returns-in_default-clause-fails : goal.returns-in_default-clause-fails
-returns-in_default-clause-fails g c = λ tokens leads d shown. refl
+returns-in_default-clause-fails g c = λ tokens leads d shown. tt
 
 pub returns-in-Err-clause-kept : goal.returns-in-Err-clause-kept
 returns-in-Err-clause-kept g c = kept_same c.args.doc.now

@@ -24,7 +24,7 @@ pub returns-in-Err-clause-kept : goal.returns-in-Err-clause-kept
 returns-in-Err-clause-kept g c = λ one. kept_same c.args.doc.now
 
 pub returns-in-Err-clause-fails : goal.returns-in-Err-clause-fails
-returns-in-Err-clause-fails g c = λ d shown. refl
+returns-in-Err-clause-fails g c = λ d shown. tt
 
 pub returns-in-Remove-clause-made : goal.returns-in-Remove-clause-made
 returns-in-Remove-clause-made g c = as_asked c.args.doc.now c.remove.new.doc c.remove.result c.args.operation.now (Remove c.in-Remove.path) c.in-Remove.is c.remove.ensures.made
@@ -54,7 +54,7 @@ pub returns-in-Err-try_clone-clause-kept : goal.returns-in-Err-try_clone-clause-
 returns-in-Err-try_clone-clause-kept g c = λ one. kept_same c.args.doc.now
 
 pub returns-in-Err-try_clone-clause-fails : goal.returns-in-Err-try_clone-clause-fails
-returns-in-Err-try_clone-clause-fails g c = λ d shown. refl
+returns-in-Err-try_clone-clause-fails g c = λ d shown. tt
 
 pub returns-in-Move-clause-made : goal.returns-in-Move-clause-made
 returns-in-Move-clause-made g c = as_asked c.args.doc.now c.move_value.new.doc c.move_value.result c.args.operation.now (Move c.in-Move.from c.in-Move.path) c.in-Move.is c.move_value.ensures.made

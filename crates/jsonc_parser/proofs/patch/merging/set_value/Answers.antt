@@ -5,7 +5,7 @@ use Rattle.jsonc_parser.proofs.lemmas.patch.MergeChains.{added_not, not_there, s
 use Rattle.jsonc_parser.proofs.patch.merging.set_value.Goals as goal
 
 pub returns-in_default-clause-fails : goal.returns-in_default-clause-fails
-returns-in_default-clause-fails g c = λ d shown place. refl
+returns-in_default-clause-fails g c = λ d shown place. tt
 
 pub returns-in-Ok-true-clause-set : goal.returns-in-Ok-true-clause-set
 returns-in-Ok-true-clause-set g c =
