@@ -4,7 +4,6 @@ use Rattle.std.specs.List.{All}
 use Rattle.jsonc_cst.specs.declared.cst.CstRootNode.{CstRootNode}
 use Rattle.jsonc_cst.specs.Document.{tree_of}
 use Rattle.jsonc_edit.specs.Writing.{IsOfNumbers}
-use Rattle.jsonc_layout.specs.input.Views.{chars_of}
 use Rattle.jsonc_sound.specs.Documents.{Shows}
 use Rattle.jsonc_text.specs.Documents.{Document}
 use Rattle.jsonc_text.specs.Grammar.{IsDocument}
