@@ -1,4 +1,4 @@
-//! JSON Pointers, patches and JSON for documents of JSON with comments: `jsonc_patch find POINTER`, `apply PATCH`,
+//! JSON Pointers, patches and JSON for documents of JSON with comments: `jsonc_patch find POINTER`, `apply [--max-bytes N] PATCH`,
 //! `merge PATCH` and `json`, from standard input to standard output.
 #![tactic(auto)]
 

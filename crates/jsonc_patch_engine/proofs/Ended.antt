@@ -1,7 +1,8 @@
 -- What ends a run behind its input, and what one command alone the words name.
-use Rattle.std.proofs.Common.{ℕ, ◌≡◌, ◌∙◌, ◌==◌, if◌then◌else◌, inr, ap, refl, subst, sym, Err, IfSome, IsErrOf, List, None, Option, Some, [], ◌∷◌}
+use Rattle.std.proofs.Common.{ℕ, ◌≡◌, ◌∙◌, ◌==◌, if◌then◌else◌, inl, inr, ap, subst, sym, Err, IfSome, IsErrOf, List, None, Option, Some, [], ◌∷◌}
 use Rattle.std.specs.Borrow.{Bor}
-use Rattle.jsonc_patch_engine.specs.Command.{apply, find, json, merge, words_of, Name, Request}
+use Rattle.std.specs.Str.Parse.{digits_value, without_leading_plus}
+use Rattle.jsonc_patch_engine.specs.Command.{apply, find, json, merge, AreWordsOf, Name, Request}
 use Rattle.jsonc_patch_engine.specs.Results.{IsFaultOfInput, WantsMemory}
 use Rattle.jsonc_patch_engine.specs.Runs.{Tells, TellsOfWords}
 use Rattle.jsonc_patch_engine.specs.declared.fault.Fault.{Fault}
@@ -13,56 +14,58 @@ first_letter [] = 0
 first_letter (c ∷ cs) = c
 
 abbrev of_two : ℕ → List ℕ → Request
-of_two c w = if c == 102 then find w else if c == 97 then apply w else merge w
+of_two c w = if c == 102 then find w else if c == 97 then apply w 1000000000 else merge w
 
 abbrev named_by : List (List ℕ) → Request
 named_by (w ∷ x ∷ []) = of_two (first_letter w) x
+named_by (w ∷ x ∷ n ∷ p ∷ []) = apply p (digits_value 10 (without_leading_plus n))
 named_by ws = json
 
-named_back : (r : Request) → named_by (words_of r) ≡ r
-named_back (find p) = refl
-named_back (apply p) = refl
-named_back (merge p) = refl
-named_back json = refl
+named_back : (words : List (List ℕ)) (r : Request) → AreWordsOf words r → named_by words ≡ r
+named_back words (find p) e = ap named_by e
+named_back words (apply p most) (inl e) = ap named_by e.0 ∙ ap (apply p) (sym e.1)
+named_back words (apply p most) (inr e) = ap named_by e.1 ∙ ap (apply p) (sym e.2.1)
+named_back words (merge p) e = ap named_by e
+named_back words json e = ap named_by e
 
 pub named_once : (words : List (Bor (List ℕ))) (a b : Request) → Name words a → Name words b → a ≡ b
-named_once words a b n m = sym (named_back a) ∙ ap named_by (sym n ∙ m) ∙ named_back b
+named_once words a b n m = sym (named_back _ a n) ∙ named_back _ b m
 
 module _ (A : Type 0) (input : List ℕ) where
   -- what is none of the input's
   pub no_usage : (asked : Request) → IsFaultOfInput {A = A} asked input told.Usage → ⊥
   no_usage (find t) h = h
-  no_usage (apply t) h = h
+  no_usage (apply t most) h = h
   no_usage (merge t) h = h
   no_usage json h = h
 
   pub no_read : (asked : Request) → IsFaultOfInput {A = A} asked input told.Read → ⊥
   no_read (find t) h = h
-  no_read (apply t) h = h
+  no_read (apply t most) h = h
   no_read (merge t) h = h
   no_read json h = h
 
   pub no_write : (asked : Request) → IsFaultOfInput {A = A} asked input told.Write → ⊥
   no_write (find t) h = h
-  no_write (apply t) h = h
+  no_write (apply t most) h = h
   no_write (merge t) h = h
   no_write json h = h
 
   no_pointer : (asked : Request) (e : _) → IsFaultOfInput {A = A} asked input (told.Pointer e) → ⊥
   no_pointer (find t) e h = h
-  no_pointer (apply t) e h = h
+  no_pointer (apply t most) e h = h
   no_pointer (merge t) e h = h
   no_pointer json e h = h
 
   no_patch : (asked : Request) (e : _) → IsFaultOfInput {A = A} asked input (told.Patch e) → ⊥
   no_patch (find t) e h = h
-  no_patch (apply t) e h = h
+  no_patch (apply t most) e h = h
   no_patch (merge t) e h = h
   no_patch json e h = h
 
   no_merge_patch : (asked : Request) (e : _) → IsFaultOfInput {A = A} asked input (told.MergePatch e) → ⊥
   no_merge_patch (find t) e h = h
-  no_merge_patch (apply t) e h = h
+  no_merge_patch (apply t most) e h = h
   no_merge_patch (merge t) e h = h
   no_merge_patch json e h = h
 
@@ -83,6 +86,7 @@ module _ (A : Type 0) (input : List ℕ) where
   told_truly asked (told.Patch e) h = inr h
   told_truly asked (told.MergePatch e) h = inr h
   told_truly asked (told.Operation e) h = inr h
+  told_truly asked (told.TooLarge operation bytes) h = inr h
   told_truly asked (told.RepeatedName name) h = inr h
   told_truly asked told.NoSuchValue h = inr h
   told_truly asked told.NoValue h = inr h
@@ -106,7 +110,7 @@ module _ (A : Type 0) (input : List ℕ) where
     where
       wanted : (asked : Request) → IsFaultOfInput {A = A} asked input told.OutOfMemory → WantsMemory asked input
       wanted (find t) h = h
-      wanted (apply t) h = h
+      wanted (apply t most) h = h
       wanted (merge t) h = h
       wanted json h = h
 

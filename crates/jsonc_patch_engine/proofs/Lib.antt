@@ -8,4 +8,5 @@ pub mod WrittenTokens
 pub mod Documents
 pub mod Finding
 pub mod Patches
+pub mod Words
 pub mod Ended

@@ -1,5 +1,5 @@
 -- What a patch made of the document of the input that was read.
-use Rattle.std.proofs.Common.{◌≡◌, ◌∙◌, ◌⊎◌, ℕ, List, [], Option, String, IsUtf8, ap, chars, inl, inr, refl, string_bytes, subst, sym, IfOk, Result}
+use Rattle.std.proofs.Common.{◌≡◌, ◌≢◌, ◌∙◌, ◌⊎◌, ◌≤◌, ℕ, List, [], Option, String, IsUtf8, ap, chars, inl, inr, length, refl, string_bytes, subst, sym, IfErr, IfOk, Result}
 use Rattle.std.proofs.lemmas.List.Elements.{All-take}
 use Rattle.std.specs.List.{All}
 use Rattle.jsonc_text.specs.Documents.{Document}
@@ -15,18 +15,24 @@ use Rattle.jsonc_edit.proofs.SoundValues.{prints_value}
 use Rattle.jsonc_cst.specs.declared.cst.CstRootNode.{CstRootNode}
 use Rattle.jsonc_cst.specs.Document.{printed_of, tree_of, HasNoDeeperValue, IsWithin}
 use Rattle.jsonc_insert.specs.named.Members.{LacksMember, other_name, IsFirstMember, first_is, first_later}
-use Rattle.jsonc_parser.specs.patch.Applied.{IsPatched, IsStopped, PatchesWhatShown, StopsWhatShown}
+use Rattle.jsonc_parser.specs.patch.Applied.{FailsWhatShown, IsPatched, IsStopped, PatchesWhatShown, StopsWhatShown}
 use Rattle.jsonc_parser.specs.patch.Asked.{asked, FitsIn}
 use Rattle.jsonc_parser.specs.patch.Equality.{HasMember, this_has, later_has, HasUniqueNames, ItemsHaveUniqueNames, MembersHaveUniqueNames, unique_array, unique_object, unique_item, unique_member}
 use Rattle.jsonc_parser.specs.patch.Merged.{IsMerged, MergesWhatShown, MergeStopsWhatShown}
 use Rattle.jsonc_parser.specs.patch.Merging.{Stops}
 use Rattle.jsonc_parser.specs.patch.PatchFaults.{RepeatsName, repeats_here, repeats_in_member, repeats_in_element}
+use Rattle.jsonc_parser.specs.patch.Within.{none_made, one_made, FailsWithin, StaysWithin, StopsWithin}
+use Rattle.jsonc_parser.proofs.lemmas.patch.Within.{patches_within}
+use Rattle.jsonc_parser.specs.declared.patch.making.PatchCause.{PatchCause}
 use Rattle.jsonc_parser.specs.patch.References.{IsItem, this_item, later_item, IsRepeated, this_again, later_again}
 use Rattle.jsonc_parser.specs.declared.patch.apply.PatchFault.{PatchFault}
+use Rattle.jsonc_parser.specs.declared.patch.making.PatchCause.TheVariants as cause
 use Rattle.jsonc_parser.specs.declared.patch.merging.MergeFault.TheVariants as merging
 use Rattle.jsonc_parser.specs.declared.patch.operation.Operation.{Operation}
+use Rattle.jsonc_parser.specs.declared.patch.reading.Patch.{Patch}
+use Rattle.jsonc_parser.specs.patch.Patches.{operations_in}
 use Rattle.jsonc_patch_engine.specs.Command.{apply, find, json, merge, Request}
-use Rattle.jsonc_patch_engine.specs.Patched.{IsAccepted, IsApplied, IsMergedInto, IsMergePatchOf, IsPatchOf, IsTextOf, IsToldFor, IsNotForMemory, MeetsTwice, OfDocument, StopsOn}
+use Rattle.jsonc_patch_engine.specs.Patched.{GrowsBeyond, IsAccepted, IsApplied, IsMergedInto, IsMergePatchOf, IsPatchOf, IsTextOf, IsToldFor, IsNotForMemory, MeetsTwice, OfDocument, StopsOn}
 use Rattle.jsonc_patch_engine.specs.Results.{IsFaultOfInput, IsWritten}
 use Rattle.jsonc_patch_engine.specs.Runs.{Asks}
 use Rattle.jsonc_patch_engine.specs.declared.engine.Request.TheVariants as read
@@ -67,6 +73,36 @@ mutual
 text_of_shown : {A : Type 0} (e : Document) (new : CstRootNode A) (output : List ℕ) → Shows e (tree_of new) → output ≡ printed_of new → e.text ≡ chars output
 text_of_shown e new output shown prints = ap (λ d. d.text) shown.is ∙ ap chars (sym prints)
 
+module _ {A : Type 0} (most : ℕ) where
+  -- the last document has at most so many bytes
+  ends_after : {mid new : CstRootNode A} {ops : List (Operation A)} → StaysWithin most mid ops new → length (printed_of mid) ≤ most → length (printed_of new) ≤ most
+  ends_after none_made small = small
+  ends_after (one_made first less more) small = ends_after more less
+
+  ends_within : {old new : CstRootNode A} {ops : List (Operation A)} → StaysWithin most old ops new → ops ≢ [] → length (printed_of new) ≤ most
+  ends_within none_made some = absurd (some refl)
+  ends_within (one_made first less more) some = ends_after more less
+
+  -- an operation that is not made under a bound, for another cause than that, is not made without
+  fails_alike : (old : CstRootNode A) (o : Operation A) (c : PatchCause A) → FailsWithin most old o c → c ≢ cause.TooLarge → FailsWhatShown old (asked o) c
+  fails_alike old o cause.TooLarge fails other = absurd (other refl)
+  fails_alike old o cause.NoTarget fails other = fails
+  fails_alike old o (cause.RepeatedName name) fails other = fails
+  fails_alike old o cause.IntoItself fails other = fails
+  fails_alike old o cause.NotEqual fails other = fails
+  fails_alike old o (cause.Edit why) fails other = fails
+
+  stops_anyhow : (old : CstRootNode A) (ops : List (Operation A)) (fault : PatchFault A) → StopsWithin most old ops fault → fault.cause ≢ cause.TooLarge → StopsWhatShown old ops fault
+  stops_anyhow old ops fault h other = λ d shown fit.
+      let e = patches_within most h.before d shown fit in
+      record {
+        next = h.next;
+        is_next = h.is_next;
+        value = e.0.value;
+        made = e.2.made;
+        cause = fails_alike h.reached h.next fault.cause h.cause other e.0 e.1;
+      }
+
 module _ {A : Type 0} (input : List ℕ) (doc : CstRootNode A) (o : Options) (all : o ≡ all_on) (shown : ShowsText o (chars input) (tree_of doc)) where
   shows : ShowsText all_on (chars input) (tree_of doc)
   shows = subst (λ o. ShowsText o (chars input) (tree_of doc)) all shown
@@ -102,32 +138,47 @@ module _ {A : Type 0} (input : List ℕ) (doc : CstRootNode A) (o : Options) (al
     fits : All (FitsIn shows.0.options) ops
     fits = subst (λ o. All (FitsIn o) ops) (sym shows.1) patch.1
 
-    pub applied : HasNoDeeperValue o input → (new : CstRootNode A) (output : List ℕ) → PatchesWhatShown doc ops new → output ≡ printed_of new → IsUtf8 output → IsApplied A words input output
-    applied small new output h prints utf8 =
+    pub applied : HasNoDeeperValue o input → (most : ℕ) (new : CstRootNode A) (output : List ℕ) → PatchesWhatShown doc ops new → StaysWithin most doc ops new → output ≡ printed_of new → IsUtf8 output
+        → IsApplied A words most input output
+    applied small most new output h within prints utf8 =
         let e = h shows.0 shows.3 fits in
-        record { operations = ops; patch = patch.0; made = of_it _ (text_of_new small new output (λ e. IsPatched shows.0 ops e) e.0 e.1 e.2 e.2.options e.2.within prints utf8) }
+        record {
+          operations = ops;
+          patch = patch.0;
+          made = of_it _ (text_of_new small new output (λ e. IsPatched shows.0 ops e) e.0 e.1 e.2 e.2.options e.2.within prints utf8);
+          within = λ some. subst (λ o. length o ≤ most) (sym prints) (ends_within most within some);
+        }
 
     stopped : (fault : PatchFault A) → StopsWhatShown doc ops fault → IsNotForMemory fault → StopsOn words input fault
     stopped fault h another =
         let fit = All-take (FitsIn shows.0.options) fault.operation ops fits in
         record { operations = ops; patch = patch.0; stopped = of_it (λ d. IsStopped d ops fault) (h shows.0 shows.3 fit); cause = another }
 
-    pub told_of : (fault : PatchFault A) (f : Fault A) → IsAccepted input → StopsWhatShown doc ops fault → IsToldFor fault f → IsFaultOfInput (apply words) input f
-    told_of fault (told.Operation g) accepted h (is, another) = subst (λ x. StopsOn words input x) (sym is) (stopped fault h another)
-    told_of fault told.OutOfMemory accepted h t = accepted
-    told_of fault told.NestingDepthExceeded accepted h t = absurd t
-    told_of fault (told.Input e) accepted h t = absurd t
-    told_of fault (told.Pointer e) accepted h t = absurd t
-    told_of fault (told.Patch e) accepted h t = absurd t
-    told_of fault (told.MergePatch e) accepted h t = absurd t
-    told_of fault (told.RepeatedName name) accepted h t = absurd t
-    told_of fault told.NoSuchValue accepted h t = absurd t
-    told_of fault told.NoValue accepted h t = absurd t
-    told_of fault (told.NonFinite at) accepted h t = absurd t
-    told_of fault told.NotUtf8 accepted h t = absurd t
-    told_of fault told.Read accepted h t = absurd t
-    told_of fault told.Write accepted h t = absurd t
-    told_of fault told.Usage accepted h t = absurd t
+    grown : (most : ℕ) (fault : PatchFault A) (operation : ℕ) → StopsWithin most doc ops fault → fault ≡ record { operation = operation; cause = cause.TooLarge } → GrowsBeyond A words most input operation
+    grown most fault operation h is = record {
+      operations = ops;
+      patch = patch.0;
+      grown = of_it _ (doc, shows.3, subst (StopsWithin most doc ops) is h);
+    }
+
+    module _ (most : ℕ) where
+      pub told_of : (fault : PatchFault A) (f : Fault A) → IsAccepted input → StopsWithin most doc ops fault → IsToldFor most fault f → IsFaultOfInput (apply words most) input f
+      told_of fault (told.Operation g) accepted h t = subst (λ x. StopsOn words input x) (sym t.0) (stopped fault (stops_anyhow most doc ops fault h t.2) t.1)
+      told_of fault (told.TooLarge operation bytes) accepted h t = (t.0, grown most fault operation h t.1)
+      told_of fault told.OutOfMemory accepted h t = accepted
+      told_of fault told.NestingDepthExceeded accepted h t = absurd t
+      told_of fault (told.Input e) accepted h t = absurd t
+      told_of fault (told.Pointer e) accepted h t = absurd t
+      told_of fault (told.Patch e) accepted h t = absurd t
+      told_of fault (told.MergePatch e) accepted h t = absurd t
+      told_of fault (told.RepeatedName name) accepted h t = absurd t
+      told_of fault told.NoSuchValue accepted h t = absurd t
+      told_of fault told.NoValue accepted h t = absurd t
+      told_of fault (told.NonFinite at) accepted h t = absurd t
+      told_of fault told.NotUtf8 accepted h t = absurd t
+      told_of fault told.Read accepted h t = absurd t
+      told_of fault told.Write accepted h t = absurd t
+      told_of fault told.Usage accepted h t = absurd t
 
   module _ (words : List ℕ) (p : Plain) (patch : IsMergePatchOf words p) where
     numbers : IsOfNumbers shows.0.options p
@@ -154,6 +205,23 @@ module _ {A : Type 0} (p : CstInputValue A) (text input : List ℕ) (same : text
   pub merged_for : (asked : Request) → Asks asked (read.Merge p) → ((words : List ℕ) → IsMergePatchOf words (plain p) → IfOk r (λ s. IsMergedInto A words text (string_bytes s)))
       → IfOk r (λ s. IsWritten A asked input (string_bytes s))
   merged_for (merge words) a h = subst (λ t. IfOk r (λ s. IsMergedInto A words t (string_bytes s))) same (h words a)
-  merged_for (apply words) a h = absurd a
+  merged_for (apply words most) a h = absurd a
   merged_for (find words) a h = absurd a
   merged_for json a h = absurd a
+
+-- what a patch made, or why it was not made, is what was asked for
+module _ {A : Type 0} (patch : Patch A) (bytes : ℕ) (text input : List ℕ) (same : text ≡ input) (r : Result (String A) (Fault A)) where
+  pub applied_for : (asked : Request) → Asks asked (read.Apply patch bytes) → ((words : List ℕ) → IsPatchOf words (operations_in patch) → IfOk r (λ s. IsApplied A words bytes text (string_bytes s)))
+      → IfOk r (λ s. IsWritten A asked input (string_bytes s))
+  applied_for (apply words most) a h =
+      subst (λ t. IfOk r (λ s. IsApplied A words most t (string_bytes s))) same (subst (λ b. IfOk r (λ s. IsApplied A words b text (string_bytes s))) (sym a.1) (h words a.0))
+  applied_for (find words) a h = absurd a
+  applied_for (merge words) a h = absurd a
+  applied_for json a h = absurd a
+
+  pub refused_for : (asked : Request) → Asks asked (read.Apply patch bytes) → ((words : List ℕ) → IsPatchOf words (operations_in patch) → IfErr r (IsFaultOfInput (apply words bytes) text))
+      → IfErr r (IsFaultOfInput asked input)
+  refused_for (apply words most) a h = subst (λ t. IfErr r (IsFaultOfInput (apply words most) t)) same (subst (λ b. IfErr r (IsFaultOfInput (apply words b) text)) (sym a.1) (h words a.0))
+  refused_for (find words) a h = absurd a
+  refused_for (merge words) a h = absurd a
+  refused_for json a h = absurd a

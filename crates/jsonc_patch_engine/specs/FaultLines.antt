@@ -8,7 +8,7 @@ use Rattle.jsonc_parser.specs.patch.Messages.{pointer_error_text}
 use Rattle.jsonc_parser.specs.patch.PatchMessages.{patch_error_text}
 use Rattle.jsonc_parser.specs.patch.Quoting.{repeated_name_text}
 use Rattle.jsonc_patch_engine.specs.declared.fault.Fault.{Fault}
-use Rattle.jsonc_patch_engine.specs.declared.fault.Fault.TheVariants.{Input, MergePatch, NoSuchValue, NoValue, NonFinite, NestingDepthExceeded, NotUtf8, Operation, OutOfMemory, Patch, Pointer, Read, RepeatedName, Usage, Write}
+use Rattle.jsonc_patch_engine.specs.declared.fault.Fault.TheVariants.{Input, MergePatch, NoSuchValue, NoValue, NonFinite, NestingDepthExceeded, NotUtf8, Operation, OutOfMemory, Patch, Pointer, Read, RepeatedName, TooLarge, Usage, Write}
 
 -- a line and a column
 abbrev pub place_text : ℕ → ℕ → List ℕ
@@ -20,6 +20,7 @@ fault_line (Pointer error) = codes "jsonc_patch: pointer: " ++ pointer_error_tex
 fault_line (Patch error) = codes "jsonc_patch: patch: " ++ patch_error_text error
 fault_line (MergePatch error) = codes "jsonc_patch: patch: " ++ merge_patch_error_text error
 fault_line (Operation fault) = codes "jsonc_patch: " ++ patch_fault_text fault
+fault_line (TooLarge operation bytes) = codes "jsonc_patch: Operation " ++ (decimal operation ++ (codes ": Document would have more bytes than " ++ decimal bytes))
 fault_line (RepeatedName name) = codes "jsonc_patch: " ++ repeated_name_text (string_bytes name)
 fault_line NoSuchValue = codes "jsonc_patch: no such value"
 fault_line NoValue = codes "jsonc_patch: root value is missing"
@@ -29,4 +30,4 @@ fault_line OutOfMemory = codes "jsonc_patch: Out of memory"
 fault_line NotUtf8 = codes "jsonc_patch: input is not UTF-8"
 fault_line Read = codes "jsonc_patch: read failed"
 fault_line Write = codes "jsonc_patch: write failed"
-fault_line Usage = codes "usage: jsonc_patch find POINTER|apply PATCH|merge PATCH|json"
+fault_line Usage = codes "usage: jsonc_patch find POINTER|apply [--max-bytes N] PATCH|merge PATCH|json"

@@ -1,8 +1,10 @@
 -- What a patch makes of the input, and why it is not made (RFC 6902 and RFC 7396).
-use Rattle.std.specs.Prelude.{◌≡◌, ℕ, List, [], Option, IsUtf8, chars, map}
+use Rattle.std.specs.Prelude.{◌≡◌, ◌≢◌, ◌≤◌, ℕ, List, [], Option, IsUtf8, chars, length, map}
 use Rattle.std.specs.List.{All}
+use Rattle.jsonc_cst.specs.declared.cst.CstRootNode.{CstRootNode}
+use Rattle.jsonc_cst.specs.Document.{tree_of}
 use Rattle.jsonc_edit.specs.Writing.{IsOfNumbers}
-use Rattle.jsonc_layout.specs.input.Views.{chars_of}
+use Rattle.jsonc_sound.specs.Documents.{Shows}
 use Rattle.jsonc_text.specs.Documents.{Document}
 use Rattle.jsonc_text.specs.Grammar.{IsDocument}
 use Rattle.jsonc_text.specs.Options.{all_on}
@@ -16,6 +18,7 @@ use Rattle.jsonc_parser.specs.patch.Merged.{IsMerged}
 use Rattle.jsonc_parser.specs.patch.MergeTexts.{IsMergePatch}
 use Rattle.jsonc_parser.specs.patch.Merging.{Stops}
 use Rattle.jsonc_parser.specs.patch.PatchTexts.{IsPatch}
+use Rattle.jsonc_parser.specs.patch.Within.{StopsWithin}
 use Rattle.jsonc_parser.specs.declared.patch.apply.PatchFault.{PatchFault}
 use Rattle.jsonc_parser.specs.declared.patch.making.PatchCause.TheVariants as cause
 use Rattle.jsonc_parser.specs.declared.patch.operation.Operation.{Operation}
@@ -45,11 +48,12 @@ pub record IsTextOf (output : List ℕ) (is_so : Document → Type 0) : Type 0 w
   pub so : is_so document
   pub accepted : IsInput output
 
--- the operations of the patch lead from the document of the input to that of the output
-pub record IsApplied (A : Type 0) (text input output : List ℕ) : Type 0 where
+-- the operations of the patch lead from the document of the input to that of the output, which has at most so many bytes if there is an operation
+pub record IsApplied (A : Type 0) (text : List ℕ) (most : ℕ) (input output : List ℕ) : Type 0 where
   pub operations : List (Operation A)
   pub patch : IsPatch all_on (chars text) (map asked operations)
   pub made : OfDocument input (λ d. IsTextOf output (λ e. IsPatched d operations e))
+  pub within : operations ≢ [] → length output ≤ most
 
 -- merging the patch leads from the document of the input to that of the output
 pub record IsMergedInto (A : Type 0) (text input output : List ℕ) : Type 0 where
@@ -68,6 +72,12 @@ pub record StopsOn {A : Type 0} (text input : List ℕ) (fault : PatchFault A) :
   pub stopped : OfDocument input (λ d. IsStopped d operations fault)
   pub cause : IsNotForMemory fault
 
+-- in the document of the input the operations of the patch lead to texts of at most so many bytes each, up to the one of this number, which leads to one of more
+pub record GrowsBeyond (A : Type 0) (text : List ℕ) (most : ℕ) (input : List ℕ) (operation : ℕ) : Type 0 where
+  pub operations : List (Operation A)
+  pub patch : IsPatch all_on (chars text) (map asked operations)
+  pub grown : OfDocument input (λ d. (old : CstRootNode A) × Shows d (tree_of old) × StopsWithin most old operations (record { operation = operation; cause = cause.TooLarge }))
+
 -- in the document of the input more than one property of an object has this name, which the merge patch names there
 pub record MeetsTwice (text input name : List ℕ) : Type 0 where
   pub value : Plain
@@ -78,8 +88,9 @@ pub record MeetsTwice (text input name : List ℕ) : Type 0 where
 abbrev pub IsAccepted : List ℕ → Type 0
 IsAccepted input = (w : Option Plain) × IsDocument all_on (chars input) w
 
--- what is told of an operation that was not made: itself, or that there was no memory
-abbrev pub IsToldFor : {A : Type 0} → PatchFault A → Fault A → Type 0
-IsToldFor fault (told.Operation f) = (f ≡ fault) × IsNotForMemory fault
-IsToldFor fault told.OutOfMemory = (why : EditError) × (fault.cause ≡ cause.Edit why)
-IsToldFor fault other = ⊥
+-- what is reported of an operation that was not made under a bound: itself, that the document would be larger, or that there was no memory
+abbrev pub IsToldFor : {A : Type 0} → ℕ → PatchFault A → Fault A → Type 0
+IsToldFor most fault (told.Operation f) = (f ≡ fault) × IsNotForMemory fault × (fault.cause ≢ cause.TooLarge)
+IsToldFor most fault (told.TooLarge operation bytes) = (bytes ≡ most) × (fault ≡ record { operation = operation; cause = cause.TooLarge })
+IsToldFor most fault told.OutOfMemory = (why : EditError) × (fault.cause ≡ cause.Edit why)
+IsToldFor most fault other = ⊥

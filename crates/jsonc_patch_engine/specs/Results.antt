@@ -24,9 +24,9 @@ use Rattle.jsonc_parser.specs.declared.patch.reading.PatchError.TheVariants as p
 use Rattle.jsonc_layout.specs.input.Views.{chars_of}
 use Rattle.jsonc_patch_engine.specs.Causes.{HasNonFinite, HasValue, IsJsonOf, IsRefusal}
 use Rattle.jsonc_patch_engine.specs.Command.{Request, apply, find, json, merge}
-use Rattle.jsonc_patch_engine.specs.Patched.{IsAccepted, IsApplied, IsMergedInto, MeetsTwice, StopsOn}
+use Rattle.jsonc_patch_engine.specs.Patched.{GrowsBeyond, IsAccepted, IsApplied, IsMergedInto, MeetsTwice, StopsOn}
 use Rattle.jsonc_patch_engine.specs.declared.fault.Fault.{Fault}
-use Rattle.jsonc_patch_engine.specs.declared.fault.Fault.TheVariants.{Input, MergePatch, NestingDepthExceeded, NoSuchValue, NoValue, NonFinite, NotUtf8, Operation, OutOfMemory, Patch, Pointer, RepeatedName}
+use Rattle.jsonc_patch_engine.specs.declared.fault.Fault.TheVariants.{Input, MergePatch, NestingDepthExceeded, NoSuchValue, NoValue, NonFinite, NotUtf8, Operation, OutOfMemory, Patch, Pointer, RepeatedName, TooLarge}
 
 -- the text is a pointer of these tokens
 abbrev pub IsPointer : List ℕ → List (List ℕ) → Type 0
@@ -52,7 +52,7 @@ pub record IsFound (text input output : List ℕ) : Type 0 where
 -- what is written for a command, of these bytes of input
 abbrev pub IsWritten : Type 0 → Request → List ℕ → List ℕ → Type 0
 IsWritten A (find pointer) input output = IsFound pointer input output
-IsWritten A (apply patch) input output = IsApplied A patch input output
+IsWritten A (apply patch most) input output = IsApplied A patch most input output
 IsWritten A (merge patch) input output = IsMergedInto A patch input output
 IsWritten A json input output = IsUtf8 input × IsJsonOf (chars input) (chars output)
 
@@ -80,7 +80,7 @@ pub record IsNonFiniteAt (input : List ℕ) (line column : ℕ) : Type 0 where
 -- the command wants memory for what it makes of the input
 abbrev pub WantsMemory : Request → List ℕ → Type 0
 WantsMemory (find text) input = OfPointer text input (λ d ns tokens. WantsToFind d ns tokens ⊎ ((n : ℕ) × RefersToNode d ns tokens n))
-WantsMemory (apply text) input = IsAccepted input
+WantsMemory (apply text most) input = IsAccepted input
 WantsMemory (merge text) input = IsAccepted input
 WantsMemory json input = HasValue (chars input)
 
@@ -92,8 +92,8 @@ IsOfText e = (i : ℕ) → e ≢ patch.Operation i operation.OutOfMemory
 abbrev pub IsFaultOfWords : {A : Type 0} → Request → Fault A → Type 0
 IsFaultOfWords (find text) (Pointer e) = IsPointerFault (chars text) e × (e ≢ pointer.OutOfMemory)
 IsFaultOfWords (find text) OutOfMemory = IsPointerFault (chars text) pointer.OutOfMemory
-IsFaultOfWords (apply text) (Patch e) = IsFaultOfPatch all_on text e × IsOfText e
-IsFaultOfWords {A} (apply text) OutOfMemory = (i : ℕ) × IsFaultOfPatch {A = A} all_on text (patch.Operation i operation.OutOfMemory)
+IsFaultOfWords (apply text most) (Patch e) = IsFaultOfPatch all_on text e × IsOfText e
+IsFaultOfWords {A} (apply text most) OutOfMemory = (i : ℕ) × IsFaultOfPatch {A = A} all_on text (patch.Operation i operation.OutOfMemory)
 IsFaultOfWords (merge text) (MergePatch e) = IsFaultOfMergePatch all_on text e × (e ≢ merge_patch.OutOfMemory)
 IsFaultOfWords {A} (merge text) OutOfMemory = IsFaultOfMergePatch {A = A} all_on text merge_patch.OutOfMemory
 IsFaultOfWords request other = ⊥
@@ -102,7 +102,8 @@ IsFaultOfWords request other = ⊥
 abbrev pub IsFaultOfInput : {A : Type 0} → Request → List ℕ → Fault A → Type 0
 IsFaultOfInput (find text) input (RepeatedName name) = OfPointer text input (λ d ns tokens. FailsAt d.value tokens (chars_of name))
 IsFaultOfInput (find text) input NoSuchValue = OfPointer text input (λ d ns tokens. RefersToNothing d tokens)
-IsFaultOfInput (apply text) input (Operation fault) = StopsOn text input fault
+IsFaultOfInput (apply text most) input (Operation fault) = StopsOn text input fault
+IsFaultOfInput {A} (apply text most) input (TooLarge operation bytes) = (bytes ≡ most) × GrowsBeyond A text most input operation
 IsFaultOfInput (merge text) input (RepeatedName name) = MeetsTwice text input (chars_of name)
 IsFaultOfInput (merge text) input NestingDepthExceeded = IsAccepted input
 IsFaultOfInput json input NoValue = IsDocument all_on (chars input) None

@@ -11,13 +11,13 @@ use Rattle.jsonc_patch_engine.specs.Results.{IsFaultOn, IsPointer, IsWritten, Wa
 use Rattle.jsonc_patch_engine.specs.declared.engine.Request.TheVariants as read
 use Rattle.jsonc_patch_engine.specs.declared.engine.Request.{Request as Read}
 use Rattle.jsonc_patch_engine.specs.declared.fault.Fault.{Fault}
-use Rattle.jsonc_patch_engine.specs.declared.fault.Fault.TheVariants.{Input, MergePatch, NestingDepthExceeded, NoSuchValue, NoValue, NonFinite, NotUtf8, Operation, OutOfMemory, Patch, Pointer, RepeatedName, Usage, Write}
+use Rattle.jsonc_patch_engine.specs.declared.fault.Fault.TheVariants.{Input, MergePatch, NestingDepthExceeded, NoSuchValue, NoValue, NonFinite, NotUtf8, Operation, OutOfMemory, Patch, Pointer, RepeatedName, TooLarge, Usage, Write}
 use Rattle.jsonc_patch_engine.specs.declared.fault.Fault.TheVariants as fault
 
 -- this is what was read of what is asked
 abbrev pub Asks : {A : Type 0} → Request → Read A → Type 0
 Asks (find text) (read.Find pointer) = IsPointer text (tokens_of pointer)
-Asks (apply text) (read.Apply patch) = IsPatchOf text (operations_in patch)
+Asks (apply text most) (read.Apply patch bytes) = IsPatchOf text (operations_in patch) × (most ≡ bytes)
 Asks (merge text) (read.Merge patch) = IsMergePatchOf text (plain patch)
 Asks json read.Json = Unit {0}
 Asks asked other = ⊥
@@ -34,6 +34,7 @@ TellsOfWords other = ⊥
 abbrev pub EndsBehindInput : {A : Type 0} → Fault A → Type 0
 EndsBehindInput (Input error) = Unit {0}
 EndsBehindInput (Operation fault) = Unit {0}
+EndsBehindInput (TooLarge operation bytes) = Unit {0}
 EndsBehindInput (RepeatedName name) = Unit {0}
 EndsBehindInput NoSuchValue = Unit {0}
 EndsBehindInput NoValue = Unit {0}

@@ -23,8 +23,8 @@ use std::alloc::Allocator;
 enum Request<A: Allocator> {
     // The value that the pointer refers to.
     Find(Pointer<A>),
-    // All of it, with the operations of the patch made.
-    Apply(Patch<A>),
+    // All of it, with the operations of the patch made, after each of which its text has at most so many bytes.
+    Apply(Patch<A>, usize),
     // All of it, with the patch merged into it.
     Merge(CstInputValue<A>),
     // All of it, as JSON.
@@ -41,8 +41,8 @@ fn read_request<A: Allocator + Copy>(alloc: A, command: Command<'_>) -> Result<R
             Ok(pointer) => Ok(Request::Find(pointer)),
             Err(fault) => Err(fault),
         },
-        Command::Apply(text) => match patch_of(alloc, text) {
-            Ok(patch) => Ok(Request::Apply(patch)),
+        Command::Apply(text, most) => match patch_of(alloc, text) {
+            Ok(patch) => Ok(Request::Apply(patch, most)),
             Err(fault) => Err(fault),
         },
         Command::Merge(text) => match merge_patch_of(alloc, text) {
@@ -81,7 +81,7 @@ fn output_of<A: Allocator + Copy>(
     };
     match request {
         Request::Find(pointer) => shown_at(alloc, text, pointer),
-        Request::Apply(patch) => patched(alloc, text, patch),
+        Request::Apply(patch, most) => patched(alloc, text, patch, *most),
         Request::Merge(patch) => merged(alloc, text, patch),
         Request::Json => json_of(alloc, text),
     }

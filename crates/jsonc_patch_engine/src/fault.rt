@@ -26,6 +26,8 @@ pub enum Fault<A: Allocator> {
     MergePatch(MergePatchError<A>),
     /// An operation of the patch was not made.
     Operation(PatchFault<A>),
+    /// After the operation of this number the document would have more than so many bytes.
+    TooLarge(usize, usize),
     /// More than one property of an object has this name, where a pointer or a merge patch names it.
     RepeatedName(String<A>),
     /// The pointer refers to nothing.
@@ -90,6 +92,12 @@ impl<A: Allocator> fmt::Display for Fault<A> {
                 f.write_str("jsonc_patch: ")?;
                 fault.fmt(f)
             }
+            Fault::TooLarge(operation, bytes) => {
+                f.write_str("jsonc_patch: Operation ")?;
+                write_number(*operation, f)?;
+                f.write_str(": Document would have more bytes than ")?;
+                write_number(*bytes, f)
+            }
             Fault::RepeatedName(name) => {
                 f.write_str("jsonc_patch: ")?;
                 write_repeated_name(name.as_str(), f)
@@ -108,7 +116,9 @@ impl<A: Allocator> fmt::Display for Fault<A> {
             Fault::Read => f.write_str("jsonc_patch: read failed"),
             Fault::Write => f.write_str("jsonc_patch: write failed"),
             Fault::Usage => {
-                f.write_str("usage: jsonc_patch find POINTER|apply PATCH|merge PATCH|json")
+                f.write_str(
+                    "usage: jsonc_patch find POINTER|apply [--max-bytes N] PATCH|merge PATCH|json",
+                )
             }
         }
     }

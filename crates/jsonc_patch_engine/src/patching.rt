@@ -18,7 +18,7 @@ use std::alloc::Allocator;
 // The patch of a text.
 pub(crate) fn patch_of<A: Allocator + Copy>(alloc: A, text: &str) -> Result<Patch<A>, Fault<A>>
     ensures parsed { IfOk result (λ patch. IsPatchOf text.now (operations_in patch)) }
-    ensures refused { IfErr result (IsFaultOfWords (apply text.now)) }
+    ensures refused { (most : ℕ) → IfErr result (IsFaultOfWords (apply text.now most)) }
 {
     match Patch::from_json(alloc, text, &ParseOptions::default()) {
         Ok(patch) => Ok(patch),
@@ -42,10 +42,10 @@ pub(crate) fn merge_patch_of<A: Allocator + Copy>(
     }
 }
 
-// What is told of an operation that was not made: where that was for an edit, a value would be nested too deep, or there
-// was no memory.
-fn fault_of<A: Allocator>(fault: PatchFault<A>) -> Fault<A>
-    ensures { IsToldFor fault result }
+// What is reported of an operation that was not made under a bound: where that was for an edit, a value would be nested
+// too deep, or there was no memory.
+fn fault_of<A: Allocator>(fault: PatchFault<A>, most: usize) -> Fault<A>
+    ensures { IsToldFor most fault result }
 {
     let PatchFault { operation, cause } = fault;
     match cause {
@@ -54,28 +54,30 @@ fn fault_of<A: Allocator>(fault: PatchFault<A>) -> Fault<A>
             cause: PatchCause::Edit(EditError::NestingDepthExceeded),
         }),
         PatchCause::Edit(_) => Fault::OutOfMemory,
+        PatchCause::TooLarge => Fault::TooLarge(operation, most),
         cause => Fault::Operation(PatchFault { operation, cause }),
     }
 }
 
-// The text of the document that a patch makes of that of a text.
+// The text of the document that a patch makes of that of a text, with at most so many bytes after each operation.
 pub(crate) fn patched<A: Allocator + Copy>(
     alloc: A,
     text: &str,
     patch: &Patch<A>,
+    most: usize,
 ) -> Result<String<A>, Fault<A>>
     ensures written { (words : List ℕ) → IsPatchOf words (operations_in patch.now)
-        → IfOk result (λ s. IsApplied A words text.now (string_bytes s)) }
+        → IfOk result (λ s. IsApplied A words most text.now (string_bytes s)) }
     ensures refused { (words : List ℕ) → IsPatchOf words (operations_in patch.now)
-        → IfErr result (IsFaultOfInput (apply words) text.now) }
+        → IfErr result (IsFaultOfInput (apply words most) text.now) }
 {
     let mut document = match CstRootNode::parse(alloc, text, &ParseOptions::default()) {
         Ok(document) => document,
         Err(error) => return Err(Fault::Input(error)),
     };
-    match patch.apply(&mut document) {
+    match patch.apply_within(&mut document, most) {
         Ok(()) => {}
-        Err(fault) => return Err(fault_of(fault)),
+        Err(fault) => return Err(fault_of(fault, most)),
     }
     match document.text() {
         Ok(text) => Ok(text),

@@ -109,7 +109,11 @@ fn is_so(alloc: Global, row: &Row) -> Result<bool, AllocError> {
     let text = text_of(alloc, row)?;
     let patch = patch_of(alloc, row)?;
     match (
-        run_on(alloc, Command::Apply(&patch), text.as_bytes()),
+        run_on(
+            alloc,
+            Command::Apply(&patch, 1_000_000_000),
+            text.as_bytes(),
+        ),
         row.3,
     ) {
         (Ok(written), None) => Ok(is_accepted(alloc, &written)),

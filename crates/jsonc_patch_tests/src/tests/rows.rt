@@ -7,9 +7,9 @@ const EXAMPLE: &str =
 /// The words, the input, and what is written.
 pub type Row = (&'static [&'static str], &'static str, &'static str);
 
-/// The pointers of RFC 6901, 5, with what they refer to; others through arrays and names of all forms; and each form that
-/// `json` writes anew.
-pub static WRITTEN: [Row; 40] = [
+/// The pointers of RFC 6901, 5, with what they refer to; others through arrays and names of all forms; each form that
+/// `json` writes anew; and patches whose result has as many bytes as it may have.
+pub static WRITTEN: [Row; 42] = [
     (&["find", "/foo"], EXAMPLE, "[\"bar\", \"baz\"]\n"),
     (&["find", "/foo/0"], EXAMPLE, "\"bar\"\n"),
     (&["find", "/"], EXAMPLE, "0\n"),
@@ -66,10 +66,21 @@ pub static WRITTEN: [Row; 40] = [
     (&["json"], " false\n", " false\n"),
     (&["json"], "null\t", "null\t"),
     (&["json"], "{}", "{}"),
+    (
+        &[
+            "apply",
+            "--max-bytes",
+            "6",
+            "[{\"op\": \"add\", \"path\": \"/-\", \"value\": 2}]",
+        ],
+        "[1]",
+        "[1, 2]",
+    ),
+    (&["apply", "--max-bytes", "0", "[]"], "[1]", "[1]"),
 ];
 
 /// What is told of a run that cannot succeed, and the status.
-pub static TOLD: [(&[&str], &str, &str, u8); 45] = [
+pub static TOLD: [(&[&str], &str, &str, u8); 48] = [
     (&["json"], "", "jsonc_patch: root value is missing", 1),
     (&["json"], "// c", "jsonc_patch: root value is missing", 1),
     (
@@ -271,43 +282,43 @@ pub static TOLD: [(&[&str], &str, &str, u8); 45] = [
     (
         &["apply"],
         "1",
-        "usage: jsonc_patch find POINTER|apply PATCH|merge PATCH|json",
+        "usage: jsonc_patch find POINTER|apply [--max-bytes N] PATCH|merge PATCH|json",
         2,
     ),
     (
         &["merge", "1", "2"],
         "1",
-        "usage: jsonc_patch find POINTER|apply PATCH|merge PATCH|json",
+        "usage: jsonc_patch find POINTER|apply [--max-bytes N] PATCH|merge PATCH|json",
         2,
     ),
     (
         &[],
         "1",
-        "usage: jsonc_patch find POINTER|apply PATCH|merge PATCH|json",
+        "usage: jsonc_patch find POINTER|apply [--max-bytes N] PATCH|merge PATCH|json",
         2,
     ),
     (
         &["find"],
         "1",
-        "usage: jsonc_patch find POINTER|apply PATCH|merge PATCH|json",
+        "usage: jsonc_patch find POINTER|apply [--max-bytes N] PATCH|merge PATCH|json",
         2,
     ),
     (
         &["json", ""],
         "1",
-        "usage: jsonc_patch find POINTER|apply PATCH|merge PATCH|json",
+        "usage: jsonc_patch find POINTER|apply [--max-bytes N] PATCH|merge PATCH|json",
         2,
     ),
     (
         &["find", "", ""],
         "1",
-        "usage: jsonc_patch find POINTER|apply PATCH|merge PATCH|json",
+        "usage: jsonc_patch find POINTER|apply [--max-bytes N] PATCH|merge PATCH|json",
         2,
     ),
     (
         &["get", ""],
         "1",
-        "usage: jsonc_patch find POINTER|apply PATCH|merge PATCH|json",
+        "usage: jsonc_patch find POINTER|apply [--max-bytes N] PATCH|merge PATCH|json",
         2,
     ),
     (
@@ -315,5 +326,28 @@ pub static TOLD: [(&[&str], &str, &str, u8); 45] = [
         "{\"\\n\": 1, \"\\n\": 2}",
         "jsonc_patch: Name stands twice: \"\\n\"",
         1,
+    ),
+    (
+        &[
+            "apply",
+            "--max-bytes",
+            "6",
+            "[{\"op\": \"add\", \"path\": \"/-\", \"value\": 2}, {\"op\": \"add\", \"path\": \"/-\", \"value\": 3}]",
+        ],
+        "[1]",
+        "jsonc_patch: Operation 1: Document would have more bytes than 6",
+        1,
+    ),
+    (
+        &["apply", "--max-bytes", "1e9", "[]"],
+        "[1]",
+        "usage: jsonc_patch find POINTER|apply [--max-bytes N] PATCH|merge PATCH|json",
+        2,
+    ),
+    (
+        &["apply", "--max-bytes", "18446744073709551616", "[]"],
+        "[1]",
+        "usage: jsonc_patch find POINTER|apply [--max-bytes N] PATCH|merge PATCH|json",
+        2,
     ),
 ];

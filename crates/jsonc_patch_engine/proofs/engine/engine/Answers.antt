@@ -1,5 +1,5 @@
-use Rattle.std.proofs.Common.{◌≡◌, ◌∷◌, inl, inr, List, ℕ, ap, subst, sym, string_bytes}
-use Rattle.jsonc_patch_engine.specs.Command.{request_of, Request}
+use Rattle.std.proofs.Common.{inr, subst, string_bytes}
+use Rattle.jsonc_patch_engine.specs.Command.{request_of}
 use Rattle.jsonc_patch_engine.specs.Results.{IsFaultOfInput, IsWritten, WantsMemory}
 use Rattle.jsonc_patch_engine.specs.Runs.{Puts, Tells}
 use Rattle.jsonc_patch_engine.proofs.Ended.{named_once, no_words, not_read, not_usage, not_write, of_input, told_truly, wants}
