@@ -14,13 +14,17 @@ use Rattle.jsonc_patch_engine.specs.declared.fault.Fault.TheVariants.{Input, Mer
 abbrev pub place_text : ℕ → ℕ → List ℕ
 place_text line column = codes " on line " ++ (decimal line ++ (codes " column " ++ decimal column))
 
+-- the line of an operation after which the document would have more than so many bytes
+abbrev pub too_large_text : ℕ → ℕ → List ℕ
+too_large_text operation bytes = codes "jsonc_patch: Operation " ++ (decimal operation ++ (codes ": Document would have more bytes than " ++ decimal bytes))
+
 abbrev pub fault_line : {A : Type 0} → Fault A → List ℕ
 fault_line (Input error) = codes "jsonc_patch: " ++ error_text error
 fault_line (Pointer error) = codes "jsonc_patch: pointer: " ++ pointer_error_text error
 fault_line (Patch error) = codes "jsonc_patch: patch: " ++ patch_error_text error
 fault_line (MergePatch error) = codes "jsonc_patch: patch: " ++ merge_patch_error_text error
 fault_line (Operation fault) = codes "jsonc_patch: " ++ patch_fault_text fault
-fault_line (TooLarge operation bytes) = codes "jsonc_patch: Operation " ++ (decimal operation ++ (codes ": Document would have more bytes than " ++ decimal bytes))
+fault_line (TooLarge operation bytes) = too_large_text operation bytes
 fault_line (RepeatedName name) = codes "jsonc_patch: " ++ repeated_name_text (string_bytes name)
 fault_line NoSuchValue = codes "jsonc_patch: no such value"
 fault_line NoValue = codes "jsonc_patch: root value is missing"

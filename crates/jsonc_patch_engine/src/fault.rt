@@ -1,7 +1,7 @@
 //! Why a run of the program ended without success.
 ghost use Rattle.std.specs.Prelude.{◌≡◌, Some};
 ghost use Rattle.std.specs.Fmt.{decimal, WritesOnOk, WritesStyledOnOk};
-ghost use Rattle.jsonc_patch_engine.specs.FaultLines.{place_text};
+ghost use Rattle.jsonc_patch_engine.specs.FaultLines.{place_text, too_large_text};
 ghost use Rattle.jsonc_patch_engine.specs.declared.fault.Fault.TheVariants.{OutOfMemory};
 
 use jsonc_parser::LineAndColumn;
@@ -12,6 +12,8 @@ use jsonc_parser::patch::{
 use std::alloc::{AllocError, AllocFailed, Allocator};
 use std::error::Error;
 use std::fmt;
+
+const USAGE: &str = "usage: jsonc_patch find POINTER|apply [--max-bytes N] PATCH|merge PATCH|json";
 
 /// Why a run ended without success. Its `Display` is the whole line that the program prints.
 #[derive(Debug, Drop)]
@@ -92,12 +94,7 @@ impl<A: Allocator> fmt::Display for Fault<A> {
                 f.write_str("jsonc_patch: ")?;
                 fault.fmt(f)
             }
-            Fault::TooLarge(operation, bytes) => {
-                f.write_str("jsonc_patch: Operation ")?;
-                write_number(*operation, f)?;
-                f.write_str(": Document would have more bytes than ")?;
-                write_number(*bytes, f)
-            }
+            Fault::TooLarge(operation, bytes) => write_too_large(*operation, *bytes, f),
             Fault::RepeatedName(name) => {
                 f.write_str("jsonc_patch: ")?;
                 write_repeated_name(name.as_str(), f)
@@ -115,13 +112,24 @@ impl<A: Allocator> fmt::Display for Fault<A> {
             Fault::NotUtf8 => f.write_str("jsonc_patch: input is not UTF-8"),
             Fault::Read => f.write_str("jsonc_patch: read failed"),
             Fault::Write => f.write_str("jsonc_patch: write failed"),
-            Fault::Usage => {
-                f.write_str(
-                    "usage: jsonc_patch find POINTER|apply [--max-bytes N] PATCH|merge PATCH|json",
-                )
-            }
+            Fault::Usage => f.write_str(USAGE),
         }
     }
+}
+
+// Writes the line of an operation after which the document would have more than so many bytes.
+fn write_too_large<W: fmt::Write>(
+    operation: usize,
+    bytes: usize,
+    f: &mut fmt::Formatter<W>,
+) -> fmt::Result
+    ensures writes { WritesOnOk W.write_str_gives f.old result (too_large_text operation bytes) f.new }
+    ensures styled { WritesStyledOnOk W.write_str_gives f.old result (too_large_text operation bytes) f.new }
+{
+    f.write_str("jsonc_patch: Operation ")?;
+    write_number(operation, f)?;
+    f.write_str(": Document would have more bytes than ")?;
+    write_number(bytes, f)
 }
 
 // Writes a line and a column.

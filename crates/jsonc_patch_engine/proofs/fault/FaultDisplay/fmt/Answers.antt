@@ -42,10 +42,3 @@ pub returns-in_ok-write_str-in-Operation-clause-styled : goal.returns-in_ok-writ
 returns-in_ok-write_str-in-Operation-clause-styled g c = λ flush ok.
     let front = c.in_ok-write_str-in-Operation.ensures.styled flush refl in
     rw c.in-Operation.is (has_written_styled_append _ _ _ _ _ _ front (c.fmt-in-Operation.ensures.styled front.flush ok))
-
-pub returns-in_ok-write_str-in-TooLarge-2-clause-styled : goal.returns-in_ok-write_str-in-TooLarge-2-clause-styled
-returns-in_ok-write_str-in-TooLarge-2-clause-styled g c = λ flush ok.
-    let front = c.in_ok-write_str-in-TooLarge.ensures.styled flush refl in
-    let operation = c.in_ok-write_number-in-TooLarge.ensures.styled front.flush refl in
-    let middle = c.in_ok-write_str-in-TooLarge-2.ensures.styled operation.flush refl in
-    rw c.in-TooLarge.is (has_written_styled_append _ _ _ _ _ _ front (has_written_styled_append _ _ _ _ _ _ operation (has_written_styled_append _ _ _ _ _ _ middle (c.write_number-in-TooLarge.ensures.styled middle.flush ok))))
