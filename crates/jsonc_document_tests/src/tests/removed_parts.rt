@@ -191,6 +191,9 @@ fn found<A: Allocator + Copy>(doc: &mut CstRootNode<A>, pointer: &Pointer<A>) ->
     };
     let refused = found.remove_with_comments(doc);
     let is_kept = is_refused(doc, refused, OBJECT);
+    if !doc.holds(property.node()) {
+        return false;
+    }
     let removed = property.remove_with_comments(doc);
     is_kept && removed == Ok(()) && prints(&*doc, "{\"a\": 1 // c\n}")
 }
