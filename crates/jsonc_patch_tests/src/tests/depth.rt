@@ -63,7 +63,7 @@ fn in_arrays(alloc: Global, count: usize) -> Result<String, AllocError> {
 /// The document: `1` in so many arrays, with a second element of the first that has so many arrays too.
 fn text_of(alloc: Global, row: &Row) -> Result<String, AllocError> {
     let (deep, around, arrays, _) = *row;
-    let inner = in_arrays(alloc, around - 1)?;
+    let inner = in_arrays(alloc, around.saturating_sub(1))?;
     match deep {
         Deep::Move => format!(in alloc; "[{},{}]", inner, in_arrays(alloc, arrays)?),
         _ => format!(in alloc; "[{}]", inner),
@@ -73,7 +73,7 @@ fn text_of(alloc: Global, row: &Row) -> Result<String, AllocError> {
 /// The patch.
 fn patch_of(alloc: Global, row: &Row) -> Result<String, AllocError> {
     let (deep, around, arrays, _) = *row;
-    let place = repeated(alloc, "/0", around - 1)?;
+    let place = repeated(alloc, "/0", around.saturating_sub(1))?;
     let value = in_arrays(alloc, arrays)?;
     match deep {
         Deep::Add => format!(in alloc;
