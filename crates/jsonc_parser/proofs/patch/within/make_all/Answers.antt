@@ -13,10 +13,10 @@ loop-number-init g c =
 
 pub loop-number-preserved : goal.loop-number-preserved
 loop-number-preserved g c = (
-    within_to_here c.args.bytes c.args.doc.now c.args.operations.now c.loop-number.number c.loop-number.doc c.loop-number.invariant.0 c.index-operations-number.result c.loop-number-test.true c.make_within.new.doc
-    (subst (λ (o : Operation g.row.A.Denot). LeadsTo c.loop-number.doc o c.make_within.new.doc) c.index-operations-number.is c.in-Ok.ensures.made) c.in-Ok.ensures.within,
-    c.in-Ok.ensures.room,
-  )
+  within_to_here c.args.bytes c.args.doc.now c.args.operations.now c.loop-number.number c.loop-number.doc c.loop-number.invariant.0 c.index-operations-number.result c.loop-number-test.true c.make_within.new.doc
+      (subst (λ (o : Operation g.row.A.Denot). LeadsTo c.loop-number.doc o c.make_within.new.doc) c.index-operations-number.is c.in-Ok.ensures.made) c.in-Ok.ensures.within,
+  c.in-Ok.ensures.room,
+)
 
 pub returns-in-Err-clause-stops : goal.returns-in-Err-clause-stops
 returns-in-Err-clause-stops g c =
