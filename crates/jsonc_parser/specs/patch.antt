@@ -25,6 +25,7 @@ pub mod Digits
 pub mod Values
 pub mod Applied
 pub mod Within
+pub mod Room
 pub mod Merging
 pub mod MergePatch
 pub mod MergeCases

@@ -44,3 +44,5 @@ pub mod MergeReads
 pub mod Renaming
 pub mod Taking
 pub mod Within
+pub mod Contents
+pub mod Room
