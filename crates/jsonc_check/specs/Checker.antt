@@ -6,7 +6,7 @@ use Rattle.jsonc_text.specs.OptionsOf.{parse_options}
 use Rattle.jsonc_text.specs.Plain.{Plain}
 use Rattle.jsonc_walk.specs.Handed.{Source}
 use Rattle.jsonc_walk.specs.Reached.{FitsIn}
-use Rattle.jsonc_parser.specs.declared.checker.Checker.{Checker}
+use Rattle.jsonc_check.specs.declared.checker.Checker.{Checker}
 
 -- the text is a document, with some value or with none, which is within the depth: of containers, or of these and properties
 abbrev pub HasValueWithin : Bool → Options → List ℕ → Type 0

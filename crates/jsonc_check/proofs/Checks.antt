@@ -5,7 +5,7 @@ use Rattle.jsonc_text.specs.Options.{Options}
 use Rattle.jsonc_walk.specs.Located.{Located, value_at}
 use Rattle.jsonc_walk.specs.Handed.{IsDocumentMade}
 use Rattle.jsonc_walk.proofs.lemmas.Grammar.{located_document}
-use Rattle.jsonc_parser.specs.Checker.{HasValueWithin}
+use Rattle.jsonc_check.specs.Checker.{HasValueWithin}
 
 pub value_within : {I : Type 0} (makes : I → Located → Type 0) (whole : Bool) (o : Options) (bytes : List ℕ) (found : Option I) → IsDocumentMade (record { bytes = bytes; options = o }) whole makes found → HasValueWithin whole o (chars bytes)
 value_within makes whole o bytes None h = (None, located_document o bytes None h, tt)

@@ -3,9 +3,9 @@ use Rattle.jsonc_text.specs.Faults.{kind_of}
 use Rattle.jsonc_text.specs.declared.errors.ParseErrorKind.TheVariants.{OutOfMemory}
 use Rattle.jsonc_walk.proofs.lemmas.Refusals.{err_of}
 use Rattle.jsonc_walk.proofs.lemmas.Scans.{moved}
-use Rattle.jsonc_parser.specs.Checker.{HasValueWithin}
-use Rattle.jsonc_parser.proofs.Checks.{neither, value_within}
-use Rattle.jsonc_parser.proofs.checker.check_by.Goals as goal
+use Rattle.jsonc_check.specs.Checker.{HasValueWithin}
+use Rattle.jsonc_check.proofs.Checks.{neither, value_within}
+use Rattle.jsonc_check.proofs.checker.check_by.Goals as goal
 
 pub returns-clause-accepted : goal.returns-clause-accepted
 returns-clause-accepted g c =

@@ -1,8 +1,8 @@
-//! Whether a text is read, and what is wrong with one that is not.
+//! The check of a text, by its places alone.
 ghost use Rattle.std.specs.Prelude.{◌≢◌, IfErr, OnOk, chars, false, true};
 ghost use Rattle.jsonc_walk.specs.Faults.{ParseFault};
 ghost use Rattle.jsonc_walk.specs.Refusals.{Refuses};
-ghost use Rattle.jsonc_parser.specs.Checker.{HasValueWithin};
+ghost use Rattle.jsonc_check.specs.Checker.{HasValueWithin};
 ghost use Rattle.jsonc_text.specs.Faults.{IsFault, kind_of};
 ghost use Rattle.jsonc_text.specs.OptionsOf.{parse_options};
 
@@ -65,7 +65,7 @@ pub(crate) struct Checker<'a, D: Depth> {
 }
 
 impl<'a, A: Allocator, D: Depth> Receiver<String<A>> for Checker<'a, D> {
-    ghost use Rattle.jsonc_parser.specs.Checker.{source_in};
+    ghost use Rattle.jsonc_check.specs.Checker.{source_in};
 
     type Item = ();
 
@@ -215,7 +215,7 @@ fn check_by<A: Allocator + Copy, D: Depth>(
 
 /// Checks a text, and keeps nothing of it: no string is decoded, and no memory is asked for.
 ///
-/// It accepts what [`parse_to_value`](crate::parse_to_value) does, a text without a value too, and its errors are
+/// It accepts what `parse_to_value` does, a text without a value too, and its errors are
 /// those of that call: a text with more than 512 containers inside one another is an error.
 pub fn check<A: Allocator + Copy>(
     alloc: A,
@@ -231,7 +231,7 @@ pub fn check<A: Allocator + Copy>(
     check_by(alloc, text, options, Containers)
 }
 
-/// The same of a document: it accepts what [`CstRootNode::parse`](crate::cst::CstRootNode::parse) does, with the errors
+/// The same of a document: it accepts what `CstRootNode::parse` does, with the errors
 /// of that call. At most 512 containers and properties may be around a value.
 pub fn check_document<A: Allocator + Copy>(
     alloc: A,
