@@ -26,7 +26,7 @@ abbrev pub bytes_of_first : ℕ → List Node → ℕ
 bytes_of_first zero ns = 0
 bytes_of_first (suc n) ns = bytes_of_first n ns + length (text_at ns n)
 
--- how many all nodes do
+-- how many all nodes print themselves
 abbrev pub bytes_of_all : List Node → ℕ
 bytes_of_all ns = bytes_of_first (length ns) ns
 
