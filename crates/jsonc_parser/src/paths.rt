@@ -8,7 +8,7 @@
 
 mod find;
 pub mod laws;
-mod put;
+pub(crate) mod put;
 mod reached;
 mod which;
 
