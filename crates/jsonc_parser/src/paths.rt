@@ -10,7 +10,7 @@ mod find;
 pub mod laws;
 pub(crate) mod put;
 mod reached;
-mod which;
+pub(crate) mod which;
 
 pub use find::{find_at, read_at};
 pub use put::{remove_at, set_at, set_last_at};

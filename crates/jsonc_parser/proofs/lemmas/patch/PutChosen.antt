@@ -120,10 +120,9 @@ module _ {A : Type 0} (doc : CstRootNode A) (tree : IsTree (nodes_of doc)) (v : 
     member_written u d shown path at name is =
         let s = stops d shown in
         let leads = subst (LeadsAlong d.value s.front path) s.stops.1 (along node number NoMember stops d shown path at) in
-        let written = appends_member s.front s.rest leads s.stops.2 in
         subst (λ n. IsWrittenBy u over d.value tokens (drop (number + 1) tokens) (append_property path n u)) (sym is)
         (subst (λ l. IsWrittenBy u over d.value tokens l (append_property path s.token u)) (sym (after node number NoMember stops d shown))
-        (subst (λ l. IsWrittenBy u over d.value l s.rest (append_property path s.token u)) (sym s.split) written))
+        (subst (λ l. IsWrittenBy u over d.value l s.rest (append_property path s.token u)) (sym s.split) (appends_member s.front s.rest leads s.stops.2)))
 
     pub writes_member : WritesBy (drop (number + 1) tokens)
     writes_member d shown u = let s = stops d shown in (append_property s.leads.path s.token u, member_written u d shown s.leads.path s.leads.at s.token refl)
@@ -144,9 +143,8 @@ module _ {A : Type 0} (doc : CstRootNode A) (tree : IsTree (nodes_of doc)) (v : 
     element_written u d shown path at =
         let s = stops d shown in
         let leads = subst (LeadsAlong d.value s.front path) s.stops.1 (along node number AfterLast stops d shown path at) in
-        let written = appends_element s.front s.rest leads s.stops.2 in
         subst (λ l. IsWrittenBy u over d.value tokens l (append_element path u)) (sym (after node number AfterLast stops d shown))
-        (subst (λ l. IsWrittenBy u over d.value l s.rest (append_element path u)) (sym s.split) written)
+        (subst (λ l. IsWrittenBy u over d.value l s.rest (append_element path u)) (sym s.split) (appends_element s.front s.rest leads s.stops.2))
 
     pub writes_element : WritesBy (drop (number + 1) tokens)
     writes_element d shown u = let s = stops d shown in (append_element s.leads.path u, element_written u d shown s.leads.path s.leads.at)
@@ -158,9 +156,8 @@ module _ {A : Type 0} (doc : CstRootNode A) (tree : IsTree (nodes_of doc)) (v : 
     other_written : (u : Plain) (d : Document) (shown : Shows d (ordered_tree (nodes_of doc) 0)) (path : List ℕ) → IsAt (nodes_of doc) path (number_of node) → IsWrittenBy u over d.value tokens (drop number tokens) (replace path u)
     other_written u d shown path at =
         let s = stops d shown in
-        let written = replaces_other s.front s.rest (along node number OtherKind stops d shown path at) s.stops how in
         subst (λ l. IsWrittenBy u over d.value tokens l (replace path u)) (sym (from_here node number OtherKind stops d shown))
-        (subst (λ l. IsWrittenBy u over d.value l (s.token ∷ s.rest) (replace path u)) (sym s.split) written)
+        (subst (λ l. IsWrittenBy u over d.value l (s.token ∷ s.rest) (replace path u)) (sym s.split) (replaces_other s.front s.rest (along node number OtherKind stops d shown path at) s.stops how))
 
     pub writes_other : WritesBy (drop number tokens)
     writes_other d shown u = let s = stops d shown in (replace s.leads.path u, other_written u d shown s.leads.path s.leads.at)
@@ -196,3 +193,38 @@ few_left tokens from within fits =
 -- a name could not be looked up
 pub looked_up : {A : Type 0} (doc : CstRootNode A) (v : Plain) (over : Over) (tokens : List (List ℕ)) (why : EditError) → why ≡ OutOfMemory → IsOfShown doc (λ d. PassesEscaped d (nodes_of doc) tokens) → FailsToPut doc v over tokens (errors.Edit why)
 looked_up doc v over tokens why is passes d shown = subst (λ e. IsPutError doc v over tokens (errors.Edit e) d) (sym is) (inl (passes d shown))
+
+-- what was not prepared, by where it was to be written
+module _ {A : Type 0} (doc : CstRootNode A) (tree : IsTree (nodes_of doc)) (v : Plain) (over : Over) (tokens : List (String A)) (node : CstNode) where
+  pub value_not_put : IsOfShown doc (IsLed doc (names_of tokens) (led.To node)) → names_of tokens ≢ [] → (count : ℕ) → count ≡ length tokens → (error : PutError) → IsUnprepared doc node (drop count (names_of tokens)) count v error
+      → FailsToPut doc v over (names_of tokens) error
+  value_not_put to some count is error unprepared =
+      not_prepared doc tree v over (names_of tokens) node (at_value doc tree v over (names_of tokens) node to some) (drop count (names_of tokens)) count (so_many tokens count (omega (arith, is)))
+      (subst (λ l. IsOfShown doc (λ d. (u : Plain) → (e : PlainEdit) × IsWrittenBy u over d.value (names_of tokens) l e)) (sym (none_left tokens count is)) (writes_value doc tree v over (names_of tokens) node to some)) error unprepared
+
+  module _ (number : ℕ) (h : number < length tokens) where
+    pub member_not_put : IsOfShown doc (λ d. StopsAtNode d (nodes_of doc) (names_of tokens) (number_of node) number NoMember) → (error : PutError) → IsUnprepared doc node (drop (number + 1) (names_of tokens)) (number + 1) v error
+        → FailsToPut doc v over (names_of tokens) error
+    member_not_put stops error unprepared =
+        not_prepared doc tree v over (names_of tokens) node (at_stop doc tree v over (names_of tokens) node number NoMember stops) (drop (number + 1) (names_of tokens)) (number + 1) (so_many tokens (number + 1) (omega (arith, h)))
+        (writes_member doc tree v over (names_of tokens) node number stops) error unprepared
+
+    pub member_not_named : IsOfShown doc (λ d. StopsAtNode d (nodes_of doc) (names_of tokens) (number_of node) number NoMember) → (u : Plain) → IsNested (drop (number + 1) (names_of tokens)) v u → (why : EditError) → why ≡ OutOfMemory
+        → FailsToPut doc v over (names_of tokens) (errors.Edit why)
+    member_not_named stops u nested why is = member_not_put stops (errors.Edit why) (inl (unnested_for_memory (drop (number + 1) (names_of tokens)) (number + 1) v why is nested.0))
+
+    pub element_not_put : IsOfShown doc (λ d. StopsAtNode d (nodes_of doc) (names_of tokens) (number_of node) number AfterLast) → (error : PutError) → IsUnprepared doc node (drop (number + 1) (names_of tokens)) (number + 1) v error
+        → FailsToPut doc v over (names_of tokens) error
+    element_not_put stops error unprepared =
+        not_prepared doc tree v over (names_of tokens) node (at_stop doc tree v over (names_of tokens) node number AfterLast stops) (drop (number + 1) (names_of tokens)) (number + 1) (so_many tokens (number + 1) (omega (arith, h)))
+        (writes_element doc tree v over (names_of tokens) node number stops) error unprepared
+
+    pub other_not_put : IsOfShown doc (λ d. StopsAtNode d (nodes_of doc) (names_of tokens) (number_of node) number OtherKind) → over ≡ Replace → (error : PutError) → IsUnprepared doc node (drop number (names_of tokens)) number v error
+        → FailsToPut doc v over (names_of tokens) error
+    other_not_put stops how error unprepared =
+        not_prepared doc tree v over (names_of tokens) node (at_stop doc tree v over (names_of tokens) node number OtherKind stops) (drop number (names_of tokens)) number (so_many tokens number (omega (arith, h)))
+        (writes_other doc tree v over (names_of tokens) node number stops how) error unprepared
+
+-- the name of a number, copied, and the tokens after it
+pub name_so : {A : Type 0} (tokens : List (String A)) (number : ℕ) (s : String A) → number < length tokens → (name : List ℕ) → name ≡ chars_of (get_or tokens number s) → drop number (names_of tokens) ≡ name ∷ names_of (drop (number + 1) tokens)
+name_so tokens number s h name is = here tokens number s h ∙ ap (λ n. n ∷ names_of (drop (number + 1) tokens)) (sym is)

@@ -14,7 +14,7 @@ property_of-requires g c = subst (HasNode c.args.doc.now) ((c.as_object.ensures 
 pub returns-in-Ok-Some-clause-entry : goal.returns-in-Ok-Some-clause-entry
 returns-in-Ok-Some-clause-entry g c =
     enter_got c.args.doc.now c.args.doc.now.tree.tree c.args.node (chars c.args.token.now) c.in-Some.object c.requires ((c.as_object.ensures c.in-Some.object).0 c.in-Some.is) c.in-Ok-Some.property
-    (subst (IsChosenNamed First c.args.doc.now c.in-Some.object (chars c.args.token.now)) c.in-Ok-Some.field-0-is c.in-Ok-Some.ensures.found) c.node-node.result c.node-node.ensures
+    (subst (IsChosenNamed First c.args.doc.now c.in-Some.object (chars c.args.token.now)) c.in-Ok-Some.field-0-is c.in-Ok-Some.ensures.found) c.node.result c.node.ensures
 
 pub returns-in-Ok-None-clause-entry : goal.returns-in-Ok-None-clause-entry
 returns-in-Ok-None-clause-entry g c =

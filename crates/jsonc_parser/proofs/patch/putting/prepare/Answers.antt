@@ -7,11 +7,8 @@ use Rattle.jsonc_cst.specs.Nodes.{number_of}
 use Rattle.jsonc_parser.specs.paths.Found.{names_of}
 use Rattle.jsonc_parser.specs.patch.Putting.{IsNested}
 use Rattle.jsonc_parser.specs.patch.PutSteps.{IsUnnested}
-use Rattle.jsonc_parser.proofs.lemmas.patch.PutChosen.{few_left, names_left, unnested_for_memory}
+use Rattle.jsonc_parser.proofs.lemmas.patch.PutChosen.{names_left, unnested_for_memory}
 use Rattle.jsonc_parser.proofs.patch.putting.prepare.Goals as goal
-
-pub nested_by-requires : goal.nested_by-requires
-nested_by-requires g c = few_left c.args.tokens.now c.args.from c.requires.within c.ranges.tokens.fits
 
 pub returns-in-Ok-Some-clause-at : goal.returns-in-Ok-Some-clause-at
 returns-in-Ok-Some-clause-at g c =

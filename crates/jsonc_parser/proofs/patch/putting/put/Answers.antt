@@ -26,10 +26,10 @@ returns-in-Ok-make-clause-put g c =
 pub returns-in-Ok-make-clause-one : goal.returns-in-Ok-make-clause-one
 returns-in-Ok-make-clause-one g c = (operation_of unsorted c.in-Ok.edit, c.in-Ok-make.ensures.made)
 
-pub returns-in-Err-make-clause-kept : goal.returns-in-Err-make-clause-kept
-returns-in-Err-make-clause-kept g c = left_kept c.in-Ok.edit c.args.doc.now c.make.new.self (operation_of unsorted c.in-Ok.edit) c.in-Ok.ensures.chosen.0 refl c.in-Err-make.ensures.left
+pub returns-clause-kept : goal.returns-clause-kept
+returns-clause-kept g c = left_kept c.in-Ok.edit c.args.doc.now c.make.new.self (operation_of unsorted c.in-Ok.edit) c.in-Ok.ensures.chosen.0 refl c.in-Err-make.ensures.left
 
-pub returns-in-Err-make-clause-fails : goal.returns-in-Err-make-clause-fails
-returns-in-Err-make-clause-fails g c =
+pub returns-clause-fails : goal.returns-clause-fails
+returns-clause-fails g c =
     let chosen = subst (λ (l : List (List ℕ)). IsChosen c.args.doc.now (plain c.args.value) c.args.over l c.in-Ok.edit) c.tokens.ensures c.in-Ok.ensures.chosen in
     put_refused c.args.doc.now c.make.new.self c.args.doc.now.tree.tree (plain c.args.value) c.args.over (tokens_of c.args.pointer.now) c.in-Ok.edit chosen c.in-Err-make.error c.in-Err-make.ensures.error
