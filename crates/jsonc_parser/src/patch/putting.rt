@@ -49,9 +49,21 @@ impl fmt::Display for PutError {
 
     fn fmt<W: fmt::Write>(&self, f: &mut fmt::Formatter<W>) -> fmt::Result {
         match self {
-            PutError::OtherKind(number) => write_number("Value of another kind before token ", *number, f),
-            PutError::NoSuchIndex(number) => write_number("Array is shorter than the index at token ", *number, f),
-            PutError::AmbiguousToken(number) => write_number("Neither array nor object for token ", *number, f),
+            PutError::OtherKind(number) => write_number(
+                "Value of another kind before token ",
+                *number,
+                f,
+            ),
+            PutError::NoSuchIndex(number) => write_number(
+                "Array is shorter than the index at token ",
+                *number,
+                f,
+            ),
+            PutError::AmbiguousToken(number) => write_number(
+                "Neither array nor object for token ",
+                *number,
+                f,
+            ),
             PutError::Edit(error) => error.fmt(f),
         }
     }

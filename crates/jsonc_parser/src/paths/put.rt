@@ -23,7 +23,10 @@ use jsonc_walk::context::MAXIMUM_NESTING;
 use std::alloc::Allocator;
 
 // A name, as text of its own.
-pub(crate) fn copy_of<A: Allocator + Copy>(alloc: A, name: &String<A>) -> Result<String<A>, EditError>
+pub(crate) fn copy_of<A: Allocator + Copy>(
+    alloc: A,
+    name: &String<A>,
+) -> Result<String<A>, EditError>
     ensures copy { IfOk result (λ s. chars_of s ≡ chars_of name.now) }
     ensures memory { IfErr result (λ e. e ≡ EditError.OutOfMemory) }
 {

@@ -130,7 +130,7 @@ module _ (d : Document) (ns : List Node) (tree : IsTree ns) (shown : Shows d (or
       past_end place (i, index) = (elements.0, elements.1, i, index, (let beyond = place.1 i index in omega (arith, beyond, count)))
 
       pub no_index : IsPlaceBy ns n token None → ¬ ((i : ℕ) × IsIndex token i) → Stops OtherKind token w.v
-      no_index place other = (λ ms e. no_object ms (sym elements.1 ∙ e), λ vs e may. elim may [ | inl index ↦ other index | inr hyphen ↦ place.0 hyphen ])
+      no_index place other = (λ ms e. no_object ms (sym elements.1 ∙ e), λ vs e may. elim may [ inl index ↦ other index | inr hyphen ↦ place.0 hyphen ])
         where
           no_object : (ms : Members) → plain.array elements.0 ≡ plain.object ms → ⊥
           no_object ms e = cc

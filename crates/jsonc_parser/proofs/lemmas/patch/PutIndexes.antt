@@ -62,7 +62,7 @@ module _ (token : List ℕ) where
   may_by_hyphen b hyphen e = decides_yes (inr (hyphen.0 e))
 
   pub may_by_index : (b d : Bool) → Decides b (token ≡ 0x2D ∷ []) → b ≡ false → Decides d ((i : ℕ) × IsIndex token i) → Decides d (MayBeIndex token)
-  may_by_index b d hyphen not index = (λ e. inl (index.0 e), λ may. elim may [ | inl x ↦ index.1 x | inr h ↦ absurd (false≢true (sym not ∙ hyphen.1 h)) ])
+  may_by_index b d hyphen not index = (λ e. inl (index.0 e), λ may. elim may [ inl x ↦ index.1 x | inr h ↦ absurd (false≢true (sym not ∙ hyphen.1 h)) ])
 
 -- the first of some tokens
 abbrev pub AreNames : List (List ℕ) → Type 0

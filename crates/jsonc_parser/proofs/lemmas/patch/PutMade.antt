@@ -120,11 +120,14 @@ module _ {A : Type 0} (doc : CstRootNode A) (v : Plain) (over : Over) (tokens : 
       inr (w.0, record { rest = left; u = nest left v; nested = (are_names, refl); written = w.1 })
   unnested left before all written (errors.Edit NestingDepthExceeded) (are_names, large) =
       let w = written (nest left v) in
-      let needs = written_needs w.1 in
-      (w.0, record { rest = left; u = nest left v; nested = (are_names, refl); written = w.1 }, elim (cases_lt 512 (needs_in d.value w.0)) [
-        | inl deep ↦ deep
-        | inr small ↦ absurd (large (let fits : around (nest left v) ≤ 512 = omega (arith, needs, small) in fits))
-      ])
+      let needs = written_needs w.1 in (
+        w.0,
+        record { rest = left; u = nest left v; nested = (are_names, refl); written = w.1 },
+        elim (cases_lt 512 (needs_in d.value w.0)) [
+          | inl deep ↦ deep
+          | inr small ↦ absurd (large (let fits : around (nest left v) ≤ 512 = omega (arith, needs, small) in fits))
+        ],
+      )
   unnested left before all written (errors.Edit why) wrong = absurd wrong
   unnested left before all written (errors.OtherKind number) wrong = absurd wrong
   unnested left before all written (errors.NoSuchIndex number) wrong = absurd wrong
