@@ -32,5 +32,9 @@ pub mod MergeCases
 pub mod Merged
 pub mod MergeSteps
 pub mod Renaming
+pub mod Putting
+pub mod PutCalls
+pub mod PutSteps
+pub mod PutMessages
 pub mod MergeTexts
 pub mod MergeMessages
