@@ -66,9 +66,16 @@ impl Record {
         Record {}
     }
 
-    /// The record with this call too.
+    /// Notes a call.
     #[inline(always)]
-    pub fn and(&self, _call: &Call<'_>) -> Record
+    pub fn note(&mut self, call: &Call<'_>)
+        ensures { self.new.calls ≡ event_of call.now ∷ self.old.calls }
+    {
+        *self = self.and(call);
+    }
+
+    #[inline(always)]
+    fn and(&self, _call: &Call<'_>) -> Record
         ensures { result.calls ≡ event_of _call.now ∷ self.now.calls }
     {
         Record {}
