@@ -1,5 +1,5 @@
 -- The steps of an edit, and what a crash leaves in them.
-use Rattle.std.proofs.Common.{◌≡◌, ◌⊎◌, inl, inr, ⊎_elim, ℕ, ◌+◌, ◌-◌, Bool, true, false, List, [], ◌∷◌, Option, Some, None, Result, Ok, Err, IfSome, OnErr, IsTrue, refl, sym, ◌∙◌, ap, subst, arith}
+use Rattle.std.proofs.Common.{◌≡◌, ◌⊎◌, inl, inr, ⊎_elim, ℕ, ◌+◌, ◌-◌, Bool, true, false, List, [], ◌∷◌, Option, Some, None, Result, Ok, Err, IfSome, MatchOption, OnErr, IsTrue, refl, sym, ◌∙◌, ap, subst, arith}
 use Rattle.jsonc_files.specs.Calls.{Event, answered, was_read, created, wrote, found_mode, set_owner, set_mode, synced, compared, renamed, removed, synced_folder, failed}
 use Rattle.jsonc_files.specs.System.{Old, New, NewOnDisk, Named, State, start, kept, after, state, text_of, text_now, CrashLeaves, MayLeave}
 use Rattle.jsonc_files.specs.Moments.{MayHaveLeft, AgreesWithRead, Has}
@@ -196,3 +196,6 @@ pub at_any_moment : (makes : List ℕ → List ℕ → Type 0) (old new bytes te
 at_any_moment makes old new bytes text before c same written is made (inl kept) = inl kept
 at_any_moment makes old new bytes text before c same written is made (inr put) =
     inr (subst (λ (n : List ℕ). makes before n) (sym put) (made_of makes old new bytes text before same written is made))
+
+pub of_some : {T : Type 0} (o : Option T) (v : T) (none : Type 0) (some : T → Type 0) → o ≡ Some v → MatchOption o none some → some v
+of_some o v none some is known = subst (λ (p : Option _). MatchOption p none some) is known

@@ -1,12 +1,12 @@
 -- What has to be done before a call.
 use Rattle.std.specs.Prelude.{◌≡◌, ℕ, Bool, true, List, ◌∷◌}
-use Rattle.jsonc_files.specs.Calls.{Event, locked, found, created, wrote, found_mode, set_owner, set_mode, synced, compared}
+use Rattle.jsonc_files.specs.Calls.{Event, opened, locked, found, created, wrote, found_mode, set_owner, set_mode, synced, compared}
 use Rattle.jsonc_files.specs.System.{Named, Old, state}
 use Rattle.jsonc_files.specs.Mode.{fitting}
 
--- The last two calls locked the file, and then found that the name still has it.
+-- The last calls opened a regular file, locked it, and then found that the name still has it.
 abbrev pub IsLocked : List Event → Type 0
-IsLocked (found true ∷ locked ∷ earlier) = Unit {0}
+IsLocked (found true ∷ locked ∷ opened true ∷ earlier) = Unit {0}
 IsLocked _ = ⊥
 
 -- The old file has the name, and there is no new one.

@@ -62,6 +62,15 @@ fn is_unchanged(a: &Metadata, b: &Metadata) -> bool {
     is_same_file(a, b) && a.len() == b.len() && a.ctime() == b.ctime() && a.ctime_nsec() == b.ctime_nsec()
 }
 
+/// Opens a file that is to be read. It is opened for writing too where that may be, since some file systems lock no
+/// other file; nothing is written to it.
+fn open_to_lock(rt: &HostRuntime, path: &str) -> io::Result<File> {
+    match OpenOptions::new().read(true).write(true).open(rt, path) {
+        Ok(file) => Ok(file),
+        Err(_) => File::open(rt, path),
+    }
+}
+
 impl<'a> HostFolder<'a> {
     ghost use Rattle.jsonc_host.specs.Host.{calls_of};
 
@@ -97,7 +106,7 @@ impl<'a> HostFolder<'a> {
         if !fs::symlink_metadata(self.rt, place.path.as_str())?.is_file() {
             return Ok(None);
         }
-        let file = above_streams(File::open(self.rt, place.path.as_str())?)?;
+        let file = above_streams(open_to_lock(self.rt, place.path.as_str())?)?;
         if file.metadata()?.is_file() {
             Ok(Some(file))
         } else {
@@ -136,8 +145,7 @@ impl<'a> HostFolder<'a> {
         };
         let number = RandomState::new(self.rt)?.hash_one(&0u8);
         let name = format!(in self.rt.alloc(); ".jsonc-{number:016x}")?;
-        let mut path = place.path.clone()?;
-        path.set_file_name(name.as_str())?;
+        let path = place.path.with_file_name(self.rt.alloc(), name.as_str())?;
         let file = OpenOptions::new()
             .write(true)
             .create_new(true)
@@ -223,7 +231,7 @@ impl Folder for HostFolder<'_> {
     fn read<A: Allocator>(&mut self, alloc: A) -> io::Result<Vec<u8, A>> {
         match self.read_all(alloc) {
             Ok(bytes) => {
-                self.record.note(&Call::Read(&bytes));
+                self.record.note(&Call::Read(bytes.as_slice()));
                 Ok(bytes)
             }
             Err(error) => {

@@ -1,5 +1,5 @@
 use Rattle.std.proofs.Common.{Some, inl, ◌∙◌}
-use Rattle.jsonc_files.proofs.Edits.{at_start, has_before, is_new, folder_synced, on_disk, has_new, text_new, agreed_new, made_of, at_any_moment}
+use Rattle.jsonc_files.proofs.Edits.{at_start, has_before, is_new, folder_synced, on_disk, has_new, text_new, agreed_new, made_of, at_any_moment, of_some}
 use Rattle.jsonc_files.proofs.edit.replace.Goals as goal
 
 -- the new file could not be put in the place of the old one
@@ -25,18 +25,20 @@ returns-in-Err-put-clause-alone g c =
 pub returns-in-Ok-sync_folder-clause-any_moment : goal.returns-in-Ok-sync_folder-clause-any_moment
 returns-in-Ok-sync_folder-clause-any_moment g c before text agrees left =
     let read = c.in-Ok.ensures.ok (at_start _ c.requires.fresh) in
+    let made = of_some c.in-Ok-Some.field-0 c.in-Ok-Some.new (g.C.Change.makes c.args.change.now c.deref.result.now c.deref.result.now) (λ n. g.C.Change.makes c.args.change.now c.deref.result.now n.items) c.in-Ok-Some.field-0-is c.in-Ok-Some.ensures in
     let new = is_new _ _ _ (c.in_default.ensures.ok (Some c.in-Ok.old.items) read) in
     let now = folder_synced c.sync_folder.result _ _ _ _ c.sync_folder.ensures new in
-    at_any_moment (g.C.Change.makes c.args.change.now) _ _ _ _ before text c.deref.ensures.value c.deref-2.ensures.value (agreed_new _ _ _ before now agrees) c.in-Ok-Some.ensures (now.left before text left)
+    at_any_moment (g.C.Change.makes c.args.change.now) _ _ _ _ before text c.deref.ensures.value c.deref-2.ensures.value (agreed_new _ _ _ before now agrees) made (now.left before text left)
 
 pub returns-in-Ok-sync_folder-clause-done : goal.returns-in-Ok-sync_folder-clause-done
 returns-in-Ok-sync_folder-clause-done g c before agrees =
     let read = c.in-Ok.ensures.ok (at_start _ c.requires.fresh) in
+    let made = of_some c.in-Ok-Some.field-0 c.in-Ok-Some.new (g.C.Change.makes c.args.change.now c.deref.result.now c.deref.result.now) (λ n. g.C.Change.makes c.args.change.now c.deref.result.now n.items) c.in-Ok-Some.field-0-is c.in-Ok-Some.ensures in
     let new = is_new _ _ _ (c.in_default.ensures.ok (Some c.in-Ok.old.items) read) in
     let now = folder_synced c.sync_folder.result _ _ _ _ c.sync_folder.ensures new in
     record {
       text = c.deref-2.result.now;
-      made = made_of (g.C.Change.makes c.args.change.now) _ _ _ _ before c.deref.ensures.value c.deref-2.ensures.value (agreed_new _ _ _ before now agrees) c.in-Ok-Some.ensures;
+      made = made_of (g.C.Change.makes c.args.change.now) _ _ _ _ before c.deref.ensures.value c.deref-2.ensures.value (agreed_new _ _ _ before now agrees) made;
       has = has_new _ _ _ before now (on_disk _ _ _ _ c.in-Ok-sync_folder.ensures new);
     }
 
@@ -51,16 +53,18 @@ returns-in-Ok-sync_folder-clause-alone g c =
 pub returns-clause-any_moment : goal.returns-clause-any_moment
 returns-clause-any_moment g c before text agrees left =
     let read = c.in-Ok.ensures.ok (at_start _ c.requires.fresh) in
+    let made = of_some c.in-Ok-Some.field-0 c.in-Ok-Some.new (g.C.Change.makes c.args.change.now c.deref.result.now c.deref.result.now) (λ n. g.C.Change.makes c.args.change.now c.deref.result.now n.items) c.in-Ok-Some.field-0-is c.in-Ok-Some.ensures in
     let new = is_new _ _ _ (c.in_default.ensures.ok (Some c.in-Ok.old.items) read) in
     let now = folder_synced c.sync_folder.result _ _ _ _ c.sync_folder.ensures new in
-    at_any_moment (g.C.Change.makes c.args.change.now) _ _ _ _ before text c.deref.ensures.value c.deref-2.ensures.value (agreed_new _ _ _ before now agrees) c.in-Ok-Some.ensures (now.left before text left)
+    at_any_moment (g.C.Change.makes c.args.change.now) _ _ _ _ before text c.deref.ensures.value c.deref-2.ensures.value (agreed_new _ _ _ before now agrees) made (now.left before text left)
 
 pub returns-clause-fault : goal.returns-clause-fault
 returns-clause-fault g c before agrees =
     let read = c.in-Ok.ensures.ok (at_start _ c.requires.fresh) in
+    let made = of_some c.in-Ok-Some.field-0 c.in-Ok-Some.new (g.C.Change.makes c.args.change.now c.deref.result.now c.deref.result.now) (λ n. g.C.Change.makes c.args.change.now c.deref.result.now n.items) c.in-Ok-Some.field-0-is c.in-Ok-Some.ensures in
     let new = is_new _ _ _ (c.in_default.ensures.ok (Some c.in-Ok.old.items) read) in
     let now = folder_synced c.sync_folder.result _ _ _ _ c.sync_folder.ensures new in
-    made_of (g.C.Change.makes c.args.change.now) _ _ _ _ before c.deref.ensures.value (text_new _ _ _ before now ∙ c.deref-2.ensures.value) (agreed_new _ _ _ before now agrees) c.in-Ok-Some.ensures
+    made_of (g.C.Change.makes c.args.change.now) _ _ _ _ before c.deref.ensures.value (text_new _ _ _ before now ∙ c.deref-2.ensures.value) (agreed_new _ _ _ before now agrees) made
 
 pub returns-clause-alone : goal.returns-clause-alone
 returns-clause-alone g c =
