@@ -198,4 +198,4 @@ at_any_moment makes old new bytes text before c same written is made (inr put) =
     inr (subst (λ (n : List ℕ). makes before n) (sym put) (made_of makes old new bytes text before same written is made))
 
 pub of_some : {T : Type 0} (o : Option T) (v : T) (none : Type 0) (some : T → Type 0) → o ≡ Some v → MatchOption o none some → some v
-of_some o v none some is known = subst (λ (p : Option _). MatchOption p none some) is known
+of_some o v none some is known = subst (λ p. MatchOption p none some) is known
