@@ -1,17 +1,17 @@
 -- The steps of an edit, and what a crash leaves in them.
-use Rattle.std.proofs.Common.{◌≡◌, ◌⊎◌, inl, inr, ⊎_elim, ℕ, ◌+◌, ◌-◌, Bool, true, false, List, [], ◌∷◌, Option, Some, None, Result, Ok, Err, IfSome, MatchOption, OnErr, IsTrue, refl, sym, ◌∙◌, ap, subst, arith}
+use Rattle.std.proofs.Common.{◌≡◌, ◌⊎◌, inl, inr, ⊎_elim, ℕ, ◌+◌, ◌-◌, true, List, [], ◌∷◌, Option, Some, None, Result, Ok, Err, IfSome, MatchOption, OnErr, IsTrue, refl, sym, ◌∙◌, ap, subst}
 use Rattle.jsonc_files.specs.Calls.{Event, answered, was_read, created, wrote, found_mode, set_owner, set_mode, synced, compared, renamed, removed, synced_folder, failed}
-use Rattle.jsonc_files.specs.System.{Old, New, NewOnDisk, Named, State, start, kept, after, state, text_of, text_now, CrashLeaves, MayLeave}
+use Rattle.jsonc_files.specs.System.{New, NewOnDisk, Named, State, kept, state, text_of, text_now, CrashLeaves}
 use Rattle.jsonc_files.specs.Moments.{MayHaveLeft, AgreesWithRead, Has}
 use Rattle.jsonc_files.specs.Mode.{fitting}
 use Rattle.jsonc_files.specs.Order.{IsFree, IsReady}
-use Rattle.jsonc_files.specs.Edited.{IsMade, NoneBeside, HasCause, HasMade}
+use Rattle.jsonc_files.specs.Edited.{IsMade, NoneBeside, HasCause}
 use Rattle.jsonc_files.specs.Steps.{IsBefore, Keeps, IsCreated, IsFilled, IsWritten, IsPut, IsRenamed, IsGivenUp}
 use Rattle.jsonc_files.specs.declared.record.Step.{Step}
 use Rattle.jsonc_files.specs.declared.record.Step.TheVariants as step
 use Rattle.jsonc_files.specs.declared.fault.FileError.{FileError}
 use Rattle.jsonc_files.specs.declared.fault.FileError.TheVariants as error
-use Rattle.jsonc_files.proofs.Steps.{stays, goes_on, left_more, failed_same}
+use Rattle.jsonc_files.proofs.Steps.{stays, left_more, failed_same}
 
 -- before the first call
 pub at_start : (calls : List Event) → calls ≡ [] → IsBefore None 0 calls

@@ -1,7 +1,7 @@
 -- What each call keeps of `IsBefore`.
-use Rattle.std.proofs.Common.{◌≡◌, ◌⊎◌, inl, inr, ⊎_elim, ℕ, zero, suc, ◌+◌, ◌-◌, Bool, true, false, List, [], ◌∷◌, Option, Some, None, Result, Ok, Err, refl, sym, ◌∙◌, ap, subst, arith}
+use Rattle.std.proofs.Common.{◌≡◌, ⊎_elim, ℕ, List, ◌∷◌, Option, Result, Ok, Err, refl, sym, ◌∙◌, ap, subst}
 use Rattle.jsonc_files.specs.Calls.{Event, answered, opened_folder, opened, locked, found, was_read, created, wrote, found_mode, set_owner, set_mode, synced, compared, renamed, removed, synced_folder, failed}
-use Rattle.jsonc_files.specs.System.{Old, New, NewOnDisk, Named, State, kept, after, state, CrashLeaves, MayLeave}
+use Rattle.jsonc_files.specs.System.{Old, Named, State, kept, after, state, CrashLeaves}
 use Rattle.jsonc_files.specs.Moments.{MayHaveLeft}
 use Rattle.jsonc_files.specs.Steps.{IsBefore}
 use Rattle.jsonc_files.specs.declared.record.Step.{Step}

@@ -1,5 +1,5 @@
 -- How the logic stores events.
-use Rattle.std.specs.Prelude.{◌≡◌, ℕ, Bool, List, [], true, false, cond, ◌==◌, refl}
+use Rattle.std.specs.Prelude.{◌≡◌, ℕ, Bool, List, [], false, cond, ◌==◌, refl}
 use Rattle.std.specs.Coded.{Coded, code_by, coded×, coded_ℕ, coded_bool, coded_list}
 use mathlib.Core.Path.{ap}
 use Rattle.jsonc_files.specs.Calls.{Event, opened_folder, opened, locked, found, was_read, created, wrote, found_mode, set_owner, set_mode, synced, compared, renamed, removed, synced_folder, failed}

@@ -1,7 +1,7 @@
 -- What a crash may leave at any moment of a call, and after it.
 use Rattle.std.specs.Prelude.{◌≡◌, ◌⊎◌, ℕ, List, [], ◌∷◌, IfSome}
 use Rattle.jsonc_files.specs.Calls.{Event}
-use Rattle.jsonc_files.specs.System.{State, start, state, text_now, MayLeave}
+use Rattle.jsonc_files.specs.System.{start, state, text_now, MayLeave}
 
 -- what a crash may leave before the first of these calls, in or after one of them, or now
 abbrev pub MayHaveLeft : List ℕ → List Event → List ℕ → Type 0

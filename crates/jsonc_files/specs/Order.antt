@@ -1,7 +1,7 @@
 -- What has to be done before a call.
 use Rattle.std.specs.Prelude.{◌≡◌, ℕ, Bool, true, List, ◌∷◌}
 use Rattle.jsonc_files.specs.Calls.{Event, opened, locked, found, created, wrote, found_mode, set_owner, set_mode, synced, compared}
-use Rattle.jsonc_files.specs.System.{Named, Old, state}
+use Rattle.jsonc_files.specs.System.{Old, state}
 use Rattle.jsonc_files.specs.Mode.{fitting}
 
 -- The last calls opened a regular file, locked it, and then found that the name still has it.

@@ -1,6 +1,6 @@
 -- What the system is trusted to do: the text at the name after these calls, and what a crash then leaves there.
 -- A crash is a loss of power, or the death of the process: it keeps what was synchronized, and maybe more.
-use Rattle.std.specs.Prelude.{◌≡◌, ◌⊎◌, ℕ, zero, suc, ◌+◌, ◌-◌, Bool, true, false, List, [], ◌∷◌, ◌++◌, Option, Some, None, IsTrue}
+use Rattle.std.specs.Prelude.{◌≡◌, ◌⊎◌, ℕ, ◌+◌, ◌-◌, Bool, true, false, List, [], ◌∷◌, ◌++◌, Option, Some, None, IsTrue}
 use Rattle.jsonc_files.specs.Calls.{Event, was_read, created, wrote, synced, renamed, removed, synced_folder, failed}
 use Rattle.jsonc_files.specs.declared.record.Step.TheVariants.{Write, Sync}
 

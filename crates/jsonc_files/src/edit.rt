@@ -57,10 +57,7 @@ fn open_current<F: Folder>(folder: &mut F) -> Result<(), FileError>
 }
 
 /// The text of the file that the name has, which is locked from before it is read.
-fn read_current<F: Folder, A: Allocator>(
-    alloc: A,
-    folder: &mut F,
-) -> Result<Vec<u8, A>, FileError>
+fn read_current<F: Folder, A: Allocator>(alloc: A, folder: &mut F) -> Result<Vec<u8, A>, FileError>
     ensures ok { IfOk result (λ text. IsBefore None 0 (F.calls folder.old) → IsBefore (Some text.items) 0 (F.calls folder.new)) }
     ensures err { OnErr result (Keeps (F.calls folder.old) (F.calls folder.new)) }
     ensures cause { IfErr result (HasCause (F.calls folder.new)) }

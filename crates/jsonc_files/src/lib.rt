@@ -11,5 +11,5 @@ pub mod record;
 pub use change::Change;
 pub use edit::{Edited, replace};
 pub use fault::{Fault, FileError};
-pub use mode::fitting_mode;
 pub use folder::{Folder, Owners};
+pub use mode::fitting_mode;

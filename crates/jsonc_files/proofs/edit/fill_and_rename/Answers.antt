@@ -1,5 +1,3 @@
-use Rattle.std.proofs.Common.{Result, Ok, Err, OnErr}
-use Rattle.jsonc_files.specs.Steps.{Keeps}
 use Rattle.jsonc_files.proofs.Edits.{filled_keeps, keeps_both}
 use Rattle.jsonc_files.proofs.edit.fill_and_rename.Goals as goal
 

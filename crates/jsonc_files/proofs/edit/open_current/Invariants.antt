@@ -7,5 +7,5 @@ use Rattle.jsonc_files.proofs.edit.open_current.Given as goal
 abbrev pub invariant-loop-attempt : goal.invariant-loop-attempt
 invariant-loop-attempt g l = record {
   keeps : Keeps (g.F.Folder.calls l.initial.folder) (g.F.Folder.calls l.folder);
-  replaced : 0 < l._attempt → IsMade (found false) (g.F.Folder.calls l.folder)
+  replaced : 0 < l._attempt → IsMade (found false) (g.F.Folder.calls l.folder);
 }
