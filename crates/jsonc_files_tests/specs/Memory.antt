@@ -4,4 +4,4 @@ use Rattle.jsonc_files_tests.specs.declared.tests.memory.Memory.{Memory}
 
 -- its member `calls`
 abbrev pub calls_of : Memory → List Event
-calls_of m = m.record.calls
+calls_of m = m.made.calls

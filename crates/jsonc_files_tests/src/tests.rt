@@ -58,7 +58,8 @@ impl<A: Allocator + Copy> Change<A> for Shout<A> {
 /// The folder after an edit of a file with this text, and what the edit answered.
 fn edited(alloc: Global, text: &[u8], event: Event) -> Result<(Memory, Result<Edited, Fault<Refusal>>), AllocError> {
     let mut folder = Memory::new(alloc, text.to_vec(alloc)?, event);
-    let answer = replace(alloc, &mut folder, &mut Shout { alloc });
+    let mut change = Shout { alloc };
+    let answer = replace(alloc, &mut folder, &mut change);
     Ok((folder, answer))
 }
 
@@ -95,8 +96,10 @@ fn the_text_is_replaced(rt: HostRuntime) -> Result<(), Fail> {
 /// is there.
 #[test]
 fn each_step_fails_in_turn(rt: HostRuntime) -> Result<(), Fail> {
-    for (number, step) in STEPS.iter().enumerate() {
-        let (folder, answer) = edited(rt.alloc(), OLD, Event::Fails(number as u32))?;
+    let mut number = 0u32;
+    for step in STEPS.iter() {
+        let (folder, answer) = edited(rt.alloc(), OLD, Event::Fails(number))?;
+        number = number.saturating_add(1);
         let is_named = match answer {
             Err(Fault::File(FileError::Failed(named, error))) => {
                 named == *step && error.kind() == ErrorKind::StorageFull && folder.named.bytes.as_slice() == OLD
@@ -202,7 +205,8 @@ fn modes_give_nobody_more(rt: HostRuntime) -> Result<(), Fail> {
 /// What came of an edit, with this memory for the texts.
 fn with_memory<A: Allocator + Copy>(alloc: Global, heap: A) -> Result<Outcome, AllocError> {
     let mut folder = Memory::new(alloc, OLD.to_vec(alloc)?, Event::Nothing);
-    let answer = replace(heap, &mut folder, &mut Shout { alloc: heap });
+    let mut change = Shout { alloc: heap };
+    let answer = replace(heap, &mut folder, &mut change);
     let text = folder.named.bytes.as_slice();
     Ok(match answer {
         Ok(Edited::Replaced) => Outcome::of(text == NEW),

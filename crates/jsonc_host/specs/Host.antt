@@ -5,4 +5,4 @@ use Rattle.jsonc_host.specs.declared.host.HostFolder.{HostFolder}
 
 -- its member `calls`
 abbrev pub calls_of : HostFolder → List Event
-calls_of host = host.record.calls
+calls_of host = host.made.calls

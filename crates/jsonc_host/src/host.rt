@@ -36,7 +36,7 @@ pub struct HostFolder<'a> {
     /// What the system said of the file before it was read.
     seen: Option<Metadata>,
     new: Option<NewFile>,
-    record: Record,
+    made: Record,
 }
 
 /// What a step before has not made.
@@ -85,7 +85,7 @@ impl<'a> HostFolder<'a> {
             file: None,
             seen: None,
             new: None,
-            record: Record::new(),
+            made: Record::new(),
         }
     }
 
@@ -129,7 +129,9 @@ impl<'a> HostFolder<'a> {
         }
     }
 
-    fn read_all<A: Allocator>(&mut self, alloc: A) -> io::Result<Vec<u8, A>> {
+    fn read_all<A: Allocator>(&mut self, alloc: A) -> io::Result<Vec<u8, A>>
+        ensures { calls_of self.new ≡ calls_of self.old }
+    {
         let Some(file) = &mut self.file else {
             return Err(missing());
         };
@@ -176,17 +178,17 @@ impl<'a> HostFolder<'a> {
 }
 
 impl Folder for HostFolder<'_> {
-    ghost calls = { λ host. host.record.calls };
+    ghost calls = { λ host. host.made.calls };
 
     fn open_folder(&mut self) -> io::Result<()> {
         match self.find_place() {
             Ok(place) => {
                 self.place = Some(place);
-                self.record.note(&Call::OpenedFolder);
+                self.made.note(&Call::OpenedFolder);
                 Ok(())
             }
             Err(error) => {
-                self.record.note(&Call::Failed(Step::OpenFolder));
+                self.made.note(&Call::Failed(Step::OpenFolder));
                 Err(error)
             }
         }
@@ -197,11 +199,11 @@ impl Folder for HostFolder<'_> {
             Ok(file) => {
                 let is_regular = file.is_some();
                 self.file = file;
-                self.record.note(&Call::Opened(is_regular));
+                self.made.note(&Call::Opened(is_regular));
                 Ok(is_regular)
             }
             Err(error) => {
-                self.record.note(&Call::Failed(Step::Open));
+                self.made.note(&Call::Failed(Step::Open));
                 Err(error)
             }
         }
@@ -213,8 +215,8 @@ impl Folder for HostFolder<'_> {
             None => Err(missing()),
         };
         match answer {
-            Ok(()) => self.record.note(&Call::Locked),
-            Err(_) => self.record.note(&Call::Failed(Step::Lock)),
+            Ok(()) => self.made.note(&Call::Locked),
+            Err(_) => self.made.note(&Call::Failed(Step::Lock)),
         }
         answer
     }
@@ -222,8 +224,8 @@ impl Folder for HostFolder<'_> {
     fn find(&mut self) -> io::Result<bool> {
         let answer = self.has_name();
         match answer {
-            Ok(same) => self.record.note(&Call::Found(same)),
-            Err(_) => self.record.note(&Call::Failed(Step::Find)),
+            Ok(same) => self.made.note(&Call::Found(same)),
+            Err(_) => self.made.note(&Call::Failed(Step::Find)),
         }
         answer
     }
@@ -231,11 +233,11 @@ impl Folder for HostFolder<'_> {
     fn read<A: Allocator>(&mut self, alloc: A) -> io::Result<Vec<u8, A>> {
         match self.read_all(alloc) {
             Ok(bytes) => {
-                self.record.note(&Call::Read(bytes.as_slice()));
+                self.made.note(&Call::Read(bytes.as_slice()));
                 Ok(bytes)
             }
             Err(error) => {
-                self.record.note(&Call::Failed(Step::Read));
+                self.made.note(&Call::Failed(Step::Read));
                 Err(error)
             }
         }
@@ -245,11 +247,11 @@ impl Folder for HostFolder<'_> {
         match self.make(mode) {
             Ok(new) => {
                 self.new = Some(new);
-                self.record.note(&Call::Created(mode));
+                self.made.note(&Call::Created(mode));
                 Ok(())
             }
             Err(error) => {
-                self.record.note(&Call::Failed(Step::Create));
+                self.made.note(&Call::Failed(Step::Create));
                 Err(error)
             }
         }
@@ -261,8 +263,8 @@ impl Folder for HostFolder<'_> {
             None => Err(missing()),
         };
         match answer {
-            Ok(()) => self.record.note(&Call::Wrote(bytes)),
-            Err(_) => self.record.note(&Call::Failed(Step::Write)),
+            Ok(()) => self.made.note(&Call::Wrote(bytes)),
+            Err(_) => self.made.note(&Call::Failed(Step::Write)),
         }
         answer
     }
@@ -273,8 +275,8 @@ impl Folder for HostFolder<'_> {
             None => Err(missing()),
         };
         match answer {
-            Ok(mode) => self.record.note(&Call::FoundMode(mode)),
-            Err(_) => self.record.note(&Call::Failed(Step::FindMode)),
+            Ok(mode) => self.made.note(&Call::FoundMode(mode)),
+            Err(_) => self.made.note(&Call::Failed(Step::FindMode)),
         }
         answer
     }
@@ -282,8 +284,8 @@ impl Folder for HostFolder<'_> {
     fn set_owner(&mut self) -> io::Result<Owners> {
         let answer = self.give_owner();
         match answer {
-            Ok(owners) => self.record.note(&Call::SetOwner(owners.owner, owners.group)),
-            Err(_) => self.record.note(&Call::Failed(Step::SetOwner)),
+            Ok(owners) => self.made.note(&Call::SetOwner(owners.owner, owners.group)),
+            Err(_) => self.made.note(&Call::Failed(Step::SetOwner)),
         }
         answer
     }
@@ -294,8 +296,8 @@ impl Folder for HostFolder<'_> {
             None => Err(missing()),
         };
         match answer {
-            Ok(()) => self.record.note(&Call::SetMode(mode)),
-            Err(_) => self.record.note(&Call::Failed(Step::SetMode)),
+            Ok(()) => self.made.note(&Call::SetMode(mode)),
+            Err(_) => self.made.note(&Call::Failed(Step::SetMode)),
         }
         answer
     }
@@ -306,8 +308,8 @@ impl Folder for HostFolder<'_> {
             None => Err(missing()),
         };
         match answer {
-            Ok(()) => self.record.note(&Call::Synced),
-            Err(_) => self.record.note(&Call::Failed(Step::Sync)),
+            Ok(()) => self.made.note(&Call::Synced),
+            Err(_) => self.made.note(&Call::Failed(Step::Sync)),
         }
         answer
     }
@@ -319,8 +321,8 @@ impl Folder for HostFolder<'_> {
             (_, Err(error)) => Err(error),
         };
         match answer {
-            Ok(same) => self.record.note(&Call::Compared(same)),
-            Err(_) => self.record.note(&Call::Failed(Step::Compare)),
+            Ok(same) => self.made.note(&Call::Compared(same)),
+            Err(_) => self.made.note(&Call::Failed(Step::Compare)),
         }
         answer
     }
@@ -333,8 +335,8 @@ impl Folder for HostFolder<'_> {
             _ => Err(missing()),
         };
         match answer {
-            Ok(()) => self.record.note(&Call::Renamed),
-            Err(_) => self.record.note(&Call::Failed(Step::Rename)),
+            Ok(()) => self.made.note(&Call::Renamed),
+            Err(_) => self.made.note(&Call::Failed(Step::Rename)),
         }
         answer
     }
@@ -345,8 +347,8 @@ impl Folder for HostFolder<'_> {
             None => Err(missing()),
         };
         match answer {
-            Ok(()) => self.record.note(&Call::Removed),
-            Err(_) => self.record.note(&Call::Failed(Step::Remove)),
+            Ok(()) => self.made.note(&Call::Removed),
+            Err(_) => self.made.note(&Call::Failed(Step::Remove)),
         }
         answer
     }
@@ -357,8 +359,8 @@ impl Folder for HostFolder<'_> {
             None => Err(missing()),
         };
         match answer {
-            Ok(()) => self.record.note(&Call::SyncedFolder),
-            Err(_) => self.record.note(&Call::Failed(Step::SyncFolder)),
+            Ok(()) => self.made.note(&Call::SyncedFolder),
+            Err(_) => self.made.note(&Call::Failed(Step::SyncFolder)),
         }
         answer
     }

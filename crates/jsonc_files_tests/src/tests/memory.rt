@@ -46,7 +46,7 @@ pub struct Memory {
     pub was: Option<Text>,
     /// The new file.
     pub beside: Option<Text>,
-    record: Record,
+    made: Record,
 }
 
 impl Memory {
@@ -67,7 +67,7 @@ impl Memory {
             },
             was: None,
             beside: None,
-            record: Record::new(),
+            made: Record::new(),
         }
     }
 
@@ -77,7 +77,9 @@ impl Memory {
     }
 
     /// Counts a call, and tells whether it fails.
-    fn turn(&mut self) -> io::Result<()> {
+    fn turn(&mut self) -> io::Result<()>
+        ensures { calls_of self.new ≡ calls_of self.old }
+    {
         let number = self.count;
         self.count = self.count.saturating_add(1);
         let fails = match self.event {
@@ -93,7 +95,9 @@ impl Memory {
     }
 
     /// Counts a call that may be tried again, and tells whether it is one of so many first ones.
-    fn is_early(&mut self, limit: u32) -> bool {
+    fn is_early(&mut self, limit: u32) -> bool
+        ensures { calls_of self.new ≡ calls_of self.old }
+    {
         let number = self.tries;
         self.tries = self.tries.saturating_add(1);
         number < limit
@@ -106,13 +110,13 @@ fn missing() -> io::Error {
 }
 
 impl Folder for Memory {
-    ghost calls = { λ m. m.record.calls };
+    ghost calls = { λ m. m.made.calls };
 
     fn open_folder(&mut self) -> io::Result<()> {
         let answer = self.turn();
         match answer {
-            Ok(()) => self.record.note(&Call::OpenedFolder),
-            Err(_) => self.record.note(&Call::Failed(Step::OpenFolder)),
+            Ok(()) => self.made.note(&Call::OpenedFolder),
+            Err(_) => self.made.note(&Call::Failed(Step::OpenFolder)),
         }
         answer
     }
@@ -121,11 +125,11 @@ impl Folder for Memory {
         let is_regular = self.event != Event::IsNoFile;
         match self.turn() {
             Ok(()) => {
-                self.record.note(&Call::Opened(is_regular));
+                self.made.note(&Call::Opened(is_regular));
                 Ok(is_regular)
             }
             Err(error) => {
-                self.record.note(&Call::Failed(Step::Open));
+                self.made.note(&Call::Failed(Step::Open));
                 Err(error)
             }
         }
@@ -134,8 +138,8 @@ impl Folder for Memory {
     fn lock(&mut self) -> io::Result<()> {
         let answer = self.turn();
         match answer {
-            Ok(()) => self.record.note(&Call::Locked),
-            Err(_) => self.record.note(&Call::Failed(Step::Lock)),
+            Ok(()) => self.made.note(&Call::Locked),
+            Err(_) => self.made.note(&Call::Failed(Step::Lock)),
         }
         answer
     }
@@ -147,11 +151,11 @@ impl Folder for Memory {
         };
         match self.turn() {
             Ok(()) => {
-                self.record.note(&Call::Found(same));
+                self.made.note(&Call::Found(same));
                 Ok(same)
             }
             Err(error) => {
-                self.record.note(&Call::Failed(Step::Find));
+                self.made.note(&Call::Failed(Step::Find));
                 Err(error)
             }
         }
@@ -161,17 +165,17 @@ impl Folder for Memory {
         let copied = match self.turn() {
             Ok(()) => self.named.bytes.to_vec(alloc),
             Err(error) => {
-                self.record.note(&Call::Failed(Step::Read));
+                self.made.note(&Call::Failed(Step::Read));
                 return Err(error);
             }
         };
         match copied {
             Ok(bytes) => {
-                self.record.note(&Call::Read(&bytes));
+                self.made.note(&Call::Read(&bytes));
                 Ok(bytes)
             }
             Err(error) => {
-                self.record.note(&Call::Failed(Step::Read));
+                self.made.note(&Call::Failed(Step::Read));
                 Err(error.into())
             }
         }
@@ -193,9 +197,9 @@ impl Folder for Memory {
                     is_synced: false,
                     mode,
                 });
-                self.record.note(&Call::Created(mode));
+                self.made.note(&Call::Created(mode));
             }
-            Err(_) => self.record.note(&Call::Failed(Step::Create)),
+            Err(_) => self.made.note(&Call::Failed(Step::Create)),
         }
         answer
     }
@@ -210,8 +214,8 @@ impl Folder for Memory {
             (Err(error), _) => Err(error),
         };
         match answer {
-            Ok(()) => self.record.note(&Call::Wrote(bytes)),
-            Err(_) => self.record.note(&Call::Failed(Step::Write)),
+            Ok(()) => self.made.note(&Call::Wrote(bytes)),
+            Err(_) => self.made.note(&Call::Failed(Step::Write)),
         }
         answer
     }
@@ -220,11 +224,11 @@ impl Folder for Memory {
         let mode = self.named.mode;
         match self.turn() {
             Ok(()) => {
-                self.record.note(&Call::FoundMode(mode));
+                self.made.note(&Call::FoundMode(mode));
                 Ok(mode)
             }
             Err(error) => {
-                self.record.note(&Call::Failed(Step::FindMode));
+                self.made.note(&Call::Failed(Step::FindMode));
                 Err(error)
             }
         }
@@ -234,14 +238,14 @@ impl Folder for Memory {
         let is_set = self.event != Event::HasOtherOwner;
         match self.turn() {
             Ok(()) => {
-                self.record.note(&Call::SetOwner(is_set, is_set));
+                self.made.note(&Call::SetOwner(is_set, is_set));
                 Ok(Owners {
                     owner: is_set,
                     group: is_set,
                 })
             }
             Err(error) => {
-                self.record.note(&Call::Failed(Step::SetOwner));
+                self.made.note(&Call::Failed(Step::SetOwner));
                 Err(error)
             }
         }
@@ -257,8 +261,8 @@ impl Folder for Memory {
             (Err(error), _) => Err(error),
         };
         match answer {
-            Ok(()) => self.record.note(&Call::SetMode(mode)),
-            Err(_) => self.record.note(&Call::Failed(Step::SetMode)),
+            Ok(()) => self.made.note(&Call::SetMode(mode)),
+            Err(_) => self.made.note(&Call::Failed(Step::SetMode)),
         }
         answer
     }
@@ -273,8 +277,8 @@ impl Folder for Memory {
             (Err(error), _) => Err(error),
         };
         match answer {
-            Ok(()) => self.record.note(&Call::Synced),
-            Err(_) => self.record.note(&Call::Failed(Step::Sync)),
+            Ok(()) => self.made.note(&Call::Synced),
+            Err(_) => self.made.note(&Call::Failed(Step::Sync)),
         }
         answer
     }
@@ -283,11 +287,11 @@ impl Folder for Memory {
         let same = self.event != Event::Changes;
         match self.turn() {
             Ok(()) => {
-                self.record.note(&Call::Compared(same));
+                self.made.note(&Call::Compared(same));
                 Ok(same)
             }
             Err(error) => {
-                self.record.note(&Call::Failed(Step::Compare));
+                self.made.note(&Call::Failed(Step::Compare));
                 Err(error)
             }
         }
@@ -307,8 +311,8 @@ impl Folder for Memory {
             }
         };
         match answer {
-            Ok(()) => self.record.note(&Call::Renamed),
-            Err(_) => self.record.note(&Call::Failed(Step::Rename)),
+            Ok(()) => self.made.note(&Call::Renamed),
+            Err(_) => self.made.note(&Call::Failed(Step::Rename)),
         }
         answer
     }
@@ -318,9 +322,9 @@ impl Folder for Memory {
         match answer {
             Ok(()) => {
                 self.beside = None;
-                self.record.note(&Call::Removed);
+                self.made.note(&Call::Removed);
             }
-            Err(_) => self.record.note(&Call::Failed(Step::Remove)),
+            Err(_) => self.made.note(&Call::Failed(Step::Remove)),
         }
         answer
     }
@@ -330,9 +334,9 @@ impl Folder for Memory {
         match answer {
             Ok(()) => {
                 self.was = None;
-                self.record.note(&Call::SyncedFolder);
+                self.made.note(&Call::SyncedFolder);
             }
-            Err(_) => self.record.note(&Call::Failed(Step::SyncFolder)),
+            Err(_) => self.made.note(&Call::Failed(Step::SyncFolder)),
         }
         answer
     }
