@@ -59,7 +59,10 @@ fn is_same_file(a: &Metadata, b: &Metadata) -> bool {
 }
 
 fn is_unchanged(a: &Metadata, b: &Metadata) -> bool {
-    is_same_file(a, b) && a.len() == b.len() && a.ctime() == b.ctime() && a.ctime_nsec() == b.ctime_nsec()
+    is_same_file(a, b)
+        && a.len() == b.len()
+        && a.ctime() == b.ctime()
+        && a.ctime_nsec() == b.ctime_nsec()
 }
 
 /// Opens a file that is to be read. It is opened for writing too where that may be, since some file systems lock no
@@ -69,6 +72,14 @@ fn open_to_lock(rt: &HostRuntime, path: &str) -> io::Result<File> {
         Ok(file) => Ok(file),
         Err(_) => File::open(rt, path),
     }
+}
+
+/// The text of an open file, and what the system said of the file before it was read.
+fn read_all<A: Allocator>(file: &mut File, alloc: A) -> io::Result<(Metadata, Vec<u8, A>)> {
+    let seen = file.metadata()?;
+    let mut bytes = Vec::new(alloc);
+    file.read_to_end(&mut bytes)?;
+    Ok((seen, bytes))
 }
 
 impl<'a> HostFolder<'a> {
@@ -127,18 +138,6 @@ impl<'a> HostFolder<'a> {
             Some(file) => Ok(is_same_file(&file.metadata()?, &self.under_name()?)),
             None => Err(missing()),
         }
-    }
-
-    fn read_all<A: Allocator>(&mut self, alloc: A) -> io::Result<Vec<u8, A>>
-        ensures { calls_of self.new ≡ calls_of self.old }
-    {
-        let Some(file) = &mut self.file else {
-            return Err(missing());
-        };
-        self.seen = Some(file.metadata()?);
-        let mut bytes = Vec::new(alloc);
-        file.read_to_end(&mut bytes)?;
-        Ok(bytes)
     }
 
     fn make(&self, mode: u32) -> io::Result<NewFile> {
@@ -231,8 +230,13 @@ impl Folder for HostFolder<'_> {
     }
 
     fn read<A: Allocator>(&mut self, alloc: A) -> io::Result<Vec<u8, A>> {
-        match self.read_all(alloc) {
-            Ok(bytes) => {
+        let answer = match &mut self.file {
+            Some(file) => read_all(file, alloc),
+            None => Err(missing()),
+        };
+        match answer {
+            Ok((seen, bytes)) => {
+                self.seen = Some(seen);
                 self.made.note(&Call::Read(bytes.as_slice()));
                 Ok(bytes)
             }
