@@ -1,6 +1,6 @@
 -- What an edit of a file says of the name, by what came of it.
 use Rattle.std.specs.Prelude.{◌≡◌, ◌⊎◌, ℕ, false, List, [], ◌∷◌}
-use Rattle.jsonc_files.specs.Calls.{Event, opened, found, compared, failed}
+use Rattle.jsonc_files.specs.Calls.{Event, opened, found, created, compared, failed}
 use Rattle.jsonc_files.specs.System.{state, text_now}
 use Rattle.jsonc_files.specs.Moments.{Has}
 use Rattle.jsonc_files.specs.declared.record.Step.TheVariants as step
@@ -24,6 +24,12 @@ AfterFault makes before calls _ = Has before calls before
 abbrev pub IsMade : Event → List Event → Type 0
 IsMade event [] = ⊥
 IsMade event (call ∷ earlier) = (call ≡ event) ⊎ IsMade event earlier
+
+-- no call made a new file
+abbrev pub MadeNoFile : List Event → Type 0
+MadeNoFile [] = Unit {0}
+MadeNoFile (created _ ∷ _) = ⊥
+MadeNoFile (_ ∷ earlier) = MadeNoFile earlier
 
 -- There is no new file but under the name, or removing it failed.
 abbrev pub NoneBeside : List Event → Type 0

@@ -3,7 +3,7 @@ ghost use Rattle.std.specs.Prelude.{◌≡◌, ◌⊎◌, ℕ, Option, Some, Non
 ghost use Rattle.jsonc_files.specs.Calls.{Event, found, synced, compared, renamed};
 ghost use Rattle.jsonc_files.specs.Order.{IsLocked, IsFree};
 ghost use Rattle.jsonc_files.specs.Moments.{MayHaveLeft, AgreesWithRead};
-ghost use Rattle.jsonc_files.specs.Edited.{HasMade, AfterFault, NoneBeside, IsMade, HasCause, CausesFault};
+ghost use Rattle.jsonc_files.specs.Edited.{HasMade, AfterFault, NoneBeside, MadeNoFile, IsMade, HasCause, CausesFault};
 ghost use Rattle.jsonc_files.specs.Steps.{IsBefore, Keeps, IsCreated, IsFilled, IsWritten, IsPut, IsRenamed, IsGivenUp};
 
 use crate::mode::fitting_mode;
@@ -21,6 +21,7 @@ const TRIES: usize = 16;
 /// Opens the file and locks it, and tells whether the name still has it.
 fn open_locked<F: Folder>(folder: &mut F) -> Result<bool, FileError>
     ensures keeps { Keeps (F.calls folder.old) (F.calls folder.new) }
+    ensures nothing { MadeNoFile (F.calls folder.old) → MadeNoFile (F.calls folder.new) }
     ensures locked { IfOk result (λ same. IsTrue same → IsLocked (F.calls folder.new)) }
     ensures replaced { IfOk result (λ same. IsFalse same → IsMade (found false) (F.calls folder.new)) }
     ensures cause { IfErr result (HasCause (F.calls folder.new)) }
@@ -45,6 +46,7 @@ fn open_locked<F: Folder>(folder: &mut F) -> Result<bool, FileError>
 /// Opens and locks the file that the name has, again where another has taken the name meanwhile.
 fn open_current<F: Folder>(folder: &mut F) -> Result<(), FileError>
     ensures keeps { Keeps (F.calls folder.old) (F.calls folder.new) }
+    ensures nothing { MadeNoFile (F.calls folder.old) → MadeNoFile (F.calls folder.new) }
     ensures locked { OnOk result (IsLocked (F.calls folder.new)) }
     ensures cause { IfErr result (HasCause (F.calls folder.new)) }
 {
@@ -58,6 +60,7 @@ fn open_current<F: Folder>(folder: &mut F) -> Result<(), FileError>
 
 /// The text of the file that the name has, which is locked from before it is read.
 fn read_current<F: Folder, A: Allocator>(alloc: A, folder: &mut F) -> Result<Vec<u8, A>, FileError>
+    ensures nothing { MadeNoFile (F.calls folder.old) → MadeNoFile (F.calls folder.new) }
     ensures ok { IfOk result (λ text. IsBefore None 0 (F.calls folder.old) → IsBefore (Some text.items) 0 (F.calls folder.new)) }
     ensures err { OnErr result (Keeps (F.calls folder.old) (F.calls folder.new)) }
     ensures cause { IfErr result (HasCause (F.calls folder.new)) }
@@ -187,6 +190,9 @@ pub fn replace<F: Folder, A: Allocator, C: Change<A>>(
 
     ensures done { (before : List ℕ) → AgreesWithRead before (F.calls folder.new)
         → OnOk result (HasMade (C.makes change.old) before (F.calls folder.new)) }
+    // Where nothing changes, nothing is written.
+    ensures unchanged { IfOk result (λ edited. edited ≡ Edited.Unchanged → MadeNoFile (F.calls folder.new)) }
+
     ensures fault { (before : List ℕ) → AgreesWithRead before (F.calls folder.new)
         → IfErr result (AfterFault (C.makes change.old) before (F.calls folder.new)) }
     ensures cause { (before : List ℕ) → AgreesWithRead before (F.calls folder.new)
