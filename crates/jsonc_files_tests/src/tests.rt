@@ -56,7 +56,11 @@ impl<A: Allocator + Copy> Change<A> for Shout<A> {
 }
 
 /// The folder after an edit of a file with this text, and what the edit answered.
-fn edited(alloc: Global, text: &[u8], event: Event) -> Result<(Memory, Result<Edited, Fault<Refusal>>), AllocError> {
+fn edited(
+    alloc: Global,
+    text: &[u8],
+    event: Event,
+) -> Result<(Memory, Result<Edited, Fault<Refusal>>), AllocError> {
     let mut folder = Memory::new(alloc, text.to_vec(alloc)?, event);
     let mut change = Shout { alloc };
     let answer = replace(alloc, &mut folder, &mut change);
@@ -102,10 +106,14 @@ fn each_step_fails_in_turn(rt: HostRuntime) -> Result<(), Fail> {
         number = number.saturating_add(1);
         let is_named = match answer {
             Err(Fault::File(FileError::Failed(named, error))) => {
-                named == *step && error.kind() == ErrorKind::StorageFull && folder.named.bytes.as_slice() == OLD
+                named == *step
+                    && error.kind() == ErrorKind::StorageFull
+                    && folder.named.bytes.as_slice() == OLD
             }
             Err(Fault::NotDurable(error)) => {
-                *step == Step::SyncFolder && error.kind() == ErrorKind::StorageFull && folder.named.bytes.as_slice() == NEW
+                *step == Step::SyncFolder
+                    && error.kind() == ErrorKind::StorageFull
+                    && folder.named.bytes.as_slice() == NEW
             }
             _ => false,
         };
@@ -212,10 +220,7 @@ fn with_memory<A: Allocator + Copy>(alloc: Global, heap: A) -> Result<Outcome, A
         Ok(Edited::Replaced) => Outcome::of(text == NEW),
         Err(Fault::Refused(Refusal::Memory)) if text == OLD => Outcome::Wanted,
         Err(Fault::File(FileError::Failed(Step::Read, error)))
-            if error.kind() == ErrorKind::OutOfMemory && text == OLD =>
-        {
-            Outcome::Wanted
-        }
+            if error.kind() == ErrorKind::OutOfMemory && text == OLD => { Outcome::Wanted }
         _ => Outcome::Other,
     })
 }
@@ -223,8 +228,10 @@ fn with_memory<A: Allocator + Copy>(alloc: Global, heap: A) -> Result<Outcome, A
 #[test]
 fn memory_is_refused_in_turn(rt: HostRuntime) -> Result<(), Fail> {
     let alloc = rt.alloc();
-    assert!(rt; is_refused_in_turn(alloc, |heap| {
-        with_memory(alloc, heap).unwrap_or(Outcome::Other)
-    }));
+    assert!(rt;
+        is_refused_in_turn(alloc, |heap| {
+            with_memory(alloc, heap).unwrap_or(Outcome::Other)
+        })
+    );
     Ok(())
 }
