@@ -50,10 +50,9 @@ pub struct Memory {
 }
 
 impl Memory {
-    ghost use Rattle.jsonc_files_tests.specs.Memory.{calls_of};
 
     pub fn new(alloc: Global, bytes: Vec<u8>, event: Event) -> Memory
-        ensures { calls_of result ≡ [] }
+        ensures { result.made.calls ≡ [] }
     {
         Memory {
             alloc,
@@ -78,7 +77,7 @@ impl Memory {
 
     /// Counts a call, and tells whether it fails.
     fn turn(&mut self) -> io::Result<()>
-        ensures { calls_of self.new ≡ calls_of self.old }
+        ensures { self.new.made.calls ≡ self.old.made.calls }
     {
         let number = self.count;
         self.count = self.count.saturating_add(1);
@@ -96,7 +95,7 @@ impl Memory {
 
     /// Counts a call that may be tried again, and tells whether it is one of so many first ones.
     fn is_early(&mut self, limit: u32) -> bool
-        ensures { calls_of self.new ≡ calls_of self.old }
+        ensures { self.new.made.calls ≡ self.old.made.calls }
     {
         let number = self.tries;
         self.tries = self.tries.saturating_add(1);
