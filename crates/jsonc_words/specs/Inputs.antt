@@ -18,12 +18,12 @@ IsNamed (File name) = name.now ≢ codes "-"
 
 -- the word names the input
 pub record IsInput (word : List ℕ) (input : Input) : Type 0 where
-  pub word : word_of input ≡ word
+  pub written : word_of input ≡ word
   pub named : IsNamed input
 
 -- each word names an input
 pub record AreInputs (words : List (List ℕ)) (inputs : List Input) : Type 0 where
-  pub words : map word_of inputs ≡ words
+  pub written : map word_of inputs ≡ words
   pub named : All IsNamed inputs
 
 abbrev pub is_standard : Input → Bool

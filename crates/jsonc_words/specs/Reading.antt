@@ -98,8 +98,8 @@ IsCommand found (command.Lint format commas) =
 
 -- the command of this name, as `clap` found it
 pub record IsCommandOf (found : Found) (name : CommandName) (command : Command) : Type 0 where
-  pub name : name_of command ≡ name
-  pub found : IsCommand found command
+  pub named : name_of command ≡ name
+  pub arguments : IsCommand found command
 
 -- the argument of a command that `-f` may give, where it has one
 abbrev pub text_id : CommandName → Option (List ℕ)
@@ -134,7 +134,7 @@ pub record IsReadFrom (name : CommandName) (words : List (List ℕ)) (call : Cal
   pub matches : ArgMatches
   pub command : clap.Command
   pub parsed : IsParsedFrom command matches
-  pub words : HasMatchesOf (app_of command) words matches
+  pub taken : HasMatchesOf (app_of command) words matches
   pub read : IsRead (found_of matches) name call
 
 -- the call is what `clap` found in the words after the program's name, of which the first names the command

@@ -6,7 +6,7 @@ use clap::Command;
 use std::alloc::{AllocError, Global};
 
 /// One line on what the command does.
-fn about(name: CommandName) -> &'static str {
+fn about<'a>(name: CommandName) -> &'a str {
     match name {
         CommandName::Check => "Checks documents, and writes nothing",
         CommandName::Print => "Writes the document as it is",
@@ -27,7 +27,7 @@ fn about(name: CommandName) -> &'static str {
 }
 
 /// The usage of the command, with each form of its arguments.
-fn usage(name: CommandName) -> &'static str {
+fn usage<'a>(name: CommandName) -> &'a str {
     match name {
         CommandName::Check => "jsonc check [OPTIONS] [FILE]...",
         CommandName::Print => "jsonc print [OPTIONS] [FILE]...",
@@ -60,7 +60,7 @@ fn usage(name: CommandName) -> &'static str {
 }
 
 /// An example of the command.
-fn example(name: CommandName) -> &'static str {
+fn example<'a>(name: CommandName) -> &'a str {
     match name {
         CommandName::Check => "Example:\n  jsonc check --dialect jsonc */settings.json",
         CommandName::Print => "Example:\n  jsonc print settings.json",
@@ -153,7 +153,8 @@ pub(crate) fn command_of<'a>(
     alloc: Global,
     name: CommandName,
 ) -> Result<Command<'a>, AllocError> {
-    let command = Command::new(alloc, name.as_str())
+    let word: &'a str = name.as_str();
+    let command = Command::new(alloc, word)
         .about(about(name))
         .override_usage(usage(name))
         .after_help(example(name));

@@ -6,7 +6,7 @@ ghost use Rattle.jsonc_words.specs.Inputs.{IsInput, is_standard, reads_standard}
 use crate::name::CommandName;
 
 /// A file by its name, or standard input, which the word `-` stands for.
-#[derive(Clone, Copy, Debug, PartialEq, Eq)]
+#[derive(Clone, Copy, Debug)]
 pub enum Input<'a> {
     Standard,
     File(&'a str),
@@ -36,7 +36,7 @@ impl<'a> Input<'a> {
 }
 
 /// The text of an argument: a word, or the contents of what `-f` names.
-#[derive(Clone, Copy, Debug, PartialEq, Eq)]
+#[derive(Clone, Copy, Debug)]
 pub enum Text<'a> {
     Word(&'a str),
     In(Input<'a>),
@@ -55,14 +55,14 @@ impl Text<'_> {
 }
 
 /// A value: JSON, or with `--string` the string itself.
-#[derive(Clone, Copy, Debug, PartialEq, Eq)]
+#[derive(Clone, Copy, Debug)]
 pub struct Value<'a> {
     pub text: Text<'a>,
     pub is_string: bool,
 }
 
 /// Which texts are taken.
-#[derive(Clone, Copy, Debug, PartialEq, Eq)]
+#[derive(Clone, Copy, Debug)]
 pub enum Dialect {
     Json,
     Jsonc,
@@ -71,7 +71,7 @@ pub enum Dialect {
 }
 
 /// How findings are written.
-#[derive(Clone, Copy, Debug, PartialEq, Eq)]
+#[derive(Clone, Copy, Debug)]
 pub enum Format {
     Text,
     Json,
@@ -79,7 +79,7 @@ pub enum Format {
 
 /// A command with its arguments and its own options. A place is a word as it is given: a JSON Pointer, or an array of
 /// names.
-#[derive(Clone, Copy, Debug, PartialEq, Eq)]
+#[derive(Clone, Copy, Debug)]
 pub enum Command<'a> {
     Check {
         format: Format,

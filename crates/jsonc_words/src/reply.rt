@@ -1,7 +1,8 @@
 //! What is printed in place of a run.
-ghost use Rattle.std.specs.Prelude.{◌≡◌, IfErr};
+ghost use Rattle.std.specs.Prelude.{◌≡◌};
 ghost use Rattle.jsonc_words.specs.Calls.{status_of};
 ghost use Rattle.clap.specs.Values.{kind_of};
+ghost use Rattle.clap.specs.declared.error.kind.ErrorKind.TheVariants.{OutOfMemory};
 
 use clap::Error;
 use clap::error::ErrorKind;
@@ -41,7 +42,7 @@ impl From<Error> for Reply {
 }
 
 impl From<AllocError> for Reply {
-    ghost from_gives = { λ _ reply. kind_of reply.error ≡ ErrorKind.OutOfMemory };
+    ghost from_gives = { λ _ reply. kind_of reply.error ≡ OutOfMemory };
 
     fn from(error: AllocError) -> Reply {
         Reply {

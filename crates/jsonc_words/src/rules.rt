@@ -5,8 +5,8 @@ ghost use Rattle.jsonc_words.specs.Calls.{Breaks, IsAllowed, has_standard, takes
 use crate::call::{Call, Input};
 
 /// What is wrong with a call.
-#[derive(Clone, Copy, Debug, PartialEq, Eq)]
-pub enum Misuse {
+#[derive(Clone, Copy)]
+pub(crate) enum Misuse {
     /// `--in-place` with a command that writes no document.
     NothingToChange,
     /// `--in-place` without a file.
