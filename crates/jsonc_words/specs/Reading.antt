@@ -24,7 +24,7 @@ use Rattle.jsonc_words.specs.declared.call.Text.{Text}
 use Rattle.jsonc_words.specs.declared.call.Text.TheVariants.{Word, In}
 use Rattle.jsonc_words.specs.declared.call.Value.{Value}
 
-abbrev option_list : Option (List ℕ) → List (List ℕ)
+abbrev pub option_list : Option (List ℕ) → List (List ℕ)
 option_list None = []
 option_list (Some word) = word ∷ []
 
@@ -138,6 +138,7 @@ pub record IsReadFrom (name : CommandName) (words : List (List ℕ)) (call : Cal
   pub read : IsRead (found_of matches) name call
 
 -- the call is what `clap` found in the words after the program's name, of which the first names the command
-abbrev pub AskedBy : List (List ℕ) → Call → Type 0
-AskedBy words call = (slice_get words 1 ≡ Some (text_of (name_of call.command)))
-    × IsReadFrom (name_of call.command) (drop 1 words) call
+pub record IsAskedBy (words : List (List ℕ)) (call : Call) : Type 0 where
+  pub name : CommandName
+  pub word : slice_get words 1 ≡ Some (text_of name)
+  pub rest : IsReadFrom name (drop 1 words) call

@@ -3,7 +3,7 @@ ghost use Rattle.std.specs.Prelude.{◌≡◌, ◌++◌, ℕ, List, map, IfOk, I
 ghost use Rattle.clap.specs.Matches.{found_of};
 ghost use Rattle.jsonc_words.specs.Inputs.{AreInputs};
 ghost use Rattle.jsonc_words.specs.Reading.{IsBound, IsCommandOf, IsDialect, IsFlag, IsFormat, IsRead, IsText, IsValue};
-ghost use Rattle.jsonc_words.specs.Reading.{file_words, moved_word, text_id};
+ghost use Rattle.jsonc_words.specs.Reading.{file_words, moved_word, option_list, text_id};
 
 use crate::call::{Call, Command, Dialect, Format, Input, Text, Value};
 use crate::name::CommandName;
@@ -273,7 +273,27 @@ fn push_inputs<'a>(files: &mut Vec<Input<'a>>, words: &[&'a str]) -> Result<(), 
     Ok(())
 }
 
+/// The file that a word in the place of an argument names, where `-f` gives that.
+#[tactic(auto, using(crate::proofs::Inputs::inputs_one, crate::proofs::Inputs::inputs_none))]
+fn moved_file<'a>(
+    alloc: Global,
+    matches: &ArgMatches<'a>,
+    name: CommandName,
+) -> Result<Vec<Input<'a>>, AllocError>
+    ensures { IfOk result (λ files. AreInputs (option_list (moved_word (found_of matches.now) name)) files.items) }
+{
+    let mut files = Vec::new(alloc);
+    match moved_word(matches, name) {
+        Some(word) => {
+            files.push(Input::from_word(word))?;
+            Ok(files)
+        }
+        None => Ok(files),
+    }
+}
+
 /// The files that the words name.
+#[tactic(auto, using(crate::proofs::Inputs::inputs_of_files, crate::proofs::Inputs::inputs_of_no_files))]
 fn files_from<'a>(
     alloc: Global,
     matches: &ArgMatches<'a>,
@@ -281,14 +301,14 @@ fn files_from<'a>(
 ) -> Result<Vec<Input<'a>>, AllocError>
     ensures { IfOk result (λ files. AreInputs (file_words (found_of matches.now) name) files.items) }
 {
-    let mut files = Vec::new(alloc);
-    if let Some(word) = moved_word(matches, name) {
-        push_inputs(&mut files, &[word])?;
+    let mut files = moved_file(alloc, matches, name)?;
+    match matches.get_strs("files") {
+        Some(words) => {
+            push_inputs(&mut files, words)?;
+            Ok(files)
+        }
+        None => Ok(files),
     }
-    if let Some(words) = matches.get_strs("files") {
-        push_inputs(&mut files, words)?;
-    }
-    Ok(files)
 }
 
 /// The call that was found, or nothing where an argument that the command needs was not.

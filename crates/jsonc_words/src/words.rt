@@ -1,7 +1,7 @@
 //! From the words to a call.
 ghost use Rattle.std.specs.Prelude.{IfOk, map};
 ghost use Rattle.jsonc_words.specs.Calls.{IsAllowed};
-ghost use Rattle.jsonc_words.specs.Reading.{AskedBy, IsReadFrom};
+ghost use Rattle.jsonc_words.specs.Reading.{IsAskedBy, IsReadFrom};
 
 use crate::builder::{command_of, program};
 use crate::call::Call;
@@ -48,7 +48,7 @@ fn reply_to<'a>(alloc: Global, words: &'a [&'a str]) -> Result<Reply, Reply> {
 /// The call that the words ask for, of which the first is the program's name and the second names the command.
 pub fn read_words<'a>(alloc: Global, words: &'a [&'a str]) -> Result<Call<'a>, Reply>
     ensures allowed { IfOk result IsAllowed }
-    ensures read { IfOk result (AskedBy (map (λ word. word.now) words.entry.now)) }
+    ensures read { IfOk result (IsAskedBy (map (λ word. word.now) words.entry.now)) }
 {
     if let [_, rest @ ..] = words {
         if let Some(word) = rest.first() {
