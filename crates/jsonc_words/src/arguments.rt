@@ -30,7 +30,11 @@ impl fmt::Display for ArgumentsFault {
             ArgumentsFault::OutOfMemory => f.write_str("Out of memory"),
             ArgumentsFault::NotUtf8(None) => f.write_str("An argument is not UTF-8"),
             ArgumentsFault::NotUtf8(Some(place)) => {
-                write!(f, "Argument {} is not UTF-8 at byte {}", place.argument, place.byte)
+                write!(
+                    f,
+                    "Argument {} is not UTF-8 at byte {}",
+                    place.argument, place.byte
+                )
             }
         }
     }

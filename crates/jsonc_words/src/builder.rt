@@ -1,7 +1,8 @@
 //! The commands as `clap` knows them: arguments, options, help and examples.
 use crate::name::CommandName;
-use crate::options::{flag, format, most_bytes, place_to_sort, required, source, text, value};
-use crate::options::with_common_options;
+use crate::options::{
+    flag, format, most_bytes, place_to_sort, required, source, text, value, with_common_options,
+};
 use clap::Command;
 use std::alloc::{AllocError, Global};
 
@@ -76,16 +77,21 @@ fn example<'a>(name: CommandName) -> &'a str {
         CommandName::Rename => "Example:\n  jsonc rename /editor/font fontFamily -i settings.json",
         CommandName::Comment => "Example:\n  jsonc comment /port 'not below 1024' -i server.json",
         CommandName::Patch => "Example:\n  jsonc patch -f changes.json -i settings.json",
-        CommandName::Merge => "Example:\n  jsonc merge '{\"editor\": {\"fontSize\": 16}}' -i settings.json",
+        CommandName::Merge =>
+            "Example:\n  jsonc merge '{\"editor\": {\"fontSize\": 16}}' -i settings.json",
         CommandName::Json => "Example:\n  jsonc json tsconfig.json | jq .compilerOptions",
         CommandName::Lint => "Example:\n  jsonc lint --no-trailing-commas tsconfig.json",
     }
 }
 
 const PLACE: &str = "A JSON Pointer, as /a/0, or an array of names, as '[\"a\", \"b\"]'";
+
 const NAME: &str = "The name of a property";
+
 const VERSION: &str = "1.0.0";
+
 const ABOUT: &str = "Edits JSON with comments, and keeps every byte that it does not work on";
+
 const EXAMPLE: &str = "Example:\n  jsonc put '[\"editor\", \"fontSize\"]' 16 -i settings.json";
 
 /// The command with its arguments, but for the files.
@@ -95,13 +101,17 @@ fn with_arguments<'a>(
     name: CommandName,
 ) -> Result<Command<'a>, AllocError> {
     match name {
-        CommandName::Set => command.arg(required(alloc, "name", "NAME", NAME))?.arg(value(alloc)?),
+        CommandName::Set => command
+            .arg(required(alloc, "name", "NAME", NAME))?
+            .arg(value(alloc)?),
         CommandName::Append => command.arg(value(alloc)?),
         CommandName::Remove => command.arg(required(alloc, "name", "NAME", NAME)),
         CommandName::Drop | CommandName::Get => {
             command.arg(required(alloc, "place", "PLACE", PLACE))
         }
-        CommandName::Put => command.arg(required(alloc, "place", "PLACE", PLACE))?.arg(value(alloc)?),
+        CommandName::Put => command
+            .arg(required(alloc, "place", "PLACE", PLACE))?
+            .arg(value(alloc)?),
         CommandName::Rename => command
             .arg(required(alloc, "place", "PLACE", PLACE))?
             .arg(required(alloc, "name", "NAME", "The new name")),
@@ -125,13 +135,19 @@ fn with_own_options<'a>(
         CommandName::Set | CommandName::Append | CommandName::Put => command
             .arg(source(alloc))?
             .arg(flag(alloc, "string", "JSON is the string itself, without quotes")),
-        CommandName::Comment => command
-            .arg(source(alloc))?
-            .arg(flag(alloc, "after", "Adds the comment after the entry, on its line")),
+        CommandName::Comment => command.arg(source(alloc))?.arg(flag(
+            alloc,
+            "after",
+            "Adds the comment after the entry, on its line",
+        )),
         CommandName::Patch => command.arg(source(alloc))?.arg(most_bytes(alloc)),
         CommandName::Merge => command.arg(source(alloc)),
         CommandName::Remove | CommandName::Drop => {
-            command.arg(flag(alloc, "comments", "Removes the comments that belong to the entry too"))
+            command.arg(flag(
+                alloc,
+                "comments",
+                "Removes the comments that belong to the entry too",
+            ))
         }
         CommandName::Get => {
             command.arg(flag(alloc, "raw", "Writes a string decoded, without quotes").short('r'))
@@ -139,7 +155,11 @@ fn with_own_options<'a>(
         CommandName::Sort => command
             .arg(place_to_sort(alloc))?
             .arg(flag(alloc, "recursive", "Sorts the objects inside too"))?
-            .arg(flag(alloc, "keep-headers", "Keeps comments that are at the head of the object")),
+            .arg(flag(
+                alloc,
+                "keep-headers",
+                "Keeps comments that are at the head of the object",
+            )),
         CommandName::Check => command.arg(format(alloc)),
         CommandName::Lint => command
             .arg(flag(alloc, "no-trailing-commas", "Finds trailing commas too"))?
@@ -149,10 +169,7 @@ fn with_own_options<'a>(
 }
 
 /// The command with all that it takes.
-pub(crate) fn command_of<'a>(
-    alloc: Global,
-    name: CommandName,
-) -> Result<Command<'a>, AllocError> {
+pub(crate) fn command_of<'a>(alloc: Global, name: CommandName) -> Result<Command<'a>, AllocError> {
     let word: &'a str = name.as_str();
     let command = Command::new(alloc, word)
         .about(about(name))

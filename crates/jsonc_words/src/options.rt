@@ -3,15 +3,11 @@ use clap::{Arg, ArgAction, Command, value_parser};
 use std::alloc::{AllocError, Global};
 
 static DIALECTS: [&str; 4] = ["json", "jsonc", "json5", "all"];
+
 static FORMATS: [&str; 2] = ["text", "json"];
 
 /// An argument that has to be given.
-pub(crate) fn required<'a>(
-    alloc: Global,
-    id: &'a str,
-    shown: &'a str,
-    help: &'a str,
-) -> Arg<'a> {
+pub(crate) fn required<'a>(alloc: Global, id: &'a str, shown: &'a str, help: &'a str) -> Arg<'a> {
     Arg::new(alloc, id)
         .value_name(shown)
         .help(help)
@@ -104,7 +100,11 @@ pub(crate) fn with_common_options<'a>(
         .help("Files to read; without one, and for -, standard input");
     command
         .arg(dialect)?
-        .arg(flag(alloc, "must-exist", "Ends with status 3 where nothing is at NAME or PLACE"))?
+        .arg(flag(
+            alloc,
+            "must-exist",
+            "Ends with status 3 where nothing is at NAME or PLACE",
+        ))?
         .arg(in_place)?
         .arg(files)
 }

@@ -24,8 +24,7 @@ fn said(alloc: Global, line: &str) -> Result<String, AllocError> {
 
 /// The call as a line.
 fn said_of_call(alloc: Global, call: &Call<'_>) -> Result<String, AllocError> {
-    format!(
-        in alloc;
+    format!(in alloc;
         "{:?} {:?}{}{} {:?}",
         call.command,
         call.dialect,
