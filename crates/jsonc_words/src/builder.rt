@@ -47,7 +47,7 @@ fn usage<'a>(name: CommandName) -> &'a str {
         }
         CommandName::Rename => "jsonc rename [OPTIONS] <PLACE> <NAME> [FILE]...",
         CommandName::Comment => {
-            "jsonc comment [OPTIONS] <PLACE> <TEXT> [FILE]...\n       jsonc comment [OPTIONS] -f <FILE> <PLACE> [FILE]..."
+            "jsonc comment [OPTIONS] <PLACE> <TEXT> [FILE]...\n       jsonc comment -f <FILE> [OPTIONS] <PLACE> [FILE]..."
         }
         CommandName::Patch => {
             "jsonc patch [OPTIONS] <PATCH> [FILE]...\n       jsonc patch [OPTIONS] -f <FILE> [FILE]..."
@@ -135,19 +135,13 @@ fn with_own_options<'a>(
         CommandName::Set | CommandName::Append | CommandName::Put => command
             .arg(source(alloc))?
             .arg(flag(alloc, "string", "JSON is the string itself, without quotes")),
-        CommandName::Comment => command.arg(source(alloc))?.arg(flag(
-            alloc,
-            "after",
-            "Adds the comment after the entry, on its line",
-        )),
+        CommandName::Comment => command
+            .arg(source(alloc))?
+            .arg(flag(alloc, "after", "Adds the comment after the entry")),
         CommandName::Patch => command.arg(source(alloc))?.arg(most_bytes(alloc)),
         CommandName::Merge => command.arg(source(alloc)),
         CommandName::Remove | CommandName::Drop => {
-            command.arg(flag(
-                alloc,
-                "comments",
-                "Removes the comments that belong to the entry too",
-            ))
+            command.arg(flag(alloc, "comments", "Removes the comments of the entry too"))
         }
         CommandName::Get => {
             command.arg(flag(alloc, "raw", "Writes a string decoded, without quotes").short('r'))
@@ -158,7 +152,7 @@ fn with_own_options<'a>(
             .arg(flag(
                 alloc,
                 "keep-headers",
-                "Keeps comments that are at the head of the object",
+                "Keeps comments at the head of the object",
             )),
         CommandName::Check => command.arg(format(alloc)),
         CommandName::Lint => command
