@@ -50,7 +50,6 @@ pub struct Memory {
 }
 
 impl Memory {
-
     pub fn new(alloc: Global, bytes: Vec<u8>, event: Event) -> Memory
         ensures { result.made.calls ≡ [] }
     {
