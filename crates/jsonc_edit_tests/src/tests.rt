@@ -9,6 +9,7 @@ mod nested;
 mod nodes;
 mod paths;
 mod pieces;
+mod puts;
 mod reading;
 mod rows;
 mod settings;

@@ -25,11 +25,16 @@ pub mod Digits
 pub mod Values
 pub mod Applied
 pub mod Within
+pub mod Room
 pub mod Merging
 pub mod MergePatch
 pub mod MergeCases
 pub mod Merged
 pub mod MergeSteps
 pub mod Renaming
+pub mod Putting
+pub mod PutCalls
+pub mod PutSteps
+pub mod PutMessages
 pub mod MergeTexts
 pub mod MergeMessages

@@ -13,6 +13,7 @@
 //! is not touched.
 
 mod apply;
+mod entry;
 mod equality;
 pub(crate) mod laws;
 mod location;
@@ -23,6 +24,7 @@ mod moving;
 mod numbers;
 mod operation;
 mod pointer;
+mod putting;
 mod quoting;
 mod reading;
 mod reference;
@@ -33,6 +35,7 @@ mod values;
 mod within;
 
 pub use apply::PatchFault;
+pub use entry::entry_at;
 pub use location::pointer_of;
 pub use making::PatchCause;
 pub use merge_text::{MergePatchError, merge_patch_from_json};
@@ -42,6 +45,7 @@ pub use numbers::decimal_digits;
 pub use numbers::same_number;
 pub use operation::{Member, Operation, OperationFault};
 pub use pointer::{Pointer, PointerError};
+pub use putting::{PutError, put};
 #[doc(hidden)]
 pub use quoting::write_repeated_name;
 pub use reading::{Patch, PatchError};

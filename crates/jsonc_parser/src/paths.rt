@@ -8,9 +8,9 @@
 
 mod find;
 pub mod laws;
-mod put;
+pub(crate) mod put;
 mod reached;
-mod which;
+pub(crate) mod which;
 
 pub use find::{find_at, read_at};
 pub use put::{remove_at, set_at, set_last_at};

@@ -315,7 +315,7 @@ type BoundedRow<'a> = (&'a str, &'a str, usize, Answer<'a>);
 
 /// One more element, of three bytes in all or of six with the next; a copy of the document in itself, of eight; and
 /// bytes of a character that has two.
-static BOUNDED: [BoundedRow; 12] = [
+static BOUNDED: [BoundedRow; 14] = [
     (
         "[]",
         r#"[{"op":"add","path":"/-","value":1}]"#,
@@ -384,6 +384,21 @@ static BOUNDED: [BoundedRow; 12] = [
         Answer::Larger(0),
     ),
     ("[1, 2]", "[]", 0, Answer::Text("[1, 2]")),
+    // What was replaced is no part of the text, however often that was done.
+    (
+        r#"["aaaa"]"#,
+        r#"[{"op":"replace","path":"/0","value":"bbbb"},{"op":"replace","path":"/0","value":"cccc"}]"#,
+        8,
+        Answer::Text(r#"["cccc"]"#),
+    ),
+    (
+        r#"["aaaa"]"#,
+        r#"[{"op":"replace","path":"/0","value":"bbbb"},{"op":"replace","path":"/0","value":"cccc"},
+            {"op":"replace","path":"/0","value":"dddd"},{"op":"add","path":"/-","value":"eeee"},
+            {"op":"add","path":"/-","value":"ffff"}]"#,
+        20,
+        Answer::Larger(4),
+    ),
 ];
 
 fn bounded<A: Allocator + Copy>(alloc: A, row: &BoundedRow<'_>) -> Outcome {

@@ -44,3 +44,11 @@ pub mod MergeReads
 pub mod Renaming
 pub mod Taking
 pub mod Within
+pub mod Contents
+pub mod Room
+pub mod PutValues
+pub mod FirstNodes
+pub mod PutMade
+pub mod PutFound
+pub mod PutChosen
+pub mod PutIndexes

@@ -18,6 +18,7 @@ ghost use Rattle.jsonc_parser.specs.patch.Found.{IsOfShown, RefersToNode};
 ghost use Rattle.jsonc_parser.specs.patch.Operations as standard;
 ghost use Rattle.jsonc_parser.specs.patch.Pointer.{tokens_of};
 ghost use Rattle.jsonc_parser.specs.patch.References.{RefersTo};
+ghost use Rattle.jsonc_parser.specs.patch.Room.{is_of_operation, KeepsContents};
 
 use super::equality::{Numbers, are_equal};
 use super::moving::{copy_value, move_value};
@@ -72,6 +73,7 @@ pub(super) fn make<A: Allocator + Copy>(
     operation: &Operation<A>,
 ) -> Result<(), PatchCause<A>>
     ensures made { OnOk result (MakesWhatShown doc.old (asked operation.now) (λ o. FitsIn o operation.now) doc.new) }
+    ensures contents { OnOk result (KeepsContents (nodes_of doc.old) (nodes_of doc.new)) }
     ensures kept { OnErr result (is_one_edit operation.now ≡ true → IsKept doc.old doc.new) }
     ensures fails { IfErr result (FailsWhatShown doc.old (asked operation.now)) }
 {
@@ -191,8 +193,10 @@ pub(super) fn edit<A: Allocator + Copy>(
     doc: &mut CstRootNode<A>,
     edit: Edit<A>,
 ) -> Result<(), PatchCause<A>>
-    requires { is_whole edit ≡ true }
+    requires whole { is_whole edit ≡ true }
+    requires operation { is_of_operation edit ≡ true }
     ensures made { OnOk result (IsEditDone doc.old edit doc.new) }
+    ensures contents { OnOk result (KeepsContents (nodes_of doc.old) (nodes_of doc.new)) }
     ensures kept { OnErr result (IsKept doc.old doc.new) }
     ensures fails { IfErr result (IsRefusal doc.old edit) }
 {
@@ -208,6 +212,7 @@ pub(super) fn remove<A: Allocator + Copy>(
     pointer: &Pointer<A>,
 ) -> Result<(), PatchCause<A>>
     ensures made { OnOk result (MakesWhatShown doc.old (standard.remove (tokens_of pointer.now)) (λ o. Unit {0}) doc.new) }
+    ensures contents { OnOk result (KeepsContents (nodes_of doc.old) (nodes_of doc.new)) }
     ensures kept { OnErr result (IsKept doc.old doc.new) }
     ensures fails { IfErr result (FailsWhatShown doc.old (standard.remove (tokens_of pointer.now))) }
 {
@@ -229,6 +234,7 @@ fn replace<A: Allocator + Copy>(
 ) -> Result<(), PatchCause<A>>
     ensures made { OnOk result
         (MakesWhatShown doc.old (standard.replace (tokens_of pointer.now) (plain value)) (λ o. IsOfNumbers o (plain value)) doc.new) }
+    ensures contents { OnOk result (KeepsContents (nodes_of doc.old) (nodes_of doc.new)) }
     ensures kept { OnErr result (IsKept doc.old doc.new) }
     ensures fails { IfErr result (FailsWhatShown doc.old (standard.replace (tokens_of pointer.now) (plain value))) }
 {
@@ -248,6 +254,7 @@ fn add_whole<A: Allocator + Copy>(
     value: CstInputValue<A>,
 ) -> Result<(), PatchCause<A>>
     ensures made { OnOk result (MakesWhatShown doc.old (standard.add [] (plain value)) (λ o. IsOfNumbers o (plain value)) doc.new) }
+    ensures contents { OnOk result (KeepsContents (nodes_of doc.old) (nodes_of doc.new)) }
     ensures kept { OnErr result (IsKept doc.old doc.new) }
     ensures fails { IfErr result (FailsWhatShown doc.old (standard.add [] (plain value))) }
 {
@@ -265,6 +272,7 @@ pub(super) fn add<A: Allocator + Copy>(
 ) -> Result<(), PatchCause<A>>
     ensures made { OnOk result
         (MakesWhatShown doc.old (standard.add (tokens_of pointer.now) (plain value)) (λ o. IsOfNumbers o (plain value)) doc.new) }
+    ensures contents { OnOk result (KeepsContents (nodes_of doc.old) (nodes_of doc.new)) }
     ensures kept { OnErr result (IsKept doc.old doc.new) }
     ensures fails { IfErr result (FailsWhatShown doc.old (standard.add (tokens_of pointer.now) (plain value))) }
 {
@@ -294,6 +302,7 @@ fn add_below<A: Allocator + Copy>(
 ) -> Result<(), PatchCause<A>>
     requires { HasNode doc.old container }
     ensures made { OnOk result (AddsMember doc.old container (tokens_of pointer.now) (chars token.now) (plain value) doc.new) }
+    ensures contents { OnOk result (KeepsContents (nodes_of doc.old) (nodes_of doc.new)) }
     ensures kept { OnErr result (IsKept doc.old doc.new) }
     ensures fails { IfErr result (FailsBelow doc.old container (tokens_of pointer.now) (chars token.now) (plain value)) }
 {
@@ -317,6 +326,7 @@ fn add_element<A: Allocator + Copy>(
     requires in_document { HasNode doc.old array }
     requires array { content_of doc.old array ≡ Content.array }
     ensures made { OnOk result (AddsMember doc.old array (tokens_of pointer.now) (chars token.now) (plain value) doc.new) }
+    ensures contents { OnOk result (KeepsContents (nodes_of doc.old) (nodes_of doc.new)) }
     ensures kept { OnErr result (IsKept doc.old doc.new) }
     ensures fails { IfErr result (FailsBelow doc.old array (tokens_of pointer.now) (chars token.now) (plain value)) }
 {
@@ -350,6 +360,7 @@ fn add_member<A: Allocator + Copy>(
     requires in_document { HasNode doc.old object }
     requires object { content_of doc.old object ≡ Content.object }
     ensures made { OnOk result (AddsMember doc.old object (tokens_of pointer.now) (chars name.now) (plain value) doc.new) }
+    ensures contents { OnOk result (KeepsContents (nodes_of doc.old) (nodes_of doc.new)) }
     ensures kept { OnErr result (IsKept doc.old doc.new) }
     ensures fails { IfErr result (FailsBelow doc.old object (tokens_of pointer.now) (chars name.now) (plain value)) }
 {
@@ -368,6 +379,7 @@ fn put_value<A: Allocator + Copy>(
 ) -> Result<(), PatchCause<A>>
     requires { HasNode doc.old node }
     ensures made { OnOk result (PutsAt doc.old node (plain value) doc.new) }
+    ensures contents { OnOk result (KeepsContents (nodes_of doc.old) (nodes_of doc.new)) }
     ensures kept { OnErr result (IsKept doc.old doc.new) }
     ensures fails { IfErr result (FailsForMemory doc.old node) }
 {
@@ -391,6 +403,7 @@ fn append_member<A: Allocator + Copy>(
     requires in_document { HasNode doc.old object }
     requires object { content_of doc.old object ≡ Content.object }
     ensures made { OnOk result (AppendsTo doc.old object (chars name.now) (plain value) doc.new) }
+    ensures contents { OnOk result (KeepsContents (nodes_of doc.old) (nodes_of doc.new)) }
     ensures kept { OnErr result (IsKept doc.old doc.new) }
     ensures fails { IfErr result (FailsForMemory doc.old object) }
 {

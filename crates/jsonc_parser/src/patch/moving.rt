@@ -3,11 +3,13 @@
 ghost use Rattle.std.specs.Prelude.{◌≡◌, IfErr, OnErr, OnOk};
 ghost use Rattle.std.specs.Bool.{Decides};
 ghost use Rattle.jsonc_layout.specs.input.Views.{chars_of};
+ghost use Rattle.jsonc_cst.specs.Document.{nodes_of};
 ghost use Rattle.jsonc_parser.specs.paths.Found.{names_of};
 ghost use Rattle.jsonc_parser.specs.patch.Applied.{FailsWhatShown, IsKept, LeadsOn, MakesWhatShown};
 ghost use Rattle.jsonc_parser.specs.patch.Found.{IsOfShown};
 ghost use Rattle.jsonc_parser.specs.patch.Operations as standard;
 ghost use Rattle.jsonc_parser.specs.patch.Pointer.{tokens_of};
+ghost use Rattle.jsonc_parser.specs.patch.Room.{KeepsContents};
 
 use super::making::{PatchCause, add, remove, target, whole_at};
 use super::pointer::Pointer;
@@ -64,6 +66,7 @@ pub(super) fn move_value<A: Allocator + Copy>(
     path: &Pointer<A>,
 ) -> Result<(), PatchCause<A>>
     ensures made { OnOk result (MakesWhatShown doc.old (standard.move (tokens_of from.now) (tokens_of path.now)) (λ o. Unit {0}) doc.new) }
+    ensures contents { OnOk result (KeepsContents (nodes_of doc.old) (nodes_of doc.new)) }
     ensures fails { IfErr result (FailsWhatShown doc.old (standard.move (tokens_of from.now) (tokens_of path.now))) }
 {
     if leads_on(from.tokens(), path.tokens()) {
@@ -100,6 +103,7 @@ pub(super) fn copy_value<A: Allocator + Copy>(
     path: &Pointer<A>,
 ) -> Result<(), PatchCause<A>>
     ensures made { OnOk result (MakesWhatShown doc.old (standard.copy (tokens_of from.now) (tokens_of path.now)) (λ o. Unit {0}) doc.new) }
+    ensures contents { OnOk result (KeepsContents (nodes_of doc.old) (nodes_of doc.new)) }
     ensures kept { OnErr result (IsKept doc.old doc.new) }
     ensures fails { IfErr result (FailsWhatShown doc.old (standard.copy (tokens_of from.now) (tokens_of path.now))) }
 {

@@ -144,7 +144,7 @@ fn digits_usize(text: &str) -> Option<usize>
 }
 
 // Whether a 0 is first and not alone.
-fn is_padded(text: &str) -> bool
+pub(super) fn is_padded(text: &str) -> bool
     ensures { IsTrue result ↔ ((1 < length text.now) × (slice_index text.now 0 ≡ 0x30)) }
 {
     let bytes = text.as_bytes();
@@ -169,7 +169,7 @@ fn index_below(token: &str, limit: usize) -> Option<usize>
 }
 
 // The element of an array whose index a token is.
-fn element<A: Allocator>(doc: &CstRootNode<A>, node: usize, token: &str) -> Option<usize>
+pub(super) fn element<A: Allocator>(doc: &CstRootNode<A>, node: usize, token: &str) -> Option<usize>
     requires { node < length (nodes_of doc.now) }
     ensures element { IsElementBy (nodes_of doc.now) node (chars token.now) result }
     ensures in_tree { IsThere (nodes_of doc.now) result }
@@ -182,7 +182,7 @@ fn element<A: Allocator>(doc: &CstRootNode<A>, node: usize, token: &str) -> Opti
 }
 
 // Whether a token is `-`.
-fn is_hyphen(token: &str) -> bool
+pub(super) fn is_hyphen(token: &str) -> bool
     ensures { Decides result (chars token.now ≡ 0x2D ∷ []) }
 {
     token == "-"

@@ -2,7 +2,7 @@
 
 ghost use Rattle.std.specs.Prelude.{List, ℕ, IfErr, IfNone, IfOk, IfSome, OnOk};
 ghost use Rattle.jsonc_layout.specs.input.Views.{chars_of};
-ghost use Rattle.jsonc_cst.specs.Document.{HasNode};
+ghost use Rattle.jsonc_cst.specs.Document.{nodes_of, HasNode};
 ghost use Rattle.jsonc_parser.specs.paths.Found.{names_of};
 ghost use Rattle.jsonc_parser.specs.patch.Applied.{FailsWhatShown};
 ghost use Rattle.jsonc_parser.specs.patch.Found.{IsOfShown};
@@ -10,6 +10,7 @@ ghost use Rattle.jsonc_parser.specs.patch.Operations.{IsWithinObject};
 ghost use Rattle.jsonc_parser.specs.patch.Operations as standard;
 ghost use Rattle.jsonc_parser.specs.patch.Pointer.{tokens_of};
 ghost use Rattle.jsonc_parser.specs.patch.Renaming.{AreBeside, FailsToRename, IsRenaming, RenamesAt};
+ghost use Rattle.jsonc_parser.specs.patch.Room.{KeepsContents};
 
 use super::making::{PatchCause, edit, path_to, target};
 use super::merging::is_object;
@@ -83,6 +84,7 @@ pub(super) fn rename<A: Allocator + Copy>(
 ) -> Result<(), PatchCause<A>>
     requires { HasNode doc.old node }
     ensures made { OnOk result (RenamesAt doc.old node (chars_of name.now) doc.new) }
+    ensures contents { OnOk result (KeepsContents (nodes_of doc.old) (nodes_of doc.new)) }
     ensures fails { IfErr result (FailsToRename doc.old node (chars_of name.now)) }
 {
     let path = match path_to(doc, node) {

@@ -23,7 +23,10 @@ use jsonc_walk::context::MAXIMUM_NESTING;
 use std::alloc::Allocator;
 
 // A name, as text of its own.
-fn copy_of<A: Allocator + Copy>(alloc: A, name: &String<A>) -> Result<String<A>, EditError>
+pub(crate) fn copy_of<A: Allocator + Copy>(
+    alloc: A,
+    name: &String<A>,
+) -> Result<String<A>, EditError>
     ensures copy { IfOk result (λ s. chars_of s ≡ chars_of name.now) }
     ensures memory { IfErr result (λ e. e ≡ EditError.OutOfMemory) }
 {
@@ -54,7 +57,7 @@ fn nested_once<A: Allocator + Copy>(
 }
 
 // A value in objects of one property each, for each name one.
-fn nested<A: Allocator + Copy>(
+pub(crate) fn nested<A: Allocator + Copy>(
     alloc: A,
     names: &[String<A>],
     value: CstInputValue<A>,
@@ -160,7 +163,7 @@ fn make_one<A: Allocator + Copy>(doc: &mut CstRootNode<A>, edit: Edit<A>) -> Res
 }
 
 // Whether a value fits at names, at which it has an object and a property around it for each name.
-fn fits_at<A: Allocator>(names: &[String<A>], value: &CstInputValue<A>) -> bool
+pub(crate) fn fits_at<A: Allocator>(names: &[String<A>], value: &CstInputValue<A>) -> bool
     ensures { Decides result (FitsAt (names_of names.now) (plain value.now)) }
 {
     if names.len() > MAXIMUM_NESTING / 2 {

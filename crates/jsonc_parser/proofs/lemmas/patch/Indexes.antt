@@ -18,20 +18,20 @@ use Rattle.jsonc_parser.specs.patch.References.{IsIndex}
 use Rattle.jsonc_parser.proofs.lemmas.patch.Evaluation.{index_once}
 
 -- digits are the same as bytes and as characters
-digits_are_chars : (bytes : List ℕ) → IsNumeral 10 bytes → chars bytes ≡ bytes
+pub digits_are_chars : (bytes : List ℕ) → IsNumeral 10 bytes → chars bytes ≡ bytes
 digits_are_chars bytes n = chars-IsAscii bytes (IsAscii-from_digits bytes n.1)
 
 chars_are_digits : (bytes : List ℕ) → IsUtf8 bytes → IsNumeral 10 (chars bytes) → chars bytes ≡ bytes
 chars_are_digits bytes utf8 n = sym (encodes-IsAscii (chars bytes) (IsAscii-from_digits (chars bytes) n.1)) ∙ encodes-chars bytes utf8
 
 -- an index is written by bytes too
-by_bytes : (bytes : List ℕ) (i : ℕ) → IsUtf8 bytes → IsIndex (chars bytes) i → IsIndex bytes i
+pub by_bytes : (bytes : List ℕ) (i : ℕ) → IsUtf8 bytes → IsIndex (chars bytes) i → IsIndex bytes i
 by_bytes bytes i utf8 x = subst (λ l. IsIndex l i) (chars_are_digits bytes utf8 x.digits) x
 
 abbrev pub IsPadded : List ℕ → Type 0
 IsPadded bytes = (1 < length bytes) × (slice_index bytes 0 ≡ 0x30)
 
-leading : (bytes : List ℕ) → (IsPadded bytes → ⊥) → next bytes ≡ Some 0x30 → length bytes ≡ 1
+pub leading : (bytes : List ℕ) → (IsPadded bytes → ⊥) → next bytes ≡ Some 0x30 → length bytes ≡ 1
 leading [] free e = cc
 leading (c ∷ []) free e = refl
 leading (c ∷ d ∷ r) free e = absurd (free (omega arith, (let same : c ≡ 0x30 = cc in same)))

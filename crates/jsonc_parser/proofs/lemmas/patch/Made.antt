@@ -43,7 +43,7 @@ record Step (d : Document) (op : Operation) (e : Document) : Type 0 where
   options : e.options ≡ options_behind d.options op
   makes : Makes d op e
 
-no_operation : {e f : Document} {ops : List Operation} → Run e ops f → ops ≡ [] → e ≡ f
+pub no_operation : {e f : Document} {ops : List Operation} → Run e ops f → ops ≡ [] → e ≡ f
 no_operation (texts.none_made one) is = refl
 no_operation (texts.one_made {op = op} {ops = ops} one options makes rest) is = let wrong : op ∷ ops ≡ [] = is in cc
 

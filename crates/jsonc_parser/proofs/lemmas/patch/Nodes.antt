@@ -49,7 +49,7 @@ use Rattle.jsonc_parser.proofs.lemmas.patch.Evaluation.{array_stops, behind, ele
 use Rattle.jsonc_parser.proofs.lemmas.patch.Rows.{looked_up}
 
 -- what a node of a content has
-object_value : (o : Options) (c : Content) (below : OrderedTree) (v : Plain) → c ≡ content.object → ValueOf o c below v → (ms : Members) × (v ≡ plain.object ms) × MembersOf o below ms
+pub object_value : (o : Options) (c : Content) (below : OrderedTree) (v : Plain) → c ≡ content.object → ValueOf o c below v → (ms : Members) × (v ≡ plain.object ms) × MembersOf o below ms
 object_value o _ below _ e (values.object {ms = ms} h) = (ms, refl, h)
 object_value o _ below _ e (values.string h) = cc
 object_value o _ below _ e values.number = cc
@@ -72,7 +72,7 @@ pub array_content : (o : Options) (c : Content) (below : OrderedTree) (vs : Item
 array_content o _ below _ (values.array h) = refl
 
 -- a step further on the way to a node
-leads_more : (ns : List Node) (n i q : ℕ) {v : ℕ} {path : List ℕ} → LeadsTo ns n v path → StepsTo ns n i q → LeadsTo ns q v (path ++ i ∷ [])
+pub leads_more : (ns : List Node) (n i q : ℕ) {v : ℕ} {path : List ℕ} → LeadsTo ns n v path → StepsTo ns n i q → LeadsTo ns q v (path ++ i ∷ [])
 leads_more ns n i q paths.itself s = paths.step s paths.itself
 leads_more ns n i q (paths.step t l) s = paths.step t (leads_more ns n i q l s)
 
@@ -99,7 +99,7 @@ inside {a} {b} {i = i} (j ∷ path) (changes.in_array {y = p} k c) (changes.in_a
 inside {a} {b} {i = i} (j ∷ path) (changes.in_object {y = p} k c) (changes.in_object l d) e = inside path (subst (λ h. Changed a b (path ++ i ∷ []) h p) (member_same k l) c) d e
 
 -- an element of an index is within the count
-item_within : {v : Plain} {i : ℕ} {vs : Items} → IsItem v i vs → i < item_count vs
+pub item_within : {v : Plain} {i : ℕ} {vs : Items} → IsItem v i vs → i < item_count vs
 item_within (this_item {vs = vs}) = omega arith
 item_within (later_item {i = i} {vs = vs} p) = let h = item_within p in omega (arith, h)
 

@@ -34,7 +34,7 @@ use Rattle.jsonc_parser.proofs.lemmas.paths.Paths.{dropped_same, put_at, put_sam
 use Rattle.jsonc_parser.proofs.lemmas.paths.LongestPrefix.{put_is_free}
 
 -- what is nested is of these numbers
-nest_numbers : (o : Options) (names : List (List ℕ)) (v : Plain) → IsOfNumbers o v → IsOfNumbers o (nest names v)
+pub nest_numbers : (o : Options) (names : List (List ℕ)) (v : Plain) → IsOfNumbers o v → IsOfNumbers o (nest names v)
 nest_numbers o [] v h = h
 nest_numbers o (name ∷ names) v h = (nest_numbers o names v h, tt)
 
@@ -66,13 +66,13 @@ drop_no_remark : {w : Option Plain} {names : List (List ℕ)} {e : PlainEdit} �
 drop_no_remark (removes l) = (λ h. h, λ h. h)
 
 -- What one edit leads to: a document that the new tree shows, and whose value the operation makes that the edit asks for.
-record LedTo (d : Document) (asked : PlainEdit) (new : List Node) : Type 0 where
-  e : Document
-  shown : Shows e (ordered_tree new 0)
-  op : Operation
-  asks : Asks d.value asked op
-  edited : Run d (op ∷ []) e
-  changed : IsChanged d.value op e.value
+pub record LedTo (d : Document) (asked : PlainEdit) (new : List Node) : Type 0 where
+  pub e : Document
+  pub shown : Shows e (ordered_tree new 0)
+  pub op : Operation
+  pub asks : Asks d.value asked op
+  pub edited : Run d (op ∷ []) e
+  pub changed : IsChanged d.value op e.value
 
 one_step_only : {o : Options} {t u : OrderedTree} {w y : Option Plain} {e : PlainEdit} {es : List PlainEdit} {ops : List Operation} → Steps o t w (e ∷ es) ops u y → es ≡ []
     → (op : Operation) × (ops ≡ op ∷ []) × Asks w e op × Step o t w op u y
@@ -81,7 +81,7 @@ one_step_only (one_step named asks s (one_step {e = k} {es = ks} n a t rest)) e 
 
 module _ (d : Document) (asked : PlainEdit) (old new : List Node) (tree : IsTree old) (after : IsTree new) (shown : Shows d (ordered_tree old 0)) (characters : IsOfCharacters asked) (numbers : Allows d.options asked)
     (made : EditStep old asked new) where
-  led : LedTo d asked new
+  pub led : LedTo d asked new
   led =
       let t : OrderedTree = ordered_tree old 0 in
       let u : OrderedTree = ordered_tree new 0 in

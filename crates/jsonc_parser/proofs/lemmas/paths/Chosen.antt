@@ -73,7 +73,7 @@ chosen_changes First f c = at_changes f c
 chosen_changes Last f c = last_changes f c
 
 -- it can become itself, and is one of all
-at_itself : {name : List ℕ} {v : Plain} {i : ℕ} {ms : Members} → FirstAt name v i ms → MemberChanged v v i ms ms
+pub at_itself : {name : List ℕ} {v : Plain} {i : ℕ} {ms : Members} → FirstAt name v i ms → MemberChanged v v i ms ms
 at_itself this_at = this_member
 at_itself (later_at ne f) = later_member (at_itself f)
 

@@ -98,7 +98,7 @@ module _ {A : Type 0} (which : Which) (doc : CstRootNode A) (v : Plain) (over : 
 
 module _ {A : Type 0} (names : List (String A)) (count : ℕ) (s : String A) (h : count < length names) where
   -- the name of this number, and the rest
-  here : drop count (names_of names) ≡ chars_of (get_or names count s) ∷ names_of (drop (count + 1) names)
+  pub here : drop count (names_of names) ≡ chars_of (get_or names count s) ∷ names_of (drop (count + 1) names)
   here = drop-map chars_of count names ∙ ap names_of (drop_more names count s h)
 
   pub appends_so : (path : Vec ℕ A) (name : String A) (new : CstInputValue A) (v : Plain) → chars_of name ≡ chars_of (get_or names count s) → plain new ≡ nest (names_of (drop (count + 1) names)) v

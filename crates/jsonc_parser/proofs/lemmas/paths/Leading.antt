@@ -134,15 +134,15 @@ entry_dropped {x = x} {y = y} {was = was} n (loses_member {ms = ms} {ns = ns} r 
     subst (λ k. Dropped (Some x) k (Some y)) (sym n.is) (drop_inside (n.name ∷ []) n.leads c (property_dropped left))
 
 -- what an operation made, by its kind
-record ByValue (path : List ℕ) (v : Plain) (w y : Option Plain) : Type 0 where
-  old : Plain
-  new : Plain
-  was : Plain
-  is : w ≡ Some old
-  now : y ≡ Some new
-  changed : Changed was v path old new
+pub record ByValue (path : List ℕ) (v : Plain) (w y : Option Plain) : Type 0 where
+  pub old : Plain
+  pub new : Plain
+  pub was : Plain
+  pub is : w ≡ Some old
+  pub now : y ≡ Some new
+  pub changed : Changed was v path old new
 
-replaced : {w y : Option Plain} {op : Operation} → IsChanged w op y → (path : List ℕ) (v : Plain) → op ≡ texts.replace path v → ByValue path v w y
+pub replaced : {w y : Option Plain} {op : Operation} → IsChanged w op y → (path : List ℕ) (v : Plain) → op ≡ texts.replace path v → ByValue path v w y
 replaced (by_value {given_up = was} {v = u} {x = x} {y = y} {path = p} c) path v e =
     let a : p ≡ path = cc in
     let b : u ≡ v = cc in
@@ -154,25 +154,25 @@ whole itself e = refl
 whole (in_array h c) e = cc
 whole (in_object h c) e = cc
 
-first_set : {w y : Option Plain} {op : Operation} → IsChanged w op y → (v : Plain) → op ≡ texts.come_first v → y ≡ Some v
+pub first_set : {w y : Option Plain} {op : Operation} → IsChanged w op y → (v : Plain) → op ≡ texts.come_first v → y ≡ Some v
 first_set (by_first {v = u}) v e = let b : u ≡ v = cc in ap Some b
 first_set c v e = cc
 
-root_set : (w : Option Plain) {y : Option Plain} {op : Operation} → IsChanged w op y → (v : Plain) → op ≡ asks.sets_root w v → y ≡ Some v
+pub root_set : (w : Option Plain) {y : Option Plain} {op : Operation} → IsChanged w op y → (v : Plain) → op ≡ asks.sets_root w v → y ≡ Some v
 root_set None c v e = first_set c v e
 root_set (Some x) c v e = let b = replaced c [] v e in b.now ∙ ap Some (whole b.changed refl)
 
-record ByMember (path name : List ℕ) (v : Plain) (w y : Option Plain) : Type 0 where
-  old : Plain
-  new : Plain
-  ms : Members
-  ns : Members
-  is : w ≡ Some old
-  now : y ≡ Some new
-  comes : MemberInserted name v (member_count ms) ms ns
-  changed : Changed (plain.object ms) (plain.object ns) path old new
+pub record ByMember (path name : List ℕ) (v : Plain) (w y : Option Plain) : Type 0 where
+  pub old : Plain
+  pub new : Plain
+  pub ms : Members
+  pub ns : Members
+  pub is : w ≡ Some old
+  pub now : y ≡ Some new
+  pub comes : MemberInserted name v (member_count ms) ms ns
+  pub changed : Changed (plain.object ms) (plain.object ns) path old new
 
-least : (i n : ℕ) → n ≤ i → min i n ≡ n
+pub least : (i n : ℕ) → n ≤ i → min i n ≡ n
 least i n h = omega (arith, h)
 
 record Inserted (path : List ℕ) (i : ℕ) (name : List ℕ) (v : Plain) (w y : Option Plain) : Type 0 where
@@ -196,10 +196,10 @@ inserted_there (by_inserting_member {i = j} {new = new} {x = x} {y = y} {path = 
     }
 inserted_there c path i name v e = cc
 
-some_same : (x y : Plain) → Some x ≡ Some y → x ≡ y
+pub some_same : (x y : Plain) → Some x ≡ Some y → x ≡ y
 some_same x y e = cc
 
-appended : (path name : List ℕ) (v : Plain) {w y : Option Plain} {op : Operation} → Asks w (append_property path name v) op → IsChanged w op y → ByMember path name v w y
+pub appended : (path name : List ℕ) (v : Plain) {w y : Option Plain} {op : Operation} → Asks w (append_property path name v) op → IsChanged w op y → ByMember path name v w y
 appended path name v (ms, i, stands, far, is) c =
     let m = inserted_there c path i name v is in
     let g = m.gains in

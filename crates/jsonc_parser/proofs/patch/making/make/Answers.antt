@@ -1,9 +1,11 @@
 use Rattle.std.proofs.Common.{refl}
 use Rattle.jsonc_layout.specs.input.Views.{plain}
+use Rattle.jsonc_cst.specs.Document.{nodes_of}
 use Rattle.jsonc_parser.specs.patch.Operations as value
 use Rattle.jsonc_parser.specs.patch.Pointer.{tokens_of}
 use Rattle.jsonc_parser.specs.declared.patch.operation.Operation.TheVariants.{Add, Remove, Replace, Move, Copy, Test}
 use Rattle.jsonc_parser.proofs.lemmas.patch.Chains.{added_value, as_asked, fails_added, fails_asked, fails_replaced, kept_anyhow, moves_anyhow, replaced_value, tested, unchanged_kept}
+use Rattle.jsonc_parser.proofs.lemmas.patch.Contents.{contents_unchanged}
 use Rattle.jsonc_parser.proofs.lemmas.patch.Edited.{kept_same}
 use Rattle.jsonc_parser.proofs.patch.making.make.Goals as goal
 
@@ -85,3 +87,6 @@ returns-in-Test-clause-kept g c = unchanged_kept c.args.doc.now c.test.result c.
 
 pub returns-in-Test-clause-fails : goal.returns-in-Test-clause-fails
 returns-in-Test-clause-fails g c = fails_asked c.args.doc.now c.args.doc.now c.test.result c.args.operation.now (Test c.in-Test.path c.in-Test.value) c.in-Test.is c.test.ensures.fails
+
+pub returns-in-Test-clause-contents : goal.returns-in-Test-clause-contents
+returns-in-Test-clause-contents g c = contents_unchanged (nodes_of c.args.doc.now) c.test.result

@@ -1,9 +1,11 @@
 use Rattle.std.proofs.Common.{◌∙◌, refl, sym}
 use Rattle.std.proofs.lemmas.Bool.{true≢false}
 use Rattle.jsonc_layout.specs.input.Views.{plain}
+use Rattle.jsonc_cst.specs.Document.{nodes_of}
 use Rattle.jsonc_parser.specs.patch.Operations as value
 use Rattle.jsonc_parser.specs.patch.Pointer.{tokens_of}
 use Rattle.jsonc_parser.proofs.lemmas.patch.Chains.{leads_elsewhere, leads_told, moved_so, tested}
+use Rattle.jsonc_parser.proofs.lemmas.patch.Contents.{contents_through, contents_unchanged}
 use Rattle.jsonc_parser.proofs.lemmas.patch.Failing.{moves_no_more, unmoved, unmoved_first}
 use Rattle.jsonc_parser.proofs.lemmas.patch.Renaming.{never_within}
 use Rattle.jsonc_parser.proofs.patch.moving.move_value.Goals as goal
@@ -32,3 +34,10 @@ returns-in-Err-remove-clause-fails g c = λ d shown. unmoved_first (tokens_of c.
 
 pub returns-in-Err-whole_at-clause-fails : goal.returns-in-Err-whole_at-clause-fails
 returns-in-Err-whole_at-clause-fails g c = λ d shown. unmoved (tokens_of c.args.from.now) (tokens_of c.args.path.now) d.value c.in-Err-whole_at.cause (c.in-Err-whole_at.ensures.fails d shown)
+
+pub returns-then-leads_on-clause-contents : goal.returns-then-leads_on-clause-contents
+returns-then-leads_on-clause-contents g c = contents_unchanged (nodes_of c.args.doc.now) c.stay.result
+
+pub returns-in-Ok-add-clause-contents : goal.returns-in-Ok-add-clause-contents
+returns-in-Ok-add-clause-contents g c =
+    contents_through (nodes_of c.args.doc.now) (nodes_of c.remove.new.doc) (nodes_of c.add.new.doc) c.in-Ok-remove.ensures.contents c.in-Ok-add.ensures.contents
