@@ -1,0 +1,3 @@
+mod Edits
+mod Steps
+mod Walks

@@ -1,0 +1,9 @@
+pub mod Calls
+pub mod Coded
+pub mod Mode
+pub mod Moments
+pub mod Noted
+pub mod Order
+pub mod System
+pub mod Edited
+pub mod Steps

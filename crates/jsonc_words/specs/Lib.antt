@@ -1,0 +1,5 @@
+pub mod Calls
+pub mod Commands
+pub mod Inputs
+pub mod Names
+pub mod Reading

@@ -1,0 +1,86 @@
+//! What words may not stand together, beyond what `clap` knows.
+ghost use Rattle.std.specs.Prelude.{◌≡◌, MatchOption};
+ghost use Rattle.jsonc_words.specs.Calls.{Breaks, IsAllowed, has_standard, takes_standard};
+
+use crate::call::{Call, Input};
+
+/// What is wrong with a call.
+#[derive(Clone, Copy)]
+pub(crate) enum Misuse {
+    /// `--in-place` with a command that writes no document.
+    NothingToChange,
+    /// `--in-place` without a file.
+    NoFileInPlace,
+    /// `--in-place` with standard input.
+    StandardInPlace,
+    /// A command that writes the document has several files, without `--in-place`.
+    SeveralFiles,
+    /// `-f -` without a file.
+    NoFileBeside,
+    /// `-f -` with standard input as a file.
+    StandardTwice,
+}
+
+impl Misuse {
+    /// What the user is told.
+    pub(crate) fn message(self) -> &'static str {
+        match self {
+            Misuse::NothingToChange => "--in-place is for commands that write the document",
+            Misuse::NoFileInPlace => "--in-place needs a FILE",
+            Misuse::StandardInPlace => "--in-place cannot change standard input, the FILE '-'",
+            Misuse::SeveralFiles => "several FILEs need --in-place",
+            Misuse::NoFileBeside => "with '-f -' a FILE has to be named",
+            Misuse::StandardTwice => "standard input cannot be read by '-f -' and as the FILE '-'",
+        }
+    }
+}
+
+/// Whether one of the files is standard input.
+fn has_standard(files: &[Input<'_>]) -> bool
+    ensures { result ≡ has_standard files.now }
+{
+    files.iter().any(|file| file.is_standard())
+}
+
+/// Whether `-f -` gives an argument of the command.
+fn takes_standard(call: &Call<'_>) -> bool
+    ensures { result ≡ takes_standard call.now }
+{
+    match call.command.text() {
+        Some(text) => text.reads_standard(),
+        None => false,
+    }
+}
+
+/// What is wrong with where a call reads and writes, if anything is.
+pub(crate) fn misuse_of(call: &Call<'_>) -> Option<Misuse>
+    ensures { MatchOption result (IsAllowed call.now) (λ misuse. Breaks misuse call.now) }
+{
+    let writes = call.command.name().works_in_place();
+    let count = call.files.len();
+    let has_standard = has_standard(&call.files);
+    if call.in_place {
+        if !writes {
+            return Some(Misuse::NothingToChange);
+        }
+        if count == 0 {
+            return Some(Misuse::NoFileInPlace);
+        }
+        if has_standard {
+            return Some(Misuse::StandardInPlace);
+        }
+        return None;
+    }
+    if writes && count > 1 {
+        return Some(Misuse::SeveralFiles);
+    }
+    if takes_standard(call) {
+        if count == 0 {
+            return Some(Misuse::NoFileBeside);
+        }
+        if has_standard {
+            return Some(Misuse::StandardTwice);
+        }
+    }
+    None
+}
