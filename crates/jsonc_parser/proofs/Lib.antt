@@ -12,4 +12,3 @@ pub mod NumberScan
 pub mod NumberSigns
 pub mod NumberTexts
 pub mod NumberValues
-mod Checks

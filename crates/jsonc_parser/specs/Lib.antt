@@ -6,5 +6,4 @@ pub mod Changes
 pub mod LineStarts
 pub mod Places
 pub mod Numbers
-pub mod Checker
 pub mod patch

@@ -8,7 +8,6 @@
 #![tactic(auto)]
 
 mod change;
-mod checker;
 pub mod cst;
 pub mod laws;
 mod line_index;
@@ -20,9 +19,9 @@ pub mod settings;
 pub mod string;
 
 pub use change::{TextChange, Utf16Change, text_change, utf16_change};
-pub use checker::{check, check_document};
 pub use jsonc_ast::ast;
 pub use jsonc_ast::to_ast::{ParseResult, parse_to_ast};
+pub use jsonc_check::{check, check_document};
 pub use jsonc_scan::scanner::Scanner;
 pub use jsonc_text::errors::ParseStringErrorKind;
 pub use jsonc_text::options::{ParseOptions, ScannerOptions};

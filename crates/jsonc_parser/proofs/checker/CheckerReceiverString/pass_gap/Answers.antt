@@ -1,7 +1,0 @@
-use Rattle.jsonc_text.specs.Gaps.{Gap, none}
-use Rattle.jsonc_text.specs.OptionsOf.{parse_options}
-use Rattle.jsonc_walk.proofs.lemmas.Gaps.{nothing}
-use Rattle.jsonc_parser.proofs.checker.CheckerReceiverString.pass_gap.Goals as goal
-
-pub returns-clause-gap : goal.returns-clause-gap
-returns-clause-gap g c = let old = c.args.self.now in nothing old.text.now (Gap (parse_options old.options)) c.args.from c.requires.boundary none
