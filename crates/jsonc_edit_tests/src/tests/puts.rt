@@ -407,12 +407,13 @@ fn is_put_at_names(alloc: Global, count: usize) -> Result<bool, Outcome> {
     is_put(alloc, "{}", &pointer, "1")
 }
 
-/// Whether a value is appended to the innermost of so many arrays in one another.
-fn is_put_in_arrays(alloc: Global, count: usize, json: &str) -> Result<bool, Outcome> {
-    let mut text = repeated(alloc, "[", count)?;
-    let close = repeated(alloc, "]", count)?;
+/// Whether a value is appended to an array in so many others.
+fn is_put_in_arrays(alloc: Global, outer: usize, json: &str) -> Result<bool, Outcome> {
+    let mut text = repeated(alloc, "[", outer)?;
+    let close = repeated(alloc, "]", outer)?;
+    text.push_str("[]")?;
     text.push_str(&close)?;
-    let mut pointer = repeated(alloc, "/0", count - 1)?;
+    let mut pointer = repeated(alloc, "/0", outer)?;
     pointer.push_str("/-")?;
     is_put(alloc, &text, &pointer, json)
 }
@@ -423,9 +424,9 @@ fn values_are_put_as_deep_as_texts_are_parsed(rt: HostRuntime) -> Result<(), Fai
     assert!(rt; is_put_at_names(alloc, 256) == Ok(true));
     assert!(rt; is_put_at_names(alloc, 257) == Ok(false));
     assert!(rt; is_put_at_names(alloc, 16000) == Ok(false));
-    assert!(rt; is_put_in_arrays(alloc, 512, "1") == Ok(true));
-    assert!(rt; is_put_in_arrays(alloc, 512, "[]") == Ok(true));
-    assert!(rt; is_put_in_arrays(alloc, 512, "[1]") == Ok(false));
+    assert!(rt; is_put_in_arrays(alloc, 511, "1") == Ok(true));
+    assert!(rt; is_put_in_arrays(alloc, 511, "[]") == Ok(true));
+    assert!(rt; is_put_in_arrays(alloc, 511, "[1]") == Ok(false));
     Ok(())
 }
 
