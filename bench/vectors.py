@@ -6,7 +6,7 @@ import re
 import sys
 
 HERE = os.path.dirname(os.path.abspath(__file__))
-USAGE = 'usage: jsonc check|print|set NAME JSON|append JSON|remove NAME|sort|get PATH|put PATH JSON|drop PATH\\x0A'
+USAGE = 'usage: jsonc check|print|set NAME JSON|append JSON|remove NAME|sort|get PLACE|put PATH JSON|drop PATH|patch [--max-bytes N] PATCH|merge PATCH|json\\x0A'
 # How many words the commands of settings have, with their own.
 SETTINGS = {"'get": 2, "'put": 3, "'drop": 2}
 

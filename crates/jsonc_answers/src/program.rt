@@ -21,7 +21,10 @@ pub fn outcome(alloc: Global, words: &[String], input: &[u8]) -> Result<String, 
     let words = lent(alloc, words)?;
     let mut source = FromReader::new(input);
     let mut sink = ToWriter::new(Vec::new(alloc));
-    let result = engine(alloc, words.as_slice(), &mut source, &mut sink);
+    let result = match Command::from_words(words.as_slice()) {
+        Some(command) => engine(alloc, command, &mut source, &mut sink),
+        None => Err(Fault::Usage),
+    };
     let ToWriter { writer, .. } = sink;
     let written = Escaped::field(writer.as_slice());
     match result {
@@ -43,7 +46,7 @@ pub fn printed(alloc: Global, options: &ParseOptions, input: &[u8]) -> Result<St
 }
 
 /// The status of a run that fails, what it wrote and the line that it prints.
-fn told(alloc: Global, written: &Escaped<'_>, fault: &Fault) -> Result<String, AllocError> {
+fn told(alloc: Global, written: &Escaped<'_>, fault: &Fault<Global>) -> Result<String, AllocError> {
     let status = fault.status();
     let line = format!(in alloc; "{fault}\n")?;
     let line = Escaped::field(line.as_bytes());

@@ -1,5 +1,6 @@
 -- Why a call did not do what was asked.
 use Rattle.std.specs.Prelude.{◌⊎◌, ℕ, List, IsUtf8}
+use Rattle.std.specs.declared.alloc.Global.{Global}
 use Rattle.jsonc_text.specs.Options.{Options}
 use Rattle.jsonc_engine.specs.Command.{Request, append, drop, get, print, put, remove, set, sort}
 use Rattle.jsonc_engine.specs.Fault.{IsCause}
@@ -11,7 +12,7 @@ use Rattle.jsonc_c.specs.declared.fault.JsoncFault.{JsoncFault}
 
 -- what the status and the fault tell is true of the command's words, or of the bytes of the text
 abbrev pub IsRefused : Options → Request → List ℕ → ℕ → JsoncFault → Type 0
-IsRefused o request text status f = (told : Fault) × IsCause o request text told × IsTold told status f
+IsRefused o request text status f = (told : Fault Global) × IsCause o request text told × IsTold told status f
 
 -- what is asked for, with the bytes of its words
 abbrev pub asked_of : Asked → Request

@@ -1,5 +1,6 @@
 -- What a call tells of a fault: numbers, places and a text.
 use Rattle.std.specs.Prelude.{◌≡◌, ◌≤◌, ℕ, replicate, take}
+use Rattle.std.specs.declared.alloc.Global.{Global}
 use Rattle.jsonc_text.specs.Faults.{column_of, kind_of, line_of, range_of}
 use Rattle.jsonc_text.specs.Messages.{error_text}
 use Rattle.jsonc_text.specs.declared.edit.EditError.{EditError}
@@ -91,7 +92,7 @@ edit_status refused.NotAnEntry = 27
 edit_status refused.NestingDepthExceeded = 28
 
 -- the status of a fault, and what is told with it
-abbrev pub IsTold : Fault → ℕ → JsoncFault → Type 0
+abbrev pub IsTold : Fault Global → ℕ → JsoncFault → Type 0
 IsTold NotUtf8 status f = status ≡ 3
 IsTold (Input error) status f = (status ≡ 4) × IsToldOf error f
 IsTold (Path error) status f = (status ≡ 5) × IsToldOf error f

@@ -1,5 +1,6 @@
 //! What is asked of a text: a command of the program `jsonc`, its words as bytes.
 ghost use Rattle.std.specs.Prelude.{◌≡◌, ◌≤◌, IfErr, IfOk, IfSome, IsUtf8, MatchOption, OnOk, string_bytes, true};
+ghost use Rattle.std.specs.declared.alloc.Global.{Global};
 ghost use Rattle.jsonc_engine.specs.Command.{request_of, writes};
 ghost use Rattle.jsonc_engine.specs.Input.{IsInputOf};
 ghost use Rattle.jsonc_engine.specs.Output.{IsLeft};
@@ -9,7 +10,7 @@ ghost use Rattle.jsonc_c.specs.Told.{TellsOfTexts, no_fault};
 
 use crate::fault::{JsoncFault, OTHER, WORD_NOT_UTF8, no_fault, tell};
 use crate::options::options_of;
-use jsonc_engine::command::Command;
+use jsonc_engine::command::{Command, Place};
 use jsonc_engine::engine::run_with;
 use std::alloc::Global;
 
@@ -41,13 +42,21 @@ fn command_of<'a>(asked: Asked<'a>) -> Option<Command<'a>>
 {
     Some(match asked {
         Asked::Print => Command::Print,
-        Asked::Set(name, json) => Command::Set(word(name)?, word(json)?),
-        Asked::Append(json) => Command::Append(word(json)?),
-        Asked::Remove(name) => Command::Remove(word(name)?),
+        Asked::Set(name, json) => Command::Set {
+            name: word(name)?,
+            json: word(json)?,
+        },
+        Asked::Append(json) => Command::Append { json: word(json)? },
+        Asked::Remove(name) => Command::Remove { name: word(name)? },
         Asked::Sort => Command::Sort,
-        Asked::Get(path) => Command::Get(word(path)?),
-        Asked::Put(path, json) => Command::Put(word(path)?, word(json)?),
-        Asked::Drop(path) => Command::Drop(word(path)?),
+        Asked::Get(path) => Command::Get {
+            place: Place::Names(word(path)?),
+        },
+        Asked::Put(path, json) => Command::Put {
+            names: word(path)?,
+            json: word(json)?,
+        },
+        Asked::Drop(path) => Command::Drop { names: word(path)? },
     })
 }
 
@@ -61,7 +70,7 @@ pub(crate) fn written(
     fault: &mut JsoncFault,
 ) -> Result<String, u32>
     ensures written { IfOk result
-        (λ made. IsLeft (options_of options) (asked_of asked.entry) text.now (string_bytes made)) }
+        (λ made. IsLeft Global (options_of options) (asked_of asked.entry) text.now (string_bytes made)) }
     ensures accepted { OnOk result (IsInputOf (options_of options) text.now) }
     ensures status { IfErr result (λ status. 1 ≤ status) }
     ensures other { IfErr result (λ status. ¬ (status ≡ 17)) }

@@ -1,5 +1,6 @@
 //! The commands of the program `jsonc`, one call for each.
 ghost use Rattle.std.specs.Prelude.{◌≡◌, ◌≤◌, ◌⊎◌, ◌++◌, ◌∷◌, [], IsUtf8};
+ghost use Rattle.std.specs.declared.alloc.Global.{Global};
 ghost use Rattle.jsonc_engine.specs.Change.{IsGot, IsMadeOf};
 ghost use Rattle.jsonc_engine.specs.Command as asked;
 ghost use Rattle.jsonc_engine.specs.Input.{IsInputOf};
@@ -23,7 +24,7 @@ fn change(
     out: &mut &'static [u8],
     fault: &mut JsoncFault,
 ) -> u32
-    ensures made { result ≡ 0 → IsLeft (options_of options) (asked_of command.entry) text.now out.new.now }
+    ensures made { result ≡ 0 → IsLeft Global (options_of options) (asked_of command.entry) text.now out.new.now }
     ensures accepted { result ≡ 0 → IsInputOf (options_of options) text.now }
     ensures words { result ≡ 2 → HasNoText (asked_of command.entry) }
     ensures refused { 3 ≤ result →

@@ -248,7 +248,7 @@ pub(crate) fn edit_status(error: EditError) -> u32
 }
 
 /// Tells a fault of the engine, and answers its status.
-pub(crate) fn tell(alloc: Global, told: &Fault, fault: &mut JsoncFault) -> u32
+pub(crate) fn tell(alloc: Global, told: &Fault<Global>, fault: &mut JsoncFault) -> u32
     ensures told { (result ≡ 1) ⊎ IsTold told.now result fault.new }
     ensures status { 1 ≤ result }
     ensures other { ¬ (result ≡ 17) }
@@ -267,6 +267,6 @@ pub(crate) fn tell(alloc: Global, told: &Fault, fault: &mut JsoncFault) -> u32
         Fault::OnTheWay => ON_THE_WAY,
         Fault::Edit(error) => edit_status(*error),
         Fault::NotUtf8 => NOT_UTF8,
-        Fault::Read | Fault::Write | Fault::Usage => OTHER,
+        _ => OTHER,
     }
 }

@@ -47,7 +47,7 @@ fn change_into(
     fault: &mut JsoncFault,
 ) -> u32
     ensures made { result ≡ 0 →
-        IsLeft (options_of options) (asked_of command.entry) text.now (take len.new room.new) }
+        IsLeft Global (options_of options) (asked_of command.entry) text.now (take len.new room.new) }
     ensures accepted { result ≡ 0 → IsInputOf (options_of options) text.now }
     ensures no_room { result ≡ 17 → length room.old < len.new }
     ensures len { ¬ (result ≡ 0) → ¬ (result ≡ 17) → len.new ≡ 0 }

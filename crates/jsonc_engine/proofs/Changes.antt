@@ -16,14 +16,23 @@ use Rattle.jsonc_sound.specs.SoundTrees.{SoundTree}
 use Rattle.jsonc_engine.specs.Parser.{LiesIn}
 use Rattle.jsonc_text.specs.declared.edit.EditError.TheVariants.{NestingDepthExceeded, OutOfMemory}
 use Rattle.jsonc_parser.specs.paths.Found.{names_of}
-use Rattle.jsonc_engine.specs.declared.argument.Change.{Change}
-use Rattle.jsonc_engine.specs.declared.argument.Change.TheVariants.{Append, Drop, Get, Put, Remove, Set, Sort, Stay}
+use Rattle.jsonc_engine.specs.declared.task.Change.{Change}
+use Rattle.jsonc_engine.specs.declared.task.Change.TheVariants.{Append, Drop, Put, Remove, Set, Sort, Stay}
 use Rattle.jsonc_engine.specs.declared.fault.Fault.{Fault}
 use Rattle.jsonc_engine.specs.declared.output.Output.{Output}
 use Rattle.jsonc_engine.specs.declared.fault.Fault.TheVariants.{Edit, NoSetting, NotArray, NotObject, OnTheWay}
 use Rattle.jsonc_engine.specs.Appending.{AppendsIfSound}
-use Rattle.jsonc_engine.specs.Change.{GetsNothing, HasNumbersOf, IsChangeFor, for_check, for_print, for_set, for_append, for_remove, for_sort, for_get, for_put, for_drop, MakesIfSound}
-use Rattle.jsonc_engine.specs.Command.{Request, check, print, set, append, remove, sort, get, put, drop}
+use Rattle.jsonc_engine.specs.Change.{HasNumbersOf, IsChangeFor, for_check, for_print, for_set, for_append, for_remove, for_sort, for_put, for_drop, IsTaskFor, for_json, for_work, IsWorkFor, for_change, for_get, for_find, for_patch, for_merge, MakesIfSound}
+use Rattle.jsonc_parser.specs.patch.Patches.{operations_in}
+use Rattle.jsonc_parser.specs.patch.Pointer.{tokens_of}
+use Rattle.jsonc_parser.specs.declared.patch.pointer.Pointer.{Pointer}
+use Rattle.jsonc_parser.specs.declared.patch.reading.Patch.{Patch}
+use Rattle.jsonc_engine.specs.Finding.{IsPointer}
+use Rattle.jsonc_engine.specs.Patched.{IsMergePatchOf, IsPatchOf}
+use Rattle.jsonc_engine.specs.declared.task.Task.TheVariants.{Json, OnDocument}
+use Rattle.jsonc_engine.specs.declared.task.Work.{Work}
+use Rattle.jsonc_engine.specs.declared.task.Work.TheVariants.{Apply, Find, Get, Make, Merge}
+use Rattle.jsonc_engine.specs.Command.{Request, append, as_json, check, drop, find, get, merge, patch, print, put, remove, set, sort}
 use Rattle.jsonc_engine.specs.Fault.{EndsAppending, EndsDropping, EndsGetting, EndsOnObject, EndsPutting, EndsSetting, IsFaultOn}
 use Rattle.jsonc_engine.specs.Input.{IsInputOf}
 use Rattle.jsonc_engine.specs.Output.{IsLeft, output_bytes}
@@ -52,7 +61,7 @@ err_so (Ok x) f h = tt
 err_so (Err e) f h = f h
 
 -- and of one that `?` makes
-pub err_by : {T : Type 0} (P : Fault → Type 0) (fault : Fault) (r : Result T Fault) → IsErrAnd r (λ told. told ≡ fault) → P fault → IfErr r P
+pub err_by : {A T : Type 0} (P : Fault A → Type 0) (fault : Fault A) (r : Result T (Fault A)) → IsErrAnd r (λ told. told ≡ fault) → P fault → IfErr r P
 err_by P fault (Ok x) told h = tt
 err_by P fault (Err e) told h = subst P (sym told) h
 
@@ -78,9 +87,6 @@ module _ {A : Type 0} (o : Options) where
   stay_makes _ ns for_check = λ sound. refl
   stay_makes _ ns for_print = λ sound. refl
 
-  pub get_makes : (request : Request) (ns : List Node) (names : Vec (String A) A) → IsChangeFor request (Get names) → MakesIfSound o request ns ns
-  get_makes _ ns _ (for_get path names is) = λ sound. refl
-
   put_so : (request : Request) (old new : List Node) (names : Vec (String A) A) (value : CstInputValue A) → IsChangeFor request (Put names value)
       → PutsIfSound o (plain value) (names_of names.items) old new → MakesIfSound o request old new
   put_so _ old new _ _ (for_put path json names value is argument) puts = λ sound. (names_of names.items, plain value, is, argument, puts sound)
@@ -97,7 +103,7 @@ module _ {A : Type 0} (o : Options) where
   drop_makes request old new names is l same drops = drop_so request old new names is (subst (λ (k : List (String A)). DropsIfSound o (names_of k) old new) same drops)
 
   -- what is put where something stands in the way is refused, and what is got where nothing stands
-  put_refused : (request : Request) (ns : List Node) (names : Vec (String A) A) (value : CstInputValue A) → IsChangeFor request (Put names value) → (fault : Fault)
+  put_refused : (request : Request) (ns : List Node) (names : Vec (String A) A) (value : CstInputValue A) → IsChangeFor request (Put names value) → (fault : Fault A)
       → EndsPutting o (printed (ordered_tree ns 0)) (names_of names.items) (plain value) fault → IsFaultOn o request (printed (ordered_tree ns 0)) fault
   put_refused _ ns _ _ (for_put path json names value is argument) OnTheWay ends = (names_of names.items, is, ends)
   put_refused _ ns _ _ (for_put path json names value is argument) (Edit OutOfMemory) ends = (names_of names.items, is, ends)
@@ -105,108 +111,145 @@ module _ {A : Type 0} (o : Options) where
   put_refused _ ns _ _ (for_put path json names value is argument) _ ends = absurd ends
 
   pub put_told : (request : Request) (ns : List Node) (names : Vec (String A) A) (value : CstInputValue A) → IsChangeFor request (Put names value) → (l : List (String A)) → l ≡ names.items
-      → (r : Result (Unit {0}) Fault) → IfErr r (EndsPutting o (printed (ordered_tree ns 0)) (names_of l) (plain value)) → IfErr r (IsFaultOn o request (printed (ordered_tree ns 0)))
+      → (r : Result (Unit {0}) (Fault A)) → IfErr r (EndsPutting o (printed (ordered_tree ns 0)) (names_of l) (plain value)) → IfErr r (IsFaultOn o request (printed (ordered_tree ns 0)))
   put_told request ns names value is l same (Ok x) ends = tt
   put_told request ns names value is l same (Err fault) ends =
       put_refused request ns names value is fault (subst (λ (k : List (String A)). EndsPutting o (printed (ordered_tree ns 0)) (names_of k) (plain value) fault) same ends)
 
-  get_refused : (request : Request) (ns : List Node) (names : Vec (String A) A) → IsChangeFor request (Get names) → (fault : Fault)
+  get_refused : (request : Request) (ns : List Node) (names : Vec (String A) A) → IsWorkFor o request (Get names) → (fault : Fault A)
       → EndsGetting o (printed (ordered_tree ns 0)) (names_of names.items) fault → IsFaultOn o request (printed (ordered_tree ns 0)) fault
   get_refused _ ns _ (for_get path names is) NoSetting ends = (names_of names.items, is, ends)
   get_refused _ ns _ (for_get path names is) (Edit OutOfMemory) ends = (names_of names.items, is, ends)
   get_refused _ ns _ (for_get path names is) _ ends = absurd ends
 
-  pub get_told : (request : Request) (ns : List Node) (names : Vec (String A) A) → IsChangeFor request (Get names) → (l : List (String A)) → l ≡ names.items → (r : Result (Output A) Fault)
+  pub get_told : (request : Request) (ns : List Node) (names : Vec (String A) A) → IsWorkFor o request (Get names) → (l : List (String A)) → l ≡ names.items → (r : Result (Output A) (Fault A))
       → IfErr r (EndsGetting o (printed (ordered_tree ns 0)) (names_of l)) → IfErr r (IsFaultOn o request (printed (ordered_tree ns 0)))
   get_told request ns names is l same (Ok output) ends = tt
   get_told request ns names is l same (Err fault) ends =
       get_refused request ns names is fault (subst (λ (k : List (String A)). EndsGetting o (printed (ordered_tree ns 0)) (names_of k) fault) same ends)
 
   -- the value that is got is what is to be written
-  got_so : (request : Request) (ns : List Node) (names : Vec (String A) A) (output : List ℕ) → IsChangeFor request (Get names) → SoundTree o (ordered_tree ns 0)
-      → ShownIfSound o (names_of names.items) ns output → IsLeft o request (printed (ordered_tree ns 0)) output
+  got_so : (request : Request) (ns : List Node) (names : Vec (String A) A) (output : List ℕ) → IsWorkFor o request (Get names) → SoundTree o (ordered_tree ns 0)
+      → ShownIfSound o (names_of names.items) ns output → IsLeft A o request (printed (ordered_tree ns 0)) output
   got_so _ ns _ output (for_get path names is) sound shown = record { names = names_of names.items; path_is = is; nodes = ns; reads = refl; shown = shown sound }
 
-  pub got_by : (request : Request) (ns : List Node) (names : Vec (String A) A) → IsChangeFor request (Get names) → (l : List (String A)) → l ≡ names.items → SoundTree o (ordered_tree ns 0)
-      → (r : Result (Output A) Fault) → IfOk r (λ output. ShownIfSound o (names_of l) ns (output_bytes output)) → IfOk r (λ output. IsLeft o request (printed (ordered_tree ns 0)) (output_bytes output))
+  pub got_by : (request : Request) (ns : List Node) (names : Vec (String A) A) → IsWorkFor o request (Get names) → (l : List (String A)) → l ≡ names.items → SoundTree o (ordered_tree ns 0)
+      → (r : Result (Output A) (Fault A)) → IfOk r (λ output. ShownIfSound o (names_of l) ns (output_bytes output)) → IfOk r (λ output. IsLeft A o request (printed (ordered_tree ns 0)) (output_bytes output))
   got_by request ns names is l same sound (Ok output) shown =
       got_so request ns names (output_bytes output) is sound (subst (λ (k : List (String A)). ShownIfSound o (names_of k) ns (output_bytes output)) same shown)
   got_by request ns names is l same sound (Err fault) shown = tt
 
   -- and what refuses any other change is true of the document
-  set_refused : (request : Request) (ns : List Node) (name : Bor (List ℕ)) (value : CstInputValue A) → IsChangeFor request (Set name value) → (fault : Fault)
+  set_refused : (request : Request) (ns : List Node) (name : Bor (List ℕ)) (value : CstInputValue A) → IsChangeFor request (Set name value) → (fault : Fault A)
       → EndsSetting o (printed (ordered_tree ns 0)) (chars name.now) (plain value) fault → IsFaultOn o request (printed (ordered_tree ns 0)) fault
   set_refused _ ns _ _ (for_set name json value argument) NotObject ends = ends
   set_refused _ ns _ _ (for_set name json value argument) (Edit OutOfMemory) ends = ends
   set_refused _ ns _ _ (for_set name json value argument) (Edit NestingDepthExceeded) ends = (plain value, argument, ends)
   set_refused _ ns _ _ (for_set name json value argument) _ ends = absurd ends
 
-  pub set_told : (request : Request) (ns : List Node) (name : Bor (List ℕ)) (value : CstInputValue A) → IsChangeFor request (Set name value) → (r : Result (Unit {0}) Fault)
+  pub set_told : (request : Request) (ns : List Node) (name : Bor (List ℕ)) (value : CstInputValue A) → IsChangeFor request (Set name value) → (r : Result (Unit {0}) (Fault A))
       → IfErr r (EndsSetting o (printed (ordered_tree ns 0)) (chars name.now) (plain value)) → IfErr r (IsFaultOn o request (printed (ordered_tree ns 0)))
   set_told request ns name value is (Ok x) ends = tt
   set_told request ns name value is (Err fault) ends = set_refused request ns name value is fault ends
 
-  append_refused : (request : Request) (ns : List Node) (value : CstInputValue A) → IsChangeFor request (Append value) → (fault : Fault)
+  append_refused : (request : Request) (ns : List Node) (value : CstInputValue A) → IsChangeFor request (Append value) → (fault : Fault A)
       → EndsAppending o (printed (ordered_tree ns 0)) (plain value) fault → IsFaultOn o request (printed (ordered_tree ns 0)) fault
   append_refused _ ns _ (for_append json value argument) NotArray ends = ends
   append_refused _ ns _ (for_append json value argument) (Edit OutOfMemory) ends = ends
   append_refused _ ns _ (for_append json value argument) (Edit NestingDepthExceeded) ends = (plain value, argument, ends)
   append_refused _ ns _ (for_append json value argument) _ ends = absurd ends
 
-  pub append_told : (request : Request) (ns : List Node) (value : CstInputValue A) → IsChangeFor request (Append value) → (r : Result (Unit {0}) Fault)
+  pub append_told : (request : Request) (ns : List Node) (value : CstInputValue A) → IsChangeFor request (Append value) → (r : Result (Unit {0}) (Fault A))
       → IfErr r (EndsAppending o (printed (ordered_tree ns 0)) (plain value)) → IfErr r (IsFaultOn o request (printed (ordered_tree ns 0)))
   append_told request ns value is (Ok x) ends = tt
   append_told request ns value is (Err fault) ends = append_refused request ns value is fault ends
 
-  remove_refused : (request : Request) (ns : List Node) (name : Bor (List ℕ)) → IsChangeFor {A = A} request (Remove name) → (fault : Fault)
+  remove_refused : (request : Request) (ns : List Node) (name : Bor (List ℕ)) → IsChangeFor {A = A} request (Remove name) → (fault : Fault A)
       → EndsOnObject o (printed (ordered_tree ns 0)) fault → IsFaultOn o request (printed (ordered_tree ns 0)) fault
   remove_refused _ ns _ (for_remove name) NotObject ends = ends
   remove_refused _ ns _ (for_remove name) (Edit OutOfMemory) ends = ends
   remove_refused _ ns _ (for_remove name) _ ends = absurd ends
 
-  pub remove_told : (request : Request) (ns : List Node) (name : Bor (List ℕ)) → IsChangeFor {A = A} request (Remove name) → (r : Result (Unit {0}) Fault)
+  pub remove_told : (request : Request) (ns : List Node) (name : Bor (List ℕ)) → IsChangeFor {A = A} request (Remove name) → (r : Result (Unit {0}) (Fault A))
       → IfErr r (EndsOnObject o (printed (ordered_tree ns 0))) → IfErr r (IsFaultOn o request (printed (ordered_tree ns 0)))
   remove_told request ns name is (Ok x) ends = tt
   remove_told request ns name is (Err fault) ends = remove_refused request ns name is fault ends
 
-  sort_refused : (request : Request) (ns : List Node) → IsChangeFor {A = A} request Sort → (fault : Fault)
+  sort_refused : (request : Request) (ns : List Node) → IsChangeFor {A = A} request Sort → (fault : Fault A)
       → EndsOnObject o (printed (ordered_tree ns 0)) fault → IsFaultOn o request (printed (ordered_tree ns 0)) fault
   sort_refused _ ns for_sort NotObject ends = ends
   sort_refused _ ns for_sort (Edit OutOfMemory) ends = ends
   sort_refused _ ns for_sort _ ends = absurd ends
 
-  pub sort_told : (request : Request) (ns : List Node) → IsChangeFor {A = A} request Sort → (r : Result (Unit {0}) Fault) → IfErr r (EndsOnObject o (printed (ordered_tree ns 0)))
+  pub sort_told : (request : Request) (ns : List Node) → IsChangeFor {A = A} request Sort → (r : Result (Unit {0}) (Fault A)) → IfErr r (EndsOnObject o (printed (ordered_tree ns 0)))
       → IfErr r (IsFaultOn o request (printed (ordered_tree ns 0)))
   sort_told request ns is (Ok x) ends = tt
   sort_told request ns is (Err fault) ends = sort_refused request ns is fault ends
 
-  drop_refused : (request : Request) (ns : List Node) (names : Vec (String A) A) → IsChangeFor request (Drop names) → (fault : Fault)
+  drop_refused : (request : Request) (ns : List Node) (names : Vec (String A) A) → IsChangeFor request (Drop names) → (fault : Fault A)
       → EndsDropping o (printed (ordered_tree ns 0)) (names_of names.items) fault → IsFaultOn o request (printed (ordered_tree ns 0)) fault
   drop_refused _ ns _ (for_drop path names is) (Edit OutOfMemory) ends = (names_of names.items, is, ends)
   drop_refused _ ns _ (for_drop path names is) _ ends = absurd ends
 
-  pub drop_told : (request : Request) (ns : List Node) (names : Vec (String A) A) → IsChangeFor request (Drop names) → (l : List (String A)) → l ≡ names.items → (r : Result (Unit {0}) Fault)
+  pub drop_told : (request : Request) (ns : List Node) (names : Vec (String A) A) → IsChangeFor request (Drop names) → (l : List (String A)) → l ≡ names.items → (r : Result (Unit {0}) (Fault A))
       → IfErr r (EndsDropping o (printed (ordered_tree ns 0)) (names_of l)) → IfErr r (IsFaultOn o request (printed (ordered_tree ns 0)))
   drop_told request ns names is l same (Ok x) ends = tt
   drop_told request ns names is l same (Err fault) ends =
       drop_refused request ns names is fault (subst (λ (k : List (String A)). EndsDropping o (printed (ordered_tree ns 0)) (names_of k) fault) same ends)
 
--- so the document of the input is left, where the change is not to get a value
-module _ {A : Type 0} (o : Options) (change : Change A) (other : GetsNothing change) where
-  no_get : (path : List ℕ) (x : Change A) → x ≡ change → IsChangeFor (get path) x → ⊥
-  no_get _ _ same (for_get path names is) = other names (sym same)
+-- so the document of the input is left
+module _ {A : Type 0} (o : Options) (change : Change A) where
+  no_get : (path : List ℕ) (x : Change A) → IsChangeFor (get path) x → ⊥
+  no_get _ _ h = elim h [ ]
+
+  no_find : (pointer : List ℕ) (x : Change A) → IsChangeFor (find pointer) x → ⊥
+  no_find _ _ h = elim h [ ]
+
+  no_patch : (text : List ℕ) (most : ℕ) (x : Change A) → IsChangeFor (patch text most) x → ⊥
+  no_patch _ _ _ h = elim h [ ]
+
+  no_merge : (text : List ℕ) (x : Change A) → IsChangeFor (merge text) x → ⊥
+  no_merge _ _ h = elim h [ ]
+
+  no_json : (x : Change A) → IsChangeFor as_json x → ⊥
+  no_json _ h = elim h [ ]
 
   pub left_by : (request : Request) (input : List ℕ) (old new : List Node) → IsChangeFor request change → printed (ordered_tree old 0) ≡ input → SoundTree o (ordered_tree old 0) → LiesIn o input (ordered_tree old 0)
-      → (HasNumbersOf o request → IsInputOf o (printed (ordered_tree new 0))) → MakesIfSound o request old new → IsLeft o request input (printed (ordered_tree new 0))
+      → (HasNumbersOf o request → IsInputOf o (printed (ordered_tree new 0))) → MakesIfSound o request old new → IsLeft A o request input (printed (ordered_tree new 0))
   left_by check input old new is reads sound laid accepted makes = ap (λ (ns : List Node). printed (ordered_tree ns 0)) (makes sound) ∙ reads
   left_by print input old new is reads sound laid accepted makes = ap (λ (ns : List Node). printed (ordered_tree ns 0)) (makes sound) ∙ reads
-  left_by (get path) input old new is reads sound laid accepted makes = absurd (no_get path change refl is)
+  left_by (get path) input old new is reads sound laid accepted makes = absurd (no_get path change is)
+  left_by (find pointer) input old new is reads sound laid accepted makes = absurd (no_find pointer change is)
+  left_by (patch text most) input old new is reads sound laid accepted makes = absurd (no_patch text most change is)
+  left_by (merge text) input old new is reads sound laid accepted makes = absurd (no_merge text change is)
+  left_by as_json input old new is reads sound laid accepted makes = absurd (no_json change is)
   left_by (set name json) input old new is reads sound laid accepted makes = record { old = old; new = new; reads = reads; laid = laid; sound = sound; makes = makes sound; prints = refl; accepted = accepted }
   left_by (append json) input old new is reads sound laid accepted makes = record { old = old; new = new; reads = reads; laid = laid; sound = sound; makes = makes sound; prints = refl; accepted = accepted }
   left_by (remove name) input old new is reads sound laid accepted makes = record { old = old; new = new; reads = reads; laid = laid; sound = sound; makes = makes sound; prints = refl; accepted = accepted }
   left_by sort input old new is reads sound laid accepted makes = record { old = old; new = new; reads = reads; laid = laid; sound = sound; makes = makes sound; prints = refl; accepted = accepted }
   left_by (put path json) input old new is reads sound laid accepted makes = record { old = old; new = new; reads = reads; laid = laid; sound = sound; makes = makes sound; prints = refl; accepted = accepted }
   left_by (drop path) input old new is reads sound laid accepted makes = record { old = old; new = new; reads = reads; laid = laid; sound = sound; makes = makes sound; prints = refl; accepted = accepted }
+
+-- work, by its kind
+module _ {A : Type 0} (o : Options) where
+  pub change_of : (request : Request) (change : Change A) → IsWorkFor o request (Make change) → IsChangeFor request change
+  change_of _ _ (for_change request change is) = is
+
+  pub find_so : (P : Request → Type 0) (request : Request) (pointer : Pointer A) → IsWorkFor o request (Find pointer) → ((text : List ℕ) → IsPointer text (tokens_of pointer) → P (find text)) → P request
+  find_so P _ _ (for_find text pointer is) h = h text is
+
+  pub patch_so : (P : Request → Type 0) (request : Request) (read : Patch A) (most : ℕ) → IsWorkFor o request (Apply read most) → ((text : List ℕ) → IsPatchOf o text (operations_in read) → P (patch text most)) → P request
+  patch_so P _ _ _ (for_patch text most read is) h = h text is
+
+  pub merge_so : (P : Request → Type 0) (request : Request) (value : CstInputValue A) → IsWorkFor o request (Merge value) → ((text : List ℕ) → IsMergePatchOf o text (plain value) → P (merge text)) → P request
+  merge_so P _ _ (for_merge text value is) h = h text is
+
+  -- and a task
+  pub work_of : (request : Request) (work : Work A) → IsTaskFor o request (OnDocument work) → IsWorkFor o request work
+  work_of _ _ (for_work request work is) = is
+
+  pub json_so : (P : Request → Type 0) (request : Request) → IsTaskFor {A = A} o request Json → P as_json → P request
+  json_so P _ for_json h = h
 
 -- what was read is the input, where that is known
 pub of_input : (known : Option (List ℕ)) (read : List ℕ) (P : List ℕ → Type 0) → IfSome known (λ input. read ≡ input) → P read → IfSome known P

@@ -11,3 +11,15 @@ mod LocatedValues
 mod Names
 mod SettingsShown
 mod FaultTexts
+mod Allowed
+mod Strings
+mod Numbers
+mod NumberForms
+mod Rewriting
+mod Gaps
+mod ToldTokens
+mod WrittenTokens
+mod Documents
+mod Finding
+mod Patches
+mod Words

@@ -191,12 +191,12 @@ module _ {A : Type 0} where
   pub stands_for : (w : Option (Value A)) (v : Value A) (vs : Items) → w ≡ Some v → items_in (plain v) ≡ Some vs → option_map plain w ≡ Some (plains.array vs)
   stands_for w v vs is has = ap (option_map plain) is ∙ ap Some (array_from (plain v) vs has)
 
-  pub names_of_value : (w : Option Plain) (vs : Items) (r : Result (Vec (String A) A) Fault) → w ≡ Some (plains.array vs) → IfOk r (λ names. plains.array vs ≡ strings (names_of names.items))
+  pub names_of_value : (w : Option Plain) (vs : Items) (r : Result (Vec (String A) A) (Fault A)) → w ≡ Some (plains.array vs) → IfOk r (λ names. plains.array vs ≡ strings (names_of names.items))
       → IfOk r (λ names. w ≡ Some (strings (names_of names.items)))
   names_of_value w vs (Ok names) is h = is ∙ ap Some h
   names_of_value w vs (Err fault) is h = tt
 
-  pub fault_of_value : (w : Option Plain) (vs : Items) (r : Result (Vec (String A) A) Fault) → w ≡ Some (plains.array vs) → IfErr r (IsFaultOfNames (Some (plains.array vs))) → IfErr r (IsFaultOfNames w)
+  pub fault_of_value : (w : Option Plain) (vs : Items) (r : Result (Vec (String A) A) (Fault A)) → w ≡ Some (plains.array vs) → IfErr r (IsFaultOfNames (Some (plains.array vs))) → IfErr r (IsFaultOfNames w)
   fault_of_value w vs (Ok names) is h = tt
   fault_of_value w vs (Err fault) is h = subst (λ (x : Option Plain). IsFaultOfNames x fault) (sym is) h
 
@@ -208,15 +208,15 @@ module _ (path : List ℕ) (o : Options) (all : o ≡ all_on) (w : Option Plain)
   path_by : (names : List (List ℕ)) → w ≡ Some (strings names) → IsPath path names
   path_by names is = subst (λ (x : Option Plain). IsDocument all_on (chars path) x) is document
 
-  path_fault : (f : Fault) → IsFaultOfNames w f → IsFaultOfPath path f
+  path_fault : {A : Type 0} (f : Fault A) → IsFaultOfNames w f → IsFaultOfPath path f
   path_fault NotNames h = (w, document, h)
   path_fault (Edit OutOfMemory) h = (h.0, path_by h.0 h.1)
   path_fault _ h = absurd h
 
-  pub names_read : {A : Type 0} (r : Result (Vec (String A) A) Fault) → IfOk r (λ names. w ≡ Some (strings (names_of names.items))) → IfOk r (λ names. IsPath path (names_of names.items))
+  pub names_read : {A : Type 0} (r : Result (Vec (String A) A) (Fault A)) → IfOk r (λ names. w ≡ Some (strings (names_of names.items))) → IfOk r (λ names. IsPath path (names_of names.items))
   names_read (Ok names) h = path_by (names_of names.items) h
   names_read (Err fault) h = tt
 
-  pub names_refused : {A : Type 0} (r : Result (Vec (String A) A) Fault) → IfErr r (IsFaultOfNames w) → IfErr r (IsFaultOfPath path)
+  pub names_refused : {A : Type 0} (r : Result (Vec (String A) A) (Fault A)) → IfErr r (IsFaultOfNames w) → IfErr r (IsFaultOfPath path)
   names_refused (Ok names) h = tt
   names_refused (Err fault) h = path_fault fault h

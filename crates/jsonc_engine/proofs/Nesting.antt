@@ -40,7 +40,7 @@ use Rattle.jsonc_parser.proofs.lemmas.paths.ReadBack.{drop_options, one_led, put
 use Rattle.jsonc_engine.specs.Appending.{AppendsLast}
 use Rattle.jsonc_engine.specs.Argument.{FitsInArray, IsArgument}
 use Rattle.jsonc_engine.specs.Change.{HasNumbersOf, Makes}
-use Rattle.jsonc_engine.specs.Command.{Request, check, print, set, append, remove as remove_it, sort, get, put, drop}
+use Rattle.jsonc_engine.specs.Command.{Request, append, as_json, check, drop, find, get, merge, patch, print, put, remove as remove_it, set, sort}
 use Rattle.jsonc_engine.specs.Input.{IsInput, IsInputOf}
 use Rattle.jsonc_engine.specs.Output.{IsAccepted, IsLeft}
 use Rattle.jsonc_engine.specs.Removal.{LosesFirst, SettingRemoved}
@@ -67,13 +67,13 @@ utf8_all [] u = IsUtf8-nil
 utf8_all (content ∷ rest) u = IsUtf8-append (text_of content) (flat_map text_of rest) u.0 (utf8_all rest u.1)
 
 -- the nodes show a document of the options that is within the depth
-record IsShown (o : Options) (ns : List Node) : Type 0 where
-  e : Document
-  shown : Shows e (ordered_tree ns 0)
-  options : e.options ≡ o
-  within : IsWithin e.value
+pub record IsShown (o : Options) (ns : List Node) : Type 0 where
+  pub e : Document
+  pub shown : Shows e (ordered_tree ns 0)
+  pub options : e.options ≡ o
+  pub within : IsWithin e.value
 
-accepts : (o : Options) (ns : List Node) → IsShown o ns → IsInputOf o (printed (ordered_tree ns 0))
+pub accepts : (o : Options) (ns : List Node) → IsShown o ns → IsInputOf o (printed (ordered_tree ns 0))
 accepts o ns s = record {
   utf8 = utf8_all (leaves (ordered_tree ns 0)) (document_utf8 s.e.options s.shown.sound.shaped);
   value = s.e.value;
@@ -225,7 +225,7 @@ module _ (o : Options) (old new : List Node) where
     drops names h = drops_so h.one.document h.one.options h.one.shown names h.done h.drops
 
     module _ (tree : IsTree old) (sound : SoundTree o (ordered_tree old 0)) where
-      before_it : IsShown o old
+      pub before_it : IsShown o old
       before_it =
           let t = document_printed o (ordered_tree old 0) sound.shaped sound.lines in
           let shown : Shows (document_of o (ordered_tree old 0) t.0) (ordered_tree old 0) = record { sound = sound; value = t.2; is = refl } in
@@ -238,7 +238,11 @@ module _ (o : Options) (old new : List Node) where
       left_so (append json) numbers (v, argument, h) = appends before_it v (numbers json refl v argument) h
       left_so (remove_it name) numbers h = loses before_it tree (chars name) h
       left_so sort numbers h = sorts before_it tree h
-      left_so (get path) numbers same = subst (IsShown o) (sym same) before_it
+      left_so (get path) numbers h = absurd h
+      left_so (find pointer) numbers h = absurd h
+      left_so (patch text most) numbers h = absurd h
+      left_so (merge text) numbers h = absurd h
+      left_so as_json numbers h = absurd h
       left_so (put path json) numbers (names, v, is, argument, h) = puts v names (numbers json refl v argument) h
       left_so (drop path) numbers (names, is, h) = drops names h
 
@@ -251,14 +255,18 @@ accepted_after o old new tree sound small request makes numbers = accepts o new 
 all_numbers : (request : Request) → HasNumbersOf all_on request
 all_numbers request json is v argument = argument.writable.numbers
 
--- so it is of all that the program writes, but for the value that is got
-pub accepted_again : (request : Request) (input text : List ℕ) → IsInput input → IsLeft all_on request input text → IsAccepted request text
-accepted_again check input text accepted same = subst IsInput (sym same) accepted
-accepted_again print input text accepted same = subst IsInput (sym same) accepted
-accepted_again (get path) input text accepted left = tt
-accepted_again (set name json) input text accepted left = left.accepted (all_numbers (set name json))
-accepted_again (append json) input text accepted left = left.accepted (all_numbers (append json))
-accepted_again (remove_it name) input text accepted left = left.accepted (all_numbers (remove_it name))
-accepted_again sort input text accepted left = left.accepted (all_numbers sort)
-accepted_again (put path json) input text accepted left = left.accepted (all_numbers (put path json))
-accepted_again (drop path) input text accepted left = left.accepted (all_numbers (drop path))
+-- so it is of all that the program writes, but for a value that is got and JSON
+pub accepted_again : (A : Type 0) (request : Request) (input text : List ℕ) → IsInput input → IsLeft A all_on request input text → IsAccepted request text
+accepted_again A check input text accepted same = subst IsInput (sym same) accepted
+accepted_again A print input text accepted same = subst IsInput (sym same) accepted
+accepted_again A (get path) input text accepted left = tt
+accepted_again A (find pointer) input text accepted left = tt
+accepted_again A (patch words most) input text accepted left = left.made.so.accepted
+accepted_again A (merge words) input text accepted left = left.made.so.accepted
+accepted_again A as_json input text accepted left = tt
+accepted_again A (set name json) input text accepted left = left.accepted (all_numbers (set name json))
+accepted_again A (append json) input text accepted left = left.accepted (all_numbers (append json))
+accepted_again A (remove_it name) input text accepted left = left.accepted (all_numbers (remove_it name))
+accepted_again A sort input text accepted left = left.accepted (all_numbers sort)
+accepted_again A (put path json) input text accepted left = left.accepted (all_numbers (put path json))
+accepted_again A (drop path) input text accepted left = left.accepted (all_numbers (drop path))

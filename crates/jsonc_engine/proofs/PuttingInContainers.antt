@@ -38,7 +38,7 @@ use Rattle.jsonc_cst.specs.objects.Members.{IsAppendingNamed, NamedInsertedAt}
 use Rattle.jsonc_cst.specs.typed.Setting.{FindsOrCreates}
 use Rattle.jsonc_cst.specs.typed.Steps.{IsAppending, IsEnsuringRoot, IsSettingValue}
 use Rattle.jsonc_cst.specs.typed.Values.{ValueIs}
-use Rattle.jsonc_engine.specs.declared.fault.Fault.TheVariants.{Edit, NotArray, NotObject}
+use Rattle.jsonc_engine.specs.declared.fault.Fault.TheVariants.{Edit}
 use Rattle.jsonc_parser.specs.paths.Calls.{FitsAt}
 use Rattle.jsonc_engine.specs.Appending.{AppendsLast}
 use Rattle.jsonc_engine.specs.Argument.{FitsInArray}
@@ -89,32 +89,32 @@ module _ (o : Options) (old made : List Node) where
       (h.value, h.text, sym (h.error shape) ∙ if_none (is_of shape (content_at old n)) n told)
 
   pub no_array : (v : Plain) → IsTree old → SoundTree o (ordered_tree old 0) → (found : Option CstArray) → found ≡ None → CreatesArray old made found
-      → EndsAppending o (printed (ordered_tree old 0)) v NotArray
+      → HasAnother is_array o (printed (ordered_tree old 0))
   no_array v tree s found none h =
       another_by Array tree s (value_at old 0) refl (subst (λ (f : Option CstArray). CreatesArray old made f) none h)
 
   pub no_object : (name : List ℕ) (v : Plain) → IsTree old → SoundTree o (ordered_tree old 0) → (found : Option CstObject) → found ≡ None → CreatesObject old made found
-      → EndsSetting o (printed (ordered_tree old 0)) name v NotObject
+      → HasAnother is_object o (printed (ordered_tree old 0))
   no_object name v tree s found none h =
       another_by Object tree s (value_at old 0) refl (subst (λ (f : Option CstObject). CreatesObject old made f) none h)
 
 -- allocation failure can end an edit, where the value is of the kind that is wanted
-pub memory_appending : (o : Options) (bytes : List ℕ) (v : Plain) (e : EditError) → e ≡ OutOfMemory → MayHave is_array o bytes → EndsAppending o bytes v (Edit e)
-memory_appending o bytes v e is has = subst (λ (x : EditError). EndsAppending o bytes v (Edit x)) (sym is) has
+pub memory_appending : (A : Type 0) (o : Options) (bytes : List ℕ) (v : Plain) (e : EditError) → e ≡ OutOfMemory → MayHave is_array o bytes → EndsAppending {A = A} o bytes v (Edit e)
+memory_appending A o bytes v e is has = subst (λ (x : EditError). EndsAppending {A = A} o bytes v (Edit x)) (sym is) has
 
-pub memory_setting : (o : Options) (bytes name : List ℕ) (v : Plain) (e : EditError) → e ≡ OutOfMemory → MayHave is_object o bytes → EndsSetting o bytes name v (Edit e)
-memory_setting o bytes name v e is has = subst (λ (x : EditError). EndsSetting o bytes name v (Edit x)) (sym is) has
+pub memory_setting : (A : Type 0) (o : Options) (bytes name : List ℕ) (v : Plain) (e : EditError) → e ≡ OutOfMemory → MayHave is_object o bytes → EndsSetting {A = A} o bytes name v (Edit e)
+memory_setting A o bytes name v e is has = subst (λ (x : EditError). EndsSetting {A = A} o bytes name v (Edit x)) (sym is) has
 
-pub memory_on_object : (o : Options) (bytes : List ℕ) (e : EditError) → e ≡ OutOfMemory → HasKind is_object o bytes → EndsOnObject o bytes (Edit e)
-memory_on_object o bytes e is has = subst (λ (x : EditError). EndsOnObject o bytes (Edit x)) (sym is) has
+pub memory_on_object : (A : Type 0) (o : Options) (bytes : List ℕ) (e : EditError) → e ≡ OutOfMemory → HasKind is_object o bytes → EndsOnObject {A = A} o bytes (Edit e)
+memory_on_object A o bytes e is has = subst (λ (x : EditError). EndsOnObject {A = A} o bytes (Edit x)) (sym is) has
 
 -- so it is while the first value is made
 module _ (o : Options) (old : List Node) (tree : IsTree old) (s : SoundTree o (ordered_tree old 0)) (none : value_at old 0 ≡ None) where
-  pub array_wanted : (v : Plain) (e : EditError) → e ≡ OutOfMemory → EndsAppending o (printed (ordered_tree old 0)) v (Edit e)
-  array_wanted v e is = memory_appending o (printed (ordered_tree old 0)) v e is (wanted o old tree s Array none)
+  pub array_wanted : (A : Type 0) (v : Plain) (e : EditError) → e ≡ OutOfMemory → EndsAppending {A = A} o (printed (ordered_tree old 0)) v (Edit e)
+  array_wanted A v e is = memory_appending A o (printed (ordered_tree old 0)) v e is (wanted o old tree s Array none)
 
-  pub object_wanted : (name : List ℕ) (v : Plain) (e : EditError) → e ≡ OutOfMemory → EndsSetting o (printed (ordered_tree old 0)) name v (Edit e)
-  object_wanted name v e is = memory_setting o (printed (ordered_tree old 0)) name v e is (wanted o old tree s Object none)
+  pub object_wanted : (A : Type 0) (name : List ℕ) (v : Plain) (e : EditError) → e ≡ OutOfMemory → EndsSetting {A = A} o (printed (ordered_tree old 0)) name v (Edit e)
+  object_wanted A name v e is = memory_setting A o (printed (ordered_tree old 0)) name v e is (wanted o old tree s Object none)
 
 -- what is put into the array
 module _ (o : Options) (old made : List Node) (tree : IsTree made) (x : CstArray) (stands : typed_if made (value_at made 0) ≡ Some (array_node x)) where
@@ -143,11 +143,11 @@ module _ (o : Options) (old made : List Node) (tree : IsTree made) (x : CstArray
     step = step;
   }
 
-  pub array_memory : (v : Plain) → IsTree old → SoundTree o (ordered_tree old 0) → CreatesArray old made (Some x) → (e : EditError) → OnlyOutOfMemory o made c e
-      → EndsAppending o (printed (ordered_tree old 0)) v (Edit e)
-  array_memory v before s found e told =
+  pub array_memory : (A : Type 0) (v : Plain) → IsTree old → SoundTree o (ordered_tree old 0) → CreatesArray old made (Some x) → (e : EditError) → OnlyOutOfMemory o made c e
+      → EndsAppending {A = A} o (printed (ordered_tree old 0)) v (Edit e)
+  array_memory A v before s found e told =
       let sound = sound_by o old made Array before s (value_at old 0) (Some c) refl found in
-      memory_appending o (printed (ordered_tree old 0)) v e (told sound (over_at made tree [] c at)) (of_found o old before s Array made c found)
+      memory_appending A o (printed (ordered_tree old 0)) v e (told sound (over_at made tree [] c at)) (of_found o old before s Array made c found)
 
 -- a property that was found is one
 Property : List Node → Option ℕ → Type 0
@@ -219,8 +219,8 @@ module _ (o : Options) (old made : List Node) (before : IsTree old) (tree : IsTr
       pub sets_property : ValueIs made new p v now → IsSettingValue made new p v → SetsFirst name v old new
       sets_property becomes step = sets_by (Some p) named (sets_value becomes step)
 
-  pub object_memory : (name : List ℕ) (v : Plain) (e : EditError) → e ≡ OutOfMemory → EndsSetting o (printed (ordered_tree old 0)) name v (Edit e)
-  object_memory name v e is = memory_setting o (printed (ordered_tree old 0)) name v e is (of_found o old before s Object made k found)
+  pub object_memory : (A : Type 0) (name : List ℕ) (v : Plain) (e : EditError) → e ≡ OutOfMemory → EndsSetting {A = A} o (printed (ordered_tree old 0)) name v (Edit e)
+  object_memory A name v e is = memory_setting A o (printed (ordered_tree old 0)) name v e is (of_found o old before s Object made k found)
 
-  pub append_memory : (name : List ℕ) (v : Plain) (e : EditError) → OnlyOutOfMemory o made k e → EndsSetting o (printed (ordered_tree old 0)) name v (Edit e)
-  append_memory name v e told = object_memory name v e (told sound (over_at made tree [] k stands_there))
+  pub append_memory : (A : Type 0) (name : List ℕ) (v : Plain) (e : EditError) → OnlyOutOfMemory o made k e → EndsSetting {A = A} o (printed (ordered_tree old 0)) name v (Edit e)
+  append_memory A name v e told = object_memory A name v e (told sound (over_at made tree [] k stands_there))

@@ -64,16 +64,16 @@ module _ (o : Options) (ns : List Node) (sound : SoundTree o (ordered_tree ns 0)
   for_putting names (inl passes) = inl (looks_up names passes)
   for_putting names (inr free) = inr (text.0, text.1, λ stands. free (refl, stands))
 
-  pub refused_putting : (names : List (List ℕ)) (v : Plain) (e : EditError) → FailsToPut ns names v e → (e ≡ OutOfMemory → WantsToPut First Keep ns names) → EndsPutting o (printed (ordered_tree ns 0)) names v (Edit e)
-  refused_putting names v OutOfMemory told wants = for_putting names (wants refl d shown)
-  refused_putting names v NestingDepthExceeded told wants = told d shown
-  refused_putting names v e told wants = absurd (told d shown)
+  pub refused_putting : (A : Type 0) (names : List (List ℕ)) (v : Plain) (e : EditError) → FailsToPut ns names v e → (e ≡ OutOfMemory → WantsToPut First Keep ns names) → EndsPutting {A = A} o (printed (ordered_tree ns 0)) names v (Edit e)
+  refused_putting A names v OutOfMemory told wants = for_putting names (wants refl d shown)
+  refused_putting A names v NestingDepthExceeded told wants = told d shown
+  refused_putting A names v e told wants = absurd (told d shown)
 
-  pub memory_dropping : (names : List (List ℕ)) (e : EditError) → WantsMemory ns e → WantsForSomething ns names → EndsDropping o (printed (ordered_tree ns 0)) names (Edit e)
-  memory_dropping names e told wants = subst (λ (x : EditError). EndsDropping o (printed (ordered_tree ns 0)) names (Edit x)) (sym (told d shown)) (for_something names (wants d shown))
+  pub memory_dropping : (A : Type 0) (names : List (List ℕ)) (e : EditError) → WantsMemory ns e → WantsForSomething ns names → EndsDropping {A = A} o (printed (ordered_tree ns 0)) names (Edit e)
+  memory_dropping A names e told wants = subst (λ (x : EditError). EndsDropping {A = A} o (printed (ordered_tree ns 0)) names (Edit x)) (sym (told d shown)) (for_something names (wants d shown))
 
-  pub memory_getting : (names : List (List ℕ)) (e : EditError) → e ≡ OutOfMemory → WantsToLookUp First ns names → EndsGetting o (printed (ordered_tree ns 0)) names (Edit e)
-  memory_getting names e is wants = subst (λ (x : EditError). EndsGetting o (printed (ordered_tree ns 0)) names (Edit x)) (sym is) (inl (looks_up names (wants d shown)))
+  pub memory_getting : (A : Type 0) (names : List (List ℕ)) (e : EditError) → e ≡ OutOfMemory → WantsToLookUp First ns names → EndsGetting {A = A} o (printed (ordered_tree ns 0)) names (Edit e)
+  memory_getting A names e is wants = subst (λ (x : EditError). EndsGetting {A = A} o (printed (ordered_tree ns 0)) names (Edit x)) (sym is) (inl (looks_up names (wants d shown)))
 
 module _ {A : Type 0} (o : Options) (doc : CstRootNode A) (sound : SoundTree o (tree_of doc)) (names : List (List ℕ)) where
   pub nothing_there : FindsWhatShown doc names None → HasNothingAt o (printed (tree_of doc)) names
@@ -89,7 +89,7 @@ module _ {A : Type 0} (o : Options) (doc : CstRootNode A) (sound : SoundTree o (
     prints = prints;
   }
 
-  pub memory_showing : (node : CstNode) → FindsWhatShown doc names (Some node) → EndsGetting o (printed (tree_of doc)) names (Edit OutOfMemory)
+  pub memory_showing : (node : CstNode) → FindsWhatShown doc names (Some node) → EndsGetting {A = A} o (printed (tree_of doc)) names (Edit OutOfMemory)
   memory_showing node finds =
       let t = text o (nodes_of doc) sound in
       let w = finds (d o (nodes_of doc) sound) (shown o (nodes_of doc) sound) in

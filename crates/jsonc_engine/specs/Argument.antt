@@ -1,16 +1,24 @@
--- The path and the JSON text of a command: what they say, and what is wrong with them.
+-- The path, the JSON text, the pointer and the patch of a command: what they say, and what is wrong with them.
 use Rattle.std.specs.Prelude.{◌≡◌, ◌≢◌, ℕ, List, [], ◌∷◌, Option, Some, None, chars, map}
 use Rattle.jsonc_text.specs.Grammar.{IsDocument}
-use Rattle.jsonc_text.specs.Options.{all_on}
+use Rattle.jsonc_text.specs.Options.{Options, all_on}
 use Rattle.jsonc_text.specs.Plain.{Plain, Items, array, collapse, item, no_items, string}
 use Rattle.jsonc_layout.specs.input.Views.{items_of}
 use Rattle.jsonc_edit.specs.Writing.{IsWritable}
+use Rattle.jsonc_parser.specs.patch.MergeTexts.{IsFaultOfMergePatch}
+use Rattle.jsonc_parser.specs.patch.PatchFaults.{IsFaultOfPatch}
+use Rattle.jsonc_parser.specs.patch.Pointer.{IsPointerFault}
 use Rattle.jsonc_parser.specs.paths.Calls.{FitsAt}
-use Rattle.jsonc_engine.specs.Command.{Request, append, json_of, path_of, put, set}
+use Rattle.jsonc_parser.specs.declared.patch.merge_text.MergePatchError.TheVariants as merge_patch
+use Rattle.jsonc_parser.specs.declared.patch.operation.OperationFault.TheVariants as operation
+use Rattle.jsonc_parser.specs.declared.patch.pointer.PointerError.TheVariants as pointer
+use Rattle.jsonc_parser.specs.declared.patch.reading.PatchError.{PatchError}
+use Rattle.jsonc_parser.specs.declared.patch.reading.PatchError.TheVariants as patch_error
+use Rattle.jsonc_engine.specs.Command.{Request, append, find, json_of, merge, patch, path_of, put, set}
 use Rattle.jsonc_engine.specs.Input.{IsRefusal}
 use Rattle.jsonc_engine.specs.Parser.{IsWithin, OutOfMemory}
 use Rattle.jsonc_engine.specs.declared.fault.Fault.{Fault}
-use Rattle.jsonc_engine.specs.declared.fault.Fault.TheVariants.{Argument, Edit, NoValue, NotNames, Path}
+use Rattle.jsonc_engine.specs.declared.fault.Fault.TheVariants.{Argument, Edit, MergePatch, NoValue, NotNames, Patch, Path, Pointer}
 
 -- the text of a value that is a string
 abbrev pub text_in : Plain → Option (List ℕ)
@@ -69,25 +77,40 @@ abbrev pub AreNames : Option Plain → Type 0
 AreNames w = (names : List (List ℕ)) × (w ≡ Some (strings names))
 
 -- reading this value as names can end with the fault; for allocation failure where it is one
-abbrev pub IsFaultOfNames : Option Plain → Fault → Type 0
+abbrev pub IsFaultOfNames : {A : Type 0} → Option Plain → Fault A → Type 0
 IsFaultOfNames w NotNames = AreNoNames w
 IsFaultOfNames w (Edit OutOfMemory) = AreNames w
 IsFaultOfNames w other = ⊥
 
 -- the fault is true of the bytes of a path, and reading its names can end with it; for allocation failure, told by no parse, where it is a list of names
-abbrev pub IsFaultOfPath : List ℕ → Fault → Type 0
+abbrev pub IsFaultOfPath : {A : Type 0} → List ℕ → Fault A → Type 0
 IsFaultOfPath path (Path error) = IsRefusal path error
 IsFaultOfPath path NotNames = (w : Option Plain) × IsDocument all_on (chars path) w × AreNoNames w
 IsFaultOfPath path (Edit OutOfMemory) = (names : List (List ℕ)) × IsPath path names
 IsFaultOfPath path other = ⊥
 
 -- the fault is true of the bytes of a JSON text, and reading its value can end with it
-abbrev pub IsFaultOfJson : List ℕ → Fault → Type 0
+abbrev pub IsFaultOfJson : {A : Type 0} → List ℕ → Fault A → Type 0
 IsFaultOfJson json (Argument error) = IsRefusal json error
 IsFaultOfJson json NoValue = IsDocument all_on (chars json) None
 IsFaultOfJson json other = ⊥
 
--- the fault is true of the path that the command has; or of its JSON text, which is not read before the path is known to be a list of names
-pub data IsFaultOfArgument (request : Request) (fault : Fault) : Type 0 where
-  of_path : (path : List ℕ) → path_of request ≡ Some path → IsFaultOfPath path fault → IsFaultOfArgument request fault
-  of_json : (json : List ℕ) → HasNames request → json_of request ≡ Some json → IsFaultOfJson json fault → IsFaultOfArgument request fault
+-- it is not for memory that the text of a patch was not read
+abbrev pub IsOfText : {A : Type 0} → PatchError A → Type 0
+IsOfText e = (i : ℕ) → e ≢ patch_error.Operation i operation.OutOfMemory
+
+-- the fault is true of the bytes of the command's pointer, or of its patch under the options, and reading it can end with it
+abbrev pub IsFaultOfText : {A : Type 0} → Options → Request → Fault A → Type 0
+IsFaultOfText o (find text) (Pointer e) = IsPointerFault (chars text) e × (e ≢ pointer.OutOfMemory)
+IsFaultOfText o (find text) (Edit OutOfMemory) = IsPointerFault (chars text) pointer.OutOfMemory
+IsFaultOfText o (patch text most) (Patch e) = IsFaultOfPatch o text e × IsOfText e
+IsFaultOfText {A} o (patch text most) (Edit OutOfMemory) = (i : ℕ) × IsFaultOfPatch {A = A} o text (patch_error.Operation i operation.OutOfMemory)
+IsFaultOfText o (merge text) (MergePatch e) = IsFaultOfMergePatch o text e × (e ≢ merge_patch.OutOfMemory)
+IsFaultOfText {A} o (merge text) (Edit OutOfMemory) = IsFaultOfMergePatch {A = A} o text merge_patch.OutOfMemory
+IsFaultOfText o request other = ⊥
+
+-- the fault is true of the path that the command has; or of its JSON text, which is not read before the path is known to be a list of names; or of its pointer or patch
+pub data IsFaultOfArgument {A : Type 0} (o : Options) (request : Request) (fault : Fault A) : Type 0 where
+  of_path : (path : List ℕ) → path_of request ≡ Some path → IsFaultOfPath path fault → IsFaultOfArgument o request fault
+  of_json : (json : List ℕ) → HasNames request → json_of request ≡ Some json → IsFaultOfJson json fault → IsFaultOfArgument o request fault
+  of_text : IsFaultOfText o request fault → IsFaultOfArgument o request fault

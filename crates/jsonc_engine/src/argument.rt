@@ -1,5 +1,6 @@
-//! What a command asks for, once the names of its path and the value of its JSON text are read.
+//! The names of a command's path, and the value of its JSON text.
 ghost use Rattle.std.specs.Prelude.{◌≡◌, IfErr, IfOk, Some, chars, false, map, option_map, true};
+ghost use Rattle.jsonc_text.specs.Options.{Options};
 ghost use Rattle.jsonc_text.specs.Plain.{array};
 ghost use Rattle.jsonc_ast.specs.Views as ast;
 ghost use Rattle.jsonc_layout.specs.input.Views.{items_of, plain};
@@ -7,41 +8,23 @@ ghost use Rattle.jsonc_parser.specs.paths.Found.{names_of};
 ghost use Rattle.jsonc_engine.specs.Argument.{AreNames, AreNoNames, IsArgument, IsFaultOfArgument, IsFaultOfJson};
 ghost use Rattle.jsonc_engine.specs.Argument.{IsFaultOfNames, IsFaultOfPath, IsPath, items_in, strings, text_in};
 ghost use Rattle.jsonc_engine.specs.Change.{IsChangeFor};
-ghost use Rattle.jsonc_engine.specs.Command.{put, request_of};
+ghost use Rattle.jsonc_engine.specs.Command.{put};
 
-use crate::command::Command;
 use crate::fault::Fault;
+use crate::task::Change;
 use jsonc_parser::ast::Value;
 use jsonc_parser::cst::{CstInputValue, input};
 use jsonc_parser::{CollectOptions, ParseOptions, parse_to_ast};
 use std::alloc::Allocator;
 
-/// What a command makes of the document.
-#[derive(Drop)]
-pub(crate) enum Change<'a, A: Allocator> {
-    /// Nothing.
-    Stay,
-    /// The first property of the name gets the value, or such a property comes behind the last.
-    Set(&'a str, CstInputValue<A>),
-    /// The value comes behind the last element.
-    Append(CstInputValue<A>),
-    /// The first property of the name leaves.
-    Remove(&'a str),
-    /// The properties come in the order of their names as they are written.
-    Sort,
-    /// Nothing, and the value at the names is to be written.
-    Get(Vec<String<A>, A>),
-    /// The value is put at the names.
-    Put(Vec<String<A>, A>, CstInputValue<A>),
-    /// What stands at the names leaves.
-    Drop(Vec<String<A>, A>),
-}
-
 /// The value of a command's JSON text, of equal names the last at the first place.
 ///
 /// A text that is no document is `Fault::Argument`, one without a value `Fault::NoValue`; the text is parsed under
 /// the default options, which allow comments and all else.
-fn value_of<A: Allocator + Copy>(alloc: A, json: &str) -> Result<CstInputValue<A>, Fault>
+pub(crate) fn value_of<A: Allocator + Copy>(
+    alloc: A,
+    json: &str,
+) -> Result<CstInputValue<A>, Fault<A>>
     ensures value { IfOk result (λ value. IsArgument json.now (plain value)) }
     ensures refused { IfErr result (IsFaultOfJson json.now) }
 {
@@ -97,7 +80,7 @@ fn are_strings<A: Allocator>(values: &[Value<'_, A>]) -> bool
 fn strings_of<A: Allocator + Copy>(
     alloc: A,
     values: &[Value<'_, A>],
-) -> Result<Vec<String<A>, A>, Fault>
+) -> Result<Vec<String<A>, A>, Fault<A>>
     ensures strings { IfOk result (λ names. array (items_of (map ast.plain values.now)) ≡ strings (names_of names.items)) }
     ensures refused { IfErr result (IsFaultOfNames (Some (array (items_of (map ast.plain values.now))))) }
 {
@@ -119,7 +102,7 @@ fn strings_of<A: Allocator + Copy>(
 fn names_in<A: Allocator + Copy>(
     alloc: A,
     value: &Option<Value<'_, A>>,
-) -> Result<Vec<String<A>, A>, Fault>
+) -> Result<Vec<String<A>, A>, Fault<A>>
     ensures names { IfOk result (λ names. option_map ast.plain value.now ≡ Some (strings (names_of names.items))) }
     ensures refused { IfErr result (IsFaultOfNames (option_map ast.plain value.now)) }
 {
@@ -137,7 +120,10 @@ fn names_in<A: Allocator + Copy>(
 /// A text that is no document is `Fault::Path`; one that has no value, or a value that is no list of strings, is
 /// `Fault::NotNames`. The text is parsed as a JSON text of a command is. Behind the parse, memory is wanted for the
 /// names alone.
-fn read_path<A: Allocator + Copy>(alloc: A, path: &str) -> Result<Vec<String<A>, A>, Fault>
+pub(crate) fn read_path<A: Allocator + Copy>(
+    alloc: A,
+    path: &str,
+) -> Result<Vec<String<A>, A>, Fault<A>>
     ensures names { IfOk result (λ names. IsPath path.now (names_of names.items)) }
     ensures refused { IfErr result (IsFaultOfPath path.now) }
 {
@@ -153,9 +139,13 @@ fn read_path<A: Allocator + Copy>(alloc: A, path: &str) -> Result<Vec<String<A>,
 }
 
 /// A value that is put at names: the path is read before the JSON text.
-fn put_of<'a, A: Allocator + Copy>(alloc: A, path: &str, json: &str) -> Result<Change<'a, A>, Fault>
+pub(crate) fn put_of<'a, A: Allocator + Copy>(
+    alloc: A,
+    path: &str,
+    json: &str,
+) -> Result<Change<'a, A>, Fault<A>>
     ensures change { IfOk result (IsChangeFor (put path.now json.now)) }
-    ensures refused { IfErr result (IsFaultOfArgument (put path.now json.now)) }
+    ensures refused { (o : Options) → IfErr result (IsFaultOfArgument o (put path.now json.now)) }
 {
     let names = match read_path(alloc, path) {
         Ok(names) => names,
@@ -164,38 +154,5 @@ fn put_of<'a, A: Allocator + Copy>(alloc: A, path: &str, json: &str) -> Result<C
     match value_of(alloc, json) {
         Ok(value) => Ok(Change::Put(names, value)),
         Err(fault) => Err(fault),
-    }
-}
-
-/// What the command makes of the document, with the names of its path and the value of its JSON text.
-pub(crate) fn change_of<A: Allocator + Copy>(
-    alloc: A,
-    command: Command<'_>,
-) -> Result<Change<'_, A>, Fault>
-    ensures change { IfOk result (IsChangeFor (request_of command.entry)) }
-    ensures refused { IfErr result (IsFaultOfArgument (request_of command.entry)) }
-{
-    match command {
-        Command::Check => Ok(Change::Stay),
-        Command::Print => Ok(Change::Stay),
-        Command::Set(name, json) => match value_of(alloc, json) {
-            Ok(value) => Ok(Change::Set(name, value)),
-            Err(fault) => Err(fault),
-        },
-        Command::Append(json) => match value_of(alloc, json) {
-            Ok(value) => Ok(Change::Append(value)),
-            Err(fault) => Err(fault),
-        },
-        Command::Remove(name) => Ok(Change::Remove(name)),
-        Command::Sort => Ok(Change::Sort),
-        Command::Get(path) => match read_path(alloc, path) {
-            Ok(names) => Ok(Change::Get(names)),
-            Err(fault) => Err(fault),
-        },
-        Command::Put(path, json) => put_of(alloc, path, json),
-        Command::Drop(path) => match read_path(alloc, path) {
-            Ok(names) => Ok(Change::Drop(names)),
-            Err(fault) => Err(fault),
-        },
     }
 }

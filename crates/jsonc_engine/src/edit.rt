@@ -11,10 +11,10 @@ ghost use Rattle.jsonc_engine.specs.Fault.{EndsAppending, EndsOnObject, EndsSett
 ghost use Rattle.jsonc_engine.specs.Removal.{LosesIfSound};
 ghost use Rattle.jsonc_engine.specs.Setting.{SetsIfSound};
 
-use crate::argument::Change;
 use crate::fault::Fault;
 use crate::settings::{drop_setting, put_setting};
 use crate::sort::sort_properties;
+use crate::task::Change;
 use jsonc_parser::cst::{CstInputValue, CstRootNode, EditError};
 use jsonc_walk::context::MAXIMUM_NESTING;
 use std::alloc::Allocator;
@@ -27,7 +27,7 @@ use std::alloc::Allocator;
 fn remove_property<A: Allocator + Copy>(
     document: &mut CstRootNode<A>,
     name: &str,
-) -> Result<(), Fault>
+) -> Result<(), Fault<A>>
     ensures removed { (o : Options)
         → OnOk result (LosesIfSound o (chars name.now) (nodes_of document.old) (nodes_of document.new)) }
     ensures error { (o : Options)
@@ -55,7 +55,7 @@ fn remove_property<A: Allocator + Copy>(
 fn append_element<A: Allocator + Copy>(
     document: &mut CstRootNode<A>,
     value: CstInputValue<A>,
-) -> Result<(), Fault>
+) -> Result<(), Fault<A>>
     ensures appended { (o : Options)
         → OnOk result (AppendsIfSound o (plain value) (nodes_of document.old) (nodes_of document.new)) }
     ensures error { (o : Options)
@@ -85,7 +85,7 @@ fn set_property<A: Allocator + Copy>(
     document: &mut CstRootNode<A>,
     name: &str,
     value: CstInputValue<A>,
-) -> Result<(), Fault>
+) -> Result<(), Fault<A>>
     ensures set { (o : Options)
         → OnOk result (SetsIfSound o (chars name.now) (plain value) (nodes_of document.old) (nodes_of document.new)) }
     ensures error { (o : Options)
@@ -120,7 +120,7 @@ fn set_property<A: Allocator + Copy>(
 pub(crate) fn make<A: Allocator + Copy>(
     document: &mut CstRootNode<A>,
     change: Change<'_, A>,
-) -> Result<(), Fault>
+) -> Result<(), Fault<A>>
     ensures made { (o : Options) (request : Request)
         → IsChangeFor request change.entry
         → OnOk result (MakesIfSound o request (nodes_of document.old) (nodes_of document.new)) }
@@ -135,7 +135,6 @@ pub(crate) fn make<A: Allocator + Copy>(
         Change::Append(value) => append_element(document, value),
         Change::Remove(name) => remove_property(document, name),
         Change::Sort => sort_properties(document),
-        Change::Get(_) => Ok(()),
         Change::Put(names, value) => put_setting(document, &names, value),
         Change::Drop(names) => drop_setting(document, &names),
     }

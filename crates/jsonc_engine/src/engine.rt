@@ -1,28 +1,31 @@
 //! One run of the program, over any source and sink.
-ghost use Rattle.std.specs.Prelude.{◌≡◌, ◌↔◌, ◌<◌, ◌+◌, ◌++◌, length, vec_capacity, vec_len, string_bytes, IsTrue, false};
+ghost use Rattle.std.specs.Prelude.{◌≡◌, ◌<◌, ◌+◌, ◌++◌, length, vec_capacity, vec_len, string_bytes, IsTrue, false};
 ghost use Rattle.std.specs.Prelude.{IfSome, IfOk, IfErr, OnOk, OnErr, IsErrOf, IsUtf8};
 ghost use Rattle.std.specs.Io.KnownBytes.{Appends, Keeps};
 ghost use Rattle.jsonc_text.specs.Options.{Options};
 ghost use Rattle.jsonc_sound.specs.SoundTrees.{SoundTree};
 ghost use Rattle.jsonc_cst.specs.Document.{tree_of};
 ghost use Rattle.jsonc_engine.specs.Calls.{one_more};
-ghost use Rattle.jsonc_engine.specs.Change.{GetsNothing, IsChangeFor};
-ghost use Rattle.jsonc_engine.specs.Command.{Name, Request, request_of, writes};
+ghost use Rattle.jsonc_engine.specs.Change.{IsChangeFor, IsTaskFor, IsWorkFor};
+ghost use Rattle.jsonc_engine.specs.Command.{Request, as_json, request_of, writes};
 ghost use Rattle.jsonc_engine.specs.Fault.{EndsBehindInput, EndsRun, EndsUnread, IsBeforeOrForMemory, IsCause, IsFaultOn};
 ghost use Rattle.jsonc_engine.specs.Fault.{IsNoText, TellsOfArgument, TellsOfInput};
 ghost use Rattle.jsonc_engine.specs.Input.{IsInput, IsInputOf};
 ghost use Rattle.jsonc_engine.specs.Output.{IsLeft, IsOutput, IsWritten, Puts, output_bytes};
 ghost use Rattle.jsonc_engine.specs.Parser.{all_on, parse_options, printed_of, HasNoDeeperValue, LiesIn};
 
-use crate::argument::{Change, change_of};
 use crate::calls::{Sink, Source};
 use crate::command::Command;
 use crate::edit::make;
 use crate::fault::Fault;
+use crate::find::find_value;
+use crate::json::{JsonError, to_json};
 use crate::output::Output;
+use crate::patching::{merged, patched};
 use crate::settings::get_setting;
+use crate::task::{Change, Task, Work, task_of};
 use jsonc_parser::cst::{CstRootNode, EditError};
-use jsonc_parser::{ParseOptions, check_document};
+use jsonc_parser::{ParseOptions, check_document, line_and_column};
 use std::alloc::{AllocError, Allocator};
 
 const BUFFER_LEN: usize = 65536;
@@ -43,7 +46,7 @@ fn read_on<A: Allocator, S: Source>(
     source: &mut S,
     buffer: &mut [u8],
     read: &mut Vec<u8, A>,
-) -> Result<(), Fault>
+) -> Result<(), Fault<A>>
     requires { 0 < length buffer.old }
     ensures bytes { OnOk result (IfSome (S.remaining source.old) (λ input. read.new.items ≡ read.old.items ++ input)) }
     ensures ended { OnOk result (S.empty_reads source.new ≡ one_more (S.empty_reads source.old)) }
@@ -76,7 +79,7 @@ fn read_on<A: Allocator, S: Source>(
 pub fn read_whole<A: Allocator + Copy, S: Source>(
     alloc: A,
     source: &mut S,
-) -> Result<Vec<u8, A>, Fault>
+) -> Result<Vec<u8, A>, Fault<A>>
     ensures bytes { IfOk result (λ read. IfSome (S.remaining source.old) (λ input. read.items ≡ input)) }
     ensures ended { OnOk result (S.empty_reads source.new ≡ one_more (S.empty_reads source.old)) }
     ensures not_ended { OnErr result (S.empty_reads source.new ≡ S.empty_reads source.old) }
@@ -95,7 +98,7 @@ pub fn read_whole<A: Allocator + Copy, S: Source>(
 }
 
 /// Sees that what was written has left.
-fn finish<K: Sink>(sink: &mut K) -> Result<(), Fault>
+fn finish<A: Allocator, K: Sink>(sink: &mut K) -> Result<(), Fault<A>>
     ensures bytes { OnOk result (Keeps (K.contents sink.old) (K.contents sink.new)) }
     ensures flushed { OnOk result (K.is_flushed sink.new) }
     ensures kept { OnOk result (K.failed_writes sink.new ≡ K.failed_writes sink.old) }
@@ -114,7 +117,7 @@ fn finish<K: Sink>(sink: &mut K) -> Result<(), Fault>
 fn write_document<A: Allocator, K: Sink>(
     sink: &mut K,
     document: &CstRootNode<A>,
-) -> Result<(), Fault>
+) -> Result<(), Fault<A>>
     ensures written { OnOk result (Appends (K.contents sink.old) (K.contents sink.new) (printed_of document.now)) }
     ensures flushed { OnOk result (K.is_flushed sink.new) }
     ensures kept { OnOk result (K.failed_writes sink.new ≡ K.failed_writes sink.old) }
@@ -130,7 +133,7 @@ fn write_document<A: Allocator, K: Sink>(
 }
 
 /// Writes a text, and sees that it has left.
-pub fn write_text<A: Allocator, K: Sink>(sink: &mut K, text: &String<A>) -> Result<(), Fault>
+pub fn write_text<A: Allocator, K: Sink>(sink: &mut K, text: &String<A>) -> Result<(), Fault<A>>
     ensures written { OnOk result (Appends (K.contents sink.old) (K.contents sink.new) (string_bytes text.now)) }
     ensures flushed { OnOk result (K.is_flushed sink.new) }
     ensures kept { OnOk result (K.failed_writes sink.new ≡ K.failed_writes sink.old) }
@@ -144,7 +147,7 @@ pub fn write_text<A: Allocator, K: Sink>(sink: &mut K, text: &String<A>) -> Resu
 }
 
 /// The text of what is to be written.
-fn text_of<A: Allocator + Copy>(output: Output<A>) -> Result<Option<String<A>>, Fault>
+fn text_of<A: Allocator + Copy>(output: Output<A>) -> Result<Option<String<A>>, Fault<A>>
     ensures printed { IfOk result (λ text. IsOutput text (output_bytes output)) }
     ensures memory { IfErr result (λ fault. fault ≡ Fault.Edit EditError.OutOfMemory) }
 {
@@ -158,7 +161,7 @@ fn text_of<A: Allocator + Copy>(output: Output<A>) -> Result<Option<String<A>>, 
 }
 
 /// Writes what is to be written: the document where there is no text in its place.
-fn write_output<A: Allocator, K: Sink>(sink: &mut K, output: &Output<A>) -> Result<(), Fault>
+fn write_output<A: Allocator, K: Sink>(sink: &mut K, output: &Output<A>) -> Result<(), Fault<A>>
     ensures written { OnOk result (Appends (K.contents sink.old) (K.contents sink.new) (output_bytes output.now)) }
     ensures flushed { OnOk result (K.is_flushed sink.new) }
     ensures kept { OnOk result (K.failed_writes sink.new ≡ K.failed_writes sink.old) }
@@ -171,18 +174,18 @@ fn write_output<A: Allocator, K: Sink>(sink: &mut K, output: &Output<A>) -> Resu
     }
 }
 
-/// The document with a change made, to be written. To get a value is none.
+/// The document with a change made, to be written.
 ///
 /// The change may be refused as its page says.
 fn changed<A: Allocator + Copy>(
     document: CstRootNode<A>,
     change: Change<'_, A>,
-) -> Result<Output<A>, Fault>
+) -> Result<Output<A>, Fault<A>>
     ensures left { (o : Options) (request : Request)
-        → IsChangeFor request change.entry → GetsNothing change.entry
+        → IsChangeFor request change.entry
         → SoundTree o (tree_of document) → LiesIn o (printed_of document) (tree_of document)
         → HasNoDeeperValue o (printed_of document)
-        → IfOk result (λ output. IsLeft o request (printed_of document) (output_bytes output)) }
+        → IfOk result (λ output. IsLeft A o request (printed_of document) (output_bytes output)) }
     ensures refused { (o : Options) (request : Request)
         → IsChangeFor request change.entry
         → SoundTree o (tree_of document)
@@ -195,59 +198,105 @@ fn changed<A: Allocator + Copy>(
     }
 }
 
-/// What is to be written of a document: itself, with a change made, or the value that is asked for.
+/// What is to be written of a document.
 fn outcome_of<A: Allocator + Copy>(
     document: CstRootNode<A>,
-    change: Change<'_, A>,
-) -> Result<Output<A>, Fault>
+    work: Work<'_, A>,
+) -> Result<Output<A>, Fault<A>>
     ensures left { (o : Options) (request : Request)
-        → IsChangeFor request change.entry
+        → IsWorkFor o request work.entry
         → SoundTree o (tree_of document) → LiesIn o (printed_of document) (tree_of document)
         → HasNoDeeperValue o (printed_of document)
-        → IfOk result (λ output. IsLeft o request (printed_of document) (output_bytes output)) }
+        → IfOk result (λ output. IsLeft A o request (printed_of document) (output_bytes output)) }
     ensures refused { (o : Options) (request : Request)
-        → IsChangeFor request change.entry
+        → IsWorkFor o request work.entry
         → SoundTree o (tree_of document)
         → IfErr result (IsFaultOn o request (printed_of document)) }
 {
-    match change {
-        Change::Get(names) => get_setting(&document, &names),
-        change => changed(document, change),
+    match work {
+        Work::Make(change) => changed(document, change),
+        Work::Get(names) => get_setting(&document, &names),
+        Work::Find(pointer) => find_value(&document, &pointer),
+        Work::Apply(patch, most) => patched(document, &patch, most),
+        Work::Merge(patch) => merged(document, &patch),
     }
 }
 
-/// What is to be written of the input's bytes: their document, with a change made, or the text that is asked for; given
-/// what the text of the bytes may hold beyond JSON.
+/// What is to be written of the document of a text, given what that may hold beyond JSON.
+fn written_of<A: Allocator + Copy>(
+    alloc: A,
+    options: &ParseOptions,
+    work: Work<'_, A>,
+    text: &str,
+) -> Result<Output<A>, Fault<A>>
+    ensures left { (request : Request)
+        → IsWorkFor (parse_options options.now) request work.entry
+        → IfOk result (λ output. IsLeft A (parse_options options.now) request text.now (output_bytes output)) }
+    ensures accepted { OnOk result (IsInputOf (parse_options options.now) text.now) }
+    ensures refused { (request : Request)
+        → IsWorkFor (parse_options options.now) request work.entry
+        → IfErr result (IsFaultOn (parse_options options.now) request text.now) }
+{
+    match CstRootNode::parse(alloc, text, options) {
+        Ok(document) => outcome_of(document, work),
+        Err(error) => Err(Fault::Input(error)),
+    }
+}
+
+/// The document of a text as JSON, given what the text may hold beyond that.
+fn json_of<A: Allocator + Copy>(
+    alloc: A,
+    options: &ParseOptions,
+    text: &str,
+) -> Result<Output<A>, Fault<A>>
+    ensures left { IfOk result (λ output. IsLeft A (parse_options options.now) as_json text.now (output_bytes output)) }
+    ensures accepted { OnOk result (IsInputOf (parse_options options.now) text.now) }
+    ensures refused { IfErr result (IsFaultOn (parse_options options.now) as_json text.now) }
+{
+    match to_json(alloc, text, options) {
+        Ok(written) => Ok(Output::Text(written)),
+        Err(JsonError::Text(error)) => Err(Fault::Input(error)),
+        Err(JsonError::NoValue) => Err(Fault::NoRoot),
+        Err(JsonError::NonFinite(place)) => Err(Fault::NonFinite(line_and_column(text, place))),
+        Err(JsonError::OutOfMemory) => Err(Fault::Edit(EditError::OutOfMemory)),
+    }
+}
+
+/// What is to be written of the input's bytes, given what their text may hold beyond JSON.
 ///
-/// The bytes may be refused as `Fault::NotUtf8` or `Fault::Input`, and the change as its page says.
+/// The bytes may be refused as `Fault::NotUtf8` or `Fault::Input`, and the rest as its page says.
 fn output_of<A: Allocator + Copy>(
     alloc: A,
     options: &ParseOptions,
-    change: Change<'_, A>,
+    task: Task<'_, A>,
     input: &[u8],
-) -> Result<Output<A>, Fault>
+) -> Result<Output<A>, Fault<A>>
     ensures left { (request : Request)
-        → IsChangeFor request change.entry
-        → IfOk result (λ output. IsLeft (parse_options options.now) request input.now (output_bytes output)) }
+        → IsTaskFor (parse_options options.now) request task.entry
+        → IfOk result (λ output. IsLeft A (parse_options options.now) request input.now (output_bytes output)) }
     ensures accepted { OnOk result (IsInputOf (parse_options options.now) input.now) }
     ensures not_utf8 { ¬ (IsUtf8 input.now) → IfErr result (λ fault. fault ≡ Fault.NotUtf8) }
     ensures refused { (request : Request)
-        → IsChangeFor request change.entry
+        → IsTaskFor (parse_options options.now) request task.entry
         → IfErr result (IsFaultOn (parse_options options.now) request input.now) }
 {
     let Ok(text) = str::from_utf8(input) else {
         return Err(Fault::NotUtf8);
     };
-    match CstRootNode::parse(alloc, text, options) {
-        Ok(document) => outcome_of(document, change),
-        Err(error) => Err(Fault::Input(error)),
+    match task {
+        Task::Json => json_of(alloc, options, text),
+        Task::OnDocument(work) => written_of(alloc, options, work, text),
     }
 }
 
 /// Checks the input's bytes, and keeps nothing of them: it asks for no memory.
 ///
 /// They are refused as the bytes of a document are, as `Fault::NotUtf8` or `Fault::Input`.
-fn checked<A: Allocator + Copy>(alloc: A, options: &ParseOptions, input: &[u8]) -> Result<(), Fault>
+fn checked<A: Allocator + Copy>(
+    alloc: A,
+    options: &ParseOptions,
+    input: &[u8],
+) -> Result<(), Fault<A>>
     ensures accepted { OnOk result (IsInputOf (parse_options options.now) input.now) }
     ensures not_utf8 { ¬ (IsUtf8 input.now) → IfErr result (λ fault. fault ≡ Fault.NotUtf8) }
     ensures refused { (request : Request) → IfErr result (IsFaultOn (parse_options options.now) request input.now) }
@@ -262,25 +311,29 @@ fn checked<A: Allocator + Copy>(alloc: A, options: &ParseOptions, input: &[u8]) 
 }
 
 /// What the command writes, given the bytes of the input and what their text may hold beyond JSON, or `None` where
-/// it writes nothing. The command's own path and JSON text may hold all that can be allowed.
+/// it writes nothing. The command's own path and JSON text may hold all that can be allowed, and a patch what the input
+/// may.
 ///
 /// A path may be refused as `Fault::Path` or `Fault::NotNames`, then that text as `Fault::Argument` or
-/// `Fault::NoValue`, then the bytes as `Fault::NotUtf8` or `Fault::Input`, a value that would be nested too deep as
-/// `Fault::Edit`, the command as `Fault::NotObject`, `Fault::NotArray`, `Fault::NoSetting` or `Fault::OnTheWay`, and
-/// memory as `Fault::Edit`, or as the error of a parse. What is written, but for `get`, `check` accepts.
+/// `Fault::NoValue`; a pointer as `Fault::Pointer`, and a patch as `Fault::Patch` or `Fault::MergePatch`. Then the
+/// bytes may be refused as `Fault::NotUtf8` or `Fault::Input`, a value that would be nested too deep as `Fault::Edit`,
+/// the command as `Fault::NotObject`, `NotArray`, `NoSetting`, `NoSuchValue`, `OnTheWay`, `RepeatedName`, `Operation`,
+/// `TooLarge`, `NoRoot` or `NonFinite`, and memory as `Fault::Edit`, or as the error of a parse. What is written, but
+/// for a value that is got and JSON, `check` accepts.
 pub fn run_with<A: Allocator + Copy>(
     alloc: A,
     options: &ParseOptions,
     command: Command,
     input: &[u8],
-) -> Result<Option<String<A>>, Fault>
+) -> Result<Option<String<A>>, Fault<A>>
     ensures written { IfOk result (IsWritten (parse_options options.now) (request_of command.entry) input.now) }
     ensures accepted { OnOk result (IsInputOf (parse_options options.now) input.now) }
-    ensures not_utf8 { ¬ (IsUtf8 input.now) → IfErr result (IsNoText (request_of command.entry)) }
+    ensures not_utf8 { ¬ (IsUtf8 input.now)
+        → IfErr result (IsNoText (parse_options options.now) (request_of command.entry)) }
     ensures refused { IfErr result (IsCause (parse_options options.now) (request_of command.entry) input.now) }
 {
-    let change = match change_of(alloc, command) {
-        Ok(change) => change,
+    let task = match task_of(alloc, options, command) {
+        Ok(task) => task,
         Err(fault) => return Err(fault),
     };
     if !command.writes() {
@@ -289,7 +342,7 @@ pub fn run_with<A: Allocator + Copy>(
         };
         return Err(fault);
     }
-    let output = match output_of(alloc, options, change, input) {
+    let output = match output_of(alloc, options, task, input) {
         Ok(output) => output,
         Err(fault) => return Err(fault),
     };
@@ -301,53 +354,48 @@ pub fn run_on<A: Allocator + Copy>(
     alloc: A,
     command: Command,
     input: &[u8],
-) -> Result<Option<String<A>>, Fault>
+) -> Result<Option<String<A>>, Fault<A>>
     ensures written { IfOk result (IsWritten all_on (request_of command.entry) input.now) }
     ensures accepted { OnOk result (IsInput input.now) }
-    ensures not_utf8 { ¬ (IsUtf8 input.now) → IfErr result (IsNoText (request_of command.entry)) }
+    ensures not_utf8 { ¬ (IsUtf8 input.now) → IfErr result (IsNoText all_on (request_of command.entry)) }
     ensures refused { IfErr result (IsCause all_on (request_of command.entry) input.now) }
 {
     run_with(alloc, &ParseOptions::default(), command, input)
 }
 
-/// Does what the words ask: reads the source to its end, and writes what the command makes of it to the sink.
+/// Does what the command asks: reads the source to its end, and writes what the command makes of it to the sink.
 ///
-/// Words that name no command are `Fault::Usage`, failed calls `Fault::Read` and `Fault::Write`; else the faults
-/// are those of `run_on`. A command's path is read before its JSON text, and both before the source is. The document
-/// is written piece by piece, which wants no memory; the value that `get` writes is a text first.
+/// Failed calls are `Fault::Read` and `Fault::Write`; else the faults are those of `run_on`. A command's path is read
+/// before its JSON text, and these, a pointer and a patch before the source is. A document is written piece by piece,
+/// which needs no memory; a value that is got and JSON are a text first.
 pub fn engine<A: Allocator + Copy, S: Source, K: Sink>(
     alloc: A,
-    words: &[&str],
+    command: Command<'_>,
     source: &mut S,
     sink: &mut K,
-) -> Result<(), Fault>
-    // Words that name no command are refused, and no others; and they, a path and a JSON text before anything is read.
-    ensures usage { IsErrOf result Fault.Usage ↔ ((request : Request) → ¬ (Name words.now request)) }
+) -> Result<(), Fault<A>>
+    // A path, a JSON text, a pointer and a patch are refused before anything is read.
     ensures unread { IfErr result (λ fault. EndsUnread fault → source.new ≡ source.old) }
 
     // What a success wrote.
-    ensures written { (request : Request)
-        → OnOk result (Name words.now request → IsTrue (writes request)
-        → IfSome (S.remaining source.old) (Puts request (K.contents sink.old) (K.contents sink.new))) }
-    ensures flushed { (request : Request)
-        → OnOk result (Name words.now request → IsTrue (writes request) → K.is_flushed sink.new) }
-    ensures checked { (request : Request)
-        → OnOk result (Name words.now request → writes request ≡ false → sink.new ≡ sink.old) }
+    ensures written { OnOk result (IsTrue (writes (request_of command.entry))
+        → IfSome (S.remaining source.old)
+        (Puts A (request_of command.entry) (K.contents sink.old) (K.contents sink.new))) }
+    ensures flushed { OnOk result (IsTrue (writes (request_of command.entry)) → K.is_flushed sink.new) }
+    ensures checked { OnOk result (writes (request_of command.entry) ≡ false → sink.new ≡ sink.old) }
     ensures accepted { OnOk result (IfSome (S.remaining source.old) IsInput) }
 
     // The cause that an error names holds, and it names no other.
-    ensures refused { (request : Request)
-        → Name words.now request
-        → IfErr result (λ fault. IfSome (S.remaining source.old) (λ input. TellsOfInput request input fault)) }
-    ensures argument { (request : Request) → Name words.now request → IfErr result (TellsOfArgument request) }
+    ensures refused { IfErr result (λ fault. IfSome (S.remaining source.old)
+        (λ input. TellsOfInput (request_of command.entry) input fault)) }
+    ensures argument { IfErr result (TellsOfArgument (request_of command.entry)) }
     ensures read { IsErrOf result Fault.Read
         → S.failed_reads source.new ≡ one_more (S.failed_reads source.old) }
     ensures write { IsErrOf result Fault.Write
         → K.failed_writes sink.new ≡ one_more (K.failed_writes sink.old) }
     ensures causes { IfErr result EndsRun }
-    ensures memory { (request : Request) → Name words.now request
-        → IsErrOf result (Fault.Edit EditError.OutOfMemory)
-        → IsBeforeOrForMemory request (S.empty_reads source.old) (S.empty_reads source.new)
+    ensures memory { IsErrOf result (Fault.Edit EditError.OutOfMemory)
+        → IsBeforeOrForMemory (request_of command.entry) (S.empty_reads source.old) (S.empty_reads source.new)
         (S.remaining source.old) }
 
     // The source is read until one read gives nothing, and no further: a read more might give nothing again.
@@ -365,22 +413,19 @@ pub fn engine<A: Allocator + Copy, S: Source, K: Sink>(
     // Only a failed write leaves anything written.
     ensures unwritten { OnErr result (¬ (IsErrOf result Fault.Write) → sink.new ≡ sink.old) }
 {
-    let Some(command) = Command::from_words(words) else {
-        return Err(Fault::Usage);
-    };
-    let change = match change_of(alloc, command) {
-        Ok(change) => change,
+    let options = ParseOptions::default();
+    let task = match task_of(alloc, &options, command) {
+        Ok(task) => task,
         Err(fault) => return Err(fault),
     };
     let input = match read_whole(alloc, source) {
         Ok(input) => input,
         Err(fault) => return Err(fault),
     };
-    let options = ParseOptions::default();
     if !command.writes() {
         return checked(alloc, &options, input.as_slice());
     }
-    let output = match output_of(alloc, &options, change, input.as_slice()) {
+    let output = match output_of(alloc, &options, task, input.as_slice()) {
         Ok(output) => output,
         Err(fault) => return Err(fault),
     };

@@ -1,5 +1,5 @@
-//! One run of the program `jsonc`, over any source and sink: the bytes that are read, the command that the words
-//! name, and the bytes that are written or the fault that is printed.
+//! One run of the program `jsonc`, over any source and sink: the bytes that are read, the command that is asked for, and
+//! the bytes that are written or the fault that is printed.
 #![tactic(auto)]
 
 mod argument;
@@ -8,8 +8,13 @@ pub mod command;
 mod edit;
 pub mod engine;
 pub mod fault;
+mod find;
+pub mod json;
+pub mod laws;
 mod output;
+mod patching;
 mod settings;
 mod sort;
+mod task;
 
 pub use sort::written_name;

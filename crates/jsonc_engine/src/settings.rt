@@ -22,7 +22,7 @@ use std::alloc::Allocator;
 pub(crate) fn get_setting<A: Allocator + Copy>(
     document: &CstRootNode<A>,
     names: &[String<A>],
-) -> Result<Output<A>, Fault>
+) -> Result<Output<A>, Fault<A>>
     ensures text { (o : Options) → IfOk result
         (λ output. ShownIfSound o (names_of names.now) (nodes_of document.now) (output_bytes output)) }
     ensures error { (o : Options) → SoundTree o (tree_of document.now)
@@ -48,7 +48,7 @@ pub(crate) fn put_setting<A: Allocator + Copy>(
     document: &mut CstRootNode<A>,
     names: &[String<A>],
     value: CstInputValue<A>,
-) -> Result<(), Fault>
+) -> Result<(), Fault<A>>
     ensures put { (o : Options) → OnOk result
         (PutsIfSound o (plain value) (names_of names.now) (nodes_of document.old) (nodes_of document.new)) }
     ensures error { (o : Options) → SoundTree o (tree_of document.old)
@@ -70,7 +70,7 @@ pub(crate) fn put_setting<A: Allocator + Copy>(
 pub(crate) fn drop_setting<A: Allocator + Copy>(
     document: &mut CstRootNode<A>,
     names: &[String<A>],
-) -> Result<(), Fault>
+) -> Result<(), Fault<A>>
     ensures dropped { (o : Options) → OnOk result
         (DropsIfSound o (names_of names.now) (nodes_of document.old) (nodes_of document.new)) }
     ensures error { (o : Options) → SoundTree o (tree_of document.old)

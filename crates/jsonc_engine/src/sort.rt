@@ -59,7 +59,7 @@ fn compare_names<A: Allocator>(
 /// which is `Fault::Edit`. On an error the document stays as it was.
 pub(crate) fn sort_properties<A: Allocator + Copy>(
     document: &mut CstRootNode<A>,
-) -> Result<(), Fault>
+) -> Result<(), Fault<A>>
     ensures sorted { (o : Options)
         → OnOk result (SortsIfSound o (nodes_of document.old) (nodes_of document.new)) }
     ensures error { (o : Options)

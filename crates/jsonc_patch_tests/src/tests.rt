@@ -7,3 +7,4 @@ mod refusals;
 mod rows;
 mod runs;
 mod streams;
+mod words;

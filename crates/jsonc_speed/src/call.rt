@@ -87,7 +87,7 @@ impl Call {
     }
 
     /// Makes the call so many times, and answers the sum of what came.
-    pub fn repeat(self, alloc: Global, input: &[u8], count: u64) -> Result<usize, Fault> {
+    pub fn repeat(self, alloc: Global, input: &[u8], count: u64) -> Result<usize, Fault<Global>> {
         let Ok(text) = str::from_utf8(input) else {
             return Err(Fault::NotUtf8);
         };
@@ -105,7 +105,7 @@ impl Call {
         }
     }
 
-    fn each(self, alloc: Global, text: &str, count: u64) -> Result<usize, Fault> {
+    fn each(self, alloc: Global, text: &str, count: u64) -> Result<usize, Fault<Global>> {
         let mut sum = 0usize;
         for _ in 0..count {
             sum = sum.saturating_add(self.once(alloc, text)?);
@@ -113,7 +113,7 @@ impl Call {
         Ok(sum)
     }
 
-    fn once(self, alloc: Global, text: &str) -> Result<usize, Fault> {
+    fn once(self, alloc: Global, text: &str) -> Result<usize, Fault<Global>> {
         match self {
             Call::Nothing
             | Call::Print
@@ -139,7 +139,7 @@ impl Call {
 }
 
 /// How many tokens a text has.
-fn scan(alloc: Global, text: &str) -> Result<usize, Fault> {
+fn scan(alloc: Global, text: &str) -> Result<usize, Fault<Global>> {
     let mut scanner = Scanner::new(alloc, text, &ScannerOptions::default());
     let mut count = 0usize;
     // Each token has a byte at least.
@@ -154,7 +154,7 @@ fn scan(alloc: Global, text: &str) -> Result<usize, Fault> {
 }
 
 /// 1 for each text.
-fn checked(alloc: Global, text: &str) -> Result<usize, Fault> {
+fn checked(alloc: Global, text: &str) -> Result<usize, Fault<Global>> {
     match check(alloc, text, &ParseOptions::default()) {
         Ok(()) => Ok(1),
         Err(error) => Err(Fault::Input(error)),
@@ -162,7 +162,7 @@ fn checked(alloc: Global, text: &str) -> Result<usize, Fault> {
 }
 
 /// 1 for a text with a value, 0 for one without.
-fn ast(alloc: Global, text: &str) -> Result<usize, Fault> {
+fn ast(alloc: Global, text: &str) -> Result<usize, Fault<Global>> {
     match parse_to_ast(
         alloc,
         text,
@@ -180,7 +180,7 @@ fn ast(alloc: Global, text: &str) -> Result<usize, Fault> {
 }
 
 /// How many tokens were collected.
-fn tokens(alloc: Global, text: &str) -> Result<usize, Fault> {
+fn tokens(alloc: Global, text: &str) -> Result<usize, Fault<Global>> {
     let collect = CollectOptions {
         comments: CommentCollectionStrategy::AsTokens,
         tokens: true,
@@ -195,7 +195,7 @@ fn tokens(alloc: Global, text: &str) -> Result<usize, Fault> {
 }
 
 /// 1 for a text with a value, 0 for one without.
-fn value(alloc: Global, text: &str) -> Result<usize, Fault> {
+fn value(alloc: Global, text: &str) -> Result<usize, Fault<Global>> {
     match parse_to_value(alloc, text, &ParseOptions::default()) {
         Ok(found) => {
             if found.is_some() {
@@ -208,13 +208,13 @@ fn value(alloc: Global, text: &str) -> Result<usize, Fault> {
 }
 
 /// 1 for each document.
-fn document(alloc: Global, text: &str) -> Result<usize, Fault> {
+fn document(alloc: Global, text: &str) -> Result<usize, Fault<Global>> {
     let _document = parsed(alloc, text)?;
     Ok(1)
 }
 
 /// The bytes printed of one document, so many times.
-fn print(alloc: Global, text: &str, count: u64) -> Result<usize, Fault> {
+fn print(alloc: Global, text: &str, count: u64) -> Result<usize, Fault<Global>> {
     let document = parsed(alloc, text)?;
     let mut sum = 0usize;
     for _ in 0..count {
@@ -227,7 +227,7 @@ fn print(alloc: Global, text: &str, count: u64) -> Result<usize, Fault> {
 }
 
 /// The bytes that a run of the program writes.
-fn program(alloc: Global, text: &str) -> Result<usize, Fault> {
+fn program(alloc: Global, text: &str) -> Result<usize, Fault<Global>> {
     match run_on(alloc, Command::Print, text.as_bytes())? {
         Some(output) => Ok(output.len()),
         None => Ok(0),
@@ -248,7 +248,7 @@ fn followed(document: &CstRootNode<Global>, elements: &[CstNode]) -> usize
 }
 
 /// How many of the elements of one document have a next sibling, so many times.
-fn siblings(alloc: Global, text: &str, count: u64) -> Result<usize, Fault> {
+fn siblings(alloc: Global, text: &str, count: u64) -> Result<usize, Fault<Global>> {
     let document = parsed(alloc, text)?;
     let elements = elements(&document)?;
     let mut sum = 0usize;
@@ -259,7 +259,7 @@ fn siblings(alloc: Global, text: &str, count: u64) -> Result<usize, Fault> {
 }
 
 /// How many properties of an object have a name that stood before.
-fn repeated_in(document: &CstRootNode<Global>, object: CstObject) -> Result<usize, Fault>
+fn repeated_in(document: &CstRootNode<Global>, object: CstObject) -> Result<usize, Fault<Global>>
     requires { HasNode document.now (object_node object) }
 {
     match object.repeated_names(document) {
@@ -269,7 +269,7 @@ fn repeated_in(document: &CstRootNode<Global>, object: CstObject) -> Result<usiz
 }
 
 /// The nodes of a document, the columns of its properties, and the names that stand twice, summed.
-fn lint(alloc: Global, text: &str) -> Result<usize, Fault> {
+fn lint(alloc: Global, text: &str) -> Result<usize, Fault<Global>> {
     let document = parsed(alloc, text)?;
     let lines = LineIndex::new(alloc, text)?;
     let mut sum = 0usize;
@@ -291,7 +291,7 @@ fn lint(alloc: Global, text: &str) -> Result<usize, Fault> {
 }
 
 /// How many names stand twice in the object of one document, so many times.
-fn repeated(alloc: Global, text: &str, count: u64) -> Result<usize, Fault> {
+fn repeated(alloc: Global, text: &str, count: u64) -> Result<usize, Fault<Global>> {
     let document = parsed(alloc, text)?;
     let Some(object) = document.object_value() else {
         return Err(Fault::NotObject);
@@ -304,7 +304,7 @@ fn repeated(alloc: Global, text: &str, count: u64) -> Result<usize, Fault> {
 }
 
 /// The name of the last property of an object.
-fn last_name(document: &CstRootNode<Global>, object: CstObject) -> Result<String, Fault>
+fn last_name(document: &CstRootNode<Global>, object: CstObject) -> Result<String, Fault<Global>>
     requires { HasNode document.now (object_node object) }
 {
     let properties = match object.properties(document) {
@@ -325,7 +325,7 @@ fn last_name(document: &CstRootNode<Global>, object: CstObject) -> Result<String
 }
 
 /// How often the last property of one document's object was found by its name.
-fn last(alloc: Global, text: &str, count: u64) -> Result<usize, Fault> {
+fn last(alloc: Global, text: &str, count: u64) -> Result<usize, Fault<Global>> {
     let document = parsed(alloc, text)?;
     let Some(object) = document.object_value() else {
         return Err(Fault::NotObject);

@@ -9,7 +9,7 @@ use jsonc_parser::cst::{CstContainerNode, CstNode, CstObjectProp, CstRootNode};
 use std::alloc::Global;
 
 /// The document of a text.
-pub fn parsed(alloc: Global, text: &str) -> Result<CstRootNode<Global>, Fault> {
+pub fn parsed(alloc: Global, text: &str) -> Result<CstRootNode<Global>, Fault<Global>> {
     match CstRootNode::parse(alloc, text, &ParseOptions::default()) {
         Ok(document) => Ok(document),
         Err(error) => Err(Fault::Input(error)),
@@ -17,7 +17,7 @@ pub fn parsed(alloc: Global, text: &str) -> Result<CstRootNode<Global>, Fault> {
 }
 
 /// The elements of a document that is an array.
-pub fn elements(document: &CstRootNode<Global>) -> Result<Vec<CstNode>, Fault>
+pub fn elements(document: &CstRootNode<Global>) -> Result<Vec<CstNode>, Fault<Global>>
     ensures { IfOk result (λ v. All (HasNode document.now) v.items) }
 {
     match document.value() {
@@ -30,7 +30,7 @@ pub fn elements(document: &CstRootNode<Global>) -> Result<Vec<CstNode>, Fault>
 }
 
 /// The properties of a document that is an object.
-pub fn properties(document: &CstRootNode<Global>) -> Result<Vec<CstObjectProp>, Fault>
+pub fn properties(document: &CstRootNode<Global>) -> Result<Vec<CstObjectProp>, Fault<Global>>
     ensures { IfOk result (λ v. All (λ p. HasNode document.now (object_prop_node p)) v.items) }
 {
     let Some(object) = document.object_value() else {

@@ -16,7 +16,7 @@ fn seven(alloc: Global) -> Result<CstInputValue<Global>, AllocError> {
 }
 
 /// The last element of an array, where it is a number.
-fn last_number(document: &CstRootNode<Global>) -> Result<CstNumberLit, Fault>
+fn last_number(document: &CstRootNode<Global>) -> Result<CstNumberLit, Fault<Global>>
     ensures { IfOk result (λ n. HasNode document.now (number_lit_node n)) }
 {
     let elements = elements(document)?;
@@ -31,7 +31,7 @@ fn replace(
     alloc: Global,
     document: &mut CstRootNode<Global>,
     number: CstNumberLit,
-) -> Result<CstNumberLit, Fault>
+) -> Result<CstNumberLit, Fault<Global>>
     requires { HasNode document.old (number_lit_node number) }
     ensures { IfOk result (λ n. HasNode document.new (number_lit_node n)) }
 {
@@ -43,7 +43,7 @@ fn replace(
 }
 
 /// How often the last number of an array was replaced.
-pub fn replaced(alloc: Global, text: &str, count: u64) -> Result<usize, Fault> {
+pub fn replaced(alloc: Global, text: &str, count: u64) -> Result<usize, Fault<Global>> {
     let mut document = parsed(alloc, text)?;
     let mut last = last_number(&document)?;
     let mut sum = 0usize;
@@ -55,7 +55,7 @@ pub fn replaced(alloc: Global, text: &str, count: u64) -> Result<usize, Fault> {
 }
 
 /// Appends a number to the array of a document.
-fn append(alloc: Global, document: &mut CstRootNode<Global>) -> Result<(), Fault> {
+fn append(alloc: Global, document: &mut CstRootNode<Global>) -> Result<(), Fault<Global>> {
     let Some(array) = document.array_value() else {
         return Err(Fault::NotArray);
     };
@@ -66,7 +66,7 @@ fn append(alloc: Global, document: &mut CstRootNode<Global>) -> Result<(), Fault
 }
 
 /// How often a number was appended to the array of one document.
-pub fn appended(alloc: Global, text: &str, count: u64) -> Result<usize, Fault> {
+pub fn appended(alloc: Global, text: &str, count: u64) -> Result<usize, Fault<Global>> {
     let mut document = parsed(alloc, text)?;
     let mut sum = 0usize;
     for _ in 0..count {
@@ -77,7 +77,7 @@ pub fn appended(alloc: Global, text: &str, count: u64) -> Result<usize, Fault> {
 }
 
 /// Inserts a number at the front of the array of a document.
-fn insert(alloc: Global, document: &mut CstRootNode<Global>) -> Result<(), Fault> {
+fn insert(alloc: Global, document: &mut CstRootNode<Global>) -> Result<(), Fault<Global>> {
     let Some(array) = document.array_value() else {
         return Err(Fault::NotArray);
     };
@@ -88,7 +88,7 @@ fn insert(alloc: Global, document: &mut CstRootNode<Global>) -> Result<(), Fault
 }
 
 /// How often a number was inserted at the front of the array of one document.
-pub fn inserted(alloc: Global, text: &str, count: u64) -> Result<usize, Fault> {
+pub fn inserted(alloc: Global, text: &str, count: u64) -> Result<usize, Fault<Global>> {
     let mut document = parsed(alloc, text)?;
     let mut sum = 0usize;
     for _ in 0..count {
@@ -103,7 +103,7 @@ fn set_one(
     alloc: Global,
     document: &mut CstRootNode<Global>,
     property: CstObjectProp,
-) -> Result<(), Fault> {
+) -> Result<(), Fault<Global>> {
     if !document.holds(property.node()) {
         return Err(Fault::NotObject);
     }
@@ -115,7 +115,7 @@ fn set_one(
 }
 
 /// The last property of an object.
-fn last_property(document: &CstRootNode<Global>) -> Result<CstObjectProp, Fault>
+fn last_property(document: &CstRootNode<Global>) -> Result<CstObjectProp, Fault<Global>>
     ensures { IfOk result (λ p. HasNode document.now (object_prop_node p)) }
 {
     let properties = properties(document)?;
@@ -126,7 +126,7 @@ fn last_property(document: &CstRootNode<Global>) -> Result<CstObjectProp, Fault>
 }
 
 /// How often the value of the last property of an object was set.
-pub fn set(alloc: Global, text: &str, count: u64) -> Result<usize, Fault> {
+pub fn set(alloc: Global, text: &str, count: u64) -> Result<usize, Fault<Global>> {
     let mut document = parsed(alloc, text)?;
     let last = last_property(&document)?;
     let mut sum = 0usize;
@@ -141,7 +141,7 @@ pub fn set(alloc: Global, text: &str, count: u64) -> Result<usize, Fault> {
 fn remove_last(
     document: &mut CstRootNode<Global>,
     elements: &mut Vec<CstNode>,
-) -> Result<usize, Fault> {
+) -> Result<usize, Fault<Global>> {
     let Some(last) = elements.pop() else {
         return Ok(0);
     };
@@ -155,7 +155,7 @@ fn remove_last(
 }
 
 /// How many elements of the array of one document were removed, from the last on.
-pub fn removed(alloc: Global, text: &str, count: u64) -> Result<usize, Fault> {
+pub fn removed(alloc: Global, text: &str, count: u64) -> Result<usize, Fault<Global>> {
     let mut document = parsed(alloc, text)?;
     let mut elements = elements(&document)?;
     let mut sum = 0usize;

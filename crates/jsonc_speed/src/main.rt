@@ -11,13 +11,14 @@ mod patches;
 
 use call::Call;
 use jsonc_engine::fault::Fault;
+use std::alloc::Global;
 use std::env::Env;
 use std::io::Read;
 use std::process::ExitCode;
 use std::{env, io};
 
 /// The call, and how often to make it, that the process's arguments name.
-fn asked<R: Env + AllocGlobal>(rt: &R) -> Result<(Call, u64), Fault> {
+fn asked<R: Env + AllocGlobal>(rt: &R) -> Result<(Call, u64), Fault<Global>> {
     let Ok(arguments) = env::args(rt) else {
         return Err(Fault::Usage);
     };
@@ -34,7 +35,7 @@ fn asked<R: Env + AllocGlobal>(rt: &R) -> Result<(Call, u64), Fault> {
     Ok((call, count))
 }
 
-fn run<R: Env + AllocGlobal + Input + Print>(rt: &R) -> Result<(), Fault> {
+fn run<R: Env + AllocGlobal + Input + Print>(rt: &R) -> Result<(), Fault<Global>> {
     let (call, count) = asked(rt)?;
     let mut input = Vec::new(rt.alloc());
     let Ok(_) = rt.reader().read_to_end(&mut input) else {

@@ -22,7 +22,7 @@ const PATCH: &str = r#"[
 ]"#;
 
 /// The bytes printed of a document behind the patch, which is read each time.
-pub fn patched(alloc: Global, text: &str) -> Result<usize, Fault> {
+pub fn patched(alloc: Global, text: &str) -> Result<usize, Fault<Global>> {
     let Ok(patch) = Patch::from_json(alloc, PATCH, &ParseOptions::default()) else {
         return Err(Fault::Edit(EditError::OutOfMemory));
     };

@@ -16,3 +16,4 @@ mod texts;
 mod tokens;
 mod tree_copies;
 mod unasked;
+mod words;

@@ -1,10 +1,8 @@
 //! Patches whose values are nested as deep as a text may be, and deeper.
 
 use failing_alloc::awaited::prints;
-use jsonc_engine::command::Command as Checked;
-use jsonc_engine::engine::run_on as run_checked;
-use jsonc_patch_engine::command::Command;
-use jsonc_patch_engine::engine::run_on;
+use jsonc_engine::command::Command;
+use jsonc_engine::engine::run_on;
 use std::alloc::{AllocError, Global};
 use std::test::Fail;
 
@@ -23,9 +21,9 @@ enum Deep {
 /// element, and the line of the fault: where more than 512 arrays would be around `1`.
 type Row = (Deep, usize, usize, Option<&'static str>);
 
-const FIRST: Option<&str> = Some("jsonc_patch: Operation 0: Maximum nesting depth exceeded");
+const FIRST: Option<&str> = Some("jsonc: Operation 0: Maximum nesting depth exceeded");
 
-const NEXT: Option<&str> = Some("jsonc_patch: Operation 1: Maximum nesting depth exceeded");
+const NEXT: Option<&str> = Some("jsonc: Operation 1: Maximum nesting depth exceeded");
 
 static ROWS: [Row; 14] = [
     (Deep::Add, 500, 12, None),
@@ -101,7 +99,7 @@ fn patch_of(alloc: Global, row: &Row) -> Result<String, AllocError> {
 
 /// Whether `jsonc check` accepts a text.
 fn is_accepted(alloc: Global, text: &str) -> bool {
-    run_checked(alloc, Checked::Check, text.as_bytes()).is_ok()
+    run_on(alloc, Command::Check, text.as_bytes()).is_ok()
 }
 
 /// Whether what a row says comes of its patch.
@@ -111,12 +109,15 @@ fn is_so(alloc: Global, row: &Row) -> Result<bool, AllocError> {
     match (
         run_on(
             alloc,
-            Command::Apply(&patch, 1_000_000_000),
+            Command::Patch {
+                text: &patch,
+                most: 1_000_000_000,
+            },
             text.as_bytes(),
         ),
         row.3,
     ) {
-        (Ok(written), None) => Ok(is_accepted(alloc, &written)),
+        (Ok(Some(written)), None) => Ok(is_accepted(alloc, &written)),
         (Err(fault), Some(line)) => Ok(prints(&fault, line)),
         _ => Ok(false),
     }

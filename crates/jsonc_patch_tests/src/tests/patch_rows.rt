@@ -4,10 +4,10 @@ use crate::tests::rows::Row;
 
 /// What is written, to the byte: what a patch does not name stays, and so do comments.
 pub static PATCHED: [Row; 10] = [
-    (&["apply", "[]"], "// a\n[1,]\n", "// a\n[1,]\n"),
+    (&["patch", "[]"], "// a\n[1,]\n", "// a\n[1,]\n"),
     (
         &[
-            "apply",
+            "patch",
             "[{\"op\": \"replace\", \"path\": \"/b/0\", \"value\": 3}, {\"op\": \"add\", \"path\": \"/c\", \"value\": null}]",
         ],
         "{\n  \"a\": 1, // one\n  \"b\": [2 /* of */]\n}\n",
@@ -15,24 +15,24 @@ pub static PATCHED: [Row; 10] = [
     ),
     (
         &[
-            "apply",
+            "patch",
             "[{op: 'replace', path: '/0', value: +.5,} /* c */] // d",
         ],
         "[1, /* e */]",
         "[+.5, /* e */]",
     ),
     (
-        &["apply", "[{op: 'test', path: '/a', value: 16}]"],
+        &["patch", "[{op: 'test', path: '/a', value: 16}]"],
         "{a: 0x10, // b\n}",
         "{a: 0x10, // b\n}",
     ),
     (
-        &["apply", "[{op: 'move', from: '/a', path: '/a'}]"],
+        &["patch", "[{op: 'move', from: '/a', path: '/a'}]"],
         "{a: 'b' /* c */}",
         "{a: 'b' /* c */}",
     ),
     (
-        &["apply", "[{op: 'replace', path: '', value: 2}]"],
+        &["patch", "[{op: 'replace', path: '', value: 2}]"],
         "/*a*/ 1 // b",
         "/*a*/ 2 // b",
     ),
@@ -59,7 +59,7 @@ pub static PATCHED: [Row; 10] = [
 pub static STANDARD: [Row; 28] = [
     (
         &[
-            "apply",
+            "patch",
             r#"[{ "op": "add", "path": "/baz", "value": "qux" }]"#,
         ],
         r#"{ "foo": "bar"}"#,
@@ -67,25 +67,25 @@ pub static STANDARD: [Row; 28] = [
     ),
     (
         &[
-            "apply",
+            "patch",
             r#"[{ "op": "add", "path": "/foo/1", "value": "qux" }]"#,
         ],
         r#"{ "foo": [ "bar", "baz" ] }"#,
         r#"{ "foo": [ "bar", "qux", "baz" ] }"#,
     ),
     (
-        &["apply", r#"[{ "op": "remove", "path": "/baz" }]"#],
+        &["patch", r#"[{ "op": "remove", "path": "/baz" }]"#],
         r#"{ "baz": "qux", "foo": "bar" }"#,
         r#"{ "foo": "bar" }"#,
     ),
     (
-        &["apply", r#"[{ "op": "remove", "path": "/foo/1" }]"#],
+        &["patch", r#"[{ "op": "remove", "path": "/foo/1" }]"#],
         r#"{ "foo": [ "bar", "qux", "baz" ] }"#,
         r#"{ "foo": [ "bar", "baz" ] }"#,
     ),
     (
         &[
-            "apply",
+            "patch",
             r#"[{ "op": "replace", "path": "/baz", "value": "boo" }]"#,
         ],
         r#"{ "baz": "qux", "foo": "bar" }"#,
@@ -93,7 +93,7 @@ pub static STANDARD: [Row; 28] = [
     ),
     (
         &[
-            "apply",
+            "patch",
             r#"[{ "op": "move", "from": "/foo/waldo", "path": "/qux/thud" }]"#,
         ],
         r#"{ "foo": { "bar": "baz", "waldo": "fred" }, "qux": { "corge": "grault" } }"#,
@@ -101,7 +101,7 @@ pub static STANDARD: [Row; 28] = [
     ),
     (
         &[
-            "apply",
+            "patch",
             r#"[{ "op": "move", "from": "/foo/1", "path": "/foo/3" }]"#,
         ],
         r#"{ "foo": [ "all", "grass", "cows", "eat" ] }"#,
@@ -109,7 +109,7 @@ pub static STANDARD: [Row; 28] = [
     ),
     (
         &[
-            "apply",
+            "patch",
             r#"[{ "op": "test", "path": "/baz", "value": "qux" }, { "op": "test", "path": "/foo/1", "value": 2 }]"#,
         ],
         r#"{ "baz": "qux", "foo": [ "a", 2, "c" ] }"#,
@@ -117,7 +117,7 @@ pub static STANDARD: [Row; 28] = [
     ),
     (
         &[
-            "apply",
+            "patch",
             r#"[{ "op": "add", "path": "/child", "value": { "grandchild": { } } }]"#,
         ],
         r#"{ "foo": "bar" }"#,
@@ -125,20 +125,20 @@ pub static STANDARD: [Row; 28] = [
     ),
     (
         &[
-            "apply",
+            "patch",
             r#"[{ "op": "add", "path": "/baz", "value": "qux", "xyz": 123 }]"#,
         ],
         r#"{ "foo": "bar" }"#,
         r#"{ "foo": "bar", "baz": "qux" }"#,
     ),
     (
-        &["apply", r#"[{"op": "test", "path": "/~01", "value": 10}]"#],
+        &["patch", r#"[{"op": "test", "path": "/~01", "value": 10}]"#],
         r#"{ "/": 9, "~1": 10 }"#,
         r#"{ "/": 9, "~1": 10 }"#,
     ),
     (
         &[
-            "apply",
+            "patch",
             r#"[{ "op": "add", "path": "/foo/-", "value": ["abc", "def"] }]"#,
         ],
         r#"{ "foo": ["bar"] }"#,

@@ -5,8 +5,8 @@ use crate::tests::refusals::{is_of_memory, outcome_of};
 use crate::tests::rows::Row;
 use failing_alloc::in_turn::answers_in_turn;
 use failing_alloc::outcome::Outcome;
-use jsonc_patch_engine::command::Command;
-use jsonc_patch_engine::engine::run_on;
+use jsonc_engine::command::Command;
+use jsonc_engine::engine::run_on;
 use std::alloc::Allocator;
 use std::test::Fail;
 
@@ -36,7 +36,8 @@ fn outcome_of_value<A: Allocator + Copy>(heap: A, row: &Row) -> Outcome {
         return Outcome::Other;
     };
     match run_on(heap, command, input.as_bytes()) {
-        Ok(text) => Outcome::of_values(heap, &text, wanted),
+        Ok(Some(text)) => Outcome::of_values(heap, &text, wanted),
+        Ok(None) => Outcome::Other,
         Err(fault) if is_of_memory(&fault) => Outcome::Wanted,
         Err(_) => Outcome::Other,
     }

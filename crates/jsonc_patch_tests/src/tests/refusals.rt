@@ -1,23 +1,25 @@
 //! Each request for memory of a run, refused in turn.
 
 use crate::tests::rows::{Row, TOLD, WRITTEN};
+use crate::tests::words::run_by;
 use failing_alloc::Refusing;
 use failing_alloc::awaited::{Awaited, prints};
 use failing_alloc::in_turn::{answers_in_turn, is_refused_in_turn};
 use failing_alloc::outcome::Outcome;
 use jsonc_engine::calls::{FromReader, ToWriter};
+use jsonc_engine::fault::Fault;
+use jsonc_engine::json::{JsonError, to_json};
+use jsonc_parser::ParseOptions;
+use jsonc_parser::cst::EditError;
 use jsonc_parser::errors::ParseErrorKind;
 use jsonc_parser::patch::{MergePatchError, PatchError};
-use jsonc_patch_engine::engine::engine;
-use jsonc_patch_engine::fault::Fault;
-use jsonc_patch_engine::json::{JsonError, to_json};
 use std::alloc::{Allocator, Global};
 use std::test::Fail;
 
 /// Whether a fault tells of memory alone.
 pub fn is_of_memory<A: Allocator>(fault: &Fault<A>) -> bool {
     match fault {
-        Fault::OutOfMemory => prints(fault, "jsonc_patch: Out of memory"),
+        Fault::Edit(EditError::OutOfMemory) => prints(fault, "jsonc: Out of memory"),
         Fault::Input(error) => *error.kind() == ParseErrorKind::OutOfMemory,
         Fault::Patch(PatchError::Parse(error)) => *error.kind() == ParseErrorKind::OutOfMemory,
         Fault::MergePatch(MergePatchError::Parse(error)) => *error.kind()
@@ -33,7 +35,7 @@ pub fn outcome_of<A: Allocator + Copy>(heap: A, row: &Row) -> Outcome {
     let mut sink = ToWriter::new(Awaited {
         rest: output.as_bytes(),
     });
-    match engine(heap, words, &mut source, &mut sink) {
+    match run_by(heap, words, &mut source, &mut sink) {
         Ok(()) => Outcome::of(sink.writer.rest.is_empty()),
         Err(fault) if is_of_memory(&fault) && sink.writer.rest.len() == output.len() =>
             Outcome::Wanted,
@@ -62,7 +64,7 @@ fn each_request_is_refused_in_turn(rt: HostRuntime) -> Result<(), Fail> {
 
 /// What came of writing a document as JSON.
 fn outcome_of_json(heap: &Refusing<Global>) -> Outcome {
-    match to_json(heap, "['a', 0x1F, b\"\\x41\"]") {
+    match to_json(heap, "['a', 0x1F, b\"\\x41\"]", &ParseOptions::default()) {
         Ok(_) => Outcome::Other,
         Err(JsonError::Text(_)) => Outcome::Answered,
         Err(_) => Outcome::Other,
@@ -84,7 +86,7 @@ fn outcome_of_cause(
 ) -> Outcome {
     let mut source = FromReader::new(input.as_bytes());
     let mut sink = ToWriter::new(Awaited { rest: b"" });
-    match engine(heap, words, &mut source, &mut sink) {
+    match run_by(heap, words, &mut source, &mut sink) {
         Ok(()) => Outcome::Other,
         Err(fault) if prints(&fault, line) => Outcome::Answered,
         Err(fault) if is_of_memory(&fault) => Outcome::Wanted,

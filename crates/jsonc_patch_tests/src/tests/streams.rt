@@ -1,10 +1,10 @@
 //! A reader and a writer of a few bytes a call, one of whose calls fails.
 
+use crate::tests::words::run_by;
 use failing_alloc::awaited::prints;
 use failing_alloc::streams::{Calls, Reader, Writer};
 use jsonc_engine::calls::{FromReader, ToWriter};
-use jsonc_patch_engine::engine::engine;
-use jsonc_patch_engine::fault::Fault;
+use jsonc_engine::fault::Fault;
 use std::alloc::Global;
 use std::test::Fail;
 
@@ -12,7 +12,7 @@ use std::test::Fail;
 /// many writes and a flush bring the output.
 static CASES: [(&[&str], &[u8], &[u8], usize, usize); 3] = [
     (
-        &["find", "/a/1"],
+        &["get", "/a/1"],
         b"{a: [0, 'one two']}",
         b"'one two'\n",
         5,
@@ -26,11 +26,12 @@ static CASES: [(&[&str], &[u8], &[u8], usize, usize); 3] = [
         5,
     ),
     (
-        &["apply", "[{op: 'replace', path: '/a', value: 1}]"],
+        &["patch", "[{op: 'replace', path: '/a', value: 1}]"],
         b"{a: 0, // b\n}",
         b"{a: 1, // b\n}",
         4,
-        4,
+        // (ten pieces of the document)
+        11,
     ),
 ];
 
@@ -55,7 +56,7 @@ fn run(alloc: Global, words: &[&str], input: &'static [u8], reads: usize, writes
         bytes: Vec::new(alloc),
         calls: Calls::new(writes),
     });
-    let ended = engine(alloc, words, &mut source, &mut sink);
+    let ended = run_by(alloc, words, &mut source, &mut sink);
     let FromReader { reader, empty, .. } = source;
     let ToWriter { writer, .. } = sink;
     Course {
@@ -81,7 +82,7 @@ fn a_failed_read_is_told_and_nothing_written(rt: HostRuntime) -> Result<(), Fail
         for reads in 0..*count {
             let run = run(rt.alloc(), words, input, reads, 100);
             assert!(rt;
-                is_told(&run, "jsonc_patch: read failed"),
+                is_told(&run, "jsonc: read failed"),
                 "{words:?} after {reads} reads"
             );
             assert!(rt; run.reads.failed == 1 && run.empty_reads == 0);
@@ -97,7 +98,7 @@ fn a_failed_write_leaves_a_beginning(rt: HostRuntime) -> Result<(), Fail> {
         for writes in 0..*count {
             let run = run(rt.alloc(), words, input, 100, writes);
             assert!(rt;
-                is_told(&run, "jsonc_patch: write failed"),
+                is_told(&run, "jsonc: write failed"),
                 "{words:?} after {writes} writes"
             );
             assert!(rt; output.starts_with(run.written.as_slice()));
@@ -124,12 +125,12 @@ fn all_is_read_and_written(rt: HostRuntime) -> Result<(), Fail> {
 #[test]
 fn usage_and_a_refused_word_come_before_reading(rt: HostRuntime) -> Result<(), Fail> {
     for words in [
-        ["find", "a"].as_slice(),
-        ["apply", "{}"].as_slice(),
-        ["apply", "[{}]"].as_slice(),
+        ["get", "a"].as_slice(),
+        ["patch", "{}"].as_slice(),
+        ["patch", "[{}]"].as_slice(),
         ["merge", ""].as_slice(),
         ["merge", "{a: 1, a: 2}"].as_slice(),
-        ["find"].as_slice(),
+        ["get"].as_slice(),
         ["json", ""].as_slice(),
     ] {
         let run = run(rt.alloc(), words, b"1", 100, 100);

@@ -6,11 +6,12 @@ use crate::tests::maps::changed_map;
 use crate::tests::nodes::node_names;
 use crate::tests::tokens::decode_provided;
 use crate::tests::tree_copies::tree_copies;
+use crate::tests::words::run_by;
 use failing_alloc::awaited::Awaited;
 use failing_alloc::outcome::Outcome;
 use jsonc_engine::calls::{FromReader, ToWriter};
-use jsonc_engine::command::Command;
-use jsonc_engine::engine::{engine, run_on};
+use jsonc_engine::command::{Command, Place};
+use jsonc_engine::engine::run_on;
 use jsonc_engine::fault::Fault;
 use jsonc_parser::cst::CstRootNode;
 use jsonc_parser::tokens::Token;
@@ -150,6 +151,31 @@ const COMMENT_BEFORE: &str = "[1, //c\n  2\n]";
 const NUMBERS: &str =
     "[0,1,2,3,4,5,6,7,8,9,0,1,2,3,4,5,6,7,8,9,0,1,2,3,4,5,6,7,8,9,0,1,2,3,4,5,6,7,8,9]";
 
+const REMOVAL: Command<'static> = Command::Remove { name: "b" };
+
+const APPENDED: Command<'static> = Command::Append { json: "2" };
+
+const SET: Command<'static> = Command::Set {
+    name: "a",
+    json: "1",
+};
+
+const GOT: Command<'static> = Command::Get {
+    place: Place::Names(INNER_PATH),
+};
+
+const PUT: Command<'static> = Command::Put {
+    names: INNER_PATH,
+    json: "[true]",
+};
+
+const PUT_FIRST: Command<'static> = Command::Put {
+    names: INNER_PATH,
+    json: "true",
+};
+
+const DROPPED: Command<'static> = Command::Drop { names: INNER_PATH };
+
 /// What comes of a call under an allocator.
 pub fn outcome_of<A: Allocator + Copy>(call: Call, alloc: A) -> Outcome {
     match call {
@@ -168,20 +194,20 @@ pub fn outcome_of<A: Allocator + Copy>(call: Call, alloc: A) -> Outcome {
         Call::MapChanges => changed_map(alloc),
         Call::Layout => laid_out(alloc),
         Call::BytesToBytes => bytes_to_bytes(alloc),
-        Call::Removal => changed(alloc, Command::Remove("b"), SETTINGS, SETTINGS_WITHOUT),
-        Call::Appended => changed(alloc, Command::Append("2"), COMMENT_INSIDE, COMMENT_BEFORE),
-        Call::Set => changed(alloc, Command::Set("a", "1"), "{\"a\":0}", "{\"a\":1}"),
-        Call::SetFirst => changed(alloc, Command::Set("a", "1"), "", "{\n  \"a\": 1\n}\n"),
+        Call::Removal => changed(alloc, REMOVAL, SETTINGS, SETTINGS_WITHOUT),
+        Call::Appended => changed(alloc, APPENDED, COMMENT_INSIDE, COMMENT_BEFORE),
+        Call::Set => changed(alloc, SET, "{\"a\":0}", "{\"a\":1}"),
+        Call::SetFirst => changed(alloc, SET, "", "{\n  \"a\": 1\n}\n"),
         Call::Sorted => changed(alloc, Command::Sort, UNSORTED, SORTED),
-        Call::Got => changed(alloc, Command::Get(INNER_PATH), INNER, INNER_VALUE),
-        Call::Put => changed(alloc, Command::Put(INNER_PATH, "[true]"), INNER, INNER_PUT),
+        Call::Got => changed(alloc, GOT, INNER, INNER_VALUE),
+        Call::Put => changed(alloc, PUT, INNER, INNER_PUT),
         Call::PutFirst => changed(
             alloc,
-            Command::Put(INNER_PATH, "true"),
+            PUT_FIRST,
             "",
             "{\n  \"a\": {\n    \"b\": true\n  }\n}\n",
         ),
-        Call::Dropped => changed(alloc, Command::Drop(INNER_PATH), INNER, INNER_DROPPED),
+        Call::Dropped => changed(alloc, DROPPED, INNER, INNER_DROPPED),
         Call::WholeRun => whole_run(alloc, &["print"], PLAIN, PLAIN),
         Call::WholeAppend => whole_run(alloc, &["append", "2"], COMMENT_INSIDE, COMMENT_BEFORE),
         Call::WholeSet => whole_run(alloc, &["set", "a", "[true]"], UNSORTED, CHANGED),
@@ -319,7 +345,7 @@ fn token_copy<A: Allocator + Copy>(alloc: A) -> Outcome {
 }
 
 /// What a run of the program tells of memory.
-fn of_fault(fault: Fault) -> Outcome {
+fn of_fault<A: Allocator>(fault: Fault<A>) -> Outcome {
     match fault {
         Fault::Input(error) => Outcome::from(error),
         Fault::Path(error) => Outcome::from(error),
@@ -356,7 +382,7 @@ fn whole_run<A: Allocator + Copy>(
     let mut sink = ToWriter::new(Awaited {
         rest: wanted.as_bytes(),
     });
-    match engine(alloc, words, &mut source, &mut sink) {
+    match run_by(alloc, words, &mut source, &mut sink) {
         Ok(()) => Outcome::of(sink.writer.rest.is_empty()),
         Err(fault) if sink.writer.rest.len() == wanted.len() => of_fault(fault),
         Err(_) => Outcome::Other,

@@ -77,9 +77,15 @@ fn is_made(alloc: Global, row: &Row) -> Result<bool, Outcome> {
         _ => String::new(alloc),
     };
     let command = match deep {
-        Deep::Set => Command::Set("a", &json),
-        Deep::Append => Command::Append(&json),
-        Deep::Put(_) => Command::Put(&path, &json),
+        Deep::Set => Command::Set {
+            name: "a",
+            json: &json,
+        },
+        Deep::Append => Command::Append { json: &json },
+        Deep::Put(_) => Command::Put {
+            names: &path,
+            json: &json,
+        },
     };
     match run_on(alloc, command, text.as_bytes()) {
         Ok(Some(written)) => match run_on(alloc, Command::Check, written.as_bytes()) {

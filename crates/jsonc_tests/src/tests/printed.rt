@@ -30,7 +30,12 @@ fn reasons_of_edits_are_printed(rt: HostRuntime) -> Result<(), Fail> {
     for (error, text) in &EDIT_ERRORS {
         assert!(rt; prints(error, text), "{text}");
     }
-    assert!(rt; prints(&Fault::Edit(EditError::OutOfMemory), "jsonc: Out of memory"));
+    assert!(rt;
+        prints(
+            &Fault::<Global>::Edit(EditError::OutOfMemory),
+            "jsonc: Out of memory"
+        )
+    );
     Ok(())
 }
 

@@ -1,15 +1,15 @@
 //! Each request for memory of a call, refused in turn.
 
 use crate::tests::calls::{CALLS, Call, outcome_of};
+use crate::tests::words::run_by;
 use failing_alloc::Refusing;
 use failing_alloc::awaited::{Awaited, prints};
 use failing_alloc::in_turn::{answers_in_turn, is_refused_in_turn};
 use failing_alloc::outcome::Outcome;
 use jsonc_engine::calls::{FromReader, ToWriter};
-use jsonc_engine::engine::engine;
 use jsonc_engine::fault::Fault;
 use jsonc_parser::errors::ParseErrorKind;
-use std::alloc::Global;
+use std::alloc::{Allocator, Global};
 use std::test::Fail;
 
 #[test]
@@ -97,7 +97,7 @@ static CAUSES: [(&[&str], &str, &str, bool); 13] = [
 ];
 
 /// Whether a fault tells that a parse wanted memory.
-fn is_of_a_parse(fault: &Fault) -> bool {
+fn is_of_a_parse<A: Allocator>(fault: &Fault<A>) -> bool {
     match fault {
         Fault::Input(error) | Fault::Path(error) | Fault::Argument(error) => {
             *error.kind() == ParseErrorKind::OutOfMemory
@@ -114,7 +114,7 @@ fn outcome_of_cause(
 ) -> Outcome {
     let mut source = FromReader::new(input.as_bytes());
     let mut sink = ToWriter::new(Awaited { rest: b"" });
-    match engine(heap, words, &mut source, &mut sink) {
+    match run_by(heap, words, &mut source, &mut sink) {
         Ok(()) => Outcome::Other,
         Err(fault) if prints(&fault, line) => Outcome::Answered,
         Err(fault) if is_of_a_parse(&fault) => Outcome::Wanted,

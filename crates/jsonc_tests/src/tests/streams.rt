@@ -1,9 +1,9 @@
 //! A reader and a writer of a few bytes a call, one of whose calls fails.
 
+use crate::tests::words::run_by;
 use failing_alloc::awaited::prints;
 use failing_alloc::streams::{Calls, Reader, STEP, Writer};
 use jsonc_engine::calls::{FromReader, ToWriter};
-use jsonc_engine::engine::engine;
 use jsonc_engine::fault::Fault;
 use std::alloc::Global;
 use std::io;
@@ -114,7 +114,7 @@ static CASES: [Case; 10] = [
 /// What came of a run, and what was called in it.
 #[derive(Drop)]
 struct Course {
-    ended: Result<(), Fault>,
+    ended: Result<(), Fault<Global>>,
     written: Vec<u8>,
     reads: Calls,
     /// How many reads the source has seen give nothing.
@@ -132,7 +132,7 @@ fn run(alloc: Global, words: &[&str], input: &'static [u8], reads: usize, writes
         bytes: Vec::new(alloc),
         calls: Calls::new(writes),
     });
-    let ended = engine(alloc, words, &mut source, &mut sink);
+    let ended = run_by(alloc, words, &mut source, &mut sink);
     let FromReader { reader, empty, .. } = source;
     let ToWriter { writer, .. } = sink;
     Course {
@@ -307,7 +307,7 @@ fn a_read_of_no_bytes_is_the_last(rt: HostRuntime) -> Result<(), Fail> {
         bytes: Vec::new(rt.alloc()),
         calls: Calls::new(100),
     });
-    let ended = engine(rt.alloc(), &["print"], &mut source, &mut sink);
+    let ended = run_by(rt.alloc(), &["print"], &mut source, &mut sink);
     assert!(rt; ended.is_ok() && sink.writer.bytes.as_slice() == b"[1]".as_slice());
     assert_eq!(rt; source.reader.given, 3);
     Ok(())

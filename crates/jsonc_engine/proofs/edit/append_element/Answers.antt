@@ -25,10 +25,10 @@ pub returns-in-Err-append-clause-error : goal.returns-in-Err-append-clause-error
 returns-in-Err-append-clause-error g c = λ o sound.
     let made = nodes_of c.array_value_or_create.new.self in
     array_memory o (nodes_of c.args.document.now) made c.array_value_or_create.new.self.tree.tree c.in-Ok-Some.array (array_stands (nodes_of c.array_value_or_create.new.self) c.in-Ok-Some.field-0 c.in-Ok-Some.array c.in-Ok-Some.field-0-is c.in-Ok-Some.ensures.is_value)
-    (plain c.args.value) c.args.document.now.tree.tree sound
+    g.row.A.Denot (plain c.args.value) c.args.document.now.tree.tree sound
     (said_of c.in-Ok-Some.field-0 c.in-Ok-Some.array (λ (f : Option CstArray). CreatesArray (nodes_of c.args.document.now) made f) c.in-Ok-Some.field-0-is c.in-Ok-Some.ensures.value)
     c.in-Err-append.error (c.in-Err-append.ensures.memory o)
 
 pub returns-in-Err-clause-error : goal.returns-in-Err-clause-error
 returns-in-Err-clause-error g c = λ o sound.
-    array_wanted o (nodes_of c.args.document.now) c.args.document.now.tree.tree sound c.in-Err.ensures.oom_only_if (plain c.args.value) c.in-Err.error c.in-Err.ensures.memory
+    array_wanted o (nodes_of c.args.document.now) c.args.document.now.tree.tree sound c.in-Err.ensures.oom_only_if g.row.A.Denot (plain c.args.value) c.in-Err.error c.in-Err.ensures.memory

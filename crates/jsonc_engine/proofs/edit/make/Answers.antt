@@ -1,7 +1,7 @@
 use Rattle.std.proofs.Common.{subst}
 use Rattle.jsonc_cst.specs.Document.{nodes_of}
 use Rattle.jsonc_engine.specs.Change.{IsChangeFor}
-use Rattle.jsonc_engine.proofs.Changes.{append_makes, append_told, drop_makes, drop_told, get_makes, ok_so, put_makes, put_told, remove_makes, remove_told, set_makes, set_told, sort_makes, sort_told, stay_makes}
+use Rattle.jsonc_engine.proofs.Changes.{append_makes, append_told, drop_makes, drop_told, ok_so, put_makes, put_told, remove_makes, remove_told, set_makes, set_told, sort_makes, sort_told, stay_makes}
 use Rattle.jsonc_engine.proofs.edit.make.Goals as goal
 
 pub returns-in-Set-clause-made : goal.returns-in-Set-clause-made
@@ -49,17 +49,14 @@ pub returns-in-Put-clause-error : goal.returns-in-Put-clause-error
 returns-in-Put-clause-error g c = λ o request is sound.
     put_told o request (nodes_of c.args.document.now) c.in-Put.names c.in-Put.value (subst (IsChangeFor request) c.in-Put.is is) c.deref.result.now c.deref.ensures.value c.put_setting.result (c.put_setting.ensures.error o sound)
 
-pub returns-clause-made : goal.returns-clause-made
-returns-clause-made g c = λ o request is.
+pub returns-in-Drop-clause-made : goal.returns-in-Drop-clause-made
+returns-in-Drop-clause-made g c = λ o request is.
     ok_so c.drop_setting.result (drop_makes o request (nodes_of c.args.document.now) (nodes_of c.drop_setting.new.document) c.in-Drop.names (subst (IsChangeFor request) c.in-Drop.is is) c.deref-in-Drop.result.now c.deref-in-Drop.ensures.value)
     (c.drop_setting.ensures.dropped o)
 
-pub returns-clause-error : goal.returns-clause-error
-returns-clause-error g c = λ o request is sound.
+pub returns-in-Drop-clause-error : goal.returns-in-Drop-clause-error
+returns-in-Drop-clause-error g c = λ o request is sound.
     drop_told o request (nodes_of c.args.document.now) c.in-Drop.names (subst (IsChangeFor request) c.in-Drop.is is) c.deref-in-Drop.result.now c.deref-in-Drop.ensures.value c.drop_setting.result (c.drop_setting.ensures.error o sound)
 
 pub returns-in-Stay-clause-made : goal.returns-in-Stay-clause-made
 returns-in-Stay-clause-made g c = λ o request is. stay_makes o request (nodes_of c.args.document.now) (subst (IsChangeFor request) c.in-Stay.is is)
-
-pub returns-in-Get-clause-made : goal.returns-in-Get-clause-made
-returns-in-Get-clause-made g c = λ o request is. get_makes o request (nodes_of c.args.document.now) c.in-Get.field-0 (subst (IsChangeFor request) c.in-Get.is is)

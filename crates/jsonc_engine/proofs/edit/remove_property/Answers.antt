@@ -16,7 +16,7 @@ pub returns-in_err-property-clause-error : goal.returns-in_err-property-clause-e
 returns-in_err-property-clause-error g c = λ o sound.
     let bytes = printed_of c.args.document.now in
     err_by (EndsOnObject o bytes) (Edit c.in_err-property.field-0.0) c.from_residual.result c.from_residual.ensures.1
-    (memory_on_object o bytes c.in_err-property.field-0.0 c.in_err-property.ensures.memory
+    (memory_on_object g.row.A.Denot o bytes c.in_err-property.field-0.0 c.in_err-property.ensures.memory
     (has_object o (nodes_of c.args.document.now) c.args.document.now.tree.tree sound c.in-Some.object (sym c.object_value.ensures.value ∙ c.in-Some.is)))
 
 pub returns-in-Err-clause-error : goal.returns-in-Err-clause-error
@@ -24,7 +24,7 @@ returns-in-Err-clause-error g c = λ o sound.
     let old = nodes_of c.args.document.now in
     let read = sym c.object_value.ensures.value ∙ c.in-Some.is in
     let first = first_found c.args.document.now c.in-Some.object (chars c.args.name.now) c.in_ok-property.field-0 c.in-Some-2.property c.in_ok-property.ensures.found c.in-Some-2.is in
-    memory_on_object o (printed_of c.args.document.now) c.in-Err.error
+    memory_on_object g.row.A.Denot o (printed_of c.args.document.now) c.in-Err.error
     (wants_memory o old (nodes_of c.remove.new.doc) c.args.document.now.tree.tree (chars c.args.name.now) c.in-Some.object read c.in-Some-2.property.number first c.in-Err.error sound (c.in-Err.ensures.memory o))
     (has_object o old c.args.document.now.tree.tree sound c.in-Some.object read)
 

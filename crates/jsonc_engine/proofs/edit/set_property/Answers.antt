@@ -39,22 +39,22 @@ returns-in-Err-append-clause-error g c = λ o sound.
     append_memory o (nodes_of c.args.document.now) (nodes_of c.object_value_or_create.new.self) c.args.document.now.tree.tree c.object_value_or_create.new.self.tree.tree c.in-Ok-Some.object
     (object_stands (nodes_of c.object_value_or_create.new.self) c.in-Ok-Some.field-0 c.in-Ok-Some.object c.in-Ok-Some.field-0-is c.in-Ok-Some.ensures.is_value)
     (said_of c.in-Ok-Some.field-0 c.in-Ok-Some.object (λ (f : Option CstObject). CreatesObject (nodes_of c.args.document.now) (nodes_of c.object_value_or_create.new.self) f) c.in-Ok-Some.field-0-is c.in-Ok-Some.ensures.value)
-    sound (chars c.args.name.now) (plain c.args.value) c.in-Err-append.error (c.in-Err-append.ensures.memory o)
+    sound g.row.A.Denot (chars c.args.name.now) (plain c.args.value) c.in-Err-append.error (c.in-Err-append.ensures.memory o)
 
 pub returns-in-Err-set_value-clause-error : goal.returns-in-Err-set_value-clause-error
 returns-in-Err-set_value-clause-error g c = λ o sound.
     object_memory o (nodes_of c.args.document.now) (nodes_of c.object_value_or_create.new.self) c.args.document.now.tree.tree c.object_value_or_create.new.self.tree.tree c.in-Ok-Some.object
     (object_stands (nodes_of c.object_value_or_create.new.self) c.in-Ok-Some.field-0 c.in-Ok-Some.object c.in-Ok-Some.field-0-is c.in-Ok-Some.ensures.is_value)
     (said_of c.in-Ok-Some.field-0 c.in-Ok-Some.object (λ (f : Option CstObject). CreatesObject (nodes_of c.args.document.now) (nodes_of c.object_value_or_create.new.self) f) c.in-Ok-Some.field-0-is c.in-Ok-Some.ensures.value)
-    sound (chars c.args.name.now) (plain c.args.value) c.in-Err-set_value.error c.in-Err-set_value.ensures.memory
+    sound g.row.A.Denot (chars c.args.name.now) (plain c.args.value) c.in-Err-set_value.error c.in-Err-set_value.ensures.memory
 
 pub returns-in-Err-get-clause-error : goal.returns-in-Err-get-clause-error
 returns-in-Err-get-clause-error g c = λ o sound.
     object_memory o (nodes_of c.args.document.now) (nodes_of c.object_value_or_create.new.self) c.args.document.now.tree.tree c.object_value_or_create.new.self.tree.tree c.in-Ok-Some.object
     (object_stands (nodes_of c.object_value_or_create.new.self) c.in-Ok-Some.field-0 c.in-Ok-Some.object c.in-Ok-Some.field-0-is c.in-Ok-Some.ensures.is_value)
     (said_of c.in-Ok-Some.field-0 c.in-Ok-Some.object (λ (f : Option CstObject). CreatesObject (nodes_of c.args.document.now) (nodes_of c.object_value_or_create.new.self) f) c.in-Ok-Some.field-0-is c.in-Ok-Some.ensures.value)
-    sound (chars c.args.name.now) (plain c.args.value) c.in-Err-get.error c.in-Err-get.ensures.memory
+    sound g.row.A.Denot (chars c.args.name.now) (plain c.args.value) c.in-Err-get.error c.in-Err-get.ensures.memory
 
 pub returns-in-Err-clause-error : goal.returns-in-Err-clause-error
 returns-in-Err-clause-error g c = λ o sound.
-    object_wanted o (nodes_of c.args.document.now) c.args.document.now.tree.tree sound c.in-Err.ensures.oom_only_if (chars c.args.name.now) (plain c.args.value) c.in-Err.error c.in-Err.ensures.memory
+    object_wanted o (nodes_of c.args.document.now) c.args.document.now.tree.tree sound c.in-Err.ensures.oom_only_if g.row.A.Denot (chars c.args.name.now) (plain c.args.value) c.in-Err.error c.in-Err.ensures.memory

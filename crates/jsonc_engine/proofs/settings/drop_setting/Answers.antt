@@ -9,4 +9,4 @@ returns-in-Ok-clause-dropped g c = λ o sound.
 
 pub returns-in-Err-clause-error : goal.returns-in-Err-clause-error
 returns-in-Err-clause-error g c = λ o sound.
-    memory_dropping o (nodes_of c.args.document.now) sound (names_of c.args.names.now) c.in-Err.error c.in-Err.ensures.error c.in-Err.ensures.oom_only_if
+    memory_dropping o (nodes_of c.args.document.now) sound g.row.A.Denot (names_of c.args.names.now) c.in-Err.error c.in-Err.ensures.error c.in-Err.ensures.oom_only_if

@@ -15,7 +15,7 @@ returns-in-Ok-None-clause-error g c = λ o sound.
 
 pub returns-in-Err-clause-error : goal.returns-in-Err-clause-error
 returns-in-Err-clause-error g c = λ o sound.
-    memory_getting o (nodes_of c.args.document.now) sound (names_of c.args.names.now) c.in-Err.error c.in-Err.ensures.memory c.in-Err.ensures.oom_only_if
+    memory_getting o (nodes_of c.args.document.now) sound g.row.A.Denot (names_of c.args.names.now) c.in-Err.error c.in-Err.ensures.memory c.in-Err.ensures.oom_only_if
 
 pub returns-in-Err-format-clause-error : goal.returns-in-Err-format-clause-error
 returns-in-Err-format-clause-error g c = λ o sound.

@@ -34,4 +34,4 @@ returns-in-Ok-false-clause-document g c = λ o sound.
 
 pub returns-in-Err-clause-error : goal.returns-in-Err-clause-error
 returns-in-Err-clause-error g c = λ o sound.
-    refused_putting o (nodes_of c.args.document.now) sound (names_of c.args.names.now) (plain c.args.value) c.in-Err.error c.in-Err.ensures.error c.in-Err.ensures.oom_only_if
+    refused_putting o (nodes_of c.args.document.now) sound g.row.A.Denot (names_of c.args.names.now) (plain c.args.value) c.in-Err.error c.in-Err.ensures.error c.in-Err.ensures.oom_only_if

@@ -17,5 +17,5 @@ returns-in-Ok-clause-sorted g c = λ o.
 
 pub returns-in-Err-clause-error : goal.returns-in-Err-clause-error
 returns-in-Err-clause-error g c = λ o sound.
-    memory_on_object o (printed_of c.args.document.now) c.in-Err.error c.in-Err.ensures.memory
+    memory_on_object g.row.A.Denot o (printed_of c.args.document.now) c.in-Err.error c.in-Err.ensures.memory
     (has_object o (nodes_of c.args.document.now) c.args.document.now.tree.tree sound c.in-Some.object (sym c.object_value.ensures.value ∙ c.in-Some.is))

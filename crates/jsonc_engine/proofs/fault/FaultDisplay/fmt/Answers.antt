@@ -1,23 +1,11 @@
-use Rattle.std.proofs.Common.{refl}
+use Rattle.std.proofs.Common.{◌++◌, ℕ, List, refl, subst}
 use Rattle.std.proofs.Output.{has_written_styled_append}
+use Rattle.std.specs.Fmt.{HasWrittenStyled}
+use Rattle.jsonc_engine.specs.FaultLines.{cause_text}
 use Rattle.jsonc_engine.proofs.fault.FaultDisplay.fmt.Goals as goal
 
-pub returns-in_ok-write_str-in-Input-clause-styled : goal.returns-in_ok-write_str-in-Input-clause-styled
-returns-in_ok-write_str-in-Input-clause-styled g c = λ flush ok.
-    let front = c.in_ok-write_str-in-Input.ensures.styled flush refl in
-    rw c.in-Input.is (has_written_styled_append _ _ _ _ _ _ front (c.fmt.ensures.styled front.flush ok))
-
-pub returns-in_ok-write_str-in-Path-clause-styled : goal.returns-in_ok-write_str-in-Path-clause-styled
-returns-in_ok-write_str-in-Path-clause-styled g c = λ flush ok.
-    let front = c.in_ok-write_str-in-Path.ensures.styled flush refl in
-    rw c.in-Path.is (has_written_styled_append _ _ _ _ _ _ front (c.fmt-in-Path.ensures.styled front.flush ok))
-
-pub returns-in_ok-write_str-in-Argument-clause-styled : goal.returns-in_ok-write_str-in-Argument-clause-styled
-returns-in_ok-write_str-in-Argument-clause-styled g c = λ flush ok.
-    let front = c.in_ok-write_str-in-Argument.ensures.styled flush refl in
-    rw c.in-Argument.is (has_written_styled_append _ _ _ _ _ _ front (c.fmt-in-Argument.ensures.styled front.flush ok))
-
-pub returns-in_ok-write_str-in-Edit-clause-styled : goal.returns-in_ok-write_str-in-Edit-clause-styled
-returns-in_ok-write_str-in-Edit-clause-styled g c = λ flush ok.
-    let front = c.in_ok-write_str-in-Edit.ensures.styled flush refl in
-    rw c.in-Edit.is (has_written_styled_append _ _ _ _ _ _ front (c.fmt-in-Edit.ensures.styled front.flush ok))
+pub returns-clause-styled : goal.returns-clause-styled
+returns-clause-styled g c = λ flush ok.
+    let front = c.in_ok-write_str.ensures.styled flush refl in
+    subst (λ (t : List ℕ). HasWrittenStyled g.W.Write.write_str_gives c.args.f.now (t ++ cause_text c.args.self.now) c.write_cause.new.f) c.front_of.ensures
+    (has_written_styled_append _ _ _ _ _ _ front (c.write_cause.ensures.styled front.flush ok))

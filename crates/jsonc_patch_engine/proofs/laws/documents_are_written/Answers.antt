@@ -1,5 +1,0 @@
-use Rattle.jsonc_patch_engine.proofs.Rewriting.{document_after}
-use Rattle.jsonc_patch_engine.proofs.laws.documents_are_written.Goals as goal
-
-pub returns : goal.returns
-returns c = λ t w v a m. document_after a m
