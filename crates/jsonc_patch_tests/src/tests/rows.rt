@@ -306,7 +306,7 @@ pub static TOLD: [(&[&str], &str, &str, u8); 48] = [
         2,
     ),
     (
-        &["get", ""],
+        &["find", ""],
         "1",
         "usage: jsonc check|print|set NAME JSON|append JSON|remove NAME|sort|get PLACE|put PATH JSON|drop PATH|patch [--max-bytes N] PATCH|merge PATCH|json",
         2,
