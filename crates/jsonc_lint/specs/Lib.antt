@@ -1,0 +1,5 @@
+pub mod Findings
+pub mod Linted
+pub mod Messages
+pub mod SeenNames
+pub mod Steps
