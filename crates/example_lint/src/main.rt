@@ -8,7 +8,7 @@
 #![tactic(auto)]
 
 use anyhow::anyhow;
-use jsonc_lint::{Rules, lint};
+use jsonc_lint::{Rules, lint, shown_name};
 use jsonc_parser::ParseOptions;
 use std::env::Env;
 use std::io::{Eprint, ErrorKind};
@@ -27,7 +27,7 @@ fn lint_text<R: AllocGlobal + Print>(
 ) -> anyhow::Result<bool> {
     let findings = lint(rt.alloc(), text, &ParseOptions::default(), rules)?;
     for finding in findings.iter() {
-        println!(rt; "{file}:{}:{}: {finding}", finding.line, finding.column)?;
+        println!(rt; "{}", finding.file_line(rt.alloc(), file)?)?;
     }
     Ok(!findings.is_empty())
 }
@@ -41,12 +41,18 @@ fn lint_file<R: Files + AllocGlobal + Print>(
     let text = match fs::read_to_string(rt, file) {
         Ok(text) => text,
         Err(error) if error.kind() == ErrorKind::InvalidData => {
-            println!(rt; "{file}:1:1: the file is not UTF-8")?;
+            println!(rt;
+                "{}:1:1: the file is not UTF-8",
+                shown_name(rt.alloc(), file)?
+            )?;
             return Ok(true);
         }
         Err(error) if error.kind() == ErrorKind::OutOfMemory => return Err(error.into()),
         Err(_) => {
-            println!(rt; "{file}:1:1: the file cannot be read")?;
+            println!(rt;
+                "{}:1:1: the file cannot be read",
+                shown_name(rt.alloc(), file)?
+            )?;
             return Ok(true);
         }
     };

@@ -1,4 +1,5 @@
 pub mod Findings
+pub mod Lines
 pub mod Linted
 pub mod Messages
 pub mod SeenNames

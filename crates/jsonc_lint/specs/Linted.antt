@@ -9,7 +9,7 @@ use Rattle.jsonc_walk.specs.Faults.{ParseFault}
 use Rattle.jsonc_walk.specs.Refusals.{RefusesText}
 use Rattle.jsonc_sound.specs.Documents.{ShowsText}
 use Rattle.jsonc_cst.specs.declared.cst.CstRootNode.{CstRootNode}
-use Rattle.jsonc_cst.specs.Document.{nodes_of, printed_of, tree_of, LiesIn}
+use Rattle.jsonc_cst.specs.Document.{nodes_of, printed_of, tree_of, HasNoDeeperValue, LiesIn}
 use Rattle.jsonc_lint.specs.declared.finding.Finding.{Finding}
 use Rattle.jsonc_lint.specs.declared.finding.FindingKind.TheVariants.{Fault}
 use Rattle.jsonc_lint.specs.declared.rules.Rules.{Rules}
@@ -30,9 +30,11 @@ module _ {A : Type 0} where
     pub line : finding.line ≡ line_of e
     pub column : finding.column ≡ column_of e
 
-  -- The document is that of the text under these options: it prints the text, is sound with the text's value and marks, and lies in the text node by node.
+  -- The document is that of the text under these options, whose value is not nested too deep: it prints the text, is sound with the text's value and marks, and lies
+  -- in the text node by node.
   pub record IsDocumentOf (o : Options) (text : List ℕ) (d : CstRootNode A) : Type 0 where
     pub printed : printed_of d ≡ text
+    pub within : HasNoDeeperValue o text
     pub shows : ShowsText o (chars text) (tree_of d)
     pub lies : LiesIn o text (tree_of d)
 

@@ -1,14 +1,13 @@
 //! What is found in a text, and how it is printed.
 
-ghost use Rattle.std.specs.Prelude.{◌≡◌, IfOk, Some, string_bytes};
+ghost use Rattle.std.specs.Prelude.{◌≡◌, Some};
 ghost use Rattle.std.specs.Fmt.{decimal, WritesOnOk, WritesStyledOnOk};
-ghost use Rattle.jsonc_lint.specs.Messages.{first_text, json_line, kind_name};
+ghost use Rattle.jsonc_lint.specs.Messages.{first_text, kind_name};
 
-use jsonc_layout::input::spelling::spell;
 use jsonc_parser::common::Range;
 use jsonc_parser::errors::ParseErrorKind;
 use jsonc_parser::patch::write_repeated_name;
-use std::alloc::{AllocError, Allocator};
+use std::alloc::Allocator;
 use std::fmt;
 
 /// The first property of a name in its object.
@@ -23,6 +22,8 @@ pub struct FirstProperty {
 }
 
 /// What is found.
+///
+/// Its `Display` is what is told of it, without any place: `Expected comma`, or `Name stands twice: "a"`.
 #[derive(Debug, Drop)]
 pub enum FindingKind<A: Allocator> {
     /// The text is no document, and this is wrong with it.
@@ -89,6 +90,23 @@ impl<A: Allocator> FindingKind<A> {
     }
 }
 
+impl<A: Allocator> fmt::Display for FindingKind<A> {
+    ghost use Rattle.jsonc_lint.specs.Messages.{told};
+
+    ghost output = { λ kind. Some (told kind) };
+
+    ghost styled_output = { λ kind _. Some (told kind) };
+
+    fn fmt<W: fmt::Write>(&self, f: &mut fmt::Formatter<W>) -> fmt::Result {
+        match self {
+            FindingKind::Fault(kind) => kind.fmt(f),
+            FindingKind::RepeatedName(name, _) => write_repeated_name(name.as_str(), f),
+            FindingKind::Todo => f.write_str("Comment says TODO"),
+            FindingKind::TrailingComma => f.write_str("Trailing comma"),
+        }
+    }
+}
+
 impl<A: Allocator> fmt::Display for Finding<A> {
     ghost use Rattle.jsonc_lint.specs.Messages.{message};
 
@@ -98,34 +116,11 @@ impl<A: Allocator> fmt::Display for Finding<A> {
 
     fn fmt<W: fmt::Write>(&self, f: &mut fmt::Formatter<W>) -> fmt::Result {
         match &self.kind {
-            FindingKind::Fault(kind) => kind.fmt(f),
             FindingKind::RepeatedName(name, first) => {
                 write_repeated_name(name.as_str(), f)?;
                 write_first(*first, f)
             }
-            FindingKind::Todo => f.write_str("Comment says TODO"),
-            FindingKind::TrailingComma => f.write_str("Trailing comma"),
+            kind => kind.fmt(f),
         }
-    }
-}
-
-impl<A: Allocator> Finding<A> {
-    /// The finding as an object of JSON on one line: the file's name, the line, the column, the kind and the message.
-    pub fn to_json<B: Allocator + Copy>(
-        &self,
-        alloc: B,
-        file: &str,
-    ) -> Result<String<B>, AllocError>
-        ensures { IfOk result (λ s. string_bytes s ≡ json_line file.now self.now) }
-    {
-        let message = format!(in alloc; "{self}")?;
-        format!(in alloc;
-            "{{\"file\":{},\"line\":{},\"column\":{},\"kind\":\"{}\",\"message\":{}}}",
-            spell(alloc, file)?,
-            self.line,
-            self.column,
-            self.kind.name(),
-            spell(alloc, message.as_str())?
-        )
     }
 }

@@ -5,11 +5,13 @@
 #![tactic(auto)]
 
 mod finding;
+mod lines;
 mod linting;
 mod names;
 mod nodes;
 mod rules;
 
 pub use finding::{Finding, FindingKind, Findings, FirstProperty};
-pub use linting::lint;
+pub use lines::{json_array, shown_name};
+pub use linting::{fault_finding, lint};
 pub use rules::Rules;

@@ -7,7 +7,7 @@ ghost use Rattle.jsonc_tree.specs.Tree.{IsOver};
 ghost use Rattle.jsonc_cst.specs.Document.{nodes_of};
 ghost use Rattle.jsonc_cst.specs.Ranges.{IsRangeOf};
 ghost use Rattle.jsonc_lint.specs.Findings.{AreFindings};
-ghost use Rattle.jsonc_lint.specs.Linted.{IsFaultAlone, IsLinted};
+ghost use Rattle.jsonc_lint.specs.Linted.{IsFaultAlone, IsLinted, TellsFault};
 ghost use Rattle.jsonc_lint.specs.SeenNames.{AreKnown};
 ghost use Rattle.jsonc_lint.specs.Steps.{IsFound, PrintsText};
 
@@ -77,17 +77,24 @@ fn findings_of<A: Allocator + Copy>(
     Ok(findings)
 }
 
+/// The finding that tells a fault.
+pub fn fault_finding<A: Allocator>(fault: &ParseError) -> Finding<A>
+    ensures { TellsFault fault.now result }
+{
+    Finding {
+        kind: FindingKind::Fault(*fault.kind()),
+        range: fault.range(),
+        line: fault.line_display(),
+        column: fault.column_display(),
+    }
+}
+
 // The fault of a text, alone.
 fn fault_alone<A: Allocator>(alloc: A, fault: &ParseError) -> Result<Findings<A>, AllocError>
     ensures { IfOk result (IsFaultAlone fault.now) }
 {
     let mut findings = Vec::new(alloc);
-    findings.push(Finding {
-        kind: FindingKind::Fault(*fault.kind()),
-        range: fault.range(),
-        line: fault.line_display(),
-        column: fault.column_display(),
-    })?;
+    findings.push(fault_finding(fault))?;
     Ok(findings)
 }
 

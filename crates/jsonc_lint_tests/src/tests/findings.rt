@@ -104,35 +104,3 @@ fn rows_are_found(rt: HostRuntime) -> Result<(), Fail> {
     }
     Ok(())
 }
-
-/// The findings of a text as JSON, in order, of a file with a quote in its name.
-pub fn outcome_of_json<A: Allocator + Copy>(heap: A) -> Outcome {
-    let rules = Rules {
-        trailing_commas: true,
-    };
-    let text = "{\"a\": [1,], \"a\": /*TODO*/ 2}";
-    let findings = match lint(heap, text, &ParseOptions::default(), rules) {
-        Ok(findings) => findings,
-        Err(error) => return Outcome::from(error),
-    };
-    let mut lines = String::new(heap);
-    for finding in findings.iter() {
-        let written = match finding.to_json(heap, "a\"b.jsonc") {
-            Ok(line) => write!(lines, "{}\n", line.as_str()),
-            Err(error) => Err(error),
-        };
-        if let Err(error) = written {
-            return Outcome::from(error);
-        }
-    }
-    Outcome::of(lines.as_str() == JSON)
-}
-
-const JSON: &str =
-    "{\"file\":\"a\\\"b.jsonc\",\"line\":1,\"column\":9,\"kind\":\"trailing-comma\",\"message\":\"Trailing comma\"}\n{\"file\":\"a\\\"b.jsonc\",\"line\":1,\"column\":13,\"kind\":\"repeated-name\",\"message\":\"Name stands twice: \\\"a\\\", first on line 1 column 2\"}\n{\"file\":\"a\\\"b.jsonc\",\"line\":1,\"column\":18,\"kind\":\"todo\",\"message\":\"Comment says TODO\"}\n";
-
-#[test]
-fn findings_are_objects_of_json(rt: HostRuntime) -> Result<(), Fail> {
-    assert!(rt; outcome_of_json(rt.alloc()) == Outcome::Answered);
-    Ok(())
-}

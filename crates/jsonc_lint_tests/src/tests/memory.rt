@@ -1,6 +1,7 @@
 //! Each request for memory, refused in turn.
 
-use crate::tests::findings::{ROWS, outcome_of, outcome_of_json};
+use crate::tests::findings::{ROWS, outcome_of};
+use crate::tests::lines::{Form, outcome_of_lines};
 use failing_alloc::in_turn::is_refused_in_turn;
 use failing_alloc::outcome::Outcome;
 use std::alloc::Allocator;
@@ -26,7 +27,9 @@ fn each_request_is_refused_in_turn(rt: HostRuntime) -> Result<(), Fail> {
 }
 
 #[test]
-fn each_request_of_json_is_refused_in_turn(rt: HostRuntime) -> Result<(), Fail> {
-    assert!(rt; is_refused_in_turn(rt.alloc(), |heap| outcome_of_json(heap)));
+fn each_request_of_lines_is_refused_in_turn(rt: HostRuntime) -> Result<(), Fail> {
+    for form in [Form::File, Form::Input, Form::Json] {
+        assert!(rt; is_refused_in_turn(rt.alloc(), |heap| outcome_of_lines(heap, &form)));
+    }
     Ok(())
 }

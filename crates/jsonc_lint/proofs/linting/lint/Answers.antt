@@ -13,7 +13,7 @@ findings_of-requires g c =
 pub returns-in-Ok : goal.returns-in-Ok
 returns-in-Ok g c =
     let ensured = c.in-Ok.ensures in
-    let document : IsDocumentOf (parse_options c.args.options.now) c.args.text.now c.in-Ok.doc = record { printed = ensured.printed; shows = ensured.document; lies = ensured.laid } in
+    let document : IsDocumentOf (parse_options c.args.options.now) c.args.text.now c.in-Ok.doc = record { printed = ensured.printed; within = ensured.within; shows = ensured.document; lies = ensured.laid } in
     IfOk-weaker c.findings_of.result _ _ (λ v h. read c.in-Ok.doc v.items document h) c.findings_of.ensures
 
 pub returns-in_default : goal.returns-in_default
