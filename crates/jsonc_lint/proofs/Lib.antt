@@ -2,4 +2,3 @@ pub mod Boundaries
 pub mod Repeats
 pub mod KindRules
 pub mod Walk
-pub mod Behind
