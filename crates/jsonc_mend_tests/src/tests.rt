@@ -1,0 +1,2 @@
+mod mended;
+mod rows;

@@ -1,0 +1,22 @@
+-- Every fault of a text, each with the change that mends it.
+use Rattle.std.specs.Prelude.{ℕ, ◌↔◌, ◌≡◌, Bool, true, List, [], ◌∷◌, map, chars, string_bytes}
+use Rattle.std.specs.List.{All}
+use Rattle.jsonc_text.specs.Options.{Options}
+use Rattle.jsonc_parser.specs.Checker.{HasValueWithin}
+use Rattle.jsonc_mend.specs.Changes.{Changes}
+use Rattle.jsonc_mends.specs.Told.{HasFirst, IsTold, change_in, told_in}
+use Rattle.jsonc_mends.specs.declared.told.Mend.{Mend}
+use Rattle.jsonc_mends.specs.declared.mends.Mends.{Mends}
+
+-- the first fault is that of the text, and a text without one is a document
+abbrev pub Begins : Options → List ℕ → List Mend → Type 0
+Begins o bytes [] = HasValueWithin true o (chars bytes)
+Begins o bytes (m ∷ ms) = HasFirst o bytes (told_in m)
+
+-- each is a fault of the text, and the first that of the checker; with all changes made the text is the mended one, which is a
+-- document, within the depth
+pub record IsMended {A : Type 0} (o : Options) (bytes : List ℕ) (r : Mends A) : Type 0 where
+  pub faults : All (λ m. IsTold bytes (told_in m)) r.list.items
+  pub first : Begins o bytes r.list.items
+  pub changes : Changes (chars bytes) (map change_in r.list.items) (chars (string_bytes r.text))
+  pub document : HasValueWithin true o (chars (string_bytes r.text))

@@ -1,0 +1,10 @@
+//! A law of mends: the contract of a function that does nothing.
+ghost use Rattle.std.specs.Prelude.{ℕ, List};
+ghost use Rattle.jsonc_text.specs.Options.{Options};
+ghost use Rattle.jsonc_mends.specs.Laws.{NoneOfDocument};
+ghost use Rattle.jsonc_mends.specs.declared.mends.Mends.{Mends};
+
+/// A text has no mend exactly where it is a document of the options, within the depth.
+pub fn none_of_documents()
+    ensures { (A : Type 0) (o : Options) (s : List ℕ) (r : Mends A) → NoneOfDocument o s r }
+{}
