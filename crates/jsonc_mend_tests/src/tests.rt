@@ -1,2 +1,3 @@
 mod mended;
 mod rows;
+mod told;

@@ -1,1 +1,2 @@
+mod Apart
 mod Telling

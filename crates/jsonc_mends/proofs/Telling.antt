@@ -15,7 +15,7 @@ use Rattle.jsonc_text.specs.Options.{Options}
 use Rattle.jsonc_text.specs.Text.{byte_length}
 use Rattle.jsonc_walk.specs.Faults.{HasFault, ParseFault}
 use Rattle.jsonc_walk.proofs.lemmas.Documents.{no_document}
-use Rattle.jsonc_parser.specs.Checker.{HasValueWithin}
+use Rattle.jsonc_check.specs.Checker.{HasValueWithin}
 use Rattle.jsonc_mend.specs.declared.changes.Change.{Change}
 use Rattle.jsonc_mend.specs.Changes.{Changes, none, kept, changed}
 use Rattle.jsonc_mends.specs.declared.told.Mend.{Mend}
@@ -104,17 +104,19 @@ empty_document : (o : Options) → HasValueWithin true o (chars [])
 empty_document o = let empty : HasValueWithin true o [] = (None, (no_gap, tt)) in subst (HasValueWithin true o) (sym chars-nil) empty
 
 module _ {A : Type 0} where
-  pub proposed_mended : (o : Options) (bytes : List ℕ) (first : Told) (cs : List Change) (r : Mends A) → HasFirst o bytes first → BeginWith bytes first r.list.items cs
+  pub proposed_mended : (o : Options) (bytes : List ℕ) (first : Told) (cs : List Change) (r : Mends A) → r.length ≡ length bytes → HasFirst o bytes first → BeginWith bytes first r.list.items cs
       → Changes (chars bytes) cs (chars (string_bytes r.text)) → HasValueWithin true o (chars (string_bytes r.text)) → IsMended o bytes r
-  proposed_mended o bytes first cs r h b c d = record {
+  proposed_mended o bytes first cs r l h b c d = record {
+    long = l;
     faults = b.faults;
     first = begins_of o bytes first r.list.items b.begins h;
     changes = subst (λ l. Changes (chars bytes) l (chars (string_bytes r.text))) (sym b.changes) c;
     document = d;
   }
 
-  pub none_mended : (o : Options) (bytes : List ℕ) (r : Mends A) → string_bytes r.text ≡ bytes → r.list.items ≡ [] → HasValueWithin true o (chars bytes) → IsMended o bytes r
-  none_mended o bytes r e f h = record {
+  pub none_mended : (o : Options) (bytes : List ℕ) (r : Mends A) → r.length ≡ length bytes → string_bytes r.text ≡ bytes → r.list.items ≡ [] → HasValueWithin true o (chars bytes) → IsMended o bytes r
+  none_mended o bytes r l e f h = record {
+    long = l;
     faults = subst (All (λ m. IsTold bytes (told_in m))) (sym f) (All-nil (λ m. IsTold bytes (told_in m)));
     first = subst (Begins o bytes) (sym f) h;
     changes = subst (λ l. Changes (chars bytes) (map change_in l) (chars (string_bytes r.text))) (sym f)
@@ -123,11 +125,12 @@ module _ {A : Type 0} where
   }
 
   -- the text without its characters
-  pub removed_mended : (o : Options) (bytes : List ℕ) (first : Told) (r : Mends A) → IsUtf8 bytes → IsTold bytes first → HasFirst o bytes first → string_bytes r.text ≡ []
+  pub removed_mended : (o : Options) (bytes : List ℕ) (first : Told) (r : Mends A) → r.length ≡ length bytes → IsUtf8 bytes → IsTold bytes first → HasFirst o bytes first → string_bytes r.text ≡ []
       → r.list.items ≡ mend_of first (all_of (length bytes)) ∷ [] → IsMended o bytes r
-  removed_mended o bytes first r u t h e f =
+  removed_mended o bytes first r l u t h e f =
       let P : Mend → Type 0 = λ m. IsTold bytes (told_in m) in
       record {
+        long = l;
         faults = subst (All P) (sym f) (All-cons P (mend_of first (all_of (length bytes))) [] t (All-nil P));
         first = subst (Begins o bytes) (sym f) h;
         changes = subst (λ l. Changes (chars bytes) (map change_in l) (chars (string_bytes r.text))) (sym f)

@@ -1,7 +1,7 @@
 -- When a text has no fault.
 use Rattle.std.specs.Prelude.{ℕ, ◌↔◌, ◌≡◌, true, List, [], chars}
 use Rattle.jsonc_text.specs.Options.{Options}
-use Rattle.jsonc_parser.specs.Checker.{HasValueWithin}
+use Rattle.jsonc_check.specs.Checker.{HasValueWithin}
 use Rattle.jsonc_mends.specs.Mends.{IsMended}
 use Rattle.jsonc_mends.specs.declared.mends.Mends.{Mends}
 

@@ -1,9 +1,10 @@
 -- Every fault of a text, each with the change that mends it.
-use Rattle.std.specs.Prelude.{ℕ, ◌↔◌, ◌≡◌, Bool, true, List, [], ◌∷◌, map, chars, string_bytes}
+use Rattle.std.specs.Prelude.{ℕ, ◌<◌, ◌≡◌, true, List, [], ◌∷◌, length, map, chars, slice_index_or, string_bytes}
 use Rattle.std.specs.List.{All}
 use Rattle.jsonc_text.specs.Options.{Options}
-use Rattle.jsonc_parser.specs.Checker.{HasValueWithin}
+use Rattle.jsonc_check.specs.Checker.{HasValueWithin}
 use Rattle.jsonc_mend.specs.Changes.{Changes}
+use Rattle.jsonc_mends.specs.Places.{IsPart}
 use Rattle.jsonc_mends.specs.Told.{HasFirst, IsTold, change_in, told_in}
 use Rattle.jsonc_mends.specs.declared.told.Mend.{Mend}
 use Rattle.jsonc_mends.specs.declared.mends.Mends.{Mends}
@@ -20,3 +21,9 @@ pub record IsMended {A : Type 0} (o : Options) (bytes : List ℕ) (r : Mends A) 
   pub first : Begins o bytes r.list.items
   pub changes : Changes (chars bytes) (map change_in r.list.items) (chars (string_bytes r.text))
   pub document : HasValueWithin true o (chars (string_bytes r.text))
+  pub long : r.length ≡ length bytes
+
+-- the change of this number writes this
+pub record IsWritten {A : Type 0} (r : Mends A) (number : ℕ) (new : List ℕ) : Type 0 where
+  pub there : number < length r.list.items
+  pub part : (d : Mend) → IsPart (string_bytes r.text) (slice_index_or r.list.items number d).written new

@@ -6,6 +6,7 @@
 
 pub mod laws;
 mod mends;
+mod places;
 mod told;
 
 pub use jsonc_mend::changes::Fault;

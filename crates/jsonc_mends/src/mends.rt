@@ -1,15 +1,19 @@
 //! The mends of a text.
-ghost use Rattle.std.specs.Prelude.{◌≡◌, IfOk, IfSome, chars, string_bytes, true};
+ghost use Rattle.std.specs.Prelude.{◌≡◌, ◌≤◌, IfNone, IfOk, IfSome, IsUtf8, List, chars, length, string_bytes, true, ℕ};
+ghost use Rattle.jsonc_text.specs.Options.{Options};
 ghost use Rattle.jsonc_text.specs.OptionsOf.{parse_options};
-ghost use Rattle.jsonc_parser.specs.Checker.{HasValueWithin};
+ghost use Rattle.jsonc_check.specs.Checker.{HasValueWithin};
 ghost use Rattle.jsonc_mend.specs.Changes.{IsMade};
-ghost use Rattle.jsonc_mends.specs.Mends.{IsMended};
+ghost use Rattle.jsonc_mends.specs.Mends.{IsMended, IsWritten};
+ghost use Rattle.jsonc_mends.specs.Places.{GoesWith};
 ghost use Rattle.jsonc_mends.specs.Told.{HasFirst, IsTold};
+ghost use Rattle.jsonc_mends.specs.declared.places.Side.TheVariants.{Text, Mended};
 
+use crate::places::{Side, part_of, place_in};
 use crate::told::{Mend, Told, told_changes, told_of};
 use jsonc_mend::changes::{Changed, make_changes};
 use jsonc_mend::recovery::Recovery;
-use jsonc_parser::check_document;
+use jsonc_check::check_document;
 use jsonc_text::common::Range;
 use jsonc_text::options::ParseOptions;
 use std::alloc::{AllocError, Allocator};
@@ -19,6 +23,8 @@ use std::alloc::{AllocError, Allocator};
 pub struct Mends<A: Allocator> {
     text: String<A>,
     list: Vec<Mend, A>,
+    /// How many bytes the text with the faults has.
+    length: usize,
 }
 
 impl<A: Allocator> Mends<A> {
@@ -35,6 +41,39 @@ impl<A: Allocator> Mends<A> {
     {
         self.list.as_slice()
     }
+
+    /// What the change of a number, counted from 0, writes in the place of its range. None where there is no such change.
+    pub fn new_text(&self, number: usize) -> Option<&str>
+        ensures part { IfSome result (λ new. IsWritten self.now number new.now) }
+        ensures none { (o : Options) (bytes : List ℕ) → IsMended o bytes self.now
+            → IfNone result (length self.now.list.items ≤ number) }
+    {
+        let mend = self.list.get(number)?;
+        part_of(self.text.as_str(), mend.written)
+    }
+
+    /// The place of the mended text that goes with a place of the text, which is counted in bytes. The time is logarithmic.
+    ///
+    /// Between changes it is the place of the same characters. Within the bytes that a change replaces it is the start of
+    /// what the change writes.
+    pub fn mended_place(&self, place: usize) -> usize
+        ensures { (o : Options) (bytes : List ℕ) → IsUtf8 bytes → IsMended o bytes self.now → place ≤ length bytes
+            → GoesWith Text self.now.list.items place result }
+    {
+        place_in(self.list.as_slice(), Side::Text, place, self.text.len())
+    }
+
+    /// The place of the text that goes with a place of the mended text. The time is logarithmic.
+    ///
+    /// Between changes it is the place of the same characters. Within what a change writes it is the start of the bytes
+    /// that the change replaces.
+    pub fn text_place(&self, place: usize) -> usize
+        ensures { (o : Options) (bytes : List ℕ) → IsUtf8 bytes → IsMended o bytes self.now
+            → place ≤ length (string_bytes self.now.text)
+            → GoesWith Mended self.now.list.items place result }
+    {
+        place_in(self.list.as_slice(), Side::Mended, place, self.length)
+    }
 }
 
 // A document has no fault.
@@ -49,6 +88,7 @@ fn none_needed<A: Allocator + Copy>(
     Ok(Mends {
         text: String::from_str(alloc, text)?,
         list: Vec::new(alloc),
+        length: text.len(),
     })
 }
 
@@ -99,7 +139,11 @@ fn proposed<A: Allocator + Copy>(
     let Some(list) = told_changes(alloc, text, first, proposals, changes.as_slice())? else {
         return Ok(None);
     };
-    Ok(Some(Mends { text: mended, list }))
+    Ok(Some(Mends {
+        text: mended,
+        list,
+        length: text.len(),
+    }))
 }
 
 // The first fault of a text, and a change that removes all of the text.
@@ -123,6 +167,7 @@ fn all_removed<A: Allocator + Copy>(
     Ok(Mends {
         text: String::new(alloc),
         list,
+        length: text.len(),
     })
 }
 

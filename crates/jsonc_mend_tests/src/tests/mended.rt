@@ -3,8 +3,7 @@
 use crate::tests::rows::{CONTAINERS, Dialect, LEXEMES, Row};
 use failing_alloc::in_turn::answers_in_turn;
 use failing_alloc::outcome::Outcome;
-use jsonc_mend::changes::make_changes;
-use jsonc_mend::recovery::Recovery;
+use jsonc_mends::mend;
 use jsonc_text::options::ParseOptions;
 use std::alloc::{AllocError, Allocator, Global};
 use std::default::Default;
@@ -23,14 +22,8 @@ fn options_of(dialect: Dialect) -> ParseOptions {
 fn is_mended<A: Allocator + Copy>(alloc: A, row: &Row) -> Result<bool, AllocError> {
     let (dialect, text, mended, count) = *row;
     let options = options_of(dialect);
-    let mut recovery = Recovery::new(alloc, text, &options);
-    if !recovery.run()? {
-        return Ok(false);
-    }
-    match make_changes(alloc, text, recovery.proposals(), recovery.buffer())? {
-        Some(changed) => Ok(changed.text.as_str() == mended && changed.list.len() == count),
-        None => Ok(false),
-    }
+    let mends = mend(alloc, text, &options)?;
+    Ok(mends.text() == mended && mends.list().len() == count)
 }
 
 /// What came of a row.
