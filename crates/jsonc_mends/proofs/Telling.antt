@@ -3,6 +3,7 @@ use Rattle.std.proofs.Common.{ℕ, ◌≡◌, ◌≢◌, ◌+◌, ◌<◌, ◌==
 use Rattle.std.specs.List.{All}
 use Rattle.std.proofs.lemmas.List.{map-append}
 use Rattle.std.proofs.lemmas.List.Elements.{All-nil, All-cons, All-append}
+use Rattle.std.proofs.lemmas.Bool.{false≢true}
 use Rattle.std.proofs.lemmas.Str.{encodes-chars, chars-nil}
 use Rattle.std.proofs.Math.Seq.{take-suc}
 use Rattle.jsonc_text.specs.declared.common.Range.{Range}
@@ -72,6 +73,13 @@ one_more bytes first told ms ns cs c count l g f t e h =
       many = omega (arith, length-append ms (mend_of told c ∷ []), h.many);
     })
 
+-- the first mend of the list has the first fault
+pub told_first : (r : Option Told) (t first : Told) (n m : ℕ) → r ≡ Some t → (n ≡ 0 → r ≡ Some first) → n ≡ m → m ≡ 0 → t ≡ first
+told_first r t first n m e h l z = let same : Some t ≡ Some first = sym e ∙ h (l ∙ z) in cc
+
+pub not_none : (n m : ℕ) (b : Bool) → b ≡ (n == 0) → b ≡ false → n ≡ m → m ≢ 0
+not_none n m b e f l z = false≢true (sym f ∙ e ∙ ap (λ x. x == 0) (l ∙ z))
+
 is_first : (t : Told) (ms : List Mend) → length ms ≢ 0 → started t ms → IsFirst t ms
 unfolding started
 is_first t [] n s = n refl
@@ -88,11 +96,27 @@ begins_of o bytes first (m ∷ ms) e h = subst (HasFirst o bytes) (sym e) h
 
 no_mend : (o : Options) (bytes : List ℕ) (ms : List Mend) → Begins o bytes ms → HasValueWithin true o (chars bytes) → ms ≡ []
 no_mend o bytes [] b d = refl
-no_mend o bytes (m ∷ ms) b d = absurd (no_document _ d.0 b d.1.0 d.1.1)
+no_mend o bytes (m ∷ ms) b d = absurd (no_document _ d.0 b d.1 d.2)
 
 -- the change that removes so many bytes, which are all
 abbrev pub all_of : ℕ → Change
 all_of n = record { range = record { start = 0; end = n }; written = record { start = 0; end = 0 } }
+
+abbrev range_to : ℕ → ℕ → Range
+range_to a b = record { start = a; end = b }
+
+abbrev change_to : Range → Range → Change
+change_to r w = record { range = r; written = w }
+
+same_range : (r : Range) (a b : ℕ) → r.start ≡ a → r.end ≡ b → r ≡ range_to a b
+same_range r a b p q = ap (λ x. range_to x r.end) p ∙ ap (range_to a) q
+
+-- it is the one change of the list
+pub one_removed : (first : Told) (old new : List Mend) (r w : Range) (n : ℕ) → old ≡ [] → new ≡ old ++ mend_of first (change_to r w) ∷ []
+    → r.start ≡ 0 → r.end ≡ n → w.start ≡ 0 → w.end ≡ 0 → new ≡ mend_of first (all_of n) ∷ []
+one_removed first old new r w n e f a b c d =
+    f ∙ ap (λ l. l ++ mend_of first (change_to r w) ∷ []) e ∙ ap (λ x. mend_of first (change_to x w) ∷ []) (same_range r 0 n a b)
+    ∙ ap (λ y. mend_of first (change_to (range_to 0 n) y) ∷ []) (same_range w 0 0 c d)
 
 all_removed : (bytes : List ℕ) → IsUtf8 bytes → Changes (chars bytes) (all_of (length bytes) ∷ []) (chars [])
 all_removed bytes u =
@@ -101,7 +125,7 @@ all_removed bytes u =
     subst (λ t. Changes (chars bytes) (all_of (length bytes) ∷ []) t) (sym chars-nil) (subst (λ n. Changes (chars bytes) (all_of n ∷ []) []) long made)
 
 empty_document : (o : Options) → HasValueWithin true o (chars [])
-empty_document o = let empty : HasValueWithin true o [] = (None, (no_gap, tt)) in subst (HasValueWithin true o) (sym chars-nil) empty
+empty_document o = let empty : HasValueWithin true o [] = (None, no_gap, tt) in subst (HasValueWithin true o) (sym chars-nil) empty
 
 module _ {A : Type 0} where
   pub proposed_mended : (o : Options) (bytes : List ℕ) (first : Told) (cs : List Change) (r : Mends A) → r.length ≡ length bytes → HasFirst o bytes first → BeginWith bytes first r.list.items cs

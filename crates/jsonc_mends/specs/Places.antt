@@ -17,7 +17,7 @@ other Mended = Text
 
 -- so many of these changes, the first ones, begin at this place or before it
 pub record Begun (s : Side) (ms : List Mend) (place count : ℕ) : Type 0 where
-  pub within : count ≤ length ms
+  pub bound : count ≤ length ms
   pub begun : (k : ℕ) (d : Mend) → k < count → (bytes_in s (slice_index_or ms k d)).start ≤ place
   pub later : (k : ℕ) (d : Mend) → count ≤ k → k < length ms → place < (bytes_in s (slice_index_or ms k d)).start
 
@@ -25,9 +25,9 @@ pub record Begun (s : Side) (ms : List Mend) (place count : ℕ) : Type 0 where
 -- a change, as far from its end in the other text as in this one
 pub data GoesWith (s : Side) (ms : List Mend) (place : ℕ) : ℕ → Type 0 where
   before : Begun s ms place 0 → GoesWith s ms place place
-  within : {count : ℕ} (m : Mend) → Begun s ms place (count + 1) → m ≡ slice_index_or ms count m → place < (bytes_in s m).end
+  inside : (count : ℕ) (m : Mend) → Begun s ms place (count + 1) → m ≡ slice_index_or ms count m → place < (bytes_in s m).end
       → GoesWith s ms place (bytes_in (other s) m).start
-  behind : {count : ℕ} (m : Mend) → Begun s ms place (count + 1) → m ≡ slice_index_or ms count m → (bytes_in s m).end ≤ place
+  behind : (count : ℕ) (m : Mend) → Begun s ms place (count + 1) → m ≡ slice_index_or ms count m → (bytes_in s m).end ≤ place
       → GoesWith s ms place ((place - (bytes_in s m).end) + (bytes_in (other s) m).end)
 
 -- changes in order and apart, from the places i and j of the two texts on, up to the places n and k; what is between them is as long in both
@@ -40,4 +40,4 @@ Apart s i j (m ∷ ms) n k = (i ≤ (bytes_in s m).start) × ((bytes_in s m).sta
 -- these bytes of a text
 pub record IsPart (bytes : List ℕ) (r : Range) (part : List ℕ) : Type 0 where
   pub span : Spans bytes r.start r.end
-  pub bytes : part ≡ slice_range bytes r.start r.end
+  pub value : part ≡ slice_range bytes r.start r.end

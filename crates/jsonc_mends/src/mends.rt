@@ -11,9 +11,9 @@ ghost use Rattle.jsonc_mends.specs.declared.places.Side.TheVariants.{Text, Mende
 
 use crate::places::{Side, part_of, place_in};
 use crate::told::{Mend, Told, told_changes, told_of};
+use jsonc_check::check_document;
 use jsonc_mend::changes::{Changed, make_changes};
 use jsonc_mend::recovery::Recovery;
-use jsonc_check::check_document;
 use jsonc_text::common::Range;
 use jsonc_text::options::ParseOptions;
 use std::alloc::{AllocError, Allocator};

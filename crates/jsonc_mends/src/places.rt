@@ -2,7 +2,7 @@
 ghost use Rattle.std.specs.Prelude.{◌+◌, ◌-◌, ◌<◌, ◌≤◌, ◌≡◌, IfNone, IfSome, ℕ, length};
 ghost use Rattle.std.specs.List.Sorted.{IsNonDecreasingBy};
 ghost use Rattle.jsonc_text.specs.Text.{Spans};
-ghost use Rattle.jsonc_mends.specs.Places.{Apart, Begun, GoesWith, IsPart, bytes_in};
+ghost use Rattle.jsonc_mends.specs.Places.{Apart, Begun, GoesWith, IsPart, bytes_in, other};
 
 use crate::told::Mend;
 use jsonc_text::common::Range;
@@ -38,6 +38,19 @@ fn place_by(from: Range, to: Range, place: usize, limit: usize) -> usize
     if other < limit { other } else { limit }
 }
 
+// The place of the other text that goes with one behind the start of this change.
+fn place_after(mend: &Mend, side: Side, place: usize, limit: usize) -> usize
+    ensures within { place < (bytes_in side mend.now).end → result ≡ (bytes_in (other side) mend.now).start }
+    ensures behind { (bytes_in side mend.now).end ≤ place
+        → (place - (bytes_in side mend.now).end) + (bytes_in (other side) mend.now).end ≤ limit
+        → result ≡ (place - (bytes_in side mend.now).end) + (bytes_in (other side) mend.now).end }
+{
+    match side {
+        Side::Text => place_by(mend.range, mend.written, place, limit),
+        Side::Mended => place_by(mend.written, mend.range, place, limit),
+    }
+}
+
 /// The place of the other text, which has `limit` bytes, that goes with a place of the text on this side.
 pub(crate) fn place_in(list: &[Mend], side: Side, place: usize, limit: usize) -> usize
     ensures { (n : ℕ) → Apart side 0 0 list.now n limit → place ≤ n → GoesWith side list.now place result }
@@ -46,11 +59,7 @@ pub(crate) fn place_in(list: &[Mend], side: Side, place: usize, limit: usize) ->
     if count == 0 {
         return place;
     }
-    let mend = list[count - 1];
-    match side {
-        Side::Text => place_by(mend.range, mend.written, place, limit),
-        Side::Mended => place_by(mend.written, mend.range, place, limit),
-    }
+    place_after(&list[count - 1], side, place, limit)
 }
 
 /// A part of a text.
