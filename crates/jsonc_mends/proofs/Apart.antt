@@ -93,7 +93,7 @@ module _ (s : Side) where
       omega (arith, h.1, h.3, after, from, next (omega arith))
 
   pub not_past : (i j place : ℕ) (ms : List Mend) (n k x : ℕ) (d : Mend) → Apart s i j ms n k → x < length ms → (bytes_in s (get_or ms x d)).end ≤ place → place ≤ n
-      → (x + 1 < length ms → place < (bytes_in s (get_or ms (x + 1) d)).start)
+      → (suc x < length ms → place < (bytes_in s (get_or ms (suc x) d)).start)
       → (place - (bytes_in s (get_or ms x d)).end) + (bytes_in (other s) (get_or ms x d)).end ≤ k
   not_past i j place [] n k x d h l from to next = omega (arith, l)
   not_past i j place (m ∷ ms) n k zero d h l from to next =
@@ -126,7 +126,7 @@ goes_behind s ms n limit place count q m h to b z e into past = found (cases_lt 
     fits : (bytes_in s m).end ≤ place → (place - (bytes_in s m).end) + (bytes_in (other s) m).end ≤ limit
     fits l = subst (λ x. (place - (bytes_in s x).end) + (bytes_in (other s) x).end ≤ limit) (sym e)
         (not_past s 0 0 place ms n limit (count - 1) m h (omega (arith, b.bound, z)) (subst (λ x. (bytes_in s x).end ≤ place) e l) to
-        (λ y. b.later ((count - 1) + 1) m (omega (arith, z)) y))
+        (λ y. b.later (suc (count - 1)) m (omega (arith, z)) y))
 
     found : (place < (bytes_in s m).end) ⊎ ((bytes_in s m).end ≤ place) → GoesWith s ms place q
     found (inl l) = subst (GoesWith s ms place) (sym (into l)) (inside (count - 1) m one_less e l)

@@ -1,4 +1,4 @@
-use Rattle.std.proofs.Common.{arith}
+use Rattle.std.proofs.Common.{◌-◌, arith}
 use Rattle.std.proofs.lemmas.List.{get_or_default}
 use Rattle.jsonc_mends.proofs.Apart.{in_order, goes_before, goes_behind}
 use Rattle.jsonc_mends.proofs.places.place_in.Goals as goal
