@@ -1,5 +1,5 @@
 -- Mends as they are told one after another, and what they make together.
-use Rattle.std.proofs.Common.{ℕ, ◌≡◌, ◌≢◌, ◌+◌, ◌<◌, ◌==◌, ◌∙◌, ◌⊎◌, ◌↔◌, inl, inr, sym, ap, refl, subst, Bool, true, false, List, [], ◌∷◌, ◌++◌, length, map, take, get_or, chars, IsUtf8, arith, None, Option, Some, string_bytes, zero-add, add-one, length-append}
+use Rattle.std.proofs.Common.{ℕ, ◌≡◌, ◌≢◌, ◌+◌, ◌<◌, ◌==◌, ◌∙◌, ◌↔◌, inl, inr, sym, ap, refl, subst, Bool, true, false, List, [], ◌∷◌, ◌++◌, length, map, take, get_or, chars, IsUtf8, arith, None, Option, Some, string_bytes, zero-add, add-one, length-append}
 use Rattle.std.specs.List.{All}
 use Rattle.std.proofs.lemmas.List.{map-append}
 use Rattle.std.proofs.lemmas.List.Elements.{All-nil, All-cons, All-append}
@@ -14,7 +14,7 @@ use Rattle.jsonc_text.specs.Faults.{IsFault, kind_of, range_of, line_of, column_
 use Rattle.jsonc_text.specs.Gaps.{none as no_gap}
 use Rattle.jsonc_text.specs.Options.{Options}
 use Rattle.jsonc_text.specs.Text.{byte_length}
-use Rattle.jsonc_walk.specs.Faults.{HasFault, ParseFault}
+use Rattle.jsonc_walk.specs.Faults.{ParseFault}
 use Rattle.jsonc_walk.proofs.lemmas.Documents.{no_document}
 use Rattle.jsonc_check.specs.Checker.{HasValueWithin}
 use Rattle.jsonc_mend.specs.declared.changes.Change.{Change}
@@ -61,12 +61,12 @@ start_push t [] m e s = e refl
 start_push t (x ∷ xs) m e s = s
 
 -- one more
-pub one_more : (bytes : List ℕ) (first told : Told) (ms ns : List Mend) (cs : List Change) (c : Change) (count : ℕ) → count < length cs → c ≡ get_or cs count c
-    → (length ms ≡ 0 → told ≡ first) → IsTold bytes told → ns ≡ ms ++ mend_of told c ∷ [] → SoFar bytes first ms cs count → SoFar bytes first ns cs (count + 1)
-one_more bytes first told ms ns cs c count l g f t e h =
+pub one_more : (bytes : List ℕ) (first told : Told) (ms ns : List Mend) (cs : List Change) (m : Mend) (c : Change) (count : ℕ) → count < length cs → c ≡ get_or cs count c
+    → (length ms ≡ 0 → told ≡ first) → IsTold bytes told → m ≡ mend_of told c → ns ≡ ms ++ m ∷ [] → SoFar bytes first ms cs count → SoFar bytes first ns cs (count + 1)
+one_more bytes first told ms ns cs m c count l g f t d e h =
     let P : Mend → Type 0 = λ m. IsTold bytes (told_in m) in
     let S : List Mend → Type 0 = λ l. SoFar bytes first l cs (count + 1) in
-    subst S (sym e) (record {
+    subst S (sym (e ∙ ap (λ x. ms ++ x ∷ []) d)) (record {
       begins = start_push first ms (mend_of told c) f h.begins;
       faults = All-append P ms (mend_of told c ∷ []) h.faults (All-cons P (mend_of told c) [] t (All-nil P));
       changes = map-append change_in ms (mend_of told c ∷ []) ∙ ap (λ l. l ++ c ∷ []) h.changes ∙ sym (ap (λ n. take n cs) (add-one count) ∙ take-suc cs count c l ∙ ap (λ x. take count cs ++ x ∷ []) (sym g));
