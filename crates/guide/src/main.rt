@@ -3,6 +3,7 @@
 #![tactic(auto)]
 
 mod files;
+mod mends;
 mod migrate;
 mod patches;
 mod read;
@@ -143,6 +144,7 @@ fn main(rt: HostRuntime) -> anyhow::Result<ExitCode> {
     }
     read::readings(&rt)?;
     walk::walks(&rt)?;
+    mends::mends(&rt)?;
     patches::patches(&rt)?;
     Ok(ExitCode::SUCCESS)
 }

@@ -1,0 +1,2 @@
+mod KnownPlaces
+mod Rewriting

@@ -1,0 +1,3 @@
+mod mended;
+mod rows;
+mod told;

@@ -1,0 +1,4 @@
+pub mod Laws
+pub mod Mends
+pub mod Places
+pub mod Told
