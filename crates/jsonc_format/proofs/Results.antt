@@ -1,0 +1,10 @@
+-- What is said of a result, by another thing that is said of it.
+use Rattle.std.proofs.Common.{Result, Ok, Err, IfOk, IfErr}
+
+pub if_ok : {T E : Type 0} {P Q : T → Type 0} (r : Result T E) → IfOk r P → ((x : T) → P x → Q x) → IfOk r Q
+if_ok (Ok x) h f = f x h
+if_ok (Err e) h f = tt
+
+pub if_err : {T E : Type 0} {P Q : E → Type 0} (r : Result T E) → IfErr r P → ((e : E) → P e → Q e) → IfErr r Q
+if_err (Ok x) h f = tt
+if_err (Err e) h f = f e h
