@@ -1,14 +1,14 @@
 -- Pieces of a document end before what is written after them.
-use Rattle.std.proofs.Common.{ℕ, zero, suc, ◌≡◌, ◌∙◌, sym, ap, refl, Bool, true, false, not, ◌&&◌, ◌||◌, ◌==◌, nat_lt, List, [], ◌∷◌, ◌++◌, IsTrue, Option, Some, None, if◌then◌else◌, ◌⊎◌, inl, inr}
+use Rattle.std.proofs.Common.{ℕ, zero, suc, ◌≡◌, ◌∙◌, sym, ap, refl, Bool, true, false, not, ◌&&◌, ◌||◌, ◌==◌, nat_lt, List, [], ◌∷◌, ◌++◌, IsTrue, arith, Option, Some, None, if◌then◌else◌, ◌⊎◌, inl, inr}
 use Rattle.jsonc_text.specs.Options.{Options}
 use Rattle.jsonc_text.specs.Text.{next, no, starts, Many, is_line_end}
-use Rattle.jsonc_text.specs.Gaps.{is_in_line}
+use Rattle.jsonc_text.specs.Gaps.{is_blank, is_in_line}
 use Rattle.jsonc_text.specs.Places.{is_comment}
 use Rattle.jsonc_text.specs.Lexemes.{LexemeKind, Scanned, lexeme, line_comment, block_comment, punctuation, is_punctuation, IsScanned, CanEndBefore}
 use Rattle.jsonc_text.specs.Words.{Keyword, EndsWord}
 use Rattle.jsonc_text.proofs.LexemesAlone.{scanned_before}
 use Rattle.jsonc_text.proofs.Basics.{and_both}
-use Rattle.jsonc_format.specs.Format.{Style, Frame, State, Piece, mark, opens, closes, separates, is_line_comment, leads, lines, in_line, on_one_line, is_flat, new_line, gap_in_line, gap_on_lines, gap_in, without_first, past, after, written, layout_after, left_open, is_last}
+use Rattle.jsonc_format.specs.Format.{Style, Frame, State, Piece, mark, opens, closes, separates, is_line_comment, leads, lines, in_line, on_one_line, is_flat, shift, indent, new_line, gap_in_line, gap_on_lines, gap_in, without_first, past, after, written, layout_after, left_open, is_last}
 use Rattle.jsonc_format.specs.Styles.{IsLineEnd, line_feed, carriage_return, both, IsProper}
 use Rattle.jsonc_format.specs.Laws.{Apart, closes_first}
 use Rattle.jsonc_format.proofs.DocumentPieces.{names_next}
@@ -38,18 +38,14 @@ pub data Sound (o : Options) : List Piece → Type 0 where
   some : (p : Piece) (u : List ℕ) {ps : List Piece} → IsScanned o p.what p.text [] → CanEndBefore p.what p.text u → written p.what p.text ≡ p.text → IsTrue (may_follow p.what ps) → Sound o ps → Sound o (p ∷ ps)
 
 -- the container around n others is on one line
-abbrev flat_at : List Frame → ℕ → Bool
+abbrev pub flat_at : List Frame → ℕ → Bool
 flat_at [] n = false
 flat_at (f ∷ fs) zero = not f.spread
 flat_at (f ∷ fs) (suc n) = flat_at fs n
 
 -- each open container that is on one line ends on it
-abbrev Held : List Frame → Bool → List Piece → Type 0
+abbrev pub Held : List Frame → Bool → List Piece → Type 0
 Held around bare ps = (n : ℕ) → IsTrue (flat_at around n) → IsTrue (on_one_line n ps) ⊎ (IsTrue bare × IsTrue (closes_first ps) × (n ≡ 0))
-
-true_or : (a : Bool) → IsTrue a → {b : Bool} → IsTrue (a || b)
-true_or true h = refl
-true_or false h = cc
 
 and_last : (a b c : Bool) → IsTrue (a && (b && c)) → IsTrue c
 and_last true true c h = h
@@ -66,15 +62,15 @@ module _ (y : Style) where
   next_held s p ps true true se cm e f g i d h n k = cc
   next_held s p ps true false se cm e f g i d h zero k = by_expands y.expands (is_flat ps) refl (rw e at k)
     where
-      flat_now : (ps : List Piece) → IsTrue (is_flat ps) → IsTrue (on_one_line 0 ps) ⊎ (IsTrue true × IsTrue (closes_first ps) × (0 ≡ 0))
+      flat_now : (ps : List Piece) → IsTrue (is_flat ps) → IsTrue (on_one_line 0 ps) ⊎ (IsTrue true × IsTrue (closes_first ps) × (◌≡◌ {A = ℕ} 0 0))
       flat_now [] h = cc
       flat_now (q ∷ qs) h = each (closes q.what) refl h
         where
-          each : (b : Bool) → closes q.what ≡ b → IsTrue (b || on_one_line 0 (q ∷ qs)) → IsTrue (on_one_line 0 (q ∷ qs)) ⊎ (IsTrue true × IsTrue (closes q.what) × (0 ≡ 0))
+          each : (b : Bool) → closes q.what ≡ b → IsTrue (b || on_one_line 0 (q ∷ qs)) → IsTrue (on_one_line 0 (q ∷ qs)) ⊎ (IsTrue true × IsTrue (closes q.what) × (◌≡◌ {A = ℕ} 0 0))
           each true e h = inr (refl, e, refl)
           each false e h = inl h
 
-      by_expands : (x b : Bool) → is_flat ps ≡ b → IsTrue (not (x || not b)) → IsTrue (on_one_line 0 ps) ⊎ (IsTrue (after y s p.what ps).bare × IsTrue (closes_first ps) × (0 ≡ 0))
+      by_expands : (x b : Bool) → is_flat ps ≡ b → IsTrue (not (x || not b)) → IsTrue (on_one_line 0 ps) ⊎ (IsTrue (after y s p.what ps).bare × IsTrue (closes_first ps) × (◌≡◌ {A = ℕ} 0 0))
       by_expands true b q k = cc
       by_expands false false q k = cc
       by_expands false true q k = rw e (flat_now ps q)
@@ -109,29 +105,29 @@ module _ (y : Style) (proper : IsProper y) where
   end_parts s carriage_return = refl
   end_parts s both = refl
 
+  breaks_first : {e : List ℕ} (t s : List ℕ) → IsLineEnd e → IsTrue (starts is_line_end (next ((e ++ t) ++ s)))
+  breaks_first t s line_feed = refl
+  breaks_first t s carriage_return = refl
+  breaks_first t s both = refl
+
   line_breaks : (fs : List Frame) (sh b : Bool) (s : List ℕ) → IsTrue (starts is_line_end (next (new_line y fs sh b ++ s)))
-  line_breaks fs sh true s = breaks proper.ends
-    where
-      breaks : {e t : List ℕ} → IsLineEnd e → IsTrue (starts is_line_end (next ((e ++ t) ++ s)))
-      breaks line_feed = refl
-      breaks carriage_return = refl
-      breaks both = refl
-  line_breaks fs sh false s = breaks proper.ends
-    where
-      breaks : {e t : List ℕ} → IsLineEnd e → IsTrue (starts is_line_end (next ((e ++ t) ++ s)))
-      breaks line_feed = refl
-      breaks carriage_return = refl
-      breaks both = refl
+  line_breaks fs sh true s = breaks_first (y.line_end ++ (shift y.level sh ++ indent y.level fs)) s proper.ends
+  line_breaks fs sh false s = breaks_first (shift y.level sh ++ indent y.level fs) s proper.ends
 
   -- after a line comment
   breaks_after : (s : State) (fs : List Frame) (q : Piece) (qs : List Piece) (t : List ℕ) → s.line ≡ true → s.bare ≡ false → (IsTrue (flat_at fs 0) → ⊥) → IsTrue (starts is_line_end (next (gap_in y s fs q qs ++ t)))
   breaks_after s [] q qs t l b n = rw l (line_breaks s.around s.shifted _ t)
-  breaks_after s (f ∷ fs) q qs t l b n = rw (b, l) (each f.spread (closes q.what) n)
+  breaks_after s (f ∷ fs) q qs t l b n =
+      each s.bare s.line f.spread (closes q.what) (nat_lt 1 (lines q.gap) && not (separates q.what || s.in_property)) (gap_in_line f.object s q.what)
+      (if separates q.what then [] else (if s.in_property || (in_line q.gap && (s.comment || not (leads q.what qs))) then 0x20 ∷ [] else new_line y s.around s.shifted (nat_lt 1 (lines q.gap) && not s.bare))) l b n
     where
-      each : (sp cl : Bool) → (IsTrue (not sp) → ⊥) → IsTrue (starts is_line_end (next ((if not sp then gap_in_line f.object s q.what else (if cl then new_line y fs f.shifted false else new_line y s.around s.shifted (nat_lt 1 (lines q.gap) && not (separates q.what || s.in_property)))) ++ t)))
-      each false cl n = absurd (n refl)
-      each true true n = line_breaks fs f.shifted false t
-      each true false n = line_breaks s.around s.shifted _ t
+      each : (ba li sp cl bl : Bool) (u v : List ℕ) → li ≡ true → ba ≡ false → (IsTrue (not sp) → ⊥)
+          → IsTrue (starts is_line_end (next ((if ba && cl then [] else (if not sp then u else (if cl then new_line y fs f.shifted false else (if li then new_line y s.around s.shifted bl else v)))) ++ t)))
+      each ba li false cl bl u v e g n = absurd (n refl)
+      each true li true cl bl u v e g n = cc
+      each false false true cl bl u v e g n = cc
+      each false true true true bl u v e g n = line_breaks fs f.shifted false t
+      each false true true false bl u v e g n = line_breaks s.around s.shifted bl t
 
   -- after a lexeme that opens nothing: a gap that is written begins with a space or the end of a line, and is empty only before a comma, a colon or a closing bracket
   module _ (P : ℕ → Bool) (space : IsTrue (P 0x20)) (ends : (c : ℕ) → IsTrue (is_line_end c) → IsTrue (P c)) where
@@ -152,16 +148,17 @@ module _ (y : Style) (proper : IsProper y) where
     gap_next : (s : State) (fs : List Frame) (q : Piece) (qs : List Piece) (t : List ℕ) → s.line ≡ false → s.bare ≡ false → (IsTrue (separates q.what || closes q.what) → IsTrue (starts P (next t)))
         → IsTrue (starts P (next (gap_in y s fs q qs ++ t)))
     gap_next s [] q qs t l b f = on_lines_next s q qs t l f
-    gap_next s (a ∷ fs) q qs t l b f = rw b (each a.spread (closes q.what) (separates q.what) a.object f (λ g. on_lines_next s q qs t l f))
+    gap_next s (a ∷ fs) q qs t l b f = each s.bare a.spread (closes q.what) (separates q.what) a.object (gap_on_lines y s q qs) b f (on_lines_next s q qs t l f)
       where
-        each : (sp cl se ob : Bool) → (IsTrue (se || cl) → IsTrue (starts P (next t))) → (IsTrue sp → IsTrue (starts P (next (gap_on_lines y s q qs ++ t))))
-            → IsTrue (starts P (next ((if not sp then (if se || (cl && not ob) then [] else 0x20 ∷ []) else (if cl then new_line y fs a.shifted false else gap_on_lines y s q qs)) ++ t)))
-        each false cl true ob f g = f refl
-        each false true false false f g = f refl
-        each false true false true f g = space
-        each false false false ob f g = space
-        each true true se ob f g = breaks_too _ (line_breaks fs a.shifted false t)
-        each true false se ob f g = g refl
+        each : (ba sp cl se ob : Bool) (w : List ℕ) → ba ≡ false → (IsTrue (se || cl) → IsTrue (starts P (next t))) → IsTrue (starts P (next (w ++ t)))
+            → IsTrue (starts P (next ((if ba && cl then [] else (if not sp then (if se || ((ba || cl) && not ob) then [] else 0x20 ∷ []) else (if cl then new_line y fs a.shifted false else w))) ++ t)))
+        each true sp cl se ob w e f g = cc
+        each false false cl true ob w e f g = f refl
+        each false false true false false w e f g = f refl
+        each false false true false true w e f g = space
+        each false false false false ob w e f g = space
+        each false true true se ob w e f g = breaks_too (new_line y fs a.shifted false ++ t) (line_breaks fs a.shifted false t)
+        each false true false se ob w e f g = g
 
   end_too : (P : ℕ → Bool) → ((c : ℕ) → IsTrue (is_line_end c) → IsTrue (P c)) → IsTrue (starts P (next y.line_end))
   end_too P ends = each proper.ends
@@ -175,42 +172,42 @@ abbrev pub names : ℕ → Bool
 names c = c == 0x20 || c == 0x0A || c == 0x0D || c == 0x3A
 
 ends_part : (c : ℕ) → IsTrue (is_line_end c) → IsTrue (parts c)
-ends_part c h = each (c == 0x20) (c == 0x0A) (c == 0x0D) h
+ends_part c h = each (c == 0x20) (c == 0x0A) (c == 0x0D) (c == 0x2C) (c == 0x3A) (c == 0x5D) (c == 0x7D) h
   where
-    each : (x y z : Bool) {w : Bool} → IsTrue (y || z) → IsTrue (x || y || z || w)
-    each true y z h = refl
-    each false true z h = refl
-    each false false true h = refl
-    each false false false h = cc
+    each : (x y z a b d e : Bool) → IsTrue (y || z) → IsTrue (x || y || z || a || b || d || e)
+    each true y z a b d e h = refl
+    each false true z a b d e h = refl
+    each false false true a b d e h = refl
+    each false false false a b d e h = cc
 
 ends_name : (c : ℕ) → IsTrue (is_line_end c) → IsTrue (names c)
-ends_name c h = each (c == 0x20) (c == 0x0A) (c == 0x0D) h
+ends_name c h = each (c == 0x20) (c == 0x0A) (c == 0x0D) (c == 0x3A) h
   where
-    each : (x y z : Bool) {w : Bool} → IsTrue (y || z) → IsTrue (x || y || z || w)
-    each true y z h = refl
-    each false true z h = refl
-    each false false true h = refl
-    each false false false h = cc
+    each : (x y z w : Bool) → IsTrue (y || z) → IsTrue (x || y || z || w)
+    each true y z w h = refl
+    each false true z w h = refl
+    each false false true w h = refl
+    each false false false w h = cc
 
 word_ends : (t : List ℕ) → IsTrue (starts names (next t)) → EndsWord (next t)
 word_ends [] h = cc
-word_ends (c ∷ t) h = each (c == 0x20) (c == 0x0A) (c == 0x0D) (c == 0x3A) h
+word_ends (c ∷ t) h = each (c == 0x20) (c == 0x0A) (c == 0x0D) (c == 0x3A) (c == 0x09) (c == 0x0C) (nat_lt 0x7F c && is_blank c) h
   where
-    each : (x y z w : Bool) {a b d : Bool} → IsTrue (x || y || z || w) → IsTrue (w || x || a || y || b || z || d)
-    each x y z true h = refl
-    each true y z false h = refl
-    each false true z false {a} h = by_tab a
-      where
-        by_tab : (a : Bool) {r : Bool} → IsTrue (a || true || r)
-        by_tab true = refl
-        by_tab false = refl
-    each false false true false {a} {b} h = by_both a b
-      where
-        by_both : (a b : Bool) {r : Bool} → IsTrue (a || false || b || true || r)
-        by_both true b = refl
-        by_both false true = refl
-        by_both false false = refl
-    each false false false false h = cc
+    past_tab : (a b z d : Bool) → IsTrue (a || true || b || z || d)
+    past_tab true b z d = refl
+    past_tab false b z d = refl
+
+    past_both : (a b d : Bool) → IsTrue (a || false || b || true || d)
+    past_both true b d = refl
+    past_both false true d = refl
+    past_both false false d = refl
+
+    each : (x y z w a b d : Bool) → IsTrue (x || y || z || w) → IsTrue (w || x || a || y || b || z || d)
+    each x y z true a b d h = refl
+    each true y z false a b d h = refl
+    each false true z false a b d h = past_tab a b z d
+    each false false true false a b d h = past_both a b d
+    each false false false false a b d h = cc
 
 line_ends_there : (t : List ℕ) → IsTrue (starts is_line_end (next t)) → IsTrue (no is_in_line (next t))
 line_ends_there [] h = cc
@@ -265,28 +262,28 @@ first_scanned (some q u x e w m r) = x
 module _ (o : Options) (y : Style) (proper : IsProper y) (end : EndLiterals) where
   literal_parts : (s : State) (ps : List Piece) → Sound o ps → s.line ≡ false → s.bare ≡ false → Parts (layout_after y s ps)
   literal_parts s [] r l b = end_too y proper parts ends_part
-  literal_parts s (q ∷ qs) r l b = gap_next y proper parts refl ends_part s s.around q qs _ l b (λ h. mark_starts o q.what q.text _ (first_scanned r) h)
+  literal_parts s (q ∷ qs) r l b = gap_next y proper parts refl ends_part s s.around q qs (written q.what q.text ++ layout_after y (after y s q.what qs) qs) l b (λ h. mark_starts o q.what q.text (layout_after y (after y s q.what qs) qs) (first_scanned r) h)
 
   word_parts : (s : State) (ps : List Piece) → Sound o ps → s.line ≡ false → s.bare ≡ false → IsTrue (names_next ps) → IsTrue (starts names (next (layout_after y s ps)))
   word_parts s [] r l b n = cc
-  word_parts s (q ∷ qs) r l b n = gap_next y proper names refl ends_name s s.around q qs _ l b (λ h. name_starts o q.what q.text _ (first_scanned r) n h)
+  word_parts s (q ∷ qs) r l b n = gap_next y proper names refl ends_name s s.around q qs (written q.what q.text ++ layout_after y (after y s q.what qs) qs) l b (λ h. name_starts o q.what q.text (layout_after y (after y s q.what qs) qs) (first_scanned r) n h)
 
   line_parts : (s : State) (ps : List Piece) → s.line ≡ true → s.bare ≡ false → (IsTrue (flat_at s.around 0) → ⊥) → IsTrue (no is_in_line (next (layout_after y s ps)))
   line_parts s [] l b n = line_ends_there y.line_end (end_too y proper is_line_end (λ c h. h))
-  line_parts s (q ∷ qs) l b n = line_ends_there _ (breaks_after y proper s s.around q qs _ l b n)
+  line_parts s (q ∷ qs) l b n = line_ends_there (gap_in y s s.around q qs ++ (written q.what q.text ++ layout_after y (after y s q.what qs) qs)) (breaks_after y proper s s.around q qs (written q.what q.text ++ layout_after y (after y s q.what qs) qs) l b n)
 
   not_flat : (around : List Frame) (bare : Bool) (c : List ℕ) (gap text : List ℕ) (ps : List Piece) → IsTrue (breaks_next ps) → Held around bare (record { gap = gap; what = line_comment c; text = text } ∷ ps)
       → (q : Piece) (qs : List Piece) → ps ≡ q ∷ qs → IsTrue (flat_at around 0) → ⊥
   not_flat around bare c gap text ps m h q qs e k = by_held (h 0 k)
     where
-      never : (a : Bool) {b : Bool} → IsTrue (not a) → IsTrue (a && b) → ⊥
-      never true h k = cc
-      never false h k = cc
+      never : (a b : Bool) → IsTrue (not a) → IsTrue (a && b) → ⊥
+      never true b h k = cc
+      never false b h k = cc
 
-      by_held : IsTrue (on_one_line 0 (record { gap = gap; what = line_comment c; text = text } ∷ ps)) ⊎ (IsTrue bare × IsTrue false × (0 ≡ 0)) → ⊥
+      by_held : IsTrue (on_one_line 0 (record { gap = gap; what = line_comment c; text = text } ∷ ps)) ⊎ (IsTrue bare × IsTrue false × (◌≡◌ {A = ℕ} 0 0)) → ⊥
       by_held (inl x) =
           let on : IsTrue (on_one_line 0 ps) = and_last (in_line gap) (in_line text) _ x in
-          never (in_line q.gap) (rw e at m) (rw e at on)
+          never (in_line q.gap) _ (rw e at m) (rw e at on)
       by_held (inr (a, b, d)) = cc
 
   ends_before : (s : State) (p : Piece) (u : List ℕ) (ps : List Piece) → IsScanned o p.what p.text [] → CanEndBefore p.what p.text u → IsTrue (may_follow p.what ps) → Sound o ps → Held s.around s.bare (p ∷ ps)
@@ -296,9 +293,9 @@ module _ (o : Options) (y : Style) (proper : IsProper y) (end : EndLiterals) whe
       by_kind : (gap : List ℕ) (w : Scanned) (text : List ℕ) → CanEndBefore w text u → IsTrue (may_follow w ps) → Held s.around s.bare (record { gap = gap; what = w; text = text } ∷ ps)
           → CanEndBefore w text (layout_after y (after y s w ps) ps)
       by_kind gap (lexeme (LexemeKind.string v)) text e m h = tt
-      by_kind gap (lexeme (LexemeKind.number n)) text e m h = (end text u _ (literal_parts (after y s (lexeme (LexemeKind.number n)) ps) ps r refl refl)).0 n e
-      by_kind gap (lexeme (LexemeKind.word n)) text e m h = word_ends _ (word_parts (after y s (lexeme (LexemeKind.word n)) ps) ps r refl refl m)
-      by_kind gap (lexeme (LexemeKind.keyword k)) text e m h = (end text u _ (literal_parts (after y s (lexeme (LexemeKind.keyword k)) ps) ps r refl refl)).1 k e
+      by_kind gap (lexeme (LexemeKind.number n)) text e m h = (end text u (layout_after y (after y s (lexeme (LexemeKind.number n)) ps) ps) (literal_parts (after y s (lexeme (LexemeKind.number n)) ps) ps r refl refl)).0 n e
+      by_kind gap (lexeme (LexemeKind.word n)) text e m h = word_ends (layout_after y (after y s (lexeme (LexemeKind.word n)) ps) ps) (word_parts (after y s (lexeme (LexemeKind.word n)) ps) ps r refl refl m)
+      by_kind gap (lexeme (LexemeKind.keyword k)) text e m h = (end text u (layout_after y (after y s (lexeme (LexemeKind.keyword k)) ps) ps) (literal_parts (after y s (lexeme (LexemeKind.keyword k)) ps) ps r refl refl)).1 k e
       by_kind gap (lexeme (LexemeKind.punctuation c)) text e m h = tt
       by_kind gap (block_comment c) text e m h = tt
       by_kind gap (line_comment c) text e m h = by_next ps refl
@@ -309,7 +306,7 @@ module _ (o : Options) (y : Style) (proper : IsProper y) (end : EndLiterals) whe
 
   pub apart : (ps : List Piece) (s : State) → Sound o ps → Held s.around s.bare ps → Apart o y s ps
   apart [] s none h = tt
-  apart (p ∷ ps) s (some p u x e w m r) h =
+  apart (p ∷ ps) s (some _ u x e w m r) h =
       (w, scanned_before o p.what p.text _ x (ends_before s p u ps x e m r h), apart ps (after y s p.what ps) r (next_held y s p ps (opens p.what) (closes p.what) (separates p.what) (is_comment p.what) refl refl refl refl (one_bracket p.what) h))
     where
       one_bracket : (w : Scanned) → IsTrue (not (opens w && closes w))

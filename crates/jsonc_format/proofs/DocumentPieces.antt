@@ -11,11 +11,11 @@ use Rattle.jsonc_text.proofs.LexemesAlone.{own_text}
 use Rattle.jsonc_text.proofs.Cuts.{many_split}
 use Rattle.jsonc_format.specs.Format.{Piece, IsPieces, no_more, piece, mark}
 
-block_text : {t r : List ℕ} → UpToBlockEnd t r → (s : List ℕ) × (t ≡ s ++ 0x2A ∷ 0x2F ∷ r)
+pub block_text : {t r : List ℕ} → UpToBlockEnd t r → (s : List ℕ) × (t ≡ s ++ 0x2A ∷ 0x2F ∷ r)
 block_text here = ([], refl)
 block_text (later {c = c} h g) = let more = block_text g in (c ∷ more.0, ap (λ t. c ∷ t) more.1)
 
-comment_scanned : (o : Options) {t u : List ℕ} → IsComment t u → (w : Scanned) × IsScanned o w t u
+abbrev pub comment_scanned : (o : Options) {t u : List ℕ} → IsComment t u → (w : Scanned) × IsScanned o w t u
 comment_scanned o (inl (line {t = t} {r = r} g n)) =
     let part = many_split is_in_line g in (line_comment part.0, (line g n, ap (λ s. 0x2F ∷ 0x2F ∷ s) part.1))
 comment_scanned o (inr (block {t = t} {r = r} g)) =
@@ -39,7 +39,7 @@ abbrev pub Named : List Piece → Type 0
 Named [] = Unit {0}
 Named (p ∷ ps) = IsTrue (word_named p.what ps) × Named ps
 
-module _ {o : Options} where
+module _ (o : Options) where
   record Has (t : List ℕ) : Type 0 where
     tail : List ℕ
     pieces : List Piece
@@ -69,11 +69,12 @@ module _ {o : Options} where
   after_mark : (c : ℕ) {r : List ℕ} → IsTrue (is_punctuation c) → Has r → Has (c ∷ r)
   after_mark c {r} h k = after_scanned (lexeme (LexemeKind.punctuation c)) (h, refl) k refl
 
-  blank_named : {c : ℕ} {t tail : List ℕ} {ps : List Piece} (b : IsTrue (is_blank c)) (p : IsPieces o tail t ps) (n : Named ps) → IsTrue (names_next ps) → IsTrue (names_next (after_blank b p n).pieces)
-  blank_named b (no_more g) n h = h
-  blank_named b (piece p g x e l) n h = h
+  blank_named : (c : ℕ) {t tail : List ℕ} {ps : List Piece} (b : IsTrue (is_blank c)) (p : IsPieces o tail t ps) (n : Named ps) → IsTrue (names_next ps) → IsTrue (names_next (after_blank {c = c} b p n).pieces)
+  unfolding after_blank
+  blank_named c b (no_more g) n h = h
+  blank_named c b (piece p g x e l) n h = h
 
-  comment_next : {t u : List ℕ} (c : IsComment t u) → IsTrue (is_comment (comment_scanned o c).0)
+  pub comment_next : {t u : List ℕ} (c : IsComment t u) → IsTrue (is_comment (comment_scanned o c).0)
   comment_next (inl (line g n)) = refl
   comment_next (inr (block g)) = refl
 
@@ -82,9 +83,14 @@ module _ {o : Options} where
   or_true false b h = cc
 
   gap_named : {t u : List ℕ} (g : Gap o t u) (h : Has u) → IsTrue (names_next h.pieces) → IsTrue (names_next (after_gap g h).pieces)
+  unfolding after_gap after_scanned
   gap_named Gap.none h n = n
-  gap_named (Gap.blank c g) h n = let k = after_gap g h in blank_named c k.parts k.named (gap_named g h n)
+  gap_named (Gap.blank {c = d} b g) h n = let k = after_gap g h in blank_named d b k.parts k.named (gap_named g h n)
   gap_named (Gap.comment a c g) h n = or_true (is_comment (comment_scanned o c).0) _ (comment_next c)
+
+  colon_named : {r : List ℕ} (h : Has r) → IsTrue (names_next (after_mark 0x3A refl h).pieces)
+  unfolding after_mark after_scanned
+  colon_named h = refl
 
   after_separator : {t r : List ℕ} → Separates o t r → Has r → Has t
   after_separator (Separates.comma g k) h = after_gap g (after_mark 0x2C refl (after_gap k h))
@@ -130,15 +136,16 @@ module _ {o : Options} where
 
     after_property : {t name r : List ℕ} {v : Plain} → IsProperty o t name v r → Has r → Has t
     after_property (IsProperty.named n g k x) h =
-        let colon = after_mark 0x3A refl (after_gap k (after_value x h)) in
-        after_name n (after_gap g colon) (gap_named g colon refl)
+        let more = after_gap k (after_value x h) in
+        let colon = after_mark 0x3A refl more in
+        after_name n (after_gap g colon) (gap_named g colon (colon_named more))
 
   none_after : Has []
   none_after = record { tail = []; pieces = []; parts = no_more stop; named = tt }
 
-  pub document_has : (t : List ℕ) (v : Option Plain) → IsDocument o t v → Has t
+  document_has : (t : List ℕ) (v : Option Plain) → IsDocument o t v → Has t
   document_has t None g = after_gap g none_after
   document_has t (Some v) (u, r, g, x, k) = after_gap g (after_value x (after_gap k none_after))
 
 pub document_pieces : (o : Options) (t : List ℕ) (v : Option Plain) → IsDocument o t v → (tail : List ℕ) × (ps : List Piece) × IsPieces o tail t ps × Named ps
-document_pieces o t v d = let h = document_has t v d in (h.tail, h.pieces, h.parts, h.named)
+document_pieces o t v d = let h = document_has o t v d in (h.tail, h.pieces, h.parts, h.named)

@@ -4,7 +4,7 @@ use Rattle.jsonc_text.specs.Options.{Options}
 use Rattle.jsonc_text.specs.Text.{rest}
 use Rattle.jsonc_text.specs.Lexemes.{Scanned}
 use Rattle.jsonc_scan.specs.declared.scanner.Scanner.{Scanner}
-use Rattle.jsonc_scan.specs.Scanner.{PassesBlanks, IsThere}
+use Rattle.jsonc_scan.specs.Scanner.{start_of, end_of, PassesBlanks, IsThere}
 use Rattle.jsonc_format.specs.declared.class.Class.{Class}
 use Rattle.jsonc_format.specs.Classes.{IsOf, opens_by, closes_by}
 use Rattle.jsonc_format.specs.Format.{Piece, IsPieces, opens, closes}
@@ -12,7 +12,7 @@ use Rattle.jsonc_format.specs.Pieces.{IsReadAt, piece_at}
 use Rattle.jsonc_format.specs.Styles.{or_else, first_end, line_end_of, last_line, is_empty, tells_level, depth_after, level_of}
 use Rattle.jsonc_format.specs.Wishes.{IsLineEndOf, IsLevelOf}
 use Rattle.jsonc_format.proofs.Steps.{Front, read_front}
-use Rattle.jsonc_format.proofs.Reading.{IsAt, none_left}
+use Rattle.jsonc_format.proofs.Reading.{IsAt, none_left, read_to, gap_to_end}
 
 -- the pieces that are left tell the same
 pub record Telling (o : Options) (bytes tail : List ℕ) (place : ℕ) (tells : List Piece → List ℕ) (told : List ℕ) : Type 0 where
@@ -64,9 +64,9 @@ few_more true cl depth from end h k = omega (arith, h, k)
 few_more false true depth from end h k = omega (arith, h, k)
 few_more false false depth from end h k = omega (arith, h, k)
 
-pub no_level_next : (o : Options) (bytes gap : List ℕ) (from begin end depth : ℕ) (class : Class) (w : Scanned) → IsUtf8 bytes → NoLevel o bytes from depth → IsReadAt o bytes from begin end w → begin < end
+pub no_level_next : (o : Options) (bytes : List ℕ) (from begin end depth : ℕ) (class : Class) (w : Scanned) → IsUtf8 bytes → NoLevel o bytes from depth → IsReadAt o bytes from begin end w → begin < end
     → IsOf class w → tells_level depth (last_line (chars (slice_range bytes from begin))) ≡ false → NoLevel o bytes end (depth_after (opens_by class) (closes_by class) depth)
-no_level_next o bytes gap from begin end depth class w u n r l c d = record {
+no_level_next o bytes from begin end depth class w u n r l c d = record {
   few = few_more (opens_by class) (closes_by class) depth from end n.few (omega (arith, r.gap.order, l));
   goes = λ tail ps h.
       let t = n.goes tail ps h in
@@ -96,3 +96,12 @@ module _ {A : Type 0} where
       let t = n.goes tail ps h in
       let none = none_left o bytes tail old new from t.pieces a b q t.parts in
       sym (t.same ∙ ap (level_of depth) none.0)
+
+-- an end of a line is found before a piece or before the end of the text
+module _ {A : Type 0} where
+  pub end_found : (o : Options) (bytes gap : List ℕ) (from begin : ℕ) (old new : Scanner A) (f : Option Scanned) (s : List ℕ) → IsUtf8 bytes → NoEnd o bytes from → IsAt o bytes old from → PassesBlanks old new
+      → IsThere new f → begin ≡ start_of new → gap ≡ slice_range bytes from begin → ((other : List ℕ) → first_end (chars gap) other ≡ s) → IsLineEndOf o bytes s
+  end_found o bytes gap from begin old new (Some w) s u n a b t i e f =
+      end_here o bytes gap from begin (end_of new) w s u n (read_to o bytes old new from begin (end_of new) w a b t i refl) e f
+  end_found o bytes gap from begin old new None s u n a b t i e f =
+      end_last o bytes gap from old new s n a b t (ap chars e ∙ gap_to_end o bytes old new from begin u a b t i) (f (0x0A ∷ []))

@@ -20,3 +20,8 @@ pub mod Leading
 pub mod Wholes
 pub mod Apart
 pub mod Sounds
+pub mod Endings
+pub mod Trims
+pub mod Same
+pub mod Proper
+pub mod Documents

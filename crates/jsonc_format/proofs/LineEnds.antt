@@ -118,7 +118,7 @@ one_lt n = grind arith
 
 count_lines : (s : List ℕ) → nat_lt 0 (lines s) ≡ not (in_line s)
 count_lines [] = refl
-count_lines (c ∷ s) = each (c == 0x0A) (c == 0x0D) (no (λ d. d == 0x0A) (next s)) (in_line s) (count_lines s) (after_return s)
+count_lines (c ∷ s) = each (c == 0x0A) (c == 0x0D) (no (λ d. d == 0x0A) (next s)) (in_line s) (lines s) (count_lines s) (after_return s)
   where
     after_return : (s : List ℕ) → no (λ d. d == 0x0A) (next s) ≡ false → nat_lt 0 (lines s) ≡ true
     after_return [] h = cc
@@ -128,11 +128,11 @@ count_lines (c ∷ s) = each (c == 0x0A) (c == 0x0D) (no (λ d. d == 0x0A) (next
         by_feed true h = some_lt (lines s)
         by_feed false h = cc
 
-    each : (x y w z : Bool) {n : ℕ} → nat_lt 0 n ≡ not z → (w ≡ false → nat_lt 0 n ≡ true) → nat_lt 0 (if x || (y && w) then suc n else n) ≡ not (not (x || y) && z)
-    each true y w z {n} h f = some_lt n
-    each false true true z {n} h f = some_lt n
-    each false true false z h f = f refl
-    each false false w z h f = h
+    each : (x y w z : Bool) (n : ℕ) → nat_lt 0 n ≡ not z → (w ≡ false → nat_lt 0 n ≡ true) → nat_lt 0 (if x || (y && w) then suc n else n) ≡ not (not (x || y) && z)
+    each true y w z n h f = some_lt n
+    each false true true z n h f = some_lt n
+    each false true false z n h f = f refl
+    each false false w z n h f = h
 
 -- more than one line ends where one does after the first one
 pub ends_again : (bytes : List ℕ) (r next_place : ℕ) → Many stays (chars bytes) (rest bytes r) → LacksAt stays bytes r → IsPastLine bytes r next_place
@@ -187,9 +187,9 @@ pub first_feed : (bytes : List ℕ) (r : ℕ) → IsUtf8 bytes → IsCharBoundar
 first_feed bytes r u b i m l n other = first_past m other ∙ by_rest (rest bytes r) refl
   where
     each : (x y : Bool) (a d : List ℕ) → IsTrue (x || y) → IsTrue (not y) → (if x then 0x0A ∷ [] else (if y then a else d)) ≡ 0x0A ∷ []
-    each true y h k = refl
-    each false true h k = cc
-    each false false h k = cc
+    each true y a d h k = refl
+    each false true a d h k = cc
+    each false false a d h k = cc
 
     by_rest : (s : List ℕ) → rest bytes r ≡ s → first_end (rest bytes r) other ≡ 0x0A ∷ []
     by_rest [] e = absurd (i (end_place bytes r u b e))

@@ -23,6 +23,10 @@ pub record Left (o : Options) (y : Style) (bytes tail : List ℕ) (ps : List Pie
   pub flags : flat ≡ flats pieces
   pub same : layout y ps ≡ out ++ layout_by begun y s pieces
 
+no_more_layout : (begun : Bool) (y : Style) (s : State) → layout_by begun y s [] ≡ last_line_end begun y.line_end
+no_more_layout true y s = refl
+no_more_layout false y s = refl
+
 module _ {A : Type 0} where
   pub record Going (o : Options) (y : Style) (bytes : List ℕ) (flat : List Bool) (place : ℕ) (out : List ℕ) (t : Track A) : Type 0 where
     pub goes : (tail : List ℕ) (ps : List Piece) → IsPieces o tail (chars bytes) ps → flat ≡ flats ps → Left o y bytes tail ps place out t.begun (track_state t) t.flat.now
@@ -57,10 +61,6 @@ module _ {A : Type 0} where
               ∙ sym (append_assoc was here others) ∙ ap (λ t. t ++ others) (sym puts.text) ∙ ap (λ k. now ++ layout_by k y (after y s w front.others) front.others) (sym puts.passed.begun) ∙ ap (λ z. now ++ layout_by new.begun y z front.others) (sym puts.passed.state);
         };
   }
-
-  no_more_layout : (begun : Bool) (y : Style) (s : State) → layout_by begun y s [] ≡ last_line_end begun y.line_end
-  no_more_layout true y s = refl
-  no_more_layout false y s = refl
 
   pub going_end : (o : Options) (y : Style) (bytes : List ℕ) (flat : List Bool) (place : ℕ) (out whole : List ℕ) (t : Track A) (old new : Scanner A) → Going o y bytes flat place out t
       → IsAt o bytes old place → PassesBlanks old new → IsThere new None → whole ≡ out ++ last_line_end t.begun y.line_end → IsPrinted o y bytes flat whole

@@ -1,12 +1,12 @@
 -- Where a scanner is in a text.
-use Rattle.std.proofs.Common.{ℕ, ◌≡◌, ◌∙◌, ◌≤◌, ◌<◌, ◌-◌, sym, ap, refl, subst, List, [], ◌∷◌, ◌++◌, IsTrue, IsUtf8, IsCharBoundary, chars, length, arith, Option, Some, None, Result, Ok, Err, IfErr, IfOk}
+use Rattle.std.proofs.Common.{ℕ, ◌≡◌, ◌∙◌, ◌≤◌, ◌<◌, ◌-◌, sym, ap, refl, subst, List, [], ◌∷◌, ◌++◌, IsTrue, IsUtf8, IsCharBoundary, chars, slice_range, append-nil, length, arith, Option, Some, None, Result, Ok, Err, IfErr, IfOk}
 use Rattle.std.proofs.lemmas.Str.{IsCharBoundary-start}
 use Rattle.jsonc_text.specs.Options.{Options}
 use Rattle.jsonc_text.specs.Text.{rest, Many, Spans}
 use Rattle.jsonc_text.specs.Gaps.{is_blank}
 use Rattle.jsonc_text.specs.Lexemes.{Scanned, IsScanned}
 use Rattle.jsonc_text.proofs.CharacterSteps.{rest_end}
-use Rattle.jsonc_text.proofs.Cuts.{end_place}
+use Rattle.jsonc_text.proofs.Cuts.{end_place, chars_between}
 use Rattle.jsonc_scan.specs.declared.scanner.Scanner.{Scanner}
 use Rattle.jsonc_scan.specs.Scanner.{text_of, options_of, start_of, end_of, left, PassesBlanks, IsThere, GoesOn, NothingStands}
 use Rattle.jsonc_format.specs.Format.{Piece, IsPieces}
@@ -20,6 +20,12 @@ pub moved_three : {A B C : Type 0} (P : A → B → C → Type 0) {a x : A} {b y
 moved_three P {a} {x} {b} {y} {c} {z} e f g h = subst (λ c. P x y c) g (subst (λ b. P x b c) f (subst (λ a. P a b c) e h))
 
 module _ {A : Type 0} where
+  -- the scanner is at a place
+  pub record IsPlaced (o : Options) (bytes : List ℕ) (s : Scanner A) (place : ℕ) : Type 0 where
+    pub text : text_of s ≡ bytes
+    pub options : options_of s ≡ o
+    pub end : end_of s ≡ place
+
   -- the scanner is at a place, and where there are pieces of the text, there are some from there on
   pub record IsAt (o : Options) (bytes : List ℕ) (s : Scanner A) (place : ℕ) : Type 0 where
     pub text : text_of s ≡ bytes
@@ -30,9 +36,12 @@ module _ {A : Type 0} where
   pub at_start : (o : Options) (bytes : List ℕ) (s : Scanner A) → text_of s ≡ bytes → options_of s ≡ o → end_of s ≡ 0 → IsAt o bytes s 0
   at_start o bytes s t p e = record { text = t; options = p; end = e; none = λ h. h }
 
-  pub read_here : (o : Options) (bytes : List ℕ) (old new : Scanner A) (place : ℕ) (w : Scanned) → IsAt o bytes old place → PassesBlanks old new → IsThere new (Some w)
+  pub placed : (o : Options) (bytes : List ℕ) (s : Scanner A) (place : ℕ) → IsAt o bytes s place → IsPlaced o bytes s place
+  placed o bytes s place h = record { text = h.text; options = h.options; end = h.end }
+
+  pub placed_read : (o : Options) (bytes : List ℕ) (old new : Scanner A) (place : ℕ) (w : Scanned) → IsPlaced o bytes old place → PassesBlanks old new → IsThere new (Some w)
       → IsReadAt o bytes place (start_of new) (end_of new) w
-  read_here o bytes old new place w h b t =
+  placed_read o bytes old new place w h b t =
       let same : text_of new ≡ bytes = b.text ∙ h.text in
       let options : options_of new ≡ o = b.options ∙ h.options in
       record {
@@ -49,6 +58,10 @@ module _ {A : Type 0} where
         blanks = subst (λ t. Many is_blank (rest bytes place) (rest t (start_of new))) same (moved (λ t n. Many is_blank (rest t n) (rest (text_of new) (start_of new))) h.text h.end b.blanks);
         scanned = moved (λ o t. IsScanned o w (rest t (start_of new)) (rest t (end_of new))) options same t.1;
       }
+
+  pub read_here : (o : Options) (bytes : List ℕ) (old new : Scanner A) (place : ℕ) (w : Scanned) → IsAt o bytes old place → PassesBlanks old new → IsThere new (Some w)
+      → IsReadAt o bytes place (start_of new) (end_of new) w
+  read_here o bytes old new place w h b t = placed_read o bytes old new place w (placed o bytes old place h) b t
 
   pub at_next : (o : Options) (bytes : List ℕ) (old new : Scanner A) (place : ℕ) (w : Scanned) → IsUtf8 bytes → IsAt o bytes old place → PassesBlanks old new → IsThere new (Some w)
       → IsAt o bytes new (end_of new)
@@ -68,12 +81,16 @@ module _ {A : Type 0} where
   read_to o bytes old new place begin end w h b t s e = moved (λ i j. IsReadAt o bytes place i j w) (sym s) (sym e) (read_here o bytes old new place w h b t)
 
   -- none is left
-  pub none_left : (o : Options) (bytes tail : List ℕ) (old new : Scanner A) (place : ℕ) (ps : List Piece) → IsAt o bytes old place → PassesBlanks old new → IsThere new None
+  pub placed_none : (o : Options) (bytes tail : List ℕ) (old new : Scanner A) (place : ℕ) (ps : List Piece) → IsPlaced o bytes old place → PassesBlanks old new → IsThere new None
       → IsPieces o tail (rest bytes place) ps → (ps ≡ []) × (rest bytes place ≡ tail)
-  none_left o bytes tail old new place ps h b t p =
+  placed_none o bytes tail old new place ps h b t p =
       let same : text_of new ≡ bytes = b.text ∙ h.text in
       let end : rest (text_of new) (start_of new) ≡ [] = ap (rest (text_of new)) t.0 ∙ rest_end (text_of new) (length (text_of new)) (omega arith) in
       no_front p (subst (λ t. Many is_blank (rest bytes place) t) end (moved (λ t n. Many is_blank (rest t n) (rest (text_of new) (start_of new))) h.text h.end b.blanks))
+
+  pub none_left : (o : Options) (bytes tail : List ℕ) (old new : Scanner A) (place : ℕ) (ps : List Piece) → IsAt o bytes old place → PassesBlanks old new → IsThere new None
+      → IsPieces o tail (rest bytes place) ps → (ps ≡ []) × (rest bytes place ≡ tail)
+  none_left o bytes tail old new place ps h b t p = placed_none o bytes tail old new place ps (placed o bytes old place h) b t p
 
   pub no_pieces : (o : Options) (bytes : List ℕ) (s : Scanner A) (place : ℕ) → IsAt o bytes s place → HasNoPieces (options_of s) (left s) → HasNoPieces o (chars bytes)
   no_pieces o bytes s place h n = h.none (moved_three (λ o t k. HasNoPieces o (rest t k)) h.options h.text h.end n)
@@ -87,6 +104,23 @@ module _ {A : Type 0} where
   pub smaller_place : (o : Options) (bytes : List ℕ) (old new : Scanner A) (place end : ℕ) (w : Scanned) → IsAt o bytes old place → PassesBlanks old new → IsThere new (Some w) → end ≡ end_of new
       → length bytes - end < length bytes - place
   smaller_place o bytes old new place end w h b t e = subst (λ n. length bytes - n < length bytes - place) (sym e) (smaller o bytes old new place w h b t)
+
+  pub read_some : (new : Scanner A) (begin end : ℕ) (w : Scanned) → begin ≡ start_of new → end ≡ end_of new → IsThere new (Some w) → begin < end
+  read_some new begin end w b e t = omega (arith, b, e, t.0)
+
+  -- the blanks at the end of the text
+  pub gap_to_end : (o : Options) (bytes : List ℕ) (old new : Scanner A) (place begin : ℕ) → IsUtf8 bytes → IsAt o bytes old place → PassesBlanks old new → IsThere new None → begin ≡ start_of new
+      → chars (slice_range bytes place begin) ≡ rest bytes place
+  gap_to_end o bytes old new place begin u h b t e =
+      let same : text_of new ≡ bytes = b.text ∙ h.text in
+      let gap : Spans bytes place (start_of new) = record {
+        from = moved IsCharBoundary h.text h.end old.at_place;
+        to = subst (λ t. IsCharBoundary t (start_of new)) same new.starts_at_place;
+        order = subst (λ n. n ≤ start_of new) h.end b.order.0;
+      } in
+      let last : start_of new ≡ length bytes = t.0 ∙ ap length same in
+      let none : rest bytes (start_of new) ≡ [] = ap (rest bytes) last ∙ rest_end bytes (length bytes) (omega arith) in
+      ap (λ n. chars (slice_range bytes place n)) e ∙ sym (append-nil (chars (slice_range bytes place (start_of new)))) ∙ ap (λ s. chars (slice_range bytes place (start_of new)) ++ s) (sym none) ∙ sym (chars_between bytes place (start_of new) u gap)
 
   -- a scanner that stopped without a lexeme or comment
   pub stopped_here : (old new : Scanner A) → IsUtf8 (text_of new) → PassesBlanks old new → NothingStands new → GoesOn new → HasNoPieces (options_of old) (left old)

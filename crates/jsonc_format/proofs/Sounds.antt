@@ -24,7 +24,7 @@ abbrev pub trimmed_pieces : List Piece → List Piece
 trimmed_pieces [] = []
 trimmed_pieces (p ∷ ps) = trim p ∷ trimmed_pieces ps
 
-many_take : {q : ℕ → Bool} (n : ℕ) {s : List ℕ} → Many q s [] → Many q (take n s) []
+pub many_take : {q : ℕ → Bool} (n : ℕ) {s : List ℕ} → Many q s [] → Many q (take n s) []
 many_take zero m = stop
 many_take (suc n) stop = stop
 many_take (suc n) (step h m) = step h (many_take n m)
@@ -75,19 +75,16 @@ breaks_trimmed o (piece p {u = v} g x e l) n = by_gap p.gap p.what p.text x (rw 
 
 pub sound_pieces : (o : Options) {tail t : List ℕ} {ps : List Piece} → IsPieces o tail t ps → Named ps → Sound o (trimmed_pieces ps)
 sound_pieces o (no_more h) n = none
-sound_pieces o (piece p {u = u} {ps = ps} g x e l) n = by_kind p.gap p.what p.text x n.0
+sound_pieces o (piece p {u = u} {ps = ps} g x e l) n = by_kind p.gap p.what p.text x n.0 (sound_pieces o l n.1)
   where
-    others : Sound o (trimmed_pieces ps)
-    others = sound_pieces o l n.1
-
-    by_kind : (gap : List ℕ) (w : Scanned) (s : List ℕ) → IsScanned o w (s ++ u) u → IsTrue (word_named w ps) → Sound o (trim (record { gap = gap; what = w; text = s }) ∷ trimmed_pieces ps)
-    by_kind gap (lexeme (LexemeKind.string v)) s x k = let a = scanned_alone o (lexeme (LexemeKind.string v)) s u x in some _ u a.0 a.1 refl refl others
-    by_kind gap (lexeme (LexemeKind.number v)) s x k = let a = scanned_alone o (lexeme (LexemeKind.number v)) s u x in some _ u a.0 a.1 refl refl others
-    by_kind gap (lexeme (LexemeKind.word v)) s x k = let a = scanned_alone o (lexeme (LexemeKind.word v)) s u x in some _ u a.0 a.1 refl (names_trimmed ps k) others
-    by_kind gap (lexeme (LexemeKind.keyword v)) s x k = let a = scanned_alone o (lexeme (LexemeKind.keyword v)) s u x in some _ u a.0 a.1 refl refl others
-    by_kind gap (lexeme (LexemeKind.punctuation v)) s x k = let a = scanned_alone o (lexeme (LexemeKind.punctuation v)) s u x in some _ u a.0 a.1 refl refl others
-    by_kind gap (block_comment c) s x k = let a = scanned_alone o (block_comment c) s u x in some _ u a.0 a.1 refl refl others
-    by_kind gap (line_comment c) s x k =
+    by_kind : (gap : List ℕ) (w : Scanned) (s : List ℕ) → IsScanned o w (s ++ u) u → IsTrue (word_named w ps) → Sound o (trimmed_pieces ps) → Sound o (trim (record { gap = gap; what = w; text = s }) ∷ trimmed_pieces ps)
+    by_kind gap (lexeme (LexemeKind.string v)) s x k others = let a = scanned_alone o (lexeme (LexemeKind.string v)) s u x in some _ u a.0 a.1 refl refl others
+    by_kind gap (lexeme (LexemeKind.number v)) s x k others = let a = scanned_alone o (lexeme (LexemeKind.number v)) s u x in some _ u a.0 a.1 refl refl others
+    by_kind gap (lexeme (LexemeKind.word v)) s x k others = let a = scanned_alone o (lexeme (LexemeKind.word v)) s u x in some _ u a.0 a.1 refl (names_trimmed ps k) others
+    by_kind gap (lexeme (LexemeKind.keyword v)) s x k others = let a = scanned_alone o (lexeme (LexemeKind.keyword v)) s u x in some _ u a.0 a.1 refl refl others
+    by_kind gap (lexeme (LexemeKind.punctuation v)) s x k others = let a = scanned_alone o (lexeme (LexemeKind.punctuation v)) s u x in some _ u a.0 a.1 refl refl others
+    by_kind gap (block_comment c) s x k others = let a = scanned_alone o (block_comment c) s u x in some _ u a.0 a.1 refl refl others
+    by_kind gap (line_comment c) s x k others =
         let a = scanned_alone o (line_comment c) s u x in
         let b = line_trimmed o c s a.0 in
         some _ u b.0 a.1 b.1 (breaks_trimmed o l a.1) others

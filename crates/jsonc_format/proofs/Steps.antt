@@ -19,7 +19,7 @@ pub record Front (o : Options) (tail : List ℕ) (p : Piece) (v : List ℕ) (ps 
   pub same : ps ≡ p ∷ others
   pub parts : IsPieces o tail v others
 
-front : {o : Options} {tail t : List ℕ} {ps : List Piece} → IsPieces o tail t ps → (w : Scanned) (g s v : List ℕ) → Many is_blank g [] → IsScanned o w (s ++ v) v → t ≡ g ++ (s ++ v)
+pub front : {o : Options} {tail t : List ℕ} {ps : List Piece} → IsPieces o tail t ps → (w : Scanned) (g s v : List ℕ) → Many is_blank g [] → IsScanned o w (s ++ v) v → t ≡ g ++ (s ++ v)
     → Front o tail (made g w s) v ps
 front {o} (no_more h) w g s v k x e = absurd (no_piece o w s v h k x e)
 front {o} {tail} {t} (piece p {u = u} g x e l) w h s v k y f =

@@ -62,10 +62,10 @@ pub trimmed : (s : List ℕ) → drop_trailing_whitespace s ≡ kept s
 trimmed [] = refl
 trimmed (c ∷ s) = ap (λ t. cond (is_blank c && length t == 0) [] (c ∷ t)) (trimmed s) ∙ sym (kept_step c s)
 
+again_by : (c : ℕ) (s : List ℕ) → kept (kept s) ≡ kept s → (b : Bool) → (is_blank c && length (kept s) == 0) ≡ b → kept (cond b [] (c ∷ kept s)) ≡ cond b [] (c ∷ kept s)
+again_by c s h true e = refl
+again_by c s h false e = kept_step c (kept s) ∙ ap (λ t. cond (is_blank c && length t == 0) [] (c ∷ t)) h ∙ rw e refl
+
 pub kept_again : (s : List ℕ) → kept (kept s) ≡ kept s
 kept_again [] = refl
-kept_again (c ∷ s) = rw (kept_step c s) (each (is_blank c && length (kept s) == 0) refl)
-  where
-    each : (b : Bool) → (is_blank c && length (kept s) == 0) ≡ b → kept (cond b [] (c ∷ kept s)) ≡ cond b [] (c ∷ kept s)
-    each true e = refl
-    each false e = kept_step c (kept s) ∙ ap (λ t. cond (is_blank c && length t == 0) [] (c ∷ t)) (kept_again s) ∙ rw e refl
+kept_again (c ∷ s) = rw (kept_step c s) (again_by c s (kept_again s) (is_blank c && length (kept s) == 0) refl)

@@ -31,13 +31,17 @@ made g w s = record { gap = g; what = w; text = s }
 pub made_same : {g h s u : List ℕ} {w v : Scanned} {ps qs : List Piece} → g ≡ h → w ≡ v → s ≡ u → ps ≡ qs → made g w s ∷ ps ≡ made h v u ∷ qs
 made_same a b c d = cc
 
-pub pieces_unique : {o : Options} {end1 end2 t : List ℕ} {ps qs : List Piece} → IsPieces o end1 t ps → IsPieces o end2 t qs → ps ≡ qs
-pieces_unique (no_more h) (no_more k) = refl
-pieces_unique {o} (no_more h) (piece q g x e l) = absurd (no_piece o q.what q.text _ h g x e)
-pieces_unique {o} (piece p g x e l) (no_more h) = absurd (no_piece o p.what p.text _ h g x e)
-pieces_unique {o} {end1} {end2} {t} (piece p {u = u} g x e l) (piece q {u = v} h y f m) =
+pub pieces_and_tails : {o : Options} {end1 end2 t : List ℕ} {ps qs : List Piece} → IsPieces o end1 t ps → IsPieces o end2 t qs → (ps ≡ qs) × (end1 ≡ end2)
+pieces_and_tails (no_more h) (no_more k) = (refl, refl)
+pieces_and_tails {o} (no_more h) (piece q g x e l) = absurd (no_piece o q.what q.text _ h g x e)
+pieces_and_tails {o} (piece p g x e l) (no_more h) = absurd (no_piece o p.what p.text _ h g x e)
+pieces_and_tails {o} {end1} {end2} {t} (piece p {u = u} g x e l) (piece q {u = v} h y f m) =
     let a : p.text ++ u ≡ q.text ++ v = many_unique (to_piece e g) (to_piece f h)
     (starts_no (next (p.text ++ u)) (scanned_no_blank o p.what (p.text ++ u) u x))
     (starts_no (next (q.text ++ v)) (scanned_no_blank o q.what (q.text ++ v) v y)) in
     let b = scanned_unique o p.what q.what (p.text ++ u) u v x (rw (← a) at y) in
-    made_same (front_same a (sym e ∙ f)) b.0 (front_same b.1 a) (pieces_unique l (rw (← b.1) at m))
+    let others = pieces_and_tails l (rw (← b.1) at m) in
+    (made_same (front_same a (sym e ∙ f)) b.0 (front_same b.1 a) others.0, others.1)
+
+pub pieces_unique : {o : Options} {end1 end2 t : List ℕ} {ps qs : List Piece} → IsPieces o end1 t ps → IsPieces o end2 t qs → ps ≡ qs
+pieces_unique h k = (pieces_and_tails h k).0

@@ -58,11 +58,11 @@ module _ (y : Style) (proper : IsProper y) where
       let g = gap_in y s s.around p ps in
       piece (record p { gap = g }) (gap_blank s s.around p ps) x (ap (λ t. g ++ (t ++ layout_after y z ps)) e) (pieces_after o z ps h)
 
-  abbrev tail_of : List Piece → List ℕ
+  abbrev pub tail_of : List Piece → List ℕ
   tail_of [] = []
   tail_of (p ∷ ps) = y.line_end
 
-  pieces_of_layout : (o : Options) (ps : List Piece) → Apart o y start ps → IsPieces o (tail_of ps) (layout y ps) (respaced y ps)
+  pub pieces_of_layout : (o : Options) (ps : List Piece) → Apart o y start ps → IsPieces o (tail_of ps) (layout y ps) (respaced y ps)
   pieces_of_layout o [] h = no_more stop
   pieces_of_layout o (p ∷ ps) (e, x, h) =
       let z = after y start p.what ps in
@@ -80,7 +80,7 @@ module _ (y : Style) (proper : IsProper y) where
   marks_after s [] = refl
   marks_after s (p ∷ ps) = ap (cons_option (mark_of p.what p.text)) (marks_after (after y s p.what ps) ps)
 
-  marks_respaced : (ps : List Piece) → marks_of (respaced y ps) ≡ marks_of ps
+  pub marks_respaced : (ps : List Piece) → marks_of (respaced y ps) ≡ marks_of ps
   marks_respaced [] = refl
   marks_respaced (p ∷ ps) = ap (cons_option (mark_of p.what p.text)) (marks_after (after y start p.what ps) ps)
 

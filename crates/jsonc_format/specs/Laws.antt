@@ -1,10 +1,14 @@
 -- What the laws of formatted texts speak of.
-use Rattle.std.specs.Prelude.{ℕ, zero, suc, ◌≡◌, Bool, true, false, not, ◌&&◌, ◌||◌, List, [], ◌∷◌, ◌++◌}
-use Rattle.std.specs.List.{cons_option}
+use Rattle.std.specs.Prelude.{ℕ, zero, suc, ◌≡◌, ◌-◌, Bool, true, false, not, ◌&&◌, ◌||◌, List, [], ◌∷◌, ◌++◌, length, take, Option}
+use Rattle.std.specs.List.{suffix_len, cons_option}
 use Rattle.jsonc_text.specs.Options.{Options}
-use Rattle.jsonc_text.specs.Lexemes.{IsScanned}
+use Rattle.jsonc_text.specs.Gaps.{is_blank}
+use Rattle.jsonc_text.specs.Lexemes.{Scanned, line_comment, IsScanned}
+use Rattle.jsonc_text.specs.Grammar.{IsDocument}
+use Rattle.jsonc_text.specs.Plain.{Plain}
 use Rattle.jsonc_text.specs.Marks.{Mark, MarksTo, mark_of}
-use Rattle.jsonc_format.specs.Format.{Style, State, Frame, Piece, closes, is_last, left_open, on_one_line, gap_in, after, start, written, layout_after, layout, IsFormatted}
+use Rattle.jsonc_format.specs.Format.{Style, State, Frame, Piece, IsPieces, closes, is_last, left_open, on_one_line, gap_in, after, start, written, layout_after, layout, IsFormatted}
+use Rattle.jsonc_format.specs.Styles.{IsProper}
 
 -- the marks of pieces, in order
 abbrev pub marks_of : List Piece → List Mark
@@ -71,3 +75,35 @@ IsItsOwn o y text formatted = (f : IsFormatted o y text formatted) → Apart o y
 abbrev pub KeepsMarks : Options → Style → List ℕ → List ℕ → Type 0
 KeepsMarks o y text formatted = (f : IsFormatted o y text formatted) → Apart o y start f.pieces
     → MarksTo o [] text (marks_of f.pieces) × MarksTo o [] formatted (marks_of f.pieces)
+
+-- a line comment without the blanks that end it; all else as it is
+abbrev pub ended : Scanned → Scanned
+ended (line_comment s) = line_comment (take (length s - suffix_len is_blank s) s)
+ended w = w
+
+-- what is written of a piece, without the blanks before it
+abbrev pub content : Scanned → List ℕ → Piece
+content w s = record { gap = []; what = ended w; text = written w s }
+
+-- of pieces in their order
+abbrev pub contents : List Piece → List Piece
+contents [] = []
+contents (p ∷ ps) = content p.what p.text ∷ contents ps
+
+-- a text has pieces with these contents
+pub record HasContents (o : Options) (t : List ℕ) (cs : List Piece) : Type 0 where
+  pub tail : List ℕ
+  pub pieces : List Piece
+  pub parts : IsPieces o tail t pieces
+  pub same : contents pieces ≡ cs
+
+-- the formatted text of a document is a document with its value and its marks, has the contents of its pieces, and is its own formatted text
+pub record KeepsDocument (o : Options) (y : Style) (text formatted : List ℕ) (v : Option Plain) : Type 0 where
+  pub value : IsDocument o formatted v
+  pub marks : (ms : List Mark) × MarksTo o [] text ms × MarksTo o [] formatted ms
+  pub blanks : (cs : List Piece) × HasContents o text cs × HasContents o formatted cs
+  pub again : IsFormatted o y formatted formatted
+
+-- the second text is the first one formatted in some style, whose lines end as lines do and whose indents are blanks
+abbrev pub HasStyle : Options → List ℕ → List ℕ → Type 0
+HasStyle o text formatted = (y : Style) × IsProper y × IsFormatted o y text formatted

@@ -1,5 +1,5 @@
 //! A text, formatted.
-ghost use Rattle.std.specs.Prelude.{IfOk, IfErr, chars};
+ghost use Rattle.std.specs.Prelude.{IfOk, IfErr, chars, true};
 ghost use Rattle.jsonc_text.specs.Faults.{IsFault};
 ghost use Rattle.jsonc_text.specs.OptionsOf.{parse_options};
 ghost use Rattle.jsonc_walk.specs.Faults.{ParseFault};

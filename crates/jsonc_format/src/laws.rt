@@ -1,10 +1,14 @@
 //! Laws of formatted texts.
-ghost use Rattle.std.specs.Prelude.{◌≡◌, List, [], ℕ};
+ghost use Rattle.std.specs.Prelude.{◌≡◌, List, [], ℕ, Option};
 ghost use Rattle.jsonc_text.specs.Options.{Options};
+ghost use Rattle.jsonc_text.specs.Grammar.{IsDocument};
+ghost use Rattle.jsonc_text.specs.Plain.{Plain};
 ghost use Rattle.jsonc_text.specs.Marks.{MarksTo};
+ghost use Rattle.jsonc_format.specs.declared.style.Style as asked;
 ghost use Rattle.jsonc_format.specs.Format.{Style, State, IsFormatted, Piece, IsPieces};
-ghost use Rattle.jsonc_format.specs.Styles.{IsProper, IsWrittenAgain};
-ghost use Rattle.jsonc_format.specs.Laws.{BecomesTheSame, IsItsOwn, KeepsMarks, marks_of};
+ghost use Rattle.jsonc_format.specs.Styles.{IsProper, IsWrittenAgain, IsFormattedAs, Wish};
+ghost use Rattle.jsonc_format.specs.Wishes.{wish_of};
+ghost use Rattle.jsonc_format.specs.Laws.{BecomesTheSame, HasStyle, IsItsOwn, KeepsDocument, KeepsMarks, marks_of};
 
 /// A text has at most one formatted text of a style.
 pub fn one_text()
@@ -34,4 +38,20 @@ pub fn formatted_texts_stay()
 /// Such a text has the marks of the text that it was made from.
 pub fn formatting_keeps_the_marks()
     ensures { (o : Options) (y : Style) (t f : List ℕ) → IsProper y → KeepsMarks o y t f }
+{}
+
+/// A text has at most one formatted text of what is asked for.
+pub fn one_text_as_asked()
+    ensures { (o : Options) (wish : Wish) (t r s : List ℕ) → IsFormattedAs o wish t r → IsFormattedAs o wish t s → r ≡ s }
+{}
+
+/// What is formatted as a caller asks is formatted in a style whose lines end as lines do and whose indents are blanks.
+pub fn styles_are_proper()
+    ensures { (o : Options) (s : asked.Style) (t f : List ℕ) → IsFormattedAs o (wish_of s) t f → HasStyle o t f }
+{}
+
+/// The formatted text of a document is a document of the same options with the same value and the same marks. Its pieces are those of the
+/// document, but for the blanks before them and those that end line comments, and it is its own formatted text.
+pub fn documents_stay()
+    ensures { (o : Options) (y : Style) (t f : List ℕ) (v : Option Plain) → IsProper y → IsDocument o t v → IsFormatted o y t f → KeepsDocument o y t f v }
 {}
