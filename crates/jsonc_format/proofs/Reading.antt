@@ -1,6 +1,7 @@
 -- Where a scanner is in a text.
-use Rattle.std.proofs.Common.{ℕ, ◌≡◌, ◌∙◌, ◌≤◌, ◌<◌, ◌-◌, sym, ap, refl, subst, List, [], ◌∷◌, ◌++◌, IsTrue, IsUtf8, IsCharBoundary, chars, slice_range, append-nil, length, arith, Option, Some, None, Result, Ok, Err, IfErr, IfOk}
+use Rattle.std.proofs.Common.{ℕ, ◌≡◌, ◌∙◌, ◌≤◌, ◌<◌, ◌-◌, sym, ap, refl, subst, List, [], ◌∷◌, ◌++◌, IsTrue, IsUtf8, IsCharBoundary, chars, slice_range, append-nil, length, arith, Option, Some, None, Result, Ok, Err, IfErr, IfOk, inl, inr}
 use Rattle.std.proofs.lemmas.Str.{IsCharBoundary-start}
+use Rattle.jsonc_text.specs.declared.errors.ParseError.{ParseError}
 use Rattle.jsonc_text.specs.Options.{Options}
 use Rattle.jsonc_text.specs.Text.{rest, Many, Spans}
 use Rattle.jsonc_text.specs.Gaps.{is_blank}
@@ -10,7 +11,7 @@ use Rattle.jsonc_text.proofs.Cuts.{end_place, chars_between}
 use Rattle.jsonc_scan.specs.declared.scanner.Scanner.{Scanner}
 use Rattle.jsonc_scan.specs.Scanner.{text_of, options_of, start_of, end_of, left, PassesBlanks, IsThere, GoesOn, NothingStands}
 use Rattle.jsonc_format.specs.Format.{Piece, IsPieces}
-use Rattle.jsonc_format.specs.Pieces.{HasNoPieces, IsReadAt, piece_at}
+use Rattle.jsonc_format.specs.Pieces.{HasNoPieces, IsReadAt, IsPiecesError, piece_at}
 use Rattle.jsonc_format.proofs.Steps.{Front, read_front, none_here, no_front}
 
 pub moved : {A B : Type 0} (P : A → B → Type 0) {a x : A} {b y : B} → a ≡ x → b ≡ y → P a b → P x y
@@ -94,6 +95,11 @@ module _ {A : Type 0} where
 
   pub no_pieces : (o : Options) (bytes : List ℕ) (s : Scanner A) (place : ℕ) → IsAt o bytes s place → HasNoPieces (options_of s) (left s) → HasNoPieces o (chars bytes)
   no_pieces o bytes s place h n = h.none (moved_three (λ o t k. HasNoPieces o (rest t k)) h.options h.text h.end n)
+
+  -- what is wrong from there on is wrong with the text
+  pub error_from : (o : Options) (bytes : List ℕ) (s : Scanner A) (place : ℕ) (e : ParseError) → IsAt o bytes s place → IsPiecesError o (rest bytes place) e → IsPiecesError o (chars bytes) e
+  error_from o bytes s place e h (inl m) = inl m
+  error_from o bytes s place e h (inr n) = inr (h.none n)
 
   pub smaller : (o : Options) (bytes : List ℕ) (old new : Scanner A) (place : ℕ) (w : Scanned) → IsAt o bytes old place → PassesBlanks old new → IsThere new (Some w)
       → length bytes - end_of new < length bytes - place

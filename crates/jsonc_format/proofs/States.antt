@@ -132,6 +132,15 @@ module _ (y : Style) where
       each false true true other g k u v e a b = rw e refl
       each false false true other g k u v e a b = rw e b
 
+-- what is written of a gap is the gap before the piece
+pub gap_put : (y : Style) (begun : Bool) (inner : Option code.Frame) (outer : List code.Frame) (b : Beside) (c : Class) (lead : Bool) (g : List ℕ) (before : Gap) (p : Piece) (ps : List Piece) → (inner ≡ None → outer ≡ [])
+    → begun ≡ true → before ≡ gap_by inner b (separates_by c) (closes_by c) (in_line g) (nat_lt 1 (lines g)) lead → p.gap ≡ g → IsOf c p.what → (b.comment ≡ false → leads p.what ps ≡ lead)
+    → gap_text y (frames_of inner outer) before ≡ gap_here begun y (state_of (frames_of inner outer) b) p ps
+gap_put y begun inner outer b c lead g before p ps n k e f h l =
+    let around = frames_of inner outer in
+    ap (gap_text y around) e ∙ ap (λ s. gap_text y around (gap_by inner b (separates_by c) (closes_by c) (in_line s) (nat_lt 1 (lines s)) lead)) (sym f) ∙ gap_same y inner outer b c lead p ps n h l
+    ∙ ap (λ x. gap_here x y (state_of around b) p ps) (sym k)
+
 -- a piece that is no comment leads an entry, or does not, by itself
 pub leads_alone : (c : Class) (w : Scanned) (ps : List Piece) → IsOf c w → comments_by c ≡ false → leads w ps ≡ not (closes_by c || separates_by c)
 leads_alone c (lexeme k) ps h e = ap (λ b. not (b || separates (lexeme k))) h.closing ∙ ap (λ b. not (closes_by c || b)) h.separator

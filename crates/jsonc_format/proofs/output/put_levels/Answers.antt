@@ -1,11 +1,5 @@
 use Rattle.std.proofs.Common.{◌∙◌, ap, ◌++◌}
 use Rattle.jsonc_format.proofs.output.put_levels.Goals as goal
 
-pub loop-left-init : goal.loop-left-init
-loop-left-init g c = ?
-
 pub loop-left-preserved : goal.loop-left-preserved
 loop-left-preserved g c = let h = c.loop-left.invariant in ?
-
-pub returns : goal.returns
-returns g c = let h = c.loop-left.invariant in ?
