@@ -25,3 +25,4 @@ pub mod Trims
 pub mod Same
 pub mod Proper
 pub mod Documents
+pub mod Closing

@@ -115,6 +115,7 @@ scalars_left (c ∷ s) h = each (and_both (scalar c) (scalars s) h).0 (scalars_l
     each e f = by_test (is_blank c && length (drop_trailing_whitespace s) == 0) (drop_trailing_whitespace s) e f
 
 pub line_written : (w : Scanned) (bytes short : List ℕ) → IsUtf8 bytes → short ≡ trim_end bytes → is_line_comment w ≡ true → chars short ≡ written w (chars bytes)
+unfolding trim_end
 line_written (lexeme k) bytes short u e h = cc
 line_written (block_comment c) bytes short u e h = cc
 line_written (line_comment c) bytes short u e h = ap chars e ∙ chars-encodes (drop_trailing_whitespace (chars bytes)) (scalars_left (chars bytes) (scalars-chars bytes u)) ∙ trimmed (chars bytes)

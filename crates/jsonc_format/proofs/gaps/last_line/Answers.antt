@@ -10,7 +10,7 @@ pub loop-next-init : goal.loop-next-init
 loop-next-init c = let e = c.stop_place-next.ensures in (search rules, last_begun c.args.gap.now [] c.stop_place-next.result e.passed.boundary e.passed.piece e.stops chars-nil)
 
 pub range_from-line-requires : goal.range_from-line-requires
-range_from-line-requires c = after_end c.args.gap.now c.loop-next.line.now c.loop-next.next c.utf8.gap c.loop-next-test.true c.loop-next.invariant.1
+range_from-line-requires c = λ h. after_end c.args.gap.now c.loop-next.line.now c.loop-next.next c.utf8.gap c.loop-next-test.true c.loop-next.invariant.1
 
 pub stop_place-next-requires-in-loop-next-clause-boundary : goal.stop_place-next-requires-in-loop-next-clause-boundary
 stop_place-next-requires-in-loop-next-clause-boundary c = after_end c.args.gap.now c.loop-next.line.now c.loop-next.next c.utf8.gap c.loop-next-test.true c.loop-next.invariant.1

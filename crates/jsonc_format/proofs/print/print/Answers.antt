@@ -1,11 +1,11 @@
-use Rattle.std.proofs.Common.{Some, None, ◌≡◌, ◌∙◌, ap, sym, refl, subst, inl, inr, chars}
+use Rattle.std.proofs.Common.{Some, None, ◌≡◌, ◌∙◌, ap, sym, refl, subst, inr, chars, IsUtf8}
 use Rattle.jsonc_text.specs.OptionsOf.{parse_options}
 use Rattle.jsonc_scan.specs.Scanner.{IsThere, seen, scanned_seen}
 use Rattle.std.proofs.lemmas.Str.{chars-nil}
 use Rattle.jsonc_format.specs.Writing.{style_in, text_of}
 use Rattle.jsonc_format.proofs.Printed.{going_start, going_next, going_end}
-use Rattle.jsonc_format.proofs.Reading.{at_start, at_place, read_to, smaller_place, error_from}
-use Rattle.jsonc_format.proofs.Results.{if_ok, if_err, ok_here}
+use Rattle.jsonc_format.proofs.Reading.{at_start, at_place, read_to, no_pieces, error_from}
+use Rattle.jsonc_format.proofs.Results.{if_ok, ok_here}
 use Rattle.jsonc_format.proofs.States.{class_told}
 use Rattle.jsonc_format.proofs.print.print.Goals as goal
 
@@ -18,18 +18,30 @@ pieces-init g c =
       going_start o (style_in c.args.layout.now) c.args.text.now c.args.flat.now (text_of c.in-Ok.out) c.new-track.result t.begun t.state t.flat (ap chars c.in-Ok.ensures.bytes ∙ chars-nil),
     )
 
-pub returns-in_default-clause-printed : goal.returns-in_default-clause-printed
-returns-in_default-clause-printed g c =
+pub returns-in_default-found-clause-printed : goal.returns-in_default-found-clause-printed
+returns-in_default-found-clause-printed g c =
     let o = parse_options c.args.options.now in
     let n = c.in_ok-found.ensures in
     let new = c.next_piece.new.scanner in
     let h = c.pieces.invariant in
-    let none = subst (λ f. IsThere new (seen new c.next_piece.new.content f)) c.in_default.is n.found in
+    let none = subst (λ f. IsThere new (seen new c.next_piece.new.content f)) c.in_default-found.is n.found in
     if_ok c.end_with.result c.end_with.ensures.written (λ s e.
     going_end o (style_in c.args.layout.now) c.args.text.now c.args.flat.now c.pieces.from (text_of c.pieces.out) (text_of s) c.pieces.track c.pieces.scanner new h.1 h.0 n.blanks none e)
 
-pub returns-in_default-clause-refused : goal.returns-in_default-clause-refused
-returns-in_default-clause-refused g c = if_err c.end_with.result c.end_with.ensures.memory (λ e m. inl m)
+pub returns-in_err-found-clause-refused : goal.returns-in_err-found-clause-refused
+returns-in_err-found-clause-refused g c =
+    let h = c.pieces.invariant in
+    inr (no_pieces (parse_options c.args.options.now) c.args.text.now c.pieces.scanner c.pieces.from h.0 (c.in_err-found.ensures.none (subst IsUtf8 (sym (c.next_piece.ensures.text ∙ h.0.text)) c.utf8.text)))
+
+pub returns-in_err-put_read-clause-refused : goal.returns-in_err-put_read-clause-refused
+returns-in_err-put_read-clause-refused g c =
+    let o = parse_options c.args.options.now in
+    let n = c.in_ok-found.ensures in
+    let new = c.next_piece.new.scanner in
+    let x = c.next_piece.new.content in
+    let there = subst (λ f. IsThere new (seen new x f)) c.in-Some.is n.found in
+    error_from o c.args.text.now new c.token_end.result _ (at_place o c.args.text.now c.pieces.scanner new c.pieces.from c.token_end.result (scanned_seen new x c.in-Some.kind) c.utf8.text c.pieces.invariant.0 n.blanks there c.token_end.ensures)
+    c.in_err-put_read.ensures.refused
 
 pub put_read-requires-clause-gap : goal.put_read-requires-clause-gap
 put_read-requires-clause-gap g c =
