@@ -85,6 +85,6 @@ pub one_as_asked : (o : Options) (wish : Wish) (t r s : List ℕ) → IsFormatte
 one_as_asked o wish t r s a b =
     let k = pieces_and_tails a.parts b.parts in
     let style : a.style ≡ b.style =
-        same_style (a.fits.ends ∙ ap (λ ps. or_else wish.line_end (line_end_of ps a.tail)) k.0 ∙ ap (λ e. or_else wish.line_end (line_end_of b.pieces e)) k.1 ∙ sym b.fits.ends)
-        (a.fits.level ∙ ap (λ ps. or_else wish.level (level_of 0 ps)) k.0 ∙ sym b.fits.level) (a.fits.expands ∙ sym b.fits.expands) in
+    same_style (a.fits.ends ∙ ap (λ ps. or_else wish.line_end (line_end_of ps a.tail)) k.0 ∙ ap (λ e. or_else wish.line_end (line_end_of b.pieces e)) k.1 ∙ sym b.fits.ends)
+    (a.fits.level ∙ ap (λ ps. or_else wish.level (level_of 0 ps)) k.0 ∙ sym b.fits.level) (a.fits.expands ∙ sym b.fits.expands) in
     a.same ∙ ap (layout a.style) k.0 ∙ ap (λ y. layout y b.pieces) style ∙ sym b.same

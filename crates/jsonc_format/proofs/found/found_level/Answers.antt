@@ -47,5 +47,5 @@ pieces-preserved g c =
     let line = c.last_line-line.ensures ∙ ap (λ s. last_line (chars s)) c.range.ensures.value in (
       at_place o c.args.text.now c.pieces.scanner new c.pieces.from end w c.utf8.text h.0 n.blanks there c.token_end-from.ensures,
       subst (NoLevel o c.args.text.now end) (sym c.depth_after-depth.ensures) (no_level_next o c.args.text.now c.pieces.from begin end c.pieces.depth c.of.result w c.utf8.text h.1 r
-      (read_some new begin end w c.token_start-start.ensures c.token_end-from.ensures there) (class_told new x k c.of.result c.of.ensures) (ap (tells_level c.pieces.depth) (sym line) ∙ sym c.tells_level.ensures ∙ c.if-tells_level.false)),
+          (read_some new begin end w c.token_start-start.ensures c.token_end-from.ensures there) (class_told new x k c.of.result c.of.ensures) (ap (tells_level c.pieces.depth) (sym line) ∙ sym c.tells_level.ensures ∙ c.if-tells_level.false)),
     )

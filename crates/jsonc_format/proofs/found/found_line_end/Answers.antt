@@ -39,5 +39,5 @@ pieces-preserved g c =
     let r = read_to o c.args.text.now c.pieces.scanner new c.pieces.from c.token_start-start.result c.token_end-from.result w h.0 n.blanks there c.token_start-start.ensures c.token_end-from.ensures in (
       at_place o c.args.text.now c.pieces.scanner new c.pieces.from c.token_end-from.result w c.utf8.text h.0 n.blanks there c.token_end-from.ensures,
       no_end_next o c.args.text.now c.range.result.now c.pieces.from c.token_start-start.result c.token_end-from.result w c.utf8.text h.1 r c.range.ensures.value
-      (λ other. c.first_line_end-ended.ensures other ∙ ap (λ r. or_else (option_map line_end_text r) other) c.in_default.is),
+          (λ other. c.first_line_end-ended.ensures other ∙ ap (λ r. or_else (option_map line_end_text r) other) c.in_default.is),
     )

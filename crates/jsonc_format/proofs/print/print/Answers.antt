@@ -2,6 +2,8 @@ use Rattle.std.proofs.Common.{Some, None, ◌≡◌, ◌∙◌, ap, sym, refl, s
 use Rattle.jsonc_text.specs.OptionsOf.{parse_options}
 use Rattle.jsonc_scan.specs.Scanner.{IsThere, seen, scanned_seen}
 use Rattle.std.proofs.lemmas.Str.{chars-nil}
+use Rattle.jsonc_walk.proofs.lemmas.Refusals.{err_of}
+use Rattle.jsonc_format.specs.Pieces.{HasNoPieces, IsPiecesError}
 use Rattle.jsonc_format.specs.Writing.{style_in, text_of}
 use Rattle.jsonc_format.proofs.Printed.{going_start, going_next, going_end}
 use Rattle.jsonc_format.proofs.Reading.{at_start, at_place, read_to, no_pieces, error_from}
@@ -30,8 +32,10 @@ returns-in_default-found-clause-printed g c =
 
 pub returns-in_err-found-clause-refused : goal.returns-in_err-found-clause-refused
 returns-in_err-found-clause-refused g c =
+    let o = parse_options c.args.options.now in
     let h = c.pieces.invariant in
-    inr (no_pieces (parse_options c.args.options.now) c.args.text.now c.pieces.scanner c.pieces.from h.0 (c.in_err-found.ensures.none (subst IsUtf8 (sym (c.next_piece.ensures.text ∙ h.0.text)) c.utf8.text)))
+    let none : HasNoPieces o (chars c.args.text.now) = no_pieces o c.args.text.now c.pieces.scanner c.pieces.from h.0 (c.in_err-found.ensures.none (subst IsUtf8 (sym (c.next_piece.ensures.text ∙ h.0.text)) c.utf8.text)) in
+    err_of (IsPiecesError o (chars c.args.text.now)) c.in_err-found.field-0.0 c.from_residual.result c.from_residual.ensures.1 (inr none)
 
 pub returns-in_err-put_read-clause-refused : goal.returns-in_err-put_read-clause-refused
 returns-in_err-put_read-clause-refused g c =
@@ -40,8 +44,10 @@ returns-in_err-put_read-clause-refused g c =
     let new = c.next_piece.new.scanner in
     let x = c.next_piece.new.content in
     let there = subst (λ f. IsThere new (seen new x f)) c.in-Some.is n.found in
-    error_from o c.args.text.now new c.token_end.result _ (at_place o c.args.text.now c.pieces.scanner new c.pieces.from c.token_end.result (scanned_seen new x c.in-Some.kind) c.utf8.text c.pieces.invariant.0 n.blanks there c.token_end.ensures)
-    c.in_err-put_read.ensures.refused
+    let e = c.in_err-put_read.field-0.0 in
+    err_of (IsPiecesError o (chars c.args.text.now)) e c.from_residual-in_err-put_read.result c.from_residual-in_err-put_read.ensures.1
+    (error_from o c.args.text.now new c.token_end.result e (at_place o c.args.text.now c.pieces.scanner new c.pieces.from c.token_end.result (scanned_seen new x c.in-Some.kind) c.utf8.text c.pieces.invariant.0 n.blanks there c.token_end.ensures)
+    c.in_err-put_read.ensures.refused)
 
 pub put_read-requires-clause-gap : goal.put_read-requires-clause-gap
 put_read-requires-clause-gap g c =
@@ -77,5 +83,5 @@ pieces-preserved g c =
     let put = ok_here c.put_read.result (c.put_read.ensures.put w (class_told new x k c.of.result c.of.ensures)) c.in_ok-put_read.was in (
       at_place o c.args.text.now c.pieces.scanner new c.pieces.from end w c.utf8.text h.0 n.blanks there c.token_end.ensures,
       going_next o (style_in c.args.layout.now) c.args.text.now c.args.flat.now c.pieces.from (text_of c.pieces.out) (text_of c.put_read.new.out) c.pieces.track c.put_read.new.track
-      (record { class = c.of.result; from = c.pieces.from; start = begin; end = end }) w c.utf8.text h.1 refl r put,
+          (record { class = c.of.result; from = c.pieces.from; start = begin; end = end }) w c.utf8.text h.1 refl r put,
     )
